@@ -1,0 +1,15 @@
+//! The outside itself: files, folders and processes below the folder in which the program was started.
+//! These objects are the trusted edge. They keep the traits' counts, and tell nothing of what they hold.
+#![tactic(auto)]
+
+mod floor;
+mod line;
+mod place;
+mod room;
+mod sink;
+
+pub use floor::RealFloor;
+pub use line::{RealChild, RealFeed, RealTap};
+pub use place::RealPlace;
+pub use room::RealBerth;
+pub use sink::RealSink;
