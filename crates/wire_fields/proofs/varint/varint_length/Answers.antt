@@ -1,0 +1,23 @@
+use Rattle.std.proofs.Common.{◌+◌, ◌-◌, ◌*◌, ◌^◌, ◌<◌, ◌≤◌, ◌≡◌, subst, arith}
+use Rattle.wire_fields.specs.Varint.{varint}
+use Rattle.wire_fields.proofs.Digits.{before_last, rest_fits, length_more, length_last}
+use Rattle.wire_fields.proofs.varint.varint_length.Goals as goal
+
+pub loop-rest-preserved : goal.loop-rest-preserved
+loop-rest-preserved c =
+    let now = c.loop-rest.invariant in
+    let last = c.loop-rest.length - 1 in
+    let le : last ≤ 9 = let w = now.within in omega arith in
+    let room = before_last c.loop-rest.rest last le now.fits c.loop-rest-test.true in
+    let next : c.loop-rest.length + 1 - 1 ≡ last + 1 = let s = now.some in omega arith in
+    let few : c.loop-rest.length ≤ 9 = let s = now.some in omega (arith, room) in
+    record {
+      some = omega arith;
+      within = omega arith;
+      fits = rw next (rest_fits c.loop-rest.rest last room now.fits);
+      so_far = length_more c.loop-rest.rest c.loop-rest.length _ now.some few c.loop-rest-test.true now.so_far;
+    }
+
+pub returns : goal.returns
+unfolding varint
+returns c = let now = c.loop-rest.invariant in length_last c.loop-rest.rest c.loop-rest.length _ now.some c.loop-rest-test.false now.so_far
