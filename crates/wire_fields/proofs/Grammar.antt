@@ -214,7 +214,7 @@ whole_read bytes n rest b =
     let m : n ≡ payload (v.front ++ v.last ∷ []) = v.value ∙ ap payload v.whole in
     rw (e, m) (begins_read 9 v.front v.last rest v.continued v.ended v.short v.tenth)
 
-read_whole : (bytes : List ℕ) (n : ℕ) (rest : List ℕ) → varint_at bytes ≡ Ok (n, rest) → BeginsWith bytes n rest
+pub read_whole : (bytes : List ℕ) (n : ℕ) (rest : List ℕ) → varint_at bytes ≡ Ok (n, rest) → BeginsWith bytes n rest
 unfolding varint_at
 read_whole bytes n rest e = starts bytes n rest (number_begins 9 bytes n rest e)
 

@@ -4,3 +4,4 @@ pub mod Messages
 pub mod Again
 pub mod Grammar
 pub mod Values
+pub mod Readings

@@ -4,3 +4,4 @@ pub mod Field
 pub mod Message
 pub mod Spelling
 pub mod After
+pub mod Readings

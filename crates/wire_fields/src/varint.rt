@@ -1,5 +1,5 @@
 //! Base 128 numbers.
-ghost use Rattle.std.specs.Prelude.{◌≡◌, ◌++◌, OnOk, OnErr, length};
+ghost use Rattle.std.specs.Prelude.{◌≡◌, ◌++◌, ◌≤◌, OnOk, OnErr, length};
 ghost use Rattle.wire_fields.specs.Varint.{IsVarintAt, varint};
 ghost use Rattle.wire_fields.specs.Grammar.{SpellsVarint, VarintGrammar};
 
@@ -69,7 +69,8 @@ pub fn push_varint(value: u64, out: &mut Vec<u8>) -> Result<(), NoMemory>
 
 /// How many bytes `push_varint` puts for the number.
 pub fn varint_length(value: u64) -> u64
-    ensures { result ≡ length (varint value) }
+    ensures exact { result ≡ length (varint value) }
+    ensures short { result ≤ 10 }
 {
     let mut rest = value;
     let mut length = 1;

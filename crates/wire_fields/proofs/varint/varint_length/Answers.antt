@@ -18,6 +18,6 @@ loop-rest-preserved c =
       so_far = length_more c.loop-rest.rest c.loop-rest.length _ now.some few c.loop-rest-test.true now.so_far;
     }
 
-pub returns : goal.returns
+pub returns-clause-exact : goal.returns-clause-exact
 unfolding varint
-returns c = let now = c.loop-rest.invariant in length_last c.loop-rest.rest c.loop-rest.length _ now.some c.loop-rest-test.false now.so_far
+returns-clause-exact c = let now = c.loop-rest.invariant in length_last c.loop-rest.rest c.loop-rest.length _ now.some c.loop-rest-test.false now.so_far

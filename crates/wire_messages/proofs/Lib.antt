@@ -1,0 +1,4 @@
+pub mod Decoding
+pub mod Pushes
+pub mod Measures
+pub mod Requests

@@ -1,0 +1,9 @@
+pub mod Fault
+pub mod Value
+pub mod Response
+pub mod ResponseLaws
+pub mod Input
+pub mod Request
+pub mod RequestLaws
+pub mod ResponseAgain
+pub mod RequestAgain
