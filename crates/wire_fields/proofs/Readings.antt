@@ -27,7 +27,7 @@ shortens_then : {A B : Type 0} (n : ℕ) (r : Result (A × List ℕ) Fault) (f :
 shortens_then n (Ok x) f s goes = goes x s
 shortens_then n (Err fault) f s goes = tt
 
-varint_shorter : (bytes : List ℕ) (n : ℕ) (rest : List ℕ) → varint_at bytes ≡ Ok (n, rest) → length rest < length bytes
+pub varint_shorter : (bytes : List ℕ) (n : ℕ) (rest : List ℕ) → varint_at bytes ≡ Ok (n, rest) → length rest < length bytes
 varint_shorter bytes n rest e =
     let b = read_whole bytes n rest e in
     let v = b.spelled in

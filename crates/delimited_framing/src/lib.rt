@@ -1,0 +1,10 @@
+//! Messages on a stream, each behind its length, in whatever pieces the stream comes.
+#![tactic(auto)]
+
+mod frame;
+mod readings;
+mod splitter;
+
+pub use frame::{FrameFault, Next};
+pub use readings::{given_frames_come_first, one_reading};
+pub use splitter::Splitter;
