@@ -34,7 +34,7 @@ unfoldable pub request_fields : WorkRequest → List WireField
 request_fields m = repeated_field 1 m.arguments ++ repeated_field 2 (map (λ i. spelling (input_fields i)) m.inputs) ++ int32_field 3 m.request_id ++ bool_field 4 m.cancel ++ int32_field 5 m.verbosity ++ bytes_field 6 m.sandbox_dir
 
 -- the one written form of a request
-unfoldable pub request_spelling : WorkRequest → List ℕ
+abbrev pub request_spelling : WorkRequest → List ℕ
 request_spelling m = spelling (request_fields m)
 
 -- what holds of each request

@@ -1,16 +1,16 @@
 // Messages of any kind, field by field.
-ghost use Rattle.std.specs.Prelude.{◌≡◌, ◌++◌, ◌∷◌, [], List, length, IfOk, IfErr, OnOk, Ok, Err};
+ghost use Rattle.std.specs.Prelude.{◌≡◌, ◌++◌, ◌∷◌, ◌<◌, ◌^◌, [], List, length, IfOk, IfErr, OnOk, Ok, Err};
 ghost use Rattle.wire_fields.specs.Varint.{Fault};
 ghost use Rattle.wire_fields.specs.Field.{WireField};
 ghost use Rattle.wire_fields.specs.Message.{Spells, FirstFault};
-ghost use Rattle.wire_fields.specs.Spelling.{spelling, capped};
+ghost use Rattle.wire_fields.specs.Spelling.{spelling, delimited, capped};
 ghost use Rattle.wire_messages.specs.Value.{field};
 ghost use Rattle.wire_messages.specs.Fault.{Fails, Answers};
 
 use crate::fault::MessageFault;
 use crate::value::{Value, split_field};
 use std::alloc::Global;
-use wire_fields::NoMemory;
+use wire_fields::{NoMemory, push_varint, varint_length};
 
 /// A kind of message, which takes its fields in order.
 pub trait Message: Sized + Drop {
@@ -84,6 +84,21 @@ pub fn encode<M: Message>(alloc: Global, m: &M) -> Result<Vec<u8>, NoMemory>
     ensures form { OnOk result (M.has_form m.now) }
 {
     let mut out = Vec::with_capacity(alloc, m.encoded_len() as usize)?;
+    m.put(&mut out)?;
+    Ok(out)
+}
+
+/// The written form behind its length, as a frame of a stream. The message goes straight to its place, so its
+/// parts are copied once.
+pub fn encode_delimited<M: Message>(alloc: Global, m: &M) -> Result<Vec<u8>, NoMemory>
+    ensures written { IfOk result (λ v. v.items ≡ delimited (spelling (M.fields m.now))) }
+    ensures spelled { OnOk result (Spells M.refuses M.means (spelling (M.fields m.now)) m.now) }
+    ensures form { OnOk result (M.has_form m.now × (length (spelling (M.fields m.now)) < 2 ^ 64)) }
+{
+    let length = m.encoded_len();
+    let room = varint_length(length).saturating_add(length);
+    let mut out = Vec::with_capacity(alloc, room as usize)?;
+    push_varint(length, &mut out)?;
     m.put(&mut out)?;
     Ok(out)
 }

@@ -111,7 +111,6 @@ pub fn decode_request(alloc: Global, bytes: &[u8]) -> Result<WorkRequest, Messag
 }
 
 /// The one spelling of the request.
-#[tactic(auto, unfolding(crate::specs::Request::request_spelling))]
 pub fn encode_request(alloc: Global, m: &WorkRequest) -> Result<Vec<u8>, NoMemory>
     ensures written { IfOk result (λ v. v.items ≡ request_spelling m.now) }
     ensures spelled { IfOk result (λ v. SpellsRequest v.items m.now) }

@@ -98,7 +98,6 @@ pub fn decode_response(alloc: Global, bytes: &[u8]) -> Result<WorkResponse, Mess
 }
 
 /// The one spelling of the response.
-#[tactic(auto, unfolding(crate::specs::Response::response_spelling))]
 pub fn encode_response(alloc: Global, m: &WorkResponse) -> Result<Vec<u8>, NoMemory>
     ensures written { IfOk result (λ v. v.items ≡ response_spelling m.now) }
     ensures spelled { IfOk result (λ v. SpellsResponse v.items m.now) }
