@@ -1,10 +1,15 @@
 -- A stream has one reading.
-use Rattle.std.proofs.Common.{◌≡◌, ℕ, zero, suc, ◌-◌, ◌<◌, ◌≤◌, ltb, List, [], ◌∷◌, ◌++◌, length, take, drop, Result, Ok, Err, refl, sym, ap, subst, ◌∙◌, inl, inr, arith}
-use Rattle.std.proofs.lemmas.List.{length-drop}
-use Rattle.wire_fields.specs.Varint.{Fault, CutField, BadVarint, BadTag, BadText, varint_at}
+use Rattle.std.proofs.Common.{◌≡◌, ℕ, zero, suc, ◌-◌, ◌<◌, ◌≤◌, ◌^◌, ltb, List, [], ◌∷◌, ◌++◌, length, take, drop, Result, Ok, Err, refl, sym, ap, subst, ◌∙◌, append_assoc, inl, inr, arith}
+use Rattle.std.proofs.lemmas.List.{length-append, length-drop, take_at, drop_at}
+use Rattle.std.proofs.lemmas.Bool.{le-ltb}
+use Rattle.std.proofs.lemmas.List.Concat.{flat_map-cons}
+use Rattle.std.specs.List.{AllByRecursion, flat_map}
+use Rattle.wire_fields.specs.Varint.{Fault, CutField, BadVarint, BadTag, BadText, number_at, varint_at, varint}
+use Rattle.wire_fields.specs.Spelling.{delimited}
+use Rattle.wire_fields.proofs.Again.{varint_again}
 use Rattle.wire_fields.proofs.Readings.{varint_shorter}
 use Rattle.delimited_framing.specs.declared.frame.FrameFault.TheVariants.{TooLong}
-use Rattle.delimited_framing.specs.Frame.{Front, Whole, Unfinished, Bad, behind, after_length, frame_at, Holds, HasReading, OneReading}
+use Rattle.delimited_framing.specs.Frame.{Front, Whole, Unfinished, Bad, behind, after_length, frame_at, Holds, HasReading, OneReading, DelimitedIsRead}
 use Rattle.delimited_framing.specs.Splitter.{GivenFirst}
 use Rattle.delimited_framing.proofs.Streams.{Holds-more, chosen}
 
@@ -92,4 +97,35 @@ given_first = record {
       front_of s.limit (fed ++ more) given frames (s.rest ++ more) rest (Holds-more s.limit fed given s.rest more p.holds) q.holds (stops_at (frame_at s.limit rest) Unfinished q.unfinished tt);
   faults = λ fed more given frames fault s p q.
       front_of s.limit (fed ++ more) given frames (s.rest ++ more) q.rest (Holds-more s.limit fed given s.rest more p.holds) q.holds (stops_at (frame_at s.limit q.rest) (Bad fault) q.bad tt);
+}
+
+-- ---- what is written behind its length
+
+one_read : (limit : ℕ) (frame rest : List ℕ) → length frame ≤ limit → limit < 2 ^ 64 → frame_at limit (delimited frame ++ rest) ≡ Whole frame rest
+unfolding frame_at
+one_read limit frame rest short fits =
+    let enough : length frame ≤ length (frame ++ rest) = omega (arith, length-append frame rest) in
+    rw (
+      append_assoc (varint (length frame)) frame rest,
+      varint_again (length frame) (frame ++ rest) (omega arith),
+      le-ltb limit (length frame) short,
+      le-ltb (length (frame ++ rest)) (length frame) enough,
+      take_at frame rest (length frame) refl,
+      drop_at frame rest (length frame) refl,
+    ) refl
+
+nothing_read : (limit : ℕ) → frame_at limit [] ≡ Unfinished
+unfolding frame_at varint_at number_at
+nothing_read limit = refl
+
+all_hold : (limit : ℕ) (frames : List (List ℕ)) → AllByRecursion (λ frame. length frame ≤ limit) frames → limit < 2 ^ 64 → Holds limit (flat_map delimited frames) frames []
+all_hold limit [] short fits = refl
+all_hold limit (frame ∷ frames) short fits =
+    let e : flat_map delimited (frame ∷ frames) ≡ delimited frame ++ flat_map delimited frames = flat_map-cons delimited frame frames in
+    (flat_map delimited frames, ap (frame_at limit) e ∙ one_read limit frame (flat_map delimited frames) short.0 fits, all_hold limit frames short.1 fits)
+
+pub delimited_read : DelimitedIsRead
+delimited_read = record {
+  one = one_read;
+  all = λ limit frames short fits. record { holds = all_hold limit frames short fits; unfinished = nothing_read limit };
 }

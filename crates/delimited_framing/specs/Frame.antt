@@ -1,5 +1,7 @@
 -- A stream of frames: the length of each as a number, and then so many bytes.
-use Rattle.std.specs.Prelude.{◌≡◌, ◌⊎◌, ℕ, ◌-◌, ◌≤◌, List, [], ◌∷◌, length, take, drop, Result, Ok, Err, nat_lt, if◌then◌else◌}
+use Rattle.std.specs.Prelude.{◌≡◌, ◌⊎◌, ℕ, ◌-◌, ◌≤◌, ◌<◌, ◌^◌, List, [], ◌∷◌, ◌++◌, length, take, drop, Result, Ok, Err, nat_lt, if◌then◌else◌}
+use Rattle.std.specs.List.{AllByRecursion, flat_map}
+use Rattle.wire_fields.specs.Spelling.{delimited}
 use Rattle.wire_fields.specs.Varint.{Fault, CutField, BadVarint, BadTag, BadText, varint_at}
 use Rattle.delimited_framing.specs.declared.frame.FrameFault.{FrameFault}
 use Rattle.delimited_framing.specs.declared.frame.FrameFault.TheVariants.{TooLong, BadLength}
@@ -62,3 +64,8 @@ pub record OneReading : Type 0 where
   pub frames : (stream : List ℕ) (limit : ℕ) (fs gs : List (List ℕ)) (a b : List ℕ) → Frames stream limit fs a → Frames stream limit gs b → (fs ≡ gs) × (a ≡ b)
   pub faults : (stream : List ℕ) (limit : ℕ) (fs gs : List (List ℕ)) (x y : FrameFault) → FramesBad stream limit fs x → FramesBad stream limit gs y → (fs ≡ gs) × (x ≡ y)
   pub either : (stream : List ℕ) (limit : ℕ) (fs gs : List (List ℕ)) (a : List ℕ) (x : FrameFault) → Frames stream limit fs a → FramesBad stream limit gs x → ⊥
+
+-- What is written behind its length is read as one frame, and several are read as these.
+pub record DelimitedIsRead : Type 0 where
+  pub one : (limit : ℕ) (frame rest : List ℕ) → length frame ≤ limit → limit < 2 ^ 64 → frame_at limit (delimited frame ++ rest) ≡ Whole frame rest
+  pub all : (limit : ℕ) (frames : List (List ℕ)) → AllByRecursion (λ frame. length frame ≤ limit) frames → limit < 2 ^ 64 → Frames (flat_map delimited frames) limit frames []

@@ -6,5 +6,5 @@ mod readings;
 mod splitter;
 
 pub use frame::{FrameFault, Next};
-pub use readings::{given_frames_come_first, one_reading};
+pub use readings::{delimited_is_read, given_frames_come_first, one_reading};
 pub use splitter::Splitter;

@@ -1,5 +1,5 @@
 // What holds of all streams.
-ghost use Rattle.delimited_framing.specs.Frame.{OneReading};
+ghost use Rattle.delimited_framing.specs.Frame.{OneReading, DelimitedIsRead};
 ghost use Rattle.delimited_framing.specs.Splitter.{GivenFirst};
 
 /// Each stream is read in exactly one way: as frames and a rest without a whole frame or a fault, or as frames
@@ -12,4 +12,9 @@ pub fn one_reading()
 /// begins with what was fed.
 pub fn given_frames_come_first()
     ensures { GivenFirst }
+{}
+
+/// What was written behind its length is one frame, and several of these are read as they were written.
+pub fn delimited_is_read()
+    ensures { DelimitedIsRead }
 {}
