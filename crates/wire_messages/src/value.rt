@@ -56,8 +56,8 @@ pub fn split_field(bytes: &[u8]) -> Result<(u32, Value<'_>, &[u8]), MessageFault
     }
 }
 
-// Puts an element at the end of a list. Where memory runs out the list is lost, with the message that it is for.
-fn push_item<T: Drop>(alloc: Global, slot: &mut Items<T>, item: T) -> Result<(), NoMemory>
+/// Puts an element at the end of a list. Where memory runs out the list is lost, with the message that it is for.
+pub fn push_item<T: Drop>(alloc: Global, slot: &mut Items<T>, item: T) -> Result<(), NoMemory>
     ensures { OnOk result (slot.new ≡ slot.old ++ item ∷ []) }
 {
     let mut items = mem::replace(slot, Items::of(Vec::new(alloc))).into_vec();
