@@ -27,7 +27,7 @@ one_number_len n v a b ne p q short_a short_b =
 pub one_span_len : (n : ℕ) (s : List ℕ) (a c count : ℕ) → a ≡ length (varint (8 * n + 2)) → c ≡ length (varint count) → count ≡ capped (length s) → min (a + c + count) (2 ^ 64 - 1) ≡ capped (length (spelling (one_bytes n s)))
 one_span_len n s a c count p q is =
     let len : length (spelling (one_bytes n s)) ≡ length (varint (8 * n + 2)) + (length (varint (length s)) + length s) =
-        ap length (spelling_one (record { number = n; content = Bytes s })) ∙ length-append (varint (8 * n + 2)) (varint (length s) ++ s) ∙ ap (λ (k : ℕ). length (varint (8 * n + 2)) + k) (length-append (varint (length s)) s) in
+    ap length (spelling_one (record { number = n; content = Bytes s })) ∙ length-append (varint (8 * n + 2)) (varint (length s) ++ s) ∙ ap (λ (k : ℕ). length (varint (8 * n + 2)) + k) (length-append (varint (length s)) s) in
     elim (cases_lt (length s) (2 ^ 64)) [
       | inl small ↦
           let exact : count ≡ length s = omega (arith, is) in

@@ -71,11 +71,7 @@ pub fn push_texts(out: &mut Vec<u8>, number: u32, texts: &[Text]) -> Result<(), 
 }
 
 /// Puts a message, even if its form is empty. It goes straight to its place, behind its length.
-pub fn push_message<M: Message>(
-    out: &mut Vec<u8>,
-    number: u32,
-    message: &M,
-) -> Result<(), NoMemory>
+pub fn push_message<M: Message>(out: &mut Vec<u8>, number: u32, message: &M) -> Result<(), NoMemory>
     requires { number < 2 ^ 29 }
     ensures put { OnOk result (out.new.items ≡ out.old.items ++ spelling (one_bytes number (spelling (M.fields message.now)))) }
     ensures form { OnOk result (M.has_form message.now × (length (spelling (M.fields message.now)) < 2 ^ 64)) }

@@ -15,7 +15,7 @@ loop-message-preserved g c =
     let ms = c.args.messages.now in
     let item = take_item ms i m c.loop-message-test.true c.message-item.is in
     repeated_len _ _ _ c.args.number (map (λ m. spelling (g.M.Message.fields m)) (take i ms)) _ (spelling (g.M.Message.fields m)) (ap (map (λ m. spelling (g.M.Message.fields m))) item ∙ map_push _ (take i ms) m)
-        c.loop-message.invariant (c.span_len.ensures (spelling (g.M.Message.fields m)) c.encoded_len.ensures) c.saturating_add-total.ensures
+    c.loop-message.invariant (c.span_len.ensures (spelling (g.M.Message.fields m)) c.encoded_len.ensures) c.saturating_add-total.ensures
 
 pub returns : goal.returns
 returns g c =
