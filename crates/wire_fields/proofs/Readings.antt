@@ -55,7 +55,7 @@ content_shortens n wire bytes le =
     shortens_choice n (eqb wire 0) _ _ (shortens_then n (varint_at bytes) (λ n. Ok (Number n.0, n.1)) (varint_shortens n bytes le) (λ x s. s))
     (shortens_choice n (eqb wire 1) _ _ (shortens_then n (span_at 8 bytes) (λ s. Ok (Eight, s.1)) (span_shortens n 8 bytes le) (λ x s. s))
     (shortens_choice n (eqb wire 2) _ _ (shortens_then n (varint_at bytes) (λ n. span_at n.0 n.1 >>= λ s. Ok (Bytes s.0, s.1)) (varint_shortens n bytes le)
-        (λ x s. shortens_then n (span_at x.0 x.1) (λ s. Ok (Bytes s.0, s.1)) (span_shortens n x.0 x.1 s) (λ y r. r)))
+    (λ x s. shortens_then n (span_at x.0 x.1) (λ s. Ok (Bytes s.0, s.1)) (span_shortens n x.0 x.1 s) (λ y r. r)))
     (shortens_choice n (eqb wire 5) _ _ (shortens_then n (span_at 4 bytes) (λ s. Ok (Four, s.1)) (span_shortens n 4 bytes le) (λ x s. s)) tt)))
 
 field_told : (n : ℕ) (bytes : List ℕ) (r : Result (ℕ × List ℕ) Fault) → varint_at bytes ≡ r → length bytes ≤ suc n

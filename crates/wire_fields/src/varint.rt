@@ -5,6 +5,9 @@ ghost use Rattle.wire_fields.specs.Grammar.{SpellsVarint, VarintGrammar};
 
 use crate::NoMemory;
 
+// Nine bytes hold 63 bits, and a number has 64.
+const TENTH_BYTE_MAX: u8 = 1;
+
 /// What stands at the front of some bytes, read as a number.
 #[derive(Clone, Copy, Debug, PartialEq)]
 pub enum Varint {
@@ -41,7 +44,7 @@ fn add_groups(bytes: &[u8]) -> Varint
     }
     match bytes.get(9) {
         None => Varint::Cut,
-        Some(&byte) if byte <= 1 => Varint::Whole {
+        Some(&byte) if byte <= TENTH_BYTE_MAX => Varint::Whole {
             value: value + (u64::from(byte) << 63),
             used: 10,
         },
@@ -74,7 +77,7 @@ pub fn varint_length(value: u64) -> u64
 {
     let mut rest = value;
     let mut length = 1;
-    while rest >= 0x80 {
+    while rest > 0x7f {
         rest /= 0x80;
         length += 1;
     }

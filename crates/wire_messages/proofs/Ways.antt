@@ -10,7 +10,8 @@ use Rattle.wire_messages.specs.declared.response.WorkResponse.{WorkResponse}
 use Rattle.wire_messages.specs.Input.{IsInput, input_refuses, FaultyInput}
 use Rattle.wire_messages.specs.Request.{IsRequest, request_refuses}
 use Rattle.wire_messages.specs.Response.{IsResponse, response_refuses}
-use Rattle.wire_messages.specs.RequestLaws.{one_input, one_input_fault, one_request, one_request_fault}
+use Rattle.wire_messages.specs.InputLaws.{one_input, one_input_fault}
+use Rattle.wire_messages.specs.RequestLaws.{one_request, one_request_fault}
 use Rattle.wire_messages.specs.ResponseLaws.{one_response, one_response_fault}
 
 response_told : (f : WireField) → IsTold (response_refuses f)

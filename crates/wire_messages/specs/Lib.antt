@@ -3,7 +3,6 @@ pub mod Value
 pub mod Response
 pub mod ResponseLaws
 pub mod Input
+pub mod InputLaws
 pub mod Request
 pub mod RequestLaws
-pub mod ResponseAgain
-pub mod RequestAgain

@@ -29,9 +29,13 @@ SpellsRequest bytes m = Spells request_refuses IsRequest bytes m
 abbrev pub FaultyRequest : List ℕ → Fault → Type 0
 FaultyRequest bytes x = FirstFault request_refuses bytes x
 
+-- the written form of an input
+abbrev pub input_spelling : Input → List ℕ
+input_spelling m = spelling (input_fields m)
+
 -- the fields that are written of a request
 unfoldable pub request_fields : WorkRequest → List WireField
-request_fields m = repeated_field 1 m.arguments ++ repeated_field 2 (map (λ i. spelling (input_fields i)) m.inputs) ++ int32_field 3 m.request_id ++ bool_field 4 m.cancel ++ int32_field 5 m.verbosity ++ bytes_field 6 m.sandbox_dir
+request_fields m = repeated_field 1 m.arguments ++ repeated_field 2 (map input_spelling m.inputs) ++ int32_field 3 m.request_id ++ bool_field 4 m.cancel ++ int32_field 5 m.verbosity ++ bytes_field 6 m.sandbox_dir
 
 -- the one written form of a request
 abbrev pub request_spelling : WorkRequest → List ℕ
@@ -40,7 +44,7 @@ request_spelling m = spelling (request_fields m)
 -- what holds of each request
 pub record IsRequestValue (m : WorkRequest) : Type 0 where
   pub arguments : All IsText m.arguments
-  pub inputs : All (λ i. IsInputValue i × (length (spelling (input_fields i)) < 2 ^ 64)) m.inputs
+  pub inputs : All (λ i. IsInputValue i × (length (input_spelling i) < 2 ^ 64)) m.inputs
   pub request_id : FitsSigned w32 m.request_id
   pub verbosity : FitsSigned w32 m.verbosity
   pub sandbox_dir : IsText m.sandbox_dir

@@ -25,8 +25,7 @@ impl Message for Input {
 
     ghost has_form = { IsInputValue };
 
-    ghost use Rattle.wire_messages.specs.RequestLaws.{one_input, one_input_fault};
-    ghost use Rattle.wire_messages.specs.RequestAgain.{input_again};
+    ghost use Rattle.wire_messages.specs.InputLaws.{one_input, one_input_fault, input_again};
 
     ghost again = { input_again };
 

@@ -36,8 +36,7 @@ impl Message for WorkRequest {
 
     ghost has_form = { IsRequestValue };
 
-    ghost use Rattle.wire_messages.specs.RequestLaws.{one_request, one_request_fault};
-    ghost use Rattle.wire_messages.specs.RequestAgain.{request_again};
+    ghost use Rattle.wire_messages.specs.RequestLaws.{one_request, one_request_fault, request_again};
 
     ghost again = { request_again };
 

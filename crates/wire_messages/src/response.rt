@@ -33,8 +33,7 @@ impl Message for WorkResponse {
 
     ghost has_form = { IsResponseValue };
 
-    ghost use Rattle.wire_messages.specs.ResponseLaws.{one_response, one_response_fault};
-    ghost use Rattle.wire_messages.specs.ResponseAgain.{response_again};
+    ghost use Rattle.wire_messages.specs.ResponseLaws.{one_response, one_response_fault, response_again};
 
     ghost again = { response_again };
 

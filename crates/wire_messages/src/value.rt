@@ -1,5 +1,5 @@
 // Fields with their bytes, and what one field does to a part of a message.
-ghost use Rattle.std.specs.Prelude.{◌≡◌, ◌++◌, ◌∷◌, [], ◌<◌, length, Ok, Err, IfOk, IfErr, OnOk};
+ghost use Rattle.std.specs.Prelude.{◌≡◌, ◌++◌, ◌∷◌, [], ◌<◌, length, Ok, Err, IfOk, IfErr, OnOk, IsUtf8};
 ghost use Rattle.wire_fields.specs.Varint.{Fault, BadText};
 ghost use Rattle.wire_fields.specs.Message.{HoldsNoText, HoldsFaulty, Spells, FirstFault, bytes_in};
 ghost use Rattle.wire_fields.specs.Field.{field_at};
@@ -66,6 +66,16 @@ pub fn push_item<T: Drop>(alloc: Global, slot: &mut Items<T>, item: T) -> Result
     Ok(())
 }
 
+fn text_of(alloc: Global, bytes: &[u8]) -> Result<Text, MessageFault>
+    ensures text { IfOk result (λ t. (t ≡ bytes.now) × IsUtf8 bytes.now) }
+    ensures no_text { IfErr result (λ e. Fails e (λ x. (¬ (IsUtf8 bytes.now)) × (x ≡ BadText))) }
+{
+    match str::from_utf8(bytes) {
+        Ok(text) => Ok(Text::copy_of(alloc, text)?),
+        Err(_) => Err(MessageFault::BadText),
+    }
+}
+
 impl Value<'_> {
     /// Sets a signed number, if this is one: the low 32 bits count.
     pub fn set_int32(self, slot: &mut i32)
@@ -96,10 +106,7 @@ impl Value<'_> {
         ensures err { IfErr result (λ e. Fails e (λ x. HoldsNoText (content self.entry) × (x ≡ BadText))) }
     {
         if let Value::Bytes(bytes) = self {
-            match str::from_utf8(bytes) {
-                Ok(text) => *slot = Text::copy_of(alloc, text)?,
-                Err(_) => return Err(MessageFault::BadText),
-            }
+            *slot = text_of(alloc, bytes)?;
         }
         Ok(())
     }
@@ -137,10 +144,7 @@ impl Value<'_> {
         ensures err { IfErr result (λ e. Fails e (λ x. HoldsNoText (content self.entry) × (x ≡ BadText))) }
     {
         if let Value::Bytes(bytes) = self {
-            match str::from_utf8(bytes) {
-                Ok(text) => push_item(alloc, slot, Text::copy_of(alloc, text)?)?,
-                Err(_) => return Err(MessageFault::BadText),
-            }
+            push_item(alloc, slot, text_of(alloc, bytes)?)?;
         }
         Ok(())
     }

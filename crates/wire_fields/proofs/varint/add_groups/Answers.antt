@@ -41,14 +41,14 @@ unfolding varint_at
 returns-in-Some-get c =
     let found = c.in-Some-get.ensures.lookup.3 in
     rw c.from-in-Some-get.ensures (
-      tenth_is_last c.loop-i.value c.loop-i.i c.in-Some-get.field-0.now c.args.bytes.now _ (omega arith) found.0 (found.1 0) c.if-byte-le1.true c.loop-i.invariant.read,
+      tenth_is_last c.loop-i.value c.loop-i.i c.in-Some-get.field-0.now c.args.bytes.now _ (omega arith) found.0 (found.1 0) c.if-byte-le-TENTH_BYTE_MAX.true c.loop-i.invariant.read,
       omega (arith, found.0),
       omega arith,
-      tenth_fits c.loop-i.value c.in-Some-get.field-0.now c.loop-i.i (omega arith) c.loop-i.invariant.fits c.if-byte-le1.true,
+      tenth_fits c.loop-i.value c.in-Some-get.field-0.now c.loop-i.i (omega arith) c.loop-i.invariant.fits c.if-byte-le-TENTH_BYTE_MAX.true,
     )
 
 pub returns-in-Some-2 : goal.returns-in-Some-2
 unfolding varint_at
 returns-in-Some-2 c =
     let found = c.in-Some-get.ensures.lookup.3 in
-    tenth_is_bad c.loop-i.value c.loop-i.i c.in-Some-get.field-0.now c.args.bytes.now _ (omega arith) found.0 (found.1 0) c.if-byte-le1.false c.loop-i.invariant.read
+    tenth_is_bad c.loop-i.value c.loop-i.i c.in-Some-get.field-0.now c.args.bytes.now _ (omega arith) found.0 (found.1 0) c.if-byte-le-TENTH_BYTE_MAX.false c.loop-i.invariant.read

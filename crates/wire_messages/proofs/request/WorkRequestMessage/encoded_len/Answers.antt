@@ -2,9 +2,8 @@ use Rattle.std.proofs.Common.{rules, map}
 use Rattle.std.specs.Int.{w32}
 use Rattle.std.specs.Prelude.{FitsSigned}
 use Rattle.std.proofs.lemmas.Int.{to_z-of_z}
-use Rattle.wire_fields.specs.Spelling.{spelling, int32_field, bool_field, bytes_field, repeated_field}
-use Rattle.wire_messages.specs.Input.{input_fields}
-use Rattle.wire_messages.specs.Request.{request_fields}
+use Rattle.wire_fields.specs.Spelling.{int32_field, bool_field, bytes_field, repeated_field}
+use Rattle.wire_messages.specs.Request.{request_fields, input_spelling}
 use Rattle.wire_messages.proofs.Measures.{len_more}
 use Rattle.wire_messages.proofs.request.WorkRequestMessage.encoded_len.Goals as goal
 
@@ -23,5 +22,5 @@ returns c =
     (len_more _ _ _ _ (int32_field 5 m.verbosity)
     (len_more _ _ _ _ (bool_field 4 m.cancel)
     (len_more _ _ _ _ (int32_field 3 m.request_id)
-    (len_more _ _ _ (repeated_field 1 m.arguments) (repeated_field 2 (map (λ i. spelling (input_fields i)) m.inputs)) arguments inputs c.saturating_add.ensures) request_id c.saturating_add-2.ensures)
+    (len_more _ _ _ (repeated_field 1 m.arguments) (repeated_field 2 (map input_spelling m.inputs)) arguments inputs c.saturating_add.ensures) request_id c.saturating_add-2.ensures)
     c.bool_len-cancel.ensures c.saturating_add-3.ensures) verbosity c.saturating_add-4.ensures) sandbox_dir c.saturating_add-5.ensures

@@ -2,9 +2,8 @@ use Rattle.std.proofs.Common.{rules, map}
 use Rattle.std.specs.Int.{w32}
 use Rattle.std.specs.Prelude.{FitsSigned, IsUtf8}
 use Rattle.std.proofs.lemmas.Int.{to_z-of_z}
-use Rattle.wire_fields.specs.Spelling.{spelling, int32_field, bool_field, bytes_field, repeated_field}
-use Rattle.wire_messages.specs.Input.{input_fields}
-use Rattle.wire_messages.specs.Request.{request_fields}
+use Rattle.wire_fields.specs.Spelling.{int32_field, bool_field, bytes_field, repeated_field}
+use Rattle.wire_messages.specs.Request.{request_fields, input_spelling}
 use Rattle.wire_messages.proofs.Pushes.{put_more}
 use Rattle.wire_messages.proofs.request.WorkRequestMessage.put.Goals as goal
 
@@ -24,7 +23,7 @@ returns-clause-written c =
     (put_more out _ _ _ (int32_field 5 m.verbosity)
     (put_more out _ _ _ (bool_field 4 m.cancel)
     (put_more out _ _ _ (int32_field 3 m.request_id)
-    (put_more out _ _ (repeated_field 1 m.arguments) (repeated_field 2 (map (λ i. spelling (input_fields i)) m.inputs)) arguments inputs) request_id) c.in_ok-push_bool.ensures) verbosity) sandbox_dir
+    (put_more out _ _ (repeated_field 1 m.arguments) (repeated_field 2 (map input_spelling m.inputs)) arguments inputs) request_id) c.in_ok-push_bool.ensures) verbosity) sandbox_dir
 
 pub returns-clause-form : goal.returns-clause-form
 returns-clause-form c =
