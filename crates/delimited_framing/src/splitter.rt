@@ -7,6 +7,9 @@ use std::alloc::Global;
 use std::marker::Model;
 use wire_fields::NoMemory;
 
+// How much room an empty splitter keeps, so that the pieces of small frames need no new memory.
+const ROOM_KEPT: usize = 65_536;
+
 /// Cuts a stream into its frames.
 #[derive(Drop)]
 pub struct Splitter {
@@ -43,6 +46,10 @@ impl Splitter {
     }
 
     /// Takes the next piece of the stream, or nothing after a fault.
+    ///
+    /// # Errors
+    ///
+    /// `NoMemory` where the piece finds no room; the splitter is then as it was.
     pub fn feed(&mut self, piece: &[u8]) -> Result<(), NoMemory>
         ensures ok { OnOk result ((fed : List ℕ) (given : List (List ℕ)) → Stands fed given self.old → Stands (fed_more self.old.fault fed piece.now) given self.new) }
         ensures after_bad { IfSome self.old.fault (λ _. result ≡ Ok tt) }
@@ -52,23 +59,16 @@ impl Splitter {
         if self.fault.is_some() {
             return Ok(());
         }
-        self.forget_read();
         self.held.extend_from_slice(piece)?;
         Ok(())
     }
 
-    // Drops what was read, where that is at least as long as what is left: so each byte that moves is paid for
-    // by one that was read, and what is held is less than twice what is unread.
-    fn forget_read(&mut self)
-        ensures { self.new ≡ self.old }
-    {
-        if self.start >= self.held.len() - self.start {
-            self.held.drain(..self.start);
-            self.start = 0;
-        }
-    }
-
-    /// Gives the next frame, if all of it has come.
+    /// Gives the next frame, if all of it has come. A fault is told as soon as the last byte of the length has
+    /// come, and from then on for good.
+    ///
+    /// # Errors
+    ///
+    /// `NoMemory` where the frame finds no memory; the splitter is then as it was.
     pub fn next(&mut self) -> Result<Next, NoMemory>
         ensures after_bad { IfSome self.old.fault (λ fault. result ≡ Ok (Next.Bad fault)) }
         ensures ok { IfOk result (λ next. (fed : List ℕ) (given : List (List ℕ)) → Stands fed given self.old → Gives fed given self.old next self.new) }
@@ -87,8 +87,25 @@ impl Splitter {
             Found::Whole { start, end } => {
                 let frame = Vec::from_slice(*self.held.allocator(), &rest[start..end])?;
                 self.start += end;
+                self.forget_read();
                 Ok(Next::Frame(frame))
             }
+        }
+    }
+
+    // Drops what was read, where that is at least as long as what is left: so each byte that moves is paid for
+    // by one that was read, and less than twice the unread bytes are held. The room of a large frame is given
+    // back where nothing is left.
+    fn forget_read(&mut self)
+        ensures { self.new ≡ self.old }
+    {
+        if self.start < self.held.len() - self.start {
+            return;
+        }
+        self.held.drain(..self.start);
+        self.start = 0;
+        if self.held.is_empty() && self.held.capacity() > ROOM_KEPT {
+            self.held = Vec::new(*self.held.allocator());
         }
     }
 }

@@ -1,11 +1,12 @@
 // Fields with their bytes, and what one field does to a part of a message.
-ghost use Rattle.std.specs.Prelude.{◌≡◌, ◌++◌, ◌∷◌, [], ◌<◌, length, Ok, Err, IfOk, IfErr, OnOk, IsUtf8};
+ghost use Rattle.std.specs.Prelude.{◌≡◌, ◌≢◌, ◌++◌, ◌∷◌, [], ◌<◌, length, Ok, Err, IfOk, IfErr, OnOk, IsUtf8};
 ghost use Rattle.wire_fields.specs.Varint.{Fault, BadText};
 ghost use Rattle.wire_fields.specs.Message.{HoldsNoText, HoldsFaulty, Spells, FirstFault, bytes_in};
 ghost use Rattle.wire_fields.specs.Field.{field_at};
 ghost use Rattle.wire_fields.specs.After.{int32_after, bool_after, bytes_after, PushesMessage};
 ghost use Rattle.wire_messages.specs.Value.{field, content};
 ghost use Rattle.wire_messages.specs.Fault.{Fails};
+ghost use Rattle.wire_messages.specs.declared.fault.MessageFault.TheVariants as fault;
 
 use crate::fault::MessageFault;
 use crate::message::{Message, decode};
@@ -36,6 +37,7 @@ pub fn split_field(bytes: &[u8]) -> Result<(u32, Value<'_>, &[u8]), MessageFault
     ensures ok { IfOk result (λ p. field_at bytes.now ≡ Ok (field p.0 p.1, p.2.now)) }
     ensures shorter { IfOk result (λ p. length p.2.now < length bytes.now) }
     ensures err { IfErr result (λ e. Fails e (λ x. field_at bytes.now ≡ Err x)) }
+    ensures never_memory { IfErr result (λ e. e ≢ fault.NoMemory) }
 {
     match next_field(bytes) {
         Field::Cut => Err(MessageFault::CutField),
