@@ -15,12 +15,15 @@ pub enum FrameFault {
 /// What a splitter gives next.
 #[derive(Debug, Drop)]
 pub enum Next {
+    /// The bytes of the next frame, without its length.
     Frame(Vec<u8>),
+    /// No whole frame has come, and no fault.
     NotYet,
+    /// What stands next is no frame. Nothing is read behind it.
     Bad(FrameFault),
 }
 
-/// The place of the frame at the front.
+/// The place of the frame at the front, behind its length.
 #[derive(Clone, Copy)]
 pub(crate) enum Found {
     Whole { start: usize, end: usize },

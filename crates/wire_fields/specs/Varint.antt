@@ -1,9 +1,10 @@
--- Base 128 numbers: the low group of seven bits first, the top bit set on all bytes but the last.
+-- Varints as functions of the bytes, which the other definitions use. `Grammar` says the same of bytes without a
+-- reader, and `varint_grammar` that both agree. (Protocol Buffers' encoding page, section "Base 128 Varints".)
 use Rattle.std.specs.Prelude.{◌≡◌, ℕ, zero, suc, ◌+◌, ◌-◌, ◌*◌, ◌/◌, ◌%◌, ◌^◌, ◌<◌, ◌≤◌, List, [], ◌∷◌, length, drop, Result, Ok, Err, nat_lt, nat_le, if◌then◌else◌}
 use Rattle.wire_fields.specs.declared.varint.Varint.{Varint}
 use Rattle.wire_fields.specs.declared.varint.Varint.TheVariants.{Whole, Cut, Bad}
 
--- what is wrong with a message
+-- what is wrong with the bytes of a message
 pub data Fault : Type 0 where
   CutField : Fault
   BadVarint : Fault
@@ -32,7 +33,8 @@ IsVarintAt bytes (Whole value used) = (varint_at bytes ≡ Ok (value, drop used 
 IsVarintAt bytes Cut = varint_at bytes ≡ Err CutField
 IsVarintAt bytes Bad = varint_at bytes ≡ Err BadVarint
 
--- the shortest bytes of a number, where so many may stand before the last one
+-- The bytes of a number, with no group of zeros on top, where so many may stand before the last one. A writer uses
+-- this form.
 unfoldable pub number_bytes : ℕ → ℕ → List ℕ
 number_bytes zero n = n ∷ []
 number_bytes (suc more) n = if nat_lt n 128 then n ∷ [] else (n % 128 + 128) ∷ number_bytes more (n / 128)

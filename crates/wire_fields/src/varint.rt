@@ -1,4 +1,4 @@
-//! Base 128 numbers.
+// Numbers in groups of seven bits.
 ghost use Rattle.std.specs.Prelude.{◌≡◌, ◌++◌, ◌≤◌, OnOk, OnErr, length};
 ghost use Rattle.wire_fields.specs.Varint.{IsVarintAt, varint};
 ghost use Rattle.wire_fields.specs.Grammar.{SpellsVarint, VarintGrammar};
@@ -52,7 +52,11 @@ fn add_groups(bytes: &[u8]) -> Varint
     }
 }
 
-/// Puts the shortest bytes of the number at the end.
+/// Puts the fewest bytes of the number at the end.
+///
+/// # Errors
+///
+/// `NoMemory` where they find no room; the vector is then as it was.
 pub fn push_varint(value: u64, out: &mut Vec<u8>) -> Result<(), NoMemory>
     ensures ok { OnOk result (out.new.items ≡ out.old.items ++ varint value) }
     ensures err { OnErr result (out.new.items ≡ out.old.items) }

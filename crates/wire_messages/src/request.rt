@@ -19,9 +19,13 @@ use wire_fields::{Items, NoMemory, Text};
 pub struct WorkRequest {
     pub arguments: Items<Text>,
     pub inputs: Items<Input>,
+    /// 0 for a worker that has one request at a time.
     pub request_id: i32,
+    /// The request of this number is to be cancelled; the other parts are then at their defaults.
     pub cancel: bool,
+    /// How much the worker may print; 0 is the least.
     pub verbosity: i32,
+    /// The directory that a multiplex worker is to work in, or empty.
     pub sandbox_dir: Text,
 }
 
@@ -97,6 +101,10 @@ impl Message for WorkRequest {
 }
 
 /// The request that the bytes spell.
+///
+/// # Errors
+///
+/// The first fault from the left, or `NoMemory`.
 pub fn decode_request(alloc: Global, bytes: &[u8]) -> Result<WorkRequest, MessageFault>
     // What is read is spelled so.
     ensures found { IfOk result (SpellsRequest bytes.now) }
@@ -110,6 +118,10 @@ pub fn decode_request(alloc: Global, bytes: &[u8]) -> Result<WorkRequest, Messag
 }
 
 /// The one spelling of the request.
+///
+/// # Errors
+///
+/// `NoMemory` where the bytes find no memory.
 pub fn encode_request(alloc: Global, m: &WorkRequest) -> Result<Vec<u8>, NoMemory>
     ensures written { IfOk result (λ v. v.items ≡ request_spelling m.now) }
     ensures spelled { IfOk result (λ v. SpellsRequest v.items m.now) }

@@ -17,8 +17,11 @@ use wire_fields::{NoMemory, Text};
 #[derive(Drop)]
 pub struct WorkResponse {
     pub exit_code: i32,
+    /// What the worker has to say, for people.
     pub output: Text,
+    /// The number of the request that is answered.
     pub request_id: i32,
+    /// The request was cancelled; exit code and output say nothing then.
     pub was_cancelled: bool,
 }
 
@@ -84,6 +87,10 @@ impl Message for WorkResponse {
 }
 
 /// The response that the bytes spell.
+///
+/// # Errors
+///
+/// The first fault from the left, or `NoMemory`.
 pub fn decode_response(alloc: Global, bytes: &[u8]) -> Result<WorkResponse, MessageFault>
     // What is read is spelled so.
     ensures found { IfOk result (SpellsResponse bytes.now) }
@@ -97,6 +104,10 @@ pub fn decode_response(alloc: Global, bytes: &[u8]) -> Result<WorkResponse, Mess
 }
 
 /// The one spelling of the response.
+///
+/// # Errors
+///
+/// `NoMemory` where the bytes find no memory.
 pub fn encode_response(alloc: Global, m: &WorkResponse) -> Result<Vec<u8>, NoMemory>
     ensures written { IfOk result (λ v. v.items ≡ response_spelling m.now) }
     ensures spelled { IfOk result (λ v. SpellsResponse v.items m.now) }
