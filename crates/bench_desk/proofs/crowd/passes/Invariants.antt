@@ -1,4 +1,4 @@
-use Rattle.std.proofs.Common.{◌-◌, ◌≡◌, ◌+◌, ◌<◌, ◌^◌, All, ◌≤◌}
+use Rattle.std.proofs.Common.{◌-◌, ◌≡◌, ◌+◌, All}
 use Rattle.seat_desk.specs.Passes.{IsPassOf, IsRootOf}
 use Rattle.bench_desk.proofs.crowd.passes.Given as goal
 

@@ -1,4 +1,4 @@
-use Rattle.std.proofs.Common.{◌≡◌, ◌+◌, ◌*◌, ◌<◌, ◌∙◌, arith}
+use Rattle.std.proofs.Common.{◌+◌, ◌*◌, ◌<◌, ◌∙◌, arith}
 use Rattle.bench_desk.specs.Jobs.{IsJobOf}
 use Rattle.bench_desk.proofs.Lists.{one_more}
 use Rattle.bench_desk.proofs.seats.open_seat.Goals as goal
