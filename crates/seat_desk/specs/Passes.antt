@@ -1,5 +1,5 @@
 -- What a clause reads of a desk, its root and its passes.
-use Rattle.std.specs.Prelude.{◌≡◌, List, Option}
+use Rattle.std.specs.Prelude.{◌≡◌, ◌+◌, List, Option}
 use Rattle.seat_desk.specs.declared.machine.Machine.{Ghosts}
 use Rattle.seat_desk.specs.declared.entry.Entry.{Entry}
 use Rattle.seat_desk.specs.declared.view.Joined.{Joined}
@@ -7,6 +7,7 @@ use Rattle.seat_desk.specs.declared.desk.Pass.{Pass}
 use Rattle.seat_desk.specs.declared.desk.Root.{Root}
 use Rattle.seat_desk.specs.declared.desk.Desk.{Desk}
 use Rattle.seat_desk.specs.History.{GoesOn, StandsUnder}
+use Rattle.seat_desk.specs.Turns.{rooted, one_more, newcomer}
 use Rattle.seat_desk.specs.Desks.{Answers, AnswersThen, MayThen}
 
 module _ {M C R G Q : Type 0} {g : Ghosts M C R G Q} where
@@ -45,6 +46,22 @@ module _ {M C R G Q : Type 0} {g : Ghosts M C R G Q} where
   -- the pass has the desk, the lane and the rules that it had
   abbrev pub IsSamePass : Pass M C R G Q g → Pass M C R G Q g → Type 0
   IsSamePass p p' = (p'.seat.table_id ≡ p.seat.table_id) × (p'.lane ≡ p.lane) × (rules p' ≡ rules p)
+
+  -- the root has the desk, the number of passes and the rules that it had
+  abbrev pub IsSameRoot : Root M C R G Q g → Root M C R G Q g → Type 0
+  IsSameRoot r r' = (r'.seat.table_id ≡ r.seat.table_id) × (r'.made ≡ r.made) × (root_rules r' ≡ root_rules r)
+
+  -- the root of a desk whose machine has these rules: it has split no pass, seen nothing and joined nothing
+  abbrev pub IsNewRoot : Q → Root M C R G Q g → Type 0
+  IsNewRoot rules r = (r.made ≡ 0) × (r.seat.me.0 ≡ rooted rules)
+
+  -- the root has split one pass more, and is else as it was
+  abbrev pub SplitsOne : Root M C R G Q g → Root M C R G Q g → Type 0
+  SplitsOne r r' = (r'.seat.table_id ≡ r.seat.table_id) × (r'.made ≡ r.made + 1) × (r'.seat.me.0 ≡ one_more r.seat.me.0)
+
+  -- the pass is of the root's desk and of the next lane, has seen what the root has, and made no call
+  abbrev pub IsNewPass : Root M C R G Q g → Pass M C R G Q g → Type 0
+  IsNewPass r p = (p.seat.table_id ≡ r.seat.table_id) × (p.lane ≡ r.made) × (p.seat.me.0 ≡ newcomer r.seat.me.0)
 
   -- this may go in with the call, a good or none, after what the pass has seen
   abbrev pub Suits : Pass M C R G Q g → C → Option G → Type 0

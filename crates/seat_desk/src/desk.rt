@@ -1,16 +1,16 @@
 //! The desk, and the calls at it.
-ghost use Rattle.std.specs.Prelude.{◌≡◌, ◌≢◌, ◌⊎◌, ◌<◌, ◌≤◌, ◌+◌, ◌-◌, ◌^◌, true, false, cond, [], ◌∷◌, ◌++◌, length, vec_len, IfOk, IfErr, None, Some};
-ghost use Rattle.std.specs.Vec.{vec_capacity};
-ghost use Rattle.seat_desk.specs.History.{entry, after, IsReply, StandsUnder, StartsWith};
-ghost use Rattle.seat_desk.specs.Helds.{log_of, IsGood, HasRoom};
-ghost use Rattle.seat_desk.specs.Turns.{AllJoined, done_with, rooted, one_more, newcomer};
-ghost use Rattle.seat_desk.specs.Desks.{IsIdle, IsRoot, Draws, WaitsFor, IsServed, MayEnd, MayFollow, Follows};
+ghost use Rattle.std.specs.Prelude.{◌≡◌, ◌≢◌, ◌<◌, ◌-◌, ◌^◌, false, [], ◌∷◌, ◌++◌, length, IfOk, IfErr, None, Some};
+ghost use Rattle.seat_desk.specs.History.{StandsUnder, StartsWith};
+ghost use Rattle.seat_desk.specs.Helds.{log_of, IsGood};
+ghost use Rattle.seat_desk.specs.Turns.{AllJoined, done_with};
+ghost use Rattle.seat_desk.specs.Desks.{IsIdle, IsRoot, Draws, WaitsFor, IsServed, MayEnd};
 
-use crate::entry::{Entry, HistoryEntry};
+use crate::entry::HistoryEntry;
 use crate::held::Held;
 use crate::machine::{Machine, Then};
 use crate::plays::{Cut, Draw, End, Gather, Glue, Look};
 use crate::rule::Turns;
+use crate::turn::{follow, step};
 use crate::view::{Role, Stage, View};
 use atomic_table::{Seat, Table};
 use std::alloc::Global;
@@ -77,64 +77,6 @@ pub struct Refused<M: Machine> {
     pub put: Option<M::Good>,
 }
 
-// Adds the entry to the history, where it is kept. It takes no memory.
-fn write<M: Machine>(
-    history: &mut Vec<Entry<M::Call, M::Reply>>,
-    lane: u32,
-    call: M::Call,
-    reply: &M::Reply,
-)
-    requires { M.keeps (entry lane call reply.now) ≡ true → vec_len history.old < vec_capacity history.old }
-    ensures items { history.new.items ≡ after M.keeps history.old.items (entry lane call reply.now) }
-    ensures len { vec_len history.new ≡ vec_len history.old + cond (M.keeps (entry lane call reply.now)) 1 0 }
-    ensures capacity { vec_capacity history.new ≡ vec_capacity history.old }
-{
-    if M::is_kept(lane, &call, reply) {
-        let reply = M::copy(reply);
-        history.push_reserved(Entry { lane, call, reply });
-    }
-}
-
-// One call of the machine, with its entry.
-fn step<M: Machine>(
-    held: &mut Held<M, M::Call, M::Reply>,
-    lane: u32,
-    call: M::Call,
-    put: Option<M::Good>,
-) -> (M::Reply, Option<M::Good>)
-    requires good { IsGood M.rules M.stands M.owes (M.rules held.old.machine) held.old }
-    requires room { HasRoom (M.owes (M.rules held.old.machine)) (M.paid (M.rules held.old.machine)) lane call held.old }
-    requires suits { M.goes_in (M.rules held.old.machine) held.old.history.items lane call put }
-    ensures history { held.new.history.items ≡ after M.keeps held.old.history.items (entry lane call result.0) }
-    ensures good { IsGood M.rules M.stands M.owes (M.rules held.old.machine) held.new }
-    ensures reply { IsReply (M.next (M.rules held.old.machine)) M.short (M.may_be_short (M.rules held.old.machine)) held.old.history.items lane call result.0 }
-    ensures paid { M.paid (M.rules held.old.machine) held.old.history.items lane call → (result.0 ≡ M.next (M.rules held.old.machine) held.old.history.items lane call) × (M.short result.0 ≡ false) }
-    ensures comes { M.comes_out (M.rules held.old.machine) held.old.history.items lane call result.0 result.1 }
-{
-    let (reply, good) = held.machine.turn(lane, &call, put);
-    write::<M>(&mut held.history, lane, call, &reply);
-    (reply, good)
-}
-
-// The call that follows in the same turn, if there is one.
-fn follow<M: Machine, W: Then<M>>(
-    held: &mut Held<M, M::Call, M::Reply>,
-    lane: u32,
-    reply: M::Reply,
-    good: Option<M::Good>,
-    work: &mut W,
-) -> (M::Reply, Option<M::Good>)
-    requires good { IsGood M.rules M.stands M.owes (M.rules held.old.machine) held.old }
-    requires may { MayFollow W.meets (M.paid (M.rules held.old.machine)) (M.goes_in (M.rules held.old.machine)) lane held.old.history.items work.old reply good }
-    ensures good { IsGood M.rules M.stands M.owes (M.rules held.old.machine) held.new }
-    ensures follows { Follows W.meets (M.next (M.rules held.old.machine)) M.short M.keeps (M.comes_out (M.rules held.old.machine)) lane held.old.history.items work.old reply good result.0 result.1 work.new held.new.history.items }
-{
-    match work.then(&reply, good) {
-        Some((call, put)) => step(held, lane, call, put),
-        None => (reply, None),
-    }
-}
-
 impl<M: Machine> Pass<M> {
     /// The lanes that may have news after the last call of this pass, a bit for each: bit `k` is
     /// lane `k`. It is the machine's hint (`Machine::stirs`), and no clause speaks of it.
@@ -144,63 +86,52 @@ impl<M: Machine> Pass<M> {
 }
 
 impl<M: Machine> Desk<M> {
-    ghost use Rattle.seat_desk.specs.Passes.{IsPassOf, IsRootOf, IsSamePass, Suits, IsPaidFor, MakesCall, MakesPaidCall, MakesNoCall, MayMakeThen, MakesCallThen, joined, mine, rules, seen, root_rules, root_seen};
+    ghost use Rattle.seat_desk.specs.Passes.{IsPassOf, IsRootOf, IsSamePass, IsSameRoot, IsNewRoot, IsNewPass, SplitsOne, Suits, IsPaidFor, MakesCall, MakesPaidCall, MakesNoCall, MayMakeThen, MakesCallThen, joined, mine, seen, root_rules, root_seen};
 
-    // Draws a ticket.
-    fn draw(
-        &self,
-        seat: &mut Seat<Option<Held<M, M::Call, M::Reply>>, View<M::Call, M::Reply, M::Rules>>,
-    ) -> u64
-        requires { (seat.old.table_id ≡ self.now.table.shared.table_id) × (seat.old.me.0.stage ≡ Stage.Idle) × (seat.old.me.0.role ≢ Role.Gone) }
-        ensures { (seat.new.table_id ≡ seat.old.table_id) × Draws seat.old.me result seat.new.me }
+    /// A desk with this machine, which stands for the empty history, and its root.
+    ///
+    /// # Errors
+    ///
+    /// `NoMemory` where there is no memory for the table, or for the entries that the machine owes at
+    /// first.
+    pub fn new(alloc: Global, machine: M) -> Result<(Desk<M>, Root<M>), NoMemory>
+        requires { M.stands machine [] }
+        ensures { IfOk result (λ d. IsRootOf d.0 d.1 × IsNewRoot (M.rules machine) d.1) }
     {
-        self.table.shared.fetch_add::<Draw<M>>(seat, 0, 1)
+        let mut slots = Vec::with_capacity(alloc, 1)?;
+        let mut history = Vec::new(alloc);
+        history.reserve(machine.owed() as usize)?;
+        let about = Snapshot::of(&machine);
+        let held = Held { machine, history };
+        slots.push_reserved(Some(held));
+        let Ok((table, seat)) = Table::new(alloc, &[0, 0], slots, &about) else {
+            return Err(NoMemory);
+        };
+        let gate = Mutex::new(());
+        Ok((Desk { table, gate }, Root { made: 0, seat }))
     }
 
-    // Waits until the ticket is served, and takes the slot.
-    fn wait<R: Wait>(
-        &self,
-        rt: &R,
-        seat: &mut Seat<Option<Held<M, M::Call, M::Reply>>, View<M::Call, M::Reply, M::Rules>>,
-        ticket: u64,
-    )
-        requires { (seat.old.table_id ≡ self.now.table.shared.table_id) × WaitsFor seat.old.me ticket }
-        ensures { (seat.new.table_id ≡ seat.old.table_id) × ((y : _) × IsServed log_of (IsGood M.rules M.stands M.owes) seat.old.me y (λ c. c ≡ (0, Some y) ∷ []) seat.new.me) }
+    /// A pass of a lane of its own, the next from 0 upwards, which has seen what the root has.
+    ///
+    /// # Errors
+    ///
+    /// `NoMemory`, and then the root is unchanged.
+    pub fn split<R>(&self, rt: &R, root: &mut Root<M>) -> Result<Pass<M>, NoMemory>
+        requires desk { IsRootOf self.now root.old }
+        requires room { root.old.made < 2 ^ 32 - 1 }
+        ensures root { IfOk result (λ p. SplitsOne root.old root.new) }
+        ensures pass { IfOk result (λ p. IsNewPass root.old p) }
+        ensures refused { IfErr result (λ e. root.new ≡ root.old) }
     {
-        for _ in rt.forever() {
-            if self.table.shared.load::<Look<M>>(seat, 1) == ticket {
-                return;
-            }
-            yield_now();
-        }
-    }
-
-    // Begins a turn: the machine with its history is taken out of the slot.
-    fn enter<R: Wait>(
-        &self,
-        rt: &R,
-        seat: &mut Seat<Option<Held<M, M::Call, M::Reply>>, View<M::Call, M::Reply, M::Rules>>,
-    ) -> Held<M, M::Call, M::Reply>
-        requires { (seat.old.table_id ≡ self.now.table.shared.table_id) × (seat.old.me.0.stage ≡ Stage.Idle) × (seat.old.me.1 ≡ []) × (seat.old.me.0.role ≢ Role.Gone) }
-        ensures { (seat.new.table_id ≡ seat.old.table_id) × IsServed log_of (IsGood M.rules M.stands M.owes) seat.old.me result (λ c. c ≡ (0, None) ∷ []) seat.new.me }
-    {
-        let ticket = self.draw(seat);
-        self.wait(rt, seat, ticket);
-        self.table.shared.exchange(seat, 0, None).unwrap()
-    }
-
-    // Ends a turn of this lane: the machine is put back, and the next ticket is served.
-    fn leave(
-        &self,
-        seat: &mut Seat<Option<Held<M, M::Call, M::Reply>>, View<M::Call, M::Reply, M::Rules>>,
-        _lane: u32,
-        held: Held<M, M::Call, M::Reply>,
-    )
-        requires { (seat.old.table_id ≡ self.now.table.shared.table_id) × MayEnd log_of (IsGood M.rules M.stands M.owes) _lane seat.old.me held }
-        ensures { (seat.new.table_id ≡ seat.old.table_id) × (seat.new.me ≡ (done_with seat.old.me.0 _lane held.history.items, [])) }
-    {
-        self.table.shared.exchange(seat, 0, Some(held));
-        self.table.shared.fetch_add::<End<M>>(seat, 1, 1);
+        let _ = rt;
+        let seat = self.table.shared.split_seat::<Cut>(&mut root.seat);
+        let lane = root.made;
+        root.made += 1;
+        Ok(Pass {
+            lane,
+            stirs: 0,
+            seat,
+        })
     }
 
     /// Makes the call in a turn of its own, and answers the machine's reply with the good that came out.
@@ -236,92 +167,6 @@ impl<M: Machine> Desk<M> {
         self.leave(&mut pass.seat, lane, held);
         pass.stirs = stirs;
         Ok((reply, good))
-    }
-
-    /// A desk with this machine, which stands for the empty history, and its root.
-    ///
-    /// # Errors
-    ///
-    /// `NoMemory` where there is no memory for the table, or for the entries that the machine owes at
-    /// first.
-    pub fn new(alloc: Global, machine: M) -> Result<(Desk<M>, Root<M>), NoMemory>
-        requires { M.stands machine [] }
-        ensures { IfOk result (λ d. IsRootOf d.0 d.1 × (d.1.made ≡ 0) × (d.1.seat.me.0 ≡ rooted (M.rules machine))) }
-    {
-        let mut slots = Vec::with_capacity(alloc, 1)?;
-        let mut history = Vec::new(alloc);
-        history.reserve(machine.owed() as usize)?;
-        let about = Snapshot::of(&machine);
-        let held = Held { machine, history };
-        slots.push_reserved(Some(held));
-        let Ok((table, seat)) = Table::new(alloc, &[0, 0], slots, &about) else {
-            return Err(NoMemory);
-        };
-        let gate = Mutex::new(());
-        Ok((Desk { table, gate }, Root { made: 0, seat }))
-    }
-
-    /// A pass of a lane of its own, the next from 0 upwards, which has seen what the root has.
-    ///
-    /// # Errors
-    ///
-    /// `NoMemory`, and then the root is unchanged.
-    pub fn split<R>(&self, rt: &R, root: &mut Root<M>) -> Result<Pass<M>, NoMemory>
-        requires desk { IsRootOf self.now root.old }
-        requires room { root.old.made < 2 ^ 32 - 1 }
-        ensures root { IfOk result (λ p. (root.new.seat.table_id ≡ root.old.seat.table_id) × (root.new.made ≡ root.old.made + 1) × (root.new.seat.me.0 ≡ one_more root.old.seat.me.0)) }
-        ensures pass { IfOk result (λ p. (p.seat.table_id ≡ root.old.seat.table_id) × (p.lane ≡ root.old.made) × (p.seat.me.0 ≡ newcomer root.old.seat.me.0)) }
-        ensures refused { IfErr result (λ e. root.new ≡ root.old) }
-    {
-        let _ = rt;
-        let seat = self.table.shared.split_seat::<Cut>(&mut root.seat);
-        let lane = root.made;
-        root.made += 1;
-        Ok(Pass {
-            lane,
-            stirs: 0,
-            seat,
-        })
-    }
-
-    /// Takes a pass back. The root sees all that the pass has seen, and keeps its calls.
-    pub fn join_pass<R>(&self, rt: &R, root: &mut Root<M>, pass: Pass<M>)
-        requires { IsRootOf self.now root.old × IsPassOf self.now pass }
-        ensures same { (root.new.seat.table_id ≡ root.old.seat.table_id) × (root.new.made ≡ root.old.made) × (root_rules root.new ≡ root_rules root.old) }
-        ensures seen { StartsWith (root_seen root.new) (root_seen root.old) × StartsWith (root_seen root.new) (seen pass) }
-        ensures joined { joined root.new ≡ joined root.old ++ record { lane = pass.lane; calls = mine pass } ∷ [] }
-    {
-        let _ = rt;
-        let Pass {
-            lane: _,
-            stirs: _,
-            seat,
-        } = pass;
-        self.table.shared.join_seat::<Glue<M>>(&mut root.seat, seat);
-        self.table.shared.load::<Gather<M>>(&mut root.seat, 0);
-    }
-
-    /// Ends the desk, once each pass was joined. The history begins with all that the root has seen,
-    /// the calls of each lane in it are those that its pass made, and the machine stands for it.
-    ///
-    /// # Errors
-    ///
-    /// `NoMemory`, and then the desk is gone.
-    pub fn close<R>(self, rt: &R, root: Root<M>) -> Result<Closed<M>, NoMemory>
-        requires desk { IsRootOf self root }
-        requires all { length (joined root) ≡ root.made }
-        ensures stands { IfOk result (λ c. StandsUnder M.rules M.stands (root_rules root) c.machine c.history.items) }
-        ensures seen { IfOk result (λ c. StartsWith c.history.items (root_seen root)) }
-        ensures joined { IfOk result (λ c. AllJoined c.history.items (joined root)) }
-    {
-        let _ = rt;
-        let Desk { table, gate: _ } = self;
-        let Root { made: _, seat } = root;
-        let mut closed = table.close_with(seat);
-        let held = closed.take(0).unwrap();
-        closed.free();
-        let Held { machine, history } = held;
-        Ok(Closed { machine, history })
     }
 
     /// Makes a call that the pass's history has paid for. It takes no memory, and its reply is not short.
@@ -367,8 +212,10 @@ impl<M: Machine> Desk<M> {
         requires suits { Suits pass.old call None }
         requires may { MayMakeThen W.meets pass.old call work.old }
         ensures same { IsSamePass pass.old pass.new }
-        ensures answer { IfOk result (λ r. MakesCallThen W.meets pass.old call work.old r.0 r.1 work.new pass.new) }
-        ensures refused { IfErr result (λ e. (e.call ≡ call) × (e.put ≡ None) × (work.new ≡ work.old) × MakesNoCall pass.old pass.new) }
+        ensures answer { IfOk result (λ r.
+            MakesCallThen W.meets pass.old call work.old r.0 r.1 work.new pass.new) }
+        ensures refused { IfErr result (λ e. (e.call ≡ call) × (e.put ≡ None)
+            × (work.new ≡ work.old) × MakesNoCall pass.old pass.new) }
     {
         let lane = pass.lane;
         let _gate = self.gate.lock(rt);
@@ -386,5 +233,114 @@ impl<M: Machine> Desk<M> {
         self.leave(&mut pass.seat, lane, held);
         pass.stirs = stirs;
         Ok((reply, good))
+    }
+
+    /// Takes a pass back. The root sees all that the pass has seen, and keeps its calls.
+    pub fn join_pass<R>(&self, rt: &R, root: &mut Root<M>, pass: Pass<M>)
+        requires { IsRootOf self.now root.old × IsPassOf self.now pass }
+        ensures same { IsSameRoot root.old root.new }
+        ensures seen { StartsWith (root_seen root.new) (root_seen root.old)
+            × StartsWith (root_seen root.new) (seen pass) }
+        ensures joined { joined root.new
+            ≡ joined root.old ++ record { lane = pass.lane; calls = mine pass } ∷ [] }
+    {
+        let _ = rt;
+        let Pass {
+            lane: _,
+            stirs: _,
+            seat,
+        } = pass;
+        self.table.shared.join_seat::<Glue<M>>(&mut root.seat, seat);
+        self.table.shared.load::<Gather<M>>(&mut root.seat, 0);
+    }
+
+    /// Ends the desk, once each pass was joined. The history begins with all that the root has seen,
+    /// the calls of each lane in it are those that its pass made, and the machine stands for it.
+    ///
+    /// # Errors
+    ///
+    /// `NoMemory`, and then the desk is gone.
+    pub fn close<R>(self, rt: &R, root: Root<M>) -> Result<Closed<M>, NoMemory>
+        requires desk { IsRootOf self root }
+        requires all { length (joined root) ≡ root.made }
+        ensures stands { IfOk result (λ c.
+            StandsUnder M.rules M.stands (root_rules root) c.machine c.history.items) }
+        ensures seen { IfOk result (λ c. StartsWith c.history.items (root_seen root)) }
+        ensures joined { IfOk result (λ c. AllJoined c.history.items (joined root)) }
+    {
+        let _ = rt;
+        let Desk { table, gate: _ } = self;
+        let Root { made: _, seat } = root;
+        let mut closed = table.close_with(seat);
+        let held = closed.take(0).unwrap();
+        closed.free();
+        let Held { machine, history } = held;
+        Ok(Closed { machine, history })
+    }
+
+    // Draws a ticket. In all private functions the seat is one of this desk's table.
+    fn draw(
+        &self,
+        seat: &mut Seat<Option<Held<M, M::Call, M::Reply>>, View<M::Call, M::Reply, M::Rules>>,
+    ) -> u64
+        requires { (seat.old.table_id ≡ self.now.table.shared.table_id)
+            × (seat.old.me.0.stage ≡ Stage.Idle) × (seat.old.me.0.role ≢ Role.Gone) }
+        ensures { (seat.new.table_id ≡ seat.old.table_id) × Draws seat.old.me result seat.new.me }
+    {
+        self.table.shared.fetch_add::<Draw<M>>(seat, 0, 1)
+    }
+
+    // Waits until the ticket is served, and takes the slot.
+    fn wait<R: Wait>(
+        &self,
+        rt: &R,
+        seat: &mut Seat<Option<Held<M, M::Call, M::Reply>>, View<M::Call, M::Reply, M::Rules>>,
+        ticket: u64,
+    )
+        requires { (seat.old.table_id ≡ self.now.table.shared.table_id) × WaitsFor seat.old.me ticket }
+        ensures { (seat.new.table_id ≡ seat.old.table_id)
+            × ((y : _) × IsServed log_of (IsGood M.rules M.stands M.owes) seat.old.me y
+            (λ c. c ≡ (0, Some y) ∷ []) seat.new.me) }
+    {
+        for _ in rt.forever() {
+            if self.table.shared.load::<Look<M>>(seat, 1) == ticket {
+                return;
+            }
+            yield_now();
+        }
+    }
+
+    // Begins a turn: the machine with its history is taken out of the slot.
+    fn enter<R: Wait>(
+        &self,
+        rt: &R,
+        seat: &mut Seat<Option<Held<M, M::Call, M::Reply>>, View<M::Call, M::Reply, M::Rules>>,
+    ) -> Held<M, M::Call, M::Reply>
+        requires { (seat.old.table_id ≡ self.now.table.shared.table_id)
+            × (seat.old.me.0.stage ≡ Stage.Idle) × (seat.old.me.1 ≡ [])
+            × (seat.old.me.0.role ≢ Role.Gone) }
+        ensures { (seat.new.table_id ≡ seat.old.table_id)
+            × IsServed log_of (IsGood M.rules M.stands M.owes) seat.old.me result
+            (λ c. c ≡ (0, None) ∷ []) seat.new.me }
+    {
+        let ticket = self.draw(seat);
+        self.wait(rt, seat, ticket);
+        self.table.shared.exchange(seat, 0, None).unwrap()
+    }
+
+    // Ends a turn of this lane: the machine is put back, and the next ticket is served.
+    fn leave(
+        &self,
+        seat: &mut Seat<Option<Held<M, M::Call, M::Reply>>, View<M::Call, M::Reply, M::Rules>>,
+        _lane: u32,
+        held: Held<M, M::Call, M::Reply>,
+    )
+        requires { (seat.old.table_id ≡ self.now.table.shared.table_id)
+            × MayEnd log_of (IsGood M.rules M.stands M.owes) _lane seat.old.me held }
+        ensures { (seat.new.table_id ≡ seat.old.table_id)
+            × (seat.new.me ≡ (done_with seat.old.me.0 _lane held.history.items, [])) }
+    {
+        self.table.shared.exchange(seat, 0, Some(held));
+        self.table.shared.fetch_add::<End<M>>(seat, 1, 1);
     }
 }

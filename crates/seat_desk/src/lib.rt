@@ -17,6 +17,7 @@ mod held;
 mod machine;
 mod plays;
 mod rule;
+mod turn;
 mod view;
 
 pub use desk::{Closed, Desk, Pass, Refused, Root};
