@@ -6,6 +6,7 @@ use Rattle.desk_trials.specs.declared.counter.Answer.{Answer}
 use Rattle.desk_trials.specs.declared.counter.Answer.TheVariants.{Sum, NoRoom}
 use Rattle.desk_trials.specs.CounterSums.{stays, is_short}
 
+-- a short reply is not kept
 pub short_goes : (c : Ask) (r : Answer) → is_short r ≡ true → stays c r ≡ false
 short_goes (Add n) (Sum s) e = absurd (cc)
 short_goes (Add n) NoRoom e = refl

@@ -8,6 +8,7 @@ use Rattle.desk_trials.specs.declared.locker.Answer.TheVariants.{Left, Busy, Tak
 use Rattle.desk_trials.specs.declared.locker.Spot.{Spot}
 use Rattle.desk_trials.specs.declared.locker.Spot.TheVariants.{Empty, Here, Away}
 
+-- the answer to a lane's call, where the token is at this spot
 abbrev pub reply_of : Spot → ℕ → Ask → Answer
 reply_of Empty lane Leave = Left
 reply_of (Here owner) lane Leave = Busy
@@ -39,12 +40,15 @@ spot_then Empty lane Returned = Empty
 spot_then (Here owner) lane Returned = Here owner
 spot_then (Away owner) lane Returned = cond (lane == owner) (Here owner) (Away owner)
 
+-- the spot after an entry
 abbrev pub spot_after : Spot → Entry Ask Answer → Spot
 spot_after spot e = spot_then spot e.lane e.reply
 
+-- the spot after a history, where the shelf was empty at first
 abbrev pub spot_of : List (Entry Ask Answer) → Spot
 spot_of h = fold spot_after Empty h
 
+-- the answer changes the spot, and its entry is kept
 abbrev pub changes : Answer → Bool
 changes Left = true
 changes Busy = false
@@ -69,6 +73,7 @@ ComesOut Nothing good = good ≡ None
 ComesOut Lent good = IsSome good
 ComesOut Returned good = good ≡ None
 
+-- how many paid entries are still to come: a Take, and a Return before it
 abbrev pub owes_by : Spot → ℕ
 owes_by Empty = 0
 owes_by (Here owner) = 1
@@ -81,6 +86,7 @@ IsPaid spot lane Take = spot ≡ Here lane
 IsPaid spot lane Borrow = ⊥
 IsPaid spot lane Return = spot ≡ Away lane
 
+-- a token lies on the shelf exactly where it is somebody's and was not borrowed
 abbrev pub Fits : {G : Type 0} → Spot → Option G → Type 0
 Fits Empty shelf = shelf ≡ None
 Fits (Here owner) shelf = IsSome shelf

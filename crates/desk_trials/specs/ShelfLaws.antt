@@ -16,6 +16,7 @@ use Rattle.desk_trials.specs.Shelf.{reply_of, spot_then, spot_after, spot_of, ow
 pub true_not_false : true ≡ false → ⊥
 true_not_false e = cc
 
+-- the spot after one entry more
 pub fold-snoc : (o : Spot) (h : List (Entry Ask Answer)) (e : Entry Ask Answer) → fold spot_after o (h ++ e ∷ []) ≡ spot_after (fold spot_after o h) e
 fold-snoc o [] e = refl
 fold-snoc o (x ∷ xs) e = fold-snoc (spot_after o x) xs e
@@ -48,12 +49,14 @@ others_leave spot lane stays (e ∷ es) none = dite (ℕ_discrete lane e.lane)
     (λ other. let b : (lane == e.lane) ≡ false = ne_eqb lane e.lane other in let rest : calls_by lane es ≡ [] = ap (λ (t : Bool). cond t (e ∷ calls_by lane es) (calls_by lane es)) (sym b) ∙ none in
     ap (λ (o : Spot). fold spot_after o es) (stays e.lane e.reply (λ q. other (sym q))) ∙ others_leave spot lane stays es rest)
 
+-- what a history pays for stays paid for after entries of other lanes
 pub paid_still : (h more : List (Entry Ask Answer)) (lane : ℕ) (c : Ask) → calls_by lane more ≡ [] → IsPaid (spot_of h) lane c → IsPaid (spot_of (h ++ more)) lane c
 paid_still h more lane Leave none p = p
 paid_still h more lane Take none p = fold-append Empty h more ∙ (ap (λ (o : Spot). fold spot_after o more) p ∙ others_leave (Here lane) lane (here_stays lane) more none)
 paid_still h more lane Borrow none p = p
 paid_still h more lane Return none p = fold-append Empty h more ∙ (ap (λ (o : Spot). fold spot_after o more) p ∙ others_leave (Away lane) lane (away_stays lane) more none)
 
+-- so does the lane's token lie there still
 pub here_still : (h more : List (Entry Ask Answer)) (lane : ℕ) → calls_by lane more ≡ [] → spot_of h ≡ Here lane → spot_of (h ++ more) ≡ Here lane
 here_still h more lane none p = paid_still h more lane Take none p
 
@@ -72,9 +75,11 @@ owes_le Empty = omega arith
 owes_le (Here x) = omega arith
 owes_le (Away x) = omega arith
 
+-- a paid call pays one of what is owed
 pub less_owed : (h : List (Entry Ask Answer)) (lane : ℕ) (c : Ask) → IsPaid (spot_of h) lane c
     → owes_by (spot_of (h ++ entry lane c (reply_of (spot_of h) lane c) ∷ [])) + 1 ≡ owes_by (spot_of h)
 less_owed h lane c p = ap (λ (o : Spot). owes_by o + 1) (fold-snoc Empty h (entry lane c (reply_of (spot_of h) lane c))) ∙ less_by (spot_of h) lane c p
 
+-- any entry raises what is owed by two at most
 pub more_owed : (h : List (Entry Ask Answer)) (e : Entry Ask Answer) → owes_by (spot_of (h ++ e ∷ [])) ≤ owes_by (spot_of h) + 2
 more_owed h e = let l = owes_le (spot_of (h ++ e ∷ [])) in omega arith

@@ -76,7 +76,8 @@ pub fn four<R: Threads + Wait + Sync>(
     d: Pass<Adder>,
     count: usize,
 ) -> ((Done, Done), (Done, Done))
-    requires { IsPassOf desk.now a × IsPassOf desk.now b × IsPassOf desk.now c × IsPassOf desk.now d }
+    requires first_two { IsPassOf desk.now a × IsPassOf desk.now b }
+    requires last_two { IsPassOf desk.now c × IsPassOf desk.now d }
     ensures first { HasMade desk.now a result.0.0.pass result.0.0.made }
     ensures second { HasMade desk.now b result.0.1.pass result.0.1.made }
     ensures third { HasMade desk.now c result.1.0.pass result.1.0.made }
@@ -86,11 +87,17 @@ pub fn four<R: Threads + Wait + Sync>(
         rt,
         move || -> (Done, Done)
             requires { IsPassOf desk.now a × IsPassOf desk.now b }
-            ensures { HasMade desk.entry.now a result.0.pass result.0.made × HasMade desk.entry.now b result.1.pass result.1.made }
+            ensures {
+                HasMade desk.entry.now a result.0.pass result.0.made
+                    × HasMade desk.entry.now b result.1.pass result.1.made
+            }
         { two(rt, desk, a, b, count) },
         move || -> (Done, Done)
             requires { IsPassOf desk.now c × IsPassOf desk.now d }
-            ensures { HasMade desk.entry.now c result.0.pass result.0.made × HasMade desk.entry.now d result.1.pass result.1.made }
+            ensures {
+                HasMade desk.entry.now c result.0.pass result.0.made
+                    × HasMade desk.entry.now d result.1.pass result.1.made
+            }
         { two(rt, desk, c, d, count) },
     )
 }

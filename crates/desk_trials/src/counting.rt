@@ -1,8 +1,9 @@
 //! Lanes that add modulo a number, on two threads.
 ghost use Rattle.std.specs.Prelude.{◌≡◌, ◌+◌, ◌<◌, ◌%◌, [], ◌∷◌, ◌++◌, IfOk, IfSome};
-ghost use Rattle.seat_desk.specs.Passes.{IsPassOf, mine, rules, seen};
+ghost use Rattle.seat_desk.specs.Passes.{IsPassOf, IsSamePass, rules, seen};
 ghost use Rattle.seat_desk.specs.History.{entry, calls_by, StartsWith};
 ghost use Rattle.desk_trials.specs.CounterSums.{added, CountsFrom};
+ghost use Rattle.desk_trials.specs.Lanes.{HasAdded};
 
 use crate::counter::{Answer, Ask, Counter};
 use seat_desk::{Closed, Desk, Pass};
@@ -20,9 +21,10 @@ pub fn add<R: Wait>(
     n: u64,
 ) -> (Pass<Counter>, Option<u64>)
     requires { IsPassOf desk.now pass }
-    ensures same { IsPassOf desk.now result.0 × (result.0.lane ≡ pass.lane) × (rules result.0 ≡ rules pass) }
-    ensures reply { IfSome result.1 (λ r. (h : _) × StartsWith h (seen pass) × (r ≡ (added h + n) % rules pass)) }
-    ensures mine { IfSome result.1 (λ r. mine result.0 ≡ mine pass ++ entry pass.lane (Ask.Add n) (Answer.Sum r) ∷ []) }
+    ensures same {
+        IsPassOf desk.now result.0 × (result.0.lane ≡ pass.lane) × (rules result.0 ≡ rules pass)
+    }
+    ensures added { IfSome result.1 (HasAdded n pass result.0) }
 {
     match desk.call(rt, &mut pass, Ask::Add(n), None) {
         Ok((Answer::Sum(sum), _)) => (pass, Some(sum)),
@@ -34,8 +36,10 @@ pub fn add<R: Wait>(
 /// The sum so far, or `None` where there was no room or no memory for it.
 pub fn look<R: Wait>(rt: &R, desk: &Desk<Counter>, pass: &mut Pass<Counter>) -> Option<u64>
     requires { IsPassOf desk.now pass.old }
-    ensures same { IsPassOf desk.now pass.new × (pass.new.lane ≡ pass.old.lane) × (rules pass.new ≡ rules pass.old) }
-    ensures sum { IfSome result (λ r. (h : _) × StartsWith h (seen pass.old) × (r ≡ added h % rules pass.old)) }
+    ensures same { IsPassOf desk.now pass.new × IsSamePass pass.old pass.new }
+    ensures sum {
+        IfSome result (λ r. (h : _) × StartsWith h (seen pass.old) × (r ≡ added h % rules pass.old))
+    }
 {
     match desk.call(rt, pass, Ask::Look, None) {
         Ok((Answer::Sum(sum), _)) => Some(sum),
@@ -53,18 +57,24 @@ pub fn two<R: Threads + Wait + Sync>(
 ) -> ((Pass<Counter>, Option<u64>), (Pass<Counter>, Option<u64>))
     requires { IsPassOf desk.now a × IsPassOf desk.now b }
     ensures desk { IsPassOf desk.now result.0.0 × IsPassOf desk.now result.1.0 }
-    ensures first { (result.0.0.lane ≡ a.lane) × IfSome result.0.1 (λ r. ((h : _) × StartsWith h (seen a) × (r ≡ (added h + n) % rules a)) × (mine result.0.0 ≡ mine a ++ entry a.lane (Ask.Add n) (Answer.Sum r) ∷ [])) }
-    ensures second { (result.1.0.lane ≡ b.lane) × IfSome result.1.1 (λ r. ((h : _) × StartsWith h (seen b) × (r ≡ (added h + n) % rules b)) × (mine result.1.0 ≡ mine b ++ entry b.lane (Ask.Add n) (Answer.Sum r) ∷ [])) }
+    ensures first { (result.0.0.lane ≡ a.lane) × IfSome result.0.1 (HasAdded n a result.0.0) }
+    ensures second { (result.1.0.lane ≡ b.lane) × IfSome result.1.1 (HasAdded n b result.1.0) }
 {
     join(
         rt,
         move || -> (Pass<Counter>, Option<u64>)
             requires { IsPassOf desk.now a }
-            ensures { IsPassOf desk.entry.now result.0 × (result.0.lane ≡ a.lane) × IfSome result.1 (λ r. ((h : _) × StartsWith h (seen a) × (r ≡ (added h + n) % rules a)) × (mine result.0 ≡ mine a ++ entry a.lane (Ask.Add n) (Answer.Sum r) ∷ [])) }
+            ensures {
+                IsPassOf desk.entry.now result.0 × (result.0.lane ≡ a.lane)
+                    × IfSome result.1 (HasAdded n a result.0)
+            }
         { add(rt, desk, a, n) },
         move || -> (Pass<Counter>, Option<u64>)
             requires { IsPassOf desk.now b }
-            ensures { IsPassOf desk.entry.now result.0 × (result.0.lane ≡ b.lane) × IfSome result.1 (λ r. ((h : _) × StartsWith h (seen b) × (r ≡ (added h + n) % rules b)) × (mine result.0 ≡ mine b ++ entry b.lane (Ask.Add n) (Answer.Sum r) ∷ [])) }
+            ensures {
+                IsPassOf desk.entry.now result.0 × (result.0.lane ≡ b.lane)
+                    × IfSome result.1 (HasAdded n b result.0)
+            }
         { add(rt, desk, b, n) },
     )
 }

@@ -4,7 +4,8 @@ use Rattle.seat_desk.specs.declared.entry.Entry.{Entry}
 use Rattle.seat_desk.specs.declared.held.Held.{Held}
 use Rattle.seat_desk.specs.History.{entry, after, calls_by, IsReply}
 use Rattle.seat_desk.proofs.Calls.{may_end, made_none, others_only, added, after_is, only_added, calls_after}
-use Rattle.seat_desk.specs.Helds.{log_of, IsGood}
+use Rattle.seat_desk.specs.Helds.{log_of}
+use Rattle.seat_desk.proofs.Goods.{good_of}
 use Rattle.seat_desk.proofs.desk.Desk.call.Goals as goal
 
 pub leave-requires-after_bounds : goal.leave-requires-after_bounds
@@ -13,7 +14,7 @@ leave-requires-after_bounds g c κs within = let y' : Held g.row.M.Denot g.row.M
     let room : vec_len c.reserve.new.self + g.M.Machine.owes c.args.pass.now.seat.me.0.rules c.reserve.new.self.items ≤ vec_capacity c.reserve.new.self =
     (let o = ap (g.M.Machine.owes c.args.pass.now.seat.me.0.rules) same in let l = c.reserve.ensures.len in let k = c.reserve.ensures.capacity in let r = s.0.0.1 in omega arith) in (
       c.enter-held.ensures.0 ∙ c.requires.desk,
-      may_end log_of (IsGood g.M.Machine.rules g.M.Machine.stands g.M.Machine.owes) c.args.pass.now.lane c.args.pass.now.seat.me c.enter-held.new.seat.me c.enter-held.result y' [] c.args.pass.now.idle s
+      may_end log_of (good_of g.M.Machine) c.args.pass.now.lane c.args.pass.now.seat.me c.enter-held.new.seat.me c.enter-held.result y' [] c.args.pass.now.idle s
           (subst (g.M.Machine.stands c.enter-held.result.machine) (sym same) s.0.0.0, room, s.0.0.2) (same ∙ sym (append-nil c.enter-held.result.history.items)) tt,
     )
 
@@ -28,8 +29,8 @@ pub leave-requires-2-after_bounds : goal.leave-requires-2-after_bounds
 leave-requires-2-after_bounds g c κs within = let s = c.enter-held.ensures.1 in let same : c.reserve.new.self.items ≡ c.enter-held.result.history.items = c.reserve.ensures.items in
     let e : Entry g.row.M-Call.Denot g.row.M-Reply.Denot = entry c.args.pass.now.lane c.args.call c.step-reply.result.0 in (
       c.enter-held.ensures.0 ∙ c.requires.desk,
-      may_end log_of (IsGood g.M.Machine.rules g.M.Machine.stands g.M.Machine.owes) c.args.pass.now.lane c.args.pass.now.seat.me c.enter-held.new.seat.me c.enter-held.result c.step-reply.new.held (added g.M.Machine.keeps e)
-          c.args.pass.now.idle s (subst (λ (q : g.row.M-Rules.Denot). IsGood g.M.Machine.rules g.M.Machine.stands g.M.Machine.owes q c.step-reply.new.held) c.enter-held.ensures.1.0.0.2 c.step-reply.ensures.good)
+      may_end log_of (good_of g.M.Machine) c.args.pass.now.lane c.args.pass.now.seat.me c.enter-held.new.seat.me c.enter-held.result c.step-reply.new.held (added g.M.Machine.keeps e)
+          c.args.pass.now.idle s (subst (λ (q : g.row.M-Rules.Denot). good_of g.M.Machine q c.step-reply.new.held) c.enter-held.ensures.1.0.0.2 c.step-reply.ensures.good)
           (c.step-reply.ensures.history ∙ (after_is g.M.Machine.keeps c.reserve.new.self.items e ∙ ap (λ (h : List (Entry g.row.M-Call.Denot g.row.M-Reply.Denot)). h ++ added g.M.Machine.keeps e) same)) (only_added g.M.Machine.keeps e),
     )
 
@@ -52,5 +53,5 @@ returns-clause-answer g c = let idle = c.args.pass.now.idle in let found = c.ent
 
 pub returns-then-is_err-clause-refused : goal.returns-then-is_err-clause-refused
 returns-then-is_err-clause-refused g c = let y' : Held g.row.M.Denot g.row.M-Call.Denot g.row.M-Reply.Denot = record { machine = c.enter-held.result.machine; history = c.reserve.new.self } in
-    let none = made_none log_of (IsGood g.M.Machine.rules g.M.Machine.stands g.M.Machine.owes) c.args.pass.now.lane c.args.pass.now.seat.me c.enter-held.new.seat.me c.leave.new.seat.me c.enter-held.result y' c.args.pass.now.idle c.enter-held.ensures.1.0 c.reserve.ensures.items c.leave.ensures.1 in
+    let none = made_none log_of (good_of g.M.Machine) c.args.pass.now.lane c.args.pass.now.seat.me c.enter-held.new.seat.me c.leave.new.seat.me c.enter-held.result y' c.args.pass.now.idle c.enter-held.ensures.1.0 c.reserve.ensures.items c.leave.ensures.1 in
     (refl, refl, none)
