@@ -7,7 +7,7 @@ use Rattle.seat_desk.specs.declared.view.Stage.TheVariants.{Waits}
 use Rattle.seat_desk.specs.declared.view.View.{View}
 use Rattle.seat_desk.specs.History.{entry, after, calls_by, GoesOn}
 use Rattle.seat_desk.specs.Turns.{staged, served, done_with, Only, Kept, Finds, looked, ended}
-use Rattle.seat_desk.specs.Desks.{Sat, IsIdle, Draws, WaitsFor, IsServed, MayEnd, Grows, Follows}
+use Rattle.seat_desk.specs.Desks.{Sat, IsIdle, Draws, WaitsFor, IsServed, MayEnd, HasEnded, Grows, Follows}
 use Rattle.seat_desk.proofs.Keeps.{looks, ends}
 use Rattle.seat_desk.proofs.Lines.{calls-append, only_all}
 
@@ -35,9 +35,9 @@ module _ {H C R Q : Type 0} (log_of : H → List (Entry C R)) (good : Q → H �
   leaves slots id lane m m' y may is = subst (λ (x : Sat H C R Q). Allows (Kept log_of good) slots id x 1 (λ n. (n + 1) % 2 ^ 64) (ended log_of good x)) (sym is)
       (ends log_of good slots id may.3.0 lane (m.0, (0, Some y) ∷ rest m.1) y may.4.0 may.3.1 may.0 (ap (λ (c : List (ℕ × Slot)). (0, Some y) ∷ rest c) may.1) may.2 may.4.1 may.4.2)
 
-  pub left : (lane n : ℕ) (m m' m'' : Sat H C R Q) (y : H) → MayEnd log_of good lane m y → m' ≡ (m.0, (0, Some y) ∷ rest m.1) → ended log_of good m' n m'' → m'' ≡ (done_with m.0 lane (log_of y), [])
-  left lane n m m' m'' y may is did = let role : m'.0.role ≡ Lane lane = ap (λ (x : Sat H C R Q). x.0.role) is ∙ may.0 in
-      let carried : m'.1 ≡ (0, Some y) ∷ [] = ap (λ (x : Sat H C R Q). x.1) is ∙ ap (λ (c : List (ℕ × Slot)). (0, Some y) ∷ rest c) may.1 in
+  pub left : (lane n : ℕ) (m m' m'' : Sat H C R Q) (y : H) → m.0.role ≡ Lane lane → m.1 ≡ (0, None) ∷ [] → m' ≡ (m.0, (0, Some y) ∷ rest m.1) → ended log_of good m' n m'' → m'' ≡ (done_with m.0 lane (log_of y), [])
+  left lane n m m' m'' y lane_is empty is did = let role : m'.0.role ≡ Lane lane = ap (λ (x : Sat H C R Q). x.0.role) is ∙ lane_is in
+      let carried : m'.1 ≡ (0, Some y) ∷ [] = ap (λ (x : Sat H C R Q). x.1) is ∙ ap (λ (c : List (ℕ × Slot)). (0, Some y) ∷ rest c) empty in
       let view : m''.0 ≡ done_with m.0 lane (log_of y) = did.1 lane y role carried ∙ ap (λ (x : Sat H C R Q). done_with x.0 lane (log_of y)) is in
       λ i. (view i, did.0 i)
 
@@ -63,13 +63,35 @@ module _ {H C R Q : Type 0} (log_of : H → List (Entry C R)) (good : Q → H �
       )
 
   pub may_end : (lane : ℕ) (m m1 : Sat H C R Q) (y y' : H) (news : List (Entry C R)) → IsIdle lane m → IsServed log_of good m y (λ c. c ≡ (0, None) ∷ []) m1 → good m.0.rules y'
-      → (log_of y') ≡ (log_of y) ++ news → Only lane news → MayEnd log_of good lane m1 y'
+      → (log_of y') ≡ (log_of y) ++ news → Only lane news → (k : ℕ) × MayEnd log_of good k m1 y'
   may_end lane m m1 y y' news idle s fine added only = (
-    ap (λ (v : View C R Q). v.role) s.1.1 ∙ idle.0,
-    s.2,
-    subst (λ (q : Q). good q y') (ap (λ (v : View C R Q). v.rules) (sym s.1.1)) fine,
-    (s.1.0, ap (λ (v : View C R Q). v.stage) s.1.1),
-    (news, added ∙ ap (λ (v : View C R Q). v.seen ++ news) (sym s.1.1), only),
+    lane,
+    (
+      ap (λ (v : View C R Q). v.role) s.1.1 ∙ idle.0,
+      s.2,
+      subst (λ (q : Q). good q y') (ap (λ (v : View C R Q). v.rules) (sym s.1.1)) fine,
+      (s.1.0, ap (λ (v : View C R Q). v.stage) s.1.1),
+      (news, added ∙ ap (λ (v : View C R Q). v.seen ++ news) (sym s.1.1), only),
+    ),
+  )
+
+-- Where the seat of a pass stands
+module _ {H C R Q : Type 0} where
+  -- in its turn it is its lane's still
+  pub in_turn : (lane : ℕ) (m m1 : Sat H C R Q) (h : List (Entry C R)) → IsIdle lane m → ((t : ℕ) × (m1.0 ≡ served m.0 t h)) → m1.0.role ≡ Lane lane
+  in_turn lane m m1 h idle s = ap (λ (v : View C R Q). v.role) s.1 ∙ idle.0
+
+  -- after the turn
+  pub after_turn : (lane : ℕ) (m m1 m2 : Sat H C R Q) (h h' : List (Entry C R)) → IsIdle lane m → ((t : ℕ) × (m1.0 ≡ served m.0 t h)) → HasEnded m1 h' m2 → m2 ≡ (done_with m1.0 lane h', [])
+  after_turn lane m m1 m2 h h' idle s ended = ended lane (in_turn lane m m1 h idle s)
+
+  -- after the turn it is idle again, and has seen just its own calls of its lane
+  pub idle_again : (lane : ℕ) (m m1 m2 : Sat H C R Q) (h h' : List (Entry C R)) → IsIdle lane m → ((t : ℕ) × (m1.0 ≡ served m.0 t h)) → HasEnded m1 h' m2 → IsIdle lane m2
+  idle_again lane m m1 m2 h h' idle s ended = let last = after_turn lane m m1 m2 h h' idle s ended in (
+    ap (λ (x : Sat H C R Q). x.0.role) last ∙ in_turn lane m m1 h idle s,
+    ap (λ (x : Sat H C R Q). x.0.stage) last,
+    ap (λ (x : Sat H C R Q). x.1) last,
+    ap (λ (x : Sat H C R Q). calls_by lane x.0.seen) last ∙ ap (λ (x : Sat H C R Q). x.0.mine) (sym last),
   )
 
 -- Histories after a call
@@ -112,10 +134,6 @@ module _ {H C R Q : Type 0} (log_of : H → List (Entry C R)) (good : Q → H �
   -- what stands between what the pass has seen and the history in the slot is of other lanes
   pub between : (lane : ℕ) (m : Sat H C R Q) (y : H) → IsIdle lane m → Finds log_of good m.0 y → (rest : List (Entry C R)) × (log_of y ≡ m.0.seen ++ rest) × (calls_by lane rest ≡ [])
   between lane m y idle s = let front = s.1 in (front.0, front.1, others_only lane m.0.seen front.0 (log_of y) m.0.mine idle.3 (s.2 lane idle.0) front.1)
-
-  -- the rules of the pass after a turn
-  pub same_rules : (lane : ℕ) (m m1 m2 : Sat H C R Q) (y y' : H) (Carries : List (ℕ × Option H) → Type 0) → IsServed log_of good m y Carries m1 → m2 ≡ (done_with m1.0 lane (log_of y'), []) → m2.0.rules ≡ m.0.rules
-  same_rules lane m m1 m2 y y' Carries s last = ap (λ (x : Sat H C R Q). x.0.rules) last ∙ ap (λ (v : View C R Q). v.rules) s.1.1
 
   -- the pass after a turn that added these entries
   pub grew_by : (lane : ℕ) (m m1 m2 : Sat H C R Q) (y y' : H) (news : List (Entry C R)) → IsIdle lane m → Finds log_of good m.0 y → Only lane news

@@ -7,7 +7,7 @@ use Rattle.seat_desk.specs.declared.view.Role.TheVariants.{Root, Lane}
 use Rattle.seat_desk.specs.declared.view.Stage.TheVariants.{Idle, Waits, Turn}
 use Rattle.seat_desk.specs.declared.view.View.{View}
 use Rattle.seat_desk.specs.History.{entry, after, calls_by, IsReply, GoesOn}
-use Rattle.seat_desk.specs.Turns.{staged, served, Only, Finds}
+use Rattle.seat_desk.specs.Turns.{staged, served, done_with, Only, Finds}
 
 -- a seat's view, and the slots that it holds
 abbrev pub Sat : Type 0 → Type 0 → Type 0 → Type 0 → Type 0
@@ -39,6 +39,11 @@ module _ {H C R Q : Type 0} where
     abbrev pub MayEnd : ℕ → Sat H C R Q → H → Type 0
     MayEnd lane m y = (m.0.role ≡ Lane lane) × (m.1 ≡ (0, None) ∷ []) × good m.0.rules y
         × ((t : ℕ) × (m.0.stage ≡ Turn t)) × ((news : List (Entry C R)) × (log_of y ≡ m.0.seen ++ news) × Only lane news)
+
+module _ {H C R Q : Type 0} where
+  -- the seat's turn has ended, whichever lane's it was, and it left the history h
+  abbrev pub HasEnded : Sat H C R Q → List (Entry C R) → Sat H C R Q → Type 0
+  HasEnded m h m' = (lane : ℕ) → m.0.role ≡ Lane lane → m' ≡ (done_with m.0 lane h, [])
 
 module _ {C R : Type 0} where
   -- what `then` may answer is paid for by the history, and its good suits there

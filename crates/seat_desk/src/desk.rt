@@ -1,9 +1,9 @@
 //! The desk, and the calls at it.
-ghost use Rattle.std.specs.Prelude.{◌≡◌, ◌≢◌, ◌<◌, ◌-◌, ◌^◌, false, [], ◌∷◌, ◌++◌, length, IfOk, IfErr, None, Some};
+ghost use Rattle.std.specs.Prelude.{ℕ, ◌≡◌, ◌≢◌, ◌<◌, ◌-◌, ◌^◌, false, [], ◌∷◌, ◌++◌, length, IfOk, IfErr, None, Some};
 ghost use Rattle.seat_desk.specs.History.{StandsUnder, StartsWith};
 ghost use Rattle.seat_desk.specs.Helds.{log_of, IsGood};
-ghost use Rattle.seat_desk.specs.Turns.{AllJoined, done_with};
-ghost use Rattle.seat_desk.specs.Desks.{IsIdle, IsRoot, Draws, WaitsFor, IsServed, MayEnd};
+ghost use Rattle.seat_desk.specs.Turns.{AllJoined};
+ghost use Rattle.seat_desk.specs.Desks.{IsIdle, IsRoot, Draws, WaitsFor, IsServed, MayEnd, HasEnded};
 
 use crate::entry::HistoryEntry;
 use crate::held::Held;
@@ -158,13 +158,13 @@ impl<M: Machine> Desk<M> {
         let mut held = self.enter(rt, &mut pass.seat);
         let room = held.machine.owed().saturating_add(ROOM_OF_A_CALL);
         if held.history.reserve(room as usize).is_err() {
-            self.leave(&mut pass.seat, lane, held);
+            self.leave(&mut pass.seat, held);
             pass.stirs = 0;
             return Err(Refused { call, put });
         }
         let (reply, good) = step(&mut held, lane, call, put);
         let stirs = held.machine.stirs(lane, &reply);
-        self.leave(&mut pass.seat, lane, held);
+        self.leave(&mut pass.seat, held);
         pass.stirs = stirs;
         Ok((reply, good))
     }
@@ -189,7 +189,7 @@ impl<M: Machine> Desk<M> {
         let mut held = self.enter(rt, &mut pass.seat);
         let (reply, good) = step(&mut held, lane, call, put);
         let stirs = held.machine.stirs(lane, &reply);
-        self.leave(&mut pass.seat, lane, held);
+        self.leave(&mut pass.seat, held);
         pass.stirs = stirs;
         (reply, good)
     }
@@ -222,7 +222,7 @@ impl<M: Machine> Desk<M> {
         let mut held = self.enter(rt, &mut pass.seat);
         let room = held.machine.owed().saturating_add(ROOM_OF_A_CALL);
         if held.history.reserve(room as usize).is_err() {
-            self.leave(&mut pass.seat, lane, held);
+            self.leave(&mut pass.seat, held);
             pass.stirs = 0;
             return Err(Refused { call, put: None });
         }
@@ -230,7 +230,7 @@ impl<M: Machine> Desk<M> {
         let first = held.machine.stirs(lane, &reply);
         let (reply, good) = follow(&mut held, lane, reply, good, work);
         let stirs = first | held.machine.stirs(lane, &reply);
-        self.leave(&mut pass.seat, lane, held);
+        self.leave(&mut pass.seat, held);
         pass.stirs = stirs;
         Ok((reply, good))
     }
@@ -328,17 +328,16 @@ impl<M: Machine> Desk<M> {
         self.table.shared.exchange(seat, 0, None).unwrap()
     }
 
-    // Ends a turn of this lane: the machine is put back, and the next ticket is served.
+    // Ends the turn: the machine is put back, and the next ticket is served.
     fn leave(
         &self,
         seat: &mut Seat<Option<Held<M, M::Call, M::Reply>>, View<M::Call, M::Reply, M::Rules>>,
-        _lane: u32,
         held: Held<M, M::Call, M::Reply>,
     )
         requires { (seat.old.table_id ≡ self.now.table.shared.table_id)
-            × MayEnd log_of (IsGood M.rules M.stands M.owes) _lane seat.old.me held }
+            × ((lane : ℕ) × MayEnd log_of (IsGood M.rules M.stands M.owes) lane seat.old.me held) }
         ensures { (seat.new.table_id ≡ seat.old.table_id)
-            × (seat.new.me ≡ (done_with seat.old.me.0 _lane held.history.items, [])) }
+            × HasEnded seat.old.me held.history.items seat.new.me }
     {
         self.table.shared.exchange(seat, 0, Some(held));
         self.table.shared.fetch_add::<End<M>>(seat, 1, 1);

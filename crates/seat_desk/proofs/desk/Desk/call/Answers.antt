@@ -3,7 +3,7 @@ use Rattle.std.specs.Vec.{vec_capacity}
 use Rattle.seat_desk.specs.declared.entry.Entry.{Entry}
 use Rattle.seat_desk.specs.declared.held.Held.{Held}
 use Rattle.seat_desk.specs.History.{entry, after, calls_by, IsReply}
-use Rattle.seat_desk.proofs.Calls.{may_end, made_none, others_only, added, after_is, only_added, calls_after}
+use Rattle.seat_desk.proofs.Calls.{may_end, made_none, others_only, added, after_is, only_added, calls_after, after_turn, idle_again}
 use Rattle.seat_desk.specs.Helds.{log_of}
 use Rattle.seat_desk.proofs.Goods.{good_of}
 use Rattle.seat_desk.proofs.desk.Desk.call.Goals as goal
@@ -37,7 +37,7 @@ leave-requires-2-after_bounds g c κs within = let s = c.enter-held.ensures.1 in
 pub returns-clause-answer : goal.returns-clause-answer
 returns-clause-answer g c = let idle = c.args.pass.now.idle in let found = c.enter-held.ensures.1.0 in let front = found.1 in
     let e : Entry g.row.M-Call.Denot g.row.M-Reply.Denot = entry c.args.pass.now.lane c.args.call c.step-reply.result.0 in let same : c.reserve.new.self.items ≡ c.enter-held.result.history.items = c.reserve.ensures.items in
-    let last = c.leave-2.ensures.1 in
+    let last = (after_turn c.args.pass.now.lane c.args.pass.now.seat.me c.enter-held.new.seat.me c.leave-2.new.seat.me c.enter-held.result.history.items _ c.args.pass.now.idle c.enter-held.ensures.1.1 c.leave-2.ensures.1) in
     let others : calls_by c.args.pass.now.lane front.0 ≡ [] = others_only c.args.pass.now.lane c.args.pass.now.seat.me.0.seen front.0 c.enter-held.result.history.items c.args.pass.now.seat.me.0.mine
     idle.3 (found.2 c.args.pass.now.lane idle.0) front.1 in (
       c.reserve.new.self.items,
@@ -53,5 +53,11 @@ returns-clause-answer g c = let idle = c.args.pass.now.idle in let found = c.ent
 
 pub returns-then-is_err-clause-refused : goal.returns-then-is_err-clause-refused
 returns-then-is_err-clause-refused g c = let y' : Held g.row.M.Denot g.row.M-Call.Denot g.row.M-Reply.Denot = record { machine = c.enter-held.result.machine; history = c.reserve.new.self } in
-    let none = made_none log_of (good_of g.M.Machine) c.args.pass.now.lane c.args.pass.now.seat.me c.enter-held.new.seat.me c.leave.new.seat.me c.enter-held.result y' c.args.pass.now.idle c.enter-held.ensures.1.0 c.reserve.ensures.items c.leave.ensures.1 in
+    let none = made_none log_of (good_of g.M.Machine) c.args.pass.now.lane c.args.pass.now.seat.me c.enter-held.new.seat.me c.leave.new.seat.me c.enter-held.result y' c.args.pass.now.idle c.enter-held.ensures.1.0 c.reserve.ensures.items (after_turn c.args.pass.now.lane c.args.pass.now.seat.me c.enter-held.new.seat.me c.leave.new.seat.me c.enter-held.result.history.items _ c.args.pass.now.idle c.enter-held.ensures.1.1 c.leave.ensures.1) in
     (refl, refl, none)
+
+pub invariant_of-pass : goal.invariant_of-pass
+invariant_of-pass g c = record { idle = idle_again c.args.pass.now.lane c.args.pass.now.seat.me c.enter-held.new.seat.me c.leave.new.seat.me c.enter-held.result.history.items _ c.args.pass.now.idle c.enter-held.ensures.1.1 c.leave.ensures.1 }
+
+pub invariant_of-pass-2 : goal.invariant_of-pass-2
+invariant_of-pass-2 g c = record { idle = idle_again c.args.pass.now.lane c.args.pass.now.seat.me c.enter-held.new.seat.me c.leave-2.new.seat.me c.enter-held.result.history.items _ c.args.pass.now.idle c.enter-held.ensures.1.1 c.leave-2.ensures.1 }

@@ -6,7 +6,7 @@ use Rattle.seat_desk.specs.History.{entry, IsReply}
 use Rattle.seat_desk.specs.Helds.{log_of}
 use Rattle.seat_desk.proofs.Goods.{good_of}
 use Rattle.seat_desk.specs.Desks.{MayFollow, Follows}
-use Rattle.seat_desk.proofs.Calls.{may_end, made_none, between, grew_by, added, after_is, only_added, only_both, followed}
+use Rattle.seat_desk.proofs.Calls.{may_end, made_none, between, grew_by, added, after_is, only_added, only_both, followed, after_turn, idle_again}
 use Rattle.seat_desk.proofs.desk.Desk.call_then.Goals as goal
 
 pub leave-requires-after_bounds : goal.leave-requires-after_bounds
@@ -64,7 +64,7 @@ returns-clause-answer g c = let same : c.reserve.new.self.items ≡ c.enter-held
     ∙ append_assoc c.enter-held.result.history.items (added g.M.Machine.keeps e) more.0) in
     let only = only_both c.args.pass.now.lane (added g.M.Machine.keeps e) more.0 (only_added g.M.Machine.keeps e) more.2 in
     let grew = grew_by log_of (good_of g.M.Machine) c.args.pass.now.lane c.args.pass.now.seat.me c.enter-held.new.seat.me c.leave-2.new.seat.me c.enter-held.result c.follow-reply.new.held news
-    c.args.pass.now.idle c.enter-held.ensures.1.0 only all c.leave-2.ensures.1 in (
+    c.args.pass.now.idle c.enter-held.ensures.1.0 only all (after_turn c.args.pass.now.lane c.args.pass.now.seat.me c.enter-held.new.seat.me c.leave-2.new.seat.me c.enter-held.result.history.items _ c.args.pass.now.idle c.enter-held.ensures.1.1 c.leave-2.ensures.1) in (
       c.reserve.new.self.items,
       c.step-reply.result.0,
       c.step-reply.result.1,
@@ -80,5 +80,11 @@ returns-clause-answer g c = let same : c.reserve.new.self.items ≡ c.enter-held
 
 pub returns-then-is_err-clause-refused : goal.returns-then-is_err-clause-refused
 returns-then-is_err-clause-refused g c = let y' : Held g.row.M.Denot g.row.M-Call.Denot g.row.M-Reply.Denot = record { machine = c.enter-held.result.machine; history = c.reserve.new.self } in
-    let none = made_none log_of (good_of g.M.Machine) c.args.pass.now.lane c.args.pass.now.seat.me c.enter-held.new.seat.me c.leave.new.seat.me c.enter-held.result y' c.args.pass.now.idle c.enter-held.ensures.1.0 c.reserve.ensures.items c.leave.ensures.1 in
+    let none = made_none log_of (good_of g.M.Machine) c.args.pass.now.lane c.args.pass.now.seat.me c.enter-held.new.seat.me c.leave.new.seat.me c.enter-held.result y' c.args.pass.now.idle c.enter-held.ensures.1.0 c.reserve.ensures.items (after_turn c.args.pass.now.lane c.args.pass.now.seat.me c.enter-held.new.seat.me c.leave.new.seat.me c.enter-held.result.history.items _ c.args.pass.now.idle c.enter-held.ensures.1.1 c.leave.ensures.1) in
     (refl, refl, refl, none)
+
+pub invariant_of-pass : goal.invariant_of-pass
+invariant_of-pass g c = record { idle = idle_again c.args.pass.now.lane c.args.pass.now.seat.me c.enter-held.new.seat.me c.leave.new.seat.me c.enter-held.result.history.items _ c.args.pass.now.idle c.enter-held.ensures.1.1 c.leave.ensures.1 }
+
+pub invariant_of-pass-2 : goal.invariant_of-pass-2
+invariant_of-pass-2 g c = record { idle = idle_again c.args.pass.now.lane c.args.pass.now.seat.me c.enter-held.new.seat.me c.leave-2.new.seat.me c.enter-held.result.history.items _ c.args.pass.now.idle c.enter-held.ensures.1.1 c.leave-2.ensures.1 }
