@@ -87,17 +87,13 @@ pub fn four<R: Threads + Wait + Sync>(
         rt,
         move || -> (Done, Done)
             requires { IsPassOf desk.now a × IsPassOf desk.now b }
-            ensures {
-                HasMade desk.entry.now a result.0.pass result.0.made
-                    × HasMade desk.entry.now b result.1.pass result.1.made
-            }
+            ensures { HasMade desk.entry.now a result.0.pass result.0.made
+                × HasMade desk.entry.now b result.1.pass result.1.made }
         { two(rt, desk, a, b, count) },
         move || -> (Done, Done)
             requires { IsPassOf desk.now c × IsPassOf desk.now d }
-            ensures {
-                HasMade desk.entry.now c result.0.pass result.0.made
-                    × HasMade desk.entry.now d result.1.pass result.1.made
-            }
+            ensures { HasMade desk.entry.now c result.0.pass result.0.made
+                × HasMade desk.entry.now d result.1.pass result.1.made }
         { two(rt, desk, c, d, count) },
     )
 }

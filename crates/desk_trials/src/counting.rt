@@ -21,9 +21,7 @@ pub fn add<R: Wait>(
     n: u64,
 ) -> (Pass<Counter>, Option<u64>)
     requires { IsPassOf desk.now pass }
-    ensures same {
-        IsPassOf desk.now result.0 × (result.0.lane ≡ pass.lane) × (rules result.0 ≡ rules pass)
-    }
+    ensures same { IsPassOf desk.now result.0 × (result.0.lane ≡ pass.lane) × (rules result.0 ≡ rules pass) }
     ensures added { IfSome result.1 (HasAdded n pass result.0) }
 {
     match desk.call(rt, &mut pass, Ask::Add(n), None) {
@@ -37,9 +35,7 @@ pub fn add<R: Wait>(
 pub fn look<R: Wait>(rt: &R, desk: &Desk<Counter>, pass: &mut Pass<Counter>) -> Option<u64>
     requires { IsPassOf desk.now pass.old }
     ensures same { IsPassOf desk.now pass.new × IsSamePass pass.old pass.new }
-    ensures sum {
-        IfSome result (λ r. (h : _) × StartsWith h (seen pass.old) × (r ≡ added h % rules pass.old))
-    }
+    ensures sum { IfSome result (λ r. (h : _) × StartsWith h (seen pass.old) × (r ≡ added h % rules pass.old)) }
 {
     match desk.call(rt, pass, Ask::Look, None) {
         Ok((Answer::Sum(sum), _)) => Some(sum),
@@ -64,17 +60,13 @@ pub fn two<R: Threads + Wait + Sync>(
         rt,
         move || -> (Pass<Counter>, Option<u64>)
             requires { IsPassOf desk.now a }
-            ensures {
-                IsPassOf desk.entry.now result.0 × (result.0.lane ≡ a.lane)
-                    × IfSome result.1 (HasAdded n a result.0)
-            }
+            ensures { IsPassOf desk.entry.now result.0 × (result.0.lane ≡ a.lane)
+                × IfSome result.1 (HasAdded n a result.0) }
         { add(rt, desk, a, n) },
         move || -> (Pass<Counter>, Option<u64>)
             requires { IsPassOf desk.now b }
-            ensures {
-                IsPassOf desk.entry.now result.0 × (result.0.lane ≡ b.lane)
-                    × IfSome result.1 (HasAdded n b result.0)
-            }
+            ensures { IsPassOf desk.entry.now result.0 × (result.0.lane ≡ b.lane)
+                × IfSome result.1 (HasAdded n b result.0) }
         { add(rt, desk, b, n) },
     )
 }

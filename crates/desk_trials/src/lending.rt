@@ -46,11 +46,9 @@ pub fn stamp_token<R: Wait>(
     ensures desk { IsPassOf desk.now pass.new }
     ensures lane { pass.new.lane ≡ pass.old.lane }
     ensures lies { IfOk result (λ _. spot_of (seen pass.new) ≡ Spot.Here pass.old.lane) }
-    ensures mine {
-        IfOk result (λ _. mine pass.new ≡ mine pass.old
-            ++ entry pass.old.lane Ask.Borrow Answer.Lent
-            ∷ entry pass.old.lane Ask.Return Answer.Returned ∷ [])
-    }
+    ensures mine { IfOk result (λ _. mine pass.new ≡ mine pass.old
+        ++ entry pass.old.lane Ask.Borrow Answer.Lent
+        ∷ entry pass.old.lane Ask.Return Answer.Returned ∷ []) }
 {
     let mut work = Stamp;
     match desk.call_then(rt, pass, Ask::Borrow, &mut work) {
