@@ -1,9 +1,8 @@
 //! Lanes that add ones, each in a thread of its own.
-ghost use Rattle.std.specs.Prelude.{◌≡◌, ◌+◌, ◌<◌, ◌≤◌, ◌%◌, ◌^◌, length, IfOk};
+ghost use Rattle.std.specs.Prelude.{◌≡◌, ◌%◌, ◌^◌, IfOk};
 ghost use Rattle.seat_desk.specs.Passes.{IsPassOf};
-ghost use Rattle.seat_desk.specs.History.{calls_by};
 ghost use Rattle.desk_trials.specs.AdderSums.{added, SumsFrom};
-ghost use Rattle.desk_trials.specs.Lanes.{HasMade};
+ghost use Rattle.desk_trials.specs.Lanes.{HasCalls, HasMade};
 
 use crate::adder::{Add, Adder};
 use seat_desk::{Closed, Desk, Pass};
@@ -29,7 +28,7 @@ pub struct Tally {
 /// Adds one, `count` times or until there is no memory.
 pub fn adds<R: Wait>(rt: &R, desk: &Desk<Adder>, mut pass: Pass<Adder>, count: usize) -> Done
     requires { IsPassOf desk.now pass }
-    ensures { HasMade desk.now pass result.pass result.made }
+    ensures { HasMade count desk.now pass result.pass result.made }
 {
     let mut made = 0;
     while made < count {
@@ -50,18 +49,18 @@ pub fn two<R: Threads + Wait + Sync>(
     count: usize,
 ) -> (Done, Done)
     requires { IsPassOf desk.now a × IsPassOf desk.now b }
-    ensures first { HasMade desk.now a result.0.pass result.0.made }
-    ensures second { HasMade desk.now b result.1.pass result.1.made }
+    ensures first { HasMade count desk.now a result.0.pass result.0.made }
+    ensures second { HasMade count desk.now b result.1.pass result.1.made }
 {
     join(
         rt,
         move || -> Done
             requires { IsPassOf desk.now a }
-            ensures { HasMade desk.entry.now a result.pass result.made }
+            ensures { HasMade count desk.entry.now a result.pass result.made }
         { adds(rt, desk, a, count) },
         move || -> Done
             requires { IsPassOf desk.now b }
-            ensures { HasMade desk.entry.now b result.pass result.made }
+            ensures { HasMade count desk.entry.now b result.pass result.made }
         { adds(rt, desk, b, count) },
     )
 }
@@ -78,22 +77,22 @@ pub fn four<R: Threads + Wait + Sync>(
 ) -> ((Done, Done), (Done, Done))
     requires first_two { IsPassOf desk.now a × IsPassOf desk.now b }
     requires last_two { IsPassOf desk.now c × IsPassOf desk.now d }
-    ensures first { HasMade desk.now a result.0.0.pass result.0.0.made }
-    ensures second { HasMade desk.now b result.0.1.pass result.0.1.made }
-    ensures third { HasMade desk.now c result.1.0.pass result.1.0.made }
-    ensures fourth { HasMade desk.now d result.1.1.pass result.1.1.made }
+    ensures first { HasMade count desk.now a result.0.0.pass result.0.0.made }
+    ensures second { HasMade count desk.now b result.0.1.pass result.0.1.made }
+    ensures third { HasMade count desk.now c result.1.0.pass result.1.0.made }
+    ensures fourth { HasMade count desk.now d result.1.1.pass result.1.1.made }
 {
     join(
         rt,
         move || -> (Done, Done)
             requires { IsPassOf desk.now a × IsPassOf desk.now b }
-            ensures { HasMade desk.entry.now a result.0.pass result.0.made
-                × HasMade desk.entry.now b result.1.pass result.1.made }
+            ensures { HasMade count desk.entry.now a result.0.pass result.0.made
+                × HasMade count desk.entry.now b result.1.pass result.1.made }
         { two(rt, desk, a, b, count) },
         move || -> (Done, Done)
             requires { IsPassOf desk.now c × IsPassOf desk.now d }
-            ensures { HasMade desk.entry.now c result.0.pass result.0.made
-                × HasMade desk.entry.now d result.1.pass result.1.made }
+            ensures { HasMade count desk.entry.now c result.0.pass result.0.made
+                × HasMade count desk.entry.now d result.1.pass result.1.made }
         { two(rt, desk, c, d, count) },
     )
 }
@@ -109,10 +108,10 @@ pub fn count_by_four<R: Threads + Wait + Sync>(
     alloc: Global,
     count: usize,
 ) -> Result<Tally, NoMemory>
-    ensures first { IfOk result (λ t. length (calls_by 0 t.closed.history.items) ≡ t.made.0) }
-    ensures second { IfOk result (λ t. length (calls_by 1 t.closed.history.items) ≡ t.made.1) }
-    ensures third { IfOk result (λ t. length (calls_by 2 t.closed.history.items) ≡ t.made.2) }
-    ensures fourth { IfOk result (λ t. length (calls_by 3 t.closed.history.items) ≡ t.made.3) }
+    ensures first { IfOk result (λ t. HasCalls count 0 t.closed.history.items t.made.0) }
+    ensures second { IfOk result (λ t. HasCalls count 1 t.closed.history.items t.made.1) }
+    ensures third { IfOk result (λ t. HasCalls count 2 t.closed.history.items t.made.2) }
+    ensures fourth { IfOk result (λ t. HasCalls count 3 t.closed.history.items t.made.3) }
     ensures replies { IfOk result (λ t. SumsFrom 0 t.closed.history.items) }
     ensures sum { IfOk result (λ t. t.closed.machine.sum ≡ added t.closed.history.items % 2 ^ 64) }
 {

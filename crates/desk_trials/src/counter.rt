@@ -125,7 +125,8 @@ impl Counter {
     /// One that has added nothing, with room for so many looks.
     pub fn new(modulus: u64, room: u64) -> Counter
         requires { 0 < modulus }
-        ensures { (result.modulus ≡ modulus) × IsSum modulus result.sum [] }
+        ensures numbers { (result.modulus ≡ modulus) × (result.room ≡ room) }
+        ensures sum { IsSum modulus result.sum [] }
     {
         Counter {
             modulus,
