@@ -13,7 +13,7 @@ use Rattle.seat_desk.specs.declared.view.Joined.{Joined}
 use Rattle.seat_desk.specs.declared.view.View.{View}
 use Rattle.seat_desk.specs.History.{calls_by, StartsWith}
 use Rattle.seat_desk.specs.Desks.{IsRoot}
-use Rattle.seat_desk.specs.Turns.{out, outs, open_lane, opens, made_of, lane_of, sees, one_more, newcomer, called, informed, spent, AllJoined, Below, Queued, Plays, Lies, Kept, gathered}
+use Rattle.seat_desk.specs.Turns.{out, outs, open_lane, opens, made_of, lane_of, sees, one_more, newcomer, called, informed, spent, AllJoined, NoneFrom, Below, Queued, Plays, Lies, Kept, gathered}
 use Rattle.seat_desk.proofs.Lines.{words_same, at_below, at_end, seats_stay, outs_set, outs_snoc, opens_set, opens_snoc, opens_same, below_more, below_apart, below_snoc, apart_snoc, joined_snoc, none_out, whole}
 
 module _ {H C R Q : Type 0} (log_of : H → List (Entry C R)) (good : Q → H → Type 0) where
@@ -164,12 +164,12 @@ module _ {H C R Q : Type 0} (log_of : H → List (Entry C R)) (good : Q → H �
 
   -- the end, where the root is idle and has joined each pass
   pub closes : (id made : ℕ) (v : V) (ws : List ℕ) (xs : List Slot) → v.role ≡ Root made → v.stage ≡ Idle → length v.joined ≡ made → Final (Seen Rule id v) ws xs
-      → (y : H) × (get_elem? xs 0 ≡ maybe.some (Some y)) × good v.rules y × StartsWith (log_of y) v.seen × StartsWith (log_of y) v.told × AllJoined (log_of y) v.joined
+      → (y : H) × (get_elem? xs 0 ≡ maybe.some (Some y)) × good v.rules y × StartsWith (log_of y) v.seen × StartsWith (log_of y) v.told × AllJoined (log_of y) v.joined × NoneFrom made (log_of y)
   closes id made v ws xs root idle all final = let s : St = final.0 in let r : Rule s = final.1.0 in let at : get_elem? s.views id ≡ maybe.some v = final.1.1 in
       let role : Plays r.rules r.log r.joined (length s.views) id v (Root made) = subst (Plays r.rules r.log r.joined (length s.views) id v) root (r.roles id v at) in
       let same : length v.joined ≡ length r.joined = ap (λ (l : List (Joined C R)). length l) role.2 in let passes = r.passes in let seats : length s.views ≡ made + 1 = role.1 in
       let none : outs s.views ≡ 0 = none_out s.views (omega arith) (λ j u there closed. resting r role.0 at j u u.role (r.roles j u there) refl closed there) in
-      let count = r.count in found r (not_busy r.busy (λ b. (let l : r.done < r.drawn = r.turn b in omega arith))) role.2 role.3 (r.fronts id v at)
+      let count = r.count in found r (not_busy r.busy (λ b. (let l : r.done < r.drawn = r.turn b in omega arith))) role.2 role.3 (r.fronts id v at) (λ k far. r.later k (omega arith))
       (λ y here. final.4 0 (Some y) here)
     where
       not_busy : (b : Bool) → (b ≡ true → ⊥) → b ≡ false
@@ -181,16 +181,17 @@ module _ {H C R Q : Type 0} (log_of : H → List (Entry C R)) (good : Q → H �
       resting {s} r first at j u (Lane k) p is closed there = absurd (let e : open_lane u.role ≡ 1 = ap open_lane is in omega arith)
       resting {s} r first at j u Gone p is closed there = p
 
-      found : {s : St} (r : Rule s) → r.busy ≡ false → v.joined ≡ r.joined → v.rules ≡ r.rules → StartsWith r.log v.seen × StartsWith r.log v.told
+      found : {s : St} (r : Rule s) → r.busy ≡ false → v.joined ≡ r.joined → v.rules ≡ r.rules → StartsWith r.log v.seen × StartsWith r.log v.told → NoneFrom made r.log
           → ((y : H) → get_elem? s.homes 0 ≡ maybe.some (maybe.some (Some y)) → get_elem? xs 0 ≡ maybe.some (Some y))
-          → (y : H) × (get_elem? xs 0 ≡ maybe.some (Some y)) × good v.rules y × StartsWith (log_of y) v.seen × StartsWith (log_of y) v.told × AllJoined (log_of y) v.joined
-      found {s} r free joined rules front here = let lies : Lies log_of good r.rules false r.log s.homes = subst (λ (b : Bool). Lies log_of good r.rules b r.log s.homes) free r.lies in let is : (log_of lies.0) ≡ r.log = lies.2 in (
+          → (y : H) × (get_elem? xs 0 ≡ maybe.some (Some y)) × good v.rules y × StartsWith (log_of y) v.seen × StartsWith (log_of y) v.told × AllJoined (log_of y) v.joined × NoneFrom made (log_of y)
+      found {s} r free joined rules front none here = let lies : Lies log_of good r.rules false r.log s.homes = subst (λ (b : Bool). Lies log_of good r.rules b r.log s.homes) free r.lies in let is : (log_of lies.0) ≡ r.log = lies.2 in (
         lies.0,
         here lies.0 (ap (λ (l : List (maybe.Option Slot)). get_elem? l 0) lies.1),
         subst (λ (q : Q). good q lies.0) (sym rules) lies.3,
         subst (λ (l : List (Entry C R)). StartsWith l v.seen) (sym is) front.0,
         subst (λ (l : List (Entry C R)). StartsWith l v.told) (sym is) front.1,
         subst (λ (x : List (Entry C R) × List (Joined C R)). AllJoined x.0 x.1) (λ i. (sym is i, sym joined i)) r.ends,
+        subst (NoneFrom made) (sym is) none,
       )
 
   -- the root after a look
@@ -211,15 +212,15 @@ module _ {H C R Q : Type 0} (log_of : H → List (Entry C R)) (good : Q → H �
 
   -- what is taken out of the slot then
   pub closed_on : (id made : ℕ) (v : V) (ws : List ℕ) (xs : List Slot) (x : Slot) → v.role ≡ Root made → v.stage ≡ Idle → length v.joined ≡ made → Final (Seen Rule id v) ws xs
-      → get_elem? xs 0 ≡ maybe.some x → (y : H) × (x ≡ Some y) × good v.rules y × StartsWith (log_of y) v.seen × AllJoined (log_of y) v.joined
-  closed_on id made v ws xs x root idle all final at = let last = closes id made v ws xs root idle all final in (last.0, maybe.some-injective x (Some last.0) (sym at ∙ last.1), last.2, last.3, last.5)
+      → get_elem? xs 0 ≡ maybe.some x → (y : H) × (x ≡ Some y) × good v.rules y × StartsWith (log_of y) v.seen × AllJoined (log_of y) v.joined × NoneFrom made (log_of y)
+  closed_on id made v ws xs x root idle all final at = let last = closes id made v ws xs root idle all final in (last.0, maybe.some-injective x (Some last.0) (sym at ∙ last.1), last.2, last.3, last.5, last.6)
 
   abbrev held_or : H → Slot → H
   held_or d None = d
   held_or d (Some y) = y
 
   pub closed_with : (id made : ℕ) (v : V) (ws : List ℕ) (xs : List Slot) (x : Slot) (z : H) → v.role ≡ Root made → v.stage ≡ Idle → length v.joined ≡ made → Final (Seen Rule id v) ws xs
-      → get_elem? xs 0 ≡ maybe.some x → x ≡ Some z → good v.rules z × StartsWith (log_of z) v.seen × AllJoined (log_of z) v.joined
+      → get_elem? xs 0 ≡ maybe.some x → x ≡ Some z → good v.rules z × StartsWith (log_of z) v.seen × AllJoined (log_of z) v.joined × NoneFrom made (log_of z)
   closed_with id made v ws xs x z root idle all final at is = let last = closed_on id made v ws xs x root idle all final at in
       let same : last.0 ≡ z = ap (held_or last.0) (sym last.1 ∙ is) in
-      subst (λ (y : H). good v.rules y × StartsWith (log_of y) v.seen × AllJoined (log_of y) v.joined) same (last.2, last.3, last.4)
+      subst (λ (y : H). good v.rules y × StartsWith (log_of y) v.seen × AllJoined (log_of y) v.joined × NoneFrom made (log_of y)) same (last.2, last.3, last.4, last.5)

@@ -106,6 +106,10 @@ module _ {C R : Type 0} where
   AllJoined log [] = Unit {0}
   AllJoined log (x ∷ xs) = (calls_by x.lane log ≡ x.calls) × AllJoined log xs
 
+  -- no lane from n on has a call in the history
+  abbrev pub NoneFrom : ℕ → List (Entry C R) → Type 0
+  NoneFrom n log = (k : ℕ) → n ≤ k → calls_by k log ≡ []
+
   -- the lane k was not joined
   abbrev pub Apart : ℕ → List (Joined C R) → Type 0
   Apart k [] = Unit {0}

@@ -2,7 +2,7 @@
 ghost use Rattle.std.specs.Prelude.{ℕ, ◌≡◌, ◌≢◌, ◌<◌, ◌-◌, ◌^◌, false, [], ◌∷◌, ◌++◌, length, IfOk, IfErr, None, Some};
 ghost use Rattle.seat_desk.specs.History.{StandsUnder, StartsWith};
 ghost use Rattle.seat_desk.specs.Helds.{log_of, IsGood};
-ghost use Rattle.seat_desk.specs.Turns.{AllJoined};
+ghost use Rattle.seat_desk.specs.Turns.{AllJoined, NoneFrom};
 ghost use Rattle.seat_desk.specs.Desks.{IsIdle, IsRoot, Draws, WaitsFor, IsServed, MayEnd, HasEnded};
 
 use crate::entry::HistoryEntry;
@@ -255,7 +255,8 @@ impl<M: Machine> Desk<M> {
     }
 
     /// Ends the desk, once each pass was joined. The history begins with all that the root has seen,
-    /// the calls of each lane in it are those that its pass made, and the machine stands for it.
+    /// the calls of each lane in it are those that its pass made, no other lane has a call in it, and
+    /// the machine stands for it.
     ///
     /// # Errors
     ///
@@ -267,6 +268,7 @@ impl<M: Machine> Desk<M> {
             StandsUnder M.rules M.stands (root_rules root) c.machine c.history.items) }
         ensures seen { IfOk result (λ c. StartsWith c.history.items (root_seen root)) }
         ensures joined { IfOk result (λ c. AllJoined c.history.items (joined root)) }
+        ensures others { IfOk result (λ c. NoneFrom root.made c.history.items) }
     {
         let _ = rt;
         let Desk { table, gate: _ } = self;
