@@ -15,7 +15,7 @@ use Rattle.seat_desk.specs.declared.view.Stage.TheVariants.{Idle, Waits, Turn}
 use Rattle.seat_desk.specs.declared.view.Joined.{Joined}
 use Rattle.seat_desk.specs.declared.view.View.{View}
 use Rattle.seat_desk.specs.History.{calls_by, StartsWith}
-use Rattle.seat_desk.specs.Turns.{out, outs, rooted, staged, served, done_with, Only, AllJoined, Below, Queued, Plays, Lies, Kept, drew, looked, ended}
+use Rattle.seat_desk.specs.Turns.{tickets_at, tickets_out, first_view, view_at, view_in_turn, view_after_turn, Only, AllJoined, Below, Queued, Plays, Lies, Kept, TellsDraw, TellsLook, TellsEnd}
 use Rattle.seat_desk.proofs.Lines.{put, put_here, true_not_false, words_draw, words_end, words_same, at_below, seats_stay, outs_set, outs_le, opens_same, calls_stay, joined_stay, longer, whole, draw_other, look_other, end_other}
 
 module _ {H C R Q : Type 0} (log_of : H → List (Entry C R)) (good : Q → H → Type 0) where
@@ -34,8 +34,8 @@ module _ {H C R Q : Type 0} (log_of : H → List (Entry C R)) (good : Q → H �
   abbrev Rule : St → Type 0
   Rule = Kept log_of good
 
-  abbrev Sat : Type 0
-  Sat = Me Slot V
+  abbrev SeatState : Type 0
+  SeatState = Me Slot V
 
   abbrev or_held : H → Slot → H
   or_held d None = d
@@ -45,7 +45,7 @@ module _ {H C R Q : Type 0} (log_of : H → List (Entry C R)) (good : Q → H �
   held_in d [] = d
   held_in d (x ∷ xs) = or_held d x.1
 
-  pub starts : (q : Q) (y : H) → (log_of y) ≡ [] → good q y → Rule (opening (0 ∷ 0 ∷ []) (Some y ∷ []) (rooted q))
+  pub starts : (q : Q) (y : H) → (log_of y) ≡ [] → good q y → Rule (opening (0 ∷ 0 ∷ []) (Some y ∷ []) (first_view q))
   starts q y empty good = record {
     rules = q;
     log = [];
@@ -68,15 +68,15 @@ module _ {H C R Q : Type 0} (log_of : H → List (Entry C R)) (good : Q → H �
     later = λ k l. refl;
   }
     where
-      first_is : (j : ℕ) (v : V) → get_elem? (rooted q ∷ []) j ≡ maybe.some v → (j ≡ 0) × (rooted q ≡ v)
-      first_is zero v e = (refl, maybe.some-injective (rooted q) v e)
+      first_is : (j : ℕ) (v : V) → get_elem? (first_view q ∷ []) j ≡ maybe.some v → (j ≡ 0) × (first_view q ≡ v)
+      first_is zero v e = (refl, maybe.some-injective (first_view q) v e)
       first_is (suc j) v e = absurd (maybe.some-ne-none v (sym e))
 
   -- drawing a ticket
-  pub draws : (slots id : ℕ) (me : Sat) → me.0.stage ≡ Idle → me.0.role ≢ Gone → Allows Rule slots id me 0 (λ n. (n + 1) % 2 ^ 64) (drew log_of good me)
-  draws slots id me idle lives s r deep at fits = let w : V = staged me.0 (Waits r.drawn) in
+  pub draws : (slots id : ℕ) (me : SeatState) → me.0.stage ≡ Idle → me.0.role ≢ Gone → Allows Rule slots id me 0 (λ n. (n + 1) % 2 ^ 64) (TellsDraw log_of good me)
+  draws slots id me idle lives s r deep at fits = let w : V = view_at me.0 (Waits r.drawn) in
       let n : length (set s.views id w) ≡ length s.views = length-set s.views id w in
-      let outs' : outs (set s.views id w) + 0 ≡ outs s.views + 1 = ap (λ (x : Stage). outs (set s.views id w) + out x) (sym idle) ∙ outs_set s.views id me.0 w at in
+      let outs' : tickets_out (set s.views id w) + 0 ≡ tickets_out s.views + 1 = ap (λ (x : Stage). tickets_out (set s.views id w) + tickets_at x) (sym idle) ∙ outs_set s.views id me.0 w at in
       let count = r.count in (
         w,
         keeps,
@@ -108,7 +108,7 @@ module _ {H C R Q : Type 0} (log_of : H → List (Entry C R)) (good : Q → H �
         (refl, (r.drawn, drawn_word s.words r.drawn r.done r.words, refl)),
       )
     where
-      restaged : (rules : Q) (log : List (Entry C R)) (joined : List (Joined C R)) (n seat : ℕ) (v : V) (x : Stage) (role : Role) → role ≢ Gone → Plays rules log joined n seat v role → Plays rules log joined n seat (staged v x) role
+      restaged : (rules : Q) (log : List (Entry C R)) (joined : List (Joined C R)) (n seat : ℕ) (v : V) (x : Stage) (role : Role) → role ≢ Gone → Plays rules log joined n seat v role → Plays rules log joined n seat (view_at v x) role
       restaged rules log joined n seat v x (Root made) lives p = p
       restaged rules log joined n seat v x (Lane k) lives p = p
       restaged rules log joined n seat v x Gone lives p = absurd (lives refl)
@@ -132,20 +132,20 @@ module _ {H C R Q : Type 0} (log_of : H → List (Entry C R)) (good : Q → H �
   finds rules log joined n seat v k (Lane j) p e = let same : j ≡ k = cc in ap (λ (x : ℕ). calls_by x log) (sym same) ∙ p.1
   finds rules log joined n seat v k Gone p e = absurd (cc)
 
-  served_role : (rules : Q) (log : List (Entry C R)) (joined : List (Joined C R)) (n seat : ℕ) (v : V) (t : ℕ) (role : Role) → v.stage ≡ Waits t → Plays rules log joined n seat v role → Plays rules log joined n seat (served v t log) role
+  served_role : (rules : Q) (log : List (Entry C R)) (joined : List (Joined C R)) (n seat : ℕ) (v : V) (t : ℕ) (role : Role) → v.stage ≡ Waits t → Plays rules log joined n seat v role → Plays rules log joined n seat (view_in_turn v t log) role
   served_role rules log joined n seat v t (Root made) waits p = p
   served_role rules log joined n seat v t (Lane k) waits p = p
   served_role rules log joined n seat v t Gone waits p = absurd (cc)
 
   -- the slot is taken
   serves : (s : St) (r : Rule s) (id t : ℕ) (v : V) → get_elem? s.views id ≡ maybe.some v → v.stage ≡ Waits t → t ≡ r.done
-      → Rule record { words = set s.words 1 (get_or s.words 1 0); homes = maybe.none ∷ []; views = set s.views id (served v t r.log) }
-  serves s r id t v at waits now = let w : V = served v t r.log in
+      → Rule record { words = set s.words 1 (get_or s.words 1 0); homes = maybe.none ∷ []; views = set s.views id (view_in_turn v t r.log) }
+  serves s r id t v at waits now = let w : V = view_in_turn v t r.log in
       let n : length (set s.views id w) ≡ length s.views = length-set s.views id w in
       let line : Queued r.log r.done r.drawn r.owner r.busy id v.seen (Waits t) = subst (Queued r.log r.done r.drawn r.owner r.busy id v.seen) waits (r.lines id v at) in
       let mine : r.owner r.done ≡ id = ap r.owner (sym now) ∙ line.2 in
       let free : r.busy ≡ false = not_busy r.busy (λ b. line.3 b now) in
-      let outs' : outs (set s.views id w) + 1 ≡ outs s.views + 1 = ap (λ (x : Stage). outs (set s.views id w) + out x) (sym waits) ∙ outs_set s.views id v w at in
+      let outs' : tickets_out (set s.views id w) + 1 ≡ tickets_out s.views + 1 = ap (λ (x : Stage). tickets_out (set s.views id w) + tickets_at x) (sym waits) ∙ outs_set s.views id v w at in
       let count = r.count in let l : t < r.drawn = line.1 in let front = r.fronts id v at in record {
         rules = r.rules;
         log = r.log;
@@ -181,12 +181,12 @@ module _ {H C R Q : Type 0} (log_of : H → List (Entry C R)) (good : Q → H �
   goes_by rules log joined n seat v Gone busy p = absurd (busy p)
 
   -- a look, where the ticket is served
-  hits : (slots id t : ℕ) (me : Sat) (s : St) (r : Rule s) → get_elem? s.views id ≡ maybe.some me.0 → me.0.stage ≡ Waits t → t ≡ r.done → (b : Bool) → r.busy ≡ b → Lies log_of good r.rules b r.log s.homes
+  hits : (slots id t : ℕ) (me : SeatState) (s : St) (r : Rule s) → get_elem? s.views id ≡ maybe.some me.0 → me.0.stage ≡ Waits t → t ≡ r.done → (b : Bool) → r.busy ≡ b → Lies log_of good r.rules b r.log s.homes
       → (w : V) × (a : Act Slot) × Valid s.homes me.1 a × Rule (stepped s 1 (get_or s.words 1 0) id me.1 w a)
-      × looked log_of good me (get_or s.words 1 0) (w, carried_after me.1 a)
+      × TellsLook log_of good me (get_or s.words 1 0) (w, carried_after me.1 a)
   hits slots id t me s r at waits now true busy lies = let line : Queued r.log r.done r.drawn r.owner r.busy id me.0.seen (Waits t) = subst (Queued r.log r.done r.drawn r.owner r.busy id me.0.seen) waits (r.lines id me.0 at) in
       absurd (line.3 busy now)
-  hits slots id t me s r at waits now false busy lies = let y : H = lies.0 in let w : V = served me.0 t r.log in
+  hits slots id t me s r at waits now false busy lies = let y : H = lies.0 in let w : V = view_in_turn me.0 t r.log in
       let is_log : (log_of y) ≡ r.log = lies.2 in (
         w,
         takes 0 (Some y),
@@ -200,7 +200,7 @@ module _ {H C R Q : Type 0} (log_of : H → List (Entry C R)) (good : Q → H �
               subst (λ (l : List (Entry C R)). StartsWith l me.0.seen) (sym is_log) (r.fronts id me.0 at).0,
               λ k lane. ap (λ (l : List (Entry C R)). calls_by k l) is_log ∙ finds r.rules r.log r.joined (length s.views) id me.0 k me.0.role (r.roles id me.0 at) lane,
             ),
-            (λ i. served me.0 (same i) (sym is_log i)),
+            (λ i. view_in_turn me.0 (same i) (sym is_log i)),
             refl,
           ),
           λ miss. absurd (miss (served_word s.words r.drawn r.done r.words ∙ ap (λ (x : ℕ). x % 2 ^ 64) (sym now ∙ same))),
@@ -208,7 +208,7 @@ module _ {H C R Q : Type 0} (log_of : H → List (Entry C R)) (good : Q → H �
       )
 
   -- looking at the served word
-  pub looks : (slots id t : ℕ) (me : Sat) → me.0.stage ≡ Waits t → Allows Rule slots id me 1 (λ n. n) (looked log_of good me)
+  pub looks : (slots id t : ℕ) (me : SeatState) → me.0.stage ≡ Waits t → Allows Rule slots id me 1 (λ n. n) (TellsLook log_of good me)
   looks slots id t me waits s r deep at fits = dite (ℕ_discrete (get_or s.words 1 0) (t % 2 ^ 64))
       (λ hit. hits slots id t me s r at waits (now hit) r.busy refl r.lies)
       (λ miss. (me.0, keeps, tt, rests s r id me.0 at, λ u e. (let same : t ≡ u = cc in (λ hit. absurd (miss (hit ∙ ap (λ (x : ℕ). x % 2 ^ 64) (sym same))), λ _. refl))))
@@ -219,16 +219,16 @@ module _ {H C R Q : Type 0} (log_of : H → List (Entry C R)) (good : Q → H �
           sym (one_turn r.done t (2 ^ 64) below (omega arith) (sym (served_word s.words r.drawn r.done r.words) ∙ hit))
 
   -- ending a turn that added these entries
-  pub ends : (slots id t k : ℕ) (me : Sat) (y : H) (news : List (Entry C R)) → me.0.stage ≡ Turn t → me.0.role ≡ Lane k → me.1 ≡ (0, Some y) ∷ [] → good me.0.rules y
-      → (log_of y) ≡ me.0.seen ++ news → Only k news → Allows Rule slots id me 1 (λ n. (n + 1) % 2 ^ 64) (ended log_of good me)
-  ends slots id t k me y news turn lane carried fine added only s r deep at fits = let log' : List (Entry C R) = (log_of y) in let w : V = done_with me.0 k log' in
+  pub ends : (slots id t k : ℕ) (me : SeatState) (y : H) (news : List (Entry C R)) → me.0.stage ≡ Turn t → me.0.role ≡ Lane k → me.1 ≡ (0, Some y) ∷ [] → good me.0.rules y
+      → (log_of y) ≡ me.0.seen ++ news → Only k news → Allows Rule slots id me 1 (λ n. (n + 1) % 2 ^ 64) (TellsEnd log_of good me)
+  ends slots id t k me y news turn lane carried fine added only s r deep at fits = let log' : List (Entry C R) = (log_of y) in let w : V = view_after_turn me.0 k log' in
       let n : length (set s.views id w) ≡ length s.views = length-set s.views id w in
       let line : Queued r.log r.done r.drawn r.owner r.busy id me.0.seen (Turn t) = subst (Queued r.log r.done r.drawn r.owner r.busy id me.0.seen) turn (r.lines id me.0 at) in
       let mine : r.owner r.done ≡ id = ap r.owner (sym line.0) ∙ line.1 in
       let grew : log' ≡ r.log ++ news = added ∙ ap (λ (l : List (Entry C R)). l ++ news) line.3 in
       let role : Plays r.rules r.log r.joined (length s.views) id me.0 (Lane k) = subst (Plays r.rules r.log r.joined (length s.views) id me.0) lane (r.roles id me.0 at) in
       let away : s.homes ≡ maybe.none ∷ [] = lent r.busy line.2 s.homes r.lies in
-      let outs' : outs (set s.views id w) + 1 ≡ outs s.views + 0 = ap (λ (x : Stage). outs (set s.views id w) + out x) (sym turn) ∙ outs_set s.views id me.0 w at in
+      let outs' : tickets_out (set s.views id w) + 1 ≡ tickets_out s.views + 0 = ap (λ (x : Stage). tickets_out (set s.views id w) + tickets_at x) (sym turn) ∙ outs_set s.views id me.0 w at in
       let count = r.count in let below : id < length s.views = at_below s.views id me.0 at in let seat : id ≡ k + 1 = role.0 in (
         w,
         gives,
@@ -260,7 +260,7 @@ module _ {H C R Q : Type 0} (log_of : H → List (Entry C R)) (good : Q → H �
           later = subst (λ (m : ℕ). (j : ℕ) → m ≤ j + 1 → calls_by j log' ≡ []) (sym n)
               (λ j far. ap (calls_by j) grew ∙ (calls_stay k j r.log news only (λ e. (let far' : length s.views ≤ j + 1 = far in absurd (omega arith))) ∙ r.later j far));
         },
-        (ap rest carried, λ k' y' lane' carried'. (let same : k ≡ k' = cc in let one : y ≡ y' = ap (held_in y) (sym carried ∙ carried') in λ i. done_with me.0 (same i) (log_of (one i)))),
+        (ap rest carried, λ k' y' lane' carried'. (let same : k ≡ k' = cc in let one : y ≡ y' = ap (held_in y) (sym carried ∙ carried') in λ i. view_after_turn me.0 (same i) (log_of (one i)))),
       )
     where
       lent : (b : Bool) → b ≡ true → (homes : Homes) → Lies log_of good r.rules b r.log homes → homes ≡ maybe.none ∷ []

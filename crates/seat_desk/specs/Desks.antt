@@ -7,43 +7,43 @@ use Rattle.seat_desk.specs.declared.view.Role.TheVariants.{Root, Lane}
 use Rattle.seat_desk.specs.declared.view.Stage.TheVariants.{Idle, Waits, Turn}
 use Rattle.seat_desk.specs.declared.view.View.{View}
 use Rattle.seat_desk.specs.History.{entry, after, calls_by, IsReply, GoesOn}
-use Rattle.seat_desk.specs.Turns.{staged, served, done_with, Only, Finds}
+use Rattle.seat_desk.specs.Turns.{view_at, view_in_turn, view_after_turn, Only, Finds}
 
 -- a seat's view, and the slots that it holds
-abbrev pub Sat : Type 0 → Type 0 → Type 0 → Type 0 → Type 0
-Sat H C R Q = Me (Option H) (View C R Q)
+abbrev pub SeatState : Type 0 → Type 0 → Type 0 → Type 0 → Type 0
+SeatState H C R Q = Me (Option H) (View C R Q)
 
 module _ {H C R Q : Type 0} where
   -- a pass between two calls. Of its lane, what it has seen has just its own calls
-  abbrev pub IsIdle : ℕ → Sat H C R Q → Type 0
+  abbrev pub IsIdle : ℕ → SeatState H C R Q → Type 0
   IsIdle lane m = (m.0.role ≡ Lane lane) × (m.0.stage ≡ Idle) × (m.1 ≡ []) × (calls_by lane m.0.seen ≡ m.0.mine)
 
   -- the root between two calls. What it has seen has no call of a later lane
-  abbrev pub IsRoot : ℕ → Sat H C R Q → Type 0
+  abbrev pub IsRoot : ℕ → SeatState H C R Q → Type 0
   IsRoot made m = (m.0.role ≡ Root made) × (m.0.stage ≡ Idle) × (m.1 ≡ []) × ((k : ℕ) → made ≤ k → calls_by k m.0.seen ≡ [])
 
   -- the seat has drawn the ticket n
-  abbrev pub Draws : Sat H C R Q → ℕ → Sat H C R Q → Type 0
-  Draws m n m' = (m'.1 ≡ m.1) × ((t : ℕ) × (t % 2 ^ 64 ≡ n) × (m'.0 ≡ staged m.0 (Waits t)))
+  abbrev pub Draws : SeatState H C R Q → ℕ → SeatState H C R Q → Type 0
+  Draws m n m' = (m'.1 ≡ m.1) × ((t : ℕ) × (t % 2 ^ 64 ≡ n) × (m'.0 ≡ view_at m.0 (Waits t)))
 
   -- the seat waits for the ticket n
-  abbrev pub WaitsFor : Sat H C R Q → ℕ → Type 0
+  abbrev pub WaitsFor : SeatState H C R Q → ℕ → Type 0
   WaitsFor m n = (m.1 ≡ []) × ((t : ℕ) × (t % 2 ^ 64 ≡ n) × (m.0.stage ≡ Waits t))
 
   module _ (log_of : H → List (Entry C R)) (good : Q → H → Type 0) where
     -- the turn has come, and y was found in the slot
-    abbrev pub IsServed : Sat H C R Q → H → (List (ℕ × Option (H)) → Type 0) → Sat H C R Q → Type 0
-    IsServed m y Carries m' = Finds log_of good m.0 y × ((t : ℕ) × (m'.0 ≡ served m.0 t (log_of y))) × Carries m'.1
+    abbrev pub IsServed : SeatState H C R Q → H → (List (ℕ × Option (H)) → Type 0) → SeatState H C R Q → Type 0
+    IsServed m y Carries m' = Finds log_of good m.0 y × ((t : ℕ) × (m'.0 ≡ view_in_turn m.0 t (log_of y))) × Carries m'.1
 
     -- the seat is in its turn of the lane, with an empty slot, and may put y back
-    abbrev pub MayEnd : ℕ → Sat H C R Q → H → Type 0
+    abbrev pub MayEnd : ℕ → SeatState H C R Q → H → Type 0
     MayEnd lane m y = (m.0.role ≡ Lane lane) × (m.1 ≡ (0, None) ∷ []) × good m.0.rules y
         × ((t : ℕ) × (m.0.stage ≡ Turn t)) × ((news : List (Entry C R)) × (log_of y ≡ m.0.seen ++ news) × Only lane news)
 
 module _ {H C R Q : Type 0} where
   -- the seat's turn has ended, whichever lane's it was, and it left the history h
-  abbrev pub HasEnded : Sat H C R Q → List (Entry C R) → Sat H C R Q → Type 0
-  HasEnded m h m' = (lane : ℕ) → m.0.role ≡ Lane lane → m' ≡ (done_with m.0 lane h, [])
+  abbrev pub HasEnded : SeatState H C R Q → List (Entry C R) → SeatState H C R Q → Type 0
+  HasEnded m h m' = (lane : ℕ) → m.0.role ≡ Lane lane → m' ≡ (view_after_turn m.0 lane h, [])
 
 module _ {C R : Type 0} where
   -- what `then` may answer is paid for by the history, and its good suits there

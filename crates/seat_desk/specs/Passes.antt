@@ -7,7 +7,7 @@ use Rattle.seat_desk.specs.declared.desk.Pass.{Pass}
 use Rattle.seat_desk.specs.declared.desk.Root.{Root}
 use Rattle.seat_desk.specs.declared.desk.Desk.{Desk}
 use Rattle.seat_desk.specs.History.{GoesOn, StandsUnder}
-use Rattle.seat_desk.specs.Turns.{rooted, one_more, newcomer}
+use Rattle.seat_desk.specs.Turns.{first_view, root_after_split, new_pass_view}
 use Rattle.seat_desk.specs.Desks.{Answers, AnswersThen, MayThen}
 
 module _ {M C R G Q : Type 0} {g : Ghosts M C R G Q} where
@@ -53,15 +53,15 @@ module _ {M C R G Q : Type 0} {g : Ghosts M C R G Q} where
 
   -- the root of a desk whose machine has these rules: it has split no pass, seen nothing and joined nothing
   abbrev pub IsNewRoot : Q → Root M C R G Q g → Type 0
-  IsNewRoot rules r = (r.made ≡ 0) × (r.seat.me.0 ≡ rooted rules)
+  IsNewRoot rules r = (r.made ≡ 0) × (r.seat.me.0 ≡ first_view rules)
 
   -- the root has split one pass more, and is else as it was
   abbrev pub SplitsOne : Root M C R G Q g → Root M C R G Q g → Type 0
-  SplitsOne r r' = (r'.seat.table_id ≡ r.seat.table_id) × (r'.made ≡ r.made + 1) × (r'.seat.me.0 ≡ one_more r.seat.me.0)
+  SplitsOne r r' = (r'.seat.table_id ≡ r.seat.table_id) × (r'.made ≡ r.made + 1) × (r'.seat.me.0 ≡ root_after_split r.seat.me.0)
 
   -- the pass is of the root's desk and of the next lane, has seen what the root has, and made no call
   abbrev pub IsNewPass : Root M C R G Q g → Pass M C R G Q g → Type 0
-  IsNewPass r p = (p.seat.table_id ≡ r.seat.table_id) × (p.lane ≡ r.made) × (p.seat.me.0 ≡ newcomer r.seat.me.0)
+  IsNewPass r p = (p.seat.table_id ≡ r.seat.table_id) × (p.lane ≡ r.made) × (p.seat.me.0 ≡ new_pass_view r.seat.me.0)
 
   -- this may go in with the call, a good or none, after what the pass has seen
   abbrev pub Suits : Pass M C R G Q g → C → Option G → Type 0

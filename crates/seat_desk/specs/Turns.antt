@@ -16,22 +16,22 @@ use Rattle.seat_desk.specs.declared.view.View.{View}
 use Rattle.seat_desk.specs.History.{calls_by, StartsWith}
 
 -- 1 where the seat has a ticket
-abbrev pub out : Stage → ℕ
-out Idle = 0
-out (Waits t) = 1
-out (Turn t) = 1
+abbrev pub tickets_at : Stage → ℕ
+tickets_at Idle = 0
+tickets_at (Waits t) = 1
+tickets_at (Turn t) = 1
 
 -- 1 where the seat is a pass's
-abbrev pub open_lane : Role → ℕ
-open_lane (Root made) = 0
-open_lane (Lane k) = 1
-open_lane Gone = 0
+abbrev pub passes_at : Role → ℕ
+passes_at (Root made) = 0
+passes_at (Lane k) = 1
+passes_at Gone = 0
 
 -- how many passes the root has split
-abbrev pub made_of : Role → ℕ
-made_of (Root made) = made
-made_of (Lane k) = 0
-made_of Gone = 0
+abbrev pub passes_made : Role → ℕ
+passes_made (Root made) = made
+passes_made (Lane k) = 0
+passes_made Gone = 0
 
 -- the lane of a pass
 abbrev pub lane_of : Role → ℕ
@@ -41,54 +41,54 @@ lane_of Gone = 0
 
 module _ {C R Q : Type 0} where
   -- how many passes are not joined
-  abbrev pub opens : List (View C R Q) → ℕ
-  opens [] = 0
-  opens (v ∷ vs) = open_lane v.role + opens vs
+  abbrev pub passes_open : List (View C R Q) → ℕ
+  passes_open [] = 0
+  passes_open (v ∷ vs) = passes_at v.role + passes_open vs
 
   -- how many seats have a ticket
-  abbrev pub outs : List (View C R Q) → ℕ
-  outs [] = 0
-  outs (v ∷ vs) = out v.stage + outs vs
+  abbrev pub tickets_out : List (View C R Q) → ℕ
+  tickets_out [] = 0
+  tickets_out (v ∷ vs) = tickets_at v.stage + tickets_out vs
 
   -- the first seat, at a machine of the rules q
-  abbrev pub rooted : Q → View C R Q
-  rooted q = record { role = Root 0; rules = q; stage = Idle; seen = []; told = []; mine = []; joined = [] }
+  abbrev pub first_view : Q → View C R Q
+  first_view q = record { role = Root 0; rules = q; stage = Idle; seen = []; told = []; mine = []; joined = [] }
 
   -- the view at this place in the line
-  abbrev pub staged : View C R Q → Stage → View C R Q
-  staged v stage = record { role = v.role; rules = v.rules; stage = stage; seen = v.seen; told = v.told; mine = v.mine; joined = v.joined }
+  abbrev pub view_at : View C R Q → Stage → View C R Q
+  view_at v stage = record { role = v.role; rules = v.rules; stage = stage; seen = v.seen; told = v.told; mine = v.mine; joined = v.joined }
 
   -- the view in its turn, where the history is h
-  abbrev pub served : View C R Q → ℕ → List (Entry C R) → View C R Q
-  served v t h = record { role = v.role; rules = v.rules; stage = Turn t; seen = h; told = v.told; mine = v.mine; joined = v.joined }
+  abbrev pub view_in_turn : View C R Q → ℕ → List (Entry C R) → View C R Q
+  view_in_turn v t h = record { role = v.role; rules = v.rules; stage = Turn t; seen = h; told = v.told; mine = v.mine; joined = v.joined }
 
   -- the view after a turn of the lane k that left the history h
-  abbrev pub done_with : View C R Q → ℕ → List (Entry C R) → View C R Q
-  done_with v k h = record { role = v.role; rules = v.rules; stage = Idle; seen = h; told = v.told; mine = calls_by k h; joined = v.joined }
+  abbrev pub view_after_turn : View C R Q → ℕ → List (Entry C R) → View C R Q
+  view_after_turn v k h = record { role = v.role; rules = v.rules; stage = Idle; seen = h; told = v.told; mine = calls_by k h; joined = v.joined }
 
   -- the view where the history is h
-  abbrev pub sees : View C R Q → List (Entry C R) → View C R Q
-  sees v h = record { role = v.role; rules = v.rules; stage = v.stage; seen = h; told = v.told; mine = v.mine; joined = v.joined }
+  abbrev pub view_with : View C R Q → List (Entry C R) → View C R Q
+  view_with v h = record { role = v.role; rules = v.rules; stage = v.stage; seen = h; told = v.told; mine = v.mine; joined = v.joined }
 
   -- the root after one more split
-  abbrev pub one_more : View C R Q → View C R Q
-  one_more v = record { role = Root (made_of v.role + 1); rules = v.rules; stage = v.stage; seen = v.seen; told = v.told; mine = v.mine; joined = v.joined }
+  abbrev pub root_after_split : View C R Q → View C R Q
+  root_after_split v = record { role = Root (passes_made v.role + 1); rules = v.rules; stage = v.stage; seen = v.seen; told = v.told; mine = v.mine; joined = v.joined }
 
   -- the new pass, which has seen what the root has
-  abbrev pub newcomer : View C R Q → View C R Q
-  newcomer v = record { role = Lane (made_of v.role); rules = v.rules; stage = Idle; seen = v.seen; told = []; mine = []; joined = [] }
+  abbrev pub new_pass_view : View C R Q → View C R Q
+  new_pass_view v = record { role = Lane (passes_made v.role); rules = v.rules; stage = Idle; seen = v.seen; told = []; mine = []; joined = [] }
 
   -- the lane of a pass, with its calls
-  abbrev pub called : View C R Q → Joined C R
-  called w = record { lane = lane_of w.role; calls = w.mine }
+  abbrev pub joined_of : View C R Q → Joined C R
+  joined_of w = record { lane = lane_of w.role; calls = w.mine }
 
   -- the root after a join: it is told what the pass has seen, and keeps its calls
-  abbrev pub informed : View C R Q → View C R Q → View C R Q
-  informed v w = record { role = v.role; rules = v.rules; stage = v.stage; seen = v.seen; told = w.seen; mine = v.mine; joined = v.joined ++ called w ∷ [] }
+  abbrev pub root_after_join : View C R Q → View C R Q → View C R Q
+  root_after_join v w = record { role = v.role; rules = v.rules; stage = v.stage; seen = v.seen; told = w.seen; mine = v.mine; joined = v.joined ++ joined_of w ∷ [] }
 
   -- what is left of a pass that was joined
-  abbrev pub spent : Q → View C R Q
-  spent q = record { role = Gone; rules = q; stage = Idle; seen = []; told = []; mine = []; joined = [] }
+  abbrev pub view_gone : Q → View C R Q
+  view_gone q = record { role = Gone; rules = q; stage = Idle; seen = []; told = []; mine = []; joined = [] }
 
 module _ {C R : Type 0} where
   -- the joined lanes are among the first n seats
@@ -153,7 +153,7 @@ module _ {H C R Q : Type 0} (log_of : H → List (Entry C R)) (good : Q → H �
     -- the passes that were joined
     pub joined : List (Joined C R)
     pub words : s.words ≡ drawn % 2 ^ 64 ∷ done % 2 ^ 64 ∷ []
-    pub count : done + outs s.views ≡ drawn
+    pub count : done + tickets_out s.views ≡ drawn
     pub few : length s.views ≤ 2 ^ 32
     pub turn : busy ≡ true → done < drawn
     pub lies : Lies rules busy log s.homes
@@ -162,31 +162,31 @@ module _ {H C R Q : Type 0} (log_of : H → List (Entry C R)) (good : Q → H �
     pub roles : (j : ℕ) (v : View C R Q) → get_elem? s.views j ≡ maybe.some v → Plays rules log joined (length s.views) j v v.role
     pub ends : AllJoined log joined
     pub below : Below (length s.views) joined
-    pub passes : opens s.views + length joined + 1 ≡ length s.views
+    pub passes : passes_open s.views + length joined + 1 ≡ length s.views
     pub later : (k : ℕ) → length s.views ≤ k + 1 → calls_by k log ≡ []
 
   -- a seat's view, and the slots that it holds
-  abbrev pub Sat : Type 0
-  Sat = Me (Option (H)) (View C R Q)
+  abbrev pub SeatState : Type 0
+  SeatState = Me (Option (H)) (View C R Q)
 
   -- drawing a ticket: the word had its number modulo 2^64
-  abbrev pub drew : Sat → ℕ → Sat → Type 0
-  drew m n m' = (m'.1 ≡ m.1) × ((t : ℕ) × (t % 2 ^ 64 ≡ n) × (m'.0 ≡ staged m.0 (Waits t)))
+  abbrev pub TellsDraw : SeatState → ℕ → SeatState → Type 0
+  TellsDraw m n m' = (m'.1 ≡ m.1) × ((t : ℕ) × (t % 2 ^ 64 ≡ n) × (m'.0 ≡ view_at m.0 (Waits t)))
 
   -- the history that was found in the slot: it begins with all that was seen, and of this lane it has just its own calls
   abbrev pub Finds : View C R Q → H → Type 0
   Finds v y = good v.rules y × StartsWith (log_of y) v.seen × ((k : ℕ) → v.role ≡ Lane k → calls_by k (log_of y) ≡ v.mine)
 
   -- looking at the served word: where it is the seat's ticket, the slot is taken, and else nothing changes
-  abbrev pub looked : Sat → ℕ → Sat → Type 0
-  looked m n m' = (t : ℕ) → m.0.stage ≡ Waits t
-      → (n ≡ t % 2 ^ 64 → (y : H) × Finds m.0 y × (m'.0 ≡ served m.0 t (log_of y)) × (m'.1 ≡ (0, Some y) ∷ m.1)) × (n ≢ t % 2 ^ 64 → m' ≡ m)
+  abbrev pub TellsLook : SeatState → ℕ → SeatState → Type 0
+  TellsLook m n m' = (t : ℕ) → m.0.stage ≡ Waits t
+      → (n ≡ t % 2 ^ 64 → (y : H) × Finds m.0 y × (m'.0 ≡ view_in_turn m.0 t (log_of y)) × (m'.1 ≡ (0, Some y) ∷ m.1)) × (n ≢ t % 2 ^ 64 → m' ≡ m)
 
   -- ending the turn: the slot is at home, and the pass has seen the history that the turn left
-  abbrev pub ended : Sat → ℕ → Sat → Type 0
-  ended m n m' = (m'.1 ≡ []) × ((k : ℕ) (y : H) → m.0.role ≡ Lane k → m.1 ≡ (0, Some y) ∷ [] → m'.0 ≡ done_with m.0 k (log_of y))
+  abbrev pub TellsEnd : SeatState → ℕ → SeatState → Type 0
+  TellsEnd m n m' = (m'.1 ≡ []) × ((k : ℕ) (y : H) → m.0.role ≡ Lane k → m.1 ≡ (0, Some y) ∷ [] → m'.0 ≡ view_after_turn m.0 k (log_of y))
 
   -- the root sees the history so far: it begins with all that it had seen and was told of, and no later lane has a call in it
-  abbrev pub gathered : Sat → ℕ → Sat → Type 0
-  gathered m n m' = (m'.1 ≡ m.1) × ((h : List (Entry C R)) × (m'.0 ≡ sees m.0 h) × StartsWith h m.0.seen × StartsWith h m.0.told
+  abbrev pub TellsGather : SeatState → ℕ → SeatState → Type 0
+  TellsGather m n m' = (m'.1 ≡ m.1) × ((h : List (Entry C R)) × (m'.0 ≡ view_with m.0 h) × StartsWith h m.0.seen × StartsWith h m.0.told
       × ((made : ℕ) → m.0.role ≡ Root made → (k : ℕ) → made ≤ k → calls_by k h ≡ []))

@@ -1,6 +1,6 @@
 //! What each step on the table tells the seat that makes it.
 ghost use Rattle.seat_desk.specs.Helds.{log_of, IsGood};
-ghost use Rattle.seat_desk.specs.Turns.{drew, looked, ended, gathered, one_more, newcomer, informed, spent};
+ghost use Rattle.seat_desk.specs.Turns.{TellsDraw, TellsLook, TellsEnd, TellsGather, root_after_split, new_pass_view, root_after_join, view_gone};
 
 use crate::held::Held;
 use crate::machine::Machine;
@@ -15,7 +15,7 @@ pub(crate) struct Draw<M> {
 
 impl<M: Machine> Play<Option<Held<M, M::Call, M::Reply>>, View<M::Call, M::Reply, M::Rules>>
     for Draw<M> {
-    ghost then = { λ _. drew log_of (IsGood M.rules M.stands M.owes) };
+    ghost then = { λ _. TellsDraw log_of (IsGood M.rules M.stands M.owes) };
 }
 
 /// Looks whether the ticket is served, and takes the slot if it is.
@@ -25,7 +25,7 @@ pub(crate) struct Look<M> {
 
 impl<M: Machine> Play<Option<Held<M, M::Call, M::Reply>>, View<M::Call, M::Reply, M::Rules>>
     for Look<M> {
-    ghost then = { λ _. looked log_of (IsGood M.rules M.stands M.owes) };
+    ghost then = { λ _. TellsLook log_of (IsGood M.rules M.stands M.owes) };
 }
 
 /// Ends the turn: the next ticket is served.
@@ -35,7 +35,7 @@ pub(crate) struct End<M> {
 
 impl<M: Machine> Play<Option<Held<M, M::Call, M::Reply>>, View<M::Call, M::Reply, M::Rules>>
     for End<M> {
-    ghost then = { λ _. ended log_of (IsGood M.rules M.stands M.owes) };
+    ghost then = { λ _. TellsEnd log_of (IsGood M.rules M.stands M.owes) };
 }
 
 /// The root looks at the history so far.
@@ -45,16 +45,16 @@ pub(crate) struct Gather<M> {
 
 impl<M: Machine> Play<Option<Held<M, M::Call, M::Reply>>, View<M::Call, M::Reply, M::Rules>>
     for Gather<M> {
-    ghost then = { λ _. gathered log_of (IsGood M.rules M.stands M.owes) };
+    ghost then = { λ _. TellsGather log_of (IsGood M.rules M.stands M.owes) };
 }
 
 /// Splits the seat of a new pass from that of the root.
 pub(crate) struct Cut;
 
 impl<C, R, Q> Split<View<C, R, Q>> for Cut {
-    ghost left = { one_more };
+    ghost left = { root_after_split };
 
-    ghost right = { newcomer };
+    ghost right = { new_pass_view };
 }
 
 /// Joins the seat of a pass to that of the root.
@@ -63,7 +63,7 @@ pub(crate) struct Glue<M> {
 }
 
 impl<M: Machine> Join<View<M::Call, M::Reply, M::Rules>> for Glue<M> {
-    ghost both = { informed };
+    ghost both = { root_after_join };
 
-    ghost spent = { spent M.blank };
+    ghost spent = { view_gone M.blank };
 }

@@ -1,7 +1,7 @@
 //! The rule of the desk's table: word 0 is the next ticket, word 1 the ticket that is served, and the
 //! slot has the machine with its history.
 ghost use Rattle.seat_desk.specs.Helds.{log_of, IsGood};
-ghost use Rattle.seat_desk.specs.Turns.{Kept, rooted};
+ghost use Rattle.seat_desk.specs.Turns.{Kept, first_view};
 
 use crate::held::Held;
 use crate::machine::Machine;
@@ -23,5 +23,5 @@ impl<M: Machine> TableRule<
 > for Turns<M> {
     ghost holds = { λ _. Kept log_of (IsGood M.rules M.stands M.owes) };
 
-    ghost first = { λ key. rooted (M.rules key.value) };
+    ghost first = { λ key. first_view (M.rules key.value) };
 }
