@@ -6,7 +6,7 @@ use Rattle.seat_desk.specs.declared.view.Joined.{Joined}
 use Rattle.seat_desk.specs.declared.desk.Pass.{Pass}
 use Rattle.seat_desk.specs.declared.desk.Root.{Root}
 use Rattle.seat_desk.specs.declared.desk.Desk.{Desk}
-use Rattle.seat_desk.specs.History.{GoesOn, StandsUnder}
+use Rattle.seat_desk.specs.History.{FactOfWork, GoesOn, StandsUnder}
 use Rattle.seat_desk.specs.Turns.{first_view, root_after_split, new_pass_view}
 use Rattle.seat_desk.specs.Desks.{Answers, AnswersThen, MayThen}
 
@@ -49,7 +49,8 @@ module _ {M C R G Q : Type 0} {g : Ghosts M C R G Q} where
 
   -- the root has the desk, the number of passes and the rules that it had
   abbrev pub IsSameRoot : Root M C R G Q g → Root M C R G Q g → Type 0
-  IsSameRoot r r' = (r'.seat.table_id ≡ r.seat.table_id) × (r'.made ≡ r.made) × (root_rules r' ≡ root_rules r)
+  IsSameRoot r r' =
+      (r'.seat.table_id ≡ r.seat.table_id) × (r'.made ≡ r.made) × (root_rules r' ≡ root_rules r)
 
   -- the root of a desk whose machine has these rules: it has split no pass, seen nothing and joined nothing
   abbrev pub IsNewRoot : Q → Root M C R G Q g → Type 0
@@ -57,11 +58,14 @@ module _ {M C R G Q : Type 0} {g : Ghosts M C R G Q} where
 
   -- the root has split one pass more, and is else as it was
   abbrev pub SplitsOne : Root M C R G Q g → Root M C R G Q g → Type 0
-  SplitsOne r r' = (r'.seat.table_id ≡ r.seat.table_id) × (r'.made ≡ r.made + 1) × (r'.seat.me.0 ≡ root_after_split r.seat.me.0)
+  SplitsOne r r' =
+      (r'.seat.table_id ≡ r.seat.table_id) × (r'.made ≡ r.made + 1)
+      × (r'.seat.me.0 ≡ root_after_split r.seat.me.0)
 
   -- the pass is of the root's desk and of the next lane, has seen what the root has, and made no call
   abbrev pub IsNewPass : Root M C R G Q g → Pass M C R G Q g → Type 0
-  IsNewPass r p = (p.seat.table_id ≡ r.seat.table_id) × (p.lane ≡ r.made) × (p.seat.me.0 ≡ new_pass_view r.seat.me.0)
+  IsNewPass r p =
+      (p.seat.table_id ≡ r.seat.table_id) × (p.lane ≡ r.made) × (p.seat.me.0 ≡ new_pass_view r.seat.me.0)
 
   -- this may go in with the call, a good or none, after what the pass has seen
   abbrev pub Suits : Pass M C R G Q g → C → Option G → Type 0
@@ -73,20 +77,30 @@ module _ {M C R G Q : Type 0} {g : Ghosts M C R G Q} where
 
   -- the call was made in one turn, by the rules of the machine: the reply is its reply at a point of the history that begins with all that the pass had seen
   abbrev pub MakesCall : Pass M C R G Q g → C → R → Option G → Pass M C R G Q g → Type 0
-  MakesCall p call reply good p' = Answers (g.next (rules p)) g.short (g.may_be_short (rules p)) g.keeps (g.comes_out (rules p)) p.lane p.seat.me.0 call reply good p'.seat.me.0
+  MakesCall p call reply good p' =
+      Answers (g.next (rules p)) g.short (g.may_be_short (rules p)) g.keeps (g.comes_out (rules p))
+      p.lane p.seat.me.0 call reply good p'.seat.me.0
 
   -- the same, and the reply is not short
   abbrev pub MakesPaidCall : Pass M C R G Q g → C → R → Option G → Pass M C R G Q g → Type 0
-  MakesPaidCall p call reply good p' = Answers (g.next (rules p)) g.short (λ _ _ _. ⊥) g.keeps (g.comes_out (rules p)) p.lane p.seat.me.0 call reply good p'.seat.me.0
+  MakesPaidCall p call reply good p' =
+      Answers (g.next (rules p)) g.short (λ _ _ _. ⊥) g.keeps (g.comes_out (rules p)) p.lane p.seat.me.0
+      call reply good p'.seat.me.0
 
   -- no call was made: the history that the pass has seen may have grown by calls of other lanes, and its own list stays
   abbrev pub MakesNoCall : Pass M C R G Q g → Pass M C R G Q g → Type 0
   MakesNoCall p p' = GoesOn p.lane (seen p) (seen p') × (mine p' ≡ mine p)
 
   -- whatever the work answers to the call's reply is paid for by the history with the call's entry, and its good suits there
-  abbrev pub MayMakeThen : {W : Type 0} → (W → R → Option G → Option (C × Option G) → W → Type 0) → Pass M C R G Q g → C → W → Type 0
-  MayMakeThen meets p call work = MayThen meets (StandsUnder g.rules g.stands (rules p)) (g.next (rules p)) g.short (g.may_be_short (rules p)) g.keeps (g.paid (rules p)) (g.goes_in (rules p)) (g.comes_out (rules p)) p.lane (seen p) call work
+  abbrev pub MayMakeThen : {W : Type 0} → FactOfWork W C R G → Pass M C R G Q g → C → W → Type 0
+  MayMakeThen meets p call work =
+      MayThen meets (StandsUnder g.rules g.stands (rules p)) (g.next (rules p)) g.short
+      (g.may_be_short (rules p)) g.keeps (g.paid (rules p)) (g.goes_in (rules p)) (g.comes_out (rules p))
+      p.lane (seen p) call work
 
   -- the call, and the one that the work answered, were made in one turn
-  abbrev pub MakesCallThen : {W : Type 0} → (W → R → Option G → Option (C × Option G) → W → Type 0) → Pass M C R G Q g → C → W → R → Option G → W → Pass M C R G Q g → Type 0
-  MakesCallThen meets p call work reply good work' p' = AnswersThen meets (g.next (rules p)) g.short (g.may_be_short (rules p)) g.keeps (g.comes_out (rules p)) p.lane p.seat.me.0 call work reply good work' p'.seat.me.0
+  abbrev pub MakesCallThen : {W : Type 0} → FactOfWork W C R G → Pass M C R G Q g → C → W → R
+      → Option G → W → Pass M C R G Q g → Type 0
+  MakesCallThen meets p call work reply good work' p' =
+      AnswersThen meets (g.next (rules p)) g.short (g.may_be_short (rules p)) g.keeps
+      (g.comes_out (rules p)) p.lane p.seat.me.0 call work reply good work' p'.seat.me.0

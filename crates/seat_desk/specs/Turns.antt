@@ -52,31 +52,44 @@ module _ {C R Q : Type 0} where
 
   -- the first seat, at a machine of the rules q
   abbrev pub first_view : Q → View C R Q
-  first_view q = record { role = Root 0; rules = q; stage = Idle; seen = []; told = []; mine = []; joined = [] }
+  first_view q =
+      record { role = Root 0; rules = q; stage = Idle; seen = []; told = []; mine = []; joined = [] }
 
   -- the view at this place in the line
   abbrev pub view_at : View C R Q → Stage → View C R Q
-  view_at v stage = record { role = v.role; rules = v.rules; stage = stage; seen = v.seen; told = v.told; mine = v.mine; joined = v.joined }
+  view_at v stage =
+      record
+      { role = v.role; rules = v.rules; stage = stage; seen = v.seen; told = v.told; mine = v.mine; joined = v.joined }
 
   -- the view in its turn, where the history is h
   abbrev pub view_in_turn : View C R Q → ℕ → List (Entry C R) → View C R Q
-  view_in_turn v t h = record { role = v.role; rules = v.rules; stage = Turn t; seen = h; told = v.told; mine = v.mine; joined = v.joined }
+  view_in_turn v t h =
+      record
+      { role = v.role; rules = v.rules; stage = Turn t; seen = h; told = v.told; mine = v.mine; joined = v.joined }
 
   -- the view after a turn of the lane k that left the history h
   abbrev pub view_after_turn : View C R Q → ℕ → List (Entry C R) → View C R Q
-  view_after_turn v k h = record { role = v.role; rules = v.rules; stage = Idle; seen = h; told = v.told; mine = calls_by k h; joined = v.joined }
+  view_after_turn v k h =
+      record
+      { role = v.role; rules = v.rules; stage = Idle; seen = h; told = v.told; mine = calls_by k h; joined = v.joined }
 
   -- the view where the history is h
   abbrev pub view_with : View C R Q → List (Entry C R) → View C R Q
-  view_with v h = record { role = v.role; rules = v.rules; stage = v.stage; seen = h; told = v.told; mine = v.mine; joined = v.joined }
+  view_with v h =
+      record
+      { role = v.role; rules = v.rules; stage = v.stage; seen = h; told = v.told; mine = v.mine; joined = v.joined }
 
   -- the root after one more split
   abbrev pub root_after_split : View C R Q → View C R Q
-  root_after_split v = record { role = Root (passes_made v.role + 1); rules = v.rules; stage = v.stage; seen = v.seen; told = v.told; mine = v.mine; joined = v.joined }
+  root_after_split v =
+      record
+      { role = Root (passes_made v.role + 1); rules = v.rules; stage = v.stage; seen = v.seen; told = v.told; mine = v.mine; joined = v.joined }
 
   -- the new pass, which has seen what the root has
   abbrev pub new_pass_view : View C R Q → View C R Q
-  new_pass_view v = record { role = Lane (passes_made v.role); rules = v.rules; stage = Idle; seen = v.seen; told = []; mine = []; joined = [] }
+  new_pass_view v =
+      record
+      { role = Lane (passes_made v.role); rules = v.rules; stage = Idle; seen = v.seen; told = []; mine = []; joined = [] }
 
   -- the lane of a pass, with its calls
   abbrev pub joined_of : View C R Q → Joined C R
@@ -84,11 +97,14 @@ module _ {C R Q : Type 0} where
 
   -- the root after a join: it is told what the pass has seen, and keeps its calls
   abbrev pub root_after_join : View C R Q → View C R Q → View C R Q
-  root_after_join v w = record { role = v.role; rules = v.rules; stage = v.stage; seen = v.seen; told = w.seen; mine = v.mine; joined = v.joined ++ joined_of w ∷ [] }
+  root_after_join v w =
+      record
+      { role = v.role; rules = v.rules; stage = v.stage; seen = v.seen; told = w.seen; mine = v.mine; joined = v.joined ++ joined_of w ∷ [] }
 
   -- what is left of a pass that was joined
   abbrev pub view_gone : Q → View C R Q
-  view_gone q = record { role = Gone; rules = q; stage = Idle; seen = []; told = []; mine = []; joined = [] }
+  view_gone q =
+      record { role = Gone; rules = q; stage = Idle; seen = []; told = []; mine = []; joined = [] }
 
 module _ {C R : Type 0} where
   -- the joined lanes are among the first n seats
@@ -116,14 +132,16 @@ module _ {C R : Type 0} where
   Apart k (x ∷ xs) = (x.lane ≢ k) × Apart k xs
 
 -- where a seat stands, with these tickets out
-module _ {C R : Type 0} (log : List (Entry C R)) (done drawn : ℕ) (owner : ℕ → ℕ) (busy : Bool) (seat : ℕ) (seen : List (Entry C R)) where
+module _ {C R : Type 0} (log : List (Entry C R)) (done drawn : ℕ) (owner : ℕ → ℕ) (busy : Bool)
+    (seat : ℕ) (seen : List (Entry C R)) where
   abbrev pub Queued : Stage → Type 0
   Queued Idle = Unit {0}
   Queued (Waits t) = (done ≤ t) × (t < drawn) × (owner t ≡ seat) × (busy ≡ true → t ≢ done)
   Queued (Turn t) = (t ≡ done) × (owner t ≡ seat) × (busy ≡ true) × (seen ≡ log)
 
 -- what a seat knows by its role, among n seats
-module _ {C R Q : Type 0} (rules : Q) (log : List (Entry C R)) (joined : List (Joined C R)) (n seat : ℕ) (v : View C R Q) where
+module _ {C R Q : Type 0} (rules : Q) (log : List (Entry C R)) (joined : List (Joined C R))
+    (n seat : ℕ) (v : View C R Q) where
   abbrev pub Plays : Role → Type 0
   Plays (Root made) = (seat ≡ 0) × (n ≡ made + 1) × (v.joined ≡ joined) × (v.rules ≡ rules)
   Plays (Lane k) = (seat ≡ k + 1) × (calls_by k log ≡ v.mine) × Apart k joined × (v.rules ≡ rules)
@@ -134,7 +152,8 @@ module _ {H C R Q : Type 0} (log_of : H → List (Entry C R)) (good : Q → H �
   -- the slot is out with the seat that is served (busy), or at home with the history so far
   abbrev pub Lies : Q → Bool → List (Entry C R) → List (maybe.Option (Option (H))) → Type 0
   Lies rules true log homes = homes ≡ maybe.none ∷ []
-  Lies rules false log homes = (y : H) × (homes ≡ maybe.some (Some y) ∷ []) × (log_of y ≡ log) × good rules y
+  Lies rules false log homes =
+      (y : H) × (homes ≡ maybe.some (Some y) ∷ []) × (log_of y ≡ log) × good rules y
 
   -- the rule: there are a history, numbers of tickets and an owner of each ticket for which all of this holds
   pub record Kept (s : State (Option (H)) (View C R Q)) : Type 0 where
@@ -157,9 +176,12 @@ module _ {H C R Q : Type 0} (log_of : H → List (Entry C R)) (good : Q → H �
     pub few : length s.views ≤ 2 ^ 32
     pub turn : busy ≡ true → done < drawn
     pub lies : Lies rules busy log s.homes
-    pub lines : (j : ℕ) (v : View C R Q) → get_elem? s.views j ≡ maybe.some v → Queued log done drawn owner busy j v.seen v.stage
-    pub fronts : (j : ℕ) (v : View C R Q) → get_elem? s.views j ≡ maybe.some v → StartsWith log v.seen × StartsWith log v.told
-    pub roles : (j : ℕ) (v : View C R Q) → get_elem? s.views j ≡ maybe.some v → Plays rules log joined (length s.views) j v v.role
+    pub lines : (j : ℕ) (v : View C R Q) → get_elem? s.views j ≡ maybe.some v
+        → Queued log done drawn owner busy j v.seen v.stage
+    pub fronts : (j : ℕ) (v : View C R Q) → get_elem? s.views j ≡ maybe.some v
+        → StartsWith log v.seen × StartsWith log v.told
+    pub roles : (j : ℕ) (v : View C R Q) → get_elem? s.views j ≡ maybe.some v
+        → Plays rules log joined (length s.views) j v v.role
     pub ends : AllJoined log joined
     pub below : Below (length s.views) joined
     pub passes : passes_open s.views + length joined + 1 ≡ length s.views
@@ -175,18 +197,25 @@ module _ {H C R Q : Type 0} (log_of : H → List (Entry C R)) (good : Q → H �
 
   -- the history that was found in the slot: it begins with all that was seen, and of this lane it has just its own calls
   abbrev pub Finds : View C R Q → H → Type 0
-  Finds v y = good v.rules y × StartsWith (log_of y) v.seen × ((k : ℕ) → v.role ≡ Lane k → calls_by k (log_of y) ≡ v.mine)
+  Finds v y =
+      good v.rules y × StartsWith (log_of y) v.seen
+      × ((k : ℕ) → v.role ≡ Lane k → calls_by k (log_of y) ≡ v.mine)
 
   -- looking at the served word: where it is the seat's ticket, the slot is taken, and else nothing changes
   abbrev pub TellsLook : SeatState → ℕ → SeatState → Type 0
   TellsLook m n m' = (t : ℕ) → m.0.stage ≡ Waits t
-      → (n ≡ t % 2 ^ 64 → (y : H) × Finds m.0 y × (m'.0 ≡ view_in_turn m.0 t (log_of y)) × (m'.1 ≡ (0, Some y) ∷ m.1)) × (n ≢ t % 2 ^ 64 → m' ≡ m)
+      → (n ≡ t % 2 ^ 64 → (y : H) × Finds m.0 y × (m'.0 ≡ view_in_turn m.0 t (log_of y)) × (m'.1 ≡ (0, Some y) ∷ m.1))
+      × (n ≢ t % 2 ^ 64 → m' ≡ m)
 
   -- ending the turn: the slot is at home, and the pass has seen the history that the turn left
   abbrev pub TellsEnd : SeatState → ℕ → SeatState → Type 0
-  TellsEnd m n m' = (m'.1 ≡ []) × ((k : ℕ) (y : H) → m.0.role ≡ Lane k → m.1 ≡ (0, Some y) ∷ [] → m'.0 ≡ view_after_turn m.0 k (log_of y))
+  TellsEnd m n m' =
+      (m'.1 ≡ [])
+      × ((k : ℕ) (y : H) → m.0.role ≡ Lane k → m.1 ≡ (0, Some y) ∷ [] → m'.0 ≡ view_after_turn m.0 k (log_of y))
 
   -- the root sees the history so far: it begins with all that it had seen and was told of, and no later lane has a call in it
   abbrev pub TellsGather : SeatState → ℕ → SeatState → Type 0
-  TellsGather m n m' = (m'.1 ≡ m.1) × ((h : List (Entry C R)) × (m'.0 ≡ view_with m.0 h) × StartsWith h m.0.seen × StartsWith h m.0.told
+  TellsGather m n m' =
+      (m'.1 ≡ m.1)
+      × ((h : List (Entry C R)) × (m'.0 ≡ view_with m.0 h) × StartsWith h m.0.seen × StartsWith h m.0.told
       × ((made : ℕ) → m.0.role ≡ Root made → (k : ℕ) → made ≤ k → calls_by k h ≡ []))
