@@ -1,0 +1,4 @@
+pub mod Views
+pub mod Firsts
+pub mod Late
+pub mod Orders
