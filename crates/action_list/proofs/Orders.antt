@@ -11,7 +11,7 @@ module _ (xs : List ListAction) (i : ℕ) (x : ListAction) where
   pub take_this : i < length xs → x ≡ get_or xs i x → take (i + 1) xs ≡ take i xs ++ x ∷ []
   take_this below is = take_more xs i x below ∙ ap (λ v. take i xs ++ v ∷ []) (sym is)
 
-  drop_this : i < length xs → x ≡ get_or xs i x → drop i xs ≡ x ∷ drop (i + 1) xs
+  pub drop_this : i < length xs → x ≡ get_or xs i x → drop i xs ≡ x ∷ drop (i + 1) xs
   drop_this below is = drop_more xs i x below ∙ ap (λ v. v ∷ drop (i + 1) xs) (sym is)
 
   at_this : orders_check [] xs ≡ orders_check (take i xs) (drop i xs) → i < length xs → x ≡ get_or xs i x

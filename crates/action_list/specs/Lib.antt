@@ -6,6 +6,9 @@ pub mod Keys
 pub mod Lists
 pub mod Makers
 pub mod Order
+pub mod Places
+pub mod Plans
 pub mod Seen
 pub mod Tables
 pub mod Top
+pub mod Whole

@@ -1,7 +1,7 @@
 // Which actions share a worker key, as far as the list says.
-ghost use Rattle.std.specs.Prelude.{◌≡◌, IfOk, OnOk, map};
+ghost use Rattle.std.specs.Prelude.{◌≡◌, ◌≤◌, ◌+◌, length, IfOk, OnOk, map};
 ghost use Rattle.action_list.specs.Answers.{Settles};
-ghost use Rattle.action_list.specs.Checks.{has_local};
+ghost use Rattle.action_list.specs.Checks.{has_local, has_remote};
 ghost use Rattle.action_list.specs.Keys.{key_bytes, keys_check, keys_of, list_key, mode_of, named_variable, takes_several, unread_tool, with_bytes, with_key, worker_words};
 ghost use Rattle.action_list.specs.Order.{is_among};
 
@@ -24,7 +24,8 @@ pub fn check_keys(alloc: Global, limit: usize, actions: &[ListAction]) -> Result
 /// The keys of the actions with a local branch, in the order of their first actions. Each is seen by
 /// the bytes that stand for it alone.
 pub fn keys_of(alloc: Global, actions: &[ListAction]) -> Result<Items<Blob>, NoMemory>
-    ensures { IfOk result (λ k. k ≡ keys_of actions.now) }
+    ensures keys { IfOk result (λ k. k ≡ keys_of actions.now) }
+    ensures few { IfOk result (λ k. length k ≤ length actions.now) }
 {
     let mut keys = Vec::new(alloc);
     for action in actions {
@@ -34,7 +35,8 @@ pub fn keys_of(alloc: Global, actions: &[ListAction]) -> Result<Items<Blob>, NoM
 }
 
 fn add_key(alloc: Global, keys: &mut Vec<Blob>, action: &ListAction) -> Result<(), NoMemory>
-    ensures { OnOk result (keys.new.items ≡ with_key keys.old.items action.now) }
+    ensures added { OnOk result (keys.new.items ≡ with_key keys.old.items action.now) }
+    ensures few { OnOk result (length keys.new.items ≤ length keys.old.items + 1) }
 {
     if !has_local(action.strategy) {
         return Ok(());
@@ -60,6 +62,16 @@ pub fn has_local(strategy: Strategy) -> bool
     match strategy {
         Strategy::Worker | Strategy::Dynamic => true,
         Strategy::Remote => false,
+    }
+}
+
+/// The action may run on the executor.
+pub fn has_remote(strategy: Strategy) -> bool
+    ensures { result ≡ has_remote strategy }
+{
+    match strategy {
+        Strategy::Remote | Strategy::Dynamic => true,
+        Strategy::Worker => false,
     }
 }
 
@@ -100,7 +112,8 @@ pub fn mode_of(action: &ListAction) -> Mode
     }
 }
 
-fn takes_several(strategy: Strategy, multiplex: bool) -> bool
+/// Several requests may run at once on the worker.
+pub fn takes_several(strategy: Strategy, multiplex: bool) -> bool
     ensures { result ≡ takes_several strategy multiplex }
 {
     match strategy {

@@ -11,6 +11,8 @@ mod made;
 mod makers;
 mod needs;
 mod order;
+mod places;
+mod planning;
 mod seen;
 mod top;
 mod types;
