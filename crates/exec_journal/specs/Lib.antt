@@ -1,0 +1,15 @@
+pub mod History
+pub mod Entries
+pub mod Words
+pub mod Attempts
+pub mod Settled
+pub mod Rules
+pub mod Scripts
+pub mod Legal
+pub mod Sound
+pub mod Race
+pub mod Paired
+pub mod Kept
+pub mod Accounted
+pub mod Clean
+pub mod Outcomes

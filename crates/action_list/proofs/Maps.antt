@@ -1,0 +1,10 @@
+-- One more element of a list has been mapped.
+use Rattle.std.proofs.Common.{◌≡◌, ℕ, ◌+◌, ◌<◌, List, [], ◌∷◌, ◌++◌, length, drop, get_or, map, sym, ap, ◌∙◌, append_assoc}
+use Rattle.std.proofs.lemmas.List.{at_drop_more}
+
+pub mapped_more : {A B : Type 0} (f : A → B) (xs : List A) (i : ℕ) (x : A) (done after all : List B) → i < length xs → x ≡ get_or xs i x
+    → done ++ map f (drop i xs) ≡ all → after ≡ done ++ f x ∷ [] → after ++ map f (drop (i + 1) xs) ≡ all
+mapped_more f xs i x done after all below is h e =
+    let rest = map f (drop (i + 1) xs) in
+    ap (λ o. o ++ rest) e ∙ append_assoc done (f x ∷ []) rest
+    ∙ ap (λ t. done ++ t) (sym (at_drop_more (map f) xs i x below ∙ ap (λ v. f v ∷ rest) (sym is))) ∙ h

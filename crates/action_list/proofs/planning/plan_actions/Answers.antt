@@ -1,0 +1,29 @@
+use Rattle.std.proofs.Common.{◌≡◌, ◌++◌, ◌∷◌, [], ◌+◌, take, drop, length, sym, ap, subst, ◌∙◌, append_assoc, arith}
+use Rattle.std.proofs.lemmas.List.{length-take-le}
+use Rattle.action_list.specs.Plans.{plan_action, plan_actions}
+use Rattle.action_list.specs.Whole.{KnowsPlaces}
+use Rattle.action_list.proofs.Orders.{take_this, drop_this}
+use Rattle.action_list.proofs.planning.plan_actions.Goals as goal
+
+pub loop-action-preserved : goal.loop-action-preserved
+loop-action-preserved c =
+    let i = c.loop-action.action-index in
+    let xs = c.args.actions.now in
+    let x = c.action-item.result in
+    let keys = c.args.keys.now in
+    let number : c.loop-action.number ≡ length (take i xs) = omega (arith, length-take-le i xs (omega arith)) in
+    let this = take_this xs i x c.loop-action-test.true c.action-item.is in
+    let rest = drop_this xs i x c.loop-action-test.true c.action-item.is in
+    let later = plan_actions keys (take (i + 1) xs) (drop (i + 1) xs) in
+    let now = c.in_ok-plan_action.ensures (take i xs) c.loop-action.invariant.known in
+    let pushed = rw now at c.in_ok-push.ensures.items in
+    record {
+      counted = omega arith;
+      known = subst (λ ys. KnowsPlaces c.note_outputs.new.places ys) (sym this) (c.in_ok-note_outputs.ensures (take i xs) c.loop-action.invariant.known number);
+      made =
+        ap (λ o. o ++ later) pushed
+        ∙ append_assoc c.loop-action.planned.items (plan_action keys (take i xs) x ∷ []) later
+        ∙ ap (λ front. c.loop-action.planned.items ++ (plan_action keys (take i xs) x ∷ plan_actions keys front (drop (i + 1) xs))) this
+        ∙ ap (λ ys. c.loop-action.planned.items ++ plan_actions keys (take i xs) ys) (sym rest)
+        ∙ c.loop-action.invariant.made;
+    }

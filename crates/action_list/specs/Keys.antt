@@ -1,0 +1,71 @@
+-- Which actions share a worker key, as far as the list says.
+use Rattle.std.specs.Prelude.{ℕ, ◌==◌, Bool, false, if◌then◌else◌, List, [], ◌∷◌, ◌++◌, length, map, Option, unwrap_or}
+use Rattle.worker_key.specs.Keys.{canonical}
+use Rattle.worker_key.specs.declared.key.Mode.{Mode}
+use Rattle.worker_key.specs.declared.key.Mode.TheVariants as mode
+use Rattle.worker_key.specs.declared.key.Named.{Named}
+use Rattle.worker_key.specs.declared.key.WorkerKey.{WorkerKey}
+use Rattle.flag_files.specs.Split.{request_words, startup_words}
+use Rattle.outside.specs.declared.command.Variable.{Variable}
+use Rattle.action_list.specs.declared.faults.What.TheVariants as what
+use Rattle.action_list.specs.declared.types.ListAction.{ListAction}
+use Rattle.action_list.specs.declared.types.Strategy.{Strategy}
+use Rattle.action_list.specs.declared.types.Strategy.TheVariants as strategy
+use Rattle.action_list.specs.Answers.{Check}
+use Rattle.action_list.specs.Checks.{count_check, has_local}
+use Rattle.action_list.specs.Order.{is_among}
+
+-- several requests at once, where that is set and the action runs on a worker alone
+abbrev pub takes_several : Strategy → Bool → Bool
+takes_several strategy.Worker multiplex = multiplex
+takes_several strategy.Remote multiplex = false
+takes_several strategy.Dynamic multiplex = false
+
+abbrev pub mode_of : ListAction → Mode
+mode_of x = if takes_several x.strategy x.needs.multiplex then mode.Multi else mode.Single
+
+abbrev pub named_variable : Variable → Named
+named_variable v = record { name = v.name; value = v.value }
+
+abbrev pub unread_tool : List ℕ → Named
+unread_tool path = record { name = path; value = [] }
+
+-- The words that a worker is started with. There are none where no flag file gives it requests.
+abbrev pub worker_words : List (List ℕ) → List (List ℕ) → List (List ℕ)
+worker_words argv extra = if length (request_words argv) == 0 then [] else startup_words argv extra
+
+-- The key of an action's worker, but for the digests of its tools and the extra flags. A path has one
+-- digest in a run, and the flags are the same for all, so two actions agree in this exactly where they
+-- agree in the whole key.
+abbrev pub list_key : ListAction → WorkerKey
+list_key x = record {
+  mnemonic = unwrap_or x.needs.key_mnemonic x.mnemonic;
+  startup = worker_words x.argv [];
+  env = map named_variable x.env;
+  tools = map unread_tool x.tools;
+  json = x.needs.json;
+  mode = mode_of x;
+  cancel = x.needs.cancel;
+}
+
+-- the bytes that stand for this key alone
+unfoldable pub key_bytes : ListAction → List ℕ
+key_bytes x = canonical (list_key x)
+
+abbrev pub with_bytes : List (List ℕ) → List ℕ → List (List ℕ)
+with_bytes keys bytes = if is_among keys bytes then keys else keys ++ bytes ∷ []
+
+-- the keys with this action's, where it has a local branch
+abbrev pub with_key : List (List ℕ) → ListAction → List (List ℕ)
+with_key keys x = if has_local x.strategy then with_bytes keys (key_bytes x) else keys
+
+abbrev pub keys_from : List (List ℕ) → List ListAction → List (List ℕ)
+keys_from keys [] = keys
+keys_from keys (x ∷ xs) = keys_from (with_key keys x) xs
+
+-- the keys in the order of their first actions
+abbrev pub keys_of : List ListAction → List (List ℕ)
+keys_of xs = keys_from [] xs
+
+abbrev pub keys_check : ℕ → List ListAction → Check
+keys_check limit xs = count_check what.Keys limit (length (keys_of xs))

@@ -1,0 +1,14 @@
+pub mod Actions
+pub mod Answers
+pub mod Checks
+pub mod Format
+pub mod Keys
+pub mod Lists
+pub mod Makers
+pub mod Order
+pub mod Places
+pub mod Plans
+pub mod Seen
+pub mod Tables
+pub mod Top
+pub mod Whole

@@ -1,0 +1,169 @@
+// Which actions share a worker key, as far as the list says.
+ghost use Rattle.std.specs.Prelude.{◌≡◌, ◌≤◌, ◌+◌, length, IfOk, OnOk, map};
+ghost use Rattle.action_list.specs.Answers.{Settles};
+ghost use Rattle.action_list.specs.Checks.{has_local, has_remote};
+ghost use Rattle.action_list.specs.Keys.{key_bytes, keys_check, keys_of, list_key, mode_of, named_variable, takes_several, unread_tool, with_bytes, with_key, worker_words};
+ghost use Rattle.action_list.specs.Order.{is_among};
+
+use crate::checks::check_count;
+use crate::{ListAction, ListRefusal, Strategy, What};
+use flag_files::{SplitFault, split_args};
+use outside::Variable;
+use std::alloc::Global;
+use wire_fields::{Blob, Items, NoMemory, Text};
+use worker_key::{Mode, Named, WorkerKey};
+
+/// Looks whether the actions with a local branch have at most so many keys.
+pub fn check_keys(alloc: Global, limit: usize, actions: &[ListAction]) -> Result<(), ListRefusal>
+    ensures { Settles result (keys_check limit actions.now) }
+{
+    let keys = keys_of(alloc, actions)?;
+    check_count(What::Keys, limit, keys.as_slice().len())
+}
+
+/// The keys of the actions with a local branch, in the order of their first actions. Each is seen by
+/// the bytes that stand for it alone.
+pub fn keys_of(alloc: Global, actions: &[ListAction]) -> Result<Items<Blob>, NoMemory>
+    ensures keys { IfOk result (λ k. k ≡ keys_of actions.now) }
+    ensures few { IfOk result (λ k. length k ≤ length actions.now) }
+{
+    let mut keys = Vec::new(alloc);
+    for action in actions {
+        add_key(alloc, &mut keys, action)?;
+    }
+    Ok(Items::of(keys))
+}
+
+fn add_key(alloc: Global, keys: &mut Vec<Blob>, action: &ListAction) -> Result<(), NoMemory>
+    ensures added { OnOk result (keys.new.items ≡ with_key keys.old.items action.now) }
+    ensures few { OnOk result (length keys.new.items ≤ length keys.old.items + 1) }
+{
+    if !has_local(action.strategy) {
+        return Ok(());
+    }
+    let bytes = key_bytes(alloc, action)?;
+    if !is_among(keys.as_slice(), bytes.as_slice()) {
+        keys.push(Blob::of(alloc, bytes)?)?;
+    }
+    Ok(())
+}
+
+/// These bytes are one of them.
+pub fn is_among(keys: &[Blob], bytes: &[u8]) -> bool
+    ensures { result ≡ is_among keys.now bytes.now }
+{
+    keys.iter().any(|key| key.bytes() == bytes)
+}
+
+/// The action may run on a worker.
+pub fn has_local(strategy: Strategy) -> bool
+    ensures { result ≡ has_local strategy }
+{
+    match strategy {
+        Strategy::Worker | Strategy::Dynamic => true,
+        Strategy::Remote => false,
+    }
+}
+
+/// The action may run on the executor.
+pub fn has_remote(strategy: Strategy) -> bool
+    ensures { result ≡ has_remote strategy }
+{
+    match strategy {
+        Strategy::Remote | Strategy::Dynamic => true,
+        Strategy::Worker => false,
+    }
+}
+
+/// The bytes that stand for the key of an action's worker.
+#[tactic(auto, unfolding(crate::specs::Keys::key_bytes))]
+pub fn key_bytes(alloc: Global, action: &ListAction) -> Result<Vec<u8>, NoMemory>
+    ensures { IfOk result (λ v. v.items ≡ key_bytes action.now) }
+{
+    list_key(alloc, action)?.canonical_bytes(alloc)
+}
+
+fn list_key(alloc: Global, action: &ListAction) -> Result<WorkerKey, NoMemory>
+    ensures { IfOk result (λ k. k ≡ list_key action.now) }
+{
+    let mnemonic = match &action.needs.key_mnemonic {
+        Some(replacement) => replacement,
+        None => &action.mnemonic,
+    };
+    Ok(WorkerKey {
+        mnemonic: Text::copy_of(alloc, mnemonic.as_str())?,
+        startup: worker_words(alloc, action.argv.as_slice(), &[])?,
+        env: named_variables(alloc, action.env.as_slice())?,
+        tools: unread_tools(alloc, action.tools.as_slice())?,
+        json: action.needs.json,
+        mode: mode_of(action),
+        cancel: action.needs.cancel,
+    })
+}
+
+/// How the requests of an action's worker run.
+pub fn mode_of(action: &ListAction) -> Mode
+    ensures { result ≡ mode_of action.now }
+{
+    if takes_several(action.strategy, action.needs.multiplex) {
+        Mode::Multi
+    } else {
+        Mode::Single
+    }
+}
+
+/// Several requests may run at once on the worker.
+pub fn takes_several(strategy: Strategy, multiplex: bool) -> bool
+    ensures { result ≡ takes_several strategy multiplex }
+{
+    match strategy {
+        Strategy::Worker => multiplex,
+        Strategy::Remote | Strategy::Dynamic => false,
+    }
+}
+
+fn named_variables(alloc: Global, variables: &[Variable]) -> Result<Items<Named>, NoMemory>
+    ensures { IfOk result (λ l. l ≡ map named_variable variables.now) }
+{
+    let mut named = Vec::new(alloc);
+    for variable in variables {
+        named.push(named_variable(alloc, variable)?)?;
+    }
+    Ok(Items::of(named))
+}
+
+fn named_variable(alloc: Global, variable: &Variable) -> Result<Named, NoMemory>
+    ensures { IfOk result (λ n. n ≡ named_variable variable.now) }
+{
+    Ok(Named {
+        name: Text::copy_of(alloc, variable.name.as_str())?,
+        value: Text::copy_of(alloc, variable.value.as_str())?,
+    })
+}
+
+fn unread_tools(alloc: Global, paths: &[Text]) -> Result<Items<Named>, NoMemory>
+    ensures { IfOk result (λ l. l ≡ map unread_tool paths.now) }
+{
+    let mut named = Vec::new(alloc);
+    for path in paths {
+        named.push(Named {
+            name: Text::copy_of(alloc, path.as_str())?,
+            value: Text::of(String::new(alloc)),
+        })?;
+    }
+    Ok(Items::of(named))
+}
+
+/// The words that an action's worker is started with, or none where no flag file gives it requests.
+pub fn worker_words(alloc: Global, argv: &[Text], extra: &[Text]) -> Result<Items<Text>, NoMemory>
+    ensures { IfOk result (λ l. l ≡ worker_words argv.now extra.now) }
+{
+    if argv.is_empty() {
+        return Ok(Items::of(Vec::new(alloc)));
+    }
+    match split_args(alloc, argv, extra) {
+        Ok(split) => Ok(split.startup),
+        Err(SplitFault::NoFlagFile) => Ok(Items::of(Vec::new(alloc))),
+        Err(SplitFault::NoMemory) => Err(NoMemory),
+    }
+}

@@ -1,0 +1,42 @@
+//! The action list: its JSON text read and checked, the plan of a run, and what each group of workers runs.
+#![tactic(auto)]
+
+
+mod checks;
+mod draft;
+mod faults;
+mod keys;
+mod listed;
+mod made;
+mod makers;
+mod needs;
+mod order;
+mod places;
+mod planning;
+mod seen;
+mod top;
+mod types;
+
+pub use faults::{Key, ListFault, ListRefusal, What};
+pub use types::{ActionList, ListAction, Needs, Strategy};
+
+ghost use Rattle.action_list.specs.Answers.{Answers};
+ghost use Rattle.action_list.specs.Lists.{list_of};
+
+use std::alloc::Global;
+
+/// The most worker keys that a list may have.
+const MAX_KEYS: usize = 48;
+
+/// Reads an action list: the JSON text that `docs/FORMATS.md` describes.
+///
+/// # Errors
+///
+/// The first fault, in this order: the bytes, the JSON, the object and its `actions`; then each action
+/// with its keys in their order; then, over all actions in order, a name that an earlier action has, an
+/// output that is made before, an input that is made later; then too many worker keys.
+pub fn read_list(alloc: Global, bytes: &[u8]) -> Result<ActionList, ListRefusal>
+    ensures { Answers result (list_of 48 bytes.now) }
+{
+    listed::list_of(alloc, MAX_KEYS, bytes)
+}

@@ -1,0 +1,376 @@
+// The plan of a list.
+ghost use Rattle.std.specs.Prelude.{◌≡◌, ◌≤◌, ◌++◌, ◌∷◌, [], List, length, map, position, IfOk, IfSome, OnOk, ◌<◌};
+ghost use Rattle.std.specs.List.{filter_map, list_all};
+ghost use Rattle.std.specs.Option.{option_copied};
+ghost use Rattle.std.specs.Str.{bytes_eq};
+ghost use Rattle.action_list.specs.declared.types.ListAction.{ListAction};
+ghost use Rattle.action_list.specs.Keys.{keys_of};
+ghost use Rattle.action_list.specs.Places.{place_of};
+ghost use Rattle.action_list.specs.Plans.{berths_at, executor_groups, first_user, groups_of, is_key, key_group, kind_of, local_key, local_of, number_of, plan_action, plan_actions, plan_of, remote_of, remote_users, share, users};
+ghost use Rattle.action_list.specs.Whole.{IsWhole, KnowsPlaces};
+ghost use Rattle.exec_journal.specs.Sound.{Sound};
+
+use crate::keys::{has_local, has_remote, key_bytes, keys_of, takes_several};
+use crate::places::Places;
+use crate::{ActionList, ListAction};
+use exec_journal::{Group, Kind, Maker, Plan, PlanAction};
+use std::alloc::Global;
+use wire_fields::{Blob, Items, NoMemory, Text};
+
+const MAX_BERTHS: u32 = 48;
+
+/// The greatest number of berths a key, at most `instances`, with which all keys have at most 48.
+fn share(counts: &[u32], instances: u32) -> u32
+    requires few { length counts.now ≤ 4096 }
+    requires instances { instances ≤ 48 }
+    ensures { result ≡ share counts.now instances }
+{
+    let mut each = instances;
+    while each > 0 && berths_at(counts, each) > MAX_BERTHS {
+        each -= 1;
+    }
+    each
+}
+
+fn berths_at(counts: &[u32], each: u32) -> u32
+    requires few { length counts.now ≤ 4096 }
+    requires each { each ≤ 48 }
+    ensures { result ≡ berths_at counts.now each }
+{
+    let mut berths = 0;
+    for count in counts {
+        berths += each.min(*count);
+    }
+    berths
+}
+
+/// The keys of the actions with a local branch.
+fn local_keys(alloc: Global, actions: &[ListAction]) -> Result<Items<Option<Blob>>, NoMemory>
+    ensures { IfOk result (λ h. h ≡ map local_key actions.now) }
+{
+    let mut held = Vec::new(alloc);
+    for action in actions {
+        held.push(local_key(alloc, action)?)?;
+    }
+    Ok(Items::of(held))
+}
+
+fn local_key(alloc: Global, action: &ListAction) -> Result<Option<Blob>, NoMemory>
+    ensures { IfOk result (λ k. k ≡ local_key action.now) }
+{
+    if !has_local(action.strategy) {
+        return Ok(None);
+    }
+    let bytes = key_bytes(alloc, action)?;
+    Ok(Some(Blob::of(alloc, bytes)?))
+}
+
+fn is_key(key: &[u8], held: &Option<Blob>) -> bool
+    ensures { result ≡ is_key key.now held.now }
+{
+    match held {
+        None => false,
+        Some(bytes) => key == bytes.bytes(),
+    }
+}
+
+/// How many actions have the key.
+fn users(held: &[Option<Blob>], key: &[u8]) -> u32
+    requires { length held.now ≤ 4096 }
+    ensures { result ≡ users held.now key.now }
+{
+    let mut count = 0;
+    for one in held {
+        if is_key(key, one) {
+            count += 1;
+        }
+    }
+    count
+}
+
+fn all_users(alloc: Global, held: &[Option<Blob>], keys: &[Blob]) -> Result<Vec<u32>, NoMemory>
+    requires { length held.now ≤ 4096 }
+    ensures { IfOk result (λ v. v.items ≡ map (users held.now) keys.now) }
+{
+    let mut counts = Vec::new(alloc);
+    for key in keys {
+        counts.push(users(held, key.bytes()))?;
+    }
+    Ok(counts)
+}
+
+fn remote_users(actions: &[ListAction]) -> u32
+    requires { length actions.now ≤ 4096 }
+    ensures { result ≡ remote_users actions.now }
+{
+    let mut count = 0;
+    for action in actions {
+        if has_remote(action.strategy) {
+            count += 1;
+        }
+    }
+    count
+}
+
+fn first_user<'a>(
+    actions: &'a [ListAction],
+    held: &[Option<Blob>],
+    key: &[u8],
+) -> Option<&'a ListAction>
+    ensures { option_copied result ≡ first_user actions.now held.now key.now }
+{
+    match first_index(held, key) {
+        None => None,
+        Some(index) => actions.get(index),
+    }
+}
+
+fn first_index(held: &[Option<Blob>], key: &[u8]) -> Option<usize>
+    ensures { result ≡ position (is_key key.now) held.now }
+{
+    held.iter().position(|one| is_key(key, one))
+}
+
+fn key_group(actions: &[ListAction], held: &[Option<Blob>], each: u32, key: &[u8]) -> Group
+    requires { length held.now ≤ 4096 }
+    ensures { result ≡ key_group actions.now held.now each key.now }
+{
+    let berths = each.min(users(held, key));
+    match first_user(actions, held, key) {
+        None => Group {
+            kind: Kind::Single,
+            cancel: false,
+            berths,
+        },
+        Some(action) => Group {
+            kind: kind_of(action),
+            cancel: action.needs.cancel,
+            berths,
+        },
+    }
+}
+
+fn kind_of(action: &ListAction) -> Kind
+    ensures { result ≡ kind_of action.now }
+{
+    if takes_several(action.strategy, action.needs.multiplex) {
+        Kind::Multi
+    } else {
+        Kind::Single
+    }
+}
+
+fn groups_of(
+    alloc: Global,
+    actions: &[ListAction],
+    held: &[Option<Blob>],
+    keys: &[Blob],
+    instances: u32,
+    remote: u32,
+) -> Result<Items<Group>, NoMemory>
+    requires actions { length actions.now ≤ 4096 }
+    requires held { length held.now ≤ 4096 }
+    requires keys { length keys.now ≤ 4096 }
+    requires instances { instances ≤ 48 }
+    ensures { IfOk result
+        (λ g. g ≡ groups_of actions.now held.now keys.now instances remote) }
+{
+    let counts = all_users(alloc, held, keys)?;
+    let each = share(counts.as_slice(), instances);
+    let mut groups = Vec::new(alloc);
+    push_key_groups(&mut groups, actions, held, keys, each)?;
+    push_executor(&mut groups, remote.min(remote_users(actions)))?;
+    Ok(Items::of(groups))
+}
+
+fn push_key_groups(
+    groups: &mut Vec<Group>,
+    actions: &[ListAction],
+    held: &[Option<Blob>],
+    keys: &[Blob],
+    each: u32,
+) -> Result<(), NoMemory>
+    requires { length held.now ≤ 4096 }
+    ensures { OnOk result
+        (groups.new.items ≡ groups.old.items ++ map (key_group actions.now held.now each) keys.now) }
+{
+    for key in keys {
+        groups.push(key_group(actions, held, each, key.bytes()))?;
+    }
+    Ok(())
+}
+
+fn push_executor(groups: &mut Vec<Group>, berths: u32) -> Result<(), NoMemory>
+    ensures { OnOk result (groups.new.items ≡ groups.old.items ++ executor_groups berths) }
+{
+    if berths > 0 {
+        groups.push(Group {
+            kind: Kind::Remote,
+            cancel: false,
+            berths,
+        })?;
+    }
+    Ok(())
+}
+
+fn plan_actions(
+    alloc: Global,
+    actions: &[ListAction],
+    keys: &[Blob],
+) -> Result<Items<PlanAction>, NoMemory>
+    requires keys { length keys.now ≤ 4096 }
+    requires whole { IsWhole actions.now }
+    ensures { IfOk result (λ p. p ≡ plan_actions keys.now [] actions.now) }
+{
+    let mut places = Places::new(alloc);
+    let mut planned = Vec::new(alloc);
+    let mut number = 0;
+    for action in actions {
+        planned.push(plan_action(alloc, keys, &places, action)?)?;
+        note_outputs(alloc, &mut places, number, action)?;
+        number += 1;
+    }
+    Ok(Items::of(planned))
+}
+
+fn note_outputs(
+    alloc: Global,
+    places: &mut Places,
+    number: u32,
+    action: &ListAction,
+) -> Result<(), NoMemory>
+    requires { length action.now.outputs ≤ 256 }
+    ensures { (before : List ListAction) → KnowsPlaces places.old before → number ≡ length before
+        → OnOk result (KnowsPlaces places.new (before ++ action.now ∷ [])) }
+{
+    places.note_all(alloc, number, action.outputs.as_slice())
+}
+
+fn plan_action(
+    alloc: Global,
+    keys: &[Blob],
+    places: &Places,
+    action: &ListAction,
+) -> Result<PlanAction, NoMemory>
+    requires { length keys.now ≤ 4096 }
+    ensures { (before : List ListAction) → KnowsPlaces places.now before
+        → IfOk result (λ p. p ≡ plan_action keys.now before action.now) }
+{
+    Ok(PlanAction {
+        name: Text::copy_of(alloc, action.name.as_str())?,
+        outputs: texts_again(alloc, action.outputs.as_slice())?,
+        makers: makers_of(alloc, places, action.inputs.as_slice())?,
+        local: local_of(alloc, keys, action)?,
+        remote: remote_of(keys, action),
+    })
+}
+
+fn texts_again(alloc: Global, texts: &[Text]) -> Result<Items<Text>, NoMemory>
+    ensures { IfOk result (λ l. l ≡ texts.now) }
+{
+    let mut copies = Vec::new(alloc);
+    for text in texts {
+        copies.push(Text::copy_of(alloc, text.as_str())?)?;
+    }
+    Ok(Items::of(copies))
+}
+
+fn makers_of(alloc: Global, places: &Places, inputs: &[Text]) -> Result<Items<Maker>, NoMemory>
+    ensures { IfOk result (λ m. m ≡ filter_map (place_of places.now) inputs.now) }
+{
+    let mut makers = Vec::new(alloc);
+    for path in inputs {
+        if let Some(maker) = places.get(path.as_str()) {
+            makers.push(maker)?;
+        }
+    }
+    Ok(Items::of(makers))
+}
+
+fn local_of(alloc: Global, keys: &[Blob], action: &ListAction) -> Result<Option<u32>, NoMemory>
+    requires { length keys.now ≤ 4096 }
+    ensures { IfOk result (λ l. l ≡ local_of keys.now action.now) }
+{
+    let held = local_key(alloc, action)?;
+    Ok(number_of(keys, &held))
+}
+
+fn number_of(keys: &[Blob], held: &Option<Blob>) -> Option<u32>
+    requires { length keys.now ≤ 4096 }
+    ensures { result ≡ number_of keys.now held.now }
+{
+    match held {
+        None => None,
+        Some(bytes) => place_among(keys, bytes.bytes()),
+    }
+}
+
+fn place_among(keys: &[Blob], bytes: &[u8]) -> Option<u32>
+    requires { length keys.now ≤ 4096 }
+    ensures { result ≡ position (λ key. bytes_eq key bytes.now) keys.now }
+{
+    match index_among(keys, bytes) {
+        None => None,
+        Some(index) => Some(index as u32),
+    }
+}
+
+fn index_among(keys: &[Blob], bytes: &[u8]) -> Option<usize>
+    ensures place { result ≡ position (λ key. bytes_eq key bytes.now) keys.now }
+    ensures within { IfSome result (λ i. i < length keys.now) }
+{
+    keys.iter().position(|key| key.bytes() == bytes)
+}
+
+fn remote_of(keys: &[Blob], action: &ListAction) -> Option<u32>
+    requires { length keys.now ≤ 4096 }
+    ensures { result ≡ remote_of keys.now action.now }
+{
+    if has_remote(action.strategy) {
+        Some(keys.len() as u32)
+    } else {
+        None
+    }
+}
+
+/// The plan of a list: its groups of workers with their berths, and the branches of each action.
+///
+/// Each worker key is a group, in the order of the keys' first actions, and so is the executor where an
+/// action has a remote branch. A key has at most `instances` berths and at most as many as it has
+/// actions; where all keys would then have more than 48, the number for each is lowered until they don't.
+/// The executor has at most `remote` berths and at most as many as there are actions with a remote
+/// branch. A branch has `1 + retries` attempts.
+///
+/// # Errors
+///
+/// `NoMemory` where the plan finds no memory.
+#[tactic(auto, unfolding(crate::specs::Plans::plan_of))]
+pub fn plan(
+    alloc: Global,
+    list: &ActionList,
+    instances: u32,
+    remote: u32,
+    retries: u32,
+) -> Result<Plan, NoMemory>
+    requires whole { IsWhole list.now.actions }
+    requires instances { instances ≤ 48 }
+    requires remote { remote ≤ 16 }
+    requires retries { retries ≤ 9 }
+    ensures plan { IfOk result (λ p. p ≡ plan_of list.now.actions instances remote retries) }
+{
+    let actions = list.actions.as_slice();
+    let keys = keys_of(alloc, actions)?;
+    let held = local_keys(alloc, actions)?;
+    Ok(Plan {
+        actions: plan_actions(alloc, actions, keys.as_slice())?,
+        groups: groups_of(
+            alloc,
+            actions,
+            held.as_slice(),
+            keys.as_slice(),
+            instances,
+            remote,
+        )?,
+        limit: retries + 1,
+    })
+}

@@ -1,0 +1,144 @@
+//! Which texts are paths of the tree that a run works in: relative, in one spelling, and inside the tree.
+#![tactic(auto)]
+
+ghost use Rattle.std.specs.Prelude.{◌≡◌};
+ghost use Rattle.path_rules.specs.Paths.{checked, path_fault, has_segment, has_fault};
+
+use thiserror::Error;
+
+/// The most bytes that a path may have.
+const MAX_PATH: usize = 4096;
+
+/// What is wrong with a path. The faults stand in the order in which they are looked for.
+#[derive(Clone, Copy, Debug, PartialEq, Eq, Error)]
+pub enum PathFault {
+    #[error("the path is empty")]
+    Empty,
+    #[error("the path is longer than 4096 bytes")]
+    TooLong,
+    #[error("the path has a zero byte")]
+    Nul,
+    #[error("the path begins with a slash")]
+    Absolute,
+    #[error("the path has an empty segment")]
+    DoubleSlash,
+    #[error("the path has a segment `.`")]
+    Dot,
+    #[error("the path has a segment `..`")]
+    DotDot,
+    #[error("the path's first segment is `__sandbox`")]
+    Reserved,
+}
+
+/// Looks for the faults of a path, in the order of `PathFault`. It takes no memory.
+///
+/// # Errors
+///
+/// The first fault that the path has. A path is one or more segments with one slash between two
+/// of them, at most 4,096 bytes long. No segment is empty, `.` or `..`, the first isn't
+/// `__sandbox`, and no byte is zero.
+pub fn check_path(path: &str) -> Result<(), PathFault>
+    ensures { result ≡ checked (path_fault path.now) }
+{
+    if path.is_empty() {
+        return Err(PathFault::Empty);
+    }
+    if path.len() > MAX_PATH {
+        return Err(PathFault::TooLong);
+    }
+    if has_nul(path) {
+        return Err(PathFault::Nul);
+    }
+    if is_absolute(path) {
+        return Err(PathFault::Absolute);
+    }
+    if has_segment(path, "") {
+        return Err(PathFault::DoubleSlash);
+    }
+    if has_segment(path, ".") {
+        return Err(PathFault::Dot);
+    }
+    if has_segment(path, "..") {
+        return Err(PathFault::DotDot);
+    }
+    if is_reserved(path) {
+        return Err(PathFault::Reserved);
+    }
+    Ok(())
+}
+
+fn has_nul(path: &str) -> bool
+    ensures { result ≡ has_fault path.now PathFault.Nul }
+{
+    path.as_bytes().contains(&0)
+}
+
+fn is_absolute(path: &str) -> bool
+    ensures { result ≡ has_fault path.now PathFault.Absolute }
+{
+    path.starts_with("/")
+}
+
+fn has_segment(path: &str, segment: &str) -> bool
+    ensures { result ≡ has_segment segment.now path.now }
+{
+    path.split('/').any(|s| s == segment)
+}
+
+fn is_reserved(path: &str) -> bool
+    ensures { result ≡ has_fault path.now PathFault.Reserved }
+{
+    let first = match path.split_once('/') {
+        Some((first, _)) => first,
+        None => path,
+    };
+    first == "__sandbox"
+}
+
+#[cfg(test)]
+mod tests {
+    use super::*;
+    use std::test::Fail;
+
+    // Each value was taken from the rules by hand, before the code ran.
+    #[test]
+    fn paths_and_their_faults(rt: HostRuntime) -> Result<(), Fail> {
+        let rows = [
+            ("a", Ok(())),
+            ("a/b.c", Ok(())),
+            ("...", Ok(())),
+            (".a/b..", Ok(())),
+            ("a/__sandbox", Ok(())),
+            ("__sandbox2", Ok(())),
+            ("__sandbo", Ok(())),
+            (" ", Ok(())),
+            ("\u{e4}/\u{10348}", Ok(())),
+            ("a\\b", Ok(())),
+            ("", Err(PathFault::Empty)),
+            ("a\0b", Err(PathFault::Nul)),
+            ("/\0", Err(PathFault::Nul)),
+            ("/", Err(PathFault::Absolute)),
+            ("/a", Err(PathFault::Absolute)),
+            ("//a", Err(PathFault::Absolute)),
+            ("a/", Err(PathFault::DoubleSlash)),
+            ("a//b", Err(PathFault::DoubleSlash)),
+            ("../a/", Err(PathFault::DoubleSlash)),
+            ("./a", Err(PathFault::Dot)),
+            ("a/.", Err(PathFault::Dot)),
+            ("../.", Err(PathFault::Dot)),
+            ("..", Err(PathFault::DotDot)),
+            ("a/../b", Err(PathFault::DotDot)),
+            ("__sandbox/..", Err(PathFault::DotDot)),
+            ("__sandbox", Err(PathFault::Reserved)),
+            ("__sandbox/1/o", Err(PathFault::Reserved)),
+        ];
+        for (path, expected) in rows.iter() {
+            assert_eq!(rt; check_path(path), *expected, "at {path:?}");
+        }
+        let longest = "a".repeat(rt.alloc(), 4096)?;
+        assert_eq!(rt; check_path(longest.as_str()), Ok(()));
+        let longer = "/".repeat(rt.alloc(), 4097)?;
+        assert_eq!(rt; check_path(longer.as_str()), Err(PathFault::TooLong));
+        Ok(())
+    }
+}

@@ -1,0 +1,11 @@
+//! Worker keys: which actions may share a worker, and the bytes and the name that stand for a key.
+#![tactic(auto)]
+
+mod key;
+mod making;
+mod written;
+
+pub use key::{KeyParts, Mode, Named, Tool, WorkerKey};
+
+#[cfg(test)]
+mod tests;

@@ -1,0 +1,72 @@
+ghost use Rattle.std.specs.Prelude.{◌≡◌, IfOk, map};
+ghost use Rattle.worker_key.specs.Keys.{digest_text, key_of, named_tool};
+
+use crate::{KeyParts, Named, Tool, WorkerKey};
+use hex::encode;
+use sha2::{Digest, Sha256};
+use std::alloc::Global;
+use wire_fields::{Items, NoMemory, Text};
+
+impl WorkerKey {
+    /// The key of these parts, with the digest of each tool in place of its bytes.
+    ///
+    /// # Errors
+    ///
+    /// `NoMemory` where the copies find no memory.
+    pub fn of(alloc: Global, parts: &KeyParts) -> Result<WorkerKey, NoMemory>
+        ensures { IfOk result (λ k. k ≡ key_of parts.now) }
+    {
+        Ok(WorkerKey {
+            mnemonic: Text::copy_of(alloc, parts.mnemonic.as_str())?,
+            startup: texts_again(alloc, parts.startup.as_slice())?,
+            env: named_again(alloc, parts.env.as_slice())?,
+            tools: tools_named(alloc, parts.tools.as_slice())?,
+            json: parts.json,
+            mode: parts.mode,
+            cancel: parts.cancel,
+        })
+    }
+}
+
+fn texts_again(alloc: Global, texts: &[Text]) -> Result<Items<Text>, NoMemory>
+    ensures { IfOk result (λ l. l ≡ texts.now) }
+{
+    let mut copies = Vec::new(alloc);
+    for text in texts {
+        copies.push(Text::copy_of(alloc, text.as_str())?)?;
+    }
+    Ok(Items::of(copies))
+}
+
+fn named_again(alloc: Global, pairs: &[Named]) -> Result<Items<Named>, NoMemory>
+    ensures { IfOk result (λ l. l ≡ pairs.now) }
+{
+    let mut copies = Vec::new(alloc);
+    for pair in pairs {
+        copies.push(Named {
+            name: Text::copy_of(alloc, pair.name.as_str())?,
+            value: Text::copy_of(alloc, pair.value.as_str())?,
+        })?;
+    }
+    Ok(Items::of(copies))
+}
+
+fn tools_named(alloc: Global, tools: &[Tool]) -> Result<Items<Named>, NoMemory>
+    ensures { IfOk result (λ l. l ≡ map named_tool tools.now) }
+{
+    let mut named = Vec::new(alloc);
+    for tool in tools {
+        named.push(Named {
+            name: Text::copy_of(alloc, tool.path.as_str())?,
+            value: digest_of(alloc, tool.bytes.bytes())?,
+        })?;
+    }
+    Ok(Items::of(named))
+}
+
+/// The digits of the digest of these bytes.
+pub fn digest_of(alloc: Global, bytes: &[u8]) -> Result<Text, NoMemory>
+    ensures { IfOk result (λ t. t ≡ digest_text bytes.now) }
+{
+    Ok(Text::of(encode(alloc, Sha256::digest(bytes))?))
+}
