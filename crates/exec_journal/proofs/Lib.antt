@@ -1,1 +1,3 @@
 pub mod rows
+pub mod Histories
+pub mod Ruled
