@@ -1,8 +1,10 @@
 -- What follows from the words on histories: an entry that they found stands there, and where no entry fits they find none.
 use Rattle.std.proofs.Common.{◌≡◌, Bool, true, false, ◌||◌, cond, List, [], ◌∷◌, Option, Some, None, ◌⊎◌, inl, inr, refl, ap, sym, subst, ◌∙◌}
+use Rattle.std.specs.List.{filter, find}
 use Rattle.std.proofs.lemmas.Bool.{or_cases}
 use Rattle.exec_journal.specs.declared.journal.Entry.{Entry}
 use Rattle.exec_journal.specs.History.{or_else, unless_before, and_more, ever, latest, first, each, AtEach}
+use Rattle.exec_journal.specs.Rules.{head, oldest}
 
 -- it holds of some entry, with what came before it
 abbrev pub AtSome : (List Entry → Entry → Type 0) → List Entry → Type 0
@@ -72,3 +74,42 @@ latest_none f (e ∷ j) all = rw all.1 (latest_none f j all.0)
 pub each_none : {X : Type 0} (f : List Entry → Entry → Option X) (j : List Entry) → AtEach (λ k e. f k e ≡ None) j → each f j ≡ []
 each_none f [] all = refl
 each_none f (e ∷ j) all = rw all.1 (each_none f j all.0)
+
+-- ---- lists
+
+-- it holds of each element
+abbrev pub AllOf : {X : Type 0} → (X → Type 0) → List X → Type 0
+AllOf P [] = Unit {0}
+AllOf P (x ∷ xs) = P x × AllOf P xs
+
+pub all_filter : {X : Type 0} (P : X → Type 0) (test : X → Bool) (xs : List X) → AllOf P xs → AllOf P (filter test xs)
+all_filter P test [] all = tt
+all_filter P test (x ∷ xs) all =
+    elim (test x) as (λ b. AllOf P (cond b (x ∷ filter test xs) (filter test xs))) [
+      | true ↦ (all.0, all_filter P test xs all.1)
+      | false ↦ all_filter P test xs all.1
+    ]
+
+pub all_oldest : {X : Type 0} (P : X → Type 0) (xs : List X) (x : X) → AllOf P xs → oldest xs ≡ Some x → P x
+all_oldest P [] x all h = absurd (cc)
+all_oldest P (y ∷ ys) x all h = elim (or_some (oldest ys) (Some y) x h) [ inl later ↦ all_oldest P ys x all.1 later | inr here ↦ (let e : y ≡ x = cc in subst P e all.0) ]
+
+pub all_head : {X : Type 0} (P : X → Type 0) (xs : List X) (x : X) → AllOf P xs → head xs ≡ Some x → P x
+all_head P [] x all h = absurd (cc)
+all_head P (y ∷ ys) x all h = let e : y ≡ x = cc in subst P e all.0
+
+pub all_find : {X : Type 0} (P : X → Type 0) (test : X → Bool) (xs : List X) (x : X) → AllOf P xs → find test xs ≡ Some x → P x
+all_find P test [] x all h = absurd (cc)
+all_find P test (y ∷ ys) x all h =
+    elim (test y) as (λ b. cond b (Some y) (find test ys) ≡ Some x → P x) [
+      | true ↦ λ k. (let e : y ≡ x = cc in subst P e all.0)
+      | false ↦ λ k. all_find P test ys x all.1 k
+    ] h
+
+all_more : {X : Type 0} (P : X → Type 0) (o : Option X) (xs : List X) → ((x : X) → o ≡ Some x → P x) → AllOf P xs → AllOf P (and_more o xs)
+all_more P None xs g all = all
+all_more P (Some x) xs g all = (g x refl, all)
+
+pub all_each : {X : Type 0} (P : X → Type 0) (f : List Entry → Entry → Option X) → ((j : List Entry) (e : Entry) (x : X) → f j e ≡ Some x → P x) → (j : List Entry) → AllOf P (each f j)
+all_each P f h [] = tt
+all_each P f h (e ∷ j) = all_more P (f j e) (each f j) (λ x g. h j e x g) (all_each P f h j)

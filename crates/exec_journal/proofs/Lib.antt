@@ -1,3 +1,4 @@
 pub mod rows
 pub mod Histories
 pub mod Ruled
+pub mod Lines

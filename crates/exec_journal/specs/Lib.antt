@@ -13,3 +13,4 @@ pub mod Kept
 pub mod Accounted
 pub mod Clean
 pub mod Outcomes
+pub mod Facts
