@@ -4,3 +4,4 @@ pub mod Ruled
 pub mod Lines
 pub mod Fresh
 pub mod Quiet
+pub mod Begins

@@ -132,7 +132,7 @@ if_some : (b : Bool) (o : Option Reply) (x : Reply) → cond b o None ≡ Some x
 if_some true o x h = (refl, h)
 if_some false o x h = cc
 
-not_true : (b : Bool) → not b ≡ true → b ≡ false
+pub not_true : (b : Bool) → not b ≡ true → b ≡ false
 not_true true h = cc
 not_true false h = refl
 
