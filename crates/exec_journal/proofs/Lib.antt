@@ -5,3 +5,5 @@ pub mod Lines
 pub mod Fresh
 pub mod Quiet
 pub mod Begins
+pub mod Scanned
+pub mod Tracks

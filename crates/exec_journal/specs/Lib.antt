@@ -14,3 +14,4 @@ pub mod Accounted
 pub mod Clean
 pub mod Outcomes
 pub mod Facts
+pub mod Scans
