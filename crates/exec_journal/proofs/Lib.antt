@@ -7,3 +7,4 @@ pub mod Quiet
 pub mod Begins
 pub mod Scanned
 pub mod Tracks
+pub mod Judged

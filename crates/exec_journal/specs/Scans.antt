@@ -4,6 +4,10 @@ use Rattle.std.specs.Option.{option_or}
 use Rattle.exec_journal.specs.declared.plan.Branch.{Branch}
 use Rattle.exec_journal.specs.declared.attempt.Attempt.{Attempt}
 use Rattle.exec_journal.specs.declared.ends.Cause.{Cause}
+use Rattle.exec_journal.specs.declared.ends.Outcome.{Outcome}
+use Rattle.exec_journal.specs.declared.ends.Outcome.TheVariants as outcome
+use Rattle.exec_journal.specs.declared.ends.Standing.{Standing}
+use Rattle.exec_journal.specs.declared.ends.Standing.TheVariants.{Without}
 use Rattle.exec_journal.specs.declared.journal.Entry.{Entry}
 use Rattle.exec_journal.specs.declared.call.Call.{Call}
 use Rattle.exec_journal.specs.declared.call.Found.{Found}
@@ -17,8 +21,10 @@ use Rattle.exec_journal.specs.declared.grant.Prize.TheVariants as prize
 use Rattle.exec_journal.specs.declared.track.Track.{Track}
 use Rattle.exec_journal.specs.History.{or_else}
 use Rattle.exec_journal.specs.Entries.{is_look, is_halt, is_for, consumed_in, granted_in, send_of_entry}
-use Rattle.exec_journal.specs.Words.{last_work, has_ended, answered, wrote, wrote_if, says_feed_fault, line_cause, granted, of_action}
+use Rattle.exec_journal.specs.Words.{last_work, has_ended, answered, wrote, wrote_if, says_feed_fault, line_cause, granted, of_action, commit_of}
 use Rattle.exec_journal.specs.Attempts.{carrier_in, line_of, fault_by, fault_of, end_of}
+use Rattle.exec_journal.specs.Settled.{by_commit}
+use Rattle.exec_journal.specs.Outcomes.{commit_outcome}
 
 -- an entry of the lane that is neither a Look nor a Halt
 abbrev pub is_work : ℕ → Entry → Bool
@@ -86,3 +92,15 @@ pub record IsTrack (k : Track) (j : List Entry) (t : Attempt) : Type 0 where
   pub write : k.wrote ≡ wrote j t
   pub own : k.fault ≡ fault_of j t
   pub finish : end_now k (granted j t.action) (ended_line j k.line) ≡ end_of j t
+
+-- ---- by a grant in short
+
+abbrev pub standing_by : List Entry → Attempt → Prize → Option Standing
+standing_by j t (prize.Exit n) = Some Without
+standing_by j t prize.Files = by_commit (commit_of j t.action t.branch)
+standing_by j t prize.Nothing = None
+
+abbrev pub outcome_by : List Entry → Attempt → Prize → Option Outcome
+outcome_by j t (prize.Exit n) = Some (outcome.Failed t.branch n)
+outcome_by j t prize.Files = commit_outcome t.branch (commit_of j t.action t.branch)
+outcome_by j t prize.Nothing = None
