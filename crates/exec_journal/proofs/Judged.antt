@@ -18,7 +18,7 @@ use Rattle.exec_journal.specs.Entries.{attempt_of}
 use Rattle.exec_journal.specs.Words.{grant_of, commit_of, ever_sent}
 use Rattle.exec_journal.specs.Attempts.{end_of, ended, dropped}
 use Rattle.exec_journal.specs.Settled.{group_of, all_dropped, is_starved, is_success, standing_after, standings_from, standings}
-use Rattle.exec_journal.specs.Outcomes.{grant_outcome, lesser, least_without, skipped, outcome_after, outcome_of, is_winner, won_or_spoiled, lost_fate, fate_after, fate_of}
+use Rattle.exec_journal.specs.Outcomes.{grant_outcome, lesser, least_without, skipped, outcome_after, outcome_of, is_ok, is_some_ok, is_winner, won_or_spoiled, lost_fate, fate_after, fate_of}
 
 pub dropped_end : (p : Plan) (j : List Entry) (a : ℕ) (b : Branch) → is_some (end_of j (attempt_of a b p.limit)) ≡ dropped p j a b
 unfolding dropped ended
@@ -35,6 +35,25 @@ fate_read p j a b x lt is = ap (λ (o : Option PlanAction). unwrap_or (option_ma
 pub outcome_read : (p : Plan) (j : List Entry) (a : ℕ) (x : PlanAction) → a < length p.actions → x ≡ get_or p.actions a x → outcome_of p j a ≡ outcome_after p j a x (standings p j)
 unfolding outcome_of
 outcome_read p j a x lt is = ap (λ (o : Option PlanAction). unwrap_or (option_map (λ y. outcome_after p j a y (standings p j)) o) outcome.Unsettled) (slice_get_read p.actions (length p.actions) a x refl lt is)
+
+-- only a grant makes a success
+unskipped : (standings : List Standing) (x : PlanAction) → is_ok (skipped standings x) ≡ false
+unskipped standings x = by (least_without standings x.makers)
+  where
+    by : (o : Option ℕ) → is_ok (unwrap_or (option_map (λ m. outcome.Skipped m) o) outcome.Unsettled) ≡ false
+    by None = refl
+    by (Some m) = refl
+
+success_by : (o : Option Outcome) (d s : Bool) (standings : List Standing) (x : PlanAction)
+    → is_ok (unwrap_or o (cond d outcome.Dropped (cond s (skipped standings x) outcome.Unsettled))) ≡ is_some_ok o
+success_by (Some v) d s standings x = refl
+success_by None true s standings x = refl
+success_by None false true standings x = unskipped standings x
+success_by None false false standings x = refl
+
+pub success_read : (p : Plan) (j : List Entry) (a : ℕ) (x : PlanAction) → a < length p.actions → x ≡ get_or p.actions a x
+    → is_ok (outcome_of p j a) ≡ is_some_ok (grant_outcome j (grant_of j a))
+success_read p j a x lt is = ap is_ok (outcome_read p j a x lt is) ∙ success_by (grant_outcome j (grant_of j a)) (all_dropped p j a x) (is_starved x (standings p j)) (standings p j) x
 
 -- ---- the standings, one after the other
 
@@ -98,3 +117,12 @@ pub least_all : (standings : List Standing) (makers : List Maker) (i : ℕ) (lea
     → lesser least (least_without standings (drop i makers)) ≡ whole → least ≡ whole
 least_all standings makers i least whole le h =
     sym (ap (λ (ms : List Maker). lesser least (least_without standings ms)) (drop_all i makers le) ∙ lesser_none least) ∙ h
+
+-- some action is at each place below the length
+pub is_there : (xs : List PlanAction) (i : ℕ) → i < length xs → (x : PlanAction) × (x ≡ get_or xs i x)
+is_there [] i lt = absurd (omega arith)
+is_there (x ∷ xs) zero lt = (x, refl)
+is_there (x ∷ xs) (suc i) lt = is_there xs i (omega arith)
+
+pub success_at : (p : Plan) (j : List Entry) (a : ℕ) → a < length p.actions → is_some_ok (grant_outcome j (grant_of j a)) ≡ is_ok (outcome_of p j a)
+success_at p j a lt = let x = is_there p.actions a lt in sym (success_read p j a x.0 lt x.1)

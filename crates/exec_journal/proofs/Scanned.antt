@@ -8,7 +8,7 @@ use Rattle.exec_journal.specs.declared.ends.Cause.{Cause}
 use Rattle.exec_journal.specs.declared.journal.Entry.{Entry}
 use Rattle.exec_journal.specs.History.{or_else, unless_before, ever, latest, first}
 use Rattle.exec_journal.specs.Entries.{is_for, consumed_in, send_in, ends, committed_in}
-use Rattle.exec_journal.specs.Words.{last_work, work_at, answered, has_ended, line_cause, break_at, ever_sent, is_of_branch, grant_of, commit_of}
+use Rattle.exec_journal.specs.Words.{last_work, work_at, answered, has_ended, line_cause, break_at, ever_sent, is_of_branch, grant_of, commit_of, match_at, match_of}
 use Rattle.exec_journal.specs.Scans.{is_work, front, grants, ended_line}
 
 -- the front with one more entry
@@ -143,6 +143,10 @@ grant_found es a o h = ap (option_and_then (grants a)) h ∙ sym (first_find (gr
 pub commit_found : (es : List Entry) (a : ℕ) (b : Branch) (o : Option Entry) → o ≡ find (λ e. is_some (committed_in a b e.call)) es → option_and_then (λ e. committed_in a b e.call) o ≡ commit_of (reverse es) a b
 unfolding commit_of
 commit_found es a b o h = ap (option_and_then (λ e. committed_in a b e.call)) h ∙ sym (first_find (λ e. committed_in a b e.call) es)
+
+pub match_found : (es : List Entry) (t : Attempt) (o : Option Entry) → o ≡ find (λ e. is_some (match_at t e.call e.reply)) es → option_and_then (λ e. match_at t e.call e.reply) o ≡ match_of (reverse es) t
+unfolding match_of
+match_found es t o h = ap (option_and_then (λ e. match_at t e.call e.reply)) h ∙ sym (first_find (λ e. match_at t e.call e.reply) es)
 
 pub ended_line_some : (es : List Entry) (l : ℕ) (o : Option ℕ) → o ≡ Some l → list_any (λ e. ends l e.call) es ≡ true → ended_line (reverse es) o ≡ line_cause (reverse es) l
 ended_line_some es l o is h = ap (ended_line (reverse es)) is ∙ ap (λ b. cond b (line_cause (reverse es) l) None) (sym (has_ended_any es l) ∙ h)

@@ -60,6 +60,14 @@ outcome_after p j a x standings =
 unfoldable pub outcome_of : Plan → List Entry → ℕ → Outcome
 outcome_of p j a = unwrap_or (option_map (λ x. outcome_after p j a x (standings p j)) (slice_get p.actions a)) outcome.Unsettled
 
+abbrev pub is_ok : Outcome → Bool
+is_ok (outcome.Success b) = true
+is_ok _ = false
+
+abbrev pub is_some_ok : Option Outcome → Bool
+is_some_ok (Some o) = is_ok o
+is_some_ok None = false
+
 -- ---- fate
 
 -- the branch was granted

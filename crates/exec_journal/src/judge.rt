@@ -1,15 +1,15 @@
 // How an action and its branches end.
-ghost use Rattle.std.specs.Prelude.{◌≡◌, ◌<◌, ◌≤◌, length, reverse, take, slice_get, if◌then◌else◌};
+ghost use Rattle.std.specs.Prelude.{◌≡◌, ◌<◌, ◌≤◌, length, reverse, take, slice_get, option_copied, if◌then◌else◌};
 ghost use Rattle.std.specs.List.{list_any};
 ghost use Rattle.exec_journal.specs.Words.{grant_of};
 ghost use Rattle.exec_journal.specs.Attempts.{dropped};
 ghost use Rattle.exec_journal.specs.Settled.{group_of, by_commit, by_grant, all_dropped, unused_or_dropped, is_success, is_without, is_starved, standing_after, standings};
 ghost use Rattle.exec_journal.specs.Sound.{Sound};
-ghost use Rattle.exec_journal.specs.Outcomes.{grant_outcome, commit_outcome, least_without, skipped, outcome_after, outcome_of, won_or_spoiled, lost_fate, fate_after, fate_of, is_winner, lesser};
+ghost use Rattle.exec_journal.specs.Outcomes.{grant_outcome, commit_outcome, least_without, skipped, outcome_after, outcome_of, won_or_spoiled, lost_fate, fate_after, fate_of, is_ok, is_some_ok, is_winner, lesser, winning_answer};
 
 use crate::grant::Prize;
-use crate::scan::{commit, end, ever_sent, grant};
-use crate::{Attempt, Branch, Cause, CommitEnd, Entry, Fate, Journal, Maker, Outcome, Plan, PlanAction, Standing};
+use crate::scan::{commit, end, ever_sent, grant, matched};
+use crate::{Answer, Attempt, Branch, Cause, CommitEnd, Entry, Fate, Journal, Maker, Outcome, Plan, PlanAction, Standing};
 
 /// The outcome of the action, by the journal. It takes no memory: it looks through the journal for each
 /// action on which this one may depend.
@@ -30,6 +30,31 @@ pub fn fate(plan: &Plan, j: &Journal, action: u32, branch: Branch) -> Fate
 {
     let work = &plan.actions.as_slice()[action as usize];
     fate_in(plan, j.entries(), action, branch, group(work, branch))
+}
+
+/// The action's outcome is a success. It takes no memory, and goes through the journal a few times.
+pub fn has_success(plan: &Plan, j: &Journal, action: u32) -> bool
+    requires { action < length plan.now.actions }
+    ensures { result ≡ is_ok (outcome_of plan.now (reverse j.now) action) }
+{
+    is_won(granted_outcome(j.entries(), action))
+}
+
+fn is_won(outcome: Option<Outcome>) -> bool
+    ensures { result ≡ is_some_ok outcome }
+{
+    matches!(outcome, Some(Outcome::Success(_)))
+}
+
+/// The answer by which the action was won: the one that was matched with the attempt that was granted.
+pub fn winning_answer(j: &Journal, action: u32) -> Option<&Answer>
+    ensures { option_copied result ≡ winning_answer (reverse j.now) (grant_of (reverse j.now) action) }
+{
+    let entries = j.entries();
+    match grant(entries, action) {
+        Some(grant) => matched(entries, grant.attempt),
+        None => None,
+    }
 }
 
 fn outcome_in(plan: &Plan, entries: &[Entry], action: u32, work: &PlanAction) -> Outcome
