@@ -38,7 +38,7 @@ pub fn outcome_text(alloc: Global, plan: &Plan, outcome: Outcome) -> Result<Stri
     Ok(text)
 }
 
-fn action_name(plan: &Plan, action: u32) -> &str
+pub fn action_name(plan: &Plan, action: u32) -> &str
     ensures { result.now ≡ name_of plan.now action }
 {
     match plan.actions.as_slice().get(action as usize) {

@@ -1,13 +1,14 @@
 -- Outcome and fate, case by case.
-use Rattle.std.proofs.Common.{◌≡◌, ℕ, zero, suc, ◌+◌, ◌<◌, ◌≤◌, Bool, true, false, ◌||◌, cond, List, [], ◌∷◌, ◌++◌, length, get_or, take, drop, set, min, Option, Some, None, is_some, is_none, option_map, unwrap_or, refl, ap, sym, subst, ◌∙◌, arith}
+use Rattle.std.proofs.Common.{◌≡◌, ℕ, zero, suc, ◌+◌, ◌<◌, ◌≤◌, Bool, true, false, ◌||◌, cond, List, [], ◌∷◌, ◌++◌, length, get_or, take, drop, set, min, Option, Some, None, is_some, is_none, option_map, unwrap_or, refl, ap, sym, subst, ◌∙◌, add-one, arith}
 use Rattle.std.specs.Prelude.{slice_get}
 use Rattle.std.proofs.lemmas.Option.{slice_get_read}
-use Rattle.std.proofs.lemmas.List.{drop_more, take_more_set, take_all, drop_all, length-take-le}
+use Rattle.std.proofs.lemmas.List.{append-nil, append_assoc, drop_more, take_more_set, take_all, drop_all, length-take-le}
 use Rattle.exec_journal.specs.declared.plan.Branch.{Branch}
 use Rattle.exec_journal.specs.declared.plan.Maker.{Maker}
 use Rattle.exec_journal.specs.declared.plan.Plan.{Plan}
 use Rattle.exec_journal.specs.declared.plan.PlanAction.{PlanAction}
 use Rattle.exec_journal.specs.declared.attempt.Attempt.{Attempt}
+use Rattle.exec_journal.specs.declared.ends.ActionEnd.{ActionEnd}
 use Rattle.exec_journal.specs.declared.ends.Fate.{Fate}
 use Rattle.exec_journal.specs.declared.ends.Fate.TheVariants as fate
 use Rattle.exec_journal.specs.declared.ends.Outcome.{Outcome}
@@ -18,6 +19,7 @@ use Rattle.exec_journal.specs.Entries.{attempt_of}
 use Rattle.exec_journal.specs.Words.{grant_of, commit_of, ever_sent}
 use Rattle.exec_journal.specs.Attempts.{end_of, ended, dropped}
 use Rattle.exec_journal.specs.Settled.{group_of, all_dropped, is_starved, is_success, standing_after, standings_from, standings}
+use Rattle.exec_journal.specs.Ends.{action_end, ends_from, ends_of}
 use Rattle.exec_journal.specs.Outcomes.{grant_outcome, lesser, least_without, skipped, outcome_after, outcome_of, is_ok, is_some_ok, is_winner, won_or_spoiled, lost_fate, fate_after, fate_of}
 
 pub dropped_end : (p : Plan) (j : List Entry) (a : ℕ) (b : Branch) → is_some (end_of j (attempt_of a b p.limit)) ≡ dropped p j a b
@@ -126,3 +128,23 @@ is_there (x ∷ xs) (suc i) lt = is_there xs i (omega arith)
 
 pub success_at : (p : Plan) (j : List Entry) (a : ℕ) → a < length p.actions → is_some_ok (grant_outcome j (grant_of j a)) ≡ is_ok (outcome_of p j a)
 success_at p j a lt = let x = is_there p.actions a lt in sym (success_read p j a x.0 lt x.1)
+
+-- ---- the ends, one after the other
+
+pub ends_start : (p : Plan) (j : List Entry) → ends_from p j 0 p.actions ≡ ends_of p j
+unfolding ends_of
+ends_start p j = refl
+
+pub ends_step : (p : Plan) (j : List Entry) (xs whole : List ActionEnd) (a : ℕ) (e : ActionEnd) → a < length p.actions → e ≡ action_end p j a
+    → xs ++ ends_from p j a (drop a p.actions) ≡ whole → (xs ++ e ∷ []) ++ ends_from p j (a + 1) (drop (a + 1) p.actions) ≡ whole
+ends_step p j xs whole a e lt is h =
+    let x = is_there p.actions a lt in
+    let rest : drop a p.actions ≡ x.0 ∷ drop (a + 1) p.actions = (drop_more p.actions a x.0 lt ∙ ap (λ (y : PlanAction). y ∷ drop (a + 1) p.actions) (sym x.1)) in
+    append_assoc xs (e ∷ []) (ends_from p j (a + 1) (drop (a + 1) p.actions))
+    ∙ ap (λ (y : ActionEnd). xs ++ (y ∷ ends_from p j (a + 1) (drop (a + 1) p.actions))) is
+    ∙ ap (λ n. xs ++ (action_end p j a ∷ ends_from p j n (drop (a + 1) p.actions))) (add-one a)
+    ∙ sym (ap (λ (ys : List PlanAction). xs ++ ends_from p j a ys) rest)
+    ∙ h
+
+pub ends_all : (p : Plan) (j : List Entry) (xs whole : List ActionEnd) (a : ℕ) → length p.actions ≤ a → xs ++ ends_from p j a (drop a p.actions) ≡ whole → xs ≡ whole
+ends_all p j xs whole a le h = sym (ap (λ (ys : List PlanAction). xs ++ ends_from p j a ys) (drop_all a p.actions le) ∙ append-nil xs) ∙ h

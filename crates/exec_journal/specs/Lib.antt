@@ -13,5 +13,6 @@ pub mod Kept
 pub mod Accounted
 pub mod Clean
 pub mod Outcomes
+pub mod Ends
 pub mod Facts
 pub mod Scans

@@ -1,15 +1,19 @@
 // How an action and its branches end.
-ghost use Rattle.std.specs.Prelude.{◌≡◌, ◌<◌, ◌≤◌, length, reverse, take, slice_get, option_copied, if◌then◌else◌};
+ghost use Rattle.std.specs.Prelude.{◌≡◌, ◌<◌, ◌≤◌, length, reverse, take, slice_get, option_copied, IfOk, if◌then◌else◌};
 ghost use Rattle.std.specs.List.{list_any};
 ghost use Rattle.exec_journal.specs.Words.{grant_of};
 ghost use Rattle.exec_journal.specs.Attempts.{dropped};
 ghost use Rattle.exec_journal.specs.Settled.{group_of, by_commit, by_grant, all_dropped, unused_or_dropped, is_success, is_without, is_starved, standing_after, standings};
+ghost use Rattle.exec_journal.specs.Ends.{action_end, ends_of};
 ghost use Rattle.exec_journal.specs.Sound.{Sound};
 ghost use Rattle.exec_journal.specs.Outcomes.{grant_outcome, commit_outcome, least_without, skipped, outcome_after, outcome_of, won_or_spoiled, lost_fate, fate_after, fate_of, is_ok, is_some_ok, is_winner, lesser, winning_answer};
 
+use std::alloc::Global;
+use wire_fields::NoMemory;
+
 use crate::grant::Prize;
 use crate::scan::{commit, end, ever_sent, grant, matched};
-use crate::{Answer, Attempt, Branch, Cause, CommitEnd, Entry, Fate, Journal, Maker, Outcome, Plan, PlanAction, Standing};
+use crate::{ActionEnd, Answer, Attempt, Branch, Cause, CommitEnd, Entry, Fate, Journal, Maker, Outcome, Plan, PlanAction, Standing};
 
 /// The outcome of the action, by the journal. It takes no memory: it looks through the journal for each
 /// action on which this one may depend.
@@ -54,6 +58,35 @@ pub fn winning_answer(j: &Journal, action: u32) -> Option<&Answer>
     match grant(entries, action) {
         Some(grant) => matched(entries, grant.attempt),
         None => None,
+    }
+}
+
+/// How each action of the plan ends, in their order.
+///
+/// # Errors
+///
+/// `NoMemory` where the list finds no memory.
+pub fn action_ends(alloc: Global, plan: &Plan, j: &Journal) -> Result<Vec<ActionEnd>, NoMemory>
+    requires sound { Sound plan.now }
+    ensures { IfOk result (λ ends. ends.items ≡ ends_of plan.now (reverse j.now)) }
+{
+    let count = plan.actions.as_slice().len();
+    let mut ends = Vec::with_capacity(alloc, count)?;
+    for a in 0..count {
+        ends.push(end_of_action(plan, j, a as u32))?;
+    }
+    Ok(ends)
+}
+
+fn end_of_action(plan: &Plan, j: &Journal, action: u32) -> ActionEnd
+    requires sound { Sound plan.now }
+    requires within { action < length plan.now.actions }
+    ensures { result ≡ action_end plan.now (reverse j.now) action }
+{
+    ActionEnd {
+        outcome: outcome(plan, j, action),
+        local: fate(plan, j, action, Branch::Local),
+        remote: fate(plan, j, action, Branch::Remote),
     }
 }
 
