@@ -8,3 +8,4 @@ pub mod Begins
 pub mod Scanned
 pub mod Tracks
 pub mod Judged
+pub mod Tallied

@@ -16,3 +16,4 @@ pub mod Outcomes
 pub mod Ends
 pub mod Facts
 pub mod Scans
+pub mod Tallies

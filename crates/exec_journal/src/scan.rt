@@ -48,7 +48,7 @@ fn has_end(front: &[Entry], line: u32) -> bool
     front.iter().any(|e| is_end(e, line))
 }
 
-fn is_end(entry: &Entry, line: u32) -> bool
+pub fn is_end(entry: &Entry, line: u32) -> bool
     ensures { result ≡ ends line entry.now.call }
 {
     matches!(&entry.call, Call::Ended { line: ended, .. } if *ended == line)
@@ -96,7 +96,7 @@ fn write_break(before: &[Entry], how: Written, order: Option<&Entry>) -> Option<
     }
 }
 
-fn sent_by(order: Option<&Entry>) -> Option<Attempt>
+pub fn sent_by(order: Option<&Entry>) -> Option<Attempt>
     ensures { result ≡ option_map (λ r. r.attempt) (send_of_entry (option_copied order.entry)) }
 {
     match &order?.reply {
@@ -171,7 +171,7 @@ fn committing(entries: &[Entry], action: u32, branch: Branch) -> Option<&Entry>
     entries.iter().find(|e| commit_in(e, action, branch).is_some())
 }
 
-fn commit_in(entry: &Entry, action: u32, branch: Branch) -> Option<CommitEnd>
+pub fn commit_in(entry: &Entry, action: u32, branch: Branch) -> Option<CommitEnd>
     ensures { result ≡ committed_in action branch entry.now.call }
 {
     match &entry.call {
@@ -197,7 +197,7 @@ fn has_send_of(entries: &[Entry], action: u32, branch: Branch) -> bool
     entries.iter().any(|e| is_send_of(e, action, branch))
 }
 
-fn is_send_of(entry: &Entry, action: u32, branch: Branch) -> bool
+pub fn is_send_of(entry: &Entry, action: u32, branch: Branch) -> bool
     ensures { result ≡ is_of_branch action branch (send_in entry.now.reply) }
 {
     matches!(&entry.reply, Reply::Send { action: sent, branch: of, .. } if *sent == action && *of == branch)
