@@ -11,7 +11,7 @@ use Rattle.delimited_framing.specs.Splitter.{Held, Stands, fed_more}
 
 -- ---- a number at the front stays, whatever follows
 
-abbrev done : ℕ × List ℕ → Result (ℕ × List ℕ) Fault
+abbrev pub done : ℕ × List ℕ → Result (ℕ × List ℕ) Fault
 done read = Ok read
 
 done_is : (x y : ℕ × List ℕ) → done x ≡ done y → x ≡ y
@@ -40,7 +40,7 @@ number_more (suc more) [] p n r e = absurd cc
 number_more zero (byte ∷ rest) p n r e = last_more (leb byte 1) byte n BadVarint rest r p e
 number_more (suc more) (byte ∷ rest) p n r e = step_more (ltb byte 128) byte n rest r p (number_at more rest) (number_at more (rest ++ p)) (λ m s d. number_more more rest p m s d) e
 
-varint_more : (bytes p : List ℕ) (n : ℕ) (r : List ℕ) → varint_at bytes ≡ done (n, r) → varint_at (bytes ++ p) ≡ done (n, r ++ p)
+pub varint_more : (bytes p : List ℕ) (n : ℕ) (r : List ℕ) → varint_at bytes ≡ done (n, r) → varint_at (bytes ++ p) ≡ done (n, r ++ p)
 unfolding varint_at
 varint_more bytes p n r e = number_more 9 bytes p n r e
 

@@ -1,5 +1,5 @@
 // Frames of a stream that comes in pieces.
-ghost use Rattle.std.specs.Prelude.{◌≡◌, ◌++◌, List, ℕ, [], None, Ok, OnOk, OnErr, IfOk, IfSome};
+ghost use Rattle.std.specs.Prelude.{◌≡◌, ◌++◌, List, ℕ, [], length, None, Ok, OnOk, OnErr, IfOk, IfSome};
 ghost use Rattle.delimited_framing.specs.Splitter.{Held, Stands, Gives, fed_more};
 
 use crate::frame::{Found, FrameFault, Next, find_frame};
@@ -91,6 +91,13 @@ impl Splitter {
                 Ok(Next::Frame(frame))
             }
         }
+    }
+
+    /// How many bytes were fed and not yet given as part of a frame, its length included.
+    pub fn unread(&self) -> usize
+        ensures { result ≡ length self.now.rest }
+    {
+        self.held.len() - self.start
     }
 
     // Drops what was read, where that is at least as long as what is left: so each byte that moves is paid for
