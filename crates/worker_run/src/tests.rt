@@ -146,6 +146,24 @@ fn each_object_may_fail(rt: HostRuntime) -> Result<(), Fail> {
     Ok(())
 }
 
+// With each allocation refused in turn (tools/fail-alloc), a run ends with status 3 or with its own. Its journal
+// then ends with a halt of each lane, or is empty, or is whole.
+#[test]
+fn a_refused_allocation_is_status_3(rt: HostRuntime) -> Result<(), Fail> {
+    let alloc = rt.alloc();
+    let Ok(found) = run_with(&rt, alloc, &[0], Vec::new(alloc)) else {
+        // The script of the objects in memory found no memory itself.
+        return Ok(());
+    };
+    let (status, entries, written) = found;
+    println!(rt; "one action: status {status}, {entries} entries, {written} written")?;
+    let whole = entries == 14 && written == 1;
+    let stopped = written == 0 && [0, 3, 7, 9].contains(&entries);
+    // An object in memory that can't note a call fails, and the run ends with status 7.
+    assert!(rt; status == 0 && whole || status == 3 && (whole || stopped) || status == 7);
+    Ok(())
+}
+
 #[test]
 fn a_sink_that_fails_is_status_6(rt: HostRuntime) -> Result<(), Fail> {
     let alloc = rt.alloc();

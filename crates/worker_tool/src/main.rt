@@ -4,15 +4,16 @@
 use outside_real::{RealFloor, RealSink};
 use std::alloc::Global;
 use std::env::Env;
+use std::io::ErrorKind;
 use std::process::ExitCode;
 use std::{env, io};
-use worker_run::{RunFault, Unbuilt, fault_line, run_build};
+use worker_run::{RunFault, Stage, Unbuilt, fault_line, run_build};
 
 fn main(rt: HostRuntime) -> ExitCode {
     let alloc = rt.alloc();
-    // Words that aren't text are wrong words.
-    let Ok(words) = words(&rt, alloc) else {
-        return end(&rt, alloc, 7, Some(RunFault::NotYetBuilt(Unbuilt::Words)));
+    let words = match words(&rt, alloc) {
+        Ok(words) => words,
+        Err(error) => return end_unread(&rt, alloc, &error),
     };
     let floor = RealFloor::new(rt, alloc);
     let mut out = RealSink::new(rt);
@@ -26,6 +27,14 @@ fn words(rt: &(impl Env + AllocGlobal), alloc: Global) -> io::Result<Vec<String>
         words.push(word)?;
     }
     Ok(words)
+}
+
+// The words weren't read: there was no memory for them, or they aren't text, and then they are wrong words.
+fn end_unread(rt: &impl Eprint, alloc: Global, error: &io::Error) -> ExitCode {
+    match error.kind() {
+        ErrorKind::OutOfMemory => end(rt, alloc, 3, Some(RunFault::NoMemory(Stage::Before))),
+        _ => end(rt, alloc, 7, Some(RunFault::NotYetBuilt(Unbuilt::Words))),
+    }
 }
 
 // Prints the fault's line, unless there is no memory for it, and ends with the status.
