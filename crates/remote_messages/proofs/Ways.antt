@@ -1,5 +1,5 @@
 -- Any bytes are read as a job, or as a result, in one way.
-use Rattle.std.proofs.Common.{◌≡◌, ◌⊎◌, List, refl, inl, inr}
+use Rattle.std.proofs.Common.{◌⊎◌, List, refl, inl, inr}
 use Rattle.wire_fields.specs.Field.{WireField}
 use Rattle.wire_fields.specs.Message.{IsSound, last_int32, last_bytes, spans, RefusesText, RefusesMessage}
 use Rattle.wire_fields.specs.Readings.{IsReadOneWay}

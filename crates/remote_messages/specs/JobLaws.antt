@@ -1,5 +1,5 @@
 -- Fields mean at most one job, a field has at most one fault, and the written form of a job spells it.
-use Rattle.std.specs.Prelude.{◌≡◌, ◌⊎◌, ℕ, List, [], map}
+use Rattle.std.specs.Prelude.{◌≡◌, ◌⊎◌, ℕ, List, map}
 use Rattle.std.specs.Int.{w64, cast_unsigned}
 use Rattle.std.proofs.Common.{sym, ap, subst, ◌∙◌, inl, inr, arith}
 use Rattle.std.proofs.lemmas.List.Elements.{recursion_from_All}
@@ -14,9 +14,9 @@ use Rattle.wire_fields.proofs.Values.{int32_bits, by_numbers, by_spans, last-own
 use Rattle.outside.specs.declared.command.Variable.{Variable}
 use Rattle.remote_messages.specs.declared.file.NamedFile.{NamedFile}
 use Rattle.remote_messages.specs.declared.job.Job.{Job}
-use Rattle.remote_messages.specs.File.{IsFile, file_refuses, SpellsFile, FaultyFile, file_fields, IsFileValue}
+use Rattle.remote_messages.specs.File.{IsFile, file_refuses, SpellsFile, FaultyFile, IsFileValue}
 use Rattle.remote_messages.specs.FileLaws.{one_file, one_file_fault, file_again}
-use Rattle.remote_messages.specs.Variable.{IsVariable, variable_refuses, SpellsVariable, FaultyVariable, variable_fields, IsVariableValue}
+use Rattle.remote_messages.specs.Variable.{IsVariable, variable_refuses, SpellsVariable, FaultyVariable, IsVariableValue}
 use Rattle.remote_messages.specs.VariableLaws.{one_variable, one_variable_fault, variable_again}
 use Rattle.remote_messages.specs.Job.{IsJob, job_refuses, SpellsJob, job_fields, IsJobValue, file_spelling, variable_spelling}
 

@@ -1,6 +1,6 @@
 -- Varints as functions of the bytes, which the other definitions use. `Grammar` says the same of bytes without a
 -- reader, and `varint_grammar` that both agree. (Protocol Buffers' encoding page, section "Base 128 Varints".)
-use Rattle.std.specs.Prelude.{◌≡◌, ℕ, zero, suc, ◌+◌, ◌-◌, ◌*◌, ◌/◌, ◌%◌, ◌^◌, ◌<◌, ◌≤◌, List, [], ◌∷◌, length, drop, Result, Ok, Err, nat_lt, nat_le, if◌then◌else◌}
+use Rattle.std.specs.Prelude.{◌≡◌, ℕ, zero, suc, ◌+◌, ◌*◌, ◌/◌, ◌%◌, ◌^◌, ◌<◌, ◌≤◌, List, [], ◌∷◌, length, drop, Result, Ok, Err, nat_lt, nat_le, if◌then◌else◌}
 use Rattle.wire_fields.specs.declared.varint.Varint.{Varint}
 use Rattle.wire_fields.specs.declared.varint.Varint.TheVariants.{Whole, Cut, Bad}
 

@@ -1,10 +1,10 @@
 -- The lengths of fields, one after the other.
-use Rattle.std.proofs.Common.{◌≡◌, ◌≢◌, ℕ, ◌+◌, ◌-◌, ◌*◌, ◌^◌, ◌<◌, ◌≤◌, min, List, [], ◌∷◌, ◌++◌, length, refl, sym, ap, ◌∙◌, inl, inr, arith}
+use Rattle.std.proofs.Common.{◌≡◌, ◌≢◌, ℕ, ◌+◌, ◌-◌, ◌*◌, ◌^◌, ◌≤◌, min, List, [], ◌∷◌, ◌++◌, length, refl, sym, ap, ◌∙◌, inl, inr, arith}
 use Rattle.std.proofs.lemmas.Bool.{ne_eqb, eq-eqb, cases_lt}
 use Rattle.std.proofs.lemmas.List.{length-append}
 use Rattle.wire_fields.specs.Varint.{varint}
 use Rattle.wire_fields.specs.Field.{WireField, Number, Bytes}
-use Rattle.wire_fields.specs.Spelling.{spelling, field_bytes, number_field, one_bytes, bytes_field, repeated_field, capped}
+use Rattle.wire_fields.specs.Spelling.{spelling, number_field, one_bytes, bytes_field, repeated_field, capped}
 use Rattle.wire_messages.proofs.Pushes.{spelling-append, spelling_one, spelling_none, repeated_one}
 
 pub capped_sum : (t x r a b : ℕ) → t ≡ capped a → x ≡ capped b → r ≡ min (t + x) (2 ^ 64 - 1) → r ≡ capped (a + b)

@@ -1,4 +1,4 @@
-use Rattle.std.proofs.Common.{◌+◌, ◌-◌, ◌*◌, ◌^◌, ◌<◌, ◌≤◌, ◌≡◌, subst, arith}
+use Rattle.std.proofs.Common.{◌+◌, ◌-◌, ◌≤◌, ◌≡◌, arith}
 use Rattle.wire_fields.specs.Varint.{varint}
 use Rattle.wire_fields.proofs.Digits.{before_last, rest_fits, length_more, length_last}
 use Rattle.wire_fields.proofs.varint.varint_length.Goals as goal
