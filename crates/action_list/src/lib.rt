@@ -11,6 +11,7 @@ mod made;
 mod makers;
 mod needs;
 mod order;
+mod parts;
 mod places;
 mod planning;
 mod seen;
@@ -18,6 +19,8 @@ mod top;
 mod types;
 
 pub use faults::{Key, ListFault, ListRefusal, What};
+pub use parts::{GroupPart, group_parts};
+pub use planning::plan;
 pub use types::{ActionList, ListAction, Needs, Strategy};
 
 ghost use Rattle.action_list.specs.Answers.{Answers};

@@ -265,7 +265,8 @@ fn plan_action(
     })
 }
 
-fn texts_again(alloc: Global, texts: &[Text]) -> Result<Items<Text>, NoMemory>
+/// The same texts, in memory of their own.
+pub fn texts_again(alloc: Global, texts: &[Text]) -> Result<Items<Text>, NoMemory>
     ensures { IfOk result (λ l. l ≡ texts.now) }
 {
     let mut copies = Vec::new(alloc);
