@@ -8,3 +8,4 @@ pub mod PlanLemmas
 pub mod SoundGroups
 pub mod SoundMakers
 pub mod SoundActions
+pub mod WholeLists

@@ -31,14 +31,16 @@ itself b = (bytes_eq-Decides b b).1 refl
 kept_bytes : (keys : List (List ℕ)) (bytes b : List ℕ) → is_among keys b ≡ true → is_among (with_bytes keys bytes) b ≡ true
 kept_bytes keys bytes b h =
     elim (is_among keys bytes) as (λ t. is_among (cond t keys (keys ++ bytes ∷ [])) b ≡ true) [
-      true ↦ h
-    | false ↦ is_among-append keys (bytes ∷ []) b ∙ or_left _ _ h ]
+      | true ↦ h
+      | false ↦ is_among-append keys (bytes ∷ []) b ∙ or_left _ _ h
+    ]
 
 added_bytes : (keys : List (List ℕ)) (b : List ℕ) → is_among (with_bytes keys b) b ≡ true
 added_bytes keys b =
     elim (is_among keys b) as (λ t. is_among keys b ≡ t → is_among (cond t keys (keys ++ b ∷ [])) b ≡ true) [
-      true ↦ (λ e. e)
-    | false ↦ (λ e. is_among-append keys (b ∷ []) b ∙ or_right _ _ (or_left _ _ (itself b))) ]
+      | true ↦ (λ e. e)
+      | false ↦ (λ e. is_among-append keys (b ∷ []) b ∙ or_right _ _ (or_left _ _ (itself b)))
+    ]
     refl
 
 kept_key : (keys : List (List ℕ)) (x : ListAction) (b : List ℕ) → is_among keys b ≡ true → is_among (with_key keys x) b ≡ true
@@ -52,7 +54,7 @@ kept keys (x ∷ xs) b h = kept (with_key keys x) xs b (kept_key keys x b h)
 pub own_key : (keys : List (List ℕ)) (before : List ListAction) (x : ListAction) (rest : List ListAction) → has_local x.strategy ≡ true → is_among (keys_from keys (before ++ x ∷ rest)) (key_bytes x) ≡ true
 own_key keys [] x rest local =
     let here : is_among (with_key keys x) (key_bytes x) ≡ true =
-        subst (λ t. is_among (cond t (with_bytes keys (key_bytes x)) keys) (key_bytes x) ≡ true) (sym local) (added_bytes keys (key_bytes x)) in
+    subst (λ t. is_among (cond t (with_bytes keys (key_bytes x)) keys) (key_bytes x) ≡ true) (sym local) (added_bytes keys (key_bytes x)) in
     kept (with_key keys x) rest (key_bytes x) here
 own_key keys (y ∷ before) x rest local = own_key (with_key keys y) before x rest local
 
@@ -60,8 +62,9 @@ prefix_below : (p : List ℕ → Bool) (ts : List (List ℕ)) → list_any p ts 
 prefix_below p [] h = cc
 prefix_below p (t ∷ ts) h =
     elim (p t) as (λ b. (b || list_any p ts) ≡ true → cond (not b) (1 + prefix_len (λ x. not (p x)) ts) 0 < length (t ∷ ts)) [
-      true ↦ (λ e. omega arith)
-    | false ↦ (λ e. let rest = prefix_below p ts e in omega arith) ]
+      | true ↦ (λ e. omega arith)
+      | false ↦ (λ e. let rest = prefix_below p ts e in omega arith)
+    ]
     h
 
 -- where the key is among them it has a number
@@ -125,17 +128,19 @@ module _ (before : List ListAction) (x : ListAction) (rest : List ListAction) (i
       let groups = length (groups_of xs (map local_key xs) keys instances remote) in
       let y = plan_action keys before x in
       elim (uses x.strategy) [
-        inl u ↦
-          let n = numbered keys (key_bytes x) (own_key [] before x rest u.0) in
-          branches_local groups (length keys) n.0 y (local_number keys x n.0 u.0 n.1) (ap (λ b. cond b (Some (length keys)) None) u.1) n.2 (groups_least xs instances remote)
-      | inr v ↦ elim v [
-          inl u ↦
-            branches_remote groups (length keys) y (ap (λ b. number_of keys (cond b (Some (key_bytes x)) None)) u.0) (ap (λ b. cond b (Some (length keys)) None) u.1)
-              (omega (arith, groups_with_executor xs instances remote some (count_one before x rest u.1)))
-        | inr u ↦
+        | inl u ↦
             let n = numbered keys (key_bytes x) (own_key [] before x rest u.0) in
-            branches_both groups (length keys) n.0 y (local_number keys x n.0 u.0 n.1) (ap (λ b. cond b (Some (length keys)) None) u.1) n.2
-              (omega (arith, groups_with_executor xs instances remote some (count_one before x rest u.1))) ] ]
+            branches_local groups (length keys) n.0 y (local_number keys x n.0 u.0 n.1) (ap (λ b. cond b (Some (length keys)) None) u.1) n.2 (groups_least xs instances remote)
+        | inr v ↦ elim v [
+          | inl u ↦
+              branches_remote groups (length keys) y (ap (λ b. number_of keys (cond b (Some (key_bytes x)) None)) u.0) (ap (λ b. cond b (Some (length keys)) None) u.1)
+              (omega (arith, groups_with_executor xs instances remote some (count_one before x rest u.1)))
+          | inr u ↦
+              let n = numbered keys (key_bytes x) (own_key [] before x rest u.0) in
+              branches_both groups (length keys) n.0 y (local_number keys x n.0 u.0 n.1) (ap (λ b. cond b (Some (length keys)) None) u.1) n.2
+              (omega (arith, groups_with_executor xs instances remote some (count_one before x rest u.1)))
+        ]
+      ]
 
 -- ---- the whole plan
 
@@ -152,7 +157,7 @@ sound_action before x rest instances remote retries some few =
     let xs = before ++ x ∷ rest in
     let most = leb-true (length x.outputs) 256 few in
     and_from _ _ (lt-ltb (length x.outputs) (2 ^ 32) (omega arith))
-      (and_from _ _ (sound_branches before x rest instances remote some) (sound_makers (keys_of xs) before (x ∷ rest) x.inputs))
+    (and_from _ _ (sound_branches before x rest instances remote some) (sound_makers (keys_of xs) before (x ∷ rest) x.inputs))
 
 sound_from : (xs before rest : List ListAction) (instances remote retries : ℕ) → xs ≡ before ++ rest → 1 ≤ remote → list_all (λ x. leb (length x.outputs) 256) rest ≡ true
     → are_sound_from (planned xs instances remote retries) (length before) (plan_actions (keys_of xs) before rest) ≡ true
@@ -160,13 +165,13 @@ sound_from xs before [] instances remote retries e some few = refl
 sound_from xs before (x ∷ rest) instances remote retries e some few =
     let parts = and_parts (leb (length x.outputs) 256) (list_all (λ y. leb (length y.outputs) 256) rest) few in
     let here : is_sound_action (planned xs instances remote retries) (length before) (plan_action (keys_of xs) before x) ≡ true =
-        subst (λ ys. is_sound_action (planned ys instances remote retries) (length before) (plan_action (keys_of ys) before x) ≡ true) (sym e)
-          (sound_action before x rest instances remote retries some parts.0) in
+    subst (λ ys. is_sound_action (planned ys instances remote retries) (length before) (plan_action (keys_of ys) before x) ≡ true) (sym e)
+    (sound_action before x rest instances remote retries some parts.0) in
     let on : xs ≡ (before ++ x ∷ []) ++ rest = e ∙ sym (append_assoc before (x ∷ []) rest) in
     let count : length (before ++ x ∷ []) ≡ suc (length before) = omega (arith, length-append before (x ∷ [])) in
     let later : are_sound_from (planned xs instances remote retries) (suc (length before)) (plan_actions (keys_of xs) (before ++ x ∷ []) rest) ≡ true =
-        subst (λ n. are_sound_from (planned xs instances remote retries) n (plan_actions (keys_of xs) (before ++ x ∷ []) rest) ≡ true) count
-          (sound_from xs (before ++ x ∷ []) rest instances remote retries on some parts.1) in
+    subst (λ n. are_sound_from (planned xs instances remote retries) n (plan_actions (keys_of xs) (before ++ x ∷ []) rest) ≡ true) count
+    (sound_from xs (before ++ x ∷ []) rest instances remote retries on some parts.1) in
     and_from _ _ here later
 
 length-plan_actions : (keys : List (List ℕ)) (before xs : List ListAction) → length (plan_actions keys before xs) ≡ length xs

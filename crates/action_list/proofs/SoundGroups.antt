@@ -19,8 +19,9 @@ use Rattle.action_list.specs.Plans.{berths_at, executor_groups, group_by, groups
 length-with_bytes : (keys : List (List ℕ)) (bytes : List ℕ) → length (with_bytes keys bytes) ≤ length keys + 1
 length-with_bytes keys bytes =
     elim (is_among keys bytes) as (λ b. length (cond b keys (keys ++ bytes ∷ [])) ≤ length keys + 1) [
-      true ↦ omega arith
-    | false ↦ omega (arith, length-append keys (bytes ∷ [])) ]
+      | true ↦ omega arith
+      | false ↦ omega (arith, length-append keys (bytes ∷ []))
+    ]
 
 length-with_key : (keys : List (List ℕ)) (x : ListAction) → length (with_key keys x) ≤ length keys + 1
 length-with_key keys x =
@@ -69,9 +70,9 @@ pub share_fits : (counts : List ℕ) (n : ℕ) → berths_at counts (share count
 share_fits counts zero = omega (arith, no_berths counts)
 share_fits counts (suc n) =
     elim (leb (berths_at counts (suc n)) 48)
-      as (λ b. leb (berths_at counts (suc n)) 48 ≡ b → berths_at counts (cond b (suc n) (share counts n)) ≤ 48)
-      [ true ↦ (λ e. leb-true (berths_at counts (suc n)) 48 e) | false ↦ (λ e. share_fits counts n) ]
-      refl
+    as (λ b. leb (berths_at counts (suc n)) 48 ≡ b → berths_at counts (cond b (suc n) (share counts n)) ≤ 48)
+    [ true ↦ (λ e. leb-true (berths_at counts (suc n)) 48 e) | false ↦ (λ e. share_fits counts n) ]
+    refl
 
 executor_berths : (n : ℕ) → sum_by (λ g. g.berths) (executor_groups n) ≤ n
 executor_berths n =
@@ -91,8 +92,8 @@ sound_by : (o : Option ListAction) (n : ℕ) → is_sound_group (group_by o n) �
 sound_by None n = refl
 sound_by (Some x) n =
     elim (takes_several x.strategy x.needs.multiplex)
-      as (λ b. is_sound_group (record { kind = cond b kind.Multi kind.Single; cancel = x.needs.cancel; berths = n }) ≡ true)
-      [ true ↦ refl | false ↦ refl ]
+    as (λ b. is_sound_group (record { kind = cond b kind.Multi kind.Single; cancel = x.needs.cancel; berths = n }) ≡ true)
+    [ true ↦ refl | false ↦ refl ]
 
 sound_keys : (xs : List ListAction) (held : List (Option (List ℕ))) (n : ℕ) (keys : List (List ℕ)) → list_all is_sound_group (map (key_group xs held n) keys) ≡ true
 sound_keys xs held n [] = refl

@@ -26,8 +26,8 @@ place_in-good ys below found p a j [] good each = good
 place_in-good ys below found p a j (u ∷ us) good each =
     let now : Option Maker = cond (bytes_eq u p) (Some (record { action = a; output = j })) found in
     let good_now : AreGood ys below now =
-        elim (bytes_eq u p) as (λ b. AreGood ys below (cond b (Some (record { action = a; output = j })) found))
-          [ true ↦ (λ m e. let same : record { action = a; output = j } ≡ m = cc in subst (λ n. IsGood ys below n) same (each j (omega arith))) | false ↦ good ] in
+    elim (bytes_eq u p) as (λ b. AreGood ys below (cond b (Some (record { action = a; output = j })) found))
+    [ true ↦ (λ m e. let same : record { action = a; output = j } ≡ m = cc in subst (λ n. IsGood ys below n) same (each j (omega arith))) | false ↦ good ] in
     place_in-good ys below now p a (j + 1) us good_now (λ o h. each o (omega arith))
 
 -- the plan's actions from a on have the outputs of these
@@ -47,7 +47,7 @@ place_from-good ys found p a (z ∷ zs) good has =
     let zeroth : a + 0 ≡ a = omega arith in
     let at : slice_get ys a ≡ Some here.0 = ap (λ n. slice_get ys n) (sym zeroth) ∙ here.1 in
     let each : (o : ℕ) → o < 0 + length z.outputs → IsGood ys (a + 1) (record { action = a; output = o }) =
-        λ o h. (omega arith, there_at ys a o here.0 at (subst (λ os. o < length os) (sym here.2) (omega arith))) in
+    λ o h. (omega arith, there_at ys a o here.0 at (subst (λ os. o < length os) (sym here.2) (omega arith))) in
     let good_here = place_in-good ys (a + 1) found p a 0 z.outputs (raised ys a (a + 1) found (omega arith) good) each in
     let later : HasOutputs ys (a + 1) zs = λ k z' e. let h = has (suc k) z' e in let n : (a + 1) + k ≡ a + suc k = omega arith in (h.0, ap (λ m. slice_get ys m) n ∙ h.1, h.2) in
     let total : (a + 1) + length zs ≡ a + length (z ∷ zs) = omega arith in
@@ -78,10 +78,11 @@ earlier ys a m good = and_from _ _ (lt-ltb m.action a good.0) good.1
 makers_earlier : (ys : List PlanAction) (a : ℕ) (f : List ℕ → Option Maker) (ps : List (List ℕ)) → ((p : List ℕ) → AreGood ys a (f p)) → list_all (is_earlier ys a) (filter_map f ps) ≡ true
 makers_earlier ys a f [] good = refl
 makers_earlier ys a f (p ∷ ps) good =
-    elim (f p) as (λ o. f p ≡ o → list_all (is_earlier ys a) (cons_option o (filter_map f ps)) ≡ true)
-      [ None ↦ (λ e. makers_earlier ys a f ps good)
-      | Some m ↦ (λ e. and_from _ _ (earlier ys a m (good p m e)) (makers_earlier ys a f ps good)) ]
-      refl
+    elim (f p) as (λ o. f p ≡ o → list_all (is_earlier ys a) (cons_option o (filter_map f ps)) ≡ true) [
+      | None ↦ (λ e. makers_earlier ys a f ps good)
+      | Some m ↦ (λ e. and_from _ _ (earlier ys a m (good p m e)) (makers_earlier ys a f ps good))
+    ]
+    refl
 
 nothing_good : (ys : List PlanAction) (a : ℕ) → AreGood ys a None
 nothing_good ys a m e = cc
@@ -92,4 +93,4 @@ sound_makers keys before rest ps =
     let ys = plan_actions keys [] (before ++ rest) in
     let total : 0 + length before ≡ length before = omega arith in
     makers_earlier ys (length before) (maker_of before) ps
-      (λ p. subst (λ n. AreGood ys n (maker_of before p)) total (place_from-good ys None p 0 before (nothing_good ys 0) (has_outputs keys before rest)))
+    (λ p. subst (λ n. AreGood ys n (maker_of before p)) total (place_from-good ys None p 0 before (nothing_good ys 0) (has_outputs keys before rest)))

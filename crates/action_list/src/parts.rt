@@ -103,7 +103,9 @@ fn user_of<'a>(
 fn first_of(planned: &[PlanAction], number: u32) -> Option<usize>
     ensures { result ≡ position (λ y. is_of number y.local) planned.now }
 {
-    planned.iter().position(|action| is_of(number, action.local))
+    planned
+        .iter()
+        .position(|action| is_of(number, action.local))
 }
 
 fn is_of(number: u32, branch: Option<u32>) -> bool
