@@ -22,19 +22,20 @@ last_from-append a (y ∷ ys) x q =
     let count : (a + 1) + length ys ≡ a + length (y ∷ ys) = omega arith in
     ap (λ l. or_maker l here) (last_from-append (a + 1) ys x q)
     ∙ elim (is_among x.outputs q)
-        as (λ b. or_maker (cond b (Some ((a + 1) + length ys)) (last_from (a + 1) ys q)) here ≡ cond b (Some (a + length (y ∷ ys))) (or_maker (last_from (a + 1) ys q) here))
-        [ true ↦ ap Some count | false ↦ refl ]
+    as (λ b. or_maker (cond b (Some ((a + 1) + length ys)) (last_from (a + 1) ys q)) here ≡ cond b (Some (a + length (y ∷ ys))) (or_maker (last_from (a + 1) ys q) here))
+    [ true ↦ ap Some count | false ↦ refl ]
 
 -- a last maker is one of the actions
 last_from-low : (s : ℕ) (xs : List ListAction) (q : List ℕ) (m : ℕ) → last_from s xs q ≡ Some m → s ≤ m
 last_from-low s [] q m e = cc
 last_from-low s (x ∷ xs) q m e =
     elim (last_from (s + 1) xs q)
-      as (λ l. last_from (s + 1) xs q ≡ l → or_maker l (cond (is_among x.outputs q) (Some s) None) ≡ Some m → s ≤ m)
-      [ None ↦ (λ at h. elim (is_among x.outputs q) as (λ b. cond b (Some s) None ≡ Some m → s ≤ m)
+    as (λ l. last_from (s + 1) xs q ≡ l → or_maker l (cond (is_among x.outputs q) (Some s) None) ≡ Some m → s ≤ m) [
+      | None ↦ (λ at h. elim (is_among x.outputs q) as (λ b. cond b (Some s) None ≡ Some m → s ≤ m)
           [ true ↦ (λ k. let same : s ≡ m = cc in omega arith) | false ↦ (λ k. cc) ] h)
-      | Some n ↦ (λ at h. let same : n ≡ m = cc in let low = last_from-low (s + 1) xs q n at in omega arith) ]
-      refl e
+      | Some n ↦ (λ at h. let same : n ≡ m = cc in let low = last_from-low (s + 1) xs q n at in omega arith)
+    ]
+    refl e
 
 -- a path that some of these actions make has a last maker among them
 late_all : (a s : ℕ) (xs : List ListAction) (q : List ℕ) → a ≤ s → is_late a (last_from s xs q) ≡ is_among (outputs_of xs) q
@@ -42,14 +43,15 @@ late_all a s [] q low = refl
 late_all a s (x ∷ xs) q low =
     let rest = late_all a (s + 1) xs q (omega arith) in
     elim (last_from (s + 1) xs q)
-      as (λ l. last_from (s + 1) xs q ≡ l → is_late a l ≡ is_among (outputs_of xs) q
-          → is_late a (or_maker l (cond (is_among x.outputs q) (Some s) None)) ≡ (is_among x.outputs q || is_among (outputs_of xs) q))
-      [ None ↦ (λ at h. elim (is_among x.outputs q) as (λ b. is_late a (cond b (Some s) None) ≡ (b || is_among (outputs_of xs) q)) [ true ↦ le-leb a s low | false ↦ h ])
+    as (λ l. last_from (s + 1) xs q ≡ l → is_late a l ≡ is_among (outputs_of xs) q
+    → is_late a (or_maker l (cond (is_among x.outputs q) (Some s) None)) ≡ (is_among x.outputs q || is_among (outputs_of xs) q)) [
+      | None ↦ (λ at h. elim (is_among x.outputs q) as (λ b. is_late a (cond b (Some s) None) ≡ (b || is_among (outputs_of xs) q)) [ true ↦ le-leb a s low | false ↦ h ])
       | Some n ↦ (λ at h.
           let above = last_from-low (s + 1) xs q n at in
           let yes' : leb a n ≡ true = le-leb a n (omega arith) in
-          elim (is_among x.outputs q) as (λ b. leb a n ≡ (b || is_among (outputs_of xs) q)) [ true ↦ yes' | false ↦ h ]) ]
-      refl rest
+          elim (is_among x.outputs q) as (λ b. leb a n ≡ (b || is_among (outputs_of xs) q)) [ true ↦ yes' | false ↦ h ])
+    ]
+    refl rest
     ∙ sym (is_among-append x.outputs (outputs_of xs) q)
 
 -- a path is made by the action at i or a later one exactly where its last maker has this number or a later one
@@ -62,12 +64,13 @@ late_among s (suc i) (x ∷ xs) q within =
     let count : (s + 1) + i ≡ s + suc i = omega arith in
     let rest = ap (λ a. is_late a (last_from (s + 1) xs q)) (sym count) ∙ late_among (s + 1) i xs q (omega arith) in
     elim (last_from (s + 1) xs q)
-      as (λ l. is_late (s + suc i) l ≡ is_among (outputs_of (drop i xs)) q
-          → is_late (s + suc i) (or_maker l (cond (is_among x.outputs q) (Some s) None)) ≡ is_among (outputs_of (drop i xs)) q)
-      [ None ↦ (λ h. elim (is_among x.outputs q) as (λ b. is_late (s + suc i) (cond b (Some s) None) ≡ is_among (outputs_of (drop i xs)) q)
+    as (λ l. is_late (s + suc i) l ≡ is_among (outputs_of (drop i xs)) q
+    → is_late (s + suc i) (or_maker l (cond (is_among x.outputs q) (Some s) None)) ≡ is_among (outputs_of (drop i xs)) q) [
+      | None ↦ (λ h. elim (is_among x.outputs q) as (λ b. is_late (s + suc i) (cond b (Some s) None) ≡ is_among (outputs_of (drop i xs)) q)
           [ true ↦ lt-leb (s + suc i) s (omega arith) ∙ h | false ↦ h ])
-      | Some n ↦ (λ h. h) ]
-      rest
+      | Some n ↦ (λ h. h)
+    ]
+    rest
 
 pub late_at : (number i : ℕ) (xs : List ListAction) (q : List ℕ) → number ≡ i → i ≤ length xs → is_late number (last_from 0 xs q) ≡ is_among (outputs_of (drop i xs)) q
 late_at number i xs q same within =

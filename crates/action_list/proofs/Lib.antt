@@ -4,3 +4,8 @@ pub mod Late
 pub mod Orders
 pub mod PlaceLemmas
 pub mod Maps
+pub mod PlanLemmas
+pub mod SoundGroups
+pub mod SoundMakers
+pub mod SoundActions
+pub mod WholeLists

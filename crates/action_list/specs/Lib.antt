@@ -6,6 +6,7 @@ pub mod Keys
 pub mod Lists
 pub mod Makers
 pub mod Order
+pub mod Parts
 pub mod Places
 pub mod Plans
 pub mod Seen

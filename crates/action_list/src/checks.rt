@@ -10,7 +10,6 @@ ghost use Rattle.action_list.specs.declared.faults.What.TheVariants as what;
 
 use crate::draft::{Draft, Slot};
 use crate::{Key, ListFault, ListRefusal, What};
-
 use outside::Variable;
 use path_rules::check_path;
 use std::alloc::Global;
@@ -30,10 +29,15 @@ const KEYS_IN_ORDER: [Key; 10] = [
 ];
 
 const MAX_NAME: usize = 256;
+
 const MAX_ARGV: usize = 1024;
+
 const MAX_ENV: usize = 256;
+
 const MAX_TOOLS: usize = 256;
+
 const MAX_INPUTS: usize = 4096;
+
 const MAX_OUTPUTS: usize = 256;
 
 /// Looks for the first fault of the action with this number.
@@ -63,8 +67,22 @@ fn check_key(alloc: Global, action: u32, draft: &Draft, key: Key) -> Result<(), 
         Key::Mnemonic => check_mnemonic(action, &draft.mnemonic),
         Key::Argv => check_argv(action, &draft.argv),
         Key::Env => check_env(action, &draft.env),
-        Key::Tools => check_paths(alloc, action, Key::Tools, What::Tools, MAX_TOOLS, &draft.tools),
-        Key::Inputs => check_paths(alloc, action, Key::Inputs, What::Inputs, MAX_INPUTS, &draft.inputs),
+        Key::Tools => check_paths(
+            alloc,
+            action,
+            Key::Tools,
+            What::Tools,
+            MAX_TOOLS,
+            &draft.tools,
+        ),
+        Key::Inputs => check_paths(
+            alloc,
+            action,
+            Key::Inputs,
+            What::Inputs,
+            MAX_INPUTS,
+            &draft.inputs,
+        ),
         Key::Outputs => check_outputs(alloc, action, &draft.outputs),
         Key::Requirements => crate::needs::check_requirements(action, &draft.requirements),
         Key::Strategy => crate::needs::check_strategy(alloc, action, draft),

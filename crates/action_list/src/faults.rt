@@ -39,18 +39,47 @@ pub enum Key {
 /// Why bytes aren't an action list.
 #[derive(Drop)]
 pub enum ListFault {
-    TooMany { what: What, count: u64 },
+    TooMany {
+        what: What,
+        count: u64,
+    },
     NotJson,
-    WrongKind { action: Option<u32>, key: Key },
-    MissingKey { action: Option<u32>, key: Key },
-    BadName { action: u32 },
-    BadPath { action: u32, path: Text, fault: PathFault },
-    BadRequirement { action: u32 },
-    NoStrategy { action: u32 },
-    NoFlagFile { action: u32 },
-    TwiceNamed { action: u32 },
-    TwiceMade { action: u32, path: Text },
-    MadeLater { action: u32, path: Text },
+    WrongKind {
+        action: Option<u32>,
+        key: Key,
+    },
+    MissingKey {
+        action: Option<u32>,
+        key: Key,
+    },
+    BadName {
+        action: u32,
+    },
+    BadPath {
+        action: u32,
+        path: Text,
+        fault: PathFault,
+    },
+    BadRequirement {
+        action: u32,
+    },
+    NoStrategy {
+        action: u32,
+    },
+    NoFlagFile {
+        action: u32,
+    },
+    TwiceNamed {
+        action: u32,
+    },
+    TwiceMade {
+        action: u32,
+        path: Text,
+    },
+    MadeLater {
+        action: u32,
+        path: Text,
+    },
 }
 
 /// A fault of the list, or want of memory.

@@ -1,7 +1,6 @@
 //! The action list: its JSON text read and checked, the plan of a run, and what each group of workers runs.
 #![tactic(auto)]
 
-
 mod checks;
 mod draft;
 mod faults;
@@ -11,19 +10,23 @@ mod made;
 mod makers;
 mod needs;
 mod order;
+mod parts;
 mod places;
 mod planning;
 mod seen;
 mod top;
 mod types;
 
-pub use faults::{Key, ListFault, ListRefusal, What};
-pub use types::{ActionList, ListAction, Needs, Strategy};
-
 ghost use Rattle.action_list.specs.Answers.{Answers};
 ghost use Rattle.action_list.specs.Lists.{list_of};
+ghost use Rattle.action_list.specs.Whole.{IsWhole};
+ghost use Rattle.std.specs.Prelude.{IfOk};
 
+pub use faults::{Key, ListFault, ListRefusal, What};
+pub use parts::{GroupPart, group_parts};
+pub use planning::plan;
 use std::alloc::Global;
+pub use types::{ActionList, ListAction, Needs, Strategy};
 
 /// The most worker keys that a list may have.
 const MAX_KEYS: usize = 48;
@@ -36,7 +39,11 @@ const MAX_KEYS: usize = 48;
 /// with its keys in their order; then, over all actions in order, a name that an earlier action has, an
 /// output that is made before, an input that is made later; then too many worker keys.
 pub fn read_list(alloc: Global, bytes: &[u8]) -> Result<ActionList, ListRefusal>
-    ensures { Answers result (list_of 48 bytes.now) }
+    ensures answer { Answers result (list_of 48 bytes.now) }
+    ensures whole { IfOk result (λ l. IsWhole l.actions) }
 {
     listed::list_of(alloc, MAX_KEYS, bytes)
 }
+
+#[cfg(test)]
+mod tests;

@@ -33,11 +33,7 @@ fn list_of_top(alloc: Global, limit: usize, top: &Value) -> Result<ActionList, L
     list_of_values(alloc, limit, values)
 }
 
-fn list_of_values(
-    alloc: Global,
-    limit: usize,
-    values: &[Value],
-) -> Result<ActionList, ListRefusal>
+fn list_of_values(alloc: Global, limit: usize, values: &[Value]) -> Result<ActionList, ListRefusal>
     requires { length values.now ≤ 4096 }
     ensures { Answers result (list_of_datas limit (map view values.now)) }
 {
@@ -60,7 +56,7 @@ fn read_actions(alloc: Global, values: &[Value]) -> Result<Vec<ListAction>, List
     requires { length values.now ≤ 4096 }
     ensures { MatchResult result
         (λ v. (actions_check 0 (map view values.now) ≡ Ok tt)
-            × (v.items ≡ map action_in (map view values.now)))
+        × (v.items ≡ map action_in (map view values.now)))
         (λ r. Refuses r (actions_check 0 (map view values.now))) }
 {
     let mut actions = Vec::new(alloc);
@@ -75,7 +71,7 @@ fn read_actions(alloc: Global, values: &[Value]) -> Result<Vec<ListAction>, List
 fn read_action(alloc: Global, number: u32, value: &Value) -> Result<ListAction, ListRefusal>
     ensures { MatchResult result
         (λ x. (action_check number (draft_of (view value.now)) ≡ Ok tt)
-            × (x ≡ action_in (view value.now)))
+        × (x ≡ action_in (view value.now)))
         (λ r. Refuses r (action_check number (draft_of (view value.now)))) }
 {
     let draft = Draft::of(alloc, value)?;

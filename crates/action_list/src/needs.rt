@@ -6,11 +6,11 @@ ghost use Rattle.action_list.specs.Answers.{Settles};
 ghost use Rattle.action_list.specs.Checks.{has_local, is_set, known_strategy_check, list_in, local_check, optional, requirements_check, says, strategy_check, strategy_named, value_of, protocol_check, replacement_check};
 ghost use Rattle.action_list.specs.declared.faults.Key.TheVariants as key;
 
-use crate::draft::{Draft, Slot};
 use crate::checks::{check_count, wrong_kind};
+use crate::draft::{Draft, Slot};
 use crate::{Key, ListFault, ListRefusal, Strategy, What};
-use outside::Variable;
 use flag_files::{SplitFault, split_args};
+use outside::Variable;
 use std::alloc::Global;
 use wire_fields::{Items, NoMemory, Text};
 

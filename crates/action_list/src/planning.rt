@@ -265,7 +265,8 @@ fn plan_action(
     })
 }
 
-fn texts_again(alloc: Global, texts: &[Text]) -> Result<Items<Text>, NoMemory>
+/// The same texts, in memory of their own.
+pub fn texts_again(alloc: Global, texts: &[Text]) -> Result<Items<Text>, NoMemory>
     ensures { IfOk result (λ l. l ≡ texts.now) }
 {
     let mut copies = Vec::new(alloc);
@@ -354,9 +355,11 @@ pub fn plan(
 ) -> Result<Plan, NoMemory>
     requires whole { IsWhole list.now.actions }
     requires instances { instances ≤ 48 }
-    requires remote { remote ≤ 16 }
+    requires some_remote { 1 ≤ remote }
+    requires few_remote { remote ≤ 16 }
     requires retries { retries ≤ 9 }
     ensures plan { IfOk result (λ p. p ≡ plan_of list.now.actions instances remote retries) }
+    ensures sound { IfOk result Sound }
 {
     let actions = list.actions.as_slice();
     let keys = keys_of(alloc, actions)?;

@@ -12,6 +12,7 @@ use serde_json::Value;
 use std::alloc::Global;
 
 const MAX_BYTES: usize = 33_554_432;
+
 const MAX_ACTIONS: usize = 4096;
 
 /// The JSON value of these bytes.
@@ -83,7 +84,7 @@ pub fn actions_in(top: &Value) -> Result<&[Value], ListRefusal>
 fn list_in(actions: &Value) -> Result<&[Value], ListRefusal>
     ensures { MatchResult result
         (λ l. (if_array (as_array (view actions.now)) ≡ Ok (map view l.now))
-            × (length l.now ≤ 4096))
+        × (length l.now ≤ 4096))
         (λ r. Refuses r (if_array (as_array (view actions.now)))) }
 {
     match actions.as_array() {

@@ -21,9 +21,9 @@ loop-action-preserved c =
       counted = omega arith;
       known = subst (λ ys. KnowsPlaces c.note_outputs.new.places ys) (sym this) (c.in_ok-note_outputs.ensures (take i xs) c.loop-action.invariant.known number);
       made =
-        ap (λ o. o ++ later) pushed
-        ∙ append_assoc c.loop-action.planned.items (plan_action keys (take i xs) x ∷ []) later
-        ∙ ap (λ front. c.loop-action.planned.items ++ (plan_action keys (take i xs) x ∷ plan_actions keys front (drop (i + 1) xs))) this
-        ∙ ap (λ ys. c.loop-action.planned.items ++ plan_actions keys (take i xs) ys) (sym rest)
-        ∙ c.loop-action.invariant.made;
+          ap (λ o. o ++ later) pushed
+          ∙ append_assoc c.loop-action.planned.items (plan_action keys (take i xs) x ∷ []) later
+          ∙ ap (λ front. c.loop-action.planned.items ++ (plan_action keys (take i xs) x ∷ plan_actions keys front (drop (i + 1) xs))) this
+          ∙ ap (λ ys. c.loop-action.planned.items ++ plan_actions keys (take i xs) ys) (sym rest)
+          ∙ c.loop-action.invariant.made;
     }

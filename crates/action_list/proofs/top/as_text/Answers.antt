@@ -6,8 +6,8 @@ use Rattle.action_list.proofs.top.as_text.Goals as goal
 not_text : (bytes : List ℕ) → ¬ (IsUtf8 bytes) → is_utf8 bytes ≡ false
 not_text bytes no' =
     elim (is_utf8 bytes)
-      as (λ b. is_utf8 bytes ≡ b → b ≡ false) [ true ↦ (λ e. absurd (no' (IsUtf8-from_is_utf8 bytes e))) | false ↦ (λ e. refl) ]
-      refl
+    as (λ b. is_utf8 bytes ≡ b → b ≡ false) [ true ↦ (λ e. absurd (no' (IsUtf8-from_is_utf8 bytes e))) | false ↦ (λ e. refl) ]
+    refl
 
 pub returns-in-Ok : goal.returns-in-Ok
 returns-in-Ok c = (is_utf8-from_IsUtf8 c.args.bytes.now c.in-Ok.ensures.cases.1, c.in-Ok.ensures.cases.0)
