@@ -9,3 +9,4 @@ pub mod Scanned
 pub mod Tracks
 pub mod Judged
 pub mod Tallied
+pub mod Verdicts

@@ -24,9 +24,9 @@ use Rattle.exec_journal.specs.Entries.{Request, attempt_of, same_attempt, same_b
 use Rattle.exec_journal.specs.Words.{last_work, has_ended, line_cause, break_at, break_by, order_of, if_line, wrote_if, ever_sent, is_of_branch, granted, grant_of, commit_of, of_action}
 use Rattle.exec_journal.specs.Attempts.{carrier_in, carrier_by, fault_by, start_cause, unwritten_cause, refused_cause, found_cause}
 use Rattle.exec_journal.specs.Scans.{grants, grant_fact, ended_line, track_after, IsTrack}
-use Rattle.exec_journal.specs.Tallies.{update, update_if, reply_action, call_action, broken_line, branch_after, action_after, line_after, line_fact, IsBranchFact, IsActionFact, AreActions, AreLines}
+use Rattle.exec_journal.specs.Tallies.{AllNew, new_action, new_branch, new_line, update, update_if, reply_action, call_action, broken_line, branch_after, action_after, line_after, line_fact, IsBranchFact, IsActionFact, AreActions, AreLines}
 use Rattle.exec_journal.proofs.Ruled.{by_bool}
-use Rattle.exec_journal.proofs.Tracks.{track_entry, track_aside, IsAside, granted_aside}
+use Rattle.exec_journal.proofs.Tracks.{track_new, track_entry, track_aside, IsAside, granted_aside}
 
 -- ---- a change at one place
 
@@ -309,3 +309,18 @@ module _ (limit : ℕ) (j : List Entry) (e : Entry) (order : Option Entry) (by_r
 
 pub lines_noted : (xs ys : List LineFact) (j : List Entry) (e : Entry) (o : Option ℕ) → AreLines xs j → o ≡ broken_line e.call → ys ≡ update_if (line_after j (unwrap_or o 0) e) xs o → AreLines ys (e ∷ j)
 lines_noted xs ys j e o are same is = lines_more xs ys j e are (is ∙ ap (λ (v : Option ℕ). update_if (line_after j (unwrap_or v 0) e) xs v) same)
+
+-- ---- at the start
+
+branch_start : (t : Attempt) → IsBranchFact new_branch [] t
+unfolding commit_of ever_sent
+branch_start t = record { commits = refl; sends = refl; tracks = track_new _ t refl refl refl refl refl }
+
+pub actions_start : (xs : List ActionFact) (limit : ℕ) → AllNew new_action xs → AreActions xs limit []
+unfolding grant_of
+actions_start xs limit new = record { each = λ a f h. subst (λ (g : ActionFact). IsActionFact g limit [] a) (sym (new.each a f h))
+    (record { grant_is = refl; local_is = branch_start (attempt_of a Local limit); remote_is = branch_start (attempt_of a Remote limit) }) }
+
+pub lines_start : (xs : List LineFact) → AllNew new_line xs → AreLines xs []
+unfolding line_cause has_ended
+lines_start xs new = record { each = λ l f h. new.each l f h }

@@ -17,3 +17,4 @@ pub mod Ends
 pub mod Facts
 pub mod Scans
 pub mod Tallies
+pub mod Verdicts

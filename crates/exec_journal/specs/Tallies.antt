@@ -87,3 +87,17 @@ pub record AreActions (fs : List ActionFact) (limit : ℕ) (j : List Entry) : Ty
 
 pub record AreLines (fs : List LineFact) (j : List Entry) : Type 0 where
   pub each : (l : ℕ) (f : LineFact) → slice_get fs l ≡ Some f → f ≡ line_fact j l
+
+-- ---- of which nothing was said yet
+
+abbrev pub new_line : LineFact
+new_line = record { cause = None; ended = false }
+
+abbrev pub new_branch : BranchFact
+new_branch = record { commit = None; sent = false; track = record { line = None; answered = false; wrote = None; fault = None; ended = None } }
+
+abbrev pub new_action : ActionFact
+new_action = record { grant = None; local = new_branch; remote = new_branch }
+
+pub record AllNew {X : Type 0} (new : X) (xs : List X) : Type 0 where
+  pub each : (i : ℕ) (x : X) → slice_get xs i ≡ Some x → x ≡ new

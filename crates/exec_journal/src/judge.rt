@@ -4,7 +4,7 @@ ghost use Rattle.std.specs.List.{list_any};
 ghost use Rattle.exec_journal.specs.Words.{grant_of};
 ghost use Rattle.exec_journal.specs.Attempts.{dropped};
 ghost use Rattle.exec_journal.specs.Settled.{group_of, by_commit, by_grant, all_dropped, unused_or_dropped, is_success, is_without, is_starved, standing_after, standings};
-ghost use Rattle.exec_journal.specs.Ends.{action_end, ends_of};
+ghost use Rattle.exec_journal.specs.Ends.{ends_of};
 ghost use Rattle.exec_journal.specs.Sound.{Sound};
 ghost use Rattle.exec_journal.specs.Outcomes.{grant_outcome, commit_outcome, least_without, skipped, outcome_after, outcome_of, won_or_spoiled, lost_fate, fate_after, fate_of, is_ok, is_some_ok, is_winner, lesser, winning_answer};
 
@@ -12,6 +12,7 @@ use std::alloc::Global;
 use wire_fields::NoMemory;
 
 use crate::grant::Prize;
+use crate::verdict::{ends_by, standings_by, verdicts};
 use crate::scan::{commit, end, ever_sent, grant, matched};
 use crate::{ActionEnd, Answer, Attempt, Branch, Cause, CommitEnd, Entry, Fate, Journal, Maker, Outcome, Plan, PlanAction, Standing};
 
@@ -61,33 +62,20 @@ pub fn winning_answer(j: &Journal, action: u32) -> Option<&Answer>
     }
 }
 
-/// How each action of the plan ends, in their order.
+/// How each action of the plan ends, in their order. It goes through the journal once.
 ///
 /// # Errors
 ///
 /// `NoMemory` where the list finds no memory.
 pub fn action_ends(alloc: Global, plan: &Plan, j: &Journal) -> Result<Vec<ActionEnd>, NoMemory>
-    requires sound { Sound plan.now }
+    requires { Sound plan.now }
     ensures { IfOk result (λ ends. ends.items ≡ ends_of plan.now (reverse j.now)) }
 {
-    let count = plan.actions.as_slice().len();
-    let mut ends = Vec::with_capacity(alloc, count)?;
-    for a in 0..count {
-        ends.push(end_of_action(plan, j, a as u32))?;
-    }
+    let works = plan.actions.as_slice();
+    let verdicts = verdicts(alloc, plan, j.entries())?;
+    let standings = standings_by(alloc, works, verdicts.as_slice())?;
+    let ends = ends_by(alloc, works, verdicts.as_slice(), standings.as_slice())?;
     Ok(ends)
-}
-
-fn end_of_action(plan: &Plan, j: &Journal, action: u32) -> ActionEnd
-    requires sound { Sound plan.now }
-    requires within { action < length plan.now.actions }
-    ensures { result ≡ action_end plan.now (reverse j.now) action }
-{
-    ActionEnd {
-        outcome: outcome(plan, j, action),
-        local: fate(plan, j, action, Branch::Local),
-        remote: fate(plan, j, action, Branch::Remote),
-    }
 }
 
 fn outcome_in(plan: &Plan, entries: &[Entry], action: u32, work: &PlanAction) -> Outcome
@@ -105,7 +93,7 @@ fn outcome_in(plan: &Plan, entries: &[Entry], action: u32, work: &PlanAction) ->
     starved_outcome(&all[..plan.actions.as_slice().len()], work)
 }
 
-fn starved_outcome(standings: &[Standing], work: &PlanAction) -> Outcome
+pub fn starved_outcome(standings: &[Standing], work: &PlanAction) -> Outcome
     ensures { result ≡ (if is_starved work.now standings.now then skipped standings.now work.now else Outcome.Unsettled) }
 {
     if is_input_lost(work.makers.as_slice(), standings) {
@@ -150,7 +138,7 @@ fn is_winner(entries: &[Entry], action: u32, branch: Branch) -> bool
     }
 }
 
-fn winner_fate(commit: Option<CommitEnd>) -> Fate
+pub fn winner_fate(commit: Option<CommitEnd>) -> Fate
     ensures { result ≡ won_or_spoiled commit }
 {
     match commit {
@@ -159,7 +147,7 @@ fn winner_fate(commit: Option<CommitEnd>) -> Fate
     }
 }
 
-fn loser_fate(limit: u32, cause: Option<Cause>, sent: bool) -> Fate
+pub fn loser_fate(limit: u32, cause: Option<Cause>, sent: bool) -> Fate
     ensures { result ≡ lost_fate limit cause sent }
 {
     match cause {
@@ -183,7 +171,7 @@ fn granted_outcome(entries: &[Entry], action: u32) -> Option<Outcome>
     }
 }
 
-fn committed_outcome(branch: Branch, commit: Option<CommitEnd>) -> Option<Outcome>
+pub fn committed_outcome(branch: Branch, commit: Option<CommitEnd>) -> Option<Outcome>
     ensures { result ≡ commit_outcome branch commit }
 {
     match commit {
@@ -269,7 +257,7 @@ fn standing_next(plan: &Plan, entries: &[Entry], action: u32, work: &PlanAction,
     }
 }
 
-fn is_input_lost(makers: &[Maker], standings: &[Standing]) -> bool
+pub fn is_input_lost(makers: &[Maker], standings: &[Standing]) -> bool
     ensures { result ≡ list_any (λ m. is_without (slice_get standings.now m.action)) makers.now }
 {
     makers.iter().any(|m| is_lost(standings, m.action))

@@ -2,7 +2,7 @@
 ghost use Rattle.std.specs.Prelude.{◌≡◌, ◌∷◌, reverse, option_copied, option_map, unwrap_or, if◌then◌else◌};
 ghost use Rattle.exec_journal.specs.Entries.{launch_of_entry};
 ghost use Rattle.exec_journal.specs.Scans.{ended_line};
-ghost use Rattle.exec_journal.specs.Tallies.{AreActions, AreLines, action_after, branch_after, line_after, reply_action, call_action, broken_line, update_if};
+ghost use Rattle.exec_journal.specs.Tallies.{AllNew, new_action, new_line, AreActions, AreLines, action_after, branch_after, line_after, reply_action, call_action, broken_line, update_if};
 
 use crate::grant::{Grant, grant_in};
 use crate::scan::{break_in, commit_in, ended_line, is_end, is_send_of, last_work, sent_by};
@@ -53,6 +53,35 @@ impl BranchFact {
             sent: self.sent || is_send_of(entry, attempt.action, attempt.branch),
             track: self.track.after(attempt, order, entry, won, line),
         }
+    }
+}
+
+impl ActionFact {
+    /// Of an action of which nothing was said yet.
+    pub const NEW: ActionFact = ActionFact {
+        grant: None,
+        local: BranchFact::NEW,
+        remote: BranchFact::NEW,
+    };
+}
+
+impl LineFact {
+    /// Of a line of which nothing was said yet.
+    pub const NEW: LineFact = LineFact {
+        cause: None,
+        ended: false,
+    };
+}
+
+/// Goes through the journal once. The facts are new before, and say what the journal says afterwards.
+pub fn gather(actions: &mut [ActionFact], lines: &mut [LineFact], limit: u32, entries: &[Entry])
+    requires actions { AllNew new_action actions.old }
+    requires lines { AllNew new_line lines.old }
+    ensures actions { AreActions actions.new limit (reverse entries.now) }
+    ensures lines { AreLines lines.new (reverse entries.now) }
+{
+    for (i, entry) in entries.iter().enumerate() {
+        note(actions, lines, limit, &entries[..i], entry);
     }
 }
 
