@@ -1,4 +1,4 @@
-use Rattle.std.proofs.Common.{◌<◌, ◌≤◌, List, length, reverse, subst, sym, ◌∙◌}
+use Rattle.std.proofs.Common.{◌≡◌, ◌<◌, ◌≤◌, List, length, reverse, subst, sym, ◌∙◌}
 use Rattle.std.specs.List.{list_all}
 use Rattle.exec_journal.specs.declared.plan.PlanAction.{PlanAction}
 use Rattle.exec_journal.specs.Ends.{ends_of}
