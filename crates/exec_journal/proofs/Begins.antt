@@ -82,8 +82,8 @@ module _ (p : Plan) (j : List Entry) (g : ℕ) where
       (λ b. cond b (Some (attempt_of a Local (attempt j a Local + 1))) (cond (uses x Remote g && queued p j a Remote x) (Some (attempt_of a Remote (attempt j a Remote + 1))) None) ≡ Some t → NextAmong p j g a (x ∷ xs) t)
       (λ yes k. next_here a Local x xs t yes (cc))
       (λ _ k. u.by_bool (uses x Remote g && queued p j a Remote x)
-        (λ b. cond b (Some (attempt_of a Remote (attempt j a Remote + 1))) None ≡ Some t → NextAmong p j g a (x ∷ xs) t)
-        (λ yes k. next_here a Remote x xs t yes (cc)) (λ _ k. absurd (cc)) k) h
+      (λ b. cond b (Some (attempt_of a Remote (attempt j a Remote + 1))) None ≡ Some t → NextAmong p j g a (x ∷ xs) t)
+      (λ yes k. next_here a Remote x xs t yes (cc)) (λ _ k. absurd (cc)) k) h
 
   further : (a : ℕ) (x : PlanAction) (xs : List PlanAction) (t : Attempt) → NextAmong p j g (a + 1) xs t → NextAmong p j g a (x ∷ xs) t
   further a x xs t n = let e = n.named in record { index = suc n.index; action = n.action; place = n.place; named = omega arith; group = n.group; waiting = n.waiting; number = n.number }
@@ -150,8 +150,8 @@ bound_by p j l t None is h = absurd (cc)
 bound_by p j l t (Some (lane, s)) is h =
     u.by_bool (still_bound p j s) (λ b. cond b (Some s) None ≡ Some t → IsBound p j l t)
     (λ yes k. let e : s ≡ t = cc in
-      let parts = and_parts (wanted p j s.action s.branch) _ yes in let more = and_parts (not (was_sent j s)) _ parts.1 in
-      subst (IsBound p j l) e (record { lane = lane; launched = is; wish = parts.0; unsent = u.not_true _ more.0; going = u.not_true _ more.1 }))
+    let parts = and_parts (wanted p j s.action s.branch) _ yes in let more = and_parts (not (was_sent j s)) _ parts.1 in
+    subst (IsBound p j l) e (record { lane = lane; launched = is; wish = parts.0; unsent = u.not_true _ more.0; going = u.not_true _ more.1 }))
     (λ _ k. absurd (cc)) h
 
 pub bound_is : (p : Plan) (j : List Entry) (l : ℕ) (t : Attempt) → bound p j l ≡ Some t → IsBound p j l t
@@ -294,7 +294,7 @@ module _ (p : Plan) (e : Entry) (j : List Entry) (order : AttemptsInOrder p j) w
     grows a b =
         u.by_bool (is_branch_of a b s) (λ _. attempt j a b ≤ attempt (e ∷ j) a b)
         (λ h. let parts = same_parts a b h in
-          rw (mine a b h) (subst (λ n. attempt j n b ≤ s.number) parts.0 (subst (λ (d : Branch). attempt j s.action d ≤ s.number) parts.1 (bounds new).1)))
+        rw (mine a b h) (subst (λ n. attempt j n b ≤ s.number) parts.0 (subst (λ (d : Branch). attempt j s.action d ≤ s.number) parts.1 (bounds new).1)))
         (λ h. rw (other a b h) (omega arith))
 
     numbered : (t : Attempt) → begun (e ∷ j) t ≡ true → (1 ≤ t.number) × (t.number ≤ attempt (e ∷ j) t.action t.branch)
@@ -313,8 +313,8 @@ module _ (p : Plan) (e : Entry) (j : List Entry) (order : AttemptsInOrder p j) w
         u.by_bool (nat_lt n (attempt j s.action s.branch)) (λ _. ended j (attempt_of s.action s.branch n) ≡ true)
         (λ below. order.older (attempt_of s.action s.branch n) low (ltb-true n (attempt j s.action s.branch) below))
         (λ above. let le = ltb-false n (attempt j s.action s.branch) above in let m = starts.begins.next in
-          let at : attempt j s.action s.branch ≡ n = omega arith in
-          last starts.begins.after at)
+        let at : attempt j s.action s.branch ≡ n = omega arith in
+        last starts.begins.after at)
       where
         last : (attempt j s.action s.branch ≡ 0) ⊎ (ended j (attempt_of s.action s.branch (attempt j s.action s.branch)) ≡ true) → attempt j s.action s.branch ≡ n → ended j (attempt_of s.action s.branch n) ≡ true
         last (inl zero_yet) at = absurd (omega arith)
@@ -324,8 +324,8 @@ module _ (p : Plan) (e : Entry) (j : List Entry) (order : AttemptsInOrder p j) w
     older t low high =
         ended_stays e j t (u.by_bool (is_branch_of t.action t.branch s) (λ _. ended j t ≡ true)
         (λ h. let parts = same_parts t.action t.branch h in
-          let below : t.number < s.number = subst (λ n. t.number < n) (mine t.action t.branch h) high in
-          subst (λ (d : Branch). ended j (attempt_of t.action d t.number) ≡ true) parts.1 (subst (λ a. ended j (attempt_of a s.branch t.number) ≡ true) parts.0 (ended_before new t.number low below)))
+        let below : t.number < s.number = subst (λ n. t.number < n) (mine t.action t.branch h) high in
+        subst (λ (d : Branch). ended j (attempt_of t.action d t.number) ≡ true) parts.1 (subst (λ a. ended j (attempt_of a s.branch t.number) ≡ true) parts.0 (ended_before new t.number low below)))
         (λ h. order.older t low (subst (λ n. t.number < n) (other t.action t.branch h) high)))
 
     within : Advances p j s → 1 ≤ p.limit → s.number ≤ p.limit
@@ -335,12 +335,12 @@ module _ (p : Plan) (e : Entry) (j : List Entry) (order : AttemptsInOrder p j) w
         u.by_bool (nat_lt (attempt j s.action s.branch) p.limit) (λ _. s.number ≤ p.limit)
         (λ below. let lt = ltb-true (attempt j s.action s.branch) p.limit below in let m = starts.begins.next in omega arith)
         (λ above. let le = ltb-false (attempt j s.action s.branch) p.limit above in let old = order.limited s.action s.branch least in
-          let at : attempt j s.action s.branch ≡ p.limit = omega arith in absurd (spent starts.begins.after at))
+        let at : attempt j s.action s.branch ≡ p.limit = omega arith in absurd (spent starts.begins.after at))
       where
         spent : (attempt j s.action s.branch ≡ 0) ⊎ (ended j (attempt_of s.action s.branch (attempt j s.action s.branch)) ≡ true) → attempt j s.action s.branch ≡ p.limit → ⊥
         spent (inl zero_yet) at = omega arith
         spent (inr over) at = (let none = starts.undropped in let d : ended j (attempt_of s.action s.branch p.limit) ≡ true = subst (λ k. ended j (attempt_of s.action s.branch k) ≡ true) at over in
-          let both : true ≡ false = sym d ∙ none in absurd (cc))
+            let both : true ≡ false = sym d ∙ none in absurd (cc))
 
     limited : (a : ℕ) (b : Branch) → 1 ≤ p.limit → attempt (e ∷ j) a b ≤ p.limit
     limited a b least =

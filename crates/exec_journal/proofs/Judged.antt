@@ -103,7 +103,7 @@ least_step standings makers i d least whole lt h unmade =
     let m = get_or makers i d in
     lesser_assoc least (Some m.action) (least_without standings (drop (i + 1) makers))
     ∙ sym (ap (λ (ms : List Maker). lesser least (least_without standings ms)) (drop_more makers i d lt)
-      ∙ ap (λ b. lesser least (cond b (least_without standings (drop (i + 1) makers)) (lesser (Some m.action) (least_without standings (drop (i + 1) makers))))) unmade)
+    ∙ ap (λ b. lesser least (cond b (least_without standings (drop (i + 1) makers)) (lesser (Some m.action) (least_without standings (drop (i + 1) makers))))) unmade)
     ∙ h
 
 pub least_skip : (standings : List Standing) (makers : List Maker) (i : ℕ) (d : Maker) (least whole : Option ℕ) → i < length makers
@@ -112,7 +112,7 @@ pub least_skip : (standings : List Standing) (makers : List Maker) (i : ℕ) (d 
 least_skip standings makers i d least whole lt h made =
     let m = get_or makers i d in
     sym (ap (λ (ms : List Maker). lesser least (least_without standings ms)) (drop_more makers i d lt)
-      ∙ ap (λ b. lesser least (cond b (least_without standings (drop (i + 1) makers)) (lesser (Some m.action) (least_without standings (drop (i + 1) makers))))) made)
+    ∙ ap (λ b. lesser least (cond b (least_without standings (drop (i + 1) makers)) (lesser (Some m.action) (least_without standings (drop (i + 1) makers))))) made)
     ∙ h
 
 pub least_all : (standings : List Standing) (makers : List Maker) (i : ℕ) (least : Option ℕ) (whole : Option ℕ) → length makers ≤ i

@@ -96,7 +96,7 @@ last_work_own lane (e ∷ j) all =
     u.by_bool ((e.lane == lane) && (not (is_look e.call) && not (is_halt e.call)))
     (λ b. WorkOwn (e ∷ j) (or_else (cond b (Some e) None) (latest (λ _ d. work_at lane d) j)) (lane / 2))
     (λ h. let same = eqb-true e.lane lane (and_parts (e.lane == lane) _ h).0 in
-      subst (λ (n : ℕ). WorkOwn (e ∷ j) (Some e) (n / 2)) same (of_berth_option e j (call_line e.call) (e.lane / 2) all.1.numbered all.1.called, all.1.replied))
+    subst (λ (n : ℕ). WorkOwn (e ∷ j) (Some e) (n / 2)) same (of_berth_option e j (call_line e.call) (e.lane / 2) all.1.numbered all.1.called, all.1.replied))
     (λ _. work_more e j (last_work j lane) (lane / 2) all.1.numbered (last_work_own lane j all.0))
 
 -- ---- what the rules name
@@ -255,9 +255,11 @@ pub lines_named : (p : Plan) (j : List Entry) → Legal p j → NameTheirLines j
 lines_named p [] legal = tt
 lines_named p (e ∷ j) legal =
     let all = lines_named p j legal.0 in
-    let ruled = ruled_own p j e.lane e.call e.reply all (subst (λ (x : Reply). u.Ruled p j e.lane e.call x) (sym legal.1.replied) (u.ruled p j e.lane e.call)) in
-    (all, record {
-      called = script_own p j e.lane e.call legal.1.scripted all;
-      replied = reply_own e j ruled.0 ruled.1;
-      numbered = ruled.1;
-    })
+    let ruled = ruled_own p j e.lane e.call e.reply all (subst (λ (x : Reply). u.Ruled p j e.lane e.call x) (sym legal.1.replied) (u.ruled p j e.lane e.call)) in (
+      all,
+      record {
+        called = script_own p j e.lane e.call legal.1.scripted all;
+        replied = reply_own e j ruled.0 ruled.1;
+        numbered = ruled.1;
+      },
+    )

@@ -255,9 +255,9 @@ module _ (p : Plan) (j : List Entry) (lane : ℕ) where
       (λ b. Ruled p j lane (call.Answer l x) (cond b (reply.Breach breach.NotCancelled) (cond (granted j q.attempt.action) (reply.Late q.attempt.action q.attempt.branch q.attempt.number) (reply.Matched q.attempt.action q.attempt.branch q.attempt.number))))
       (λ _. IsNotCancelled l x whole)
       (λ may. let is : IsRequest p j (lane / 2) l x q = record { unbroken = whole; is_open = still; single = one; multi = many; allowed = may } in
-        by_bool (granted j q.attempt.action)
-        (λ b. Ruled p j lane (call.Answer l x) (cond b (reply.Late q.attempt.action q.attempt.branch q.attempt.number) (reply.Matched q.attempt.action q.attempt.branch q.attempt.number)))
-        (λ g. IsLate l x q is g) (λ g. IsMatched l x q is g))
+      by_bool (granted j q.attempt.action)
+      (λ b. Ruled p j lane (call.Answer l x) (cond b (reply.Late q.attempt.action q.attempt.branch q.attempt.number) (reply.Matched q.attempt.action q.attempt.branch q.attempt.number)))
+      (λ g. IsLate l x q is g) (λ g. IsMatched l x q is g))
 
   single_ruled : (l : ℕ) (x : Answer) → broke j l ≡ false → is_single (kind_of p (lane / 2)) ≡ true → int_eq x.number (pos 0) ≡ true
       → (o : Option Request) → r.head (pending j l) ≡ o → Ruled p j lane (call.Answer l x) (r.answer_single j x o)
@@ -275,13 +275,13 @@ module _ (p : Plan) (j : List Entry) (lane : ℕ) where
   answer_ruled : (l : ℕ) (x : Answer) → Ruled p j lane (call.Answer l x) (r.answer_reply p j (lane / 2) l x)
   answer_ruled l x =
       by_bool (broke j l) (λ b. Ruled p j lane (call.Answer l x) (cond b (reply.Breach breach.Broken) (cond (is_single (kind_of p (lane / 2)))
-        (cond (int_eq x.number (pos 0)) (r.answer_single j x (r.head (pending j l))) (reply.Breach breach.WrongNumber)) (r.answer_multi j x (find (λ y. int_eq y.number x.number) (sends j l))))))
+      (cond (int_eq x.number (pos 0)) (r.answer_single j x (r.head (pending j l))) (reply.Breach breach.WrongNumber)) (r.answer_multi j x (find (λ y. int_eq y.number x.number) (sends j l))))))
       (λ b. IsBroken l x b)
       (λ whole. by_bool (is_single (kind_of p (lane / 2))) (λ b. Ruled p j lane (call.Answer l x) (cond b
-        (cond (int_eq x.number (pos 0)) (r.answer_single j x (r.head (pending j l))) (reply.Breach breach.WrongNumber)) (r.answer_multi j x (find (λ y. int_eq y.number x.number) (sends j l)))))
-        (λ one. by_bool (int_eq x.number (pos 0)) (λ b. Ruled p j lane (call.Answer l x) (cond b (r.answer_single j x (r.head (pending j l))) (reply.Breach breach.WrongNumber)))
-          (λ zero. single_ruled l x whole one zero (r.head (pending j l)) refl) (λ _. IsWrong l x whole))
-        (λ many. multi_ruled l x whole many (find (λ y. int_eq y.number x.number) (sends j l)) refl))
+      (cond (int_eq x.number (pos 0)) (r.answer_single j x (r.head (pending j l))) (reply.Breach breach.WrongNumber)) (r.answer_multi j x (find (λ y. int_eq y.number x.number) (sends j l)))))
+      (λ one. by_bool (int_eq x.number (pos 0)) (λ b. Ruled p j lane (call.Answer l x) (cond b (r.answer_single j x (r.head (pending j l))) (reply.Breach breach.WrongNumber)))
+      (λ zero. single_ruled l x whole one zero (r.head (pending j l)) refl) (λ _. IsWrong l x whole))
+      (λ many. multi_ruled l x whole many (find (λ y. int_eq y.number x.number) (sends j l)) refl))
 
   again_ruled : (a : ℕ) (b : Branch) (t : ℕ) (f : Found) → r.is_other b (grant_of j a) ≡ false → may_win f ≡ false → Ruled p j lane (call.Claim a b t f) (cond (nat_lt t p.limit) reply.AgainLater reply.Dropped)
   again_ruled a b t f free none = by_bool (nat_lt t p.limit) (λ c. Ruled p j lane (call.Claim a b t f) (cond c reply.AgainLater reply.Dropped)) (λ below. Defers a b t f free none below) (λ at. Drops a b t f free none at)

@@ -318,8 +318,10 @@ branch_start t = record { commits = refl; sends = refl; tracks = track_new _ t r
 
 pub actions_start : (xs : List ActionFact) (limit : ℕ) → AllNew new_action xs → AreActions xs limit []
 unfolding grant_of
-actions_start xs limit new = record { each = λ a f h. subst (λ (g : ActionFact). IsActionFact g limit [] a) (sym (new.each a f h))
-    (record { grant_is = refl; local_is = branch_start (attempt_of a Local limit); remote_is = branch_start (attempt_of a Remote limit) }) }
+actions_start xs limit new = record {
+  each = λ a f h. subst (λ (g : ActionFact). IsActionFact g limit [] a) (sym (new.each a f h))
+      (record { grant_is = refl; local_is = branch_start (attempt_of a Local limit); remote_is = branch_start (attempt_of a Remote limit) });
+}
 
 pub lines_start : (xs : List LineFact) → AllNew new_line xs → AreLines xs []
 unfolding line_cause has_ended

@@ -238,8 +238,8 @@ pub follow_concerned : (es : List Entry) (i : ℕ) (e : Entry) (k : Track) (t : 
 follow_concerned es i e k t won lt is old order work lost line new made now grant =
     let j = front es i in
     let after : new ≡ track_after k t (last_work j e.lane) e (granted j t.action) (ended_line j k.line) =
-      (made ∙ ap (λ (o : Option Entry). track_after k t o e won lost) work ∙ ap (λ b. track_after k t (last_work j e.lane) e b lost) old.grant
-      ∙ ap (λ (o : Option Cause). track_after k t (last_work j e.lane) e (granted j t.action) o) line) in
+    (made ∙ ap (λ (o : Option Entry). track_after k t o e won lost) work ∙ ap (λ b. track_after k t (last_work j e.lane) e b lost) old.grant
+    ∙ ap (λ (o : Option Cause). track_after k t (last_work j e.lane) e (granted j t.action) o) line) in
     subst (λ (h : List Entry). Follows new now h t) (next_front es i e lt is)
     (record {
       track = subst (λ (x : Track). IsTrack x (e ∷ j) t) (sym after) (track_entry k j e t old.track);

@@ -76,7 +76,7 @@ track_after k t order e won line = record {
   answered = is_for t (consumed_in e.reply) || k.answered;
   wrote = option_or k.wrote (wrote_if t e.call (send_of_entry order));
   fault = option_or k.fault (fault_by t order e.call e.reply);
-  ended = end_now k won line
+  ended = end_now k won line;
 }
 
 -- the entry says something of the attempt or grants its action

@@ -54,14 +54,14 @@ abbrev pub branch_after : BranchFact → Attempt → Option Entry → Entry → 
 branch_after f t order e won line = record {
   commit = option_or f.commit (committed_in t.action t.branch e.call);
   sent = f.sent || is_of_branch t.action t.branch (send_in e.reply);
-  track = track_after f.track t order e won line
+  track = track_after f.track t order e won line;
 }
 
 abbrev pub action_after : List Entry → ℕ → ℕ → Option Entry → Entry → ActionFact → ActionFact
 action_after j limit a order e f = record {
   grant = option_or f.grant (option_map grant_fact (grants a e));
   local = branch_after f.local (attempt_of a Local limit) order e (is_some f.grant) (ended_line j f.local.track.line);
-  remote = branch_after f.remote (attempt_of a Remote limit) order e (is_some f.grant) (ended_line j f.remote.track.line)
+  remote = branch_after f.remote (attempt_of a Remote limit) order e (is_some f.grant) (ended_line j f.remote.track.line);
 }
 
 abbrev pub line_after : List Entry → ℕ → Entry → LineFact → LineFact

@@ -31,7 +31,7 @@ verdict_of p j a x = record {
   own = grant_outcome j (grant_of j a);
   dropped = all_dropped p j a x;
   local = fate_after p j a Local x.local;
-  remote = fate_after p j a Remote x.remote
+  remote = fate_after p j a Remote x.remote;
 }
 
 -- those of the actions from a on
@@ -87,7 +87,7 @@ verdict_by limit f x local_line remote_line = record {
   own = own_by f f.grant;
   dropped = is_gone x.local (end_now f.local.track (is_some f.grant) local_line) && is_gone x.remote (end_now f.remote.track (is_some f.grant) remote_line);
   local = fate_by limit x.local Local f.grant f.local (end_now f.local.track (is_some f.grant) local_line);
-  remote = fate_by limit x.remote Remote f.grant f.remote (end_now f.remote.track (is_some f.grant) remote_line)
+  remote = fate_by limit x.remote Remote f.grant f.remote (end_now f.remote.track (is_some f.grant) remote_line);
 }
 
 -- the standings of all actions, one by one

@@ -8,13 +8,15 @@ ghost use Rattle.exec_journal.specs.Ends.{ends_of};
 ghost use Rattle.exec_journal.specs.Sound.{Sound};
 ghost use Rattle.exec_journal.specs.Outcomes.{grant_outcome, commit_outcome, least_without, skipped, outcome_after, outcome_of, won_or_spoiled, lost_fate, fate_after, fate_of, is_ok, is_some_ok, is_winner, lesser, winning_answer};
 
+use crate::grant::Prize;
+use crate::scan::{commit, end, ever_sent, grant, matched};
+use crate::verdict::{ends_by, standings_by, verdicts};
+use crate::{
+    ActionEnd, Answer, Attempt, Branch, Cause, CommitEnd, Entry, Fate, Journal, Maker, Outcome,
+    Plan, PlanAction, Standing,
+};
 use std::alloc::Global;
 use wire_fields::NoMemory;
-
-use crate::grant::Prize;
-use crate::verdict::{ends_by, standings_by, verdicts};
-use crate::scan::{commit, end, ever_sent, grant, matched};
-use crate::{ActionEnd, Answer, Attempt, Branch, Cause, CommitEnd, Entry, Fate, Journal, Maker, Outcome, Plan, PlanAction, Standing};
 
 /// The outcome of the action, by the journal. It takes no memory: it looks through the journal for each
 /// action on which this one may depend.
@@ -117,7 +119,11 @@ fn fate_in(plan: &Plan, entries: &[Entry], action: u32, branch: Branch, group: O
         branch,
         number: plan.limit,
     };
-    loser_fate(plan.limit, end(entries, last), ever_sent(entries, action, branch))
+    loser_fate(
+        plan.limit,
+        end(entries, last),
+        ever_sent(entries, action, branch),
+    )
 }
 
 fn group(work: &PlanAction, branch: Branch) -> Option<u32>
@@ -187,7 +193,11 @@ fn granted_standing(entries: &[Entry], action: u32) -> Option<Standing>
     let grant = grant(entries, action)?;
     match grant.prize {
         Prize::Exit(_) => Some(Standing::Without),
-        Prize::Files => committed_standing(commit(entries, grant.attempt.action, grant.attempt.branch)),
+        Prize::Files => committed_standing(commit(
+            entries,
+            grant.attempt.action,
+            grant.attempt.branch,
+        )),
         Prize::Nothing => None,
     }
 }
@@ -215,7 +225,13 @@ fn is_dropped(plan: &Plan, entries: &[Entry], action: u32, branch: Branch) -> bo
     end(entries, last).is_some()
 }
 
-fn is_unused_or_dropped(plan: &Plan, entries: &[Entry], action: u32, branch: Branch, group: Option<u32>) -> bool
+fn is_unused_or_dropped(
+    plan: &Plan,
+    entries: &[Entry],
+    action: u32,
+    branch: Branch,
+    group: Option<u32>,
+) -> bool
     ensures { result ≡ unused_or_dropped plan.now (reverse entries.now) action branch group }
 {
     group.is_none() || is_dropped(plan, entries, action, branch)
@@ -242,13 +258,21 @@ fn find_standings(all: &mut [Standing], plan: &Plan, entries: &[Entry])
     }
 }
 
-fn standing_next(plan: &Plan, entries: &[Entry], action: u32, work: &PlanAction, earlier: &[Standing]) -> Standing
+fn standing_next(
+    plan: &Plan,
+    entries: &[Entry],
+    action: u32,
+    work: &PlanAction,
+    earlier: &[Standing],
+) -> Standing
     ensures { result ≡ standing_after plan.now (reverse entries.now) action work.now earlier.now }
 {
     match granted_standing(entries, action) {
         Some(standing) => standing,
         None => {
-            if is_all_dropped(plan, entries, action, work) || is_input_lost(work.makers.as_slice(), earlier) {
+            if is_all_dropped(plan, entries, action, work)
+                || is_input_lost(work.makers.as_slice(), earlier)
+            {
                 Standing::Without
             } else {
                 Standing::Open

@@ -72,8 +72,13 @@ pub fn break_in(before: &[Entry], entry: &Entry, line: u32) -> Option<Cause>
     ensures { result ≡ break_at line (reverse before.now) entry.now }
 {
     match &entry.call {
-        Call::Wrote { line: written, how, .. } if *written == line => write_break(before, *how, last_work(before, entry.lane)),
-        Call::Answer { line: answered, .. } if *answered == line && matches!(&entry.reply, Reply::Breach(_)) => Some(Cause::Breach),
+        Call::Wrote {
+            line: written,
+            how,
+            ..
+        } if *written == line => write_break(before, *how, last_work(before, entry.lane)),
+        Call::Answer { line: answered, .. }
+            if *answered == line && matches!(&entry.reply, Reply::Breach(_)) => Some(Cause::Breach),
         Call::Ended { line: ended, how } if *ended == line => Some(end_break(*how)),
         _ => None,
     }
@@ -168,7 +173,9 @@ pub fn commit(entries: &[Entry], action: u32, branch: Branch) -> Option<CommitEn
 fn committing(entries: &[Entry], action: u32, branch: Branch) -> Option<&Entry>
     ensures { option_copied result ≡ find (λ e. is_some (committed_in action branch e.call)) entries.now }
 {
-    entries.iter().find(|e| commit_in(e, action, branch).is_some())
+    entries
+        .iter()
+        .find(|e| commit_in(e, action, branch).is_some())
 }
 
 pub fn commit_in(entry: &Entry, action: u32, branch: Branch) -> Option<CommitEnd>

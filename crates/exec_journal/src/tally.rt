@@ -45,11 +45,20 @@ impl BranchFact {
         },
     };
 
-    fn after(&self, attempt: Attempt, order: Option<&Entry>, entry: &Entry, won: bool, line: Option<Cause>) -> BranchFact
+    fn after(
+        &self,
+        attempt: Attempt,
+        order: Option<&Entry>,
+        entry: &Entry,
+        won: bool,
+        line: Option<Cause>,
+    ) -> BranchFact
         ensures { result ≡ branch_after self.now attempt (option_copied order.entry) entry.now won line }
     {
         BranchFact {
-            commit: self.commit.or(commit_in(entry, attempt.action, attempt.branch)),
+            commit: self
+                .commit
+                .or(commit_in(entry, attempt.action, attempt.branch)),
             sent: self.sent || is_send_of(entry, attempt.action, attempt.branch),
             track: self.track.after(attempt, order, entry, won, line),
         }
@@ -86,7 +95,13 @@ pub fn gather(actions: &mut [ActionFact], lines: &mut [LineFact], limit: u32, en
 }
 
 /// The facts of the lines and of the actions after one more entry.
-pub fn note(actions: &mut [ActionFact], lines: &mut [LineFact], limit: u32, before: &[Entry], entry: &Entry)
+pub fn note(
+    actions: &mut [ActionFact],
+    lines: &mut [LineFact],
+    limit: u32,
+    before: &[Entry],
+    entry: &Entry,
+)
     requires actions { AreActions actions.old limit (reverse before.now) }
     requires lines { AreLines lines.old (reverse before.now) }
     ensures actions { AreActions actions.new limit (entry.now ∷ reverse before.now) }
@@ -102,7 +117,15 @@ pub fn note(actions: &mut [ActionFact], lines: &mut [LineFact], limit: u32, befo
     note_line(lines, before, line_of_call(&entry.call), entry);
 }
 
-fn note_action(actions: &mut [ActionFact], lines: &[LineFact], limit: u32, before: &[Entry], action: Option<u32>, order: Option<&Entry>, entry: &Entry)
+fn note_action(
+    actions: &mut [ActionFact],
+    lines: &[LineFact],
+    limit: u32,
+    before: &[Entry],
+    action: Option<u32>,
+    order: Option<&Entry>,
+    entry: &Entry,
+)
     requires { AreLines lines.now (reverse before.now) }
     ensures { actions.new ≡ update_if (action_after (reverse before.now) limit (unwrap_or action 0) (option_copied order.entry) entry.now) actions.old action }
 {
@@ -115,7 +138,15 @@ fn note_action(actions: &mut [ActionFact], lines: &[LineFact], limit: u32, befor
     }
 }
 
-fn action_next(fact: &ActionFact, lines: &[LineFact], limit: u32, before: &[Entry], action: u32, order: Option<&Entry>, entry: &Entry) -> ActionFact
+fn action_next(
+    fact: &ActionFact,
+    lines: &[LineFact],
+    limit: u32,
+    before: &[Entry],
+    action: u32,
+    order: Option<&Entry>,
+    entry: &Entry,
+) -> ActionFact
     requires { AreLines lines.now (reverse before.now) }
     ensures { result ≡ action_after (reverse before.now) limit action (option_copied order.entry) entry.now fact.now }
 {
@@ -189,7 +220,10 @@ fn action_of_reply(reply: &Reply) -> Option<u32>
     ensures { result ≡ reply_action reply.now }
 {
     match reply {
-        Reply::Launch { action, .. } | Reply::Send { action, .. } | Reply::Matched { action, .. } | Reply::Late { action, .. } => Some(*action),
+        Reply::Launch { action, .. }
+        | Reply::Send { action, .. }
+        | Reply::Matched { action, .. }
+        | Reply::Late { action, .. } => Some(*action),
         _ => None,
     }
 }
@@ -221,7 +255,9 @@ fn line_of_call(call: &Call) -> Option<u32>
     ensures { result ≡ broken_line call.now }
 {
     match call {
-        Call::Wrote { line, .. } | Call::Answer { line, .. } | Call::Ended { line, .. } => Some(*line),
+        Call::Wrote { line, .. } | Call::Answer { line, .. } | Call::Ended { line, .. } => Some(
+            *line,
+        ),
         _ => None,
     }
 }

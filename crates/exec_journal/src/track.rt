@@ -46,7 +46,14 @@ impl Track {
     }
 
     /// What is known after an entry. `order` is the newest work of its lane before it.
-    pub fn after(&self, attempt: Attempt, order: Option<&Entry>, entry: &Entry, won: bool, line: Option<Cause>) -> Track
+    pub fn after(
+        &self,
+        attempt: Attempt,
+        order: Option<&Entry>,
+        entry: &Entry,
+        won: bool,
+        line: Option<Cause>,
+    ) -> Track
         ensures { result ≡ track_after self.now attempt (option_copied order.entry) entry.now won line }
     {
         Track {
@@ -122,7 +129,9 @@ pub fn fault(attempt: Attempt, order: Option<&Entry>, entry: &Entry) -> Option<C
             branch,
             attempt: number,
             found,
-        } if is_refusal(&entry.reply) && attempt.is(*action, *branch, *number) => claim_fault(found),
+        } if is_refusal(&entry.reply) && attempt.is(*action, *branch, *number) => claim_fault(
+            found,
+        ),
         _ => None,
     }
 }

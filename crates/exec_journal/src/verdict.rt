@@ -7,7 +7,9 @@ ghost use Rattle.exec_journal.specs.Verdicts.{verdict_of, verdicts_from, verdict
 use crate::grant::{Grant, Prize};
 use crate::judge::{committed_outcome, is_input_lost, loser_fate, starved_outcome, winner_fate};
 use crate::tally::{ActionFact, BranchFact, LineFact, ended_at, gather};
-use crate::{ActionEnd, Branch, Cause, CommitEnd, Entry, Fate, Outcome, Plan, PlanAction, Standing};
+use crate::{
+    ActionEnd, Branch, Cause, CommitEnd, Entry, Fate, Outcome, Plan, PlanAction, Standing,
+};
 use std::alloc::Global;
 use wire_fields::NoMemory;
 
@@ -52,7 +54,13 @@ fn new_lines(alloc: Global, count: usize) -> Result<Vec<LineFact>, NoMemory>
     Ok(facts)
 }
 
-fn verdicts_by(alloc: Global, plan: &Plan, actions: &[ActionFact], lines: &[LineFact], entries: &[Entry]) -> Result<Vec<Verdict>, NoMemory>
+fn verdicts_by(
+    alloc: Global,
+    plan: &Plan,
+    actions: &[ActionFact],
+    lines: &[LineFact],
+    entries: &[Entry],
+) -> Result<Vec<Verdict>, NoMemory>
     requires few { length plan.now.actions ≤ 4096 }
     requires count { length actions.now ≡ length plan.now.actions }
     requires actions { AreActions actions.now plan.now.limit (reverse entries.now) }
@@ -67,20 +75,44 @@ fn verdicts_by(alloc: Global, plan: &Plan, actions: &[ActionFact], lines: &[Line
     Ok(verdicts)
 }
 
-fn verdict_on(limit: u32, fact: &ActionFact, lines: &[LineFact], entries: &[Entry], work: &PlanAction) -> Verdict
+fn verdict_on(
+    limit: u32,
+    fact: &ActionFact,
+    lines: &[LineFact],
+    entries: &[Entry],
+    work: &PlanAction,
+) -> Verdict
     requires { AreLines lines.now (reverse entries.now) }
     ensures { result ≡ verdict_by limit fact.now work.now (ended_line (reverse entries.now) fact.now.local.track.line) (ended_line (reverse entries.now) fact.now.remote.track.line) }
 {
     let won = fact.grant.is_some();
     let local = &fact.local;
     let remote = &fact.remote;
-    let local_end = local.track.end_now(won, ended_at(lines, entries, local.track.line));
-    let remote_end = remote.track.end_now(won, ended_at(lines, entries, remote.track.line));
+    let local_end = local
+        .track
+        .end_now(won, ended_at(lines, entries, local.track.line));
+    let remote_end = remote
+        .track
+        .end_now(won, ended_at(lines, entries, remote.track.line));
     Verdict {
         own: own_outcome(fact, fact.grant),
         dropped: is_used_up(work.local, local_end) && is_used_up(work.remote, remote_end),
-        local: branch_fate(limit, work.local, Branch::Local, fact.grant, local, local_end),
-        remote: branch_fate(limit, work.remote, Branch::Remote, fact.grant, remote, remote_end),
+        local: branch_fate(
+            limit,
+            work.local,
+            Branch::Local,
+            fact.grant,
+            local,
+            local_end,
+        ),
+        remote: branch_fate(
+            limit,
+            work.remote,
+            Branch::Remote,
+            fact.grant,
+            remote,
+            remote_end,
+        ),
     }
 }
 
@@ -88,7 +120,11 @@ fn own_outcome(fact: &ActionFact, grant: Option<Grant>) -> Option<Outcome>
     ensures { result ≡ own_by fact.now grant }
 {
     match grant {
-        Some(grant) => by_prize(grant.attempt.branch, commit_of_branch(fact, grant.attempt.branch), grant.prize),
+        Some(grant) => by_prize(
+            grant.attempt.branch,
+            commit_of_branch(fact, grant.attempt.branch),
+            grant.prize,
+        ),
         None => None,
     }
 }
@@ -118,7 +154,14 @@ fn is_used_up(group: Option<u32>, end: Option<Cause>) -> bool
     group.is_none() || end.is_some()
 }
 
-fn branch_fate(limit: u32, group: Option<u32>, branch: Branch, grant: Option<Grant>, fact: &BranchFact, end: Option<Cause>) -> Fate
+fn branch_fate(
+    limit: u32,
+    group: Option<u32>,
+    branch: Branch,
+    grant: Option<Grant>,
+    fact: &BranchFact,
+    end: Option<Cause>,
+) -> Fate
     ensures { result ≡ fate_by limit group branch grant fact.now end }
 {
     if group.is_none() {
@@ -143,7 +186,11 @@ fn is_granted(branch: Branch, grant: Option<Grant>) -> bool
 // ---- with the producers
 
 /// What is known of each action, in their order.
-pub fn standings_by(alloc: Global, works: &[PlanAction], verdicts: &[Verdict]) -> Result<Vec<Standing>, NoMemory>
+pub fn standings_by(
+    alloc: Global,
+    works: &[PlanAction],
+    verdicts: &[Verdict],
+) -> Result<Vec<Standing>, NoMemory>
     requires { length verdicts.now ≡ length works.now }
     ensures { IfOk result (λ all. all.items ≡ standings_through [] verdicts.now works.now) }
 {
@@ -172,7 +219,12 @@ fn next_standing(verdict: &Verdict, work: &PlanAction, earlier: &[Standing]) -> 
 }
 
 /// How each action ends.
-pub fn ends_by(alloc: Global, works: &[PlanAction], verdicts: &[Verdict], standings: &[Standing]) -> Result<Vec<ActionEnd>, NoMemory>
+pub fn ends_by(
+    alloc: Global,
+    works: &[PlanAction],
+    verdicts: &[Verdict],
+    standings: &[Standing],
+) -> Result<Vec<ActionEnd>, NoMemory>
     requires { length verdicts.now ≡ length works.now }
     ensures { IfOk result (λ ends. ends.items ≡ ends_through standings.now verdicts.now works.now) }
 {

@@ -13,4 +13,4 @@ returns c =
     ∙ ap (λ (es : List Entry). fate_after c.args.plan.now (reverse es) c.args.action c.args.branch c.group.result) c.entries.ensures
     ∙ ap (fate_after c.args.plan.now (reverse c.args.j.now) c.args.action c.args.branch) c.group.ensures
     ∙ sym (fate_read c.args.plan.now (reverse c.args.j.now) c.args.action c.args.branch work c.requires.within
-      (c.index-as_slice-action.is ∙ ap (λ (xs : List PlanAction). get_or xs c.args.action work) c.as_slice.ensures))
+    (c.index-as_slice-action.is ∙ ap (λ (xs : List PlanAction). get_or xs c.args.action work) c.as_slice.ensures))

@@ -15,11 +15,11 @@ loop-maker-preserved c =
     let whole = least_without c.args.standings.now c.args.makers.now in
     elim c.if-not-is_succeeded.branch [
       | then-not-is_succeeded w ↦
-        subst (λ (o : Option ℕ). lesser o rest ≡ whole) (sym (w.least-is ∙ w.lesser_of-least.ensures))
-        (least_step c.args.standings.now c.args.makers.now c.loop-maker.maker-index blank c.loop-maker.least whole c.loop-maker-test.true c.loop-maker.invariant (sym c.is_succeeded.ensures ∙ w.if-not-is_succeeded.true))
+          subst (λ (o : Option ℕ). lesser o rest ≡ whole) (sym (w.least-is ∙ w.lesser_of-least.ensures))
+          (least_step c.args.standings.now c.args.makers.now c.loop-maker.maker-index blank c.loop-maker.least whole c.loop-maker-test.true c.loop-maker.invariant (sym c.is_succeeded.ensures ∙ w.if-not-is_succeeded.true))
       | else-not-is_succeeded w ↦
-        subst (λ (o : Option ℕ). lesser o rest ≡ whole) (sym w.least-is)
-        (least_skip c.args.standings.now c.args.makers.now c.loop-maker.maker-index blank c.loop-maker.least whole c.loop-maker-test.true c.loop-maker.invariant (sym c.is_succeeded.ensures ∙ w.if-not-is_succeeded.false))
+          subst (λ (o : Option ℕ). lesser o rest ≡ whole) (sym w.least-is)
+          (least_skip c.args.standings.now c.args.makers.now c.loop-maker.maker-index blank c.loop-maker.least whole c.loop-maker-test.true c.loop-maker.invariant (sym c.is_succeeded.ensures ∙ w.if-not-is_succeeded.false))
     ]
 
 pub returns : goal.returns

@@ -12,4 +12,4 @@ returns c =
     c.outcome_in.ensures
     ∙ ap (λ (es : List Entry). outcome_after c.args.plan.now (reverse es) c.args.action work (standings c.args.plan.now (reverse es))) c.entries.ensures
     ∙ sym (outcome_read c.args.plan.now (reverse c.args.j.now) c.args.action work c.requires.within
-      (c.index-as_slice-action.is ∙ ap (λ (xs : List PlanAction). get_or xs c.args.action work) c.as_slice.ensures))
+    (c.index-as_slice-action.is ∙ ap (λ (xs : List PlanAction). get_or xs c.args.action work) c.as_slice.ensures))

@@ -19,11 +19,11 @@ returns-clause-actions c =
     let r = c.action_of_reply-by_reply.result in let k = c.action_of_call-by_call.result in
     elim c.if-ne.branch [
       | then-ne w ↦
-        noted_twice c.args.limit j e order r k c.last_work-order.ensures c.action_of_reply-by_reply.ensures c.action_of_call-by_call.ensures c.args.actions.now c.note_action.new.actions c.if-ne.actions
-        c.requires.actions c.note_action.ensures (w.actions-is ∙ w.note_action-then-ne.ensures) (not_true _ (sym c.ne.ensures ∙ w.if-ne.true))
+          noted_twice c.args.limit j e order r k c.last_work-order.ensures c.action_of_reply-by_reply.ensures c.action_of_call-by_call.ensures c.args.actions.now c.note_action.new.actions c.if-ne.actions
+          c.requires.actions c.note_action.ensures (w.actions-is ∙ w.note_action-then-ne.ensures) (not_true _ (sym c.ne.ensures ∙ w.if-ne.true))
       | else-ne w ↦
-        noted_once c.args.limit j e order r k c.last_work-order.ensures c.action_of_reply-by_reply.ensures c.action_of_call-by_call.ensures c.args.actions.now c.if-ne.actions
-        c.requires.actions (w.actions-is ∙ c.note_action.ensures) (not_false _ (sym c.ne.ensures ∙ w.if-ne.false))
+          noted_once c.args.limit j e order r k c.last_work-order.ensures c.action_of_reply-by_reply.ensures c.action_of_call-by_call.ensures c.args.actions.now c.if-ne.actions
+          c.requires.actions (w.actions-is ∙ c.note_action.ensures) (not_false _ (sym c.ne.ensures ∙ w.if-ne.false))
     ]
 
 pub returns-clause-lines : goal.returns-clause-lines

@@ -13,4 +13,4 @@ loop-a-preserved c =
     let many : c.loop-a.a < length c.args.actions.now = omega arith in
     ap (λ (vs : List Verdict). vs ++ verdicts_from p j (c.loop-a.a + 1) (drop (c.loop-a.a + 1) p.actions)) c.in_ok-push.ensures.items
     ∙ verdicts_step p j c.args.actions.now c.loop-a.verdicts.items c.loop-a.a _ c.index-works-a.result c.verdict_on.result (verdicts_from p j 0 p.actions)
-      c.requires.actions many few (c.index-works-a.is ∙ ap (λ (xs : List PlanAction). get_or xs c.loop-a.a c.index-works-a.result) c.as_slice-works.ensures) c.verdict_on.ensures c.loop-a.invariant
+    c.requires.actions many few (c.index-works-a.is ∙ ap (λ (xs : List PlanAction). get_or xs c.loop-a.a c.index-works-a.result) c.as_slice-works.ensures) c.verdict_on.ensures c.loop-a.invariant
