@@ -176,11 +176,20 @@ fn flag_line(alloc: Global, action: u32, fault: &FlagFault) -> Result<String, No
     ensures { IfOk result (λ line. string_bytes line ≡ flag_text (flag_name fault.now) (flag_path fault.now) action) }
 {
     let line = match fault {
-        FlagFault::NoSuchFile { path } => flag_path_line(alloc, "NoSuchFile", path.as_str(), action)?,
+        FlagFault::NoSuchFile { path } => flag_path_line(
+            alloc,
+            "NoSuchFile",
+            path.as_str(),
+            action,
+        )?,
         FlagFault::TooDeep { path } => flag_path_line(alloc, "TooDeep", path.as_str(), action)?,
         FlagFault::NotText { path } => flag_path_line(alloc, "NotText", path.as_str(), action)?,
-        FlagFault::TooManyWords => format!(in alloc; "worker_tool: flag file refused: TooManyWords action {action}")?,
-        FlagFault::NoMemory => format!(in alloc; "worker_tool: flag file refused: NoMemory action {action}")?,
+        FlagFault::TooManyWords => format!(in alloc;
+            "worker_tool: flag file refused: TooManyWords action {action}"
+        )?,
+        FlagFault::NoMemory => format!(in alloc;
+            "worker_tool: flag file refused: NoMemory action {action}"
+        )?,
     };
     Ok(line)
 }

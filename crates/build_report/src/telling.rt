@@ -45,7 +45,13 @@ fn is_all_success(plan: &Plan, j: &Journal) -> bool
     true
 }
 
-fn report_text(alloc: Global, plan: &Plan, j: &Journal, short: bool, ends: &[ActionEnd]) -> Result<String, NoMemory>
+fn report_text(
+    alloc: Global,
+    plan: &Plan,
+    j: &Journal,
+    short: bool,
+    ends: &[ActionEnd],
+) -> Result<String, NoMemory>
     requires { length ends.now < 2 ^ 32 }
     ensures { IfOk result (λ s. string_bytes s ≡ report_by plan.now (reverse j.now) short ends.now) }
 {
@@ -58,7 +64,13 @@ fn report_text(alloc: Global, plan: &Plan, j: &Journal, short: bool, ends: &[Act
     Ok(text)
 }
 
-fn push_lines(alloc: Global, text: &mut String, plan: &Plan, j: &Journal, ends: &[ActionEnd]) -> Result<(), NoMemory>
+fn push_lines(
+    alloc: Global,
+    text: &mut String,
+    plan: &Plan,
+    j: &Journal,
+    ends: &[ActionEnd],
+) -> Result<(), NoMemory>
     requires { length ends.now < 2 ^ 32 }
     ensures { OnOk result (string_bytes text.new ≡ string_bytes text.old ++ lines_from plan.now (reverse j.now) 0 ends.now) }
 {
@@ -68,7 +80,14 @@ fn push_lines(alloc: Global, text: &mut String, plan: &Plan, j: &Journal, ends: 
     Ok(())
 }
 
-fn push_action(alloc: Global, text: &mut String, plan: &Plan, j: &Journal, action: u32, end: &ActionEnd) -> Result<(), NoMemory>
+fn push_action(
+    alloc: Global,
+    text: &mut String,
+    plan: &Plan,
+    j: &Journal,
+    action: u32,
+    end: &ActionEnd,
+) -> Result<(), NoMemory>
     ensures { OnOk result (string_bytes text.new ≡ string_bytes text.old ++ action_lines plan.now (reverse j.now) action end.now) }
 {
     let line = end_text(alloc, plan, action, end)?;
@@ -101,7 +120,14 @@ fn answer_text(j: &Journal, action: u32) -> &str
 fn totals(alloc: Global, ends: &[ActionEnd]) -> Result<String, NoMemory>
     ensures { IfOk result (λ s. string_bytes s ≡ last_line ends.now) }
 {
-    totals_text(alloc, ends.len(), successes(ends), failures(ends), breaks(ends), skips(ends))
+    totals_text(
+        alloc,
+        ends.len(),
+        successes(ends),
+        failures(ends),
+        breaks(ends),
+        skips(ends),
+    )
 }
 
 fn successes(ends: &[ActionEnd]) -> usize
@@ -128,10 +154,19 @@ fn skips(ends: &[ActionEnd]) -> usize
     ends.iter().filter(|e| is_skip_of(e)).count()
 }
 
-fn totals_text(alloc: Global, all: usize, ok: usize, failed: usize, broken: usize, skipped: usize) -> Result<String, NoMemory>
+fn totals_text(
+    alloc: Global,
+    all: usize,
+    ok: usize,
+    failed: usize,
+    broken: usize,
+    skipped: usize,
+) -> Result<String, NoMemory>
     ensures { IfOk result (λ s. string_bytes s ≡ totals_line all ok failed broken skipped) }
 {
-    Ok(format!(in alloc; "actions={all} ok={ok} failed={failed} broken={broken} skipped={skipped}\n")?)
+    Ok(format!(in alloc;
+        "actions={all} ok={ok} failed={failed} broken={broken} skipped={skipped}\n"
+    )?)
 }
 
 fn is_ok(end: &ActionEnd) -> bool
