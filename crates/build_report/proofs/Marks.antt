@@ -51,7 +51,7 @@ pub record IsCut (bs line rest : List ℕ) : Type 0 where
 pub cut_some : (bs : List ℕ) (r : Option (Bor (List ℕ) × Bor (List ℕ))) (line rest : Bor (List ℕ)) → IsSplitOnceResult 10 bs r → r ≡ Some (line, rest) → IsCut bs line.now rest.now
 cut_some bs r line rest h is =
     let parts = MatchOption-at_some ((i : ℕ) → i < length bs → get_or bs i 0 ≢ 10) (λ (x : Bor (List ℕ) × Bor (List ℕ)). (bs ≡ x.0.now ++ (10 ∷ x.1.now)) × ((i : ℕ) → i < length x.0.now → get_or x.0.now i 0 ≢ 10)) (line, rest) is
-      (split_parts 10 bs r h (omega arith)) in
+    (split_parts 10 bs r h (omega arith)) in
     record { parts = parts.0; free = parts.1 }
 
 pub cut_none : (bs : List ℕ) (r : Option (Bor (List ℕ) × Bor (List ℕ))) → IsSplitOnceResult 10 bs r → r ≡ None → IsLine bs
@@ -77,10 +77,10 @@ pub put_line : (old new next text rest line left : List ℕ) → IsPut old new t
 put_line old new next text rest line left h cut is = record {
   is_text = left_is_text line left (subst IsUtf8 cut.parts h.is_text);
   same =
-    ap (λ (xs : List ℕ). xs ++ marked left) is
-    ∙ append_assoc new (codes "  | " ++ (line ++ (10 ∷ []))) (marked left)
-    ∙ ap (λ (xs : List ℕ). new ++ xs) (sym (ap marked cut.parts ∙ split_marked line left cut.free))
-    ∙ h.same;
+      ap (λ (xs : List ℕ). xs ++ marked left) is
+      ∙ append_assoc new (codes "  | " ++ (line ++ (10 ∷ []))) (marked left)
+      ∙ ap (λ (xs : List ℕ). new ++ xs) (sym (ap marked cut.parts ∙ split_marked line left cut.free))
+      ∙ h.same;
 }
 
 pub put_last : (old new next text rest : List ℕ) → IsPut old new text rest → IsLine rest → 0 < length rest → next ≡ new ++ (codes "  | " ++ (rest ++ (10 ∷ []))) → next ≡ old ++ marked text
