@@ -12,10 +12,10 @@ use Rattle.worker_run.specs.declared.action.OneAction.{OneAction}
 use Rattle.worker_run.specs.declared.work.Work.{Work}
 use Rattle.worker_run.specs.declared.reading.Job.{Job}
 use Rattle.worker_run.specs.declared.reading.Job.TheVariants as job
-use Rattle.worker_run.specs.declared.fault.RunFault.{RunFault}
-use Rattle.worker_run.specs.declared.fault.RunFault.TheVariants as fault
-use Rattle.worker_run.specs.declared.fault.Stage.TheVariants as stage
-use Rattle.worker_run.specs.declared.fault.Unbuilt.TheVariants as unbuilt
+use Rattle.build_report.specs.declared.fault.RunFault.{RunFault}
+use Rattle.build_report.specs.declared.fault.RunFault.TheVariants as fault
+use Rattle.build_report.specs.declared.fault.Stage.TheVariants as stage
+use Rattle.build_report.specs.declared.fault.Unbuilt.TheVariants as unbuilt
 use Rattle.worker_run.specs.Action.{IsListOf, IsFlagText, empty_list}
 use Rattle.worker_run.specs.Course.{Course, ListRead, InputRead, IsWorkOf, IsOtherList, Logs, AreOfFiles, UnlessBefore, IsRead, ReadsOnce, end_of}
 use Rattle.worker_run.proofs.Runs.{adds_on}
@@ -36,6 +36,9 @@ list_ends path (fault.Absent at) files old new h = one_logged path read.Absent f
 list_ends path (fault.FloorFailed at) files old new h = one_logged path read.Failed files old new _ h.1 (refl, (refl, ap (λ (p : List ℕ). Err (fault.FloorFailed p)) h.0))
 list_ends path (fault.NotYetBuilt what) files old new h = absurd h
 list_ends path fault.SinkFailed files old new h = absurd h
+list_ends path fault.Words files old new h = absurd h
+list_ends path (fault.List f) files old new h = absurd h
+list_ends path (fault.Flags a f) files old new h = absurd h
 
 pub list_is_empty : (path bytes : List ℕ) (files : Option (List SourceFile)) (old new : Option (List FloorRead)) → ReadsOnce path (Ok bytes) files old new → bytes ≡ empty_list → Logs files old new (λ reads. ListRead path reads (Ok job.Nothing))
 list_is_empty path bytes files old new h e = one_logged path (read.Found bytes) files old new _ h (refl, e)
@@ -49,6 +52,9 @@ input_ends action path (fault.Absent at) files old new e h = one_logged path rea
 input_ends action path (fault.FloorFailed at) files old new e h = one_logged path read.Failed files old new _ h.1 (e, ap (λ (p : List ℕ). Err (fault.FloorFailed p)) (h.0 ∙ e))
 input_ends action path (fault.NotYetBuilt what) files old new e h = absurd h
 input_ends action path fault.SinkFailed files old new e h = absurd h
+input_ends action path fault.Words files old new e h = absurd h
+input_ends action path (fault.List f) files old new e h = absurd h
+input_ends action path (fault.Flags a f) files old new e h = absurd h
 
 pub input_is_other : (action : OneAction) (path bytes : List ℕ) (files : Option (List SourceFile)) (old new : Option (List FloorRead)) → path ≡ action.input → ReadsOnce path (Ok bytes) files old new → (IsFlagText bytes → ⊥) → Logs files old new (λ reads. InputRead action reads (Err (fault.NotYetBuilt unbuilt.FlagFile)))
 input_is_other action path bytes files old new e h other = one_logged path (read.Found bytes) files old new _ h (e, (other, refl))
@@ -64,6 +70,9 @@ unless_weaker (Some (fault.Absent at)) P Q f h = f h
 unless_weaker (Some (fault.FloorFailed at)) P Q f h = f h
 unless_weaker (Some (fault.NotYetBuilt what)) P Q f h = f h
 unless_weaker (Some fault.SinkFailed) P Q f h = f h
+unless_weaker (Some fault.Words) P Q f h = f h
+unless_weaker (Some (fault.List x)) P Q f h = f h
+unless_weaker (Some (fault.Flags a x)) P Q f h = f h
 
 -- an input is read behind the list
 input_behind : (path bytes : List ℕ) (action : OneAction) (made : Result Job RunFault) (rest : List FloorRead) → IsListOf bytes action → InputRead action rest made → ListRead path (one_read path (read.Found bytes) ++ rest) made

@@ -2,10 +2,10 @@
 use Rattle.std.proofs.Common.{◌≡◌, ℕ, List, [], Option, Some, None, Result, Ok, Err, refl, subst, sym}
 use Rattle.outside.specs.declared.floor.FloorRead.{FloorRead}
 use Rattle.outside.specs.declared.floor.SourceFile.{SourceFile}
-use Rattle.worker_run.specs.declared.fault.RunFault.{RunFault}
-use Rattle.worker_run.specs.declared.fault.RunFault.TheVariants as fault
-use Rattle.worker_run.specs.declared.fault.Stage.{Stage}
-use Rattle.worker_run.specs.declared.fault.Stage.TheVariants as stage
+use Rattle.build_report.specs.declared.fault.RunFault.{RunFault}
+use Rattle.build_report.specs.declared.fault.RunFault.TheVariants as fault
+use Rattle.build_report.specs.declared.fault.Stage.{Stage}
+use Rattle.build_report.specs.declared.fault.Stage.TheVariants as stage
 use Rattle.worker_run.specs.declared.reading.Job.{Job}
 use Rattle.worker_run.specs.declared.reading.Job.TheVariants as job
 use Rattle.worker_run.specs.Course.{Course, Logs, UnlessBefore, end_of}
@@ -22,6 +22,9 @@ after_weaker (Some (fault.Absent at)) P Q R f h = f h
 after_weaker (Some (fault.FloorFailed at)) P Q R f h = f h
 after_weaker (Some (fault.NotYetBuilt what)) P Q R f h = f h
 after_weaker (Some fault.SinkFailed) P Q R f h = f h
+after_weaker (Some fault.Words) P Q R f h = f h
+after_weaker (Some (fault.List x)) P Q R f h = f h
+after_weaker (Some (fault.Flags a x)) P Q R f h = f h
 
 led : (word : Option (List ℕ)) (files : Option (List SourceFile)) (log_old log_new : Option (List FloorRead)) (made : Result Job RunFault) (end : Option RunFault) (run : Left) (old new : Option (List ℕ))
     → Logs files log_old log_new (λ reads. Course word reads made) → EndsAs made end run old new → Logs files log_old log_new (λ reads. Ran word reads end run old new)
@@ -49,3 +52,6 @@ fault_ends word files log_old log_new (fault.Absent at) run old new h none put =
 fault_ends word files log_old log_new (fault.FloorFailed at) run old new h none put = led word files log_old log_new (Err (fault.FloorFailed at)) (Some (fault.FloorFailed at)) run old new h (refl, none, put)
 fault_ends word files log_old log_new (fault.NotYetBuilt what) run old new h none put = led word files log_old log_new (Err (fault.NotYetBuilt what)) (Some (fault.NotYetBuilt what)) run old new h (refl, none, put)
 fault_ends word files log_old log_new fault.SinkFailed run old new h none put = led word files log_old log_new (Err fault.SinkFailed) (Some fault.SinkFailed) run old new h (refl, none, put)
+fault_ends word files log_old log_new fault.Words run old new h none put = led word files log_old log_new (Err fault.Words) (Some fault.Words) run old new h (refl, none, put)
+fault_ends word files log_old log_new (fault.List x) run old new h none put = led word files log_old log_new (Err (fault.List x)) (Some (fault.List x)) run old new h (refl, none, put)
+fault_ends word files log_old log_new (fault.Flags a x) run old new h none put = led word files log_old log_new (Err (fault.Flags a x)) (Some (fault.Flags a x)) run old new h (refl, none, put)

@@ -11,13 +11,16 @@ use Rattle.worker_run.specs.Reached.{TellsRun}
 use Rattle.worker_run.proofs.Streams.{never_by_more}
 use Rattle.worker_run.proofs.Frames.{of_told}
 
+two_lists : {ys : List ℕ} → ys ≡ [] → ys ≡ 0 ∷ [] → ⊥
+two_lists {ys = ys} a b = let e : length ys ≡ 0 = ap length a in let f : length ys ≡ 1 = ap length b in omega arith
+
 -- An object that tells nothing can't begin to, and where nothing was added what held still holds.
 pub keeps : (P : List ℕ → Type 0) (old new : Option (List ℕ)) → Adds [] old new → IfSome old P → IfSome new P
 keeps P old None adds p = tt
 keeps P None (Some ys) adds p =
     let a : ys ≡ [] = adds [] tt in
     let b : ys ≡ 0 ∷ [] = adds (0 ∷ []) tt in
-    let c : [] ≡ 0 ∷ [] = sym a ∙ b in absurd cc
+    absurd (two_lists a b)
 keeps P (Some xs) (Some ys) adds p = subst P (sym (adds xs refl ∙ append-nil xs)) p
 
 -- more than nothing can't be all there is

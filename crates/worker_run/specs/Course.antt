@@ -7,10 +7,10 @@ use Rattle.outside.specs.declared.answers.Read.{Read}
 use Rattle.outside.specs.declared.answers.Read.TheVariants as read
 use Rattle.outside.specs.declared.floor.FloorRead.{FloorRead}
 use Rattle.outside.specs.declared.floor.SourceFile.{SourceFile}
-use Rattle.worker_run.specs.declared.fault.RunFault.{RunFault}
-use Rattle.worker_run.specs.declared.fault.RunFault.TheVariants as fault
-use Rattle.worker_run.specs.declared.fault.Stage.TheVariants as stage
-use Rattle.worker_run.specs.declared.fault.Unbuilt.TheVariants as unbuilt
+use Rattle.build_report.specs.declared.fault.RunFault.{RunFault}
+use Rattle.build_report.specs.declared.fault.RunFault.TheVariants as fault
+use Rattle.build_report.specs.declared.fault.Stage.TheVariants as stage
+use Rattle.build_report.specs.declared.fault.Unbuilt.TheVariants as unbuilt
 use Rattle.worker_run.specs.declared.action.OneAction.{OneAction}
 use Rattle.worker_run.specs.declared.work.Work.{Work}
 use Rattle.worker_run.specs.declared.reading.Job.{Job}

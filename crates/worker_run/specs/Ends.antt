@@ -5,10 +5,10 @@ use Rattle.outside.specs.Lists.{Gives}
 use Rattle.outside.specs.declared.answers.Io.TheVariants as io
 use Rattle.outside.specs.declared.floor.FloorRead.{FloorRead}
 use Rattle.outside.specs.declared.floor.SourceFile.{SourceFile}
-use Rattle.worker_run.specs.declared.fault.RunFault.{RunFault}
-use Rattle.worker_run.specs.declared.fault.RunFault.TheVariants as fault
-use Rattle.worker_run.specs.declared.fault.Stage.TheVariants as stage
-use Rattle.worker_run.specs.declared.fault.Unbuilt.TheVariants as unbuilt
+use Rattle.build_report.specs.declared.fault.RunFault.{RunFault}
+use Rattle.build_report.specs.declared.fault.RunFault.TheVariants as fault
+use Rattle.build_report.specs.declared.fault.Stage.TheVariants as stage
+use Rattle.build_report.specs.declared.fault.Unbuilt.TheVariants as unbuilt
 use Rattle.worker_run.specs.declared.work.Work.{Work}
 use Rattle.worker_run.specs.declared.reading.Job.{Job}
 use Rattle.worker_run.specs.declared.reading.Job.TheVariants as job

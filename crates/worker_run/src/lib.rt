@@ -4,7 +4,6 @@
 mod action;
 mod commits;
 mod ended;
-mod fault;
 mod frame;
 mod hearing;
 mod journal;
@@ -17,8 +16,8 @@ mod seats;
 mod words;
 mod work;
 
+pub use build_report::{RunFault, Stage, Unbuilt, fault_line};
 pub use ended::{Ended, EndedLine, Halves, end_status};
-pub use fault::{RunFault, Stage, Unbuilt, fault_line};
 pub use run::run_build;
 
 #[cfg(test)]
