@@ -1,1 +1,12 @@
 pub mod rows
+pub mod Histories
+pub mod Ruled
+pub mod Lines
+pub mod Fresh
+pub mod Quiet
+pub mod Begins
+pub mod Scanned
+pub mod Tracks
+pub mod Judged
+pub mod Tallied
+pub mod Verdicts

@@ -13,3 +13,8 @@ pub mod Kept
 pub mod Accounted
 pub mod Clean
 pub mod Outcomes
+pub mod Ends
+pub mod Facts
+pub mod Scans
+pub mod Tallies
+pub mod Verdicts

@@ -36,16 +36,17 @@ grant_outcome j (Some (t, found.Files fs)) = commit_outcome t.branch (commit_of 
 grant_outcome j _ = None
 
 -- the lesser of the two, where both are there
-abbrev pub lesser : ℕ → Option ℕ → ℕ
-lesser a (Some b) = min a b
-lesser a None = a
+abbrev pub lesser : Option ℕ → Option ℕ → Option ℕ
+lesser None o = o
+lesser (Some a) None = Some a
+lesser (Some a) (Some b) = Some (min a b)
 
 -- the least action of these producers that has no success
 abbrev pub least_without : List Standing → List Maker → Option ℕ
 least_without standings [] = None
 least_without standings (m ∷ ms) =
     if is_success (slice_get standings m.action) then least_without standings ms
-    else Some (lesser m.action (least_without standings ms))
+    else lesser (Some m.action) (least_without standings ms)
 
 abbrev pub skipped : List Standing → PlanAction → Outcome
 skipped standings x = unwrap_or (option_map (λ m. outcome.Skipped m) (least_without standings x.makers)) outcome.Unsettled
@@ -58,6 +59,14 @@ outcome_after p j a x standings =
 
 unfoldable pub outcome_of : Plan → List Entry → ℕ → Outcome
 outcome_of p j a = unwrap_or (option_map (λ x. outcome_after p j a x (standings p j)) (slice_get p.actions a)) outcome.Unsettled
+
+abbrev pub is_ok : Outcome → Bool
+is_ok (outcome.Success b) = true
+is_ok _ = false
+
+abbrev pub is_some_ok : Option Outcome → Bool
+is_some_ok (Some o) = is_ok o
+is_some_ok None = false
 
 -- ---- fate
 

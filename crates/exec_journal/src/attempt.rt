@@ -1,3 +1,6 @@
+ghost use Rattle.std.specs.Prelude.{◌≡◌};
+ghost use Rattle.exec_journal.specs.Entries.{attempt_of, same_attempt};
+
 use crate::Branch;
 
 /// One try of a branch of an action: the number is 1 for the first, and at most the plan's limit.
@@ -6,4 +9,13 @@ pub struct Attempt {
     pub action: u32,
     pub branch: Branch,
     pub number: u32,
+}
+
+impl Attempt {
+    /// It is this attempt.
+    pub fn is(self, action: u32, branch: Branch, number: u32) -> bool
+        ensures { result ≡ same_attempt (attempt_of action branch number) self }
+    {
+        action == self.action && branch == self.branch && number == self.number
+    }
 }

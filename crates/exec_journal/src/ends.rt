@@ -36,6 +36,14 @@ pub enum Fate {
     Idle,
 }
 
+/// How an action and its branches ended, by a journal.
+#[derive(Clone, Copy, Debug, PartialEq, Eq)]
+pub struct ActionEnd {
+    pub outcome: Outcome,
+    pub local: Fate,
+    pub remote: Fate,
+}
+
 /// Why an attempt ended.
 #[derive(Clone, Copy, Debug, PartialEq, Eq)]
 pub enum Cause {

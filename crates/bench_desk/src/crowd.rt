@@ -1,0 +1,144 @@
+//! Lanes that call an adder without a pause: at a desk, behind a bare `Mutex`, and alone.
+ghost use Rattle.std.specs.Prelude.{◌≡◌, ◌+◌, ◌<◌, ◌≤◌, ◌^◌, ◌-◌, All, IfOk};
+ghost use Rattle.seat_desk.specs.Passes.{IsPassOf, IsRootOf};
+
+use desk_trials::adder::{Add, Adder};
+use desk_trials::adding::adds;
+use seat_desk::{Desk, HistoryEntry, Machine, Pass, Root};
+use std::alloc::Global;
+use std::sync::{Barrier, Mutex, Wait};
+use std::thread;
+use std::thread::Threads;
+use wire_fields::NoMemory;
+
+/// An adder with its history, and nothing round it.
+#[derive(Drop)]
+struct Bare {
+    adder: Adder,
+    history: Vec<HistoryEntry<Adder>>,
+}
+
+impl Bare {
+    fn new(alloc: Global) -> Bare {
+        Bare {
+            adder: Adder::new(),
+            history: Vec::new(alloc),
+        }
+    }
+
+    fn add(&mut self, lane: u32) -> Result<(), NoMemory> {
+        self.history.reserve(3)?;
+        let call = Add { number: 1 };
+        let (reply, _) = self.adder.turn(lane, &call, None);
+        self.history
+            .push(HistoryEntry::<Adder> { lane, call, reply })?;
+        Ok(())
+    }
+}
+
+fn passes<R>(
+    rt: &R,
+    alloc: Global,
+    desk: &Desk<Adder>,
+    root: &mut Root<Adder>,
+    lanes: u32,
+) -> Result<Vec<Pass<Adder>>, NoMemory>
+    requires desk { IsRootOf desk.now root.old }
+    requires room { root.old.made + lanes < 2 ^ 32 - 1 }
+    ensures { IfOk result (λ v. All (λ p. IsPassOf desk.now p) v.items) }
+{
+    let mut passes = Vec::new(alloc);
+    let mut made = 0;
+    while made < lanes {
+        passes.push(desk.split(rt, root)?)?;
+        made += 1;
+    }
+    Ok(passes)
+}
+
+/// So many lanes make so many turns each at a desk, all at once. Answers how many turns there were.
+///
+/// # Errors
+///
+/// `NoMemory` where there is none for the desk or the lanes. A lane that finds none makes fewer turns.
+pub fn at_desk<R: Threads + Wait + Sync>(
+    rt: &R,
+    alloc: Global,
+    lanes: u32,
+    turns: usize,
+) -> Result<usize, NoMemory>
+    requires { lanes < 1000 }
+{
+    let (desk, mut root) = Desk::new(alloc, Adder::new())?;
+    let passes = passes(rt, alloc, &desk, &mut root, lanes)?;
+    let desk = &desk;
+    let start = Barrier::new(lanes as usize);
+    let made = thread::map_vec(
+        rt,
+        passes,
+        &|pass: Pass<Adder>| -> usize
+            requires { IsPassOf desk.now pass }
+        {
+            start.wait(rt);
+            adds(rt, desk, pass, turns).made
+        },
+    )?;
+    Ok(total(made))
+}
+
+/// The same behind a bare `Mutex`.
+///
+/// # Errors
+///
+/// As of [`at_desk`].
+pub fn behind_mutex<R: Threads + Wait + Sync>(
+    rt: &R,
+    alloc: Global,
+    lanes: u32,
+    turns: usize,
+) -> Result<usize, NoMemory> {
+    let bare = Mutex::new(Bare::new(alloc));
+    let start = Barrier::new(lanes as usize);
+    let made = thread::map_indices(
+        rt,
+        alloc,
+        lanes as usize,
+        &|lane| {
+            start.wait(rt);
+            adds_locked(rt, &bare, lane as u32, turns)
+        },
+    )?;
+    Ok(total(made))
+}
+
+fn adds_locked<R: Wait>(rt: &R, bare: &Mutex<Bare>, lane: u32, turns: usize) -> usize {
+    let mut made = 0usize;
+    for _ in 0..turns {
+        if bare.lock(rt).add(lane).is_err() {
+            break;
+        }
+        made = made.wrapping_add(1);
+    }
+    made
+}
+
+/// So many turns of the adder alone, in this thread, with its history and no lock.
+pub fn alone(alloc: Global, turns: usize) -> usize {
+    let mut bare = Bare::new(alloc);
+    let mut made = 0usize;
+    for _ in 0..turns {
+        if bare.add(0).is_err() {
+            break;
+        }
+        made = made.wrapping_add(1);
+    }
+    made
+}
+
+fn total(made: Vec<usize>) -> usize {
+    let mut sum = 0usize;
+    for turns in made {
+        sum = sum.wrapping_add(turns);
+    }
+    sum
+}

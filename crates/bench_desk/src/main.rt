@@ -1,0 +1,140 @@
+//! Measures the desk beside a bare `Mutex`.
+//!
+//! ```text
+//! bench_desk                          a small run, which prints counts and no times
+//! bench_desk crowd LANES TURNS        lanes that call an adder without a pause, TURNS each
+//! bench_desk traffic SEATS ROUNDS     64 seats, of which SEATS make ROUNDS actions each
+//! bench_desk rest MILLISECONDS        the lanes of 64 idle seats
+//! ```
+#![tactic(auto)]
+
+mod crowd;
+mod failure;
+mod hall;
+mod lane;
+mod rounds;
+mod seats;
+#[cfg(test)]
+mod tests;
+mod traffic;
+mod watch;
+
+use crowd::{alone, at_desk, behind_mutex};
+use failure::Failure;
+use seats::{Behind, Limit, rest, traffic};
+use std::alloc::Global;
+use std::env;
+use std::env::Env;
+use std::fs::Files;
+use std::sync::Wait;
+use std::thread::Threads;
+use std::time::{Clock, CpuClock};
+use watch::Watch;
+
+// The lanes of a crowd at most.
+const MOST_LANES: u32 = 999;
+
+// The number at this place among the words.
+fn number<R: Env + Alloc>(rt: &R, at: usize) -> Result<u32, Failure> {
+    match env::args(rt)?.nth(at) {
+        Some(word) => Ok(word.parse::<u32>().unwrap_or(0)),
+        None => Ok(0),
+    }
+}
+
+fn small_run<R: Threads + Wait + Clock + CpuClock + Files + Print + Sync>(
+    rt: &R,
+    alloc: Global,
+) -> Result<(), Failure> {
+    let turns = at_desk(rt, alloc, 4, 100)?;
+    println!(rt; "a crowd of 4 lanes at the desk: {turns} turns")?;
+    let turns = behind_mutex(rt, alloc, 4, 100)?;
+    println!(rt; "a crowd of 4 lanes behind a mutex: {turns} turns")?;
+    let turns = alone(alloc, 400);
+    println!(rt; "an adder alone: {turns} turns")?;
+    let actions = traffic(rt, alloc, 4, 5, Behind::Desk, Limit::Second)?;
+    println!(rt; "traffic of 4 seats at the desk: {actions} actions")?;
+    let actions = traffic(rt, alloc, 4, 5, Behind::Mutex, Limit::Second)?;
+    println!(rt; "traffic of 4 seats behind a mutex: {actions} actions")?;
+    Ok(())
+}
+
+fn time_crowd<R: Threads + Wait + Clock + CpuClock + Print + Sync>(
+    rt: &R,
+    alloc: Global,
+    lanes: u32,
+    turns: u32,
+) -> Result<(), Failure> {
+    let lanes = lanes.min(MOST_LANES);
+    let each = turns as usize;
+    let watch = Watch::start(rt)?;
+    let made = at_desk(rt, alloc, lanes, each)? as u64;
+    let desk = watch.stop(rt)?;
+    println!(rt;
+        "crowd {lanes} desk: {} turns a second, {} ns a turn",
+        desk.a_second(made),
+        desk.nanos_each(made)
+    )?;
+    let watch = Watch::start(rt)?;
+    let made = behind_mutex(rt, alloc, lanes, each)? as u64;
+    let mutex = watch.stop(rt)?;
+    println!(rt;
+        "crowd {lanes} mutex: {} turns a second, {} ns a turn",
+        mutex.a_second(made),
+        mutex.nanos_each(made)
+    )?;
+    let watch = Watch::start(rt)?;
+    let made = alone(alloc, each) as u64;
+    let bare = watch.stop(rt)?;
+    println!(rt;
+        "one thread alone: {} turns a second, {} ns a turn",
+        bare.a_second(made),
+        bare.nanos_each(made)
+    )?;
+    Ok(())
+}
+
+fn time_traffic<R: Threads + Wait + Clock + CpuClock + Files + Print + Sync>(
+    rt: &R,
+    alloc: Global,
+    busy: u32,
+    rounds: u32,
+) -> Result<(), Failure> {
+    for behind in [Behind::Desk, Behind::Mutex] {
+        let watch = Watch::start(rt)?;
+        let made = traffic(rt, alloc, busy, rounds, behind, Limit::Second)?;
+        let measure = watch.stop(rt)?;
+        println!(rt;
+            "traffic {busy} {}: {} actions a second, {} ns of processor an action",
+            behind.name(),
+            measure.a_second(made),
+            measure.spent_nanos_each(made)
+        )?;
+    }
+    Ok(())
+}
+
+fn time_rest<R: Threads + Wait + Clock + CpuClock + Files + Print + Sync>(
+    rt: &R,
+    alloc: Global,
+    millis: u32,
+) -> Result<(), Failure> {
+    let spent = rest(rt, alloc, u64::from(millis))?;
+    let a_second = spent.saturating_mul(1_000) / u64::from(millis).max(1);
+    println!(rt; "rest: {a_second} us of processor a second for 128 lanes")?;
+    Ok(())
+}
+
+fn main(rt: HostRuntime) -> Result<(), Failure> {
+    let first = number(&rt, 2)?;
+    let second = number(&rt, 3)?;
+    match env::args(&rt)?.nth(1) {
+        Some(word) => match word.as_str() {
+            "crowd" => time_crowd(&rt, rt.alloc(), first, second),
+            "traffic" => time_traffic(&rt, rt.alloc(), first, second),
+            "rest" => time_rest(&rt, rt.alloc(), first),
+            _ => small_run(&rt, rt.alloc()),
+        },
+        None => small_run(&rt, rt.alloc()),
+    }
+}

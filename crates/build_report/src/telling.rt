@@ -1,0 +1,194 @@
+ghost use Rattle.std.specs.Prelude.{◌≡◌, ◌++◌, [], ◌<◌, ◌^◌, length, reverse, string_bytes, IfOk, OnOk, unwrap_or, option_map, option_copied, if◌then◌else◌};
+ghost use Rattle.std.specs.List.{list_all};
+ghost use Rattle.exec_journal.specs.Sound.{Sound};
+ghost use Rattle.exec_journal.specs.Ends.{ends_of};
+ghost use Rattle.build_report.specs.Report.{report_of, report_by, status_of, is_success, has_failed, is_broken, is_skipped, count_of, lines_from, action_lines, end_line, winner_text, last_line, totals_line};
+
+use crate::words::{action_name, fate_text, outcome_text, push_marked};
+use exec_journal::{ActionEnd, Journal, Outcome, Plan, action_ends, has_success, winning_answer};
+use std::alloc::Global;
+use wire_fields::{NoMemory, Text};
+
+/// The report of a run, by its journal: for each action of the plan a line with its outcome and the fates of its
+/// branches, behind it the text of the answer by which it was won, and at last a line with the totals. A short
+/// report is that last line alone.
+///
+/// # Errors
+///
+/// `NoMemory` where the text finds no memory.
+pub fn report(alloc: Global, plan: &Plan, j: &Journal, short: bool) -> Result<Text, NoMemory>
+    requires { Sound plan.now }
+    ensures { IfOk result (λ text. text ≡ report_of plan.now (reverse j.now) short) }
+{
+    let ends = action_ends(alloc, plan, j)?;
+    let text = report_text(alloc, plan, j, short, ends.as_slice())?;
+    Ok(Text::of(text))
+}
+
+/// The status of a run without a fault: 0 where every action has success, else 1. It takes no memory.
+pub fn status(plan: &Plan, j: &Journal) -> u8
+    requires { Sound plan.now }
+    ensures { result ≡ status_of plan.now (reverse j.now) }
+{
+    if is_all_success(plan, j) { 0 } else { 1 }
+}
+
+fn is_all_success(plan: &Plan, j: &Journal) -> bool
+    requires { Sound plan.now }
+    ensures { result ≡ list_all is_success (ends_of plan.now (reverse j.now)) }
+{
+    for a in 0..plan.actions.as_slice().len() {
+        if !has_success(plan, j, a as u32) {
+            return false;
+        }
+    }
+    true
+}
+
+fn report_text(
+    alloc: Global,
+    plan: &Plan,
+    j: &Journal,
+    short: bool,
+    ends: &[ActionEnd],
+) -> Result<String, NoMemory>
+    requires { length ends.now < 2 ^ 32 }
+    ensures { IfOk result (λ s. string_bytes s ≡ report_by plan.now (reverse j.now) short ends.now) }
+{
+    let mut text = String::new(alloc);
+    if !short {
+        push_lines(alloc, &mut text, plan, j, ends)?;
+    }
+    let last = totals(alloc, ends)?;
+    text.push_str(last.as_str())?;
+    Ok(text)
+}
+
+fn push_lines(
+    alloc: Global,
+    text: &mut String,
+    plan: &Plan,
+    j: &Journal,
+    ends: &[ActionEnd],
+) -> Result<(), NoMemory>
+    requires { length ends.now < 2 ^ 32 }
+    ensures { OnOk result (string_bytes text.new ≡ string_bytes text.old ++ lines_from plan.now (reverse j.now) 0 ends.now) }
+{
+    for (a, end) in ends.iter().enumerate() {
+        push_action(alloc, text, plan, j, a as u32, end)?;
+    }
+    Ok(())
+}
+
+fn push_action(
+    alloc: Global,
+    text: &mut String,
+    plan: &Plan,
+    j: &Journal,
+    action: u32,
+    end: &ActionEnd,
+) -> Result<(), NoMemory>
+    ensures { OnOk result (string_bytes text.new ≡ string_bytes text.old ++ action_lines plan.now (reverse j.now) action end.now) }
+{
+    let line = end_text(alloc, plan, action, end)?;
+    text.push_str(line.as_str())?;
+    push_marked(text, answer_text(j, action))
+}
+
+fn end_text(alloc: Global, plan: &Plan, action: u32, end: &ActionEnd) -> Result<String, NoMemory>
+    ensures { IfOk result (λ s. string_bytes s ≡ end_line plan.now action end.now) }
+{
+    let outcome = outcome_text(alloc, plan, end.outcome)?;
+    let local = fate_text(alloc, plan, action, end.local)?;
+    let remote = fate_text(alloc, plan, action, end.remote)?;
+    let name = action_name(plan, action);
+    let (outcome, local, remote) = (outcome.as_str(), local.as_str(), remote.as_str());
+    Ok(format!(in alloc; "{name} {outcome} local={local} remote={remote}\n")?)
+}
+
+fn answer_text(j: &Journal, action: u32) -> &str
+    ensures { result.now ≡ winner_text (reverse j.now) action }
+{
+    match winning_answer(j, action) {
+        Some(answer) => answer.text.as_str(),
+        None => "",
+    }
+}
+
+// ---- the totals
+
+fn totals(alloc: Global, ends: &[ActionEnd]) -> Result<String, NoMemory>
+    ensures { IfOk result (λ s. string_bytes s ≡ last_line ends.now) }
+{
+    totals_text(
+        alloc,
+        ends.len(),
+        successes(ends),
+        failures(ends),
+        breaks(ends),
+        skips(ends),
+    )
+}
+
+fn successes(ends: &[ActionEnd]) -> usize
+    ensures { result ≡ count_of is_success ends.now }
+{
+    ends.iter().filter(|e| is_ok(e)).count()
+}
+
+fn failures(ends: &[ActionEnd]) -> usize
+    ensures { result ≡ count_of has_failed ends.now }
+{
+    ends.iter().filter(|e| is_fail(e)).count()
+}
+
+fn breaks(ends: &[ActionEnd]) -> usize
+    ensures { result ≡ count_of is_broken ends.now }
+{
+    ends.iter().filter(|e| is_break_of(e)).count()
+}
+
+fn skips(ends: &[ActionEnd]) -> usize
+    ensures { result ≡ count_of is_skipped ends.now }
+{
+    ends.iter().filter(|e| is_skip_of(e)).count()
+}
+
+fn totals_text(
+    alloc: Global,
+    all: usize,
+    ok: usize,
+    failed: usize,
+    broken: usize,
+    skipped: usize,
+) -> Result<String, NoMemory>
+    ensures { IfOk result (λ s. string_bytes s ≡ totals_line all ok failed broken skipped) }
+{
+    Ok(format!(in alloc;
+        "actions={all} ok={ok} failed={failed} broken={broken} skipped={skipped}\n"
+    )?)
+}
+
+fn is_ok(end: &ActionEnd) -> bool
+    ensures { result ≡ is_success end.now }
+{
+    matches!(end.outcome, Outcome::Success(_))
+}
+
+fn is_fail(end: &ActionEnd) -> bool
+    ensures { result ≡ has_failed end.now }
+{
+    matches!(end.outcome, Outcome::Failed(..))
+}
+
+fn is_break_of(end: &ActionEnd) -> bool
+    ensures { result ≡ is_broken end.now }
+{
+    matches!(end.outcome, Outcome::Spoiled(..) | Outcome::Dropped)
+}
+
+fn is_skip_of(end: &ActionEnd) -> bool
+    ensures { result ≡ is_skipped end.now }
+{
+    matches!(end.outcome, Outcome::Skipped(_))
+}

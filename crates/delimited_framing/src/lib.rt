@@ -1,0 +1,13 @@
+//! Messages on a stream, each behind its length, in whatever pieces the stream comes.
+#![tactic(auto)]
+
+mod frame;
+mod readings;
+mod splitter;
+
+pub use frame::{FrameFault, Next};
+pub use readings::{delimited_is_read, given_frames_come_first, one_reading};
+pub use splitter::Splitter;
+
+#[cfg(test)]
+mod tests;

@@ -1,0 +1,3 @@
+pub mod AdderTotals
+pub mod CounterTotals
+pub mod Lendings

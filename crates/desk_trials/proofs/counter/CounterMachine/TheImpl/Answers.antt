@@ -1,0 +1,16 @@
+use Rattle.std.proofs.Common.{sym, subst, ℕ}
+use Rattle.desk_trials.specs.CounterSums.{IsSum, stays}
+use Rattle.seat_desk.specs.History.{entry, after}
+use Rattle.desk_trials.proofs.CounterTotals.{turn_reply, turn_stands}
+use Rattle.desk_trials.proofs.counter.CounterMachine.TheImpl.Goals as goal
+
+pub turn-asks : goal.turn-asks
+turn-asks _ _ _ _ c = c.requires.1.2
+
+pub turn-tells : goal.turn-tells
+turn-tells _ _ _ _ c = record {
+  rules = c.ensures.rules;
+  reply = λ h s g. turn_reply _ _ h c.args.lane c.args.call.now c.result.0 _ s c.ensures.turn;
+  stands = λ h s g. subst (λ (q : ℕ). IsSum q c.new.self.now.sum (after (λ e. stays e.call e.reply) h (entry c.args.lane c.args.call.now c.result.0))) (sym c.ensures.rules) (turn_stands _ _ h c.args.lane c.args.call.now c.result.0 _ s c.ensures.turn);
+  good = λ h s g. tt;
+}

@@ -1,0 +1,131 @@
+//! Lanes that add ones, each in a thread of its own.
+ghost use Rattle.std.specs.Prelude.{◌≡◌, ◌%◌, ◌^◌, IfOk};
+ghost use Rattle.seat_desk.specs.Passes.{IsPassOf};
+ghost use Rattle.desk_trials.specs.AdderSums.{added, SumsFrom};
+ghost use Rattle.desk_trials.specs.Lanes.{HasCalls, HasMade};
+
+use crate::adder::{Add, Adder};
+use seat_desk::{Closed, Desk, Pass};
+use std::alloc::Global;
+use std::sync::Wait;
+use std::thread::{Threads, join};
+use wire_fields::NoMemory;
+
+/// What a thread gives back: its pass, and how many calls it made.
+#[derive(Drop)]
+pub struct Done {
+    pub pass: Pass<Adder>,
+    pub made: usize,
+}
+
+/// A desk that was closed, and how many calls each lane made.
+#[derive(Drop)]
+pub struct Tally {
+    pub closed: Closed<Adder>,
+    pub made: (usize, usize, usize, usize),
+}
+
+/// Adds one, `count` times or until there is no memory.
+pub fn adds<R: Wait>(rt: &R, desk: &Desk<Adder>, mut pass: Pass<Adder>, count: usize) -> Done
+    requires { IsPassOf desk.now pass }
+    ensures { HasMade count desk.now pass result.pass result.made }
+{
+    let mut made = 0;
+    while made < count {
+        if desk.call(rt, &mut pass, Add { number: 1 }, None).is_err() {
+            break;
+        }
+        made += 1;
+    }
+    Done { pass, made }
+}
+
+/// Two lanes at once.
+pub fn two<R: Threads + Wait + Sync>(
+    rt: &R,
+    desk: &Desk<Adder>,
+    a: Pass<Adder>,
+    b: Pass<Adder>,
+    count: usize,
+) -> (Done, Done)
+    requires { IsPassOf desk.now a × IsPassOf desk.now b }
+    ensures first { HasMade count desk.now a result.0.pass result.0.made }
+    ensures second { HasMade count desk.now b result.1.pass result.1.made }
+{
+    join(
+        rt,
+        move || -> Done
+            requires { IsPassOf desk.now a }
+            ensures { HasMade count desk.entry.now a result.pass result.made }
+        { adds(rt, desk, a, count) },
+        move || -> Done
+            requires { IsPassOf desk.now b }
+            ensures { HasMade count desk.entry.now b result.pass result.made }
+        { adds(rt, desk, b, count) },
+    )
+}
+
+/// Four lanes at once.
+pub fn four<R: Threads + Wait + Sync>(
+    rt: &R,
+    desk: &Desk<Adder>,
+    a: Pass<Adder>,
+    b: Pass<Adder>,
+    c: Pass<Adder>,
+    d: Pass<Adder>,
+    count: usize,
+) -> ((Done, Done), (Done, Done))
+    requires first_two { IsPassOf desk.now a × IsPassOf desk.now b }
+    requires last_two { IsPassOf desk.now c × IsPassOf desk.now d }
+    ensures first { HasMade count desk.now a result.0.0.pass result.0.0.made }
+    ensures second { HasMade count desk.now b result.0.1.pass result.0.1.made }
+    ensures third { HasMade count desk.now c result.1.0.pass result.1.0.made }
+    ensures fourth { HasMade count desk.now d result.1.1.pass result.1.1.made }
+{
+    join(
+        rt,
+        move || -> (Done, Done)
+            requires { IsPassOf desk.now a × IsPassOf desk.now b }
+            ensures { HasMade count desk.entry.now a result.0.pass result.0.made
+                × HasMade count desk.entry.now b result.1.pass result.1.made }
+        { two(rt, desk, a, b, count) },
+        move || -> (Done, Done)
+            requires { IsPassOf desk.now c × IsPassOf desk.now d }
+            ensures { HasMade count desk.entry.now c result.0.pass result.0.made
+                × HasMade count desk.entry.now d result.1.pass result.1.made }
+        { two(rt, desk, c, d, count) },
+    )
+}
+
+/// Four lanes add ones, `count` times each, on four threads. The one history has just the calls that
+/// each made, each reply in it is the sum so far, and the machine's sum is theirs.
+///
+/// # Errors
+///
+/// `NoMemory` where there is none for the desk. A lane that finds none makes fewer calls.
+pub fn count_by_four<R: Threads + Wait + Sync>(
+    rt: &R,
+    alloc: Global,
+    count: usize,
+) -> Result<Tally, NoMemory>
+    ensures first { IfOk result (λ t. HasCalls count 0 t.closed.history.items t.made.0) }
+    ensures second { IfOk result (λ t. HasCalls count 1 t.closed.history.items t.made.1) }
+    ensures third { IfOk result (λ t. HasCalls count 2 t.closed.history.items t.made.2) }
+    ensures fourth { IfOk result (λ t. HasCalls count 3 t.closed.history.items t.made.3) }
+    ensures replies { IfOk result (λ t. SumsFrom 0 t.closed.history.items) }
+    ensures sum { IfOk result (λ t. t.closed.machine.sum ≡ added t.closed.history.items % 2 ^ 64) }
+{
+    let (desk, mut root) = Desk::new(alloc, Adder::new())?;
+    let a = desk.split(rt, &mut root)?;
+    let b = desk.split(rt, &mut root)?;
+    let c = desk.split(rt, &mut root)?;
+    let d = desk.split(rt, &mut root)?;
+    let ((a, b), (c, d)) = four(rt, &desk, a, b, c, d, count);
+    let made = (a.made, b.made, c.made, d.made);
+    desk.join_pass(rt, &mut root, a.pass);
+    desk.join_pass(rt, &mut root, b.pass);
+    desk.join_pass(rt, &mut root, c.pass);
+    desk.join_pass(rt, &mut root, d.pass);
+    let closed = desk.close(rt, root)?;
+    Ok(Tally { closed, made })
+}

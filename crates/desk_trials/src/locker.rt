@@ -1,0 +1,180 @@
+//! A machine with goods: one shelf, on which a lane leaves a token that it alone may take or borrow.
+ghost use Rattle.std.specs.Prelude.{◌≡◌, ◌+◌, ℕ, List, [], ◌∷◌, ◌++◌, true, false, Option, Some, None, IsSome};
+ghost use Rattle.std.proofs.Common.{sym, refl};
+ghost use Rattle.desk_trials.specs.Shelf.{reply_of, spot_then, spot_of, changes, GoesIn, ComesOut, Fits, owes_by, IsPaid};
+ghost use Rattle.seat_desk.specs.History.{entry};
+ghost use Rattle.desk_trials.specs.ShelfLaws.{true_not_false, paid_still, less_owed, more_owed};
+
+use crate::nothing::Nothing;
+use seat_desk::Machine;
+
+/// What a lane asks of a locker.
+#[derive(Drop, Clone, Copy)]
+pub enum Ask {
+    /// To leave a token, which goes in.
+    Leave,
+    /// To take its token away.
+    Take,
+    /// To have its token for a while.
+    Borrow,
+    /// To put back the token that it borrowed, which goes in.
+    Return,
+}
+
+/// What it is answered.
+#[derive(Drop, Clone, Copy)]
+pub enum Answer {
+    /// The token lies on the shelf.
+    Left,
+    /// The token was not taken in, and comes out again.
+    Busy,
+    /// The token comes out, and the shelf is empty.
+    Taken,
+    /// No token of the lane lies there.
+    Nothing,
+    /// The token comes out, and is owed back.
+    Lent,
+    /// The token lies on the shelf again.
+    Returned,
+}
+
+/// Whose token lies on the shelf, or was lent from it.
+#[derive(Drop, Clone, Copy)]
+pub enum Spot {
+    /// Nobody's.
+    Empty,
+    /// It lies there, and is this lane's.
+    Here(u32),
+    /// This lane has borrowed it.
+    Away(u32),
+}
+
+/// What lies on the shelf.
+#[derive(Drop)]
+pub struct Token {
+    pub number: u64,
+}
+
+/// One shelf. A token that lies there or was borrowed is owed back to its lane: its `Take` and its
+/// `Return` are paid for.
+#[derive(Drop)]
+pub struct Locker {
+    /// Whose token it is.
+    pub spot: Spot,
+    /// What lies on the shelf.
+    pub shelf: Option<Token>,
+}
+
+impl Machine for Locker {
+    type Call = Ask;
+
+    type Reply = Answer;
+
+    type Good = Token;
+
+    type Rules = Nothing;
+
+    ghost rules = { λ m. record {} };
+
+    ghost blank = { record {} };
+
+    ghost stands = { λ m h. (m.spot ≡ spot_of h) × Fits m.spot m.shelf };
+
+    ghost next = { λ q h lane c. reply_of (spot_of h) lane c };
+
+    ghost keeps = { λ e. changes e.reply };
+
+    ghost paid = { λ q h lane c. IsPaid (spot_of h) lane c };
+
+    ghost short = { λ r. false };
+
+    ghost may_be_short = { λ q h lane c. ⊥ };
+
+    ghost goes_in = { λ q h lane c g. GoesIn c g };
+
+    ghost comes_out = { λ q h lane c r g. ComesOut r g };
+
+    ghost owes = { λ q h. owes_by (spot_of h) };
+
+    ghost short_is_not_kept = { λ e h. absurd (true_not_false (sym h)) };
+
+    ghost paid_is_not_short = { λ m h lane c s p. ((λ x. x), refl) };
+
+    ghost paid_stays = { λ m h more lane c s none p. paid_still h more lane c none p };
+
+    ghost owes_less = { λ m h lane c s p k. less_owed h lane c p };
+
+    ghost owes_more = { λ m h lane c s k. more_owed h (entry lane c (reply_of (spot_of h) lane c)) };
+
+    ghost suits_still = { λ m h more lane c g s e p. p };
+
+    fn is_kept(_lane: u32, _call: &Ask, reply: &Answer) -> bool {
+        match reply {
+            Answer::Left | Answer::Taken | Answer::Lent | Answer::Returned => true,
+            Answer::Busy | Answer::Nothing => false,
+        }
+    }
+
+    fn copy(reply: &Answer) -> Answer {
+        *reply
+    }
+
+    fn turn(&mut self, lane: u32, call: &Ask, put: Option<Token>) -> (Answer, Option<Token>)
+        requires { Fits self.old.spot self.old.shelf × GoesIn call.now put }
+        ensures reply { result.0 ≡ reply_of self.old.spot lane call.now }
+        ensures spot { self.new.spot ≡ spot_then self.old.spot lane result.0 }
+        ensures shelf { Fits self.new.spot self.new.shelf }
+        ensures good { ComesOut result.0 result.1 }
+    {
+        match (*call, self.spot) {
+            (Ask::Leave, Spot::Empty) => {
+                self.spot = Spot::Here(lane);
+                self.shelf = put;
+                (Answer::Left, None)
+            }
+            (Ask::Take, Spot::Here(owner)) if owner == lane => {
+                self.spot = Spot::Empty;
+                (Answer::Taken, self.shelf.take())
+            }
+            (Ask::Borrow, Spot::Here(owner)) if owner == lane => {
+                self.spot = Spot::Away(owner);
+                (Answer::Lent, self.shelf.take())
+            }
+            (Ask::Return, Spot::Away(owner)) if owner == lane => {
+                self.spot = Spot::Here(owner);
+                self.shelf = put;
+                (Answer::Returned, None)
+            }
+            (Ask::Leave | Ask::Return, _) => (Answer::Busy, put),
+            (Ask::Take | Ask::Borrow, _) => (Answer::Nothing, None),
+        }
+    }
+
+    /// Once the shelf is empty, any lane may leave a token.
+    fn stirs(&self, _lane: u32, reply: &Answer) -> u128 {
+        match reply {
+            Answer::Taken => u128::MAX,
+            _ => 0,
+        }
+    }
+
+    fn owed(&self) -> u64 {
+        match self.spot {
+            Spot::Empty => 0,
+            Spot::Here(_) => 1,
+            Spot::Away(_) => 2,
+        }
+    }
+}
+
+impl Locker {
+    /// An empty shelf.
+    pub fn new() -> Locker
+        ensures { (result.spot ≡ Spot.Empty) × (result.shelf ≡ None) }
+    {
+        Locker {
+            spot: Spot::Empty,
+            shelf: None,
+        }
+    }
+}

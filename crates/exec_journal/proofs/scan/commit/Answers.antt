@@ -1,0 +1,11 @@
+use Rattle.std.proofs.Common.{◌≡◌, Option, Some, None, option_copied, option_and_then, sym, ap, ◌∙◌}
+use Rattle.exec_journal.specs.declared.journal.Entry.{Entry}
+use Rattle.exec_journal.proofs.Scanned.{commit_found}
+use Rattle.exec_journal.proofs.scan.commit.Goals as goal
+
+pub returns-in-Some : goal.returns-in-Some
+returns-in-Some c =
+    c.commit_in.ensures ∙ commit_found c.args.entries.now c.args.action c.args.branch (Some c.in-Some.entry.now) (sym (ap option_copied c.in-Some.is) ∙ c.committing.ensures)
+
+pub returns-in-None : goal.returns-in-None
+returns-in-None c = commit_found c.args.entries.now c.args.action c.args.branch None (sym (ap option_copied c.in-None.is) ∙ c.committing.ensures)

@@ -1,0 +1,6 @@
+use Rattle.std.proofs.Common.{◌≡◌, Option, Some, None, option_map, option_and_then, sym, ap, ◌∙◌}
+use Rattle.exec_journal.proofs.Scanned.{ever_sent_any}
+use Rattle.exec_journal.proofs.scan.ever_sent.Goals as goal
+
+pub returns : goal.returns
+returns c = c.has_send_of.ensures ∙ ever_sent_any c.args.entries.now c.args.action c.args.branch

@@ -1,0 +1,13 @@
+use Rattle.std.proofs.Common.{◌≡◌, Option, Some, None, option_copied, option_map, option_and_then, sym, ap, ◌∙◌}
+use Rattle.exec_journal.specs.declared.journal.Entry.{Entry}
+use Rattle.exec_journal.specs.Scans.{grants, grant_fact}
+use Rattle.exec_journal.proofs.Scanned.{grant_found}
+use Rattle.exec_journal.proofs.scan.grant.Goals as goal
+
+pub returns-in-Some : goal.returns-in-Some
+returns-in-Some c =
+    c.grant_in.ensures ∙ ap (option_map grant_fact) (grant_found c.args.entries.now c.args.action (Some c.in-Some.entry.now) (sym (ap option_copied c.in-Some.is) ∙ c.granting.ensures))
+
+pub returns-in-None : goal.returns-in-None
+returns-in-None c =
+    ap (option_map grant_fact) (grant_found c.args.entries.now c.args.action None (sym (ap option_copied c.in-None.is) ∙ c.granting.ensures))

@@ -1,0 +1,6 @@
+use Rattle.std.proofs.Common.{◌≡◌, Option, Some, None, option_map, option_and_then, sym, ap, ◌∙◌}
+use Rattle.exec_journal.proofs.Scanned.{answered_any}
+use Rattle.exec_journal.proofs.scan.is_answered.Goals as goal
+
+pub returns : goal.returns
+returns c = c.has_consumed.ensures ∙ answered_any c.args.front.now c.args.attempt

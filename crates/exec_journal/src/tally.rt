@@ -1,0 +1,263 @@
+// What a journal says of all actions and lines, gathered by going through it once.
+ghost use Rattle.std.specs.Prelude.{◌≡◌, ◌∷◌, reverse, option_copied, option_map, unwrap_or, if◌then◌else◌};
+ghost use Rattle.exec_journal.specs.Entries.{launch_of_entry};
+ghost use Rattle.exec_journal.specs.Scans.{ended_line};
+ghost use Rattle.exec_journal.specs.Tallies.{AllNew, new_action, new_line, AreActions, AreLines, action_after, branch_after, line_after, reply_action, call_action, broken_line, update_if};
+
+use crate::grant::{Grant, grant_in};
+use crate::scan::{break_in, commit_in, ended_line, is_end, is_send_of, last_work, sent_by};
+use crate::track::Track;
+use crate::{Attempt, Branch, Call, Cause, CommitEnd, Entry, Reply};
+
+/// Of a line: the cause for which it broke, and whether it has ended.
+#[derive(Clone, Copy, Debug, PartialEq, Eq)]
+pub struct LineFact {
+    pub cause: Option<Cause>,
+    pub ended: bool,
+}
+
+/// Of a branch: how it was committed, whether it was ever sent, and its last attempt.
+#[derive(Clone, Copy, Debug, PartialEq, Eq)]
+pub struct BranchFact {
+    pub commit: Option<CommitEnd>,
+    pub sent: bool,
+    pub track: Track,
+}
+
+/// Of an action: its grant and its branches.
+#[derive(Clone, Copy, Debug, PartialEq, Eq)]
+pub struct ActionFact {
+    pub grant: Option<Grant>,
+    pub local: BranchFact,
+    pub remote: BranchFact,
+}
+
+impl BranchFact {
+    pub const NEW: BranchFact = BranchFact {
+        commit: None,
+        sent: false,
+        track: Track {
+            line: None,
+            answered: false,
+            wrote: None,
+            fault: None,
+            ended: None,
+        },
+    };
+
+    fn after(
+        &self,
+        attempt: Attempt,
+        order: Option<&Entry>,
+        entry: &Entry,
+        won: bool,
+        line: Option<Cause>,
+    ) -> BranchFact
+        ensures { result ≡ branch_after self.now attempt (option_copied order.entry) entry.now won line }
+    {
+        BranchFact {
+            commit: self
+                .commit
+                .or(commit_in(entry, attempt.action, attempt.branch)),
+            sent: self.sent || is_send_of(entry, attempt.action, attempt.branch),
+            track: self.track.after(attempt, order, entry, won, line),
+        }
+    }
+}
+
+impl ActionFact {
+    /// Of an action of which nothing was said yet.
+    pub const NEW: ActionFact = ActionFact {
+        grant: None,
+        local: BranchFact::NEW,
+        remote: BranchFact::NEW,
+    };
+}
+
+impl LineFact {
+    /// Of a line of which nothing was said yet.
+    pub const NEW: LineFact = LineFact {
+        cause: None,
+        ended: false,
+    };
+}
+
+/// Goes through the journal once. The facts are new before, and say what the journal says afterwards.
+pub fn gather(actions: &mut [ActionFact], lines: &mut [LineFact], limit: u32, entries: &[Entry])
+    requires actions { AllNew new_action actions.old }
+    requires lines { AllNew new_line lines.old }
+    ensures actions { AreActions actions.new limit (reverse entries.now) }
+    ensures lines { AreLines lines.new (reverse entries.now) }
+{
+    for (i, entry) in entries.iter().enumerate() {
+        note(actions, lines, limit, &entries[..i], entry);
+    }
+}
+
+/// The facts of the lines and of the actions after one more entry.
+pub fn note(
+    actions: &mut [ActionFact],
+    lines: &mut [LineFact],
+    limit: u32,
+    before: &[Entry],
+    entry: &Entry,
+)
+    requires actions { AreActions actions.old limit (reverse before.now) }
+    requires lines { AreLines lines.old (reverse before.now) }
+    ensures actions { AreActions actions.new limit (entry.now ∷ reverse before.now) }
+    ensures lines { AreLines lines.new (entry.now ∷ reverse before.now) }
+{
+    let order = last_work(before, entry.lane);
+    let by_reply = action_of_reply(&entry.reply);
+    let by_call = action_of_call(order, &entry.call);
+    note_action(actions, lines, limit, before, by_reply, order, entry);
+    if by_call != by_reply {
+        note_action(actions, lines, limit, before, by_call, order, entry);
+    }
+    note_line(lines, before, line_of_call(&entry.call), entry);
+}
+
+fn note_action(
+    actions: &mut [ActionFact],
+    lines: &[LineFact],
+    limit: u32,
+    before: &[Entry],
+    action: Option<u32>,
+    order: Option<&Entry>,
+    entry: &Entry,
+)
+    requires { AreLines lines.now (reverse before.now) }
+    ensures { actions.new ≡ update_if (action_after (reverse before.now) limit (unwrap_or action 0) (option_copied order.entry) entry.now) actions.old action }
+{
+    if let Some(action) = action {
+        let at = action as usize;
+        if at < actions.len() {
+            let old = actions[at];
+            actions[at] = action_next(&old, lines, limit, before, action, order, entry);
+        }
+    }
+}
+
+fn action_next(
+    fact: &ActionFact,
+    lines: &[LineFact],
+    limit: u32,
+    before: &[Entry],
+    action: u32,
+    order: Option<&Entry>,
+    entry: &Entry,
+) -> ActionFact
+    requires { AreLines lines.now (reverse before.now) }
+    ensures { result ≡ action_after (reverse before.now) limit action (option_copied order.entry) entry.now fact.now }
+{
+    let won = fact.grant.is_some();
+    let local = Attempt {
+        action,
+        branch: Branch::Local,
+        number: limit,
+    };
+    let remote = Attempt {
+        action,
+        branch: Branch::Remote,
+        number: limit,
+    };
+    let local_line = ended_at(lines, before, fact.local.track.line);
+    let remote_line = ended_at(lines, before, fact.remote.track.line);
+    ActionFact {
+        grant: fact.grant.or(grant_in(entry, action)),
+        local: fact.local.after(local, order, entry, won, local_line),
+        remote: fact.remote.after(remote, order, entry, won, remote_line),
+    }
+}
+
+/// The cause of the line, where it has ended. A line past the table stands in no journal of a run: there can be
+/// no more lines than entries.
+pub fn ended_at(lines: &[LineFact], before: &[Entry], line: Option<u32>) -> Option<Cause>
+    requires { AreLines lines.now (reverse before.now) }
+    ensures { result ≡ ended_line (reverse before.now) line }
+{
+    match line {
+        Some(number) => {
+            let at = number as usize;
+            if at < lines.len() {
+                cause_of(lines[at])
+            } else {
+                ended_line(before, line)
+            }
+        }
+        None => None,
+    }
+}
+
+fn cause_of(fact: LineFact) -> Option<Cause>
+    ensures { result ≡ (if fact.ended then fact.cause else None) }
+{
+    if fact.ended { fact.cause } else { None }
+}
+
+fn note_line(lines: &mut [LineFact], before: &[Entry], line: Option<u32>, entry: &Entry)
+    ensures { lines.new ≡ update_if (line_after (reverse before.now) (unwrap_or line 0) entry.now) lines.old line }
+{
+    if let Some(line) = line {
+        let at = line as usize;
+        if at < lines.len() {
+            let old = lines[at];
+            lines[at] = line_next(old, before, line, entry);
+        }
+    }
+}
+
+fn line_next(fact: LineFact, before: &[Entry], line: u32, entry: &Entry) -> LineFact
+    ensures { result ≡ line_after (reverse before.now) line entry.now fact }
+{
+    LineFact {
+        cause: fact.cause.or(break_in(before, entry, line)),
+        ended: is_end(entry, line) || fact.ended,
+    }
+}
+
+fn action_of_reply(reply: &Reply) -> Option<u32>
+    ensures { result ≡ reply_action reply.now }
+{
+    match reply {
+        Reply::Launch { action, .. }
+        | Reply::Send { action, .. }
+        | Reply::Matched { action, .. }
+        | Reply::Late { action, .. } => Some(*action),
+        _ => None,
+    }
+}
+
+fn action_of_call(order: Option<&Entry>, call: &Call) -> Option<u32>
+    ensures { result ≡ call_action (option_copied order.entry) call.now }
+{
+    match call {
+        Call::Claim { action, .. } | Call::Committed { action, .. } => Some(*action),
+        Call::Wrote { .. } => match sent_by(order) {
+            Some(attempt) => Some(attempt.action),
+            None => None,
+        },
+        Call::Launched { .. } => launched_action(order),
+        _ => None,
+    }
+}
+
+fn launched_action(order: Option<&Entry>) -> Option<u32>
+    ensures { result ≡ option_map (λ t. t.action) (launch_of_entry (option_copied order.entry)) }
+{
+    match &order?.reply {
+        Reply::Launch { action, .. } => Some(*action),
+        _ => None,
+    }
+}
+
+fn line_of_call(call: &Call) -> Option<u32>
+    ensures { result ≡ broken_line call.now }
+{
+    match call {
+        Call::Wrote { line, .. } | Call::Answer { line, .. } | Call::Ended { line, .. } => Some(
+            *line,
+        ),
+        _ => None,
+    }
+}

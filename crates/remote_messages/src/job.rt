@@ -1,0 +1,129 @@
+// Jobs for the executor.
+ghost use Rattle.std.specs.Prelude.{◌≡◌, length, IfOk, IfErr, Ok, Err};
+ghost use Rattle.wire_fields.specs.Varint.{Fault};
+ghost use Rattle.wire_fields.specs.Spelling.{capped};
+ghost use Rattle.wire_messages.specs.Fault.{Fails, Answers};
+ghost use Rattle.remote_messages.specs.Job.{SpellsJob, FaultyJob, job_spelling};
+ghost use Rattle.remote_messages.specs.declared.job.Job.{Job};
+
+use crate::environment::{env_len, push_env, take_variable};
+use crate::file::NamedFile;
+use outside::Variable;
+use std::alloc::Global;
+use wire_fields::{Items, NoMemory, Text};
+use wire_messages::{
+    Message, MessageFault, Value, decode, encode, int32_len, messages_len, push_int32,
+    push_messages, push_texts, texts_len,
+};
+
+/// What the executor is asked to run.
+#[derive(Drop)]
+pub struct Job {
+    pub id: i32,
+    pub arguments: Items<Text>,
+    pub inputs: Items<NamedFile>,
+    pub outputs: Items<Text>,
+    pub env: Items<Variable>,
+}
+
+impl Message for Job {
+    ghost use Rattle.remote_messages.specs.Job.{IsJob, job_refuses, job_fields, IsJobValue};
+
+    ghost means = { IsJob };
+
+    ghost refuses = { job_refuses };
+
+    ghost fields = { job_fields };
+
+    ghost has_form = { IsJobValue };
+
+    ghost use Rattle.remote_messages.specs.JobLaws.{one_job, one_job_fault, job_again};
+
+    ghost again = { job_again };
+
+    ghost one_meaning = { one_job };
+
+    ghost one_fault = { one_job_fault };
+
+    #[tactic(auto, using(wire_fields::proofs::Values::field_starts))]
+    fn empty(alloc: Global) -> Result<Job, MessageFault> {
+        Ok(Job {
+            id: 0,
+            arguments: Items::of(Vec::new(alloc)),
+            inputs: Items::of(Vec::new(alloc)),
+            outputs: Items::of(Vec::new(alloc)),
+            env: Items::of(Vec::new(alloc)),
+        })
+    }
+
+    #[tactic(auto, using(wire_fields::proofs::Values::field_steps))]
+    fn take(&mut self, alloc: Global, number: u32, value: Value<'_>) -> Result<(), MessageFault> {
+        match number {
+            1 => value.set_int32(&mut self.id),
+            2 => value.push_text(alloc, &mut self.arguments)?,
+            3 => value.push_message(alloc, &mut self.inputs)?,
+            4 => value.push_text(alloc, &mut self.outputs)?,
+            5 => take_variable(value, alloc, &mut self.env)?,
+            _ => {}
+        }
+        Ok(())
+    }
+
+    fn encoded_len(&self) -> u64 {
+        let id = int32_len(1, self.id);
+        let arguments = texts_len(2, self.arguments.as_slice());
+        let inputs = messages_len(3, self.inputs.as_slice());
+        let outputs = texts_len(4, self.outputs.as_slice());
+        let env = env_len(5, self.env.as_slice());
+        id.saturating_add(arguments)
+            .saturating_add(inputs)
+            .saturating_add(outputs)
+            .saturating_add(env)
+    }
+
+    fn put(&self, out: &mut Vec<u8>) -> Result<(), NoMemory> {
+        push_int32(out, 1, self.id)?;
+        push_texts(out, 2, self.arguments.as_slice())?;
+        push_messages(out, 3, self.inputs.as_slice())?;
+        push_texts(out, 4, self.outputs.as_slice())?;
+        push_env(out, 5, self.env.as_slice())?;
+        Ok(())
+    }
+}
+
+/// The job that the bytes spell.
+///
+/// # Errors
+///
+/// The first fault from the left, or `NoMemory`.
+pub fn decode_job(alloc: Global, bytes: &[u8]) -> Result<Job, MessageFault>
+    // What is read is spelled so.
+    ensures found { IfOk result (SpellsJob bytes.now) }
+    // A fault is the first one.
+    ensures fault { IfErr result (λ e. Fails e (FaultyJob bytes.now)) }
+    // What is spelled so is read, and the first fault is told, unless memory runs out.
+    ensures only { (m : Job) → SpellsJob bytes.now m → Answers result (Ok m) }
+    ensures only_fault { (x : Fault) → FaultyJob bytes.now x → Answers result (Err x) }
+{
+    decode::<Job>(alloc, bytes)
+}
+
+/// The one spelling of the job.
+///
+/// # Errors
+///
+/// `NoMemory` where the bytes find no memory.
+pub fn encode_job(alloc: Global, m: &Job) -> Result<Vec<u8>, NoMemory>
+    ensures written { IfOk result (λ v. v.items ≡ job_spelling m.now) }
+    ensures spelled { IfOk result (λ v. SpellsJob v.items m.now) }
+{
+    encode(alloc, m)
+}
+
+/// The length of the job's spelling, or 2^64 - 1 where that is more. It takes no memory, and looks at each part
+/// of the job a fixed number of times, at no content.
+pub fn job_length(m: &Job) -> u64
+    ensures { result ≡ capped (length (job_spelling m.now)) }
+{
+    m.encoded_len()
+}

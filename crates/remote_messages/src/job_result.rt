@@ -1,0 +1,120 @@
+// Results of jobs.
+ghost use Rattle.std.specs.Prelude.{◌≡◌, IfOk, IfErr, Ok, Err};
+ghost use Rattle.wire_fields.specs.Varint.{Fault};
+ghost use Rattle.wire_messages.specs.Fault.{Fails, Answers};
+ghost use Rattle.remote_messages.specs.JobResult.{SpellsJobResult, FaultyJobResult, job_result_spelling};
+ghost use Rattle.remote_messages.specs.declared.job_result.JobResult.{JobResult};
+
+use crate::file::NamedFile;
+use std::alloc::Global;
+use wire_fields::{Items, NoMemory, Text};
+use wire_messages::{
+    Message, MessageFault, Value, bytes_len, decode, encode, int32_len, messages_len, push_bytes,
+    push_int32, push_messages,
+};
+
+/// What the executor answers to a job.
+#[derive(Drop)]
+pub struct JobResult {
+    pub id: i32,
+    pub exit_code: i32,
+    /// What the job printed.
+    pub text: Text,
+    pub files: Items<NamedFile>,
+    /// Why the job was not run; empty where it was.
+    pub refusal: Text,
+}
+
+impl Message for JobResult {
+    ghost use Rattle.remote_messages.specs.JobResult.{IsJobResult, job_result_refuses, job_result_fields, IsJobResultValue};
+
+    ghost means = { IsJobResult };
+
+    ghost refuses = { job_result_refuses };
+
+    ghost fields = { job_result_fields };
+
+    ghost has_form = { IsJobResultValue };
+
+    ghost use Rattle.remote_messages.specs.JobResultLaws.{one_job_result, one_job_result_fault, job_result_again};
+
+    ghost again = { job_result_again };
+
+    ghost one_meaning = { one_job_result };
+
+    ghost one_fault = { one_job_result_fault };
+
+    #[tactic(auto, using(wire_fields::proofs::Values::field_starts))]
+    fn empty(alloc: Global) -> Result<JobResult, MessageFault> {
+        Ok(JobResult {
+            id: 0,
+            exit_code: 0,
+            text: Text::of(String::new(alloc)),
+            files: Items::of(Vec::new(alloc)),
+            refusal: Text::of(String::new(alloc)),
+        })
+    }
+
+    #[tactic(auto, using(wire_fields::proofs::Values::field_steps))]
+    fn take(&mut self, alloc: Global, number: u32, value: Value<'_>) -> Result<(), MessageFault> {
+        match number {
+            1 => value.set_int32(&mut self.id),
+            2 => value.set_int32(&mut self.exit_code),
+            3 => value.set_text(alloc, &mut self.text)?,
+            4 => value.push_message(alloc, &mut self.files)?,
+            5 => value.set_text(alloc, &mut self.refusal)?,
+            _ => {}
+        }
+        Ok(())
+    }
+
+    fn encoded_len(&self) -> u64 {
+        let id = int32_len(1, self.id);
+        let exit_code = int32_len(2, self.exit_code);
+        let text = bytes_len(3, self.text.as_str().as_bytes());
+        let files = messages_len(4, self.files.as_slice());
+        let refusal = bytes_len(5, self.refusal.as_str().as_bytes());
+        id.saturating_add(exit_code)
+            .saturating_add(text)
+            .saturating_add(files)
+            .saturating_add(refusal)
+    }
+
+    fn put(&self, out: &mut Vec<u8>) -> Result<(), NoMemory> {
+        push_int32(out, 1, self.id)?;
+        push_int32(out, 2, self.exit_code)?;
+        push_bytes(out, 3, self.text.as_str().as_bytes())?;
+        push_messages(out, 4, self.files.as_slice())?;
+        push_bytes(out, 5, self.refusal.as_str().as_bytes())?;
+        Ok(())
+    }
+}
+
+/// The result that the bytes spell.
+///
+/// # Errors
+///
+/// The first fault from the left, or `NoMemory`.
+pub fn decode_result(alloc: Global, bytes: &[u8]) -> Result<JobResult, MessageFault>
+    // What is read is spelled so.
+    ensures found { IfOk result (SpellsJobResult bytes.now) }
+    // A fault is the first one.
+    ensures fault { IfErr result (λ e. Fails e (FaultyJobResult bytes.now)) }
+    // What is spelled so is read, and the first fault is told, unless memory runs out.
+    ensures only { (m : JobResult) → SpellsJobResult bytes.now m → Answers result (Ok m) }
+    ensures only_fault { (x : Fault) → FaultyJobResult bytes.now x → Answers result (Err x) }
+{
+    decode::<JobResult>(alloc, bytes)
+}
+
+/// The one spelling of the result.
+///
+/// # Errors
+///
+/// `NoMemory` where the bytes find no memory.
+pub fn encode_result(alloc: Global, m: &JobResult) -> Result<Vec<u8>, NoMemory>
+    ensures written { IfOk result (λ v. v.items ≡ job_result_spelling m.now) }
+    ensures spelled { IfOk result (λ v. SpellsJobResult v.items m.now) }
+{
+    encode(alloc, m)
+}

@@ -1,0 +1,106 @@
+-- What a clause reads of a desk, its root and its passes.
+use Rattle.std.specs.Prelude.{◌≡◌, ◌+◌, List, Option}
+use Rattle.seat_desk.specs.declared.machine.Machine.{Ghosts}
+use Rattle.seat_desk.specs.declared.entry.Entry.{Entry}
+use Rattle.seat_desk.specs.declared.view.Joined.{Joined}
+use Rattle.seat_desk.specs.declared.desk.Pass.{Pass}
+use Rattle.seat_desk.specs.declared.desk.Root.{Root}
+use Rattle.seat_desk.specs.declared.desk.Desk.{Desk}
+use Rattle.seat_desk.specs.History.{FactOfWork, GoesOn, StandsUnder}
+use Rattle.seat_desk.specs.Turns.{first_view, root_after_split, new_pass_view}
+use Rattle.seat_desk.specs.Desks.{Answers, AnswersThen, MayThen}
+
+module _ {M C R G Q : Type 0} {g : Ghosts M C R G Q} where
+  -- what the pass has seen: a front of the one history
+  abbrev pub seen : Pass M C R G Q g → List (Entry C R)
+  seen p = p.seat.me.0.seen
+
+  -- the calls that were made with the pass: all that the history has of its lane
+  abbrev pub mine : Pass M C R G Q g → List (Entry C R)
+  mine p = p.seat.me.0.mine
+
+  -- what the machine of the pass's desk goes by
+  abbrev pub rules : Pass M C R G Q g → Q
+  rules p = p.seat.me.0.rules
+
+  -- what the machine of the root's desk goes by
+  abbrev pub root_rules : Root M C R G Q g → Q
+  root_rules r = r.seat.me.0.rules
+
+  -- what the root has seen: a front of the one history
+  abbrev pub root_seen : Root M C R G Q g → List (Entry C R)
+  root_seen r = r.seat.me.0.seen
+
+  -- the lanes of the passes that were joined, with the calls of each
+  abbrev pub joined : Root M C R G Q g → List (Joined C R)
+  joined r = r.seat.me.0.joined
+
+  -- the pass is this desk's
+  abbrev pub IsPassOf : Desk M C R G Q → Pass M C R G Q g → Type 0
+  IsPassOf d p = p.seat.table_id ≡ d.table.shared.table_id
+
+  -- the root is this desk's
+  abbrev pub IsRootOf : Desk M C R G Q → Root M C R G Q g → Type 0
+  IsRootOf d r = r.seat.table_id ≡ d.table.shared.table_id
+
+  -- the pass has the desk, the lane and the rules that it had
+  abbrev pub IsSamePass : Pass M C R G Q g → Pass M C R G Q g → Type 0
+  IsSamePass p p' = (p'.seat.table_id ≡ p.seat.table_id) × (p'.lane ≡ p.lane) × (rules p' ≡ rules p)
+
+  -- the root has the desk, the number of passes and the rules that it had
+  abbrev pub IsSameRoot : Root M C R G Q g → Root M C R G Q g → Type 0
+  IsSameRoot r r' =
+      (r'.seat.table_id ≡ r.seat.table_id) × (r'.made ≡ r.made) × (root_rules r' ≡ root_rules r)
+
+  -- the root of a desk whose machine has these rules: it has split no pass, seen nothing and joined nothing
+  abbrev pub IsNewRoot : Q → Root M C R G Q g → Type 0
+  IsNewRoot rules r = (r.made ≡ 0) × (r.seat.me.0 ≡ first_view rules)
+
+  -- the root has split one pass more, and is else as it was
+  abbrev pub SplitsOne : Root M C R G Q g → Root M C R G Q g → Type 0
+  SplitsOne r r' =
+      (r'.seat.table_id ≡ r.seat.table_id) × (r'.made ≡ r.made + 1)
+      × (r'.seat.me.0 ≡ root_after_split r.seat.me.0)
+
+  -- the pass is of the root's desk and of the next lane, has seen what the root has, and made no call
+  abbrev pub IsNewPass : Root M C R G Q g → Pass M C R G Q g → Type 0
+  IsNewPass r p =
+      (p.seat.table_id ≡ r.seat.table_id) × (p.lane ≡ r.made) × (p.seat.me.0 ≡ new_pass_view r.seat.me.0)
+
+  -- this may go in with the call, a good or none, after what the pass has seen
+  abbrev pub Suits : Pass M C R G Q g → C → Option G → Type 0
+  Suits p call put = g.goes_in (rules p) (seen p) p.lane call put
+
+  -- what the pass has seen pays for the call
+  abbrev pub IsPaidFor : Pass M C R G Q g → C → Type 0
+  IsPaidFor p call = g.paid (rules p) (seen p) p.lane call
+
+  -- the call was made in one turn, by the rules of the machine: the reply is its reply at a point of the history that begins with all that the pass had seen
+  abbrev pub MakesCall : Pass M C R G Q g → C → R → Option G → Pass M C R G Q g → Type 0
+  MakesCall p call reply good p' =
+      Answers (g.next (rules p)) g.short (g.may_be_short (rules p)) g.keeps (g.comes_out (rules p))
+      p.lane p.seat.me.0 call reply good p'.seat.me.0
+
+  -- the same, and the reply is not short
+  abbrev pub MakesPaidCall : Pass M C R G Q g → C → R → Option G → Pass M C R G Q g → Type 0
+  MakesPaidCall p call reply good p' =
+      Answers (g.next (rules p)) g.short (λ _ _ _. ⊥) g.keeps (g.comes_out (rules p)) p.lane p.seat.me.0
+      call reply good p'.seat.me.0
+
+  -- no call was made: the history that the pass has seen may have grown by calls of other lanes, and its own list stays
+  abbrev pub MakesNoCall : Pass M C R G Q g → Pass M C R G Q g → Type 0
+  MakesNoCall p p' = GoesOn p.lane (seen p) (seen p') × (mine p' ≡ mine p)
+
+  -- whatever the work answers to the call's reply is paid for by the history with the call's entry, and its good suits there
+  abbrev pub MayMakeThen : {W : Type 0} → FactOfWork W C R G → Pass M C R G Q g → C → W → Type 0
+  MayMakeThen meets p call work =
+      MayThen meets (StandsUnder g.rules g.stands (rules p)) (g.next (rules p)) g.short
+      (g.may_be_short (rules p)) g.keeps (g.paid (rules p)) (g.goes_in (rules p)) (g.comes_out (rules p))
+      p.lane (seen p) call work
+
+  -- the call, and the one that the work answered, were made in one turn
+  abbrev pub MakesCallThen : {W : Type 0} → FactOfWork W C R G → Pass M C R G Q g → C → W → R
+      → Option G → W → Pass M C R G Q g → Type 0
+  MakesCallThen meets p call work reply good work' p' =
+      AnswersThen meets (g.next (rules p)) g.short (g.may_be_short (rules p)) g.keeps
+      (g.comes_out (rules p)) p.lane p.seat.me.0 call work reply good work' p'.seat.me.0

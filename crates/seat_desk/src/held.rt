@@ -1,0 +1,9 @@
+//! What lies in the desk's slot.
+use crate::entry::Entry;
+
+/// The machine, and the calls by which it came about.
+#[derive(Drop)]
+pub struct Held<M, C, R> {
+    pub machine: M,
+    pub history: Vec<Entry<C, R>>,
+}

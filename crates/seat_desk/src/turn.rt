@@ -1,0 +1,75 @@
+//! What happens in a turn, while the machine is out of the slot.
+ghost use Rattle.std.specs.Prelude.{◌≡◌, ◌<◌, ◌+◌, true, false, cond, vec_len};
+ghost use Rattle.std.specs.Vec.{vec_capacity};
+ghost use Rattle.seat_desk.specs.History.{entry, after, IsReply};
+ghost use Rattle.seat_desk.specs.Helds.{IsGood, HasRoom};
+ghost use Rattle.seat_desk.specs.Desks.{MayFollow, Follows};
+
+use crate::entry::Entry;
+use crate::held::Held;
+use crate::machine::{Machine, Then};
+
+// Adds the entry to the history, where it is kept. It takes no memory.
+fn write<M: Machine>(
+    history: &mut Vec<Entry<M::Call, M::Reply>>,
+    lane: u32,
+    call: M::Call,
+    reply: &M::Reply,
+)
+    requires { M.keeps (entry lane call reply.now) ≡ true → vec_len history.old < vec_capacity history.old }
+    ensures items { history.new.items ≡ after M.keeps history.old.items (entry lane call reply.now) }
+    ensures len { vec_len history.new ≡ vec_len history.old + cond (M.keeps (entry lane call reply.now)) 1 0 }
+    ensures capacity { vec_capacity history.new ≡ vec_capacity history.old }
+{
+    if M::is_kept(lane, &call, reply) {
+        let reply = M::copy(reply);
+        history.push_reserved(Entry { lane, call, reply });
+    }
+}
+
+/// Makes one call of the machine, and adds its entry.
+pub(crate) fn step<M: Machine>(
+    held: &mut Held<M, M::Call, M::Reply>,
+    lane: u32,
+    call: M::Call,
+    put: Option<M::Good>,
+) -> (M::Reply, Option<M::Good>)
+    requires good { IsGood M.rules M.stands M.owes (M.rules held.old.machine) held.old }
+    requires room { HasRoom (M.owes (M.rules held.old.machine)) (M.paid (M.rules held.old.machine))
+        lane call held.old }
+    requires suits { M.goes_in (M.rules held.old.machine) held.old.history.items lane call put }
+    ensures history { held.new.history.items ≡ after M.keeps held.old.history.items (entry lane call result.0) }
+    ensures good { IsGood M.rules M.stands M.owes (M.rules held.old.machine) held.new }
+    ensures reply { IsReply (M.next (M.rules held.old.machine)) M.short
+        (M.may_be_short (M.rules held.old.machine)) held.old.history.items lane call result.0 }
+    ensures paid { M.paid (M.rules held.old.machine) held.old.history.items lane call
+        → (result.0 ≡ M.next (M.rules held.old.machine) held.old.history.items lane call)
+        × (M.short result.0 ≡ false) }
+    ensures comes { M.comes_out (M.rules held.old.machine) held.old.history.items lane call result.0 result.1 }
+{
+    let (reply, good) = held.machine.turn(lane, &call, put);
+    write::<M>(&mut held.history, lane, call, &reply);
+    (reply, good)
+}
+
+/// Makes the call that the work answers to the first one's reply, if it answers one.
+pub(crate) fn follow<M: Machine, W: Then<M>>(
+    held: &mut Held<M, M::Call, M::Reply>,
+    lane: u32,
+    reply: M::Reply,
+    good: Option<M::Good>,
+    work: &mut W,
+) -> (M::Reply, Option<M::Good>)
+    requires good { IsGood M.rules M.stands M.owes (M.rules held.old.machine) held.old }
+    requires may { MayFollow W.meets (M.paid (M.rules held.old.machine)) (M.goes_in (M.rules held.old.machine))
+        lane held.old.history.items work.old reply good }
+    ensures good { IsGood M.rules M.stands M.owes (M.rules held.old.machine) held.new }
+    ensures follows { Follows W.meets (M.next (M.rules held.old.machine)) M.short M.keeps
+        (M.comes_out (M.rules held.old.machine)) lane held.old.history.items work.old reply good
+        result.0 result.1 work.new held.new.history.items }
+{
+    match work.then(&reply, good) {
+        Some((call, put)) => step(held, lane, call, put),
+        None => (reply, None),
+    }
+}

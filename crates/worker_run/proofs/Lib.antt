@@ -1,0 +1,9 @@
+pub mod Courses
+pub mod Endings
+pub mod Frames
+pub mod Judged
+pub mod Names
+pub mod Runs
+pub mod Stages
+pub mod Streams
+pub mod Marks

@@ -1,0 +1,71 @@
+-- From one stage of the line to the next.
+use Rattle.std.proofs.Common.{◌≡◌, ◌⊎◌, ℕ, ◌+◌, ◌<◌, ◌≤◌, List, [], ◌∷◌, ◌++◌, length, map, take, Bool, true, Option, Some, None, IfSome, refl, ap, sym, subst, ◌∙◌, inl, inr, arith, append-nil, length-append}
+use Rattle.std.proofs.lemmas.List.{take_all}
+use Rattle.outside.specs.Lists.{Adds, Tells}
+use Rattle.outside.specs.declared.floor.SourceFile.{SourceFile}
+use Rattle.outside.specs.declared.berth.BerthCall.{BerthCall}
+use Rattle.outside.specs.declared.place.PlaceWrite.{PlaceWrite}
+use Rattle.worker_run.specs.Heard.{IsOneAnswer, BeginsAnswer, NeverAnswers, Speaks}
+use Rattle.worker_run.specs.Rooms.{IsRun, fill_asks, fill_calls, put_ask, put_call, writes_of}
+use Rattle.worker_run.specs.Reached.{TellsRun}
+use Rattle.worker_run.proofs.Streams.{never_by_more}
+use Rattle.worker_run.proofs.Frames.{of_told}
+
+-- An object that tells nothing can't begin to, and where nothing was added what held still holds.
+pub keeps : (P : List ℕ → Type 0) (old new : Option (List ℕ)) → Adds [] old new → IfSome old P → IfSome new P
+keeps P old None adds p = tt
+keeps P None (Some ys) adds p =
+    let a : ys ≡ [] = adds [] tt in
+    let b : ys ≡ 0 ∷ [] = adds (0 ∷ []) tt in
+    let c : [] ≡ 0 ∷ [] = sym a ∙ b in absurd cc
+keeps P (Some xs) (Some ys) adds p = subst P (sym (adds xs refl ∙ append-nil xs)) p
+
+-- more than nothing can't be all there is
+silent : (ys : List ℕ) → ((more : List ℕ) × (0 < length more) × (ys ≡ [] ++ more)) → ((more : List ℕ) × (0 < length more) × (ys ≡ ys ++ more)) → ⊥
+silent ys first second =
+    let e : length ys ≡ length (ys ++ second.0) = ap length second.2 in
+    omega (arith, length-append ys second.0, second.1)
+
+begins : (text all : List ℕ) → IsOneAnswer all text → BeginsAnswer text all
+begins text all p = (all, [], sym (append-nil all), p)
+
+pub begins_quiet : (text : List ℕ) (old new : Option (List ℕ)) → Adds [] old new → IfSome old (λ all. IsOneAnswer all text) → IfSome new (BeginsAnswer text)
+begins_quiet text old None adds p = tt
+begins_quiet text None (Some ys) adds p = keeps (BeginsAnswer text) None (Some ys) adds tt
+begins_quiet text (Some xs) (Some ys) adds p = keeps (BeginsAnswer text) (Some xs) (Some ys) adds (begins text xs p)
+
+-- A child that gave more than its answer.
+pub begins_more : (text : List ℕ) (old new : Option (List ℕ)) → Speaks old new → IfSome old (λ all. IsOneAnswer all text) → IfSome new (BeginsAnswer text)
+begins_more text old None spoke p = tt
+begins_more text None (Some ys) spoke p = absurd (silent ys (spoke [] tt) (spoke ys tt))
+begins_more text (Some xs) (Some ys) spoke p = let m = spoke xs refl in (xs, m.0, m.2, p)
+
+pub never_more : (text : List ℕ) (old new : Option (List ℕ)) → Speaks old new → IfSome old (λ all. IsOneAnswer all text) → IfSome new NeverAnswers
+never_more text old None spoke p = tt
+never_more text None (Some ys) spoke p = absurd (silent ys (spoke [] tt) (spoke ys tt))
+never_more text (Some xs) (Some ys) spoke p = let m = spoke xs refl in subst NeverAnswers (sym m.2) (never_by_more xs text m.0 p m.1)
+
+-- calls that all went well are a run
+puts_run : (inputs : List SourceFile) → IsRun (map put_ask inputs) (map put_call inputs)
+puts_run [] = tt
+puts_run (x ∷ inputs) = (refl, tt, puts_run inputs)
+
+fill_runs : (inputs : List SourceFile) → IsRun (fill_asks inputs) (fill_calls inputs)
+fill_runs inputs = (refl, tt, puts_run inputs)
+
+pub filled : (log : Option (List BerthCall)) (before : List BerthCall) (inputs : List SourceFile) → Tells log (before ++ fill_calls inputs) → TellsRun log before (fill_asks inputs)
+filled log before inputs told = of_told (λ l. (more : List BerthCall) × (l ≡ before ++ more) × IsRun (fill_asks inputs) more) log (before ++ fill_calls inputs) told (fill_calls inputs, refl, fill_runs inputs)
+
+-- all writes
+writes_short : (outputs files : List (List ℕ)) → length (writes_of outputs files) ≤ length outputs
+writes_short [] files = omega arith
+writes_short (o ∷ outputs) [] = omega arith
+writes_short (o ∷ outputs) (f ∷ files) = let rest = writes_short outputs files in omega arith
+
+all_writes : (outputs files : List (List ℕ)) → take (length outputs) (writes_of outputs files) ≡ writes_of outputs files
+all_writes outputs files = take_all (length outputs) (writes_of outputs files) (writes_short outputs files)
+
+pub wrote_all : (outputs files os fs : List (List ℕ)) (log : Option (List PlaceWrite)) → os ≡ outputs → fs ≡ files → Tells log (take (length os) (writes_of os fs)) → Tells log (writes_of outputs files)
+wrote_all outputs files os fs log same_o same_f told =
+    let e : take (length os) (writes_of os fs) ≡ writes_of outputs files = all_writes os fs ∙ ap (λ (o : List (List ℕ)). writes_of o fs) same_o ∙ ap (writes_of outputs) same_f in
+    subst (λ (ws : List PlaceWrite). Tells log ws) e told

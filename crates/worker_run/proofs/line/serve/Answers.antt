@@ -1,0 +1,8 @@
+use Rattle.std.proofs.Common.{refl}
+use Rattle.worker_run.specs.Reached.{before_request}
+use Rattle.worker_run.proofs.Stages.{filled}
+use Rattle.worker_run.proofs.line.serve.Goals as goal
+
+pub returns-in-Failed-write-clause-room : goal.returns-in-Failed-write-clause-room
+returns-in-Failed-write-clause-room g c =
+    filled (g.B.Berth.log c.fill.new.berth) (before_request c.args.work.now) c.args.work.now.inputs (rw (c.as_slice.ensures) at (c.in_default.ensures.done refl (before_request c.args.work.now) c.requires.room))

@@ -1,0 +1,16 @@
+pub mod Action
+pub mod Commits
+pub mod Course
+pub mod Ends
+pub mod Faults
+pub mod Frame
+pub mod Heard
+pub mod Hearing
+pub mod Lists
+pub mod OneJournal
+pub mod Reached
+pub mod Report
+pub mod Rooms
+pub mod Seen
+pub mod Steps
+pub mod Words

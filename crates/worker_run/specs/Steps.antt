@@ -1,0 +1,39 @@
+-- The answers of the steps of one line, by cases.
+use Rattle.std.specs.Prelude.{List, ℕ, Result, Ok, Err}
+use Rattle.wire_fields.specs.declared.no_memory.NoMemory.{NoMemory}
+use Rattle.outside.specs.declared.answers.Launch.{Launch}
+use Rattle.outside.specs.declared.answers.Launch.TheVariants as launch
+use Rattle.worker_run.specs.declared.room.Gathered.{Gathered}
+use Rattle.worker_run.specs.declared.room.Gathered.TheVariants as gathered
+
+module _ {D T C : Type 0} where
+  -- it has not started
+  abbrev pub OnNotStarted : Result (Launch D T C) NoMemory → Type 0 → Type 0
+  OnNotStarted (Ok (launch.Started feed tap child)) P = Unit {0}
+  OnNotStarted (Ok launch.Failed) P = P
+  OnNotStarted (Err e) P = P
+
+-- all outputs were found
+abbrev pub OnFiles : Gathered → (List (List ℕ) → Type 0) → Type 0
+OnFiles (gathered.Files files) P = P files.items
+OnFiles gathered.Missing P = Unit {0}
+OnFiles gathered.RoomFault P = Unit {0}
+
+-- not all outputs were found
+abbrev pub OnNoFiles : Result Gathered NoMemory → Type 0 → Type 0
+OnNoFiles (Ok (gathered.Files files)) P = Unit {0}
+OnNoFiles (Ok gathered.Missing) P = P
+OnNoFiles (Ok gathered.RoomFault) P = P
+OnNoFiles (Err e) P = P
+
+-- an output is missing
+abbrev pub OnMissing : Gathered → Type 0 → Type 0
+OnMissing (gathered.Files files) P = Unit {0}
+OnMissing gathered.Missing P = P
+OnMissing gathered.RoomFault P = Unit {0}
+
+abbrev pub IsRoomFault : Result Gathered NoMemory → Type 0
+IsRoomFault (Ok (gathered.Files files)) = ⊥
+IsRoomFault (Ok gathered.Missing) = ⊥
+IsRoomFault (Ok gathered.RoomFault) = Unit {0}
+IsRoomFault (Err e) = ⊥

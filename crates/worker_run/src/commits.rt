@@ -1,0 +1,33 @@
+//! The outputs are written to the action's place.
+ghost use Rattle.std.specs.Prelude.{◌≡◌, ◌<◌, length, take};
+ghost use Rattle.outside.specs.Causes.{Counts};
+ghost use Rattle.outside.specs.Lists.{Adds};
+ghost use Rattle.worker_run.specs.Rooms.{writes_of};
+ghost use Rattle.worker_run.specs.Commits.{IsPlaceFault, written_of};
+
+use outside::{Io, Place};
+use wire_fields::{Blob, Text};
+
+/// How the writes ended.
+#[derive(Clone, Copy, Debug, PartialEq, Eq)]
+pub enum Committed {
+    Done,
+    /// This many files were written before a write failed.
+    PlaceFault { written: usize },
+}
+
+/// Writes the outputs in order, up to the first write that fails.
+pub fn commit<P: Place>(place: &mut P, outputs: &[Text], files: &[Blob]) -> Committed
+    requires { length files.now ≡ length outputs.now }
+    ensures written { Adds (take (written_of (length outputs.now) result) (writes_of outputs.now files.now)) (P.log place.old) (P.log place.new) }
+    ensures fewer { IsPlaceFault result → written_of (length outputs.now) result < length outputs.now }
+    ensures count { Counts (P.faults place.old) (P.faults place.new) (IsPlaceFault result) }
+    ensures number { P.number place.new ≡ P.number place.old }
+{
+    for (index, output) in outputs.iter().enumerate() {
+        if let Io::Failed = place.write(output.as_str(), files[index].bytes()) {
+            return Committed::PlaceFault { written: index };
+        }
+    }
+    Committed::Done
+}

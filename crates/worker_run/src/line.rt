@@ -1,0 +1,311 @@
+//! The one line of a run: its worker is started, asked once, and killed.
+ghost use Rattle.std.specs.Prelude.{◌≡◌, [], length, true, IfSome, Option, List, ℕ};
+ghost use Rattle.std.specs.Option.{option_map};
+ghost use Rattle.outside.specs.Lists.{Tells};
+ghost use Rattle.outside.specs.Launches.{IsNewFeed, IsNewTap, IsNewChild};
+ghost use Rattle.outside.specs.declared.berth.BerthCall.{BerthCall};
+ghost use Rattle.outside.specs.declared.place.PlaceWrite.{PlaceWrite};
+ghost use Rattle.worker_run.specs.Reached.{before_request, before_answer, RoomStood, PlaceStood, FeedStood, TapStood, HeardStood, LineStood, WorkCause, HasCause, IsServed, IsStop, OnOutside, HoldsText, HoldsFiles, EndsWith, IsLaunched, IsWritten};
+ghost use Rattle.worker_run.specs.Heard.{IsOneAnswer};
+ghost use Rattle.worker_run.specs.Seen.{SeenRoom, SeenPlace, SeenFeed, SeenTap, seen_room, seen_place, seen_feed, seen_tap, seen_child, seen_line};
+ghost use Rattle.worker_run.specs.declared.work.Work.{Work};
+
+use crate::commits::{Committed, commit};
+use crate::hearing::{Heard, Silence, hear, listen};
+use crate::room::{Gathered, fill, gather, launch};
+use crate::work::Work;
+use outside::{Berth, Child, Feed, Io, Launch, Place, Tap};
+use std::alloc::Global;
+use wire_fields::{Blob, Items, NoMemory, Text};
+
+/// How far the line of the one action came.
+#[derive(Drop)]
+pub enum Reached {
+    /// Its launch was ordered.
+    Ordered,
+    /// It was launched, and the request was ordered.
+    Launched,
+    /// The request was written.
+    Written,
+    /// The request was answered, with this output.
+    Answered(Text),
+    /// All outputs were found.
+    Gathered(Text, Items<Blob>),
+    /// The outputs were written to the place, and the child was killed.
+    Committed(Text, Items<Blob>),
+    /// After its kill the child gave nothing more.
+    Ended(Text, Items<Blob>),
+}
+
+/// Why it came no further.
+#[derive(Clone, Copy, Debug, PartialEq, Eq)]
+pub enum Stopped {
+    /// All was done.
+    Whole,
+    /// An object of the outside failed, or gave what a worker must not give.
+    Outside,
+    NoMemory,
+}
+
+/// A line that was launched.
+#[derive(Drop)]
+pub struct Line<B: Berth> {
+    pub feed: B::Feed,
+    pub tap: B::Tap,
+    pub child: B::Child,
+}
+
+/// What is left of a line.
+#[derive(Drop)]
+pub struct LineRun<B: Berth> {
+    pub reached: Reached,
+    pub stopped: Stopped,
+    /// None where it wasn't launched.
+    pub line: Option<Line<B>>,
+}
+
+/// How far a line came, and why no further.
+#[derive(Drop)]
+pub struct Served {
+    pub reached: Reached,
+    pub stopped: Stopped,
+}
+
+/// Starts the worker of line 0, asks it once, kills it, and writes the outputs where its answer is good.
+pub fn run_line<B: Berth, P: Place>(
+    alloc: Global,
+    berth: &mut B,
+    place: &mut P,
+    work: &Work,
+) -> LineRun<B>
+    requires room { Tells (B.log berth.old) [] }
+    requires place { Tells (P.log place.old) [] }
+    ensures stop { IsStop result.reached result.stopped }
+    ensures room { RoomStood work.now result.reached (B.log berth.new) }
+    ensures place { PlaceStood work.now result.reached (P.log place.new) }
+    ensures line { LineStood work.now result.reached (option_map (λ l. seen_line (seen_feed (B.Feed.line l.feed) (B.Feed.faults l.feed) (B.Feed.given l.feed)) (seen_tap (B.Tap.line l.tap) (B.Tap.faults l.tap) (B.Tap.taken l.tap) (B.Tap.ended l.tap)) (seen_child (B.Child.line l.child) (B.Child.killed l.child))) result.line) }
+    ensures cause { OnOutside result.stopped (HasCause result.reached (seen_room (B.number berth.new) (B.faults berth.new) (B.log berth.new)) (seen_place (P.number place.new) (P.faults place.new) (P.log place.new)) (option_map (λ l. seen_line (seen_feed (B.Feed.line l.feed) (B.Feed.faults l.feed) (B.Feed.given l.feed)) (seen_tap (B.Tap.line l.tap) (B.Tap.faults l.tap) (B.Tap.taken l.tap) (B.Tap.ended l.tap)) (seen_child (B.Child.line l.child) (B.Child.killed l.child))) result.line)) }
+    ensures berth_number { B.number berth.new ≡ B.number berth.old }
+    ensures place_number { P.number place.new ≡ P.number place.old }
+{
+    match launch(berth, &work.command) {
+        Ok(Launch::Started(feed, tap, child)) => {
+            run_started(alloc, berth, place, work, Line { feed, tap, child })
+        }
+        Ok(Launch::Failed) => LineRun {
+            reached: Reached::Ordered,
+            stopped: Stopped::Outside,
+            line: None,
+        },
+        Err(NoMemory) => LineRun {
+            reached: Reached::Ordered,
+            stopped: Stopped::NoMemory,
+            line: None,
+        },
+    }
+}
+
+fn run_started<B: Berth, P: Place>(
+    alloc: Global,
+    berth: &mut B,
+    place: &mut P,
+    work: &Work,
+    line: Line<B>,
+) -> LineRun<B>
+    requires room { Tells (B.log berth.old) (before_request work.now) }
+    requires place { Tells (P.log place.old) [] }
+    requires feed { IsNewFeed 0 (B.Feed.line line.feed) (B.Feed.faults line.feed) (B.Feed.given line.feed) }
+    requires tap { IsNewTap 0 (B.Tap.line line.tap) (B.Tap.faults line.tap) (B.Tap.taken line.tap) (B.Tap.ended line.tap) }
+    requires child { IsNewChild 0 (B.Child.line line.child) (B.Child.killed line.child) }
+    ensures stop { IsStop result.reached result.stopped }
+    ensures room { RoomStood work.now result.reached (B.log berth.new) }
+    ensures place { PlaceStood work.now result.reached (P.log place.new) }
+    ensures line { LineStood work.now result.reached (option_map (λ l. seen_line (seen_feed (B.Feed.line l.feed) (B.Feed.faults l.feed) (B.Feed.given l.feed)) (seen_tap (B.Tap.line l.tap) (B.Tap.faults l.tap) (B.Tap.taken l.tap) (B.Tap.ended l.tap)) (seen_child (B.Child.line l.child) (B.Child.killed l.child))) result.line) }
+    ensures cause { OnOutside result.stopped (HasCause result.reached (seen_room (B.number berth.new) (B.faults berth.new) (B.log berth.new)) (seen_place (P.number place.new) (P.faults place.new) (P.log place.new)) (option_map (λ l. seen_line (seen_feed (B.Feed.line l.feed) (B.Feed.faults l.feed) (B.Feed.given l.feed)) (seen_tap (B.Tap.line l.tap) (B.Tap.faults l.tap) (B.Tap.taken l.tap) (B.Tap.ended l.tap)) (seen_child (B.Child.line l.child) (B.Child.killed l.child))) result.line)) }
+    ensures berth_number { B.number berth.new ≡ B.number berth.old }
+    ensures place_number { P.number place.new ≡ P.number place.old }
+{
+    let mut line = line;
+    let served = serve(alloc, berth, place, &mut line.feed, &mut line.tap, work);
+    line.child.kill();
+    let Served { reached, stopped } = settle(served, &mut line.tap);
+    LineRun {
+        reached,
+        stopped,
+        line: Some(line),
+    }
+}
+
+// After the kill: the child that was asked once must have given nothing but its answer.
+fn settle<T: Tap>(served: Served, tap: &mut T) -> Served
+    requires served { IsServed served.reached served.stopped }
+    requires heard { HeardStood served.reached (T.taken tap.old) }
+    ensures stop { IsStop result.reached result.stopped }
+    ensures room { (work : Work) (log : Option (List BerthCall)) → RoomStood work served.reached log → RoomStood work result.reached log }
+    ensures place { (work : Work) (log : Option (List PlaceWrite)) → PlaceStood work served.reached log → PlaceStood work result.reached log }
+    ensures feed { (work : Work) (given : Option (List ℕ)) → FeedStood work served.reached given → FeedStood work result.reached given }
+    ensures tap { TapStood result.reached (seen_tap (T.line tap.new) (T.faults tap.new) (T.taken tap.new) (T.ended tap.new)) }
+    ensures cause { (room : SeenRoom) (place : SeenPlace) (feed : SeenFeed) → OnOutside served.stopped (WorkCause served.reached room place feed (seen_tap (T.line tap.old) (T.faults tap.old) (T.taken tap.old) (T.ended tap.old))) → OnOutside result.stopped (WorkCause result.reached room place feed (seen_tap (T.line tap.new) (T.faults tap.new) (T.taken tap.new) (T.ended tap.new))) }
+    ensures launched { IsLaunched result.reached }
+    ensures line { T.line tap.new ≡ T.line tap.old }
+{
+    let Served { reached, stopped } = served;
+    match reached {
+        Reached::Committed(text, files) => end(text, files, tap),
+        reached => Served { reached, stopped },
+    }
+}
+
+fn end<T: Tap>(text: Text, files: Items<Blob>, tap: &mut T) -> Served
+    requires { IfSome (T.taken tap.old) (λ all. IsOneAnswer all text) }
+    ensures ends { EndsWith text files result.reached }
+    ensures stop { IsStop result.reached result.stopped }
+    ensures tap { TapStood result.reached (seen_tap (T.line tap.new) (T.faults tap.new) (T.taken tap.new) (T.ended tap.new)) }
+    ensures cause { (room : SeenRoom) (place : SeenPlace) (feed : SeenFeed) → OnOutside result.stopped (WorkCause result.reached room place feed (seen_tap (T.line tap.new) (T.faults tap.new) (T.taken tap.new) (T.ended tap.new))) }
+    ensures line { T.line tap.new ≡ T.line tap.old }
+{
+    match listen(tap) {
+        Silence::Quiet => Served {
+            reached: Reached::Ended(text, files),
+            stopped: Stopped::Whole,
+        },
+        Silence::Spoke => Served {
+            reached: Reached::Committed(text, files),
+            stopped: Stopped::Outside,
+        },
+        Silence::TapFault => Served {
+            reached: Reached::Committed(text, files),
+            stopped: Stopped::Outside,
+        },
+    }
+}
+
+// Fills the room and writes the request.
+fn serve<B: Berth, P: Place>(
+    alloc: Global,
+    berth: &mut B,
+    place: &mut P,
+    feed: &mut B::Feed,
+    tap: &mut B::Tap,
+    work: &Work,
+) -> Served
+    requires room { Tells (B.log berth.old) (before_request work.now) }
+    requires place { Tells (P.log place.old) [] }
+    requires feed { Tells (B.Feed.given feed.old) [] }
+    requires tap { Tells (B.Tap.taken tap.old) [] }
+    ensures served { IsServed result.reached result.stopped }
+    ensures room { RoomStood work.now result.reached (B.log berth.new) }
+    ensures place { PlaceStood work.now result.reached (P.log place.new) }
+    ensures feed { FeedStood work.now result.reached (B.Feed.given feed.new) }
+    ensures tap { HeardStood result.reached (B.Tap.taken tap.new) }
+    ensures cause { OnOutside result.stopped (WorkCause result.reached (seen_room (B.number berth.new) (B.faults berth.new) (B.log berth.new)) (seen_place (P.number place.new) (P.faults place.new) (P.log place.new)) (seen_feed (B.Feed.line feed.new) (B.Feed.faults feed.new) (B.Feed.given feed.new)) (seen_tap (B.Tap.line tap.new) (B.Tap.faults tap.new) (B.Tap.taken tap.new) (B.Tap.ended tap.new))) }
+    ensures berth_number { B.number berth.new ≡ B.number berth.old }
+    ensures place_number { P.number place.new ≡ P.number place.old }
+    ensures feed_line { B.Feed.line feed.new ≡ B.Feed.line feed.old }
+    ensures tap_line { B.Tap.line tap.new ≡ B.Tap.line tap.old }
+{
+    if let Io::Failed = fill(berth, work.inputs.as_slice()) {
+        return Served {
+            reached: Reached::Launched,
+            stopped: Stopped::Outside,
+        };
+    }
+    match feed.write(work.frame.as_slice()) {
+        Io::Done => answer(alloc, berth, place, tap, work),
+        Io::Failed => Served {
+            reached: Reached::Launched,
+            stopped: Stopped::Outside,
+        },
+    }
+}
+
+// Hears the answer.
+fn answer<B: Berth, P: Place>(
+    alloc: Global,
+    berth: &mut B,
+    place: &mut P,
+    tap: &mut B::Tap,
+    work: &Work,
+) -> Served
+    requires room { Tells (B.log berth.old) (before_answer work.now) }
+    requires place { Tells (P.log place.old) [] }
+    requires tap { Tells (B.Tap.taken tap.old) [] }
+    ensures served { IsServed result.reached result.stopped }
+    ensures written { IsWritten result.reached }
+    ensures room { RoomStood work.now result.reached (B.log berth.new) }
+    ensures place { PlaceStood work.now result.reached (P.log place.new) }
+    ensures tap { HeardStood result.reached (B.Tap.taken tap.new) }
+    ensures cause { (feed : SeenFeed) → OnOutside result.stopped (WorkCause result.reached (seen_room (B.number berth.new) (B.faults berth.new) (B.log berth.new)) (seen_place (P.number place.new) (P.faults place.new) (P.log place.new)) feed (seen_tap (B.Tap.line tap.new) (B.Tap.faults tap.new) (B.Tap.taken tap.new) (B.Tap.ended tap.new))) }
+    ensures berth_number { B.number berth.new ≡ B.number berth.old }
+    ensures place_number { P.number place.new ≡ P.number place.old }
+    ensures tap_line { B.Tap.line tap.new ≡ B.Tap.line tap.old }
+{
+    match hear(alloc, tap) {
+        Ok(Heard::Answer(text)) => conclude(alloc, berth, place, work, text),
+        Ok(_) => Served {
+            reached: Reached::Written,
+            stopped: Stopped::Outside,
+        },
+        Err(NoMemory) => Served {
+            reached: Reached::Written,
+            stopped: Stopped::NoMemory,
+        },
+    }
+}
+
+// Looks at the outputs.
+fn conclude<B: Berth, P: Place>(
+    alloc: Global,
+    berth: &mut B,
+    place: &mut P,
+    work: &Work,
+    text: Text,
+) -> Served
+    requires room { Tells (B.log berth.old) (before_answer work.now) }
+    requires place { Tells (P.log place.old) [] }
+    ensures served { IsServed result.reached result.stopped }
+    ensures text { HoldsText text result.reached }
+    ensures room { RoomStood work.now result.reached (B.log berth.new) }
+    ensures place { PlaceStood work.now result.reached (P.log place.new) }
+    ensures cause { (feed : SeenFeed) (tap : SeenTap) → OnOutside result.stopped (WorkCause result.reached (seen_room (B.number berth.new) (B.faults berth.new) (B.log berth.new)) (seen_place (P.number place.new) (P.faults place.new) (P.log place.new)) feed tap) }
+    ensures berth_number { B.number berth.new ≡ B.number berth.old }
+    ensures place_number { P.number place.new ≡ P.number place.old }
+{
+    match gather(alloc, berth, work.outputs.as_slice()) {
+        Ok(Gathered::Files(files)) => write_out(place, work, text, Items::of(files)),
+        Ok(Gathered::Missing) => Served {
+            reached: Reached::Answered(text),
+            stopped: Stopped::Outside,
+        },
+        Ok(Gathered::RoomFault) => Served {
+            reached: Reached::Answered(text),
+            stopped: Stopped::Outside,
+        },
+        Err(NoMemory) => Served {
+            reached: Reached::Answered(text),
+            stopped: Stopped::NoMemory,
+        },
+    }
+}
+
+// Writes the outputs to the place.
+fn write_out<P: Place>(place: &mut P, work: &Work, text: Text, files: Items<Blob>) -> Served
+    requires files { length files ≡ length work.now.outputs }
+    requires place { Tells (P.log place.old) [] }
+    ensures served { IsServed result.reached result.stopped }
+    ensures files { HoldsFiles text files result.reached }
+    ensures place { PlaceStood work.now result.reached (P.log place.new) }
+    ensures cause { (room : SeenRoom) (feed : SeenFeed) (tap : SeenTap) → OnOutside result.stopped (WorkCause result.reached room (seen_place (P.number place.new) (P.faults place.new) (P.log place.new)) feed tap) }
+    ensures place_number { P.number place.new ≡ P.number place.old }
+{
+    match commit(place, work.outputs.as_slice(), files.as_slice()) {
+        Committed::Done => Served {
+            reached: Reached::Committed(text, files),
+            stopped: Stopped::Whole,
+        },
+        Committed::PlaceFault { .. } => Served {
+            reached: Reached::Gathered(text, files),
+            stopped: Stopped::Outside,
+        },
+    }
+}

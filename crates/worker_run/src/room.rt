@@ -1,0 +1,98 @@
+//! What is done in a worker's room: it is emptied and the command started, it is filled for a request, and
+//! its outputs are looked at after the answer.
+ghost use Rattle.std.specs.Prelude.{◌≡◌, length, map, Ok, IfOk};
+ghost use Rattle.outside.specs.Causes.{Counts};
+ghost use Rattle.outside.specs.Lists.{Adds};
+ghost use Rattle.outside.specs.Launches.{OnStarted, IsNewFeed, IsNewTap, IsNewChild};
+ghost use Rattle.outside.specs.declared.answers.Io.TheVariants as io;
+ghost use Rattle.outside.specs.declared.answers.Launch.TheVariants as launch;
+ghost use Rattle.worker_run.specs.Rooms.{AddsRun, launch_asks, launch_calls, fill_asks, fill_calls, get_asks, get_calls, put_ask, put_call, AddsAbsent};
+ghost use Rattle.worker_run.specs.Steps.{OnNotStarted, OnFiles, OnNoFiles, OnMissing, IsRoomFault};
+
+use outside::{Berth, Command, Io, Launch, Read, SourceFile};
+use std::alloc::Global;
+use wire_fields::{Blob, NoMemory, Text};
+
+/// What the looks at the outputs gave.
+#[derive(Drop)]
+pub enum Gathered {
+    /// Each output's bytes, in order.
+    Files(Vec<Blob>),
+    /// An output isn't there.
+    Missing,
+    /// A look failed.
+    RoomFault,
+}
+
+/// Empties the room, and starts the command of line 0 in it.
+pub fn launch<B: Berth>(
+    berth: &mut B,
+    command: &Command,
+) -> Result<Launch<B::Feed, B::Tap, B::Child>, NoMemory>
+    ensures started { IfOk result (λ l. OnStarted l (λ _ _ _. Adds (launch_calls command.now) (B.log berth.old) (B.log berth.new))) }
+    ensures stopped { OnNotStarted result (AddsRun (launch_asks command.now) (B.log berth.old) (B.log berth.new)) }
+    ensures count { Counts (B.faults berth.old) (B.faults berth.new) (result ≡ Ok launch.Failed) }
+    ensures feed { IfOk result (λ l. OnStarted l (λ feed _ _. IsNewFeed 0 (B.Feed.line feed) (B.Feed.faults feed) (B.Feed.given feed))) }
+    ensures tap { IfOk result (λ l. OnStarted l (λ _ tap _. IsNewTap 0 (B.Tap.line tap) (B.Tap.faults tap) (B.Tap.taken tap) (B.Tap.ended tap))) }
+    ensures child { IfOk result (λ l. OnStarted l (λ _ _ child. IsNewChild 0 (B.Child.line child) (B.Child.killed child))) }
+    ensures number { B.number berth.new ≡ B.number berth.old }
+{
+    match berth.room_clear("") {
+        Io::Done => berth.launch(0, command),
+        Io::Failed => Ok(Launch::Failed),
+    }
+}
+
+/// Empties the room, and puts the inputs into it.
+pub fn fill<B: Berth>(berth: &mut B, inputs: &[SourceFile]) -> Io
+    ensures done { result ≡ io.Done → Adds (fill_calls inputs.now) (B.log berth.old) (B.log berth.new) }
+    ensures failed { result ≡ io.Failed → AddsRun (fill_asks inputs.now) (B.log berth.old) (B.log berth.new) }
+    ensures count { Counts (B.faults berth.old) (B.faults berth.new) (result ≡ io.Failed) }
+    ensures number { B.number berth.new ≡ B.number berth.old }
+{
+    match berth.room_clear("") {
+        Io::Done => put_all(berth, inputs),
+        Io::Failed => Io::Failed,
+    }
+}
+
+fn put_all<B: Berth>(berth: &mut B, inputs: &[SourceFile]) -> Io
+    ensures done { result ≡ io.Done → Adds (map put_call inputs.now) (B.log berth.old) (B.log berth.new) }
+    ensures failed { result ≡ io.Failed → AddsRun (map put_ask inputs.now) (B.log berth.old) (B.log berth.new) }
+    ensures count { Counts (B.faults berth.old) (B.faults berth.new) (result ≡ io.Failed) }
+    ensures number { B.number berth.new ≡ B.number berth.old }
+{
+    for input in inputs {
+        if let Io::Failed = berth.room_put(input.path.as_str(), input.bytes.bytes()) {
+            return Io::Failed;
+        }
+    }
+    Io::Done
+}
+
+/// Looks at the outputs, one after another, up to the first that isn't found.
+///
+/// # Errors
+///
+/// `NoMemory`.
+pub fn gather<B: Berth>(
+    alloc: Global,
+    berth: &mut B,
+    outputs: &[Text],
+) -> Result<Gathered, NoMemory>
+    ensures found { IfOk result (λ g. OnFiles g (λ files. (length files ≡ length outputs.now) × Adds (get_calls outputs.now files) (B.log berth.old) (B.log berth.new))) }
+    ensures stopped { OnNoFiles result (AddsRun (get_asks outputs.now) (B.log berth.old) (B.log berth.new)) }
+    ensures missing { IfOk result (λ g. OnMissing g (AddsAbsent (B.log berth.old) (B.log berth.new))) }
+    ensures count { Counts (B.faults berth.old) (B.faults berth.new) (IsRoomFault result) }
+    ensures number { B.number berth.new ≡ B.number berth.old }
+{
+    let mut files = Vec::with_capacity(alloc, outputs.len())?;
+    for output in outputs {
+        match berth.room_get(output.as_str())? {
+            Read::Found(bytes) => files.push_reserved(bytes),
+            Read::Absent => return Ok(Gathered::Missing),
+            Read::Failed => return Ok(Gathered::RoomFault),
+        }
+    }
+    Ok(Gathered::Files(files))
+}

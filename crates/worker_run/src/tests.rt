@@ -1,0 +1,207 @@
+use crate::{RunFault, Unbuilt, fault_line, run_build};
+use outside::SourceFile;
+use outside_mem::{Beat, FailAt, MemFloor, MemSink, Object, Script};
+use std::alloc::Global;
+use std::sync::Wait;
+use std::test::Fail;
+use std::thread::Threads;
+use wire_fields::{Blob, NoMemory, Text};
+
+const LIST: &str =
+    "{\"actions\":[{\"name\":\"a\",\"mnemonic\":\"T\",\"argv\":[\"t\",\"@f\"],\"inputs\":[\"f\"],\"outputs\":[\"o\"],\"requirements\":{\"supports-workers\":\"1\"}}]}";
+
+const REPORT: &str =
+    "a ok local local=won remote=unused\nactions=1 ok=1 failed=0 broken=0 skipped=0\n";
+
+const NO_ACTIONS: &str = "actions=0 ok=0 failed=0 broken=0 skipped=0\n";
+
+fn file(alloc: Global, path: &str, text: &str) -> Result<SourceFile, NoMemory> {
+    Ok(SourceFile {
+        path: Text::copy_of(alloc, path)?,
+        bytes: Blob::of(alloc, text.as_bytes().to_vec(alloc)?)?,
+    })
+}
+
+// The list as `l.json`, and the flag file that its action names.
+fn files(alloc: Global, list: &str) -> Result<Vec<SourceFile>, NoMemory> {
+    let mut files = Vec::new(alloc);
+    files.push(file(alloc, "l.json", list)?)?;
+    files.push(file(alloc, "f", "abc")?)?;
+    Ok(files)
+}
+
+// A child that leaves the output and gives these bytes.
+fn script(alloc: Global, list: &str, given: &[u8], fails: Vec<FailAt>) -> Result<Script, NoMemory> {
+    let mut beats = Vec::new(alloc);
+    beats.push(Beat::Hear(1))?;
+    beats.push(Beat::Leave(
+        Text::copy_of(alloc, "o")?,
+        Blob::of(alloc, [b'x'].to_vec(alloc)?)?,
+    ))?;
+    beats.push(Beat::Give(given.to_vec(alloc)?))?;
+    let mut lines = Vec::new(alloc);
+    lines.push(Some(beats))?;
+    Ok(Script {
+        files: files(alloc, list)?,
+        lines,
+        fails,
+    })
+}
+
+fn word(alloc: Global, path: &str) -> Result<Vec<String>, NoMemory> {
+    let mut words = Vec::new(alloc);
+    words.push(String::from_str(alloc, path)?)?;
+    Ok(words)
+}
+
+#[test]
+fn one_action_goes_through_its_worker(rt: HostRuntime) -> Result<(), Fail> {
+    let alloc = rt.alloc();
+    let floor = MemFloor::new(alloc, script(alloc, LIST, &[0], Vec::new(alloc))?)?;
+    let mut out = MemSink::new(alloc, Vec::new(alloc));
+    let ended = run_build(&rt, alloc, &word(alloc, "l.json")?, floor, &mut out);
+    assert_eq!(rt; ended.status, 0);
+    assert_eq!(rt; out.bytes(), REPORT.as_bytes());
+    assert_eq!(rt; ended.journal.entries().len(), 14);
+    assert_eq!(rt; ended.places[0].log().len(), 1);
+    let halves = ended.lines[0].halves.as_ref().ok_or("no halves")?;
+    assert!(rt; halves.child.is_killed());
+    let given = halves.feed.given();
+    // The frame's length, the argument `abc`, and an input with the path `f` and a digest of 64 digits.
+    assert_eq!(rt;
+        &given[..13],
+        [
+            0x4c, 0x0a, 3, 0x61, 0x62, 0x63, 0x12, 0x45, 0x0a, 1, 0x66, 0x12, 0x40
+        ]
+        .as_slice()
+    );
+    assert_eq!(rt;
+        &given[13..],
+        b"ba7816bf8f01cfea414140de5dae2223b00361a396177a9cb410ff61f20015ad".as_slice()
+    );
+    Ok(())
+}
+
+// Runs the action with a child that gives these bytes, and says its status and how many entries its journal has.
+fn run_with<R: Threads + Wait + Sync>(
+    rt: &R,
+    alloc: Global,
+    given: &[u8],
+    fails: Vec<FailAt>,
+) -> Result<(u8, usize, usize), NoMemory> {
+    let floor = MemFloor::new(alloc, script(alloc, LIST, given, fails)?)?;
+    let mut out = MemSink::new(alloc, Vec::new(alloc));
+    let ended = run_build(rt, alloc, &word(alloc, "l.json")?, floor, &mut out);
+    let written = match ended.places.first() {
+        Some(place) => place.log().len(),
+        None => 0,
+    };
+    Ok((ended.status, ended.journal.entries().len(), written))
+}
+
+#[test]
+fn what_a_child_gives_decides(rt: HostRuntime) -> Result<(), Fail> {
+    let alloc = rt.alloc();
+    let cases: [(&[u8], u8, usize, usize); 7] = [
+        // The default response; one whose output is `hi` and a line feed.
+        (&[0], 0, 14, 1),
+        (&[5, 0x12, 3, b'h', b'i', b'\n'], 0, 14, 1),
+        // Nothing; half a frame; exit code 3; number 1; two frames.
+        (&[], 7, 5, 0),
+        (&[5, 0x12], 7, 5, 0),
+        (&[2, 8, 3], 7, 5, 0),
+        (&[2, 0x18, 1], 7, 5, 0),
+        (&[0, 0], 7, 5, 0),
+    ];
+    for (given, status, entries, written) in cases {
+        let found = run_with(&rt, alloc, given, Vec::new(alloc))?;
+        assert_eq!(rt; found.0, status);
+        assert_eq!(rt; found.1, entries);
+        assert_eq!(rt; found.2, written);
+    }
+    Ok(())
+}
+
+#[test]
+fn each_object_may_fail(rt: HostRuntime) -> Result<(), Fail> {
+    let alloc = rt.alloc();
+    let cases = [
+        (Object::FloorRead, 2, 5, 0),
+        (Object::Clear(0), 1, 7, 1),
+        (Object::Launch(0), 1, 7, 1),
+        (Object::Put(0), 1, 7, 4),
+        (Object::Feed(0), 1, 7, 4),
+        (Object::Tap(0), 1, 7, 5),
+        (Object::Get(0), 1, 7, 7),
+        (Object::Place(0), 1, 7, 8),
+        (Object::Tap(0), 2, 7, 11),
+    ];
+    for (on, nth, status, entries) in cases {
+        let mut fails = Vec::new(alloc);
+        fails.push(FailAt { on, nth })?;
+        let found = run_with(&rt, alloc, &[0], fails)?;
+        assert_eq!(rt; found.0, status);
+        assert_eq!(rt; found.1, entries);
+    }
+    Ok(())
+}
+
+// With each allocation refused in turn (tools/fail-alloc), a run ends with status 3 or with its own. Its journal
+// then ends with a halt of each lane, or is empty, or is whole.
+#[test]
+fn a_refused_allocation_is_status_3(rt: HostRuntime) -> Result<(), Fail> {
+    let alloc = rt.alloc();
+    let Ok(found) = run_with(&rt, alloc, &[0], Vec::new(alloc)) else {
+        // The script of the objects in memory found no memory itself.
+        return Ok(());
+    };
+    let (status, entries, written) = found;
+    println!(rt; "one action: status {status}, {entries} entries, {written} written")?;
+    let whole = entries == 14 && written == 1;
+    let stopped = written == 0 && [0, 3, 7, 9].contains(&entries);
+    // An object in memory that can't note a call fails, and the run ends with status 7.
+    assert!(rt; status == 0 && whole || status == 3 && (whole || stopped) || status == 7);
+    Ok(())
+}
+
+#[test]
+fn a_sink_that_fails_is_status_6(rt: HostRuntime) -> Result<(), Fail> {
+    let alloc = rt.alloc();
+    let floor = MemFloor::new(alloc, script(alloc, LIST, &[0], Vec::new(alloc))?)?;
+    let mut fails = Vec::new(alloc);
+    fails.push(FailAt {
+        on: Object::Sink,
+        nth: 1,
+    })?;
+    let mut out = MemSink::new(alloc, fails);
+    let ended = run_build(&rt, alloc, &word(alloc, "l.json")?, floor, &mut out);
+    assert_eq!(rt; ended.status, 6);
+    assert_eq!(rt; ended.journal.entries().len(), 14);
+    Ok(())
+}
+
+#[test]
+fn lists_and_their_lines(rt: HostRuntime) -> Result<(), Fail> {
+    let alloc = rt.alloc();
+    let cases = [
+        ("{\"actions\":[]}", "l.json", 0, NO_ACTIONS, ""),
+        ("{}", "l.json", 7, "", "worker_tool: not yet built: list"),
+        (LIST, "m.json", 5, "", "worker_tool: not there: m.json"),
+        (LIST, "-x", 7, "", "worker_tool: not yet built: words"),
+    ];
+    for (list, path, status, report, line) in cases {
+        let floor = MemFloor::new(alloc, script(alloc, list, &[0], Vec::new(alloc))?)?;
+        let mut out = MemSink::new(alloc, Vec::new(alloc));
+        let ended = run_build(&rt, alloc, &word(alloc, path)?, floor, &mut out);
+        assert_eq!(rt; ended.status, status);
+        assert_eq!(rt; out.bytes(), report.as_bytes());
+        let said = match &ended.fault {
+            Some(fault) => fault_line(alloc, fault)?,
+            None => Text::of(String::new(alloc)),
+        };
+        assert_eq!(rt; said.as_str(), line);
+    }
+    let outside = fault_line(alloc, &RunFault::NotYetBuilt(Unbuilt::Outside))?;
+    assert_eq!(rt; outside.as_str(), "worker_tool: not yet built: outside");
+    Ok(())
+}
