@@ -1,5 +1,5 @@
 -- The first fault of a list, found element by element.
-use Rattle.std.proofs.Common.{◌≡◌, ℕ, ◌+◌, ◌<◌, List, [], ◌∷◌, length, drop, get_or, map, Result, Ok, Err, refl, sym, ap, subst, ◌∙◌}
+use Rattle.std.proofs.Common.{◌≡◌, ℕ, ◌+◌, ◌<◌, List, [], ◌∷◌, length, drop, get_or, map, Ok, Err, refl, sym, ap, subst, ◌∙◌}
 use Rattle.std.proofs.lemmas.List.{at_drop_more}
 use Rattle.action_list.specs.declared.faults.ListRefusal.{ListRefusal}
 use Rattle.action_list.specs.declared.faults.ListRefusal.TheVariants as refusal

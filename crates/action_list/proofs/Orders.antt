@@ -1,9 +1,9 @@
 -- The checks over all actions, action by action.
-use Rattle.std.proofs.Common.{◌≡◌, ℕ, ◌+◌, ◌<◌, List, [], ◌∷◌, ◌++◌, length, take, drop, get_or, Result, Ok, Err, refl, sym, ap, subst, ◌∙◌}
+use Rattle.std.proofs.Common.{◌≡◌, ℕ, ◌+◌, ◌<◌, List, [], ◌∷◌, ◌++◌, length, take, drop, get_or, Ok, sym, ap, subst, ◌∙◌}
 use Rattle.std.proofs.lemmas.List.{drop_more, take_more}
 use Rattle.action_list.specs.declared.faults.ListRefusal.{ListRefusal}
 use Rattle.action_list.specs.declared.types.ListAction.{ListAction}
-use Rattle.action_list.specs.Answers.{Check, Refuses, first}
+use Rattle.action_list.specs.Answers.{Refuses, first}
 use Rattle.action_list.specs.Order.{order_check, orders_check}
 use Rattle.action_list.proofs.Firsts.{refused_first, first_passed}
 

@@ -1,13 +1,12 @@
 -- Each action of a plan has a branch, and its branches name different groups.
-use Rattle.std.proofs.Common.{◌≡◌, ℕ, zero, suc, ◌+◌, ◌^◌, ◌<◌, ◌≤◌, Bool, true, false, cond, not, ◌&&◌, ◌||◌, ◌⊎◌, inl, inr, ltb, leb, nat_eq, eqb, List, [], ◌∷◌, ◌++◌, length, map, min, count_by, position, Option, Some, None, refl, sym, ap, subst, ◌∙◌, arith, length-append, append_assoc}
-use Rattle.std.proofs.lemmas.Bool.{and_from, and_parts, leb-true, lt-ltb, le-ltb, or_left, or_right, cond-true}
+use Rattle.std.proofs.Common.{◌≡◌, ℕ, suc, ◌+◌, ◌^◌, ◌<◌, ◌≤◌, Bool, true, false, cond, not, ◌||◌, ◌⊎◌, inl, inr, ltb, leb, eqb, List, [], ◌∷◌, ◌++◌, length, map, min, position, Some, None, refl, sym, ap, subst, ◌∙◌, arith, length-append, append_assoc}
+use Rattle.std.proofs.lemmas.Bool.{and_from, and_parts, leb-true, lt-ltb, or_left, or_right, cond-true}
 use Rattle.std.proofs.lemmas.Bool.Decides.{nat_tests}
 use Rattle.std.proofs.lemmas.List.{length-map}
 use Rattle.std.proofs.lemmas.List.Sums.{sum_by-append, sum_by-cons}
 use Rattle.std.proofs.lemmas.Slice.Eq.{bytes_eq-Decides}
-use Rattle.std.specs.List.{list_all, list_any, prefix_len, position_or_len, sum_by}
+use Rattle.std.specs.List.{list_all, list_any, prefix_len, position_or_len}
 use Rattle.std.specs.Str.{bytes_eq}
-use Rattle.exec_journal.specs.declared.plan.Group.{Group}
 use Rattle.exec_journal.specs.declared.plan.Plan.{Plan}
 use Rattle.exec_journal.specs.declared.plan.PlanAction.{PlanAction}
 use Rattle.exec_journal.specs.Sound.{are_sound_from, has_branches, is_sound_action, Sound}
@@ -17,7 +16,7 @@ use Rattle.action_list.specs.declared.types.Strategy.TheVariants as strategy
 use Rattle.action_list.specs.Checks.{has_local, has_remote}
 use Rattle.action_list.specs.Keys.{key_bytes, keys_from, keys_of, with_bytes, with_key}
 use Rattle.action_list.specs.Order.{is_among}
-use Rattle.action_list.specs.Plans.{executor_groups, groups_of, key_group, local_key, number_of, plan_action, plan_actions, plan_of, remote_users, share, users}
+use Rattle.action_list.specs.Plans.{executor_groups, groups_of, key_group, local_key, number_of, plan_action, plan_actions, remote_users, share, users}
 use Rattle.action_list.specs.Whole.{IsWhole}
 use Rattle.action_list.proofs.Late.{is_among-append}
 use Rattle.action_list.proofs.SoundGroups.{executor, few_berths, few_keys, length-groups, sound_groups}

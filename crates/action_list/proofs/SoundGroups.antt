@@ -1,5 +1,5 @@
 -- The groups of a plan have at most 64 berths, and no executor has cancellation.
-use Rattle.std.proofs.Common.{◌≡◌, ℕ, zero, suc, ◌+◌, ◌*◌, ◌^◌, ◌<◌, ◌≤◌, Bool, true, false, cond, not, ◌&&◌, nat_eq, List, [], ◌∷◌, ◌++◌, length, map, sum_by, min, leb, Option, Some, None, refl, sym, ap, subst, ◌∙◌, arith, length-append}
+use Rattle.std.proofs.Common.{◌≡◌, ℕ, zero, suc, ◌+◌, ◌≤◌, true, false, cond, nat_eq, List, [], ◌∷◌, ◌++◌, length, map, sum_by, min, leb, Option, Some, None, refl, sym, ap, ◌∙◌, arith, length-append}
 use Rattle.std.proofs.lemmas.Bool.{and_from, leb-true}
 use Rattle.std.proofs.lemmas.List.{length-map}
 use Rattle.std.proofs.lemmas.List.Folds.{list_all-append}
@@ -12,7 +12,7 @@ use Rattle.action_list.specs.declared.types.ListAction.{ListAction}
 use Rattle.action_list.specs.Checks.{has_local}
 use Rattle.action_list.specs.Keys.{key_bytes, keys_from, keys_of, takes_several, with_bytes, with_key}
 use Rattle.action_list.specs.Order.{is_among}
-use Rattle.action_list.specs.Plans.{berths_at, executor_groups, group_by, groups_of, kind_of, key_group, remote_users, share, users}
+use Rattle.action_list.specs.Plans.{berths_at, executor_groups, group_by, groups_of, key_group, remote_users, share, users}
 
 -- ---- how many keys there are
 

@@ -1,5 +1,5 @@
 -- A list that was read has what its plan asks for.
-use Rattle.std.proofs.Common.{◌≡◌, ℕ, ◌+◌, ◌≤◌, Bool, true, false, cond, ◌&&◌, leb, List, [], ◌∷◌, length, map, codes, Option, Some, None, is_some, Result, Ok, Err, IfOk, refl, sym, ap, subst, ◌∙◌, arith}
+use Rattle.std.proofs.Common.{◌≡◌, ℕ, ◌+◌, ◌≤◌, true, false, cond, leb, List, [], ◌∷◌, length, map, codes, Option, Some, None, is_some, Result, Ok, Err, IfOk, refl, subst, arith}
 use Rattle.std.proofs.lemmas.Bool.{and_from, le-leb, leb-true}
 use Rattle.std.proofs.lemmas.List.{length-map}
 use Rattle.std.specs.List.{list_all}
@@ -13,13 +13,11 @@ use Rattle.action_list.specs.declared.faults.ListFault.TheVariants as fault
 use Rattle.action_list.specs.declared.faults.Key.TheVariants as key
 use Rattle.action_list.specs.declared.faults.What.TheVariants as what
 use Rattle.action_list.specs.declared.types.ActionList.{ActionList}
-use Rattle.action_list.specs.declared.types.ListAction.{ListAction}
 use Rattle.action_list.specs.Actions.{action_in, action_of}
 use Rattle.action_list.specs.Answers.{Answers, Check, first, and_then}
 use Rattle.action_list.specs.Checks.{action_check, actions_check, count_check, key_check, list_in, paths_check, required, too_many, path_check}
 use Rattle.action_list.specs.Format.{datas, draft_of}
 use Rattle.action_list.specs.Lists.{list_check, list_of, list_of_datas, list_of_top}
-use Rattle.action_list.specs.Keys.{keys_check}
 use Rattle.action_list.specs.Order.{orders_check}
 use Rattle.action_list.specs.Top.{actions_in, few_actions, if_array, if_there, json_in}
 use Rattle.action_list.specs.Whole.{IsWhole}

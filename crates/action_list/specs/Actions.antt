@@ -1,5 +1,5 @@
 -- The action that a draft without a fault gives.
-use Rattle.std.specs.Prelude.{ℕ, List, [], codes, Option, Some, None, unwrap_or}
+use Rattle.std.specs.Prelude.{ℕ, List, codes, unwrap_or}
 use Rattle.serde_json.specs.Data.{Data}
 use Rattle.outside.specs.declared.command.Variable.{Variable}
 use Rattle.action_list.specs.declared.draft.Draft.{Draft}

@@ -10,7 +10,6 @@ use Rattle.outside.specs.declared.command.Variable.{Variable}
 use Rattle.action_list.specs.declared.draft.Draft.{Draft}
 use Rattle.action_list.specs.declared.draft.Slot.{Slot}
 use Rattle.action_list.specs.declared.draft.Slot.TheVariants.{Missing, Other, Held}
-use Rattle.action_list.specs.declared.faults.ListFault.{ListFault}
 use Rattle.action_list.specs.declared.faults.ListFault.TheVariants as fault
 use Rattle.action_list.specs.declared.faults.Key.{Key}
 use Rattle.action_list.specs.declared.faults.Key.TheVariants as key

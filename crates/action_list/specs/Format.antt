@@ -1,5 +1,5 @@
 -- An action's object, key by key: what stands there, as far as it is of the key's kind.
-use Rattle.std.specs.Prelude.{ℕ, ◌==◌, Bool, if◌then◌else◌, List, [], ◌∷◌, map, codes, Option, Some, None, is_some, unwrap_or, option_and_then, String, string_bytes}
+use Rattle.std.specs.Prelude.{ℕ, Bool, if◌then◌else◌, List, [], ◌∷◌, map, codes, Option, Some, None, is_some, unwrap_or, option_and_then, String, string_bytes}
 use Rattle.std.specs.List.{list_all, filter_map}
 use Rattle.serde_json.specs.Data.{Data, Items, no_items, item, Members, no_members, member}
 use Rattle.serde_json.specs.Find.{get, as_str, as_array, as_object}

@@ -1,5 +1,5 @@
 -- The whole list: what the bytes say, or the first fault.
-use Rattle.std.specs.Prelude.{ℕ, List, [], ◌∷◌, map, Result, Ok, Err}
+use Rattle.std.specs.Prelude.{ℕ, List, [], ◌∷◌, map, Result, Ok}
 use Rattle.serde_json.specs.Data.{Data}
 use Rattle.action_list.specs.declared.faults.ListFault.{ListFault}
 use Rattle.action_list.specs.declared.types.ActionList.{ActionList}

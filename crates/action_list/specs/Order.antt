@@ -1,8 +1,7 @@
 -- What holds between the actions of a list: names, outputs and the inputs that others make.
-use Rattle.std.specs.Prelude.{ℕ, ◌+◌, List, [], ◌∷◌, ◌++◌, length, nat_le, Bool, false, if◌then◌else◌, Option, Some, None, find, Result, Ok, Err}
+use Rattle.std.specs.Prelude.{ℕ, ◌+◌, List, [], ◌∷◌, ◌++◌, length, nat_le, Bool, false, if◌then◌else◌, Option, Some, None, find, Ok, Err}
 use Rattle.std.specs.List.{list_any, flat_map}
 use Rattle.std.specs.Str.{bytes_eq}
-use Rattle.action_list.specs.declared.faults.ListFault.{ListFault}
 use Rattle.action_list.specs.declared.faults.ListFault.TheVariants as fault
 use Rattle.action_list.specs.declared.types.ListAction.{ListAction}
 use Rattle.action_list.specs.Answers.{Check, first}

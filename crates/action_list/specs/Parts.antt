@@ -3,7 +3,6 @@ use Rattle.std.specs.Prelude.{ℕ, ◌==◌, ◌+◌, Bool, false, if◌then◌e
 use Rattle.exec_journal.specs.declared.plan.Group.{Group}
 use Rattle.exec_journal.specs.declared.plan.Plan.{Plan}
 use Rattle.exec_journal.specs.declared.plan.PlanAction.{PlanAction}
-use Rattle.exec_journal.specs.declared.plan.Speech.{Speech}
 use Rattle.exec_journal.specs.declared.plan.Speech.TheVariants as speech
 use Rattle.exec_journal.specs.Settled.{is_remote}
 use Rattle.outside.specs.declared.command.Command.{Command}

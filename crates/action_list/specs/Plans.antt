@@ -1,5 +1,5 @@
 -- The plan of a list: its groups with their berths, and each action's branches and made inputs.
-use Rattle.std.specs.Prelude.{ℕ, ◌+◌, ◌&&◌, ◌==◌, Bool, false, if◌then◌else◌, min, nat_le, List, [], ◌∷◌, ◌++◌, length, map, sum_by, count_by, position, slice_get, option_and_then, Option, Some, None, zero, suc}
+use Rattle.std.specs.Prelude.{ℕ, ◌+◌, ◌==◌, Bool, false, if◌then◌else◌, min, nat_le, List, [], ◌∷◌, ◌++◌, length, map, sum_by, count_by, position, slice_get, option_and_then, Option, Some, None, zero, suc}
 use Rattle.std.specs.List.{filter_map}
 use Rattle.std.specs.Str.{bytes_eq}
 use Rattle.exec_journal.specs.declared.plan.Group.{Group}

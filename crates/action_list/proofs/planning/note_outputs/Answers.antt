@@ -1,4 +1,3 @@
-use Rattle.std.proofs.Common.{◌≡◌, ◌++◌, ◌∷◌, [], sym, ap, ◌∙◌}
 use Rattle.std.proofs.lemmas.Result.{on_ok_weaker}
 use Rattle.action_list.proofs.PlaceLemmas.{more_places}
 use Rattle.action_list.proofs.planning.note_outputs.Goals as goal

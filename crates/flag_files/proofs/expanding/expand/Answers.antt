@@ -1,4 +1,4 @@
-use Rattle.std.proofs.Common.{[], arith}
+use Rattle.std.proofs.Common.{[]}
 use Rattle.std.proofs.lemmas.Result.{err_from_is_err_and}
 use Rattle.flag_files.specs.Expand.{steps, max_depth}
 use Rattle.flag_files.proofs.Walks.{line_done, line_refused}

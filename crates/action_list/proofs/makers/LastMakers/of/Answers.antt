@@ -1,6 +1,5 @@
-use Rattle.std.proofs.Common.{◌≡◌, ℕ, ◌+◌, ◌++◌, ◌∷◌, [], List, Some, cond, take, length, sym, ap, ◌∙◌, arith}
+use Rattle.std.proofs.Common.{◌≡◌, ◌+◌, ◌++◌, ◌∷◌, [], Some, cond, take, length, sym, ap, ◌∙◌, arith}
 use Rattle.std.proofs.lemmas.List.{take_more, length-take-le}
-use Rattle.action_list.specs.Makers.{last_maker}
 use Rattle.action_list.specs.Order.{is_among, last_from}
 use Rattle.action_list.proofs.Late.{last_from-append}
 use Rattle.action_list.proofs.makers.LastMakers.of.Goals as goal

@@ -1,12 +1,11 @@
-use Rattle.std.proofs.Common.{◌≡◌, ℕ, ◌+◌, ◌-◌, ◌<◌, List, ◌++◌, ◌∷◌, [], length, Some, None, Ok, Err, refl, sym, ap, subst, ◌∙◌, arith}
-use Rattle.std.specs.List.{flat_map}
+use Rattle.std.proofs.Common.{◌-◌, length, refl, sym, arith}
 use Rattle.std.specs.Str.Lines.{lines}
 use Rattle.std.proofs.lemmas.Iterator.Splits.{YieldsList-from_lines}
 use Rattle.std.proofs.lemmas.Iterator.Consumers.{YieldsList-turn, YieldsList-end}
 use Rattle.std.proofs.lemmas.List.{length_push}
 use Rattle.std.proofs.lemmas.Result.{err_from_is_err_and}
-use Rattle.flag_files.specs.Expand.{Answers, steps, walk, stays}
-use Rattle.flag_files.proofs.Walks.{IsAt, line_done, line_refused, lines_done, steps_of_plain, steps_too_deep, steps_of_file, refuses_file}
+use Rattle.flag_files.specs.Expand.{steps}
+use Rattle.flag_files.proofs.Walks.{line_done, line_refused, lines_done, steps_of_plain, steps_too_deep, steps_of_file, refuses_file}
 use Rattle.flag_files.proofs.expanding.Expanded.+expanding.Goals as goal
 
 pub add_lines-loop-line-preserved : goal.add_lines-loop-line-preserved
