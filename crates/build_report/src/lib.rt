@@ -1,7 +1,12 @@
-//! What a run says of itself: the report of its actions, and the status.
+//! What a run says of itself: the report of its actions, the status, and why it ended without a report.
 #![tactic(auto)]
 
+mod fault;
 mod telling;
 mod words;
 
+pub use fault::{RunFault, Stage, Unbuilt, fault_line};
 pub use telling::{report, status};
+
+#[cfg(test)]
+mod tests;

@@ -9,6 +9,7 @@ use exec_journal::{
 };
 use flag_files::FlagFault;
 use std::alloc::Global;
+use std::process::Abort;
 use std::test::Fail;
 use wire_fields::{Blob, Items, NoMemory, Text};
 
@@ -203,8 +204,8 @@ fn a_run_is_reported(rt: HostRuntime) -> Result<(), Fail> {
     Ok(())
 }
 
-fn check(rt: &HostRuntime, fault: RunFault, line: &str) -> Result<(), Fail> {
-    let text = fault_line(rt.alloc(), &fault)?;
+fn check(rt: &impl Abort, alloc: Global, fault: RunFault, line: &str) -> Result<(), Fail> {
+    let text = fault_line(alloc, &fault)?;
     assert_eq!(rt; text.as_str(), line);
     Ok(())
 }
@@ -212,9 +213,15 @@ fn check(rt: &HostRuntime, fault: RunFault, line: &str) -> Result<(), Fail> {
 #[test]
 fn faults_have_their_lines(rt: HostRuntime) -> Result<(), Fail> {
     let alloc = rt.alloc();
-    check(&rt, RunFault::Words, "worker_tool: words are not accepted")?;
     check(
         &rt,
+        alloc,
+        RunFault::Words,
+        "worker_tool: words are not accepted",
+    )?;
+    check(
+        &rt,
+        alloc,
         RunFault::List(ListFault::MissingKey {
             action: None,
             key: Key::Actions,
@@ -223,6 +230,7 @@ fn faults_have_their_lines(rt: HostRuntime) -> Result<(), Fail> {
     )?;
     check(
         &rt,
+        alloc,
         RunFault::List(ListFault::NoFlagFile { action: 7 }),
         "worker_tool: list refused: NoFlagFile action 7",
     )?;
@@ -231,6 +239,7 @@ fn faults_have_their_lines(rt: HostRuntime) -> Result<(), Fail> {
     };
     check(
         &rt,
+        alloc,
         RunFault::Flags { action: 0, fault },
         "worker_tool: flag file refused: TooDeep f action 0",
     )?;
