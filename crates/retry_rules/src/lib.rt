@@ -1,0 +1,117 @@
+//! How many attempts of each branch have ended, and whether there is one more.
+#![tactic(auto)]
+
+ghost use Rattle.std.specs.Prelude.{◌≡◌, ◌+◌, ◌<◌, ◌^◌, IfOk, [], length};
+ghost use Rattle.retry_rules.specs.Counts.{new_facts, ended_of, with_end, after_attempt, one_more, count_of};
+ghost use Rattle.retry_rules.specs.Stands.{Stands};
+
+pub mod laws;
+
+use exec_journal::{Branch, Cause, Plan};
+use std::alloc::Global;
+use std::marker::Model;
+use wire_fields::NoMemory;
+
+/// What comes after the end of an attempt.
+#[derive(Clone, Copy, Debug, PartialEq, Eq)]
+pub enum After {
+    /// The attempt with this number may begin.
+    Again(u32),
+    /// The attempt that ended was the branch's last.
+    Spent,
+}
+
+/// Of an action: how many attempts of each of its branches have ended.
+#[derive(Clone, Copy, Debug, PartialEq, Eq)]
+pub struct Ended {
+    pub local: u32,
+    pub remote: u32,
+}
+
+/// How many attempts of each branch of a plan have ended, and how many there may be.
+#[derive(Drop)]
+pub struct Attempts {
+    ended: Vec<Ended>,
+    limit: u32,
+}
+
+impl Model for Attempts {
+    ghost use Rattle.retry_rules.specs.Counts.{Facts};
+
+    ghost Value = { Facts };
+
+    ghost view = { λ a. record { ended = a.ended.items; limit = a.limit } };
+}
+
+impl Attempts {
+    /// The table of a run in which nothing was tried yet.
+    pub fn new(alloc: Global, plan: &Plan) -> Result<Attempts, NoMemory>
+        ensures facts { IfOk result (λ t. t ≡ new_facts plan.now) }
+        ensures stands { IfOk result (λ t. Stands plan.now t []) }
+    {
+        let none = Ended {
+            local: 0,
+            remote: 0,
+        };
+        let ended = vec![in alloc; none; plan.actions.as_slice().len()]?;
+        Ok(Attempts {
+            ended,
+            limit: plan.limit,
+        })
+    }
+
+    /// Counts one more attempt of the branch that has ended, whatever ended it, and says whether a next one may
+    /// begin: the attempts that ended are the first so many, so this one's number is their count.
+    pub fn after_end(&mut self, action: u32, branch: Branch, _cause: Cause) -> After
+        requires known { action < length self.old.ended }
+        requires unspent { ended_of self.old action branch < self.old.limit }
+        ensures answer { result ≡ after_attempt (ended_of self.old action branch + 1) self.old.limit }
+        ensures facts { self.new ≡ with_end self.old action branch }
+    {
+        let limit = self.limit;
+        let row = self.ended[action as usize].with_one_more(branch);
+        self.ended[action as usize] = row;
+        what_follows(row.of(branch), limit)
+    }
+}
+
+impl Ended {
+    fn of(self, branch: Branch) -> u32
+        ensures { result ≡ count_of branch self }
+    {
+        match branch {
+            Branch::Local => self.local,
+            Branch::Remote => self.remote,
+        }
+    }
+
+    fn with_one_more(self, branch: Branch) -> Ended
+        requires { count_of branch self + 1 < 2 ^ 32 }
+        ensures { result ≡ one_more branch self }
+    {
+        match branch {
+            Branch::Local => Ended {
+                local: self.local + 1,
+                remote: self.remote,
+            },
+            Branch::Remote => Ended {
+                local: self.local,
+                remote: self.remote + 1,
+            },
+        }
+    }
+}
+
+// What comes after the end of the attempt with this number.
+fn what_follows(number: u32, limit: u32) -> After
+    ensures { result ≡ after_attempt number limit }
+{
+    if number < limit {
+        After::Again(number + 1)
+    } else {
+        After::Spent
+    }
+}
+
+#[cfg(test)]
+mod tests;
