@@ -135,16 +135,6 @@ HoldsFiles text files (reached.Gathered t fs) = (t ≡ text) × (fs ≡ files)
 HoldsFiles text files (reached.Committed t fs) = (t ≡ text) × (fs ≡ files)
 HoldsFiles text files came = ⊥
 
--- The places where memory is needed: the launch, the answer, the looks.
-abbrev pub MayLackMemory : Reached → Type 0
-MayLackMemory reached.Ordered = Unit {0}
-MayLackMemory reached.Launched = ⊥
-MayLackMemory reached.Written = Unit {0}
-MayLackMemory (reached.Answered text) = Unit {0}
-MayLackMemory (reached.Gathered text files) = ⊥
-MayLackMemory (reached.Committed text files) = ⊥
-MayLackMemory (reached.Ended text files) = ⊥
-
 -- It ends with these files, and the child gave nothing more, or more.
 abbrev pub EndsWith : List ℕ → List (List ℕ) → Reached → Type 0
 EndsWith text files (reached.Committed t fs) = (t ≡ text) × (fs ≡ files)
