@@ -1,5 +1,5 @@
 -- How the table's counts follow a journal.
-use Rattle.std.proofs.Common.{◌≡◌, ℕ, zero, suc, ◌+◌, ◌-◌, ◌<◌, ◌≤◌, ◌==◌, nat_lt, Bool, true, false, ◌&&◌, not, cond, List, [], ◌∷◌, length, get_or, set, Option, Some, None, option_map, unwrap_or, ◌⊎◌, inl, inr, refl, ap, sym, subst, ◌∙◌, arith}
+use Rattle.std.proofs.Common.{◌≡◌, ℕ, ◌+◌, ◌-◌, ◌<◌, ◌≤◌, ◌==◌, nat_lt, Bool, true, false, ◌&&◌, not, cond, List, [], ◌∷◌, length, get_or, set, Option, Some, None, option_map, unwrap_or, ◌⊎◌, inl, inr, refl, ap, sym, subst, ◌∙◌, arith}
 use Rattle.std.specs.Prelude.{slice_get, replicate}
 use Rattle.std.specs.List.{filter}
 use Rattle.std.proofs.lemmas.Bool.{eqb-true, and_parts, lt-ltb}
@@ -11,7 +11,7 @@ use Rattle.exec_journal.specs.declared.journal.Entry.{Entry}
 use Rattle.exec_journal.specs.Entries.{attempt_of, same_branch, is_branch_of}
 use Rattle.exec_journal.specs.Attempts.{attempt, begun_in, number_if, ended}
 use Rattle.exec_journal.specs.Attempts as words
-use Rattle.exec_journal.specs.Facts.{BeginsNext, AttemptsInOrder}
+use Rattle.exec_journal.specs.Facts.{BeginsNext}
 use Rattle.exec_journal.specs.Tallies.{update}
 use Rattle.exec_journal.proofs.Begins.{same_branch_eq, is_branch_refl, attempt_begun, attempt_other}
 use Rattle.exec_journal.proofs.Quiet.{ended_stays}
@@ -22,7 +22,7 @@ use Rattle.retry_rules.specs.declared.After.{After}
 use Rattle.retry_rules.specs.declared.Ended.{Ended}
 use Rattle.retry_rules.specs.Counts.{Facts, none_ended, count_of, ended_of, one_more, with_end, with_ends, after_attempt}
 use Rattle.retry_rules.specs.Stands.{Stands, ended_count, ended_in}
-use Rattle.retry_rules.specs.Entries.{times, ends_now, EndsThese, EndsNone, IsGoing}
+use Rattle.retry_rules.specs.Entries.{times, EndsThese, EndsNone, IsGoing}
 use Rattle.retry_rules.proofs.Updates.{get_update, get_replicate}
 
 -- ---- rows of counts

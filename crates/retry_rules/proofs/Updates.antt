@@ -1,7 +1,7 @@
 -- What stands at a place after a change, and in a list of equal rows.
-use Rattle.std.proofs.Common.{◌≡◌, ◌≢◌, ℕ, zero, suc, ◌+◌, ◌<◌, ◌≤◌, ◌==◌, nat_lt, eqb, Bool, true, false, cond, List, [], ◌∷◌, length, Option, Some, None, option_map, refl, ap, sym, ◌∙◌, arith}
+use Rattle.std.proofs.Common.{◌≡◌, ℕ, zero, suc, ◌==◌, nat_lt, eqb, true, false, cond, List, [], ◌∷◌, Option, Some, None, option_map, refl, arith}
 use Rattle.std.specs.Prelude.{slice_get, replicate}
-use Rattle.std.proofs.lemmas.Bool.{ne_eqb, ltb-true, ltb-false, lt-ltb, le-ltb}
+use Rattle.std.proofs.lemmas.Bool.{ne_eqb, lt-ltb, le-ltb}
 use Prim.Native.Nat.compare
 use Rattle.exec_journal.specs.Tallies.{update}
 

@@ -1,5 +1,5 @@
 -- The facts that the table keeps, and what a call makes of them.
-use Rattle.std.specs.Prelude.{ℕ, ◌+◌, nat_lt, Option, unwrap_or, option_map, if◌then◌else◌, List, [], ◌∷◌, length, slice_get, replicate}
+use Rattle.std.specs.Prelude.{ℕ, ◌+◌, nat_lt, unwrap_or, option_map, if◌then◌else◌, List, [], ◌∷◌, length, slice_get, replicate}
 use Rattle.exec_journal.specs.declared.plan.Branch.{Branch}
 use Rattle.exec_journal.specs.declared.plan.Branch.TheVariants.{Local, Remote}
 use Rattle.exec_journal.specs.declared.plan.Plan.{Plan}

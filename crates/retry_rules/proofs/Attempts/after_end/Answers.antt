@@ -1,5 +1,5 @@
-use Rattle.std.proofs.Common.{◌≡◌, ◌∙◌, ap, sym, ◌+◌, arith}
-use Rattle.retry_rules.specs.Counts.{after_attempt, count_of, one_more}
+use Rattle.std.proofs.Common.{◌∙◌, ap, sym, ◌+◌, arith}
+use Rattle.retry_rules.specs.Counts.{count_of}
 use Rattle.retry_rules.proofs.Counted.{read, written, count_one_more, answer_is}
 use Rattle.retry_rules.proofs.Attempts.after_end.Goals as goal
 

@@ -1,4 +1,4 @@
-use Rattle.std.proofs.Common.{◌≡◌, ◌∙◌, ap, arith, ◌+◌}
+use Rattle.std.proofs.Common.{◌∙◌, ap, arith}
 use Rattle.retry_rules.specs.Counts.{after_attempt}
 use Rattle.retry_rules.proofs.Counted.{count_is}
 use Rattle.retry_rules.proofs.laws.answers_are_of_the_latest.Goals as goal
