@@ -10,3 +10,4 @@ pub mod Tracks
 pub mod Judged
 pub mod Tallied
 pub mod Verdicts
+pub mod Updates

@@ -25,7 +25,7 @@ use Rattle.race_core.specs.declared.Won.{Won}
 use Rattle.race_core.specs.Rows.{open_row, winner_of, claimed_row, committed_row, with_claim, with_commit}
 use Rattle.race_core.specs.Stands.{Stands, branch_in, commit_by, is_done, won_in}
 use Rattle.race_core.specs.Entries.{IsOpen, WonBy, SameRace}
-use Rattle.race_core.proofs.Updates.{get_update, get_replicate}
+use Rattle.exec_journal.proofs.Updates.{get_update, get_replicate}
 
 pub new_stands : (p : Plan) (rows : List Won) → rows ≡ replicate (length p.actions) open_row → Stands p rows []
 unfolding won_in grant_of commit_of

@@ -1,4 +1,4 @@
--- What the laws ask of a journal and its next entry. All of it holds of every legal journal.
+-- What the laws ask of a journal and its next entry.
 use Rattle.std.specs.Prelude.{◌≡◌, ℕ, Some, None, List}
 use Rattle.exec_journal.specs.declared.plan.Branch.{Branch}
 use Rattle.exec_journal.specs.declared.journal.Entry.{Entry}

@@ -23,7 +23,7 @@ use Rattle.retry_rules.specs.declared.Ended.{Ended}
 use Rattle.retry_rules.specs.Counts.{Facts, none_ended, count_of, ended_of, one_more, with_end, with_ends, after_attempt}
 use Rattle.retry_rules.specs.Stands.{Stands, ended_count, ended_in}
 use Rattle.retry_rules.specs.Entries.{times, EndsThese, EndsNone, IsGoing}
-use Rattle.retry_rules.proofs.Updates.{get_update, get_replicate}
+use Rattle.exec_journal.proofs.Updates.{get_update, get_replicate}
 
 -- ---- rows of counts
 
