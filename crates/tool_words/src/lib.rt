@@ -1,0 +1,10 @@
+//! The words of the command `worker_tool`, and the options that they give.
+#![tactic(auto)]
+
+mod options;
+mod word;
+
+pub use options::{Options, read_words};
+
+#[cfg(test)]
+mod tests;

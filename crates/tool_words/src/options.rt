@@ -1,0 +1,178 @@
+// The options that the words of the command give.
+ghost use Rattle.std.specs.Prelude.{◌≡◌, ◌==◌, ◌+◌, nat_le, IfOk, map, string_bytes, filter_map};
+ghost use Rattle.std.specs.List.{list_all};
+ghost use Rattle.std.specs.Option.{option_copied};
+ghost use Rattle.tool_words.specs.Options.{options_of, is_accepted, is_known, single_kinds, count, number_given, text_given, given};
+ghost use Rattle.tool_words.specs.Words.{text_in};
+
+use crate::word::Kind;
+use std::alloc::Global;
+use wire_fields::{Items, NoMemory, Text};
+
+// Every kind of word that there is.
+const KINDS: [Kind; 8] = [
+    Kind::List,
+    Kind::Verbose,
+    Kind::Instances,
+    Kind::Remote,
+    Kind::Retries,
+    Kind::Generate,
+    Kind::Executor,
+    Kind::ExtraFlag,
+];
+
+// The kinds that stand at most once.
+const SINGLE_KINDS: [Kind; 7] = [
+    Kind::List,
+    Kind::Verbose,
+    Kind::Instances,
+    Kind::Remote,
+    Kind::Retries,
+    Kind::Generate,
+    Kind::Executor,
+];
+
+/// The options of a command. Exactly one of `list` and `generate` is there.
+#[derive(Drop)]
+pub struct Options {
+    /// The path of the list.
+    pub list: Option<Text>,
+    /// How many actions to generate in a list's place, 1 to 1000.
+    pub generate: Option<u32>,
+    /// Requests ask the workers to say more.
+    pub verbose: bool,
+    /// Workers of one key at most, 1 to 48; 4 where nothing is said.
+    pub instances: u32,
+    /// Executors at most, 1 to 16; 1 where nothing is said.
+    pub remote: u32,
+    /// How often an attempt of a branch is made again, 0 to 9; 1 where nothing is said.
+    pub retries: u32,
+    /// The executor's program; `remote_exec` where nothing is said.
+    pub executor: Text,
+    /// Further start-up words of each worker, in order.
+    pub extra: Items<Text>,
+}
+
+/// The options that these words give, which are the words after the program's name; `None` exactly where the words
+/// aren't accepted.
+///
+/// Each word is the path of a list (not empty, not beginning with `-`), `--worker_verbose`, `--instances=N`,
+/// `--remote=N`, `--retries=N`, `--generate=N`, `--executor=TEXT` or `--extra_flag=TEXT`. N is one to four decimal
+/// digits within the option's limits, TEXT isn't empty. All but the extra flags stand at most once, and there is
+/// either one list or one `--generate`. The order doesn't matter, but for that of the extra flags.
+///
+/// # Errors
+///
+/// `NoMemory` where the options find no memory.
+pub fn read_words(alloc: Global, words: &[String]) -> Result<Option<Options>, NoMemory>
+    ensures { IfOk result (λ o. o ≡ options_of (map string_bytes words.now)) }
+{
+    if !is_accepted(words) {
+        return Ok(None);
+    }
+    Ok(Some(given(alloc, words)?))
+}
+
+fn is_accepted(words: &[String]) -> bool
+    ensures { result ≡ is_accepted (map string_bytes words.now) }
+{
+    is_all_known(words) && stand_once(words) && has_one_source(words)
+}
+
+fn is_all_known(words: &[String]) -> bool
+    ensures { result ≡ list_all is_known (map string_bytes words.now) }
+{
+    for word in words {
+        if !is_known(word.as_str()) {
+            return false;
+        }
+    }
+    true
+}
+
+// All but the extra flags stand at most once.
+fn stand_once(words: &[String]) -> bool
+    ensures { result ≡ list_all (λ k. nat_le (count k (map string_bytes words.now)) 1) single_kinds }
+{
+    SINGLE_KINDS.iter().all(|k| count(*k, words) <= 1)
+}
+
+// There is one list or one generator.
+fn has_one_source(words: &[String]) -> bool
+    ensures { result ≡ (count Kind.List (map string_bytes words.now) + count Kind.Generate (map string_bytes words.now) == 1) }
+{
+    count(Kind::List, words) + count(Kind::Generate, words) == 1
+}
+
+fn is_known(word: &str) -> bool
+    ensures { result ≡ is_known word.now }
+{
+    KINDS.iter().any(|k| k.fits(word))
+}
+
+fn count(kind: Kind, words: &[String]) -> usize
+    ensures { result ≡ count kind (map string_bytes words.now) }
+{
+    words.iter().filter(|w| kind.fits(w.as_str())).count()
+}
+
+fn given(alloc: Global, words: &[String]) -> Result<Options, NoMemory>
+    ensures { IfOk result (λ o. o ≡ given (map string_bytes words.now)) }
+{
+    Ok(Options {
+        list: list(alloc, words)?,
+        generate: number_given(Kind::Generate, words),
+        verbose: count(Kind::Verbose, words) == 1,
+        instances: number_given(Kind::Instances, words).unwrap_or(4),
+        remote: number_given(Kind::Remote, words).unwrap_or(1),
+        retries: number_given(Kind::Retries, words).unwrap_or(1),
+        executor: Text::copy_of(
+            alloc,
+            text_given(Kind::Executor, words).unwrap_or("remote_exec"),
+        )?,
+        extra: extra_flags(alloc, words)?,
+    })
+}
+
+fn list(alloc: Global, words: &[String]) -> Result<Option<Text>, NoMemory>
+    ensures { IfOk result (λ t. t ≡ text_given Kind.List (map string_bytes words.now)) }
+{
+    match text_given(Kind::List, words) {
+        Some(path) => Ok(Some(Text::copy_of(alloc, path)?)),
+        None => Ok(None),
+    }
+}
+
+fn number_given(kind: Kind, words: &[String]) -> Option<u32>
+    ensures { result ≡ number_given kind (map string_bytes words.now) }
+{
+    for word in words {
+        if let Some(number) = kind.number_in(word.as_str()) {
+            return Some(number);
+        }
+    }
+    None
+}
+
+fn text_given(kind: Kind, words: &[String]) -> Option<&str>
+    ensures { option_copied result ≡ text_given kind (map string_bytes words.now) }
+{
+    for word in words {
+        if let Some(text) = kind.text_in(word.as_str()) {
+            return Some(text);
+        }
+    }
+    None
+}
+
+fn extra_flags(alloc: Global, words: &[String]) -> Result<Items<Text>, NoMemory>
+    ensures { IfOk result (λ flags. flags ≡ filter_map (text_in Kind.ExtraFlag) (map string_bytes words.now)) }
+{
+    let mut flags = Vec::new(alloc);
+    for word in words {
+        if let Some(text) = Kind::ExtraFlag.text_in(word.as_str()) {
+            flags.push(Text::copy_of(alloc, text)?)?;
+        }
+    }
+    Ok(Items::of(flags))
+}
