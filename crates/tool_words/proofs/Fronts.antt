@@ -1,10 +1,9 @@
 -- What `strip_prefix` gives.
-use Rattle.std.proofs.Common.{◌≡◌, ℕ, Bool, true, false, cond, List, length, drop, nat_eq, Option, Some, None, Bor, refl, ap, sym, subst, ◌∙◌}
+use Rattle.std.proofs.Common.{◌≡◌, ℕ, true, false, List, drop, nat_eq, Option, Some, None, Bor, ap, sym, subst, ◌∙◌}
 use Rattle.std.specs.Option.{option_copied, MatchOption}
 use Rattle.std.specs.List.{starts_with}
-use Rattle.std.specs.Bool.{MatchBool}
 use Rattle.std.specs.Str.{IsCharBoundary}
-use Rattle.std.specs.Str.Pattern.{FindsTextPrefix, StripsPrefix, HasPrefixMatch}
+use Rattle.std.specs.Str.Pattern.{FindsTextPrefix, StripsPrefix}
 use Rattle.std.proofs.lemmas.Str.Pattern.{starts_text}
 use Rattle.tool_words.specs.Words.{after_front}
 

@@ -1,5 +1,5 @@
 -- Which words are accepted, and the options that they give. Their order doesn't matter, but for that of the extra flags.
-use Rattle.std.specs.Prelude.{ℕ, Bool, ◌&&◌, ◌==◌, ◌+◌, Option, Some, None, unwrap_or, if◌then◌else◌, List, [], ◌∷◌, nat_le, codes, count_by, filter_map}
+use Rattle.std.specs.Prelude.{◌≡◌, ◌≤◌, ℕ, Bool, not, is_some, ◌&&◌, ◌==◌, ◌+◌, Option, Some, None, unwrap_or, if◌then◌else◌, List, [], ◌∷◌, nat_le, codes, count_by, filter_map}
 use Rattle.std.specs.List.{list_all, list_any}
 use Rattle.tool_words.specs.declared.options.Options.{Options}
 use Rattle.tool_words.specs.declared.word.Kind.{Kind}
@@ -54,3 +54,10 @@ given words = record {
 -- the options that the words give, and none exactly where they aren't accepted
 abbrev pub options_of : List (List ℕ) → Option Options
 options_of words = if is_accepted words then Some (given words) else None
+
+-- what holds of all options that are given
+pub record AreInLimits (o : Options) : Type 0 where
+  pub one_source : is_some o.list ≡ not (is_some o.generate)
+  pub instances : (1 ≤ o.instances) × (o.instances ≤ 48)
+  pub remote : (1 ≤ o.remote) × (o.remote ≤ 16)
+  pub retries : o.retries ≤ 9

@@ -60,9 +60,9 @@ text_in kind.Executor word = behind (codes "--executor=") word
 text_in kind.ExtraFlag word = behind (codes "--extra_flag=") word
 text_in _ word = None
 
--- the word is of this kind; no word is of two
+-- the word is of this kind
 abbrev pub fits : Kind → List ℕ → Bool
-fits kind.List word = names_a_list word
+fits kind.List word = is_some (text_in kind.List word)
 fits kind.Verbose word = bytes_eq word (codes "--worker_verbose")
 fits kind.Instances word = is_some (number_in kind.Instances word)
 fits kind.Remote word = is_some (number_in kind.Remote word)

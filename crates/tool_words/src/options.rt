@@ -1,8 +1,8 @@
 // The options that the words of the command give.
-ghost use Rattle.std.specs.Prelude.{◌≡◌, ◌==◌, ◌+◌, nat_le, IfOk, map, string_bytes, filter_map};
+ghost use Rattle.std.specs.Prelude.{◌≡◌, ◌==◌, ◌+◌, nat_le, IfOk, IfSome, map, string_bytes, filter_map};
 ghost use Rattle.std.specs.List.{list_all};
 ghost use Rattle.std.specs.Option.{option_copied};
-ghost use Rattle.tool_words.specs.Options.{options_of, is_accepted, is_known, single_kinds, count, number_given, text_given, given};
+ghost use Rattle.tool_words.specs.Options.{options_of, AreInLimits, is_accepted, is_known, single_kinds, count, number_given, text_given, given};
 ghost use Rattle.tool_words.specs.Words.{text_in};
 
 use crate::word::Kind;
@@ -65,7 +65,8 @@ pub struct Options {
 ///
 /// `NoMemory` where the options find no memory.
 pub fn read_words(alloc: Global, words: &[String]) -> Result<Option<Options>, NoMemory>
-    ensures { IfOk result (λ o. o ≡ options_of (map string_bytes words.now)) }
+    ensures words { IfOk result (λ o. o ≡ options_of (map string_bytes words.now)) }
+    ensures limits { IfOk result (λ o. IfSome o AreInLimits) }
 {
     if !is_accepted(words) {
         return Ok(None);

@@ -31,12 +31,11 @@ impl Kind {
         ensures { result ≡ fits self word.now }
     {
         match self {
-            Kind::List => names_a_list(word.as_bytes()),
             Kind::Verbose => word == "--worker_verbose",
             Kind::Instances | Kind::Remote | Kind::Retries | Kind::Generate => {
                 self.number_in(word).is_some()
             }
-            Kind::Executor | Kind::ExtraFlag => self.text_in(word).is_some(),
+            Kind::List | Kind::Executor | Kind::ExtraFlag => self.text_in(word).is_some(),
         }
     }
 

@@ -1,4 +1,4 @@
-use Rattle.std.proofs.Common.{◌≡◌, map, drop, filter_map}
+use Rattle.std.proofs.Common.{◌≡◌, map, drop}
 use Rattle.std.specs.Prelude.{string_bytes}
 use Rattle.tool_words.specs.Options.{number_given}
 use Rattle.tool_words.proofs.options.number_given.Given as goal
