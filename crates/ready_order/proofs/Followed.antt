@@ -1,8 +1,8 @@
 -- How the table's states follow a journal.
-use Rattle.std.proofs.Common.{◌≡◌, ℕ, ◌==◌, nat_lt, Bool, true, false, ◌&&◌, cond, List, [], ◌∷◌, Option, Some, None, is_some, is_none, option_map, unwrap_or, ℤ, refl, ap, sym, subst, ◌∙◌, arith}
+use Rattle.std.proofs.Common.{◌≡◌, ℕ, ◌<◌, ◌≤◌, ◌==◌, nat_lt, Bool, true, false, ◌&&◌, cond, List, [], ◌∷◌, length, get_or, Option, Some, None, is_some, is_none, option_map, unwrap_or, ◌⊎◌, inl, inr, ℤ, refl, ap, sym, subst, ◌∙◌, arith}
 use Rattle.std.specs.Prelude.{slice_get}
 use Rattle.std.proofs.lemmas.Bool.{eqb-true, eq-eqb, lt-ltb, and_parts}
-use Rattle.std.proofs.lemmas.Option.{slice_get-map}
+use Rattle.std.proofs.lemmas.Option.{slice_get-map, slice_get_cases, slice_get_within}
 use Rattle.exec_journal.specs.declared.plan.Branch.{Branch}
 use Rattle.exec_journal.specs.declared.plan.Branch.TheVariants.{Local, Remote}
 use Rattle.exec_journal.specs.declared.plan.Plan.{Plan}
@@ -371,3 +371,12 @@ others p states j k s h =
     (λ a x. made_same x _ _ _ _ _ _ _ _ (free_same p j k a Local (h.none_begins a Local) h.actions.ended_too) (free_same p j k a Remote (h.none_begins a Remote) h.actions.ended_too)
     (granted_same j k a (h.actions.grant a))
     (own_same p j k a x (grant_same j k a (h.actions.grant a) h.actions.commit) (all_dropped_same p j k a x (λ b. dropped_same p j k a b h.actions.ended_too))))
+
+-- ---- which actions it knows
+
+pub known : (p : Plan) (states : List ActionState) (j : List Entry) (a : ℕ) → Stands p states j → a < length p.actions → a < length states
+known p states j a s lt = by (slice_get_cases p.actions a).1
+  where
+    by : ((x : PlanAction) × (a < length p.actions) × (slice_get p.actions a ≡ Some x) × (get_or p.actions a x ≡ x)) ⊎ ((length p.actions ≤ a) × (slice_get p.actions a ≡ None)) → a < length states
+    by (inl w) = slice_get_within states a (state_in p j a w.0) (s.each a ∙ ap (option_map (state_in p j a)) w.2)
+    by (inr w) = absurd (let past = w.0 in omega arith)

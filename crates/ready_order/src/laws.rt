@@ -1,5 +1,5 @@
 //! How the table follows a journal. The functions do nothing: each is a law, for those who keep a table of a journal.
-ghost use Rattle.std.specs.Prelude.{◌≡◌, ℕ, ℤ, List, ◌∷◌, Option, false};
+ghost use Rattle.std.specs.Prelude.{◌≡◌, ◌<◌, ℕ, ℤ, List, ◌∷◌, Option, false, length};
 ghost use Rattle.exec_journal.specs.declared.attempt.Attempt.{Attempt};
 ghost use Rattle.exec_journal.specs.declared.call.Call.TheVariants.{Claim, Committed};
 ghost use Rattle.exec_journal.specs.declared.call.CommitEnd.{CommitEnd};
@@ -44,4 +44,9 @@ pub fn others_change_nothing()
 /// The table's answer is the journal's: the action and the branch of the group's earliest queued branch.
 pub fn answers_are_the_journals()
     ensures { (p : Plan) (states : List ActionState) (j : List Entry) (g : ℕ) (answer : Option (ℕ × Branch)) → Stands p states j → IsEarliest states g answer → answer ≡ branch_of (earliest p j g) }
+{}
+
+/// The table has a state of each action of the plan, so that every call may name it.
+pub fn actions_are_known()
+    ensures { (p : Plan) (states : List ActionState) (j : List Entry) (a : ℕ) → Stands p states j → a < length p.actions → a < length states }
 {}

@@ -1,7 +1,7 @@
 //! Which branches are queued: what each group begins next.
 #![tactic(auto)]
 
-ghost use Rattle.std.specs.Prelude.{◌≡◌, ◌<◌, ◌≤◌, ◌^◌, IfOk, IfSome, IfNone, [], Some, None, true, false, map, length, option_map};
+ghost use Rattle.std.specs.Prelude.{◌≡◌, ◌<◌, ◌≤◌, ◌^◌, true, IfOk, [], length};
 ghost use Rattle.ready_order.specs.Queue.{new_standing, new_state, new_states, is_of, is_open, has_success, is_ready, may_begin, queued_branch, IsEarliest, state_with, with_taken, with_again, with_unwanted, with_settled};
 ghost use Rattle.ready_order.specs.Stands.{Stands};
 
