@@ -1,0 +1,4 @@
+pub mod Written
+pub mod Queued
+pub mod Followed
+pub mod Ended

@@ -1,0 +1,3 @@
+pub mod Queue
+pub mod Stands
+pub mod Entries
