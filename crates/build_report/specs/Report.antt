@@ -5,15 +5,19 @@ use Rattle.exec_journal.specs.declared.plan.Plan.{Plan}
 use Rattle.exec_journal.specs.declared.ends.ActionEnd.{ActionEnd}
 use Rattle.exec_journal.specs.declared.ends.Outcome.{Outcome}
 use Rattle.exec_journal.specs.declared.ends.Outcome.TheVariants as outcome
+use Rattle.exec_journal.specs.declared.call.Answer.{Answer}
 use Rattle.exec_journal.specs.declared.journal.Entry.{Entry}
 use Rattle.exec_journal.specs.Words.{grant_of}
 use Rattle.exec_journal.specs.Outcomes.{is_ok, winning_answer}
 use Rattle.exec_journal.specs.Ends.{ends_of}
 use Rattle.build_report.specs.Words.{name_of, outcome_words, fate_words, marked}
 
+abbrev pub answer_text : Option Answer → List ℕ
+answer_text o = unwrap_or (option_map (λ x. x.text) o) []
+
 -- the text of the winner's answer, where there is one
 abbrev pub winner_text : List Entry → ℕ → List ℕ
-winner_text j a = unwrap_or (option_map (λ x. x.text) (winning_answer j (grant_of j a))) []
+winner_text j a = answer_text (winning_answer j (grant_of j a))
 
 -- the name, the outcome and both fates
 abbrev pub end_line : Plan → ℕ → ActionEnd → List ℕ
@@ -31,6 +35,11 @@ action_lines p j a e = end_line p a e ++ marked (winner_text j a)
 abbrev pub lines_from : Plan → List Entry → ℕ → List ActionEnd → List ℕ
 lines_from p j a [] = []
 lines_from p j a (e ∷ es) = action_lines p j a e ++ lines_from p j (suc a) es
+
+-- the same by the winners' answers
+abbrev pub lines_told : Plan → ℕ → List ActionEnd → List (Option Answer) → List ℕ
+lines_told p a (e ∷ es) (x ∷ xs) = (end_line p a e ++ marked (answer_text x)) ++ lines_told p (suc a) es xs
+lines_told p a _ _ = []
 
 -- ---- the last line
 

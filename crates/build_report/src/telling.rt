@@ -1,11 +1,14 @@
-ghost use Rattle.std.specs.Prelude.{◌≡◌, ◌++◌, [], ◌<◌, ◌^◌, length, reverse, string_bytes, IfOk, OnOk, unwrap_or, option_map, option_copied, if◌then◌else◌};
+ghost use Rattle.std.specs.Prelude.{◌≡◌, ◌++◌, [], ◌<◌, ◌^◌, length, reverse, string_bytes, IfOk, OnOk, map, option_copied, if◌then◌else◌};
 ghost use Rattle.std.specs.List.{list_all};
 ghost use Rattle.exec_journal.specs.Sound.{Sound};
 ghost use Rattle.exec_journal.specs.Ends.{ends_of};
-ghost use Rattle.build_report.specs.Report.{report_of, report_by, status_of, is_success, has_failed, is_broken, is_skipped, count_of, lines_from, action_lines, end_line, winner_text, last_line, totals_line};
+ghost use Rattle.build_report.specs.Report.{report_of, report_by, status_of, is_success, has_failed, is_broken, is_skipped, count_of, lines_from, lines_told, end_line, answer_text, last_line, totals_line};
+ghost use Rattle.build_report.specs.Words.{marked};
 
 use crate::words::{action_name, fate_text, outcome_text, push_marked};
-use exec_journal::{ActionEnd, Journal, Outcome, Plan, action_ends, has_success, winning_answer};
+use exec_journal::{
+    ActionEnd, Answer, Journal, Outcome, Plan, action_ends, has_success, winning_answers,
+};
 use std::alloc::Global;
 use wire_fields::{NoMemory, Text};
 
@@ -52,7 +55,8 @@ fn report_text(
     short: bool,
     ends: &[ActionEnd],
 ) -> Result<String, NoMemory>
-    requires { length ends.now < 2 ^ 32 }
+    requires few { length ends.now < 2 ^ 32 }
+    requires count { length ends.now ≡ length plan.now.actions }
     ensures { IfOk result (λ s. string_bytes s ≡ report_by plan.now (reverse j.now) short ends.now) }
 {
     let mut text = String::new(alloc);
@@ -64,6 +68,7 @@ fn report_text(
     Ok(text)
 }
 
+// The lines of all actions.
 fn push_lines(
     alloc: Global,
     text: &mut String,
@@ -71,11 +76,27 @@ fn push_lines(
     j: &Journal,
     ends: &[ActionEnd],
 ) -> Result<(), NoMemory>
-    requires { length ends.now < 2 ^ 32 }
+    requires few { length ends.now < 2 ^ 32 }
+    requires count { length ends.now ≡ length plan.now.actions }
     ensures { OnOk result (string_bytes text.new ≡ string_bytes text.old ++ lines_from plan.now (reverse j.now) 0 ends.now) }
 {
+    let answers = winning_answers(alloc, plan, j)?;
+    push_told(alloc, text, plan, ends, answers.as_slice())
+}
+
+fn push_told(
+    alloc: Global,
+    text: &mut String,
+    plan: &Plan,
+    ends: &[ActionEnd],
+    answers: &[Option<&Answer>],
+) -> Result<(), NoMemory>
+    requires few { length ends.now < 2 ^ 32 }
+    requires count { length ends.now ≡ length answers.now }
+    ensures { OnOk result (string_bytes text.new ≡ string_bytes text.old ++ lines_told plan.now 0 ends.now (map option_copied answers.now)) }
+{
     for (a, end) in ends.iter().enumerate() {
-        push_action(alloc, text, plan, j, a as u32, end)?;
+        push_action(alloc, text, plan, a as u32, end, text_of(answers[a]))?;
     }
     Ok(())
 }
@@ -84,15 +105,24 @@ fn push_action(
     alloc: Global,
     text: &mut String,
     plan: &Plan,
-    j: &Journal,
     action: u32,
     end: &ActionEnd,
+    answer: &str,
 ) -> Result<(), NoMemory>
-    ensures { OnOk result (string_bytes text.new ≡ string_bytes text.old ++ action_lines plan.now (reverse j.now) action end.now) }
+    ensures { OnOk result (string_bytes text.new ≡ string_bytes text.old ++ (end_line plan.now action end.now ++ marked answer.now)) }
 {
     let line = end_text(alloc, plan, action, end)?;
     text.push_str(line.as_str())?;
-    push_marked(text, answer_text(j, action))
+    push_marked(text, answer)
+}
+
+fn text_of(answer: Option<&Answer>) -> &str
+    ensures { result.now ≡ answer_text (option_copied answer.entry) }
+{
+    match answer {
+        Some(answer) => answer.text.as_str(),
+        None => "",
+    }
 }
 
 fn end_text(alloc: Global, plan: &Plan, action: u32, end: &ActionEnd) -> Result<String, NoMemory>
@@ -104,15 +134,6 @@ fn end_text(alloc: Global, plan: &Plan, action: u32, end: &ActionEnd) -> Result<
     let name = action_name(plan, action);
     let (outcome, local, remote) = (outcome.as_str(), local.as_str(), remote.as_str());
     Ok(format!(in alloc; "{name} {outcome} local={local} remote={remote}\n")?)
-}
-
-fn answer_text(j: &Journal, action: u32) -> &str
-    ensures { result.now ≡ winner_text (reverse j.now) action }
-{
-    match winning_answer(j, action) {
-        Some(answer) => answer.text.as_str(),
-        None => "",
-    }
 }
 
 // ---- the totals

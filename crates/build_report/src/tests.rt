@@ -57,6 +57,74 @@ fn entry(lane: u32, call: Call, reply: Reply) -> Entry {
     Entry { lane, call, reply }
 }
 
+// The worker can't be started.
+fn push_unstarted(entries: &mut Vec<Entry>) -> Result<(), NoMemory> {
+    let launch = Reply::Launch {
+        line: 0,
+        action: 0,
+        branch: Branch::Local,
+        attempt: 1,
+    };
+    entries.push(entry(0, Call::Ask, launch))?;
+    let how = Started::LaunchFault;
+    entries.push(entry(0, Call::Launched { line: 0, how }, Reply::Noted))?;
+    Ok(())
+}
+
+// The executor is started, and is given the request.
+fn push_sent(entries: &mut Vec<Entry>) -> Result<(), NoMemory> {
+    let branch = Branch::Remote;
+    let launch = Reply::Launch {
+        line: 1,
+        action: 0,
+        branch,
+        attempt: 1,
+    };
+    entries.push(entry(2, Call::Ask, launch))?;
+    let how = Started::Done;
+    entries.push(entry(2, Call::Launched { line: 1, how }, Reply::Noted))?;
+    let send = Reply::Send {
+        line: 1,
+        number: 1,
+        action: 0,
+        branch,
+        attempt: 1,
+    };
+    entries.push(entry(2, Call::Ask, send))?;
+    let wrote = Call::Wrote {
+        line: 1,
+        number: 1,
+        how: Written::Done,
+    };
+    entries.push(entry(2, wrote, Reply::Noted))?;
+    Ok(())
+}
+
+// The executor's answer is matched, and what was found is granted.
+fn push_granted(
+    alloc: Global,
+    entries: &mut Vec<Entry>,
+    exit: i32,
+    found: Found,
+) -> Result<(), NoMemory> {
+    let branch = Branch::Remote;
+    let answer = answer(alloc, exit)?;
+    let matched = Reply::Matched {
+        action: 0,
+        branch,
+        attempt: 1,
+    };
+    entries.push(entry(3, Call::Answer { line: 1, answer }, matched))?;
+    let claim = Call::Claim {
+        action: 0,
+        branch,
+        attempt: 1,
+        found,
+    };
+    entries.push(entry(2, claim, Reply::Granted))?;
+    Ok(())
+}
+
 // The worker can't be started; the executor answers with this exit code and is granted what was found.
 fn journal(
     alloc: Global,
@@ -64,96 +132,18 @@ fn journal(
     found: Found,
     end: Option<CommitEnd>,
 ) -> Result<Journal, NoMemory> {
-    let branch = Branch::Remote;
     let mut entries = Vec::new(alloc);
-    entries.push(entry(
-        0,
-        Call::Ask,
-        Reply::Launch {
-            line: 0,
-            action: 0,
-            branch: Branch::Local,
-            attempt: 1,
-        },
-    ))?;
-    entries.push(entry(
-        0,
-        Call::Launched {
-            line: 0,
-            how: Started::LaunchFault,
-        },
-        Reply::Noted,
-    ))?;
-    entries.push(entry(
-        2,
-        Call::Ask,
-        Reply::Launch {
-            line: 1,
-            action: 0,
-            branch,
-            attempt: 1,
-        },
-    ))?;
-    entries.push(entry(
-        2,
-        Call::Launched {
-            line: 1,
-            how: Started::Done,
-        },
-        Reply::Noted,
-    ))?;
-    entries.push(entry(
-        2,
-        Call::Ask,
-        Reply::Send {
-            line: 1,
-            number: 1,
-            action: 0,
-            branch,
-            attempt: 1,
-        },
-    ))?;
-    entries.push(entry(
-        2,
-        Call::Wrote {
-            line: 1,
-            number: 1,
-            how: Written::Done,
-        },
-        Reply::Noted,
-    ))?;
-    entries.push(entry(
-        3,
-        Call::Answer {
-            line: 1,
-            answer: answer(alloc, exit)?,
-        },
-        Reply::Matched {
-            action: 0,
-            branch,
-            attempt: 1,
-        },
-    ))?;
-    entries.push(entry(
-        2,
-        Call::Claim {
-            action: 0,
-            branch,
-            attempt: 1,
-            found,
-        },
-        Reply::Granted,
-    ))?;
+    push_unstarted(&mut entries)?;
+    push_sent(&mut entries)?;
+    push_granted(alloc, &mut entries, exit, found)?;
     if let Some(how) = end {
-        entries.push(entry(
-            2,
-            Call::Committed {
-                action: 0,
-                branch,
-                how,
-            },
-            Reply::Noted,
-        ))?;
+        let branch = Branch::Remote;
+        let committed = Call::Committed {
+            action: 0,
+            branch,
+            how,
+        };
+        entries.push(entry(2, committed, Reply::Noted))?;
     }
     Ok(Journal::of(entries))
 }

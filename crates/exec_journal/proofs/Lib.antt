@@ -10,4 +10,5 @@ pub mod Tracks
 pub mod Judged
 pub mod Tallied
 pub mod Verdicts
+pub mod Answered
 pub mod Updates

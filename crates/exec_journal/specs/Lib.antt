@@ -17,4 +17,5 @@ pub mod Ends
 pub mod Facts
 pub mod Scans
 pub mod Tallies
+pub mod Winners
 pub mod Verdicts

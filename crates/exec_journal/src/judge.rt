@@ -6,14 +6,14 @@ ghost use Rattle.exec_journal.specs.Attempts.{dropped};
 ghost use Rattle.exec_journal.specs.Settled.{group_of, by_commit, by_grant, all_dropped, unused_or_dropped, is_success, is_without, is_starved, standing_after, standings};
 ghost use Rattle.exec_journal.specs.Ends.{ends_of};
 ghost use Rattle.exec_journal.specs.Sound.{Sound};
-ghost use Rattle.exec_journal.specs.Outcomes.{grant_outcome, commit_outcome, least_without, skipped, outcome_after, outcome_of, won_or_spoiled, lost_fate, fate_after, fate_of, is_ok, is_some_ok, is_winner, lesser, winning_answer};
+ghost use Rattle.exec_journal.specs.Outcomes.{grant_outcome, commit_outcome, least_without, skipped, outcome_after, outcome_of, won_or_spoiled, lost_fate, fate_after, fate_of, is_ok, is_some_ok, is_winner, lesser};
 
 use crate::grant::Prize;
-use crate::scan::{commit, end, ever_sent, grant, matched};
+use crate::scan::{commit, end, ever_sent, grant};
 use crate::verdict::{ends_by, standings_by, verdicts};
 use crate::{
-    ActionEnd, Answer, Attempt, Branch, Cause, CommitEnd, Entry, Fate, Journal, Maker, Outcome,
-    Plan, PlanAction, Standing,
+    ActionEnd, Attempt, Branch, Cause, CommitEnd, Entry, Fate, Journal, Maker, Outcome, Plan,
+    PlanAction, Standing,
 };
 use std::alloc::Global;
 use wire_fields::NoMemory;
@@ -51,17 +51,6 @@ fn is_won(outcome: Option<Outcome>) -> bool
     ensures { result ≡ is_some_ok outcome }
 {
     matches!(outcome, Some(Outcome::Success(_)))
-}
-
-/// The answer by which the action was won: the one that was matched with the attempt that was granted.
-pub fn winning_answer(j: &Journal, action: u32) -> Option<&Answer>
-    ensures { option_copied result ≡ winning_answer (reverse j.now) (grant_of (reverse j.now) action) }
-{
-    let entries = j.entries();
-    match grant(entries, action) {
-        Some(grant) => matched(entries, grant.attempt),
-        None => None,
-    }
 }
 
 /// How each action of the plan ends, in their order. It goes through the journal once.

@@ -2,7 +2,7 @@
 ghost use Rattle.std.specs.Prelude.{◌≡◌, reverse, option_copied, option_map, is_some, find};
 ghost use Rattle.std.specs.List.{list_any};
 ghost use Rattle.exec_journal.specs.Entries.{is_for, consumed_in, send_of_entry, ends, committed_in, send_in, matched_in};
-ghost use Rattle.exec_journal.specs.Words.{last_work, answered, break_at, line_cause, write_cause, end_cause, grant_of, commit_of, ever_sent, is_of_branch, match_at, match_of};
+ghost use Rattle.exec_journal.specs.Words.{last_work, answered, break_at, line_cause, write_cause, end_cause, grant_of, commit_of, ever_sent, is_of_branch, match_at};
 ghost use Rattle.exec_journal.specs.Attempts.{end_of};
 ghost use Rattle.exec_journal.specs.Scans.{is_work, ended_line, grant_fact, grants};
 
@@ -210,23 +210,8 @@ pub fn is_send_of(entry: &Entry, action: u32, branch: Branch) -> bool
     matches!(&entry.reply, Reply::Send { action: sent, branch: of, .. } if *sent == action && *of == branch)
 }
 
-/// The answer that was matched with the attempt, the first such.
-pub fn matched(entries: &[Entry], attempt: Attempt) -> Option<&Answer>
-    ensures { option_copied result ≡ match_of (reverse entries.now) attempt }
-{
-    match matching(entries, attempt) {
-        Some(entry) => match_in(entry, attempt),
-        None => None,
-    }
-}
-
-fn matching(entries: &[Entry], attempt: Attempt) -> Option<&Entry>
-    ensures { option_copied result ≡ find (λ e. is_some (match_at attempt e.call e.reply)) entries.now }
-{
-    entries.iter().find(|e| match_in(e, attempt).is_some())
-}
-
-fn match_in(entry: &Entry, attempt: Attempt) -> Option<&Answer>
+/// The answer that is matched with the attempt at this entry.
+pub fn match_in(entry: &Entry, attempt: Attempt) -> Option<&Answer>
     ensures { option_copied result ≡ match_at attempt entry.now.call entry.now.reply }
 {
     match &entry.call {
