@@ -10,7 +10,7 @@ use wire_fields::{Blob, Items, NoMemory, Text};
 // Two workers die of each action, the third answers.
 const LOST: u32 = 2;
 
-/// For each action of the plan three attempts: two whose workers died, and one that was committed; 28 entries in all.
+/// For each action of the plan three attempts: two whose workers died, and one that was committed; 27 entries in all.
 /// The journal isn't a legal one, since one berth has all lines at once, but it has all that a report looks at.
 pub fn busy_history(alloc: Global, plan: &Plan) -> Result<Vec<Entry>, NoMemory>
     requires { length plan.now.actions ≤ 4096 }
