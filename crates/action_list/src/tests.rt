@@ -217,3 +217,78 @@ fn two_actions_and_their_groups(rt: HostRuntime) -> Result<(), Fail> {
     }
     Ok(())
 }
+
+// So many texts "0", "1" and so on, each with this behind it.
+fn numbered(alloc: Global, count: u32, behind: &str) -> Result<String, AllocError> {
+    let mut items = String::new(alloc);
+    for number in 0..count {
+        let comma = if number == 0 { "" } else { "," };
+        let item = format!(in alloc; "{comma}\"{number}\"{behind}")?;
+        items.push_str(item.as_str())?;
+    }
+    Ok(items)
+}
+
+// Each limit is taken whole, and one more is refused with its count.
+#[test]
+fn one_above_a_limit_is_too_many(rt: HostRuntime) -> Result<(), Fail> {
+    let alloc = rt.alloc();
+    let rows = [
+        ("argv", '[', ']', "", 1024, "Argv"),
+        ("env", '{', '}', ":\"\"", 256, "Env"),
+        ("tools", '[', ']', "", 256, "Tools"),
+        ("inputs", '[', ']', "", 4096, "Inputs"),
+        ("outputs", '[', ']', "", 256, "Outputs"),
+        ("requirements", '{', '}', ":\"\"", 64, "Requirements"),
+    ];
+    for (key, open, close, behind, limit, what) in rows.iter() {
+        let items = numbered(alloc, *limit + 1, behind)?;
+        let items = items.as_str();
+        let text = one(
+            alloc,
+            format!(in alloc; ",\"{key}\":{open}{items}{close}")?.as_str(),
+        )?;
+        let line = read_line(alloc, text.as_str())?;
+        let expected = format!(in alloc; "TooMany {what} {}", *limit + 1)?;
+        assert_eq!(rt; line.as_str(), expected.as_str(), "one above {key}");
+    }
+    Ok(())
+}
+
+// The list of so many actions with one name, output and mnemonic each.
+fn many(alloc: Global, count: u32) -> Result<String, AllocError> {
+    let mut text = String::from_str(alloc, "{\"actions\":[")?;
+    for number in 0..count {
+        let comma = if number == 0 { "" } else { "," };
+        let action = format!(in alloc;
+            "{comma}{A},\"name\":\"{number}\",\"outputs\":[\"o{number}\"],\"mnemonic\":\"{number}\"}}"
+        )?;
+        text.push_str(action.as_str())?;
+    }
+    text.push_str("]}")?;
+    Ok(text)
+}
+
+#[test]
+fn a_list_has_limits_of_its_own(rt: HostRuntime) -> Result<(), Fail> {
+    let alloc = rt.alloc();
+    let rows = [(48, "48 actions"), (49, "TooMany Keys 49")];
+    for (count, expected) in rows.iter() {
+        let text = many(alloc, *count)?;
+        let line = read_line(alloc, text.as_str())?;
+        assert_eq!(rt; line.as_str(), *expected, "with {count} keys");
+    }
+    let numbers = numbered(alloc, 4097, "")?;
+    let numbers = numbers.as_str();
+    let text = format!(in alloc; "{{\"actions\":[{numbers}]}}")?;
+    let line = read_line(alloc, text.as_str())?;
+    assert_eq!(rt; line.as_str(), "TooMany Actions 4097");
+    let spaces = vec![in alloc; b' '; 33_554_433]?;
+    let Err(ListRefusal::Fault(fault)) = read_list(alloc, &spaces) else {
+        assert!(rt; false, "so many bytes are accepted");
+        return Ok(());
+    };
+    let line = told(alloc, fault)?;
+    assert_eq!(rt; line.as_str(), "TooMany Bytes 33554433");
+    Ok(())
+}
