@@ -1,0 +1,4 @@
+pub mod Kept
+pub mod New
+pub mod Updates
+pub mod Words
