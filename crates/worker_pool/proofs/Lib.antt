@@ -1,4 +1,5 @@
 pub mod Kept
+pub mod Lives
 pub mod New
 pub mod Updates
 pub mod Words

@@ -8,8 +8,8 @@ use Rattle.exec_journal.specs.declared.call.Call.TheVariants as call
 use Rattle.exec_journal.specs.declared.call.Written.TheVariants as write
 use Rattle.exec_journal.specs.declared.reply.Reply.{Reply}
 use Rattle.exec_journal.specs.declared.reply.Reply.TheVariants as reply
-use Rattle.exec_journal.specs.Entries.{Request, same_attempt, is_done, is_for}
-use Rattle.exec_journal.specs.Words.{launch_of, has_ended, answered, wrote, pending}
+use Rattle.exec_journal.specs.Entries.{Request, same_attempt, is_done}
+use Rattle.exec_journal.specs.Words.{launch_of, has_ended, answered, wrote, pending, order_of}
 use Rattle.exec_journal.specs.Attempts.{line_of, ended}
 use Rattle.exec_journal.specs.Settled.{wanted, bound}
 use Rattle.exec_journal.specs.Facts.{begun}
@@ -78,10 +78,15 @@ pub record IsPendingOn (j : List Entry) (t : Attempt) (l : ℕ) : Type 0 where
 pub record IsPendingNowhere (j : List Entry) (t : Attempt) : Type 0 where
   pub each : (m : ℕ) → pending_of_attempt j t m ≡ 0
 
+-- the lane's Wrote is the first about this request
+pub record IsFirstWrite (j : List Entry) (lane : ℕ) (q : Request) : Type 0 where
+  pub order : order_of j lane ≡ Some q
+  pub first : wrote j q.attempt ≡ None
+
 -- a request is sent once, to a line that hasn't ended, and where its attempt was launched, to the line on which it was
 pub record IsSentTo (j : List Entry) (t : Attempt) (l : ℕ) : Type 0 where
   pub unended : has_ended j l ≡ false
   pub unanswered : answered j t ≡ false
   pub unwritten : wrote j t ≡ None
   pub carrier : (m : ℕ) → line_of j t ≡ Some m → m ≡ l
-  pub launched : (m : ℕ) → is_for t (option_map (λ x. x.1) (launch_of j m)) ≡ true → m ≡ l
+  pub launched : (lane m : ℕ) → launch_of j m ≡ Some (lane, t) → m ≡ l

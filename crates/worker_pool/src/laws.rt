@@ -1,10 +1,17 @@
 //! How the table follows a journal. The functions do nothing: each is a law, for those who keep a table of a journal.
-ghost use Rattle.std.specs.Prelude.{◌≡◌, true, ℕ, List, [], ◌∷◌};
+ghost use Rattle.std.specs.Prelude.{◌≡◌, true, ℕ, ℤ, List, [], ◌∷◌};
+ghost use Rattle.exec_journal.specs.declared.call.Answer.{Answer};
+ghost use Rattle.exec_journal.specs.declared.call.Call.TheVariants as call;
+ghost use Rattle.exec_journal.specs.declared.call.HowEnded.{HowEnded};
+ghost use Rattle.exec_journal.specs.declared.call.Started.TheVariants as start;
+ghost use Rattle.exec_journal.specs.declared.call.Written.TheVariants as write;
 ghost use Rattle.exec_journal.specs.declared.journal.Entry.{Entry};
 ghost use Rattle.exec_journal.specs.declared.plan.Plan.{Plan};
+ghost use Rattle.exec_journal.specs.declared.reply.BreachWhy.{BreachWhy};
+ghost use Rattle.exec_journal.specs.declared.reply.Reply.TheVariants as reply;
 ghost use Rattle.exec_journal.specs.Facts.{SameActions};
 ghost use Rattle.worker_pool.specs.Entries.{is_aside, ends_nothing, Unbinds};
-ghost use Rattle.worker_pool.specs.Rows.{Facts, with_unbound};
+ghost use Rattle.worker_pool.specs.Rows.{Facts, change, set_started, set_broken, set_ended, set_killed, with_unbound};
 ghost use Rattle.worker_pool.specs.Stands.{Stands};
 
 /// An entry that says nothing of lines and requests: a Claim, a Committed, a Launched with a fault and so on. `unbound`
@@ -21,4 +28,29 @@ pub fn others_change_nothing()
 /// Where no attempt ends and nothing is granted or committed, all stays bound that is bound.
 pub fn what_is_bound_stays()
     ensures { (p : Plan) (j : List Entry) (e : Entry) → is_aside e ≡ true → SameActions j (e ∷ j) → Unbinds p j e [] }
+{}
+
+/// A Launched with Done: `started` is called.
+pub fn starts_are_kept()
+    ensures { (p : Plan) (f : Facts) (j : List Entry) (lane l : ℕ) → Stands p f j → Stands p (change f l set_started) (record { lane = lane; call = call.Launched l start.Done; reply = reply.Noted } ∷ j) }
+{}
+
+/// A Killed: `killed` is called.
+pub fn kills_are_kept()
+    ensures { (p : Plan) (f : Facts) (j : List Entry) (lane l : ℕ) → Stands p f j → Stands p (change f l set_killed) (record { lane = lane; call = call.Killed l; reply = reply.Noted } ∷ j) }
+{}
+
+/// An Answer whose reply is a Breach: `broke` is called.
+pub fn breaches_are_kept()
+    ensures { (p : Plan) (f : Facts) (j : List Entry) (lane l : ℕ) (a : Answer) (y : BreachWhy) → Stands p f j → Stands p (change f l set_broken) (record { lane = lane; call = call.Answer l a; reply = reply.Breach y } ∷ j) }
+{}
+
+/// A Wrote with FeedFault: `broke` is called.
+pub fn feed_faults_are_kept()
+    ensures { (p : Plan) (f : Facts) (j : List Entry) (lane l : ℕ) (n : ℤ) → Stands p f j → Unbinds p j (record { lane = lane; call = call.Wrote l n write.FeedFault; reply = reply.Noted }) [] → Stands p (change f l set_broken) (record { lane = lane; call = call.Wrote l n write.FeedFault; reply = reply.Noted } ∷ j) }
+{}
+
+/// An Ended: `ended` is called, whatever is pending on the line.
+pub fn ends_are_kept()
+    ensures { (p : Plan) (f : Facts) (j : List Entry) (lane l : ℕ) (how : HowEnded) → Stands p f j → Unbinds p j (record { lane = lane; call = call.Ended l how; reply = reply.Noted }) (l ∷ []) → Stands p (change f l set_ended) (record { lane = lane; call = call.Ended l how; reply = reply.Noted } ∷ j) }
 {}
