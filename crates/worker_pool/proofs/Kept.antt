@@ -113,6 +113,10 @@ module _ (p : Plan) (f : Facts) (j : List Entry) (e : Entry) (s : Stands p f j) 
   pub one_changes : (k : ℕ) (g : Line → Line) → ((l : ℕ) → cond (k == l) (option_map g (row_before l)) (row_before l) ≡ row_after l) → Stands p (change f k g) (e ∷ j)
   one_changes k g h = stands_after (change f k g) refl refl (length-update g f.lines k) (λ l. row_changed g k l ∙ h l)
 
+  -- none does
+  pub none_changes : ((l : ℕ) → row_before l ≡ row_after l) → Stands p f (e ∷ j)
+  none_changes h = stands_after f refl refl refl (λ l. row_is l ∙ h l)
+
   -- and changes again
   pub twice_changes : (k : ℕ) (g h : Line → Line) → ((l : ℕ) → cond (k == l) (option_map h (cond (k == l) (option_map g (row_before l)) (row_before l))) (cond (k == l) (option_map g (row_before l)) (row_before l)) ≡ row_after l)
       → Stands p (change (change f k g) k h) (e ∷ j)

@@ -1,3 +1,4 @@
+pub mod Freed
 pub mod Kept
 pub mod Lives
 pub mod New

@@ -33,7 +33,7 @@ use Rattle.worker_pool.proofs.Words.{none_both, over_same, same_actions, granted
 
 -- ---- breaks
 
-broken_if : (b : Bool) (c : Cause) (o : Option Cause) → is_some (unless_before (cond b (Some c) None) o) ≡ (b || is_some o)
+pub broken_if : (b : Bool) (c : Cause) (o : Option Cause) → is_some (unless_before (cond b (Some c) None) o) ≡ (b || is_some o)
 broken_if true c None = refl
 broken_if true c (Some d) = refl
 broken_if false c o = refl
@@ -63,7 +63,7 @@ first_stays None q h = refl
 first_stays (Some x) None h = absurd (cc)
 first_stays (Some x) (Some y) h = refl
 
-unended : (p : Plan) (j : List Entry) (e : Entry) → Unbinds p j e [] → (l : ℕ) → is_some (bound p j l) ≡ is_some (bound p (e ∷ j) l)
+pub unended : (p : Plan) (j : List Entry) (e : Entry) → Unbinds p j e [] → (l : ℕ) → is_some (bound p j l) ≡ is_some (bound p (e ∷ j) l)
 unended p j e u l = sym (u.each l)
 
 module _ (p : Plan) (f : Facts) (j : List Entry) (lane k : ℕ) (s : Stands p f j) where

@@ -1,17 +1,22 @@
 //! How the table follows a journal. The functions do nothing: each is a law, for those who keep a table of a journal.
-ghost use Rattle.std.specs.Prelude.{◌≡◌, true, ℕ, ℤ, List, [], ◌∷◌};
+ghost use Rattle.std.specs.Prelude.{◌≡◌, true, false, Some, ℕ, ℤ, List, [], ◌∷◌};
+ghost use Rattle.exec_journal.specs.declared.attempt.Attempt.{Attempt};
 ghost use Rattle.exec_journal.specs.declared.call.Answer.{Answer};
 ghost use Rattle.exec_journal.specs.declared.call.Call.TheVariants as call;
 ghost use Rattle.exec_journal.specs.declared.call.HowEnded.{HowEnded};
 ghost use Rattle.exec_journal.specs.declared.call.Started.TheVariants as start;
+ghost use Rattle.exec_journal.specs.declared.call.Written.{Written};
 ghost use Rattle.exec_journal.specs.declared.call.Written.TheVariants as write;
 ghost use Rattle.exec_journal.specs.declared.journal.Entry.{Entry};
 ghost use Rattle.exec_journal.specs.declared.plan.Plan.{Plan};
 ghost use Rattle.exec_journal.specs.declared.reply.BreachWhy.{BreachWhy};
+ghost use Rattle.exec_journal.specs.declared.reply.Reply.{Reply};
 ghost use Rattle.exec_journal.specs.declared.reply.Reply.TheVariants as reply;
+ghost use Rattle.exec_journal.specs.Entries.{Request, consumed_in, is_unwritten};
+ghost use Rattle.exec_journal.specs.Words.{answered};
 ghost use Rattle.exec_journal.specs.Facts.{SameActions};
-ghost use Rattle.worker_pool.specs.Entries.{is_aside, ends_nothing, Unbinds};
-ghost use Rattle.worker_pool.specs.Rows.{Facts, change, set_started, set_broken, set_ended, set_killed, with_unbound};
+ghost use Rattle.worker_pool.specs.Entries.{is_aside, ends_nothing, Unbinds, IsPendingOn, IsPendingNowhere, IsFirstWrite};
+ghost use Rattle.worker_pool.specs.Rows.{Facts, change, set_started, set_broken, set_ended, set_killed, one_fewer, with_unbound};
 ghost use Rattle.worker_pool.specs.Stands.{Stands};
 
 /// An entry that says nothing of lines and requests: a Claim, a Committed, a Launched with a fault and so on. `unbound`
@@ -53,4 +58,17 @@ pub fn feed_faults_are_kept()
 /// An Ended: `ended` is called, whatever is pending on the line.
 pub fn ends_are_kept()
     ensures { (p : Plan) (f : Facts) (j : List Entry) (lane l : ℕ) (how : HowEnded) → Stands p f j → Unbinds p j (record { lane = lane; call = call.Ended l how; reply = reply.Noted }) (l ∷ []) → Stands p (change f l set_ended) (record { lane = lane; call = call.Ended l how; reply = reply.Noted } ∷ j) }
+{}
+
+/// An Answer that is Matched or Late: `freed` is called for the line on which its request is pending.
+pub fn answers_are_kept()
+    ensures { (p : Plan) (f : Facts) (j : List Entry) (lane l : ℕ) (a : Answer) (x : Reply) (t : Attempt) → Stands p f j → consumed_in x ≡ Some t → IsPendingOn j t l → Stands p (change f l one_fewer) (record { lane = lane; call = call.Answer l a; reply = x } ∷ j) }
+{}
+
+/// A Wrote with RoomFault or TooLarge. Of a request that isn't answered `freed` is called for the line on which it is
+/// pending, and nothing where it isn't, as after the Ended of its line. Of an answered request only `broke` is called.
+pub fn faulty_writes_are_kept()
+    ensures pending { (p : Plan) (f : Facts) (j : List Entry) (lane k : ℕ) (n : ℤ) (how : Written) (q : Request) (l : ℕ) → Stands p f j → is_unwritten how ≡ true → IsFirstWrite j lane q → Unbinds p j (record { lane = lane; call = call.Wrote k n how; reply = reply.Noted }) [] → answered j q.attempt ≡ false → IsPendingOn j q.attempt l → Stands p (change f l one_fewer) (record { lane = lane; call = call.Wrote k n how; reply = reply.Noted } ∷ j) }
+    ensures gone { (p : Plan) (f : Facts) (j : List Entry) (lane k : ℕ) (n : ℤ) (how : Written) (q : Request) → Stands p f j → is_unwritten how ≡ true → IsFirstWrite j lane q → Unbinds p j (record { lane = lane; call = call.Wrote k n how; reply = reply.Noted }) [] → answered j q.attempt ≡ false → IsPendingNowhere j q.attempt → Stands p f (record { lane = lane; call = call.Wrote k n how; reply = reply.Noted } ∷ j) }
+    ensures answered { (p : Plan) (f : Facts) (j : List Entry) (lane k : ℕ) (n : ℤ) (how : Written) (q : Request) → Stands p f j → is_unwritten how ≡ true → IsFirstWrite j lane q → Unbinds p j (record { lane = lane; call = call.Wrote k n how; reply = reply.Noted }) [] → answered j q.attempt ≡ true → Stands p (change f k set_broken) (record { lane = lane; call = call.Wrote k n how; reply = reply.Noted } ∷ j) }
 {}
