@@ -1,5 +1,5 @@
 //! How the table follows a journal. The functions do nothing: each is a law, for those who keep a table of a journal.
-ghost use Rattle.std.specs.Prelude.{◌≡◌, true, false, Some, ℕ, ℤ, List, [], ◌∷◌};
+ghost use Rattle.std.specs.Prelude.{◌≡◌, true, false, Some, None, ℕ, ℤ, List, [], ◌∷◌};
 ghost use Rattle.exec_journal.specs.declared.attempt.Attempt.{Attempt};
 ghost use Rattle.exec_journal.specs.declared.call.Answer.{Answer};
 ghost use Rattle.exec_journal.specs.declared.call.Call.TheVariants as call;
@@ -14,9 +14,10 @@ ghost use Rattle.exec_journal.specs.declared.reply.Reply.{Reply};
 ghost use Rattle.exec_journal.specs.declared.reply.Reply.TheVariants as reply;
 ghost use Rattle.exec_journal.specs.Entries.{Request, consumed_in, is_unwritten};
 ghost use Rattle.exec_journal.specs.Words.{answered};
+ghost use Rattle.exec_journal.specs.Settled.{bound};
 ghost use Rattle.exec_journal.specs.Facts.{SameActions};
-ghost use Rattle.worker_pool.specs.Entries.{is_aside, ends_nothing, Unbinds, IsPendingOn, IsPendingNowhere, IsFirstWrite};
-ghost use Rattle.worker_pool.specs.Rows.{Facts, change, set_started, set_broken, set_ended, set_killed, one_fewer, with_unbound};
+ghost use Rattle.worker_pool.specs.Entries.{is_aside, ends_nothing, Unbinds, IsPendingOn, IsPendingNowhere, IsFirstWrite, IsSentTo};
+ghost use Rattle.worker_pool.specs.Rows.{Facts, change, set_started, set_broken, set_ended, set_killed, set_unbound, one_more, one_fewer, with_unbound};
 ghost use Rattle.worker_pool.specs.Stands.{Stands};
 
 /// An entry that says nothing of lines and requests: a Claim, a Committed, a Launched with a fault and so on. `unbound`
@@ -71,4 +72,11 @@ pub fn faulty_writes_are_kept()
     ensures pending { (p : Plan) (f : Facts) (j : List Entry) (lane k : ℕ) (n : ℤ) (how : Written) (q : Request) (l : ℕ) → Stands p f j → is_unwritten how ≡ true → IsFirstWrite j lane q → Unbinds p j (record { lane = lane; call = call.Wrote k n how; reply = reply.Noted }) [] → answered j q.attempt ≡ false → IsPendingOn j q.attempt l → Stands p (change f l one_fewer) (record { lane = lane; call = call.Wrote k n how; reply = reply.Noted } ∷ j) }
     ensures gone { (p : Plan) (f : Facts) (j : List Entry) (lane k : ℕ) (n : ℤ) (how : Written) (q : Request) → Stands p f j → is_unwritten how ≡ true → IsFirstWrite j lane q → Unbinds p j (record { lane = lane; call = call.Wrote k n how; reply = reply.Noted }) [] → answered j q.attempt ≡ false → IsPendingNowhere j q.attempt → Stands p f (record { lane = lane; call = call.Wrote k n how; reply = reply.Noted } ∷ j) }
     ensures answered { (p : Plan) (f : Facts) (j : List Entry) (lane k : ℕ) (n : ℤ) (how : Written) (q : Request) → Stands p f j → is_unwritten how ≡ true → IsFirstWrite j lane q → Unbinds p j (record { lane = lane; call = call.Wrote k n how; reply = reply.Noted }) [] → answered j q.attempt ≡ true → Stands p (change f k set_broken) (record { lane = lane; call = call.Wrote k n how; reply = reply.Noted } ∷ j) }
+{}
+
+/// A Send: `sent` is called, and `unbound` too where it sends the branch that is bound to the line. Any other branch is
+/// sent where nothing is bound to it.
+pub fn sends_are_kept()
+    ensures bound { (p : Plan) (f : Facts) (j : List Entry) (lane l : ℕ) (n : ℤ) (t : Attempt) → Stands p f j → IsSentTo j t l → bound p j l ≡ Some t → Stands p (change (change f l one_more) l set_unbound) (record { lane = lane; call = call.Ask; reply = reply.Send l n t.action t.branch t.number } ∷ j) }
+    ensures other { (p : Plan) (f : Facts) (j : List Entry) (lane l : ℕ) (n : ℤ) (t : Attempt) → Stands p f j → IsSentTo j t l → bound p j l ≡ None → Stands p (change f l one_more) (record { lane = lane; call = call.Ask; reply = reply.Send l n t.action t.branch t.number } ∷ j) }
 {}
