@@ -1,5 +1,7 @@
+pub mod Answered
 pub mod Freed
 pub mod Kept
+pub mod Launched
 pub mod Lives
 pub mod New
 pub mod Sent

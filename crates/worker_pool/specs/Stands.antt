@@ -1,9 +1,9 @@
 -- When the table's facts are those of a journal, whose newest entry stands first.
-use Rattle.std.specs.Prelude.{◌≡◌, ℕ, ◌/◌, nat_lt, Bool, Option, Some, None, is_some, if◌then◌else◌, List, length, slice_get}
+use Rattle.std.specs.Prelude.{◌≡◌, ℕ, ◌/◌, nat_lt, Bool, Option, Some, None, is_some, option_and_then, if◌then◌else◌, List, length, slice_get}
 use Rattle.exec_journal.specs.declared.plan.Plan.{Plan}
 use Rattle.exec_journal.specs.declared.attempt.Attempt.{Attempt}
 use Rattle.exec_journal.specs.declared.journal.Entry.{Entry}
-use Rattle.exec_journal.specs.Words.{line_count, launch_of, last_line, started, broke, has_ended, was_killed, pending}
+use Rattle.exec_journal.specs.Words.{line_count, launch_of, last_line, started, broke, has_ended, was_killed, pending, live}
 use Rattle.exec_journal.specs.Settled.{berths, kind_of, capacity, bound}
 use Rattle.worker_pool.specs.declared.Berth.{Berth}
 use Rattle.worker_pool.specs.declared.Line.{Line}
@@ -30,3 +30,7 @@ pub record Stands (p : Plan) (f : Facts) (j : List Entry) : Type 0 where
   pub count : length f.lines ≡ line_count j
   pub each_line : (l : ℕ) → slice_get f.lines l ≡ line_in p j l
   pub each_seat : (w : ℕ) → slice_get f.seats w ≡ seat_in p j w
+
+-- the berth's last line, where it is live
+abbrev pub live_in : List Entry → ℕ → Option ℕ
+live_in j w = option_and_then (λ l. if live j l then Some l else None) (last_line j w)

@@ -1,5 +1,5 @@
 //! How the table follows a journal. The functions do nothing: each is a law, for those who keep a table of a journal.
-ghost use Rattle.std.specs.Prelude.{◌≡◌, true, false, Some, None, ℕ, ℤ, List, [], ◌∷◌};
+ghost use Rattle.std.specs.Prelude.{◌≡◌, ◌/◌, ◌<◌, length, true, false, Some, None, ℕ, ℤ, List, [], ◌∷◌};
 ghost use Rattle.exec_journal.specs.declared.attempt.Attempt.{Attempt};
 ghost use Rattle.exec_journal.specs.declared.call.Answer.{Answer};
 ghost use Rattle.exec_journal.specs.declared.call.Call.TheVariants as call;
@@ -13,12 +13,12 @@ ghost use Rattle.exec_journal.specs.declared.reply.BreachWhy.{BreachWhy};
 ghost use Rattle.exec_journal.specs.declared.reply.Reply.{Reply};
 ghost use Rattle.exec_journal.specs.declared.reply.Reply.TheVariants as reply;
 ghost use Rattle.exec_journal.specs.Entries.{Request, consumed_in, is_unwritten};
-ghost use Rattle.exec_journal.specs.Words.{answered};
-ghost use Rattle.exec_journal.specs.Settled.{bound};
-ghost use Rattle.exec_journal.specs.Facts.{SameActions};
-ghost use Rattle.worker_pool.specs.Entries.{is_aside, ends_nothing, Unbinds, IsPendingOn, IsPendingNowhere, IsFirstWrite, IsSentTo};
-ghost use Rattle.worker_pool.specs.Rows.{Facts, change, set_started, set_broken, set_ended, set_killed, set_unbound, one_more, one_fewer, with_unbound};
-ghost use Rattle.worker_pool.specs.Stands.{Stands};
+ghost use Rattle.exec_journal.specs.Words.{answered, line_count, last_line, launch_of, pending};
+ghost use Rattle.exec_journal.specs.Settled.{bound, berths, kind_of, capacity, free_places};
+ghost use Rattle.exec_journal.specs.Facts.{SameActions, IsFresh, NameTheirLines};
+ghost use Rattle.worker_pool.specs.Entries.{is_aside, ends_nothing, Unbinds, IsPendingOn, IsPendingNowhere, IsFirstWrite, IsSentTo, IsNew};
+ghost use Rattle.worker_pool.specs.Rows.{Facts, change, set_started, set_broken, set_ended, set_killed, set_unbound, one_more, one_fewer, with_unbound, with_launch, last_of, live_of, free_of, pending_of, capacity_of};
+ghost use Rattle.worker_pool.specs.Stands.{Stands, live_in};
 
 /// An entry that says nothing of lines and requests: a Claim, a Committed, a Launched with a fault and so on. `unbound`
 /// is called for each line whose branch is bound no longer with it.
@@ -79,4 +79,19 @@ pub fn faulty_writes_are_kept()
 pub fn sends_are_kept()
     ensures bound { (p : Plan) (f : Facts) (j : List Entry) (lane l : ℕ) (n : ℤ) (t : Attempt) → Stands p f j → IsSentTo j t l → bound p j l ≡ Some t → Stands p (change (change f l one_more) l set_unbound) (record { lane = lane; call = call.Ask; reply = reply.Send l n t.action t.branch t.number } ∷ j) }
     ensures other { (p : Plan) (f : Facts) (j : List Entry) (lane l : ℕ) (n : ℤ) (t : Attempt) → Stands p f j → IsSentTo j t l → bound p j l ≡ None → Stands p (change f l one_more) (record { lane = lane; call = call.Ask; reply = reply.Send l n t.action t.branch t.number } ∷ j) }
+{}
+
+/// A Launch of a berth of the plan: `launch` is called for it, which gives the line's number.
+pub fn launches_are_kept()
+    ensures { (p : Plan) (f : Facts) (j : List Entry) (lane : ℕ) (t : Attempt) → Stands p f j → IsFresh j (line_count j) → IsNew p j t → lane / 2 < berths p → Stands p (with_launch f (lane / 2)) (record { lane = lane; call = call.Ask; reply = reply.Launch (line_count j) t.action t.branch t.number } ∷ j) }
+{}
+
+/// What is read is what the journal says of the line.
+pub fn lines_are_the_journals()
+    ensures count { (p : Plan) (f : Facts) (j : List Entry) → Stands p f j → length f.lines ≡ line_count j }
+    ensures last { (p : Plan) (f : Facts) (j : List Entry) (w : ℕ) → Stands p f j → w < berths p → last_of f w ≡ last_line j w }
+    ensures live { (p : Plan) (f : Facts) (j : List Entry) (w : ℕ) → Stands p f j → w < berths p → NameTheirLines j → live_of f w ≡ live_in j w }
+    ensures free { (p : Plan) (f : Facts) (j : List Entry) (l lane : ℕ) (t : Attempt) → Stands p f j → launch_of j l ≡ Some (lane, t) → free_of f l ≡ free_places p j (kind_of p (lane / 2)) l }
+    ensures pending { (p : Plan) (f : Facts) (j : List Entry) (l lane : ℕ) (t : Attempt) → Stands p f j → launch_of j l ≡ Some (lane, t) → pending_of f l ≡ length (pending j l) }
+    ensures capacity { (p : Plan) (f : Facts) (j : List Entry) (l lane : ℕ) (t : Attempt) → Stands p f j → launch_of j l ≡ Some (lane, t) → capacity_of f l ≡ capacity (kind_of p (lane / 2)) }
 {}
