@@ -1,4 +1,5 @@
 pub mod Answered
+pub mod Bound
 pub mod Freed
 pub mod Kept
 pub mod Launched

@@ -58,7 +58,7 @@ ended_broke (e ∷ j) l h = some_either (break_at l j e) (line_cause j l) (by (e
     by rest (inl g) = inl (end_breaks j (order_of j e.lane) l e.call e.reply g)
     by rest (inr g) = inr (rest g)
 
-first_stays : {X : Type 0} (o q : Option X) → is_some q ≡ true → unless_before o q ≡ q
+pub first_stays : {X : Type 0} (o q : Option X) → is_some q ≡ true → unless_before o q ≡ q
 first_stays None q h = refl
 first_stays (Some x) None h = absurd (cc)
 first_stays (Some x) (Some y) h = refl

@@ -126,7 +126,7 @@ pub aside_send : (x : Reply) → is_aside_reply x ≡ true → send_in x ≡ Non
 aside_send (reply.Send l n a b t) h = absurd (cc)
 aside_send _ h = refl
 
-aside_carrier : (t : Attempt) (x : Reply) → is_aside_reply x ≡ true → carrier_in t x ≡ None
+pub aside_carrier : (t : Attempt) (x : Reply) → is_aside_reply x ≡ true → carrier_in t x ≡ None
 aside_carrier t (reply.Launch l a b u) h = absurd (cc)
 aside_carrier t (reply.Send l n a b u) h = absurd (cc)
 aside_carrier t _ h = refl
@@ -190,7 +190,7 @@ module _ (e : Entry) (j : List Entry) (aside : is_aside e ≡ true) where
   unfolding line_cause
   aside_cause l = rw (aside_break j (order_of j e.lane) l e.call e.reply by_call by_reply) refl
 
-  aside_answered : (t : Attempt) → answered (e ∷ j) t ≡ answered j t
+  pub aside_answered : (t : Attempt) → answered (e ∷ j) t ≡ answered j t
   unfolding answered
   aside_answered t = rw (aside_consumed e.reply by_reply) refl
 
@@ -198,7 +198,7 @@ module _ (e : Entry) (j : List Entry) (aside : is_aside e ≡ true) where
   unfolding wrote
   aside_unwritten t = unwritten_same (wrote_at t j e) (wrote j t) (aside_write t e.call (order_of j e.lane) by_call).0
 
-  aside_feed : (t : Attempt) → says_feed_fault (wrote (e ∷ j) t) ≡ says_feed_fault (wrote j t)
+  pub aside_feed : (t : Attempt) → says_feed_fault (wrote (e ∷ j) t) ≡ says_feed_fault (wrote j t)
   unfolding wrote
   aside_feed t = feed_same (wrote_at t j e) (wrote j t) (aside_write t e.call (order_of j e.lane) by_call).1
 

@@ -1,5 +1,6 @@
 -- What the laws ask of a journal and its next entry.
 use Rattle.std.specs.Prelude.{◌≡◌, ℕ, ◌/◌, ◌<◌, ◌==◌, Bool, true, false, ◌&&◌, ◌||◌, not, Option, Some, None, is_some, option_map, if◌then◌else◌, List, [], ◌∷◌, length, filter}
+use Rattle.exec_journal.specs.declared.plan.Branch.{Branch}
 use Rattle.exec_journal.specs.declared.plan.Plan.{Plan}
 use Rattle.exec_journal.specs.declared.attempt.Attempt.{Attempt}
 use Rattle.exec_journal.specs.declared.journal.Entry.{Entry}
@@ -9,7 +10,7 @@ use Rattle.exec_journal.specs.declared.call.Written.TheVariants as write
 use Rattle.exec_journal.specs.declared.reply.Reply.{Reply}
 use Rattle.exec_journal.specs.declared.reply.Reply.TheVariants as reply
 use Rattle.exec_journal.specs.Entries.{Request, same_attempt, is_done}
-use Rattle.exec_journal.specs.Words.{launch_of, has_ended, answered, wrote, pending, order_of}
+use Rattle.exec_journal.specs.Words.{launch_of, has_ended, answered, wrote, pending, order_of, granted}
 use Rattle.exec_journal.specs.Attempts.{line_of, ended}
 use Rattle.exec_journal.specs.Settled.{wanted, bound}
 use Rattle.exec_journal.specs.Facts.{begun}
@@ -54,6 +55,16 @@ is_among l (k ∷ ks) = (k == l) || is_among l ks
 -- with this entry nothing is bound to these lines any longer, and to each other line something is where it was before
 pub record Unbinds (p : Plan) (j : List Entry) (e : Entry) (ls : List ℕ) : Type 0 where
   pub each : (l : ℕ) → is_some (bound p (e ∷ j) l) ≡ (not (is_among l ls) && is_some (bound p j l))
+
+-- a branch that isn't wanted isn't wanted again, and one that is bound stays wanted until its action is granted or its attempt ends
+pub record WantedStays (p : Plan) (j : List Entry) (e : Entry) : Type 0 where
+  pub unwanted : (a : ℕ) (b : Branch) → wanted p j a b ≡ false → wanted p (e ∷ j) a b ≡ false
+  pub bound_yet : (l : ℕ) (t : Attempt) → bound p j l ≡ Some t → granted (e ∷ j) t.action ≡ false → ended (e ∷ j) t ≡ false → wanted p (e ∷ j) t.action t.branch ≡ true
+
+-- what is bound to a line was launched on no later one, and isn't answered
+pub record CarriesItsBound (p : Plan) (j : List Entry) : Type 0 where
+  pub carrier : (l : ℕ) (t : Attempt) → bound p j l ≡ Some t → line_of j t ≡ Some l
+  pub unanswered : (l : ℕ) (t : Attempt) → bound p j l ≡ Some t → answered j t ≡ false
 
 -- nothing was said of the attempt yet, and its branch is wanted
 pub record IsNew (p : Plan) (j : List Entry) (t : Attempt) : Type 0 where

@@ -1,22 +1,25 @@
 //! How the table follows a journal. The functions do nothing: each is a law, for those who keep a table of a journal.
-ghost use Rattle.std.specs.Prelude.{◌≡◌, ◌/◌, ◌<◌, length, true, false, Some, None, ℕ, ℤ, List, [], ◌∷◌};
+ghost use Rattle.std.specs.Prelude.{◌≡◌, ◌/◌, ◌<◌, ◌==◌, length, is_some, true, false, Some, None, ℕ, ℤ, List, [], ◌∷◌};
 ghost use Rattle.exec_journal.specs.declared.attempt.Attempt.{Attempt};
 ghost use Rattle.exec_journal.specs.declared.call.Answer.{Answer};
 ghost use Rattle.exec_journal.specs.declared.call.Call.TheVariants as call;
+ghost use Rattle.exec_journal.specs.declared.call.Found.{Found};
 ghost use Rattle.exec_journal.specs.declared.call.HowEnded.{HowEnded};
 ghost use Rattle.exec_journal.specs.declared.call.Started.TheVariants as start;
 ghost use Rattle.exec_journal.specs.declared.call.Written.{Written};
 ghost use Rattle.exec_journal.specs.declared.call.Written.TheVariants as write;
 ghost use Rattle.exec_journal.specs.declared.journal.Entry.{Entry};
+ghost use Rattle.exec_journal.specs.declared.plan.Branch.{Branch};
 ghost use Rattle.exec_journal.specs.declared.plan.Plan.{Plan};
 ghost use Rattle.exec_journal.specs.declared.reply.BreachWhy.{BreachWhy};
 ghost use Rattle.exec_journal.specs.declared.reply.Reply.{Reply};
 ghost use Rattle.exec_journal.specs.declared.reply.Reply.TheVariants as reply;
-ghost use Rattle.exec_journal.specs.Entries.{Request, consumed_in, is_unwritten};
+ghost use Rattle.exec_journal.specs.Entries.{Request, consumed_in, granted_in, is_unwritten};
 ghost use Rattle.exec_journal.specs.Words.{answered, line_count, last_line, launch_of, pending};
 ghost use Rattle.exec_journal.specs.Settled.{bound, berths, kind_of, capacity, free_places};
+ghost use Rattle.exec_journal.specs.Attempts.{fault_at};
 ghost use Rattle.exec_journal.specs.Facts.{SameActions, IsFresh, NameTheirLines};
-ghost use Rattle.worker_pool.specs.Entries.{is_aside, ends_nothing, Unbinds, IsPendingOn, IsPendingNowhere, IsFirstWrite, IsSentTo, IsNew};
+ghost use Rattle.worker_pool.specs.Entries.{is_aside, ends_nothing, is_among, Unbinds, WantedStays, CarriesItsBound, IsPendingOn, IsPendingNowhere, IsFirstWrite, IsSentTo, IsNew};
 ghost use Rattle.worker_pool.specs.Rows.{Facts, change, set_started, set_broken, set_ended, set_killed, set_unbound, one_more, one_fewer, with_unbound, with_launch, last_of, live_of, free_of, pending_of, capacity_of};
 ghost use Rattle.worker_pool.specs.Stands.{Stands, live_in};
 
@@ -94,4 +97,13 @@ pub fn lines_are_the_journals()
     ensures free { (p : Plan) (f : Facts) (j : List Entry) (l lane : ℕ) (t : Attempt) → Stands p f j → launch_of j l ≡ Some (lane, t) → free_of f l ≡ free_places p j (kind_of p (lane / 2)) l }
     ensures pending { (p : Plan) (f : Facts) (j : List Entry) (l lane : ℕ) (t : Attempt) → Stands p f j → launch_of j l ≡ Some (lane, t) → pending_of f l ≡ length (pending j l) }
     ensures capacity { (p : Plan) (f : Facts) (j : List Entry) (l lane : ℕ) (t : Attempt) → Stands p f j → launch_of j l ≡ Some (lane, t) → capacity_of f l ≡ capacity (kind_of p (lane / 2)) }
+{}
+
+/// Which lines have nothing bound any longer: with a grant those to which a branch of the action is bound; with an Ended
+/// its line; with an entry that says the faults of attempts those to which these are bound; with a Wrote none.
+pub fn entries_unbind()
+    ensures grant { (p : Plan) (j : List Entry) (lane a n : ℕ) (b : Branch) (found : Found) (ls : List ℕ) → WantedStays p j (record { lane = lane; call = call.Claim a b n found; reply = reply.Granted }) → ((l : ℕ) (t : Attempt) → bound p j l ≡ Some t → is_among l ls ≡ (a == t.action)) → Unbinds p j (record { lane = lane; call = call.Claim a b n found; reply = reply.Granted }) ls }
+    ensures end { (p : Plan) (j : List Entry) (lane l : ℕ) (how : HowEnded) → WantedStays p j (record { lane = lane; call = call.Ended l how; reply = reply.Noted }) → CarriesItsBound p j → Unbinds p j (record { lane = lane; call = call.Ended l how; reply = reply.Noted }) (l ∷ []) }
+    ensures fault { (p : Plan) (j : List Entry) (e : Entry) (ls : List ℕ) → is_aside e ≡ true → granted_in e.call e.reply ≡ None → WantedStays p j e → ((l : ℕ) (t : Attempt) → bound p j l ≡ Some t → is_some (fault_at t j e) ≡ is_among l ls) → Unbinds p j e ls }
+    ensures write { (p : Plan) (j : List Entry) (lane l : ℕ) (n : ℤ) (how : Written) → WantedStays p j (record { lane = lane; call = call.Wrote l n how; reply = reply.Noted }) → Unbinds p j (record { lane = lane; call = call.Wrote l n how; reply = reply.Noted }) [] }
 {}
