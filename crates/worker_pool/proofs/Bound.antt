@@ -1,26 +1,23 @@
 -- What an entry that launches and sends nothing leaves bound.
-use Rattle.std.proofs.Common.{◌≡◌, ℕ, ◌==◌, Bool, true, false, ◌&&◌, ◌||◌, not, cond, List, [], ◌∷◌, Option, Some, None, is_some, option_map, ◌⊎◌, inl, inr, refl, ap, sym, subst, ◌∙◌}
+use Rattle.std.proofs.Common.{◌≡◌, ℕ, ◌==◌, Bool, true, false, ◌&&◌, ◌||◌, not, cond, List, [], ◌∷◌, Option, Some, None, is_some, option_map, ◌⊎◌, inl, inr, refl, ap, sym, ◌∙◌}
 use Rattle.std.specs.Prelude.{ℤ}
-use Rattle.std.proofs.lemmas.Bool.{or_parts, or_cases, or_right, eqb-true, eq-eqb}
+use Rattle.std.proofs.lemmas.Bool.{or_parts, or_cases, or_right}
 use Rattle.exec_journal.specs.declared.plan.Branch.{Branch}
 use Rattle.exec_journal.specs.declared.plan.Plan.{Plan}
 use Rattle.exec_journal.specs.declared.attempt.Attempt.{Attempt}
 use Rattle.exec_journal.specs.declared.ends.Cause.{Cause}
 use Rattle.exec_journal.specs.declared.journal.Entry.{Entry}
-use Rattle.exec_journal.specs.declared.call.Call.{Call}
 use Rattle.exec_journal.specs.declared.call.Call.TheVariants as call
-use Rattle.exec_journal.specs.declared.call.CommitEnd.{CommitEnd}
 use Rattle.exec_journal.specs.declared.call.Found.{Found}
 use Rattle.exec_journal.specs.declared.call.HowEnded.{HowEnded}
 use Rattle.exec_journal.specs.declared.call.Written.{Written}
-use Rattle.exec_journal.specs.declared.reply.Reply.{Reply}
 use Rattle.exec_journal.specs.declared.reply.Reply.TheVariants as reply
-use Rattle.exec_journal.specs.History.{or_else, unless_before, latest}
-use Rattle.exec_journal.specs.Entries.{Request, attempt_of, same_attempt, is_for, is_look, is_halt, launch_in, send_in, granted_in, send_of_entry, launch_of_entry}
-use Rattle.exec_journal.specs.Words.{launch_of, has_ended, was_sent, answered, wrote, wrote_if, end_cause, says_feed_fault, line_cause, break_at, last_work, work_at, order_of, grant_of, granted}
-use Rattle.exec_journal.specs.Attempts.{line_of, fault_of, fault_at, unwritten_cause, lost_cause, over, end_of, ended}
+use Rattle.exec_journal.specs.History.{or_else, unless_before}
+use Rattle.exec_journal.specs.Entries.{Request, attempt_of, same_attempt, is_for, is_look, is_halt, launch_in, send_in, granted_in, send_of_entry}
+use Rattle.exec_journal.specs.Words.{launch_of, has_ended, was_sent, answered, wrote, wrote_if, end_cause, says_feed_fault, line_cause, break_at, last_work, order_of, grant_of, granted}
+use Rattle.exec_journal.specs.Attempts.{line_of, fault_of, fault_at, unwritten_cause, over, end_of, ended}
 use Rattle.exec_journal.specs.Settled.{wanted, still_bound, if_bound, bound}
-use Rattle.exec_journal.proofs.Begins.{same_attempt_eq, same_attempt_refl, IsBound, bound_is, wanted_is}
+use Rattle.exec_journal.proofs.Begins.{same_attempt_eq, same_attempt_refl, bound_is, wanted_is}
 use Rattle.exec_journal.proofs.Quiet.{end_settles, ended_stays}
 use Rattle.exec_journal.proofs.Ruled.{by_bool}
 use Rattle.worker_pool.specs.Entries.{is_aside, is_among, Unbinds, WantedStays, CarriesItsBound}
@@ -222,16 +219,17 @@ order_sent (e ∷ j) lane q h = by ((e.lane == lane) && (not (is_look e.call) &&
     by true rest g = rw g (let same = same_attempt_refl q.attempt in rw same refl)
     by false rest g = or_right _ _ (rest g)
 
+-- so the order isn't about what wasn't sent
+pub another : (j : List Entry) (lane : ℕ) (t : Attempt) (o : Option Request) → order_of j lane ≡ o → was_sent j t ≡ false → is_for t (option_map (λ q. q.attempt) o) ≡ false
+another j lane t None h unsent = refl
+another j lane t (Some q) h unsent =
+    by_bool (same_attempt q.attempt t) (λ b. b ≡ false)
+    (λ same. absurd (let sent : was_sent j t ≡ true = ap (was_sent j) (sym (same_attempt_eq q.attempt t same)) ∙ order_sent j lane q h in let both : true ≡ false = sym sent ∙ unsent in cc))
+    (λ apart. refl)
+
 module _ (p : Plan) (j : List Entry) (lane k : ℕ) (n : ℤ) (how : Written) where
   abbrev pub wrote_entry : Entry
   wrote_entry = record { lane = lane; call = call.Wrote k n how; reply = reply.Noted }
-
-  another : (t : Attempt) (o : Option Request) → order_of j lane ≡ o → was_sent j t ≡ false → is_for t (option_map (λ q. q.attempt) o) ≡ false
-  another t None h unsent = refl
-  another t (Some q) h unsent =
-      by_bool (same_attempt q.attempt t) (λ b. b ≡ false)
-      (λ same. absurd (let sent : was_sent j t ≡ true = ap (was_sent j) (sym (same_attempt_eq q.attempt t same)) ∙ order_sent j lane q h in let both : true ≡ false = sym sent ∙ unsent in cc))
-      (λ apart. refl)
 
   unwritten_for : (t : Attempt) (o : Option Request) → is_for t (option_map (λ q. q.attempt) o) ≡ false → wrote_if t (call.Wrote k n how) o ≡ None
   unwritten_for t None h = refl
@@ -240,7 +238,7 @@ module _ (p : Plan) (j : List Entry) (lane k : ℕ) (n : ℤ) (how : Written) wh
   wrote_over : (t : Attempt) → was_sent j t ≡ false → over (wrote_entry ∷ j) t ≡ over j t
   unfolding has_ended answered wrote line_cause
   wrote_over t unsent =
-      let other = another t (order_of j lane) refl unsent in
+      let other = another j lane t (order_of j lane) refl unsent in
       over_same wrote_entry j t (ap (λ b. cond b (unwritten_cause how) None) other) refl (λ l. refl) refl
       (ap (λ (o : Option Written). says_feed_fault (unless_before o (wrote j t))) (unwritten_for t (order_of j lane) other))
       (λ l h. first_stays (break_at l j wrote_entry) (line_cause j l) (ended_broke j l h))

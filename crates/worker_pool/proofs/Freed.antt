@@ -1,5 +1,5 @@
 -- What is kept of a line when a request on it is pending no longer.
-use Rattle.std.proofs.Common.{◌≡◌, ℕ, ◌+◌, ◌-◌, ◌==◌, Bool, true, false, ◌&&◌, ◌||◌, not, cond, List, [], ◌∷◌, length, Option, Some, None, is_some, option_map, ◌⊎◌, inl, inr, refl, ap, sym, subst, ◌∙◌, add-one, arith}
+use Rattle.std.proofs.Common.{◌≡◌, ℕ, ◌+◌, ◌-◌, ◌==◌, Bool, true, false, ◌&&◌, ◌||◌, not, cond, List, [], ◌∷◌, length, Option, Some, None, is_some, ◌⊎◌, inl, inr, refl, ap, sym, subst, ◌∙◌, arith}
 use Rattle.std.specs.List.{filter}
 use Rattle.std.specs.Prelude.{ℤ}
 use Rattle.std.proofs.lemmas.List.Filters.{length-filter_both}
@@ -16,17 +16,16 @@ use Rattle.exec_journal.specs.declared.reply.Reply.{Reply}
 use Rattle.exec_journal.specs.declared.reply.Reply.TheVariants as reply
 use Rattle.exec_journal.specs.History.{or_else, unless_before}
 use Rattle.exec_journal.specs.Entries.{Request, same_attempt, is_for, launch_in, send_in, consumed_in, is_unwritten}
-use Rattle.exec_journal.specs.Words.{launch_of, started, has_ended, was_killed, sends, answered, wrote, wrote_at, wrote_if, says_unwritten, says_feed_fault, is_pending, pending, line_cause, break_at, break_by, write_cause, if_line, order_of, granted}
+use Rattle.exec_journal.specs.Words.{launch_of, started, has_ended, was_killed, sends, answered, wrote, wrote_if, says_unwritten, says_feed_fault, is_pending, pending, line_cause, break_by, write_cause, if_line, order_of, granted}
 use Rattle.exec_journal.specs.Attempts.{carrier_in, line_of, fault_of, lost_cause, over, end_of, ended}
-use Rattle.exec_journal.specs.Settled.{bound}
 use Rattle.exec_journal.specs.Facts.{SameActions}
 use Rattle.exec_journal.proofs.Begins.{same_attempt_eq}
 use Rattle.exec_journal.proofs.Quiet.{end_same}
 use Rattle.exec_journal.proofs.Ruled.{by_bool}
 use Rattle.worker_pool.specs.Rows.{Facts, change, set_broken, one_fewer}
 use Rattle.worker_pool.specs.Stands.{Stands}
-use Rattle.worker_pool.specs.Entries.{Unbinds, is_of, pending_of_attempt, IsPendingOn, IsPendingNowhere, IsFirstWrite}
-use Rattle.worker_pool.proofs.Kept.{row_before, row_after, broken_row, fewer_row, one_changes, none_changes, row_by}
+use Rattle.worker_pool.specs.Entries.{Unbinds, is_of, pending_of_attempt, IsPendingOn, IsPendingNowhere}
+use Rattle.worker_pool.proofs.Kept.{broken_row, fewer_row, one_changes, none_changes, row_by}
 use Rattle.worker_pool.proofs.Lives.{broken_if, unended}
 use Rattle.worker_pool.proofs.Words.{none_both, same_actions, granted_same, unbinds_nothing, sends_same, filter_same, pending_same}
 

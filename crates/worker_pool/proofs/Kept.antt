@@ -1,11 +1,11 @@
 -- How the table's rows follow a journal.
-use Rattle.std.proofs.Common.{◌≡◌, ℕ, zero, suc, ◌+◌, ◌-◌, ◌/◌, ◌==◌, Bool, true, false, ◌&&◌, ◌||◌, not, cond, List, [], ◌∷◌, length, Option, Some, None, is_some, option_map, refl, ap, sym, subst, ◌∙◌}
+use Rattle.std.proofs.Common.{◌≡◌, ℕ, zero, suc, ◌+◌, ◌-◌, ◌==◌, Bool, true, false, ◌&&◌, ◌||◌, not, cond, List, [], ◌∷◌, length, Option, Some, None, is_some, option_map, refl, ap, sym, ◌∙◌}
 use Rattle.std.specs.Prelude.{slice_get}
 use Rattle.exec_journal.specs.declared.plan.Plan.{Plan}
 use Rattle.exec_journal.specs.declared.attempt.Attempt.{Attempt}
 use Rattle.exec_journal.specs.declared.journal.Entry.{Entry}
 use Rattle.exec_journal.specs.Entries.{launch_in}
-use Rattle.exec_journal.specs.Words.{launch_of, last_line, started, broke, has_ended, was_killed, pending}
+use Rattle.exec_journal.specs.Words.{launch_of, started, broke, has_ended, was_killed, pending}
 use Rattle.exec_journal.specs.Settled.{bound}
 use Rattle.exec_journal.specs.Tallies.{update}
 use Rattle.exec_journal.proofs.Updates.{get_update}

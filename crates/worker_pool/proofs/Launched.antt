@@ -1,5 +1,5 @@
 -- What is kept of a new line.
-use Rattle.std.proofs.Common.{◌≡◌, ℕ, zero, suc, ◌+◌, ◌*◌, ◌/◌, ◌<◌, ◌==◌, eqb, nat_lt, Bool, true, false, ◌&&◌, ◌||◌, not, cond, List, [], ◌∷◌, ◌++◌, length, Option, Some, None, is_some, option_map, unwrap_or, refl, ap, sym, subst, ◌∙◌, add-one, length-append, arith}
+use Rattle.std.proofs.Common.{◌≡◌, ℕ, zero, suc, ◌+◌, ◌/◌, ◌<◌, ◌==◌, eqb, nat_lt, Bool, true, false, ◌&&◌, not, cond, List, [], ◌∷◌, ◌++◌, length, Option, Some, None, is_some, option_map, unwrap_or, refl, ap, sym, subst, ◌∙◌, add-one, length-append, arith}
 use Rattle.std.specs.Prelude.{slice_get}
 use Rattle.std.proofs.lemmas.Bool.{ne_eqb, eqb-true, lt-ltb, or_parts}
 use Prim.Native.Nat.compare
@@ -10,11 +10,11 @@ use Rattle.exec_journal.specs.declared.journal.Entry.{Entry}
 use Rattle.exec_journal.specs.declared.call.Call.TheVariants as call
 use Rattle.exec_journal.specs.declared.reply.Reply.{Reply}
 use Rattle.exec_journal.specs.declared.reply.Reply.TheVariants as reply
-use Rattle.exec_journal.specs.History.{or_else, ever, latest}
-use Rattle.exec_journal.specs.Entries.{Request, same_attempt, is_for, send_in}
-use Rattle.exec_journal.specs.Words.{line_count, launch_of, last_line, started, broke, has_ended, was_killed, sends, was_sent, answered, wrote, says_unwritten, says_feed_fault, is_pending, pending, line_cause, granted}
-use Rattle.exec_journal.specs.Attempts.{begun_in, carrier_in, line_of, fault_of, lost_cause, over, ended}
-use Rattle.exec_journal.specs.Settled.{berths, kind_of, capacity, wanted, still_bound, if_bound, bound}
+use Rattle.exec_journal.specs.History.{or_else}
+use Rattle.exec_journal.specs.Entries.{same_attempt, is_for, send_in}
+use Rattle.exec_journal.specs.Words.{line_count, launch_of, last_line, started, broke, has_ended, was_killed, sends, was_sent, answered, wrote, is_pending, pending, line_cause}
+use Rattle.exec_journal.specs.Attempts.{begun_in, carrier_in, line_of, fault_of, lost_cause, over}
+use Rattle.exec_journal.specs.Settled.{berths, kind_of, capacity, still_bound, if_bound, bound}
 use Rattle.exec_journal.specs.Facts.{SameActions, IsFresh, begun}
 use Rattle.exec_journal.proofs.Begins.{same_attempt_eq}
 use Rattle.exec_journal.proofs.Quiet.{ended_same, wanted_same}
@@ -22,7 +22,7 @@ use Rattle.exec_journal.proofs.Updates.{get_update}
 use Rattle.worker_pool.specs.declared.Berth.{Berth}
 use Rattle.worker_pool.specs.declared.Line.{Line}
 use Rattle.worker_pool.specs.Rows.{Facts, new_line, set_last, seat_capacity, with_launch}
-use Rattle.worker_pool.specs.Stands.{Stands, row_of, line_in, seat_with, seat_in}
+use Rattle.worker_pool.specs.Stands.{Stands, row_of, line_in, seat_in}
 use Rattle.worker_pool.specs.Entries.{IsNew}
 use Rattle.worker_pool.proofs.Words.{same_actions, granted_same}
 

@@ -1,5 +1,5 @@
 -- A new table stands for the empty journal.
-use Rattle.std.proofs.Common.{◌≡◌, ℕ, zero, suc, ◌+◌, ◌-◌, ◌<◌, ◌≤◌, nat_lt, Bool, true, false, cond, List, [], ◌∷◌, ◌++◌, length, Option, Some, None, option_map, option_and_then, unwrap_or, refl, ap, sym, subst, ◌∙◌, arith, add-zero, add-one}
+use Rattle.std.proofs.Common.{◌≡◌, ℕ, zero, suc, ◌+◌, ◌-◌, nat_lt, Bool, true, false, cond, List, [], ◌∷◌, ◌++◌, Option, Some, None, option_map, option_and_then, unwrap_or, refl, ap, sym, subst, ◌∙◌, arith, add-zero}
 use Rattle.std.specs.Prelude.{slice_get, replicate, sum_by}
 use Rattle.std.proofs.lemmas.Bool.{ltb-true, ltb-false, lt-ltb, le-ltb}
 use Rattle.std.proofs.lemmas.List.Sums.{sum_by-cons}
@@ -8,11 +8,9 @@ use Rattle.exec_journal.specs.declared.plan.Group.{Group}
 use Rattle.exec_journal.specs.declared.plan.Kind.{Kind}
 use Rattle.exec_journal.specs.declared.plan.Kind.TheVariants as kind
 use Rattle.exec_journal.specs.declared.plan.Plan.{Plan}
-use Rattle.exec_journal.specs.Settled.{group_from, berths, capacity}
+use Rattle.exec_journal.specs.Settled.{group_from, berths}
 use Rattle.exec_journal.specs.Words.{line_count, launch_of, last_line}
 use Rattle.exec_journal.proofs.Ruled.{by_bool}
-use Rattle.worker_pool.specs.declared.Berth.{Berth}
-use Rattle.worker_pool.specs.declared.Line.{Line}
 use Rattle.worker_pool.specs.Rows.{Facts, empty_berth, empty_berths, new_facts}
 use Rattle.worker_pool.specs.Stands.{Stands, line_in, seat_in}
 

@@ -1,19 +1,20 @@
 -- What is kept of a line when a request is sent to it.
-use Rattle.std.proofs.Common.{◌≡◌, ℕ, ◌+◌, ◌-◌, ◌==◌, Bool, true, false, ◌&&◌, ◌||◌, not, cond, List, [], ◌∷◌, length, Option, Some, None, is_some, option_map, refl, ap, sym, subst, ◌∙◌, add-one, arith}
+use Rattle.std.proofs.Common.{◌≡◌, ℕ, ◌+◌, ◌==◌, Bool, true, false, ◌&&◌, ◌||◌, not, cond, List, [], ◌∷◌, length, Option, Some, None, is_some, option_map, refl, ap, sym, subst, ◌∙◌, add-one}
 use Rattle.std.specs.List.{filter}
 use Rattle.std.specs.Prelude.{ℤ}
-use Rattle.std.proofs.lemmas.Bool.{eqb-true, eq-eqb}
+use Rattle.std.proofs.lemmas.Bool.{eqb-true, eq-eqb, or_parts}
 use Rattle.exec_journal.specs.declared.plan.Plan.{Plan}
 use Rattle.exec_journal.specs.declared.attempt.Attempt.{Attempt}
 use Rattle.exec_journal.specs.declared.ends.Cause.{Cause}
 use Rattle.exec_journal.specs.declared.journal.Entry.{Entry}
+use Rattle.exec_journal.specs.declared.call.Call.{Call}
 use Rattle.exec_journal.specs.declared.call.Call.TheVariants as call
 use Rattle.exec_journal.specs.declared.reply.Reply.TheVariants as reply
 use Rattle.exec_journal.specs.History.{or_else, and_more}
-use Rattle.exec_journal.specs.Entries.{Request, same_attempt}
-use Rattle.exec_journal.specs.Words.{launch_of, started, has_ended, was_killed, sends, was_sent, answered, wrote, says_unwritten, says_feed_fault, is_pending, pending, line_cause, granted}
+use Rattle.exec_journal.specs.Entries.{Request, same_attempt, is_for, send_in}
+use Rattle.exec_journal.specs.Words.{launch_of, started, has_ended, was_killed, sends, was_sent, answered, wrote, wrote_if, order_of, is_pending, pending, line_cause}
 use Rattle.exec_journal.specs.Attempts.{line_of, fault_of, lost_cause, over, ended}
-use Rattle.exec_journal.specs.Settled.{wanted, still_bound, if_bound, bound}
+use Rattle.exec_journal.specs.Settled.{wanted, if_bound, bound}
 use Rattle.exec_journal.specs.Facts.{SameActions}
 use Rattle.exec_journal.proofs.Begins.{same_attempt_eq, same_attempt_refl, bound_is}
 use Rattle.exec_journal.proofs.Quiet.{ended_same, wanted_same}
@@ -21,8 +22,23 @@ use Rattle.exec_journal.proofs.Ruled.{by_bool}
 use Rattle.worker_pool.specs.Rows.{Facts, change, set_unbound, one_more}
 use Rattle.worker_pool.specs.Stands.{Stands, row_of}
 use Rattle.worker_pool.specs.Entries.{IsSentTo}
+use Rattle.worker_pool.proofs.Bound.{another}
 use Rattle.worker_pool.proofs.Kept.{more_row, one_changes, twice_changes, row_by}
 use Rattle.worker_pool.proofs.Words.{same_actions, granted_same, launch_same}
+
+-- ---- what wasn't sent has no Wrote
+
+unsent_write : (t : Attempt) (c : Call) (o : Option Request) → is_for t (option_map (λ q. q.attempt) o) ≡ false → wrote_if t c o ≡ None
+unsent_write t (call.Wrote k n how) None h = refl
+unsent_write t (call.Wrote k n how) (Some q) h = rw h refl
+unsent_write t _ o h = refl
+
+unwritten : (j : List Entry) (t : Attempt) → was_sent j t ≡ false → wrote j t ≡ None
+unfolding wrote was_sent
+unwritten [] t h = refl
+unwritten (e ∷ j) t h =
+    let before = (or_parts (is_for t (option_map (λ q. q.attempt) (send_in e.reply))) (was_sent j t) h).1 in
+    rw (unsent_write t e.call (order_of j e.lane) (another j e.lane t (order_of j e.lane) refl before)) (unwritten j t before)
 
 module _ (p : Plan) (f : Facts) (j : List Entry) (lane l : ℕ) (n : ℤ) (t : Attempt) (s : Stands p f j) (to : IsSentTo j t l) where
   abbrev pub send_entry : Entry
@@ -35,7 +51,7 @@ module _ (p : Plan) (f : Facts) (j : List Entry) (lane l : ℕ) (n : ℤ) (t : A
 
   request_pending : is_pending j request ≡ true
   unfolding is_pending
-  request_pending = rw (to.unanswered, to.unwritten, to.unended) refl
+  request_pending = let none = unwritten j t to.unsent in rw (to.unanswered, none, to.unended) refl
 
   one_more_pending : (b : Bool) (qs : List Request) → cond b (length (filter (is_pending j) qs) + 1) (length (filter (is_pending j) qs)) ≡ length (filter (is_pending j) (and_more (cond b (Some request) None) qs))
   one_more_pending true qs = rw request_pending (add-one (length (filter (is_pending j) qs)))

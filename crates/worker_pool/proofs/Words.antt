@@ -1,5 +1,5 @@
 -- What an entry leaves of the words on lines and actions.
-use Rattle.std.proofs.Common.{◌≡◌, ℕ, ◌+◌, ◌/◌, ◌==◌, Bool, true, false, ◌&&◌, ◌||◌, not, cond, List, [], ◌∷◌, length, Option, Some, None, is_some, option_map, refl, ap, sym, subst, ◌∙◌}
+use Rattle.std.proofs.Common.{◌≡◌, ℕ, ◌/◌, ◌==◌, Bool, true, false, ◌&&◌, ◌||◌, not, cond, List, [], ◌∷◌, Option, Some, None, is_some, refl, ap, ◌∙◌}
 use Rattle.std.specs.List.{filter}
 use Rattle.std.proofs.lemmas.Bool.{and_parts}
 use Rattle.exec_journal.specs.declared.plan.Branch.{Branch}
@@ -15,10 +15,9 @@ use Rattle.exec_journal.specs.declared.call.Written.TheVariants as write
 use Rattle.exec_journal.specs.declared.reply.Reply.{Reply}
 use Rattle.exec_journal.specs.declared.reply.Reply.TheVariants as reply
 use Rattle.exec_journal.specs.History.{or_else, unless_before}
-use Rattle.exec_journal.specs.Entries.{Request, is_for, launch_in, send_in, consumed_in, granted_in, committed_in, refused_in, launch_of_entry, starts, ends, kills}
-use Rattle.exec_journal.specs.Words.{line_count, launch_of, last_line, started, has_ended, was_killed, sends, sent_on, was_sent, answered, wrote, wrote_at, wrote_if, says_unwritten, says_feed_fault, is_pending, pending, line_cause, break_at, break_by, order_of, last_work, grant_of, granted, commit_of}
+use Rattle.exec_journal.specs.Entries.{Request, launch_in, send_in, consumed_in, granted_in, committed_in, starts, ends, kills}
+use Rattle.exec_journal.specs.Words.{line_count, launch_of, last_line, started, has_ended, was_killed, sends, sent_on, was_sent, answered, wrote, wrote_at, wrote_if, says_unwritten, says_feed_fault, is_pending, pending, line_cause, break_by, order_of, last_work, grant_of, granted, commit_of}
 use Rattle.exec_journal.specs.Attempts.{carrier_in, line_of, fault_of, fault_at, fault_by, lost_cause, over, ended}
-use Rattle.exec_journal.specs.Settled.{bound}
 use Rattle.exec_journal.specs.Facts.{SameActions}
 use Rattle.exec_journal.proofs.Quiet.{ended_same, bound_same}
 use Rattle.worker_pool.specs.Entries.{is_aside_call, is_aside_reply, is_aside, ends_nothing, Unbinds}

@@ -1,5 +1,5 @@
 -- What the laws ask of a journal and its next entry.
-use Rattle.std.specs.Prelude.{◌≡◌, ℕ, ◌/◌, ◌<◌, ◌==◌, Bool, true, false, ◌&&◌, ◌||◌, not, Option, Some, None, is_some, option_map, if◌then◌else◌, List, [], ◌∷◌, length, filter}
+use Rattle.std.specs.Prelude.{◌≡◌, ℕ, ◌==◌, Bool, true, false, ◌&&◌, ◌||◌, not, Some, None, is_some, if◌then◌else◌, List, [], ◌∷◌, length, filter}
 use Rattle.exec_journal.specs.declared.plan.Branch.{Branch}
 use Rattle.exec_journal.specs.declared.plan.Plan.{Plan}
 use Rattle.exec_journal.specs.declared.attempt.Attempt.{Attempt}
@@ -10,7 +10,7 @@ use Rattle.exec_journal.specs.declared.call.Written.TheVariants as write
 use Rattle.exec_journal.specs.declared.reply.Reply.{Reply}
 use Rattle.exec_journal.specs.declared.reply.Reply.TheVariants as reply
 use Rattle.exec_journal.specs.Entries.{Request, same_attempt, is_done}
-use Rattle.exec_journal.specs.Words.{launch_of, has_ended, answered, wrote, pending, order_of, granted}
+use Rattle.exec_journal.specs.Words.{launch_of, has_ended, was_sent, answered, wrote, pending, order_of, granted}
 use Rattle.exec_journal.specs.Attempts.{line_of, ended}
 use Rattle.exec_journal.specs.Settled.{wanted, bound}
 use Rattle.exec_journal.specs.Facts.{begun}
@@ -97,7 +97,7 @@ pub record IsFirstWrite (j : List Entry) (lane : ℕ) (q : Request) : Type 0 whe
 -- a request is sent once, to a line that hasn't ended, and where its attempt was launched, to the line on which it was
 pub record IsSentTo (j : List Entry) (t : Attempt) (l : ℕ) : Type 0 where
   pub unended : has_ended j l ≡ false
+  pub unsent : was_sent j t ≡ false
   pub unanswered : answered j t ≡ false
-  pub unwritten : wrote j t ≡ None
   pub carrier : (m : ℕ) → line_of j t ≡ Some m → m ≡ l
   pub launched : (lane m : ℕ) → launch_of j m ≡ Some (lane, t) → m ≡ l

@@ -1,5 +1,5 @@
 //! How the table follows a journal. The functions do nothing: each is a law, for those who keep a table of a journal.
-ghost use Rattle.std.specs.Prelude.{◌≡◌, ◌/◌, ◌<◌, ◌==◌, length, is_some, true, false, Some, None, ℕ, ℤ, List, [], ◌∷◌};
+ghost use Rattle.std.specs.Prelude.{◌≡◌, ◌*◌, ◌/◌, ◌<◌, ◌==◌, length, is_some, true, false, Some, None, ℕ, ℤ, List, [], ◌∷◌};
 ghost use Rattle.exec_journal.specs.declared.attempt.Attempt.{Attempt};
 ghost use Rattle.exec_journal.specs.declared.call.Answer.{Answer};
 ghost use Rattle.exec_journal.specs.declared.call.Call.TheVariants as call;
@@ -106,4 +106,13 @@ pub fn entries_unbind()
     ensures end { (p : Plan) (j : List Entry) (lane l : ℕ) (how : HowEnded) → WantedStays p j (record { lane = lane; call = call.Ended l how; reply = reply.Noted }) → CarriesItsBound p j → Unbinds p j (record { lane = lane; call = call.Ended l how; reply = reply.Noted }) (l ∷ []) }
     ensures fault { (p : Plan) (j : List Entry) (e : Entry) (ls : List ℕ) → is_aside e ≡ true → granted_in e.call e.reply ≡ None → WantedStays p j e → ((l : ℕ) (t : Attempt) → bound p j l ≡ Some t → is_some (fault_at t j e) ≡ is_among l ls) → Unbinds p j e ls }
     ensures write { (p : Plan) (j : List Entry) (lane l : ℕ) (n : ℤ) (how : Written) → WantedStays p j (record { lane = lane; call = call.Wrote l n how; reply = reply.Noted }) → Unbinds p j (record { lane = lane; call = call.Wrote l n how; reply = reply.Noted }) [] }
+{}
+
+/// Where the journal says so, a call's condition is met.
+pub fn calls_are_met()
+    ensures berth { (p : Plan) (f : Facts) (j : List Entry) (w : ℕ) → Stands p f j → w < berths p → w < length f.seats }
+    ensures line { (p : Plan) (f : Facts) (j : List Entry) (l lane : ℕ) (t : Attempt) → Stands p f j → launch_of j l ≡ Some (lane, t) → l < length f.lines }
+    ensures launch { (p : Plan) (f : Facts) (j : List Entry) → Stands p f j → line_count j < 2 * length p.actions * p.limit → length f.lines < f.room }
+    ensures sent { (p : Plan) (f : Facts) (j : List Entry) (l lane : ℕ) (t : Attempt) → Stands p f j → launch_of j l ≡ Some (lane, t) → length (pending j l) < capacity (kind_of p (lane / 2)) → pending_of f l < capacity_of f l }
+    ensures freed { (p : Plan) (f : Facts) (j : List Entry) (l lane : ℕ) (t u : Attempt) → Stands p f j → launch_of j l ≡ Some (lane, t) → IsPendingOn j u l → 0 < pending_of f l }
 {}
