@@ -43,14 +43,14 @@ uncarried (reply.Launch l a b m) t h = rw h refl
 uncarried (reply.Send l n a b m) t h = rw h refl
 uncarried _ t h = refl
 
-never_sent : (j : List Entry) (t : Attempt) → begun j t ≡ false → was_sent j t ≡ false
+pub never_sent : (j : List Entry) (t : Attempt) → begun j t ≡ false → was_sent j t ≡ false
 unfolding begun was_sent
 never_sent [] t h = refl
 never_sent (e ∷ j) t h =
     let parts = or_parts (is_for t (begun_in e.reply)) (begun j t) h in
     rw (unsent e.reply t parts.0) (never_sent j t parts.1)
 
-never_carried : (j : List Entry) (t : Attempt) → begun j t ≡ false → line_of j t ≡ None
+pub never_carried : (j : List Entry) (t : Attempt) → begun j t ≡ false → line_of j t ≡ None
 unfolding begun line_of
 never_carried [] t h = refl
 never_carried (e ∷ j) t h =

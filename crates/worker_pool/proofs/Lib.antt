@@ -5,6 +5,7 @@ pub mod Kept
 pub mod Launched
 pub mod Lives
 pub mod New
+pub mod Once
 pub mod Sent
 pub mod Updates
 pub mod Words

@@ -1,5 +1,5 @@
 //! How the table follows a journal. The functions do nothing: each is a law, for those who keep a table of a journal.
-ghost use Rattle.std.specs.Prelude.{◌≡◌, ◌*◌, ◌/◌, ◌<◌, ◌==◌, length, is_some, true, false, Some, None, ℕ, ℤ, List, [], ◌∷◌};
+ghost use Rattle.std.specs.Prelude.{◌≡◌, ◌*◌, ◌/◌, ◌<◌, ◌==◌, length, slice_get, is_some, true, false, Some, None, ℕ, ℤ, List, [], ◌∷◌};
 ghost use Rattle.exec_journal.specs.declared.attempt.Attempt.{Attempt};
 ghost use Rattle.exec_journal.specs.declared.call.Answer.{Answer};
 ghost use Rattle.exec_journal.specs.declared.call.Call.TheVariants as call;
@@ -15,10 +15,10 @@ ghost use Rattle.exec_journal.specs.declared.reply.BreachWhy.{BreachWhy};
 ghost use Rattle.exec_journal.specs.declared.reply.Reply.{Reply};
 ghost use Rattle.exec_journal.specs.declared.reply.Reply.TheVariants as reply;
 ghost use Rattle.exec_journal.specs.Entries.{Request, consumed_in, granted_in, is_unwritten};
-ghost use Rattle.exec_journal.specs.Words.{answered, line_count, last_line, launch_of, pending};
+ghost use Rattle.exec_journal.specs.Words.{answered, has_ended, is_pending, last_line, launch_of, line_count, pending, sends};
 ghost use Rattle.exec_journal.specs.Settled.{bound, berths, kind_of, capacity, free_places};
-ghost use Rattle.exec_journal.specs.Attempts.{fault_at};
-ghost use Rattle.exec_journal.specs.Facts.{SameActions, IsFresh, NameTheirLines};
+ghost use Rattle.exec_journal.specs.Attempts.{fault_at, line_of};
+ghost use Rattle.exec_journal.specs.Facts.{SameActions, IsFresh, Begins, BeginInOrder, NameTheirLines};
 ghost use Rattle.worker_pool.specs.Entries.{is_aside, ends_nothing, is_among, Unbinds, WantedStays, CarriesItsBound, IsPendingOn, IsPendingNowhere, IsFirstWrite, IsSentTo, IsNew};
 ghost use Rattle.worker_pool.specs.Rows.{Facts, change, set_started, set_broken, set_ended, set_killed, set_unbound, one_more, one_fewer, with_unbound, with_launch, last_of, live_of, free_of, pending_of, capacity_of};
 ghost use Rattle.worker_pool.specs.Stands.{Stands, live_in};
@@ -115,4 +115,13 @@ pub fn calls_are_met()
     ensures launch { (p : Plan) (f : Facts) (j : List Entry) → Stands p f j → line_count j < 2 * length p.actions * p.limit → length f.lines < f.room }
     ensures sent { (p : Plan) (f : Facts) (j : List Entry) (l lane : ℕ) (t : Attempt) → Stands p f j → launch_of j l ≡ Some (lane, t) → length (pending j l) < capacity (kind_of p (lane / 2)) → pending_of f l < capacity_of f l }
     ensures freed { (p : Plan) (f : Facts) (j : List Entry) (l lane : ℕ) (t u : Attempt) → Stands p f j → launch_of j l ≡ Some (lane, t) → IsPendingOn j u l → 0 < pending_of f l }
+{}
+
+/// Where attempts begin in order, as in each legal journal, a request is the only one of its attempt; so it alone can be
+/// pending, and what is bound to a line or sent to it has no other line.
+pub fn attempts_are_sent_once()
+    ensures pending { (j : List Entry) (l i : ℕ) (q : Request) → BeginInOrder j → slice_get (sends j l) i ≡ Some q → is_pending j q ≡ true → IsPendingOn j q.attempt l }
+    ensures nowhere { (j : List Entry) (l i : ℕ) (q : Request) → BeginInOrder j → slice_get (sends j l) i ≡ Some q → is_pending j q ≡ false → IsPendingNowhere j q.attempt }
+    ensures sent { (j : List Entry) (q : Request) → BeginInOrder j → Begins j None (Some q) → has_ended j q.line ≡ false → answered j q.attempt ≡ false → IsSentTo j q.attempt q.line }
+    ensures carrier { (p : Plan) (j : List Entry) (l : ℕ) (t : Attempt) → BeginInOrder j → bound p j l ≡ Some t → line_of j t ≡ Some l }
 {}
