@@ -9,3 +9,4 @@ pub mod Once
 pub mod Sent
 pub mod Updates
 pub mod Words
+pub mod Worked
