@@ -20,9 +20,9 @@ use Rattle.exec_journal.specs.Settled.{wanted, still_bound, if_bound, bound}
 use Rattle.exec_journal.proofs.Begins.{same_attempt_eq, same_attempt_refl, bound_is, wanted_is}
 use Rattle.exec_journal.proofs.Quiet.{end_settles, ended_stays}
 use Rattle.exec_journal.proofs.Ruled.{by_bool}
-use Rattle.worker_pool.specs.Entries.{is_aside, is_among, Unbinds, WantedStays, CarriesItsBound}
+use Rattle.worker_pool.specs.Entries.{is_aside, is_among, WantedStays, CarriesItsBound, AreOfAction, AreFaulted}
 use Rattle.worker_pool.proofs.Lives.{ended_broke, first_stays}
-use Rattle.worker_pool.proofs.Words.{launch_same, sent_same, granted_same, over_same, by_reply, aside_launch, aside_send, aside_carrier, aside_ended, aside_answered, aside_feed, aside_cause}
+use Rattle.worker_pool.proofs.Words.{Unbinds, launch_same, sent_same, granted_same, over_same, by_reply, aside_launch, aside_send, aside_carrier, aside_ended, aside_answered, aside_feed, aside_cause}
 
 -- ---- an attempt that is under way
 
@@ -165,13 +165,13 @@ module _ (p : Plan) (j : List Entry) (lane a n : ℕ) (b : Branch) (found : Foun
   unfolding granted grant_of
   granted_here c h = now_granted (grant_of j c) (a == c) (attempt_of a b n, found) h
 
-  pub grants_unbind : (ls : List ℕ) → WantedStays p j grant_entry → ((l : ℕ) (t : Attempt) → bound p j l ≡ Some t → is_among l ls ≡ (a == t.action)) → Unbinds p j grant_entry ls
+  pub grants_unbind : (ls : List ℕ) → WantedStays p j grant_entry → AreOfAction p j a ls → Unbinds p j grant_entry ls
   unfolding fault_of line_of has_ended answered wrote line_cause
   grants_unbind ls stays these =
       unbinds_by p j grant_entry stays refl refl ls (λ l t w.
       let over_too : over (grant_entry ∷ j) t ≡ None = not_over j t w.going w.ungranted in
       (λ i. granted_here t.action w.ungranted i || still_going grant_entry j t w.going over_too i)
-      ∙ or_none (a == t.action) ∙ sym (these l t w.bound_yet))
+      ∙ or_none (a == t.action) ∙ sym (these.each l t w.bound_yet))
     where
       or_none : (x : Bool) → (x || false) ≡ x
       or_none true = refl
@@ -203,10 +203,10 @@ module _ (p : Plan) (j : List Entry) (e : Entry) (aside : is_aside e ≡ true) (
       (over_same e j t (none_is (fault_at t j e) h) (aside_carrier t e.reply (by_reply e j aside)) (aside_ended e j aside) (aside_answered e j aside t) (aside_feed e j aside t) (λ l g. aside_cause e j aside l)
       ∙ not_over j t going open_yet)
 
-  pub faults_unbind : (ls : List ℕ) → ((l : ℕ) (t : Attempt) → bound p j l ≡ Some t → is_some (fault_at t j e) ≡ is_among l ls) → Unbinds p j e ls
+  pub faults_unbind : (ls : List ℕ) → AreFaulted p j e ls → Unbinds p j e ls
   faults_unbind ls these =
       unbinds_by p j e stays (aside_launch e.reply (by_reply e j aside)) (aside_send e.reply (by_reply e j aside)) ls (λ l t w.
-      (λ i. (granted_same e j t.action ungranted ∙ w.ungranted) i || faulted t w.going w.ungranted (is_among l ls) (these l t w.bound_yet) i))
+      (λ i. (granted_same e j t.action ungranted ∙ w.ungranted) i || faulted t w.going w.ungranted (is_among l ls) (sym (these.each l t w.bound_yet)) i))
 
 -- ---- a write
 

@@ -24,10 +24,10 @@ use Rattle.exec_journal.proofs.Quiet.{end_same}
 use Rattle.exec_journal.proofs.Ruled.{by_bool}
 use Rattle.worker_pool.specs.Rows.{Facts, change, set_broken, one_fewer}
 use Rattle.worker_pool.specs.Stands.{Stands}
-use Rattle.worker_pool.specs.Entries.{Unbinds, is_of, pending_of_attempt, IsPendingOn, IsPendingNowhere}
+use Rattle.worker_pool.specs.Entries.{is_of, pending_of_attempt, IsPendingOn, IsPendingNowhere}
 use Rattle.worker_pool.proofs.Kept.{broken_row, fewer_row, one_changes, none_changes, row_by}
 use Rattle.worker_pool.proofs.Lives.{broken_if, unended}
-use Rattle.worker_pool.proofs.Words.{none_both, same_actions, granted_same, unbinds_nothing, sends_same, filter_same, pending_same}
+use Rattle.worker_pool.proofs.Words.{Unbinds, none_both, same_actions, granted_same, unbinds_nothing, sends_same, filter_same, pending_same}
 
 -- ---- how many are left
 

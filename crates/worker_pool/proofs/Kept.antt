@@ -12,8 +12,8 @@ use Rattle.exec_journal.proofs.Updates.{get_update}
 use Rattle.worker_pool.specs.declared.Line.{Line}
 use Rattle.worker_pool.specs.Rows.{Facts, change, set_started, set_broken, set_ended, set_killed, set_unbound, one_more, one_fewer, with_unbound}
 use Rattle.worker_pool.specs.Stands.{Stands, row_of, line_in, seat_with, seat_in}
-use Rattle.worker_pool.specs.Entries.{is_among, is_aside, ends_nothing, Unbinds}
-use Rattle.worker_pool.proofs.Words.{launch_same, last_same, count_same, aside_launch, by_reply, aside_started, aside_ended, aside_killed, aside_cause, aside_pending, aside_unbinds, quiet_actions}
+use Rattle.worker_pool.specs.Entries.{is_among, is_aside, ends_nothing}
+use Rattle.worker_pool.proofs.Words.{Unbinds, launch_same, last_same, count_same, aside_launch, by_reply, aside_started, aside_ended, aside_killed, aside_cause, aside_pending, aside_unbinds, quiet_actions}
 
 length-update : {X : Type 0} (g : X → X) (xs : List X) (k : ℕ) → length (update g xs k) ≡ length xs
 length-update g [] k = refl

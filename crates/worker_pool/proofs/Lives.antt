@@ -27,9 +27,8 @@ use Rattle.exec_journal.proofs.Lines.{sends_line}
 use Rattle.exec_journal.proofs.Quiet.{ended_same}
 use Rattle.worker_pool.specs.Rows.{Facts, change, set_started, set_broken, set_ended, set_killed}
 use Rattle.worker_pool.specs.Stands.{Stands}
-use Rattle.worker_pool.specs.Entries.{Unbinds}
 use Rattle.worker_pool.proofs.Kept.{started_row, broken_row, ended_row, killed_row, one_changes, row_by}
-use Rattle.worker_pool.proofs.Words.{none_both, over_same, same_actions, granted_same, unbinds_nothing, pending_same, is_pending_same, unwritten_same, sends_same}
+use Rattle.worker_pool.proofs.Words.{Unbinds, none_both, over_same, same_actions, granted_same, unbinds_nothing, pending_same, is_pending_same, unwritten_same, sends_same}
 
 -- ---- breaks
 

@@ -18,9 +18,14 @@ use Rattle.exec_journal.specs.History.{or_else, unless_before}
 use Rattle.exec_journal.specs.Entries.{Request, launch_in, send_in, consumed_in, granted_in, committed_in, starts, ends, kills}
 use Rattle.exec_journal.specs.Words.{line_count, launch_of, last_line, started, has_ended, was_killed, sends, sent_on, was_sent, answered, wrote, wrote_at, wrote_if, says_unwritten, says_feed_fault, is_pending, pending, line_cause, break_by, order_of, last_work, grant_of, granted, commit_of}
 use Rattle.exec_journal.specs.Attempts.{carrier_in, line_of, fault_of, fault_at, fault_by, lost_cause, over, ended}
+use Rattle.exec_journal.specs.Settled.{bound}
 use Rattle.exec_journal.specs.Facts.{SameActions}
 use Rattle.exec_journal.proofs.Quiet.{ended_same, bound_same}
-use Rattle.worker_pool.specs.Entries.{is_aside_call, is_aside_reply, is_aside, ends_nothing, Unbinds}
+use Rattle.worker_pool.specs.Entries.{is_aside_call, is_aside_reply, is_aside, ends_nothing, is_among}
+
+-- with this entry nothing is bound to these lines any longer, and to each other line something is where it was before
+pub record Unbinds (p : Plan) (j : List Entry) (e : Entry) (ls : List ℕ) : Type 0 where
+  pub each : (l : ℕ) → is_some (bound p (e ∷ j) l) ≡ (not (is_among l ls) && is_some (bound p j l))
 
 pub none_both : {X : Type 0} (b : Bool) → ◌≡◌ {A = Option X} (cond b None None) None
 none_both true = refl

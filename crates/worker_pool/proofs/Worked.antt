@@ -1,5 +1,5 @@
 -- Worked journals: what the calls for their entries make of a new table is what the journal says.
-use Rattle.std.specs.Prelude.{◌≡◌, refl, false, ℕ, List, [], ◌∷◌, length, slice_get, pos}
+use Rattle.std.specs.Prelude.{◌≡◌, refl, false, ℕ, List, [], ◌∷◌, slice_get, pos}
 use Rattle.exec_journal.specs.declared.plan.Branch.TheVariants.{Local, Remote}
 use Rattle.exec_journal.specs.declared.plan.Kind.TheVariants as kind
 use Rattle.exec_journal.specs.declared.plan.Plan.{Plan}

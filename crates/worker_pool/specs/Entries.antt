@@ -11,9 +11,12 @@ use Rattle.exec_journal.specs.declared.reply.Reply.{Reply}
 use Rattle.exec_journal.specs.declared.reply.Reply.TheVariants as reply
 use Rattle.exec_journal.specs.Entries.{Request, same_attempt, is_done}
 use Rattle.exec_journal.specs.Words.{launch_of, has_ended, was_sent, answered, wrote, pending, order_of, granted}
-use Rattle.exec_journal.specs.Attempts.{line_of, ended}
+use Rattle.exec_journal.specs.Attempts.{line_of, fault_at, ended}
 use Rattle.exec_journal.specs.Settled.{wanted, bound}
 use Rattle.exec_journal.specs.Facts.{begun}
+
+abbrev pub entry : ℕ → Call → Reply → Entry
+entry lane c x = record { lane = lane; call = c; reply = x }
 
 -- ---- entries that say nothing of lines and requests
 
@@ -52,9 +55,13 @@ abbrev pub is_among : ℕ → List ℕ → Bool
 is_among l [] = false
 is_among l (k ∷ ks) = (k == l) || is_among l ks
 
--- with this entry nothing is bound to these lines any longer, and to each other line something is where it was before
-pub record Unbinds (p : Plan) (j : List Entry) (e : Entry) (ls : List ℕ) : Type 0 where
-  pub each : (l : ℕ) → is_some (bound p (e ∷ j) l) ≡ (not (is_among l ls) && is_some (bound p j l))
+-- of the lines to which something is bound, these are those to which a branch of the action is
+pub record AreOfAction (p : Plan) (j : List Entry) (a : ℕ) (ls : List ℕ) : Type 0 where
+  pub each : (l : ℕ) (t : Attempt) → bound p j l ≡ Some t → is_among l ls ≡ (a == t.action)
+
+-- of the lines to which something is bound, these are those where the entry says a fault of it
+pub record AreFaulted (p : Plan) (j : List Entry) (e : Entry) (ls : List ℕ) : Type 0 where
+  pub each : (l : ℕ) (t : Attempt) → bound p j l ≡ Some t → is_among l ls ≡ is_some (fault_at t j e)
 
 -- a branch that isn't wanted isn't wanted again, and one that is bound stays wanted until its action is granted or its attempt ends
 pub record WantedStays (p : Plan) (j : List Entry) (e : Entry) : Type 0 where

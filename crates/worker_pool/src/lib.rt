@@ -19,7 +19,9 @@ use wire_fields::NoMemory;
 pub struct Line {
     /// How many requests it has room for.
     pub capacity: u32,
+    /// It was launched with success.
     pub started: bool,
+    /// Nothing that it says counts any longer.
     pub broken: bool,
     pub ended: bool,
     pub killed: bool,
@@ -38,7 +40,8 @@ pub struct Berth {
     pub last: Option<u32>,
 }
 
-/// The lines and berths of a plan. Lines are numbered from 0 in the order of their launches, whatever their berth.
+/// The lines and berths of a plan. Lines are numbered from 0 in the order of their launches, whatever their berth. A
+/// contract sees what is known of each line and of each berth, and how many lines there may be.
 #[derive(Drop)]
 pub struct Pool {
     // Never fuller than its capacity, which is the room for all lines that a run may launch.
@@ -70,7 +73,8 @@ impl Pool {
         Ok(Pool { lines, berths })
     }
 
-    /// Makes the next line, the last of this berth, with a branch bound to it, and gives its number.
+    /// Makes the next line, the last of this berth, with a branch bound to it, and gives its number. Each attempt of each
+    /// branch may have a line of its own: there may be 2 × actions × limit of them.
     pub fn launch(&mut self, berth: u32) -> u32
         requires known { berth < length self.old.seats }
         requires room { length self.old.lines < self.old.room }

@@ -1,6 +1,6 @@
 use Rattle.std.proofs.Common.{arith}
 use Rattle.worker_pool.proofs.Answered.{seat_within, within, sent_fits, freed_fits}
-use Rattle.worker_pool.proofs.laws.calls_are_met.Goals as goal
+use Rattle.worker_pool.proofs.laws.calls_may_be_made.Goals as goal
 
 pub returns-clause-berth : goal.returns-clause-berth
 returns-clause-berth c = λ p f j w s known. seat_within p f j s w known
