@@ -15,6 +15,7 @@ use Rattle.exec_journal.specs.Attempts.{line_of, fault_at, ended}
 use Rattle.exec_journal.specs.Settled.{wanted, bound}
 use Rattle.exec_journal.specs.Facts.{begun}
 
+-- the lane's entry with this call and reply
 abbrev pub entry : ℕ → Call → Reply → Entry
 entry lane c x = record { lane = lane; call = c; reply = x }
 
@@ -68,7 +69,7 @@ pub record WantedStays (p : Plan) (j : List Entry) (e : Entry) : Type 0 where
   pub unwanted : (a : ℕ) (b : Branch) → wanted p j a b ≡ false → wanted p (e ∷ j) a b ≡ false
   pub bound_yet : (l : ℕ) (t : Attempt) → bound p j l ≡ Some t → granted (e ∷ j) t.action ≡ false → ended (e ∷ j) t ≡ false → wanted p (e ∷ j) t.action t.branch ≡ true
 
--- what is bound to a line was launched on no later one, and isn't answered
+-- each line carries what is bound to it, which isn't answered
 pub record CarriesItsBound (p : Plan) (j : List Entry) : Type 0 where
   pub carrier : (l : ℕ) (t : Attempt) → bound p j l ≡ Some t → line_of j t ≡ Some l
   pub unanswered : (l : ℕ) (t : Attempt) → bound p j l ≡ Some t → answered j t ≡ false
