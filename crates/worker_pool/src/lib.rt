@@ -98,7 +98,7 @@ impl Pool {
         row.started = true;
     }
 
-    /// The line broke, though it hasn't ended.
+    /// The line broke, otherwise than by its end.
     pub fn broke(&mut self, line: u32)
         requires { line < length self.old.lines }
         ensures { self.new ≡ change self.old line set_broken }
