@@ -1,0 +1,12 @@
+pub mod Answered
+pub mod Bound
+pub mod Freed
+pub mod Kept
+pub mod Launched
+pub mod Lives
+pub mod New
+pub mod Once
+pub mod Sent
+pub mod Updates
+pub mod Words
+pub mod Worked

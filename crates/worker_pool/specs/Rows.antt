@@ -1,0 +1,117 @@
+-- What the table keeps of lines and berths, and what a call makes of it.
+use Rattle.std.specs.Prelude.{ℕ, ◌+◌, ◌-◌, ◌*◌, Bool, true, false, ◌&&◌, not, Option, Some, None, unwrap_or, option_map, option_and_then, if◌then◌else◌, List, [], ◌∷◌, ◌++◌, length, slice_get, replicate}
+use Rattle.exec_journal.specs.declared.plan.Group.{Group}
+use Rattle.exec_journal.specs.declared.plan.Kind.{Kind}
+use Rattle.exec_journal.specs.declared.plan.Plan.{Plan}
+use Rattle.exec_journal.specs.Settled.{capacity}
+use Rattle.exec_journal.specs.Tallies.{update}
+use Rattle.worker_pool.specs.declared.Berth.{Berth}
+use Rattle.worker_pool.specs.declared.Line.{Line}
+
+pub record Facts : Type 0 where
+  -- of each line, in the order of their numbers
+  pub lines : List Line
+  -- of each berth
+  pub seats : List Berth
+  -- how many lines there may be
+  pub room : ℕ
+
+-- ---- a new table
+
+abbrev pub empty_berth : Kind → Berth
+empty_berth k = record { capacity = capacity k; last = None }
+
+-- berths are numbered group by group
+abbrev pub empty_berths : List Group → List Berth
+empty_berths [] = []
+empty_berths (g ∷ gs) = replicate g.berths (empty_berth g.kind) ++ empty_berths gs
+
+-- each attempt of each branch may have a line of its own
+abbrev pub room_of : Plan → ℕ
+room_of p = 2 * length p.actions * p.limit
+
+abbrev pub new_facts : Plan → Facts
+new_facts p = record { lines = []; seats = empty_berths p.groups; room = room_of p }
+
+-- ---- a new line
+
+abbrev pub new_line : ℕ → Line
+new_line c = record { capacity = c; started = false; broken = false; ended = false; killed = false; bound = true; pending = 0 }
+
+abbrev pub set_last : ℕ → Berth → Berth
+set_last l x = record { capacity = x.capacity; last = Some l }
+
+-- how many requests a line of the berth has room for
+abbrev pub seat_capacity : Facts → ℕ → ℕ
+seat_capacity f w = unwrap_or (option_map (λ x. x.capacity) (slice_get f.seats w)) 0
+
+-- the next line, which is the berth's last, with a bound branch
+abbrev pub with_launch : Facts → ℕ → Facts
+with_launch f w = record {
+  lines = f.lines ++ new_line (seat_capacity f w) ∷ [];
+  seats = update (set_last (length f.lines)) f.seats w;
+  room = f.room;
+}
+
+-- ---- one line changes
+
+abbrev pub change : Facts → ℕ → (Line → Line) → Facts
+change f l g = record { lines = update g f.lines l; seats = f.seats; room = f.room }
+
+abbrev pub set_started : Line → Line
+set_started x = record x { started = true }
+
+abbrev pub set_broken : Line → Line
+set_broken x = record x { broken = true }
+
+-- a line that has Ended broke, and nothing is pending on it or bound to it
+abbrev pub set_ended : Line → Line
+set_ended x = record x { broken = true; ended = true; bound = false; pending = 0 }
+
+abbrev pub set_killed : Line → Line
+set_killed x = record x { killed = true }
+
+abbrev pub set_unbound : Line → Line
+set_unbound x = record x { bound = false }
+
+-- one pending request more
+abbrev pub one_more : Line → Line
+one_more x = record x { pending = x.pending + 1 }
+
+-- one fewer
+abbrev pub one_fewer : Line → Line
+one_fewer x = record x { pending = x.pending - 1 }
+
+-- nothing is bound to these lines any longer
+abbrev pub with_unbound : Facts → List ℕ → Facts
+with_unbound f [] = f
+with_unbound f (l ∷ ls) = with_unbound (change f l set_unbound) ls
+
+-- ---- what is read
+
+abbrev pub pending_of : Facts → ℕ → ℕ
+pending_of f l = unwrap_or (option_map (λ x. x.pending) (slice_get f.lines l)) 0
+
+abbrev pub capacity_of : Facts → ℕ → ℕ
+capacity_of f l = unwrap_or (option_map (λ x. x.capacity) (slice_get f.lines l)) 0
+
+-- the berth's last line
+abbrev pub last_of : Facts → ℕ → Option ℕ
+last_of f w = option_and_then (λ x. x.last) (slice_get f.seats w)
+
+abbrev pub is_live_row : Line → Bool
+is_live_row x = x.started && (not x.broken && not x.killed)
+
+abbrev pub if_live : Facts → ℕ → Option ℕ
+if_live f l = option_and_then (λ x. if is_live_row x then Some l else None) (slice_get f.lines l)
+
+-- the berth's last line, where it is live
+abbrev pub live_of : Facts → ℕ → Option ℕ
+live_of f w = option_and_then (if_live f) (last_of f w)
+
+-- the capacity less the pending requests and the bound branch
+abbrev pub free_in : Line → ℕ
+free_in x = x.capacity - (x.pending + (if x.bound then 1 else 0))
+
+abbrev pub free_of : Facts → ℕ → ℕ
+free_of f l = unwrap_or (option_map free_in (slice_get f.lines l)) 0

@@ -1,0 +1,254 @@
+//! The lines of each berth: which of them is live, and how many places it has free.
+#![tactic(auto)]
+
+ghost use Rattle.std.specs.Prelude.{◌≡◌, ◌<◌, ◌≤◌, IfOk, [], Some, length, slice_get, sum_by};
+ghost use Rattle.exec_journal.specs.Settled.{capacity};
+ghost use Rattle.exec_journal.specs.Sound.{Sound};
+ghost use Rattle.worker_pool.specs.Rows.{new_facts, empty_berths, new_line, with_launch, change, set_started, set_broken, set_ended, set_killed, set_unbound, one_more, one_fewer, pending_of, capacity_of, last_of, is_live_row, live_of, free_in, free_of};
+ghost use Rattle.worker_pool.specs.Stands.{Stands};
+
+pub mod laws;
+
+use exec_journal::{Group, Kind, Plan};
+use std::alloc::Global;
+use std::marker::Model;
+use wire_fields::NoMemory;
+
+/// What is known of a line.
+#[derive(Clone, Copy, Debug, PartialEq, Eq)]
+pub struct Line {
+    /// How many requests it has room for.
+    pub capacity: u32,
+    /// It was launched with success.
+    pub started: bool,
+    /// Nothing that it says counts any longer.
+    pub broken: bool,
+    pub ended: bool,
+    pub killed: bool,
+    /// A branch is bound to it, which takes one of its places.
+    pub bound: bool,
+    /// How many requests are pending on it.
+    pub pending: u32,
+}
+
+/// What is known of a berth.
+#[derive(Clone, Copy, Debug, PartialEq, Eq)]
+pub struct Berth {
+    /// How many requests a line of it has room for.
+    pub capacity: u32,
+    /// Its last line.
+    pub last: Option<u32>,
+}
+
+/// The lines and berths of a plan. Lines are numbered from 0 in the order of their launches, whatever their berth. A
+/// contract sees what is known of each line and of each berth, and how many lines there may be.
+#[derive(Drop)]
+pub struct Pool {
+    // Never fuller than its capacity, which is the room for all lines that a run may launch.
+    lines: Vec<Line>,
+    berths: Vec<Berth>,
+}
+
+impl Model for Pool {
+    ghost use Rattle.std.specs.Prelude.{◌<◌, ◌^◌, vec_capacity};
+    ghost use Rattle.worker_pool.specs.Rows.{Facts};
+
+    ghost Value = { Facts };
+
+    ghost view = { λ a. record { lines = a.lines.items; seats = a.berths.items; room = vec_capacity a.lines } };
+
+    ghost invariant = { λ a. vec_capacity a.lines < 2 ^ 32 };
+}
+
+impl Pool {
+    /// The table of a run in which nothing was launched yet. It makes the room for all lines that the run may launch.
+    pub fn new(alloc: Global, plan: &Plan) -> Result<Pool, NoMemory>
+        requires { Sound plan.now }
+        ensures facts { IfOk result (λ t. t ≡ new_facts plan.now) }
+        ensures stands { IfOk result (λ t. Stands plan.now t []) }
+    {
+        let berths = berths_of(alloc, plan.groups.as_slice())?;
+        let room = 2 * plan.actions.as_slice().len() * plan.limit as usize;
+        let lines = Vec::with_capacity(alloc, room)?;
+        Ok(Pool { lines, berths })
+    }
+
+    /// Makes the next line, the last of this berth, with a branch bound to it, and gives its number. Each attempt of each
+    /// branch may have a line of its own: there may be 2 × actions × limit of them.
+    pub fn launch(&mut self, berth: u32) -> u32
+        requires known { berth < length self.old.seats }
+        requires room { length self.old.lines < self.old.room }
+        ensures line { result ≡ length self.old.lines }
+        ensures facts { self.new ≡ with_launch self.old berth }
+    {
+        let line = self.lines.len() as u32;
+        let seat = &mut self.berths[berth as usize];
+        seat.last = Some(line);
+        let row = Line::new(seat.capacity);
+        self.lines.push_reserved(row);
+        line
+    }
+
+    /// The line was launched with success.
+    pub fn started(&mut self, line: u32)
+        requires { line < length self.old.lines }
+        ensures { self.new ≡ change self.old line set_started }
+    {
+        let row = &mut self.lines[line as usize];
+        row.started = true;
+    }
+
+    /// The line broke, otherwise than by its end.
+    pub fn broke(&mut self, line: u32)
+        requires { line < length self.old.lines }
+        ensures { self.new ≡ change self.old line set_broken }
+    {
+        let row = &mut self.lines[line as usize];
+        row.broken = true;
+    }
+
+    /// The line has ended. So it broke, its pending requests are pending no longer, and nothing is bound to it.
+    pub fn ended(&mut self, line: u32)
+        requires { line < length self.old.lines }
+        ensures { self.new ≡ change self.old line set_ended }
+    {
+        let row = &mut self.lines[line as usize];
+        row.broken = true;
+        row.ended = true;
+        row.bound = false;
+        row.pending = 0;
+    }
+
+    /// The line was killed.
+    pub fn killed(&mut self, line: u32)
+        requires { line < length self.old.lines }
+        ensures { self.new ≡ change self.old line set_killed }
+    {
+        let row = &mut self.lines[line as usize];
+        row.killed = true;
+    }
+
+    /// The branch that the line's launch bound is bound no longer.
+    pub fn unbound(&mut self, line: u32)
+        requires { line < length self.old.lines }
+        ensures { self.new ≡ change self.old line set_unbound }
+    {
+        let row = &mut self.lines[line as usize];
+        row.bound = false;
+    }
+
+    /// One request more is pending on the line.
+    pub fn sent(&mut self, line: u32)
+        requires known { line < length self.old.lines }
+        requires place { pending_of self.old line < capacity_of self.old line }
+        ensures { self.new ≡ change self.old line one_more }
+    {
+        let row = &mut self.lines[line as usize];
+        prove!(row.pending < row.capacity);
+        row.pending += 1;
+    }
+
+    /// One request fewer is pending on the line.
+    pub fn freed(&mut self, line: u32)
+        requires known { line < length self.old.lines }
+        requires pending { 0 < pending_of self.old line }
+        ensures { self.new ≡ change self.old line one_fewer }
+    {
+        let row = &mut self.lines[line as usize];
+        row.pending -= 1;
+    }
+
+    /// The berth's last line, where it is live.
+    pub fn live(&self, berth: u32) -> Option<u32>
+        requires { berth < length self.now.seats }
+        ensures { result ≡ live_of self.now berth }
+    {
+        let line = self.last_line(berth)?;
+        let row = self.lines.get(line as usize)?;
+        row.is_live().then_some(line)
+    }
+
+    /// How many more requests the line has room for, the bound branch taken as one.
+    pub fn free_places(&self, line: u32) -> u32
+        requires { line < length self.now.lines }
+        ensures { result ≡ free_of self.now line }
+    {
+        self.lines[line as usize].free_places()
+    }
+
+    /// The berth's last line, live or not.
+    pub fn last_line(&self, berth: u32) -> Option<u32>
+        requires { berth < length self.now.seats }
+        ensures { result ≡ last_of self.now berth }
+    {
+        self.berths[berth as usize].last
+    }
+
+    /// All that is known of the line.
+    pub fn line(&self, line: u32) -> Line
+        requires { line < length self.now.lines }
+        ensures { slice_get self.now.lines line ≡ Some result }
+    {
+        self.lines[line as usize]
+    }
+}
+
+impl Line {
+    fn new(capacity: u32) -> Line
+        ensures { result ≡ new_line capacity }
+    {
+        Line {
+            capacity,
+            started: false,
+            broken: false,
+            ended: false,
+            killed: false,
+            bound: true,
+            pending: 0,
+        }
+    }
+
+    fn is_live(&self) -> bool
+        ensures { result ≡ is_live_row self.now }
+    {
+        self.started && !self.broken && !self.killed
+    }
+
+    // More may be taken than there are places: a branch is bound to a full line too.
+    fn free_places(&self) -> u32
+        ensures { result ≡ free_in self.now }
+    {
+        self.capacity
+            .saturating_sub(self.pending)
+            .saturating_sub(u32::from(self.bound))
+    }
+}
+
+// Berths without a line, group by group.
+fn berths_of(alloc: Global, groups: &[Group]) -> Result<Vec<Berth>, NoMemory>
+    requires { sum_by (λ g. g.berths) groups.now ≤ 64 }
+    ensures { IfOk result (λ berths. berths.items ≡ empty_berths groups.now) }
+{
+    let mut berths = Vec::new(alloc);
+    for group in groups {
+        let empty = Berth {
+            capacity: capacity_of(group.kind),
+            last: None,
+        };
+        berths.resize(berths.len() + group.berths as usize, empty)?;
+    }
+    Ok(berths)
+}
+
+// How many requests a line has room for.
+fn capacity_of(kind: Kind) -> u32
+    ensures { result ≡ capacity kind }
+{
+    match kind {
+        Kind::Single => 1,
+        Kind::Multi | Kind::Boxed | Kind::Remote => 8,
+    }
+}
+
+#[cfg(test)]
+mod tests;
