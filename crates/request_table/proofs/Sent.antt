@@ -1,9 +1,9 @@
 -- How the table follows Sends and Cancels, and what the number of a Send is.
-use Rattle.std.proofs.Common.{◌≡◌, ℕ, ◌+◌, ◌/◌, ◌<◌, ◌≤◌, ◌==◌, zero, suc, Bool, true, false, ◌&&◌, ◌||◌, cond, List, [], ◌∷◌, ◌++◌, length, filter, reverse, Option, Some, None, option_map, option_and_then, unwrap_or, refl, ap, sym, subst, ◌∙◌, arith}
+use Rattle.std.proofs.Common.{◌≡◌, ℕ, ◌+◌, ◌/◌, ◌<◌, ◌≤◌, ◌==◌, zero, suc, Bool, true, false, ◌&&◌, ◌||◌, cond, List, [], ◌∷◌, ◌++◌, length, reverse, Option, Some, None, option_map, option_and_then, unwrap_or, refl, ap, sym, subst, ◌∙◌, arith}
 use Rattle.std.specs.Prelude.{map, slice_get, ℤ, pos, negsuc}
 use Rattle.std.specs.Bool.{one_answer}
 use Rattle.std.specs.Ordering.{int_eq}
-use Rattle.std.proofs.lemmas.Bool.{eqb-true, eq-eqb, lt-ltb, or_right, and_right}
+use Rattle.std.proofs.lemmas.Bool.{eqb-true, eq-eqb, lt-ltb, and_right}
 use Rattle.std.proofs.lemmas.Bool.Decides.{Decides-int_eq}
 use Rattle.std.proofs.lemmas.List.{length-map, length-reverse}
 use Rattle.exec_journal.specs.declared.plan.Branch.{Branch}
@@ -13,15 +13,10 @@ use Rattle.exec_journal.specs.declared.plan.Kind.TheVariants as kind
 use Rattle.exec_journal.specs.declared.plan.Plan.{Plan}
 use Rattle.exec_journal.specs.declared.plan.PlanAction.{PlanAction}
 use Rattle.exec_journal.specs.declared.journal.Entry.{Entry}
-use Rattle.exec_journal.specs.declared.call.Call.TheVariants as call
-use Rattle.exec_journal.specs.declared.reply.Reply.{Reply}
-use Rattle.exec_journal.specs.declared.reply.Reply.TheVariants as reply
-use Rattle.exec_journal.specs.History.{and_more}
-use Rattle.exec_journal.specs.Entries.{Request, attempt_of, is_for, send_in}
+use Rattle.exec_journal.specs.Entries.{Request}
 use Rattle.exec_journal.specs.Rules.{head, number_on}
 use Rattle.exec_journal.specs.Settled.{group_of, is_single, kind_of, capacity}
-use Rattle.exec_journal.specs.Words.{sends, sent_on, pending, is_pending, has_cancel, cancels, was_sent, answered, wrote, has_ended}
-use Rattle.exec_journal.proofs.Begins.{same_attempt_refl}
+use Rattle.exec_journal.specs.Words.{sends, pending, has_cancel, was_sent}
 use Rattle.exec_journal.proofs.Lines.{pending_line}
 use Rattle.exec_journal.proofs.Ruled.{by_bool}
 use Rattle.request_table.specs.declared.Line.{Line}
@@ -29,9 +24,10 @@ use Rattle.request_table.specs.declared.Place.{Place}
 use Rattle.request_table.specs.Entries.{EachOf, IsOfGroup, NumberedBy, IsNextSend}
 use Rattle.request_table.specs.Rows.{Facts, capacity_of, open_of, open_on, is_single_group, singles_of, line_room, single_by, single_of, last_of, number_after, next_number, new_place, sent_row, with_send, with_cancel, with_cancelled, cancelled_row}
 use Rattle.request_table.specs.Stands.{Waiting, told, waiting_in, place_in, natural, Numbered, AreNumbered, Stands}
-use Rattle.request_table.proofs.Lists.{each_and, each_filter, map_same, map_reverse, map_map, reverse_front}
+use Rattle.request_table.proofs.Lists.{each_and, map_same, map_reverse, map_map, reverse_front}
 use Rattle.request_table.proofs.Told.{with_more, with_mark, told_of, told_sent, told_cancelled, changed, unchanged}
-use Rattle.request_table.proofs.Kept.{IsNatural, pending_natural, last_in, of_lines, numbered_same}
+use Rattle.request_table.proofs.Pending.{send_entry, sent_request, unsent_uncancelled, sends_here, sends_other, pending_here, pending_other, cancel_entry, of_lines, sent_too, pending_too, cancel_at}
+use Rattle.request_table.proofs.Kept.{IsNatural, pending_natural, last_in, numbered_same}
 
 -- ---- the kind of a branch's group
 
@@ -111,178 +107,100 @@ next_number_is p f j lane l a b st within group earlier =
 
 -- ---- Send
 
-unsent_uncancelled : (j : List Entry) (r : Request) → was_sent j r.attempt ≡ false → has_cancel j r ≡ false
-unfolding was_sent has_cancel
-unsent_uncancelled [] r h = refl
-unsent_uncancelled (e ∷ j) r h =
-    by_bool (is_for r.attempt (option_map (λ q. q.attempt) (send_in e.reply))) (λ b. (b || was_sent j r.attempt) ≡ false → ((cancels r e.reply && was_sent j r.attempt) || has_cancel j r) ≡ false)
-    (λ _ k. absurd (cc))
-    (λ _ k. rw (k, unsent_uncancelled j r k) (ap (λ b. b || false) (and_right (cancels r e.reply) false refl))) h
-
 module _ (p : Plan) (f : Facts) (j : List Entry) (lane l : ℕ) (n : ℤ) (a : ℕ) (b : Branch) (t : ℕ) (st : Stands p f j) (within : l < line_room p) (next : IsNextSend p j lane l n a b t) where
-  abbrev send_entry : Entry
-  send_entry = record { lane = lane; call = call.Ask; reply = reply.Send l n a b t }
-
-  abbrev sent_request : Request
-  sent_request = record { line = l; number = n; attempt = attempt_of a b t }
-
-  sends_here : sends (send_entry ∷ j) l ≡ sent_request ∷ sends j l
-  unfolding sends
-  sends_here = let same : (l == l) ≡ true = eq-eqb l l refl in rw same refl
-
-  sends_other : (d : ℕ) → (l == d) ≡ false → sends (send_entry ∷ j) d ≡ sends j d
-  unfolding sends
-  sends_other d apart = rw apart refl
-
-  is_new : is_pending j sent_request ≡ true
-  unfolding is_pending
-  is_new = rw (next.unanswered, next.unwritten, next.running) refl
-
-  pending_here : pending (send_entry ∷ j) l ≡ sent_request ∷ pending j l
-  unfolding pending is_pending answered wrote has_ended
-  pending_here = ap (filter (is_pending j)) sends_here ∙ ap (λ x. cond x (sent_request ∷ filter (is_pending j) (sends j l)) (filter (is_pending j) (sends j l))) is_new
-
-  pending_other : (d : ℕ) → (l == d) ≡ false → pending (send_entry ∷ j) d ≡ pending j d
-  unfolding pending is_pending answered wrote has_ended
-  pending_other d apart = ap (filter (is_pending j)) (sends_other d apart)
-
-  same_places : place_in (send_entry ∷ j) ≡ place_in j
+  same_places : place_in (send_entry lane l n a b t ∷ j) ≡ place_in j
   unfolding has_cancel
   same_places = refl
 
   number_is_next : n ≡ pos (next_number f l a b)
   number_is_next = next.number ∙ sym (next_number_is p f j lane l a b st within next.group next.earlier)
 
-  new_is : place_in j sent_request ≡ new_place (next_number f l a b) a t
-  new_is = λ i. record { number = natural (number_is_next i); action = a; attempt = t; pending = true; cancelled = unsent_uncancelled j sent_request next.unsent i }
+  new_is : place_in j (sent_request l n a b t) ≡ new_place (next_number f l a b) a t
+  new_is = λ i. record { number = natural (number_is_next i); action = a; attempt = t; pending = true; cancelled = unsent_uncancelled j (sent_request l n a b t) next.new.unsent i }
 
-  waiting_sent : with_more (next_number f l a b) a t (waiting_in j l) ≡ waiting_in (send_entry ∷ j) l
+  waiting_sent : with_more (next_number f l a b) a t (waiting_in j l) ≡ waiting_in (send_entry lane l n a b t ∷ j) l
   unfolding waiting_in
   waiting_sent = sym (
-      (λ i. told_of (option_map (λ r. natural r.number) (head (sends_here i))) (reverse (map (same_places i) (pending_here i))))
-      ∙ ap (told_of (Some (natural n))) (reverse_front (place_in j sent_request) (map (place_in j) (pending j l)))
+      (λ i. told_of (option_map (λ r. natural r.number) (head (sends_here j lane l n a b t next.new i))) (reverse (map (same_places i) (pending_here j lane l n a b t next.new i))))
+      ∙ ap (told_of (Some (natural n))) (reverse_front (place_in j (sent_request l n a b t)) (map (place_in j) (pending j l)))
       ∙ (λ i. told_of (Some (natural (number_is_next i))) (reverse (map (place_in j) (pending j l)) ++ new_is i ∷ [])))
 
-  waiting_other : (d : ℕ) → (l == d) ≡ false → waiting_in j d ≡ waiting_in (send_entry ∷ j) d
+  waiting_other : (d : ℕ) → (l == d) ≡ false → waiting_in j d ≡ waiting_in (send_entry lane l n a b t ∷ j) d
   unfolding waiting_in
-  waiting_other d apart = sym (λ i. told_of (option_map (λ r. natural r.number) (head (sends_other d apart i))) (reverse (map (same_places i) (pending_other d apart i))))
+  waiting_other d apart = sym (λ i. told_of (option_map (λ r. natural r.number) (head (sends_other j lane l n a b t next.new d apart i))) (reverse (map (same_places i) (pending_other j lane l n a b t next.new d apart i))))
 
-  numbered_sent : (d : ℕ) → AreNumbered (send_entry ∷ j) d
-  numbered_sent d = by_bool (l == d) (λ _. AreNumbered (send_entry ∷ j) d)
-      (λ same. subst (AreNumbered (send_entry ∷ j)) (eqb-true l d same)
-      (record { single = is_single (kind_of p (lane / 2)); numbers = subst (Numbered (is_single (kind_of p (lane / 2)))) (sym sends_here) (next.number, next.earlier) }))
-      (λ apart. numbered_same j (send_entry ∷ j) d (sends_other d apart) (st.numbered d))
+  numbered_sent : (d : ℕ) → AreNumbered (send_entry lane l n a b t ∷ j) d
+  numbered_sent d = by_bool (l == d) (λ _. AreNumbered (send_entry lane l n a b t ∷ j) d)
+      (λ same. subst (AreNumbered (send_entry lane l n a b t ∷ j)) (eqb-true l d same)
+      (record { single = is_single (kind_of p (lane / 2)); numbers = subst (Numbered (is_single (kind_of p (lane / 2)))) (sym (sends_here j lane l n a b t next.new)) (next.number, next.earlier) }))
+      (λ apart. numbered_same j (send_entry lane l n a b t ∷ j) d (sends_other j lane l n a b t next.new d apart) (st.numbered d))
 
-  pub sends_kept : Stands p (with_send f l a b t) (send_entry ∷ j)
-  sends_kept = changed p f j (send_entry ∷ j) l (sent_row (next_number f l a b) a t) (with_more (next_number f l a b) a t) st (told_sent (next_number f l a b) a t) waiting_sent waiting_other numbered_sent
+  pub sends_kept : Stands p (with_send f l a b t) (send_entry lane l n a b t ∷ j)
+  sends_kept = changed p f j (send_entry lane l n a b t ∷ j) l (sent_row (next_number f l a b) a t) (with_more (next_number f l a b) a t) st (told_sent (next_number f l a b) a t) waiting_sent waiting_other numbered_sent
 
 -- ---- Cancel
-
-sent_request_in : (l : ℕ) (x : Reply) (q : Request) → sent_on l x ≡ Some q → send_in x ≡ Some q
-sent_request_in l (reply.Send k n a b t) q h =
-    by_bool (k == l) (λ c. cond c (send_in (reply.Send k n a b t)) None ≡ Some q → send_in (reply.Send k n a b t) ≡ Some q) (λ _ g. g) (λ _ g. absurd (cc)) h
-sent_request_in l _ q h = absurd (cc)
-
-sent_later : (e : Entry) (j : List Entry) (q : Request) → was_sent j q.attempt ≡ true → was_sent (e ∷ j) q.attempt ≡ true
-unfolding was_sent
-sent_later e j q h = or_right (is_for q.attempt (option_map (λ r. r.attempt) (send_in e.reply))) (was_sent j q.attempt) h
-
-sent_now : (e : Entry) (j : List Entry) (l : ℕ) (q : Request) → sent_on l e.reply ≡ Some q → was_sent (e ∷ j) q.attempt ≡ true
-unfolding was_sent
-sent_now e j l q h = ap (λ o. is_for q.attempt (option_map (λ r. r.attempt) o) || was_sent j q.attempt) (sent_request_in l e.reply q h) ∙ ap (λ b. b || was_sent j q.attempt) (same_attempt_refl q.attempt)
-
-each_more : (P : Request → Type 0) (o : Option Request) (rs : List Request) → ((q : Request) → o ≡ Some q → P q) → EachOf P rs → EachOf P (and_more o rs)
-each_more P None rs h all = all
-each_more P (Some q) rs h all = (h q refl, all)
-
--- each request on a line was sent
-sent_each : (j : List Entry) (l : ℕ) → EachOf (λ q. was_sent j q.attempt ≡ true) (sends j l)
-unfolding sends
-sent_each [] l = tt
-sent_each (e ∷ j) l =
-    each_more (λ q. was_sent (e ∷ j) q.attempt ≡ true) (sent_on l e.reply) (sends j l) (λ q h. sent_now e j l q h)
-    (each_and (λ q. was_sent j q.attempt ≡ true) (λ q. was_sent j q.attempt ≡ true) (λ q. was_sent (e ∷ j) q.attempt ≡ true) (λ q h _. sent_later e j q h) (sends j l) (sent_each j l) (sent_each j l))
 
 natural_equal : (m : ℕ) (z : ℤ) → z ≡ pos (natural z) → int_eq (pos m) z ≡ (natural z == m)
 natural_equal m z e = one_answer (int_eq (pos m) z) (natural z == m) (Decides-int_eq (pos m) z) ((λ h. sym (e ∙ ap pos (eqb-true (natural z) m h))), (λ h. eq-eqb (natural z) m (ap natural (sym h))))
 
 module _ (j : List Entry) (lane l : ℕ) (n : ℤ) where
-  abbrev cancel_entry : Entry
-  cancel_entry = record { lane = lane; call = call.Ask; reply = reply.Cancel l n }
-
-  sent_too : (d : ℕ) → EachOf (λ q. was_sent j q.attempt ≡ true) (pending j d)
-  unfolding pending
-  sent_too d = each_filter (λ q. was_sent j q.attempt ≡ true) (is_pending j) (sends j d) (sent_each j d)
-
-  pending_too : (d : ℕ) → pending (cancel_entry ∷ j) d ≡ pending j d
-  unfolding pending sends is_pending answered wrote has_ended
-  pending_too d = refl
-
-  cancel_at : (q : Request) → was_sent j q.attempt ≡ true → has_cancel (cancel_entry ∷ j) q ≡ (((l == q.line) && int_eq n q.number) || has_cancel j q)
-  unfolding has_cancel
-  cancel_at q sent = rw sent (ap (λ b. b || has_cancel j q) (yes ((l == q.line) && int_eq n q.number)))
-    where
-      yes : (b : Bool) → (b && true) ≡ b
-      yes true = refl
-      yes false = refl
-
   abbrev with_cancel_of : Place → Bool → Place
   with_cancel_of y b = record { number = y.number; action = y.action; attempt = y.attempt; pending = y.pending; cancelled = b }
 
   -- a request of another line, or with another number
-  place_other : (q : Request) → was_sent j q.attempt ≡ true → ((l == q.line) && int_eq n q.number) ≡ false → place_in j q ≡ place_in (cancel_entry ∷ j) q
-  place_other q sent off = ap (with_cancel_of (place_in j q)) (sym (cancel_at q sent ∙ ap (λ b. b || has_cancel j q) off))
+  place_other : (q : Request) → was_sent j q.attempt ≡ true → ((l == q.line) && int_eq n q.number) ≡ false → place_in j q ≡ place_in (cancel_entry lane l n ∷ j) q
+  place_other q sent off = ap (with_cancel_of (place_in j q)) (sym (cancel_at j lane l n q sent ∙ ap (λ b. b || has_cancel j q) off))
 
-  waiting_cancel : (d : ℕ) (g : Place → Place) → EachOf (λ q. g (place_in j q) ≡ place_in (cancel_entry ∷ j) q) (pending j d) → told_of (last_in j d) (map g (reverse (map (place_in j) (pending j d)))) ≡ waiting_in (cancel_entry ∷ j) d
+  waiting_cancel : (d : ℕ) (g : Place → Place) → EachOf (λ q. g (place_in j q) ≡ place_in (cancel_entry lane l n ∷ j) q) (pending j d) → told_of (last_in j d) (map g (reverse (map (place_in j) (pending j d)))) ≡ waiting_in (cancel_entry lane l n ∷ j) d
   unfolding waiting_in sends
   waiting_cancel d g each =
-      ap (told_of (last_in j d)) (map_reverse g (map (place_in j) (pending j d)) ∙ ap reverse (map_map g (place_in j) (pending j d) ∙ map_same (λ q. g (place_in j q)) (place_in (cancel_entry ∷ j)) (pending j d) each)
-      ∙ ap (λ rs. reverse (map (place_in (cancel_entry ∷ j)) rs)) (sym (pending_too d)))
+      ap (told_of (last_in j d)) (map_reverse g (map (place_in j) (pending j d)) ∙ ap reverse (map_map g (place_in j) (pending j d) ∙ map_same (λ q. g (place_in j q)) (place_in (cancel_entry lane l n ∷ j)) (pending j d) each)
+      ∙ ap (λ rs. reverse (map (place_in (cancel_entry lane l n ∷ j)) rs)) (sym (pending_too j lane l n d)))
 
-  numbered_cancel : (d : ℕ) → AreNumbered j d → AreNumbered (cancel_entry ∷ j) d
+  numbered_cancel : (d : ℕ) → AreNumbered j d → AreNumbered (cancel_entry lane l n ∷ j) d
   unfolding sends
-  numbered_cancel d h = numbered_same j (cancel_entry ∷ j) d refl h
+  numbered_cancel d h = numbered_same j (cancel_entry lane l n ∷ j) d refl h
 
   -- a request with this number, on this line
-  place_marked : (m : ℕ) (q : Request) → n ≡ pos m → IsNatural q × (was_sent j q.attempt ≡ true) → (l == q.line) ≡ true → with_cancel m (place_in j q) ≡ place_in (cancel_entry ∷ j) q
+  place_marked : (m : ℕ) (q : Request) → n ≡ pos m → IsNatural q × (was_sent j q.attempt ≡ true) → (l == q.line) ≡ true → with_cancel m (place_in j q) ≡ place_in (cancel_entry lane l n ∷ j) q
   place_marked m q e h on =
       ap (with_cancel_of (place_in j q))
-      (sym (cancel_at q h.1 ∙ ap (λ b. (b && int_eq n q.number) || has_cancel j q) on ∙ ap (λ z. int_eq z q.number || has_cancel j q) e ∙ ap (λ b. b || has_cancel j q) (natural_equal m q.number h.0)))
+      (sym (cancel_at j lane l n q h.1 ∙ ap (λ b. (b && int_eq n q.number) || has_cancel j q) on ∙ ap (λ z. int_eq z q.number || has_cancel j q) e ∙ ap (λ b. b || has_cancel j q) (natural_equal m q.number h.0)))
 
   natural_and_sent : (d : ℕ) → AreNumbered j d → EachOf (λ q. IsNatural q × (was_sent j q.attempt ≡ true)) (pending j d)
-  natural_and_sent d numbered = each_and IsNatural (λ q. was_sent j q.attempt ≡ true) (λ q. IsNatural q × (was_sent j q.attempt ≡ true)) (λ q h sent. (h, sent)) (pending j d) (pending_natural j d numbered) (sent_too d)
+  natural_and_sent d numbered = each_and IsNatural (λ q. was_sent j q.attempt ≡ true) (λ q. IsNatural q × (was_sent j q.attempt ≡ true)) (λ q h sent. (h, sent)) (pending j d) (pending_natural j d numbered) (sent_too j lane l n d)
 
-  marks : (m : ℕ) → n ≡ pos m → AreNumbered j l → EachOf (λ q. with_cancel m (place_in j q) ≡ place_in (cancel_entry ∷ j) q) (pending j l)
+  marks : (m : ℕ) → n ≡ pos m → AreNumbered j l → EachOf (λ q. with_cancel m (place_in j q) ≡ place_in (cancel_entry lane l n ∷ j) q) (pending j l)
   marks m e numbered =
-      each_and (λ q. IsNatural q × (was_sent j q.attempt ≡ true)) (λ q. (l == q.line) ≡ true) (λ q. with_cancel m (place_in j q) ≡ place_in (cancel_entry ∷ j) q) (λ q h on. place_marked m q e h on)
+      each_and (λ q. IsNatural q × (was_sent j q.attempt ≡ true)) (λ q. (l == q.line) ≡ true) (λ q. with_cancel m (place_in j q) ≡ place_in (cancel_entry lane l n ∷ j) q) (λ q h on. place_marked m q e h on)
       (pending j l) (natural_and_sent l numbered) (of_lines (pending j l) l (λ q. (l == q.line) ≡ true) (λ q same. eq-eqb l q.line (sym same)) (pending_line j l))
 
   -- no request has a negative number
-  none_marked : (m d : ℕ) → n ≡ negsuc m → AreNumbered j d → EachOf (λ q. place_in j q ≡ place_in (cancel_entry ∷ j) q) (pending j d)
+  none_marked : (m d : ℕ) → n ≡ negsuc m → AreNumbered j d → EachOf (λ q. place_in j q ≡ place_in (cancel_entry lane l n ∷ j) q) (pending j d)
   none_marked m d e numbered =
-      each_and (λ q. IsNatural q × (was_sent j q.attempt ≡ true)) (λ q. IsNatural q × (was_sent j q.attempt ≡ true)) (λ q. place_in j q ≡ place_in (cancel_entry ∷ j) q)
+      each_and (λ q. IsNatural q × (was_sent j q.attempt ≡ true)) (λ q. IsNatural q × (was_sent j q.attempt ≡ true)) (λ q. place_in j q ≡ place_in (cancel_entry lane l n ∷ j) q)
       (λ q h _. place_other q h.1 (ap (λ z. (l == q.line) && int_eq z q.number) e ∙ ap (λ z. (l == q.line) && int_eq (negsuc m) z) h.0 ∙ and_right (l == q.line) false refl))
       (pending j d) (natural_and_sent d numbered) (natural_and_sent d numbered)
 
-  others_stay : (d : ℕ) → (l == d) ≡ false → EachOf (λ q. place_in j q ≡ place_in (cancel_entry ∷ j) q) (pending j d)
+  others_stay : (d : ℕ) → (l == d) ≡ false → EachOf (λ q. place_in j q ≡ place_in (cancel_entry lane l n ∷ j) q) (pending j d)
   others_stay d apart =
-      each_and (λ q. was_sent j q.attempt ≡ true) (λ q. (l == q.line) ≡ false) (λ q. place_in j q ≡ place_in (cancel_entry ∷ j) q)
-      (λ q sent off. place_other q sent (ap (λ b. b && int_eq n q.number) off)) (pending j d) (sent_too d)
+      each_and (λ q. was_sent j q.attempt ≡ true) (λ q. (l == q.line) ≡ false) (λ q. place_in j q ≡ place_in (cancel_entry lane l n ∷ j) q)
+      (λ q sent off. place_other q sent (ap (λ b. b && int_eq n q.number) off)) (pending j d) (sent_too j lane l n d)
       (of_lines (pending j d) d (λ q. (l == q.line) ≡ false) (λ q e. ap (λ k. l == k) e ∙ apart) (pending_line j d))
 
-  waiting_apart : (d : ℕ) → EachOf (λ q. place_in j q ≡ place_in (cancel_entry ∷ j) q) (pending j d) → waiting_in j d ≡ waiting_in (cancel_entry ∷ j) d
+  waiting_apart : (d : ℕ) → EachOf (λ q. place_in j q ≡ place_in (cancel_entry lane l n ∷ j) q) (pending j d) → waiting_in j d ≡ waiting_in (cancel_entry lane l n ∷ j) d
   unfolding waiting_in sends
-  waiting_apart d each = ap (told_of (last_in j d)) (ap reverse (map_same (place_in j) (place_in (cancel_entry ∷ j)) (pending j d) each ∙ ap (map (place_in (cancel_entry ∷ j))) (sym (pending_too d))))
+  waiting_apart d each = ap (told_of (last_in j d)) (ap reverse (map_same (place_in j) (place_in (cancel_entry lane l n ∷ j)) (pending j d) each ∙ ap (map (place_in (cancel_entry lane l n ∷ j))) (sym (pending_too j lane l n d))))
 
-  waiting_marked : (m : ℕ) → n ≡ pos m → AreNumbered j l → with_mark m (waiting_in j l) ≡ waiting_in (cancel_entry ∷ j) l
+  waiting_marked : (m : ℕ) → n ≡ pos m → AreNumbered j l → with_mark m (waiting_in j l) ≡ waiting_in (cancel_entry lane l n ∷ j) l
   unfolding waiting_in
   waiting_marked m e numbered = waiting_cancel l (with_cancel m) (marks m e numbered)
 
-  pub cancels_kept : (p : Plan) (f : Facts) → Stands p f j → Stands p (with_cancelled f l n) (cancel_entry ∷ j)
+  pub cancels_kept : (p : Plan) (f : Facts) → Stands p f j → Stands p (with_cancelled f l n) (cancel_entry lane l n ∷ j)
   cancels_kept p f st = by n refl
     where
-      by : (z : ℤ) → n ≡ z → Stands p (with_cancelled f l z) (cancel_entry ∷ j)
+      by : (z : ℤ) → n ≡ z → Stands p (with_cancelled f l z) (cancel_entry lane l n ∷ j)
       by (pos m) e =
-          changed p f j (cancel_entry ∷ j) l (cancelled_row m) (with_mark m) st (told_cancelled m) (waiting_marked m e (st.numbered l))
+          changed p f j (cancel_entry lane l n ∷ j) l (cancelled_row m) (with_mark m) st (told_cancelled m) (waiting_marked m e (st.numbered l))
           (λ d apart. waiting_apart d (others_stay d apart)) (λ d. numbered_cancel d (st.numbered d))
-      by (negsuc m) e = unchanged p f j (cancel_entry ∷ j) st (λ d. waiting_apart d (none_marked m d e (st.numbered d))) (λ d. numbered_cancel d (st.numbered d))
+      by (negsuc m) e = unchanged p f j (cancel_entry lane l n ∷ j) st (λ d. waiting_apart d (none_marked m d e (st.numbered d))) (λ d. numbered_cancel d (st.numbered d))

@@ -30,15 +30,19 @@ IsOfGroup p lane a b = option_and_then (λ x. group_of x b) (slice_get p.actions
 abbrev pub NumberedBy : Plan → List Entry → ℕ → ℕ → Type 0
 NumberedBy p j lane l = Numbered (is_single (kind_of p (lane / 2))) (sends j l)
 
--- a Send has the next number of its line, which is of the branch's group and hasn't ended; nothing was said of its request
+-- nothing was said yet of the attempt's request, and the line on which it is sent hasn't ended
+pub record IsNewRequest (j : List Entry) (l : ℕ) (t : Attempt) : Type 0 where
+  pub unsent : was_sent j t ≡ false
+  pub unanswered : answered j t ≡ false
+  pub unwritten : wrote j t ≡ None
+  pub running : has_ended j l ≡ false
+
+-- a Send of a new request has the next number of its line, which is of the branch's group
 pub record IsNextSend (p : Plan) (j : List Entry) (lane l : ℕ) (n : ℤ) (a : ℕ) (b : Branch) (t : ℕ) : Type 0 where
   pub number : n ≡ number_on p j (lane / 2) l
   pub group : IsOfGroup p lane a b
   pub earlier : NumberedBy p j lane l
-  pub unsent : was_sent j (attempt_of a b t) ≡ false
-  pub unanswered : answered j (attempt_of a b t) ≡ false
-  pub unwritten : wrote j (attempt_of a b t) ≡ None
-  pub running : has_ended j l ≡ false
+  pub new : IsNewRequest j l (attempt_of a b t)
 
 -- of all pending requests exactly those of this attempt stand on this line with this number
 pub record IsKnownBy (j : List Entry) (l : ℕ) (n : ℤ) (s : Attempt) : Type 0 where
