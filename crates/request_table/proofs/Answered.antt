@@ -1,5 +1,5 @@
 -- What an answer finds is what the journal says of its number.
-use Rattle.std.proofs.Common.{◌≡◌, ℕ, ◌+◌, ◌<◌, ◌≤◌, ◌==◌, nat_lt, suc, Bool, true, false, ◌&&◌, not, cond, List, [], ◌∷◌, ◌++◌, length, filter, reverse, Option, Some, None, is_some, option_map, refl, ap, sym, ◌∙◌, arith}
+use Rattle.std.proofs.Common.{◌≡◌, ℕ, ◌+◌, ◌<◌, ◌≤◌, ◌==◌, nat_lt, suc, Bool, true, false, ◌&&◌, not, cond, List, [], ◌∷◌, length, filter, reverse, Option, Some, None, is_some, option_map, refl, ap, sym, ◌∙◌, arith}
 use Rattle.std.specs.Prelude.{map, ℤ, pos, negsuc}
 use Rattle.std.specs.List.{find}
 use Rattle.std.specs.Ordering.{int_eq}
@@ -17,7 +17,7 @@ use Rattle.request_table.specs.declared.Place.{Place}
 use Rattle.request_table.specs.Entries.{EachOf}
 use Rattle.request_table.specs.Rows.{Facts, line_room, is_open, waits_at, was_sent_by, matching_by, line_matching, matching_of}
 use Rattle.request_table.specs.Stands.{Waiting, waiting_in, place_in, natural, Numbered, Stands, open_request, of_sent, of_pending}
-use Rattle.request_table.proofs.Lists.{reverse_front, int_eq_pos, each_filter}
+use Rattle.request_table.proofs.Lists.{find_append, reverse_front, int_eq_pos, each_filter}
 use Rattle.request_table.proofs.Kept.{last_in}
 use Rattle.request_table.proofs.Sent.{row_told}
 
@@ -29,13 +29,6 @@ find_filter n [] = refl
 find_filter n (x ∷ xs) = elim x.pending as (λ b. cond (b && (x.number == n)) (Some x) (find (waits_at n) xs) ≡ find (at_number n) (cond b (x ∷ filter is_open xs) (filter is_open xs))) [
   | true ↦ ap (λ (o : Option Place). cond (x.number == n) (Some x) o) (find_filter n xs)
   | false ↦ find_filter n xs
-]
-
-find_append : (p : Place → Bool) (xs ys : List Place) → find p (xs ++ ys) ≡ or_else (find p xs) (find p ys)
-find_append p [] ys = refl
-find_append p (x ∷ xs) ys = elim (p x) as (λ b. cond b (Some x) (find p (xs ++ ys)) ≡ or_else (cond b (Some x) (find p xs)) (find p ys)) [
-  | true ↦ refl
-  | false ↦ find_append p xs ys
 ]
 
 -- what a table's line finds, by its last number and its open places

@@ -1,12 +1,14 @@
 -- Lists of places and of requests: filters, maps and the order of sending.
-use Rattle.std.proofs.Common.{◌≡◌, ℕ, ◌==◌, zero, suc, Bool, true, false, ◌&&◌, cond, List, [], ◌∷◌, ◌++◌, length, filter, reverse, refl, ap, sym, ◌∙◌}
+use Rattle.std.proofs.Common.{◌≡◌, ℕ, ◌==◌, zero, suc, Bool, true, false, ◌&&◌, cond, List, [], ◌∷◌, ◌++◌, length, filter, reverse, Some, refl, ap, sym, ◌∙◌}
 use Rattle.std.specs.Prelude.{map, pos}
+use Rattle.std.specs.List.{find}
 use Rattle.std.specs.Ordering.{int_eq}
 use Rattle.std.specs.Bool.{one_answer}
 use Rattle.std.proofs.lemmas.Bool.{eqb-true, eq-eqb}
 use Rattle.std.proofs.lemmas.Bool.Decides.{Decides-int_eq}
 use Rattle.std.proofs.lemmas.List.{reverse-append}
 use Rattle.std.proofs.lemmas.List.Elements.{filter-append}
+use Rattle.exec_journal.specs.History.{or_else}
 use Rattle.exec_journal.specs.Entries.{Request}
 use Rattle.exec_journal.specs.Tallies.{update}
 use Rattle.exec_journal.proofs.Ruled.{by_bool}
@@ -53,6 +55,13 @@ filter_map p g [] = refl
 filter_map {X} {Y} p g (x ∷ xs) = elim (p (g x)) as (λ b. cond b (g x ∷ filter p (map g xs)) (filter p (map g xs)) ≡ map g (cond b (x ∷ filter (λ y. p (g y)) xs) (filter (λ y. p (g y)) xs))) [
   | true ↦ ap (λ (ys : List Y). g x ∷ ys) (filter_map p g xs)
   | false ↦ filter_map p g xs
+]
+
+pub find_append : {X : Type 0} (p : X → Bool) (xs ys : List X) → find p (xs ++ ys) ≡ or_else (find p xs) (find p ys)
+find_append p [] ys = refl
+find_append p (x ∷ xs) ys = elim (p x) as (λ b. cond b (Some x) (find p (xs ++ ys)) ≡ or_else (cond b (Some x) (find p xs)) (find p ys)) [
+  | true ↦ refl
+  | false ↦ find_append p xs ys
 ]
 
 pub reverse_front : {X : Type 0} (x : X) (xs : List X) → reverse (x ∷ xs) ≡ reverse xs ++ x ∷ []
