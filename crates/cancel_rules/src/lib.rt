@@ -38,6 +38,10 @@ impl Model for Cancels {
 
 impl Cancels {
     /// The table of a run in which nothing was sent yet.
+    ///
+    /// # Errors
+    ///
+    /// `NoMemory` where so many lines as the plan has attempts find no memory.
     pub fn new(alloc: Global, plan: &Plan) -> Result<Cancels, NoMemory>
         ensures facts { IfOk result (λ t. t ≡ new_facts plan.now) }
         ensures stands { IfOk result (λ t. Stands plan.now t []) }

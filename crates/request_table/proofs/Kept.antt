@@ -65,10 +65,6 @@ unfolding waiting_in
 waiting_by j k l rs same e =
     λ i. record { last = option_map (λ r. natural r.number) (head (sym (same.sent l) i)); places = reverse (map (place_same j k same i) (sym e i)) }
 
-waiting_same : (j k : List Entry) → SameSent j k → ((l : ℕ) → pending k l ≡ pending j l) → (l : ℕ) → waiting_in j l ≡ waiting_in k l
-unfolding waiting_in
-waiting_same j k same e l = waiting_by j k l (pending j l) same (e l)
-
 module _ (j k : List Entry) (hit : Request → Bool) (c : Closes j k hit) where
   waiting_stays : (l : ℕ) → Missed hit j l → waiting_in j l ≡ waiting_in k l
   unfolding waiting_in

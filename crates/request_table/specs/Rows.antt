@@ -117,7 +117,7 @@ matching_of f l n = line_matching n (slice_get f.lines l)
 abbrev pub with_pending : ℕ → Bool → Place → Place
 with_pending n now x = record { number = x.number; action = x.action; attempt = x.attempt; pending = if x.number == n then now else x.pending; cancelled = x.cancelled }
 
--- it isn't pending from now on. Until the line's next call it stands there still, so that it can be opened again
+-- it isn't pending from now on. Until the line's next answer or Send it stands there still, so that it can be opened again
 abbrev pub answered_row : ℕ → Line → Line
 answered_row n x = record { last = x.last; places = record { items = map (with_pending n false) (filter is_open x.places.items) } }
 

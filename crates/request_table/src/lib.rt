@@ -36,8 +36,8 @@ pub struct Place {
     pub cancelled: bool,
 }
 
-/// Of a line: the number of its last request, where one was sent, and those that are pending, the earliest first. One
-/// that the line's last call answered stands among them still, so that it can be opened again.
+/// Of a line: the number of its last request, where one was sent, and those that are pending, the earliest first. The
+/// one that was answered last stands among them until the line's next answer or Send, so that it can be opened again.
 #[derive(Drop)]
 pub struct Line {
     pub last: Option<u32>,
@@ -71,6 +71,10 @@ impl Model for Requests {
 
 impl Requests {
     /// The table of a run in which nothing was sent yet.
+    ///
+    /// # Errors
+    ///
+    /// `NoMemory` where so many lines as the plan has attempts find no memory, or are more than an `i32` can number.
     pub fn new(alloc: Global, plan: &Plan) -> Result<Requests, NoMemory>
         ensures facts { IfOk result (λ t. t ≡ new_facts plan.now) }
         ensures stands { IfOk result (λ t. Stands plan.now t []) }
@@ -82,7 +86,8 @@ impl Requests {
         })
     }
 
-    /// Notes one more pending request of the line, and gives its number.
+    /// Notes one more pending request of the line, and gives its number: 0 where the branch's group is Single, and else
+    /// one more than the line's last.
     pub fn send(&mut self, line: u32, action: u32, branch: Branch, attempt: u32) -> i32
         requires known { line < length self.old.lines }
         requires planned { action < length self.old.singles }
@@ -119,7 +124,8 @@ impl Requests {
         }
     }
 
-    /// Makes the request pending again that the line's last call answered.
+    /// Takes back the line's last `answer`, which had this number and whose reply was a Breach: its request is pending
+    /// again.
     pub fn reopened(&mut self, line: u32, number: i32)
         requires { line < length self.old.lines }
         ensures { self.new ≡ with_reopened self.old line number }
