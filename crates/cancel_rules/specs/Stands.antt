@@ -1,0 +1,21 @@
+-- When the table's facts are those of a journal, whose newest entry stands first.
+use Rattle.std.specs.Prelude.{◌≡◌, ℕ, nat_lt, Some, None, if◌then◌else◌, List, length, map, reverse, slice_get}
+use Rattle.arrayvec.specs.ArrayVec.{ArrayVec}
+use Rattle.exec_journal.specs.declared.plan.Plan.{Plan}
+use Rattle.exec_journal.specs.declared.journal.Entry.{Entry}
+use Rattle.exec_journal.specs.Entries.{Request}
+use Rattle.exec_journal.specs.Words.{pending, has_cancel, granted}
+use Rattle.request_table.specs.Rows.{line_room}
+use Rattle.cancel_rules.specs.declared.Place.{Place}
+use Rattle.cancel_rules.specs.Marks.{Facts, row}
+
+abbrev pub place_in : List Entry → Request → Place
+place_in j r = record { number = r.number; action = r.attempt.action; asked = has_cancel j r }
+
+unfoldable pub row_in : List Entry → ℕ → ArrayVec Place
+row_in j l = row (reverse (map (place_in j) (pending j l)))
+
+-- it has the plan's room, each line's pending requests, the earliest sent first, and of each action whether it has a grant
+pub record Stands (p : Plan) (f : Facts) (j : List Entry) : Type 0 where
+  pub lines : (l : ℕ) → slice_get f.lines l ≡ (if nat_lt l (line_room p) then Some (row_in j l) else None)
+  pub grants : (a : ℕ) → slice_get f.unwanted a ≡ (if nat_lt a (length p.actions) then Some (granted j a) else None)
