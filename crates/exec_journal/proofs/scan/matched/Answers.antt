@@ -1,4 +1,4 @@
-use Rattle.std.proofs.Common.{◌≡◌, Option, Some, None, option_copied, option_and_then, sym, ap, ◌∙◌}
+use Rattle.std.proofs.Common.{Some, None, option_copied, sym, ap, ◌∙◌}
 use Rattle.exec_journal.proofs.Scanned.{match_found}
 use Rattle.exec_journal.proofs.scan.matched.Goals as goal
 
