@@ -221,6 +221,7 @@ fn answer_flag(actions: &[ActionFact], attempt: Attempt) -> Option<bool>
     answers.get(attempt.number as usize).copied()
 }
 
+/// Sets the flag with this number.
 fn mark(flags: &mut [bool], number: Option<u32>)
     ensures { flags.new ≡ update_if (λ _. true) flags.old number }
 {
