@@ -1,5 +1,5 @@
 -- Attempts of a legal journal run without a gap, and each is launched at most once and sent at most once.
-use Rattle.std.proofs.Common.{◌≡◌, ℕ, zero, suc, ◌+◌, ◌/◌, ◌<◌, ◌≤◌, ◌==◌, nat_lt, Bool, true, false, ◌&&◌, ◌||◌, not, cond, List, [], ◌∷◌, length, Option, Some, None, is_some, option_map, unwrap_or, ◌⊎◌, inl, inr, refl, ap, sym, subst, ◌∙◌, arith}
+use Rattle.std.proofs.Common.{◌≡◌, ℕ, suc, ◌+◌, ◌/◌, ◌<◌, ◌≤◌, ◌==◌, nat_lt, Bool, true, false, ◌&&◌, not, cond, List, [], ◌∷◌, Option, Some, None, option_map, ◌⊎◌, inl, inr, refl, ap, sym, subst, ◌∙◌, arith}
 use Rattle.std.specs.Prelude.{slice_get}
 use Rattle.std.proofs.lemmas.Bool.{ltb-true, ltb-false, eqb-true, eq-eqb, and_parts, and_from, or_cases, or_right}
 use Rattle.exec_journal.specs.declared.plan.Branch.{Branch}
@@ -11,15 +11,15 @@ use Rattle.exec_journal.specs.declared.journal.Entry.{Entry}
 use Rattle.exec_journal.specs.declared.call.Call.{Call}
 use Rattle.exec_journal.specs.declared.reply.Reply.{Reply}
 use Rattle.exec_journal.specs.declared.reply.Reply.TheVariants as reply
-use Rattle.exec_journal.specs.History.{or_else, ever, latest, AtEach}
+use Rattle.exec_journal.specs.History.{or_else, ever}
 use Rattle.exec_journal.specs.Entries.{Request, attempt_of, same_branch, same_attempt, is_branch_of, is_for, launch_in, send_in}
 use Rattle.exec_journal.specs.Words.{launch_of, launch_at, launch_on, was_sent, granted}
-use Rattle.exec_journal.specs.Attempts.{attempt, begun_in, number_if, end_of, ended, dropped}
+use Rattle.exec_journal.specs.Attempts.{attempt, begun_in, number_if, ended, dropped}
 use Rattle.exec_journal.specs.Settled.{settled, ready, wanted, still_bound, if_bound, bound, is_under_way, uses, queued, queued_in, earliest_from, earliest, free_places, kind_of}
 use Rattle.exec_journal.specs.Rules as r
 use Rattle.exec_journal.specs.Legal.{Legal}
 use Rattle.exec_journal.specs.Facts.{begun, AttemptsInOrder, BeginsNext, ContinuesOn, Begins, BeginInOrder}
-use Rattle.exec_journal.proofs.Histories.{AtSome, latest_from, some_later}
+use Rattle.exec_journal.proofs.Histories.{latest_from, some_later}
 use Rattle.exec_journal.proofs.Ruled as u
 use Rattle.exec_journal.proofs.Quiet.{ended_stays}
 

@@ -1,18 +1,17 @@
 -- Nothing is said of a line that wasn't launched yet.
-use Rattle.std.proofs.Common.{◌≡◌, ℕ, ◌+◌, ◌/◌, ◌<◌, ◌≤◌, ◌==◌, Bool, true, false, ◌&&◌, ◌||◌, not, cond, List, [], ◌∷◌, length, Option, Some, None, refl, ap, sym, ◌∙◌, arith}
+use Rattle.std.proofs.Common.{◌≡◌, ℕ, ◌/◌, ◌<◌, ◌≤◌, ◌==◌, false, not, List, [], ◌∷◌, Option, Some, None, refl, arith}
 use Rattle.std.proofs.lemmas.Bool.{ne_eqb, and_right}
 use Rattle.exec_journal.specs.declared.plan.Plan.{Plan}
-use Rattle.exec_journal.specs.declared.attempt.Attempt.{Attempt}
 use Rattle.exec_journal.specs.declared.journal.Entry.{Entry}
 use Rattle.exec_journal.specs.declared.call.Call.{Call}
 use Rattle.exec_journal.specs.declared.call.Call.TheVariants as call
 use Rattle.exec_journal.specs.declared.reply.Reply.{Reply}
 use Rattle.exec_journal.specs.declared.reply.Reply.TheVariants as reply
-use Rattle.exec_journal.specs.History.{ever, latest, first, each, AtEach}
-use Rattle.exec_journal.specs.Entries.{Request, launch_in, starts, fails, ends, kills, takes, is_done}
+use Rattle.exec_journal.specs.History.{AtEach}
+use Rattle.exec_journal.specs.Entries.{Request, starts, fails, ends, kills, takes, is_done}
 use Rattle.exec_journal.specs.Words.{line_count, started, failed, has_ended, was_killed, was_taken, line_cause, break_at, break_by, if_line, order_of, launch_of, launch_at, sends, sent_on}
 use Rattle.exec_journal.specs.Legal.{Legal}
-use Rattle.exec_journal.specs.Facts.{call_line, reply_line, IsOfBerth, OfBerth, NamesItsLine, NameTheirLines, IsFresh}
+use Rattle.exec_journal.specs.Facts.{call_line, reply_line, OfBerth, NameTheirLines, IsFresh}
 use Rattle.exec_journal.proofs.Histories.{each_map, ever_none, first_none, latest_none, each_none}
 use Rattle.exec_journal.proofs.Lines.{count_grows, lines_named}
 

@@ -1,26 +1,24 @@
 -- Outcome and fate, case by case.
-use Rattle.std.proofs.Common.{◌≡◌, ℕ, zero, suc, ◌+◌, ◌<◌, ◌≤◌, Bool, true, false, ◌||◌, cond, List, [], ◌∷◌, ◌++◌, length, get_or, take, drop, set, min, Option, Some, None, is_some, is_none, option_map, unwrap_or, refl, ap, sym, subst, ◌∙◌, add-one, arith}
+use Rattle.std.proofs.Common.{◌≡◌, ℕ, zero, suc, ◌+◌, ◌<◌, ◌≤◌, Bool, true, false, cond, List, [], ◌∷◌, ◌++◌, length, get_or, take, drop, set, min, Option, Some, None, is_some, option_map, unwrap_or, refl, ap, sym, ◌∙◌, add-one, arith}
 use Rattle.std.specs.Prelude.{slice_get}
 use Rattle.std.proofs.lemmas.Option.{slice_get_read}
-use Rattle.std.proofs.lemmas.List.{append-nil, append_assoc, drop_more, take_more_set, take_all, drop_all, length-take-le}
+use Rattle.std.proofs.lemmas.List.{append-nil, append_assoc, drop_more, take_more_set, drop_all, length-take-le}
 use Rattle.exec_journal.specs.declared.plan.Branch.{Branch}
 use Rattle.exec_journal.specs.declared.plan.Maker.{Maker}
 use Rattle.exec_journal.specs.declared.plan.Plan.{Plan}
 use Rattle.exec_journal.specs.declared.plan.PlanAction.{PlanAction}
-use Rattle.exec_journal.specs.declared.attempt.Attempt.{Attempt}
 use Rattle.exec_journal.specs.declared.ends.ActionEnd.{ActionEnd}
-use Rattle.exec_journal.specs.declared.ends.Fate.{Fate}
 use Rattle.exec_journal.specs.declared.ends.Fate.TheVariants as fate
 use Rattle.exec_journal.specs.declared.ends.Outcome.{Outcome}
 use Rattle.exec_journal.specs.declared.ends.Outcome.TheVariants as outcome
 use Rattle.exec_journal.specs.declared.ends.Standing.{Standing}
 use Rattle.exec_journal.specs.declared.journal.Entry.{Entry}
 use Rattle.exec_journal.specs.Entries.{attempt_of}
-use Rattle.exec_journal.specs.Words.{grant_of, commit_of, ever_sent}
+use Rattle.exec_journal.specs.Words.{grant_of}
 use Rattle.exec_journal.specs.Attempts.{end_of, ended, dropped}
 use Rattle.exec_journal.specs.Settled.{group_of, all_dropped, is_starved, is_success, standing_after, standings_from, standings}
 use Rattle.exec_journal.specs.Ends.{action_end, ends_from, ends_of}
-use Rattle.exec_journal.specs.Outcomes.{grant_outcome, lesser, least_without, skipped, outcome_after, outcome_of, is_ok, is_some_ok, is_winner, won_or_spoiled, lost_fate, fate_after, fate_of}
+use Rattle.exec_journal.specs.Outcomes.{grant_outcome, lesser, least_without, skipped, outcome_after, outcome_of, is_ok, is_some_ok, fate_after, fate_of}
 
 pub dropped_end : (p : Plan) (j : List Entry) (a : ℕ) (b : Branch) → is_some (end_of j (attempt_of a b p.limit)) ≡ dropped p j a b
 unfolding dropped ended

@@ -1,6 +1,5 @@
 -- Lines of a legal journal are numbered in order, and each line that an entry names was launched by its own berth's lane.
-use Rattle.std.proofs.Common.{◌≡◌, ℕ, suc, ◌+◌, ◌*◌, ◌/◌, ◌%◌, ◌<◌, ◌≤◌, ◌==◌, nat_lt, Bool, true, false, ◌&&◌, ◌||◌, not, cond, List, [], ◌∷◌, length, Option, Some, None, is_some, option_map, unwrap_or, ℤ, pos, ◌⊎◌, inl, inr, refl, ap, sym, subst, ◌∙◌, arith}
-use Rattle.std.specs.List.{filter}
+use Rattle.std.proofs.Common.{◌≡◌, ℕ, ◌*◌, ◌/◌, ◌%◌, ◌<◌, ◌≤◌, ◌==◌, nat_lt, Bool, true, ◌&&◌, not, cond, List, [], ◌∷◌, length, Option, Some, None, option_map, ℤ, inl, inr, refl, sym, subst, ◌∙◌, arith}
 use Rattle.std.proofs.lemmas.Bool.{eqb-true, eq-eqb, ne_eqb, and_parts, or_cases}
 use Rattle.exec_journal.specs.declared.plan.Plan.{Plan}
 use Rattle.exec_journal.specs.declared.attempt.Attempt.{Attempt}
@@ -11,14 +10,14 @@ use Rattle.exec_journal.specs.declared.call.Started.{Started}
 use Rattle.exec_journal.specs.declared.call.Written.{Written}
 use Rattle.exec_journal.specs.declared.reply.Reply.{Reply}
 use Rattle.exec_journal.specs.declared.reply.Reply.TheVariants as reply
-use Rattle.exec_journal.specs.History.{or_else, and_more, each, latest, AtEach}
+use Rattle.exec_journal.specs.History.{or_else, and_more, each, latest}
 use Rattle.exec_journal.specs.Entries.{Request, launch_in, send_in, is_look, is_halt}
-use Rattle.exec_journal.specs.Words.{line_count, last_work, work_at, last_line, line_at, launch_of, launch_at, launch_on, sends, sent_on, pending, is_pending, stopped, has_halted}
+use Rattle.exec_journal.specs.Words.{line_count, last_work, work_at, last_line, line_at, launch_of, launch_on, sends, sent_on, pending, is_pending, stopped, has_halted}
 use Rattle.exec_journal.specs.declared.plan.Kind.{Kind}
 use Rattle.exec_journal.specs.Settled.{kind_of, berths}
 use Rattle.exec_journal.specs.Rules as r
 use Rattle.exec_journal.specs.Scripts as s
-use Rattle.exec_journal.specs.Legal.{Legal, LegalEntry}
+use Rattle.exec_journal.specs.Legal.{Legal}
 use Rattle.exec_journal.specs.Facts.{call_line, reply_line, IsOfBerth, OfBerth, IsNext, NamesItsLine, NameTheirLines}
 use Rattle.exec_journal.proofs.Histories.{AtSome, some_each, some_map, AllOf, all_each, all_filter, all_oldest}
 use Rattle.exec_journal.proofs.Ruled as u

@@ -1,5 +1,5 @@
 -- Entries that leave what is known of the actions as it was.
-use Rattle.std.proofs.Common.{◌≡◌, ℕ, ◌+◌, Bool, true, false, ◌&&◌, ◌||◌, not, cond, List, [], ◌∷◌, ◌++◌, length, Option, Some, None, is_some, refl, ap, sym, ◌∙◌}
+use Rattle.std.proofs.Common.{◌≡◌, ℕ, true, cond, List, [], ◌∷◌, ◌++◌, length, Option, Some, None, is_some, refl, ap, ◌∙◌}
 use Rattle.exec_journal.specs.declared.plan.Branch.{Branch}
 use Rattle.exec_journal.specs.declared.plan.Branch.TheVariants.{Local, Remote}
 use Rattle.exec_journal.specs.declared.plan.Plan.{Plan}
@@ -12,8 +12,8 @@ use Rattle.exec_journal.specs.declared.call.Found.{Found}
 use Rattle.exec_journal.specs.declared.call.Found.TheVariants as found
 use Rattle.exec_journal.specs.History.{or_else}
 use Rattle.exec_journal.specs.Entries.{attempt_of}
-use Rattle.exec_journal.specs.Words.{grant_of, granted, commit_of, has_ended, answered, wrote, says_feed_fault, line_cause, launch_of, was_sent}
-use Rattle.exec_journal.specs.Attempts.{attempt, line_of, fault_of, lost_cause, over, end_of, ended, dropped}
+use Rattle.exec_journal.specs.Words.{grant_of, granted, launch_of, was_sent}
+use Rattle.exec_journal.specs.Attempts.{attempt, line_of, fault_of, over, end_of, ended, dropped}
 use Rattle.exec_journal.specs.Settled.{by_grant, standing_after, standings_from, standings, settled, all_settled, ready, wanted, unused_or_dropped, queued, bound, if_bound, still_bound}
 use Rattle.exec_journal.specs.Facts.{SameActions, SameStandings}
 

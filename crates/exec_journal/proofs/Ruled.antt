@@ -1,7 +1,7 @@
 -- Each reply of the rules with the reasons for it: a case for each way in which a rule answers.
-use Rattle.std.proofs.Common.{◌≡◌, ℕ, ◌+◌, ◌/◌, ◌==◌, nat_lt, Bool, true, false, ◌&&◌, ◌||◌, not, cond, List, [], ◌∷◌, length, Option, Some, None, is_some, option_map, option_and_then, unwrap_or, ℤ, pos, ◌⊎◌, inl, inr, refl, ap, sym, subst, ◌∙◌}
+use Rattle.std.proofs.Common.{◌≡◌, ℕ, ◌/◌, ◌==◌, nat_lt, Bool, true, false, ◌&&◌, not, cond, List, [], ◌∷◌, length, Option, Some, None, option_map, unwrap_or, ℤ, pos, inl, inr, refl, sym, subst, ◌∙◌}
 use Rattle.std.specs.Prelude.{slice_get}
-use Rattle.std.specs.List.{filter, find, list_any}
+use Rattle.std.specs.List.{filter, find}
 use Rattle.std.specs.Ordering.{int_eq}
 use Rattle.std.proofs.lemmas.Bool.{and_parts}
 use Rattle.exec_journal.specs.declared.plan.Branch.{Branch}
@@ -21,7 +21,7 @@ use Rattle.exec_journal.specs.declared.reply.Reply.TheVariants as reply
 use Rattle.exec_journal.specs.declared.reply.BreachWhy.TheVariants as breach
 use Rattle.exec_journal.specs.declared.reply.StrayWhy.TheVariants as stray
 use Rattle.exec_journal.specs.declared.reply.Why.TheVariants as why
-use Rattle.exec_journal.specs.History.{or_else, first}
+use Rattle.exec_journal.specs.History.{or_else}
 use Rattle.exec_journal.specs.Entries.{Request, attempt_of, gather_of_entry}
 use Rattle.exec_journal.specs.Words.{last_work, line_count, started, was_taken, last_line, sends, pending, is_pending, has_cancel, line_cause, why_of, broke, live, granted, grant_of}
 use Rattle.exec_journal.specs.Settled.{berth_group, kind_of, first_berth, berths_of, has_cancellation, is_single, earliest, some_free}

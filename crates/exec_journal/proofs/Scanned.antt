@@ -1,15 +1,21 @@
 -- What is found by looking through the entries is what the words say of the journal.
-use Rattle.std.proofs.Common.{◌≡◌, ℕ, ◌+◌, ◌<◌, ◌≤◌, Bool, true, false, ◌||◌, not, cond, List, [], ◌∷◌, ◌++◌, length, get_or, take, drop, reverse, Option, Some, None, is_some, option_map, option_and_then, refl, ap, sym, subst, ◌∙◌, arith}
-use Rattle.std.specs.List.{find, list_any, slice_get}
+use Rattle.std.proofs.Common.{◌≡◌, ℕ, ◌+◌, ◌<◌, ◌≤◌, Bool, true, false, ◌&&◌, ◌||◌, cond, List, [], ◌∷◌, ◌++◌, length, get_or, take, drop, reverse, Option, Some, None, is_some, option_and_then, refl, ap, sym, ◌∙◌}
+use Rattle.std.specs.List.{find, list_any}
 use Rattle.std.proofs.lemmas.List.{take_more, reverse-append, take-append-drop, take_all}
 use Rattle.exec_journal.specs.declared.plan.Branch.{Branch}
 use Rattle.exec_journal.specs.declared.attempt.Attempt.{Attempt}
 use Rattle.exec_journal.specs.declared.ends.Cause.{Cause}
+use Rattle.exec_journal.specs.declared.call.Call.{Call}
+use Rattle.exec_journal.specs.declared.call.Call.TheVariants as call
+use Rattle.exec_journal.specs.declared.call.Written.{Written}
+use Rattle.exec_journal.specs.declared.call.Written.TheVariants as write
+use Rattle.exec_journal.specs.declared.reply.Reply.{Reply}
+use Rattle.exec_journal.specs.declared.reply.Reply.TheVariants as reply
 use Rattle.exec_journal.specs.declared.journal.Entry.{Entry}
 use Rattle.exec_journal.specs.History.{or_else, unless_before, ever, latest, first}
-use Rattle.exec_journal.specs.Entries.{is_for, consumed_in, send_in, ends, committed_in}
-use Rattle.exec_journal.specs.Words.{last_work, work_at, answered, has_ended, line_cause, break_at, ever_sent, is_of_branch, grant_of, commit_of, match_at, match_of}
-use Rattle.exec_journal.specs.Scans.{is_work, front, grants, ended_line}
+use Rattle.exec_journal.specs.Entries.{Request, is_for, consumed_in, is_unwritten, send_in, ends, committed_in}
+use Rattle.exec_journal.specs.Words.{last_work, work_at, answered, has_ended, line_cause, break_at, break_by, write_cause, if_line, ever_sent, is_of_branch, grant_of, commit_of, match_at, match_of}
+use Rattle.exec_journal.specs.Scans.{is_work, front, grants, ended_line, was_answered, is_late, write_break, break_when}
 
 -- the front with one more entry
 pub front_more : (es : List Entry) (i : ℕ) (d : Entry) → i < length es → front es (i + 1) ≡ get_or es i d ∷ front es i
@@ -121,6 +127,22 @@ pub first_passed : {X : Type 0} (f : List Entry → Entry → Option X) (es : Li
 first_passed f es i e lt is none here =
     let more : front es (i + 1) ≡ e ∷ front es i = (front_more es i e lt ∙ ap (λ (y : Entry). y ∷ front es i) (sym is)) in
     ap (first f) more ∙ rw here none
+
+-- ---- the break of a line, where it is known whether the request was already answered
+
+write_late : (j : List Entry) (o : Option Request) (how : Written) → write_break (is_unwritten how && was_answered j o) how ≡ write_cause j how o
+write_late j o write.FeedFault = refl
+write_late j o write.Done = refl
+write_late j (Some r) write.RoomFault = refl
+write_late j (Some r) write.TooLarge = refl
+write_late j None write.RoomFault = refl
+write_late j None write.TooLarge = refl
+
+pub break_late : (j : List Entry) (o : Option Request) (l : ℕ) (c : Call) (x : Reply) → break_when (is_late j o c) l c x ≡ break_by j o l c x
+break_late j o l (call.Wrote k n how) x = ap (if_line k l) (write_late j o how)
+break_late j o l (call.Answer k y) (reply.Breach w) = refl
+break_late j o l (call.Ended k how) x = refl
+break_late j o l _ _ = refl
 
 -- ---- the words of the journal of all entries
 

@@ -1,6 +1,6 @@
 -- What is kept of all actions and lines says what the journal says of them.
-use Rattle.std.proofs.Common.{◌≡◌, ◌≢◌, ℕ, zero, suc, ◌<◌, ◌≤◌, ◌==◌, eqb, Bool, true, false, ◌&&◌, ◌||◌, cond, List, [], ◌∷◌, length, get_or, set, Option, Some, None, is_some, option_map, unwrap_or, ◌⊎◌, inl, inr, refl, ap, sym, subst, ◌∙◌, arith}
-use Rattle.std.specs.Prelude.{slice_get}
+use Rattle.std.proofs.Common.{◌≡◌, ◌≢◌, ℕ, zero, suc, ◌<◌, ◌≤◌, ◌==◌, eqb, Bool, true, false, ◌&&◌, ◌||◌, not, cond, nat_lt, List, [], ◌∷◌, length, get_or, set, Option, Some, None, is_some, option_map, option_and_then, unwrap_or, ◌⊎◌, inl, inr, refl, ap, sym, subst, ◌∙◌, arith}
+use Rattle.std.specs.Prelude.{slice_get, replicate}
 use Rattle.std.specs.Option.{option_or, option_eq}
 use Rattle.std.proofs.lemmas.Bool.{eqb-true, eqb-false, eq-eqb, ne_eqb}
 use Rattle.std.proofs.lemmas.Option.{slice_get-get_or}
@@ -19,14 +19,16 @@ use Rattle.exec_journal.specs.declared.reply.Reply.TheVariants as reply
 use Rattle.exec_journal.specs.declared.tally.LineFact.{LineFact}
 use Rattle.exec_journal.specs.declared.tally.BranchFact.{BranchFact}
 use Rattle.exec_journal.specs.declared.tally.ActionFact.{ActionFact}
-use Rattle.exec_journal.specs.History.{unless_before}
-use Rattle.exec_journal.specs.Entries.{Request, attempt_of, same_attempt, same_branch, is_for, consumed_in, send_in, launch_in, send_of_entry, launch_of_entry, ends, committed_in, refused_in, granted_in}
-use Rattle.exec_journal.specs.Words.{last_work, has_ended, line_cause, break_at, break_by, order_of, if_line, wrote_if, ever_sent, is_of_branch, granted, grant_of, commit_of, of_action}
-use Rattle.exec_journal.specs.Attempts.{carrier_in, carrier_by, fault_by, start_cause, unwritten_cause, refused_cause, found_cause}
-use Rattle.exec_journal.specs.Scans.{grants, grant_fact, ended_line, track_after, IsTrack}
-use Rattle.exec_journal.specs.Tallies.{AllNew, new_action, new_branch, new_line, update, update_if, reply_action, call_action, broken_line, branch_after, action_after, line_after, line_fact, IsBranchFact, IsActionFact, AreActions, AreLines}
+use Rattle.exec_journal.specs.History.{or_else, unless_before}
+use Rattle.exec_journal.specs.Entries.{Request, attempt_of, same_attempt, same_branch, is_branch_of, is_look, is_halt, is_for, consumed_in, send_in, send_of_entry, launch_of_entry, ends, committed_in, refused_in, granted_in}
+use Rattle.exec_journal.specs.Words.{last_work, has_ended, line_cause, break_at, break_by, order_of, wrote_if, answered, ever_sent, is_of_branch, granted, grant_of, commit_of, of_action}
+use Rattle.exec_journal.specs.Attempts.{carrier_in, fault_by, refused_cause}
+use Rattle.exec_journal.specs.Scans.{is_work, grants, grant_fact, ended_line, is_late, track_after, IsTrack}
+use Rattle.exec_journal.specs.Tallies.{AllNew, new_action, new_branch, new_line, update, update_if, reply_action, call_action, broken_line, branch_of, answer_flag, answers_after, branch_after, action_after, line_after, line_fact, AreAnswers, IsBranchFact, IsActionFact, AreActions, AreLines, AreOrders}
 use Rattle.exec_journal.proofs.Ruled.{by_bool}
-use Rattle.exec_journal.proofs.Tracks.{track_new, track_entry, track_aside, IsAside, granted_aside}
+use Rattle.exec_journal.proofs.Scanned.{break_late}
+use Rattle.exec_journal.proofs.Tracks.{track_new, track_entry, track_aside, IsAside}
+use Rattle.exec_journal.proofs.Updates.{get_update, get_replicate}
 
 -- ---- a change at one place
 
@@ -77,9 +79,15 @@ unless_same None (Some y) = refl
 unless_same (Some x) None = refl
 unless_same (Some x) (Some y) = refl
 
-line_entry : (j : List Entry) (l : ℕ) (e : Entry) → line_after j l e (line_fact j l) ≡ line_fact (e ∷ j) l
-unfolding line_cause has_ended
-line_entry j l e = ap (λ (o : Option Cause). record { cause = o; ended = ends l e.call || has_ended j l }) (unless_same (break_at l j e) (line_cause j l))
+-- the entry's request wasn't written, and was already answered
+late_at : List Entry → Entry → Bool
+late_at j e = is_late j (order_of j e.lane) e.call
+
+line_entry : (j : List Entry) (l : ℕ) (e : Entry) → line_after (late_at j e) l e (line_fact j l) ≡ line_fact (e ∷ j) l
+unfolding late_at line_cause has_ended
+line_entry j l e =
+    ap (λ (o : Option Cause). record { cause = o; ended = ends l e.call || has_ended j l })
+    (ap (option_or (line_cause j l)) (break_late j (order_of j e.lane) l e.call e.reply) ∙ unless_same (break_at l j e) (line_cause j l))
 
 not_this : (k l : ℕ) → Some k ≢ Some l → (k == l) ≡ false
 not_this k l h = ne_eqb k l (λ e. h (ap Some e))
@@ -98,19 +106,71 @@ line_aside : (j : List Entry) (l : ℕ) (e : Entry) → broken_line e.call ≢ S
 unfolding line_cause has_ended
 line_aside j l e h = rw (no_break j (order_of j e.lane) l e.call e.reply h, no_end l e.call h) refl
 
-pub lines_more : (xs ys : List LineFact) (j : List Entry) (e : Entry) → AreLines xs j → ys ≡ update_if (line_after j (unwrap_or (broken_line e.call) 0) e) xs (broken_line e.call) → AreLines ys (e ∷ j)
+lines_more : (xs ys : List LineFact) (j : List Entry) (e : Entry) → AreLines xs j → ys ≡ update_if (line_after (late_at j e) (unwrap_or (broken_line e.call) 0) e) xs (broken_line e.call) → AreLines ys (e ∷ j)
 lines_more xs ys j e are is = record { each = λ l f h. one l f (subst (λ (zs : List LineFact). slice_get zs l ≡ Some f) is h) (at_cases l (broken_line e.call)) }
   where
-    one : (l : ℕ) (f : LineFact) → slice_get (update_if (line_after j (unwrap_or (broken_line e.call) 0) e) xs (broken_line e.call)) l ≡ Some f
+    turn_line : ℕ → LineFact → LineFact
+    turn_line l = line_after (late_at j e) l e
+
+    one : (l : ℕ) (f : LineFact) → slice_get (update_if (turn_line (unwrap_or (broken_line e.call) 0)) xs (broken_line e.call)) l ≡ Some f
         → (broken_line e.call ≡ Some l) ⊎ (broken_line e.call ≢ Some l) → f ≡ line_fact (e ∷ j) l
-    one l f h (inl at) = (let old = hit (λ k. line_after j k e) xs (broken_line e.call) l f at h in old.2 ∙ ap (line_after j l e) (are.each l old.0 old.1) ∙ line_entry j l e)
-    one l f h (inr off) = are.each l f (sym (miss (λ k. line_after j k e) xs (broken_line e.call) l off) ∙ h) ∙ sym (line_aside j l e off)
+    one l f h (inl at) = (let old = hit turn_line xs (broken_line e.call) l f at h in old.2 ∙ ap (turn_line l) (are.each l old.0 old.1) ∙ line_entry j l e)
+    one l f h (inr off) = are.each l f (sym (miss turn_line xs (broken_line e.call) l off) ∙ h) ∙ sym (line_aside j l e off)
 
 -- the cause of a line that has ended, by its fact
 pub ended_by : (lines : List LineFact) (j : List Entry) (o : Option ℕ) (l : ℕ) (d : LineFact) → AreLines lines j → o ≡ Some l → l < length lines
     → cond (get_or lines l d).ended (get_or lines l d).cause None ≡ ended_line j o
 ended_by lines j o l d are is lt =
     ap (λ (f : LineFact). cond f.ended f.cause None) (are.each l (get_or lines l d) (slice_get-get_or lines l d lt)) ∙ ap (ended_line j) (sym is)
+
+-- ---- answers
+
+and_assoc : (x y z : Bool) → (x && (y && z)) ≡ ((x && y) && z)
+and_assoc true y z = refl
+and_assoc false y z = refl
+
+flag_set : (o : Option Bool) (flag : Bool) → option_map (λ (_ : Bool). true) o ≡ Some flag → flag ≡ true
+flag_set (Some x) flag h = cc
+flag_set None flag h = absurd (cc)
+
+-- the flag of the answer is set, and each other stays as it was
+flag_after : (flags : List Bool) (a : ℕ) (b : Branch) (n : ℕ) (old : Bool) (o : Option Attempt) (flag : Bool) → ((f : Bool) → slice_get flags n ≡ Some f → f ≡ old)
+    → slice_get (answers_after flags a b o) n ≡ Some flag → flag ≡ (is_for (attempt_of a b n) o || old)
+flag_after flags a b n old None flag was h = was flag h
+flag_after flags a b n old (Some s) flag was h =
+    by (is_branch_of a b s) h ∙ ap (λ v. v || old) (sym (and_assoc (s.action == a) (same_branch s.branch b) (s.number == n)))
+  where
+    at : (same : Bool) → cond same (option_map (λ (_ : Bool). true) (slice_get flags n)) (slice_get flags n) ≡ Some flag → flag ≡ (same || old)
+    at true k = flag_set (slice_get flags n) flag k
+    at false k = was flag k
+
+    by : (of : Bool) → slice_get (update_if (λ (_ : Bool). true) flags (cond of (Some s.number) None)) n ≡ Some flag → flag ≡ ((of && (s.number == n)) || old)
+    by true k = at (s.number == n) (sym (get_update (λ (_ : Bool). true) flags s.number n) ∙ k)
+    by false k = was flag k
+
+answers_entry : (flags : List Bool) (j : List Entry) (e : Entry) (a : ℕ) (b : Branch) → AreAnswers flags j a b → AreAnswers (answers_after flags a b (consumed_in e.reply)) (e ∷ j) a b
+unfolding answered
+answers_entry flags j e a b is = record { each = λ n flag h. flag_after flags a b n (answered j (attempt_of a b n)) (consumed_in e.reply) flag (is.each n) h }
+
+answers_start : (a : ℕ) (b : Branch) → AreAnswers (replicate 11 false) [] a b
+unfolding answered
+answers_start a b = record { each = λ n flag h. only (nat_lt n 11) flag (sym (get_replicate false 11 n) ∙ h) }
+  where
+    only : (c : Bool) (flag : Bool) → cond c (Some false) None ≡ Some flag → flag ≡ false
+    only true flag h = cc
+    only false flag h = absurd (cc)
+
+branch_answers : (f : ActionFact) (limit : ℕ) (j : List Entry) (a : ℕ) (b : Branch) → IsActionFact f limit j a → AreAnswers (branch_of f b).answers j a b
+branch_answers f limit j a Local is = is.local_is.answers
+branch_answers f limit j a Remote is = is.remote_is.answers
+
+-- the attempt was answered, by its flag
+pub flag_read : (fs : List ActionFact) (limit : ℕ) (j : List Entry) (t : Attempt) (o : Option Bool) (flag : Bool) → AreActions fs limit j → o ≡ answer_flag fs t → o ≡ Some flag → flag ≡ answered j t
+flag_read fs limit j t o flag are is some = from (slice_get fs t.action) refl (sym is ∙ some)
+  where
+    from : (v : Option ActionFact) → slice_get fs t.action ≡ v → option_and_then (λ (f : ActionFact). slice_get (branch_of f t.branch).answers t.number) v ≡ Some flag → flag ≡ answered j t
+    from (Some f) at h = (branch_answers f limit j t.action t.branch (are.each t.action f at)).each t.number flag h
+    from None at h = absurd (cc)
 
 -- ---- actions: an entry that is about the action
 
@@ -136,6 +196,7 @@ unfolding commit_of ever_sent
 branch_entry f j e t won w is = record {
   commits = unless_same (committed_in t.action t.branch e.call) f.commit ∙ ap (unless_before (committed_in t.action t.branch e.call)) is.commits;
   sends = or_comm f.sent _ ∙ ap (λ b. is_of_branch t.action t.branch (send_in e.reply) || b) is.sends;
+  answers = answers_entry f.answers j e t.action t.branch is.answers;
   tracks = subst (λ b. IsTrack (track_after f.track t (last_work j e.lane) e b (ended_line j f.track.line)) (e ∷ j) t) (sym w) (track_entry f.track j e t is.tracks);
 }
 
@@ -154,16 +215,22 @@ action_entry f limit j a e is =
 other_attempt : (s t : Attempt) → Some s.action ≢ Some t.action → same_attempt s t ≡ false
 other_attempt s t h = rw (not_this s.action t.action h) refl
 
+no_answer : (t : Attempt) (x : Reply) → reply_action x ≢ Some t.action → is_for t (consumed_in x) ≡ false
+no_answer t (reply.Matched a b n) h = other_attempt (attempt_of a b n) t h
+no_answer t (reply.Late a b n) h = other_attempt (attempt_of a b n) t h
+no_answer t _ h = refl
+
+answers_aside : (flags : List Bool) (j : List Entry) (e : Entry) (a : ℕ) (b : Branch) → reply_action e.reply ≢ Some a → AreAnswers flags j a b → AreAnswers flags (e ∷ j) a b
+unfolding answered
+answers_aside flags j e a b off is = record {
+  each = λ n flag h. is.each n flag h ∙ sym (ap (λ v. v || answered j (attempt_of a b n)) (no_answer (attempt_of a b n) e.reply off));
+}
+
 module _ (t : Attempt) where
   no_carrier : (x : Reply) → reply_action x ≢ Some t.action → carrier_in t x ≡ None
   no_carrier (reply.Launch l a b n) h = rw (other_attempt (attempt_of a b n) t h) refl
   no_carrier (reply.Send l n a b m) h = rw (other_attempt (attempt_of a b m) t h) refl
   no_carrier _ h = refl
-
-  no_answer : (x : Reply) → reply_action x ≢ Some t.action → is_for t (consumed_in x) ≡ false
-  no_answer (reply.Matched a b n) h = other_attempt (attempt_of a b n) t h
-  no_answer (reply.Late a b n) h = other_attempt (attempt_of a b n) t h
-  no_answer _ h = refl
 
   no_send : (x : Reply) → reply_action x ≢ Some t.action → is_of_branch t.action t.branch (send_in x) ≡ false
   no_send (reply.Send l n a b m) h = rw (not_this a t.action h) refl
@@ -207,7 +274,7 @@ module _ (t : Attempt) where
   is_aside : (j : List Entry) (e : Entry) → reply_action e.reply ≢ Some t.action → call_action (last_work j e.lane) e.call ≢ Some t.action → IsAside t (last_work j e.lane) e
   is_aside j e by_reply by_call = record {
     carrier = no_carrier e.reply by_reply;
-    answer = no_answer e.reply by_reply;
+    answer = no_answer t e.reply by_reply;
     write = no_wrote (last_work j e.lane) e.call by_call;
     own = no_fault (last_work j e.lane) e.call e.reply by_call;
     grant = no_grant (last_work j e.lane) e.call e.reply by_call;
@@ -218,6 +285,7 @@ module _ (t : Attempt) where
   branch_aside f j e by_reply by_call is = record {
     commits = is.commits ∙ sym (ap (λ (o : Option CommitEnd). unless_before o (commit_of j t.action t.branch)) (no_commit (last_work j e.lane) e.call by_call));
     sends = is.sends ∙ sym (ap (λ b. b || ever_sent j t.action t.branch) (no_send e.reply by_reply));
+    answers = answers_aside f.answers j e t.action t.branch by_reply is.answers;
     tracks = track_aside f.track j e t (is_aside j e by_reply by_call) is.tracks;
   }
 
@@ -307,14 +375,75 @@ module _ (limit : ℕ) (j : List Entry) (e : Entry) (order : Option Entry) (by_r
       actions_twice limit j e xs ys zs are (moved xs ys by_reply (reply_action e.reply) reply_is is) (moved ys zs by_call (call_action (last_work j e.lane) e.call) called more)
       (λ h. other_option by_call by_reply apart (called ∙ h ∙ sym reply_is))
 
-pub lines_noted : (xs ys : List LineFact) (j : List Entry) (e : Entry) (o : Option ℕ) → AreLines xs j → o ≡ broken_line e.call → ys ≡ update_if (line_after j (unwrap_or o 0) e) xs o → AreLines ys (e ∷ j)
-lines_noted xs ys j e o are same is = lines_more xs ys j e are (is ∙ ap (λ (v : Option ℕ). update_if (line_after j (unwrap_or v 0) e) xs v) same)
+pub lines_noted : (xs ys : List LineFact) (j : List Entry) (e : Entry) (order : Option Entry) (late : Bool) (o : Option ℕ) → AreLines xs j → order ≡ last_work j e.lane
+    → late ≡ is_late j (send_of_entry order) e.call → o ≡ broken_line e.call → ys ≡ update_if (line_after late (unwrap_or o 0) e) xs o → AreLines ys (e ∷ j)
+unfolding late_at
+lines_noted xs ys j e order late o are work said same is =
+    lines_more xs ys j e are
+    (is ∙ ap (λ (v : Option ℕ). update_if (line_after late (unwrap_or v 0) e) xs v) same
+    ∙ ap (λ b. update_if (line_after b (unwrap_or (broken_line e.call) 0) e) xs (broken_line e.call)) (said ∙ ap (λ (v : Option Entry). is_late j (send_of_entry v) e.call) work))
+
+-- ---- the newest work of each lane
+
+module _ {R : Type 0} (held : R → Option Entry) where
+  -- an entry that is no work of the lane leaves its newest
+  order_stays : (j : List Entry) (e : Entry) (lane : ℕ) (o : Option Entry) → is_work lane e ≡ false → o ≡ last_work j lane → o ≡ last_work (e ∷ j) lane
+  unfolding last_work
+  order_stays j e lane o off is = is ∙ sym (ap (λ b. or_else (cond b (Some e) None) (last_work j lane)) off)
+
+  pub orders_kept : (rs : List R) (j : List Entry) (e : Entry) → is_work e.lane e ≡ false → AreOrders held rs j → AreOrders held rs (e ∷ j)
+  orders_kept rs j e off are = record { each = λ lane r h. order_stays j e lane (held r) (by lane (e.lane == lane) refl) (are.each lane r h) }
+    where
+      by : (lane : ℕ) (b : Bool) → (e.lane == lane) ≡ b → is_work lane e ≡ false
+      by lane true same = subst (λ l. is_work l e ≡ false) (eqb-true e.lane lane same) off
+      by lane false apart = ap (λ b. b && (not (is_look e.call) && not (is_halt e.call))) apart
+
+  pub orders_past : (rs : List R) (j : List Entry) (e : Entry) → length rs ≤ e.lane → AreOrders held rs j → AreOrders held rs (e ∷ j)
+  orders_past rs j e past are = record { each = λ lane r h. order_stays j e lane (held r) (apart lane (within rs lane r h)) (are.each lane r h) }
+    where
+      within : (xs : List R) (i : ℕ) (r : R) → slice_get xs i ≡ Some r → i < length xs
+      within [] i r h = absurd (cc)
+      within (x ∷ xs) zero r h = omega arith
+      within (x ∷ xs) (suc i) r h = (let few = within xs i r h in omega arith)
+
+      apart : (lane : ℕ) → lane < length rs → is_work lane e ≡ false
+      apart lane lt = ap (λ b. b && (not (is_look e.call) && not (is_halt e.call))) (ne_eqb e.lane lane (λ same. omega arith))
+
+  pub orders_set : (rs : List R) (j : List Entry) (e : Entry) (r : R) → held r ≡ Some e → is_work e.lane e ≡ true → e.lane < length rs → AreOrders held rs j → AreOrders held (set rs e.lane r) (e ∷ j)
+  unfolding last_work
+  orders_set rs j e r new work lt are =
+      record { each = λ lane q h. one lane q (e.lane == lane) refl (sym (get_update (λ (_ : R). r) rs e.lane lane) ∙ ap (λ (xs : List R). slice_get xs lane) (sym (set-update (λ (_ : R). r) rs e.lane r lt)) ∙ h) }
+    where
+      placed : (o : Option R) (q : R) → option_map (λ (_ : R). r) o ≡ Some q → q ≡ r
+      placed (Some x) q h = cc
+      placed None q h = absurd (cc)
+
+      one : (lane : ℕ) (q : R) (b : Bool) → (e.lane == lane) ≡ b → cond (e.lane == lane) (option_map (λ (_ : R). r) (slice_get rs lane)) (slice_get rs lane) ≡ Some q → held q ≡ last_work (e ∷ j) lane
+      one lane q true same h =
+          ap held (placed (slice_get rs lane) q (sym (ap (λ b. cond b (option_map (λ (_ : R). r) (slice_get rs lane)) (slice_get rs lane)) same) ∙ h))
+          ∙ new
+          ∙ sym (ap (λ b. or_else (cond b (Some e) None) (last_work j lane)) (subst (λ l. is_work l e ≡ true) (eqb-true e.lane lane same) work))
+      one lane q false apart h =
+          order_stays j e lane (held q) (ap (λ b. b && (not (is_look e.call) && not (is_halt e.call))) apart)
+          (are.each lane q (sym (ap (λ b. cond b (option_map (λ (_ : R). r) (slice_get rs lane)) (slice_get rs lane)) apart) ∙ h))
+
+  pub orders_start : (r : R) (n : ℕ) → held r ≡ None → AreOrders held (replicate n r) []
+  unfolding last_work
+  orders_start r n none = record { each = λ lane q h. ap held (only (nat_lt lane n) q (sym (get_replicate r n lane) ∙ h)) ∙ none }
+    where
+      only : (c : Bool) (q : R) → cond c (Some r) None ≡ Some q → q ≡ r
+      only true q h = cc
+      only false q h = absurd (cc)
+
+  -- the lane's newest work, by what stands at its place
+  pub order_read : (rs : List R) (j : List Entry) (lane : ℕ) (d : R) → AreOrders held rs j → lane < length rs → held (get_or rs lane d) ≡ last_work j lane
+  order_read rs j lane d are lt = are.each lane (get_or rs lane d) (slice_get-get_or rs lane d lt)
 
 -- ---- at the start
 
 branch_start : (t : Attempt) → IsBranchFact new_branch [] t
 unfolding commit_of ever_sent
-branch_start t = record { commits = refl; sends = refl; tracks = track_new _ t refl refl refl refl refl }
+branch_start t = record { commits = refl; sends = refl; answers = answers_start t.action t.branch; tracks = track_new _ t refl refl refl refl refl }
 
 pub actions_start : (xs : List ActionFact) (limit : ℕ) → AllNew new_action xs → AreActions xs limit []
 unfolding grant_of

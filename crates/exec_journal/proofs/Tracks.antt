@@ -9,12 +9,11 @@ use Rattle.exec_journal.specs.declared.call.Written.{Written}
 use Rattle.exec_journal.specs.declared.call.Call.{Call}
 use Rattle.exec_journal.specs.declared.call.Call.TheVariants as call
 use Rattle.exec_journal.specs.declared.reply.Reply.{Reply}
-use Rattle.exec_journal.specs.declared.reply.Reply.TheVariants as reply
 use Rattle.exec_journal.specs.declared.journal.Entry.{Entry}
 use Rattle.exec_journal.specs.declared.track.Track.{Track}
 use Rattle.exec_journal.specs.History.{or_else, unless_before}
 use Rattle.exec_journal.specs.Entries.{Request, is_for, consumed_in, send_of_entry, ends}
-use Rattle.exec_journal.specs.Words.{last_work, has_ended, answered, wrote, wrote_if, says_feed_fault, line_cause, break_at, break_by, order_of, if_line, end_cause, granted, grant_of}
+use Rattle.exec_journal.specs.Words.{last_work, has_ended, answered, wrote, wrote_if, says_feed_fault, line_cause, break_at, break_by, order_of, end_cause, granted, grant_of}
 use Rattle.exec_journal.specs.Attempts.{carrier_in, line_of, fault_by, fault_of, lost_cause, over, end_of}
 use Rattle.exec_journal.specs.Scans.{front, grants, grant_fact, ended_line, lost_of, end_now, track_after, concerns, IsTrack}
 use Rattle.exec_journal.proofs.Scanned.{front_more}

@@ -1,5 +1,5 @@
 -- What was gathered from a journal says how each action ends.
-use Rattle.std.proofs.Common.{◌≡◌, ◌≢◌, ℕ, zero, suc, ◌+◌, ◌<◌, ◌≤◌, ◌==◌, Bool, true, false, ◌&&◌, ◌||◌, cond, List, [], ◌∷◌, ◌++◌, length, get_or, drop, Option, Some, None, is_some, option_map, unwrap_or, ◌⊎◌, inl, inr, refl, ap, sym, subst, ◌∙◌, add-one, append_assoc, arith}
+use Rattle.std.proofs.Common.{◌≡◌, ℕ, zero, suc, ◌+◌, ◌<◌, ◌≤◌, ◌==◌, ◌&&◌, ◌||◌, cond, List, [], ◌∷◌, ◌++◌, length, get_or, drop, Option, Some, None, is_some, option_map, unwrap_or, inl, inr, refl, ap, sym, subst, ◌∙◌, add-one, append_assoc, arith}
 use Rattle.std.specs.Prelude.{slice_get}
 use Rattle.std.proofs.lemmas.Bool.{eqb-true}
 use Rattle.std.proofs.lemmas.List.{append-nil, drop_more, drop_all, length_push}
@@ -15,28 +15,24 @@ use Rattle.exec_journal.specs.declared.call.Found.{Found}
 use Rattle.exec_journal.specs.declared.call.Found.TheVariants as found
 use Rattle.exec_journal.specs.declared.ends.ActionEnd.{ActionEnd}
 use Rattle.exec_journal.specs.declared.ends.Cause.{Cause}
-use Rattle.exec_journal.specs.declared.ends.Fate.{Fate}
-use Rattle.exec_journal.specs.declared.ends.Outcome.{Outcome}
-use Rattle.exec_journal.specs.declared.ends.Outcome.TheVariants as outcome
 use Rattle.exec_journal.specs.declared.ends.Standing.{Standing}
-use Rattle.exec_journal.specs.declared.ends.Standing.TheVariants.{Open, Succeeded, Without}
+use Rattle.exec_journal.specs.declared.ends.Standing.TheVariants.{Open, Without}
 use Rattle.exec_journal.specs.declared.grant.Grant.{Grant}
 use Rattle.exec_journal.specs.declared.journal.Entry.{Entry}
 use Rattle.exec_journal.specs.declared.tally.ActionFact.{ActionFact}
 use Rattle.exec_journal.specs.declared.tally.BranchFact.{BranchFact}
-use Rattle.exec_journal.specs.declared.tally.LineFact.{LineFact}
 use Rattle.exec_journal.specs.declared.verdict.Verdict.{Verdict}
 use Rattle.exec_journal.specs.Entries.{attempt_of, granted_in}
 use Rattle.exec_journal.specs.Words.{grant_of, granted, commit_of, ever_sent, of_action}
 use Rattle.exec_journal.specs.Attempts.{end_of, ended, dropped}
 use Rattle.exec_journal.specs.Settled.{by_commit, by_grant, unused_or_dropped, all_dropped, is_starved, standing_after, standings_from, standings}
 use Rattle.exec_journal.specs.Ends.{action_end, ends_from, ends_of}
-use Rattle.exec_journal.specs.Outcomes.{grant_outcome, commit_outcome, is_winner, won_or_spoiled, lost_fate, fate_after, skipped, outcome_after, outcome_of, fate_of}
-use Rattle.exec_journal.specs.Scans.{grants, grant_fact, ended_line, end_now}
-use Rattle.exec_journal.specs.Tallies.{AllNew, AreActions, AreLines, IsActionFact, IsBranchFact}
-use Rattle.exec_journal.specs.Verdicts.{verdict_of, verdicts_from, verdict_by, own_by, commit_for, prize_outcome, is_gone, is_won_by, fate_by, standing_of, standing_own, standing_by, outcome_by, standings_through, end_by, ends_through}
+use Rattle.exec_journal.specs.Outcomes.{grant_outcome, commit_outcome, is_winner, won_or_spoiled, lost_fate, fate_after}
+use Rattle.exec_journal.specs.Scans.{grant_fact, ended_line, end_now}
+use Rattle.exec_journal.specs.Tallies.{AllNew, AreActions, IsActionFact, IsBranchFact}
+use Rattle.exec_journal.specs.Verdicts.{verdict_of, verdicts_from, verdict_by, own_by, commit_for, is_gone, is_won_by, fate_by, standing_own, standing_by, standings_through, end_by, ends_through}
 use Rattle.exec_journal.proofs.Histories.{AtSome, first_from}
-use Rattle.exec_journal.proofs.Judged.{fate_read, outcome_read, is_there}
+use Rattle.exec_journal.proofs.Judged.{fate_read, outcome_read}
 use Rattle.exec_journal.proofs.Ruled.{by_bool}
 
 -- ---- new facts

@@ -4,19 +4,16 @@ use Rattle.exec_journal.specs.declared.plan.Branch.{Branch}
 use Rattle.exec_journal.specs.declared.plan.Plan.{Plan}
 use Rattle.exec_journal.specs.declared.plan.PlanAction.{PlanAction}
 use Rattle.exec_journal.specs.declared.attempt.Attempt.{Attempt}
-use Rattle.exec_journal.specs.declared.ends.Cause.{Cause}
 use Rattle.exec_journal.specs.declared.journal.Entry.{Entry}
 use Rattle.exec_journal.specs.declared.call.Call.{Call}
 use Rattle.exec_journal.specs.declared.call.Call.TheVariants as call
-use Rattle.exec_journal.specs.declared.call.CommitEnd.{CommitEnd}
-use Rattle.exec_journal.specs.declared.call.Found.{Found}
 use Rattle.exec_journal.specs.declared.reply.Reply.{Reply}
 use Rattle.exec_journal.specs.declared.reply.Reply.TheVariants as reply
 use Rattle.exec_journal.specs.History.{AtEach, ever}
 use Rattle.exec_journal.specs.Entries.{Request, attempt_of, is_for, launch_in, send_in}
-use Rattle.exec_journal.specs.Words.{line_count, launch_of, started, failed, has_ended, was_killed, was_taken, line_cause, sends, was_sent, answered, wrote, grant_of, commit_of}
-use Rattle.exec_journal.specs.Attempts.{attempt, begun_in, line_of, fault_of, ended}
-use Rattle.exec_journal.specs.Settled.{standings, ready, wanted, bound, queued}
+use Rattle.exec_journal.specs.Words.{line_count, launch_of, started, failed, has_ended, was_killed, was_taken, line_cause, sends, was_sent, grant_of, commit_of}
+use Rattle.exec_journal.specs.Attempts.{attempt, begun_in, ended}
+use Rattle.exec_journal.specs.Settled.{standings, ready, wanted}
 
 -- ---- lines
 

@@ -1,18 +1,20 @@
 -- What the code that looks through a journal keeps of it.
-use Rattle.std.specs.Prelude.{◌≡◌, ℕ, ◌==◌, Bool, true, false, ◌&&◌, ◌||◌, not, Option, Some, None, option_map, is_some, if◌then◌else◌, List, [], ◌∷◌, reverse, take}
+use Rattle.std.specs.Prelude.{◌≡◌, ℕ, ◌==◌, Bool, true, false, ◌&&◌, ◌||◌, not, Option, Some, None, is_some, if◌then◌else◌, List, reverse, take}
 use Rattle.std.specs.Option.{option_or}
-use Rattle.exec_journal.specs.declared.plan.Branch.{Branch}
 use Rattle.exec_journal.specs.declared.attempt.Attempt.{Attempt}
 use Rattle.exec_journal.specs.declared.ends.Cause.{Cause}
+use Rattle.exec_journal.specs.declared.ends.Cause.TheVariants as cause
 use Rattle.exec_journal.specs.declared.ends.Outcome.{Outcome}
 use Rattle.exec_journal.specs.declared.ends.Outcome.TheVariants as outcome
 use Rattle.exec_journal.specs.declared.ends.Standing.{Standing}
 use Rattle.exec_journal.specs.declared.ends.Standing.TheVariants.{Without}
 use Rattle.exec_journal.specs.declared.journal.Entry.{Entry}
 use Rattle.exec_journal.specs.declared.call.Call.{Call}
+use Rattle.exec_journal.specs.declared.call.Call.TheVariants as call
 use Rattle.exec_journal.specs.declared.call.Found.{Found}
 use Rattle.exec_journal.specs.declared.call.Found.TheVariants as found
 use Rattle.exec_journal.specs.declared.call.Written.{Written}
+use Rattle.exec_journal.specs.declared.call.Written.TheVariants as write
 use Rattle.exec_journal.specs.declared.reply.Reply.{Reply}
 use Rattle.exec_journal.specs.declared.reply.Reply.TheVariants as reply
 use Rattle.exec_journal.specs.declared.grant.Grant.{Grant}
@@ -20,8 +22,8 @@ use Rattle.exec_journal.specs.declared.grant.Prize.{Prize}
 use Rattle.exec_journal.specs.declared.grant.Prize.TheVariants as prize
 use Rattle.exec_journal.specs.declared.track.Track.{Track}
 use Rattle.exec_journal.specs.History.{or_else}
-use Rattle.exec_journal.specs.Entries.{is_look, is_halt, is_for, consumed_in, granted_in, send_of_entry}
-use Rattle.exec_journal.specs.Words.{last_work, has_ended, answered, wrote, wrote_if, says_feed_fault, line_cause, granted, of_action, commit_of}
+use Rattle.exec_journal.specs.Entries.{Request, is_look, is_halt, is_unwritten, is_for, consumed_in, granted_in, send_of_entry}
+use Rattle.exec_journal.specs.Words.{has_ended, answered, wrote, wrote_if, says_feed_fault, line_cause, if_line, end_cause, granted, of_action, commit_of}
 use Rattle.exec_journal.specs.Attempts.{carrier_in, line_of, fault_by, fault_of, end_of}
 use Rattle.exec_journal.specs.Settled.{by_commit}
 use Rattle.exec_journal.specs.Outcomes.{commit_outcome}
@@ -59,6 +61,35 @@ is_refusal_reply _ = false
 abbrev pub ended_line : List Entry → Option ℕ → Option Cause
 ended_line j (Some l) = if has_ended j l then line_cause j l else None
 ended_line j None = None
+
+-- ---- the break of a line, where it is known whether a request that wasn't written was already answered
+
+abbrev pub leaves_unwritten : Call → Bool
+leaves_unwritten (call.Wrote l n how) = is_unwritten how
+leaves_unwritten _ = false
+
+abbrev pub writes_to : ℕ → Call → Bool
+writes_to l (call.Wrote k n how) = k == l
+writes_to l _ = false
+
+abbrev pub was_answered : List Entry → Option Request → Bool
+was_answered j (Some r) = answered j r.attempt
+was_answered j None = false
+
+-- the call says of the request that it wasn't written, and that was already answered
+abbrev pub is_late : List Entry → Option Request → Call → Bool
+is_late j order c = leaves_unwritten c && was_answered j order
+
+abbrev pub write_break : Bool → Written → Option Cause
+write_break late write.FeedFault = Some cause.Feed
+write_break late write.Done = None
+write_break late _ = if late then Some cause.Breach else None
+
+abbrev pub break_when : Bool → ℕ → Call → Reply → Option Cause
+break_when late l (call.Wrote k n how) _ = if_line k l (write_break late how)
+break_when late l (call.Answer k a) (reply.Breach w) = if_line k l (Some cause.Breach)
+break_when late l (call.Ended k how) _ = if_line k l (Some (end_cause how))
+break_when late l _ _ = None
 
 -- ---- what is kept of an attempt
 

@@ -1,6 +1,7 @@
 -- What is kept of all actions and lines while a journal is gone through once.
-use Rattle.std.specs.Prelude.{◌≡◌, ℕ, zero, suc, Bool, true, false, ◌||◌, Option, Some, None, option_map, is_some, List, [], ◌∷◌, slice_get, length}
+use Rattle.std.specs.Prelude.{◌≡◌, ℕ, zero, suc, Bool, true, false, ◌||◌, Option, Some, None, option_map, option_and_then, is_some, List, [], ◌∷◌, slice_get, replicate}
 use Rattle.std.specs.Option.{option_or}
+use Rattle.exec_journal.specs.declared.plan.Branch.{Branch}
 use Rattle.exec_journal.specs.declared.plan.Branch.TheVariants.{Local, Remote}
 use Rattle.exec_journal.specs.declared.attempt.Attempt.{Attempt}
 use Rattle.exec_journal.specs.declared.ends.Cause.{Cause}
@@ -12,9 +13,10 @@ use Rattle.exec_journal.specs.declared.reply.Reply.TheVariants as reply
 use Rattle.exec_journal.specs.declared.tally.LineFact.{LineFact}
 use Rattle.exec_journal.specs.declared.tally.BranchFact.{BranchFact}
 use Rattle.exec_journal.specs.declared.tally.ActionFact.{ActionFact}
-use Rattle.exec_journal.specs.Entries.{attempt_of, send_in, send_of_entry, launch_of_entry, ends, committed_in}
-use Rattle.exec_journal.specs.Words.{has_ended, line_cause, break_at, ever_sent, is_of_branch, grant_of, commit_of}
-use Rattle.exec_journal.specs.Scans.{grants, grant_fact, ended_line, track_after, IsTrack}
+use Rattle.exec_journal.specs.Entries.{attempt_of, send_in, send_of_entry, launch_of_entry, consumed_in, ends, committed_in}
+use Rattle.exec_journal.specs.Words.{last_work, has_ended, line_cause, answered, ever_sent, is_of_branch, grant_of, commit_of}
+use Rattle.exec_journal.specs.Attempts.{number_if}
+use Rattle.exec_journal.specs.Scans.{grants, grant_fact, ended_line, break_when, track_after, IsTrack}
 
 -- the element at a place changed
 abbrev pub update : {X : Type 0} → (X → X) → List X → ℕ → List X
@@ -50,10 +52,15 @@ broken_line _ = None
 
 -- ---- what is kept after an entry
 
+-- the flag with the attempt's number is set, where the answer is one of the branch
+abbrev pub answers_after : List Bool → ℕ → Branch → Option Attempt → List Bool
+answers_after flags a b o = update_if (λ _. true) flags (number_if a b o)
+
 abbrev pub branch_after : BranchFact → Attempt → Option Entry → Entry → Bool → Option Cause → BranchFact
 branch_after f t order e won line = record {
   commit = option_or f.commit (committed_in t.action t.branch e.call);
   sent = f.sent || is_of_branch t.action t.branch (send_in e.reply);
+  answers = answers_after f.answers t.action t.branch (consumed_in e.reply);
   track = track_after f.track t order e won line;
 }
 
@@ -64,17 +71,30 @@ action_after j limit a order e f = record {
   remote = branch_after f.remote (attempt_of a Remote limit) order e (is_some f.grant) (ended_line j f.remote.track.line);
 }
 
-abbrev pub line_after : List Entry → ℕ → Entry → LineFact → LineFact
-line_after j l e f = record { cause = option_or f.cause (break_at l j e); ended = ends l e.call || f.ended }
+abbrev pub line_after : Bool → ℕ → Entry → LineFact → LineFact
+line_after late l e f = record { cause = option_or f.cause (break_when late l e.call e.reply); ended = ends l e.call || f.ended }
 
 -- ---- it is what the journal says
+
+abbrev pub branch_of : ActionFact → Branch → BranchFact
+branch_of f Local = f.local
+branch_of f Remote = f.remote
+
+-- what the facts say of the attempt, where they have a flag for it
+abbrev pub answer_flag : List ActionFact → Attempt → Option Bool
+answer_flag fs t = option_and_then (λ f. slice_get (branch_of f t.branch).answers t.number) (slice_get fs t.action)
 
 abbrev pub line_fact : List Entry → ℕ → LineFact
 line_fact j l = record { cause = line_cause j l; ended = has_ended j l }
 
+-- each flag says whether the attempt of the branch with that number was answered
+pub record AreAnswers (flags : List Bool) (j : List Entry) (a : ℕ) (b : Branch) : Type 0 where
+  pub each : (n : ℕ) (flag : Bool) → slice_get flags n ≡ Some flag → flag ≡ answered j (attempt_of a b n)
+
 pub record IsBranchFact (f : BranchFact) (j : List Entry) (t : Attempt) : Type 0 where
   pub commits : f.commit ≡ commit_of j t.action t.branch
   pub sends : f.sent ≡ ever_sent j t.action t.branch
+  pub answers : AreAnswers f.answers j t.action t.branch
   pub tracks : IsTrack f.track j t
 
 pub record IsActionFact (f : ActionFact) (limit : ℕ) (j : List Entry) (a : ℕ) : Type 0 where
@@ -88,13 +108,17 @@ pub record AreActions (fs : List ActionFact) (limit : ℕ) (j : List Entry) : Ty
 pub record AreLines (fs : List LineFact) (j : List Entry) : Type 0 where
   pub each : (l : ℕ) (f : LineFact) → slice_get fs l ≡ Some f → f ≡ line_fact j l
 
+-- the newest work of each lane, as `held` reads it from what stands at the lane's place
+pub record AreOrders {R : Type 0} (held : R → Option Entry) (orders : List R) (j : List Entry) : Type 0 where
+  pub each : (lane : ℕ) (order : R) → slice_get orders lane ≡ Some order → held order ≡ last_work j lane
+
 -- ---- of which nothing was said yet
 
 abbrev pub new_line : LineFact
 new_line = record { cause = None; ended = false }
 
 abbrev pub new_branch : BranchFact
-new_branch = record { commit = None; sent = false; track = record { line = None; answered = false; wrote = None; fault = None; ended = None } }
+new_branch = record { commit = None; sent = false; answers = replicate 11 false; track = record { line = None; answered = false; wrote = None; fault = None; ended = None } }
 
 abbrev pub new_action : ActionFact
 new_action = record { grant = None; local = new_branch; remote = new_branch }

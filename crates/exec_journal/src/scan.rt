@@ -2,9 +2,9 @@
 ghost use Rattle.std.specs.Prelude.{◌≡◌, reverse, option_copied, option_map, is_some, find};
 ghost use Rattle.std.specs.List.{list_any};
 ghost use Rattle.exec_journal.specs.Entries.{is_for, consumed_in, send_of_entry, ends, committed_in, send_in, matched_in};
-ghost use Rattle.exec_journal.specs.Words.{last_work, answered, break_at, line_cause, write_cause, end_cause, grant_of, commit_of, ever_sent, is_of_branch, match_at};
+ghost use Rattle.exec_journal.specs.Words.{last_work, answered, order_of, break_at, line_cause, end_cause, grant_of, commit_of, ever_sent, is_of_branch, match_at};
 ghost use Rattle.exec_journal.specs.Attempts.{end_of};
-ghost use Rattle.exec_journal.specs.Scans.{is_work, ended_line, grant_fact, grants};
+ghost use Rattle.exec_journal.specs.Scans.{is_work, ended_line, grant_fact, grants, leaves_unwritten, writes_to, was_answered, is_late, write_break, break_when};
 
 use crate::grant::{Grant, grant_in};
 use crate::track::{Track, is_concerned, is_consumed};
@@ -23,7 +23,8 @@ fn newest_work(front: &[Entry], lane: u32) -> Option<&Entry>
     front.iter().rev().find(|e| is_work_of(e, lane))
 }
 
-fn is_work_of(entry: &Entry, lane: u32) -> bool
+/// The entry is one of the lane's, and neither a Look nor a Halt.
+pub fn is_work_of(entry: &Entry, lane: u32) -> bool
     ensures { result ≡ is_work lane entry.now }
 {
     entry.lane == lane && !matches!(&entry.call, Call::Look(_) | Call::Halt)
@@ -68,15 +69,60 @@ pub fn line_cause(front: &[Entry], line: u32) -> Option<Cause>
 }
 
 /// The cause for which the line breaks at this entry.
-pub fn break_in(before: &[Entry], entry: &Entry, line: u32) -> Option<Cause>
+fn break_in(before: &[Entry], entry: &Entry, line: u32) -> Option<Cause>
     ensures { result ≡ break_at line (reverse before.now) entry.now }
+{
+    let late = is_write_to(entry, line) && is_late(before, entry);
+    break_by(late, entry, line)
+}
+
+fn is_write_to(entry: &Entry, line: u32) -> bool
+    ensures { result ≡ writes_to line entry.now.call }
+{
+    matches!(&entry.call, Call::Wrote { line: written, .. } if *written == line)
+}
+
+/// The entry says that a request wasn't written, though it was answered before.
+fn is_late(before: &[Entry], entry: &Entry) -> bool
+    ensures { result ≡ is_late (reverse before.now) (order_of (reverse before.now) entry.now.lane) entry.now.call }
+{
+    is_unwritten(&entry.call) && was_answered(before, last_work(before, entry.lane))
+}
+
+/// The call says that a request wasn't written, and that not for a fault of its worker's input.
+pub fn is_unwritten(call: &Call) -> bool
+    ensures { result ≡ leaves_unwritten call.now }
+{
+    matches!(
+        call,
+        Call::Wrote {
+            how: Written::RoomFault | Written::TooLarge,
+            ..
+        }
+    )
+}
+
+/// It is an order to send a request, and an answer to that was consumed.
+fn was_answered(before: &[Entry], order: Option<&Entry>) -> bool
+    ensures { result ≡ was_answered (reverse before.now) (send_of_entry (option_copied order.entry)) }
+{
+    match sent_by(order) {
+        Some(attempt) => is_answered(before, attempt),
+        None => false,
+    }
+}
+
+/// The cause for which the line breaks at this entry. `late` says that the entry's request wasn't written, though it
+/// was answered before.
+pub fn break_by(late: bool, entry: &Entry, line: u32) -> Option<Cause>
+    ensures { result ≡ break_when late line entry.now.call entry.now.reply }
 {
     match &entry.call {
         Call::Wrote {
             line: written,
             how,
             ..
-        } if *written == line => write_break(before, *how, last_work(before, entry.lane)),
+        } if *written == line => write_break(late, *how),
         Call::Answer { line: answered, .. }
             if *answered == line && matches!(&entry.reply, Reply::Breach(_)) => Some(Cause::Breach),
         Call::Ended { line: ended, how } if *ended == line => Some(end_break(*how)),
@@ -84,20 +130,13 @@ pub fn break_in(before: &[Entry], entry: &Entry, line: u32) -> Option<Cause>
     }
 }
 
-fn write_break(before: &[Entry], how: Written, order: Option<&Entry>) -> Option<Cause>
-    ensures { result ≡ write_cause (reverse before.now) how (send_of_entry (option_copied order.entry)) }
+fn write_break(late: bool, how: Written) -> Option<Cause>
+    ensures { result ≡ write_break late how }
 {
     match how {
         Written::FeedFault => Some(Cause::Feed),
-        Written::Done => None,
-        Written::RoomFault | Written::TooLarge => {
-            let attempt = sent_by(order)?;
-            if is_answered(before, attempt) {
-                Some(Cause::Breach)
-            } else {
-                None
-            }
-        }
+        Written::RoomFault | Written::TooLarge if late => Some(Cause::Breach),
+        Written::RoomFault | Written::TooLarge | Written::Done => None,
     }
 }
 
@@ -130,7 +169,8 @@ fn end_break(how: HowEnded) -> Cause
     }
 }
 
-fn is_answered(front: &[Entry], attempt: Attempt) -> bool
+/// An answer to the attempt was consumed.
+pub fn is_answered(front: &[Entry], attempt: Attempt) -> bool
     ensures { result ≡ answered (reverse front.now) attempt }
 {
     has_consumed(front, attempt)

@@ -1,13 +1,25 @@
 // What a journal says of all actions and lines, gathered by going through it once.
-ghost use Rattle.std.specs.Prelude.{◌≡◌, ◌∷◌, reverse, option_copied, option_map, unwrap_or, if◌then◌else◌};
-ghost use Rattle.exec_journal.specs.Entries.{launch_of_entry};
-ghost use Rattle.exec_journal.specs.Scans.{ended_line};
-ghost use Rattle.exec_journal.specs.Tallies.{AllNew, new_action, new_line, AreActions, AreLines, action_after, branch_after, line_after, reply_action, call_action, broken_line, update_if};
+ghost use Rattle.std.specs.Prelude.{◌≡◌, ◌∷◌, ℕ, true, List, reverse, option_copied, option_map, unwrap_or, if◌then◌else◌};
+ghost use Rattle.exec_journal.specs.declared.journal.Entry.{Entry};
+ghost use Rattle.exec_journal.specs.Entries.{attempt_of, send_of_entry, launch_of_entry, consumed_in};
+ghost use Rattle.exec_journal.specs.Words.{last_work, answered};
+ghost use Rattle.exec_journal.specs.Attempts.{number_if};
+ghost use Rattle.exec_journal.specs.Scans.{ended_line, was_answered, is_late};
+ghost use Rattle.exec_journal.specs.Tallies.{AllNew, new_action, new_line, AreActions, AreLines, AreOrders, branch_of, answer_flag, answers_after, action_after, branch_after, line_after, reply_action, call_action, broken_line, update_if};
 
 use crate::grant::{Grant, grant_in};
-use crate::scan::{break_in, commit_in, ended_line, is_end, is_send_of, last_work, sent_by};
+use crate::scan::{
+    break_by, commit_in, ended_line, is_answered, is_end, is_send_of, is_unwritten, is_work_of,
+    last_work, sent_by,
+};
 use crate::track::Track;
 use crate::{Attempt, Branch, Call, Cause, CommitEnd, Entry, Reply};
+
+/// The most lanes that a run can have: two for each of 64 berths.
+const LANES: usize = 128;
+
+/// The numbers of a branch's attempts are below this: they are 1 to at most 10.
+const NUMBERS: usize = 11;
 
 /// Of a line: the cause for which it broke, and whether it has ended.
 #[derive(Clone, Copy, Debug, PartialEq, Eq)]
@@ -16,11 +28,13 @@ pub struct LineFact {
     pub ended: bool,
 }
 
-/// Of a branch: how it was committed, whether it was ever sent, and its last attempt.
+/// Of a branch: how it was committed, whether it was ever sent, which of its attempts were answered, by their
+/// numbers, and its last attempt.
 #[derive(Clone, Copy, Debug, PartialEq, Eq)]
 pub struct BranchFact {
     pub commit: Option<CommitEnd>,
     pub sent: bool,
+    pub answers: [bool; NUMBERS],
     pub track: Track,
 }
 
@@ -36,6 +50,7 @@ impl BranchFact {
     pub const NEW: BranchFact = BranchFact {
         commit: None,
         sent: false,
+        answers: [false; NUMBERS],
         track: Track {
             line: None,
             answered: false,
@@ -60,8 +75,17 @@ impl BranchFact {
                 .commit
                 .or(commit_in(entry, attempt.action, attempt.branch)),
             sent: self.sent || is_send_of(entry, attempt.action, attempt.branch),
+            answers: self.answers_after(attempt, &entry.reply),
             track: self.track.after(attempt, order, entry, won, line),
         }
+    }
+
+    fn answers_after(&self, attempt: Attempt, reply: &Reply) -> [bool; NUMBERS]
+        ensures { result ≡ answers_after self.now.answers attempt.action attempt.branch (consumed_in reply.now) }
+    {
+        let mut answers = self.answers;
+        mark(&mut answers, answered_number(attempt, reply));
+        answers
     }
 }
 
@@ -72,6 +96,15 @@ impl ActionFact {
         local: BranchFact::NEW,
         remote: BranchFact::NEW,
     };
+
+    fn branch(&self, branch: Branch) -> &BranchFact
+        ensures { result.now ≡ branch_of self.now branch }
+    {
+        match branch {
+            Branch::Local => &self.local,
+            Branch::Remote => &self.remote,
+        }
+    }
 }
 
 impl LineFact {
@@ -89,33 +122,137 @@ pub fn gather(actions: &mut [ActionFact], lines: &mut [LineFact], limit: u32, en
     ensures actions { AreActions actions.new limit (reverse entries.now) }
     ensures lines { AreLines lines.new (reverse entries.now) }
 {
+    let mut orders = [None; LANES];
     for (i, entry) in entries.iter().enumerate() {
-        note(actions, lines, limit, &entries[..i], entry);
+        note(actions, lines, &orders, limit, &entries[..i], entry);
+        note_order(&mut orders, entry);
     }
 }
 
-/// The facts of the lines and of the actions after one more entry.
-pub fn note(
+/// The facts of the lines and of the actions after one more entry. `orders` has the newest work of each lane before it.
+fn note(
     actions: &mut [ActionFact],
     lines: &mut [LineFact],
+    orders: &[Option<&Entry>],
     limit: u32,
     before: &[Entry],
     entry: &Entry,
 )
     requires actions { AreActions actions.old limit (reverse before.now) }
     requires lines { AreLines lines.old (reverse before.now) }
+    requires orders { AreOrders option_copied orders.now (reverse before.now) }
     ensures actions { AreActions actions.new limit (entry.now ∷ reverse before.now) }
     ensures lines { AreLines lines.new (entry.now ∷ reverse before.now) }
 {
-    let order = last_work(before, entry.lane);
+    let order = order_at(orders, before, entry.lane);
+    let late = is_late(actions, before, order, entry);
     let by_reply = action_of_reply(&entry.reply);
     let by_call = action_of_call(order, &entry.call);
     note_action(actions, lines, limit, before, by_reply, order, entry);
     if by_call != by_reply {
         note_action(actions, lines, limit, before, by_call, order, entry);
     }
-    note_line(lines, before, line_of_call(&entry.call), entry);
+    note_line(lines, late, line_of_call(&entry.call), entry);
 }
+
+// ---- lanes
+
+/// The newest work of the lane. Only for a lane past the table it looks back, and such a lane stands in no journal of a
+/// run.
+fn order_at<'a>(orders: &[Option<&'a Entry>], before: &'a [Entry], lane: u32) -> Option<&'a Entry>
+    requires { AreOrders option_copied orders.now (reverse before.now) }
+    ensures { option_copied result ≡ last_work (reverse before.now) lane }
+{
+    let at = lane as usize;
+    if at < orders.len() {
+        orders[at]
+    } else {
+        last_work(before, lane)
+    }
+}
+
+/// The newest work of each lane after one more entry.
+fn note_order<'a>(orders: &mut [Option<&'a Entry>], entry: &'a Entry)
+    ensures { (j : List Entry) → AreOrders option_copied orders.old j → AreOrders option_copied orders.new (entry.now ∷ j) }
+{
+    let at = entry.lane as usize;
+    if at < orders.len() && is_work_of(entry, entry.lane) {
+        orders[at] = Some(entry);
+    }
+}
+
+// ---- answers
+
+/// The entry says that a request wasn't written, though it was answered before.
+fn is_late(actions: &[ActionFact], before: &[Entry], order: Option<&Entry>, entry: &Entry) -> bool
+    requires { (limit : ℕ) × AreActions actions.now limit (reverse before.now) }
+    ensures { result ≡ is_late (reverse before.now) (send_of_entry (option_copied order.entry)) entry.now.call }
+{
+    is_unwritten(&entry.call) && was_answered(actions, before, order)
+}
+
+fn was_answered(actions: &[ActionFact], before: &[Entry], order: Option<&Entry>) -> bool
+    requires { (limit : ℕ) × AreActions actions.now limit (reverse before.now) }
+    ensures { result ≡ was_answered (reverse before.now) (send_of_entry (option_copied order.entry)) }
+{
+    match sent_by(order) {
+        Some(attempt) => answered_by(actions, before, attempt),
+        None => false,
+    }
+}
+
+/// An answer to the attempt was consumed. Only for an attempt without a flag it looks back: its action isn't the plan's or
+/// its number is past every limit, and such an attempt stands in no journal of a run.
+fn answered_by(actions: &[ActionFact], before: &[Entry], attempt: Attempt) -> bool
+    requires { (limit : ℕ) × AreActions actions.now limit (reverse before.now) }
+    ensures { result ≡ answered (reverse before.now) attempt }
+{
+    match answer_flag(actions, attempt) {
+        Some(answered) => answered,
+        None => is_answered(before, attempt),
+    }
+}
+
+fn answer_flag(actions: &[ActionFact], attempt: Attempt) -> Option<bool>
+    ensures { result ≡ answer_flag actions.now attempt }
+{
+    let fact = actions.get(attempt.action as usize)?;
+    let answers = &fact.branch(attempt.branch).answers;
+    answers.get(attempt.number as usize).copied()
+}
+
+/// Sets the flag with this number.
+fn mark(flags: &mut [bool], number: Option<u32>)
+    ensures { flags.new ≡ update_if (λ _. true) flags.old number }
+{
+    if let Some(number) = number {
+        let at = number as usize;
+        if at < flags.len() {
+            flags[at] = true;
+        }
+    }
+}
+
+/// The number of the branch's attempt whose answer the reply consumes.
+fn answered_number(attempt: Attempt, reply: &Reply) -> Option<u32>
+    ensures { result ≡ number_if attempt.action attempt.branch (consumed_in reply.now) }
+{
+    match reply {
+        Reply::Matched {
+            action,
+            branch,
+            attempt: number,
+        }
+        | Reply::Late {
+            action,
+            branch,
+            attempt: number,
+        } if *action == attempt.action && *branch == attempt.branch => Some(*number),
+        _ => None,
+    }
+}
+
+// ---- actions
 
 fn note_action(
     actions: &mut [ActionFact],
@@ -132,8 +269,7 @@ fn note_action(
     if let Some(action) = action {
         let at = action as usize;
         if at < actions.len() {
-            let old = actions[at];
-            actions[at] = action_next(&old, lines, limit, before, action, order, entry);
+            actions[at] = action_next(&actions[at], lines, limit, before, action, order, entry);
         }
     }
 }
@@ -195,23 +331,23 @@ fn cause_of(fact: LineFact) -> Option<Cause>
     if fact.ended { fact.cause } else { None }
 }
 
-fn note_line(lines: &mut [LineFact], before: &[Entry], line: Option<u32>, entry: &Entry)
-    ensures { lines.new ≡ update_if (line_after (reverse before.now) (unwrap_or line 0) entry.now) lines.old line }
+fn note_line(lines: &mut [LineFact], late: bool, line: Option<u32>, entry: &Entry)
+    ensures { lines.new ≡ update_if (line_after late (unwrap_or line 0) entry.now) lines.old line }
 {
     if let Some(line) = line {
         let at = line as usize;
         if at < lines.len() {
             let old = lines[at];
-            lines[at] = line_next(old, before, line, entry);
+            lines[at] = line_next(old, late, line, entry);
         }
     }
 }
 
-fn line_next(fact: LineFact, before: &[Entry], line: u32, entry: &Entry) -> LineFact
-    ensures { result ≡ line_after (reverse before.now) line entry.now fact }
+fn line_next(fact: LineFact, late: bool, line: u32, entry: &Entry) -> LineFact
+    ensures { result ≡ line_after late line entry.now fact }
 {
     LineFact {
-        cause: fact.cause.or(break_in(before, entry, line)),
+        cause: fact.cause.or(break_by(late, entry, line)),
         ended: is_end(entry, line) || fact.ended,
     }
 }

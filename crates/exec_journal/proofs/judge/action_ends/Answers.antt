@@ -1,10 +1,8 @@
-use Rattle.std.proofs.Common.{◌≡◌, [], List, length, reverse, ap, sym, subst, ◌∙◌}
-use Rattle.exec_journal.specs.declared.ends.Standing.{Standing}
+use Rattle.std.proofs.Common.{List, length, reverse, ap, sym, ◌∙◌}
 use Rattle.exec_journal.specs.declared.journal.Entry.{Entry}
 use Rattle.exec_journal.specs.declared.plan.PlanAction.{PlanAction}
 use Rattle.exec_journal.specs.declared.verdict.Verdict.{Verdict}
-use Rattle.exec_journal.specs.Settled.{standings}
-use Rattle.exec_journal.specs.Verdicts.{verdicts_from, standings_through, ends_through}
+use Rattle.exec_journal.specs.Verdicts.{verdicts_from}
 use Rattle.exec_journal.proofs.Verdicts.{length-verdicts, ends_whole}
 use Rattle.exec_journal.proofs.judge.action_ends.Goals as goal
 

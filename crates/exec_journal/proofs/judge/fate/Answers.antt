@@ -1,7 +1,6 @@
-use Rattle.std.proofs.Common.{List, ◌≡◌, get_or, ap, sym, ◌∙◌, reverse}
+use Rattle.std.proofs.Common.{List, get_or, ap, sym, ◌∙◌, reverse}
 use Rattle.exec_journal.specs.declared.journal.Entry.{Entry}
 use Rattle.exec_journal.specs.declared.plan.PlanAction.{PlanAction}
-use Rattle.exec_journal.specs.Settled.{group_of}
 use Rattle.exec_journal.specs.Outcomes.{fate_after}
 use Rattle.exec_journal.proofs.Judged.{fate_read}
 use Rattle.exec_journal.proofs.judge.fate.Goals as goal

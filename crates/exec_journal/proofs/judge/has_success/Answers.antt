@@ -1,4 +1,4 @@
-use Rattle.std.proofs.Common.{List, ◌≡◌, ap, ◌∙◌, reverse}
+use Rattle.std.proofs.Common.{List, ap, ◌∙◌, reverse}
 use Rattle.exec_journal.specs.declared.journal.Entry.{Entry}
 use Rattle.exec_journal.specs.Words.{grant_of}
 use Rattle.exec_journal.specs.Outcomes.{grant_outcome, is_some_ok}

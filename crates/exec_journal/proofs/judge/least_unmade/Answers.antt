@@ -1,4 +1,4 @@
-use Rattle.std.proofs.Common.{◌≡◌, ◌+◌, ℕ, Option, Some, List, drop, get_or, sym, subst, ◌∙◌}
+use Rattle.std.proofs.Common.{◌≡◌, ◌+◌, ℕ, Option, drop, sym, subst, ◌∙◌}
 use Rattle.exec_journal.specs.declared.plan.Maker.{Maker}
 use Rattle.exec_journal.specs.Outcomes.{lesser, least_without}
 use Rattle.exec_journal.proofs.Judged.{least_step, least_skip, least_all}

@@ -1,4 +1,4 @@
-use Rattle.std.proofs.Common.{List, ◌≡◌, get_or, ap, sym, ◌∙◌, reverse}
+use Rattle.std.proofs.Common.{List, get_or, ap, sym, ◌∙◌, reverse}
 use Rattle.exec_journal.specs.declared.journal.Entry.{Entry}
 use Rattle.exec_journal.specs.declared.plan.PlanAction.{PlanAction}
 use Rattle.exec_journal.specs.Settled.{standings}

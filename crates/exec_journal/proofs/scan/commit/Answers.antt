@@ -1,5 +1,4 @@
-use Rattle.std.proofs.Common.{◌≡◌, Option, Some, None, option_copied, option_and_then, sym, ap, ◌∙◌}
-use Rattle.exec_journal.specs.declared.journal.Entry.{Entry}
+use Rattle.std.proofs.Common.{Some, None, option_copied, sym, ap, ◌∙◌}
 use Rattle.exec_journal.proofs.Scanned.{commit_found}
 use Rattle.exec_journal.proofs.scan.commit.Goals as goal
 

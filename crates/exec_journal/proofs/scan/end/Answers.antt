@@ -1,6 +1,6 @@
-use Rattle.std.proofs.Common.{◌≡◌, Option, option_copied, is_some, option_map, refl, ap, sym, subst, ◌∙◌, ◌+◌}
+use Rattle.std.proofs.Common.{option_copied, is_some, refl, ap, sym, subst, ◌∙◌, ◌+◌}
 use Rattle.exec_journal.specs.declared.track.Track.{Track}
-use Rattle.exec_journal.specs.Scans.{front, grants, grant_fact, track_after}
+use Rattle.exec_journal.specs.Scans.{front}
 use Rattle.exec_journal.proofs.Tracks.{Follows, follow_new, follow_concerned, follow_aside, or_then, or_other}
 use Rattle.exec_journal.proofs.scan.end.Goals as goal
 use Rattle.exec_journal.proofs.scan.end.Goals.{then-is_concerned+then-won, then-is_concerned+else-won, else-is_concerned}

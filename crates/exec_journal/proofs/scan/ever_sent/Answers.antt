@@ -1,4 +1,4 @@
-use Rattle.std.proofs.Common.{◌≡◌, Option, Some, None, option_map, option_and_then, sym, ap, ◌∙◌}
+use Rattle.std.proofs.Common.{◌∙◌}
 use Rattle.exec_journal.proofs.Scanned.{ever_sent_any}
 use Rattle.exec_journal.proofs.scan.ever_sent.Goals as goal
 

@@ -1,6 +1,5 @@
-use Rattle.std.proofs.Common.{◌≡◌, Option, Some, None, option_copied, option_map, option_and_then, sym, ap, ◌∙◌}
-use Rattle.exec_journal.specs.declared.journal.Entry.{Entry}
-use Rattle.exec_journal.specs.Scans.{grants, grant_fact}
+use Rattle.std.proofs.Common.{Some, None, option_copied, option_map, sym, ap, ◌∙◌}
+use Rattle.exec_journal.specs.Scans.{grant_fact}
 use Rattle.exec_journal.proofs.Scanned.{grant_found}
 use Rattle.exec_journal.proofs.scan.grant.Goals as goal
 

@@ -1,4 +1,4 @@
-use Rattle.std.proofs.Common.{◌≡◌, Option, Some, None, option_map, option_and_then, sym, ap, ◌∙◌}
+use Rattle.std.proofs.Common.{◌∙◌}
 use Rattle.exec_journal.proofs.Scanned.{last_work_find}
 use Rattle.exec_journal.proofs.scan.last_work.Goals as goal
 

@@ -1,5 +1,4 @@
-use Rattle.std.proofs.Common.{◌≡◌, ℕ, List, Option, Some, option_copied, unwrap_or, set, reverse, ap, sym, ◌∙◌}
-use Rattle.exec_journal.specs.declared.tally.ActionFact.{ActionFact}
+use Rattle.std.proofs.Common.{ℕ, Option, option_copied, unwrap_or, set, reverse, ap, sym, ◌∙◌}
 use Rattle.exec_journal.specs.Tallies.{update_if, action_after}
 use Rattle.exec_journal.proofs.Tallied.{set-update, update_past}
 use Rattle.exec_journal.proofs.tally.note_action.Goals as goal

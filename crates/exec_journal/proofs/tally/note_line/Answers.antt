@@ -1,17 +1,16 @@
-use Rattle.std.proofs.Common.{◌≡◌, ℕ, List, Option, Some, unwrap_or, set, reverse, ap, sym, ◌∙◌}
-use Rattle.exec_journal.specs.declared.tally.LineFact.{LineFact}
+use Rattle.std.proofs.Common.{ℕ, Option, unwrap_or, set, ap, sym, ◌∙◌}
 use Rattle.exec_journal.specs.Tallies.{update_if, line_after}
 use Rattle.exec_journal.proofs.Tallied.{set-update, update_past}
 use Rattle.exec_journal.proofs.tally.note_line.Goals as goal
 
 pub returns-then-at-lines : goal.returns-then-at-lines
 returns-then-at-lines c =
-    let g = line_after (reverse c.args.before.now) c.in-Some.line c.args.entry.now in
+    let g = line_after c.args.late c.in-Some.line c.args.entry.now in
     ap (set c.args.lines.now c.in-Some.line) c.line_next.ensures
     ∙ set-update g c.args.lines.now c.in-Some.line _ c.if-at-lines.true
-    ∙ sym (ap (λ (o : Option ℕ). update_if (line_after (reverse c.args.before.now) (unwrap_or o 0) c.args.entry.now) c.args.lines.now o) c.in-Some.is)
+    ∙ sym (ap (λ (o : Option ℕ). update_if (line_after c.args.late (unwrap_or o 0) c.args.entry.now) c.args.lines.now o) c.in-Some.is)
 
 pub returns-else-at-lines : goal.returns-else-at-lines
 returns-else-at-lines c =
-    update_past (line_after (reverse c.args.before.now) c.in-Some.line c.args.entry.now) c.args.lines.now c.in-Some.line c.if-at-lines.false
-    ∙ sym (ap (λ (o : Option ℕ). update_if (line_after (reverse c.args.before.now) (unwrap_or o 0) c.args.entry.now) c.args.lines.now o) c.in-Some.is)
+    update_past (line_after c.args.late c.in-Some.line c.args.entry.now) c.args.lines.now c.in-Some.line c.if-at-lines.false
+    ∙ sym (ap (λ (o : Option ℕ). update_if (line_after c.args.late (unwrap_or o 0) c.args.entry.now) c.args.lines.now o) c.in-Some.is)

@@ -1,4 +1,4 @@
-use Rattle.std.proofs.Common.{◌≡◌, ◌+◌, ◌∷◌, [], ◌++◌, List, length, ap, sym, subst, ◌∙◌}
+use Rattle.std.proofs.Common.{◌+◌, List, length, ap, sym, subst, ◌∙◌}
 use Rattle.std.proofs.lemmas.List.{length_push}
 use Rattle.exec_journal.specs.declared.tally.ActionFact.{ActionFact}
 use Rattle.exec_journal.specs.Tallies.{AllNew, new_action}

@@ -1,8 +1,8 @@
-use Rattle.std.proofs.Common.{◌≡◌, ◌<◌, ◌+◌, ◌∷◌, [], ◌++◌, List, length, get_or, drop, reverse, ap, sym, subst, ◌∙◌, arith}
+use Rattle.std.proofs.Common.{◌<◌, ◌+◌, ◌++◌, List, length, get_or, drop, reverse, ap, subst, ◌∙◌, arith}
 use Rattle.exec_journal.specs.declared.plan.PlanAction.{PlanAction}
 use Rattle.exec_journal.specs.declared.verdict.Verdict.{Verdict}
 use Rattle.exec_journal.specs.Verdicts.{verdicts_from}
-use Rattle.exec_journal.proofs.Verdicts.{verdicts_step, verdicts_all}
+use Rattle.exec_journal.proofs.Verdicts.{verdicts_step}
 use Rattle.exec_journal.proofs.verdict.verdicts_by.Goals as goal
 
 pub loop-a-preserved : goal.loop-a-preserved
