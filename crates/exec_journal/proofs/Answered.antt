@@ -1,11 +1,10 @@
 -- The winners and their answers, entry by entry.
-use Rattle.std.proofs.Common.{◌≡◌, ℕ, Bor, option_copied, zero, suc, ◌<◌, ◌≤◌, ◌==◌, ◌+◌, eqb, Bool, true, false, ◌&&◌, cond, List, [], ◌∷◌, length, get_or, set, take, reverse, Option, Some, None, is_some, option_map, ◌⊎◌, inl, inr, refl, ap, sym, subst, ◌∙◌, arith}
+use Rattle.std.proofs.Common.{◌≡◌, ℕ, Bor, option_copied, ◌<◌, ◌≤◌, ◌==◌, ◌+◌, Bool, true, false, cond, List, [], ◌∷◌, length, get_or, set, reverse, Option, Some, None, option_map, ◌⊎◌, inl, inr, refl, ap, sym, subst, ◌∙◌, arith}
 use Rattle.std.specs.Prelude.{slice_get}
 use Rattle.std.specs.Option.{option_or}
 use Rattle.std.proofs.lemmas.List.{take_all}
-use Rattle.std.proofs.lemmas.Bool.{eqb-true, eqb-false, eq-eqb, ne_eqb, and_parts}
+use Rattle.std.proofs.lemmas.Bool.{eqb-true, ne_eqb}
 use Rattle.std.proofs.lemmas.Option.{slice_get-get_or, slice_get_within, get_or_from_slice_get, same_Some}
-use Rattle.exec_journal.specs.declared.plan.Branch.{Branch}
 use Rattle.exec_journal.specs.declared.attempt.Attempt.{Attempt}
 use Rattle.exec_journal.specs.declared.call.Answer.{Answer}
 use Rattle.exec_journal.specs.declared.call.Call.{Call}
@@ -13,12 +12,11 @@ use Rattle.exec_journal.specs.declared.call.Call.TheVariants as call
 use Rattle.exec_journal.specs.declared.call.Found.{Found}
 use Rattle.exec_journal.specs.declared.journal.Entry.{Entry}
 use Rattle.exec_journal.specs.declared.reply.Reply.{Reply}
-use Rattle.exec_journal.specs.declared.reply.Reply.TheVariants as reply
 use Rattle.exec_journal.specs.History.{unless_before}
-use Rattle.exec_journal.specs.Entries.{attempt_of, same_attempt, same_branch, is_for, matched_in, granted_in}
+use Rattle.exec_journal.specs.Entries.{is_for, matched_in, granted_in}
 use Rattle.exec_journal.specs.Words.{of_action, grant_of, match_at, match_of}
 use Rattle.exec_journal.specs.Outcomes.{winning_answer}
-use Rattle.exec_journal.specs.Tallies.{AllNew, update}
+use Rattle.exec_journal.specs.Tallies.{AllNew}
 use Rattle.exec_journal.specs.Winners.{granted_at, winner_in, AreWinners, winners_after, answer_at, answer_in, AreAnswers, AreWinning, NotesAnswer, matched_action, is_at}
 use Rattle.exec_journal.proofs.Ruled.{by_bool}
 use Rattle.exec_journal.specs.Scans.{front}

@@ -1,5 +1,5 @@
 -- By which answer each action was won, as it is gathered by going through the journal twice: for the grants, and then for the answers.
-use Rattle.std.specs.Prelude.{◌≡◌, ℕ, ◌==◌, Bool, false, if◌then◌else◌, Option, Some, None, option_map, List, [], slice_get}
+use Rattle.std.specs.Prelude.{◌≡◌, ℕ, ◌==◌, Bool, false, if◌then◌else◌, Option, Some, None, option_map, List, slice_get}
 use Rattle.std.specs.Option.{option_or}
 use Rattle.exec_journal.specs.declared.attempt.Attempt.{Attempt}
 use Rattle.exec_journal.specs.declared.call.Answer.{Answer}

@@ -1,7 +1,6 @@
 use Rattle.std.proofs.Common.{option_copied, get_or, None, inl, inr, sym, ap, ◌∙◌}
 use Rattle.std.specs.Option.{option_or}
 use Rattle.std.proofs.lemmas.Option.{slice_get-get_or}
-use Rattle.exec_journal.specs.Winners.{answer_at}
 use Rattle.exec_journal.proofs.Answered.{noted, copied_or, none_noted, off_lists}
 use Rattle.exec_journal.proofs.winners.note_answer.Goals as goal
 use Rattle.exec_journal.proofs.winners.note_answer.Goals.{else-at-answers-via-then-at-answers+else-at-winners, else-at-answers-via-else-at-answers}
