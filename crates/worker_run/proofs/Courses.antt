@@ -1,15 +1,11 @@
 -- How the reads of a run go on, step by step.
-use Rattle.std.proofs.Common.{◌≡◌, ℕ, ◌<◌, ◌≤◌, ◌+◌, Bool, true, false, List, [], ◌∷◌, ◌++◌, length, take, drop, get_or, Option, Some, None, IfSome, Result, Ok, Err, refl, ap, sym, subst, append_assoc, append-nil, ◌∙◌, arith}
-use Rattle.std.specs.List.{All}
-use Rattle.std.specs.Option.{IsSome}
+use Rattle.std.proofs.Common.{◌≡◌, ℕ, ◌<◌, ◌≤◌, ◌+◌, Bool, true, false, List, [], ◌∷◌, ◌++◌, length, take, drop, get_or, Option, Some, None, IfSome, Result, Ok, Err, refl, ap, sym, subst, append-nil, ◌∙◌, arith}
 use Rattle.std.proofs.lemmas.List.{take_more, take_all, take-append-drop}
 use Rattle.std.proofs.lemmas.List.Elements.{All-cons, All-nil, All-append}
 use Rattle.action_list.specs.Lists.{list_of}
 use Rattle.action_list.specs.declared.faults.ListFault.{ListFault}
 use Rattle.action_list.specs.declared.types.ActionList.{ActionList}
 use Rattle.action_list.specs.declared.types.ListAction.{ListAction}
-use Rattle.flag_files.specs.Split.{request_words}
-use Rattle.outside.specs.Lists.{Adds, Tells}
 use Rattle.outside.specs.Floor.{one_read, MayAnswer, file_at}
 use Rattle.outside.specs.declared.answers.Read.{Read}
 use Rattle.outside.specs.declared.answers.Read.TheVariants as read
@@ -17,16 +13,15 @@ use Rattle.outside.specs.declared.floor.FloorRead.{FloorRead}
 use Rattle.outside.specs.declared.floor.SourceFile.{SourceFile}
 use Rattle.build_report.specs.declared.fault.RunFault.{RunFault}
 use Rattle.build_report.specs.declared.fault.RunFault.TheVariants as fault
-use Rattle.build_report.specs.declared.fault.Stage.TheVariants as stage
 use Rattle.build_report.specs.declared.fault.Unbuilt.TheVariants as unbuilt
 use Rattle.tool_words.specs.declared.options.Options.{Options}
 use Rattle.worker_run.specs.declared.sources.Sources.{Sources}
 use Rattle.worker_run.specs.declared.work.Work.{Work}
 use Rattle.worker_run.specs.declared.reading.Job.{Job}
 use Rattle.worker_run.specs.declared.reading.Job.TheVariants as job
-use Rattle.worker_run.specs.Course.{OptionsRead, ListRead, BytesRead, ActionsRead, ActionRead, OneRead, EndsSo, Logs, AreOfFiles, UnlessBefore, IsRead, ReadsOnce, end_of}
+use Rattle.worker_run.specs.Course.{OptionsRead, ListRead, BytesRead, ActionsRead, ActionRead, OneRead, Logs, AreOfFiles, UnlessBefore, IsRead, ReadsOnce, end_of}
 use Rattle.worker_run.specs.Prepared.{AreAccepted, Prepares, is_served}
-use Rattle.worker_run.specs.Sources.{held, source_file, source_paths, with_paths, SourcesRead, ReadsOn, NewFound, NewLost, AllFound, FirstLost}
+use Rattle.worker_run.specs.Sources.{held, source_file, source_paths, with_paths, SourcesRead, ReadsOn, NewFound, NewLost}
 use Rattle.worker_run.proofs.Gathering.{found_one, found_before, lost_one, found_none, found_on, lost_on, lost_wider, all_found, first_lost}
 use Rattle.worker_run.proofs.Runs.{adds_on, adds_none}
 

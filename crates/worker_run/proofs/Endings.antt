@@ -14,7 +14,7 @@ use Rattle.worker_run.specs.declared.line.Stopped.TheVariants as stopped
 use Rattle.worker_run.specs.declared.work.Work.{Work}
 use Rattle.worker_run.specs.declared.reading.Job.{Job}
 use Rattle.worker_run.specs.declared.reading.Job.TheVariants as job
-use Rattle.worker_run.specs.Course.{Course, OptionsRead, ListRead, AfterList, BytesRead, ActionsRead, OneRead, Logs, UnlessBefore, end_of}
+use Rattle.worker_run.specs.Course.{Course, OptionsRead, ListRead, AfterList, BytesRead, ActionsRead, OneRead, Logs, UnlessBefore}
 use Rattle.worker_run.specs.Prepared.{is_served}
 use Rattle.action_list.specs.Lists.{list_of}
 use Rattle.action_list.specs.declared.faults.ListFault.{ListFault}

@@ -1,6 +1,6 @@
 -- Which files were read, path by path.
-use Rattle.std.proofs.Common.{◌≡◌, ℕ, ◌<◌, ◌+◌, List, [], ◌∷◌, ◌++◌, length, map, take, drop, get_or, Bool, true, false, cond, ◌||◌, Option, Some, None, is_some, unwrap_or, refl, ap, sym, subst, append_assoc, append-nil, ◌∙◌, arith, String, string_bytes}
-use Rattle.std.specs.List.{All, list_any}
+use Rattle.std.proofs.Common.{◌≡◌, ℕ, ◌<◌, ◌+◌, List, [], ◌∷◌, ◌++◌, length, map, take, get_or, Bool, true, false, cond, ◌||◌, Some, None, is_some, unwrap_or, refl, ap, sym, subst, append_assoc, append-nil, ◌∙◌, String, string_bytes}
+use Rattle.std.specs.List.{All}
 use Rattle.std.specs.Option.{IsSome}
 use Rattle.std.specs.Str.{bytes_eq}
 use Rattle.std.specs.Map.{lookup}

@@ -8,7 +8,7 @@ use Rattle.std.proofs.lemmas.List.Elements.{filter_map-append}
 use Rattle.outside.specs.Lists.{Adds, Tells}
 use Rattle.outside.specs.declared.answers.Io.TheVariants as io
 use Rattle.outside.specs.declared.berth.BerthCall.{BerthCall}
-use Rattle.worker_run.specs.Rooms.{Asked, asked, went_well, IsRun, StopsUnless, AddsRun, AddsAbsent, EndsAbsent, Folder, folder_of, folders_of, folder_call, get_calls, get_asks, writes_of}
+use Rattle.worker_run.specs.Rooms.{Asked, asked, went_well, IsRun, StopsUnless, AddsRun, AddsAbsent, EndsAbsent, Folder, folder_of, folders_of, folder_call, get_calls, writes_of}
 use Rattle.outside.specs.declared.answers.Read.TheVariants as read
 use Rattle.outside.specs.declared.berth.BerthCall.TheVariants as call
 use Rattle.outside.specs.declared.place.PlaceWrite.{PlaceWrite}

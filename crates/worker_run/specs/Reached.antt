@@ -1,5 +1,5 @@
 -- What the objects tell, by how far the line of the one action came.
-use Rattle.std.specs.Prelude.{◌≡◌, ◌⊎◌, ℕ, ◌<◌, ◌≤◌, List, [], ◌∷◌, ◌++◌, length, take, true, Option, Some, None, IfSome}
+use Rattle.std.specs.Prelude.{◌≡◌, ◌⊎◌, ℕ, ◌<◌, ◌≤◌, List, [], ◌++◌, length, take, true, Option, Some, None, IfSome}
 use Rattle.outside.specs.Lists.{Tells}
 use Rattle.outside.specs.declared.berth.BerthCall.{BerthCall}
 use Rattle.outside.specs.declared.place.PlaceWrite.{PlaceWrite}

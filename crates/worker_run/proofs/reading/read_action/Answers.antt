@@ -1,4 +1,4 @@
-use Rattle.std.proofs.Common.{rules, sym, []}
+use Rattle.std.proofs.Common.{[]}
 use Rattle.std.proofs.lemmas.Result.{err_from_is_err_and}
 use Rattle.worker_run.specs.Sources.{held, with_paths}
 use Rattle.worker_run.proofs.Gathering.{each_has_file}

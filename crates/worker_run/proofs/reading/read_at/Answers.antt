@@ -1,4 +1,4 @@
-use Rattle.std.proofs.Common.{rules, sym}
+use Rattle.std.proofs.Common.{sym}
 use Rattle.std.proofs.lemmas.Result.{err_from_is_err_and}
 use Rattle.worker_run.proofs.Courses.{list_ends, list_refused, list_goes_on}
 use Rattle.worker_run.proofs.reading.read_at.Goals as goal

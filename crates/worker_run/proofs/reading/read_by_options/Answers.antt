@@ -1,4 +1,3 @@
-use Rattle.std.proofs.Common.{rules}
 use Rattle.worker_run.proofs.Courses.{listed, generated}
 use Rattle.worker_run.proofs.reading.read_by_options.Goals as goal
 

@@ -1,5 +1,4 @@
-use Rattle.std.proofs.Common.{refl}
-use Rattle.worker_run.proofs.Runs.{folder_made, folder_failed, no_folder}
+use Rattle.worker_run.proofs.Runs.{no_folder}
 use Rattle.worker_run.proofs.room.make_folder.Goals as goal
 
 pub returns-in-None-clause-done : goal.returns-in-None-clause-done

@@ -1,4 +1,4 @@
-use Rattle.std.proofs.Common.{rules, arith, refl, ◌∙◌}
+use Rattle.std.proofs.Common.{rules, refl}
 use Rattle.worker_run.proofs.Runs.{folders_go, folders_run_on, folders_stop}
 use Rattle.worker_run.proofs.room.make_folders.Goals as goal
 

@@ -1,4 +1,4 @@
-use Rattle.std.proofs.Common.{rules, arith, Some, Ok, map, string_bytes, refl}
+use Rattle.std.proofs.Common.{arith, Ok, map, string_bytes, refl}
 use Rattle.tool_words.specs.Options.{options_of}
 use Rattle.worker_run.specs.declared.reading.Job.TheVariants as job
 use Rattle.worker_run.proofs.Endings.{one_ends, none_ends, fault_ends, not_sink}

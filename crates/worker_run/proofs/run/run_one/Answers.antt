@@ -1,4 +1,4 @@
-use Rattle.std.proofs.Common.{rules, ◌∙◌}
+use Rattle.std.proofs.Common.{◌∙◌}
 use Rattle.worker_run.proofs.Endings.{ran_one}
 use Rattle.worker_run.proofs.run.run_one.Goals as goal
 

@@ -1,4 +1,3 @@
-use Rattle.std.proofs.Common.{rules, sym}
 use Rattle.std.proofs.lemmas.Result.{err_from_is_err_and}
 use Rattle.worker_run.specs.Sources.{held}
 use Rattle.worker_run.proofs.Courses.{tools_end, inputs_end, all_read}

@@ -1,4 +1,4 @@
-use Rattle.std.proofs.Common.{rules, arith, ap, ◌∙◌}
+use Rattle.std.proofs.Common.{rules, ap, ◌∙◌}
 use Rattle.std.proofs.lemmas.List.{take_all}
 use Rattle.worker_run.specs.Sources.{files_at, held}
 use Rattle.worker_run.proofs.Gathering.{files_more, has_this}

@@ -1,6 +1,5 @@
-use Rattle.std.proofs.Common.{rules, sym, []}
+use Rattle.std.proofs.Common.{rules, []}
 use Rattle.std.proofs.lemmas.Result.{err_from_is_err_and}
-use Rattle.worker_run.specs.Course.{Logs}
 use Rattle.worker_run.specs.Sources.{held, NewFound}
 use Rattle.worker_run.proofs.Gathering.{found_none}
 use Rattle.worker_run.proofs.Courses.{none_logged, reads_go, reads_stop, reads_end}
