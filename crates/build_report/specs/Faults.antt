@@ -11,8 +11,6 @@ use Rattle.build_report.specs.declared.fault.Unbuilt.TheVariants as unbuilt
 
 abbrev pub unbuilt_name : Unbuilt → List ℕ
 unbuilt_name unbuilt.Words = codes "words"
-unbuilt_name unbuilt.List = codes "list"
-unbuilt_name unbuilt.FlagFile = codes "flag file"
 unbuilt_name unbuilt.Plan = codes "plan"
 unbuilt_name unbuilt.Outside = codes "outside"
 

@@ -43,13 +43,10 @@ pub enum Stage {
 /// What isn't built yet.
 #[derive(Clone, Copy, Debug, PartialEq, Eq)]
 pub enum Unbuilt {
-    /// Words other than one path of a list.
+    /// A list that is generated.
     Words,
-    /// A list other than the empty one, or one with one action in its plainest form.
-    List,
-    /// A flag file other than one word of letters and digits.
-    FlagFile,
-    /// Actions other than one for a worker that serves one request at a time.
+    /// More than one action, or one that isn't for a worker that is asked in protobuf, one request at a time,
+    /// without cancellation.
     Plan,
     /// An action whose worker, room or place failed or misbehaved.
     Outside,
@@ -70,8 +67,6 @@ impl Unbuilt {
     {
         match self {
             Unbuilt::Words => "words",
-            Unbuilt::List => "list",
-            Unbuilt::FlagFile => "flag file",
             Unbuilt::Plan => "plan",
             Unbuilt::Outside => "outside",
         }

@@ -1,16 +1,28 @@
 -- From what was read to how the run ends.
-use Rattle.std.proofs.Common.{◌≡◌, ℕ, List, [], Option, Some, None, Result, Ok, Err, refl, subst, sym}
+use Rattle.std.proofs.Common.{◌≡◌, ℕ, Bool, true, false, List, [], ◌∷◌, Option, Some, None, Result, Ok, Err, refl, subst, sym}
 use Rattle.outside.specs.declared.floor.FloorRead.{FloorRead}
 use Rattle.outside.specs.declared.floor.SourceFile.{SourceFile}
 use Rattle.build_report.specs.declared.fault.RunFault.{RunFault}
 use Rattle.build_report.specs.declared.fault.RunFault.TheVariants as fault
 use Rattle.build_report.specs.declared.fault.Stage.{Stage}
 use Rattle.build_report.specs.declared.fault.Stage.TheVariants as stage
+use Rattle.exec_journal.specs.declared.plan.Plan.{Plan}
+use Rattle.tool_words.specs.declared.options.Options.{Options}
+use Rattle.worker_run.specs.declared.line.Reached.{Reached}
+use Rattle.worker_run.specs.declared.line.Stopped.{Stopped}
+use Rattle.worker_run.specs.declared.line.Stopped.TheVariants as stopped
+use Rattle.worker_run.specs.declared.work.Work.{Work}
 use Rattle.worker_run.specs.declared.reading.Job.{Job}
 use Rattle.worker_run.specs.declared.reading.Job.TheVariants as job
-use Rattle.worker_run.specs.Course.{Course, Logs, UnlessBefore, end_of}
-use Rattle.worker_run.specs.Ends.{Left, nothing_left, RunEnds, Ran, AfterStart, LeavesNothing, EndsAs, Puts, IsPutEnd}
-use Rattle.worker_run.specs.Report.{report_of_none}
+use Rattle.worker_run.specs.Course.{Course, OptionsRead, ListRead, AfterList, BytesRead, ActionsRead, OneRead, Logs, UnlessBefore}
+use Rattle.worker_run.specs.Prepared.{is_served}
+use Rattle.action_list.specs.Lists.{list_of}
+use Rattle.action_list.specs.declared.faults.ListFault.{ListFault}
+use Rattle.action_list.specs.declared.types.ActionList.{ActionList}
+use Rattle.action_list.specs.declared.types.ListAction.{ListAction}
+use Rattle.outside.specs.declared.answers.Read.{Read}
+use Rattle.outside.specs.declared.answers.Read.TheVariants as read
+use Rattle.worker_run.specs.Ends.{Left, nothing_left, RunEnds, Ran, AfterStart, LeavesNothing, EndsAs, EndsBy, LeavesOne, IsAfterStart, Puts, report_by}
 
 -- what holds after the start, weakened
 after_weaker : (end : Option RunFault) (P Q R : Type 0) → (Q → R) → AfterStart end P Q → AfterStart end P R
@@ -26,32 +38,98 @@ after_weaker (Some fault.Words) P Q R f h = f h
 after_weaker (Some (fault.List x)) P Q R f h = f h
 after_weaker (Some (fault.Flags a x)) P Q R f h = f h
 
-led : (word : Option (List ℕ)) (files : Option (List SourceFile)) (log_old log_new : Option (List FloorRead)) (made : Result Job RunFault) (end : Option RunFault) (run : Left) (old new : Option (List ℕ))
-    → Logs files log_old log_new (λ reads. Course word reads made) → EndsAs made end run old new → Logs files log_old log_new (λ reads. Ran word reads end run old new)
-led word files log_old log_new made end run old new l e = (l.0, l.1, l.2, (made, l.3, e))
+led : (options : Option Options) (files : Option (List SourceFile)) (log_old log_new : Option (List FloorRead)) (made : Result Job RunFault) (end : Option RunFault) (run : Left) (old new : Option (List ℕ))
+    → Logs files log_old log_new (λ reads. Course options reads made) → EndsAs made end run old new → Logs files log_old log_new (λ reads. Ran options reads end run old new)
+led options files log_old log_new made end run old new l e = (l.0, l.1, l.2, (made, l.3, e))
 
 -- an action was to be done
-pub one_ends : (word : Option (List ℕ)) (files : Option (List SourceFile)) (log_old log_new : Option (List FloorRead)) (made : Result Job RunFault) (end : Option RunFault) (run : Left) (old new : Option (List ℕ))
-    → Logs files log_old log_new (λ reads. Course word reads made) → AfterStart end (LeavesNothing run old new) (EndsAs made end run old new) → RunEnds word files log_old log_new end run old new
-one_ends word files log_old log_new made end run old new l e = after_weaker end _ _ _ (led word files log_old log_new made end run old new l) e
+pub one_ends : (options : Option Options) (files : Option (List SourceFile)) (log_old log_new : Option (List FloorRead)) (made : Result Job RunFault) (end : Option RunFault) (run : Left) (old new : Option (List ℕ))
+    → Logs files log_old log_new (λ reads. Course options reads made) → AfterStart end (LeavesNothing run old new) (EndsAs made end run old new) → RunEnds options files log_old log_new end run old new
+one_ends options files log_old log_new made end run old new l e = after_weaker end _ _ _ (led options files log_old log_new made end run old new l) e
 
 -- nothing was to be done
-pub none_ends : (word : Option (List ℕ)) (files : Option (List SourceFile)) (log_old log_new : Option (List FloorRead)) (end : Option RunFault) (run : Left) (old new : Option (List ℕ))
-    → Logs files log_old log_new (λ reads. Course word reads (Ok job.Nothing)) → run ≡ nothing_left → IsPutEnd end → Puts end report_of_none old new → RunEnds word files log_old log_new end run old new
-none_ends word files log_old log_new None run old new l none kind puts = led word files log_old log_new (Ok job.Nothing) None run old new l (tt, none, puts)
-none_ends word files log_old log_new (Some f) run old new l none kind puts =
-    subst (λ (x : RunFault). Puts (Some x) report_of_none old new → RunEnds word files log_old log_new (Some x) run old new) (sym kind)
-    (λ p. led word files log_old log_new (Ok job.Nothing) (Some fault.SinkFailed) run old new l (refl, none, p)) puts
+pub none_ends : (options : Option Options) (files : Option (List SourceFile)) (log_old log_new : Option (List FloorRead)) (plan : Plan) (end : Option RunFault) (run : Left) (old new : Option (List ℕ))
+    → Logs files log_old log_new (λ reads. Course options reads (Ok (job.Nothing plan))) → run ≡ nothing_left → EndsBy stopped.Whole end → Puts end (report_by plan run.journal) old new → RunEnds options files log_old log_new end run old new
+none_ends options files log_old log_new plan None run old new l none kind puts = led options files log_old log_new (Ok (job.Nothing plan)) None run old new l (kind, none, puts)
+none_ends options files log_old log_new plan (Some fault.SinkFailed) run old new l none kind puts = led options files log_old log_new (Ok (job.Nothing plan)) (Some fault.SinkFailed) run old new l (kind, none, puts)
+none_ends options files log_old log_new plan (Some (fault.NoMemory stage.After)) run old new l none kind puts = led options files log_old log_new (Ok (job.Nothing plan)) (Some (fault.NoMemory stage.After)) run old new l (kind, none, puts)
+none_ends options files log_old log_new plan (Some (fault.NoMemory stage.Before)) run old new l none kind puts = absurd cc
+none_ends options files log_old log_new plan (Some (fault.NoMemory stage.During)) run old new l none kind puts = absurd cc
+none_ends options files log_old log_new plan (Some (fault.Absent at)) run old new l none kind puts = absurd kind
+none_ends options files log_old log_new plan (Some (fault.FloorFailed at)) run old new l none kind puts = absurd kind
+none_ends options files log_old log_new plan (Some (fault.NotYetBuilt what)) run old new l none kind puts = absurd kind
+none_ends options files log_old log_new plan (Some fault.Words) run old new l none kind puts = absurd kind
+none_ends options files log_old log_new plan (Some (fault.List x)) run old new l none kind puts = absurd kind
+none_ends options files log_old log_new plan (Some (fault.Flags a x)) run old new l none kind puts = absurd kind
 
 -- the reads ended the run
-pub fault_ends : (word : Option (List ℕ)) (files : Option (List SourceFile)) (log_old log_new : Option (List FloorRead)) (f : RunFault) (run : Left) (old new : Option (List ℕ))
-    → UnlessBefore (Some f) (Logs files log_old log_new (λ reads. Course word reads (Err f))) → run ≡ nothing_left → new ≡ old → RunEnds word files log_old log_new (Some f) run old new
-fault_ends word files log_old log_new (fault.NoMemory when) run old new h none put =
-    subst (λ (s : Stage). RunEnds word files log_old log_new (Some (fault.NoMemory s)) run old new) (sym h) (none, put)
-fault_ends word files log_old log_new (fault.Absent at) run old new h none put = led word files log_old log_new (Err (fault.Absent at)) (Some (fault.Absent at)) run old new h (refl, none, put)
-fault_ends word files log_old log_new (fault.FloorFailed at) run old new h none put = led word files log_old log_new (Err (fault.FloorFailed at)) (Some (fault.FloorFailed at)) run old new h (refl, none, put)
-fault_ends word files log_old log_new (fault.NotYetBuilt what) run old new h none put = led word files log_old log_new (Err (fault.NotYetBuilt what)) (Some (fault.NotYetBuilt what)) run old new h (refl, none, put)
-fault_ends word files log_old log_new fault.SinkFailed run old new h none put = led word files log_old log_new (Err fault.SinkFailed) (Some fault.SinkFailed) run old new h (refl, none, put)
-fault_ends word files log_old log_new fault.Words run old new h none put = led word files log_old log_new (Err fault.Words) (Some fault.Words) run old new h (refl, none, put)
-fault_ends word files log_old log_new (fault.List x) run old new h none put = led word files log_old log_new (Err (fault.List x)) (Some (fault.List x)) run old new h (refl, none, put)
-fault_ends word files log_old log_new (fault.Flags a x) run old new h none put = led word files log_old log_new (Err (fault.Flags a x)) (Some (fault.Flags a x)) run old new h (refl, none, put)
+pub fault_ends : (options : Option Options) (files : Option (List SourceFile)) (log_old log_new : Option (List FloorRead)) (f : RunFault) (run : Left) (old new : Option (List ℕ))
+    → UnlessBefore (Some f) (Logs files log_old log_new (λ reads. Course options reads (Err f))) → run ≡ nothing_left → new ≡ old → RunEnds options files log_old log_new (Some f) run old new
+fault_ends options files log_old log_new (fault.NoMemory when) run old new h none put =
+    subst (λ (s : Stage). RunEnds options files log_old log_new (Some (fault.NoMemory s)) run old new) (sym h) (none, put)
+fault_ends options files log_old log_new (fault.Absent at) run old new h none put = led options files log_old log_new (Err (fault.Absent at)) (Some (fault.Absent at)) run old new h (refl, none, put)
+fault_ends options files log_old log_new (fault.FloorFailed at) run old new h none put = led options files log_old log_new (Err (fault.FloorFailed at)) (Some (fault.FloorFailed at)) run old new h (refl, none, put)
+fault_ends options files log_old log_new (fault.NotYetBuilt what) run old new h none put = led options files log_old log_new (Err (fault.NotYetBuilt what)) (Some (fault.NotYetBuilt what)) run old new h (refl, none, put)
+fault_ends options files log_old log_new fault.SinkFailed run old new h none put = led options files log_old log_new (Err fault.SinkFailed) (Some fault.SinkFailed) run old new h (refl, none, put)
+fault_ends options files log_old log_new fault.Words run old new h none put = led options files log_old log_new (Err fault.Words) (Some fault.Words) run old new h (refl, none, put)
+fault_ends options files log_old log_new (fault.List x) run old new h none put = led options files log_old log_new (Err (fault.List x)) (Some (fault.List x)) run old new h (refl, none, put)
+fault_ends options files log_old log_new (fault.Flags a x) run old new h none put = led options files log_old log_new (Err (fault.Flags a x)) (Some (fault.Flags a x)) run old new h (refl, none, put)
+
+after_any : (end : Option RunFault) (P Q : Type 0) → IsAfterStart end → Q → AfterStart end P Q
+after_any None P Q started q = q
+after_any (Some (fault.NoMemory stage.Before)) P Q started q = absurd started
+after_any (Some (fault.NoMemory stage.During)) P Q started q = q
+after_any (Some (fault.NoMemory stage.After)) P Q started q = q
+after_any (Some (fault.Absent at)) P Q started q = q
+after_any (Some (fault.FloorFailed at)) P Q started q = q
+after_any (Some (fault.NotYetBuilt what)) P Q started q = q
+after_any (Some fault.SinkFailed) P Q started q = q
+after_any (Some fault.Words) P Q started q = q
+after_any (Some (fault.List x)) P Q started q = q
+after_any (Some (fault.Flags a x)) P Q started q = q
+
+-- an action's line was run
+pub ran_one : (work : Work) (came : Reached) (stop : Stopped) (end : Option RunFault) (run : Left) (old new : Option (List ℕ)) → IsAfterStart end → EndsBy stop end → LeavesOne work came stop run → Puts end (report_by work.plan run.journal) old new → AfterStart end (LeavesNothing run old new) (EndsAs (Ok (job.One work)) end run old new)
+ran_one work came stop end run old new started ends leaves puts = after_any end (LeavesNothing run old new) (EndsAs (Ok (job.One work)) end run old new) started (came, stop, ends, leaves, puts)
+
+-- ---- reads don't end in the sink's fault
+
+one_silent : (o : Options) (x : ListAction) (b : Bool) (reads : List FloorRead) → OneRead o x b reads (Err fault.SinkFailed) → ⊥
+one_silent o x true reads h = absurd h
+one_silent o x false reads h = absurd (let e = h.1 in cc)
+
+actions_silent : (o : Options) (xs : List ListAction) (reads : List FloorRead) → ActionsRead o xs reads (Err fault.SinkFailed) → ⊥
+actions_silent o [] reads h = absurd (let e = h.1 in cc)
+actions_silent o (x ∷ []) reads h = one_silent o x (is_served x) reads h
+actions_silent o (x ∷ y ∷ xs) reads h = absurd (let e = h.1 in cc)
+
+bytes_silent : (o : Options) (r : Result ActionList ListFault) (reads : List FloorRead) → BytesRead o r reads (Err fault.SinkFailed) → ⊥
+bytes_silent o (Err f) reads h = absurd (let e = h.1 in cc)
+bytes_silent o (Ok list) reads h = actions_silent o list.actions reads h
+
+after_silent : (o : Options) (path : List ℕ) (answer : Read) (reads : List FloorRead) → AfterList o path answer reads (Err fault.SinkFailed) → ⊥
+after_silent o path read.Absent reads h = absurd (let e = h.1 in cc)
+after_silent o path read.Failed reads h = absurd (let e = h.1 in cc)
+after_silent o path (read.Found bytes) reads h = bytes_silent o (list_of 48 bytes) reads h
+
+list_silent : (o : Options) (path : List ℕ) (reads : List FloorRead) → ListRead o path reads (Err fault.SinkFailed) → ⊥
+list_silent o path [] h = absurd h
+list_silent o path (first ∷ rest) h = after_silent o path first.answer rest h.1
+
+named_silent : (o : Options) (l : Option (List ℕ)) (reads : List FloorRead) → OptionsRead o l reads (Err fault.SinkFailed) → ⊥
+named_silent o None reads h = absurd (let e = h.1.1 in cc)
+named_silent o (Some path) reads h = list_silent o path reads h.1
+
+course_silent : (options : Option Options) (reads : List FloorRead) → Course options reads (Err fault.SinkFailed) → ⊥
+course_silent None reads h = absurd (let e = h.1 in cc)
+course_silent (Some o) reads h = named_silent o o.list reads h
+
+pub not_sink : (options : Option Options) (f : RunFault) (files : Option (List SourceFile)) (old new : Option (List FloorRead)) → UnlessBefore (Some f) (Logs files old new (λ reads. Course options reads (Err f))) → Some f ≡ Some fault.SinkFailed → ⊥
+not_sink options fault.SinkFailed files old new h e = course_silent options h.0 h.3
+not_sink options fault.Words files old new h e = absurd cc
+not_sink options (fault.NoMemory when) files old new h e = absurd cc
+not_sink options (fault.Absent at) files old new h e = absurd cc
+not_sink options (fault.FloorFailed at) files old new h e = absurd cc
+not_sink options (fault.NotYetBuilt what) files old new h e = absurd cc
+not_sink options (fault.List x) files old new h e = absurd cc
+not_sink options (fault.Flags a x) files old new h e = absurd cc

@@ -1,11 +1,11 @@
 -- From what the splitter gave to what was heard.
-use Rattle.std.proofs.Common.{◌≡◌, ℕ, ◌+◌, ◌<◌, ◌≤◌, List, [], ◌∷◌, ◌++◌, length, take, length-append, Bool, Option, Some, None, IfSome, refl, ap, sym, subst, ◌∙◌, inl, inr, arith}
+use Rattle.std.proofs.Common.{◌≡◌, ℕ, ◌+◌, ◌<◌, ◌≤◌, List, [], ◌∷◌, ◌++◌, length, take, length-append, Bool, Option, Some, None, IfSome, ap, sym, subst, ◌∙◌, inl, inr, arith}
 use Rattle.std.proofs.lemmas.List.{nil_from_length, length-take-le}
 use Rattle.outside.specs.Lists.{Tells}
 use Rattle.delimited_framing.specs.declared.frame.FrameFault.{FrameFault}
 use Rattle.delimited_framing.specs.Frame.{Unfinished, frame_at, Holds, FramesBad}
 use Rattle.delimited_framing.specs.Splitter.{Held, Stands, fed_more}
-use Rattle.worker_run.specs.Heard.{largest, IsPlain, IsOneAnswer, HasNoAnswer}
+use Rattle.worker_run.specs.Heard.{largest, IsOneAnswer, HasNoAnswer}
 use Rattle.worker_run.specs.Hearing.{Judges, OnAnswer, OnNoAnswer}
 use Rattle.worker_run.specs.declared.hearing.Heard.{Heard}
 use Rattle.worker_run.specs.declared.hearing.Heard.TheVariants as heard

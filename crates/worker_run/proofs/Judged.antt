@@ -1,11 +1,9 @@
 -- From what a frame spells to what was heard.
-use Rattle.std.proofs.Common.{◌≡◌, ℕ, List, Bool, Result, Ok, Err, refl, ap, sym, ◌∙◌}
+use Rattle.std.proofs.Common.{◌≡◌, ℕ, List, ap, ◌∙◌}
 use Rattle.wire_messages.specs.Response.{SpellsResponse}
-use Rattle.wire_messages.specs.Fault.{Answers}
 use Rattle.wire_messages.specs.declared.fault.MessageFault.{MessageFault}
 use Rattle.wire_messages.specs.declared.fault.MessageFault.TheVariants as fault
 use Rattle.wire_messages.specs.declared.response.WorkResponse.{WorkResponse}
-use Rattle.worker_run.specs.Heard.{IsPlain}
 use Rattle.worker_run.specs.Hearing.{Judges, Says}
 use Rattle.worker_run.specs.declared.hearing.Heard.{Heard}
 use Rattle.worker_run.specs.declared.hearing.Heard.TheVariants as heard

@@ -1,9 +1,10 @@
 pub mod Courses
 pub mod Endings
 pub mod Frames
+pub mod Gathering
 pub mod Judged
-pub mod Names
+pub mod Limits
+pub mod Planned
 pub mod Runs
 pub mod Stages
 pub mod Streams
-pub mod Marks

@@ -1,9 +1,14 @@
 -- Calls on a room and writes to a place, one after another.
-use Rattle.std.proofs.Common.{◌≡◌, ℕ, ◌+◌, ◌<◌, List, [], ◌∷◌, ◌++◌, length, map, drop, get_or, Bool, true, false, Option, Some, None, IfSome, refl, subst, sym, append_assoc, append-nil, ◌∙◌, ap, take, arith, zero, suc, add-one, ◌≤◌}
-use Rattle.std.proofs.lemmas.List.{drop_more, drop_all}
+use Rattle.std.proofs.Common.{◌≡◌, ℕ, ◌+◌, ◌<◌, List, [], ◌∷◌, ◌++◌, length, map, drop, get_or, Bool, true, false, Option, Some, None, IfSome, refl, subst, sym, append_assoc, append-nil, ◌∙◌, ap, take, arith, zero, suc, add-one, ◌≤◌, ◌≢◌, ◌⊎◌, inl, inr, ◌==◌, cond, option_map, MatchOption, eq-eqb}
+use Rattle.std.specs.Path.{rfind_below}
+use Rattle.std.proofs.lemmas.Bool.{ne_eqb}
+use Rattle.std.specs.List.{cons_option}
+use Rattle.std.proofs.lemmas.List.{drop_more, drop_all, map-append}
+use Rattle.std.proofs.lemmas.List.Elements.{filter_map-append}
 use Rattle.outside.specs.Lists.{Adds, Tells}
+use Rattle.outside.specs.declared.answers.Io.TheVariants as io
 use Rattle.outside.specs.declared.berth.BerthCall.{BerthCall}
-use Rattle.worker_run.specs.Rooms.{Asked, asked, went_well, IsRun, StopsUnless, AddsRun, AddsAbsent, EndsAbsent, get_calls, get_asks, writes_of}
+use Rattle.worker_run.specs.Rooms.{Asked, asked, went_well, IsRun, StopsUnless, AddsRun, AddsAbsent, EndsAbsent, Folder, folder_of, folders_of, folder_call, get_calls, writes_of}
 use Rattle.outside.specs.declared.answers.Read.TheVariants as read
 use Rattle.outside.specs.declared.berth.BerthCall.TheVariants as call
 use Rattle.outside.specs.declared.place.PlaceWrite.{PlaceWrite}
@@ -92,7 +97,7 @@ ends_absent path xs (Some ys) h = (xs, path, h)
 pub absent_now : (path : List ℕ) (start old new : Option (List BerthCall)) → ((xs : List BerthCall) → Tells start xs → (ys : List BerthCall) × Tells old ys) → Adds (call.Get path read.Absent ∷ []) old new → AddsAbsent start new
 absent_now path start old new told more = λ xs holds. let t = told xs holds in ends_absent path t.0 new (more t.0 t.1)
 
-adds_none : {A : Type 0} (old : Option (List A)) → Adds [] old old
+pub adds_none : {A : Type 0} (old : Option (List A)) → Adds [] old old
 adds_none {A = A} old = λ xs holds. subst (λ (ys : List A). Tells old ys) (sym (append-nil xs)) holds
 
 -- all outputs were found
@@ -102,3 +107,95 @@ pub found_all : (outputs files : List (List ℕ)) (i : ℕ) (start new : Option 
 found_all outputs files i start new past before =
     subst (λ (fs : List (List ℕ)). Adds (get_calls outputs fs) start new) (append-nil files)
     (before [] new (subst (λ (os : List (List ℕ)). Adds (get_calls os []) new new) (sym (drop_all i outputs past)) (adds_none new)))
+
+-- ---- one run and then another
+
+run_wider : (asks more : List Asked) (log : List BerthCall) → IsRun asks log → IsRun (asks ++ more) log
+run_wider asks more [] h = tt
+run_wider [] more (c ∷ log) h = absurd h
+run_wider (a ∷ asks) more (c ∷ log) h = (h.0, h.1, run_wider asks more log h.2)
+
+grown_run : (asks more : List Asked) (xs : List BerthCall) (new : Option (List BerthCall)) → IfSome new (λ ys. (log : List BerthCall) × (ys ≡ xs ++ log) × IsRun asks log) → IfSome new (λ ys. (log : List BerthCall) × (ys ≡ xs ++ log) × IsRun (asks ++ more) log)
+grown_run asks more xs None h = tt
+grown_run asks more xs (Some ys) h = (h.0, h.1, run_wider asks more h.0 h.2)
+
+-- a run that stops is one of the longer list too
+pub runs_wider : (asks more : List Asked) (old new : Option (List BerthCall)) → AddsRun asks old new → AddsRun (asks ++ more) old new
+runs_wider asks more old new h = λ xs holds. grown_run asks more xs new (h xs holds)
+
+after_calls : {X : Type 0} (ask : X → Asked) (done : X → BerthCall) → ((x : X) → asked (done x) ≡ ask x) → ((x : X) → went_well (done x) ≡ true) → (xs : List X) (asks : List Asked) (log : List BerthCall) → IsRun asks log → IsRun (map ask xs ++ asks) (map done xs ++ log)
+after_calls ask done is well [] asks log h = h
+after_calls ask done is well (x ∷ xs) asks log h = (is x, subst (λ (b : Bool). StopsUnless b (map done xs ++ log)) (sym (well x)) tt, after_calls ask done is well xs asks log h)
+
+behind_calls : {X : Type 0} (ask : X → Asked) (done : X → BerthCall) → ((x : X) → asked (done x) ≡ ask x) → ((x : X) → went_well (done x) ≡ true) → (xs : List X) (asks : List Asked) (zs : List BerthCall) (new : Option (List BerthCall)) → IfSome new (λ ys. (log : List BerthCall) × (ys ≡ (zs ++ map done xs) ++ log) × IsRun asks log) → IfSome new (λ ys. (log : List BerthCall) × (ys ≡ zs ++ log) × IsRun (map ask xs ++ asks) log)
+behind_calls ask done is well xs asks zs None h = tt
+behind_calls ask done is well xs asks zs (Some ys) h = (map done xs ++ h.0, h.1 ∙ append_assoc zs (map done xs) h.0, after_calls ask done is well xs asks h.0 h.2)
+
+-- calls that all went well, and then a run
+pub runs_after : {X : Type 0} (ask : X → Asked) (done : X → BerthCall) → ((x : X) → asked (done x) ≡ ask x) → ((x : X) → went_well (done x) ≡ true) → (xs : List X) (asks : List Asked) (old mid new : Option (List BerthCall)) → Adds (map done xs) old mid → AddsRun asks mid new → AddsRun (map ask xs ++ asks) old new
+runs_after ask done is well xs asks old mid new first second = λ zs holds. behind_calls ask done is well xs asks zs new (second (zs ++ map done xs) (first zs holds))
+
+-- ---- the folders of outputs
+
+-- the folders from an output on are its own and those of the outputs behind it
+pub folders_from : (outputs : List (List ℕ)) (i : ℕ) (x : List ℕ) → i < length outputs → x ≡ get_or outputs i x → folders_of (drop i outputs) ≡ folders_of (x ∷ []) ++ folders_of (drop (i + 1) outputs)
+folders_from outputs i x below is = ap folders_of (at_item outputs i x below is) ∙ filter_map-append folder_of (x ∷ []) (drop (i + 1) outputs)
+
+-- the next output's folder is made
+pub folders_go : (outputs : List (List ℕ)) (i : ℕ) (x path : List ℕ) (old mid new : Option (List BerthCall)) → i < length outputs → x ≡ get_or outputs i x → path ≡ x → Adds (map folder_call (folders_of (path ∷ []))) old mid → Adds (map folder_call (folders_of (drop (i + 1) outputs))) mid new → Adds (map folder_call (folders_of (drop i outputs))) old new
+folders_go outputs i x path old mid new below is same first rest =
+    let one = folders_of (x ∷ []) in
+    let later = folders_of (drop (i + 1) outputs) in
+    let e : map folder_call (folders_of (drop i outputs)) ≡ map folder_call one ++ map folder_call later = ap (map folder_call) (folders_from outputs i x below is) ∙ map-append folder_call one later in
+    subst (λ (cs : List BerthCall). Adds cs old new) (sym e) (adds_on (map folder_call one) (map folder_call later) old mid new (subst (λ (p : List ℕ). Adds (map folder_call (folders_of (p ∷ []))) old mid) same first) rest)
+
+folder_asks : (outputs : List (List ℕ)) (i : ℕ) (x : List ℕ) → i < length outputs → x ≡ get_or outputs i x → map Folder (folders_of (drop i outputs)) ≡ map Folder (folders_of (x ∷ [])) ++ map Folder (folders_of (drop (i + 1) outputs))
+folder_asks outputs i x below is = ap (map Folder) (folders_from outputs i x below is) ∙ map-append Folder (folders_of (x ∷ [])) (folders_of (drop (i + 1) outputs))
+
+pub folders_run_on : (outputs : List (List ℕ)) (i : ℕ) (x path : List ℕ) (old mid new : Option (List BerthCall)) → i < length outputs → x ≡ get_or outputs i x → path ≡ x → Adds (map folder_call (folders_of (path ∷ []))) old mid → AddsRun (map Folder (folders_of (drop (i + 1) outputs))) mid new → AddsRun (map Folder (folders_of (drop i outputs))) old new
+folders_run_on outputs i x path old mid new below is same first rest =
+    subst (λ (asks : List Asked). AddsRun asks old new) (sym (folder_asks outputs i x below is))
+    (runs_after Folder folder_call (λ f. refl) (λ f. refl) (folders_of (x ∷ [])) (map Folder (folders_of (drop (i + 1) outputs))) old mid new (subst (λ (p : List ℕ). Adds (map folder_call (folders_of (p ∷ []))) old mid) same first) rest)
+
+pub folders_stop : (outputs : List (List ℕ)) (i : ℕ) (x path : List ℕ) (old new : Option (List BerthCall)) → i < length outputs → x ≡ get_or outputs i x → path ≡ x → AddsRun (map Folder (folders_of (path ∷ []))) old new → AddsRun (map Folder (folders_of (drop i outputs))) old new
+folders_stop outputs i x path old new below is same last =
+    subst (λ (asks : List Asked). AddsRun asks old new) (sym (folder_asks outputs i x below is))
+    (runs_wider (map Folder (folders_of (x ∷ []))) (map Folder (folders_of (drop (i + 1) outputs))) old new (subst (λ (p : List ℕ). AddsRun (map Folder (folders_of (p ∷ []))) old new) same last))
+
+-- one call for the folder that a path has
+pub folder_made : (path folder : List ℕ) (old new : Option (List BerthCall)) → Some folder ≡ folder_of path → Adds (call.Folder folder io.Done ∷ []) old new → Adds (map folder_call (folders_of (path ∷ []))) old new
+folder_made path folder old new is h = subst (λ (o : Option (List ℕ)). Adds (map folder_call (cons_option o [])) old new) is h
+
+pub folder_failed : (path folder : List ℕ) (old new : Option (List BerthCall)) → Some folder ≡ folder_of path → Adds (call.Folder folder io.Failed ∷ []) old new → AddsRun (map Folder (folders_of (path ∷ []))) old new
+folder_failed path folder old new is h = subst (λ (o : Option (List ℕ)). AddsRun (map Folder (cons_option o [])) old new) is (run_last (Folder folder) [] (call.Folder folder io.Failed) old new refl h)
+
+pub no_folder : (path : List ℕ) (log : Option (List BerthCall)) → None ≡ folder_of path → Adds (map folder_call (folders_of (path ∷ []))) log log
+no_folder path log is = subst (λ (o : Option (List ℕ)). Adds (map folder_call (cons_option o [])) log log) is (adds_none log)
+
+-- ---- the last slash
+
+split : (k n : ℕ) → k < suc n → (k ≡ n) ⊎ (k < n)
+split zero zero h = inl refl
+split zero (suc n) h = inr (omega arith)
+split (suc k) zero h = absurd (omega arith)
+split (suc k) (suc n) h = next (split k n (omega arith))
+  where
+    next : (k ≡ n) ⊎ (k < n) → (suc k ≡ suc n) ⊎ (suc k < suc n)
+    next (inl e) = inl (ap suc e)
+    next (inr l) = inr (omega (arith, l))
+
+rfind_none : (c : ℕ) (text : List ℕ) (n : ℕ) → n ≤ length text → ((i : ℕ) → i < length text → get_or text i 0 ≢ c) → rfind_below c text n ≡ None
+rfind_none c text zero short none = refl
+rfind_none c text (suc n) short none = ap (λ b. cond b (Some n) (rfind_below c text n)) (ne_eqb (get_or text n 0) c (none n (omega arith))) ∙ rfind_none c text n (omega arith) none
+
+rfind_some : (c : ℕ) (text : List ℕ) (k n : ℕ) → k < n → n ≤ length text → get_or text k 0 ≡ c → ((i : ℕ) → k < i → i < length text → get_or text i 0 ≢ c) → rfind_below c text n ≡ Some k
+rfind_some c text k zero below short is later = absurd (omega arith)
+rfind_some c text k (suc n) below short is later = by (split k n below) (λ less. rfind_some c text k n less (omega arith) is later)
+  where
+    by : (k ≡ n) ⊎ (k < n) → (k < n → rfind_below c text n ≡ Some k) → cond (get_or text n 0 == c) (Some n) (rfind_below c text n) ≡ Some k
+    by (inl e) before = ap (λ b. cond b (Some n) (rfind_below c text n)) (eq-eqb (get_or text n 0) c (ap (λ (i : ℕ). get_or text i 0) (sym e) ∙ is)) ∙ ap Some (sym e)
+    by (inr l) before = ap (λ b. cond b (Some n) (rfind_below c text n)) (ne_eqb (get_or text n 0) c (later n l (omega arith))) ∙ before l
+
+pub folder_by : (path : List ℕ) (r : Option ℕ) → MatchOption r ((i : ℕ) → i < length path → get_or path i 0 ≢ 47) (λ k. (k < length path) × (get_or path k 0 ≡ 47) × ((i : ℕ) → k < i → i < length path → get_or path i 0 ≢ 47)) → option_map (λ end. take end path) r ≡ folder_of path
+folder_by path None h = ap (option_map (λ end. take end path)) (sym (rfind_none 47 path (length path) (omega arith) h))
+folder_by path (Some k) h = ap (option_map (λ end. take end path)) (sym (rfind_some 47 path k (length path) h.0 (omega arith) h.1 h.2))

@@ -1,12 +1,12 @@
 -- From one stage of the line to the next.
-use Rattle.std.proofs.Common.{◌≡◌, ◌⊎◌, ℕ, ◌+◌, ◌<◌, ◌≤◌, List, [], ◌∷◌, ◌++◌, length, map, take, Bool, true, Option, Some, None, IfSome, refl, ap, sym, subst, ◌∙◌, inl, inr, arith, append-nil, length-append}
+use Rattle.std.proofs.Common.{◌≡◌, ℕ, ◌<◌, ◌≤◌, List, [], ◌∷◌, ◌++◌, length, map, take, Option, Some, None, IfSome, refl, ap, sym, subst, ◌∙◌, arith, append-nil, length-append}
 use Rattle.std.proofs.lemmas.List.{take_all}
 use Rattle.outside.specs.Lists.{Adds, Tells}
 use Rattle.outside.specs.declared.floor.SourceFile.{SourceFile}
 use Rattle.outside.specs.declared.berth.BerthCall.{BerthCall}
 use Rattle.outside.specs.declared.place.PlaceWrite.{PlaceWrite}
 use Rattle.worker_run.specs.Heard.{IsOneAnswer, BeginsAnswer, NeverAnswers, Speaks}
-use Rattle.worker_run.specs.Rooms.{IsRun, fill_asks, fill_calls, put_ask, put_call, writes_of}
+use Rattle.worker_run.specs.Rooms.{Asked, Folder, IsRun, folder_call, folders_of, fill_asks, fill_calls, put_ask, put_call, writes_of}
 use Rattle.worker_run.specs.Reached.{TellsRun}
 use Rattle.worker_run.proofs.Streams.{never_by_more}
 use Rattle.worker_run.proofs.Frames.{of_told}
@@ -53,11 +53,15 @@ puts_run : (inputs : List SourceFile) → IsRun (map put_ask inputs) (map put_ca
 puts_run [] = tt
 puts_run (x ∷ inputs) = (refl, tt, puts_run inputs)
 
-fill_runs : (inputs : List SourceFile) → IsRun (fill_asks inputs) (fill_calls inputs)
-fill_runs inputs = (refl, tt, puts_run inputs)
+folders_run : (folders : List (List ℕ)) (asks : List Asked) (calls : List BerthCall) → IsRun asks calls → IsRun (map Folder folders ++ asks) (map folder_call folders ++ calls)
+folders_run [] asks calls rest = rest
+folders_run (f ∷ folders) asks calls rest = (refl, tt, folders_run folders asks calls rest)
 
-pub filled : (log : Option (List BerthCall)) (before : List BerthCall) (inputs : List SourceFile) → Tells log (before ++ fill_calls inputs) → TellsRun log before (fill_asks inputs)
-filled log before inputs told = of_told (λ l. (more : List BerthCall) × (l ≡ before ++ more) × IsRun (fill_asks inputs) more) log (before ++ fill_calls inputs) told (fill_calls inputs, refl, fill_runs inputs)
+fill_runs : (outputs : List (List ℕ)) (inputs : List SourceFile) → IsRun (fill_asks outputs inputs) (fill_calls outputs inputs)
+fill_runs outputs inputs = (refl, tt, folders_run (folders_of outputs) (map put_ask inputs) (map put_call inputs) (puts_run inputs))
+
+pub filled : (log : Option (List BerthCall)) (before : List BerthCall) (outputs : List (List ℕ)) (inputs : List SourceFile) → Tells log (before ++ fill_calls outputs inputs) → TellsRun log before (fill_asks outputs inputs)
+filled log before outputs inputs told = of_told (λ l. (more : List BerthCall) × (l ≡ before ++ more) × IsRun (fill_asks outputs inputs) more) log (before ++ fill_calls outputs inputs) told (fill_calls outputs inputs, refl, fill_runs outputs inputs)
 
 -- all writes
 writes_short : (outputs files : List (List ℕ)) → length (writes_of outputs files) ≤ length outputs

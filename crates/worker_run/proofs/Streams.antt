@@ -1,11 +1,9 @@
 -- What the bytes taken so far say of the bytes to come.
-use Rattle.std.proofs.Common.{◌≡◌, ℕ, zero, suc, ◌<◌, Bool, true, false, cond, ltb, leb, List, [], ◌∷◌, ◌++◌, length, Result, Ok, Err, refl, sym, ap, subst, ◌∙◌, append_assoc, append-nil, arith, length-append}
+use Rattle.std.proofs.Common.{◌≡◌, ℕ, ◌<◌, List, [], ◌∷◌, ◌++◌, length, refl, sym, ap, subst, ◌∙◌, append_assoc, arith, length-append}
 use Rattle.std.proofs.lemmas.List.{nil_from_length}
-use Rattle.wire_fields.specs.Varint.{Fault, CutField, BadVarint, BadTag, BadText, below, number_at, varint_at}
+use Rattle.wire_fields.specs.Varint.{number_at, varint_at}
 use Rattle.delimited_framing.specs.declared.frame.FrameFault.{FrameFault}
-use Rattle.delimited_framing.specs.declared.frame.FrameFault.TheVariants.{TooLong, BadLength}
-use Rattle.delimited_framing.specs.Frame.{Front, Whole, Unfinished, Bad, behind, after_length, frame_at, Holds, Frames, FramesBad}
-use Rattle.delimited_framing.specs.Splitter.{Held, Stands}
+use Rattle.delimited_framing.specs.Frame.{Whole, Unfinished, frame_at, Holds, Frames, FramesBad}
 use Rattle.delimited_framing.proofs.Faults.{bad_stays}
 use Rattle.delimited_framing.proofs.Streams.{Holds-more}
 use Rattle.worker_run.specs.Heard.{largest, IsPlain, IsOneAnswer, NeverAnswers, IsNoAnswer}

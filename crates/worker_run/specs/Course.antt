@@ -1,6 +1,12 @@
 -- In which order a run reads, and what that leads to.
-use Rattle.std.specs.Prelude.{◌≡◌, ◌≢◌, ℕ, IfSome, List, [], ◌∷◌, Option, Some, None, Result, Ok, Err, codes}
+use Rattle.std.specs.Prelude.{◌≡◌, ℕ, Bool, true, false, IfSome, List, [], ◌∷◌, Option, Some, None, Result, Ok, Err}
 use Rattle.std.specs.List.{All}
+use Rattle.std.specs.Option.{IsSome}
+use Rattle.action_list.specs.Lists.{list_of}
+use Rattle.action_list.specs.declared.faults.ListFault.{ListFault}
+use Rattle.action_list.specs.declared.types.ActionList.{ActionList}
+use Rattle.action_list.specs.declared.types.ListAction.{ListAction}
+use Rattle.exec_journal.specs.declared.plan.Plan.{Plan}
 use Rattle.outside.specs.Lists.{Adds}
 use Rattle.outside.specs.Floor.{MayAnswer, file_at, one_read}
 use Rattle.outside.specs.declared.answers.Read.{Read}
@@ -11,57 +17,68 @@ use Rattle.build_report.specs.declared.fault.RunFault.{RunFault}
 use Rattle.build_report.specs.declared.fault.RunFault.TheVariants as fault
 use Rattle.build_report.specs.declared.fault.Stage.TheVariants as stage
 use Rattle.build_report.specs.declared.fault.Unbuilt.TheVariants as unbuilt
-use Rattle.worker_run.specs.declared.action.OneAction.{OneAction}
-use Rattle.worker_run.specs.declared.work.Work.{Work}
+use Rattle.tool_words.specs.declared.options.Options.{Options}
+use Rattle.worker_run.specs.Prepared.{HasWork, IsFlagFault, is_served, plan_by}
+use Rattle.worker_run.specs.Sources.{AllFound, FirstLost, files_at, source_paths}
+use Rattle.flag_files.specs.Split.{request_words}
 use Rattle.worker_run.specs.declared.reading.Job.{Job}
 use Rattle.worker_run.specs.declared.reading.Job.TheVariants as job
-use Rattle.worker_run.specs.Action.{IsListOf, IsFlagText, empty_list}
-use Rattle.worker_run.specs.Frame.{request_frame}
 
--- the work of an action whose input holds these bytes
-pub record IsWorkOf (action : OneAction) (held : List ℕ) (work : Work) : Type 0 where
-  pub name : work.name ≡ action.name
-  pub program : work.command.program ≡ action.program
-  pub words : work.command.words ≡ codes "--persistent_worker" ∷ []
-  pub env : work.command.env ≡ []
-  pub inputs : work.inputs ≡ record { path = action.input; bytes = held } ∷ []
-  pub outputs : work.outputs ≡ action.output ∷ []
-  pub frame : work.frame ≡ request_frame action.input held
+-- The reads of the action's sources, up to the first that isn't answered Found, and what they lead to: that
+-- read's fault; or where all were found, the first fault of the expansion of its request's words, or its work.
+abbrev pub ActionRead : Options → ListAction → List FloorRead → Result Job RunFault → Type 0
+ActionRead o x reads (Err (fault.Absent path)) = FirstLost (source_paths x) reads path read.Absent
+ActionRead o x reads (Err (fault.FloorFailed path)) = FirstLost (source_paths x) reads path read.Failed
+ActionRead o x reads (Err (fault.Flags action f)) = (files : List SourceFile) × AllFound (source_paths x) reads files × IsFlagFault (request_words x.argv) (files_at files x.inputs) action f
+ActionRead o x reads (Ok (job.One work)) = (files : List SourceFile) × AllFound (source_paths x) reads files × HasWork o x files work
+ActionRead o x reads (Ok (job.Nothing plan)) = ⊥
+ActionRead o x reads (Err f) = ⊥
 
--- what the answer at the input's path leads to
-abbrev pub AfterInput : OneAction → Read → Result Job RunFault → Type 0
-AfterInput action (read.Found bytes) (Ok (job.One work)) = IsFlagText bytes × IsWorkOf action bytes work
-AfterInput action (read.Found bytes) (Ok job.Nothing) = ⊥
-AfterInput action (read.Found bytes) (Err f) = (IsFlagText bytes → ⊥) × (f ≡ fault.NotYetBuilt unbuilt.FlagFile)
-AfterInput action read.Absent job = job ≡ Err (fault.Absent action.input)
-AfterInput action read.Failed job = job ≡ Err (fault.FloorFailed action.input)
+-- nothing more is read
+abbrev pub EndsSo : List FloorRead → Result Job RunFault → Result Job RunFault → Type 0
+EndsSo reads job due = (reads ≡ []) × (job ≡ due)
 
-abbrev pub InputRead : OneAction → List FloorRead → Result Job RunFault → Type 0
-InputRead action (first ∷ []) job = (first.path ≡ action.input) × AfterInput action first.answer job
-InputRead action reads job = ⊥
+abbrev pub OneRead : Options → ListAction → Bool → List FloorRead → Result Job RunFault → Type 0
+OneRead o x true reads job = ActionRead o x reads job
+OneRead o x false reads job = EndsSo reads job (Err (fault.NotYetBuilt unbuilt.Plan))
 
--- neither the empty list nor the list of one action
-pub record IsOtherList (bytes : List ℕ) : Type 0 where
-  pub not_empty : bytes ≢ empty_list
-  pub not_one : (action : OneAction) → IsListOf bytes action → ⊥
+-- what a list with these actions leads to: so far no more than one action is done, and that not of every kind
+abbrev pub ActionsRead : Options → List ListAction → List FloorRead → Result Job RunFault → Type 0
+ActionsRead o [] reads made = EndsSo reads made (Ok (job.Nothing (plan_by o [])))
+ActionsRead o (x ∷ []) reads job = OneRead o x (is_served x) reads job
+ActionsRead o (x ∷ y ∷ more) reads job = EndsSo reads job (Err (fault.NotYetBuilt unbuilt.Plan))
 
--- what the answer at the list's path leads to
-abbrev pub AfterList : List ℕ → Read → List FloorRead → Result Job RunFault → Type 0
-AfterList path read.Absent rest job = (rest ≡ []) × (job ≡ Err (fault.Absent path))
-AfterList path read.Failed rest job = (rest ≡ []) × (job ≡ Err (fault.FloorFailed path))
-AfterList path (read.Found bytes) [] (Ok job.Nothing) = bytes ≡ empty_list
-AfterList path (read.Found bytes) [] (Ok (job.One work)) = ⊥
-AfterList path (read.Found bytes) [] (Err f) = IsOtherList bytes × (f ≡ fault.NotYetBuilt unbuilt.List)
-AfterList path (read.Found bytes) rest job = (action : OneAction) × IsListOf bytes action × InputRead action rest job
+-- what the list's bytes lead to: their first fault, or the list that they are
+abbrev pub BytesRead : Options → Result ActionList ListFault → List FloorRead → Result Job RunFault → Type 0
+BytesRead o (Err f) reads job = EndsSo reads job (Err (fault.List f))
+BytesRead o (Ok list) reads job = ActionsRead o list.actions reads job
 
-abbrev pub ListRead : List ℕ → List FloorRead → Result Job RunFault → Type 0
-ListRead path [] job = ⊥
-ListRead path (first ∷ rest) job = (first.path ≡ path) × AfterList path first.answer rest job
+-- what the answer at the list's path leads to, and the reads behind it
+abbrev pub AfterList : Options → List ℕ → Read → List FloorRead → Result Job RunFault → Type 0
+AfterList o path read.Absent rest job = EndsSo rest job (Err (fault.Absent path))
+AfterList o path read.Failed rest job = EndsSo rest job (Err (fault.FloorFailed path))
+AfterList o path (read.Found bytes) rest job = BytesRead o (list_of 48 bytes) rest job
+
+-- The list is read first.
+abbrev pub ListRead : Options → List ℕ → List FloorRead → Result Job RunFault → Type 0
+ListRead o path [] job = ⊥
+ListRead o path (first ∷ rest) job = (first.path ≡ path) × AfterList o path first.answer rest job
+
+-- There is a list, or a generator in its place.
+abbrev pub OptionsRead : Options → Option (List ℕ) → List FloorRead → Result Job RunFault → Type 0
+OptionsRead o None reads job = IsSome o.generate × EndsSo reads job (Err (fault.NotYetBuilt unbuilt.Words))
+OptionsRead o (Some path) reads job = (o.generate ≡ None) × ListRead o path reads job
 
 -- The reads in the order of work, up to the first that isn't answered Found, and what they lead to.
-abbrev pub Course : Option (List ℕ) → List FloorRead → Result Job RunFault → Type 0
-Course None reads job = (reads ≡ []) × (job ≡ Err (fault.NotYetBuilt unbuilt.Words))
-Course (Some path) reads job = ListRead path reads job
+abbrev pub Course : Option Options → List FloorRead → Result Job RunFault → Type 0
+Course None reads job = EndsSo reads job (Err fault.Words)
+Course (Some o) reads job = OptionsRead o o.list reads job
+
+-- the plan of what is to be done
+abbrev pub OnPlan : Result Job RunFault → (Plan → Type 0) → Type 0
+OnPlan (Ok (job.Nothing plan)) P = P plan
+OnPlan (Ok (job.One work)) P = P work.plan
+OnPlan (Err f) P = Unit {0}
 
 -- each answer is what the floor's files give, where it tells them
 abbrev pub AreOfFiles : Option (List SourceFile) → List FloorRead → Type 0

@@ -1,10 +1,13 @@
 -- How a run ends.
-use Rattle.std.specs.Prelude.{◌≡◌, ℕ, List, [], ◌∷◌, Option, Some, None, Result, Ok, Err}
+use Rattle.std.specs.Prelude.{◌≡◌, ℕ, List, [], ◌∷◌, Option, Some, None, Result, Ok, Err, false, reverse}
 use Rattle.exec_journal.specs.declared.journal.Entry.{Entry}
+use Rattle.exec_journal.specs.declared.plan.Plan.{Plan}
+use Rattle.tool_words.specs.declared.options.Options.{Options}
 use Rattle.outside.specs.Lists.{Gives}
 use Rattle.outside.specs.declared.answers.Io.TheVariants as io
 use Rattle.outside.specs.declared.floor.FloorRead.{FloorRead}
 use Rattle.outside.specs.declared.floor.SourceFile.{SourceFile}
+use Rattle.build_report.specs.Report.{report_of}
 use Rattle.build_report.specs.declared.fault.RunFault.{RunFault}
 use Rattle.build_report.specs.declared.fault.RunFault.TheVariants as fault
 use Rattle.build_report.specs.declared.fault.Stage.TheVariants as stage
@@ -18,7 +21,6 @@ use Rattle.worker_run.specs.declared.line.Stopped.TheVariants as stopped
 use Rattle.worker_run.specs.Course.{Course, Logs}
 use Rattle.worker_run.specs.OneJournal.{journal_of}
 use Rattle.worker_run.specs.Reached.{RoomStood, PlaceStood, LineStood, HasCause, IsStop, OnOutside}
-use Rattle.worker_run.specs.Report.{report_of_none, report_of_one, text_of}
 use Rattle.worker_run.specs.Seen.{SeenRoom, SeenPlace, SeenLine}
 
 pub record SeenEnd : Type 0 where
@@ -71,17 +73,21 @@ Puts None report old new = Gives io.Done report old new
 Puts (Some fault.SinkFailed) report old new = Gives io.Failed report old new
 Puts (Some f) report old new = new ≡ old
 
--- the end of a list without actions
+-- the end of a put
 abbrev pub IsPutEnd : Option RunFault → Type 0
 IsPutEnd None = Unit {0}
 IsPutEnd (Some f) = f ≡ fault.SinkFailed
 
+-- the report of this plan by the journal
+abbrev pub report_by : Plan → List Entry → List ℕ
+report_by plan journal = report_of plan (reverse journal) false
+
 -- What was read decides how the run ends.
 abbrev pub EndsAs : Result Job RunFault → Option RunFault → Left → Option (List ℕ) → Option (List ℕ) → Type 0
 EndsAs (Err f) end run old new = (end ≡ Some f) × (run ≡ nothing_left) × (new ≡ old)
-EndsAs (Ok job.Nothing) end run old new = IsPutEnd end × (run ≡ nothing_left) × Puts end report_of_none old new
+EndsAs (Ok (job.Nothing plan)) end run old new = EndsBy stopped.Whole end × (run ≡ nothing_left) × Puts end (report_by plan run.journal) old new
 EndsAs (Ok (job.One work)) end run old new =
-    (came : Reached) × (stop : Stopped) × EndsBy stop end × LeavesOne work came stop run × Puts end (report_of_one work.name (text_of came)) old new
+    (came : Reached) × (stop : Stopped) × EndsBy stop end × LeavesOne work came stop run × Puts end (report_by work.plan run.journal) old new
 
 -- Where memory was wanted before the lanes, no lane was started and nothing is put; nothing is said of the
 -- reads then.
@@ -93,12 +99,12 @@ AfterStart (Some (fault.NoMemory stage.Before)) P Q = P
 AfterStart end P Q = Q
 
 -- The reads in the order of work led to a job, and the job to this end.
-abbrev pub Ran : Option (List ℕ) → List FloorRead → Option RunFault → Left → Option (List ℕ) → Option (List ℕ) → Type 0
-Ran word reads end run old new = (job : Result Job RunFault) × Course word reads job × EndsAs job end run old new
+abbrev pub Ran : Option Options → List FloorRead → Option RunFault → Left → Option (List ℕ) → Option (List ℕ) → Type 0
+Ran options reads end run old new = (job : Result Job RunFault) × Course options reads job × EndsAs job end run old new
 
-abbrev pub RunEnds : Option (List ℕ) → Option (List SourceFile) → Option (List FloorRead) → Option (List FloorRead) → Option RunFault → Left → Option (List ℕ) → Option (List ℕ) → Type 0
-RunEnds word files log_old log_new end run old new =
-    AfterStart end (LeavesNothing run old new) (Logs files log_old log_new (λ reads. Ran word reads end run old new))
+abbrev pub RunEnds : Option Options → Option (List SourceFile) → Option (List FloorRead) → Option (List FloorRead) → Option RunFault → Left → Option (List ℕ) → Option (List ℕ) → Type 0
+RunEnds options files log_old log_new end run old new =
+    AfterStart end (LeavesNothing run old new) (Logs files log_old log_new (λ reads. Ran options reads end run old new))
 
 -- a fault that comes once all is read, or none
 abbrev pub IsAfterReading : Option RunFault → Type 0

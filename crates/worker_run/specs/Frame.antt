@@ -1,26 +1,31 @@
 -- The one request, as it is written to a worker.
-use Rattle.std.specs.Prelude.{ℕ, List, [], ◌∷◌, pos, false}
+use Rattle.std.specs.Prelude.{ℕ, List, [], map, Bool, false, pos, if◌then◌else◌}
 use Rattle.sha2.specs.Sha256.{sha256}
 use Rattle.hex.specs.Hex.{encode_lower}
+use Rattle.outside.specs.declared.floor.SourceFile.{SourceFile}
 use Rattle.wire_fields.specs.Spelling.{delimited, spelling}
 use Rattle.wire_messages.specs.Request.{request_fields}
+use Rattle.wire_messages.specs.declared.input.Input.{Input}
 use Rattle.wire_messages.specs.declared.request.WorkRequest.{WorkRequest}
 
 -- the digest of a file's bytes, as the 64 lower-case hexadecimal digits of their SHA-256
 abbrev pub digest_text : List ℕ → List ℕ
 digest_text bytes = encode_lower (sha256 bytes)
 
--- the request of an action whose one input, its flag file, holds one word
-abbrev pub request_of : List ℕ → List ℕ → WorkRequest
-request_of path held = record {
-  arguments = held ∷ [];
-  inputs = record { path = path; digest = digest_text held } ∷ [];
+abbrev pub input_of : SourceFile → Input
+input_of file = record { path = file.path; digest = digest_text file.bytes }
+
+-- the request with these arguments and these inputs
+abbrev pub request_of : List (List ℕ) → List SourceFile → Bool → WorkRequest
+request_of arguments inputs verbose = record {
+  arguments = arguments;
+  inputs = map input_of inputs;
   request_id = pos 0;
   cancel = false;
-  verbosity = pos 0;
+  verbosity = if verbose then pos 10 else pos 0;
   sandbox_dir = [];
 }
 
 -- its written form behind its length
-abbrev pub request_frame : List ℕ → List ℕ → List ℕ
-request_frame path held = delimited (spelling (request_fields (request_of path held)))
+abbrev pub request_frame : List (List ℕ) → List SourceFile → Bool → List ℕ
+request_frame arguments inputs verbose = delimited (spelling (request_fields (request_of arguments inputs verbose)))

@@ -1,4 +1,3 @@
-pub mod Action
 pub mod Commits
 pub mod Course
 pub mod Ends
@@ -8,9 +7,9 @@ pub mod Heard
 pub mod Hearing
 pub mod Lists
 pub mod OneJournal
+pub mod Prepared
 pub mod Reached
-pub mod Report
 pub mod Rooms
 pub mod Seen
+pub mod Sources
 pub mod Steps
-pub mod Words

@@ -1,5 +1,5 @@
 -- What the objects tell, by how far the line of the one action came.
-use Rattle.std.specs.Prelude.{◌≡◌, ◌⊎◌, ℕ, ◌<◌, ◌≤◌, List, [], ◌∷◌, ◌++◌, length, take, true, Option, Some, None, IfSome}
+use Rattle.std.specs.Prelude.{◌≡◌, ◌⊎◌, ℕ, ◌<◌, ◌≤◌, List, [], ◌++◌, length, take, true, Option, Some, None, IfSome}
 use Rattle.outside.specs.Lists.{Tells}
 use Rattle.outside.specs.declared.berth.BerthCall.{BerthCall}
 use Rattle.outside.specs.declared.place.PlaceWrite.{PlaceWrite}
@@ -17,7 +17,7 @@ abbrev pub before_request : Work → List BerthCall
 before_request work = launch_calls work.command
 
 abbrev pub before_answer : Work → List BerthCall
-before_answer work = launch_calls work.command ++ fill_calls work.inputs
+before_answer work = launch_calls work.command ++ fill_calls work.outputs work.inputs
 
 -- these calls, and then some of those, as far as it tells
 abbrev pub TellsRun : Option (List BerthCall) → List BerthCall → List Asked → Type 0
@@ -26,7 +26,7 @@ TellsRun log calls asks = IfSome log (λ l. (more : List BerthCall) × (l ≡ ca
 -- The room: each order's calls, one after another; of the last order perhaps not all.
 abbrev pub RoomStood : Work → Reached → Option (List BerthCall) → Type 0
 RoomStood work reached.Ordered log = TellsRun log [] (launch_asks work.command)
-RoomStood work reached.Launched log = TellsRun log (before_request work) (fill_asks work.inputs)
+RoomStood work reached.Launched log = TellsRun log (before_request work) (fill_asks work.outputs work.inputs)
 RoomStood work reached.Written log = Tells log (before_answer work)
 RoomStood work (reached.Answered text) log = TellsRun log (before_answer work) (get_asks work.outputs)
 RoomStood work (reached.Gathered text files) log = Tells log (before_answer work ++ get_calls work.outputs files)

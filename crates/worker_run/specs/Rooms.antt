@@ -1,5 +1,7 @@
 -- What is done in a room and at a place for the one action.
-use Rattle.std.specs.Prelude.{◌≡◌, ℕ, List, [], ◌∷◌, ◌++◌, map, Bool, true, false, Option, IfSome}
+use Rattle.std.specs.Prelude.{◌≡◌, ℕ, List, [], ◌∷◌, ◌++◌, map, Bool, true, false, Option, IfSome, option_map, take, length}
+use Rattle.std.specs.List.{filter_map}
+use Rattle.std.specs.Path.{rfind_below}
 use Rattle.outside.specs.Lists.{Tells}
 use Rattle.outside.specs.declared.answers.Io.{Io}
 use Rattle.outside.specs.declared.answers.Io.TheVariants as io
@@ -70,12 +72,23 @@ put_ask file = Put file.path file.bytes
 abbrev pub put_call : SourceFile → BerthCall
 put_call file = call.Put file.path file.bytes io.Done
 
--- for a request: the room is emptied, and the inputs are put into it in order
-abbrev pub fill_asks : List SourceFile → List Asked
-fill_asks inputs = Clear [] ∷ map put_ask inputs
+-- the folder of a path: what stands before its last slash, where it has one
+abbrev pub folder_of : List ℕ → Option (List ℕ)
+folder_of path = option_map (λ end. take end path) (rfind_below 47 path (length path))
 
-abbrev pub fill_calls : List SourceFile → List BerthCall
-fill_calls inputs = call.Clear [] io.Done ∷ map put_call inputs
+-- the folders of the outputs that are to stand in one, in order
+abbrev pub folders_of : List (List ℕ) → List (List ℕ)
+folders_of outputs = filter_map folder_of outputs
+
+abbrev pub folder_call : List ℕ → BerthCall
+folder_call path = call.Folder path io.Done
+
+-- For a request: the room is emptied, the outputs' folders are made, and the inputs are put into it in order.
+abbrev pub fill_asks : List (List ℕ) → List SourceFile → List Asked
+fill_asks outputs inputs = Clear [] ∷ (map Folder (folders_of outputs) ++ map put_ask inputs)
+
+abbrev pub fill_calls : List (List ℕ) → List SourceFile → List BerthCall
+fill_calls outputs inputs = call.Clear [] io.Done ∷ (map folder_call (folders_of outputs) ++ map put_call inputs)
 
 -- for an answer: the outputs are looked at in order
 abbrev pub get_asks : List (List ℕ) → List Asked

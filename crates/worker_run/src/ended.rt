@@ -59,6 +59,36 @@ impl<F: Floor> Ended<F> {
             places: Vec::new(alloc),
         }
     }
+
+    /// The same run, which ends with this fault.
+    pub fn with_fault(self, fault: Option<RunFault>) -> Ended<F>
+        ensures fault { result.fault ≡ fault }
+        ensures status { result.status ≡ end_status fault }
+        ensures floor { result.floor ≡ self.floor }
+        ensures journal { result.journal ≡ self.journal }
+        ensures berths { result.berths ≡ self.berths }
+        ensures lines { result.lines ≡ self.lines }
+        ensures places { result.places ≡ self.places }
+    {
+        let Ended {
+            status: _,
+            fault: _,
+            journal,
+            floor,
+            berths,
+            lines,
+            places,
+        } = self;
+        Ended {
+            status: end_status(&fault),
+            fault,
+            journal,
+            floor,
+            berths,
+            lines,
+            places,
+        }
+    }
 }
 
 /// The exit status of a run that ends so.

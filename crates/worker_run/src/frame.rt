@@ -1,46 +1,51 @@
 //! The one request, as it is written to a worker.
-ghost use Rattle.std.specs.Prelude.{◌≡◌, ◌∷◌, [], IfOk};
-ghost use Rattle.worker_run.specs.Frame.{digest_text, request_frame};
+ghost use Rattle.std.specs.Prelude.{◌≡◌, ◌∷◌, [], IfOk, map};
+ghost use Rattle.worker_run.specs.Frame.{digest_text, input_of, request_frame};
 
+use outside::SourceFile;
 use sha2::{Digest, Sha256};
 use std::alloc::Global;
 use wire_fields::{Items, NoMemory, Text};
 use wire_messages::{Input, WorkRequest, encode_delimited};
 
-/// The framed request with the one argument that an input holds, and that input.
+/// How much a worker may print that was asked to say more.
+const VERBOSE: i32 = 10;
+
+/// The framed request with these arguments and these inputs.
 ///
 /// # Errors
 ///
 /// `NoMemory`.
-pub fn request_frame(alloc: Global, path: &str, held: &str) -> Result<Items<u8>, NoMemory>
-    ensures { IfOk result (λ frame. frame ≡ request_frame path.now held.now) }
+pub fn request_frame(
+    alloc: Global,
+    arguments: Vec<Text>,
+    inputs: &[SourceFile],
+    verbose: bool,
+) -> Result<Items<u8>, NoMemory>
+    ensures { IfOk result (λ frame. frame ≡ request_frame arguments.items inputs.now verbose) }
 {
-    let input = Input {
-        path: Text::copy_of(alloc, path)?,
-        digest: digest_text(alloc, held.as_bytes())?,
-    };
     let request = WorkRequest {
-        arguments: only(alloc, Text::copy_of(alloc, held)?)?,
-        inputs: only(alloc, input)?,
+        arguments: Items::of(arguments),
+        inputs: inputs_of(alloc, inputs)?,
         request_id: 0,
         cancel: false,
-        verbosity: 0,
+        verbosity: if verbose { VERBOSE } else { 0 },
         sandbox_dir: Text::of(String::new(alloc)),
     };
     Ok(Items::of(encode_delimited(alloc, &request)?))
 }
 
-/// A list of this one element.
-///
-/// # Errors
-///
-/// `NoMemory`.
-pub fn only<T: Drop>(alloc: Global, element: T) -> Result<Items<T>, NoMemory>
-    ensures { IfOk result (λ list. list ≡ element ∷ []) }
+fn inputs_of(alloc: Global, files: &[SourceFile]) -> Result<Items<Input>, NoMemory>
+    ensures { IfOk result (λ inputs. inputs ≡ map input_of files.now) }
 {
-    let mut list = Vec::new(alloc);
-    list.push(element)?;
-    Ok(Items::of(list))
+    let mut inputs = Vec::new(alloc);
+    for file in files {
+        inputs.push(Input {
+            path: Text::copy_of(alloc, file.path.as_str())?,
+            digest: digest_text(alloc, file.bytes.bytes())?,
+        })?;
+    }
+    Ok(Items::of(inputs))
 }
 
 fn digest_text(alloc: Global, bytes: &[u8]) -> Result<Items<u8>, NoMemory>

@@ -1,19 +1,18 @@
 //! The top call: it reads a list of actions, runs them, and reports.
 #![tactic(auto)]
 
-mod action;
 mod commits;
 mod ended;
 mod frame;
 mod hearing;
 mod journal;
 mod line;
+mod preparing;
 mod reading;
-mod report;
 mod room;
 mod run;
 mod seats;
-mod words;
+mod sources;
 mod work;
 
 pub use build_report::{RunFault, Stage, Unbuilt, fault_line};

@@ -204,7 +204,7 @@ fn serve<B: Berth, P: Place>(
     ensures feed_line { B.Feed.line feed.new ≡ B.Feed.line feed.old }
     ensures tap_line { B.Tap.line tap.new ≡ B.Tap.line tap.old }
 {
-    if let Io::Failed = fill(berth, work.inputs.as_slice()) {
+    if let Io::Failed = fill(berth, work.outputs.as_slice(), work.inputs.as_slice()) {
         return Served {
             reached: Reached::Launched,
             stopped: Stopped::Outside,

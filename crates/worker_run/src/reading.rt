@@ -1,119 +1,152 @@
-//! What is read before anything is started: the list, and the input of its action.
-ghost use Rattle.std.specs.Prelude.{◌≡◌, ◌∷◌, [], Some, None, IfOk, map, string_bytes};
+//! What is read before anything is started: the words, the list, and the sources of its action.
+ghost use Rattle.std.specs.Prelude.{◌≡◌, ◌∷◌, [], true, map, string_bytes};
+ghost use Rattle.exec_journal.specs.Sound.{Sound};
+ghost use Rattle.action_list.specs.Whole.{IsWhole};
 ghost use Rattle.outside.specs.Causes.{Counts};
-ghost use Rattle.worker_run.specs.Words.{list_word};
-ghost use Rattle.worker_run.specs.Action.{IsFlagText};
-ghost use Rattle.worker_run.specs.Frame.{request_frame};
-ghost use Rattle.worker_run.specs.Course.{Course, ListRead, InputRead, IsWorkOf, Logs, UnlessBefore, IsFloorFailed, end_of, ReadsOnce};
+ghost use Rattle.tool_words.specs.Options.{options_of};
+ghost use Rattle.worker_run.specs.Course.{Course, OptionsRead, ListRead, ActionsRead, OneRead, ActionRead, Logs, UnlessBefore, IsFloorFailed, OnPlan, end_of};
+ghost use Rattle.worker_run.specs.Prepared.{AreAccepted, is_served};
 
-use crate::action::{OneAction, is_empty_list, is_flag_text, read_action};
-use crate::frame::{only, request_frame};
-use crate::words::list_word;
+use crate::preparing::{plan_of, work_of};
+use crate::sources::{read_found, read_sources};
 use crate::work::Work;
-use crate::{RunFault, Unbuilt};
-use outside::{Command, Floor, Read, SourceFile};
+use crate::{RunFault, Stage, Unbuilt};
+use action_list::{ActionList, ListAction, ListRefusal, Strategy, read_list};
+use exec_journal::Plan;
+use outside::Floor;
 use std::alloc::Global;
-use wire_fields::{Blob, Items, NoMemory, Text};
+use tool_words::{Options, read_words};
 
 /// What is to be done.
 #[derive(Drop)]
 pub enum Job {
-    /// The list has no actions.
-    Nothing,
+    /// The list has no actions. This is its plan.
+    Nothing(Plan),
     /// The list has this one.
     One(Work),
 }
 
-/// Reads the list that the words name, and its action's input.
+/// Reads the list that the words name, and what its action reads.
 pub fn read_job<F: Floor>(alloc: Global, words: &[String], floor: &mut F) -> Result<Job, RunFault>
     ensures course { UnlessBefore (end_of result) (Logs (F.files floor.old) (F.log floor.old) (F.log floor.new)
-        (λ reads. Course (list_word (map string_bytes words.now)) reads result)) }
+        (λ reads. Course (options_of (map string_bytes words.now)) reads result)) }
+    ensures sound { OnPlan result Sound }
     ensures floor { Counts (F.faults floor.old) (F.faults floor.new) (IsFloorFailed (end_of result)) }
     ensures files { F.files floor.new ≡ F.files floor.old }
 {
-    match list_word(words) {
-        Some(path) => read_list(alloc, floor, path),
+    match read_words(alloc, words)? {
+        Some(options) => read_by_options(alloc, floor, &options),
+        None => Err(RunFault::Words),
+    }
+}
+
+fn read_by_options<F: Floor>(
+    alloc: Global,
+    floor: &mut F,
+    options: &Options,
+) -> Result<Job, RunFault>
+    requires { AreAccepted options.now }
+    ensures course { UnlessBefore (end_of result) (Logs (F.files floor.old) (F.log floor.old) (F.log floor.new) (λ reads. OptionsRead options.now options.now.list reads result)) }
+    ensures sound { OnPlan result Sound }
+    ensures floor { Counts (F.faults floor.old) (F.faults floor.new) (IsFloorFailed (end_of result)) }
+    ensures files { F.files floor.new ≡ F.files floor.old }
+{
+    match &options.list {
+        Some(path) => read_at(alloc, floor, options, path.as_str()),
         None => Err(RunFault::NotYetBuilt(Unbuilt::Words)),
     }
 }
 
-fn read_list<F: Floor>(alloc: Global, floor: &mut F, path: &str) -> Result<Job, RunFault>
-    ensures course { UnlessBefore (end_of result) (Logs (F.files floor.old) (F.log floor.old) (F.log floor.new) (λ reads. ListRead path.now reads result)) }
+// Reads the list at this path, and goes on by it.
+fn read_at<F: Floor>(
+    alloc: Global,
+    floor: &mut F,
+    options: &Options,
+    path: &str,
+) -> Result<Job, RunFault>
+    requires { AreAccepted options.now }
+    ensures course { UnlessBefore (end_of result) (Logs (F.files floor.old) (F.log floor.old) (F.log floor.new) (λ reads. ListRead options.now path.now reads result)) }
+    ensures sound { OnPlan result Sound }
     ensures floor { Counts (F.faults floor.old) (F.faults floor.new) (IsFloorFailed (end_of result)) }
     ensures files { F.files floor.new ≡ F.files floor.old }
 {
-    let list = read_found(alloc, floor, path)?;
-    if is_empty_list(list.bytes()) {
-        return Ok(Job::Nothing);
-    }
-    match read_action(alloc, list.bytes())? {
-        Some(action) => read_input(alloc, floor, action),
-        None => Err(RunFault::NotYetBuilt(Unbuilt::List)),
+    let bytes = read_found(alloc, floor, path)?;
+    match read_list(alloc, bytes.bytes()) {
+        Ok(list) => read_actions(alloc, floor, options, &list),
+        Err(ListRefusal::Fault(fault)) => Err(RunFault::List(fault)),
+        Err(ListRefusal::NoMemory) => Err(RunFault::NoMemory(Stage::Before)),
     }
 }
 
-fn read_input<F: Floor>(alloc: Global, floor: &mut F, action: OneAction) -> Result<Job, RunFault>
-    ensures course { UnlessBefore (end_of result) (Logs (F.files floor.old) (F.log floor.old) (F.log floor.new) (λ reads. InputRead action reads result)) }
+fn read_actions<F: Floor>(
+    alloc: Global,
+    floor: &mut F,
+    options: &Options,
+    list: &ActionList,
+) -> Result<Job, RunFault>
+    requires options { AreAccepted options.now }
+    requires list { IsWhole list.now.actions }
+    ensures course { UnlessBefore (end_of result) (Logs (F.files floor.old) (F.log floor.old) (F.log floor.new) (λ reads. ActionsRead options.now list.now.actions reads result)) }
+    ensures sound { OnPlan result Sound }
     ensures floor { Counts (F.faults floor.old) (F.faults floor.new) (IsFloorFailed (end_of result)) }
     ensures files { F.files floor.new ≡ F.files floor.old }
 {
-    let bytes = read_found(alloc, floor, action.input.as_str())?;
-    if !is_flag_text(bytes.bytes()) {
-        return Err(RunFault::NotYetBuilt(Unbuilt::FlagFile));
+    match list.actions.as_slice() {
+        [] => Ok(Job::Nothing(plan_of(alloc, options, list)?)),
+        [action] => read_one(alloc, floor, options, list, action),
+        [_, _, ..] => Err(RunFault::NotYetBuilt(Unbuilt::Plan)),
     }
-    Ok(Job::One(work_of(alloc, action, bytes)?))
 }
 
-// Reads one file. Any answer but Found ends the run.
-fn read_found<F: Floor>(alloc: Global, floor: &mut F, path: &str) -> Result<Blob, RunFault>
-    ensures read { ReadsOnce path.now result (F.files floor.old) (F.log floor.old) (F.log floor.new) }
+// Goes on by the one action of the list, where it is of the kind that is done.
+fn read_one<F: Floor>(
+    alloc: Global,
+    floor: &mut F,
+    options: &Options,
+    list: &ActionList,
+    action: &ListAction,
+) -> Result<Job, RunFault>
+    requires options { AreAccepted options.now }
+    requires list { IsWhole list.now.actions }
+    requires one { list.now.actions ≡ action.now ∷ [] }
+    ensures course { UnlessBefore (end_of result) (Logs (F.files floor.old) (F.log floor.old) (F.log floor.new) (λ reads. OneRead options.now action.now (is_served action.now) reads result)) }
+    ensures sound { OnPlan result Sound }
     ensures floor { Counts (F.faults floor.old) (F.faults floor.new) (IsFloorFailed (end_of result)) }
     ensures files { F.files floor.new ≡ F.files floor.old }
 {
-    let answer = floor.read(path)?;
-    match answer {
-        Read::Found(bytes) => Ok(bytes),
-        Read::Absent => Err(RunFault::Absent {
-            path: Text::copy_of(alloc, path)?,
-        }),
-        Read::Failed => Err(RunFault::FloorFailed {
-            path: Text::copy_of(alloc, path)?,
-        }),
+    if is_served(action) {
+        read_action(alloc, floor, options, list, action)
+    } else {
+        Err(RunFault::NotYetBuilt(Unbuilt::Plan))
     }
 }
 
-fn work_of(alloc: Global, action: OneAction, bytes: Blob) -> Result<Work, NoMemory>
-    requires { IsFlagText bytes }
-    ensures { IfOk result (λ work. IsWorkOf action bytes work) }
+/// The action is for a worker that is asked in protobuf, one request at a time, and never cancelled.
+fn is_served(action: &ListAction) -> bool
+    ensures { result ≡ is_served action.now }
 {
-    let frame = frame_of(alloc, action.input.as_str(), bytes.bytes())?;
-    let OneAction {
-        name,
-        mnemonic: _,
-        program,
-        input,
-        output,
-    } = action;
-    Ok(Work {
-        name,
-        command: Command {
-            program,
-            words: only(alloc, Text::copy_of(alloc, "--persistent_worker")?)?,
-            env: Items::of(Vec::new(alloc)),
-        },
-        inputs: only(alloc, SourceFile { path: input, bytes })?,
-        outputs: only(alloc, output)?,
-        frame,
-    })
+    let needs = &action.needs;
+    matches!(action.strategy, Strategy::Worker) && !needs.multiplex && !needs.json && !needs.cancel
 }
 
-fn frame_of(alloc: Global, path: &str, bytes: &[u8]) -> Result<Items<u8>, NoMemory>
-    requires { IsFlagText bytes.now }
-    ensures { IfOk result (λ frame. frame ≡ request_frame path.now bytes.now) }
+// Reads what the one action of the list reads.
+fn read_action<F: Floor>(
+    alloc: Global,
+    floor: &mut F,
+    options: &Options,
+    list: &ActionList,
+    action: &ListAction,
+) -> Result<Job, RunFault>
+    requires options { AreAccepted options.now }
+    requires list { IsWhole list.now.actions }
+    requires one { list.now.actions ≡ action.now ∷ [] }
+    requires served { is_served action.now ≡ true }
+    ensures course { UnlessBefore (end_of result) (Logs (F.files floor.old) (F.log floor.old) (F.log floor.new) (λ reads. ActionRead options.now action.now reads result)) }
+    ensures sound { OnPlan result Sound }
+    ensures floor { Counts (F.faults floor.old) (F.faults floor.new) (IsFloorFailed (end_of result)) }
+    ensures files { F.files floor.new ≡ F.files floor.old }
 {
-    match str::from_utf8(bytes) {
-        Ok(text) => request_frame(alloc, path, text),
-        // Letters and digits are text.
-        Err(_) => unreachable!(),
-    }
+    let sources = read_sources(alloc, floor, action)?;
+    let work = work_of(alloc, options, list, action, &sources)?;
+    Ok(Job::One(work))
 }

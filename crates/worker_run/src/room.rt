@@ -1,12 +1,13 @@
 //! What is done in a worker's room: it is emptied and the command started, it is filled for a request, and
 //! its outputs are looked at after the answer.
-ghost use Rattle.std.specs.Prelude.{◌≡◌, length, map, Ok, IfOk};
+ghost use Rattle.std.specs.Prelude.{◌≡◌, ◌∷◌, ◌++◌, [], length, map, Ok, IfOk};
+ghost use Rattle.std.specs.Option.{option_copied};
 ghost use Rattle.outside.specs.Causes.{Counts};
 ghost use Rattle.outside.specs.Lists.{Adds};
 ghost use Rattle.outside.specs.Launches.{OnStarted, IsNewFeed, IsNewTap, IsNewChild};
 ghost use Rattle.outside.specs.declared.answers.Io.TheVariants as io;
 ghost use Rattle.outside.specs.declared.answers.Launch.TheVariants as launch;
-ghost use Rattle.worker_run.specs.Rooms.{AddsRun, launch_asks, launch_calls, fill_asks, fill_calls, get_asks, get_calls, put_ask, put_call, AddsAbsent};
+ghost use Rattle.worker_run.specs.Rooms.{AddsRun, launch_asks, launch_calls, Folder, folder_of, folders_of, folder_call, fill_asks, fill_calls, get_asks, get_calls, put_ask, put_call, AddsAbsent};
 ghost use Rattle.worker_run.specs.Steps.{OnNotStarted, OnFiles, OnNoFiles, OnMissing, IsRoomFault};
 
 use outside::{Berth, Command, Io, Launch, Read, SourceFile};
@@ -43,16 +44,64 @@ pub fn launch<B: Berth>(
     }
 }
 
-/// Empties the room, and puts the inputs into it.
-pub fn fill<B: Berth>(berth: &mut B, inputs: &[SourceFile]) -> Io
-    ensures done { result ≡ io.Done → Adds (fill_calls inputs.now) (B.log berth.old) (B.log berth.new) }
-    ensures failed { result ≡ io.Failed → AddsRun (fill_asks inputs.now) (B.log berth.old) (B.log berth.new) }
+/// Empties the room, makes the folders of the outputs, and puts the inputs into it.
+pub fn fill<B: Berth>(berth: &mut B, outputs: &[Text], inputs: &[SourceFile]) -> Io
+    ensures done { result ≡ io.Done → Adds (fill_calls outputs.now inputs.now) (B.log berth.old) (B.log berth.new) }
+    ensures failed { result ≡ io.Failed → AddsRun (fill_asks outputs.now inputs.now) (B.log berth.old) (B.log berth.new) }
     ensures count { Counts (B.faults berth.old) (B.faults berth.new) (result ≡ io.Failed) }
     ensures number { B.number berth.new ≡ B.number berth.old }
 {
     match berth.room_clear("") {
+        Io::Done => furnish(berth, outputs, inputs),
+        Io::Failed => Io::Failed,
+    }
+}
+
+fn furnish<B: Berth>(berth: &mut B, outputs: &[Text], inputs: &[SourceFile]) -> Io
+    ensures done { result ≡ io.Done → Adds (map folder_call (folders_of outputs.now) ++ map put_call inputs.now) (B.log berth.old) (B.log berth.new) }
+    ensures failed { result ≡ io.Failed → AddsRun (map Folder (folders_of outputs.now) ++ map put_ask inputs.now) (B.log berth.old) (B.log berth.new) }
+    ensures count { Counts (B.faults berth.old) (B.faults berth.new) (result ≡ io.Failed) }
+    ensures number { B.number berth.new ≡ B.number berth.old }
+{
+    match make_folders(berth, outputs) {
         Io::Done => put_all(berth, inputs),
         Io::Failed => Io::Failed,
+    }
+}
+
+fn make_folders<B: Berth>(berth: &mut B, outputs: &[Text]) -> Io
+    ensures done { result ≡ io.Done → Adds (map folder_call (folders_of outputs.now)) (B.log berth.old) (B.log berth.new) }
+    ensures failed { result ≡ io.Failed → AddsRun (map Folder (folders_of outputs.now)) (B.log berth.old) (B.log berth.new) }
+    ensures count { Counts (B.faults berth.old) (B.faults berth.new) (result ≡ io.Failed) }
+    ensures number { B.number berth.new ≡ B.number berth.old }
+{
+    for output in outputs {
+        if let Io::Failed = make_folder(berth, output.as_str()) {
+            return Io::Failed;
+        }
+    }
+    Io::Done
+}
+
+// Makes the folder of a path, where it has one.
+fn make_folder<B: Berth>(berth: &mut B, path: &str) -> Io
+    ensures done { result ≡ io.Done → Adds (map folder_call (folders_of (path.now ∷ []))) (B.log berth.old) (B.log berth.new) }
+    ensures failed { result ≡ io.Failed → AddsRun (map Folder (folders_of (path.now ∷ []))) (B.log berth.old) (B.log berth.new) }
+    ensures count { Counts (B.faults berth.old) (B.faults berth.new) (result ≡ io.Failed) }
+    ensures number { B.number berth.new ≡ B.number berth.old }
+{
+    match folder_of(path) {
+        Some(folder) => berth.room_folder(folder),
+        None => Io::Done,
+    }
+}
+
+fn folder_of(path: &str) -> Option<&str>
+    ensures { option_copied result ≡ folder_of path.now }
+{
+    match path.rfind('/') {
+        Some(end) => Some(&path[..end]),
+        None => None,
     }
 }
 

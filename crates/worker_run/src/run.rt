@@ -1,21 +1,21 @@
 //! The top call.
 ghost use Rattle.std.specs.Prelude.{◌≡◌, ◌≤◌, Some, Ok, map, string_bytes};
 ghost use Rattle.std.specs.Option.{option_map};
+ghost use Rattle.exec_journal.specs.Sound.{Sound};
 ghost use Rattle.outside.specs.Causes.{Counts};
+ghost use Rattle.tool_words.specs.Options.{options_of};
 ghost use Rattle.worker_run.specs.Course.{IsFloorFailed};
-ghost use Rattle.worker_run.specs.Ends.{left, seen_end, RunEnds, AfterStart, LeavesNothing, EndsAs, EndsBy, Puts, IsPutEnd, IsAfterReading, IsAfterStart};
+ghost use Rattle.worker_run.specs.Ends.{left, seen_end, report_by, RunEnds, AfterStart, LeavesNothing, EndsAs, EndsBy, Puts, IsPutEnd, IsAfterReading, IsAfterStart};
 ghost use Rattle.worker_run.specs.Faults.{end_status};
-ghost use Rattle.worker_run.specs.Reached.{IsStop};
-ghost use Rattle.worker_run.specs.Report.{report_of_none, report_of_one, text_of};
 ghost use Rattle.worker_run.specs.Seen.{seen_room, seen_place, seen_feed, seen_tap, seen_child, seen_line};
-ghost use Rattle.worker_run.specs.Words.{list_word};
 
-use crate::line::{Reached, Stopped, run_line};
+use crate::line::{Stopped, run_line};
 use crate::reading::{Job, read_job};
-use crate::report::{REPORT_OF_NONE, report_of_one};
 use crate::seats::make_seats;
 use crate::work::Work;
 use crate::{Ended, RunFault, Stage, Unbuilt};
+use build_report::report;
+use exec_journal::{Journal, Plan};
 use outside::{Floor, Io, Sink};
 use std::alloc::Global;
 use std::sync::Wait;
@@ -24,10 +24,11 @@ use wire_fields::NoMemory;
 
 /// Runs the actions of the list that the words name, on this floor, and puts the report.
 ///
-/// The words after the program's name are one path of a list. The list is empty, or has one action for a
-/// worker that serves one request at a time. The order of work: the words; the list; the action's input; the
-/// places, berths and lists of the result; the lanes; the report, in one put. An earlier step's fault goes
-/// before a later one's.
+/// The words after the program's name are the path of a list, and options. The list is empty, or has one
+/// action for a worker that is asked in protobuf, one request at a time, without cancellation; anything else
+/// isn't built yet. The order of work: the words; the list; the action's tools and then its inputs, each path
+/// read once; the flag files; the places, berths and lists of the result; the lanes; the report, in one put.
+/// An earlier step's fault goes before a later one's.
 pub fn run_build<R: Threads + Wait + Sync, F: Floor, O: Sink>(
     _rt: &R,
     alloc: Global,
@@ -36,7 +37,7 @@ pub fn run_build<R: Threads + Wait + Sync, F: Floor, O: Sink>(
     out: &mut O,
 ) -> Ended<F>
     // The reads led to a job, and the job to all that is left: the journal, the rooms, the line and the place.
-    ensures run { RunEnds (list_word (map string_bytes words.now)) (F.files floor) (F.log floor) (F.log result.floor) result.fault
+    ensures run { RunEnds (options_of (map string_bytes words.now)) (F.files floor) (F.log floor) (F.log result.floor) result.fault
         (left result.journal (map (λ b. seen_room (F.Berth.number b) (F.Berth.faults b) (F.Berth.log b)) result.berths.items)
         (map (λ l. seen_end l.number (option_map (λ h. seen_line (seen_feed (F.Berth.Feed.line h.feed) (F.Berth.Feed.faults h.feed) (F.Berth.Feed.given h.feed)) (seen_tap (F.Berth.Tap.line h.tap) (F.Berth.Tap.faults h.tap) (F.Berth.Tap.taken h.tap) (F.Berth.Tap.ended h.tap)) (seen_child (F.Berth.Child.line h.child) (F.Berth.Child.killed h.child))) l.halves)) result.lines.items)
         (map (λ p. seen_place (F.Place.number p) (F.Place.faults p) (F.Place.log p)) result.places.items))
@@ -49,15 +50,17 @@ pub fn run_build<R: Threads + Wait + Sync, F: Floor, O: Sink>(
     let mut floor = floor;
     match read_job(alloc, words, &mut floor) {
         Ok(Job::One(work)) => run_one(alloc, floor, &work, out),
-        Ok(Job::Nothing) => {
-            let fault = put(out, REPORT_OF_NONE.as_bytes());
-            Ended::with_no_lane(alloc, floor, fault)
+        Ok(Job::Nothing(plan)) => {
+            let ended = Ended::with_no_lane(alloc, floor, None);
+            let fault = put_report(alloc, &plan, &ended.journal, out);
+            ended.with_fault(fault)
         }
         Err(fault) => Ended::with_no_lane(alloc, floor, Some(fault)),
     }
 }
 
 fn run_one<F: Floor, O: Sink>(alloc: Global, floor: F, work: &Work, out: &mut O) -> Ended<F>
+    requires { Sound work.now.plan }
     ensures run { AfterStart result.fault
         (LeavesNothing (left result.journal (map (λ b. seen_room (F.Berth.number b) (F.Berth.faults b) (F.Berth.log b)) result.berths.items)
         (map (λ l. seen_end l.number (option_map (λ h. seen_line (seen_feed (F.Berth.Feed.line h.feed) (F.Berth.Feed.faults h.feed) (F.Berth.Feed.given h.feed)) (seen_tap (F.Berth.Tap.line h.tap) (F.Berth.Tap.faults h.tap) (F.Berth.Tap.taken h.tap) (F.Berth.Tap.ended h.tap)) (seen_child (F.Berth.Child.line h.child) (F.Berth.Child.killed h.child))) l.halves)) result.lines.items)
@@ -80,21 +83,23 @@ fn run_one<F: Floor, O: Sink>(alloc: Global, floor: F, work: &Work, out: &mut O)
     };
     let mut seats = seats;
     let run = run_line(alloc, &mut seats.berth, &mut seats.place, work);
-    let fault = conclude(alloc, work.name.as_str(), &run.reached, run.stopped, out);
-    seats.into_ended(alloc, floor, run, fault)
+    let stopped = run.stopped;
+    let ended = seats.into_ended(alloc, floor, run);
+    let fault = conclude(alloc, &work.plan, &ended.journal, stopped, out);
+    ended.with_fault(fault)
 }
 
 // Puts the report where all was done, and says how the run ends.
 fn conclude<O: Sink>(
     alloc: Global,
-    name: &str,
-    reached: &Reached,
+    plan: &Plan,
+    journal: &Journal,
     stopped: Stopped,
     out: &mut O,
 ) -> Option<RunFault>
-    requires { IsStop reached.now stopped }
+    requires { Sound plan.now }
     ensures ends { EndsBy stopped result }
-    ensures put { Puts result (report_of_one name.now (text_of reached.now)) (O.contents out.old) (O.contents out.new) }
+    ensures put { Puts result (report_by plan.now journal.now) (O.contents out.old) (O.contents out.new) }
     ensures kind { IsAfterReading result }
     ensures started { IsAfterStart result }
     ensures sink { Counts (O.faults out.old) (O.faults out.new) (result ≡ Some RunFault.SinkFailed) }
@@ -102,33 +107,24 @@ fn conclude<O: Sink>(
     match stopped {
         Stopped::Outside => Some(RunFault::NotYetBuilt(Unbuilt::Outside)),
         Stopped::NoMemory => Some(RunFault::NoMemory(Stage::During)),
-        Stopped::Whole => put_report(alloc, name, reached, out),
+        Stopped::Whole => put_report(alloc, plan, journal, out),
     }
 }
 
 fn put_report<O: Sink>(
     alloc: Global,
-    name: &str,
-    reached: &Reached,
+    plan: &Plan,
+    journal: &Journal,
     out: &mut O,
 ) -> Option<RunFault>
+    requires { Sound plan.now }
     ensures ends { EndsBy Stopped.Whole result }
-    ensures put { Puts result (report_of_one name.now (text_of reached.now)) (O.contents out.old) (O.contents out.new) }
+    ensures put { Puts result (report_by plan.now journal.now) (O.contents out.old) (O.contents out.new) }
     ensures sink { Counts (O.faults out.old) (O.faults out.new) (result ≡ Some RunFault.SinkFailed) }
 {
-    match report_of_one(alloc, name, text_of(reached)) {
-        Ok(report) => put(out, &report),
+    match report(alloc, plan, journal, false) {
+        Ok(text) => put(out, text.as_str().as_bytes()),
         Err(NoMemory) => Some(RunFault::NoMemory(Stage::After)),
-    }
-}
-
-// The text of the answer, where all was done.
-fn text_of(reached: &Reached) -> &str
-    ensures { result.now ≡ text_of reached.now }
-{
-    match reached {
-        Reached::Ended(text, _) => text.as_str(),
-        _ => "",
     }
 }
 

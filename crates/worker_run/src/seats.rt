@@ -5,13 +5,12 @@ ghost use Rattle.std.specs.Option.{option_map};
 ghost use Rattle.outside.specs.Lists.{Tells};
 ghost use Rattle.worker_run.specs.Ends.{left, seen_end};
 ghost use Rattle.worker_run.specs.Lists.{HasRoomForOne};
-ghost use Rattle.worker_run.specs.Faults.{end_status};
 ghost use Rattle.worker_run.specs.OneJournal.{journal_of};
 ghost use Rattle.worker_run.specs.Seen.{seen_room, seen_place, seen_feed, seen_tap, seen_child, seen_line};
 
 use crate::journal::{ENTRIES, record};
 use crate::line::{Line, LineRun};
-use crate::{Ended, EndedLine, Halves, RunFault, end_status};
+use crate::{Ended, EndedLine, Halves};
 use exec_journal::Entry;
 use outside::{Berth, Floor};
 use std::alloc::Global;
@@ -96,21 +95,13 @@ fn line_of<F: Floor>(line: Option<Line<F::Berth>>) -> EndedLine<F>
 }
 
 impl<F: Floor> Seats<F> {
-    /// All that the run leaves.
-    pub fn into_ended(
-        self,
-        alloc: Global,
-        floor: F,
-        run: LineRun<F::Berth>,
-        fault: Option<RunFault>,
-    ) -> Ended<F>
+    /// All that the run leaves, as one without a fault.
+    pub fn into_ended(self, alloc: Global, floor: F, run: LineRun<F::Berth>) -> Ended<F>
         requires entries { self.entries.items ≡ [] }
         requires entries_room { ENTRIES ≤ vec_capacity self.entries }
         requires berths { HasRoomForOne self.berths }
         requires lines { HasRoomForOne self.lines }
         requires places { HasRoomForOne self.places }
-        ensures fault { result.fault ≡ fault }
-        ensures status { result.status ≡ end_status fault }
         ensures floor { result.floor ≡ floor }
         ensures left { left result.journal (map (λ b. seen_room (F.Berth.number b) (F.Berth.faults b) (F.Berth.log b)) result.berths.items)
             (map (λ l. seen_end l.number (option_map (λ h. seen_line (seen_feed (F.Berth.Feed.line h.feed) (F.Berth.Feed.faults h.feed) (F.Berth.Feed.given h.feed)) (seen_tap (F.Berth.Tap.line h.tap) (F.Berth.Tap.faults h.tap) (F.Berth.Tap.taken h.tap) (F.Berth.Tap.ended h.tap)) (seen_child (F.Berth.Child.line h.child) (F.Berth.Child.killed h.child))) l.halves)) result.lines.items)
@@ -133,8 +124,8 @@ impl<F: Floor> Seats<F> {
             line,
         } = run;
         Ended {
-            status: end_status(&fault),
-            fault,
+            status: 0,
+            fault: None,
             journal: record(alloc, entries, reached, stopped),
             floor,
             berths: with_one(berths, berth),

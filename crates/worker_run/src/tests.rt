@@ -1,7 +1,8 @@
 use crate::{RunFault, Unbuilt, fault_line, run_build};
-use outside::SourceFile;
-use outside_mem::{Beat, FailAt, MemFloor, MemSink, Object, Script};
+use outside::{BerthCall, Command, SourceFile};
+use outside_mem::{Beat, FailAt, MemBerth, MemFloor, MemSink, Object, Script};
 use std::alloc::Global;
+use std::process::Abort;
 use std::sync::Wait;
 use std::test::Fail;
 use std::thread::Threads;
@@ -178,11 +179,83 @@ fn a_sink_that_fails_is_status_6(rt: HostRuntime) -> Result<(), Fail> {
 #[test]
 fn lists_and_their_lines(rt: HostRuntime) -> Result<(), Fail> {
     let alloc = rt.alloc();
+    let two =
+        "{\"actions\":[{\"name\":\"a\",\"mnemonic\":\"T\",\"argv\":[\"t\",\"@f\"],\"outputs\":[\"o\"],\"requirements\":{\"supports-workers\":\"1\"}},{\"name\":\"b\",\"mnemonic\":\"T\",\"argv\":[\"t\",\"@f\"],\"outputs\":[\"o\"],\"requirements\":{\"supports-workers\":\"1\"}}]}";
+    let later =
+        "{\"actions\":[{\"name\":\"a\",\"mnemonic\":\"T\",\"argv\":[\"t\",\"@f\"],\"inputs\":[\"q\"],\"outputs\":[\"o\"],\"requirements\":{\"supports-workers\":\"1\"}},{\"name\":\"b\",\"mnemonic\":\"T\",\"argv\":[\"t\",\"@f\"],\"outputs\":[\"q\"],\"requirements\":{\"supports-workers\":\"1\"}}]}";
+    let apart =
+        "{\"actions\":[{\"name\":\"a\",\"mnemonic\":\"T\",\"argv\":[\"t\",\"@f\"],\"outputs\":[\"o\"],\"requirements\":{\"supports-workers\":\"1\"}},{\"name\":\"b\",\"mnemonic\":\"T\",\"argv\":[\"t\",\"@f\"],\"outputs\":[\"q\"],\"requirements\":{\"supports-workers\":\"1\"}}]}";
+    let above =
+        "{\"actions\":[{\"name\":\"a\",\"mnemonic\":\"T\",\"argv\":[\"t\",\"@f\"],\"outputs\":[\"../o\"],\"requirements\":{\"supports-workers\":\"1\"}}]}";
+    let remote =
+        "{\"actions\":[{\"name\":\"a\",\"mnemonic\":\"T\",\"argv\":[\"t\"],\"inputs\":[\"g\"],\"outputs\":[\"o\"],\"strategy\":\"remote\"}]}";
+    let json =
+        "{\"actions\":[{\"name\":\"a\",\"mnemonic\":\"T\",\"argv\":[\"t\",\"@f\"],\"inputs\":[\"g\"],\"outputs\":[\"o\"],\"requirements\":{\"supports-workers\":\"1\",\"requires-worker-protocol\":\"json\"}}]}";
+    let lost =
+        "{\"actions\":[{\"name\":\"a\",\"mnemonic\":\"T\",\"argv\":[\"t\",\"@f\"],\"tools\":[\"h\"],\"inputs\":[\"g\",\"f\"],\"outputs\":[\"o\"],\"requirements\":{\"supports-workers\":\"1\"}}]}";
+    let unlisted =
+        "{\"actions\":[{\"name\":\"a\",\"mnemonic\":\"T\",\"argv\":[\"t\",\"@f\"],\"tools\":[\"f\"],\"outputs\":[\"o\"],\"requirements\":{\"supports-workers\":\"1\"}}]}";
     let cases = [
         ("{\"actions\":[]}", "l.json", 0, NO_ACTIONS, ""),
-        ("{}", "l.json", 7, "", "worker_tool: not yet built: list"),
+        (
+            " { \"x\": 1, \"actions\" : [ ] } ",
+            "l.json",
+            0,
+            NO_ACTIONS,
+            "",
+        ),
+        ("{", "l.json", 4, "", "worker_tool: list refused: NotJson"),
+        (
+            "{}",
+            "l.json",
+            4,
+            "",
+            "worker_tool: list refused: MissingKey",
+        ),
+        (
+            two,
+            "l.json",
+            4,
+            "",
+            "worker_tool: list refused: TwiceMade action 1",
+        ),
+        (
+            later,
+            "l.json",
+            4,
+            "",
+            "worker_tool: list refused: MadeLater action 0",
+        ),
+        (
+            above,
+            "l.json",
+            4,
+            "",
+            "worker_tool: list refused: BadPath action 0",
+        ),
+        // Before anything of an action is read.
+        (apart, "l.json", 7, "", "worker_tool: not yet built: plan"),
+        (remote, "l.json", 7, "", "worker_tool: not yet built: plan"),
+        (json, "l.json", 7, "", "worker_tool: not yet built: plan"),
+        // The tools are read before the inputs.
+        (lost, "l.json", 5, "", "worker_tool: not there: h"),
+        // A tool that is no input isn't looked for by the words.
+        (
+            unlisted,
+            "l.json",
+            4,
+            "",
+            "worker_tool: flag file refused: NoSuchFile f action 0",
+        ),
         (LIST, "m.json", 5, "", "worker_tool: not there: m.json"),
-        (LIST, "-x", 7, "", "worker_tool: not yet built: words"),
+        (LIST, "-x", 2, "", "worker_tool: words are not accepted"),
+        (
+            LIST,
+            "--generate=4",
+            7,
+            "",
+            "worker_tool: not yet built: words",
+        ),
     ];
     for (list, path, status, report, line) in cases {
         let floor = MemFloor::new(alloc, script(alloc, list, &[0], Vec::new(alloc))?)?;
@@ -190,6 +263,7 @@ fn lists_and_their_lines(rt: HostRuntime) -> Result<(), Fail> {
         let ended = run_build(&rt, alloc, &word(alloc, path)?, floor, &mut out);
         assert_eq!(rt; ended.status, status);
         assert_eq!(rt; out.bytes(), report.as_bytes());
+        assert_eq!(rt; ended.journal.entries().len(), 0);
         let said = match &ended.fault {
             Some(fault) => fault_line(alloc, fault)?,
             None => Text::of(String::new(alloc)),
@@ -198,5 +272,172 @@ fn lists_and_their_lines(rt: HostRuntime) -> Result<(), Fail> {
     }
     let outside = fault_line(alloc, &RunFault::NotYetBuilt(Unbuilt::Outside))?;
     assert_eq!(rt; outside.as_str(), "worker_tool: not yet built: outside");
+    Ok(())
+}
+
+#[test]
+fn words_are_looked_at_first(rt: HostRuntime) -> Result<(), Fail> {
+    let alloc = rt.alloc();
+    let cases: [(&[&str], u8); 7] = [
+        (&[], 2),
+        (&["--instances=49", "l.json"], 2),
+        (&["--retries=1", "--retries=1", "l.json"], 2),
+        (&["--instances", "4", "l.json"], 2),
+        (&["a", "b"], 2),
+        (&["--retries=0", "m.json"], 5),
+        (
+            &["--instances=48", "l.json", "--remote=16", "--executor=e"],
+            0,
+        ),
+    ];
+    for (given, status) in cases {
+        let mut words = Vec::new(alloc);
+        for word in given {
+            words.push(String::from_str(alloc, word)?)?;
+        }
+        let floor = MemFloor::new(alloc, script(alloc, LIST, &[0], Vec::new(alloc))?)?;
+        let mut out = MemSink::new(alloc, Vec::new(alloc));
+        let ended = run_build(&rt, alloc, &words, floor, &mut out);
+        assert_eq!(rt; ended.status, status);
+    }
+    Ok(())
+}
+
+#[test]
+fn a_flag_file_that_names_itself_is_too_deep(rt: HostRuntime) -> Result<(), Fail> {
+    let alloc = rt.alloc();
+    let mut sources = Vec::new(alloc);
+    sources.push(file(alloc, "l.json", LIST)?)?;
+    sources.push(file(alloc, "f", "@f")?)?;
+    let floor = MemFloor::new(
+        alloc,
+        Script {
+            files: sources,
+            lines: Vec::new(alloc),
+            fails: Vec::new(alloc),
+        },
+    )?;
+    let mut out = MemSink::new(alloc, Vec::new(alloc));
+    let ended = run_build(&rt, alloc, &word(alloc, "l.json")?, floor, &mut out);
+    assert_eq!(rt; ended.status, 4);
+    let fault = ended.fault.as_ref().ok_or("no fault")?;
+    let line = fault_line(alloc, fault)?;
+    assert_eq!(rt;
+        line.as_str(),
+        "worker_tool: flag file refused: TooDeep f action 0"
+    );
+    Ok(())
+}
+
+const WHOLE_LIST: &str =
+    "{\"actions\":[{\"name\":\"a\",\"mnemonic\":\"T\",\"argv\":[\"t\",\"-v\",\"@f\"],\"env\":{\"B\":\"2\",\"A\":\"1\"},\"tools\":[\"t\",\"f\"],\"inputs\":[\"x\",\"f\",\"x\"],\"outputs\":[\"d/e/o\",\"p\"],\"requirements\":{\"supports-workers\":\"1\"}}]}";
+
+// The list with what its action reads, and a child that leaves both outputs.
+fn whole_script(alloc: Global) -> Result<Script, NoMemory> {
+    let mut sources = Vec::new(alloc);
+    sources.push(file(alloc, "l.json", WHOLE_LIST)?)?;
+    sources.push(file(alloc, "t", "#!")?)?;
+    sources.push(file(alloc, "f", "abc\n-w\n")?)?;
+    sources.push(file(alloc, "x", "")?)?;
+    let mut beats = Vec::new(alloc);
+    for output in ["p", "d/e/o"] {
+        beats.push(Beat::Leave(
+            Text::copy_of(alloc, output)?,
+            Blob::of(alloc, [b'x'].to_vec(alloc)?)?,
+        ))?;
+    }
+    beats.push(Beat::Give([0].to_vec(alloc)?))?;
+    let mut lines = Vec::new(alloc);
+    lines.push(Some(beats))?;
+    Ok(Script {
+        files: sources,
+        lines,
+        fails: Vec::new(alloc),
+    })
+}
+
+// The list, then the tools, then the inputs, each once.
+fn check_reads(rt: &impl Abort, floor: &MemFloor) {
+    let paths = ["l.json", "t", "f", "x"];
+    assert_eq!(rt; floor.log().len(), paths.len());
+    for (read, path) in floor.log().iter().zip(paths) {
+        assert_eq!(rt; read.path.as_str(), path);
+    }
+}
+
+fn is_call(call: &BerthCall, name: &str, path: &str) -> bool {
+    match call {
+        BerthCall::Launch { command, .. } => name == "launch" && is_command(command, path),
+        BerthCall::Clear { part, .. } => name == "clear" && part.as_str() == path,
+        BerthCall::Folder { path: at, .. } => name == "folder" && at.as_str() == path,
+        BerthCall::Put { path: at, .. } => name == "put" && at.as_str() == path,
+        BerthCall::Get { path: at, .. } => name == "get" && at.as_str() == path,
+    }
+}
+
+// The start-up words with the extra flag, and the variables in the order of their names.
+fn is_command(command: &Command, program: &str) -> bool {
+    let words = ["-v", "--persistent_worker", "-z"];
+    let names = ["A", "B"];
+    command.program.as_str() == program
+        && command.words.as_slice().len() == words.len()
+        && command
+            .words
+            .as_slice()
+            .iter()
+            .zip(words)
+            .all(|(word, due)| word.as_str() == due)
+        && command.env.as_slice().len() == names.len()
+        && command
+            .env
+            .as_slice()
+            .iter()
+            .zip(names)
+            .all(|(variable, due)| variable.name.as_str() == due)
+}
+
+fn check_room(rt: &impl Abort, berth: &MemBerth) {
+    let calls = [
+        ("clear", ""),
+        ("launch", "t"),
+        ("clear", ""),
+        ("folder", "d/e"),
+        ("put", "x"),
+        ("put", "f"),
+        ("put", "x"),
+        ("get", "d/e/o"),
+        ("get", "p"),
+    ];
+    let made = berth.log().unwrap_or(&[]);
+    assert_eq!(rt; made.len(), calls.len());
+    for (call, (name, path)) in made.iter().zip(calls) {
+        assert!(rt; is_call(call, name, path));
+    }
+}
+
+#[test]
+fn a_whole_action_goes_through_its_worker(rt: HostRuntime) -> Result<(), Fail> {
+    let alloc = rt.alloc();
+    let mut words = Vec::new(alloc);
+    for word in ["--worker_verbose", "l.json", "--extra_flag=-z"] {
+        words.push(String::from_str(alloc, word)?)?;
+    }
+    let floor = MemFloor::new(alloc, whole_script(alloc)?)?;
+    let mut out = MemSink::new(alloc, Vec::new(alloc));
+    let ended = run_build(&rt, alloc, &words, floor, &mut out);
+    assert_eq!(rt; ended.status, 0);
+    assert_eq!(rt; out.bytes(), REPORT.as_bytes());
+    check_reads(&rt, &ended.floor);
+    check_room(&rt, ended.berths.first().ok_or("no berth")?);
+    let given = ended.lines[0]
+        .halves
+        .as_ref()
+        .ok_or("no halves")?
+        .feed
+        .given();
+    // Two arguments, three inputs of 69 bytes each behind their two bytes, and the verbosity.
+    assert_eq!(rt; given.len(), 2 + 5 + 4 + 3 * 71 + 2);
+    assert_eq!(rt; given[given.len() - 1], 10);
+    assert_eq!(rt; ended.places[0].log().len(), 2);
     Ok(())
 }

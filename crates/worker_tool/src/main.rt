@@ -7,7 +7,7 @@ use std::env::Env;
 use std::io::ErrorKind;
 use std::process::ExitCode;
 use std::{env, io};
-use worker_run::{RunFault, Stage, Unbuilt, fault_line, run_build};
+use worker_run::{RunFault, Stage, fault_line, run_build};
 
 fn main(rt: HostRuntime) -> ExitCode {
     let alloc = rt.alloc();
@@ -33,7 +33,7 @@ fn words(rt: &(impl Env + AllocGlobal), alloc: Global) -> io::Result<Vec<String>
 fn end_unread(rt: &impl Eprint, alloc: Global, error: &io::Error) -> ExitCode {
     match error.kind() {
         ErrorKind::OutOfMemory => end(rt, alloc, 3, Some(RunFault::NoMemory(Stage::Before))),
-        _ => end(rt, alloc, 7, Some(RunFault::NotYetBuilt(Unbuilt::Words))),
+        _ => end(rt, alloc, 2, Some(RunFault::Words)),
     }
 }
 

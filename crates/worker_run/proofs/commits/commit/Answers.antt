@@ -1,4 +1,4 @@
-use Rattle.std.proofs.Common.{rules, arith}
+use Rattle.std.proofs.Common.{rules}
 use Rattle.worker_run.proofs.Runs.{writes_go}
 use Rattle.worker_run.proofs.commits.commit.Goals as goal
 

@@ -1,4 +1,4 @@
-use Rattle.std.proofs.Common.{rules, arith, refl, ap, ◌∙◌, [], ◌++◌, take}
+use Rattle.std.proofs.Common.{rules, refl, ap, ◌∙◌, [], ◌++◌, take}
 use Rattle.delimited_framing.specs.Splitter.{Held}
 use Rattle.worker_run.proofs.Frames.{fed_on, judged, met_fault, unfinished_on, longer}
 use Rattle.worker_run.proofs.Streams.{nothing_is_unfinished}

@@ -1,5 +1,5 @@
 use Rattle.worker_run.proofs.Stages.{keeps, begins_quiet, begins_more, never_more}
-use Rattle.std.proofs.Common.{rules, inr, inl, arith}
+use Rattle.std.proofs.Common.{inr}
 use Rattle.worker_run.specs.Heard.{IsOneAnswer}
 use Rattle.worker_run.proofs.line.end.Goals as goal
 

@@ -1,6 +1,5 @@
-use Rattle.std.proofs.Common.{rules, arith, refl, List, ◌∷◌, [], ◌++◌, ◌∙◌, sym, append-nil, subst, ℕ, ◌≡◌, length, drop, ◌<◌}
+use Rattle.std.proofs.Common.{rules, arith, refl, ◌∷◌, [], ◌++◌, drop}
 use Rattle.std.proofs.lemmas.Result.{err_from_is_err_and}
-use Rattle.outside.specs.Lists.{Adds}
 use Rattle.outside.specs.declared.answers.Read.TheVariants as read
 use Rattle.outside.specs.declared.berth.BerthCall.TheVariants as call
 use Rattle.worker_run.specs.Rooms.{Get, get_asks}

@@ -1,4 +1,4 @@
-use Rattle.std.proofs.Common.{rules, arith, refl, ap, ◌∙◌, Option, List}
+use Rattle.std.proofs.Common.{rules, refl}
 use Rattle.outside.specs.declared.answers.Io.TheVariants as io
 use Rattle.outside.specs.declared.berth.BerthCall.TheVariants as call
 use Rattle.worker_run.specs.Rooms.{put_ask, put_call}

@@ -1,0 +1,11 @@
+use Rattle.std.proofs.Common.{◌≡◌, ◌≤◌, take}
+use Rattle.worker_run.specs.Course.{Logs}
+use Rattle.worker_run.specs.Sources.{held, NewFound}
+use Rattle.worker_run.proofs.sources.Sources.read_all.Given as goal
+
+abbrev pub invariant-loop-path : goal.invariant-loop-path
+invariant-loop-path g l = record {
+  course : Logs (g.F.Floor.files l.initial.floor) (g.F.Floor.log l.initial.floor) (g.F.Floor.log l.floor) (λ reads. NewFound (held l.initial.self) (take l.path-index l.paths) reads (held l.self));
+  count : g.F.Floor.faults l.initial.floor ≤ g.F.Floor.faults l.floor;
+  files : g.F.Floor.files l.floor ≡ g.F.Floor.files l.initial.floor;
+}
