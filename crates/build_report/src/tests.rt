@@ -1,13 +1,14 @@
 ghost use Rattle.std.specs.Prelude.{◌≡◌, ◌<◌, IfOk, length};
 ghost use Rattle.exec_journal.specs.Sound.{Sound};
 
-use crate::{RunFault, fault_line, report, status};
-use action_list::{Key, ListFault};
+use crate::{RunFault, Stage, Unbuilt, fault_line, report, status};
+use action_list::{Key, ListFault, What};
 use exec_journal::{
     ActionEnd, Answer, Branch, Call, Cause, CommitEnd, Entry, Fate, Found, Group, Journal, Kind,
     Outcome, Plan, PlanAction, Reply, Started, Written, action_ends, fate, outcome,
 };
 use flag_files::FlagFault;
+use path_rules::PathFault;
 use std::alloc::Global;
 use std::process::Abort;
 use std::test::Fail;
@@ -194,44 +195,140 @@ fn a_run_is_reported(rt: HostRuntime) -> Result<(), Fail> {
     Ok(())
 }
 
-fn check(rt: &impl Abort, alloc: Global, fault: RunFault, line: &str) -> Result<(), Fail> {
-    let text = fault_line(alloc, &fault)?;
-    assert_eq!(rt; text.as_str(), line);
-    Ok(())
+fn text(alloc: Global, of: &str) -> Result<Text, NoMemory> {
+    Text::copy_of(alloc, of)
+}
+
+// Each fault of a list, with the name that its line has.
+fn list_faults(alloc: Global) -> Result<[(ListFault, &'static str); 13], NoMemory> {
+    Ok([
+        (
+            ListFault::TooMany {
+                what: What::Keys,
+                count: 49,
+            },
+            "TooMany",
+        ),
+        (ListFault::NotJson, "NotJson"),
+        (
+            ListFault::WrongKind {
+                action: None,
+                key: Key::Top,
+            },
+            "WrongKind",
+        ),
+        (
+            ListFault::WrongKind {
+                action: Some(1),
+                key: Key::Argv,
+            },
+            "WrongKind action 1",
+        ),
+        (
+            ListFault::MissingKey {
+                action: None,
+                key: Key::Actions,
+            },
+            "MissingKey",
+        ),
+        (ListFault::BadName { action: 2 }, "BadName action 2"),
+        (
+            ListFault::BadPath {
+                action: 3,
+                path: text(alloc, "p")?,
+                fault: PathFault::Dot,
+            },
+            "BadPath action 3",
+        ),
+        (
+            ListFault::BadRequirement { action: 4 },
+            "BadRequirement action 4",
+        ),
+        (ListFault::NoStrategy { action: 5 }, "NoStrategy action 5"),
+        (ListFault::NoFlagFile { action: 7 }, "NoFlagFile action 7"),
+        (
+            ListFault::TwiceNamed { action: 4095 },
+            "TwiceNamed action 4095",
+        ),
+        (
+            ListFault::TwiceMade {
+                action: 8,
+                path: text(alloc, "p")?,
+            },
+            "TwiceMade action 8",
+        ),
+        (
+            ListFault::MadeLater {
+                action: 9,
+                path: text(alloc, "p")?,
+            },
+            "MadeLater action 9",
+        ),
+    ])
+}
+
+// Each fault of a flag file, with what its line has before the action's number.
+fn flag_faults(alloc: Global) -> Result<[(FlagFault, &'static str); 4], NoMemory> {
+    Ok([
+        (
+            FlagFault::NoSuchFile {
+                path: text(alloc, "f")?,
+            },
+            "NoSuchFile f",
+        ),
+        (
+            FlagFault::TooDeep {
+                path: text(alloc, "f")?,
+            },
+            "TooDeep f",
+        ),
+        (
+            FlagFault::NotText {
+                path: text(alloc, "a b")?,
+            },
+            "NotText a b",
+        ),
+        (FlagFault::TooManyWords, "TooManyWords"),
+    ])
 }
 
 #[test]
-fn faults_have_their_lines(rt: HostRuntime) -> Result<(), Fail> {
+fn each_fault_has_its_line(rt: HostRuntime) -> Result<(), Fail> {
     let alloc = rt.alloc();
-    check(
-        &rt,
-        alloc,
-        RunFault::Words,
-        "worker_tool: words are not accepted",
-    )?;
-    check(
-        &rt,
-        alloc,
-        RunFault::List(ListFault::MissingKey {
-            action: None,
-            key: Key::Actions,
-        }),
-        "worker_tool: list refused: MissingKey",
-    )?;
-    check(
-        &rt,
-        alloc,
-        RunFault::List(ListFault::NoFlagFile { action: 7 }),
-        "worker_tool: list refused: NoFlagFile action 7",
-    )?;
-    let fault = FlagFault::TooDeep {
-        path: Text::copy_of(alloc, "f")?,
-    };
-    check(
-        &rt,
-        alloc,
-        RunFault::Flags { action: 0, fault },
-        "worker_tool: flag file refused: TooDeep f action 0",
-    )?;
+    let path = text(alloc, "l.json")?;
+    let read = text(alloc, "f")?;
+    let rows = [
+        (RunFault::Words, "words are not accepted"),
+        (RunFault::NoMemory(Stage::Before), "no memory"),
+        (RunFault::NoMemory(Stage::During), "no memory"),
+        (RunFault::NoMemory(Stage::After), "no memory"),
+        (RunFault::Absent { path }, "not there: l.json"),
+        (RunFault::FloorFailed { path: read }, "not read: f"),
+        (RunFault::SinkFailed, "report not written"),
+        (
+            RunFault::NotYetBuilt(Unbuilt::Words),
+            "not yet built: words",
+        ),
+        (RunFault::NotYetBuilt(Unbuilt::Plan), "not yet built: plan"),
+        (
+            RunFault::NotYetBuilt(Unbuilt::Outside),
+            "not yet built: outside",
+        ),
+    ];
+    for (fault, line) in rows {
+        let said = fault_line(alloc, &fault)?;
+        let expected = format!(in alloc; "worker_tool: {line}")?;
+        assert_eq!(rt; said.as_str(), expected.as_str());
+    }
+    for (fault, line) in list_faults(alloc)? {
+        let said = fault_line(alloc, &RunFault::List(fault))?;
+        let expected = format!(in alloc; "worker_tool: list refused: {line}")?;
+        assert_eq!(rt; said.as_str(), expected.as_str());
+    }
+    for (fault, line) in flag_faults(alloc)? {
+        let said = fault_line(alloc, &RunFault::Flags { action: 6, fault })?;
+        let expected = format!(in alloc; "worker_tool: flag file refused: {line} action 6")?;
+        assert_eq!(rt; said.as_str(), expected.as_str());
+    }
     Ok(())
 }
