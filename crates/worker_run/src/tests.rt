@@ -176,25 +176,41 @@ fn a_sink_that_fails_is_status_6(rt: HostRuntime) -> Result<(), Fail> {
     Ok(())
 }
 
+// Two actions with one output.
+const TWICE_MADE: &str =
+    "{\"actions\":[{\"name\":\"a\",\"mnemonic\":\"T\",\"argv\":[\"t\",\"@f\"],\"outputs\":[\"o\"],\"requirements\":{\"supports-workers\":\"1\"}},{\"name\":\"b\",\"mnemonic\":\"T\",\"argv\":[\"t\",\"@f\"],\"outputs\":[\"o\"],\"requirements\":{\"supports-workers\":\"1\"}}]}";
+
+// The first action has an input that the second makes.
+const MADE_LATER: &str =
+    "{\"actions\":[{\"name\":\"a\",\"mnemonic\":\"T\",\"argv\":[\"t\",\"@f\"],\"inputs\":[\"q\"],\"outputs\":[\"o\"],\"requirements\":{\"supports-workers\":\"1\"}},{\"name\":\"b\",\"mnemonic\":\"T\",\"argv\":[\"t\",\"@f\"],\"outputs\":[\"q\"],\"requirements\":{\"supports-workers\":\"1\"}}]}";
+
+// Two actions without a fault.
+const TWO_ACTIONS: &str =
+    "{\"actions\":[{\"name\":\"a\",\"mnemonic\":\"T\",\"argv\":[\"t\",\"@f\"],\"outputs\":[\"o\"],\"requirements\":{\"supports-workers\":\"1\"}},{\"name\":\"b\",\"mnemonic\":\"T\",\"argv\":[\"t\",\"@f\"],\"outputs\":[\"q\"],\"requirements\":{\"supports-workers\":\"1\"}}]}";
+
+// An output outside the tree.
+const OUTSIDE_THE_TREE: &str =
+    "{\"actions\":[{\"name\":\"a\",\"mnemonic\":\"T\",\"argv\":[\"t\",\"@f\"],\"outputs\":[\"../o\"],\"requirements\":{\"supports-workers\":\"1\"}}]}";
+
+// For the executor, with an input that is not there.
+const FOR_THE_EXECUTOR: &str =
+    "{\"actions\":[{\"name\":\"a\",\"mnemonic\":\"T\",\"argv\":[\"t\"],\"inputs\":[\"g\"],\"outputs\":[\"o\"],\"strategy\":\"remote\"}]}";
+
+// Asked in JSON, with an input that is not there.
+const ASKED_IN_JSON: &str =
+    "{\"actions\":[{\"name\":\"a\",\"mnemonic\":\"T\",\"argv\":[\"t\",\"@f\"],\"inputs\":[\"g\"],\"outputs\":[\"o\"],\"requirements\":{\"supports-workers\":\"1\",\"requires-worker-protocol\":\"json\"}}]}";
+
+// Neither its tool nor its first input is there.
+const NOTHING_THERE: &str =
+    "{\"actions\":[{\"name\":\"a\",\"mnemonic\":\"T\",\"argv\":[\"t\",\"@f\"],\"tools\":[\"h\"],\"inputs\":[\"g\",\"f\"],\"outputs\":[\"o\"],\"requirements\":{\"supports-workers\":\"1\"}}]}";
+
+// The flag file is a tool, and no input.
+const FLAG_FILE_UNLISTED: &str =
+    "{\"actions\":[{\"name\":\"a\",\"mnemonic\":\"T\",\"argv\":[\"t\",\"@f\"],\"tools\":[\"f\"],\"outputs\":[\"o\"],\"requirements\":{\"supports-workers\":\"1\"}}]}";
+
 #[test]
 fn lists_and_their_lines(rt: HostRuntime) -> Result<(), Fail> {
     let alloc = rt.alloc();
-    let two =
-        "{\"actions\":[{\"name\":\"a\",\"mnemonic\":\"T\",\"argv\":[\"t\",\"@f\"],\"outputs\":[\"o\"],\"requirements\":{\"supports-workers\":\"1\"}},{\"name\":\"b\",\"mnemonic\":\"T\",\"argv\":[\"t\",\"@f\"],\"outputs\":[\"o\"],\"requirements\":{\"supports-workers\":\"1\"}}]}";
-    let later =
-        "{\"actions\":[{\"name\":\"a\",\"mnemonic\":\"T\",\"argv\":[\"t\",\"@f\"],\"inputs\":[\"q\"],\"outputs\":[\"o\"],\"requirements\":{\"supports-workers\":\"1\"}},{\"name\":\"b\",\"mnemonic\":\"T\",\"argv\":[\"t\",\"@f\"],\"outputs\":[\"q\"],\"requirements\":{\"supports-workers\":\"1\"}}]}";
-    let apart =
-        "{\"actions\":[{\"name\":\"a\",\"mnemonic\":\"T\",\"argv\":[\"t\",\"@f\"],\"outputs\":[\"o\"],\"requirements\":{\"supports-workers\":\"1\"}},{\"name\":\"b\",\"mnemonic\":\"T\",\"argv\":[\"t\",\"@f\"],\"outputs\":[\"q\"],\"requirements\":{\"supports-workers\":\"1\"}}]}";
-    let above =
-        "{\"actions\":[{\"name\":\"a\",\"mnemonic\":\"T\",\"argv\":[\"t\",\"@f\"],\"outputs\":[\"../o\"],\"requirements\":{\"supports-workers\":\"1\"}}]}";
-    let remote =
-        "{\"actions\":[{\"name\":\"a\",\"mnemonic\":\"T\",\"argv\":[\"t\"],\"inputs\":[\"g\"],\"outputs\":[\"o\"],\"strategy\":\"remote\"}]}";
-    let json =
-        "{\"actions\":[{\"name\":\"a\",\"mnemonic\":\"T\",\"argv\":[\"t\",\"@f\"],\"inputs\":[\"g\"],\"outputs\":[\"o\"],\"requirements\":{\"supports-workers\":\"1\",\"requires-worker-protocol\":\"json\"}}]}";
-    let lost =
-        "{\"actions\":[{\"name\":\"a\",\"mnemonic\":\"T\",\"argv\":[\"t\",\"@f\"],\"tools\":[\"h\"],\"inputs\":[\"g\",\"f\"],\"outputs\":[\"o\"],\"requirements\":{\"supports-workers\":\"1\"}}]}";
-    let unlisted =
-        "{\"actions\":[{\"name\":\"a\",\"mnemonic\":\"T\",\"argv\":[\"t\",\"@f\"],\"tools\":[\"f\"],\"outputs\":[\"o\"],\"requirements\":{\"supports-workers\":\"1\"}}]}";
     let cases = [
         ("{\"actions\":[]}", "l.json", 0, NO_ACTIONS, ""),
         (
@@ -213,35 +229,53 @@ fn lists_and_their_lines(rt: HostRuntime) -> Result<(), Fail> {
             "worker_tool: list refused: MissingKey",
         ),
         (
-            two,
+            TWICE_MADE,
             "l.json",
             4,
             "",
             "worker_tool: list refused: TwiceMade action 1",
         ),
         (
-            later,
+            MADE_LATER,
             "l.json",
             4,
             "",
             "worker_tool: list refused: MadeLater action 0",
         ),
         (
-            above,
+            OUTSIDE_THE_TREE,
             "l.json",
             4,
             "",
             "worker_tool: list refused: BadPath action 0",
         ),
         // Before anything of an action is read.
-        (apart, "l.json", 7, "", "worker_tool: not yet built: plan"),
-        (remote, "l.json", 7, "", "worker_tool: not yet built: plan"),
-        (json, "l.json", 7, "", "worker_tool: not yet built: plan"),
+        (
+            TWO_ACTIONS,
+            "l.json",
+            7,
+            "",
+            "worker_tool: not yet built: plan",
+        ),
+        (
+            FOR_THE_EXECUTOR,
+            "l.json",
+            7,
+            "",
+            "worker_tool: not yet built: plan",
+        ),
+        (
+            ASKED_IN_JSON,
+            "l.json",
+            7,
+            "",
+            "worker_tool: not yet built: plan",
+        ),
         // The tools are read before the inputs.
-        (lost, "l.json", 5, "", "worker_tool: not there: h"),
+        (NOTHING_THERE, "l.json", 5, "", "worker_tool: not there: h"),
         // A tool that is no input isn't looked for by the words.
         (
-            unlisted,
+            FLAG_FILE_UNLISTED,
             "l.json",
             4,
             "",
