@@ -104,6 +104,7 @@ impl History {
             text: Text::copy_of(alloc, "warning: unchecked")?,
             refusal: Text::copy_of(alloc, "")?,
             files: Items::of(Vec::new(alloc)),
+            version: 0,
         };
         let matched = Reply::Matched {
             action,

@@ -51,6 +51,7 @@ fn answer(alloc: Global, exit: i32) -> Result<Answer, NoMemory> {
         text: Text::copy_of(alloc, "x\n\ny")?,
         refusal: Text::copy_of(alloc, "")?,
         files: Items::of(Vec::new(alloc)),
+        version: 0,
     })
 }
 

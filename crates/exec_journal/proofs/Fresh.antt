@@ -8,8 +8,8 @@ use Rattle.exec_journal.specs.declared.call.Call.TheVariants as call
 use Rattle.exec_journal.specs.declared.reply.Reply.{Reply}
 use Rattle.exec_journal.specs.declared.reply.Reply.TheVariants as reply
 use Rattle.exec_journal.specs.History.{AtEach}
-use Rattle.exec_journal.specs.Entries.{Request, starts, fails, ends, kills, takes, is_done}
-use Rattle.exec_journal.specs.Words.{line_count, started, failed, has_ended, was_killed, was_taken, line_cause, break_at, break_by, if_line, order_of, launch_of, launch_at, sends, sent_on}
+use Rattle.exec_journal.specs.Entries.{Request, starts, fails, ends, kills, takes, speaks, greets, is_done}
+use Rattle.exec_journal.specs.Words.{line_count, started, failed, has_ended, was_killed, was_taken, has_spoken, has_greeted, line_cause, break_at, break_by, if_line, order_of, launch_of, launch_at, sends, sent_on}
 use Rattle.exec_journal.specs.Legal.{Legal}
 use Rattle.exec_journal.specs.Facts.{call_line, reply_line, OfBerth, NameTheirLines, IsFresh}
 use Rattle.exec_journal.proofs.Histories.{each_map, ever_none, first_none, latest_none, each_none}
@@ -57,6 +57,14 @@ module _ (l : ℕ) where
   no_take (reply.Line k) lt = apart k l lt
   no_take _ lt = refl
 
+  no_speech : (c : Call) → Below (call_line c) l → speaks l c ≡ false
+  no_speech (call.Answer k x) lt = apart k l lt
+  no_speech _ lt = refl
+
+  no_greeting : (c : Call) (x : Reply) → Below (call_line c) l → greets l c x ≡ false
+  no_greeting (call.Answer k y) reply.Greeted lt = apart k l lt
+  no_greeting _ _ lt = refl
+
   no_send : (x : Reply) → Below (reply_line x) l → sent_on l x ≡ None
   no_send (reply.Send k m a b t) lt = rw (apart k l lt)
   no_send _ lt = refl
@@ -75,7 +83,7 @@ module _ (l : ℕ) where
   no_launch lane c _ lt = refl
 
 pub fresh : (p : Plan) (j : List Entry) (l : ℕ) → Legal p j → line_count j ≤ l → IsFresh j l
-unfolding launch_of started failed line_cause has_ended was_killed was_taken sends
+unfolding launch_of started failed line_cause has_ended was_killed was_taken has_spoken has_greeted sends
 fresh p j l legal le =
     let below = all_below j l (lines_named p j legal) le in
     record {
@@ -86,5 +94,7 @@ fresh p j l legal le =
       end = ever_none (λ _ e. ends l e.call) j (each_map (NamesBelow l) _ (λ k e h. no_end l e.call h.0) j below);
       kill = ever_none (λ _ e. kills l e.call) j (each_map (NamesBelow l) _ (λ k e h. no_kill l e.call h.0) j below);
       take = ever_none (λ _ e. takes l e.reply) j (each_map (NamesBelow l) _ (λ k e h. no_take l e.reply h.1) j below);
+      speak = ever_none (λ _ e. speaks l e.call) j (each_map (NamesBelow l) _ (λ k e h. no_speech l e.call h.0) j below);
+      greet = ever_none (λ _ e. greets l e.call e.reply) j (each_map (NamesBelow l) _ (λ k e h. no_greeting l e.call e.reply h.0) j below);
       send = each_none (λ _ e. sent_on l e.reply) j (each_map (NamesBelow l) _ (λ k e h. no_send l e.reply h.1) j below);
     }

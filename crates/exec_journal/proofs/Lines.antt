@@ -177,7 +177,7 @@ wrote_own p j k w l n how (reply.Send m o a b t) h own = same_own j m l w (and_p
 wrote_own p j k w l n how (reply.Cancel m o) h own = same_own j m l w (and_parts (m == l) _ h).0 own
 wrote_own p j k w l n how _ h own = absurd (cc)
 
-hears_own : (j : List Entry) (w l : ℕ) (c : Call) (x : Reply) → s.hears_after l c x ≡ true → OfBerth j (call_line c) w → OfBerth j (reply_line x) w → IsOfBerth j l w
+pub hears_own : (j : List Entry) (w l : ℕ) (c : Call) (x : Reply) → s.hears_after l c x ≡ true → OfBerth j (call_line c) w → OfBerth j (reply_line x) w → IsOfBerth j l w
 hears_own j w l c (reply.Line m) h called own = same_own j m l w h own
 hears_own j w l (call.Answer m y) _ h called own = same_own j m l w h called
 hears_own j w l _ _ h called own = absurd (cc)

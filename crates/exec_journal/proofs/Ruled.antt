@@ -71,7 +71,7 @@ pub data Ruled (p : Plan) (j : List Entry) (lane : ℕ) : Call → Reply → Typ
       → r.has_unwanted p j l ≡ true → r.is_over p j ≡ false → Ruled p j lane call.Ask (reply.Kill l why.Unwanted)
   Gathers : (l : ℕ) (n : ℤ) (a : ℕ) (b : Branch) (t : ℕ) (e : ℤ) (u : Bool) → r.gathers_next j (lane / 2) ≡ Some (reply.Gather l n a b t e u) → r.is_over p j ≡ false
       → Ruled p j lane call.Ask (reply.Gather l n a b t e u)
-  Cancels : (l : ℕ) (q : Request) → last_line j (lane / 2) ≡ Some l → live j l ≡ true → has_cancellation p (group_at p (lane / 2)) ≡ true
+  Cancels : (l : ℕ) (q : Request) → last_line j (lane / 2) ≡ Some l → live j l ≡ true → r.may_cancel p j (lane / 2) (group_at p (lane / 2)) l ≡ true
       → r.oldest (filter (λ y. r.is_unwanted p j y && not (has_cancel j y)) (pending j l)) ≡ Some q → NoneBefore p j (lane / 2) → Ruled p j lane call.Ask (reply.Cancel q.line q.number)
   Sends : (l : ℕ) (t : Attempt) → last_line j (lane / 2) ≡ Some l → live j l ≡ true → r.next_for p j (lane / 2) (group_at p (lane / 2)) l ≡ Some t → NoneBefore p j (lane / 2)
       → Ruled p j lane call.Ask (reply.Send l (r.number_on p j (lane / 2) l) t.action t.branch t.number)
@@ -83,6 +83,7 @@ pub data Ruled (p : Plan) (j : List Entry) (lane : ℕ) : Call → Reply → Typ
   TakeStops : r.is_over p j ≡ true → Ruled p j lane call.Take reply.Stop
   TakeIdles : Ruled p j lane call.Take reply.Idle
   IsBroken : (l : ℕ) (x : Answer) → broke j l ≡ true → Ruled p j lane (call.Answer l x) (reply.Breach breach.Broken)
+  Greets : (l : ℕ) (x : Answer) → broke j l ≡ false → r.is_greeting p j (lane / 2) l x ≡ true → Ruled p j lane (call.Answer l x) reply.Greeted
   IsWrong : (l : ℕ) (x : Answer) → broke j l ≡ false → Ruled p j lane (call.Answer l x) (reply.Breach breach.WrongNumber)
   IsUnasked : (l : ℕ) (x : Answer) → broke j l ≡ false → Ruled p j lane (call.Answer l x) (reply.Breach breach.Unasked)
   IsNotCancelled : (l : ℕ) (x : Answer) → broke j l ≡ false → Ruled p j lane (call.Answer l x) (reply.Breach breach.NotCancelled)
@@ -203,7 +204,7 @@ module _ (p : Plan) (j : List Entry) (lane : ℕ) where
       let single = and_parts (is_single (kind_of p (lane / 2))) _ single_and.0 in
       subst (λ (v : Reply). Ruled p j lane call.Ask v) w.1 (KillsUnwanted l here runs_and.0 single.0 (not_true _ single.1) single_and.1 over)
 
-  cancels_ruled : NoneBefore p j (lane / 2) → (o : Option ℕ) → last_line j (lane / 2) ≡ o → (x : Reply) → r.cancels_next p j (group_at p (lane / 2)) o ≡ Some x → Ruled p j lane call.Ask x
+  cancels_ruled : NoneBefore p j (lane / 2) → (o : Option ℕ) → last_line j (lane / 2) ≡ o → (x : Reply) → r.cancels_next p j (lane / 2) (group_at p (lane / 2)) o ≡ Some x → Ruled p j lane call.Ask x
   cancels_ruled none None here x h = absurd (cc)
   cancels_ruled none (Some l) here x h =
       let w = if_some _ (option_map r.cancel_for (r.oldest (filter (λ y. r.is_unwanted p j y && not (has_cancel j y)) (pending j l)))) x h in
@@ -233,7 +234,7 @@ module _ (p : Plan) (j : List Entry) (lane : ℕ) where
       (λ k. chosen (λ v. Ruled p j lane call.Ask v) (r.kills_unwanted p j (lane / 2) g here) _ reply.Idle (unwanted_ruled over here refl)
       (λ u. chosen (λ v. Ruled p j lane call.Ask v) (r.gathers_next j (lane / 2)) _ reply.Idle (λ x h. gather_ruled p j lane j over x h (gathers_from j (lane / 2) x h))
       (λ n. let none : NoneBefore p j (lane / 2) = record { goes_on = over; no_kill = k; no_unwanted = u; no_gather = n } in
-      chosen (λ v. Ruled p j lane call.Ask v) (r.cancels_next p j g here) _ reply.Idle (cancels_ruled none here refl)
+      chosen (λ v. Ruled p j lane call.Ask v) (r.cancels_next p j (lane / 2) g here) _ reply.Idle (cancels_ruled none here refl)
       (λ _. chosen (λ v. Ruled p j lane call.Ask v) (r.sends_next p j (lane / 2) g here) _ reply.Idle (sends_ruled none here refl)
       (λ _. last_chosen (λ v. Ruled p j lane call.Ask v) (r.launches p j (lane / 2) g here) reply.Idle (launches_ruled none) Idles))))))
 
@@ -272,16 +273,23 @@ module _ (p : Plan) (j : List Entry) (lane : ℕ) where
       by_bool (is_pending j q) (λ b. Ruled p j lane (call.Answer l x) (cond b (r.consume j x q) (reply.Stray stray.Closed)))
       (λ still. consume_ruled l x q whole still (λ one. absurd (let e : true ≡ false = sym one ∙ many in cc)) (λ _. h)) (λ _. IsClosed l x whole)
 
-  answer_ruled : (l : ℕ) (x : Answer) → Ruled p j lane (call.Answer l x) (r.answer_reply p j (lane / 2) l x)
-  answer_ruled l x =
-      by_bool (broke j l) (λ b. Ruled p j lane (call.Answer l x) (cond b (reply.Breach breach.Broken) (cond (is_single (kind_of p (lane / 2)))
-      (cond (int_eq x.number (pos 0)) (r.answer_single j x (r.head (pending j l))) (reply.Breach breach.WrongNumber)) (r.answer_multi j x (find (λ y. int_eq y.number x.number) (sends j l))))))
-      (λ b. IsBroken l x b)
-      (λ whole. by_bool (is_single (kind_of p (lane / 2))) (λ b. Ruled p j lane (call.Answer l x) (cond b
+  unmet_ruled : (l : ℕ) (x : Answer) → broke j l ≡ false → Ruled p j lane (call.Answer l x) (cond (is_single (kind_of p (lane / 2)))
+      (cond (int_eq x.number (pos 0)) (r.answer_single j x (r.head (pending j l))) (reply.Breach breach.WrongNumber)) (r.answer_multi j x (find (λ y. int_eq y.number x.number) (sends j l))))
+  unmet_ruled l x whole =
+      by_bool (is_single (kind_of p (lane / 2))) (λ b. Ruled p j lane (call.Answer l x) (cond b
       (cond (int_eq x.number (pos 0)) (r.answer_single j x (r.head (pending j l))) (reply.Breach breach.WrongNumber)) (r.answer_multi j x (find (λ y. int_eq y.number x.number) (sends j l)))))
       (λ one. by_bool (int_eq x.number (pos 0)) (λ b. Ruled p j lane (call.Answer l x) (cond b (r.answer_single j x (r.head (pending j l))) (reply.Breach breach.WrongNumber)))
       (λ zero. single_ruled l x whole one zero (r.head (pending j l)) refl) (λ _. IsWrong l x whole))
-      (λ many. multi_ruled l x whole many (find (λ y. int_eq y.number x.number) (sends j l)) refl))
+      (λ many. multi_ruled l x whole many (find (λ y. int_eq y.number x.number) (sends j l)) refl)
+
+  answer_ruled : (l : ℕ) (x : Answer) → Ruled p j lane (call.Answer l x) (r.answer_reply p j (lane / 2) l x)
+  answer_ruled l x =
+      by_bool (broke j l) (λ b. Ruled p j lane (call.Answer l x) (cond b (reply.Breach breach.Broken) (cond (r.is_greeting p j (lane / 2) l x) reply.Greeted (cond (is_single (kind_of p (lane / 2)))
+      (cond (int_eq x.number (pos 0)) (r.answer_single j x (r.head (pending j l))) (reply.Breach breach.WrongNumber)) (r.answer_multi j x (find (λ y. int_eq y.number x.number) (sends j l)))))))
+      (λ b. IsBroken l x b)
+      (λ whole. by_bool (r.is_greeting p j (lane / 2) l x) (λ b. Ruled p j lane (call.Answer l x) (cond b reply.Greeted (cond (is_single (kind_of p (lane / 2)))
+      (cond (int_eq x.number (pos 0)) (r.answer_single j x (r.head (pending j l))) (reply.Breach breach.WrongNumber)) (r.answer_multi j x (find (λ y. int_eq y.number x.number) (sends j l))))))
+      (λ greeting. Greets l x whole greeting) (λ _. unmet_ruled l x whole))
 
   again_ruled : (a : ℕ) (b : Branch) (t : ℕ) (f : Found) → r.is_other b (grant_of j a) ≡ false → may_win f ≡ false → Ruled p j lane (call.Claim a b t f) (cond (nat_lt t p.limit) reply.AgainLater reply.Dropped)
   again_ruled a b t f free none = by_bool (nat_lt t p.limit) (λ c. Ruled p j lane (call.Claim a b t f) (cond c reply.AgainLater reply.Dropped)) (λ below. Defers a b t f free none below) (λ at. Drops a b t f free none at)

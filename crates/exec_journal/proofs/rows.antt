@@ -5,3 +5,4 @@ pub mod DiesTwice
 pub mod BothAnswer
 pub mod Cancelled
 pub mod Unwanted
+pub mod RemoteCancel

@@ -117,6 +117,11 @@ abbrev pub ends : ℕ → Call → Bool
 ends l (call.Ended k how) = k == l
 ends l _ = false
 
+-- it is an Answer of this line
+abbrev pub speaks : ℕ → Call → Bool
+speaks l (call.Answer k x) = k == l
+speaks l _ = false
+
 abbrev pub is_halt : Call → Bool
 is_halt call.Halt = true
 is_halt _ = false
@@ -148,6 +153,11 @@ abbrev pub refused_in : Call → Reply → Option (Attempt × Found)
 refused_in (call.Claim a b t f) reply.AgainLater = Some (attempt_of a b t, f)
 refused_in (call.Claim a b t f) reply.Dropped = Some (attempt_of a b t, f)
 refused_in _ _ = None
+
+-- an Answer of this line was a greeting
+abbrev pub greets : ℕ → Call → Reply → Bool
+greets l (call.Answer k x) reply.Greeted = k == l
+greets l _ _ = false
 
 -- ---- what an entry orders, where there is one
 

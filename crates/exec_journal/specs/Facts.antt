@@ -11,7 +11,7 @@ use Rattle.exec_journal.specs.declared.reply.Reply.{Reply}
 use Rattle.exec_journal.specs.declared.reply.Reply.TheVariants as reply
 use Rattle.exec_journal.specs.History.{AtEach, ever}
 use Rattle.exec_journal.specs.Entries.{Request, attempt_of, is_for, launch_in, send_in}
-use Rattle.exec_journal.specs.Words.{line_count, launch_of, started, failed, has_ended, was_killed, was_taken, line_cause, sends, was_sent, grant_of, commit_of}
+use Rattle.exec_journal.specs.Words.{line_count, launch_of, started, failed, has_ended, was_killed, was_taken, has_spoken, has_greeted, line_cause, sends, was_sent, grant_of, commit_of}
 use Rattle.exec_journal.specs.Attempts.{attempt, begun_in, ended}
 use Rattle.exec_journal.specs.Settled.{standings, ready, wanted}
 
@@ -68,6 +68,8 @@ pub record IsFresh (j : List Entry) (l : ℕ) : Type 0 where
   pub end : has_ended j l ≡ false
   pub kill : was_killed j l ≡ false
   pub take : was_taken j l ≡ false
+  pub speak : has_spoken j l ≡ false
+  pub greet : has_greeted j l ≡ false
   pub send : sends j l ≡ []
 
 -- ---- attempts

@@ -11,9 +11,10 @@ use Rattle.exec_journal.specs.declared.reply.Why.{Why}
 use Rattle.exec_journal.specs.declared.reply.Why.TheVariants as why
 use Rattle.exec_journal.specs.History.{each}
 use Rattle.exec_journal.specs.Entries.{Request, send_in}
-use Rattle.exec_journal.specs.Words.{last_line, lines_of, sends, is_pending, pending, has_cancel, line_cause, why_of, live}
+use Rattle.exec_journal.specs.Words.{last_line, lines_of, is_pending, pending, has_cancel, line_cause, why_of, live}
 use Rattle.exec_journal.specs.Settled.{berth_group, berths_of, first_berth, kind_of, has_cancellation, is_single, capacity, ready, wanted, some_free}
-use Rattle.exec_journal.specs.Rules.{gathers_next, has_unwanted, is_over, is_unwanted, is_vacant}
+use Rattle.exec_journal.specs.Rules.{gathers_next, has_unwanted, is_over, is_unwanted, is_vacant, may_cancel}
+use Rattle.exec_journal.specs.Paired.{is_new_number}
 
 abbrev pub group_at : Plan → ℕ → ℕ
 group_at p w = unwrap_or (berth_group p w) 0
@@ -46,9 +47,6 @@ is_ready p j a = unwrap_or (option_map (ready p j) (slice_get p.actions a)) fals
 abbrev pub is_alone : List Entry → ℕ → ℕ → Bool
 is_alone j l a = not (list_any (λ r. r.attempt.action == a) (pending j l))
 
-abbrev pub is_new_number : List Entry → ℕ → ℤ → Bool
-is_new_number j l n = not (list_any (λ r. int_eq r.number n) (sends j l))
-
 -- a Send: its line is live, its action ready and its branch wanted; off Single lines its number is new there and the action
 -- has no other request there; on a Single line the berth's room is free. With it the line has room for its pending requests
 abbrev pub send_kept : Plan → List Entry → Entry → ℕ → ℤ → ℕ → Branch → Bool
@@ -70,10 +68,10 @@ kill_kept p j w l why.Unwanted = is_single (kind_of p w) && (not (has_cancellati
 kill_kept p j w l why.Quit = is_over p j
 kill_kept p j w l y = unwrap_or (option_map (λ c. same_why (why_of c) y) (line_cause j l)) false
 
--- a Cancel: its group has cancellation, and its request is pending, isn't wanted and has no earlier Cancel
+-- a Cancel: its group has cancellation or its line has greeted, and its request is pending, isn't wanted and has no earlier Cancel
 abbrev pub cancel_kept : Plan → List Entry → ℕ → ℕ → ℤ → Bool
 cancel_kept p j w l n =
-    has_cancellation p (group_at p w)
+    may_cancel p j w (group_at p w) l
     && list_any (λ r. int_eq r.number n && (is_unwanted p j r && not (has_cancel j r))) (pending j l)
 
 abbrev pub order_kept : Plan → List Entry → Entry → Reply → Bool

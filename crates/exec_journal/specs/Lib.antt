@@ -15,6 +15,8 @@ pub mod Clean
 pub mod Outcomes
 pub mod Ends
 pub mod Facts
+pub mod Invariant
+pub mod Steps
 pub mod Scans
 pub mod Tallies
 pub mod Winners

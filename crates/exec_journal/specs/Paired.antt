@@ -37,13 +37,18 @@ has_request single j l n t =
 abbrev pub all_answered : List Entry → ℕ → Bool
 all_answered j l = list_all (λ r. not (says_done (wrote j r.attempt)) || answered j r.attempt) (sends j l)
 
--- a consumed answer has a request of its own; on a Single line a Send comes only after all earlier ones were answered
+-- no Send of the line has this number
+abbrev pub is_new_number : List Entry → ℕ → ℤ → Bool
+is_new_number j l n = not (list_any (λ r. int_eq r.number n) (sends j l))
+
+-- a consumed answer has a request of its own; a Send comes on a Single line only after all earlier ones were answered, and
+-- has on every other line a number that is new there: so the request stays the only one with its number
 abbrev pub pair_at : Plan → List Entry → ℕ → Call → Reply → Bool
 pair_at p j lane (call.Answer l x) (reply.Matched a b t) = has_request (is_single (kind_of p (lane / 2))) j l x.number (attempt_of a b t)
 pair_at p j lane (call.Answer l x) (reply.Late a b t) = has_request (is_single (kind_of p (lane / 2))) j l x.number (attempt_of a b t)
 pair_at p j lane _ (reply.Matched a b t) = false
 pair_at p j lane _ (reply.Late a b t) = false
-pair_at p j lane _ (reply.Send l n a b t) = not (is_single (kind_of p (lane / 2))) || all_answered j l
+pair_at p j lane _ (reply.Send l n a b t) = if is_single (kind_of p (lane / 2)) then all_answered j l else is_new_number j l n
 pair_at p j lane _ _ = true
 
 abbrev pub Paired : Plan → List Entry → Type 0

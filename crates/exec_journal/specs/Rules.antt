@@ -1,5 +1,5 @@
 -- The reply to each call, as a function of the plan and of the journal so far.
-use Rattle.std.specs.Prelude.{ℕ, ◌+◌, ◌/◌, ◌==◌, nat_lt, bytes_eq, Bool, true, false, ◌&&◌, ◌||◌, not, Option, Some, None, unwrap_or, option_map, option_and_then, if◌then◌else◌, List, [], ◌∷◌, length, filter, slice_get, ℤ, pos}
+use Rattle.std.specs.Prelude.{ℕ, ◌+◌, ◌/◌, ◌==◌, nat_lt, bytes_eq, Bool, true, false, ◌&&◌, ◌||◌, not, Option, Some, None, unwrap_or, option_map, option_and_then, if◌then◌else◌, List, [], ◌∷◌, length, filter, slice_get, ℤ, pos, int_le}
 use Rattle.std.specs.List.{list_any, find}
 use Rattle.std.specs.Ordering.{int_eq}
 use Rattle.exec_journal.specs.declared.plan.Branch.{Branch}
@@ -21,8 +21,8 @@ use Rattle.exec_journal.specs.declared.reply.StrayWhy.TheVariants as stray
 use Rattle.exec_journal.specs.declared.reply.Why.TheVariants as why
 use Rattle.exec_journal.specs.History.{or_else, ever, first}
 use Rattle.exec_journal.specs.Entries.{Request, attempt_of, same_branch, is_for, gather_in, gather_of_entry}
-use Rattle.exec_journal.specs.Words.{last_work, halted, line_count, started, failed, has_ended, was_killed, was_taken, last_line, sends, pending, is_pending, wrote, says_done, has_cancel, line_cause, why_of, broke, live, granted, grant_of, match_of}
-use Rattle.exec_journal.specs.Settled.{berth_group, kind_of, first_berth, berths_of, has_cancellation, is_single, all_settled, wanted, bound, earliest, free_places, some_free}
+use Rattle.exec_journal.specs.Words.{last_work, halted, line_count, started, failed, has_ended, was_killed, was_taken, last_line, sends, pending, is_pending, wrote, says_done, has_cancel, has_spoken, has_greeted, line_cause, why_of, broke, live, granted, grant_of, match_of}
+use Rattle.exec_journal.specs.Settled.{berth_group, kind_of, first_berth, berths_of, has_cancellation, is_single, is_remote, all_settled, wanted, bound, earliest, free_places, some_free}
 
 -- a reply, where the test holds
 abbrev pub when : {X : Type 0} → Bool → X → Option X
@@ -95,11 +95,15 @@ gathers_next j w = first (λ _ e. if e.lane / 2 == w then gather_for j e.call e.
 abbrev pub cancel_for : Request → Reply
 cancel_for r = reply.Cancel r.line r.number
 
--- cancel: a live line of a group with cancellation; the earliest sent of its pending requests that aren't wanted and have no Cancel
-abbrev pub cancels_next : Plan → List Entry → ℕ → Option ℕ → Option Reply
-cancels_next p j g None = None
-cancels_next p j g (Some l) =
-    if live j l && has_cancellation p g
+-- the line's group has cancellation, or it is an executor's line and has greeted
+abbrev pub may_cancel : Plan → List Entry → ℕ → ℕ → ℕ → Bool
+may_cancel p j w g l = has_cancellation p g || (is_remote (kind_of p w) && has_greeted j l)
+
+-- cancel: a live line that can be asked to; the earliest sent of its pending requests that aren't wanted and have no Cancel
+abbrev pub cancels_next : Plan → List Entry → ℕ → ℕ → Option ℕ → Option Reply
+cancels_next p j w g None = None
+cancels_next p j w g (Some l) =
+    if live j l && may_cancel p j w g l
     then option_map cancel_for (oldest (filter (λ r. is_unwanted p j r && not (has_cancel j r)) (pending j l)))
     else None
 
@@ -139,7 +143,7 @@ ask p j w g last =
     (or_else (kills_broken j last)
     (or_else (kills_unwanted p j w g last)
     (or_else (gathers_next j w)
-    (or_else (cancels_next p j g last)
+    (or_else (cancels_next p j w g last)
     (or_else (sends_next p j w g last)
     (launches p j w g last)))))))
     reply.Idle
@@ -167,9 +171,14 @@ abbrev pub answer_multi : List Entry → Answer → Option Request → Reply
 answer_multi j x None = reply.Stray stray.Never
 answer_multi j x (Some r) = if is_pending j r then consume j x r else reply.Stray stray.Closed
 
+-- an executor's first answer, with the number 0 and the version 2 or more
+abbrev pub is_greeting : Plan → List Entry → ℕ → ℕ → Answer → Bool
+is_greeting p j w l x = is_remote (kind_of p w) && (int_eq x.number (pos 0) && (int_le (pos 2) x.version && not (has_spoken j l)))
+
 abbrev pub answer_reply : Plan → List Entry → ℕ → ℕ → Answer → Reply
 answer_reply p j w l x =
     if broke j l then reply.Breach breach.Broken
+    else if is_greeting p j w l x then reply.Greeted
     else if is_single (kind_of p w) then
     (if int_eq x.number (pos 0) then answer_single j x (head (pending j l)) else reply.Breach breach.WrongNumber)
     else answer_multi j x (find (λ r. int_eq r.number x.number) (sends j l))

@@ -20,7 +20,7 @@ use Rattle.exec_journal.specs.declared.reply.Reply.TheVariants as reply
 use Rattle.exec_journal.specs.declared.reply.Why.{Why}
 use Rattle.exec_journal.specs.declared.reply.Why.TheVariants as why
 use Rattle.exec_journal.specs.History.{ever, latest, first, each}
-use Rattle.exec_journal.specs.Entries.{Request, same_attempt, is_branch_of, is_for, launch_in, send_in, consumed_in, matched_in, takes, orders_kill, is_stop, starts, fails, kills, ends, is_halt, is_look, is_unwritten, committed_in, granted_in, send_of_entry}
+use Rattle.exec_journal.specs.Entries.{Request, same_attempt, is_branch_of, is_for, launch_in, send_in, consumed_in, matched_in, takes, orders_kill, is_stop, starts, fails, kills, ends, speaks, greets, is_halt, is_look, is_unwritten, committed_in, granted_in, send_of_entry}
 
 -- ---- lanes
 
@@ -68,6 +68,14 @@ kill_ordered j l = ever (λ _ e. orders_kill l e.reply) j
 -- a tap lane was given the line
 unfoldable pub was_taken : List Entry → ℕ → Bool
 was_taken j l = ever (λ _ e. takes l e.reply) j
+
+-- an Answer of the line stands there
+unfoldable pub has_spoken : List Entry → ℕ → Bool
+has_spoken j l = ever (λ _ e. speaks l e.call) j
+
+-- an Answer of the line was a greeting
+unfoldable pub has_greeted : List Entry → ℕ → Bool
+has_greeted j l = ever (λ _ e. greets l e.call e.reply) j
 
 abbrev pub launch_on : ℕ → ℕ → Option (ℕ × Attempt) → Option (ℕ × Attempt)
 launch_on l lane (Some x) = if x.0 == l then Some (lane, x.1) else None

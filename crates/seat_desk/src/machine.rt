@@ -12,15 +12,15 @@ ghost use Rattle.seat_desk.specs.History.{entry, calls_by, Copies, Ready, Replie
 /// With a call a good may go in, and with its reply one may come out. A reply that says want of
 /// memory is *short*. A call may be *paid for* by the history: such a call is never answered by a
 /// short reply, and the desk has made the room for its entry beforehand.
-pub trait Machine: Sized + Send + Drop {
+pub trait Machine: Sized + Drop {
     /// What a lane asks.
-    type Call: Send + Drop;
+    type Call: Drop;
 
     /// What it is answered.
-    type Reply: Send + Drop;
+    type Reply: Drop;
 
     /// What goes in with a call, and comes out with a reply.
-    type Good: Send + Drop;
+    type Good: Drop;
 
     /// What a machine goes by. It never changes, and no value of it is made at run time.
     type Rules;

@@ -6,6 +6,7 @@ use Rattle.action_list.specs.Lists.{list_of}
 use Rattle.action_list.specs.declared.faults.ListFault.{ListFault}
 use Rattle.action_list.specs.declared.types.ActionList.{ActionList}
 use Rattle.action_list.specs.declared.types.ListAction.{ListAction}
+use Rattle.exec_journal.specs.declared.plan.Plan.{Plan}
 use Rattle.outside.specs.Floor.{one_read, MayAnswer, file_at}
 use Rattle.outside.specs.declared.answers.Read.{Read}
 use Rattle.outside.specs.declared.answers.Read.TheVariants as read
@@ -20,7 +21,7 @@ use Rattle.worker_run.specs.declared.work.Work.{Work}
 use Rattle.worker_run.specs.declared.reading.Job.{Job}
 use Rattle.worker_run.specs.declared.reading.Job.TheVariants as job
 use Rattle.worker_run.specs.Course.{OptionsRead, ListRead, BytesRead, ActionsRead, ActionRead, OneRead, Logs, AreOfFiles, UnlessBefore, IsRead, ReadsOnce, end_of}
-use Rattle.worker_run.specs.Prepared.{AreAccepted, Prepares, is_served}
+use Rattle.worker_run.specs.Prepared.{AreAccepted, Prepares, is_served, plan_by}
 use Rattle.worker_run.specs.Sources.{held, source_file, source_paths, with_paths, SourcesRead, ReadsOn, NewFound, NewLost}
 use Rattle.worker_run.proofs.Gathering.{found_one, found_before, lost_one, found_none, found_on, lost_on, lost_wider, all_found, first_lost}
 use Rattle.worker_run.proofs.Runs.{adds_on, adds_none}
@@ -234,6 +235,14 @@ one_served o x made files old new served = subst (λ (b : Bool). UnlessBefore (e
 
 pub not_served : (o : Options) (x : ListAction) (files : Option (List SourceFile)) (log : Option (List FloorRead)) → is_served x ≡ false → Logs files log log (λ reads. OneRead o x (is_served x) reads (Err (fault.NotYetBuilt unbuilt.Plan)))
 not_served o x files log fails = none_logged files log (λ reads. OneRead o x (is_served x) reads (Err (fault.NotYetBuilt unbuilt.Plan))) (subst (λ (b : Bool). OneRead o x b [] (Err (fault.NotYetBuilt unbuilt.Plan))) (sym fails) (refl, refl))
+
+none : (o : Options) (xs : List ListAction) (plan : Plan) → length xs < 1 → plan ≡ plan_by o xs → ActionsRead o xs [] (Ok (job.Nothing plan))
+none o [] plan less is = (refl, ap (λ (p : Plan). Ok (job.Nothing p)) is)
+none o (x ∷ xs) plan less is = absurd (omega arith)
+
+-- there is no action
+pub none_listed : (o : Options) (xs ys : List ListAction) (plan : Plan) (files : Option (List SourceFile)) (log : Option (List FloorRead)) → ys ≡ xs → length ys < 1 → plan ≡ plan_by o xs → Logs files log log (λ reads. ActionsRead o xs reads (Ok (job.Nothing plan)))
+none_listed o xs ys plan files log same less is = none_logged files log (λ reads. ActionsRead o xs reads (Ok (job.Nothing plan))) (none o xs plan (subst (λ (zs : List ListAction). length zs < 1) same less) is)
 
 several : (o : Options) (xs : List ListAction) → 2 ≤ length xs → ActionsRead o xs [] (Err (fault.NotYetBuilt unbuilt.Plan))
 several o [] more = absurd (omega arith)

@@ -1,5 +1,6 @@
 -- From what was read to how the run ends.
 use Rattle.std.proofs.Common.{◌≡◌, ℕ, Bool, true, false, List, [], ◌∷◌, Option, Some, None, Result, Ok, Err, refl, subst, sym}
+use Rattle.outside.specs.Told.{FloorTold, SinkTold}
 use Rattle.outside.specs.declared.floor.FloorRead.{FloorRead}
 use Rattle.outside.specs.declared.floor.SourceFile.{SourceFile}
 use Rattle.build_report.specs.declared.fault.RunFault.{RunFault}
@@ -14,7 +15,7 @@ use Rattle.worker_run.specs.declared.line.Stopped.TheVariants as stopped
 use Rattle.worker_run.specs.declared.work.Work.{Work}
 use Rattle.worker_run.specs.declared.reading.Job.{Job}
 use Rattle.worker_run.specs.declared.reading.Job.TheVariants as job
-use Rattle.worker_run.specs.Course.{Course, OptionsRead, ListRead, AfterList, BytesRead, ActionsRead, OneRead, Logs, UnlessBefore}
+use Rattle.worker_run.specs.Course.{Course, OptionsRead, ListRead, AfterList, BytesRead, ActionsRead, OneRead, Logs, Reads, UnlessBefore}
 use Rattle.worker_run.specs.Prepared.{is_served}
 use Rattle.action_list.specs.Lists.{list_of}
 use Rattle.action_list.specs.declared.faults.ListFault.{ListFault}
@@ -22,7 +23,8 @@ use Rattle.action_list.specs.declared.types.ActionList.{ActionList}
 use Rattle.action_list.specs.declared.types.ListAction.{ListAction}
 use Rattle.outside.specs.declared.answers.Read.{Read}
 use Rattle.outside.specs.declared.answers.Read.TheVariants as read
-use Rattle.worker_run.specs.Ends.{Left, nothing_left, RunEnds, Ran, AfterStart, LeavesNothing, EndsAs, EndsBy, LeavesOne, IsAfterStart, Puts, report_by}
+use Rattle.worker_run.specs.Seen.{Left, nothing_left}
+use Rattle.worker_run.specs.Ends.{RunLeaves, OneEnds, Ran, AfterStart, LeavesNothing, EndsAs, EndsBy, LeavesOne, IsAfterStart, Puts, report_by}
 
 -- what holds after the start, weakened
 after_weaker : (end : Option RunFault) (P Q R : Type 0) → (Q → R) → AfterStart end P Q → AfterStart end P R
@@ -38,42 +40,42 @@ after_weaker (Some fault.Words) P Q R f h = f h
 after_weaker (Some (fault.List x)) P Q R f h = f h
 after_weaker (Some (fault.Flags a x)) P Q R f h = f h
 
-led : (options : Option Options) (files : Option (List SourceFile)) (log_old log_new : Option (List FloorRead)) (made : Result Job RunFault) (end : Option RunFault) (run : Left) (old new : Option (List ℕ))
-    → Logs files log_old log_new (λ reads. Course options reads made) → EndsAs made end run old new → Logs files log_old log_new (λ reads. Ran options reads end run old new)
-led options files log_old log_new made end run old new l e = (l.0, l.1, l.2, (made, l.3, e))
+led : (options : Option Options) (before after : FloorTold) (made : Result Job RunFault) (end : Option RunFault) (run : Left) (old new : SinkTold)
+    → Reads before after (λ reads. Course options reads made) → EndsAs made end run old new → Reads before after (λ reads. Ran options reads end run old new)
+led options before after made end run old new l e = (l.0, l.1, l.2, (made, l.3, e))
 
 -- an action was to be done
-pub one_ends : (options : Option Options) (files : Option (List SourceFile)) (log_old log_new : Option (List FloorRead)) (made : Result Job RunFault) (end : Option RunFault) (run : Left) (old new : Option (List ℕ))
-    → Logs files log_old log_new (λ reads. Course options reads made) → AfterStart end (LeavesNothing run old new) (EndsAs made end run old new) → RunEnds options files log_old log_new end run old new
-one_ends options files log_old log_new made end run old new l e = after_weaker end _ _ _ (led options files log_old log_new made end run old new l) e
+pub one_ends : (options : Option Options) (before after : FloorTold) (made : Result Job RunFault) (end : Option RunFault) (run : Left) (old new : SinkTold)
+    → Reads before after (λ reads. Course options reads made) → AfterStart end (LeavesNothing run old new) (EndsAs made end run old new) → RunLeaves options before after end run old new
+one_ends options before after made end run old new l e = after_weaker end _ _ _ (led options before after made end run old new l) e
 
 -- nothing was to be done
-pub none_ends : (options : Option Options) (files : Option (List SourceFile)) (log_old log_new : Option (List FloorRead)) (plan : Plan) (end : Option RunFault) (run : Left) (old new : Option (List ℕ))
-    → Logs files log_old log_new (λ reads. Course options reads (Ok (job.Nothing plan))) → run ≡ nothing_left → EndsBy stopped.Whole end → Puts end (report_by plan run.journal) old new → RunEnds options files log_old log_new end run old new
-none_ends options files log_old log_new plan None run old new l none kind puts = led options files log_old log_new (Ok (job.Nothing plan)) None run old new l (kind, none, puts)
-none_ends options files log_old log_new plan (Some fault.SinkFailed) run old new l none kind puts = led options files log_old log_new (Ok (job.Nothing plan)) (Some fault.SinkFailed) run old new l (kind, none, puts)
-none_ends options files log_old log_new plan (Some (fault.NoMemory stage.After)) run old new l none kind puts = led options files log_old log_new (Ok (job.Nothing plan)) (Some (fault.NoMemory stage.After)) run old new l (kind, none, puts)
-none_ends options files log_old log_new plan (Some (fault.NoMemory stage.Before)) run old new l none kind puts = absurd cc
-none_ends options files log_old log_new plan (Some (fault.NoMemory stage.During)) run old new l none kind puts = absurd cc
-none_ends options files log_old log_new plan (Some (fault.Absent at)) run old new l none kind puts = absurd kind
-none_ends options files log_old log_new plan (Some (fault.FloorFailed at)) run old new l none kind puts = absurd kind
-none_ends options files log_old log_new plan (Some (fault.NotYetBuilt what)) run old new l none kind puts = absurd kind
-none_ends options files log_old log_new plan (Some fault.Words) run old new l none kind puts = absurd kind
-none_ends options files log_old log_new plan (Some (fault.List x)) run old new l none kind puts = absurd kind
-none_ends options files log_old log_new plan (Some (fault.Flags a x)) run old new l none kind puts = absurd kind
+pub none_ends : (options : Option Options) (before after : FloorTold) (plan : Plan) (end : Option RunFault) (run : Left) (old new : SinkTold)
+    → Reads before after (λ reads. Course options reads (Ok (job.Nothing plan))) → run ≡ nothing_left → EndsBy stopped.Whole end → Puts end (report_by plan run.journal) old new → RunLeaves options before after end run old new
+none_ends options before after plan None run old new l none kind puts = led options before after (Ok (job.Nothing plan)) None run old new l (kind, none, puts)
+none_ends options before after plan (Some fault.SinkFailed) run old new l none kind puts = led options before after (Ok (job.Nothing plan)) (Some fault.SinkFailed) run old new l (kind, none, puts)
+none_ends options before after plan (Some (fault.NoMemory stage.After)) run old new l none kind puts = led options before after (Ok (job.Nothing plan)) (Some (fault.NoMemory stage.After)) run old new l (kind, none, puts)
+none_ends options before after plan (Some (fault.NoMemory stage.Before)) run old new l none kind puts = absurd cc
+none_ends options before after plan (Some (fault.NoMemory stage.During)) run old new l none kind puts = absurd cc
+none_ends options before after plan (Some (fault.Absent at)) run old new l none kind puts = absurd kind
+none_ends options before after plan (Some (fault.FloorFailed at)) run old new l none kind puts = absurd kind
+none_ends options before after plan (Some (fault.NotYetBuilt what)) run old new l none kind puts = absurd kind
+none_ends options before after plan (Some fault.Words) run old new l none kind puts = absurd kind
+none_ends options before after plan (Some (fault.List x)) run old new l none kind puts = absurd kind
+none_ends options before after plan (Some (fault.Flags a x)) run old new l none kind puts = absurd kind
 
 -- the reads ended the run
-pub fault_ends : (options : Option Options) (files : Option (List SourceFile)) (log_old log_new : Option (List FloorRead)) (f : RunFault) (run : Left) (old new : Option (List ℕ))
-    → UnlessBefore (Some f) (Logs files log_old log_new (λ reads. Course options reads (Err f))) → run ≡ nothing_left → new ≡ old → RunEnds options files log_old log_new (Some f) run old new
-fault_ends options files log_old log_new (fault.NoMemory when) run old new h none put =
-    subst (λ (s : Stage). RunEnds options files log_old log_new (Some (fault.NoMemory s)) run old new) (sym h) (none, put)
-fault_ends options files log_old log_new (fault.Absent at) run old new h none put = led options files log_old log_new (Err (fault.Absent at)) (Some (fault.Absent at)) run old new h (refl, none, put)
-fault_ends options files log_old log_new (fault.FloorFailed at) run old new h none put = led options files log_old log_new (Err (fault.FloorFailed at)) (Some (fault.FloorFailed at)) run old new h (refl, none, put)
-fault_ends options files log_old log_new (fault.NotYetBuilt what) run old new h none put = led options files log_old log_new (Err (fault.NotYetBuilt what)) (Some (fault.NotYetBuilt what)) run old new h (refl, none, put)
-fault_ends options files log_old log_new fault.SinkFailed run old new h none put = led options files log_old log_new (Err fault.SinkFailed) (Some fault.SinkFailed) run old new h (refl, none, put)
-fault_ends options files log_old log_new fault.Words run old new h none put = led options files log_old log_new (Err fault.Words) (Some fault.Words) run old new h (refl, none, put)
-fault_ends options files log_old log_new (fault.List x) run old new h none put = led options files log_old log_new (Err (fault.List x)) (Some (fault.List x)) run old new h (refl, none, put)
-fault_ends options files log_old log_new (fault.Flags a x) run old new h none put = led options files log_old log_new (Err (fault.Flags a x)) (Some (fault.Flags a x)) run old new h (refl, none, put)
+pub fault_ends : (options : Option Options) (before after : FloorTold) (f : RunFault) (run : Left) (old new : SinkTold)
+    → UnlessBefore (Some f) (Reads before after (λ reads. Course options reads (Err f))) → run ≡ nothing_left → new.contents ≡ old.contents → RunLeaves options before after (Some f) run old new
+fault_ends options before after (fault.NoMemory when) run old new h none put =
+    subst (λ (s : Stage). RunLeaves options before after (Some (fault.NoMemory s)) run old new) (sym h) (none, put)
+fault_ends options before after (fault.Absent at) run old new h none put = led options before after (Err (fault.Absent at)) (Some (fault.Absent at)) run old new h (refl, none, put)
+fault_ends options before after (fault.FloorFailed at) run old new h none put = led options before after (Err (fault.FloorFailed at)) (Some (fault.FloorFailed at)) run old new h (refl, none, put)
+fault_ends options before after (fault.NotYetBuilt what) run old new h none put = led options before after (Err (fault.NotYetBuilt what)) (Some (fault.NotYetBuilt what)) run old new h (refl, none, put)
+fault_ends options before after fault.SinkFailed run old new h none put = led options before after (Err fault.SinkFailed) (Some fault.SinkFailed) run old new h (refl, none, put)
+fault_ends options before after fault.Words run old new h none put = led options before after (Err fault.Words) (Some fault.Words) run old new h (refl, none, put)
+fault_ends options before after (fault.List x) run old new h none put = led options before after (Err (fault.List x)) (Some (fault.List x)) run old new h (refl, none, put)
+fault_ends options before after (fault.Flags a x) run old new h none put = led options before after (Err (fault.Flags a x)) (Some (fault.Flags a x)) run old new h (refl, none, put)
 
 after_any : (end : Option RunFault) (P Q : Type 0) → IsAfterStart end → Q → AfterStart end P Q
 after_any None P Q started q = q
@@ -89,7 +91,7 @@ after_any (Some (fault.List x)) P Q started q = q
 after_any (Some (fault.Flags a x)) P Q started q = q
 
 -- an action's line was run
-pub ran_one : (work : Work) (came : Reached) (stop : Stopped) (end : Option RunFault) (run : Left) (old new : Option (List ℕ)) → IsAfterStart end → EndsBy stop end → LeavesOne work came stop run → Puts end (report_by work.plan run.journal) old new → AfterStart end (LeavesNothing run old new) (EndsAs (Ok (job.One work)) end run old new)
+pub ran_one : (work : Work) (came : Reached) (stop : Stopped) (end : Option RunFault) (run : Left) (old new : SinkTold) → IsAfterStart end → EndsBy stop end → LeavesOne work came stop run → Puts end (report_by work.plan run.journal) old new → OneEnds work end run old new
 ran_one work came stop end run old new started ends leaves puts = after_any end (LeavesNothing run old new) (EndsAs (Ok (job.One work)) end run old new) started (came, stop, ends, leaves, puts)
 
 -- ---- reads don't end in the sink's fault

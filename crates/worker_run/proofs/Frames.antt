@@ -2,6 +2,7 @@
 use Rattle.std.proofs.Common.{◌≡◌, ℕ, ◌+◌, ◌<◌, ◌≤◌, List, [], ◌∷◌, ◌++◌, length, take, length-append, Bool, Option, Some, None, IfSome, ap, sym, subst, ◌∙◌, inl, inr, arith}
 use Rattle.std.proofs.lemmas.List.{nil_from_length, length-take-le}
 use Rattle.outside.specs.Lists.{Tells}
+use Rattle.outside.specs.Told.{TapTold}
 use Rattle.delimited_framing.specs.declared.frame.FrameFault.{FrameFault}
 use Rattle.delimited_framing.specs.Frame.{Unfinished, frame_at, Holds, FramesBad}
 use Rattle.delimited_framing.specs.Splitter.{Held, Stands, fed_more}
@@ -23,21 +24,21 @@ held : (fed frame : List ℕ) (s : Held) → s.limit ≡ largest → Stands fed 
 held fed frame s limit stands = subst (λ (n : ℕ). Holds n fed (frame ∷ []) s.rest) limit stands.holds
 
 -- the first frame was judged
-pub judged : (taken : Option (List ℕ)) (ended : Option Bool) (fed frame : List ℕ) (faults unread : ℕ) (s : Held) (h : Heard) → Tells taken fed → Stands fed (frame ∷ []) s → s.limit ≡ largest → unread ≡ length s.rest → Judges frame unread h
-    → OnAnswer h (λ text. IfSome taken (λ all. IsOneAnswer all text)) × OnNoAnswer h (HasNoAnswer faults taken ended)
-judged taken ended fed frame faults unread s (heard.Answer text) told stands limit left j =
+pub judged : (tap : TapTold) (fed frame : List ℕ) (unread : ℕ) (s : Held) (h : Heard) → Tells tap.taken fed → Stands fed (frame ∷ []) s → s.limit ≡ largest → unread ≡ length s.rest → Judges frame unread h
+    → OnAnswer h (λ text. IfSome tap.taken (λ all. IsOneAnswer all text)) × OnNoAnswer h (HasNoAnswer tap)
+judged tap fed frame unread s (heard.Answer text) told stands limit left j =
     let none : length s.rest ≡ 0 = sym left ∙ j.0 in
-    (of_told (λ all. IsOneAnswer all text) taken fed told (one_answer fed frame text s.rest (held fed frame s limit stands) (nil_from_length s.rest none) j.1), tt)
-judged taken ended fed frame faults unread s heard.Garbage told stands limit left j =
-    (tt, inr (inr (inl (of_told _ taken fed told (never_by_frame fed frame s.rest (held fed frame s limit stands) (λ none. j (left ∙ ap length none)))))))
-judged taken ended fed frame faults unread s heard.Ended told stands limit left j = absurd j
-judged taken ended fed frame faults unread s heard.Long told stands limit left j = absurd j
-judged taken ended fed frame faults unread s heard.TapFault told stands limit left j = absurd j
+    (of_told (λ all. IsOneAnswer all text) tap.taken fed told (one_answer fed frame text s.rest (held fed frame s limit stands) (nil_from_length s.rest none) j.1), tt)
+judged tap fed frame unread s heard.Garbage told stands limit left j =
+    (tt, inr (inr (inl (of_told _ tap.taken fed told (never_by_frame fed frame s.rest (held fed frame s limit stands) (λ none. j (left ∙ ap length none)))))))
+judged tap fed frame unread s heard.Ended told stands limit left j = absurd j
+judged tap fed frame unread s heard.Long told stands limit left j = absurd j
+judged tap fed frame unread s heard.TapFault told stands limit left j = absurd j
 
 -- a fault of the stream was met
-pub met_fault : (taken : Option (List ℕ)) (ended : Option Bool) (fed : List ℕ) (faults limit : ℕ) (fault : FrameFault) → Tells taken fed → limit ≡ largest → FramesBad fed limit [] fault → HasNoAnswer faults taken ended
-met_fault taken ended fed faults limit fault told is bad =
-    inr (inr (inl (of_told _ taken fed told (never_by_fault fed fault (subst (λ (n : ℕ). FramesBad fed n [] fault) is bad)))))
+pub met_fault : (tap : TapTold) (fed : List ℕ) (limit : ℕ) (fault : FrameFault) → Tells tap.taken fed → limit ≡ largest → FramesBad fed limit [] fault → HasNoAnswer tap
+met_fault tap fed limit fault told is bad =
+    inr (inr (inl (of_told _ tap.taken fed told (never_by_fault fed fault (subst (λ (n : ℕ). FramesBad fed n [] fault) is bad)))))
 
 pub unfinished_on : (limit : ℕ) (fed rest : List ℕ) → limit ≡ largest → Holds limit fed [] rest → frame_at limit rest ≡ Unfinished → frame_at largest fed ≡ Unfinished
 unfinished_on limit fed rest is holds e = subst (λ (n : ℕ). frame_at n fed ≡ Unfinished) is (ap (frame_at limit) holds ∙ e)

@@ -8,6 +8,7 @@ use Rattle.action_list.specs.declared.types.ActionList.{ActionList}
 use Rattle.action_list.specs.declared.types.ListAction.{ListAction}
 use Rattle.exec_journal.specs.declared.plan.Plan.{Plan}
 use Rattle.outside.specs.Lists.{Adds}
+use Rattle.outside.specs.Told.{FloorTold}
 use Rattle.outside.specs.Floor.{MayAnswer, file_at, one_read}
 use Rattle.outside.specs.declared.answers.Read.{Read}
 use Rattle.outside.specs.declared.answers.Read.TheVariants as read
@@ -87,6 +88,10 @@ AreOfFiles told reads = IfSome told (λ files. All (λ r. MayAnswer (file_at fil
 -- some reads of a floor with these files, which it has logged where it tells
 abbrev pub Logs : Option (List SourceFile) → Option (List FloorRead) → Option (List FloorRead) → (List FloorRead → Type 0) → Type 0
 Logs files old new P = (reads : List FloorRead) × Adds reads old new × AreOfFiles files reads × P reads
+
+-- the same by what the floor tells, before them and after
+abbrev pub Reads : FloorTold → FloorTold → (List FloorRead → Type 0) → Type 0
+Reads before after P = Logs before.files before.log after.log P
 
 -- one read, with this answer
 pub record IsRead (path : List ℕ) (answer : Read) (files : Option (List SourceFile)) (old new : Option (List FloorRead)) : Type 0 where

@@ -2,6 +2,7 @@
 use Rattle.std.specs.Prelude.{◌≡◌, ◌⊎◌, ℕ, ◌<◌, ◌≤◌, ◌^◌, pos, List, [], ◌∷◌, ◌++◌, length, Bool, true, false, Option, IfSome}
 use Rattle.delimited_framing.specs.Frame.{Frames}
 use Rattle.outside.specs.Lists.{Tells}
+use Rattle.outside.specs.Told.{TapTold}
 use Rattle.wire_messages.specs.Response.{SpellsResponse}
 use Rattle.wire_messages.specs.declared.response.WorkResponse.{WorkResponse}
 
@@ -42,8 +43,9 @@ IsLong all = 2 ^ 40 ≤ length all
 
 -- Why no answer was heard: the tap failed; or it has ended, and what it gave is no answer; or what it gave
 -- can't become one; or it gave far too much.
-abbrev pub HasNoAnswer : ℕ → Option (List ℕ) → Option Bool → Type 0
-HasNoAnswer faults taken ended = (0 < faults) ⊎ ((IfSome ended (λ b. b ≡ true) × IfSome taken IsNoAnswer) ⊎ (IfSome taken NeverAnswers ⊎ IfSome taken IsLong))
+abbrev pub HasNoAnswer : TapTold → Type 0
+HasNoAnswer tap =
+    (0 < tap.faults) ⊎ ((IfSome tap.ended (λ b. b ≡ true) × IfSome tap.taken IsNoAnswer) ⊎ (IfSome tap.taken NeverAnswers ⊎ IfSome tap.taken IsLong))
 
 -- at least one more byte was taken
 abbrev pub Speaks : Option (List ℕ) → Option (List ℕ) → Type 0

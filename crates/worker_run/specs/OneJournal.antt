@@ -23,7 +23,7 @@ entry lane call reply = record { lane = lane; call = call; reply = reply }
 
 -- number 0, exit code 0, not cancelled, and this output
 abbrev pub plain_answer : List ℕ → Answer
-plain_answer text = record { number = pos 0; exit = pos 0; cancelled = false; text = text; refusal = []; files = [] }
+plain_answer text = record { number = pos 0; exit = pos 0; cancelled = false; text = text; refusal = []; files = []; version = pos 0 }
 
 -- Lane 0 has the berth, lane 1 its tap: the line is launched and taken, the request is sent and written, its
 -- answer is matched and its files are gathered, claimed and committed; then the line is killed, its end is

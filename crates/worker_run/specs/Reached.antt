@@ -1,11 +1,12 @@
 -- What the objects tell, by how far the line of the one action came.
 use Rattle.std.specs.Prelude.{◌≡◌, ◌⊎◌, ℕ, ◌<◌, ◌≤◌, List, [], ◌++◌, length, take, true, Option, Some, None, IfSome}
 use Rattle.outside.specs.Lists.{Tells}
+use Rattle.outside.specs.Told.{BerthTold, PlaceTold, FeedTold, TapTold, LineTold}
 use Rattle.outside.specs.declared.berth.BerthCall.{BerthCall}
 use Rattle.outside.specs.declared.place.PlaceWrite.{PlaceWrite}
 use Rattle.worker_run.specs.Heard.{IsOneAnswer, NeverAnswers, BeginsAnswer, HasNoAnswer}
 use Rattle.worker_run.specs.Rooms.{Asked, IsRun, launch_asks, launch_calls, fill_asks, fill_calls, get_asks, get_calls, writes_of, EndsAbsent}
-use Rattle.worker_run.specs.Seen.{SeenRoom, SeenPlace, SeenFeed, SeenTap, SeenLine, IsKilledLine}
+use Rattle.worker_run.specs.Seen.{IsKilledLine}
 use Rattle.worker_run.specs.declared.work.Work.{Work}
 use Rattle.worker_run.specs.declared.line.Reached.{Reached}
 use Rattle.worker_run.specs.declared.line.Reached.TheVariants as reached
@@ -59,7 +60,7 @@ FeedStood work (reached.Ended text files) given = Tells given work.frame
 
 -- The answer: nothing was read before the request was written; from the answer on the bytes taken are one
 -- whole frame with its text, or begin with it where more was read after the kill.
-abbrev pub TapStood : Reached → SeenTap → Type 0
+abbrev pub TapStood : Reached → TapTold → Type 0
 TapStood reached.Ordered tap = Unit {0}
 TapStood reached.Launched tap = Tells tap.taken []
 TapStood reached.Written tap = Unit {0}
@@ -69,28 +70,28 @@ TapStood (reached.Committed text files) tap = IfSome tap.taken (BeginsAnswer tex
 TapStood (reached.Ended text files) tap = IfSome tap.taken (λ all. IsOneAnswer all text) × IfSome tap.ended (λ b. b ≡ true)
 
 -- Without a launch there is no line; else its three objects tell this, and its child has been killed.
-abbrev pub LineStood : Work → Reached → Option SeenLine → Type 0
+abbrev pub LineStood : Work → Reached → Option LineTold → Type 0
 LineStood work reached.Ordered None = Unit {0}
 LineStood work reached.Ordered (Some line) = ⊥
 LineStood work came None = ⊥
 LineStood work came (Some line) = IsKilledLine 0 line × FeedStood work came line.feed.given × TapStood came line.tap
 
 -- an output isn't there, or the berth has failed
-abbrev pub LookCause : SeenRoom → Type 0
+abbrev pub LookCause : BerthTold → Type 0
 LookCause room = (0 < room.faults) ⊎ IfSome room.log EndsAbsent
 
 -- Why a line came no further, where an object of the outside is the cause: its berth, its feed, its tap or
 -- the place has failed, or an output isn't there, or what its child gave is no answer.
-abbrev pub WorkCause : Reached → SeenRoom → SeenPlace → SeenFeed → SeenTap → Type 0
+abbrev pub WorkCause : Reached → BerthTold → PlaceTold → FeedTold → TapTold → Type 0
 WorkCause reached.Ordered room place feed tap = ⊥
 WorkCause reached.Launched room place feed tap = (0 < room.faults) ⊎ (0 < feed.faults)
-WorkCause reached.Written room place feed tap = HasNoAnswer tap.faults tap.taken tap.ended
+WorkCause reached.Written room place feed tap = HasNoAnswer tap
 WorkCause (reached.Answered text) room place feed tap = LookCause room
 WorkCause (reached.Gathered text files) room place feed tap = 0 < place.faults
 WorkCause (reached.Committed text files) room place feed tap = (0 < tap.faults) ⊎ IfSome tap.taken NeverAnswers
 WorkCause (reached.Ended text files) room place feed tap = ⊥
 
-abbrev pub HasCause : Reached → SeenRoom → SeenPlace → Option SeenLine → Type 0
+abbrev pub HasCause : Reached → BerthTold → PlaceTold → Option LineTold → Type 0
 HasCause reached.Ordered room place None = 0 < room.faults
 HasCause came room place None = ⊥
 HasCause came room place (Some line) = WorkCause came room place line.feed line.tap

@@ -1,10 +1,12 @@
 ghost use Rattle.std.specs.Prelude.{◌≡◌, []};
 ghost use Rattle.worker_run.specs.Faults.{end_status};
+ghost use Rattle.worker_run.specs.Seen.{ended_told, nothing_left};
 
 use crate::RunFault;
 use exec_journal::Journal;
 use outside::{Berth, Floor};
 use std::alloc::Global;
+use std::marker::Model;
 
 /// All that a run leaves.
 #[derive(Drop)]
@@ -23,11 +25,29 @@ pub struct Ended<F: Floor> {
     pub places: Vec<F::Place>,
 }
 
+impl<F: Floor> Model for Ended<F> {
+    ghost use Rattle.std.specs.Prelude.{map};
+    ghost use Rattle.worker_run.specs.Seen.{EndedTold, ended_told, left};
+
+    ghost Value = { EndedTold };
+
+    ghost view = { λ e. ended_told e.status e.fault (F.told e.floor) (left e.journal
+        (map F.Berth.told e.berths.items) e.lines.items (map F.Place.told e.places.items)) };
+}
+
 /// A line, with what it had where it was launched.
 #[derive(Drop)]
 pub struct EndedLine<F: Floor> {
     pub number: u32,
     pub halves: Option<Halves<F>>,
+}
+
+impl<F: Floor> Model for EndedLine<F> {
+    ghost use Rattle.worker_run.specs.Seen.{EndTold, end_told};
+
+    ghost Value = { EndTold };
+
+    ghost view = { λ l. end_told l.number l.halves };
 }
 
 /// The feed, the tap and the child of a line.
@@ -38,16 +58,19 @@ pub struct Halves<F: Floor> {
     pub child: <F::Berth as Berth>::Child,
 }
 
+impl<F: Floor> Model for Halves<F> {
+    ghost use Rattle.outside.specs.Told.{LineTold, line_told};
+
+    ghost Value = { LineTold };
+
+    ghost view = { λ h. line_told (F.Berth.Feed.told h.feed) (F.Berth.Tap.told h.tap)
+        (F.Berth.Child.told h.child) };
+}
+
 impl<F: Floor> Ended<F> {
     /// A run whose lanes weren't started.
     pub fn with_no_lane(alloc: Global, floor: F, fault: Option<RunFault>) -> Ended<F>
-        ensures fault { result.fault ≡ fault }
-        ensures status { result.status ≡ end_status fault }
-        ensures floor { result.floor ≡ floor }
-        ensures journal { result.journal ≡ [] }
-        ensures berths { result.berths.items ≡ [] }
-        ensures lines { result.lines.items ≡ [] }
-        ensures places { result.places.items ≡ [] }
+        ensures { result ≡ ended_told (end_status fault) fault (F.told floor) nothing_left }
     {
         Ended {
             status: end_status(&fault),
@@ -62,13 +85,7 @@ impl<F: Floor> Ended<F> {
 
     /// The same run, which ends with this fault.
     pub fn with_fault(self, fault: Option<RunFault>) -> Ended<F>
-        ensures fault { result.fault ≡ fault }
-        ensures status { result.status ≡ end_status fault }
-        ensures floor { result.floor ≡ self.floor }
-        ensures journal { result.journal ≡ self.journal }
-        ensures berths { result.berths ≡ self.berths }
-        ensures lines { result.lines ≡ self.lines }
-        ensures places { result.places ≡ self.places }
+        ensures { result ≡ record self { status = end_status fault; fault = fault } }
     {
         let Ended {
             status: _,

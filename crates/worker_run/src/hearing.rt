@@ -1,6 +1,7 @@
 //! What a child gives: its one answer, and after its kill nothing more.
 ghost use Rattle.std.specs.Prelude.{◌≡◌, [], IfOk, IfSome, true};
 ghost use Rattle.outside.specs.Causes.{Counts};
+ghost use Rattle.outside.specs.Told.{SameTap};
 ghost use Rattle.outside.specs.Lists.{Tells, Adds};
 ghost use Rattle.worker_run.specs.Heard.{IsOneAnswer, HasNoAnswer, Speaks};
 ghost use Rattle.worker_run.specs.Hearing.{OnAnswer, OnNoAnswer, IsTapFault, Judges, Says, OnQuiet, OnNoByte, OnSpoke, IsSilenceFault};
@@ -40,11 +41,12 @@ pub enum Heard {
 ///
 /// `NoMemory`.
 pub fn hear<T: Tap>(alloc: Global, tap: &mut T) -> Result<Heard, NoMemory>
-    requires { Tells (T.taken tap.old) [] }
-    ensures answer { IfOk result (λ h. OnAnswer h (λ text. IfSome (T.taken tap.new) (λ all. IsOneAnswer all text))) }
-    ensures other { IfOk result (λ h. OnNoAnswer h (HasNoAnswer (T.faults tap.new) (T.taken tap.new) (T.ended tap.new))) }
-    ensures count { Counts (T.faults tap.old) (T.faults tap.new) (IsTapFault result) }
-    ensures line { T.line tap.new ≡ T.line tap.old }
+    requires { Tells (T.told tap.old).taken [] }
+    ensures answer { IfOk result
+        (λ h. OnAnswer h (λ text. IfSome (T.told tap.new).taken (λ all. IsOneAnswer all text))) }
+    ensures other { IfOk result (λ h. OnNoAnswer h (HasNoAnswer (T.told tap.new))) }
+    ensures count { Counts (T.told tap.old).faults (T.told tap.new).faults (IsTapFault result) }
+    ensures line { SameTap (T.told tap.old) (T.told tap.new) }
 {
     let mut splitter = Splitter::new(alloc, LARGEST);
     let mut piece = [0u8; PIECE];
@@ -101,11 +103,11 @@ pub enum Silence {
 
 /// Reads once more, when the child has been killed and its answer was heard.
 pub fn listen<T: Tap>(tap: &mut T) -> Silence
-    ensures quiet { OnNoByte result (Adds [] (T.taken tap.old) (T.taken tap.new)) }
-    ensures ended { OnQuiet result (IfSome (T.ended tap.new) (λ b. b ≡ true)) }
-    ensures spoke { OnSpoke result (Speaks (T.taken tap.old) (T.taken tap.new)) }
-    ensures count { Counts (T.faults tap.old) (T.faults tap.new) (IsSilenceFault result) }
-    ensures line { T.line tap.new ≡ T.line tap.old }
+    ensures quiet { OnNoByte result (Adds [] (T.told tap.old).taken (T.told tap.new).taken) }
+    ensures ended { OnQuiet result (IfSome (T.told tap.new).ended (λ b. b ≡ true)) }
+    ensures spoke { OnSpoke result (Speaks (T.told tap.old).taken (T.told tap.new).taken) }
+    ensures count { Counts (T.told tap.old).faults (T.told tap.new).faults (IsSilenceFault result) }
+    ensures line { SameTap (T.told tap.old) (T.told tap.new) }
 {
     let mut piece = [0u8; 1];
     match tap.read(&mut piece) {

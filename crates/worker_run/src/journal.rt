@@ -183,6 +183,7 @@ fn note_answer(alloc: Global, entries: &mut Vec<Entry>, text: Text)
         text,
         refusal: Text::of(String::new(alloc)),
         files: Items::of(Vec::new(alloc)),
+        version: 0,
     };
     let matched = Reply::Matched {
         action: ACTION,

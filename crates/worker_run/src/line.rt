@@ -2,12 +2,12 @@
 ghost use Rattle.std.specs.Prelude.{◌≡◌, [], length, true, IfSome, Option, List, ℕ};
 ghost use Rattle.std.specs.Option.{option_map};
 ghost use Rattle.outside.specs.Lists.{Tells};
+ghost use Rattle.outside.specs.Told.{BerthTold, PlaceTold, FeedTold, TapTold, SameBerth, SamePlace, SameFeed, SameTap};
 ghost use Rattle.outside.specs.Launches.{IsNewFeed, IsNewTap, IsNewChild};
 ghost use Rattle.outside.specs.declared.berth.BerthCall.{BerthCall};
 ghost use Rattle.outside.specs.declared.place.PlaceWrite.{PlaceWrite};
 ghost use Rattle.worker_run.specs.Reached.{before_request, before_answer, RoomStood, PlaceStood, FeedStood, TapStood, HeardStood, LineStood, WorkCause, HasCause, IsServed, IsStop, OnOutside, HoldsText, HoldsFiles, EndsWith, IsLaunched, IsWritten};
 ghost use Rattle.worker_run.specs.Heard.{IsOneAnswer};
-ghost use Rattle.worker_run.specs.Seen.{SeenRoom, SeenPlace, SeenFeed, SeenTap, seen_room, seen_place, seen_feed, seen_tap, seen_child, seen_line};
 ghost use Rattle.worker_run.specs.declared.work.Work.{Work};
 
 use crate::commits::{Committed, commit};
@@ -16,6 +16,7 @@ use crate::room::{Gathered, fill, gather, launch};
 use crate::work::Work;
 use outside::{Berth, Child, Feed, Io, Launch, Place, Tap};
 use std::alloc::Global;
+use std::marker::Model;
 use wire_fields::{Blob, Items, NoMemory, Text};
 
 /// How far the line of the one action came.
@@ -55,6 +56,14 @@ pub struct Line<B: Berth> {
     pub child: B::Child,
 }
 
+impl<B: Berth> Model for Line<B> {
+    ghost use Rattle.outside.specs.Told.{LineTold, line_told};
+
+    ghost Value = { LineTold };
+
+    ghost view = { λ l. line_told (B.Feed.told l.feed) (B.Tap.told l.tap) (B.Child.told l.child) };
+}
+
 /// What is left of a line.
 #[derive(Drop)]
 pub struct LineRun<B: Berth> {
@@ -78,15 +87,16 @@ pub fn run_line<B: Berth, P: Place>(
     place: &mut P,
     work: &Work,
 ) -> LineRun<B>
-    requires room { Tells (B.log berth.old) [] }
-    requires place { Tells (P.log place.old) [] }
+    requires room { Tells (B.told berth.old).log [] }
+    requires place { Tells (P.told place.old).log [] }
     ensures stop { IsStop result.reached result.stopped }
-    ensures room { RoomStood work.now result.reached (B.log berth.new) }
-    ensures place { PlaceStood work.now result.reached (P.log place.new) }
-    ensures line { LineStood work.now result.reached (option_map (λ l. seen_line (seen_feed (B.Feed.line l.feed) (B.Feed.faults l.feed) (B.Feed.given l.feed)) (seen_tap (B.Tap.line l.tap) (B.Tap.faults l.tap) (B.Tap.taken l.tap) (B.Tap.ended l.tap)) (seen_child (B.Child.line l.child) (B.Child.killed l.child))) result.line) }
-    ensures cause { OnOutside result.stopped (HasCause result.reached (seen_room (B.number berth.new) (B.faults berth.new) (B.log berth.new)) (seen_place (P.number place.new) (P.faults place.new) (P.log place.new)) (option_map (λ l. seen_line (seen_feed (B.Feed.line l.feed) (B.Feed.faults l.feed) (B.Feed.given l.feed)) (seen_tap (B.Tap.line l.tap) (B.Tap.faults l.tap) (B.Tap.taken l.tap) (B.Tap.ended l.tap)) (seen_child (B.Child.line l.child) (B.Child.killed l.child))) result.line)) }
-    ensures berth_number { B.number berth.new ≡ B.number berth.old }
-    ensures place_number { P.number place.new ≡ P.number place.old }
+    ensures room { RoomStood work.now result.reached (B.told berth.new).log }
+    ensures place { PlaceStood work.now result.reached (P.told place.new).log }
+    ensures line { LineStood work.now result.reached result.line }
+    ensures cause { OnOutside result.stopped
+        (HasCause result.reached (B.told berth.new) (P.told place.new) result.line) }
+    ensures berth_number { SameBerth (B.told berth.old) (B.told berth.new) }
+    ensures place_number { SamePlace (P.told place.old) (P.told place.new) }
 {
     match launch(berth, &work.command) {
         Ok(Launch::Started(feed, tap, child)) => {
@@ -112,18 +122,19 @@ fn run_started<B: Berth, P: Place>(
     work: &Work,
     line: Line<B>,
 ) -> LineRun<B>
-    requires room { Tells (B.log berth.old) (before_request work.now) }
-    requires place { Tells (P.log place.old) [] }
-    requires feed { IsNewFeed 0 (B.Feed.line line.feed) (B.Feed.faults line.feed) (B.Feed.given line.feed) }
-    requires tap { IsNewTap 0 (B.Tap.line line.tap) (B.Tap.faults line.tap) (B.Tap.taken line.tap) (B.Tap.ended line.tap) }
-    requires child { IsNewChild 0 (B.Child.line line.child) (B.Child.killed line.child) }
+    requires room { Tells (B.told berth.old).log (before_request work.now) }
+    requires place { Tells (P.told place.old).log [] }
+    requires feed { IsNewFeed 0 line.feed }
+    requires tap { IsNewTap 0 line.tap }
+    requires child { IsNewChild 0 line.child }
     ensures stop { IsStop result.reached result.stopped }
-    ensures room { RoomStood work.now result.reached (B.log berth.new) }
-    ensures place { PlaceStood work.now result.reached (P.log place.new) }
-    ensures line { LineStood work.now result.reached (option_map (λ l. seen_line (seen_feed (B.Feed.line l.feed) (B.Feed.faults l.feed) (B.Feed.given l.feed)) (seen_tap (B.Tap.line l.tap) (B.Tap.faults l.tap) (B.Tap.taken l.tap) (B.Tap.ended l.tap)) (seen_child (B.Child.line l.child) (B.Child.killed l.child))) result.line) }
-    ensures cause { OnOutside result.stopped (HasCause result.reached (seen_room (B.number berth.new) (B.faults berth.new) (B.log berth.new)) (seen_place (P.number place.new) (P.faults place.new) (P.log place.new)) (option_map (λ l. seen_line (seen_feed (B.Feed.line l.feed) (B.Feed.faults l.feed) (B.Feed.given l.feed)) (seen_tap (B.Tap.line l.tap) (B.Tap.faults l.tap) (B.Tap.taken l.tap) (B.Tap.ended l.tap)) (seen_child (B.Child.line l.child) (B.Child.killed l.child))) result.line)) }
-    ensures berth_number { B.number berth.new ≡ B.number berth.old }
-    ensures place_number { P.number place.new ≡ P.number place.old }
+    ensures room { RoomStood work.now result.reached (B.told berth.new).log }
+    ensures place { PlaceStood work.now result.reached (P.told place.new).log }
+    ensures line { LineStood work.now result.reached result.line }
+    ensures cause { OnOutside result.stopped
+        (HasCause result.reached (B.told berth.new) (P.told place.new) result.line) }
+    ensures berth_number { SameBerth (B.told berth.old) (B.told berth.new) }
+    ensures place_number { SamePlace (P.told place.old) (P.told place.new) }
 {
     let mut line = line;
     let served = serve(alloc, berth, place, &mut line.feed, &mut line.tap, work);
@@ -139,15 +150,20 @@ fn run_started<B: Berth, P: Place>(
 // After the kill: the child that was asked once must have given nothing but its answer.
 fn settle<T: Tap>(served: Served, tap: &mut T) -> Served
     requires served { IsServed served.reached served.stopped }
-    requires heard { HeardStood served.reached (T.taken tap.old) }
+    requires heard { HeardStood served.reached (T.told tap.old).taken }
     ensures stop { IsStop result.reached result.stopped }
-    ensures room { (work : Work) (log : Option (List BerthCall)) → RoomStood work served.reached log → RoomStood work result.reached log }
-    ensures place { (work : Work) (log : Option (List PlaceWrite)) → PlaceStood work served.reached log → PlaceStood work result.reached log }
-    ensures feed { (work : Work) (given : Option (List ℕ)) → FeedStood work served.reached given → FeedStood work result.reached given }
-    ensures tap { TapStood result.reached (seen_tap (T.line tap.new) (T.faults tap.new) (T.taken tap.new) (T.ended tap.new)) }
-    ensures cause { (room : SeenRoom) (place : SeenPlace) (feed : SeenFeed) → OnOutside served.stopped (WorkCause served.reached room place feed (seen_tap (T.line tap.old) (T.faults tap.old) (T.taken tap.old) (T.ended tap.old))) → OnOutside result.stopped (WorkCause result.reached room place feed (seen_tap (T.line tap.new) (T.faults tap.new) (T.taken tap.new) (T.ended tap.new))) }
+    ensures room { (work : Work) (log : Option (List BerthCall))
+        → RoomStood work served.reached log → RoomStood work result.reached log }
+    ensures place { (work : Work) (log : Option (List PlaceWrite))
+        → PlaceStood work served.reached log → PlaceStood work result.reached log }
+    ensures feed { (work : Work) (given : Option (List ℕ))
+        → FeedStood work served.reached given → FeedStood work result.reached given }
+    ensures tap { TapStood result.reached (T.told tap.new) }
+    ensures cause { (room : BerthTold) (place : PlaceTold) (feed : FeedTold)
+        → OnOutside served.stopped (WorkCause served.reached room place feed (T.told tap.old))
+        → OnOutside result.stopped (WorkCause result.reached room place feed (T.told tap.new)) }
     ensures launched { IsLaunched result.reached }
-    ensures line { T.line tap.new ≡ T.line tap.old }
+    ensures line { SameTap (T.told tap.old) (T.told tap.new) }
 {
     let Served { reached, stopped } = served;
     match reached {
@@ -157,12 +173,13 @@ fn settle<T: Tap>(served: Served, tap: &mut T) -> Served
 }
 
 fn end<T: Tap>(text: Text, files: Items<Blob>, tap: &mut T) -> Served
-    requires { IfSome (T.taken tap.old) (λ all. IsOneAnswer all text) }
+    requires { IfSome (T.told tap.old).taken (λ all. IsOneAnswer all text) }
     ensures ends { EndsWith text files result.reached }
     ensures stop { IsStop result.reached result.stopped }
-    ensures tap { TapStood result.reached (seen_tap (T.line tap.new) (T.faults tap.new) (T.taken tap.new) (T.ended tap.new)) }
-    ensures cause { (room : SeenRoom) (place : SeenPlace) (feed : SeenFeed) → OnOutside result.stopped (WorkCause result.reached room place feed (seen_tap (T.line tap.new) (T.faults tap.new) (T.taken tap.new) (T.ended tap.new))) }
-    ensures line { T.line tap.new ≡ T.line tap.old }
+    ensures tap { TapStood result.reached (T.told tap.new) }
+    ensures cause { (room : BerthTold) (place : PlaceTold) (feed : FeedTold)
+        → OnOutside result.stopped (WorkCause result.reached room place feed (T.told tap.new)) }
+    ensures line { SameTap (T.told tap.old) (T.told tap.new) }
 {
     match listen(tap) {
         Silence::Quiet => Served {
@@ -189,20 +206,21 @@ fn serve<B: Berth, P: Place>(
     tap: &mut B::Tap,
     work: &Work,
 ) -> Served
-    requires room { Tells (B.log berth.old) (before_request work.now) }
-    requires place { Tells (P.log place.old) [] }
-    requires feed { Tells (B.Feed.given feed.old) [] }
-    requires tap { Tells (B.Tap.taken tap.old) [] }
+    requires room { Tells (B.told berth.old).log (before_request work.now) }
+    requires place { Tells (P.told place.old).log [] }
+    requires feed { Tells (B.Feed.told feed.old).given [] }
+    requires tap { Tells (B.Tap.told tap.old).taken [] }
     ensures served { IsServed result.reached result.stopped }
-    ensures room { RoomStood work.now result.reached (B.log berth.new) }
-    ensures place { PlaceStood work.now result.reached (P.log place.new) }
-    ensures feed { FeedStood work.now result.reached (B.Feed.given feed.new) }
-    ensures tap { HeardStood result.reached (B.Tap.taken tap.new) }
-    ensures cause { OnOutside result.stopped (WorkCause result.reached (seen_room (B.number berth.new) (B.faults berth.new) (B.log berth.new)) (seen_place (P.number place.new) (P.faults place.new) (P.log place.new)) (seen_feed (B.Feed.line feed.new) (B.Feed.faults feed.new) (B.Feed.given feed.new)) (seen_tap (B.Tap.line tap.new) (B.Tap.faults tap.new) (B.Tap.taken tap.new) (B.Tap.ended tap.new))) }
-    ensures berth_number { B.number berth.new ≡ B.number berth.old }
-    ensures place_number { P.number place.new ≡ P.number place.old }
-    ensures feed_line { B.Feed.line feed.new ≡ B.Feed.line feed.old }
-    ensures tap_line { B.Tap.line tap.new ≡ B.Tap.line tap.old }
+    ensures room { RoomStood work.now result.reached (B.told berth.new).log }
+    ensures place { PlaceStood work.now result.reached (P.told place.new).log }
+    ensures feed { FeedStood work.now result.reached (B.Feed.told feed.new).given }
+    ensures tap { HeardStood result.reached (B.Tap.told tap.new).taken }
+    ensures cause { OnOutside result.stopped (WorkCause result.reached
+        (B.told berth.new) (P.told place.new) (B.Feed.told feed.new) (B.Tap.told tap.new)) }
+    ensures berth_number { SameBerth (B.told berth.old) (B.told berth.new) }
+    ensures place_number { SamePlace (P.told place.old) (P.told place.new) }
+    ensures feed_line { SameFeed (B.Feed.told feed.old) (B.Feed.told feed.new) }
+    ensures tap_line { SameTap (B.Tap.told tap.old) (B.Tap.told tap.new) }
 {
     if let Io::Failed = fill(berth, work.outputs.as_slice(), work.inputs.as_slice()) {
         return Served {
@@ -227,18 +245,19 @@ fn answer<B: Berth, P: Place>(
     tap: &mut B::Tap,
     work: &Work,
 ) -> Served
-    requires room { Tells (B.log berth.old) (before_answer work.now) }
-    requires place { Tells (P.log place.old) [] }
-    requires tap { Tells (B.Tap.taken tap.old) [] }
+    requires room { Tells (B.told berth.old).log (before_answer work.now) }
+    requires place { Tells (P.told place.old).log [] }
+    requires tap { Tells (B.Tap.told tap.old).taken [] }
     ensures served { IsServed result.reached result.stopped }
     ensures written { IsWritten result.reached }
-    ensures room { RoomStood work.now result.reached (B.log berth.new) }
-    ensures place { PlaceStood work.now result.reached (P.log place.new) }
-    ensures tap { HeardStood result.reached (B.Tap.taken tap.new) }
-    ensures cause { (feed : SeenFeed) → OnOutside result.stopped (WorkCause result.reached (seen_room (B.number berth.new) (B.faults berth.new) (B.log berth.new)) (seen_place (P.number place.new) (P.faults place.new) (P.log place.new)) feed (seen_tap (B.Tap.line tap.new) (B.Tap.faults tap.new) (B.Tap.taken tap.new) (B.Tap.ended tap.new))) }
-    ensures berth_number { B.number berth.new ≡ B.number berth.old }
-    ensures place_number { P.number place.new ≡ P.number place.old }
-    ensures tap_line { B.Tap.line tap.new ≡ B.Tap.line tap.old }
+    ensures room { RoomStood work.now result.reached (B.told berth.new).log }
+    ensures place { PlaceStood work.now result.reached (P.told place.new).log }
+    ensures tap { HeardStood result.reached (B.Tap.told tap.new).taken }
+    ensures cause { (feed : FeedTold) → OnOutside result.stopped
+        (WorkCause result.reached (B.told berth.new) (P.told place.new) feed (B.Tap.told tap.new)) }
+    ensures berth_number { SameBerth (B.told berth.old) (B.told berth.new) }
+    ensures place_number { SamePlace (P.told place.old) (P.told place.new) }
+    ensures tap_line { SameTap (B.Tap.told tap.old) (B.Tap.told tap.new) }
 {
     match hear(alloc, tap) {
         Ok(Heard::Answer(text)) => conclude(alloc, berth, place, work, text),
@@ -261,15 +280,16 @@ fn conclude<B: Berth, P: Place>(
     work: &Work,
     text: Text,
 ) -> Served
-    requires room { Tells (B.log berth.old) (before_answer work.now) }
-    requires place { Tells (P.log place.old) [] }
+    requires room { Tells (B.told berth.old).log (before_answer work.now) }
+    requires place { Tells (P.told place.old).log [] }
     ensures served { IsServed result.reached result.stopped }
     ensures text { HoldsText text result.reached }
-    ensures room { RoomStood work.now result.reached (B.log berth.new) }
-    ensures place { PlaceStood work.now result.reached (P.log place.new) }
-    ensures cause { (feed : SeenFeed) (tap : SeenTap) → OnOutside result.stopped (WorkCause result.reached (seen_room (B.number berth.new) (B.faults berth.new) (B.log berth.new)) (seen_place (P.number place.new) (P.faults place.new) (P.log place.new)) feed tap) }
-    ensures berth_number { B.number berth.new ≡ B.number berth.old }
-    ensures place_number { P.number place.new ≡ P.number place.old }
+    ensures room { RoomStood work.now result.reached (B.told berth.new).log }
+    ensures place { PlaceStood work.now result.reached (P.told place.new).log }
+    ensures cause { (feed : FeedTold) (tap : TapTold) → OnOutside result.stopped
+        (WorkCause result.reached (B.told berth.new) (P.told place.new) feed tap) }
+    ensures berth_number { SameBerth (B.told berth.old) (B.told berth.new) }
+    ensures place_number { SamePlace (P.told place.old) (P.told place.new) }
 {
     match gather(alloc, berth, work.outputs.as_slice()) {
         Ok(Gathered::Files(files)) => write_out(place, work, text, Items::of(files)),
@@ -291,12 +311,13 @@ fn conclude<B: Berth, P: Place>(
 // Writes the outputs to the place.
 fn write_out<P: Place>(place: &mut P, work: &Work, text: Text, files: Items<Blob>) -> Served
     requires files { length files ≡ length work.now.outputs }
-    requires place { Tells (P.log place.old) [] }
+    requires place { Tells (P.told place.old).log [] }
     ensures served { IsServed result.reached result.stopped }
     ensures files { HoldsFiles text files result.reached }
-    ensures place { PlaceStood work.now result.reached (P.log place.new) }
-    ensures cause { (room : SeenRoom) (feed : SeenFeed) (tap : SeenTap) → OnOutside result.stopped (WorkCause result.reached room (seen_place (P.number place.new) (P.faults place.new) (P.log place.new)) feed tap) }
-    ensures place_number { P.number place.new ≡ P.number place.old }
+    ensures place { PlaceStood work.now result.reached (P.told place.new).log }
+    ensures cause { (room : BerthTold) (feed : FeedTold) (tap : TapTold) → OnOutside result.stopped
+        (WorkCause result.reached room (P.told place.new) feed tap) }
+    ensures place_number { SamePlace (P.told place.old) (P.told place.new) }
 {
     match commit(place, work.outputs.as_slice(), files.as_slice()) {
         Committed::Done => Served {

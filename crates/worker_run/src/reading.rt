@@ -3,8 +3,9 @@ ghost use Rattle.std.specs.Prelude.{◌≡◌, ◌∷◌, [], true, map, string_
 ghost use Rattle.exec_journal.specs.Sound.{Sound};
 ghost use Rattle.action_list.specs.Whole.{IsWhole};
 ghost use Rattle.outside.specs.Causes.{Counts};
+ghost use Rattle.outside.specs.Told.{SameFloor};
 ghost use Rattle.tool_words.specs.Options.{options_of};
-ghost use Rattle.worker_run.specs.Course.{Course, OptionsRead, ListRead, ActionsRead, OneRead, ActionRead, Logs, UnlessBefore, IsFloorFailed, OnPlan, end_of};
+ghost use Rattle.worker_run.specs.Course.{Course, OptionsRead, ListRead, ActionsRead, OneRead, ActionRead, Reads, UnlessBefore, IsFloorFailed, OnPlan, end_of};
 ghost use Rattle.worker_run.specs.Prepared.{AreAccepted, is_served};
 
 use crate::preparing::{plan_of, work_of};
@@ -28,11 +29,12 @@ pub enum Job {
 
 /// Reads the list that the words name, and what its action reads.
 pub fn read_job<F: Floor>(alloc: Global, words: &[String], floor: &mut F) -> Result<Job, RunFault>
-    ensures course { UnlessBefore (end_of result) (Logs (F.files floor.old) (F.log floor.old) (F.log floor.new)
+    ensures course { UnlessBefore (end_of result) (Reads (F.told floor.old) (F.told floor.new)
         (λ reads. Course (options_of (map string_bytes words.now)) reads result)) }
     ensures sound { OnPlan result Sound }
-    ensures floor { Counts (F.faults floor.old) (F.faults floor.new) (IsFloorFailed (end_of result)) }
-    ensures files { F.files floor.new ≡ F.files floor.old }
+    ensures floor { Counts (F.told floor.old).faults (F.told floor.new).faults
+        (IsFloorFailed (end_of result)) }
+    ensures files { SameFloor (F.told floor.old) (F.told floor.new) }
 {
     match read_words(alloc, words)? {
         Some(options) => read_by_options(alloc, floor, &options),
@@ -46,10 +48,12 @@ fn read_by_options<F: Floor>(
     options: &Options,
 ) -> Result<Job, RunFault>
     requires { AreAccepted options.now }
-    ensures course { UnlessBefore (end_of result) (Logs (F.files floor.old) (F.log floor.old) (F.log floor.new) (λ reads. OptionsRead options.now options.now.list reads result)) }
+    ensures course { UnlessBefore (end_of result) (Reads (F.told floor.old) (F.told floor.new)
+        (λ reads. OptionsRead options.now options.now.list reads result)) }
     ensures sound { OnPlan result Sound }
-    ensures floor { Counts (F.faults floor.old) (F.faults floor.new) (IsFloorFailed (end_of result)) }
-    ensures files { F.files floor.new ≡ F.files floor.old }
+    ensures floor { Counts (F.told floor.old).faults (F.told floor.new).faults
+        (IsFloorFailed (end_of result)) }
+    ensures files { SameFloor (F.told floor.old) (F.told floor.new) }
 {
     match &options.list {
         Some(path) => read_at(alloc, floor, options, path.as_str()),
@@ -65,10 +69,12 @@ fn read_at<F: Floor>(
     path: &str,
 ) -> Result<Job, RunFault>
     requires { AreAccepted options.now }
-    ensures course { UnlessBefore (end_of result) (Logs (F.files floor.old) (F.log floor.old) (F.log floor.new) (λ reads. ListRead options.now path.now reads result)) }
+    ensures course { UnlessBefore (end_of result) (Reads (F.told floor.old) (F.told floor.new)
+        (λ reads. ListRead options.now path.now reads result)) }
     ensures sound { OnPlan result Sound }
-    ensures floor { Counts (F.faults floor.old) (F.faults floor.new) (IsFloorFailed (end_of result)) }
-    ensures files { F.files floor.new ≡ F.files floor.old }
+    ensures floor { Counts (F.told floor.old).faults (F.told floor.new).faults
+        (IsFloorFailed (end_of result)) }
+    ensures files { SameFloor (F.told floor.old) (F.told floor.new) }
 {
     let bytes = read_found(alloc, floor, path)?;
     match read_list(alloc, bytes.bytes()) {
@@ -86,10 +92,12 @@ fn read_actions<F: Floor>(
 ) -> Result<Job, RunFault>
     requires options { AreAccepted options.now }
     requires list { IsWhole list.now.actions }
-    ensures course { UnlessBefore (end_of result) (Logs (F.files floor.old) (F.log floor.old) (F.log floor.new) (λ reads. ActionsRead options.now list.now.actions reads result)) }
+    ensures course { UnlessBefore (end_of result) (Reads (F.told floor.old) (F.told floor.new)
+        (λ reads. ActionsRead options.now list.now.actions reads result)) }
     ensures sound { OnPlan result Sound }
-    ensures floor { Counts (F.faults floor.old) (F.faults floor.new) (IsFloorFailed (end_of result)) }
-    ensures files { F.files floor.new ≡ F.files floor.old }
+    ensures floor { Counts (F.told floor.old).faults (F.told floor.new).faults
+        (IsFloorFailed (end_of result)) }
+    ensures files { SameFloor (F.told floor.old) (F.told floor.new) }
 {
     match list.actions.as_slice() {
         [] => Ok(Job::Nothing(plan_of(alloc, options, list)?)),
@@ -109,10 +117,12 @@ fn read_one<F: Floor>(
     requires options { AreAccepted options.now }
     requires list { IsWhole list.now.actions }
     requires one { list.now.actions ≡ action.now ∷ [] }
-    ensures course { UnlessBefore (end_of result) (Logs (F.files floor.old) (F.log floor.old) (F.log floor.new) (λ reads. OneRead options.now action.now (is_served action.now) reads result)) }
+    ensures course { UnlessBefore (end_of result) (Reads (F.told floor.old) (F.told floor.new)
+        (λ reads. OneRead options.now action.now (is_served action.now) reads result)) }
     ensures sound { OnPlan result Sound }
-    ensures floor { Counts (F.faults floor.old) (F.faults floor.new) (IsFloorFailed (end_of result)) }
-    ensures files { F.files floor.new ≡ F.files floor.old }
+    ensures floor { Counts (F.told floor.old).faults (F.told floor.new).faults
+        (IsFloorFailed (end_of result)) }
+    ensures files { SameFloor (F.told floor.old) (F.told floor.new) }
 {
     if is_served(action) {
         read_action(alloc, floor, options, list, action)
@@ -141,10 +151,12 @@ fn read_action<F: Floor>(
     requires list { IsWhole list.now.actions }
     requires one { list.now.actions ≡ action.now ∷ [] }
     requires served { is_served action.now ≡ true }
-    ensures course { UnlessBefore (end_of result) (Logs (F.files floor.old) (F.log floor.old) (F.log floor.new) (λ reads. ActionRead options.now action.now reads result)) }
+    ensures course { UnlessBefore (end_of result) (Reads (F.told floor.old) (F.told floor.new)
+        (λ reads. ActionRead options.now action.now reads result)) }
     ensures sound { OnPlan result Sound }
-    ensures floor { Counts (F.faults floor.old) (F.faults floor.new) (IsFloorFailed (end_of result)) }
-    ensures files { F.files floor.new ≡ F.files floor.old }
+    ensures floor { Counts (F.told floor.old).faults (F.told floor.new).faults
+        (IsFloorFailed (end_of result)) }
+    ensures files { SameFloor (F.told floor.old) (F.told floor.new) }
 {
     let sources = read_sources(alloc, floor, action)?;
     let work = work_of(alloc, options, list, action, &sources)?;

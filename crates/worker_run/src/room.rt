@@ -3,6 +3,7 @@
 ghost use Rattle.std.specs.Prelude.{◌≡◌, ◌∷◌, ◌++◌, [], length, map, Ok, IfOk};
 ghost use Rattle.std.specs.Option.{option_copied};
 ghost use Rattle.outside.specs.Causes.{Counts};
+ghost use Rattle.outside.specs.Told.{SameBerth};
 ghost use Rattle.outside.specs.Lists.{Adds};
 ghost use Rattle.outside.specs.Launches.{OnStarted, IsNewFeed, IsNewTap, IsNewChild};
 ghost use Rattle.outside.specs.declared.answers.Io.TheVariants as io;
@@ -30,13 +31,17 @@ pub fn launch<B: Berth>(
     berth: &mut B,
     command: &Command,
 ) -> Result<Launch<B::Feed, B::Tap, B::Child>, NoMemory>
-    ensures started { IfOk result (λ l. OnStarted l (λ _ _ _. Adds (launch_calls command.now) (B.log berth.old) (B.log berth.new))) }
-    ensures stopped { OnNotStarted result (AddsRun (launch_asks command.now) (B.log berth.old) (B.log berth.new)) }
-    ensures count { Counts (B.faults berth.old) (B.faults berth.new) (result ≡ Ok launch.Failed) }
-    ensures feed { IfOk result (λ l. OnStarted l (λ feed _ _. IsNewFeed 0 (B.Feed.line feed) (B.Feed.faults feed) (B.Feed.given feed))) }
-    ensures tap { IfOk result (λ l. OnStarted l (λ _ tap _. IsNewTap 0 (B.Tap.line tap) (B.Tap.faults tap) (B.Tap.taken tap) (B.Tap.ended tap))) }
-    ensures child { IfOk result (λ l. OnStarted l (λ _ _ child. IsNewChild 0 (B.Child.line child) (B.Child.killed child))) }
-    ensures number { B.number berth.new ≡ B.number berth.old }
+    ensures started { IfOk result (λ l. OnStarted l
+        (λ _ _ _. Adds (launch_calls command.now) (B.told berth.old).log (B.told berth.new).log)) }
+    ensures stopped { OnNotStarted result
+        (AddsRun (launch_asks command.now) (B.told berth.old).log (B.told berth.new).log) }
+    ensures count { Counts (B.told berth.old).faults (B.told berth.new).faults
+        (result ≡ Ok launch.Failed) }
+    ensures feed { IfOk result (λ l. OnStarted l (λ feed _ _. IsNewFeed 0 (B.Feed.told feed))) }
+    ensures tap { IfOk result (λ l. OnStarted l (λ _ tap _. IsNewTap 0 (B.Tap.told tap))) }
+    ensures child { IfOk result
+        (λ l. OnStarted l (λ _ _ child. IsNewChild 0 (B.Child.told child))) }
+    ensures number { SameBerth (B.told berth.old) (B.told berth.new) }
 {
     match berth.room_clear("") {
         Io::Done => berth.launch(0, command),
@@ -46,10 +51,13 @@ pub fn launch<B: Berth>(
 
 /// Empties the room, makes the folders of the outputs, and puts the inputs into it.
 pub fn fill<B: Berth>(berth: &mut B, outputs: &[Text], inputs: &[SourceFile]) -> Io
-    ensures done { result ≡ io.Done → Adds (fill_calls outputs.now inputs.now) (B.log berth.old) (B.log berth.new) }
-    ensures failed { result ≡ io.Failed → AddsRun (fill_asks outputs.now inputs.now) (B.log berth.old) (B.log berth.new) }
-    ensures count { Counts (B.faults berth.old) (B.faults berth.new) (result ≡ io.Failed) }
-    ensures number { B.number berth.new ≡ B.number berth.old }
+    ensures done { result ≡ io.Done → Adds (fill_calls outputs.now inputs.now)
+        (B.told berth.old).log (B.told berth.new).log }
+    ensures failed { result ≡ io.Failed → AddsRun (fill_asks outputs.now inputs.now)
+        (B.told berth.old).log (B.told berth.new).log }
+    ensures count { Counts (B.told berth.old).faults (B.told berth.new).faults
+        (result ≡ io.Failed) }
+    ensures number { SameBerth (B.told berth.old) (B.told berth.new) }
 {
     match berth.room_clear("") {
         Io::Done => furnish(berth, outputs, inputs),
@@ -58,10 +66,15 @@ pub fn fill<B: Berth>(berth: &mut B, outputs: &[Text], inputs: &[SourceFile]) ->
 }
 
 fn furnish<B: Berth>(berth: &mut B, outputs: &[Text], inputs: &[SourceFile]) -> Io
-    ensures done { result ≡ io.Done → Adds (map folder_call (folders_of outputs.now) ++ map put_call inputs.now) (B.log berth.old) (B.log berth.new) }
-    ensures failed { result ≡ io.Failed → AddsRun (map Folder (folders_of outputs.now) ++ map put_ask inputs.now) (B.log berth.old) (B.log berth.new) }
-    ensures count { Counts (B.faults berth.old) (B.faults berth.new) (result ≡ io.Failed) }
-    ensures number { B.number berth.new ≡ B.number berth.old }
+    ensures done { result ≡ io.Done → Adds
+        (map folder_call (folders_of outputs.now) ++ map put_call inputs.now)
+        (B.told berth.old).log (B.told berth.new).log }
+    ensures failed { result ≡ io.Failed → AddsRun
+        (map Folder (folders_of outputs.now) ++ map put_ask inputs.now)
+        (B.told berth.old).log (B.told berth.new).log }
+    ensures count { Counts (B.told berth.old).faults (B.told berth.new).faults
+        (result ≡ io.Failed) }
+    ensures number { SameBerth (B.told berth.old) (B.told berth.new) }
 {
     match make_folders(berth, outputs) {
         Io::Done => put_all(berth, inputs),
@@ -70,10 +83,13 @@ fn furnish<B: Berth>(berth: &mut B, outputs: &[Text], inputs: &[SourceFile]) -> 
 }
 
 fn make_folders<B: Berth>(berth: &mut B, outputs: &[Text]) -> Io
-    ensures done { result ≡ io.Done → Adds (map folder_call (folders_of outputs.now)) (B.log berth.old) (B.log berth.new) }
-    ensures failed { result ≡ io.Failed → AddsRun (map Folder (folders_of outputs.now)) (B.log berth.old) (B.log berth.new) }
-    ensures count { Counts (B.faults berth.old) (B.faults berth.new) (result ≡ io.Failed) }
-    ensures number { B.number berth.new ≡ B.number berth.old }
+    ensures done { result ≡ io.Done → Adds (map folder_call (folders_of outputs.now))
+        (B.told berth.old).log (B.told berth.new).log }
+    ensures failed { result ≡ io.Failed → AddsRun (map Folder (folders_of outputs.now))
+        (B.told berth.old).log (B.told berth.new).log }
+    ensures count { Counts (B.told berth.old).faults (B.told berth.new).faults
+        (result ≡ io.Failed) }
+    ensures number { SameBerth (B.told berth.old) (B.told berth.new) }
 {
     for output in outputs {
         if let Io::Failed = make_folder(berth, output.as_str()) {
@@ -85,10 +101,13 @@ fn make_folders<B: Berth>(berth: &mut B, outputs: &[Text]) -> Io
 
 // Makes the folder of a path, where it has one.
 fn make_folder<B: Berth>(berth: &mut B, path: &str) -> Io
-    ensures done { result ≡ io.Done → Adds (map folder_call (folders_of (path.now ∷ []))) (B.log berth.old) (B.log berth.new) }
-    ensures failed { result ≡ io.Failed → AddsRun (map Folder (folders_of (path.now ∷ []))) (B.log berth.old) (B.log berth.new) }
-    ensures count { Counts (B.faults berth.old) (B.faults berth.new) (result ≡ io.Failed) }
-    ensures number { B.number berth.new ≡ B.number berth.old }
+    ensures done { result ≡ io.Done → Adds (map folder_call (folders_of (path.now ∷ [])))
+        (B.told berth.old).log (B.told berth.new).log }
+    ensures failed { result ≡ io.Failed → AddsRun (map Folder (folders_of (path.now ∷ [])))
+        (B.told berth.old).log (B.told berth.new).log }
+    ensures count { Counts (B.told berth.old).faults (B.told berth.new).faults
+        (result ≡ io.Failed) }
+    ensures number { SameBerth (B.told berth.old) (B.told berth.new) }
 {
     match folder_of(path) {
         Some(folder) => berth.room_folder(folder),
@@ -106,10 +125,13 @@ fn folder_of(path: &str) -> Option<&str>
 }
 
 fn put_all<B: Berth>(berth: &mut B, inputs: &[SourceFile]) -> Io
-    ensures done { result ≡ io.Done → Adds (map put_call inputs.now) (B.log berth.old) (B.log berth.new) }
-    ensures failed { result ≡ io.Failed → AddsRun (map put_ask inputs.now) (B.log berth.old) (B.log berth.new) }
-    ensures count { Counts (B.faults berth.old) (B.faults berth.new) (result ≡ io.Failed) }
-    ensures number { B.number berth.new ≡ B.number berth.old }
+    ensures done { result ≡ io.Done → Adds (map put_call inputs.now)
+        (B.told berth.old).log (B.told berth.new).log }
+    ensures failed { result ≡ io.Failed → AddsRun (map put_ask inputs.now)
+        (B.told berth.old).log (B.told berth.new).log }
+    ensures count { Counts (B.told berth.old).faults (B.told berth.new).faults
+        (result ≡ io.Failed) }
+    ensures number { SameBerth (B.told berth.old) (B.told berth.new) }
 {
     for input in inputs {
         if let Io::Failed = berth.room_put(input.path.as_str(), input.bytes.bytes()) {
@@ -129,11 +151,15 @@ pub fn gather<B: Berth>(
     berth: &mut B,
     outputs: &[Text],
 ) -> Result<Gathered, NoMemory>
-    ensures found { IfOk result (λ g. OnFiles g (λ files. (length files ≡ length outputs.now) × Adds (get_calls outputs.now files) (B.log berth.old) (B.log berth.new))) }
-    ensures stopped { OnNoFiles result (AddsRun (get_asks outputs.now) (B.log berth.old) (B.log berth.new)) }
-    ensures missing { IfOk result (λ g. OnMissing g (AddsAbsent (B.log berth.old) (B.log berth.new))) }
-    ensures count { Counts (B.faults berth.old) (B.faults berth.new) (IsRoomFault result) }
-    ensures number { B.number berth.new ≡ B.number berth.old }
+    ensures found { IfOk result (λ g. OnFiles g (λ files. (length files ≡ length outputs.now)
+        × Adds (get_calls outputs.now files) (B.told berth.old).log (B.told berth.new).log)) }
+    ensures stopped { OnNoFiles result
+        (AddsRun (get_asks outputs.now) (B.told berth.old).log (B.told berth.new).log) }
+    ensures missing { IfOk result
+        (λ g. OnMissing g (AddsAbsent (B.told berth.old).log (B.told berth.new).log)) }
+    ensures count { Counts (B.told berth.old).faults (B.told berth.new).faults
+        (IsRoomFault result) }
+    ensures number { SameBerth (B.told berth.old) (B.told berth.new) }
 {
     let mut files = Vec::with_capacity(alloc, outputs.len())?;
     for output in outputs {

@@ -5,9 +5,9 @@ ghost use Rattle.exec_journal.specs.Sound.{Sound};
 ghost use Rattle.outside.specs.Causes.{Counts};
 ghost use Rattle.tool_words.specs.Options.{options_of};
 ghost use Rattle.worker_run.specs.Course.{IsFloorFailed};
-ghost use Rattle.worker_run.specs.Ends.{left, seen_end, report_by, RunEnds, AfterStart, LeavesNothing, EndsAs, EndsBy, Puts, IsPutEnd, IsAfterReading, IsAfterStart};
+ghost use Rattle.worker_run.specs.Ends.{report_by, RunEnds, OneEnds, EndsBy, Puts, IsPutEnd, IsAfterReading, IsAfterStart};
 ghost use Rattle.worker_run.specs.Faults.{end_status};
-ghost use Rattle.worker_run.specs.Seen.{seen_room, seen_place, seen_feed, seen_tap, seen_child, seen_line};
+ghost use Rattle.outside.specs.Told.{SameFloor};
 
 use crate::line::{Stopped, run_line};
 use crate::reading::{Job, read_job};
@@ -37,14 +37,13 @@ pub fn run_build<R: Threads + Wait + Sync, F: Floor, O: Sink>(
     out: &mut O,
 ) -> Ended<F>
     // The reads led to a job, and the job to all that is left: the journal, the rooms, the line and the place.
-    ensures run { RunEnds (options_of (map string_bytes words.now)) (F.files floor) (F.log floor) (F.log result.floor) result.fault
-        (left result.journal (map (λ b. seen_room (F.Berth.number b) (F.Berth.faults b) (F.Berth.log b)) result.berths.items)
-        (map (λ l. seen_end l.number (option_map (λ h. seen_line (seen_feed (F.Berth.Feed.line h.feed) (F.Berth.Feed.faults h.feed) (F.Berth.Feed.given h.feed)) (seen_tap (F.Berth.Tap.line h.tap) (F.Berth.Tap.faults h.tap) (F.Berth.Tap.taken h.tap) (F.Berth.Tap.ended h.tap)) (seen_child (F.Berth.Child.line h.child) (F.Berth.Child.killed h.child))) l.halves)) result.lines.items)
-        (map (λ p. seen_place (F.Place.number p) (F.Place.faults p) (F.Place.log p)) result.places.items))
-        (O.contents out.old) (O.contents out.new) }
-    ensures floor { Counts (F.faults floor) (F.faults result.floor) (IsFloorFailed result.fault) }
-    ensures files { F.files result.floor ≡ F.files floor }
-    ensures sink { Counts (O.faults out.old) (O.faults out.new) (result.fault ≡ Some RunFault.SinkFailed) }
+    ensures run { RunEnds (options_of (map string_bytes words.now))
+        (F.told floor) result (O.told out.old) (O.told out.new) }
+    ensures floor { Counts (F.told floor).faults result.floor.faults
+        (IsFloorFailed result.fault) }
+    ensures files { SameFloor (F.told floor) result.floor }
+    ensures sink { Counts (O.told out.old).faults (O.told out.new).faults
+        (result.fault ≡ Some RunFault.SinkFailed) }
     ensures status { result.status ≡ end_status result.fault }
 {
     let mut floor = floor;
@@ -61,20 +60,13 @@ pub fn run_build<R: Threads + Wait + Sync, F: Floor, O: Sink>(
 
 fn run_one<F: Floor, O: Sink>(alloc: Global, floor: F, work: &Work, out: &mut O) -> Ended<F>
     requires { Sound work.now.plan }
-    ensures run { AfterStart result.fault
-        (LeavesNothing (left result.journal (map (λ b. seen_room (F.Berth.number b) (F.Berth.faults b) (F.Berth.log b)) result.berths.items)
-        (map (λ l. seen_end l.number (option_map (λ h. seen_line (seen_feed (F.Berth.Feed.line h.feed) (F.Berth.Feed.faults h.feed) (F.Berth.Feed.given h.feed)) (seen_tap (F.Berth.Tap.line h.tap) (F.Berth.Tap.faults h.tap) (F.Berth.Tap.taken h.tap) (F.Berth.Tap.ended h.tap)) (seen_child (F.Berth.Child.line h.child) (F.Berth.Child.killed h.child))) l.halves)) result.lines.items)
-        (map (λ p. seen_place (F.Place.number p) (F.Place.faults p) (F.Place.log p)) result.places.items)) (O.contents out.old) (O.contents out.new))
-        (EndsAs (Ok (Job.One work.now)) result.fault
-        (left result.journal (map (λ b. seen_room (F.Berth.number b) (F.Berth.faults b) (F.Berth.log b)) result.berths.items)
-        (map (λ l. seen_end l.number (option_map (λ h. seen_line (seen_feed (F.Berth.Feed.line h.feed) (F.Berth.Feed.faults h.feed) (F.Berth.Feed.given h.feed)) (seen_tap (F.Berth.Tap.line h.tap) (F.Berth.Tap.faults h.tap) (F.Berth.Tap.taken h.tap) (F.Berth.Tap.ended h.tap)) (seen_child (F.Berth.Child.line h.child) (F.Berth.Child.killed h.child))) l.halves)) result.lines.items)
-        (map (λ p. seen_place (F.Place.number p) (F.Place.faults p) (F.Place.log p)) result.places.items))
-        (O.contents out.old) (O.contents out.new)) }
+    ensures run { OneEnds work.now result.fault result.left (O.told out.old) (O.told out.new) }
     ensures kind { IsAfterReading result.fault }
-    ensures log { F.log result.floor ≡ F.log floor }
-    ensures files { F.files result.floor ≡ F.files floor }
-    ensures count { F.faults floor ≤ F.faults result.floor }
-    ensures sink { Counts (O.faults out.old) (O.faults out.new) (result.fault ≡ Some RunFault.SinkFailed) }
+    ensures log { result.floor.log ≡ (F.told floor).log }
+    ensures files { SameFloor (F.told floor) result.floor }
+    ensures count { (F.told floor).faults ≤ result.floor.faults }
+    ensures sink { Counts (O.told out.old).faults (O.told out.new).faults
+        (result.fault ≡ Some RunFault.SinkFailed) }
     ensures status { result.status ≡ end_status result.fault }
 {
     let mut floor = floor;
@@ -99,10 +91,11 @@ fn conclude<O: Sink>(
 ) -> Option<RunFault>
     requires { Sound plan.now }
     ensures ends { EndsBy stopped result }
-    ensures put { Puts result (report_by plan.now journal.now) (O.contents out.old) (O.contents out.new) }
+    ensures put { Puts result (report_by plan.now journal.now) (O.told out.old) (O.told out.new) }
     ensures kind { IsAfterReading result }
     ensures started { IsAfterStart result }
-    ensures sink { Counts (O.faults out.old) (O.faults out.new) (result ≡ Some RunFault.SinkFailed) }
+    ensures sink { Counts (O.told out.old).faults (O.told out.new).faults
+        (result ≡ Some RunFault.SinkFailed) }
 {
     match stopped {
         Stopped::Outside => Some(RunFault::NotYetBuilt(Unbuilt::Outside)),
@@ -119,8 +112,9 @@ fn put_report<O: Sink>(
 ) -> Option<RunFault>
     requires { Sound plan.now }
     ensures ends { EndsBy Stopped.Whole result }
-    ensures put { Puts result (report_by plan.now journal.now) (O.contents out.old) (O.contents out.new) }
-    ensures sink { Counts (O.faults out.old) (O.faults out.new) (result ≡ Some RunFault.SinkFailed) }
+    ensures put { Puts result (report_by plan.now journal.now) (O.told out.old) (O.told out.new) }
+    ensures sink { Counts (O.told out.old).faults (O.told out.new).faults
+        (result ≡ Some RunFault.SinkFailed) }
 {
     match report(alloc, plan, journal, false) {
         Ok(text) => put(out, text.as_str().as_bytes()),
@@ -129,9 +123,10 @@ fn put_report<O: Sink>(
 }
 
 fn put<O: Sink>(out: &mut O, report: &[u8]) -> Option<RunFault>
-    ensures put { Puts result report.now (O.contents out.old) (O.contents out.new) }
+    ensures put { Puts result report.now (O.told out.old) (O.told out.new) }
     ensures kind { IsPutEnd result }
-    ensures sink { Counts (O.faults out.old) (O.faults out.new) (result ≡ Some RunFault.SinkFailed) }
+    ensures sink { Counts (O.told out.old).faults (O.told out.new).faults
+        (result ≡ Some RunFault.SinkFailed) }
 {
     match out.put(report) {
         Io::Done => None,

@@ -3,10 +3,10 @@
 ghost use Rattle.std.specs.Prelude.{◌≡◌, ◌≤◌, ◌∷◌, [], Some, None, IfOk, IfErr, map, vec_capacity};
 ghost use Rattle.std.specs.Option.{option_map};
 ghost use Rattle.outside.specs.Lists.{Tells};
-ghost use Rattle.worker_run.specs.Ends.{left, seen_end};
+ghost use Rattle.outside.specs.Told.{SameFloor};
 ghost use Rattle.worker_run.specs.Lists.{HasRoomForOne};
 ghost use Rattle.worker_run.specs.OneJournal.{journal_of};
-ghost use Rattle.worker_run.specs.Seen.{seen_room, seen_place, seen_feed, seen_tap, seen_child, seen_line};
+ghost use Rattle.worker_run.specs.Seen.{end_told, ended_told, left};
 
 use crate::journal::{ENTRIES, record};
 use crate::line::{Line, LineRun};
@@ -35,18 +35,18 @@ pub struct Seats<F: Floor> {
 ///
 /// `NoMemory`.
 pub fn make_seats<F: Floor>(alloc: Global, floor: &mut F) -> Result<Seats<F>, NoMemory>
-    ensures berth_number { IfOk result (λ s. F.Berth.number s.berth ≡ 0) }
-    ensures berth_log { IfOk result (λ s. Tells (F.Berth.log s.berth) []) }
-    ensures place_number { IfOk result (λ s. F.Place.number s.place ≡ 0) }
-    ensures place_log { IfOk result (λ s. Tells (F.Place.log s.place) []) }
+    ensures berth_number { IfOk result (λ s. (F.Berth.told s.berth).number ≡ 0) }
+    ensures berth_log { IfOk result (λ s. Tells (F.Berth.told s.berth).log []) }
+    ensures place_number { IfOk result (λ s. (F.Place.told s.place).number ≡ 0) }
+    ensures place_log { IfOk result (λ s. Tells (F.Place.told s.place).log []) }
     ensures entries { IfOk result (λ s. s.entries.items ≡ []) }
     ensures entries_room { IfOk result (λ s. ENTRIES ≤ vec_capacity s.entries) }
     ensures berths { IfOk result (λ s. HasRoomForOne s.berths) }
     ensures lines { IfOk result (λ s. HasRoomForOne s.lines) }
     ensures places { IfOk result (λ s. HasRoomForOne s.places) }
-    ensures log { F.log floor.new ≡ F.log floor.old }
-    ensures files { F.files floor.new ≡ F.files floor.old }
-    ensures count { F.faults floor.old ≤ F.faults floor.new }
+    ensures log { (F.told floor.new).log ≡ (F.told floor.old).log }
+    ensures files { SameFloor (F.told floor.old) (F.told floor.new) }
+    ensures count { (F.told floor.old).faults ≤ (F.told floor.new).faults }
 {
     Ok(Seats {
         berth: floor.make_berth(0)?,
@@ -59,9 +59,7 @@ pub fn make_seats<F: Floor>(alloc: Global, floor: &mut F) -> Result<Seats<F>, No
 }
 
 fn halves_of<F: Floor>(line: Line<F::Berth>) -> Halves<F>
-    ensures feed { result.feed ≡ line.feed }
-    ensures tap { result.tap ≡ line.tap }
-    ensures child { result.child ≡ line.child }
+    ensures { result ≡ line }
 {
     let Line { feed, tap, child } = line;
     Halves { feed, tap, child }
@@ -78,9 +76,7 @@ fn with_one<T>(list: Vec<T>, element: T) -> Vec<T>
 }
 
 fn line_of<F: Floor>(line: Option<Line<F::Berth>>) -> EndedLine<F>
-    ensures number { result.number ≡ 0 }
-    ensures halves { option_map (λ h. seen_line (seen_feed (F.Berth.Feed.line h.feed) (F.Berth.Feed.faults h.feed) (F.Berth.Feed.given h.feed)) (seen_tap (F.Berth.Tap.line h.tap) (F.Berth.Tap.faults h.tap) (F.Berth.Tap.taken h.tap) (F.Berth.Tap.ended h.tap)) (seen_child (F.Berth.Child.line h.child) (F.Berth.Child.killed h.child))) result.halves
-        ≡ option_map (λ h. seen_line (seen_feed (F.Berth.Feed.line h.feed) (F.Berth.Feed.faults h.feed) (F.Berth.Feed.given h.feed)) (seen_tap (F.Berth.Tap.line h.tap) (F.Berth.Tap.faults h.tap) (F.Berth.Tap.taken h.tap) (F.Berth.Tap.ended h.tap)) (seen_child (F.Berth.Child.line h.child) (F.Berth.Child.killed h.child))) line }
+    ensures { result ≡ end_told 0 line }
 {
     match line {
         Some(line) => EndedLine {
@@ -102,13 +98,9 @@ impl<F: Floor> Seats<F> {
         requires berths { HasRoomForOne self.berths }
         requires lines { HasRoomForOne self.lines }
         requires places { HasRoomForOne self.places }
-        ensures floor { result.floor ≡ floor }
-        ensures left { left result.journal (map (λ b. seen_room (F.Berth.number b) (F.Berth.faults b) (F.Berth.log b)) result.berths.items)
-            (map (λ l. seen_end l.number (option_map (λ h. seen_line (seen_feed (F.Berth.Feed.line h.feed) (F.Berth.Feed.faults h.feed) (F.Berth.Feed.given h.feed)) (seen_tap (F.Berth.Tap.line h.tap) (F.Berth.Tap.faults h.tap) (F.Berth.Tap.taken h.tap) (F.Berth.Tap.ended h.tap)) (seen_child (F.Berth.Child.line h.child) (F.Berth.Child.killed h.child))) l.halves)) result.lines.items)
-            (map (λ p. seen_place (F.Place.number p) (F.Place.faults p) (F.Place.log p)) result.places.items)
-            ≡ left (journal_of run.reached run.stopped) (seen_room (F.Berth.number self.berth) (F.Berth.faults self.berth) (F.Berth.log self.berth) ∷ [])
-            (seen_end 0 (option_map (λ h. seen_line (seen_feed (F.Berth.Feed.line h.feed) (F.Berth.Feed.faults h.feed) (F.Berth.Feed.given h.feed)) (seen_tap (F.Berth.Tap.line h.tap) (F.Berth.Tap.faults h.tap) (F.Berth.Tap.taken h.tap) (F.Berth.Tap.ended h.tap)) (seen_child (F.Berth.Child.line h.child) (F.Berth.Child.killed h.child))) run.line) ∷ [])
-            (seen_place (F.Place.number self.place) (F.Place.faults self.place) (F.Place.log self.place) ∷ []) }
+        ensures { result ≡ ended_told 0 None (F.told floor) (left
+            (journal_of run.reached run.stopped) (F.Berth.told self.berth ∷ [])
+            (end_told 0 run.line ∷ []) (F.Place.told self.place ∷ [])) }
     {
         let Seats {
             berth,

@@ -3,8 +3,9 @@ ghost use Rattle.std.specs.Prelude.{◌≡◌, ◌∷◌, ◌++◌, [], None, If
 ghost use Rattle.std.specs.List.{All};
 ghost use Rattle.std.specs.Option.{option_copied, IsSome};
 ghost use Rattle.outside.specs.Causes.{Counts};
+ghost use Rattle.outside.specs.Told.{SameFloor};
 ghost use Rattle.outside.specs.Floor.{file_at};
-ghost use Rattle.worker_run.specs.Course.{Logs, UnlessBefore, IsFloorFailed, end_of, ReadsOnce};
+ghost use Rattle.worker_run.specs.Course.{Reads, UnlessBefore, IsFloorFailed, end_of, ReadsOnce};
 ghost use Rattle.worker_run.specs.Sources.{held, source_file, source_paths, SourcesRead, ReadsOn, files_at};
 
 use crate::RunFault;
@@ -26,9 +27,11 @@ pub fn read_sources<F: Floor>(
     floor: &mut F,
     action: &ListAction,
 ) -> Result<Sources, RunFault>
-    ensures course { UnlessBefore (end_of result) (Logs (F.files floor.old) (F.log floor.old) (F.log floor.new) (λ reads. SourcesRead (source_paths action.now) reads result)) }
-    ensures floor { Counts (F.faults floor.old) (F.faults floor.new) (IsFloorFailed (end_of result)) }
-    ensures files { F.files floor.new ≡ F.files floor.old }
+    ensures course { UnlessBefore (end_of result) (Reads (F.told floor.old) (F.told floor.new)
+        (λ reads. SourcesRead (source_paths action.now) reads result)) }
+    ensures floor { Counts (F.told floor.old).faults (F.told floor.new).faults
+        (IsFloorFailed (end_of result)) }
+    ensures files { SameFloor (F.told floor.old) (F.told floor.new) }
 {
     let mut sources = Sources::new(alloc);
     sources.read_all(alloc, floor, action.tools.as_slice())?;
@@ -38,9 +41,11 @@ pub fn read_sources<F: Floor>(
 
 /// Reads one file. Any answer but Found ends the run.
 pub fn read_found<F: Floor>(alloc: Global, floor: &mut F, path: &str) -> Result<Blob, RunFault>
-    ensures read { ReadsOnce path.now result (F.files floor.old) (F.log floor.old) (F.log floor.new) }
-    ensures floor { Counts (F.faults floor.old) (F.faults floor.new) (IsFloorFailed (end_of result)) }
-    ensures files { F.files floor.new ≡ F.files floor.old }
+    ensures read { ReadsOnce path.now result
+        (F.told floor.old).files (F.told floor.old).log (F.told floor.new).log }
+    ensures floor { Counts (F.told floor.old).faults (F.told floor.new).faults
+        (IsFloorFailed (end_of result)) }
+    ensures files { SameFloor (F.told floor.old) (F.told floor.new) }
 {
     let answer = floor.read(path)?;
     match answer {
@@ -84,9 +89,11 @@ impl Sources {
         floor: &mut F,
         paths: &[Text],
     ) -> Result<(), RunFault>
-        ensures course { UnlessBefore (end_of result) (Logs (F.files floor.old) (F.log floor.old) (F.log floor.new) (λ reads. ReadsOn (held self.old) paths.now reads (held self.new) result)) }
-        ensures floor { Counts (F.faults floor.old) (F.faults floor.new) (IsFloorFailed (end_of result)) }
-        ensures files { F.files floor.new ≡ F.files floor.old }
+        ensures course { UnlessBefore (end_of result) (Reads (F.told floor.old) (F.told floor.new)
+            (λ reads. ReadsOn (held self.old) paths.now reads (held self.new) result)) }
+        ensures floor { Counts (F.told floor.old).faults (F.told floor.new).faults
+            (IsFloorFailed (end_of result)) }
+        ensures files { SameFloor (F.told floor.old) (F.told floor.new) }
     {
         for path in paths {
             self.read_new(alloc, floor, path.as_str())?;
@@ -101,9 +108,11 @@ impl Sources {
         floor: &mut F,
         path: &str,
     ) -> Result<(), RunFault>
-        ensures course { UnlessBefore (end_of result) (Logs (F.files floor.old) (F.log floor.old) (F.log floor.new) (λ reads. ReadsOn (held self.old) (path.now ∷ []) reads (held self.new) result)) }
-        ensures floor { Counts (F.faults floor.old) (F.faults floor.new) (IsFloorFailed (end_of result)) }
-        ensures files { F.files floor.new ≡ F.files floor.old }
+        ensures course { UnlessBefore (end_of result) (Reads (F.told floor.old) (F.told floor.new)
+            (λ reads. ReadsOn (held self.old) (path.now ∷ []) reads (held self.new) result)) }
+        ensures floor { Counts (F.told floor.old).faults (F.told floor.new).faults
+            (IsFloorFailed (end_of result)) }
+        ensures files { SameFloor (F.told floor.old) (F.told floor.new) }
     {
         match self.get(path) {
             Some(_) => Ok(()),

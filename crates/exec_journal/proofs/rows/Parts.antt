@@ -14,10 +14,10 @@ entry lane c r = record { lane = lane; call = c; reply = r }
 
 -- an answer with this number, the exit code 0 and nothing else
 unfoldable pub numbered : ℕ → Answer
-numbered n = record { number = pos n; exit = pos 0; cancelled = false; text = []; refusal = []; files = [] }
+numbered n = record { number = pos n; exit = pos 0; cancelled = false; text = []; refusal = []; files = []; version = pos 0 }
 
 unfoldable pub answer : Answer
-answer = record { number = pos 0; exit = pos 0; cancelled = false; text = []; refusal = []; files = [] }
+answer = record { number = pos 0; exit = pos 0; cancelled = false; text = []; refusal = []; files = []; version = pos 0 }
 
 -- the executor's answer: the number 1, and the file `o` of one byte, `x`
 unfoldable pub with_file : Answer
@@ -28,10 +28,19 @@ with_file = record {
   text = [];
   refusal = [];
   files = record { path = codes "o"; content = 120 ∷ [] } ∷ [];
+  version = pos 0;
 }
 
+-- an executor's greeting
+unfoldable pub greeting : Answer
+greeting = record { number = pos 0; exit = pos 0; cancelled = false; text = []; refusal = []; files = []; version = pos 2 }
+
+-- the executor was asked to cancel its request 1, and did
+unfoldable pub cancelled_1 : Answer
+cancelled_1 = record { number = pos 1; exit = pos 0; cancelled = true; text = []; refusal = []; files = []; version = pos 2 }
+
 unfoldable pub said_cancelled : Answer
-said_cancelled = record { number = pos 0; exit = pos 0; cancelled = true; text = []; refusal = []; files = [] }
+said_cancelled = record { number = pos 0; exit = pos 0; cancelled = true; text = []; refusal = []; files = []; version = pos 0 }
 
 -- actions with one output and no made input
 unfoldable pub worker : PlanAction

@@ -54,7 +54,7 @@ killed =
     ∷ killed_14
 
 pub killed_8_legal : Legal plain_plan killed_8
-unfolding plain_plan killed_8 killed_14 killed entry answer numbered with_file said_cancelled worker dynamic plan_of single cancelling multi remote w.last_work w.stopped w.has_halted w.halted w.line_count w.started w.failed w.has_ended w.was_killed w.kill_ordered w.was_taken w.launch_of w.last_line w.lines_of w.sends w.was_sent w.ever_sent w.answered w.wrote w.is_pending w.pending w.has_cancel w.line_cause w.live w.grant_of w.granted w.commit_of w.match_of a.attempt a.line_of a.fault_of a.end_of a.ended a.dropped s.standings s.settled s.all_settled s.ready s.wanted s.bound s.queued s.earliest s.free_places r.gathered o.outcome_of o.fate_of
+unfolding plain_plan killed_8 killed_14 killed entry answer numbered with_file said_cancelled worker dynamic plan_of single cancelling multi remote w.last_work w.stopped w.has_halted w.halted w.line_count w.started w.failed w.has_ended w.was_killed w.kill_ordered w.was_taken w.has_spoken w.has_greeted w.launch_of w.last_line w.lines_of w.sends w.was_sent w.ever_sent w.answered w.wrote w.is_pending w.pending w.has_cancel w.line_cause w.live w.grant_of w.granted w.commit_of w.match_of a.attempt a.line_of a.fault_of a.end_of a.ended a.dropped s.standings s.settled s.all_settled s.ready s.wanted s.bound s.queued s.earliest s.free_places r.gathered o.outcome_of o.fate_of
 killed_8_legal = (
   (
     (
@@ -82,7 +82,7 @@ killed_8_legal = (
 )
 
 pub killed_14_legal : Legal plain_plan killed_14
-unfolding plain_plan killed_8 killed_14 killed entry answer numbered with_file said_cancelled worker dynamic plan_of single cancelling multi remote w.last_work w.stopped w.has_halted w.halted w.line_count w.started w.failed w.has_ended w.was_killed w.kill_ordered w.was_taken w.launch_of w.last_line w.lines_of w.sends w.was_sent w.ever_sent w.answered w.wrote w.is_pending w.pending w.has_cancel w.line_cause w.live w.grant_of w.granted w.commit_of w.match_of a.attempt a.line_of a.fault_of a.end_of a.ended a.dropped s.standings s.settled s.all_settled s.ready s.wanted s.bound s.queued s.earliest s.free_places r.gathered o.outcome_of o.fate_of
+unfolding plain_plan killed_8 killed_14 killed entry answer numbered with_file said_cancelled worker dynamic plan_of single cancelling multi remote w.last_work w.stopped w.has_halted w.halted w.line_count w.started w.failed w.has_ended w.was_killed w.kill_ordered w.was_taken w.has_spoken w.has_greeted w.launch_of w.last_line w.lines_of w.sends w.was_sent w.ever_sent w.answered w.wrote w.is_pending w.pending w.has_cancel w.line_cause w.live w.grant_of w.granted w.commit_of w.match_of a.attempt a.line_of a.fault_of a.end_of a.ended a.dropped s.standings s.settled s.all_settled s.ready s.wanted s.bound s.queued s.earliest s.free_places r.gathered o.outcome_of o.fate_of
 killed_14_legal = (
   (
     (
@@ -104,7 +104,7 @@ killed_14_legal = (
 )
 
 pub killed_legal : Legal plain_plan killed
-unfolding plain_plan killed_8 killed_14 killed entry answer numbered with_file said_cancelled worker dynamic plan_of single cancelling multi remote w.last_work w.stopped w.has_halted w.halted w.line_count w.started w.failed w.has_ended w.was_killed w.kill_ordered w.was_taken w.launch_of w.last_line w.lines_of w.sends w.was_sent w.ever_sent w.answered w.wrote w.is_pending w.pending w.has_cancel w.line_cause w.live w.grant_of w.granted w.commit_of w.match_of a.attempt a.line_of a.fault_of a.end_of a.ended a.dropped s.standings s.settled s.all_settled s.ready s.wanted s.bound s.queued s.earliest s.free_places r.gathered o.outcome_of o.fate_of
+unfolding plain_plan killed_8 killed_14 killed entry answer numbered with_file said_cancelled worker dynamic plan_of single cancelling multi remote w.last_work w.stopped w.has_halted w.halted w.line_count w.started w.failed w.has_ended w.was_killed w.kill_ordered w.was_taken w.has_spoken w.has_greeted w.launch_of w.last_line w.lines_of w.sends w.was_sent w.ever_sent w.answered w.wrote w.is_pending w.pending w.has_cancel w.line_cause w.live w.grant_of w.granted w.commit_of w.match_of a.attempt a.line_of a.fault_of a.end_of a.ended a.dropped s.standings s.settled s.all_settled s.ready s.wanted s.bound s.queued s.earliest s.free_places r.gathered o.outcome_of o.fate_of
 killed_legal = (
   killed_14_legal,
   record { scripted = refl; replied = refl; kept = refl },
@@ -112,5 +112,5 @@ killed_legal = (
 
 -- a worker without cancellation gets no Cancel
 cancelled_instead : Legal plain_plan (entry 0 call.Ask (reply.Cancel 0 (pos 0)) ∷ killed_14) → ⊥
-unfolding plain_plan killed_8 killed_14 killed entry answer numbered with_file said_cancelled worker dynamic plan_of single cancelling multi remote w.last_work w.stopped w.has_halted w.halted w.line_count w.started w.failed w.has_ended w.was_killed w.kill_ordered w.was_taken w.launch_of w.last_line w.lines_of w.sends w.was_sent w.ever_sent w.answered w.wrote w.is_pending w.pending w.has_cancel w.line_cause w.live w.grant_of w.granted w.commit_of w.match_of a.attempt a.line_of a.fault_of a.end_of a.ended a.dropped s.standings s.settled s.all_settled s.ready s.wanted s.bound s.queued s.earliest s.free_places r.gathered o.outcome_of o.fate_of
+unfolding plain_plan killed_8 killed_14 killed entry answer numbered with_file said_cancelled worker dynamic plan_of single cancelling multi remote w.last_work w.stopped w.has_halted w.halted w.line_count w.started w.failed w.has_ended w.was_killed w.kill_ordered w.was_taken w.has_spoken w.has_greeted w.launch_of w.last_line w.lines_of w.sends w.was_sent w.ever_sent w.answered w.wrote w.is_pending w.pending w.has_cancel w.line_cause w.live w.grant_of w.granted w.commit_of w.match_of a.attempt a.line_of a.fault_of a.end_of a.ended a.dropped s.standings s.settled s.all_settled s.ready s.wanted s.bound s.queued s.earliest s.free_places r.gathered o.outcome_of o.fate_of
 cancelled_instead h = let e : (reply.Cancel 0 (pos 0)) ≡ reply.Kill 0 why.Unwanted = h.1.replied in cc

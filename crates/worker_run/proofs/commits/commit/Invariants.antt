@@ -5,7 +5,7 @@ use Rattle.worker_run.proofs.commits.commit.Given as goal
 
 abbrev pub invariant-loop-index : goal.invariant-loop-index
 invariant-loop-index g l = record {
-  written : Adds (take l.index (writes_of l.outputs l.files)) (g.P.Place.log l.initial.place) (g.P.Place.log l.place);
-  count : g.P.Place.faults l.initial.place ≤ g.P.Place.faults l.place;
-  number : g.P.Place.number l.place ≡ g.P.Place.number l.initial.place;
+  written : Adds (take l.index (writes_of l.outputs l.files)) (g.P.Place.told l.initial.place).log (g.P.Place.told l.place).log;
+  count : (g.P.Place.told l.initial.place).faults ≤ (g.P.Place.told l.place).faults;
+  number : (g.P.Place.told l.place).number ≡ (g.P.Place.told l.initial.place).number;
 }

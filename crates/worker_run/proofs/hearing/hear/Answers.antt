@@ -25,7 +25,7 @@ returns-in-Bad-clause-other g c =
     let same = c.in_ok-feed-in-Bytes.ensures.same in
     let fed = fed_on c.loop.splitter.fault i.fed piece [] c.feed.new.self i.fault (c.in_ok-feed-in-Bytes.ensures.ok i.fed [] i.stands) in
     let gives = rw (c.in-Bad.is) at (c.in_ok-next.ensures.ok (i.fed ++ piece) [] fed) in
-    met_fault (g.T.Tap.taken c.read.new.self) (g.T.Tap.ended c.read.new.self) (i.fed ++ piece) (g.T.Tap.faults c.read.new.self) c.feed.new.self.limit c.in-Bad.field-0 told (same.0 ∙ i.limit) gives.3
+    met_fault (g.T.Tap.told c.read.new.self) (i.fed ++ piece) c.feed.new.self.limit c.in-Bad.field-0 told (same.0 ∙ i.limit) gives.3
 
 pub returns-in-Frame-clause-answer : goal.returns-in-Frame-clause-answer
 returns-in-Frame-clause-answer g c =
@@ -36,7 +36,7 @@ returns-in-Frame-clause-answer g c =
     let fed = fed_on c.loop.splitter.fault i.fed piece [] c.feed.new.self i.fault (c.in_ok-feed-in-Bytes.ensures.ok i.fed [] i.stands) in
     let gives = rw (c.in-Frame.is) at (c.in_ok-next.ensures.ok (i.fed ++ piece) [] fed) in
     let says = rw (c.deref.ensures.value) at (c.in_ok-judge-in-Frame.ensures) in
-    (judged (g.T.Tap.taken c.read.new.self) (g.T.Tap.ended c.read.new.self) (i.fed ++ piece) c.in-Frame.frame.items (g.T.Tap.faults c.read.new.self) c.unread.result c.next.new.self c.in_ok-judge-in-Frame.field-0 told gives.0 (gives.1 ∙ same.0 ∙ i.limit) c.unread.ensures says).0
+    (judged (g.T.Tap.told c.read.new.self) (i.fed ++ piece) c.in-Frame.frame.items c.unread.result c.next.new.self c.in_ok-judge-in-Frame.field-0 told gives.0 (gives.1 ∙ same.0 ∙ i.limit) c.unread.ensures says).0
 
 pub returns-in-Frame-clause-other : goal.returns-in-Frame-clause-other
 returns-in-Frame-clause-other g c =
@@ -47,7 +47,7 @@ returns-in-Frame-clause-other g c =
     let fed = fed_on c.loop.splitter.fault i.fed piece [] c.feed.new.self i.fault (c.in_ok-feed-in-Bytes.ensures.ok i.fed [] i.stands) in
     let gives = rw (c.in-Frame.is) at (c.in_ok-next.ensures.ok (i.fed ++ piece) [] fed) in
     let says = rw (c.deref.ensures.value) at (c.in_ok-judge-in-Frame.ensures) in
-    (judged (g.T.Tap.taken c.read.new.self) (g.T.Tap.ended c.read.new.self) (i.fed ++ piece) c.in-Frame.frame.items (g.T.Tap.faults c.read.new.self) c.unread.result c.next.new.self c.in_ok-judge-in-Frame.field-0 told gives.0 (gives.1 ∙ same.0 ∙ i.limit) c.unread.ensures says).1
+    (judged (g.T.Tap.told c.read.new.self) (i.fed ++ piece) c.in-Frame.frame.items c.unread.result c.next.new.self c.in_ok-judge-in-Frame.field-0 told gives.0 (gives.1 ∙ same.0 ∙ i.limit) c.unread.ensures says).1
 
 pub loop-preserved : goal.loop-preserved
 loop-preserved g c =

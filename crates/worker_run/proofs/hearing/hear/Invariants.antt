@@ -9,12 +9,12 @@ use Rattle.worker_run.proofs.hearing.hear.Given as goal
 abbrev pub invariant-loop : goal.invariant-loop
 invariant-loop g l = record {
   fed : List ℕ;
-  taken : Tells (g.T.Tap.taken l.tap) fed;
+  taken : Tells (g.T.Tap.told l.tap).taken fed;
   stands : Stands fed [] l.splitter;
   unfinished : frame_at largest fed ≡ Unfinished;
   limit : l.splitter.limit ≡ largest;
   fault : l.splitter.fault ≡ None;
   reads : l.counter ≤ length fed;
-  count : g.T.Tap.faults l.initial.tap ≤ g.T.Tap.faults l.tap;
-  line : g.T.Tap.line l.tap ≡ g.T.Tap.line l.initial.tap;
+  count : (g.T.Tap.told l.initial.tap).faults ≤ (g.T.Tap.told l.tap).faults;
+  line : (g.T.Tap.told l.tap).line ≡ (g.T.Tap.told l.initial.tap).line;
 }

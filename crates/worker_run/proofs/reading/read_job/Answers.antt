@@ -1,5 +1,5 @@
 use Rattle.worker_run.proofs.Limits.{options_accepted}
 use Rattle.worker_run.proofs.reading.read_job.Goals as goal
 
-pub read_by_options-requires-after_bounds : goal.read_by_options-requires-after_bounds
-read_by_options-requires-after_bounds g c κs within = options_accepted c.in-Some.options (let limits = rw (c.in-Some.is) at c.in_ok-options.ensures.limits in limits)
+pub read_by_options-requires : goal.read_by_options-requires
+read_by_options-requires g c = options_accepted c.in-Some.options (let limits = rw (c.in-Some.is) at c.in_ok-options.ensures.limits in limits)

@@ -8,42 +8,42 @@ use Rattle.worker_run.proofs.room.gather.Goals as goal
 
 pub returns-in_err-bytes-clause-stopped : goal.returns-in_err-bytes-clause-stopped
 returns-in_err-bytes-clause-stopped g c =
-    let log = g.B.Berth.log in
+    let told = g.B.Berth.told in
     let p = err_from_is_err_and c.from_residual-in_err-bytes.result c.from_residual-in_err-bytes.ensures.1 in
-    rw (p.1) (c.loop-output.invariant.stopped (log c.room_get.new.self) (run_none (get_asks (drop c.loop-output.output-index c.args.outputs.now)) (log c.loop-output.berth) (log c.room_get.new.self) c.in_err-bytes.ensures.err))
+    rw (p.1) (c.loop-output.invariant.stopped (told c.room_get.new.self).log (run_none (get_asks (drop c.loop-output.output-index c.args.outputs.now)) (told c.loop-output.berth).log (told c.room_get.new.self).log c.in_err-bytes.ensures.err))
 
 pub returns-in-Absent-clause-stopped : goal.returns-in-Absent-clause-stopped
 returns-in-Absent-clause-stopped g c =
     let p = c.as_str.ensures in
     let is = c.in-Absent.is in
-    let log = g.B.Berth.log in
-    c.loop-output.invariant.stopped (log c.room_get.new.self)
-    (runs_stop Get c.args.outputs.now c.loop-output.output-index c.output-item.result (call.Get c.as_str.result.now read.Absent) (log c.loop-output.berth) (log c.room_get.new.self) (search rules) c.output-item.is (cc) (rw is at c.in_ok-bytes.ensures.log))
+    let told = g.B.Berth.told in
+    c.loop-output.invariant.stopped (told c.room_get.new.self).log
+    (runs_stop Get c.args.outputs.now c.loop-output.output-index c.output-item.result (call.Get c.as_str.result.now read.Absent) (told c.loop-output.berth).log (told c.room_get.new.self).log (search rules) c.output-item.is (cc) (rw is at c.in_ok-bytes.ensures.log))
 
 pub returns-in-Absent-clause-missing : goal.returns-in-Absent-clause-missing
 returns-in-Absent-clause-missing g c =
     let is = c.in-Absent.is in
-    let log = g.B.Berth.log in
-    absent_now c.as_str.result.now (log c.args.berth.now) (log c.loop-output.berth) (log c.room_get.new.self) c.loop-output.invariant.told (rw is at c.in_ok-bytes.ensures.log)
+    let told = g.B.Berth.told in
+    absent_now c.as_str.result.now (told c.args.berth.now).log (told c.loop-output.berth).log (told c.room_get.new.self).log c.loop-output.invariant.told (rw is at c.in_ok-bytes.ensures.log)
 
 pub returns-in-Failed-clause-stopped : goal.returns-in-Failed-clause-stopped
 returns-in-Failed-clause-stopped g c =
     let p = c.as_str.ensures in
     let is = c.in-Failed.is in
-    let log = g.B.Berth.log in
-    c.loop-output.invariant.stopped (log c.room_get.new.self)
-    (runs_stop Get c.args.outputs.now c.loop-output.output-index c.output-item.result (call.Get c.as_str.result.now read.Failed) (log c.loop-output.berth) (log c.room_get.new.self) (search rules) c.output-item.is (cc) (rw is at c.in_ok-bytes.ensures.log))
+    let told = g.B.Berth.told in
+    c.loop-output.invariant.stopped (told c.room_get.new.self).log
+    (runs_stop Get c.args.outputs.now c.loop-output.output-index c.output-item.result (call.Get c.as_str.result.now read.Failed) (told c.loop-output.berth).log (told c.room_get.new.self).log (search rules) c.output-item.is (cc) (rw is at c.in_ok-bytes.ensures.log))
 
 pub loop-output-preserved : goal.loop-output-preserved
 loop-output-preserved g c =
     let p = c.as_str.ensures in
     let is = c.in-Found.is in
-    let log = g.B.Berth.log in
+    let told = g.B.Berth.told in
     let next = rw is at c.in_ok-bytes.ensures.log in
     record {
-      found = found_go c.args.outputs.now c.loop-output.files.items c.loop-output.output-index c.output-item.result c.as_str.result.now c.in-Found.bytes c.push_reserved.new.self.items (log c.args.berth.now) (log c.loop-output.berth) (log c.room_get.new.self) (search rules) c.output-item.is c.as_str.ensures c.push_reserved.ensures.items c.loop-output.invariant.found next;
+      found = found_go c.args.outputs.now c.loop-output.files.items c.loop-output.output-index c.output-item.result c.as_str.result.now c.in-Found.bytes c.push_reserved.new.self.items (told c.args.berth.now).log (told c.loop-output.berth).log (told c.room_get.new.self).log (search rules) c.output-item.is c.as_str.ensures c.push_reserved.ensures.items c.loop-output.invariant.found next;
       stopped = λ final rest. c.loop-output.invariant.stopped final
-          (runs_go Get c.args.outputs.now c.loop-output.output-index c.output-item.result (call.Get c.as_str.result.now (read.Found c.in-Found.bytes)) (log c.loop-output.berth) (log c.room_get.new.self) final (search rules) c.output-item.is (cc) refl next rest);
+          (runs_go Get c.args.outputs.now c.loop-output.output-index c.output-item.result (call.Get c.as_str.result.now (read.Found c.in-Found.bytes)) (told c.loop-output.berth).log (told c.room_get.new.self).log final (search rules) c.output-item.is (cc) refl next rest);
       told = λ xs holds. let t = c.loop-output.invariant.told xs holds in (t.0 ++ call.Get c.as_str.result.now (read.Found c.in-Found.bytes) ∷ [], next t.0 t.1);
       count = search rules;
       number = search rules;
@@ -53,5 +53,5 @@ loop-output-preserved g c =
 
 pub returns-clause-found : goal.returns-clause-found
 returns-clause-found g c =
-    let log = g.B.Berth.log in
-    (omega (arith, c.loop-output.invariant.files, c.loop-output.auto.output-index-end), found_all c.args.outputs.now c.loop-output.files.items c.loop-output.output-index (log c.args.berth.now) (log c.loop-output.berth) c.loop-output-test.false c.loop-output.invariant.found)
+    let told = g.B.Berth.told in
+    (omega (arith, c.loop-output.invariant.files, c.loop-output.auto.output-index-end), found_all c.args.outputs.now c.loop-output.files.items c.loop-output.output-index (told c.args.berth.now).log (told c.loop-output.berth).log c.loop-output-test.false c.loop-output.invariant.found)

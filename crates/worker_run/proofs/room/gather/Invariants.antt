@@ -6,11 +6,11 @@ use Rattle.worker_run.proofs.room.gather.Given as goal
 
 abbrev pub invariant-loop-output : goal.invariant-loop-output
 invariant-loop-output g l = record {
-  found : (rest : List (List ℕ)) (final : Option (List BerthCall)) → Adds (get_calls (drop l.output-index l.outputs) rest) (g.B.Berth.log l.berth) final → Adds (get_calls l.outputs (l.files.items ++ rest)) (g.B.Berth.log l.initial.berth) final;
-  stopped : (final : Option (List BerthCall)) → AddsRun (get_asks (drop l.output-index l.outputs)) (g.B.Berth.log l.berth) final → AddsRun (get_asks l.outputs) (g.B.Berth.log l.initial.berth) final;
-  told : (xs : List BerthCall) → Tells (g.B.Berth.log l.initial.berth) xs → (ys : List BerthCall) × Tells (g.B.Berth.log l.berth) ys;
-  count : g.B.Berth.faults l.initial.berth ≤ g.B.Berth.faults l.berth;
-  number : g.B.Berth.number l.berth ≡ g.B.Berth.number l.initial.berth;
+  found : (rest : List (List ℕ)) (final : Option (List BerthCall)) → Adds (get_calls (drop l.output-index l.outputs) rest) (g.B.Berth.told l.berth).log final → Adds (get_calls l.outputs (l.files.items ++ rest)) (g.B.Berth.told l.initial.berth).log final;
+  stopped : (final : Option (List BerthCall)) → AddsRun (get_asks (drop l.output-index l.outputs)) (g.B.Berth.told l.berth).log final → AddsRun (get_asks l.outputs) (g.B.Berth.told l.initial.berth).log final;
+  told : (xs : List BerthCall) → Tells (g.B.Berth.told l.initial.berth).log xs → (ys : List BerthCall) × Tells (g.B.Berth.told l.berth).log ys;
+  count : (g.B.Berth.told l.initial.berth).faults ≤ (g.B.Berth.told l.berth).faults;
+  number : (g.B.Berth.told l.berth).number ≡ (g.B.Berth.told l.initial.berth).number;
   files : length l.files.items ≡ l.output-index;
   room : length l.outputs ≤ vec_capacity l.files;
 }

@@ -1,32 +1,32 @@
-use Rattle.std.proofs.Common.{arith, Ok, map, string_bytes, refl}
+use Rattle.std.proofs.Common.{arith, Ok, map, string_bytes, refl, ap, ◌∙◌}
 use Rattle.tool_words.specs.Options.{options_of}
+use Rattle.worker_run.specs.Seen.{EndedTold}
 use Rattle.worker_run.specs.declared.reading.Job.TheVariants as job
 use Rattle.worker_run.proofs.Endings.{one_ends, none_ends, fault_ends, not_sink}
 use Rattle.worker_run.proofs.run.run_build.Goals as goal
 
 pub returns-in-Ok-One-clause-run : goal.returns-in-Ok-One-clause-run
 returns-in-Ok-One-clause-run g c =
-    one_ends (options_of (map string_bytes c.args.words.now)) (g.F.Floor.files c.args.floor) (g.F.Floor.log c.args.floor) (g.F.Floor.log c.run_one.result.floor) (Ok (job.One c.in-Ok-One.work)) c.run_one.result.fault _ (g.O.Sink.contents c.args.out.now) _
+    one_ends (options_of (map string_bytes c.args.words.now)) (g.F.Floor.told c.args.floor) c.run_one.result.floor (Ok (job.One c.in-Ok-One.work)) c.run_one.result.fault c.run_one.result.left (g.O.Sink.told c.args.out.now) (g.O.Sink.told c.run_one.new.out)
     (let course = rw (c.in-Ok-One.field-0-is) at c.in-Ok-One.ensures.course in rw (c.run_one.ensures.log) course) c.run_one.ensures.run
 
 pub returns-in-Ok-Nothing-clause-run : goal.returns-in-Ok-Nothing-clause-run
 returns-in-Ok-Nothing-clause-run g c =
     let w = c.with_no_lane-ended.ensures in
     let f = c.with_fault.ensures in
+    let journal = ap (λ (e : EndedTold). e.left.journal) (c.ended.view_is ∙ w) in
     let course = rw (c.in-Ok-Nothing.field-0-is) at c.in-Ok-Nothing.ensures.course in
-    rw (f.fault, f.journal, f.berths, f.lines, f.places, f.floor, w.journal, w.berths, w.lines, w.places, w.floor)
-    (none_ends (options_of (map string_bytes c.args.words.now)) (g.F.Floor.files c.args.floor) (g.F.Floor.log c.args.floor) _ c.in-Ok-Nothing.plan _ _ (g.O.Sink.contents c.args.out.now) _ course refl c.put_report-fault.ensures.ends (rw (w.journal) at c.put_report-fault.ensures.put))
+    rw (f, w)
+    (none_ends (options_of (map string_bytes c.args.words.now)) (g.F.Floor.told c.args.floor) (g.F.Floor.told c.read_job.new.floor) c.in-Ok-Nothing.plan _ _ (g.O.Sink.told c.args.out.now) _ course refl c.put_report-fault.ensures.ends (rw (journal) at c.put_report-fault.ensures.put))
 
 pub returns-in-Err-clause-run : goal.returns-in-Err-clause-run
 returns-in-Err-clause-run g c =
-    let w = c.with_no_lane.ensures in
-    rw (w.fault, w.journal, w.berths, w.lines, w.places, w.floor)
-    (fault_ends (options_of (map string_bytes c.args.words.now)) (g.F.Floor.files c.args.floor) (g.F.Floor.log c.args.floor) _ c.in-Err.fault _ (g.O.Sink.contents c.args.out.now) _ c.in-Err.ensures.course refl refl)
+    rw (c.with_no_lane.ensures)
+    (fault_ends (options_of (map string_bytes c.args.words.now)) (g.F.Floor.told c.args.floor) (g.F.Floor.told c.read_job.new.floor) c.in-Err.fault _ (g.O.Sink.told c.args.out.now) _ c.in-Err.ensures.course refl refl)
 
 pub returns-in-Err-clause-sink : goal.returns-in-Err-clause-sink
 returns-in-Err-clause-sink g c =
-    let w = c.with_no_lane.ensures in
-    rw (w.fault) (record {
+    rw (c.with_no_lane.ensures) (record {
       later = omega arith;
-      rose = λ e. absurd (not_sink (options_of (map string_bytes c.args.words.now)) c.in-Err.fault (g.F.Floor.files c.args.floor) (g.F.Floor.log c.args.floor) (g.F.Floor.log c.read_job.new.floor) c.in-Err.ensures.course e);
+      rose = λ e. absurd (not_sink (options_of (map string_bytes c.args.words.now)) c.in-Err.fault (g.F.Floor.told c.args.floor).files (g.F.Floor.told c.args.floor).log (g.F.Floor.told c.read_job.new.floor).log c.in-Err.ensures.course e);
     })

@@ -1,4 +1,5 @@
-use Rattle.std.proofs.Common.{◌∙◌}
+use Rattle.std.proofs.Common.{◌∙◌, ap}
+use Rattle.worker_run.specs.Seen.{EndedTold}
 use Rattle.worker_run.proofs.Endings.{ran_one}
 use Rattle.worker_run.proofs.run.run_one.Goals as goal
 
@@ -8,13 +9,14 @@ returns-clause-run g c =
     let r = c.run_line-run.ensures in
     let s = c.in-Ok.ensures in
     let e = c.conclude-fault.ensures in
-    rw (f.fault, f.journal, f.berths, f.lines, f.places)
-    (ran_one c.args.work.now c.run_line-run.result.reached c.run_line-run.result.stopped c.conclude-fault.result _ (g.O.Sink.contents c.args.out.now) _ e.started e.ends
+    let journal = ap (λ (e : EndedTold). e.left.journal) c.ended.view_is in
+    rw (f)
+    (ran_one c.args.work.now c.run_line-run.result.reached c.run_line-run.result.stopped c.conclude-fault.result _ (g.O.Sink.told c.args.out.now) _ e.started e.ends
     (record {
       room = _;
       line = _;
       place = _;
-      all = c.into_ended-ended.ensures.left;
+      all = ap (λ (e : EndedTold). e.left) c.into_ended-ended.ensures;
       room_number = r.berth_number ∙ s.berth_number;
       place_number = r.place_number ∙ s.place_number;
       stopped = r.stop;
@@ -22,4 +24,4 @@ returns-clause-run g c =
       of_line = r.line;
       in_place = r.place;
       cause = r.cause;
-    }) e.put)
+    }) (rw (journal) at e.put))

@@ -8,8 +8,8 @@ use Rattle.seat_desk.specs.Helds.{log_of}
 use Rattle.seat_desk.proofs.Goods.{good_of}
 use Rattle.seat_desk.proofs.desk.Desk.call.Goals as goal
 
-pub leave-requires-after_bounds : goal.leave-requires-after_bounds
-leave-requires-after_bounds g c κs within = let y' : Held g.row.M.Denot g.row.M-Call.Denot g.row.M-Reply.Denot = record { machine = c.enter-held.result.machine; history = c.reserve.new.self } in
+pub leave-requires : goal.leave-requires
+leave-requires g c = let y' : Held g.row.M.Denot g.row.M-Call.Denot g.row.M-Reply.Denot = record { machine = c.enter-held.result.machine; history = c.reserve.new.self } in
     let s = c.enter-held.ensures.1 in let same : c.reserve.new.self.items ≡ c.enter-held.result.history.items = c.reserve.ensures.items in
     let room : vec_len c.reserve.new.self + g.M.Machine.owes c.args.pass.now.seat.me.0.rules c.reserve.new.self.items ≤ vec_capacity c.reserve.new.self =
     (let o = ap (g.M.Machine.owes c.args.pass.now.seat.me.0.rules) same in let l = c.reserve.ensures.len in let k = c.reserve.ensures.capacity in let r = s.0.0.1 in omega arith) in (
@@ -19,14 +19,14 @@ leave-requires-after_bounds g c κs within = let y' : Held g.row.M.Denot g.row.M
     )
 
 pub step-reply-requires-clause-suits : goal.step-reply-requires-clause-suits
-step-reply-requires-clause-suits g c κs within = let idle = c.args.pass.now.idle in let found = c.enter-held.ensures.1.0 in let front = found.1 in
+step-reply-requires-clause-suits g c = let idle = c.args.pass.now.idle in let found = c.enter-held.ensures.1.0 in let front = found.1 in
     let others : calls_by c.args.pass.now.lane front.0 ≡ [] = others_only c.args.pass.now.lane c.args.pass.now.seat.me.0.seen front.0 c.enter-held.result.history.items c.args.pass.now.seat.me.0.mine
     idle.3 (found.2 c.args.pass.now.lane idle.0) front.1 in
     subst (λ (h : List (Entry g.row.M-Call.Denot g.row.M-Reply.Denot)). g.M.Machine.goes_in (g.M.Machine.rules c.enter-held.result.machine) h c.args.pass.now.lane c.args.call c.args.put) (sym (c.reserve.ensures.items ∙ front.1))
-    ((g.met.M.Machine g.world.𝓛 g.world.𝓜 g.world.𝓡 ((λ s x. x), (λ x. x), (λ x. x), (λ x. x))).suits_still c.enter-held.result.machine c.args.pass.now.seat.me.0.seen front.0 c.args.pass.now.lane c.args.call c.args.put (subst (g.M.Machine.stands c.enter-held.result.machine) front.1 found.0.0) others (subst (λ (q : g.row.M-Rules.Denot). g.M.Machine.goes_in q c.args.pass.now.seat.me.0.seen c.args.pass.now.lane c.args.call c.args.put) (sym c.enter-held.ensures.1.0.0.2) c.requires.suits))
+    (g.met.M.Machine.suits_still c.enter-held.result.machine c.args.pass.now.seat.me.0.seen front.0 c.args.pass.now.lane c.args.call c.args.put (subst (g.M.Machine.stands c.enter-held.result.machine) front.1 found.0.0) others (subst (λ (q : g.row.M-Rules.Denot). g.M.Machine.goes_in q c.args.pass.now.seat.me.0.seen c.args.pass.now.lane c.args.call c.args.put) (sym c.enter-held.ensures.1.0.0.2) c.requires.suits))
 
-pub leave-requires-2-after_bounds : goal.leave-requires-2-after_bounds
-leave-requires-2-after_bounds g c κs within = let s = c.enter-held.ensures.1 in let same : c.reserve.new.self.items ≡ c.enter-held.result.history.items = c.reserve.ensures.items in
+pub leave-requires-2 : goal.leave-requires-2
+leave-requires-2 g c = let s = c.enter-held.ensures.1 in let same : c.reserve.new.self.items ≡ c.enter-held.result.history.items = c.reserve.ensures.items in
     let e : Entry g.row.M-Call.Denot g.row.M-Reply.Denot = entry c.args.pass.now.lane c.args.call c.step-reply.result.0 in (
       c.enter-held.ensures.0 ∙ c.requires.desk,
       may_end log_of (good_of g.M.Machine) c.args.pass.now.lane c.args.pass.now.seat.me c.enter-held.new.seat.me c.enter-held.result c.step-reply.new.held (added g.M.Machine.keeps e)

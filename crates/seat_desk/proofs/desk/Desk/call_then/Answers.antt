@@ -9,8 +9,8 @@ use Rattle.seat_desk.specs.Desks.{MayFollow, Follows}
 use Rattle.seat_desk.proofs.Calls.{may_end, made_none, between, grew_by, added, after_is, only_added, only_both, followed, after_turn, idle_again}
 use Rattle.seat_desk.proofs.desk.Desk.call_then.Goals as goal
 
-pub leave-requires-after_bounds : goal.leave-requires-after_bounds
-leave-requires-after_bounds g c κs within = let y' : Held g.row.M.Denot g.row.M-Call.Denot g.row.M-Reply.Denot = record { machine = c.enter-held.result.machine; history = c.reserve.new.self } in
+pub leave-requires : goal.leave-requires
+leave-requires g c = let y' : Held g.row.M.Denot g.row.M-Call.Denot g.row.M-Reply.Denot = record { machine = c.enter-held.result.machine; history = c.reserve.new.self } in
     let s = c.enter-held.ensures.1 in let same : c.reserve.new.self.items ≡ c.enter-held.result.history.items = c.reserve.ensures.items in
     let room : vec_len c.reserve.new.self + g.M.Machine.owes c.args.pass.now.seat.me.0.rules c.reserve.new.self.items ≤ vec_capacity c.reserve.new.self =
     (let o = ap (g.M.Machine.owes c.args.pass.now.seat.me.0.rules) same in let l = c.reserve.ensures.len in let k = c.reserve.ensures.capacity in let r = s.0.0.1 in omega arith) in (
@@ -20,13 +20,13 @@ leave-requires-after_bounds g c κs within = let y' : Held g.row.M.Denot g.row.M
     )
 
 pub step-reply-requires-clause-suits : goal.step-reply-requires-clause-suits
-step-reply-requires-clause-suits g c κs within = let law = g.met.M.Machine g.world.𝓛 g.world.𝓜 g.world.𝓡 ((λ s x. x), (λ x. x), (λ x. x), (λ x. x)) in let same : c.reserve.new.self.items ≡ c.enter-held.result.history.items = c.reserve.ensures.items in
+step-reply-requires-clause-suits g c = let law = g.met.M.Machine in let same : c.reserve.new.self.items ≡ c.enter-held.result.history.items = c.reserve.ensures.items in
     let b = between log_of (good_of g.M.Machine) c.args.pass.now.lane c.args.pass.now.seat.me c.enter-held.result c.args.pass.now.idle c.enter-held.ensures.1.0 in
     subst (λ (h : List (Entry g.row.M-Call.Denot g.row.M-Reply.Denot)). g.M.Machine.goes_in (g.M.Machine.rules c.enter-held.result.machine) h c.args.pass.now.lane c.args.call None) (sym (same ∙ b.1))
     (law.suits_still c.enter-held.result.machine c.args.pass.now.seat.me.0.seen b.0 c.args.pass.now.lane c.args.call None (subst (g.M.Machine.stands c.enter-held.result.machine) b.1 c.enter-held.ensures.1.0.0.0) b.2 (subst (λ (q : g.row.M-Rules.Denot). g.M.Machine.goes_in q c.args.pass.now.seat.me.0.seen c.args.pass.now.lane c.args.call None) (sym c.enter-held.ensures.1.0.0.2) c.requires.suits))
 
 pub follow-reply-requires-clause-may : goal.follow-reply-requires-clause-may
-follow-reply-requires-clause-may g c κs within = let same : c.reserve.new.self.items ≡ c.enter-held.result.history.items = c.reserve.ensures.items in
+follow-reply-requires-clause-may g c = let same : c.reserve.new.self.items ≡ c.enter-held.result.history.items = c.reserve.ensures.items in
     let b = between log_of (good_of g.M.Machine) c.args.pass.now.lane c.args.pass.now.seat.me c.enter-held.result c.args.pass.now.idle c.enter-held.ensures.1.0 in
     let e : Entry g.row.M-Call.Denot g.row.M-Reply.Denot = entry c.args.pass.now.lane c.args.call c.step-reply.result.0 in
     let reply = subst (λ (q : g.row.M-Rules.Denot). IsReply (g.M.Machine.next q) g.M.Machine.short (g.M.Machine.may_be_short q) c.reserve.new.self.items c.args.pass.now.lane c.args.call c.step-reply.result.0) c.enter-held.ensures.1.0.0.2 c.step-reply.ensures.reply in
@@ -36,8 +36,8 @@ follow-reply-requires-clause-may g c κs within = let same : c.reserve.new.self.
     (c.requires.may c.reserve.new.self.items b.0 c.step-reply.new.held.machine c.step-reply.result.0 c.step-reply.result.1 (same ∙ b.1) b.2
     (subst (g.M.Machine.stands c.step-reply.new.held.machine) c.step-reply.ensures.history c.step-reply.ensures.good.0, (c.step-reply.ensures.good.2 ∙ c.enter-held.ensures.1.0.0.2)) reply comes))
 
-pub leave-requires-2-after_bounds : goal.leave-requires-2-after_bounds
-leave-requires-2-after_bounds g c κs within = let same : c.reserve.new.self.items ≡ c.enter-held.result.history.items = c.reserve.ensures.items in
+pub leave-requires-2 : goal.leave-requires-2
+leave-requires-2 g c = let same : c.reserve.new.self.items ≡ c.enter-held.result.history.items = c.reserve.ensures.items in
     let b = between log_of (good_of g.M.Machine) c.args.pass.now.lane c.args.pass.now.seat.me c.enter-held.result c.args.pass.now.idle c.enter-held.ensures.1.0 in
     let e : Entry g.row.M-Call.Denot g.row.M-Reply.Denot = entry c.args.pass.now.lane c.args.call c.step-reply.result.0 in
     let more = followed g.W.Then.meets (g.M.Machine.next (g.M.Machine.rules c.step-reply.new.held.machine)) g.M.Machine.short g.M.Machine.keeps (g.M.Machine.comes_out (g.M.Machine.rules c.step-reply.new.held.machine)) c.args.pass.now.lane c.step-reply.new.held.history.items c.args.work.now c.step-reply.result.0 c.step-reply.result.1

@@ -5,7 +5,7 @@ use Rattle.worker_run.proofs.sources.Sources.read_all.Given as goal
 
 abbrev pub invariant-loop-path : goal.invariant-loop-path
 invariant-loop-path g l = record {
-  course : Logs (g.F.Floor.files l.initial.floor) (g.F.Floor.log l.initial.floor) (g.F.Floor.log l.floor) (λ reads. NewFound (held l.initial.self) (take l.path-index l.paths) reads (held l.self));
-  count : g.F.Floor.faults l.initial.floor ≤ g.F.Floor.faults l.floor;
-  files : g.F.Floor.files l.floor ≡ g.F.Floor.files l.initial.floor;
+  course : Logs (g.F.Floor.told l.initial.floor).files (g.F.Floor.told l.initial.floor).log (g.F.Floor.told l.floor).log (λ reads. NewFound (held l.initial.self) (take l.path-index l.paths) reads (held l.self));
+  count : (g.F.Floor.told l.initial.floor).faults ≤ (g.F.Floor.told l.floor).faults;
+  files : (g.F.Floor.told l.floor).files ≡ (g.F.Floor.told l.initial.floor).files;
 }

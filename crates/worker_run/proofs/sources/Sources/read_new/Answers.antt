@@ -5,13 +5,13 @@ use Rattle.worker_run.proofs.sources.Sources.read_new.Goals as goal
 
 pub returns-in-Some-clause-course : goal.returns-in-Some-clause-course
 returns-in-Some-clause-course g c =
-    new_before (held c.args.self.now) c.args.path.now c.in-Some.field-0.now (g.F.Floor.files c.args.floor.now) (g.F.Floor.log c.args.floor.now) c.in-Some.ensures
+    new_before (held c.args.self.now) c.args.path.now c.in-Some.field-0.now (g.F.Floor.told c.args.floor.now).files (g.F.Floor.told c.args.floor.now).log c.in-Some.ensures
 
 pub returns-in_err-bytes-in-None-clause-course : goal.returns-in_err-bytes-in-None-clause-course
 returns-in_err-bytes-in-None-clause-course g c =
     let p = err_from_is_err_and c.from_residual.result c.from_residual.ensures.1 in
-    rw (p.1, p.2) (new_ends (held c.args.self.now) (held c.args.self.now) c.args.path.now _ (g.F.Floor.files c.args.floor.now) (g.F.Floor.log c.args.floor.now) (g.F.Floor.log c.read_found.new.floor) c.in-None.ensures c.in_err-bytes-in-None.ensures.read)
+    rw (p.1, p.2) (new_ends (held c.args.self.now) (held c.args.self.now) c.args.path.now _ (g.F.Floor.told c.args.floor.now).files (g.F.Floor.told c.args.floor.now).log (g.F.Floor.told c.read_found.new.floor).log c.in-None.ensures c.in_err-bytes-in-None.ensures.read)
 
 pub returns-in_ok-note-in-None-clause-course : goal.returns-in_ok-note-in-None-clause-course
 returns-in_ok-note-in-None-clause-course g c =
-    new_found (held c.args.self.now) (held c.note.new.self) c.args.path.now c.in_ok-bytes-in-None.bytes (g.F.Floor.files c.args.floor.now) (g.F.Floor.log c.args.floor.now) (g.F.Floor.log c.read_found.new.floor) c.in-None.ensures c.in_ok-note-in-None.ensures c.in_ok-bytes-in-None.ensures.read
+    new_found (held c.args.self.now) (held c.note.new.self) c.args.path.now c.in_ok-bytes-in-None.bytes (g.F.Floor.told c.args.floor.now).files (g.F.Floor.told c.args.floor.now).log (g.F.Floor.told c.read_found.new.floor).log c.in-None.ensures c.in_ok-note-in-None.ensures c.in_ok-bytes-in-None.ensures.read

@@ -1,0 +1,8 @@
+use Rattle.journal_facts.proofs.Bridge.{is_going, retries_one}
+use Rattle.journal_facts.proofs.retry_facts.Goals as goal
+
+pub returns : goal.returns
+returns c = record {
+  going = λ j t is. is_going j t is;
+  ends = λ e j y is. retries_one e j y is;
+}
