@@ -12,8 +12,8 @@ use crate::draft::{Draft, Slot};
 use crate::{Key, ListFault, ListRefusal, What};
 use outside::Variable;
 use path_rules::check_path;
+use plain_values::{Items, Text};
 use std::alloc::Global;
-use wire_fields::{Items, Text};
 
 const KEYS_IN_ORDER: [Key; 10] = [
     Key::Action,

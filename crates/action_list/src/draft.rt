@@ -5,9 +5,9 @@ ghost use Rattle.serde_json.specs.View.{view};
 ghost use Rattle.std.specs.Option.{option_map};
 
 use outside::Variable;
+use plain_values::{Items, NoMemory, Text};
 use serde_json::{Map, Value};
 use std::alloc::Global;
-use wire_fields::{Items, NoMemory, Text};
 
 /// What stands at a key: nothing, a value of another kind, or one of the key's kind.
 #[derive(Drop)]

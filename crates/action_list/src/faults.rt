@@ -2,8 +2,8 @@ ghost use Rattle.std.specs.Prelude.{◌≡◌};
 ghost use Rattle.action_list.specs.declared.faults.ListRefusal.TheVariants.{NoMemory as no_memory};
 
 use path_rules::PathFault;
+use plain_values::{NoMemory, Text};
 use std::alloc::{AllocError, AllocFailed};
-use wire_fields::{NoMemory, Text};
 
 /// What there are too many of.
 #[derive(Clone, Copy, Debug, PartialEq, Eq)]

@@ -9,8 +9,8 @@ use crate::checks::check_count;
 use crate::{ListAction, ListRefusal, Strategy, What};
 use flag_files::{SplitFault, split_args};
 use outside::Variable;
+use plain_values::{Blob, Items, NoMemory, Text};
 use std::alloc::Global;
-use wire_fields::{Blob, Items, NoMemory, Text};
 use worker_key::{Mode, Named, WorkerKey};
 
 /// Looks whether the actions with a local branch have at most so many keys.

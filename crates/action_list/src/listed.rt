@@ -14,9 +14,9 @@ use crate::made::action_of;
 use crate::order::check_order;
 use crate::top::{actions_in, read_json};
 use crate::{ActionList, ListAction, ListRefusal};
+use plain_values::Items;
 use serde_json::Value;
 use std::alloc::Global;
-use wire_fields::Items;
 
 /// The list that the bytes are, where it may have so many worker keys.
 pub fn list_of(alloc: Global, limit: usize, bytes: &[u8]) -> Result<ActionList, ListRefusal>

@@ -8,8 +8,8 @@ use crate::draft::{Draft, Slot};
 use crate::needs::{is_set, strategy_named, value_of};
 use crate::{ListAction, Needs, Strategy};
 use outside::Variable;
+use plain_values::{Items, NoMemory, Text};
 use std::alloc::Global;
-use wire_fields::{Items, NoMemory, Text};
 
 /// The action of a draft, with defaults for what it doesn't hold.
 #[tactic(auto, unfolding(crate::specs::Actions::action_of))]

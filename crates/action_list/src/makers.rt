@@ -5,8 +5,8 @@ ghost use Rattle.action_list.specs.Order.{is_among, is_late, last_from};
 
 use crate::ListAction;
 use indexmap::IndexMap;
+use plain_values::{NoMemory, Text};
 use std::alloc::Global;
-use wire_fields::{NoMemory, Text};
 
 /// The number of the last action that makes each path.
 #[derive(Drop)]

@@ -11,8 +11,8 @@ use crate::draft::{Draft, Slot};
 use crate::{Key, ListFault, ListRefusal, Strategy, What};
 use flag_files::{SplitFault, split_args};
 use outside::Variable;
+use plain_values::{Items, NoMemory, Text};
 use std::alloc::Global;
-use wire_fields::{Items, NoMemory, Text};
 
 const MAX_REQUIREMENTS: usize = 64;
 

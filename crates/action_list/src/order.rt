@@ -8,8 +8,8 @@ ghost use Rattle.action_list.specs.Tables.{HasMakers, HasNames, HasPaths};
 use crate::makers::LastMakers;
 use crate::seen::Seen;
 use crate::{ListAction, ListFault, ListRefusal};
+use plain_values::Text;
 use std::alloc::Global;
-use wire_fields::Text;
 
 /// Looks for the first action that has a name or makes a path that an earlier one has, or that has an
 /// input that it makes itself or a later one makes.

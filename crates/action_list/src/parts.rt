@@ -6,12 +6,11 @@ ghost use Rattle.exec_journal.specs.Sound.{Sound};
 ghost use Rattle.action_list.specs.Parts.{command_of, executor_part, is_of, part_of, parts_from, parts_of, unused_part, user_of, user_part, worker_part};
 
 use crate::keys::worker_words;
-use crate::planning::texts_again;
 use crate::{ActionList, ListAction};
 use exec_journal::{Group, Kind, Plan, PlanAction, Speech};
-use outside::{Command, Variable};
+use outside::{Command, Variable, variables_again};
+use plain_values::{Items, NoMemory, Text, texts_again};
 use std::alloc::Global;
-use wire_fields::{Items, NoMemory, Text};
 
 /// What the workers of a group run, and what is spoken with them.
 #[derive(Drop)]
@@ -174,23 +173,4 @@ fn command_of(alloc: Global, words: &[Text], env: &[Variable]) -> Result<Command
             env: variables_again(alloc, env)?,
         }),
     }
-}
-
-fn variables_again(alloc: Global, variables: &[Variable]) -> Result<Items<Variable>, NoMemory>
-    ensures { IfOk result (λ l. l ≡ variables.now) }
-{
-    let mut copies = Vec::new(alloc);
-    for variable in variables {
-        copies.push(variable_again(alloc, variable)?)?;
-    }
-    Ok(Items::of(copies))
-}
-
-fn variable_again(alloc: Global, variable: &Variable) -> Result<Variable, NoMemory>
-    ensures { IfOk result (λ v. v ≡ variable.now) }
-{
-    Ok(Variable {
-        name: Text::copy_of(alloc, variable.name.as_str())?,
-        value: Text::copy_of(alloc, variable.value.as_str())?,
-    })
 }

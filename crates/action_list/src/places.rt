@@ -6,8 +6,8 @@ ghost use Rattle.action_list.specs.Plans.{place_in};
 
 use exec_journal::Maker;
 use indexmap::IndexMap;
+use plain_values::{NoMemory, Text};
 use std::alloc::Global;
-use wire_fields::{NoMemory, Text};
 
 /// The place where each path is made.
 #[derive(Drop)]

@@ -14,8 +14,8 @@ use crate::keys::{has_local, has_remote, key_bytes, keys_of, takes_several};
 use crate::places::Places;
 use crate::{ActionList, ListAction};
 use exec_journal::{Group, Kind, Maker, Plan, PlanAction};
+use plain_values::{Blob, Items, NoMemory, Text, texts_again};
 use std::alloc::Global;
-use wire_fields::{Blob, Items, NoMemory, Text};
 
 const MAX_BERTHS: u32 = 48;
 
@@ -263,17 +263,6 @@ fn plan_action(
         local: local_of(alloc, keys, action)?,
         remote: remote_of(keys, action),
     })
-}
-
-/// The same texts, in memory of their own.
-pub fn texts_again(alloc: Global, texts: &[Text]) -> Result<Items<Text>, NoMemory>
-    ensures { IfOk result (λ l. l ≡ texts.now) }
-{
-    let mut copies = Vec::new(alloc);
-    for text in texts {
-        copies.push(Text::copy_of(alloc, text.as_str())?)?;
-    }
-    Ok(Items::of(copies))
 }
 
 fn makers_of(alloc: Global, places: &Places, inputs: &[Text]) -> Result<Items<Maker>, NoMemory>

@@ -1,5 +1,5 @@
 use outside::Variable;
-use wire_fields::{Items, Text};
+use plain_values::{Items, Text};
 
 /// The actions of a run, in order.
 #[derive(Drop)]

@@ -4,12 +4,12 @@ ghost use Rattle.seat_desk.specs.Passes.{IsPassOf, IsRootOf};
 
 use desk_trials::adder::{Add, Adder};
 use desk_trials::adding::adds;
+use plain_values::NoMemory;
 use seat_desk::{Desk, HistoryEntry, Machine, Pass, Root};
 use std::alloc::Global;
 use std::sync::{Barrier, Mutex, Wait};
 use std::thread;
 use std::thread::Threads;
-use wire_fields::NoMemory;
 
 /// An adder with its history, and nothing round it.
 #[derive(Drop)]

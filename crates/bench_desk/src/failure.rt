@@ -1,7 +1,7 @@
 //! Why the benchmark ended early.
+use plain_values::NoMemory;
 use std::alloc::{AllocError, AllocFailed};
 use std::io;
-use wire_fields::NoMemory;
 
 /// Why the benchmark ended early.
 #[derive(Debug, Drop)]

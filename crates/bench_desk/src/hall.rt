@@ -3,12 +3,12 @@ ghost use Rattle.std.specs.Prelude.{◌≡◌};
 
 use crate::rounds::{Answer, Ask, Rounds};
 use lane_bells::Bells;
+use plain_values::NoMemory;
 use seat_desk::{HistoryEntry, Machine};
 use std::alloc::Global;
 use std::sync::atomic::Ordering::SeqCst;
 use std::sync::atomic::{AtomicBool, AtomicU64};
 use std::sync::{Mutex, Wait};
-use wire_fields::NoMemory;
 
 /// The traffic's machine with its history, and nothing round it.
 #[derive(Drop)]

@@ -9,6 +9,7 @@ use crate::lane::Lane;
 use crate::rounds::{Rounds, SEATS};
 use crate::traffic::Job;
 use lane_bells::Bells;
+use plain_values::NoMemory;
 use seat_desk::{Desk, Root};
 use std::alloc::Global;
 use std::fs::Files;
@@ -16,7 +17,6 @@ use std::sync::Wait;
 use std::thread::Threads;
 use std::time::{Clock, CpuClock};
 use std::{io, thread};
-use wire_fields::NoMemory;
 
 /// What the lanes call.
 #[derive(Drop, Clone, Copy)]

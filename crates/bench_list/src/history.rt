@@ -4,8 +4,8 @@ ghost use Rattle.std.specs.Prelude.{◌≤◌, length};
 use exec_journal::{
     Answer, Branch, Call, CommitEnd, Entry, Found, HowEnded, Plan, Reply, Started, Why, Written,
 };
+use plain_values::{Blob, Items, NoMemory, Text};
 use std::alloc::Global;
-use wire_fields::{Blob, Items, NoMemory, Text};
 
 // Two workers die of each action, the third answers.
 const LOST: u32 = 2;

@@ -16,12 +16,12 @@ use action_list::{ActionList, plan, read_list};
 use build_report::report;
 use exec_journal::{Journal, Plan};
 use history::busy_history;
+use plain_values::NoMemory;
 use std::alloc::Global;
 use std::env::Env;
 use std::io::{ErrorKind, Read};
 use std::time::{Clock, Instant};
 use std::{env, io};
-use wire_fields::NoMemory;
 
 // Instances of each key, executors, and retries of each attempt.
 const INSTANCES: u32 = 4;

@@ -5,8 +5,8 @@ ghost use Rattle.build_report.specs.Faults.{fault_text, fault_status, unbuilt_na
 
 use action_list::ListFault;
 use flag_files::FlagFault;
+use plain_values::{NoMemory, Text};
 use std::alloc::Global;
-use wire_fields::{NoMemory, Text};
 
 /// Why a run ended without its report.
 #[derive(Drop)]

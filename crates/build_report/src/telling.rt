@@ -9,8 +9,8 @@ use crate::words::{action_name, fate_text, outcome_text, push_marked};
 use exec_journal::{
     ActionEnd, Answer, Journal, Outcome, Plan, action_ends, has_success, winning_answers,
 };
+use plain_values::{NoMemory, Text};
 use std::alloc::Global;
-use wire_fields::{NoMemory, Text};
 
 /// The report of a run, by its journal: for each action of the plan a line with its outcome and the fates of its
 /// branches, behind it the text of the answer by which it was won, and at last a line with the totals. A short

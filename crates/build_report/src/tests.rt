@@ -9,10 +9,10 @@ use exec_journal::{
 };
 use flag_files::FlagFault;
 use path_rules::PathFault;
+use plain_values::{Blob, Items, NoMemory, Text};
 use std::alloc::Global;
 use std::process::Abort;
 use std::test::Fail;
-use wire_fields::{Blob, Items, NoMemory, Text};
 
 // One action `a` with the output `o`, for a worker and for the executor, with one attempt each.
 fn one_action(alloc: Global) -> Result<Plan, NoMemory>

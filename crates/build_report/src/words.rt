@@ -3,8 +3,8 @@ ghost use Rattle.std.specs.Prelude.{◌≡◌, ◌<◌, length, slice_get, IfOk,
 ghost use Rattle.build_report.specs.Words.{branch_word, outcome_words, fate_words, cause_words, marked, name_of, path_of};
 
 use exec_journal::{Branch, Cause, Fate, Outcome, Plan};
+use plain_values::NoMemory;
 use std::alloc::Global;
-use wire_fields::NoMemory;
 
 fn branch_name(branch: Branch) -> &'static str
     ensures { result.now ≡ branch_word branch }

@@ -9,9 +9,9 @@ pub mod laws;
 
 use arrayvec::ArrayVec;
 use exec_journal::Plan;
+use plain_values::NoMemory;
 use std::alloc::Global;
 use std::marker::Model;
-use wire_fields::NoMemory;
 
 /// A pending request, and whether a Cancel was ordered for it.
 #[derive(Clone, Copy, Debug, Default, PartialEq, Eq)]

@@ -3,9 +3,9 @@ ghost use Rattle.cancel_rules.specs.Marks.{row};
 
 use crate::Cancels;
 use exec_journal::{Group, Kind, Plan, PlanAction};
+use plain_values::{Items, NoMemory, Text};
 use std::alloc::Global;
 use std::test::Fail;
-use wire_fields::{Items, NoMemory, Text};
 
 // The table of two actions that one group with cancellation runs, with two attempts.
 fn two_actions(alloc: Global, kind: Kind) -> Result<Cancels, NoMemory>

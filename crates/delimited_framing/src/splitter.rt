@@ -3,9 +3,9 @@ ghost use Rattle.std.specs.Prelude.{◌≡◌, ◌++◌, List, ℕ, [], length, 
 ghost use Rattle.delimited_framing.specs.Splitter.{Held, Stands, Gives, fed_more};
 
 use crate::frame::{Found, FrameFault, Next, find_frame};
+use plain_values::NoMemory;
 use std::alloc::Global;
 use std::marker::Model;
-use wire_fields::NoMemory;
 
 // How much room an empty splitter keeps, so that the pieces of small frames need no new memory.
 const ROOM_KEPT: usize = 65_536;

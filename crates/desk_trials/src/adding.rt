@@ -5,11 +5,11 @@ ghost use Rattle.desk_trials.specs.AdderSums.{added, SumsFrom};
 ghost use Rattle.desk_trials.specs.Lanes.{HasCalls, HasMade};
 
 use crate::adder::{Add, Adder};
+use plain_values::NoMemory;
 use seat_desk::{Closed, Desk, Pass};
 use std::alloc::Global;
 use std::sync::Wait;
 use std::thread::{Threads, join};
-use wire_fields::NoMemory;
 
 /// What a thread gives back: its pass, and how many calls it made.
 #[derive(Drop)]

@@ -6,11 +6,11 @@ ghost use Rattle.desk_trials.specs.CounterSums.{added, CountsFrom};
 ghost use Rattle.desk_trials.specs.Lanes.{HasAdded};
 
 use crate::counter::{Answer, Ask, Counter};
+use plain_values::NoMemory;
 use seat_desk::{Closed, Desk, Pass};
 use std::alloc::Global;
 use std::sync::Wait;
 use std::thread::{Threads, join};
-use wire_fields::NoMemory;
 
 /// Adds a number. The reply is the sum so far modulo the number that the pass's machine goes by, and
 /// never [`Answer::NoRoom`]; `None` where there was no memory for the call.

@@ -6,9 +6,9 @@ ghost use Rattle.desk_trials.specs.Shelf.{spot_of};
 ghost use Rattle.desk_trials.specs.Stamps.{answer_to};
 
 use crate::locker::{Answer, Ask, Locker, Spot, Token};
+use plain_values::NoMemory;
 use seat_desk::{Desk, Pass, Then};
 use std::sync::Wait;
-use wire_fields::NoMemory;
 
 /// Raises the number of a token that was lent, and asks that it be put back.
 #[derive(Drop)]

@@ -15,8 +15,8 @@ use crate::{
     ActionEnd, Attempt, Branch, Cause, CommitEnd, Entry, Fate, Journal, Maker, Outcome, Plan,
     PlanAction, Standing,
 };
+use plain_values::NoMemory;
 use std::alloc::Global;
-use wire_fields::NoMemory;
 
 /// The outcome of the action, by the journal. It takes no memory: it looks through the journal for each
 /// action on which this one may depend.

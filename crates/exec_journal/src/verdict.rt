@@ -10,8 +10,8 @@ use crate::tally::{ActionFact, BranchFact, LineFact, ended_at, gather};
 use crate::{
     ActionEnd, Branch, Cause, CommitEnd, Entry, Fate, Outcome, Plan, PlanAction, Standing,
 };
+use plain_values::NoMemory;
 use std::alloc::Global;
-use wire_fields::NoMemory;
 
 /// How an action ends but for its producers.
 #[derive(Clone, Copy, Debug, PartialEq, Eq)]

@@ -5,8 +5,8 @@ ghost use Rattle.exec_journal.specs.Winners.{granted_at, AreWinners, winners_aft
 
 use crate::scan::match_in;
 use crate::{Answer, Attempt, Call, Entry, Journal, Plan, Reply};
+use plain_values::NoMemory;
 use std::alloc::Global;
-use wire_fields::NoMemory;
 
 /// For each action of the plan the answer by which it was won: the first that was matched with the attempt that was
 /// granted. It goes through the journal twice, whatever the number of actions.

@@ -9,8 +9,8 @@ ghost use Rattle.flag_files.specs.declared.expanding.FlagFault.TheVariants.{NoMe
 
 use crate::texts::begins_with;
 use outside::SourceFile;
+use plain_values::{NoMemory, Text};
 use std::alloc::{AllocFailed, Global};
-use wire_fields::{NoMemory, Text};
 
 const MAX_DEPTH: u32 = 16;
 

@@ -3,8 +3,8 @@ ghost use Rattle.flag_files.specs.Split.{Splits, begins_longer, is_flag_file_wor
 ghost use Rattle.flag_files.specs.declared.splitting.SplitFault.TheVariants.{NoMemory as no_memory};
 
 use crate::texts::begins_with;
+use plain_values::{Items, NoMemory, Text};
 use std::alloc::{AllocFailed, Global};
-use wire_fields::{Items, NoMemory, Text};
 
 /// An action's argument words in two parts.
 #[derive(Drop)]

@@ -1,8 +1,8 @@
 use crate::{FlagFault, Split, SplitFault, expand, split_args};
 use outside::SourceFile;
+use plain_values::{Blob, NoMemory, Text};
 use std::alloc::{AllocError, Global};
 use std::test::Fail;
-use wire_fields::{Blob, NoMemory, Text};
 
 fn texts(alloc: Global, line: &str) -> Result<Vec<Text>, NoMemory> {
     let mut words = Vec::new(alloc);

@@ -1,11 +1,11 @@
 ghost use Rattle.std.specs.Prelude.{◌≡◌, ◌<◌, ℕ, vec_len, IfOk};
 
+use plain_values::NoMemory;
 use std::alloc::Global;
 use std::marker::Model;
 use std::sync::Wait;
 use std::thread::Parker;
 use std::time::Duration;
-use wire_fields::NoMemory;
 
 /// How long a lane rests at most, in seconds.
 const LONGEST_REST: u64 = 1;

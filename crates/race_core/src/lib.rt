@@ -8,9 +8,9 @@ ghost use Rattle.race_core.specs.Stands.{Stands};
 pub mod laws;
 
 use exec_journal::{Branch, Plan};
+use plain_values::NoMemory;
 use std::alloc::Global;
 use std::marker::Model;
-use wire_fields::NoMemory;
 
 /// What a claim is answered.
 #[derive(Clone, Copy, Debug, PartialEq, Eq)]

@@ -2,9 +2,9 @@ ghost use Rattle.std.specs.Prelude.{◌≡◌, IfOk, length};
 
 use crate::{ClaimReply, Race};
 use exec_journal::{Branch, Plan, PlanAction};
+use plain_values::{Items, NoMemory, Text};
 use std::alloc::Global;
 use std::test::Fail;
-use wire_fields::{Items, NoMemory, Text};
 
 // One action for a worker and for an executor.
 fn one_action(alloc: Global) -> Result<Plan, NoMemory>

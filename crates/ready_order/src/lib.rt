@@ -8,9 +8,9 @@ ghost use Rattle.ready_order.specs.Stands.{Stands};
 pub mod laws;
 
 use exec_journal::{Branch, Plan, PlanAction, Standing};
+use plain_values::{Items, NoMemory};
 use std::alloc::Global;
 use std::marker::Model;
-use wire_fields::{Items, NoMemory};
 
 /// Of a branch of an action: the group that runs it, where the action uses the branch, and whether it may begin an
 /// attempt: none of its attempts is under way, and there may be one more.

@@ -2,9 +2,9 @@ ghost use Rattle.std.specs.Prelude.{◌≡◌, ◌<◌, IfOk, length};
 
 use crate::Ready;
 use exec_journal::{Branch, Maker, Plan, PlanAction};
+use plain_values::{Items, NoMemory, Text};
 use std::alloc::Global;
 use std::test::Fail;
-use wire_fields::{Items, NoMemory, Text};
 
 const WORKERS: u32 = 0;
 

@@ -9,8 +9,8 @@ ghost use Rattle.remote_messages.specs.declared.job.Job.{Job};
 use crate::environment::{env_len, push_env, take_variable};
 use crate::file::NamedFile;
 use outside::Variable;
+use plain_values::{Items, NoMemory, Text};
 use std::alloc::Global;
-use wire_fields::{Items, NoMemory, Text};
 use wire_messages::{
     Message, MessageFault, Value, decode, encode, int32_len, messages_len, push_int32,
     push_messages, push_texts, texts_len,

@@ -6,8 +6,8 @@ ghost use Rattle.remote_messages.specs.JobResult.{SpellsJobResult, FaultyJobResu
 ghost use Rattle.remote_messages.specs.declared.job_result.JobResult.{JobResult};
 
 use crate::file::NamedFile;
+use plain_values::{Items, NoMemory, Text};
 use std::alloc::Global;
-use wire_fields::{Items, NoMemory, Text};
 use wire_messages::{
     Message, MessageFault, Value, bytes_len, decode, encode, int32_len, messages_len, push_bytes,
     push_int32, push_messages,

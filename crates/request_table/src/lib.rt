@@ -9,9 +9,9 @@ pub mod laws;
 
 use arrayvec::ArrayVec;
 use exec_journal::{Branch, Kind, Plan, PlanAction};
+use plain_values::NoMemory;
 use std::alloc::Global;
 use std::marker::Model;
-use wire_fields::NoMemory;
 
 /// What an answer finds. The two numbers are action and attempt.
 #[derive(Clone, Copy, Debug, PartialEq, Eq)]

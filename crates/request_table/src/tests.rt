@@ -4,9 +4,9 @@ ghost use Rattle.request_table.specs.Rows.{new_line};
 
 use crate::{Matching, Requests};
 use exec_journal::{Branch, Group, Kind, Plan, PlanAction};
+use plain_values::{Items, NoMemory, Text};
 use std::alloc::Global;
 use std::test::Fail;
-use wire_fields::{Items, NoMemory, Text};
 
 // The table of two actions that one group runs, with two attempts.
 fn two_actions(alloc: Global, kind: Kind) -> Result<Requests, NoMemory>

@@ -8,9 +8,9 @@ ghost use Rattle.retry_rules.specs.Stands.{Stands};
 pub mod laws;
 
 use exec_journal::{Branch, Cause, Plan};
+use plain_values::NoMemory;
 use std::alloc::Global;
 use std::marker::Model;
-use wire_fields::NoMemory;
 
 /// What comes after the end of an attempt.
 #[derive(Clone, Copy, Debug, PartialEq, Eq)]

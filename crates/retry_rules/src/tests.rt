@@ -2,9 +2,9 @@ ghost use Rattle.std.specs.Prelude.{◌≡◌, IfOk, length};
 
 use crate::{After, Attempts};
 use exec_journal::{Branch, Cause, Plan, PlanAction};
+use plain_values::{Items, NoMemory, Text};
 use std::alloc::Global;
 use std::test::Fail;
-use wire_fields::{Items, NoMemory, Text};
 
 // One action for a worker, with two attempts.
 fn one_action(alloc: Global) -> Result<Plan, NoMemory>

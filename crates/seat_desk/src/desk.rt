@@ -13,11 +13,11 @@ use crate::rule::Turns;
 use crate::turn::{follow, step};
 use crate::view::{Role, Stage, View};
 use atomic_table::{Seat, Table};
+use plain_values::NoMemory;
 use std::alloc::Global;
 use std::snapshot::Snapshot;
 use std::sync::{Mutex, Wait};
 use std::thread::yield_now;
-use wire_fields::NoMemory;
 
 /// The entries that one call may need room for: its own, and two that the machine may owe after it.
 const ROOM_OF_A_CALL: u64 = 3;

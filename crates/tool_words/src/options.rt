@@ -6,8 +6,8 @@ ghost use Rattle.tool_words.specs.Options.{options_of, AreInLimits, is_accepted,
 ghost use Rattle.tool_words.specs.Words.{text_in};
 
 use crate::word::Kind;
+use plain_values::{Items, NoMemory, Text};
 use std::alloc::Global;
-use wire_fields::{Items, NoMemory, Text};
 
 // Every kind of word that there is.
 const KINDS: [Kind; 8] = [

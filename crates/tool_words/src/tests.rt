@@ -1,7 +1,7 @@
 use crate::{Options, read_words};
+use plain_values::NoMemory;
 use std::alloc::Global;
 use std::test::Fail;
-use wire_fields::NoMemory;
 
 // The words of a command line that has one space between two of them.
 fn words_of(alloc: Global, line: &str) -> Result<Vec<String>, NoMemory> {

@@ -2,7 +2,7 @@ use super::*;
 use std::test::*;
 
 #[test]
-fn numbers_and_small_types_hold_what_was_put(rt: HostRuntime) -> Result<(), Fail> {
+fn numbers_are_spelled_as_the_encoding_page_says(rt: HostRuntime) -> Result<(), Fail> {
     let alloc = rt.alloc();
     // The encoding page's own examples, 1 and 150, and the ends of what a varint can be.
     let numbers: [(u64, &[u8]); 5] = [
@@ -20,9 +20,5 @@ fn numbers_and_small_types_hold_what_was_put(rt: HostRuntime) -> Result<(), Fail
         assert!(rt; read_varint(bytes) == Varint::Whole { value, used });
         assert_eq!(rt; varint_length(value), used as u64);
     }
-    let text = Text::copy_of(alloc, "gr\u{fc}n")?;
-    assert_eq!(rt; text.as_str(), "gr\u{fc}n");
-    let blob = Blob::of(alloc, Vec::from_slice(alloc, b"abc")?)?;
-    assert_eq!(rt; blob.again()?.bytes(), b"abc".as_slice());
     Ok(())
 }

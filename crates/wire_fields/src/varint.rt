@@ -3,7 +3,7 @@ ghost use Rattle.std.specs.Prelude.{◌≡◌, ◌++◌, ◌≤◌, OnOk, OnErr,
 ghost use Rattle.wire_fields.specs.Varint.{IsVarintAt, varint};
 ghost use Rattle.wire_fields.specs.Grammar.{SpellsVarint, VarintGrammar};
 
-use crate::NoMemory;
+use plain_values::NoMemory;
 
 // Nine bytes hold 63 bits, and a number has 64.
 const TENTH_BYTE_MAX: u8 = 1;

@@ -1,8 +1,9 @@
 // Why bytes are no message.
 ghost use Rattle.std.specs.Prelude.{◌≡◌};
 
+use plain_values::NoMemory;
 use std::alloc::{AllocError, AllocFailed};
-use wire_fields::{FieldFault, NoMemory};
+use wire_fields::FieldFault;
 
 /// The first fault from the left. Bytes in the binary form have one of the first four; the four after them
 /// are those of a line in the JSON form, and never come from this crate.

@@ -4,8 +4,8 @@ use crate::measure::bytes_len;
 use crate::message::Message;
 use crate::push::push_bytes;
 use crate::value::Value;
+use plain_values::{Items, NoMemory, Text};
 use std::alloc::Global;
-use wire_fields::{Items, NoMemory, Text};
 
 /// A file that a request may read, and the digest of its bytes.
 #[derive(Drop)]

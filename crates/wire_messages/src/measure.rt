@@ -3,7 +3,8 @@ ghost use Rattle.std.specs.Prelude.{◌≡◌, ◌++◌, ◌+◌, ◌<◌, ◌�
 ghost use Rattle.wire_fields.specs.Spelling.{spelling, capped, number_field, int32_field, bool_field, bytes_field, one_bytes, repeated_field};
 
 use crate::message::Message;
-use wire_fields::{Text, varint_length};
+use plain_values::Text;
+use wire_fields::varint_length;
 
 /// The length of what `push_number` puts.
 pub fn number_len(number: u32, value: u64) -> u64

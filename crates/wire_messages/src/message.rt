@@ -9,8 +9,9 @@ ghost use Rattle.wire_messages.specs.Fault.{Fails, Answers};
 
 use crate::fault::MessageFault;
 use crate::value::{Value, split_field};
+use plain_values::NoMemory;
 use std::alloc::Global;
-use wire_fields::{NoMemory, push_varint, varint_length};
+use wire_fields::{push_varint, varint_length};
 
 /// A kind of message, which takes its fields in order.
 pub trait Message: Sized + Drop {

@@ -4,7 +4,8 @@ ghost use Rattle.wire_fields.specs.Spelling.{spelling, number_field, int32_field
 ghost use Rattle.wire_fields.specs.After.{IsText};
 
 use crate::message::Message;
-use wire_fields::{NoMemory, Text, push_varint};
+use plain_values::{NoMemory, Text};
+use wire_fields::push_varint;
 
 /// Puts a number, if it is not 0.
 pub fn push_number(out: &mut Vec<u8>, number: u32, value: u64) -> Result<(), NoMemory>

@@ -11,8 +11,8 @@ use crate::measure::{bool_len, bytes_len, int32_len, messages_len, texts_len};
 use crate::message::{Message, decode, encode};
 use crate::push::{push_bool, push_bytes, push_int32, push_messages, push_texts};
 use crate::value::Value;
+use plain_values::{Items, NoMemory, Text};
 use std::alloc::Global;
-use wire_fields::{Items, NoMemory, Text};
 
 /// What a worker is asked.
 #[derive(Drop)]

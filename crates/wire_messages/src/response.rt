@@ -10,8 +10,8 @@ use crate::measure::{bool_len, bytes_len, int32_len};
 use crate::message::{Message, decode, encode};
 use crate::push::{push_bool, push_bytes, push_int32};
 use crate::value::Value;
+use plain_values::{NoMemory, Text};
 use std::alloc::Global;
-use wire_fields::{NoMemory, Text};
 
 /// What a worker answers.
 #[derive(Drop)]

@@ -1,9 +1,9 @@
 mod vectors;
 
 use super::*;
+use plain_values::{Items, Text};
 use std::alloc::Global;
 use std::test::*;
-use wire_fields::{Items, Text};
 
 fn text(alloc: Global, s: &str) -> Result<Text, Fail> {
     Ok(Text::copy_of(alloc, s)?)

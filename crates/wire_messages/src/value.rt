@@ -10,9 +10,10 @@ ghost use Rattle.wire_messages.specs.declared.fault.MessageFault.TheVariants as 
 
 use crate::fault::MessageFault;
 use crate::message::{Message, decode};
+use plain_values::{Blob, Items, NoMemory, Text};
 use std::alloc::Global;
 use std::mem;
-use wire_fields::{Blob, Field, FieldValue, Items, NoMemory, Text, next_field};
+use wire_fields::{Field, FieldValue, next_field};
 
 /// What a field holds.
 #[derive(Clone, Copy)]

@@ -1,4 +1,4 @@
-use wire_fields::{Blob, Items, Text};
+use plain_values::{Blob, Items, Text};
 
 /// A name with a value: a variable, or the path of a tool with the digits of its digest.
 #[derive(Drop)]

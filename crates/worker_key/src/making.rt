@@ -3,9 +3,9 @@ ghost use Rattle.worker_key.specs.Keys.{digest_text, key_of, named_tool};
 
 use crate::{KeyParts, Named, Tool, WorkerKey};
 use hex::encode;
+use plain_values::{Items, NoMemory, Text, texts_again};
 use sha2::{Digest, Sha256};
 use std::alloc::Global;
-use wire_fields::{Items, NoMemory, Text};
 
 impl WorkerKey {
     /// The key of these parts, with the digest of each tool in place of its bytes.
@@ -26,16 +26,6 @@ impl WorkerKey {
             cancel: parts.cancel,
         })
     }
-}
-
-fn texts_again(alloc: Global, texts: &[Text]) -> Result<Items<Text>, NoMemory>
-    ensures { IfOk result (λ l. l ≡ texts.now) }
-{
-    let mut copies = Vec::new(alloc);
-    for text in texts {
-        copies.push(Text::copy_of(alloc, text.as_str())?)?;
-    }
-    Ok(Items::of(copies))
 }
 
 fn named_again(alloc: Global, pairs: &[Named]) -> Result<Items<Named>, NoMemory>

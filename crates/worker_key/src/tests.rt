@@ -1,7 +1,7 @@
 use crate::{KeyParts, Mode, Named, Tool, WorkerKey};
+use plain_values::{Blob, Items, NoMemory, Text};
 use std::alloc::Global;
 use std::test::Fail;
-use wire_fields::{Blob, Items, NoMemory, Text};
 
 fn named(alloc: Global, name: &str, value: &str) -> Result<Named, NoMemory> {
     Ok(Named {

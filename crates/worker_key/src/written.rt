@@ -5,8 +5,8 @@ ghost use Rattle.worker_key.specs.Keys.{AreOnlyOf, AreShort, canonical, counted,
 
 use crate::making::digest_of;
 use crate::{Mode, Named, WorkerKey};
+use plain_values::{NoMemory, Text};
 use std::alloc::Global;
-use wire_fields::{NoMemory, Text};
 
 impl WorkerKey {
     /// The bytes that stand for the key: each of its strings after the string's length, which takes

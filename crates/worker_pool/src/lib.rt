@@ -10,9 +10,9 @@ ghost use Rattle.worker_pool.specs.Stands.{Stands};
 pub mod laws;
 
 use exec_journal::{Group, Kind, Plan};
+use plain_values::NoMemory;
 use std::alloc::Global;
 use std::marker::Model;
-use wire_fields::NoMemory;
 
 /// What is known of a line.
 #[derive(Clone, Copy, Debug, PartialEq, Eq)]

@@ -4,9 +4,9 @@ ghost use Rattle.worker_pool.specs.Rows.{Facts, empty_berth};
 
 use crate::Pool;
 use exec_journal::{Group, Kind, Plan, PlanAction};
+use plain_values::{Items, NoMemory, Text};
 use std::alloc::Global;
 use std::test::Fail;
-use wire_fields::{Items, NoMemory, Text};
 
 // Berth 0 has Single lines, berth 1 Multi lines. One action with two attempts: there may be 4 lines.
 fn new_pool(alloc: Global) -> Result<Pool, NoMemory>

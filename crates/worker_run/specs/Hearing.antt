@@ -1,6 +1,6 @@
 -- The answers of a hearing, by cases.
 use Rattle.std.specs.Prelude.{◌≡◌, ℕ, pos, false, List, Result, Ok, Err}
-use Rattle.wire_fields.specs.declared.no_memory.NoMemory.{NoMemory}
+use Rattle.plain_values.specs.declared.no_memory.NoMemory.{NoMemory}
 use Rattle.wire_messages.specs.declared.response.WorkResponse.{WorkResponse}
 use Rattle.worker_run.specs.Heard.{IsPlain}
 use Rattle.worker_run.specs.declared.hearing.Heard.{Heard}

@@ -1,6 +1,6 @@
 -- The answers of the steps of one line, by cases.
 use Rattle.std.specs.Prelude.{List, ℕ, Result, Ok, Err}
-use Rattle.wire_fields.specs.declared.no_memory.NoMemory.{NoMemory}
+use Rattle.plain_values.specs.declared.no_memory.NoMemory.{NoMemory}
 use Rattle.outside.specs.declared.answers.Launch.{Launch}
 use Rattle.outside.specs.declared.answers.Launch.TheVariants as launch
 use Rattle.worker_run.specs.declared.room.Gathered.{Gathered}

@@ -7,7 +7,7 @@ ghost use Rattle.worker_run.specs.Rooms.{writes_of};
 ghost use Rattle.worker_run.specs.Commits.{IsPlaceFault, written_of};
 
 use outside::{Io, Place};
-use wire_fields::{Blob, Text};
+use plain_values::{Blob, Text};
 
 /// How the writes ended.
 #[derive(Clone, Copy, Debug, PartialEq, Eq)]

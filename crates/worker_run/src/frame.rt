@@ -3,9 +3,9 @@ ghost use Rattle.std.specs.Prelude.{◌≡◌, ◌∷◌, [], IfOk, map};
 ghost use Rattle.worker_run.specs.Frame.{digest_text, input_of, request_frame};
 
 use outside::SourceFile;
+use plain_values::{Items, NoMemory, Text};
 use sha2::{Digest, Sha256};
 use std::alloc::Global;
-use wire_fields::{Items, NoMemory, Text};
 use wire_messages::{Input, WorkRequest, encode_delimited};
 
 /// How much a worker may print that was asked to say more.

@@ -8,8 +8,8 @@ ghost use Rattle.worker_run.specs.Hearing.{OnAnswer, OnNoAnswer, IsTapFault, Jud
 
 use delimited_framing::{Next, Splitter};
 use outside::{Taken, Tap};
+use plain_values::{NoMemory, Text};
 use std::alloc::Global;
-use wire_fields::{NoMemory, Text};
 use wire_messages::{MessageFault, WorkResponse, decode_response};
 
 /// The largest message, in bytes.

@@ -15,8 +15,8 @@ use crate::line::{Reached, Stopped};
 use exec_journal::{
     Answer, Branch, Call, CommitEnd, Entry, Found, HowEnded, Journal, Reply, Started, Why, Written,
 };
+use plain_values::{Blob, Items, Text};
 use std::alloc::Global;
-use wire_fields::{Blob, Items, Text};
 
 /// The most entries of a run of one action: all of its steps, or some of them and a halt of each lane.
 pub const ENTRIES: usize = 16;

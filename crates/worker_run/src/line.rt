@@ -15,9 +15,9 @@ use crate::hearing::{Heard, Silence, hear, listen};
 use crate::room::{Gathered, fill, gather, launch};
 use crate::work::Work;
 use outside::{Berth, Child, Feed, Io, Launch, Place, Tap};
+use plain_values::{Blob, Items, NoMemory, Text};
 use std::alloc::Global;
 use std::marker::Model;
-use wire_fields::{Blob, Items, NoMemory, Text};
 
 /// How far the line of the one action came.
 #[derive(Drop)]

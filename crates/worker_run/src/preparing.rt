@@ -20,9 +20,9 @@ use action_list::{ActionList, ListAction, group_parts, plan};
 use exec_journal::Plan;
 use flag_files::{FlagFault, SplitFault, expand, split_args};
 use outside::{Command, SourceFile};
+use plain_values::{Items, NoMemory, Text, texts_again};
 use std::alloc::Global;
 use tool_words::Options;
-use wire_fields::{Items, NoMemory, Text};
 
 /// What the one action of the list asks of the outside, where these are its sources.
 ///
@@ -130,14 +130,4 @@ fn command_of(
         // The action's worker key is a group.
         None => unreachable!(),
     }
-}
-
-fn texts_again(alloc: Global, texts: &[Text]) -> Result<Items<Text>, NoMemory>
-    ensures { IfOk result (λ copies. copies ≡ texts.now) }
-{
-    let mut copies = Vec::new(alloc);
-    for text in texts {
-        copies.push(Text::copy_of(alloc, text.as_str())?)?;
-    }
-    Ok(Items::of(copies))
 }

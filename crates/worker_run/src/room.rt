@@ -12,8 +12,8 @@ ghost use Rattle.worker_run.specs.Rooms.{AddsRun, launch_asks, launch_calls, Fol
 ghost use Rattle.worker_run.specs.Steps.{OnNotStarted, OnFiles, OnNoFiles, OnMissing, IsRoomFault};
 
 use outside::{Berth, Command, Io, Launch, Read, SourceFile};
+use plain_values::{Blob, NoMemory, Text};
 use std::alloc::Global;
-use wire_fields::{Blob, NoMemory, Text};
 
 /// What the looks at the outputs gave.
 #[derive(Drop)]

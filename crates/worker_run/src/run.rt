@@ -17,10 +17,10 @@ use crate::{Ended, RunFault, Stage, Unbuilt};
 use build_report::report;
 use exec_journal::{Journal, Plan};
 use outside::{Floor, Io, Sink};
+use plain_values::NoMemory;
 use std::alloc::Global;
 use std::sync::Wait;
 use std::thread::Threads;
-use wire_fields::NoMemory;
 
 /// Runs the actions of the list that the words name, on this floor, and puts the report.
 ///

@@ -13,8 +13,8 @@ use crate::line::{Line, LineRun};
 use crate::{Ended, EndedLine, Halves};
 use exec_journal::Entry;
 use outside::{Berth, Floor};
+use plain_values::NoMemory;
 use std::alloc::Global;
-use wire_fields::NoMemory;
 
 /// What a run of one action works with.
 #[derive(Drop)]

@@ -12,8 +12,8 @@ use crate::RunFault;
 use action_list::ListAction;
 use indexmap::IndexMap;
 use outside::{Floor, Read, SourceFile};
+use plain_values::{Blob, Items, NoMemory, Text};
 use std::alloc::Global;
-use wire_fields::{Blob, Items, NoMemory, Text};
 
 /// The files that were found, by their paths, in the order of their reads.
 #[derive(Drop)]

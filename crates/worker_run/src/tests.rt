@@ -1,12 +1,12 @@
 use crate::{RunFault, Unbuilt, fault_line, run_build};
 use outside::{BerthCall, Command, SourceFile};
 use outside_mem::{Beat, FailAt, MemBerth, MemFloor, MemSink, Object, Script};
+use plain_values::{Blob, NoMemory, Text};
 use std::alloc::Global;
 use std::process::Abort;
 use std::sync::Wait;
 use std::test::Fail;
 use std::thread::Threads;
-use wire_fields::{Blob, NoMemory, Text};
 
 const LIST: &str =
     "{\"actions\":[{\"name\":\"a\",\"mnemonic\":\"T\",\"argv\":[\"t\",\"@f\"],\"inputs\":[\"f\"],\"outputs\":[\"o\"],\"requirements\":{\"supports-workers\":\"1\"}}]}";

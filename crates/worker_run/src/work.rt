@@ -1,6 +1,6 @@
 use exec_journal::Plan;
 use outside::{Command, SourceFile};
-use wire_fields::{Items, Text};
+use plain_values::{Items, Text};
 
 /// What the one action of a list asks of the outside.
 #[derive(Drop)]

@@ -1,6 +1,6 @@
 ghost use Rattle.std.specs.Prelude.{◌≡◌, List, ℕ, string_bytes, IfOk};
 
-use crate::NoMemory;
+use crate::{Items, NoMemory};
 use std::alloc::Global;
 use std::marker::Model;
 
@@ -43,4 +43,19 @@ impl Text {
             text: String::from_str(alloc, text)?,
         })
     }
+}
+
+/// The same texts, in memory of their own.
+///
+/// # Errors
+///
+/// `NoMemory` where that memory is not there.
+pub fn texts_again(alloc: Global, texts: &[Text]) -> Result<Items<Text>, NoMemory>
+    ensures { IfOk result (λ l. l ≡ texts.now) }
+{
+    let mut copies = Vec::new(alloc);
+    for text in texts {
+        copies.push(Text::copy_of(alloc, text.as_str())?)?;
+    }
+    Ok(Items::of(copies))
 }
