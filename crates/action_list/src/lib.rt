@@ -44,6 +44,3 @@ pub fn read_list(alloc: Global, bytes: &[u8]) -> Result<ActionList, ListRefusal>
 {
     listed::list_of(alloc, MAX_KEYS, bytes)
 }
-
-#[cfg(test)]
-mod tests;

@@ -7,6 +7,3 @@ mod words;
 
 pub use fault::{RunFault, Stage, Unbuilt, fault_line};
 pub use telling::{report, status};
-
-#[cfg(test)]
-mod tests;

@@ -169,6 +169,3 @@ fn new_lines(alloc: Global, room: usize) -> Result<Vec<ArrayVec<Place, 8>>, NoMe
     }
     Ok(lines)
 }
-
-#[cfg(test)]
-mod tests;

@@ -8,6 +8,3 @@ mod texts;
 
 pub use expanding::{FlagFault, expand};
 pub use splitting::{Split, SplitFault, split_args};
-
-#[cfg(test)]
-mod tests;

@@ -2,11 +2,13 @@
 //! These objects are the trusted edge. They keep the traits' counts, and tell nothing of what they hold.
 #![tactic(auto)]
 
+mod disk;
 mod floor;
 mod line;
 mod place;
 mod room;
 mod sink;
+mod spawn;
 
 pub use floor::RealFloor;
 pub use line::{RealChild, RealFeed, RealTap};

@@ -10,6 +10,3 @@ pub use blob::Blob;
 pub use items::Items;
 pub use no_memory::NoMemory;
 pub use text::{Text, texts_again};
-
-#[cfg(test)]
-mod tests;

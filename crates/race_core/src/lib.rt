@@ -118,6 +118,3 @@ impl Won {
         }
     }
 }
-
-#[cfg(test)]
-mod tests;

@@ -227,6 +227,3 @@ fn has_success(actions: &[ActionState], action: u32) -> bool
         None => false,
     }
 }
-
-#[cfg(test)]
-mod tests;

@@ -376,6 +376,3 @@ fn is_single_group(plan: &Plan, group: Option<u32>) -> bool
         None => true,
     }
 }
-
-#[cfg(test)]
-mod tests;

@@ -112,6 +112,3 @@ fn what_follows(number: u32, limit: u32) -> After
         After::Spent
     }
 }
-
-#[cfg(test)]
-mod tests;

@@ -5,6 +5,3 @@ mod options;
 mod word;
 
 pub use options::{Options, read_words};
-
-#[cfg(test)]
-mod tests;

@@ -25,6 +25,3 @@ pub use readings::{requests_are_read_one_way, responses_are_read_one_way};
 pub use request::{WorkRequest, decode_request, encode_request};
 pub use response::{WorkResponse, decode_response, encode_response};
 pub use value::{Value, push_item};
-
-#[cfg(test)]
-mod tests;

@@ -6,6 +6,3 @@ mod making;
 mod written;
 
 pub use key::{KeyParts, Mode, Named, Tool, WorkerKey};
-
-#[cfg(test)]
-mod tests;

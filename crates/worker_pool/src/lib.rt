@@ -249,6 +249,3 @@ fn capacity_of(kind: Kind) -> u32
         Kind::Multi | Kind::Boxed | Kind::Remote => 8,
     }
 }
-
-#[cfg(test)]
-mod tests;

@@ -1,7 +1,15 @@
-use crate::{KeyParts, Mode, Named, Tool, WorkerKey};
+// The key of one worker.
 use plain_values::{Blob, Items, NoMemory, Text};
 use std::alloc::Global;
-use std::test::Fail;
+use worker_key::{KeyParts, Mode, Named, Tool, WorkerKey};
+
+/// The length of the key's canonical bytes, and its name.
+pub fn key(alloc: Global) -> Result<String, NoMemory> {
+    let key = WorkerKey::of(alloc, &parts(alloc)?)?;
+    let length = key.canonical_bytes(alloc)?.len();
+    let name = key.name(alloc)?;
+    Ok(format!(in alloc; "{length} {}", name.as_str())?)
+}
 
 fn named(alloc: Global, name: &str, value: &str) -> Result<Named, NoMemory> {
     Ok(Named {
@@ -30,21 +38,4 @@ fn parts(alloc: Global) -> Result<KeyParts, NoMemory> {
         mode: Mode::Multi,
         cancel: true,
     })
-}
-
-fn length_and_name(alloc: Global) -> Result<(usize, Text), NoMemory> {
-    let key = WorkerKey::of(alloc, &parts(alloc)?)?;
-    Ok((key.canonical_bytes(alloc)?.len(), key.name(alloc)?))
-}
-
-// The length and the digest were computed by another program, Python's `struct` and `hashlib`.
-#[test]
-fn a_key_has_the_name_that_another_program_gives(rt: HostRuntime) -> Result<(), Fail> {
-    let (length, name) = length_and_name(rt.alloc()).or(Err("no memory"))?;
-    assert_eq!(rt; length, 209);
-    assert_eq!(rt;
-        name.as_str(),
-        "b2f8623a0ad780d411ed4bbf20c539b3c877a07900956a3c94a8b60e6e2990e1"
-    );
-    Ok(())
 }

@@ -1,0 +1,54 @@
+// Lists: their faults, and the groups of their plans.
+ghost use Rattle.action_list.specs.Whole.{IsWhole};
+
+use action_list::{ActionList, ListRefusal, group_parts, plan, read_list};
+use build_report::{RunFault, fault_line};
+use plain_values::NoMemory;
+use std::alloc::Global;
+
+const INSTANCES: u32 = 4;
+
+pub fn list(alloc: Global, json: &str) -> Result<String, NoMemory> {
+    match read_list(alloc, json.as_bytes()) {
+        Ok(list) => {
+            let count = list.actions.as_slice().len();
+            Ok(format!(in alloc; "{count} actions")?)
+        }
+        Err(refusal) => refused(alloc, refusal),
+    }
+}
+
+// The line of the fault, and behind it what to look at.
+fn refused(alloc: Global, refusal: ListRefusal) -> Result<String, NoMemory> {
+    match refusal {
+        ListRefusal::Fault(fault) => {
+            let hint = format!(in alloc; "{fault}")?;
+            let line = fault_line(alloc, &RunFault::List(fault))?;
+            Ok(format!(in alloc; "{}\n  {}", line.as_str(), hint.as_str())?)
+        }
+        ListRefusal::NoMemory => Err(NoMemory),
+    }
+}
+
+pub fn groups(alloc: Global, json: &str) -> Result<String, NoMemory> {
+    match read_list(alloc, json.as_bytes()) {
+        Ok(list) => groups_of(alloc, &list),
+        Err(refusal) => refused(alloc, refusal),
+    }
+}
+
+fn groups_of(alloc: Global, list: &ActionList) -> Result<String, NoMemory>
+    requires { IsWhole list.now.actions }
+{
+    let plan = plan(alloc, list, INSTANCES, 1, 1)?;
+    let mut told = String::new(alloc);
+    for group in plan.groups.as_slice() {
+        let part = format!(in alloc; "{:?}*{} ", group.kind, group.berths)?;
+        told.push_str(part.as_str())?;
+    }
+    for part in group_parts(alloc, list, &plan, &[], "x")?.as_slice() {
+        let speech = format!(in alloc; "{:?}:{} ", part.speech, part.command.program.as_str())?;
+        told.push_str(speech.as_str())?;
+    }
+    Ok(told)
+}

@@ -1,0 +1,77 @@
+//! Plays cases of paths, words, flag files and lists, one a line of standard input, and prints what each comes to.
+//!
+//! | A line | Prints |
+//! |---|---|
+//! | `path PATH` | the path's fault, or `ok` |
+//! | `words WORD WORD ..` | the options that the command's words give, or `refused` |
+//! | `split WORD WORD ..` | start-up words and request words, or `no flag file` |
+//! | `file PATH TEXT`, `bad PATH` | nothing: a file for `expand`, or one that isn't UTF-8 |
+//! | `expand WORD WORD ..` | the words that they stand for, or the fault |
+//! | `list JSON` | how many actions it has, or the line of its fault and what to look at |
+//! | `plan JSON` | its groups with their berths, and the program of each |
+//! | `key` | the length of a worker key's canonical bytes, and its name |
+//! | `report HOW`, `short HOW` | the report of an action that was `won`, or `failed`, and its status |
+//! | `faults` | the line and the status of each other fault |
+//!
+//! In the text of a file `␊` stands for a line feed and `␍` for a carriage return. Other lines are printed as they are.
+#![tactic(auto)]
+
+mod files;
+mod keys;
+mod lists;
+mod reports;
+mod words;
+
+use files::CaseFiles;
+use plain_values::NoMemory;
+use std::alloc::Global;
+use std::io::{ErrorKind, Read};
+use std::{io, str};
+
+fn main(rt: HostRuntime) -> io::Result<()> {
+    let alloc = rt.alloc();
+    let mut bytes = Vec::new(alloc);
+    rt.reader().read_to_end(&mut bytes)?;
+    let Ok(text) = str::from_utf8(&bytes) else {
+        return Err(io::Error::from(ErrorKind::InvalidData));
+    };
+    let mut files = CaseFiles::new(alloc);
+    for line in text.lines() {
+        let told = play(alloc, &mut files, line).map_err(no_memory)?;
+        if let Some(told) = told {
+            println!(&rt; "{}", told.as_str())?;
+        }
+    }
+    Ok(())
+}
+
+fn no_memory(_: NoMemory) -> io::Error {
+    io::Error::from(ErrorKind::OutOfMemory)
+}
+
+// What the line comes to; nothing where it names a file.
+fn play(alloc: Global, files: &mut CaseFiles, line: &str) -> Result<Option<String>, NoMemory> {
+    let (kind, rest) = line.split_once(' ').unwrap_or((line, ""));
+    match kind {
+        "path" => Ok(Some(words::path(alloc, rest)?)),
+        "words" => Ok(Some(words::options(alloc, rest)?)),
+        "split" => Ok(Some(words::split(alloc, rest)?)),
+        "expand" => Ok(Some(files.expand(alloc, rest)?)),
+        "list" => Ok(Some(lists::list(alloc, rest)?)),
+        "plan" => Ok(Some(lists::groups(alloc, rest)?)),
+        "key" => Ok(Some(keys::key(alloc)?)),
+        "report" => Ok(Some(reports::reported(alloc, rest, false)?)),
+        "short" => Ok(Some(reports::reported(alloc, rest, true)?)),
+        "faults" => Ok(Some(reports::faults(alloc)?)),
+        "file" => {
+            let (path, text) = rest.split_once(' ').unwrap_or((rest, ""));
+            files.add(alloc, path, text)?;
+            Ok(None)
+        }
+        "bad" => {
+            files.add_bad(alloc, rest)?;
+            Ok(None)
+        }
+        _ => Ok(Some(String::from_str(alloc, line)?)),
+    }
+}
