@@ -1,6 +1,8 @@
 //! Runs the actions of a list through their workers, and prints a line for each.
 #![tactic(auto)]
 
+mod hints;
+
 use outside_real::{RealFloor, RealSink};
 use std::alloc::Global;
 use std::env::Env;
@@ -18,7 +20,11 @@ fn main(rt: HostRuntime) -> ExitCode {
     let floor = RealFloor::new(rt, alloc);
     let mut out = RealSink::new(rt);
     let ended = run_build(&rt, alloc, &words, floor, &mut out);
-    end(&rt, alloc, ended.status, ended.fault)
+    let last_error = ended.floor.last_error();
+    if let Some(fault) = &ended.fault {
+        tell(&rt, alloc, fault, last_error);
+    }
+    ExitCode::from(ended.status)
 }
 
 fn words(rt: &(impl Env + AllocGlobal), alloc: Global) -> io::Result<Vec<String>> {
@@ -31,19 +37,21 @@ fn words(rt: &(impl Env + AllocGlobal), alloc: Global) -> io::Result<Vec<String>
 
 // The words weren't read: there was no memory for them, or they aren't text, and then they are wrong words.
 fn end_unread(rt: &impl Eprint, alloc: Global, error: &io::Error) -> ExitCode {
-    match error.kind() {
-        ErrorKind::OutOfMemory => end(rt, alloc, 3, Some(RunFault::NoMemory(Stage::Before))),
-        _ => end(rt, alloc, 2, Some(RunFault::Words)),
-    }
+    let fault = match error.kind() {
+        ErrorKind::OutOfMemory => RunFault::NoMemory(Stage::Before),
+        _ => RunFault::Words,
+    };
+    tell(rt, alloc, &fault, None);
+    ExitCode::from(fault.status())
 }
 
-// Prints the fault's line, unless there is no memory for it, and ends with the status.
-fn end(rt: &impl Eprint, alloc: Global, status: u8, fault: Option<RunFault>) -> ExitCode {
-    if let Some(fault) = fault
-        && let Ok(line) = fault_line(alloc, &fault)
-    {
+// Prints the fault's line and what to look at, as far as there is memory for them.
+fn tell(rt: &impl Eprint, alloc: Global, fault: &RunFault, last_error: Option<&io::Error>) {
+    if let Ok(line) = fault_line(alloc, fault) {
         let _ = rt.eprint(line.as_str());
         let _ = rt.eprint("\n");
     }
-    ExitCode::from(status)
+    if let Ok(lines) = hints::lines(alloc, fault, last_error) {
+        let _ = rt.eprint(lines.as_str());
+    }
 }

@@ -1,0 +1,33 @@
+// What standard error has behind the line of a fault: lines that begin with two spaces and say what to look at.
+use plain_values::NoMemory;
+use std::alloc::Global;
+use std::io;
+use worker_run::RunFault;
+
+const USAGE: &str = "  worker_tool LIST                  run the action list at this path
+  --instances=N                     at most N workers of one key, 1 to 48 (4)
+  --remote=N                        at most N executors, 1 to 16 (1)
+  --retries=N                       make an attempt again up to N times, 0 to 9 (1)
+  --executor=PROGRAM                the executor's program (remote_exec)
+  --extra_flag=WORD                 a further start-up word of each worker; may stand several times
+  --worker_verbose                  ask the workers to say more
+  --generate=N                      in place of LIST: a list of N actions, 1 to 1000
+";
+
+/// The lines of a fault, each with its line feed; no line where there is nothing to add.
+///
+/// # Errors
+///
+/// `NoMemory` where they find no memory.
+pub fn lines(
+    alloc: Global,
+    fault: &RunFault,
+    last_error: Option<&io::Error>,
+) -> Result<String, NoMemory> {
+    match (fault, last_error) {
+        (RunFault::Words, _) => Ok(String::from_str(alloc, USAGE)?),
+        (RunFault::List(fault), _) => Ok(format!(in alloc; "  {fault}\n")?),
+        (RunFault::FloorFailed { .. }, Some(error)) => Ok(format!(in alloc; "  {error}\n")?),
+        _ => Ok(String::new(alloc)),
+    }
+}
