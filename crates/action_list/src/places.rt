@@ -4,9 +4,9 @@ ghost use Rattle.std.specs.Str.{bytes_eq};
 ghost use Rattle.std.specs.Option.{option_copied};
 ghost use Rattle.action_list.specs.Plans.{place_in};
 
-use exec_journal::Maker;
 use indexmap::IndexMap;
 use plain_values::{NoMemory, Text};
+use run_plan::Maker;
 use std::alloc::Global;
 
 /// The place where each path is made.

@@ -1,14 +1,13 @@
 ghost use Rattle.std.specs.Prelude.{◌≡◌, ◌++◌, [], ◌<◌, ◌^◌, length, reverse, string_bytes, IfOk, OnOk, map, option_copied, if◌then◌else◌};
 ghost use Rattle.std.specs.List.{list_all};
-ghost use Rattle.exec_journal.specs.Sound.{Sound};
+ghost use Rattle.run_plan.specs.Sound.{Sound};
 ghost use Rattle.exec_journal.specs.Ends.{ends_of};
 ghost use Rattle.build_report.specs.Report.{report_of, report_by, status_of, is_success, has_failed, is_broken, is_skipped, count_of, lines_from, lines_told, end_line, answer_text, last_line, totals_line};
 ghost use Rattle.build_report.specs.Words.{marked};
 
 use crate::words::{action_name, fate_text, outcome_text, push_marked};
-use exec_journal::{
-    ActionEnd, Answer, Journal, Outcome, Plan, action_ends, has_success, winning_answers,
-};
+use exec_journal::{ActionEnd, Answer, Journal, Outcome, Plan};
+use journal_ends::{action_ends, has_success, winning_answers};
 use plain_values::{NoMemory, Text};
 use std::alloc::Global;
 

@@ -4,8 +4,8 @@ ghost use Rattle.exec_journal.specs.declared.call.Call.TheVariants.{Claim, Commi
 ghost use Rattle.exec_journal.specs.declared.call.CommitEnd.{CommitEnd};
 ghost use Rattle.exec_journal.specs.declared.call.Found.{Found};
 ghost use Rattle.exec_journal.specs.declared.journal.Entry.{Entry};
-ghost use Rattle.exec_journal.specs.declared.plan.Branch.{Branch};
-ghost use Rattle.exec_journal.specs.declared.plan.Plan.{Plan};
+ghost use Rattle.run_plan.specs.declared.plan.Branch.{Branch};
+ghost use Rattle.run_plan.specs.declared.plan.Plan.{Plan};
 ghost use Rattle.exec_journal.specs.declared.reply.Reply.{Reply};
 ghost use Rattle.exec_journal.specs.declared.reply.Reply.TheVariants.{Granted};
 ghost use Rattle.exec_journal.specs.Rules.{is_other};

@@ -2,8 +2,8 @@
 #![tactic(auto)]
 
 ghost use Rattle.std.specs.Prelude.{◌≡◌, ◌<◌, ◌≤◌, IfOk, [], Some, length, slice_get, sum_by};
-ghost use Rattle.exec_journal.specs.Settled.{capacity};
-ghost use Rattle.exec_journal.specs.Sound.{Sound};
+ghost use Rattle.run_plan.specs.Groups.{capacity};
+ghost use Rattle.run_plan.specs.Sound.{Sound};
 ghost use Rattle.worker_pool.specs.Rows.{new_facts, empty_berths, new_line, with_launch, change, set_started, set_broken, set_ended, set_killed, set_unbound, one_more, one_fewer, pending_of, capacity_of, last_of, is_live_row, live_of, free_in, free_of};
 ghost use Rattle.worker_pool.specs.Stands.{Stands};
 
