@@ -120,7 +120,7 @@ gives_frame fed given old frame rest none e s =
     rw none (record { holds = Holds-push old.limit fed given old.rest frame rest s.holds e; fault = tt })
 
 -- all bytes from a place on
-tail_is : (n : ℕ) (xs : List ℕ) → take (length xs - n) (drop n xs) ≡ drop n xs
+pub tail_is : (n : ℕ) (xs : List ℕ) → take (length xs - n) (drop n xs) ≡ drop n xs
 tail_is n xs = let len : length (drop n xs) ≤ length xs - n = omega (arith, length-drop n xs) in take_all (length xs - n) (drop n xs) len
 
 abbrev pub held_at : ℕ → ℕ → List ℕ → Option FrameFault → Held

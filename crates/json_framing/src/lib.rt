@@ -1,13 +1,12 @@
-// A library with one function.
+//! Messages on a stream, each on a line, in whatever pieces the stream comes.
 #![tactic(auto)]
 
-ghost use Rattle.std.specs.Prelude.{◌≡◌};
-ghost use Rattle.json_framing.specs.Echo.{echo_of};
+mod line;
+mod readings;
+mod splitter;
 
-// The `ensures` clause is the contract: what `echo` returns is `echo_of` of its argument, a definition
-// in `specs/Echo.antt`, which a caller's clause can cite too.
-pub fn echo(x: usize) -> usize
-    ensures { result ≡ echo_of x }
-{
-    x
-}
+pub use readings::{given_lines_come_first, one_reading};
+pub use splitter::LineSplitter;
+
+#[cfg(test)]
+mod tests;
