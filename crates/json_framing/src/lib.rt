@@ -7,6 +7,3 @@ mod splitter;
 
 pub use readings::{given_lines_come_first, one_reading};
 pub use splitter::LineSplitter;
-
-#[cfg(test)]
-mod tests;

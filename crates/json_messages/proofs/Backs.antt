@@ -148,11 +148,19 @@ response_plain m = object_plain 0 (response_parts m) (number_plain m.exit_code, 
 pub request_plain : (m : WorkRequest) → IsPlain 3 (object_of (request_parts m))
 request_plain m = object_plain 2 (request_parts m) (
   deeper 1 2 (array_data (map string m.arguments)) (omega arith) (array_plain 0 (map string m.arguments) (texts_plain m.arguments)),
-  (array_plain 1 (map input_data m.inputs) (inputs_plain m.inputs),
-  (deeper 0 2 (number_data m.request_id) (omega arith) (number_plain m.request_id),
-  (deeper 0 2 (flag_data m.cancel) (omega arith) (flag_plain m.cancel),
-  (deeper 0 2 (number_data m.verbosity) (omega arith) (number_plain m.verbosity),
-  (deeper 0 2 (text_data m.sandbox_dir) (omega arith) (text_plain m.sandbox_dir), tt))))),
+  (
+    array_plain 1 (map input_data m.inputs) (inputs_plain m.inputs),
+    (
+      deeper 0 2 (number_data m.request_id) (omega arith) (number_plain m.request_id),
+      (
+        deeper 0 2 (flag_data m.cancel) (omega arith) (flag_plain m.cancel),
+        (
+          deeper 0 2 (number_data m.verbosity) (omega arith) (number_plain m.verbosity),
+          (deeper 0 2 (text_data m.sandbox_dir) (omega arith) (text_plain m.sandbox_dir), tt),
+        ),
+      ),
+    ),
+  ),
 )
 
 -- ---- lines

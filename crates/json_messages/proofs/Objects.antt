@@ -67,9 +67,9 @@ put_exact k d no_members p q = neither (has_float d) false p refl
 put_exact k d (member l e ms) p q =
     let h = first_false (has_float e) (members_have_float ms) q in
     float_by (slice_cmp nat_cmp k l) (member k d (member l e ms)) (member l d ms) (member l e (put k d ms))
-        (neither (has_float d) (has_float e || members_have_float ms) p q)
-        (neither (has_float d) (members_have_float ms) p h.1)
-        (neither (has_float e) (members_have_float (put k d ms)) h.0 (put_exact k d ms p h.1))
+    (neither (has_float d) (has_float e || members_have_float ms) p q)
+    (neither (has_float d) (members_have_float ms) p h.1)
+    (neither (has_float e) (members_have_float (put k d ms)) h.0 (put_exact k d ms p h.1))
 
 depth_by : (o : Ordering) (a b c : Members) (n : ℕ) → members_depth a ≤ n → members_depth b ≤ n → members_depth c ≤ n → members_depth (match_ordering o a b c) ≤ n
 depth_by Less a b c n p q r = p

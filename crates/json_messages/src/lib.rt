@@ -13,6 +13,3 @@ mod write;
 
 pub use read::{read_request_line, read_response_line};
 pub use write::{request_line, response_line};
-
-#[cfg(test)]
-mod tests;

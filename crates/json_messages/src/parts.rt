@@ -31,14 +31,16 @@ impl Parts {
     }
 
     fn put(&mut self, key: JsonKey, value: Value) -> Result<(), NoMemory>
-        ensures { OnOk result (members_view self.new.map.entries ≡ put (camel key) (view value) (members_view self.old.map.entries)) }
+        ensures { OnOk result (members_view self.new.map.entries
+            ≡ put (camel key) (view value) (members_view self.old.map.entries)) }
     {
         serde_json::put(&mut self.map, self.alloc, camel(key), value)?;
         Ok(())
     }
 
     pub(crate) fn number(&mut self, key: JsonKey, number: i32) -> Result<(), NoMemory>
-        ensures { OnOk result (members_view self.new.map.entries ≡ said key (number_data number) (members_view self.old.map.entries)) }
+        ensures { OnOk result (members_view self.new.map.entries
+            ≡ said key (number_data number) (members_view self.old.map.entries)) }
     {
         if number == 0 {
             return Ok(());
@@ -47,7 +49,8 @@ impl Parts {
     }
 
     pub(crate) fn flag(&mut self, key: JsonKey, flag: bool) -> Result<(), NoMemory>
-        ensures { OnOk result (members_view self.new.map.entries ≡ said key (flag_data flag) (members_view self.old.map.entries)) }
+        ensures { OnOk result (members_view self.new.map.entries
+            ≡ said key (flag_data flag) (members_view self.old.map.entries)) }
     {
         if flag {
             self.put(key, Value::Bool(true))?;
@@ -56,7 +59,8 @@ impl Parts {
     }
 
     pub(crate) fn text(&mut self, key: JsonKey, text: &str) -> Result<(), NoMemory>
-        ensures { OnOk result (members_view self.new.map.entries ≡ said key (text_data text.now) (members_view self.old.map.entries)) }
+        ensures { OnOk result (members_view self.new.map.entries
+            ≡ said key (text_data text.now) (members_view self.old.map.entries)) }
     {
         if text.is_empty() {
             return Ok(());
@@ -66,7 +70,8 @@ impl Parts {
     }
 
     pub(crate) fn digest(&mut self, key: JsonKey, bytes: &[u8]) -> Result<(), NoMemory>
-        ensures put { OnOk result (members_view self.new.map.entries ≡ said key (digest_data bytes.now) (members_view self.old.map.entries)) }
+        ensures put { OnOk result (members_view self.new.map.entries
+            ≡ said key (digest_data bytes.now) (members_view self.old.map.entries)) }
         ensures bytes { IsBytes bytes.now }
     {
         if bytes.is_empty() {
@@ -77,7 +82,8 @@ impl Parts {
     }
 
     pub(crate) fn list(&mut self, key: JsonKey, values: Vec<Value>) -> Result<(), NoMemory>
-        ensures { OnOk result (members_view self.new.map.entries ≡ said key (array_data (map view values.items)) (members_view self.old.map.entries)) }
+        ensures { OnOk result (members_view self.new.map.entries
+            ≡ said key (array_data (map view values.items)) (members_view self.old.map.entries)) }
     {
         if values.is_empty() {
             return Ok(());
