@@ -1,7 +1,7 @@
 -- The bytes that are due for an order, by what its line speaks.
 use Rattle.std.specs.Prelude.{◌≡◌, ℕ, ℤ, List, length, ltb, if◌then◌else◌}
-use Rattle.exec_journal.specs.declared.plan.Speech.{Speech}
-use Rattle.exec_journal.specs.declared.plan.Speech.TheVariants as speech
+use Rattle.run_plan.specs.declared.plan.Speech.{Speech}
+use Rattle.run_plan.specs.declared.plan.Speech.TheVariants as speech
 use Rattle.wire_fields.specs.Spelling.{delimited}
 use Rattle.wire_messages.specs.Request.{request_spelling}
 use Rattle.wire_messages.specs.declared.request.WorkRequest.{WorkRequest}

@@ -1,7 +1,7 @@
 -- The requests that a worker is written for an order.
 use Rattle.std.specs.Prelude.{ℕ, ℤ, List, [], map, Bool, true, false, pos, if◌then◌else◌}
-use Rattle.exec_journal.specs.declared.plan.Kind.{Kind}
-use Rattle.exec_journal.specs.declared.plan.Kind.TheVariants as kind
+use Rattle.run_plan.specs.declared.plan.Kind.{Kind}
+use Rattle.run_plan.specs.declared.plan.Kind.TheVariants as kind
 use Rattle.wire_messages.specs.declared.input.Input.{Input}
 use Rattle.wire_messages.specs.declared.request.WorkRequest.{WorkRequest}
 use Rattle.remote_messages.specs.declared.file.NamedFile.{NamedFile}
