@@ -42,7 +42,8 @@ impl Places {
 
     fn note(&mut self, alloc: Global, path: &str, maker: Maker) -> Result<(), NoMemory>
         ensures { OnOk result ((q : List ℕ)
-            → place_of self.new q ≡ (if bytes_eq path.now q then Some maker else place_of self.old q)) }
+            → place_of self.new q ≡
+            (if bytes_eq path.now q then Some maker else place_of self.old q)) }
     {
         self.makers.insert(String::from_str(alloc, path)?, maker)?;
         Ok(())

@@ -192,7 +192,8 @@ fn push_key_groups(
 ) -> Result<(), NoMemory>
     requires { length held.now ≤ 4096 }
     ensures { OnOk result
-        (groups.new.items ≡ groups.old.items ++ map (key_group actions.now held.now each) keys.now) }
+        (groups.new.items ≡ groups.old.items ++ map
+        (key_group actions.now held.now each) keys.now) }
 {
     for key in keys {
         groups.push(key_group(actions, held, each, key.bytes()))?;

@@ -56,7 +56,8 @@ fn report_text(
 ) -> Result<String, NoMemory>
     requires few { length ends.now < 2 ^ 32 }
     requires count { length ends.now ≡ length plan.now.actions }
-    ensures { IfOk result (λ s. string_bytes s ≡ report_by plan.now (reverse j.now) short ends.now) }
+    ensures { IfOk result (λ s. string_bytes s ≡ report_by plan.now
+        (reverse j.now) short ends.now) }
 {
     let mut text = String::new(alloc);
     if !short {
@@ -77,7 +78,8 @@ fn push_lines(
 ) -> Result<(), NoMemory>
     requires few { length ends.now < 2 ^ 32 }
     requires count { length ends.now ≡ length plan.now.actions }
-    ensures { OnOk result (string_bytes text.new ≡ string_bytes text.old ++ lines_from plan.now (reverse j.now) 0 ends.now) }
+    ensures { OnOk result (string_bytes text.new ≡ string_bytes text.old ++ lines_from plan.now
+        (reverse j.now) 0 ends.now) }
 {
     let answers = winning_answers(alloc, plan, j)?;
     push_told(alloc, text, plan, ends, answers.as_slice())
@@ -92,7 +94,8 @@ fn push_told(
 ) -> Result<(), NoMemory>
     requires few { length ends.now < 2 ^ 32 }
     requires count { length ends.now ≡ length answers.now }
-    ensures { OnOk result (string_bytes text.new ≡ string_bytes text.old ++ lines_told plan.now 0 ends.now (map option_copied answers.now)) }
+    ensures { OnOk result (string_bytes text.new ≡ string_bytes text.old
+        ++ lines_told plan.now 0 ends.now (map option_copied answers.now)) }
 {
     for (a, end) in ends.iter().enumerate() {
         push_action(alloc, text, plan, a as u32, end, text_of(answers[a]))?;
@@ -108,7 +111,8 @@ fn push_action(
     end: &ActionEnd,
     answer: &str,
 ) -> Result<(), NoMemory>
-    ensures { OnOk result (string_bytes text.new ≡ string_bytes text.old ++ (end_line plan.now action end.now ++ marked answer.now)) }
+    ensures { OnOk result (string_bytes text.new ≡ string_bytes text.old ++
+        (end_line plan.now action end.now ++ marked answer.now)) }
 {
     let line = end_text(alloc, plan, action, end)?;
     text.push_str(line.as_str())?;

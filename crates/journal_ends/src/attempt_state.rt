@@ -54,7 +54,8 @@ impl Track {
         won: bool,
         line: Option<Cause>,
     ) -> Track
-        ensures { result ≡ track_after self.now attempt (option_copied order.entry) entry.now won line }
+        ensures { result ≡ track_after self.now attempt
+            (option_copied order.entry) entry.now won line }
     {
         Track {
             line: carrier(attempt, &entry.reply).or(self.line),
@@ -148,7 +149,8 @@ pub fn is_concerned(attempt: Attempt, order: Option<&Entry>, entry: &Entry) -> b
 }
 
 fn is_sent(attempt: Attempt, order: Option<&Entry>) -> bool
-    ensures { result ≡ is_for attempt (option_map (λ r. r.attempt) (send_of_entry (option_copied order.entry))) }
+    ensures { result ≡ is_for attempt (option_map (λ r. r.attempt) (send_of_entry
+        (option_copied order.entry))) }
 {
     match order {
         Some(order) => match &order.reply {

@@ -25,7 +25,8 @@ pub struct Verdict {
 /// Those of all actions of the plan, by one pass over the journal.
 pub fn verdicts(alloc: Global, plan: &Plan, entries: &[Entry]) -> Result<Vec<Verdict>, NoMemory>
     requires { length plan.now.actions ≤ 4096 }
-    ensures { IfOk result (λ vs. vs.items ≡ verdicts_from plan.now (reverse entries.now) 0 plan.now.actions) }
+    ensures { IfOk result (λ vs. vs.items ≡ verdicts_from plan.now
+        (reverse entries.now) 0 plan.now.actions) }
 {
     let mut actions = new_actions(alloc, plan.actions.as_slice().len())?;
     let mut lines = new_lines(alloc, entries.len())?;
@@ -65,7 +66,8 @@ fn verdicts_by(
     requires count { length actions.now ≡ length plan.now.actions }
     requires actions { AreActions actions.now plan.now.limit (reverse entries.now) }
     requires lines { AreLines lines.now (reverse entries.now) }
-    ensures { IfOk result (λ vs. vs.items ≡ verdicts_from plan.now (reverse entries.now) 0 plan.now.actions) }
+    ensures { IfOk result (λ vs. vs.items ≡ verdicts_from plan.now
+        (reverse entries.now) 0 plan.now.actions) }
 {
     let works = plan.actions.as_slice();
     let mut verdicts = Vec::with_capacity(alloc, works.len())?;
@@ -83,7 +85,9 @@ fn verdict_on(
     work: &PlanAction,
 ) -> Verdict
     requires { AreLines lines.now (reverse entries.now) }
-    ensures { result ≡ verdict_by limit fact.now work.now (ended_line (reverse entries.now) fact.now.local.track.line) (ended_line (reverse entries.now) fact.now.remote.track.line) }
+    ensures { result ≡ verdict_by limit fact.now work.now (ended_line
+        (reverse entries.now) fact.now.local.track.line) (ended_line
+        (reverse entries.now) fact.now.remote.track.line) }
 {
     let won = fact.grant.is_some();
     let local = &fact.local;

@@ -86,7 +86,8 @@ fn is_write_to(entry: &Entry, line: u32) -> bool
 
 /// The entry says that a request wasn't written, though it was answered before.
 fn is_late(before: &[Entry], entry: &Entry) -> bool
-    ensures { result ≡ is_late (reverse before.now) (order_of (reverse before.now) entry.now.lane) entry.now.call }
+    ensures { result ≡ is_late (reverse before.now) (order_of
+        (reverse before.now) entry.now.lane) entry.now.call }
 {
     is_unwritten(&entry.call) && was_answered(before, last_work(before, entry.lane))
 }
@@ -106,7 +107,8 @@ pub fn is_unwritten(call: &Call) -> bool
 
 /// It is an order to send a request, and an answer to that was consumed.
 fn was_answered(before: &[Entry], order: Option<&Entry>) -> bool
-    ensures { result ≡ was_answered (reverse before.now) (send_of_entry (option_copied order.entry)) }
+    ensures { result ≡ was_answered (reverse before.now) (send_of_entry
+        (option_copied order.entry)) }
 {
     match sent_by(order) {
         Some(attempt) => is_answered(before, attempt),
@@ -213,7 +215,8 @@ pub fn commit(entries: &[Entry], action: u32, branch: Branch) -> Option<CommitEn
 }
 
 fn committing(entries: &[Entry], action: u32, branch: Branch) -> Option<&Entry>
-    ensures { option_copied result ≡ find (λ e. is_some (committed_in action branch e.call)) entries.now }
+    ensures { option_copied result ≡ find (λ e. is_some
+        (committed_in action branch e.call)) entries.now }
 {
     entries
         .iter()

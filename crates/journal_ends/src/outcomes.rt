@@ -73,7 +73,8 @@ pub fn action_ends(alloc: Global, plan: &Plan, j: &Journal) -> Result<Vec<Action
 
 fn outcome_in(plan: &Plan, entries: &[Entry], action: u32, work: &PlanAction) -> Outcome
     requires { length plan.now.actions ≤ 4096 }
-    ensures { result ≡ outcome_after plan.now (reverse entries.now) action work.now (standings plan.now (reverse entries.now)) }
+    ensures { result ≡ outcome_after plan.now (reverse entries.now) action work.now
+        (standings plan.now (reverse entries.now)) }
 {
     if let Some(outcome) = granted_outcome(entries, action) {
         return outcome;
@@ -87,7 +88,8 @@ fn outcome_in(plan: &Plan, entries: &[Entry], action: u32, work: &PlanAction) ->
 }
 
 pub fn starved_outcome(standings: &[Standing], work: &PlanAction) -> Outcome
-    ensures { result ≡ (if is_starved work.now standings.now then skipped standings.now work.now else Outcome.Unsettled) }
+    ensures { result ≡ (if is_starved work.now standings.now
+        then skipped standings.now work.now else Outcome.Unsettled) }
 {
     if is_input_lost(work.makers.as_slice(), standings) {
         skipped_outcome(standings, work)

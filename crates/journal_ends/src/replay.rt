@@ -69,7 +69,8 @@ impl BranchFact {
         won: bool,
         line: Option<Cause>,
     ) -> BranchFact
-        ensures { result ≡ branch_after self.now attempt (option_copied order.entry) entry.now won line }
+        ensures { result ≡ branch_after self.now attempt
+            (option_copied order.entry) entry.now won line }
     {
         BranchFact {
             commit: self
@@ -82,7 +83,8 @@ impl BranchFact {
     }
 
     fn answers_after(&self, attempt: Attempt, reply: &Reply) -> [bool; NUMBERS]
-        ensures { result ≡ answers_after self.now.answers attempt.action attempt.branch (consumed_in reply.now) }
+        ensures { result ≡ answers_after self.now.answers attempt.action attempt.branch
+            (consumed_in reply.now) }
     {
         let mut answers = self.answers;
         mark(&mut answers, answered_number(attempt, reply));
@@ -174,7 +176,8 @@ fn order_at<'a>(orders: &[Option<&'a Entry>], before: &'a [Entry], lane: u32) ->
 
 /// The newest work of each lane after one more entry.
 fn note_order<'a>(orders: &mut [Option<&'a Entry>], entry: &'a Entry)
-    ensures { (j : List Entry) → AreOrders option_copied orders.old j → AreOrders option_copied orders.new (entry.now ∷ j) }
+    ensures { (j : List Entry) → AreOrders option_copied orders.old j
+        → AreOrders option_copied orders.new (entry.now ∷ j) }
 {
     let at = entry.lane as usize;
     if at < orders.len() && is_work_of(entry, entry.lane) {
@@ -187,14 +190,16 @@ fn note_order<'a>(orders: &mut [Option<&'a Entry>], entry: &'a Entry)
 /// The entry says that a request wasn't written, though it was answered before.
 fn is_late(actions: &[ActionFact], before: &[Entry], order: Option<&Entry>, entry: &Entry) -> bool
     requires { (limit : ℕ) × AreActions actions.now limit (reverse before.now) }
-    ensures { result ≡ is_late (reverse before.now) (send_of_entry (option_copied order.entry)) entry.now.call }
+    ensures { result ≡ is_late (reverse before.now) (send_of_entry
+        (option_copied order.entry)) entry.now.call }
 {
     is_unwritten(&entry.call) && was_answered(actions, before, order)
 }
 
 fn was_answered(actions: &[ActionFact], before: &[Entry], order: Option<&Entry>) -> bool
     requires { (limit : ℕ) × AreActions actions.now limit (reverse before.now) }
-    ensures { result ≡ was_answered (reverse before.now) (send_of_entry (option_copied order.entry)) }
+    ensures { result ≡ was_answered (reverse before.now) (send_of_entry
+        (option_copied order.entry)) }
 {
     match sent_by(order) {
         Some(attempt) => answered_by(actions, before, attempt),
@@ -265,7 +270,8 @@ fn note_action(
     entry: &Entry,
 )
     requires { AreLines lines.now (reverse before.now) }
-    ensures { actions.new ≡ update_if (action_after (reverse before.now) limit (unwrap_or action 0) (option_copied order.entry) entry.now) actions.old action }
+    ensures { actions.new ≡ update_if (action_after (reverse before.now) limit
+        (unwrap_or action 0) (option_copied order.entry) entry.now) actions.old action }
 {
     if let Some(action) = action {
         let at = action as usize;
@@ -285,7 +291,8 @@ fn action_next(
     entry: &Entry,
 ) -> ActionFact
     requires { AreLines lines.now (reverse before.now) }
-    ensures { result ≡ action_after (reverse before.now) limit action (option_copied order.entry) entry.now fact.now }
+    ensures { result ≡ action_after (reverse before.now) limit action
+        (option_copied order.entry) entry.now fact.now }
 {
     let won = fact.grant.is_some();
     let local = Attempt {

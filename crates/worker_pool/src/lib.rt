@@ -55,7 +55,11 @@ impl Model for Pool {
 
     ghost Value = { Facts };
 
-    ghost view = { λ a. record { lines = a.lines.items; seats = a.berths.items; room = vec_capacity a.lines } };
+    ghost view = { λ a. record {
+      lines = a.lines.items;
+      seats = a.berths.items;
+      room = vec_capacity a.lines;
+    } };
 
     ghost invariant = { λ a. vec_capacity a.lines < 2 ^ 32 };
 }
