@@ -1,6 +1,6 @@
 -- The place of a path when one more action has been noted.
 use Rattle.std.proofs.Common.{◌≡◌, ℕ, ◌+◌, List, [], ◌∷◌, ◌++◌, length, Option, None, sym, ap, ◌∙◌, arith}
-use Rattle.exec_journal.specs.declared.plan.Maker.{Maker}
+use Rattle.run_plan.specs.declared.plan.Maker.{Maker}
 use Rattle.action_list.specs.declared.types.ListAction.{ListAction}
 use Rattle.action_list.specs.Plans.{maker_of, place_from, place_in}
 

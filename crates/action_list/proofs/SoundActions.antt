@@ -7,9 +7,9 @@ use Rattle.std.proofs.lemmas.List.Sums.{sum_by-append, sum_by-cons}
 use Rattle.std.proofs.lemmas.Slice.Eq.{bytes_eq-Decides}
 use Rattle.std.specs.List.{list_all, list_any, prefix_len, position_or_len}
 use Rattle.std.specs.Str.{bytes_eq}
-use Rattle.exec_journal.specs.declared.plan.Plan.{Plan}
-use Rattle.exec_journal.specs.declared.plan.PlanAction.{PlanAction}
-use Rattle.exec_journal.specs.Sound.{are_sound_from, has_branches, is_sound_action, Sound}
+use Rattle.run_plan.specs.declared.plan.Plan.{Plan}
+use Rattle.run_plan.specs.declared.plan.PlanAction.{PlanAction}
+use Rattle.run_plan.specs.Sound.{are_sound_from, has_branches, is_sound_action, Sound}
 use Rattle.action_list.specs.declared.types.ListAction.{ListAction}
 use Rattle.action_list.specs.declared.types.Strategy.{Strategy}
 use Rattle.action_list.specs.declared.types.Strategy.TheVariants as strategy

@@ -5,9 +5,9 @@ use Rattle.std.proofs.lemmas.List.{length-map}
 use Rattle.std.proofs.lemmas.List.Folds.{list_all-append}
 use Rattle.std.proofs.lemmas.List.Sums.{sum_by-append, sum_by-cons}
 use Rattle.std.specs.List.{list_all}
-use Rattle.exec_journal.specs.declared.plan.Group.{Group}
-use Rattle.exec_journal.specs.declared.plan.Kind.TheVariants as kind
-use Rattle.exec_journal.specs.Sound.{is_sound_group}
+use Rattle.run_plan.specs.declared.plan.Group.{Group}
+use Rattle.run_plan.specs.declared.plan.Kind.TheVariants as kind
+use Rattle.run_plan.specs.Sound.{is_sound_group}
 use Rattle.action_list.specs.declared.types.ListAction.{ListAction}
 use Rattle.action_list.specs.Checks.{has_local}
 use Rattle.action_list.specs.Keys.{key_bytes, keys_from, keys_of, takes_several, with_bytes, with_key}

@@ -3,9 +3,9 @@ use Rattle.std.proofs.Common.{◌≡◌, ℕ, zero, suc, ◌+◌, ◌<◌, ◌�
 use Rattle.std.proofs.lemmas.Bool.{and_from, lt-ltb}
 use Rattle.std.specs.List.{cons_option, filter_map, list_all}
 use Rattle.std.specs.Str.{bytes_eq}
-use Rattle.exec_journal.specs.declared.plan.Maker.{Maker}
-use Rattle.exec_journal.specs.declared.plan.PlanAction.{PlanAction}
-use Rattle.exec_journal.specs.Sound.{is_earlier}
+use Rattle.run_plan.specs.declared.plan.Maker.{Maker}
+use Rattle.run_plan.specs.declared.plan.PlanAction.{PlanAction}
+use Rattle.run_plan.specs.Sound.{is_earlier}
 use Rattle.action_list.specs.declared.types.ListAction.{ListAction}
 use Rattle.action_list.specs.Plans.{maker_of, place_from, place_in, plan_action, plan_actions}
 

@@ -1,10 +1,10 @@
 -- What the workers of each group run, and what is spoken with them.
 use Rattle.std.specs.Prelude.{ℕ, ◌==◌, ◌+◌, Bool, false, if◌then◌else◌, List, [], ◌∷◌, codes, position, slice_get, Option, Some, None, option_and_then}
-use Rattle.exec_journal.specs.declared.plan.Group.{Group}
-use Rattle.exec_journal.specs.declared.plan.Plan.{Plan}
-use Rattle.exec_journal.specs.declared.plan.PlanAction.{PlanAction}
-use Rattle.exec_journal.specs.declared.plan.Speech.TheVariants as speech
-use Rattle.exec_journal.specs.Settled.{is_remote}
+use Rattle.run_plan.specs.declared.plan.Group.{Group}
+use Rattle.run_plan.specs.declared.plan.Plan.{Plan}
+use Rattle.run_plan.specs.declared.plan.PlanAction.{PlanAction}
+use Rattle.run_plan.specs.declared.plan.Speech.TheVariants as speech
+use Rattle.run_plan.specs.Groups.{is_remote}
 use Rattle.outside.specs.declared.command.Command.{Command}
 use Rattle.outside.specs.declared.command.Variable.{Variable}
 use Rattle.action_list.specs.declared.parts.GroupPart.{GroupPart}

@@ -1,6 +1,6 @@
 use Rattle.std.specs.Prelude.{ℕ, List, Option}
 use Rattle.indexmap.specs.IndexMap.{get_by_text}
-use Rattle.exec_journal.specs.declared.plan.Maker.{Maker}
+use Rattle.run_plan.specs.declared.plan.Maker.{Maker}
 use Rattle.action_list.specs.declared.places.Places.{Places}
 
 -- the place that the table has for the path

@@ -74,7 +74,8 @@ fn needs_of(alloc: Global, requirements: &[Variable]) -> Result<Needs, NoMemory>
 }
 
 fn speaks_json(requirements: &[Variable]) -> bool
-    ensures { result ≡ says (codes "json") (value_of (codes "requires-worker-protocol") requirements.now) }
+    ensures { result ≡ says (codes "json") (value_of
+        (codes "requires-worker-protocol") requirements.now) }
 {
     value_of(requirements, "requires-worker-protocol") == Some("json")
 }

@@ -34,7 +34,9 @@ impl LastMakers {
     }
 
     fn note_all(&mut self, alloc: Global, paths: &[Text], number: u32) -> Result<(), NoMemory>
-        ensures { OnOk result ((q : List ℕ) → last_maker self.new q ≡ (if is_among paths.now q then Some number else last_maker self.old q)) }
+        ensures { OnOk result ((q : List ℕ)
+            → last_maker self.new q ≡
+            (if is_among paths.now q then Some number else last_maker self.old q)) }
     {
         for path in paths {
             self.note(alloc, path.as_str(), number)?;
@@ -43,7 +45,9 @@ impl LastMakers {
     }
 
     fn note(&mut self, alloc: Global, path: &str, number: u32) -> Result<(), NoMemory>
-        ensures { OnOk result ((q : List ℕ) → last_maker self.new q ≡ (if bytes_eq path.now q then Some number else last_maker self.old q)) }
+        ensures { OnOk result ((q : List ℕ)
+            → last_maker self.new q ≡
+            (if bytes_eq path.now q then Some number else last_maker self.old q)) }
     {
         self.makers.insert(String::from_str(alloc, path)?, number)?;
         Ok(())

@@ -1,15 +1,15 @@
 // What the workers of each group run, and what is spoken with them.
 ghost use Rattle.std.specs.Prelude.{◌≡◌, IfOk, position, slice_get};
 ghost use Rattle.std.specs.Option.{option_copied};
-ghost use Rattle.exec_journal.specs.Settled.{is_remote};
-ghost use Rattle.exec_journal.specs.Sound.{Sound};
+ghost use Rattle.run_plan.specs.Groups.{is_remote};
+ghost use Rattle.run_plan.specs.Sound.{Sound};
 ghost use Rattle.action_list.specs.Parts.{command_of, executor_part, is_of, part_of, parts_from, parts_of, unused_part, user_of, user_part, worker_part};
 
 use crate::keys::worker_words;
 use crate::{ActionList, ListAction};
-use exec_journal::{Group, Kind, Plan, PlanAction, Speech};
 use outside::{Command, Variable, variables_again};
 use plain_values::{Items, NoMemory, Text, texts_again};
+use run_plan::{Group, Kind, Plan, PlanAction, Speech};
 use std::alloc::Global;
 
 /// What the workers of a group run, and what is spoken with them.

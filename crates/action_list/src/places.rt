@@ -4,9 +4,9 @@ ghost use Rattle.std.specs.Str.{bytes_eq};
 ghost use Rattle.std.specs.Option.{option_copied};
 ghost use Rattle.action_list.specs.Plans.{place_in};
 
-use exec_journal::Maker;
 use indexmap::IndexMap;
 use plain_values::{NoMemory, Text};
+use run_plan::Maker;
 use std::alloc::Global;
 
 /// The place where each path is made.
@@ -42,7 +42,8 @@ impl Places {
 
     fn note(&mut self, alloc: Global, path: &str, maker: Maker) -> Result<(), NoMemory>
         ensures { OnOk result ((q : List ℕ)
-            → place_of self.new q ≡ (if bytes_eq path.now q then Some maker else place_of self.old q)) }
+            → place_of self.new q ≡
+            (if bytes_eq path.now q then Some maker else place_of self.old q)) }
     {
         self.makers.insert(String::from_str(alloc, path)?, maker)?;
         Ok(())

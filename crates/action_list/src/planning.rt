@@ -8,13 +8,13 @@ ghost use Rattle.action_list.specs.Keys.{keys_of};
 ghost use Rattle.action_list.specs.Places.{place_of};
 ghost use Rattle.action_list.specs.Plans.{berths_at, executor_groups, first_user, groups_of, is_key, key_group, kind_of, local_key, local_of, number_of, plan_action, plan_actions, plan_of, remote_of, remote_users, share, users};
 ghost use Rattle.action_list.specs.Whole.{IsWhole, KnowsPlaces};
-ghost use Rattle.exec_journal.specs.Sound.{Sound};
+ghost use Rattle.run_plan.specs.Sound.{Sound};
 
 use crate::keys::{has_local, has_remote, key_bytes, keys_of, takes_several};
 use crate::places::Places;
 use crate::{ActionList, ListAction};
-use exec_journal::{Group, Kind, Maker, Plan, PlanAction};
 use plain_values::{Blob, Items, NoMemory, Text, texts_again};
+use run_plan::{Group, Kind, Maker, Plan, PlanAction};
 use std::alloc::Global;
 
 const MAX_BERTHS: u32 = 48;
@@ -192,7 +192,8 @@ fn push_key_groups(
 ) -> Result<(), NoMemory>
     requires { length held.now ≤ 4096 }
     ensures { OnOk result
-        (groups.new.items ≡ groups.old.items ++ map (key_group actions.now held.now each) keys.now) }
+        (groups.new.items ≡ groups.old.items ++ map
+        (key_group actions.now held.now each) keys.now) }
 {
     for key in keys {
         groups.push(key_group(actions, held, each, key.bytes()))?;

@@ -27,7 +27,8 @@ impl Seen {
     /// Notes a text, and says whether it is new.
     pub fn note(&mut self, alloc: Global, text: &str) -> Result<bool, NoMemory>
         ensures fresh { IfOk result (λ b. b ≡ not (has_seen self.old text.now)) }
-        ensures noted { OnOk result ((q : List ℕ) → has_seen self.new q ≡ (bytes_eq text.now q || has_seen self.old q)) }
+        ensures noted { OnOk result ((q : List ℕ)
+            → has_seen self.new q ≡ (bytes_eq text.now q || has_seen self.old q)) }
     {
         Ok(self.texts.insert(String::from_str(alloc, text)?)?)
     }

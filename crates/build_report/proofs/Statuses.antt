@@ -2,12 +2,12 @@
 use Rattle.std.proofs.Common.{◌≡◌, ℕ, suc, ◌+◌, ◌<◌, ◌≤◌, Bool, true, false, ◌&&◌, List, [], ◌∷◌, length, get_or, drop, refl, ap, sym, ◌∙◌, add-one, arith}
 use Rattle.std.specs.List.{list_all}
 use Rattle.std.proofs.lemmas.List.{drop_more, drop_all}
-use Rattle.exec_journal.specs.declared.plan.Plan.{Plan}
-use Rattle.exec_journal.specs.declared.plan.PlanAction.{PlanAction}
+use Rattle.run_plan.specs.declared.plan.Plan.{Plan}
+use Rattle.run_plan.specs.declared.plan.PlanAction.{PlanAction}
 use Rattle.exec_journal.specs.declared.ends.ActionEnd.{ActionEnd}
 use Rattle.exec_journal.specs.declared.journal.Entry.{Entry}
 use Rattle.exec_journal.specs.Ends.{action_end, ends_from, ends_of}
-use Rattle.exec_journal.proofs.Judged.{ends_start, is_there}
+use Rattle.journal_ends.proofs.Judged.{ends_start, is_there}
 use Rattle.build_report.specs.Report.{is_success}
 
 pub all_start : (p : Plan) (j : List Entry) → list_all is_success (ends_from p j 0 p.actions) ≡ list_all is_success (ends_of p j)

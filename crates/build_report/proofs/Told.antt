@@ -1,13 +1,13 @@
 -- The lines by the winners' answers are those of the journal.
 use Rattle.std.proofs.Common.{◌≡◌, ℕ, zero, suc, ◌+◌, List, [], ◌∷◌, ◌++◌, length, map, Option, Some, refl, ap, sym, subst, ◌∙◌, arith}
 use Rattle.std.specs.Prelude.{slice_get}
-use Rattle.exec_journal.specs.declared.plan.Plan.{Plan}
+use Rattle.run_plan.specs.declared.plan.Plan.{Plan}
 use Rattle.exec_journal.specs.declared.ends.ActionEnd.{ActionEnd}
 use Rattle.exec_journal.specs.declared.call.Answer.{Answer}
 use Rattle.exec_journal.specs.declared.journal.Entry.{Entry}
 use Rattle.exec_journal.specs.Words.{grant_of}
 use Rattle.exec_journal.specs.Outcomes.{winning_answer}
-use Rattle.exec_journal.specs.Winners.{AreWinning}
+use Rattle.journal_ends.specs.Winning.{AreWinning}
 use Rattle.build_report.specs.Words.{marked}
 use Rattle.build_report.specs.Report.{answer_text, end_line, lines_from, lines_told}
 

@@ -120,7 +120,8 @@ pub fn fault_line(alloc: Global, fault: &RunFault) -> Result<Text, NoMemory>
 }
 
 fn list_line(alloc: Global, fault: &ListFault) -> Result<String, NoMemory>
-    ensures { IfOk result (λ line. string_bytes line ≡ list_text (list_name fault.now) (list_action fault.now)) }
+    ensures { IfOk result (λ line. string_bytes line ≡ list_text (list_name fault.now)
+        (list_action fault.now)) }
 {
     let name = name_of_list_fault(fault);
     let line = match action_of_list_fault(fault) {
@@ -168,7 +169,8 @@ fn action_of_list_fault(fault: &ListFault) -> Option<u32>
 }
 
 fn flag_line(alloc: Global, action: u32, fault: &FlagFault) -> Result<String, NoMemory>
-    ensures { IfOk result (λ line. string_bytes line ≡ flag_text (flag_name fault.now) (flag_path fault.now) action) }
+    ensures { IfOk result (λ line. string_bytes line ≡ flag_text (flag_name fault.now)
+        (flag_path fault.now) action) }
 {
     let line = match fault {
         FlagFault::NoSuchFile { path } => flag_path_line(

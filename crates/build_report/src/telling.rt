@@ -1,14 +1,13 @@
 ghost use Rattle.std.specs.Prelude.{◌≡◌, ◌++◌, [], ◌<◌, ◌^◌, length, reverse, string_bytes, IfOk, OnOk, map, option_copied, if◌then◌else◌};
 ghost use Rattle.std.specs.List.{list_all};
-ghost use Rattle.exec_journal.specs.Sound.{Sound};
+ghost use Rattle.run_plan.specs.Sound.{Sound};
 ghost use Rattle.exec_journal.specs.Ends.{ends_of};
 ghost use Rattle.build_report.specs.Report.{report_of, report_by, status_of, is_success, has_failed, is_broken, is_skipped, count_of, lines_from, lines_told, end_line, answer_text, last_line, totals_line};
 ghost use Rattle.build_report.specs.Words.{marked};
 
 use crate::words::{action_name, fate_text, outcome_text, push_marked};
-use exec_journal::{
-    ActionEnd, Answer, Journal, Outcome, Plan, action_ends, has_success, winning_answers,
-};
+use exec_journal::{ActionEnd, Answer, Journal, Outcome, Plan};
+use journal_ends::{action_ends, has_success, winning_answers};
 use plain_values::{NoMemory, Text};
 use std::alloc::Global;
 
@@ -57,7 +56,8 @@ fn report_text(
 ) -> Result<String, NoMemory>
     requires few { length ends.now < 2 ^ 32 }
     requires count { length ends.now ≡ length plan.now.actions }
-    ensures { IfOk result (λ s. string_bytes s ≡ report_by plan.now (reverse j.now) short ends.now) }
+    ensures { IfOk result (λ s. string_bytes s ≡ report_by plan.now
+        (reverse j.now) short ends.now) }
 {
     let mut text = String::new(alloc);
     if !short {
@@ -78,7 +78,8 @@ fn push_lines(
 ) -> Result<(), NoMemory>
     requires few { length ends.now < 2 ^ 32 }
     requires count { length ends.now ≡ length plan.now.actions }
-    ensures { OnOk result (string_bytes text.new ≡ string_bytes text.old ++ lines_from plan.now (reverse j.now) 0 ends.now) }
+    ensures { OnOk result (string_bytes text.new ≡ string_bytes text.old ++ lines_from plan.now
+        (reverse j.now) 0 ends.now) }
 {
     let answers = winning_answers(alloc, plan, j)?;
     push_told(alloc, text, plan, ends, answers.as_slice())
@@ -93,7 +94,8 @@ fn push_told(
 ) -> Result<(), NoMemory>
     requires few { length ends.now < 2 ^ 32 }
     requires count { length ends.now ≡ length answers.now }
-    ensures { OnOk result (string_bytes text.new ≡ string_bytes text.old ++ lines_told plan.now 0 ends.now (map option_copied answers.now)) }
+    ensures { OnOk result (string_bytes text.new ≡ string_bytes text.old
+        ++ lines_told plan.now 0 ends.now (map option_copied answers.now)) }
 {
     for (a, end) in ends.iter().enumerate() {
         push_action(alloc, text, plan, a as u32, end, text_of(answers[a]))?;
@@ -109,7 +111,8 @@ fn push_action(
     end: &ActionEnd,
     answer: &str,
 ) -> Result<(), NoMemory>
-    ensures { OnOk result (string_bytes text.new ≡ string_bytes text.old ++ (end_line plan.now action end.now ++ marked answer.now)) }
+    ensures { OnOk result (string_bytes text.new ≡ string_bytes text.old ++
+        (end_line plan.now action end.now ++ marked answer.now)) }
 {
     let line = end_text(alloc, plan, action, end)?;
     text.push_str(line.as_str())?;

@@ -116,7 +116,8 @@ pub fn push_marked(report: &mut String, text: &str) -> Result<(), NoMemory>
 }
 
 fn push_line(report: &mut String, line: &str) -> Result<(), NoMemory>
-    ensures { OnOk result (string_bytes report.new ≡ string_bytes report.old ++ (codes "  | " ++ (line.now ++ (10 ∷ [])))) }
+    ensures { OnOk result (string_bytes report.new ≡ string_bytes report.old ++ (codes "  | " ++
+        (line.now ++ (10 ∷ [])))) }
 {
     report.push_str("  | ")?;
     report.push_str(line)?;

@@ -8,8 +8,8 @@ use Rattle.std.proofs.lemmas.Bool.Decides.{Decides-int_eq}
 use Rattle.std.proofs.lemmas.List.{length-map, length-reverse}
 use Rattle.std.proofs.lemmas.Bool.{eqb-true, eq-eqb, lt-ltb}
 use Rattle.arrayvec.specs.ArrayVec.{ArrayVec}
-use Rattle.exec_journal.specs.declared.plan.Branch.{Branch}
-use Rattle.exec_journal.specs.declared.plan.Plan.{Plan}
+use Rattle.run_plan.specs.declared.plan.Branch.{Branch}
+use Rattle.run_plan.specs.declared.plan.Plan.{Plan}
 use Rattle.exec_journal.specs.declared.attempt.Attempt.{Attempt}
 use Rattle.exec_journal.specs.declared.journal.Entry.{Entry}
 use Rattle.exec_journal.specs.declared.call.Answer.{Answer}
@@ -19,13 +19,13 @@ use Rattle.exec_journal.specs.declared.call.HowEnded.{HowEnded}
 use Rattle.exec_journal.specs.declared.call.Written.{Written}
 use Rattle.exec_journal.specs.declared.reply.Reply.{Reply}
 use Rattle.exec_journal.specs.declared.reply.Reply.TheVariants as reply
-use Rattle.exec_journal.specs.History.{unless_before, or_else}
+use Rattle.list_lemmas.specs.Options.{unless_before, or_else}
 use Rattle.exec_journal.specs.Entries.{Request, attempt_of, same_attempt, granted_in, consumed_in, is_unwritten}
 use Rattle.exec_journal.specs.Rules.{oldest, is_unwanted}
 use Rattle.exec_journal.specs.Words.{sends, pending, has_cancel, grant_of, granted, order_of, wrote, was_sent}
 use Rattle.exec_journal.proofs.Lines.{pending_line}
 use Rattle.exec_journal.proofs.Ruled.{by_bool}
-use Rattle.exec_journal.proofs.Updates.{get_update, get_replicate}
+use Rattle.list_lemmas.proofs.Updates.{get_update, get_replicate}
 use Rattle.request_table.specs.Entries.{EachOf, IsNewRequest, IsKnownBy, NoneIsPending, is_still, is_calm}
 use Rattle.request_table.specs.Rows.{line_room}
 use Rattle.request_table.proofs.Lists.{find_append, filter_map, filter_reverse, map_reverse, map_map, reverse_front, each_and, filter_same, filter_none, map_same}

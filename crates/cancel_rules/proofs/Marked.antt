@@ -3,7 +3,7 @@ use Rattle.std.proofs.Common.{◌≡◌, ℕ, ◌<◌, Bool, true, false, List, 
 use Rattle.std.specs.Prelude.{pos}
 use Rattle.std.proofs.lemmas.Option.{slice_get_read}
 use Rattle.arrayvec.specs.ArrayVec.{ArrayVec}
-use Rattle.exec_journal.proofs.Tallied.{set-update}
+use Rattle.list_lemmas.proofs.Updates.{set-update}
 use Rattle.cancel_rules.specs.declared.Place.{Place}
 use Rattle.cancel_rules.specs.Marks.{Facts, row, on_line, places_of, places_on, with_unwanted}
 

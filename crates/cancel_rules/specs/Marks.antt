@@ -3,8 +3,8 @@ use Rattle.std.specs.Prelude.{ℕ, Bool, true, false, ◌&&◌, ◌||◌, not, O
 use Rattle.std.specs.List.{find}
 use Rattle.std.specs.Ordering.{int_eq}
 use Rattle.arrayvec.specs.ArrayVec.{ArrayVec}
-use Rattle.exec_journal.specs.declared.plan.Plan.{Plan}
-use Rattle.exec_journal.specs.Tallies.{update}
+use Rattle.run_plan.specs.declared.plan.Plan.{Plan}
+use Rattle.list_lemmas.specs.Places.{update}
 use Rattle.request_table.specs.Rows.{line_room}
 use Rattle.cancel_rules.specs.declared.Place.{Place}
 

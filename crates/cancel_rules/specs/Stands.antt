@@ -1,7 +1,7 @@
 -- When the table's facts are those of a journal, whose newest entry stands first.
 use Rattle.std.specs.Prelude.{◌≡◌, ℕ, nat_lt, Some, None, if◌then◌else◌, List, length, map, reverse, slice_get}
 use Rattle.arrayvec.specs.ArrayVec.{ArrayVec}
-use Rattle.exec_journal.specs.declared.plan.Plan.{Plan}
+use Rattle.run_plan.specs.declared.plan.Plan.{Plan}
 use Rattle.exec_journal.specs.declared.journal.Entry.{Entry}
 use Rattle.exec_journal.specs.Entries.{Request}
 use Rattle.exec_journal.specs.Words.{pending, has_cancel, granted}

@@ -1,17 +1,18 @@
 // What holds of all streams.
-ghost use Rattle.delimited_framing.specs.Frame.{OneReading, DelimitedIsRead};
+ghost use Rattle.delimited_framing.specs.Front.{OneReading};
+ghost use Rattle.delimited_framing.specs.Frame.{delimited_form, DelimitedIsRead};
 ghost use Rattle.delimited_framing.specs.Splitter.{GivenFirst};
 
 /// Each stream is read in exactly one way: as frames and a rest without a whole frame or a fault, or as frames
 /// and a fault.
 pub fn one_reading()
-    ensures { OneReading }
+    ensures { OneReading delimited_form }
 {}
 
 /// After any order of `feed` and `next`, the frames that were given are the first ones of each stream that
 /// begins with what was fed.
 pub fn given_frames_come_first()
-    ensures { GivenFirst }
+    ensures { GivenFirst delimited_form }
 {}
 
 /// What was written behind its length is one frame, and several of these are read as they were written.

@@ -1,5 +1,6 @@
 // Frames of a stream that comes in pieces.
-ghost use Rattle.std.specs.Prelude.{◌≡◌, ◌++◌, List, ℕ, [], length, None, Ok, OnOk, OnErr, IfOk, IfSome};
+ghost use Rattle.std.specs.Prelude.{◌≡◌, ◌≤◌, ◌++◌, List, ℕ, [], length, drop, None, Ok, OnOk, OnErr, IfOk, IfSome};
+ghost use Rattle.delimited_framing.specs.Frame.{delimited_form};
 ghost use Rattle.delimited_framing.specs.Splitter.{Held, Stands, Gives, fed_more};
 
 use crate::frame::{Found, FrameFault, Next, find_frame};
@@ -20,14 +21,15 @@ pub struct Splitter {
 }
 
 impl Model for Splitter {
-    ghost use Rattle.std.specs.Prelude.{drop, length, ◌≤◌};
+    ghost use Rattle.std.specs.Prelude.{drop, length, ◌+◌, ◌≤◌};
     ghost use Rattle.delimited_framing.specs.Splitter.{Held};
 
     ghost Value = { Held };
 
     ghost view = { λ s. record { limit = s.limit; rest = drop s.start s.held.items; fault = s.fault } };
 
-    ghost invariant = { λ s. s.start ≤ length s.held.items };
+    // Of what was read no more is held than of what is to be read.
+    ghost invariant = { λ s. s.start + s.start ≤ length s.held.items };
 }
 
 impl Splitter {
@@ -51,7 +53,8 @@ impl Splitter {
     ///
     /// `NoMemory` where the piece finds no room; the splitter is then as it was.
     pub fn feed(&mut self, piece: &[u8]) -> Result<(), NoMemory>
-        ensures ok { OnOk result ((fed : List ℕ) (given : List (List ℕ)) → Stands fed given self.old → Stands (fed_more self.old.fault fed piece.now) given self.new) }
+        ensures ok { OnOk result ((fed : List ℕ) (given : List (List ℕ)) → Stands fed given self.old
+            → Stands (fed_more self.old.fault fed piece.now) given self.new) }
         ensures after_bad { IfSome self.old.fault (λ _. result ≡ Ok tt) }
         ensures same { (self.new.limit ≡ self.old.limit) × (self.new.fault ≡ self.old.fault) }
         ensures err { OnErr result (self.new ≡ self.old) }
@@ -71,7 +74,8 @@ impl Splitter {
     /// `NoMemory` where the frame finds no memory; the splitter is then as it was.
     pub fn next(&mut self) -> Result<Next, NoMemory>
         ensures after_bad { IfSome self.old.fault (λ fault. result ≡ Ok (Next.Bad fault)) }
-        ensures ok { IfOk result (λ next. (fed : List ℕ) (given : List (List ℕ)) → Stands fed given self.old → Gives fed given self.old next self.new) }
+        ensures ok { IfOk result (λ next. (fed : List ℕ) (given : List (List ℕ)) → Stands fed given self.old
+            → Gives delimited_form fed given self.old next self.new) }
         ensures err { OnErr result (self.new ≡ self.old) }
     {
         if let Some(fault) = self.fault {
@@ -86,8 +90,7 @@ impl Splitter {
             }
             Found::Whole { start, end } => {
                 let frame = Vec::from_slice(*self.held.allocator(), &rest[start..end])?;
-                self.start += end;
-                self.forget_read();
+                self.drop_read(end);
                 Ok(Next::Frame(frame))
             }
         }
@@ -100,16 +103,18 @@ impl Splitter {
         self.held.len() - self.start
     }
 
-    // Drops what was read, where that is at least as long as what is left: so each byte that moves is paid for
-    // by one that was read, and less than twice the unread bytes are held. The room of a large frame is given
-    // back where nothing is left.
-    fn forget_read(&mut self)
-        ensures { self.new ≡ self.old }
+    // So many bytes more were read. What was read is dropped when it is at least as long as what is left, so each
+    // byte that moves is paid for by one that was read. The room of a large frame is given back when nothing is left.
+    fn drop_read(&mut self, count: usize)
+        requires { count ≤ length self.old.rest }
+        ensures { self.new ≡ record self.old { rest = drop count self.old.rest } }
     {
-        if self.start < self.held.len() - self.start {
+        let start = self.start + count;
+        if start < self.held.len() - start {
+            self.start = start;
             return;
         }
-        self.held.drain(..self.start);
+        self.held.drain(..start);
         self.start = 0;
         if self.held.is_empty() && self.held.capacity() > ROOM_KEPT {
             self.held = Vec::new(*self.held.allocator());

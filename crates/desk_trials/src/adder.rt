@@ -70,7 +70,8 @@ impl Machine for Adder {
     }
 
     fn turn(&mut self, _lane: u32, call: &Add, put: Option<Nothing>) -> (u64, Option<Nothing>)
-        ensures { (result.0 ≡ self.new.sum) × (self.new.sum ≡ (self.old.sum + call.now.number) % 2 ^ 64) }
+        ensures { (result.0 ≡ self.new.sum)
+            × (self.new.sum ≡ (self.old.sum + call.now.number) % 2 ^ 64) }
     {
         self.sum = self.sum.wrapping_add(call.number);
         (self.sum, put)

@@ -21,7 +21,8 @@ pub fn add<R: Wait>(
     n: u64,
 ) -> (Pass<Counter>, Option<u64>)
     requires { IsPassOf desk.now pass }
-    ensures same { IsPassOf desk.now result.0 × (result.0.lane ≡ pass.lane) × (rules result.0 ≡ rules pass) }
+    ensures same { IsPassOf desk.now result.0 × (result.0.lane ≡ pass.lane)
+        × (rules result.0 ≡ rules pass) }
     ensures added { IfSome result.1 (HasAdded n pass result.0) }
 {
     match desk.call(rt, &mut pass, Ask::Add(n), None) {
@@ -35,7 +36,8 @@ pub fn add<R: Wait>(
 pub fn look<R: Wait>(rt: &R, desk: &Desk<Counter>, pass: &mut Pass<Counter>) -> Option<u64>
     requires { IsPassOf desk.now pass.old }
     ensures same { IsPassOf desk.now pass.new × IsSamePass pass.old pass.new }
-    ensures sum { IfSome result (λ r. (h : _) × StartsWith h (seen pass.old) × (r ≡ added h % rules pass.old)) }
+    ensures sum { IfSome result (λ r. (h : _) × StartsWith h (seen pass.old)
+        × (r ≡ added h % rules pass.old)) }
 {
     match desk.call(rt, pass, Ask::Look, None) {
         Ok((Answer::Sum(sum), _)) => Some(sum),
@@ -85,8 +87,10 @@ pub fn run<R: Threads + Wait + Sync>(
 ) -> Result<(Closed<Counter>, u64, u64), NoMemory>
     requires { 0 < modulus }
     ensures replies { IfOk result (λ r. CountsFrom modulus 0 r.0.history.items) }
-    ensures first { IfOk result (λ r. calls_by 0 r.0.history.items ≡ entry 0 (Ask.Add n) (Answer.Sum r.1) ∷ []) }
-    ensures second { IfOk result (λ r. calls_by 1 r.0.history.items ≡ entry 1 (Ask.Add n) (Answer.Sum r.2) ∷ []) }
+    ensures first { IfOk result (λ r. calls_by 0 r.0.history.items ≡ entry 0 (Ask.Add n)
+        (Answer.Sum r.1) ∷ []) }
+    ensures second { IfOk result (λ r. calls_by 1 r.0.history.items ≡ entry 1 (Ask.Add n)
+        (Answer.Sum r.2) ∷ []) }
 {
     let (desk, mut root) = Desk::new(alloc, Counter::new(modulus, 0))?;
     let a = desk.split(rt, &mut root)?;

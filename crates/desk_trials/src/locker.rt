@@ -104,7 +104,8 @@ impl Machine for Locker {
 
     ghost owes_less = { λ m h lane c s p k. less_owed h lane c p };
 
-    ghost owes_more = { λ m h lane c s k. more_owed h (entry lane c (reply_of (spot_of h) lane c)) };
+    ghost owes_more = { λ m h lane c s k. more_owed h (entry lane c (reply_of
+        (spot_of h) lane c)) };
 
     ghost suits_still = { λ m h more lane c g s e p. p };
 

@@ -2,20 +2,22 @@
 use Rattle.std.proofs.Common.{◌≡◌, ℕ, suc, ◌+◌, ◌/◌, ◌<◌, ◌≤◌, ◌==◌, nat_lt, Bool, true, false, ◌&&◌, not, cond, List, [], ◌∷◌, Option, Some, None, option_map, ◌⊎◌, inl, inr, refl, ap, sym, subst, ◌∙◌, arith}
 use Rattle.std.specs.Prelude.{slice_get}
 use Rattle.std.proofs.lemmas.Bool.{ltb-true, ltb-false, eqb-true, eq-eqb, and_parts, and_from, or_cases, or_right}
-use Rattle.exec_journal.specs.declared.plan.Branch.{Branch}
-use Rattle.exec_journal.specs.declared.plan.Branch.TheVariants.{Local, Remote}
-use Rattle.exec_journal.specs.declared.plan.Plan.{Plan}
-use Rattle.exec_journal.specs.declared.plan.PlanAction.{PlanAction}
+use Rattle.run_plan.specs.declared.plan.Branch.{Branch}
+use Rattle.run_plan.specs.declared.plan.Branch.TheVariants.{Local, Remote}
+use Rattle.run_plan.specs.declared.plan.Plan.{Plan}
+use Rattle.run_plan.specs.declared.plan.PlanAction.{PlanAction}
 use Rattle.exec_journal.specs.declared.attempt.Attempt.{Attempt}
 use Rattle.exec_journal.specs.declared.journal.Entry.{Entry}
 use Rattle.exec_journal.specs.declared.call.Call.{Call}
 use Rattle.exec_journal.specs.declared.reply.Reply.{Reply}
 use Rattle.exec_journal.specs.declared.reply.Reply.TheVariants as reply
-use Rattle.exec_journal.specs.History.{or_else, ever}
+use Rattle.exec_journal.specs.History.{ever}
+use Rattle.list_lemmas.specs.Options.{or_else}
 use Rattle.exec_journal.specs.Entries.{Request, attempt_of, same_branch, same_attempt, is_branch_of, is_for, launch_in, send_in}
 use Rattle.exec_journal.specs.Words.{launch_of, launch_at, launch_on, was_sent, granted}
 use Rattle.exec_journal.specs.Attempts.{attempt, begun_in, number_if, ended, dropped}
-use Rattle.exec_journal.specs.Settled.{settled, ready, wanted, still_bound, if_bound, bound, is_under_way, uses, queued, queued_in, earliest_from, earliest, free_places, kind_of}
+use Rattle.exec_journal.specs.Settled.{settled, ready, wanted, still_bound, if_bound, bound, is_under_way, uses, queued, queued_in, earliest_from, earliest, free_places}
+use Rattle.run_plan.specs.Groups.{kind_of}
 use Rattle.exec_journal.specs.Rules as r
 use Rattle.exec_journal.specs.Legal.{Legal}
 use Rattle.exec_journal.specs.Facts.{begun, AttemptsInOrder, BeginsNext, ContinuesOn, Begins, BeginInOrder}

@@ -3,7 +3,8 @@ use Rattle.std.proofs.Common.{◌≡◌, Bool, true, false, cond, List, [], ◌�
 use Rattle.std.specs.List.{filter, find}
 use Rattle.std.proofs.lemmas.Bool.{or_cases}
 use Rattle.exec_journal.specs.declared.journal.Entry.{Entry}
-use Rattle.exec_journal.specs.History.{or_else, unless_before, and_more, ever, latest, first, each, AtEach}
+use Rattle.exec_journal.specs.History.{ever, latest, first, each, AtEach}
+use Rattle.list_lemmas.specs.Options.{or_else, unless_before, and_more}
 use Rattle.exec_journal.specs.Rules.{head, oldest}
 
 -- it holds of some entry, with what came before it

@@ -1,7 +1,7 @@
 -- Lines of a legal journal are numbered in order, and each line that an entry names was launched by its own berth's lane.
 use Rattle.std.proofs.Common.{◌≡◌, ℕ, ◌*◌, ◌/◌, ◌%◌, ◌<◌, ◌≤◌, ◌==◌, nat_lt, Bool, true, ◌&&◌, not, cond, List, [], ◌∷◌, length, Option, Some, None, option_map, ℤ, inl, inr, refl, sym, subst, ◌∙◌, arith}
 use Rattle.std.proofs.lemmas.Bool.{eqb-true, eq-eqb, ne_eqb, and_parts, or_cases}
-use Rattle.exec_journal.specs.declared.plan.Plan.{Plan}
+use Rattle.run_plan.specs.declared.plan.Plan.{Plan}
 use Rattle.exec_journal.specs.declared.attempt.Attempt.{Attempt}
 use Rattle.exec_journal.specs.declared.journal.Entry.{Entry}
 use Rattle.exec_journal.specs.declared.call.Call.{Call}
@@ -10,11 +10,12 @@ use Rattle.exec_journal.specs.declared.call.Started.{Started}
 use Rattle.exec_journal.specs.declared.call.Written.{Written}
 use Rattle.exec_journal.specs.declared.reply.Reply.{Reply}
 use Rattle.exec_journal.specs.declared.reply.Reply.TheVariants as reply
-use Rattle.exec_journal.specs.History.{or_else, and_more, each, latest}
+use Rattle.exec_journal.specs.History.{each, latest}
+use Rattle.list_lemmas.specs.Options.{or_else, and_more}
 use Rattle.exec_journal.specs.Entries.{Request, launch_in, send_in, is_look, is_halt}
 use Rattle.exec_journal.specs.Words.{line_count, last_work, work_at, last_line, line_at, launch_of, launch_on, sends, sent_on, pending, is_pending, stopped, has_halted}
-use Rattle.exec_journal.specs.declared.plan.Kind.{Kind}
-use Rattle.exec_journal.specs.Settled.{kind_of, berths}
+use Rattle.run_plan.specs.declared.plan.Kind.{Kind}
+use Rattle.run_plan.specs.Groups.{kind_of, berths}
 use Rattle.exec_journal.specs.Rules as r
 use Rattle.exec_journal.specs.Scripts as s
 use Rattle.exec_journal.specs.Legal.{Legal}

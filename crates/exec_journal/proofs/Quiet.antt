@@ -1,16 +1,16 @@
 -- Entries that leave what is known of the actions as it was.
 use Rattle.std.proofs.Common.{◌≡◌, ℕ, true, cond, List, [], ◌∷◌, ◌++◌, length, Option, Some, None, is_some, refl, ap, ◌∙◌}
-use Rattle.exec_journal.specs.declared.plan.Branch.{Branch}
-use Rattle.exec_journal.specs.declared.plan.Branch.TheVariants.{Local, Remote}
-use Rattle.exec_journal.specs.declared.plan.Plan.{Plan}
-use Rattle.exec_journal.specs.declared.plan.PlanAction.{PlanAction}
+use Rattle.run_plan.specs.declared.plan.Branch.{Branch}
+use Rattle.run_plan.specs.declared.plan.Branch.TheVariants.{Local, Remote}
+use Rattle.run_plan.specs.declared.plan.Plan.{Plan}
+use Rattle.run_plan.specs.declared.plan.PlanAction.{PlanAction}
 use Rattle.exec_journal.specs.declared.attempt.Attempt.{Attempt}
 use Rattle.exec_journal.specs.declared.ends.Cause.{Cause}
 use Rattle.exec_journal.specs.declared.ends.Standing.{Standing}
 use Rattle.exec_journal.specs.declared.journal.Entry.{Entry}
 use Rattle.exec_journal.specs.declared.call.Found.{Found}
 use Rattle.exec_journal.specs.declared.call.Found.TheVariants as found
-use Rattle.exec_journal.specs.History.{or_else}
+use Rattle.list_lemmas.specs.Options.{or_else}
 use Rattle.exec_journal.specs.Entries.{attempt_of}
 use Rattle.exec_journal.specs.Words.{grant_of, granted, launch_of, was_sent}
 use Rattle.exec_journal.specs.Attempts.{attempt, line_of, fault_of, over, end_of, ended, dropped}

@@ -4,8 +4,8 @@ use Rattle.std.specs.Prelude.{slice_get}
 use Rattle.std.specs.List.{filter, find}
 use Rattle.std.specs.Ordering.{int_eq}
 use Rattle.std.proofs.lemmas.Bool.{and_parts}
-use Rattle.exec_journal.specs.declared.plan.Branch.{Branch}
-use Rattle.exec_journal.specs.declared.plan.Plan.{Plan}
+use Rattle.run_plan.specs.declared.plan.Branch.{Branch}
+use Rattle.run_plan.specs.declared.plan.Plan.{Plan}
 use Rattle.exec_journal.specs.declared.attempt.Attempt.{Attempt}
 use Rattle.exec_journal.specs.declared.ends.Cause.{Cause}
 use Rattle.exec_journal.specs.declared.journal.Entry.{Entry}
@@ -21,10 +21,11 @@ use Rattle.exec_journal.specs.declared.reply.Reply.TheVariants as reply
 use Rattle.exec_journal.specs.declared.reply.BreachWhy.TheVariants as breach
 use Rattle.exec_journal.specs.declared.reply.StrayWhy.TheVariants as stray
 use Rattle.exec_journal.specs.declared.reply.Why.TheVariants as why
-use Rattle.exec_journal.specs.History.{or_else}
+use Rattle.list_lemmas.specs.Options.{or_else}
 use Rattle.exec_journal.specs.Entries.{Request, attempt_of, gather_of_entry}
 use Rattle.exec_journal.specs.Words.{last_work, line_count, started, was_taken, last_line, sends, pending, is_pending, has_cancel, line_cause, why_of, broke, live, granted, grant_of}
-use Rattle.exec_journal.specs.Settled.{berth_group, kind_of, first_berth, berths_of, has_cancellation, is_single, earliest, some_free}
+use Rattle.exec_journal.specs.Settled.{earliest, some_free}
+use Rattle.run_plan.specs.Groups.{berth_group, kind_of, first_berth, berths_of, has_cancellation, is_single}
 use Rattle.exec_journal.specs.Rules as r
 use Rattle.exec_journal.proofs.Histories.{AtSome, some_map, first_from}
 

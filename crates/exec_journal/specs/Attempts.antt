@@ -1,7 +1,7 @@
 -- Attempts: which is the latest of a branch, on which line it is, and with what cause it ends.
 use Rattle.std.specs.Prelude.{ℕ, Bool, ◌&&◌, ◌||◌, not, Option, Some, None, is_some, unwrap_or, option_map, if◌then◌else◌, List, [], ◌∷◌}
-use Rattle.exec_journal.specs.declared.plan.Branch.{Branch}
-use Rattle.exec_journal.specs.declared.plan.Plan.{Plan}
+use Rattle.run_plan.specs.declared.plan.Branch.{Branch}
+use Rattle.run_plan.specs.declared.plan.Plan.{Plan}
 use Rattle.exec_journal.specs.declared.attempt.Attempt.{Attempt}
 use Rattle.exec_journal.specs.declared.journal.Entry.{Entry}
 use Rattle.exec_journal.specs.declared.ends.Cause.{Cause}
@@ -15,7 +15,8 @@ use Rattle.exec_journal.specs.declared.call.Started.TheVariants as start
 use Rattle.exec_journal.specs.declared.call.Written.{Written}
 use Rattle.exec_journal.specs.declared.call.Written.TheVariants as write
 use Rattle.exec_journal.specs.declared.reply.Reply.{Reply}
-use Rattle.exec_journal.specs.History.{or_else, latest, first}
+use Rattle.exec_journal.specs.History.{latest, first}
+use Rattle.list_lemmas.specs.Options.{or_else}
 use Rattle.exec_journal.specs.Entries.{Request, attempt_of, same_attempt, is_branch_of, is_for, launch_in, send_in, refused_in, send_of_entry, launch_of_entry}
 use Rattle.exec_journal.specs.Words.{last_work, has_ended, answered, wrote, says_feed_fault, line_cause, granted}
 

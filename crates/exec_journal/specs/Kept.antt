@@ -2,8 +2,8 @@
 use Rattle.std.specs.Prelude.{◌≡◌, ℕ, ◌/◌, ◌==◌, nat_le, Bool, true, false, ◌&&◌, not, Option, None, is_none, unwrap_or, option_map, if◌then◌else◌, List, [], ◌∷◌, length, filter, slice_get, ℤ}
 use Rattle.std.specs.List.{list_any}
 use Rattle.std.specs.Ordering.{int_eq}
-use Rattle.exec_journal.specs.declared.plan.Branch.{Branch}
-use Rattle.exec_journal.specs.declared.plan.Plan.{Plan}
+use Rattle.run_plan.specs.declared.plan.Branch.{Branch}
+use Rattle.run_plan.specs.declared.plan.Plan.{Plan}
 use Rattle.exec_journal.specs.declared.journal.Entry.{Entry}
 use Rattle.exec_journal.specs.declared.reply.Reply.{Reply}
 use Rattle.exec_journal.specs.declared.reply.Reply.TheVariants as reply
@@ -12,7 +12,8 @@ use Rattle.exec_journal.specs.declared.reply.Why.TheVariants as why
 use Rattle.exec_journal.specs.History.{each}
 use Rattle.exec_journal.specs.Entries.{Request, send_in}
 use Rattle.exec_journal.specs.Words.{last_line, lines_of, is_pending, pending, has_cancel, line_cause, why_of, live}
-use Rattle.exec_journal.specs.Settled.{berth_group, berths_of, first_berth, kind_of, has_cancellation, is_single, capacity, ready, wanted, some_free}
+use Rattle.exec_journal.specs.Settled.{ready, wanted, some_free}
+use Rattle.run_plan.specs.Groups.{berth_group, berths_of, first_berth, kind_of, has_cancellation, is_single, capacity}
 use Rattle.exec_journal.specs.Rules.{gathers_next, has_unwanted, is_over, is_unwanted, is_vacant, may_cancel}
 use Rattle.exec_journal.specs.Paired.{is_new_number}
 

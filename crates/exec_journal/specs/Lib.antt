@@ -6,7 +6,6 @@ pub mod Settled
 pub mod Rules
 pub mod Scripts
 pub mod Legal
-pub mod Sound
 pub mod Race
 pub mod Paired
 pub mod Kept
@@ -15,9 +14,3 @@ pub mod Clean
 pub mod Outcomes
 pub mod Ends
 pub mod Facts
-pub mod Invariant
-pub mod Steps
-pub mod Scans
-pub mod Tallies
-pub mod Winners
-pub mod Verdicts

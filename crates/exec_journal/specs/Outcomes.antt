@@ -1,9 +1,9 @@
 -- How an action and its branches end, by a journal.
 use Rattle.std.specs.Prelude.{ℕ, min, Bool, true, false, Option, Some, None, unwrap_or, option_map, if◌then◌else◌, List, [], ◌∷◌, slice_get}
-use Rattle.exec_journal.specs.declared.plan.Branch.{Branch}
-use Rattle.exec_journal.specs.declared.plan.Maker.{Maker}
-use Rattle.exec_journal.specs.declared.plan.Plan.{Plan}
-use Rattle.exec_journal.specs.declared.plan.PlanAction.{PlanAction}
+use Rattle.run_plan.specs.declared.plan.Branch.{Branch}
+use Rattle.run_plan.specs.declared.plan.Maker.{Maker}
+use Rattle.run_plan.specs.declared.plan.Plan.{Plan}
+use Rattle.run_plan.specs.declared.plan.PlanAction.{PlanAction}
 use Rattle.exec_journal.specs.declared.attempt.Attempt.{Attempt}
 use Rattle.exec_journal.specs.declared.journal.Entry.{Entry}
 use Rattle.exec_journal.specs.declared.call.Answer.{Answer}
@@ -20,7 +20,8 @@ use Rattle.exec_journal.specs.declared.ends.Standing.{Standing}
 use Rattle.exec_journal.specs.Entries.{attempt_of, same_branch}
 use Rattle.exec_journal.specs.Words.{grant_of, commit_of, ever_sent, match_of}
 use Rattle.exec_journal.specs.Attempts.{end_of}
-use Rattle.exec_journal.specs.Settled.{all_dropped, group_of, is_starved, is_success, standings}
+use Rattle.exec_journal.specs.Settled.{all_dropped, is_starved, is_success, standings}
+use Rattle.run_plan.specs.Groups.{group_of}
 
 -- ---- outcome
 

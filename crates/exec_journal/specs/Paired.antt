@@ -2,7 +2,7 @@
 use Rattle.std.specs.Prelude.{◌≡◌, ℕ, ◌/◌, ◌==◌, Bool, true, false, ◌&&◌, ◌||◌, not, option_map, if◌then◌else◌, List, length, filter, ℤ}
 use Rattle.std.specs.List.{list_any, list_all}
 use Rattle.std.specs.Ordering.{int_eq}
-use Rattle.exec_journal.specs.declared.plan.Plan.{Plan}
+use Rattle.run_plan.specs.declared.plan.Plan.{Plan}
 use Rattle.exec_journal.specs.declared.attempt.Attempt.{Attempt}
 use Rattle.exec_journal.specs.declared.journal.Entry.{Entry}
 use Rattle.exec_journal.specs.declared.call.Call.{Call}
@@ -12,7 +12,7 @@ use Rattle.exec_journal.specs.declared.reply.Reply.TheVariants as reply
 use Rattle.exec_journal.specs.History.{AtEach}
 use Rattle.exec_journal.specs.Entries.{attempt_of, same_attempt, is_for}
 use Rattle.exec_journal.specs.Words.{sends, answered, wrote, says_done}
-use Rattle.exec_journal.specs.Settled.{is_single, kind_of}
+use Rattle.run_plan.specs.Groups.{is_single, kind_of}
 use Rattle.exec_journal.specs.Rules.{head}
 
 -- a request for the attempt was sent on the line with this number

@@ -2,8 +2,8 @@
 use Rattle.std.specs.Prelude.{ℕ, ◌+◌, ◌/◌, ◌==◌, nat_lt, bytes_eq, Bool, true, false, ◌&&◌, ◌||◌, not, Option, Some, None, unwrap_or, option_map, option_and_then, if◌then◌else◌, List, [], ◌∷◌, length, filter, slice_get, ℤ, pos, int_le}
 use Rattle.std.specs.List.{list_any, find}
 use Rattle.std.specs.Ordering.{int_eq}
-use Rattle.exec_journal.specs.declared.plan.Branch.{Branch}
-use Rattle.exec_journal.specs.declared.plan.Plan.{Plan}
+use Rattle.run_plan.specs.declared.plan.Branch.{Branch}
+use Rattle.run_plan.specs.declared.plan.Plan.{Plan}
 use Rattle.exec_journal.specs.declared.attempt.Attempt.{Attempt}
 use Rattle.exec_journal.specs.declared.journal.Entry.{Entry}
 use Rattle.exec_journal.specs.declared.call.Answer.{Answer}
@@ -19,10 +19,12 @@ use Rattle.exec_journal.specs.declared.reply.Reply.TheVariants as reply
 use Rattle.exec_journal.specs.declared.reply.BreachWhy.TheVariants as breach
 use Rattle.exec_journal.specs.declared.reply.StrayWhy.TheVariants as stray
 use Rattle.exec_journal.specs.declared.reply.Why.TheVariants as why
-use Rattle.exec_journal.specs.History.{or_else, ever, first}
+use Rattle.exec_journal.specs.History.{ever, first}
+use Rattle.list_lemmas.specs.Options.{or_else}
 use Rattle.exec_journal.specs.Entries.{Request, attempt_of, same_branch, is_for, gather_in, gather_of_entry}
 use Rattle.exec_journal.specs.Words.{last_work, halted, line_count, started, failed, has_ended, was_killed, was_taken, last_line, sends, pending, is_pending, wrote, says_done, has_cancel, has_spoken, has_greeted, line_cause, why_of, broke, live, granted, grant_of, match_of}
-use Rattle.exec_journal.specs.Settled.{berth_group, kind_of, first_berth, berths_of, has_cancellation, is_single, is_remote, all_settled, wanted, bound, earliest, free_places, some_free}
+use Rattle.exec_journal.specs.Settled.{all_settled, wanted, bound, earliest, free_places, some_free}
+use Rattle.run_plan.specs.Groups.{berth_group, kind_of, first_berth, berths_of, has_cancellation, is_single, is_remote}
 
 -- a reply, where the test holds
 abbrev pub when : {X : Type 0} → Bool → X → Option X

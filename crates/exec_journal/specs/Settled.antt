@@ -1,13 +1,13 @@
 -- The plan's parts; which actions are settled, and which branches are wanted, bound and queued.
 use Rattle.std.specs.Prelude.{ℕ, zero, suc, ◌+◌, ◌-◌, ◌==◌, nat_lt, Bool, true, false, ◌&&◌, ◌||◌, not, Option, Some, None, unwrap_or, option_map, option_and_then, if◌then◌else◌, List, [], ◌∷◌, ◌++◌, length, slice_get, sum_by, take}
 use Rattle.std.specs.List.{list_any, list_all}
-use Rattle.exec_journal.specs.declared.plan.Branch.{Branch}
-use Rattle.exec_journal.specs.declared.plan.Branch.TheVariants.{Local, Remote}
-use Rattle.exec_journal.specs.declared.plan.Kind.{Kind}
-use Rattle.exec_journal.specs.declared.plan.Kind.TheVariants as kind
-use Rattle.exec_journal.specs.declared.plan.Group.{Group}
-use Rattle.exec_journal.specs.declared.plan.Plan.{Plan}
-use Rattle.exec_journal.specs.declared.plan.PlanAction.{PlanAction}
+use Rattle.run_plan.specs.declared.plan.Branch.{Branch}
+use Rattle.run_plan.specs.declared.plan.Branch.TheVariants.{Local, Remote}
+use Rattle.run_plan.specs.declared.plan.Kind.{Kind}
+use Rattle.run_plan.specs.declared.plan.Kind.TheVariants as kind
+use Rattle.run_plan.specs.declared.plan.Group.{Group}
+use Rattle.run_plan.specs.declared.plan.Plan.{Plan}
+use Rattle.run_plan.specs.declared.plan.PlanAction.{PlanAction}
 use Rattle.exec_journal.specs.declared.attempt.Attempt.{Attempt}
 use Rattle.exec_journal.specs.declared.journal.Entry.{Entry}
 use Rattle.exec_journal.specs.declared.ends.Standing.{Standing}
@@ -16,55 +16,11 @@ use Rattle.exec_journal.specs.declared.call.Found.{Found}
 use Rattle.exec_journal.specs.declared.call.Found.TheVariants as found
 use Rattle.exec_journal.specs.declared.call.CommitEnd.{CommitEnd}
 use Rattle.exec_journal.specs.declared.call.CommitEnd.TheVariants as commit
-use Rattle.exec_journal.specs.History.{or_else}
+use Rattle.list_lemmas.specs.Options.{or_else}
 use Rattle.exec_journal.specs.Entries.{attempt_of}
 use Rattle.exec_journal.specs.Words.{launch_of, lines_of, live, pending, was_sent, grant_of, granted, commit_of}
 use Rattle.exec_journal.specs.Attempts.{attempt, ended, dropped}
-
--- ---- the plan
-
--- the group that runs the branch, where the action uses it
-abbrev pub group_of : PlanAction → Branch → Option ℕ
-group_of x Local = x.local
-group_of x Remote = x.remote
-
--- the group of the berth w of these groups, the first of which has the number g
-abbrev pub group_from : ℕ → List Group → ℕ → Option ℕ
-group_from g [] w = None
-group_from g (x ∷ xs) w = if nat_lt w x.berths then Some g else group_from (g + 1) xs (w - x.berths)
-
--- berths are numbered group by group
-abbrev pub berth_group : Plan → ℕ → Option ℕ
-berth_group p w = group_from 0 p.groups w
-
-abbrev pub berths : Plan → ℕ
-berths p = sum_by (λ g. g.berths) p.groups
-
-abbrev pub first_berth : Plan → ℕ → ℕ
-first_berth p g = sum_by (λ x. x.berths) (take g p.groups)
-
-abbrev pub berths_of : Plan → ℕ → ℕ
-berths_of p g = unwrap_or (option_map (λ x. x.berths) (slice_get p.groups g)) 0
-
--- the kind of the berth's group
-abbrev pub kind_of : Plan → ℕ → Kind
-kind_of p w = unwrap_or (option_map (λ g. g.kind) (option_and_then (λ k. slice_get p.groups k) (berth_group p w))) kind.Single
-
-abbrev pub has_cancellation : Plan → ℕ → Bool
-has_cancellation p g = unwrap_or (option_map (λ x. x.cancel) (slice_get p.groups g)) false
-
-abbrev pub is_single : Kind → Bool
-is_single kind.Single = true
-is_single _ = false
-
-abbrev pub is_remote : Kind → Bool
-is_remote kind.Remote = true
-is_remote _ = false
-
--- how many requests a line has room for
-abbrev pub capacity : Kind → ℕ
-capacity kind.Single = 1
-capacity _ = 8
+use Rattle.run_plan.specs.Groups.{group_of, berths, capacity}
 
 -- ---- settled actions
 

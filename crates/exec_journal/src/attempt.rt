@@ -1,7 +1,7 @@
 ghost use Rattle.std.specs.Prelude.{◌≡◌};
 ghost use Rattle.exec_journal.specs.Entries.{attempt_of, same_attempt};
 
-use crate::Branch;
+use run_plan::Branch;
 
 /// One try of a branch of an action: the number is 1 for the first, and at most the plan's limit.
 #[derive(Clone, Copy, Debug, PartialEq, Eq)]

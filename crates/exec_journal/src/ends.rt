@@ -1,5 +1,5 @@
 // How actions, branches and attempts end.
-use crate::Branch;
+use run_plan::Branch;
 
 /// How an action ended, by a journal.
 #[derive(Clone, Copy, Debug, PartialEq, Eq)]

@@ -1,7 +1,7 @@
 -- The records that the tables' laws ask for, from a legal journal.
 use Rattle.std.proofs.Common.{◌≡◌, ℕ, ◌≤◌, ◌==◌, Bool, true, false, ◌&&◌, ◌||◌, not, List, [], ◌∷◌, Some, None, ◌⊎◌, refl, sym, ap, subst, ◌∙◌, ℤ, inr, length, cond}
-use Rattle.exec_journal.specs.declared.plan.Branch.{Branch}
-use Rattle.exec_journal.specs.declared.plan.Plan.{Plan}
+use Rattle.run_plan.specs.declared.plan.Branch.{Branch}
+use Rattle.run_plan.specs.declared.plan.Plan.{Plan}
 use Rattle.exec_journal.specs.declared.attempt.Attempt.{Attempt}
 use Rattle.exec_journal.specs.declared.journal.Entry.{Entry}
 use Rattle.exec_journal.specs.declared.call.Answer.{Answer}
@@ -20,22 +20,22 @@ use Rattle.exec_journal.specs.Entries.{committed_in, is_done, is_unwritten, is_b
 use Rattle.exec_journal.specs.Words.{launch_of, order_of, has_ended, answered, granted}
 use Rattle.exec_journal.specs.Attempts.{begun_in, line_of, ended, attempt}
 use Rattle.exec_journal.specs.Rules.{rule}
-use Rattle.exec_journal.specs.Sound.{Sound}
+use Rattle.run_plan.specs.Sound.{Sound}
 use Rattle.exec_journal.specs.Legal.{Legal}
 use Rattle.exec_journal.specs.Facts.{begun}
-use Rattle.exec_journal.specs.Invariant.{is_quiet_call, IsGoing, NumberedAs, EachRequest}
-use Rattle.exec_journal.specs.Steps.{EndExactly, is_open_attempt}
+use Rattle.journal_laws.specs.Invariant.{is_quiet_call, IsGoing, NumberedAs, EachRequest}
+use Rattle.journal_laws.specs.Steps.{EndExactly, is_open_attempt}
 use Rattle.journal_facts.specs.Asked.{is_commit, is_report, EndsOne}
-use Rattle.exec_journal.proofs.Offered as of
-use Rattle.exec_journal.proofs.Lanes as la
-use Rattle.exec_journal.proofs.Places as pl
-use Rattle.exec_journal.proofs.Known as kn
-use Rattle.exec_journal.proofs.Endings as en
-use Rattle.exec_journal.proofs.Exactly as ex
-use Rattle.exec_journal.proofs.Granted as g
-use Rattle.exec_journal.proofs.Greeted as gr
-use Rattle.exec_journal.proofs.Faulty as fa
-use Rattle.exec_journal.proofs.Claims.{clash, false_by}
+use Rattle.journal_laws.proofs.Offered as of
+use Rattle.journal_laws.proofs.Lanes as la
+use Rattle.journal_laws.proofs.Places as pl
+use Rattle.journal_laws.proofs.Known as kn
+use Rattle.journal_laws.proofs.Endings as en
+use Rattle.journal_laws.proofs.Exactly as ex
+use Rattle.journal_laws.proofs.Granted as g
+use Rattle.journal_laws.proofs.Greeted as gr
+use Rattle.journal_laws.proofs.Faulty as fa
+use Rattle.journal_laws.proofs.Claims.{clash, false_by}
 use Rattle.exec_journal.proofs.Begins.{same_attempt_eq, same_attempt_refl, same_branch_eq, same_branch_refl, begin_in_order}
 use Rattle.ready_order.specs.Entries as ro
 use Rattle.worker_pool.specs.Entries as wp

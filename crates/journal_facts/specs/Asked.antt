@@ -6,8 +6,8 @@ use Rattle.exec_journal.specs.declared.call.Call.TheVariants as call
 use Rattle.exec_journal.specs.declared.journal.Entry.{Entry}
 use Rattle.exec_journal.specs.Entries.{same_attempt, granted_in}
 use Rattle.exec_journal.specs.Attempts.{begun_in}
-use Rattle.exec_journal.specs.Invariant.{IsGoing}
-use Rattle.exec_journal.specs.Steps.{EndExactly}
+use Rattle.journal_laws.specs.Invariant.{IsGoing}
+use Rattle.journal_laws.specs.Steps.{EndExactly}
 
 abbrev pub is_commit : Call → Bool
 is_commit (call.Committed a b how) = true

@@ -12,16 +12,16 @@ ghost use Rattle.exec_journal.specs.declared.call.Started.{Started};
 ghost use Rattle.exec_journal.specs.declared.call.Written.{Written};
 ghost use Rattle.exec_journal.specs.declared.call.Written.TheVariants as write;
 ghost use Rattle.exec_journal.specs.declared.journal.Entry.{Entry};
-ghost use Rattle.exec_journal.specs.declared.plan.Branch.{Branch};
-ghost use Rattle.exec_journal.specs.declared.plan.Plan.{Plan};
+ghost use Rattle.run_plan.specs.declared.plan.Branch.{Branch};
+ghost use Rattle.run_plan.specs.declared.plan.Plan.{Plan};
 ghost use Rattle.exec_journal.specs.declared.reply.Reply.TheVariants as reply;
 ghost use Rattle.exec_journal.specs.Entries.{Request, is_done, is_unwritten, launch_in, send_in, consumed_in, granted_in, refused_in};
 ghost use Rattle.exec_journal.specs.Words.{launch_of, order_of, has_ended, answered, granted};
 ghost use Rattle.exec_journal.specs.Attempts.{begun_in, line_of};
-ghost use Rattle.exec_journal.specs.Sound.{Sound};
+ghost use Rattle.run_plan.specs.Sound.{Sound};
 ghost use Rattle.exec_journal.specs.Legal.{Legal};
 ghost use Rattle.exec_journal.specs.Facts.{begun};
-ghost use Rattle.exec_journal.specs.Invariant.{is_quiet_call, IsGoing};
+ghost use Rattle.journal_laws.specs.Invariant.{is_quiet_call, IsGoing};
 ghost use Rattle.ready_order.specs.Entries as queue;
 ghost use Rattle.race_core.specs.Entries as race;
 ghost use Rattle.retry_rules.specs.Entries as retry;
@@ -33,63 +33,115 @@ ghost use Rattle.journal_facts.specs.Asked.{is_commit, EndsOne};
 /// With which entries exactly one attempt ends: a refused Claim, a Launched with a fault, a Wrote that says that its request
 /// wasn't written, and one with FeedFault after the line's Ended.
 pub fn one_ends()
-    ensures claimed { (p : Plan) (e : Entry) (j : List Entry) (y : Attempt × Found) → Legal p (e ∷ j) → refused_in e.call e.reply ≡ Some y → EndsOne j e y.0 }
-    ensures launched { (p : Plan) (e : Entry) (j : List Entry) (l m : ℕ) (how : Started) (s : Attempt) → Legal p (e ∷ j) → e.call ≡ call.Launched l how → is_done how ≡ false → launch_of j l ≡ Some (m, s) → granted j s.action ≡ false → EndsOne j e s }
-    ensures written { (p : Plan) (e : Entry) (j : List Entry) (l : ℕ) (n : ℤ) (how : Written) (x : Request) → Legal p (e ∷ j) → e.call ≡ call.Wrote l n how → is_unwritten how ≡ true → order_of j e.lane ≡ Some x → (has_ended j x.line ≡ false) ⊎ (answered j x.attempt ≡ true) → granted j x.attempt.action ≡ false → EndsOne j e x.attempt }
-    ensures fed { (p : Plan) (e : Entry) (j : List Entry) (l : ℕ) (n : ℤ) (x : Request) → Legal p (e ∷ j) → e.call ≡ call.Wrote l n write.FeedFault → order_of j e.lane ≡ Some x → has_ended j x.line ≡ true → answered j x.attempt ≡ true → granted j x.attempt.action ≡ false → EndsOne j e x.attempt }
+    ensures claimed { (p : Plan) (e : Entry) (j : List Entry) (y : Attempt × Found)
+        → Legal p (e ∷ j) → refused_in e.call e.reply ≡ Some y → EndsOne j e y.0 }
+    ensures launched { (p : Plan) (e : Entry) (j : List Entry) (l m : ℕ) (how : Started)
+        (s : Attempt) → Legal p (e ∷ j) → e.call ≡ call.Launched l how → is_done how ≡ false
+        → launch_of j l ≡ Some (m, s) → granted j s.action ≡ false → EndsOne j e s }
+    ensures written { (p : Plan) (e : Entry) (j : List Entry) (l : ℕ) (n : ℤ) (how : Written)
+        (x : Request) → Legal p (e ∷ j) → e.call ≡ call.Wrote l n how → is_unwritten how ≡ true
+        → order_of j e.lane ≡ Some x → (has_ended j x.line ≡ false)
+        ⊎ (answered j x.attempt ≡ true) → granted j x.attempt.action ≡ false
+        → EndsOne j e x.attempt }
+    ensures fed { (p : Plan) (e : Entry) (j : List Entry) (l : ℕ) (n : ℤ) (x : Request)
+        → Legal p (e ∷ j) → e.call ≡ call.Wrote l n write.FeedFault → order_of j e.lane ≡ Some x
+        → has_ended j x.line ≡ true → answered j x.attempt ≡ true
+        → granted j x.attempt.action ≡ false → EndsOne j e x.attempt }
 {}
 
 /// With which entries none ends: those of a granted action, those of a request that ended with its line, and quiet ones.
 pub fn none_ends()
-    ensures quiet { (p : Plan) (e : Entry) (j : List Entry) → Legal p (e ∷ j) → is_quiet_call e.call ≡ true → retry.EndsNone j e }
-    ensures launched { (p : Plan) (e : Entry) (j : List Entry) (l m : ℕ) (how : Started) (s : Attempt) → Legal p (e ∷ j) → e.call ≡ call.Launched l how → is_done how ≡ false → launch_of j l ≡ Some (m, s) → granted j s.action ≡ true → retry.EndsNone j e }
-    ensures written { (p : Plan) (e : Entry) (j : List Entry) (l : ℕ) (n : ℤ) (how : Written) (x : Request) → Legal p (e ∷ j) → e.call ≡ call.Wrote l n how → is_unwritten how ≡ true → order_of j e.lane ≡ Some x → granted j x.attempt.action ≡ true → retry.EndsNone j e }
-    ensures left { (p : Plan) (e : Entry) (j : List Entry) (l : ℕ) (n : ℤ) (how : Written) (x : Request) → Legal p (e ∷ j) → e.call ≡ call.Wrote l n how → is_unwritten how ≡ true → order_of j e.lane ≡ Some x → has_ended j x.line ≡ true → answered j x.attempt ≡ false → retry.EndsNone j e }
-    ensures fed { (p : Plan) (e : Entry) (j : List Entry) (l : ℕ) (n : ℤ) (x : Request) → Legal p (e ∷ j) → e.call ≡ call.Wrote l n write.FeedFault → order_of j e.lane ≡ Some x → (has_ended j x.line && (answered j x.attempt && not (granted j x.attempt.action))) ≡ false → retry.EndsNone j e }
+    ensures quiet { (p : Plan) (e : Entry) (j : List Entry) → Legal p (e ∷ j)
+        → is_quiet_call e.call ≡ true → retry.EndsNone j e }
+    ensures launched { (p : Plan) (e : Entry) (j : List Entry) (l m : ℕ) (how : Started)
+        (s : Attempt) → Legal p (e ∷ j) → e.call ≡ call.Launched l how → is_done how ≡ false
+        → launch_of j l ≡ Some (m, s) → granted j s.action ≡ true → retry.EndsNone j e }
+    ensures written { (p : Plan) (e : Entry) (j : List Entry) (l : ℕ) (n : ℤ) (how : Written)
+        (x : Request) → Legal p (e ∷ j) → e.call ≡ call.Wrote l n how → is_unwritten how ≡ true
+        → order_of j e.lane ≡ Some x → granted j x.attempt.action ≡ true → retry.EndsNone j e }
+    ensures left { (p : Plan) (e : Entry) (j : List Entry) (l : ℕ) (n : ℤ) (how : Written)
+        (x : Request) → Legal p (e ∷ j) → e.call ≡ call.Wrote l n how → is_unwritten how ≡ true
+        → order_of j e.lane ≡ Some x → has_ended j x.line ≡ true → answered j x.attempt ≡ false
+        → retry.EndsNone j e }
+    ensures fed { (p : Plan) (e : Entry) (j : List Entry) (l : ℕ) (n : ℤ) (x : Request)
+        → Legal p (e ∷ j) → e.call ≡ call.Wrote l n write.FeedFault → order_of j e.lane ≡ Some x
+        → (has_ended j x.line && (answered j x.attempt && not (granted j x.attempt.action)))
+        ≡ false → retry.EndsNone j e }
 {}
 
 /// What the order of branches asks for.
 pub fn queue_facts()
-    ensures begins { (p : Plan) (e : Entry) (j : List Entry) (t : Attempt) → Legal p (e ∷ j) → begun_in e.reply ≡ Some t → begun j t ≡ false → queue.BeginsThis j e t }
-    ensures going { (p : Plan) (j : List Entry) (t : Attempt) → Sound p → Legal p j → IsGoing j t → queue.IsUnderWay p j t }
-    ensures ends { (p : Plan) (e : Entry) (j : List Entry) (y : Attempt) → Sound p → Legal p (e ∷ j) → EndsOne j e y → queue.EndsThese p j e (y ∷ []) }
-    ensures grants { (p : Plan) (e : Entry) (j : List Entry) (y : Attempt × Found) → Legal p (e ∷ j) → granted_in e.call e.reply ≡ Some y → queue.IsOpen j y.0.action }
-    ensures commits { (p : Plan) (e : Entry) (j : List Entry) (a : ℕ) (b : Branch) (how : CommitEnd) → Legal p (e ∷ j) → e.call ≡ call.Committed a b how → queue.WonFiles j a b }
-    ensures quiet { (p : Plan) (e : Entry) (j : List Entry) → Legal p (e ∷ j) → is_quiet_call e.call ≡ true → is_commit e.call ≡ false → begun_in e.reply ≡ None → queue.SameBranches j (e ∷ j) }
-    ensures sends { (p : Plan) (e : Entry) (j : List Entry) (t : Attempt) → Legal p (e ∷ j) → begun_in e.reply ≡ Some t → begun j t ≡ true → e.call ≡ call.Ask → queue.SameBranches j (e ∷ j) }
-    ensures greets { (p : Plan) (e : Entry) (j : List Entry) → Legal p (e ∷ j) → e.reply ≡ reply.Greeted → queue.SameBranches j (e ∷ j) }
+    ensures begins { (p : Plan) (e : Entry) (j : List Entry) (t : Attempt) → Legal p (e ∷ j)
+        → begun_in e.reply ≡ Some t → begun j t ≡ false → queue.BeginsThis j e t }
+    ensures going { (p : Plan) (j : List Entry) (t : Attempt) → Sound p → Legal p j → IsGoing j t
+        → queue.IsUnderWay p j t }
+    ensures ends { (p : Plan) (e : Entry) (j : List Entry) (y : Attempt) → Sound p
+        → Legal p (e ∷ j) → EndsOne j e y → queue.EndsThese p j e (y ∷ []) }
+    ensures grants { (p : Plan) (e : Entry) (j : List Entry) (y : Attempt × Found)
+        → Legal p (e ∷ j) → granted_in e.call e.reply ≡ Some y → queue.IsOpen j y.0.action }
+    ensures commits { (p : Plan) (e : Entry) (j : List Entry) (a : ℕ) (b : Branch)
+        (how : CommitEnd) → Legal p (e ∷ j) → e.call ≡ call.Committed a b how
+        → queue.WonFiles j a b }
+    ensures quiet { (p : Plan) (e : Entry) (j : List Entry) → Legal p (e ∷ j)
+        → is_quiet_call e.call ≡ true → is_commit e.call ≡ false → begun_in e.reply ≡ None
+        → queue.SameBranches j (e ∷ j) }
+    ensures sends { (p : Plan) (e : Entry) (j : List Entry) (t : Attempt) → Legal p (e ∷ j)
+        → begun_in e.reply ≡ Some t → begun j t ≡ true → e.call ≡ call.Ask
+        → queue.SameBranches j (e ∷ j) }
+    ensures greets { (p : Plan) (e : Entry) (j : List Entry) → Legal p (e ∷ j)
+        → e.reply ≡ reply.Greeted → queue.SameBranches j (e ∷ j) }
 {}
 
 /// What the race asks for.
 pub fn race_facts()
-    ensures grants { (p : Plan) (e : Entry) (j : List Entry) (y : Attempt × Found) → Legal p (e ∷ j) → granted_in e.call e.reply ≡ Some y → race.IsOpen j y.0.action }
-    ensures commits { (p : Plan) (e : Entry) (j : List Entry) (a : ℕ) (b : Branch) (how : CommitEnd) → Legal p (e ∷ j) → e.call ≡ call.Committed a b how → race.WonBy j a b }
-    ensures others { (p : Plan) (e : Entry) (j : List Entry) → Legal p (e ∷ j) → granted_in e.call e.reply ≡ None → is_commit e.call ≡ false → race.SameRace j (e ∷ j) }
+    ensures grants { (p : Plan) (e : Entry) (j : List Entry) (y : Attempt × Found)
+        → Legal p (e ∷ j) → granted_in e.call e.reply ≡ Some y → race.IsOpen j y.0.action }
+    ensures commits { (p : Plan) (e : Entry) (j : List Entry) (a : ℕ) (b : Branch)
+        (how : CommitEnd) → Legal p (e ∷ j) → e.call ≡ call.Committed a b how → race.WonBy j a b }
+    ensures others { (p : Plan) (e : Entry) (j : List Entry) → Legal p (e ∷ j)
+        → granted_in e.call e.reply ≡ None → is_commit e.call ≡ false → race.SameRace j (e ∷ j) }
 {}
 
 /// What the count of ends asks for.
 pub fn retry_facts()
-    ensures going { (j : List Entry) (t : Attempt) → IsGoing j t → retry.IsGoing j t.action t.branch }
-    ensures ends { (e : Entry) (j : List Entry) (y : Attempt) → EndsOne j e y → retry.EndsThese j e (y ∷ []) }
+    ensures going { (j : List Entry) (t : Attempt) → IsGoing j t
+        → retry.IsGoing j t.action t.branch }
+    ensures ends { (e : Entry) (j : List Entry) (y : Attempt) → EndsOne j e y
+        → retry.EndsThese j e (y ∷ []) }
 {}
 
 /// What the pool of lines asks for.
 pub fn pool_facts()
-    ensures wanted { (p : Plan) (e : Entry) (j : List Entry) → Legal p (e ∷ j) → pool.WantedStays p j e }
+    ensures wanted { (p : Plan) (e : Entry) (j : List Entry) → Legal p (e ∷ j)
+        → pool.WantedStays p j e }
     ensures carries { (p : Plan) (j : List Entry) → Legal p j → pool.CarriesItsBound p j }
-    ensures launches { (p : Plan) (e : Entry) (j : List Entry) (x : ℕ × Attempt) → Sound p → Legal p (e ∷ j) → launch_in e.reply ≡ Some x → pool.IsNew p j x.1 }
-    ensures sends { (p : Plan) (e : Entry) (j : List Entry) (x : Request) → Legal p (e ∷ j) → send_in e.reply ≡ Some x → pool.IsSentTo j x.attempt x.line }
-    ensures answers { (p : Plan) (e : Entry) (j : List Entry) (l : ℕ) (x : Answer) (s : Attempt) → Legal p (e ∷ j) → e.call ≡ call.Answer l x → consumed_in e.reply ≡ Some s → pool.IsPendingOn j s l }
-    ensures writes { (p : Plan) (j : List Entry) (lane : ℕ) (x : Request) → Legal p j → order_of j lane ≡ Some x → pool.IsFirstWrite j lane x }
+    ensures launches { (p : Plan) (e : Entry) (j : List Entry) (x : ℕ × Attempt) → Sound p
+        → Legal p (e ∷ j) → launch_in e.reply ≡ Some x → pool.IsNew p j x.1 }
+    ensures sends { (p : Plan) (e : Entry) (j : List Entry) (x : Request) → Legal p (e ∷ j)
+        → send_in e.reply ≡ Some x → pool.IsSentTo j x.attempt x.line }
+    ensures answers { (p : Plan) (e : Entry) (j : List Entry) (l : ℕ) (x : Answer) (s : Attempt)
+        → Legal p (e ∷ j) → e.call ≡ call.Answer l x → consumed_in e.reply ≡ Some s
+        → pool.IsPendingOn j s l }
+    ensures writes { (p : Plan) (j : List Entry) (lane : ℕ) (x : Request) → Legal p j
+        → order_of j lane ≡ Some x → pool.IsFirstWrite j lane x }
 {}
 
 /// What the table of requests asks for.
 pub fn request_facts()
-    ensures fresh { (p : Plan) (e : Entry) (j : List Entry) (x : Request) → Legal p (e ∷ j) → send_in e.reply ≡ Some x → table.IsNewRequest j x.line x.attempt }
-    ensures sends { (p : Plan) (e : Entry) (j : List Entry) (x : Request) → Sound p → Legal p (e ∷ j) → send_in e.reply ≡ Some x → table.IsNextSend p j e.lane x.line x.number x.attempt.action x.attempt.branch x.attempt.number }
-    ensures answers { (p : Plan) (e : Entry) (j : List Entry) (l : ℕ) (x : Answer) (s : Attempt) → Legal p (e ∷ j) → e.call ≡ call.Answer l x → consumed_in e.reply ≡ Some s → table.IsKnownBy j l x.number s }
-    ensures writes { (p : Plan) (e : Entry) (j : List Entry) (l : ℕ) (n : ℤ) (how : Written) (x : Request) → Legal p (e ∷ j) → e.call ≡ call.Wrote l n how → order_of j e.lane ≡ Some x → table.IsKnownBy j l n x.attempt }
-    ensures ended { (p : Plan) (j : List Entry) (s : Attempt) (l : ℕ) → Legal p j → line_of j s ≡ Some l → has_ended j l ≡ true → table.IsPast j s }
+    ensures fresh { (p : Plan) (e : Entry) (j : List Entry) (x : Request) → Legal p (e ∷ j)
+        → send_in e.reply ≡ Some x → table.IsNewRequest j x.line x.attempt }
+    ensures sends { (p : Plan) (e : Entry) (j : List Entry) (x : Request)
+        → Sound p → Legal p (e ∷ j) → send_in e.reply ≡ Some x
+        → table.IsNextSend p j e.lane x.line x.number
+        x.attempt.action x.attempt.branch x.attempt.number }
+    ensures answers { (p : Plan) (e : Entry) (j : List Entry) (l : ℕ) (x : Answer) (s : Attempt)
+        → Legal p (e ∷ j) → e.call ≡ call.Answer l x → consumed_in e.reply ≡ Some s
+        → table.IsKnownBy j l x.number s }
+    ensures writes { (p : Plan) (e : Entry) (j : List Entry) (l : ℕ) (n : ℤ) (how : Written)
+        (x : Request) → Legal p (e ∷ j) → e.call ≡ call.Wrote l n how
+        → order_of j e.lane ≡ Some x → table.IsKnownBy j l n x.attempt }
+    ensures ended { (p : Plan) (j : List Entry) (s : Attempt) (l : ℕ) → Legal p j
+        → line_of j s ≡ Some l → has_ended j l ≡ true → table.IsPast j s }
     ensures answered { (j : List Entry) (s : Attempt) → answered j s ≡ true → table.IsPast j s }
 {}
 

@@ -1,6 +1,6 @@
 // Reports of one action that was lost locally and won by the executor, and the lines of faults.
 ghost use Rattle.std.specs.Prelude.{IfOk};
-ghost use Rattle.exec_journal.specs.Sound.{Sound};
+ghost use Rattle.run_plan.specs.Sound.{Sound};
 
 use build_report::{RunFault, Stage, Unbuilt, fault_line, report, status};
 use exec_journal::{

@@ -3,9 +3,9 @@ use Rattle.std.proofs.Common.{◌≡◌, ◌≢◌, ℕ, ◌<◌, ◌==◌, nat_
 use Rattle.std.specs.Prelude.{slice_get, replicate}
 use Rattle.std.proofs.lemmas.Bool.{eqb-true, eq-eqb, lt-ltb}
 use Rattle.std.proofs.lemmas.Option.{slice_get_read}
-use Rattle.exec_journal.specs.declared.plan.Branch.{Branch}
-use Rattle.exec_journal.specs.declared.plan.Branch.TheVariants.{Local, Remote}
-use Rattle.exec_journal.specs.declared.plan.Plan.{Plan}
+use Rattle.run_plan.specs.declared.plan.Branch.{Branch}
+use Rattle.run_plan.specs.declared.plan.Branch.TheVariants.{Local, Remote}
+use Rattle.run_plan.specs.declared.plan.Plan.{Plan}
 use Rattle.exec_journal.specs.declared.attempt.Attempt.{Attempt}
 use Rattle.exec_journal.specs.declared.journal.Entry.{Entry}
 use Rattle.exec_journal.specs.declared.call.Call.TheVariants as call
@@ -13,19 +13,19 @@ use Rattle.exec_journal.specs.declared.call.CommitEnd.{CommitEnd}
 use Rattle.exec_journal.specs.declared.call.Found.{Found}
 use Rattle.exec_journal.specs.declared.reply.Reply.{Reply}
 use Rattle.exec_journal.specs.declared.reply.Reply.TheVariants as reply
-use Rattle.exec_journal.specs.History.{unless_before}
+use Rattle.list_lemmas.specs.Options.{unless_before}
 use Rattle.exec_journal.specs.Entries.{attempt_of, same_branch}
 use Rattle.exec_journal.specs.Rules.{is_other}
-use Rattle.exec_journal.specs.Tallies.{update}
+use Rattle.list_lemmas.specs.Places.{update}
 use Rattle.exec_journal.specs.Words.{grant_of, commit_of}
 use Rattle.exec_journal.proofs.Begins.{same_branch_refl}
 use Rattle.exec_journal.proofs.Ruled.{by_bool}
-use Rattle.exec_journal.proofs.Tallied.{set-update}
+use Rattle.list_lemmas.proofs.Updates.{set-update}
 use Rattle.race_core.specs.declared.Won.{Won}
 use Rattle.race_core.specs.Rows.{open_row, winner_of, claimed_row, committed_row, with_claim, with_commit}
 use Rattle.race_core.specs.Stands.{Stands, branch_in, commit_by, is_done, won_in}
 use Rattle.race_core.specs.Entries.{IsOpen, WonBy, SameRace}
-use Rattle.exec_journal.proofs.Updates.{get_update, get_replicate}
+use Rattle.list_lemmas.proofs.Updates.{get_update, get_replicate}
 
 pub new_stands : (p : Plan) (rows : List Won) → rows ≡ replicate (length p.actions) open_row → Stands p rows []
 unfolding won_in grant_of commit_of

@@ -1,6 +1,6 @@
 -- What the laws ask of a journal and its next entry.
 use Rattle.std.specs.Prelude.{◌≡◌, ℕ, Some, None, List}
-use Rattle.exec_journal.specs.declared.plan.Branch.{Branch}
+use Rattle.run_plan.specs.declared.plan.Branch.{Branch}
 use Rattle.exec_journal.specs.declared.journal.Entry.{Entry}
 use Rattle.exec_journal.specs.Words.{grant_of, commit_of}
 use Rattle.race_core.specs.Stands.{branch_in}

@@ -1,9 +1,9 @@
 -- What the table keeps of each action, and what a call makes of it.
 use Rattle.std.specs.Prelude.{ℕ, Bool, Option, Some, None, option_map, option_and_then, List, length, slice_get, replicate}
-use Rattle.exec_journal.specs.declared.plan.Branch.{Branch}
-use Rattle.exec_journal.specs.declared.plan.Plan.{Plan}
-use Rattle.exec_journal.specs.History.{or_else}
-use Rattle.exec_journal.specs.Tallies.{update}
+use Rattle.run_plan.specs.declared.plan.Branch.{Branch}
+use Rattle.run_plan.specs.declared.plan.Plan.{Plan}
+use Rattle.list_lemmas.specs.Options.{or_else}
+use Rattle.list_lemmas.specs.Places.{update}
 use Rattle.race_core.specs.declared.ClaimReply.{ClaimReply}
 use Rattle.race_core.specs.declared.ClaimReply.TheVariants.{Granted, Lost}
 use Rattle.race_core.specs.declared.Won.{Won}

@@ -4,8 +4,8 @@ ghost use Rattle.exec_journal.specs.declared.call.Call.TheVariants.{Claim, Commi
 ghost use Rattle.exec_journal.specs.declared.call.CommitEnd.{CommitEnd};
 ghost use Rattle.exec_journal.specs.declared.call.Found.{Found};
 ghost use Rattle.exec_journal.specs.declared.journal.Entry.{Entry};
-ghost use Rattle.exec_journal.specs.declared.plan.Branch.{Branch};
-ghost use Rattle.exec_journal.specs.declared.plan.Plan.{Plan};
+ghost use Rattle.run_plan.specs.declared.plan.Branch.{Branch};
+ghost use Rattle.run_plan.specs.declared.plan.Plan.{Plan};
 ghost use Rattle.exec_journal.specs.declared.reply.Reply.{Reply};
 ghost use Rattle.exec_journal.specs.declared.reply.Reply.TheVariants.{Granted};
 ghost use Rattle.exec_journal.specs.Rules.{is_other};
@@ -17,22 +17,32 @@ ghost use Rattle.race_core.specs.Stands.{Stands, branch_in, is_done};
 
 /// A Claim that is granted: `claim` is called once.
 pub fn grants_are_kept()
-    ensures { (p : Plan) (rows : List Won) (j : List Entry) (lane a t : ℕ) (b : Branch) (found : Found) → Stands p rows j → IsOpen j a → Stands p (with_claim rows a b) (record { lane = lane; call = Claim a b t found; reply = Granted } ∷ j) }
+    ensures { (p : Plan) (rows : List Won) (j : List Entry) (lane a t : ℕ) (b : Branch)
+        (found : Found) → Stands p rows j → IsOpen j a
+        → Stands p (with_claim rows a b)
+        (record { lane = lane; call = Claim a b t found; reply = Granted } ∷ j) }
 {}
 
 /// A Committed of the winner: `committed` is called once.
 pub fn commits_are_kept()
-    ensures { (p : Plan) (rows : List Won) (j : List Entry) (lane a : ℕ) (b : Branch) (how : CommitEnd) (reply : Reply) → Stands p rows j → WonBy j a b → Stands p (with_commit rows a (is_done how)) (record { lane = lane; call = Committed a b how; reply = reply } ∷ j) }
+    ensures { (p : Plan) (rows : List Won) (j : List Entry) (lane a : ℕ) (b : Branch)
+        (how : CommitEnd) (reply : Reply) → Stands p rows j → WonBy j a b
+        → Stands p (with_commit rows a (is_done how))
+        (record { lane = lane; call = Committed a b how; reply = reply } ∷ j) }
 {}
 
 /// Any other entry: nothing is called.
 pub fn others_change_nothing()
-    ensures { (p : Plan) (rows : List Won) (j k : List Entry) → Stands p rows j → SameRace j k → Stands p rows k }
+    ensures { (p : Plan) (rows : List Won) (j k : List Entry) → Stands p rows j → SameRace j k
+        → Stands p rows k }
 {}
 
 /// The table's winner is the journal's; so where the claiming branch isn't the winner, there is a winner exactly where
 /// the other branch was granted.
 pub fn winners_are_the_journals()
-    ensures winner { (p : Plan) (rows : List Won) (j : List Entry) (a : ℕ) → Stands p rows j → a < length p.actions → winner_of rows a ≡ branch_in (grant_of j a) }
-    ensures other { (p : Plan) (rows : List Won) (j : List Entry) (a : ℕ) (b : Branch) → Stands p rows j → a < length p.actions → winner_of rows a ≢ Some b → is_other b (grant_of j a) ≡ is_some (winner_of rows a) }
+    ensures winner { (p : Plan) (rows : List Won) (j : List Entry) (a : ℕ) → Stands p rows j
+        → a < length p.actions → winner_of rows a ≡ branch_in (grant_of j a) }
+    ensures other { (p : Plan) (rows : List Won) (j : List Entry) (a : ℕ) (b : Branch)
+        → Stands p rows j → a < length p.actions → winner_of rows a ≢ Some b
+        → is_other b (grant_of j a) ≡ is_some (winner_of rows a) }
 {}

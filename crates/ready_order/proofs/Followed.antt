@@ -3,10 +3,10 @@ use Rattle.std.proofs.Common.{◌≡◌, ℕ, ◌<◌, ◌≤◌, ◌==◌, nat_
 use Rattle.std.specs.Prelude.{slice_get}
 use Rattle.std.proofs.lemmas.Bool.{eqb-true, eq-eqb, lt-ltb, and_parts}
 use Rattle.std.proofs.lemmas.Option.{slice_get-map, slice_get_cases, slice_get_within}
-use Rattle.exec_journal.specs.declared.plan.Branch.{Branch}
-use Rattle.exec_journal.specs.declared.plan.Branch.TheVariants.{Local, Remote}
-use Rattle.exec_journal.specs.declared.plan.Plan.{Plan}
-use Rattle.exec_journal.specs.declared.plan.PlanAction.{PlanAction}
+use Rattle.run_plan.specs.declared.plan.Branch.{Branch}
+use Rattle.run_plan.specs.declared.plan.Branch.TheVariants.{Local, Remote}
+use Rattle.run_plan.specs.declared.plan.Plan.{Plan}
+use Rattle.run_plan.specs.declared.plan.PlanAction.{PlanAction}
 use Rattle.exec_journal.specs.declared.attempt.Attempt.{Attempt}
 use Rattle.exec_journal.specs.declared.ends.Standing.{Standing}
 use Rattle.exec_journal.specs.declared.ends.Standing.TheVariants.{Open, Succeeded, Without}
@@ -17,17 +17,17 @@ use Rattle.exec_journal.specs.declared.call.CommitEnd.TheVariants as commit
 use Rattle.exec_journal.specs.declared.call.Found.{Found}
 use Rattle.exec_journal.specs.declared.call.Found.TheVariants as found
 use Rattle.exec_journal.specs.declared.reply.Reply.TheVariants as reply
-use Rattle.exec_journal.specs.History.{or_else}
+use Rattle.list_lemmas.specs.Options.{or_else}
 use Rattle.exec_journal.specs.Entries.{attempt_of, same_branch, is_branch_of, granted_in}
 use Rattle.exec_journal.specs.Words.{of_action, grant_of, granted, commit_of, has_ended, answered, wrote, line_cause}
 use Rattle.exec_journal.specs.Attempts.{attempt, number_if, line_of, fault_of, lost_cause, over, end_of, ended, dropped}
 use Rattle.exec_journal.specs.Settled.{by_grant, by_commit, unused_or_dropped, all_dropped}
-use Rattle.exec_journal.specs.Tallies.{update}
+use Rattle.list_lemmas.specs.Places.{update}
 use Rattle.exec_journal.proofs.Begins.{same_branch_eq, same_branch_refl, is_branch_refl, attempt_begun, attempt_other}
 use Rattle.exec_journal.proofs.Histories.{first_from, some_later}
 use Rattle.exec_journal.proofs.Quiet.{ended_same}
 use Rattle.exec_journal.proofs.Ruled.{by_bool}
-use Rattle.exec_journal.proofs.Updates.{get_update}
+use Rattle.list_lemmas.proofs.Updates.{get_update}
 use Rattle.ready_order.specs.declared.ActionState.{ActionState}
 use Rattle.ready_order.specs.Queue.{producers_of, new_state, new_states, state_with, with_taken, with_unwanted, granted_state, settled_state, with_settled}
 use Rattle.ready_order.specs.Stands.{Stands, is_free, own_in, state_in}

@@ -3,11 +3,11 @@ use Rattle.std.proofs.Common.{◌≡◌, ℕ, zero, suc, ◌+◌, ◌<◌, ◌�
 use Rattle.std.specs.Prelude.{unwrap_or, option_map}
 use Rattle.std.proofs.lemmas.Bool.{ltb-true, ltb-false}
 use Rattle.std.proofs.lemmas.Option.{slice_get_read, slice_get_past}
-use Rattle.exec_journal.specs.declared.plan.Branch.{Branch}
-use Rattle.exec_journal.specs.declared.plan.Branch.TheVariants.{Local, Remote}
-use Rattle.exec_journal.specs.Tallies.{update}
+use Rattle.run_plan.specs.declared.plan.Branch.{Branch}
+use Rattle.run_plan.specs.declared.plan.Branch.TheVariants.{Local, Remote}
+use Rattle.list_lemmas.specs.Places.{update}
 use Rattle.exec_journal.proofs.Ruled.{by_bool}
-use Rattle.exec_journal.proofs.Tallied.{set-update}
+use Rattle.list_lemmas.proofs.Updates.{set-update}
 use Rattle.ready_order.specs.declared.ActionState.{ActionState}
 use Rattle.ready_order.specs.Queue.{may_begin, is_queued, queued_branch, IsFirst, seat_of}
 

@@ -1,14 +1,14 @@
 -- What the table keeps of each action, what a call makes of it, and which branches are queued.
 use Rattle.std.specs.Prelude.{◌≡◌, ℕ, ◌<◌, ◌==◌, Bool, true, false, ◌&&◌, not, is_none, unwrap_or, option_map, Option, Some, None, if◌then◌else◌, List, map, slice_get}
 use Rattle.std.specs.List.{list_all}
-use Rattle.exec_journal.specs.declared.plan.Branch.{Branch}
-use Rattle.exec_journal.specs.declared.plan.Branch.TheVariants.{Local, Remote}
-use Rattle.exec_journal.specs.declared.plan.Plan.{Plan}
-use Rattle.exec_journal.specs.declared.plan.PlanAction.{PlanAction}
+use Rattle.run_plan.specs.declared.plan.Branch.{Branch}
+use Rattle.run_plan.specs.declared.plan.Branch.TheVariants.{Local, Remote}
+use Rattle.run_plan.specs.declared.plan.Plan.{Plan}
+use Rattle.run_plan.specs.declared.plan.PlanAction.{PlanAction}
 use Rattle.exec_journal.specs.declared.ends.Standing.{Standing}
 use Rattle.exec_journal.specs.declared.ends.Standing.TheVariants.{Open, Succeeded, Without}
 use Rattle.exec_journal.specs.Settled.{is_settled, is_success}
-use Rattle.exec_journal.specs.Tallies.{update}
+use Rattle.list_lemmas.specs.Places.{update}
 use Rattle.ready_order.specs.declared.Seat.{Seat}
 use Rattle.ready_order.specs.declared.ActionState.{ActionState}
 

@@ -1,9 +1,9 @@
 -- When the table's states are those of a journal, whose newest entry stands first.
 use Rattle.std.specs.Prelude.{◌≡◌, ℕ, Bool, ◌&&◌, not, unwrap_or, option_map, Option, if◌then◌else◌, List, slice_get}
-use Rattle.exec_journal.specs.declared.plan.Branch.{Branch}
-use Rattle.exec_journal.specs.declared.plan.Branch.TheVariants.{Local, Remote}
-use Rattle.exec_journal.specs.declared.plan.Plan.{Plan}
-use Rattle.exec_journal.specs.declared.plan.PlanAction.{PlanAction}
+use Rattle.run_plan.specs.declared.plan.Branch.{Branch}
+use Rattle.run_plan.specs.declared.plan.Branch.TheVariants.{Local, Remote}
+use Rattle.run_plan.specs.declared.plan.Plan.{Plan}
+use Rattle.run_plan.specs.declared.plan.PlanAction.{PlanAction}
 use Rattle.exec_journal.specs.declared.attempt.Attempt.{Attempt}
 use Rattle.exec_journal.specs.declared.ends.Standing.{Standing}
 use Rattle.exec_journal.specs.declared.ends.Standing.TheVariants.{Open, Without}

@@ -5,8 +5,8 @@ ghost use Rattle.exec_journal.specs.declared.call.Call.TheVariants.{Claim, Commi
 ghost use Rattle.exec_journal.specs.declared.call.CommitEnd.{CommitEnd};
 ghost use Rattle.exec_journal.specs.declared.call.Found.TheVariants.{Files, Exit};
 ghost use Rattle.exec_journal.specs.declared.journal.Entry.{Entry};
-ghost use Rattle.exec_journal.specs.declared.plan.Branch.{Branch};
-ghost use Rattle.exec_journal.specs.declared.plan.Plan.{Plan};
+ghost use Rattle.run_plan.specs.declared.plan.Branch.{Branch};
+ghost use Rattle.run_plan.specs.declared.plan.Plan.{Plan};
 ghost use Rattle.exec_journal.specs.declared.reply.Reply.TheVariants.{Granted, Noted};
 ghost use Rattle.exec_journal.specs.Settled.{earliest};
 ghost use Rattle.ready_order.specs.declared.ActionState.{ActionState};
@@ -16,37 +16,58 @@ ghost use Rattle.ready_order.specs.Entries.{BeginsThis, EndsThese, IsOpen, WonFi
 
 /// A Launch, and a Send of an attempt that wasn't launched: `taken` is called once.
 pub fn begins_are_taken()
-    ensures { (p : Plan) (states : List ActionState) (j : List Entry) (e : Entry) (t : Attempt) → Stands p states j → BeginsThis j e t → Stands p (with_taken states t.action t.branch) (e ∷ j) }
+    ensures { (p : Plan) (states : List ActionState) (j : List Entry) (e : Entry) (t : Attempt)
+        → Stands p states j → BeginsThis j e t
+        → Stands p (with_taken states t.action t.branch) (e ∷ j) }
 {}
 
 /// An entry with which attempts end: for each of them `again` is called where it was below the limit, and else, where all
 /// branches of its action are dropped now, `settle` without success.
 pub fn ends_are_followed()
-    ensures { (p : Plan) (states : List ActionState) (j : List Entry) (e : Entry) (ts : List Attempt) → Stands p states j → EndsThese p j e ts → Stands p (with_ends p (e ∷ j) states ts) (e ∷ j) }
+    ensures { (p : Plan) (states : List ActionState) (j : List Entry) (e : Entry)
+        (ts : List Attempt) → Stands p states j → EndsThese p j e ts
+        → Stands p (with_ends p (e ∷ j) states ts) (e ∷ j) }
 {}
 
 /// A Claim that is granted: `unwanted` is called, and where it found an exit code `settle` too, without success.
 pub fn grants_are_followed()
-    ensures files { (p : Plan) (states : List ActionState) (j : List Entry) (lane a t : ℕ) (b : Branch) (contents : List (List ℕ)) → Stands p states j → IsOpen j a → Stands p (with_unwanted states a) (record { lane = lane; call = Claim a b t (Files contents); reply = Granted } ∷ j) }
-    ensures exit { (p : Plan) (states : List ActionState) (j : List Entry) (lane a t : ℕ) (b : Branch) (code : ℤ) → Stands p states j → IsOpen j a → Stands p (with_settled (with_unwanted states a) a false) (record { lane = lane; call = Claim a b t (Exit code); reply = Granted } ∷ j) }
+    ensures files { (p : Plan) (states : List ActionState) (j : List Entry) (lane a t : ℕ)
+        (b : Branch) (contents : List (List ℕ)) → Stands p states j → IsOpen j a
+        → Stands p (with_unwanted states a) (record {
+          lane = lane;
+          call = Claim a b t
+              (Files contents);
+          reply = Granted;
+        } ∷ j) }
+    ensures exit { (p : Plan) (states : List ActionState) (j : List Entry) (lane a t : ℕ)
+        (b : Branch) (code : ℤ) → Stands p states j → IsOpen j a
+        → Stands p (with_settled (with_unwanted states a) a false)
+        (record { lane = lane; call = Claim a b t (Exit code); reply = Granted } ∷ j) }
 {}
 
 /// A Committed of the branch that was granted files: `settle` is called, with success exactly where it says Done.
 pub fn commits_are_followed()
-    ensures { (p : Plan) (states : List ActionState) (j : List Entry) (lane a : ℕ) (b : Branch) (how : CommitEnd) → Stands p states j → WonFiles j a b → Stands p (with_settled states a (is_done how)) (record { lane = lane; call = Committed a b how; reply = Noted } ∷ j) }
+    ensures { (p : Plan) (states : List ActionState) (j : List Entry) (lane a : ℕ) (b : Branch)
+        (how : CommitEnd) → Stands p states j → WonFiles j a b
+        → Stands p (with_settled states a (is_done how))
+        (record { lane = lane; call = Committed a b how; reply = Noted } ∷ j) }
 {}
 
 /// Any other entry: nothing is called.
 pub fn others_change_nothing()
-    ensures { (p : Plan) (states : List ActionState) (j k : List Entry) → Stands p states j → SameBranches j k → Stands p states k }
+    ensures { (p : Plan) (states : List ActionState) (j k : List Entry) → Stands p states j
+        → SameBranches j k → Stands p states k }
 {}
 
 /// The table's answer is the journal's: the action and the branch of the group's earliest queued branch.
 pub fn answers_are_the_journals()
-    ensures { (p : Plan) (states : List ActionState) (j : List Entry) (g : ℕ) (answer : Option (ℕ × Branch)) → Stands p states j → IsEarliest states g answer → answer ≡ branch_of (earliest p j g) }
+    ensures { (p : Plan) (states : List ActionState) (j : List Entry) (g : ℕ) (answer : Option (ℕ
+        × Branch)) → Stands p states j → IsEarliest states g answer
+        → answer ≡ branch_of (earliest p j g) }
 {}
 
 /// The table has a state of each action of the plan, so that every call may name it.
 pub fn actions_are_known()
-    ensures { (p : Plan) (states : List ActionState) (j : List Entry) (a : ℕ) → Stands p states j → a < length p.actions → a < length states }
+    ensures { (p : Plan) (states : List ActionState) (j : List Entry) (a : ℕ) → Stands p states j
+        → a < length p.actions → a < length states }
 {}

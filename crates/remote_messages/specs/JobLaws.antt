@@ -1,24 +1,24 @@
 -- Fields mean at most one job, a field has at most one fault, and the written form of a job spells it.
 use Rattle.std.specs.Prelude.{◌≡◌, ◌⊎◌, ℕ, List, map}
 use Rattle.std.specs.Int.{w64, cast_unsigned}
-use Rattle.std.proofs.Common.{sym, ap, subst, ◌∙◌, inl, inr, arith}
+use Rattle.std.proofs.Common.{cond, ltb, sym, ap, subst, ◌∙◌, inl, inr, arith}
 use Rattle.std.proofs.lemmas.List.Elements.{recursion_from_All}
 use Rattle.wire_fields.specs.Varint.{Fault}
 use Rattle.wire_fields.specs.Field.{WireField, Number, Bytes}
 use Rattle.wire_fields.specs.Message.{IsSound, RefusesText, RefusesMessage, last_or, numbers, spans, int32, AreSpelled}
-use Rattle.wire_fields.specs.Spelling.{int32_field, repeated_field, spelling, AreWritable}
+use Rattle.wire_fields.specs.Spelling.{int32_field, bool_field, repeated_field, spelling, AreWritable}
 use Rattle.wire_fields.specs.After.{IsText}
 use Rattle.wire_fields.proofs.Messages.{spells_or_faulty, one_message, AreSpelled-same}
 use Rattle.wire_fields.proofs.Again.{whole_again, AreWritable-append}
-use Rattle.wire_fields.proofs.Values.{int32_bits, by_numbers, by_spans, last-own_number, spans-own_repeated, IsSound-append, int32_writable, repeated_writable, repeated_sound, number_sound, written_spelled, texts_fine, messages_fine, one_or, one_text, one_embedded, apart}
+use Rattle.wire_fields.proofs.Values.{int32_bits, by_numbers, by_spans, last-own_number, spans-own_repeated, flag_again, IsSound-append, int32_writable, bool_writable, repeated_writable, repeated_sound, number_sound, written_spelled, texts_fine, messages_fine, one_or, one_text, one_embedded, apart}
 use Rattle.outside.specs.declared.command.Variable.{Variable}
 use Rattle.remote_messages.specs.declared.file.NamedFile.{NamedFile}
 use Rattle.remote_messages.specs.declared.job.Job.{Job}
 use Rattle.remote_messages.specs.File.{IsFile, file_refuses, SpellsFile, FaultyFile, IsFileValue}
 use Rattle.remote_messages.specs.FileLaws.{one_file, one_file_fault, file_again}
-use Rattle.remote_messages.specs.Variable.{IsVariable, variable_refuses, SpellsVariable, FaultyVariable, IsVariableValue}
+use Rattle.remote_messages.specs.Variable.{IsVariable, variable_refuses, SpellsVariable, FaultyVariable, IsVariableValue, variable_spelling}
 use Rattle.remote_messages.specs.VariableLaws.{one_variable, one_variable_fault, variable_again}
-use Rattle.remote_messages.specs.Job.{IsJob, job_refuses, SpellsJob, job_fields, IsJobValue, file_spelling, variable_spelling}
+use Rattle.remote_messages.specs.Job.{IsJob, job_refuses, SpellsJob, job_fields, IsJobValue, file_spelling}
 
 pub one_job : (fs : List WireField) (m n : Job) → IsJob fs m → IsJob fs n → m ≡ n
 one_job fs m n p q = λ i. record {
@@ -27,6 +27,7 @@ one_job fs m n p q = λ i. record {
   inputs = AreSpelled-same SpellsFile (one_message file_refuses IsFile one_file) _ m.inputs n.inputs p.inputs q.inputs i;
   outputs = (p.outputs ∙ sym q.outputs) i;
   env = AreSpelled-same SpellsVariable (one_message variable_refuses IsVariable one_variable) _ m.env n.env p.env q.env i;
+  cancel = (p.cancel ∙ sym q.cancel) i;
 }
 
 -- ---- a field has at most one fault
@@ -109,6 +110,10 @@ env_of : (m : Job) → spans 5 (job_fields m) ≡ spans 5 (repeated_field 5 (map
 unfolding job_fields
 env_of m = simp by_spans
 
+cancels : (m : Job) → numbers 6 (job_fields m) ≡ numbers 6 (bool_field 6 m.cancel)
+unfolding job_fields
+cancels m = simp by_numbers
+
 -- ---- the written form spells the job
 
 job_writable : (m : Job) → IsJobValue m → AreWritable (job_fields m)
@@ -118,12 +123,13 @@ job_writable m v =
     let inputs = messages_fine job_refuses 3 IsFileValue file_spelling SpellsFile file_again input_fine m.inputs (recursion_from_All _ m.inputs v.inputs) in
     let outputs = texts_fine job_refuses 4 output_fine m.outputs (recursion_from_All _ m.outputs v.outputs) in
     let env = messages_fine job_refuses 5 IsVariableValue variable_spelling SpellsVariable variable_again variable_fine m.env (recursion_from_All _ m.env v.env) in
-    AreWritable-append _ _ (AreWritable-append _ _ (AreWritable-append _ _ (AreWritable-append _ _
+    AreWritable-append _ _ (AreWritable-append _ _ (AreWritable-append _ _ (AreWritable-append _ _ (AreWritable-append _ _
     (int32_writable 1 m.id (omega arith) (omega arith) v.id)
     (repeated_writable 2 m.arguments (omega arith) (omega arith) arguments.1))
     (repeated_writable 3 (map file_spelling m.inputs) (omega arith) (omega arith) inputs.1))
     (repeated_writable 4 m.outputs (omega arith) (omega arith) outputs.1))
-    (repeated_writable 5 (map variable_spelling m.env) (omega arith) (omega arith) env.1)
+    (repeated_writable 5 (map variable_spelling m.env) (omega arith) (omega arith) env.1))
+    (bool_writable 6 m.cancel (omega arith) (omega arith))
 
 job_sound : (m : Job) → IsJobValue m → IsSound job_refuses (job_fields m)
 unfolding job_fields
@@ -132,12 +138,13 @@ job_sound m v =
     let inputs = messages_fine job_refuses 3 IsFileValue file_spelling SpellsFile file_again input_fine m.inputs (recursion_from_All _ m.inputs v.inputs) in
     let outputs = texts_fine job_refuses 4 output_fine m.outputs (recursion_from_All _ m.outputs v.outputs) in
     let env = messages_fine job_refuses 5 IsVariableValue variable_spelling SpellsVariable variable_again variable_fine m.env (recursion_from_All _ m.env v.env) in
-    IsSound-append job_refuses _ _ (IsSound-append job_refuses _ _ (IsSound-append job_refuses _ _ (IsSound-append job_refuses _ _
+    IsSound-append job_refuses _ _ (IsSound-append job_refuses _ _ (IsSound-append job_refuses _ _ (IsSound-append job_refuses _ _ (IsSound-append job_refuses _ _
     (number_sound job_refuses 1 (cast_unsigned w64 m.id) (number_fine 1 (cast_unsigned w64 m.id)))
     (repeated_sound job_refuses 2 m.arguments arguments.0))
     (repeated_sound job_refuses 3 (map file_spelling m.inputs) inputs.0))
     (repeated_sound job_refuses 4 m.outputs outputs.0))
-    (repeated_sound job_refuses 5 (map variable_spelling m.env) env.0)
+    (repeated_sound job_refuses 5 (map variable_spelling m.env) env.0))
+    (number_sound job_refuses 6 (cond m.cancel 1 0) (number_fine 6 (cond m.cancel 1 0)))
 
 job_means : (m : Job) → IsJobValue m → IsJob (job_fields m) m
 job_means m v =
@@ -149,6 +156,7 @@ job_means m v =
       inputs = subst (λ (ss : List (List ℕ)). AreSpelled SpellsFile ss m.inputs) (sym (inputs_of m ∙ spans-own_repeated 3 (map file_spelling m.inputs))) (written_spelled SpellsFile file_spelling m.inputs inputs.2);
       outputs = sym (outputs_of m ∙ spans-own_repeated 4 m.outputs);
       env = subst (λ (ss : List (List ℕ)). AreSpelled SpellsVariable ss m.env) (sym (env_of m ∙ spans-own_repeated 5 (map variable_spelling m.env))) (written_spelled SpellsVariable variable_spelling m.env env.2);
+      cancel = sym (ap (λ (xs : List ℕ). ltb 0 (last_or 0 xs)) (cancels m) ∙ ap (ltb 0) (last-own_number 6 (cond m.cancel 1 0)) ∙ flag_again m.cancel);
     }
 
 pub job_again : (m : Job) → IsJobValue m → SpellsJob (spelling (job_fields m)) m

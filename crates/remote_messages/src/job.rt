@@ -12,8 +12,8 @@ use outside::Variable;
 use plain_values::{Items, NoMemory, Text};
 use std::alloc::Global;
 use wire_messages::{
-    Message, MessageFault, Value, decode, encode, int32_len, messages_len, push_int32,
-    push_messages, push_texts, texts_len,
+    Message, MessageFault, Value, bool_len, decode, encode, int32_len, messages_len, push_bool,
+    push_int32, push_messages, push_texts, texts_len,
 };
 
 /// What the executor is asked to run.
@@ -24,6 +24,8 @@ pub struct Job {
     pub inputs: Items<NamedFile>,
     pub outputs: Items<Text>,
     pub env: Items<Variable>,
+    /// Whether the job with this number is to be given up. All else is then empty.
+    pub cancel: bool,
 }
 
 impl Message for Job {
@@ -53,6 +55,7 @@ impl Message for Job {
             inputs: Items::of(Vec::new(alloc)),
             outputs: Items::of(Vec::new(alloc)),
             env: Items::of(Vec::new(alloc)),
+            cancel: false,
         })
     }
 
@@ -64,6 +67,7 @@ impl Message for Job {
             3 => value.push_message(alloc, &mut self.inputs)?,
             4 => value.push_text(alloc, &mut self.outputs)?,
             5 => take_variable(value, alloc, &mut self.env)?,
+            6 => value.set_bool(&mut self.cancel),
             _ => {}
         }
         Ok(())
@@ -75,10 +79,12 @@ impl Message for Job {
         let inputs = messages_len(3, self.inputs.as_slice());
         let outputs = texts_len(4, self.outputs.as_slice());
         let env = env_len(5, self.env.as_slice());
+        let cancel = bool_len(6, self.cancel);
         id.saturating_add(arguments)
             .saturating_add(inputs)
             .saturating_add(outputs)
             .saturating_add(env)
+            .saturating_add(cancel)
     }
 
     fn put(&self, out: &mut Vec<u8>) -> Result<(), NoMemory> {
@@ -87,6 +93,7 @@ impl Message for Job {
         push_messages(out, 3, self.inputs.as_slice())?;
         push_texts(out, 4, self.outputs.as_slice())?;
         push_env(out, 5, self.env.as_slice())?;
+        push_bool(out, 6, self.cancel)?;
         Ok(())
     }
 }

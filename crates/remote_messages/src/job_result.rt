@@ -9,8 +9,8 @@ use crate::file::NamedFile;
 use plain_values::{Items, NoMemory, Text};
 use std::alloc::Global;
 use wire_messages::{
-    Message, MessageFault, Value, bytes_len, decode, encode, int32_len, messages_len, push_bytes,
-    push_int32, push_messages,
+    Message, MessageFault, Value, bool_len, bytes_len, decode, encode, int32_len, messages_len,
+    push_bool, push_bytes, push_int32, push_messages,
 };
 
 /// What the executor answers to a job.
@@ -23,6 +23,13 @@ pub struct JobResult {
     pub files: Items<NamedFile>,
     /// Why the job was not run; empty where it was.
     pub refusal: Text,
+    /// Whether the job was given up.
+    pub cancelled: bool,
+    /// Whether further results of this job follow.
+    pub more: bool,
+    /// The version of the remote protocol, in a greeting: a result with id 0 and version 2 or more, which is
+    /// the executor's first message. 0 elsewhere.
+    pub version: i32,
 }
 
 impl Message for JobResult {
@@ -52,6 +59,9 @@ impl Message for JobResult {
             text: Text::of(String::new(alloc)),
             files: Items::of(Vec::new(alloc)),
             refusal: Text::of(String::new(alloc)),
+            cancelled: false,
+            more: false,
+            version: 0,
         })
     }
 
@@ -63,6 +73,9 @@ impl Message for JobResult {
             3 => value.set_text(alloc, &mut self.text)?,
             4 => value.push_message(alloc, &mut self.files)?,
             5 => value.set_text(alloc, &mut self.refusal)?,
+            6 => value.set_bool(&mut self.cancelled),
+            7 => value.set_bool(&mut self.more),
+            8 => value.set_int32(&mut self.version),
             _ => {}
         }
         Ok(())
@@ -74,10 +87,16 @@ impl Message for JobResult {
         let text = bytes_len(3, self.text.as_str().as_bytes());
         let files = messages_len(4, self.files.as_slice());
         let refusal = bytes_len(5, self.refusal.as_str().as_bytes());
+        let cancelled = bool_len(6, self.cancelled);
+        let more = bool_len(7, self.more);
+        let version = int32_len(8, self.version);
         id.saturating_add(exit_code)
             .saturating_add(text)
             .saturating_add(files)
             .saturating_add(refusal)
+            .saturating_add(cancelled)
+            .saturating_add(more)
+            .saturating_add(version)
     }
 
     fn put(&self, out: &mut Vec<u8>) -> Result<(), NoMemory> {
@@ -86,6 +105,9 @@ impl Message for JobResult {
         push_bytes(out, 3, self.text.as_str().as_bytes())?;
         push_messages(out, 4, self.files.as_slice())?;
         push_bytes(out, 5, self.refusal.as_str().as_bytes())?;
+        push_bool(out, 6, self.cancelled)?;
+        push_bool(out, 7, self.more)?;
+        push_int32(out, 8, self.version)?;
         Ok(())
     }
 }

@@ -4,7 +4,7 @@ use Rattle.std.specs.Prelude.{map, slice_get, ℤ, pos, negsuc}
 use Rattle.std.specs.List.{find}
 use Rattle.std.specs.Ordering.{int_eq}
 use Rattle.std.proofs.lemmas.Bool.{eqb-true}
-use Rattle.exec_journal.specs.declared.plan.Plan.{Plan}
+use Rattle.run_plan.specs.declared.plan.Plan.{Plan}
 use Rattle.exec_journal.specs.declared.attempt.Attempt.{Attempt}
 use Rattle.exec_journal.specs.declared.journal.Entry.{Entry}
 use Rattle.exec_journal.specs.declared.call.Answer.{Answer}
@@ -15,7 +15,7 @@ use Rattle.exec_journal.specs.Entries.{Request, same_attempt, consumed_in, is_un
 use Rattle.exec_journal.specs.Words.{sends, pending, is_pending, wrote, order_of}
 use Rattle.exec_journal.specs.Rules.{head}
 use Rattle.exec_journal.proofs.Ruled.{by_bool}
-use Rattle.exec_journal.proofs.Updates.{get_update}
+use Rattle.list_lemmas.proofs.Updates.{get_update}
 use Rattle.request_table.specs.declared.Line.{Line}
 use Rattle.request_table.specs.declared.Matching.TheVariants.{Pending, Cancelled}
 use Rattle.request_table.specs.declared.Place.{Place}

@@ -8,9 +8,9 @@ use Rattle.std.proofs.lemmas.Bool.{eqb-true, eq-eqb}
 use Rattle.std.proofs.lemmas.Bool.Decides.{Decides-int_eq}
 use Rattle.std.proofs.lemmas.List.{reverse-append}
 use Rattle.std.proofs.lemmas.List.Elements.{filter-append}
-use Rattle.exec_journal.specs.History.{or_else}
+use Rattle.list_lemmas.specs.Options.{or_else}
 use Rattle.exec_journal.specs.Entries.{Request}
-use Rattle.exec_journal.specs.Tallies.{update}
+use Rattle.list_lemmas.specs.Places.{update}
 use Rattle.exec_journal.proofs.Ruled.{by_bool}
 use Rattle.request_table.specs.Entries.{EachOf}
 use Rattle.request_table.specs.Stands.{natural}

@@ -3,7 +3,7 @@ use Rattle.std.proofs.Common.{◌≡◌, ℕ, ◌==◌, Bool, true, false, ◌&&
 use Rattle.std.specs.Prelude.{ℤ}
 use Rattle.std.specs.Ordering.{int_eq}
 use Rattle.std.proofs.lemmas.Bool.{eq-eqb, or_right, and_right}
-use Rattle.exec_journal.specs.declared.plan.Branch.{Branch}
+use Rattle.run_plan.specs.declared.plan.Branch.{Branch}
 use Rattle.exec_journal.specs.declared.attempt.Attempt.{Attempt}
 use Rattle.exec_journal.specs.declared.journal.Entry.{Entry}
 use Rattle.exec_journal.specs.declared.call.Answer.{Answer}
@@ -13,7 +13,7 @@ use Rattle.exec_journal.specs.declared.call.HowEnded.{HowEnded}
 use Rattle.exec_journal.specs.declared.call.Written.{Written}
 use Rattle.exec_journal.specs.declared.reply.Reply.{Reply}
 use Rattle.exec_journal.specs.declared.reply.Reply.TheVariants as reply
-use Rattle.exec_journal.specs.History.{unless_before, and_more}
+use Rattle.list_lemmas.specs.Options.{unless_before, and_more}
 use Rattle.exec_journal.specs.Entries.{Request, attempt_of, same_attempt, is_for, send_in, consumed_in, ends, is_unwritten}
 use Rattle.exec_journal.specs.Words.{sends, sent_on, pending, is_pending, has_cancel, cancels, was_sent, answered, wrote, wrote_if, order_of, says_unwritten, has_ended}
 use Rattle.exec_journal.proofs.Begins.{same_attempt_eq, same_attempt_refl}

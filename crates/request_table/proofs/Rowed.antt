@@ -2,9 +2,9 @@
 use Rattle.std.proofs.Common.{◌≡◌, Bool, true, false, ℕ, zero, suc, ◌+◌, ◌<◌, List, [], ◌∷◌, length, get_or, set, Option, Some, unwrap_or, option_and_then, option_map, refl, ap, sym, ◌∙◌, arith}
 use Rattle.std.specs.Prelude.{slice_get, map, ℤ, pos}
 use Rattle.std.proofs.lemmas.Option.{slice_get_read}
-use Rattle.exec_journal.specs.declared.plan.Branch.{Branch}
-use Rattle.exec_journal.specs.Tallies.{update}
-use Rattle.exec_journal.proofs.Tallied.{set-update}
+use Rattle.run_plan.specs.declared.plan.Branch.{Branch}
+use Rattle.list_lemmas.specs.Places.{update}
+use Rattle.list_lemmas.proofs.Updates.{set-update}
 use Rattle.request_table.specs.declared.Line.{Line}
 use Rattle.request_table.specs.declared.Place.{Place}
 use Rattle.request_table.specs.declared.Singles.{Singles}

@@ -4,12 +4,12 @@ use Rattle.std.specs.Prelude.{map, slice_get, replicate}
 use Rattle.std.proofs.lemmas.Bool.{eqb-true}
 use Rattle.std.proofs.lemmas.List.{length-replicate}
 use Rattle.std.proofs.lemmas.List.Elements.{filter-append}
-use Rattle.exec_journal.specs.declared.plan.Plan.{Plan}
+use Rattle.run_plan.specs.declared.plan.Plan.{Plan}
 use Rattle.exec_journal.specs.declared.journal.Entry.{Entry}
-use Rattle.exec_journal.specs.Tallies.{update}
+use Rattle.list_lemmas.specs.Places.{update}
 use Rattle.exec_journal.specs.Words.{sends, pending}
 use Rattle.exec_journal.proofs.Ruled.{by_bool}
-use Rattle.exec_journal.proofs.Updates.{get_update, get_replicate}
+use Rattle.list_lemmas.proofs.Updates.{get_update, get_replicate}
 use Rattle.request_table.specs.declared.Line.{Line}
 use Rattle.request_table.specs.declared.Place.{Place}
 use Rattle.request_table.specs.declared.Singles.{Singles}

@@ -1,8 +1,8 @@
 -- What the laws ask of a journal and its next entry.
 use Rattle.std.specs.Prelude.{◌≡◌, ℕ, ◌/◌, ◌==◌, Bool, true, false, Option, Some, None, option_and_then, List, [], ◌∷◌, slice_get, ℤ}
 use Rattle.std.specs.Ordering.{int_eq}
-use Rattle.exec_journal.specs.declared.plan.Branch.{Branch}
-use Rattle.exec_journal.specs.declared.plan.Plan.{Plan}
+use Rattle.run_plan.specs.declared.plan.Branch.{Branch}
+use Rattle.run_plan.specs.declared.plan.Plan.{Plan}
 use Rattle.exec_journal.specs.declared.attempt.Attempt.{Attempt}
 use Rattle.exec_journal.specs.declared.journal.Entry.{Entry}
 use Rattle.exec_journal.specs.declared.call.Call.{Call}
@@ -12,7 +12,7 @@ use Rattle.exec_journal.specs.declared.reply.Reply.TheVariants as reply
 use Rattle.exec_journal.specs.Entries.{Request, attempt_of, same_attempt}
 use Rattle.exec_journal.specs.Words.{sends, pending, was_sent, answered, wrote, has_ended}
 use Rattle.exec_journal.specs.Rules.{number_on}
-use Rattle.exec_journal.specs.Settled.{berth_group, is_single, kind_of, group_of}
+use Rattle.run_plan.specs.Groups.{berth_group, is_single, kind_of, group_of}
 use Rattle.request_table.specs.declared.Matching.{Matching}
 use Rattle.request_table.specs.declared.Matching.TheVariants.{Closed, Never}
 use Rattle.request_table.specs.Stands.{Numbered}

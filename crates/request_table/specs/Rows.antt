@@ -1,13 +1,13 @@
 -- The facts that the table keeps, and what a call makes of them.
 use Rattle.std.specs.Prelude.{ℕ, zero, suc, ◌+◌, ◌*◌, ◌==◌, nat_lt, Bool, true, false, ◌&&◌, ◌||◌, not, Option, Some, None, unwrap_or, option_map, option_and_then, if◌then◌else◌, List, [], ◌∷◌, ◌++◌, length, filter, map, slice_get, replicate, ℤ, pos, negsuc}
 use Rattle.std.specs.List.{find}
-use Rattle.exec_journal.specs.declared.plan.Branch.{Branch}
-use Rattle.exec_journal.specs.declared.plan.Branch.TheVariants.{Local, Remote}
-use Rattle.exec_journal.specs.declared.plan.Kind.TheVariants as kind
-use Rattle.exec_journal.specs.declared.plan.Plan.{Plan}
-use Rattle.exec_journal.specs.declared.plan.PlanAction.{PlanAction}
-use Rattle.exec_journal.specs.Settled.{is_single}
-use Rattle.exec_journal.specs.Tallies.{update}
+use Rattle.run_plan.specs.declared.plan.Branch.{Branch}
+use Rattle.run_plan.specs.declared.plan.Branch.TheVariants.{Local, Remote}
+use Rattle.run_plan.specs.declared.plan.Kind.TheVariants as kind
+use Rattle.run_plan.specs.declared.plan.Plan.{Plan}
+use Rattle.run_plan.specs.declared.plan.PlanAction.{PlanAction}
+use Rattle.run_plan.specs.Groups.{is_single}
+use Rattle.list_lemmas.specs.Places.{update}
 use Rattle.request_table.specs.declared.Line.{Line}
 use Rattle.request_table.specs.declared.Matching.{Matching}
 use Rattle.request_table.specs.declared.Matching.TheVariants.{Pending, Cancelled, Closed, Never}

@@ -8,13 +8,13 @@ ghost use Rattle.exec_journal.specs.declared.call.Call.TheVariants as call;
 ghost use Rattle.exec_journal.specs.declared.call.HowEnded.{HowEnded};
 ghost use Rattle.exec_journal.specs.declared.call.Written.{Written};
 ghost use Rattle.exec_journal.specs.declared.journal.Entry.{Entry};
-ghost use Rattle.exec_journal.specs.declared.plan.Branch.{Branch};
-ghost use Rattle.exec_journal.specs.declared.plan.Plan.{Plan};
+ghost use Rattle.run_plan.specs.declared.plan.Branch.{Branch};
+ghost use Rattle.run_plan.specs.declared.plan.Plan.{Plan};
 ghost use Rattle.exec_journal.specs.declared.reply.Reply.{Reply};
 ghost use Rattle.exec_journal.specs.declared.reply.Reply.TheVariants as reply;
 ghost use Rattle.exec_journal.specs.Entries.{Request, consumed_in, is_unwritten};
 ghost use Rattle.exec_journal.specs.Rules.{head, number_on};
-ghost use Rattle.exec_journal.specs.Settled.{kind_of, capacity};
+ghost use Rattle.run_plan.specs.Groups.{kind_of, capacity};
 ghost use Rattle.exec_journal.specs.Words.{sends, pending, wrote, order_of};
 ghost use Rattle.request_table.specs.Entries.{IsOfGroup, NumberedBy, IsNextSend, IsKnownBy, NoneIsPending, is_still, is_calm, finds_none};
 ghost use Rattle.request_table.specs.Rows.{Facts, line_room, last_of, next_number, open_of, single_of, capacity_of, matching_of, with_send, with_answer, with_reopened, with_unwritten, with_cancelled, with_ended};
@@ -22,63 +22,99 @@ ghost use Rattle.request_table.specs.Stands.{Stands, Numbered, of_sent, of_pendi
 
 /// A Send: `send` is called.
 pub fn sends_are_kept()
-    ensures { (p : Plan) (f : Facts) (j : List Entry) (lane l : ℕ) (n : ℤ) (a : ℕ) (b : Branch) (t : ℕ) → Stands p f j → l < line_room p → IsNextSend p j lane l n a b t → Stands p (with_send f l a b t) (record { lane = lane; call = call.Ask; reply = reply.Send l n a b t } ∷ j) }
+    ensures { (p : Plan) (f : Facts) (j : List Entry) (lane l : ℕ) (n : ℤ) (a : ℕ) (b : Branch)
+        (t : ℕ) → Stands p f j → l < line_room p → IsNextSend p j lane l n a b t
+        → Stands p (with_send f l a b t)
+        (record { lane = lane; call = call.Ask; reply = reply.Send l n a b t } ∷ j) }
 {}
 
 /// An Answer that is consumed, whether its reply is Matched or Late: `answer` is called.
 pub fn answers_are_kept()
-    ensures { (p : Plan) (f : Facts) (j : List Entry) (lane l : ℕ) (x : Answer) (r : Reply) (s : Attempt) → Stands p f j → consumed_in r ≡ Some s → IsKnownBy j l x.number s → Stands p (with_answer f l x.number) (record { lane = lane; call = call.Answer l x; reply = r } ∷ j) }
+    ensures { (p : Plan) (f : Facts) (j : List Entry) (lane l : ℕ) (x : Answer) (r : Reply)
+        (s : Attempt) → Stands p f j → consumed_in r ≡ Some s → IsKnownBy j l x.number s
+        → Stands p (with_answer f l x.number)
+        (record { lane = lane; call = call.Answer l x; reply = r } ∷ j) }
 {}
 
 /// An Answer that found a pending request and yet is a Breach: `answer` and then `reopened` are called.
 pub fn breaches_are_taken_back()
-    ensures { (p : Plan) (f : Facts) (j : List Entry) (lane l : ℕ) (x : Answer) (r : Reply) → Stands p f j → is_still r ≡ true → Stands p (with_reopened (with_answer f l x.number) l x.number) (record { lane = lane; call = call.Answer l x; reply = r } ∷ j) }
+    ensures { (p : Plan) (f : Facts) (j : List Entry) (lane l : ℕ) (x : Answer) (r : Reply)
+        → Stands p f j → is_still r ≡ true
+        → Stands p (with_reopened (with_answer f l x.number) l x.number)
+        (record { lane = lane; call = call.Answer l x; reply = r } ∷ j) }
 {}
 
 /// An Answer that finds no pending request: `answer` is called.
 pub fn strays_change_nothing()
-    ensures { (p : Plan) (f : Facts) (j : List Entry) (lane l : ℕ) (x : Answer) (r : Reply) → Stands p f j → is_still r ≡ true → finds_none (matching_of f l x.number) ≡ true → Stands p (with_answer f l x.number) (record { lane = lane; call = call.Answer l x; reply = r } ∷ j) }
+    ensures { (p : Plan) (f : Facts) (j : List Entry) (lane l : ℕ) (x : Answer) (r : Reply)
+        → Stands p f j → is_still r ≡ true → finds_none (matching_of f l x.number) ≡ true
+        → Stands p (with_answer f l x.number)
+        (record { lane = lane; call = call.Answer l x; reply = r } ∷ j) }
 {}
 
 /// A Wrote that says of a pending request that it wasn't written: `unwritten` is called.
 pub fn faults_are_kept()
-    ensures { (p : Plan) (f : Facts) (j : List Entry) (lane l : ℕ) (n : ℤ) (how : Written) (q : Request) → Stands p f j → order_of j lane ≡ Some q → is_unwritten how ≡ true → wrote j q.attempt ≡ None → IsKnownBy j l n q.attempt → Stands p (with_unwritten f l n) (record { lane = lane; call = call.Wrote l n how; reply = reply.Noted } ∷ j) }
+    ensures { (p : Plan) (f : Facts) (j : List Entry) (lane l : ℕ) (n : ℤ) (how : Written)
+        (q : Request) → Stands p f j → order_of j lane ≡ Some q → is_unwritten how ≡ true
+        → wrote j q.attempt ≡ None → IsKnownBy j l n q.attempt
+        → Stands p (with_unwritten f l n)
+        (record { lane = lane; call = call.Wrote l n how; reply = reply.Noted } ∷ j) }
 {}
 
 /// Any other Wrote: nothing is called, whether it says that the request was written, or is about a request that was
 /// answered or whose line has ended.
 pub fn other_writes_change_nothing()
-    ensures written { (p : Plan) (f : Facts) (j : List Entry) (lane l : ℕ) (n : ℤ) (how : Written) → Stands p f j → is_unwritten how ≡ false → Stands p f (record { lane = lane; call = call.Wrote l n how; reply = reply.Noted } ∷ j) }
-    ensures past { (p : Plan) (f : Facts) (j : List Entry) (lane l : ℕ) (n : ℤ) (how : Written) → Stands p f j → NoneIsPending j (order_of j lane) → Stands p f (record { lane = lane; call = call.Wrote l n how; reply = reply.Noted } ∷ j) }
+    ensures written { (p : Plan) (f : Facts) (j : List Entry) (lane l : ℕ) (n : ℤ)
+        (how : Written) → Stands p f j → is_unwritten how ≡ false
+        → Stands p f (record { lane = lane; call = call.Wrote l n how; reply = reply.Noted } ∷ j) }
+    ensures past { (p : Plan) (f : Facts) (j : List Entry) (lane l : ℕ) (n : ℤ) (how : Written)
+        → Stands p f j → NoneIsPending j (order_of j lane)
+        → Stands p f (record { lane = lane; call = call.Wrote l n how; reply = reply.Noted } ∷ j) }
 {}
 
 /// A Cancel: `cancelled` is called.
 pub fn cancels_are_kept()
-    ensures { (p : Plan) (f : Facts) (j : List Entry) (lane l : ℕ) (n : ℤ) → Stands p f j → Stands p (with_cancelled f l n) (record { lane = lane; call = call.Ask; reply = reply.Cancel l n } ∷ j) }
+    ensures { (p : Plan) (f : Facts) (j : List Entry) (lane l : ℕ) (n : ℤ) → Stands p f j
+        → Stands p (with_cancelled f l n)
+        (record { lane = lane; call = call.Ask; reply = reply.Cancel l n } ∷ j) }
 {}
 
 /// An Ended, whether or not attempts end with it: `ended` is called.
 pub fn ends_are_kept()
-    ensures { (p : Plan) (f : Facts) (j : List Entry) (lane l : ℕ) (how : HowEnded) → Stands p f j → Stands p (with_ended f l) (record { lane = lane; call = call.Ended l how; reply = reply.Noted } ∷ j) }
+    ensures { (p : Plan) (f : Facts) (j : List Entry) (lane l : ℕ) (how : HowEnded)
+        → Stands p f j
+        → Stands p (with_ended f l)
+        (record { lane = lane; call = call.Ended l how; reply = reply.Noted } ∷ j) }
 {}
 
 /// Any other entry: nothing is called.
 pub fn others_change_nothing()
-    ensures { (p : Plan) (f : Facts) (j : List Entry) (e : Entry) → Stands p f j → is_still e.reply ≡ true → is_calm e.call ≡ true → Stands p f (e ∷ j) }
+    ensures { (p : Plan) (f : Facts) (j : List Entry) (e : Entry) → Stands p f j
+        → is_still e.reply ≡ true → is_calm e.call ≡ true → Stands p f (e ∷ j) }
 {}
 
 /// The number that `send` gives is the rules', and what it asks for is there: the numbers so far leave room for it, as
 /// many places are taken as requests are pending, and the line's capacity is the rules'.
 pub fn numbers_are_the_journals()
-    ensures number { (p : Plan) (f : Facts) (j : List Entry) (lane l a : ℕ) (b : Branch) → Stands p f j → l < line_room p → IsOfGroup p lane a b → NumberedBy p j lane l → pos (next_number f l a b) ≡ number_on p j (lane / 2) l }
-    ensures fewer { (p : Plan) (f : Facts) (j : List Entry) (l : ℕ) → Stands p f j → l < line_room p → length (sends j l) < line_room p → last_of f l < length f.lines }
-    ensures places { (p : Plan) (f : Facts) (j : List Entry) (l : ℕ) → Stands p f j → l < line_room p → length (open_of f l) ≡ length (pending j l) }
-    ensures capacity { (p : Plan) (f : Facts) (j : List Entry) (lane a : ℕ) (b : Branch) → Stands p f j → IsOfGroup p lane a b → capacity_of (single_of f a b) ≡ capacity (kind_of p (lane / 2)) }
+    ensures number { (p : Plan) (f : Facts) (j : List Entry) (lane l a : ℕ) (b : Branch)
+        → Stands p f j → l < line_room p → IsOfGroup p lane a b → NumberedBy p j lane l
+        → pos (next_number f l a b) ≡ number_on p j (lane / 2) l }
+    ensures fewer { (p : Plan) (f : Facts) (j : List Entry) (l : ℕ) → Stands p f j
+        → l < line_room p → length (sends j l) < line_room p → last_of f l < length f.lines }
+    ensures places { (p : Plan) (f : Facts) (j : List Entry) (l : ℕ) → Stands p f j
+        → l < line_room p → length (open_of f l) ≡ length (pending j l) }
+    ensures capacity { (p : Plan) (f : Facts) (j : List Entry) (lane a : ℕ) (b : Branch)
+        → Stands p f j → IsOfGroup p lane a b
+        → capacity_of (single_of f a b) ≡ capacity (kind_of p (lane / 2)) }
 {}
 
 /// What `answer` finds is what the rules find: on a Single line its pending request, and on every other line the
 /// request with the answer's number.
 pub fn answers_are_the_journals()
-    ensures multi { (p : Plan) (f : Facts) (j : List Entry) (l : ℕ) (z : ℤ) → Stands p f j → l < line_room p → Numbered false (sends j l) → matching_of f l z ≡ of_sent j (find (λ r. int_eq r.number z) (sends j l)) }
-    ensures single { (p : Plan) (f : Facts) (j : List Entry) (l : ℕ) → Stands p f j → l < line_room p → Numbered true (sends j l) → length (pending j l) ≤ 1 → matching_of f l (pos 0) ≡ of_pending j l (head (pending j l)) }
+    ensures multi { (p : Plan) (f : Facts) (j : List Entry) (l : ℕ) (z : ℤ) → Stands p f j
+        → l < line_room p → Numbered false (sends j l)
+        → matching_of f l z ≡ of_sent j (find (λ r. int_eq r.number z) (sends j l)) }
+    ensures single { (p : Plan) (f : Facts) (j : List Entry) (l : ℕ) → Stands p f j
+        → l < line_room p → Numbered true (sends j l) → length (pending j l) ≤ 1
+        → matching_of f l (pos 0) ≡ of_pending j l (head (pending j l)) }
 {}

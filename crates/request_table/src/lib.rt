@@ -91,7 +91,8 @@ impl Requests {
     pub fn send(&mut self, line: u32, action: u32, branch: Branch, attempt: u32) -> i32
         requires known { line < length self.old.lines }
         requires planned { action < length self.old.singles }
-        requires place { length (open_of self.old line) < capacity_of (single_of self.old action branch) }
+        requires place { length (open_of self.old line) < capacity_of
+            (single_of self.old action branch) }
         requires fewer { last_of self.old line < length self.old.lines }
         ensures number { result ≡ pos (next_number self.old line action branch) }
         ensures facts { self.new ≡ with_send self.old line action branch attempt }

@@ -3,27 +3,27 @@ use Rattle.std.proofs.Common.{◌≡◌, ℕ, ◌+◌, ◌-◌, ◌<◌, ◌≤�
 use Rattle.std.specs.Prelude.{slice_get, replicate}
 use Rattle.std.specs.List.{filter}
 use Rattle.std.proofs.lemmas.Bool.{eqb-true, and_parts, lt-ltb}
-use Rattle.exec_journal.specs.declared.plan.Branch.{Branch}
-use Rattle.exec_journal.specs.declared.plan.Branch.TheVariants.{Local, Remote}
-use Rattle.exec_journal.specs.declared.plan.Plan.{Plan}
+use Rattle.run_plan.specs.declared.plan.Branch.{Branch}
+use Rattle.run_plan.specs.declared.plan.Branch.TheVariants.{Local, Remote}
+use Rattle.run_plan.specs.declared.plan.Plan.{Plan}
 use Rattle.exec_journal.specs.declared.attempt.Attempt.{Attempt}
 use Rattle.exec_journal.specs.declared.journal.Entry.{Entry}
 use Rattle.exec_journal.specs.Entries.{attempt_of, same_branch, is_branch_of}
 use Rattle.exec_journal.specs.Attempts.{attempt, begun_in, number_if, ended}
 use Rattle.exec_journal.specs.Attempts as words
 use Rattle.exec_journal.specs.Facts.{BeginsNext}
-use Rattle.exec_journal.specs.Tallies.{update}
+use Rattle.list_lemmas.specs.Places.{update}
 use Rattle.exec_journal.proofs.Begins.{same_branch_eq, is_branch_refl, attempt_begun, attempt_other}
 use Rattle.exec_journal.proofs.Quiet.{ended_stays}
 use Rattle.exec_journal.proofs.Ruled.{by_bool}
-use Rattle.exec_journal.proofs.Tallied.{set-update}
+use Rattle.list_lemmas.proofs.Updates.{set-update}
 use Rattle.std.proofs.lemmas.Option.{slice_get_read}
 use Rattle.retry_rules.specs.declared.After.{After}
 use Rattle.retry_rules.specs.declared.Ended.{Ended}
 use Rattle.retry_rules.specs.Counts.{Facts, none_ended, count_of, ended_of, one_more, with_end, with_ends, after_attempt}
 use Rattle.retry_rules.specs.Stands.{Stands, ended_count, ended_in}
 use Rattle.retry_rules.specs.Entries.{times, EndsThese, EndsNone, IsGoing}
-use Rattle.exec_journal.proofs.Updates.{get_update, get_replicate}
+use Rattle.list_lemmas.proofs.Updates.{get_update, get_replicate}
 
 -- ---- rows of counts
 

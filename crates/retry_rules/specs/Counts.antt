@@ -1,10 +1,10 @@
 -- The facts that the table keeps, and what a call makes of them.
 use Rattle.std.specs.Prelude.{ℕ, ◌+◌, nat_lt, unwrap_or, option_map, if◌then◌else◌, List, [], ◌∷◌, length, slice_get, replicate}
-use Rattle.exec_journal.specs.declared.plan.Branch.{Branch}
-use Rattle.exec_journal.specs.declared.plan.Branch.TheVariants.{Local, Remote}
-use Rattle.exec_journal.specs.declared.plan.Plan.{Plan}
+use Rattle.run_plan.specs.declared.plan.Branch.{Branch}
+use Rattle.run_plan.specs.declared.plan.Branch.TheVariants.{Local, Remote}
+use Rattle.run_plan.specs.declared.plan.Plan.{Plan}
 use Rattle.exec_journal.specs.declared.attempt.Attempt.{Attempt}
-use Rattle.exec_journal.specs.Tallies.{update}
+use Rattle.list_lemmas.specs.Places.{update}
 use Rattle.retry_rules.specs.declared.After.{After}
 use Rattle.retry_rules.specs.declared.After.TheVariants.{Again, Spent}
 use Rattle.retry_rules.specs.declared.Ended.{Ended}

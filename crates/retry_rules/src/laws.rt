@@ -2,8 +2,8 @@
 ghost use Rattle.std.specs.Prelude.{◌≡◌, ◌+◌, ◌<◌, ℕ, List, ◌∷◌, Some, false, length};
 ghost use Rattle.exec_journal.specs.declared.attempt.Attempt.{Attempt};
 ghost use Rattle.exec_journal.specs.declared.journal.Entry.{Entry};
-ghost use Rattle.exec_journal.specs.declared.plan.Branch.{Branch};
-ghost use Rattle.exec_journal.specs.declared.plan.Plan.{Plan};
+ghost use Rattle.run_plan.specs.declared.plan.Branch.{Branch};
+ghost use Rattle.run_plan.specs.declared.plan.Plan.{Plan};
 ghost use Rattle.exec_journal.specs.Attempts.{attempt, begun_in, ended};
 ghost use Rattle.exec_journal.specs.Facts.{BeginsNext, AttemptsInOrder};
 ghost use Rattle.retry_rules.specs.Counts.{Facts, with_ends, ended_of, after_attempt};
@@ -12,22 +12,31 @@ ghost use Rattle.retry_rules.specs.Stands.{Stands};
 
 /// An entry with which attempts end: `after_end` is called once for each of them.
 pub fn ends_are_counted()
-    ensures { (p : Plan) (f : Facts) (j : List Entry) (e : Entry) (ts : List Attempt) → Stands p f j → EndsThese j e ts → Stands p (with_ends f ts) (e ∷ j) }
+    ensures { (p : Plan) (f : Facts) (j : List Entry) (e : Entry) (ts : List Attempt)
+        → Stands p f j → EndsThese j e ts → Stands p (with_ends f ts) (e ∷ j) }
 {}
 
 /// An entry that begins the next attempt of a branch, while none ends: nothing is called.
 pub fn begins_count_nothing()
-    ensures { (p : Plan) (f : Facts) (j : List Entry) (e : Entry) (t : Attempt) → Stands p f j → begun_in e.reply ≡ Some t → BeginsNext j t → ended j t ≡ false → EndsNone j e → Stands p f (e ∷ j) }
+    ensures { (p : Plan) (f : Facts) (j : List Entry) (e : Entry) (t : Attempt) → Stands p f j
+        → begun_in e.reply ≡ Some t → BeginsNext j t → ended j t ≡ false → EndsNone j e
+        → Stands p f (e ∷ j) }
 {}
 
 /// Any other entry with which no attempt begins or ends: nothing is called.
 pub fn others_count_nothing()
-    ensures { (p : Plan) (f : Facts) (j : List Entry) (e : Entry) → Stands p f j → ((a : ℕ) (b : Branch) → attempt (e ∷ j) a b ≡ attempt j a b) → EndsNone j e → Stands p f (e ∷ j) }
+    ensures { (p : Plan) (f : Facts) (j : List Entry) (e : Entry) → Stands p f j
+        → ((a : ℕ) (b : Branch) → attempt (e ∷ j) a b ≡ attempt j a b) → EndsNone j e
+        → Stands p f (e ∷ j) }
 {}
 
 /// Of a branch whose latest attempt is under way the table's count is below the limit, and its next answer is about
 /// that attempt.
 pub fn answers_are_of_the_latest()
-    ensures below { (p : Plan) (f : Facts) (j : List Entry) (a : ℕ) (b : Branch) → Stands p f j → AttemptsInOrder p j → 0 < p.limit → a < length p.actions → IsGoing j a b → ended_of f a b < f.limit }
-    ensures answer { (p : Plan) (f : Facts) (j : List Entry) (a : ℕ) (b : Branch) → Stands p f j → a < length p.actions → IsGoing j a b → after_attempt (ended_of f a b + 1) f.limit ≡ after_attempt (attempt j a b) p.limit }
+    ensures below { (p : Plan) (f : Facts) (j : List Entry) (a : ℕ) (b : Branch) → Stands p f j
+        → AttemptsInOrder p j → 0 < p.limit → a < length p.actions → IsGoing j a b
+        → ended_of f a b < f.limit }
+    ensures answer { (p : Plan) (f : Facts) (j : List Entry) (a : ℕ) (b : Branch) → Stands p f j
+        → a < length p.actions → IsGoing j a b
+        → after_attempt (ended_of f a b + 1) f.limit ≡ after_attempt (attempt j a b) p.limit }
 {}

@@ -65,7 +65,8 @@ impl Attempts {
     pub fn after_end(&mut self, action: u32, branch: Branch, _cause: Cause) -> After
         requires known { action < length self.old.ended }
         requires unspent { ended_of self.old action branch < self.old.limit }
-        ensures answer { result ≡ after_attempt (ended_of self.old action branch + 1) self.old.limit }
+        ensures answer { result ≡ after_attempt
+            (ended_of self.old action branch + 1) self.old.limit }
         ensures facts { self.new ≡ with_end self.old action branch }
     {
         let limit = self.limit;

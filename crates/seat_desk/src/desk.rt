@@ -151,7 +151,8 @@ impl<M: Machine> Desk<M> {
         requires suits { Suits pass.old call put }
         ensures same { IsSamePass pass.old pass.new }
         ensures answer { IfOk result (λ r. MakesCall pass.old call r.0 r.1 pass.new) }
-        ensures refused { IfErr result (λ e. (e.call ≡ call) × (e.put ≡ put) × MakesNoCall pass.old pass.new) }
+        ensures refused { IfErr result (λ e. (e.call ≡ call) × (e.put ≡ put)
+            × MakesNoCall pass.old pass.new) }
     {
         let lane = pass.lane;
         let _gate = self.gate.lock(rt);
@@ -299,7 +300,8 @@ impl<M: Machine> Desk<M> {
         seat: &mut Seat<Option<Held<M, M::Call, M::Reply>>, View<M::Call, M::Reply, M::Rules>>,
         ticket: u64,
     )
-        requires { (seat.old.table_id ≡ self.now.table.shared.table_id) × WaitsFor seat.old.me ticket }
+        requires { (seat.old.table_id ≡ self.now.table.shared.table_id)
+            × WaitsFor seat.old.me ticket }
         ensures { (seat.new.table_id ≡ seat.old.table_id)
             × ((y : _) × IsServed log_of (IsGood M.rules M.stands M.owes) seat.old.me y
             (λ c. c ≡ (0, Some y) ∷ []) seat.new.me) }

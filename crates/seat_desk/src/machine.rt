@@ -50,10 +50,12 @@ pub trait Machine: Sized + Drop {
     ghost may_be_short: { Self.Rules → List (Entry Self.Call Self.Reply) → ℕ → Self.Call → Type 0 };
 
     // What may go in with a call after a history: a good, or none.
-    ghost goes_in: { Self.Rules → List (Entry Self.Call Self.Reply) → ℕ → Self.Call → Option Self.Good → Type 0 };
+    ghost goes_in: { Self.Rules → List (Entry Self.Call Self.Reply) → ℕ → Self.Call
+        → Option Self.Good → Type 0 };
 
     // What may come out with the reply of a call that was made after a history: a good, or none.
-    ghost comes_out: { Self.Rules → List (Entry Self.Call Self.Reply) → ℕ → Self.Call → Self.Reply → Option Self.Good → Type 0 };
+    ghost comes_out: { Self.Rules → List (Entry Self.Call Self.Reply) → ℕ → Self.Call
+        → Self.Reply → Option Self.Good → Type 0 };
 
     // How many paid entries are still to come after a history.
     ghost owes: { Self.Rules → List (Entry Self.Call Self.Reply) → ℕ };
@@ -79,9 +81,12 @@ pub trait Machine: Sized + Drop {
     ) -> (Self::Reply, Option<Self::Good>)
         requires { Ready stands (goes_in (rules self.old)) self.old lane call.now put }
         ensures rules { rules self.new ≡ rules self.old }
-        ensures reply { Replies stands (goes_in (rules self.old)) (next (rules self.old)) short (may_be_short (rules self.old)) self.old lane call.now put result.0 }
-        ensures stands { Stands stands (goes_in (rules self.old)) keeps self.old lane call.now put result.0 self.new }
-        ensures good { ComesOut stands (goes_in (rules self.old)) (comes_out (rules self.old)) self.old lane call.now put result.0 result.1 };
+        ensures reply { Replies stands (goes_in (rules self.old)) (next (rules self.old)) short
+            (may_be_short (rules self.old)) self.old lane call.now put result.0 }
+        ensures stands { Stands stands (goes_in
+            (rules self.old)) keeps self.old lane call.now put result.0 self.new }
+        ensures good { ComesOut stands (goes_in (rules self.old)) (comes_out
+            (rules self.old)) self.old lane call.now put result.0 result.1 };
 
     /// The lanes that may have news after this lane was answered so, a bit for each: bit `k` is
     /// lane `k`. It is a hint to those who wake lanes that wait, and no clause speaks of it.
@@ -92,29 +97,44 @@ pub trait Machine: Sized + Drop {
         ensures { Owes stands (owes (rules self.now)) self.now result };
 
     // A short reply is not kept.
-    ghost short_is_not_kept: { (e : Entry Self.Call Self.Reply) → short e.reply ≡ true → keeps e ≡ false };
+    ghost short_is_not_kept: { (e : Entry Self.Call Self.Reply) → short e.reply ≡ true
+        → keeps e ≡ false };
 
     // A paid call gets none, and may get none.
-    ghost paid_is_not_short: { (m : Self) (h : List (Entry Self.Call Self.Reply)) (lane : ℕ) (c : Self.Call) → stands m h → paid (rules m) h lane c → (may_be_short (rules m) h lane c → ⊥) × (short (next (rules m) h lane c) ≡ false) };
+    ghost paid_is_not_short: { (m : Self) (h : List (Entry Self.Call Self.Reply)) (lane : ℕ)
+        (c : Self.Call) → stands m h → paid (rules m) h lane c → (may_be_short (rules m) h lane c
+        → ⊥) × (short (next (rules m) h lane c) ≡ false) };
 
     // What a history pays for stays paid for after entries of other lanes.
-    ghost paid_stays: { (m : Self) (h more : List (Entry Self.Call Self.Reply)) (lane : ℕ) (c : Self.Call) → stands m (h ++ more) → calls_by lane more ≡ [] → paid (rules m) h lane c → paid (rules m) (h ++ more) lane c };
+    ghost paid_stays: { (m : Self) (h more : List (Entry Self.Call Self.Reply)) (lane : ℕ)
+        (c : Self.Call) → stands m (h ++ more) → calls_by lane more ≡ []
+        → paid (rules m) h lane c → paid (rules m) (h ++ more) lane c };
 
     // A paid call whose entry is kept pays one of what is owed.
-    ghost owes_less: { (m : Self) (h : List (Entry Self.Call Self.Reply)) (lane : ℕ) (c : Self.Call) → stands m h → paid (rules m) h lane c → keeps (entry lane c (next (rules m) h lane c)) ≡ true → owes (rules m) (h ++ entry lane c (next (rules m) h lane c) ∷ []) + 1 ≡ owes (rules m) h };
+    ghost owes_less: { (m : Self) (h : List (Entry Self.Call Self.Reply)) (lane : ℕ)
+        (c : Self.Call) → stands m h → paid (rules m) h lane c
+        → keeps (entry lane c (next (rules m) h lane c)) ≡ true
+        → owes (rules m) (h ++ entry lane c (next (rules m) h lane c) ∷ []) + 1 ≡ owes
+        (rules m) h };
 
     // Any call raises it by two at most.
-    ghost owes_more: { (m : Self) (h : List (Entry Self.Call Self.Reply)) (lane : ℕ) (c : Self.Call) → stands m h → keeps (entry lane c (next (rules m) h lane c)) ≡ true → owes (rules m) (h ++ entry lane c (next (rules m) h lane c) ∷ []) ≤ owes (rules m) h + 2 };
+    ghost owes_more: { (m : Self) (h : List (Entry Self.Call Self.Reply)) (lane : ℕ)
+        (c : Self.Call) → stands m h → keeps (entry lane c (next (rules m) h lane c)) ≡ true
+        → owes (rules m) (h ++ entry lane c (next (rules m) h lane c) ∷ []) ≤ owes
+        (rules m) h + 2 };
 
     // What suits a call still suits it after entries of other lanes.
-    ghost suits_still: { (m : Self) (h more : List (Entry Self.Call Self.Reply)) (lane : ℕ) (c : Self.Call) (g : Option Self.Good) → stands m (h ++ more) → calls_by lane more ≡ [] → goes_in (rules m) h lane c g → goes_in (rules m) (h ++ more) lane c g };
+    ghost suits_still: { (m : Self) (h more : List (Entry Self.Call Self.Reply)) (lane : ℕ)
+        (c : Self.Call) (g : Option Self.Good) → stands m (h ++ more) → calls_by lane more ≡ []
+        → goes_in (rules m) h lane c g → goes_in (rules m) (h ++ more) lane c g };
 }
 
 /// What a lane does between two calls of one turn.
 pub trait Then<M: Machine> {
     // How the value before, the reply, the good that came out, the answer and the value after are
     // related.
-    ghost meets: { Self → M.Reply → Option M.Good → Option (M.Call × Option M.Good) → Self → Type 0 };
+    ghost meets: { Self → M.Reply → Option M.Good → Option (M.Call × Option M.Good) → Self
+        → Type 0 };
 
     /// The call that is to follow in the same turn, with the good that goes in with it, or `None`.
     /// It is made while the machine is held, so it must not call the desk.

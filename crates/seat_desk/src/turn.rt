@@ -16,9 +16,12 @@ fn write<M: Machine>(
     call: M::Call,
     reply: &M::Reply,
 )
-    requires { M.keeps (entry lane call reply.now) ≡ true → vec_len history.old < vec_capacity history.old }
-    ensures items { history.new.items ≡ after M.keeps history.old.items (entry lane call reply.now) }
-    ensures len { vec_len history.new ≡ vec_len history.old + cond (M.keeps (entry lane call reply.now)) 1 0 }
+    requires { M.keeps (entry lane call reply.now) ≡ true
+        → vec_len history.old < vec_capacity history.old }
+    ensures items { history.new.items ≡ after M.keeps history.old.items
+        (entry lane call reply.now) }
+    ensures len { vec_len history.new ≡ vec_len history.old + cond (M.keeps
+        (entry lane call reply.now)) 1 0 }
     ensures capacity { vec_capacity history.new ≡ vec_capacity history.old }
 {
     if M::is_kept(lane, &call, reply) {
@@ -38,14 +41,16 @@ pub(crate) fn step<M: Machine>(
     requires room { HasRoom (M.owes (M.rules held.old.machine)) (M.paid (M.rules held.old.machine))
         lane call held.old }
     requires suits { M.goes_in (M.rules held.old.machine) held.old.history.items lane call put }
-    ensures history { held.new.history.items ≡ after M.keeps held.old.history.items (entry lane call result.0) }
+    ensures history { held.new.history.items ≡ after M.keeps held.old.history.items
+        (entry lane call result.0) }
     ensures good { IsGood M.rules M.stands M.owes (M.rules held.old.machine) held.new }
     ensures reply { IsReply (M.next (M.rules held.old.machine)) M.short
         (M.may_be_short (M.rules held.old.machine)) held.old.history.items lane call result.0 }
     ensures paid { M.paid (M.rules held.old.machine) held.old.history.items lane call
         → (result.0 ≡ M.next (M.rules held.old.machine) held.old.history.items lane call)
         × (M.short result.0 ≡ false) }
-    ensures comes { M.comes_out (M.rules held.old.machine) held.old.history.items lane call result.0 result.1 }
+    ensures comes { M.comes_out
+        (M.rules held.old.machine) held.old.history.items lane call result.0 result.1 }
 {
     let (reply, good) = held.machine.turn(lane, &call, put);
     write::<M>(&mut held.history, lane, call, &reply);
@@ -61,7 +66,8 @@ pub(crate) fn follow<M: Machine, W: Then<M>>(
     work: &mut W,
 ) -> (M::Reply, Option<M::Good>)
     requires good { IsGood M.rules M.stands M.owes (M.rules held.old.machine) held.old }
-    requires may { MayFollow W.meets (M.paid (M.rules held.old.machine)) (M.goes_in (M.rules held.old.machine))
+    requires may { MayFollow W.meets (M.paid (M.rules held.old.machine)) (M.goes_in
+        (M.rules held.old.machine))
         lane held.old.history.items work.old reply good }
     ensures good { IsGood M.rules M.stands M.owes (M.rules held.old.machine) held.new }
     ensures follows { Follows W.meets (M.next (M.rules held.old.machine)) M.short M.keeps

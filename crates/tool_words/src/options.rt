@@ -93,14 +93,16 @@ fn is_all_known(words: &[String]) -> bool
 
 // All but the extra flags stand at most once.
 fn stand_once(words: &[String]) -> bool
-    ensures { result ≡ list_all (λ k. nat_le (count k (map string_bytes words.now)) 1) single_kinds }
+    ensures { result ≡ list_all (λ k. nat_le (count k
+        (map string_bytes words.now)) 1) single_kinds }
 {
     SINGLE_KINDS.iter().all(|k| count(*k, words) <= 1)
 }
 
 // There is one list or one generator.
 fn has_one_source(words: &[String]) -> bool
-    ensures { result ≡ (count Kind.List (map string_bytes words.now) + count Kind.Generate (map string_bytes words.now) == 1) }
+    ensures { result ≡ (count Kind.List (map string_bytes words.now) + count Kind.Generate
+        (map string_bytes words.now) == 1) }
 {
     count(Kind::List, words) + count(Kind::Generate, words) == 1
 }
@@ -167,7 +169,8 @@ fn text_given(kind: Kind, words: &[String]) -> Option<&str>
 }
 
 fn extra_flags(alloc: Global, words: &[String]) -> Result<Items<Text>, NoMemory>
-    ensures { IfOk result (λ flags. flags ≡ filter_map (text_in Kind.ExtraFlag) (map string_bytes words.now)) }
+    ensures { IfOk result (λ flags. flags ≡ filter_map (text_in Kind.ExtraFlag)
+        (map string_bytes words.now)) }
 {
     let mut flags = Vec::new(alloc);
     for word in words {

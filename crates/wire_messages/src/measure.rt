@@ -36,7 +36,8 @@ pub fn bool_len(number: u32, value: bool) -> u64
 /// The length of a field that holds so many bytes.
 pub fn span_len(number: u32, count: u64) -> u64
     requires { number < 2 ^ 29 }
-    ensures { (s : List ℕ) → count ≡ capped (length s) → result ≡ capped (length (spelling (one_bytes number s))) }
+    ensures { (s : List ℕ) → count ≡ capped (length s)
+        → result ≡ capped (length (spelling (one_bytes number s))) }
 {
     let head = varint_length(8 * u64::from(number) + 2) + varint_length(count);
     head.saturating_add(count)
@@ -76,7 +77,8 @@ pub fn texts_len(number: u32, texts: &[Text]) -> u64
 /// The length of what `push_messages` puts.
 pub fn messages_len<M: Message>(number: u32, messages: &[M]) -> u64
     requires { number < 2 ^ 29 }
-    ensures { result ≡ capped (length (spelling (repeated_field number (map (λ m. spelling (M.fields m)) messages.now)))) }
+    ensures { result ≡ capped (length (spelling (repeated_field number (map (λ m. spelling
+        (M.fields m)) messages.now)))) }
 {
     let mut total = 0u64;
     for message in messages {

@@ -34,7 +34,8 @@ pub trait Message: Sized + Drop {
 
     /// Takes one field more.
     fn take(&mut self, alloc: Global, number: u32, value: Value<'_>) -> Result<(), MessageFault>
-        ensures meaning { OnOk result ((fs : List WireField) → means fs self.old → means (fs ++ field number value.entry ∷ []) self.new) }
+        ensures meaning { OnOk result ((fs : List WireField) → means fs self.old
+            → means (fs ++ field number value.entry ∷ []) self.new) }
         ensures sound { OnOk result ((x : Fault) → refuses (field number value.entry) x → ⊥) }
         ensures err { IfErr result (λ e. Fails e (refuses (field number value.entry))) };
 
@@ -44,7 +45,8 @@ pub trait Message: Sized + Drop {
 
     /// Puts the written form at the end.
     fn put(&self, out: &mut Vec<u8>) -> Result<(), NoMemory>
-        ensures written { OnOk result (out.new.items ≡ out.old.items ++ spelling (fields self.now)) }
+        ensures written { OnOk result (out.new.items ≡ out.old.items ++ spelling
+            (fields self.now)) }
         ensures form { OnOk result (has_form self.now) };
 
     ghost again: { (m : Self) → has_form m → Spells refuses means (spelling (fields m)) m };

@@ -38,7 +38,8 @@ pub fn push_bool(out: &mut Vec<u8>, number: u32, value: bool) -> Result<(), NoMe
 // Puts bytes, even if there are none.
 fn push_one(out: &mut Vec<u8>, number: u32, bytes: &[u8]) -> Result<(), NoMemory>
     requires { number < 2 ^ 29 }
-    ensures put { OnOk result (out.new.items ≡ out.old.items ++ spelling (one_bytes number bytes.now)) }
+    ensures put { OnOk result (out.new.items ≡ out.old.items ++ spelling
+        (one_bytes number bytes.now)) }
     ensures fits { length bytes.now < 2 ^ 64 }
 {
     push_varint(8 * u64::from(number) + 2, out)?;
@@ -50,7 +51,8 @@ fn push_one(out: &mut Vec<u8>, number: u32, bytes: &[u8]) -> Result<(), NoMemory
 /// Puts bytes, if there are some.
 pub fn push_bytes(out: &mut Vec<u8>, number: u32, bytes: &[u8]) -> Result<(), NoMemory>
     requires { number < 2 ^ 29 }
-    ensures put { OnOk result (out.new.items ≡ out.old.items ++ spelling (bytes_field number bytes.now)) }
+    ensures put { OnOk result (out.new.items ≡ out.old.items ++ spelling
+        (bytes_field number bytes.now)) }
     ensures fits { length bytes.now < 2 ^ 64 }
 {
     if bytes.is_empty() {
@@ -62,7 +64,8 @@ pub fn push_bytes(out: &mut Vec<u8>, number: u32, bytes: &[u8]) -> Result<(), No
 /// Puts each text.
 pub fn push_texts(out: &mut Vec<u8>, number: u32, texts: &[Text]) -> Result<(), NoMemory>
     requires { number < 2 ^ 29 }
-    ensures put { OnOk result (out.new.items ≡ out.old.items ++ spelling (repeated_field number texts.now)) }
+    ensures put { OnOk result (out.new.items ≡ out.old.items ++ spelling
+        (repeated_field number texts.now)) }
     ensures texts { OnOk result (All IsText texts.now) }
 {
     for text in texts {
@@ -74,8 +77,10 @@ pub fn push_texts(out: &mut Vec<u8>, number: u32, texts: &[Text]) -> Result<(), 
 /// Puts a message, even if its form is empty. It goes straight to its place, behind its length.
 pub fn push_message<M: Message>(out: &mut Vec<u8>, number: u32, message: &M) -> Result<(), NoMemory>
     requires { number < 2 ^ 29 }
-    ensures put { OnOk result (out.new.items ≡ out.old.items ++ spelling (one_bytes number (spelling (M.fields message.now)))) }
-    ensures form { OnOk result (M.has_form message.now × (length (spelling (M.fields message.now)) < 2 ^ 64)) }
+    ensures put { OnOk result (out.new.items ≡ out.old.items ++ spelling (one_bytes number
+        (spelling (M.fields message.now)))) }
+    ensures form { OnOk result (M.has_form message.now
+        × (length (spelling (M.fields message.now)) < 2 ^ 64)) }
 {
     push_varint(8 * u64::from(number) + 2, out)?;
     push_varint(message.encoded_len(), out)?;
@@ -90,8 +95,10 @@ pub fn push_messages<M: Message>(
     messages: &[M],
 ) -> Result<(), NoMemory>
     requires { number < 2 ^ 29 }
-    ensures put { OnOk result (out.new.items ≡ out.old.items ++ spelling (repeated_field number (map (λ m. spelling (M.fields m)) messages.now))) }
-    ensures forms { OnOk result (All (λ m. M.has_form m × (length (spelling (M.fields m)) < 2 ^ 64)) messages.now) }
+    ensures put { OnOk result (out.new.items ≡ out.old.items ++ spelling (repeated_field number
+        (map (λ m. spelling (M.fields m)) messages.now))) }
+    ensures forms { OnOk result (All (λ m. M.has_form m
+        × (length (spelling (M.fields m)) < 2 ^ 64)) messages.now) }
 {
     for message in messages {
         push_message(out, number, message)?;

@@ -106,7 +106,8 @@ impl Value<'_> {
     pub fn set_text(self, alloc: Global, slot: &mut Text) -> Result<(), MessageFault>
         ensures ok { OnOk result (slot.new ≡ bytes_after slot.old (content self.entry)) }
         ensures sound { OnOk result (HoldsNoText (content self.entry) → ⊥) }
-        ensures err { IfErr result (λ e. Fails e (λ x. HoldsNoText (content self.entry) × (x ≡ BadText))) }
+        ensures err { IfErr result (λ e. Fails e (λ x. HoldsNoText (content self.entry)
+            × (x ≡ BadText))) }
     {
         if let Value::Bytes(bytes) = self {
             *slot = text_of(alloc, bytes)?;
@@ -144,7 +145,8 @@ impl Value<'_> {
     pub fn push_text(self, alloc: Global, slot: &mut Items<Text>) -> Result<(), MessageFault>
         ensures ok { OnOk result (slot.new ≡ slot.old ++ bytes_in (content self.entry)) }
         ensures sound { OnOk result (HoldsNoText (content self.entry) → ⊥) }
-        ensures err { IfErr result (λ e. Fails e (λ x. HoldsNoText (content self.entry) × (x ≡ BadText))) }
+        ensures err { IfErr result (λ e. Fails e (λ x. HoldsNoText (content self.entry)
+            × (x ≡ BadText))) }
     {
         if let Value::Bytes(bytes) = self {
             push_item(alloc, slot, text_of(alloc, bytes)?)?;
@@ -162,9 +164,12 @@ impl Value<'_> {
         alloc: Global,
         slot: &mut Items<M>,
     ) -> Result<(), MessageFault>
-        ensures ok { OnOk result (PushesMessage (Spells M.refuses M.means) (content self.entry) slot.old slot.new) }
-        ensures sound { OnOk result ((x : Fault) → HoldsFaulty (FirstFault M.refuses) (content self.entry) x → ⊥) }
-        ensures err { IfErr result (λ e. Fails e (HoldsFaulty (FirstFault M.refuses) (content self.entry))) }
+        ensures ok { OnOk result (PushesMessage (Spells M.refuses M.means)
+            (content self.entry) slot.old slot.new) }
+        ensures sound { OnOk result ((x : Fault)
+            → HoldsFaulty (FirstFault M.refuses) (content self.entry) x → ⊥) }
+        ensures err { IfErr result (λ e. Fails e (HoldsFaulty (FirstFault M.refuses)
+            (content self.entry))) }
     {
         if let Value::Bytes(bytes) = self {
             push_item(alloc, slot, decode(alloc, bytes)?)?;

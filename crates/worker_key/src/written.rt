@@ -62,7 +62,8 @@ fn push_number(alloc: Global, out: &mut Vec<u8>, number: usize) -> Result<(), No
 }
 
 fn push_texts(alloc: Global, out: &mut Vec<u8>, texts: &[Text]) -> Result<(), NoMemory>
-    ensures put { OnOk result (out.new.items ≡ out.old.items ++ listed (length texts.now) texts.now) }
+    ensures put { OnOk result (out.new.items ≡ out.old.items ++ listed
+        (length texts.now) texts.now) }
     ensures few { length texts.now < 2 ^ 64 }
     ensures short { OnOk result (AreShort texts.now) }
 {

@@ -3,7 +3,7 @@ use Rattle.std.proofs.Common.{◌≡◌, ℕ, ◌+◌, ◌-◌, ◌==◌, Bool, 
 use Rattle.std.specs.List.{filter}
 use Rattle.std.specs.Prelude.{ℤ}
 use Rattle.std.proofs.lemmas.List.Filters.{length-filter_both}
-use Rattle.exec_journal.specs.declared.plan.Plan.{Plan}
+use Rattle.run_plan.specs.declared.plan.Plan.{Plan}
 use Rattle.exec_journal.specs.declared.attempt.Attempt.{Attempt}
 use Rattle.exec_journal.specs.declared.ends.Cause.{Cause}
 use Rattle.exec_journal.specs.declared.ends.Cause.TheVariants as cause
@@ -14,7 +14,7 @@ use Rattle.exec_journal.specs.declared.call.Written.{Written}
 use Rattle.exec_journal.specs.declared.call.Written.TheVariants as write
 use Rattle.exec_journal.specs.declared.reply.Reply.{Reply}
 use Rattle.exec_journal.specs.declared.reply.Reply.TheVariants as reply
-use Rattle.exec_journal.specs.History.{or_else, unless_before}
+use Rattle.list_lemmas.specs.Options.{or_else, unless_before}
 use Rattle.exec_journal.specs.Entries.{Request, same_attempt, is_for, launch_in, send_in, consumed_in, is_unwritten}
 use Rattle.exec_journal.specs.Words.{launch_of, started, has_ended, was_killed, sends, answered, wrote, wrote_if, says_unwritten, says_feed_fault, is_pending, pending, line_cause, break_by, write_cause, if_line, order_of, granted}
 use Rattle.exec_journal.specs.Attempts.{carrier_in, line_of, fault_of, lost_cause, over, end_of, ended}

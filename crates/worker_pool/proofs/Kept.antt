@@ -1,14 +1,14 @@
 -- How the table's rows follow a journal.
 use Rattle.std.proofs.Common.{◌≡◌, ℕ, zero, suc, ◌+◌, ◌-◌, ◌==◌, Bool, true, false, ◌&&◌, ◌||◌, not, cond, List, [], ◌∷◌, length, Option, Some, None, is_some, option_map, refl, ap, sym, ◌∙◌}
 use Rattle.std.specs.Prelude.{slice_get}
-use Rattle.exec_journal.specs.declared.plan.Plan.{Plan}
+use Rattle.run_plan.specs.declared.plan.Plan.{Plan}
 use Rattle.exec_journal.specs.declared.attempt.Attempt.{Attempt}
 use Rattle.exec_journal.specs.declared.journal.Entry.{Entry}
 use Rattle.exec_journal.specs.Entries.{launch_in}
 use Rattle.exec_journal.specs.Words.{launch_of, started, broke, has_ended, was_killed, pending}
 use Rattle.exec_journal.specs.Settled.{bound}
-use Rattle.exec_journal.specs.Tallies.{update}
-use Rattle.exec_journal.proofs.Updates.{get_update}
+use Rattle.list_lemmas.specs.Places.{update}
+use Rattle.list_lemmas.proofs.Updates.{get_update}
 use Rattle.worker_pool.specs.declared.Line.{Line}
 use Rattle.worker_pool.specs.Rows.{Facts, change, set_started, set_broken, set_ended, set_killed, set_unbound, one_more, one_fewer, with_unbound}
 use Rattle.worker_pool.specs.Stands.{Stands, row_of, line_in, seat_with, seat_in}

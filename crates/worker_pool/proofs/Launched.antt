@@ -3,22 +3,23 @@ use Rattle.std.proofs.Common.{◌≡◌, ℕ, zero, suc, ◌+◌, ◌/◌, ◌<�
 use Rattle.std.specs.Prelude.{slice_get}
 use Rattle.std.proofs.lemmas.Bool.{ne_eqb, eqb-true, lt-ltb, or_parts}
 use Prim.Native.Nat.compare
-use Rattle.exec_journal.specs.declared.plan.Plan.{Plan}
+use Rattle.run_plan.specs.declared.plan.Plan.{Plan}
 use Rattle.exec_journal.specs.declared.attempt.Attempt.{Attempt}
 use Rattle.exec_journal.specs.declared.ends.Cause.{Cause}
 use Rattle.exec_journal.specs.declared.journal.Entry.{Entry}
 use Rattle.exec_journal.specs.declared.call.Call.TheVariants as call
 use Rattle.exec_journal.specs.declared.reply.Reply.{Reply}
 use Rattle.exec_journal.specs.declared.reply.Reply.TheVariants as reply
-use Rattle.exec_journal.specs.History.{or_else}
+use Rattle.list_lemmas.specs.Options.{or_else}
 use Rattle.exec_journal.specs.Entries.{same_attempt, is_for, send_in}
 use Rattle.exec_journal.specs.Words.{line_count, launch_of, last_line, started, broke, has_ended, was_killed, sends, was_sent, answered, wrote, is_pending, pending, line_cause}
 use Rattle.exec_journal.specs.Attempts.{begun_in, carrier_in, line_of, fault_of, lost_cause, over}
-use Rattle.exec_journal.specs.Settled.{berths, kind_of, capacity, still_bound, if_bound, bound}
+use Rattle.exec_journal.specs.Settled.{still_bound, if_bound, bound}
+use Rattle.run_plan.specs.Groups.{berths, kind_of, capacity}
 use Rattle.exec_journal.specs.Facts.{SameActions, IsFresh, begun}
 use Rattle.exec_journal.proofs.Begins.{same_attempt_eq}
 use Rattle.exec_journal.proofs.Quiet.{ended_same, wanted_same}
-use Rattle.exec_journal.proofs.Updates.{get_update}
+use Rattle.list_lemmas.proofs.Updates.{get_update}
 use Rattle.worker_pool.specs.declared.Berth.{Berth}
 use Rattle.worker_pool.specs.declared.Line.{Line}
 use Rattle.worker_pool.specs.Rows.{Facts, new_line, set_last, seat_capacity, with_launch}

@@ -3,7 +3,7 @@ use Rattle.std.proofs.Common.{◌≡◌, ℕ, ◌==◌, Bool, true, false, ◌&&
 use Rattle.std.specs.List.{filter}
 use Rattle.std.specs.Prelude.{ℤ}
 use Rattle.std.proofs.lemmas.Bool.{or_cases}
-use Rattle.exec_journal.specs.declared.plan.Plan.{Plan}
+use Rattle.run_plan.specs.declared.plan.Plan.{Plan}
 use Rattle.exec_journal.specs.declared.attempt.Attempt.{Attempt}
 use Rattle.exec_journal.specs.declared.ends.Cause.{Cause}
 use Rattle.exec_journal.specs.declared.ends.Cause.TheVariants as cause
@@ -17,7 +17,7 @@ use Rattle.exec_journal.specs.declared.call.Written.TheVariants as write
 use Rattle.exec_journal.specs.declared.reply.BreachWhy.{BreachWhy}
 use Rattle.exec_journal.specs.declared.reply.Reply.{Reply}
 use Rattle.exec_journal.specs.declared.reply.Reply.TheVariants as reply
-use Rattle.exec_journal.specs.History.{unless_before}
+use Rattle.list_lemmas.specs.Options.{unless_before}
 use Rattle.exec_journal.specs.Entries.{Request, ends}
 use Rattle.exec_journal.specs.Words.{launch_of, started, has_ended, was_killed, sends, answered, wrote, wrote_at, wrote_if, says_unwritten, end_cause, is_pending, pending, line_cause, break_at, break_by, order_of}
 use Rattle.exec_journal.specs.Settled.{bound}

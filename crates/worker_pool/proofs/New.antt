@@ -4,11 +4,11 @@ use Rattle.std.specs.Prelude.{slice_get, replicate, sum_by}
 use Rattle.std.proofs.lemmas.Bool.{ltb-true, ltb-false, lt-ltb, le-ltb}
 use Rattle.std.proofs.lemmas.List.Sums.{sum_by-cons}
 use Prim.Native.Nat.compare
-use Rattle.exec_journal.specs.declared.plan.Group.{Group}
-use Rattle.exec_journal.specs.declared.plan.Kind.{Kind}
-use Rattle.exec_journal.specs.declared.plan.Kind.TheVariants as kind
-use Rattle.exec_journal.specs.declared.plan.Plan.{Plan}
-use Rattle.exec_journal.specs.Settled.{group_from, berths}
+use Rattle.run_plan.specs.declared.plan.Group.{Group}
+use Rattle.run_plan.specs.declared.plan.Kind.{Kind}
+use Rattle.run_plan.specs.declared.plan.Kind.TheVariants as kind
+use Rattle.run_plan.specs.declared.plan.Plan.{Plan}
+use Rattle.run_plan.specs.Groups.{group_from, berths}
 use Rattle.exec_journal.specs.Words.{line_count, launch_of, last_line}
 use Rattle.exec_journal.proofs.Ruled.{by_bool}
 use Rattle.worker_pool.specs.Rows.{Facts, empty_berth, empty_berths, new_facts}

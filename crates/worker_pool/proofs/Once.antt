@@ -3,12 +3,12 @@ use Rattle.std.proofs.Common.{◌≡◌, ℕ, zero, suc, ◌==◌, Bool, true, f
 use Rattle.std.specs.Prelude.{slice_get}
 use Rattle.std.specs.List.{filter}
 use Rattle.std.proofs.lemmas.Bool.{or_parts, eqb-true, eq-eqb}
-use Rattle.exec_journal.specs.declared.plan.Plan.{Plan}
+use Rattle.run_plan.specs.declared.plan.Plan.{Plan}
 use Rattle.exec_journal.specs.declared.attempt.Attempt.{Attempt}
 use Rattle.exec_journal.specs.declared.journal.Entry.{Entry}
 use Rattle.exec_journal.specs.declared.reply.Reply.{Reply}
 use Rattle.exec_journal.specs.declared.reply.Reply.TheVariants as reply
-use Rattle.exec_journal.specs.History.{or_else, and_more}
+use Rattle.list_lemmas.specs.Options.{or_else, and_more}
 use Rattle.exec_journal.specs.Entries.{Request, same_attempt, is_for, launch_in, send_in}
 use Rattle.exec_journal.specs.Words.{launch_of, launch_on, has_ended, sends, sent_on, was_sent, answered, is_pending, pending}
 use Rattle.exec_journal.specs.Attempts.{carrier_by, line_of}

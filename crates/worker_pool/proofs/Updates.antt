@@ -4,9 +4,9 @@ use Rattle.std.specs.Prelude.{replicate}
 use Rattle.std.proofs.Math.Seq.{drop-cons}
 use Rattle.std.proofs.lemmas.List.{take_all}
 use Rattle.std.proofs.lemmas.Option.{slice_get_read}
-use Rattle.exec_journal.specs.declared.plan.Group.{Group}
-use Rattle.exec_journal.specs.Tallies.{update}
-use Rattle.exec_journal.proofs.Tallied.{set-update}
+use Rattle.run_plan.specs.declared.plan.Group.{Group}
+use Rattle.list_lemmas.specs.Places.{update}
+use Rattle.list_lemmas.proofs.Updates.{set-update}
 use Rattle.worker_pool.specs.declared.Berth.{Berth}
 use Rattle.worker_pool.specs.declared.Line.{Line}
 use Rattle.worker_pool.specs.Rows.{Facts, empty_berth, empty_berths, new_line, set_last, seat_capacity, with_launch, change, pending_of, capacity_of}

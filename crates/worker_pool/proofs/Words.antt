@@ -2,8 +2,8 @@
 use Rattle.std.proofs.Common.{◌≡◌, ℕ, ◌/◌, ◌==◌, Bool, true, false, ◌&&◌, ◌||◌, not, cond, List, [], ◌∷◌, Option, Some, None, is_some, refl, ap, ◌∙◌}
 use Rattle.std.specs.List.{filter}
 use Rattle.std.proofs.lemmas.Bool.{and_parts}
-use Rattle.exec_journal.specs.declared.plan.Branch.{Branch}
-use Rattle.exec_journal.specs.declared.plan.Plan.{Plan}
+use Rattle.run_plan.specs.declared.plan.Branch.{Branch}
+use Rattle.run_plan.specs.declared.plan.Plan.{Plan}
 use Rattle.exec_journal.specs.declared.attempt.Attempt.{Attempt}
 use Rattle.exec_journal.specs.declared.ends.Cause.{Cause}
 use Rattle.exec_journal.specs.declared.journal.Entry.{Entry}
@@ -14,7 +14,7 @@ use Rattle.exec_journal.specs.declared.call.Written.{Written}
 use Rattle.exec_journal.specs.declared.call.Written.TheVariants as write
 use Rattle.exec_journal.specs.declared.reply.Reply.{Reply}
 use Rattle.exec_journal.specs.declared.reply.Reply.TheVariants as reply
-use Rattle.exec_journal.specs.History.{or_else, unless_before}
+use Rattle.list_lemmas.specs.Options.{or_else, unless_before}
 use Rattle.exec_journal.specs.Entries.{Request, launch_in, send_in, consumed_in, granted_in, committed_in, starts, ends, kills}
 use Rattle.exec_journal.specs.Words.{line_count, launch_of, last_line, started, has_ended, was_killed, sends, sent_on, was_sent, answered, wrote, wrote_at, wrote_if, says_unwritten, says_feed_fault, is_pending, pending, line_cause, break_by, order_of, last_work, grant_of, granted, commit_of}
 use Rattle.exec_journal.specs.Attempts.{carrier_in, line_of, fault_of, fault_at, fault_by, lost_cause, over, ended}

@@ -1,8 +1,8 @@
 -- Worked journals: what the calls for their entries make of a new table is what the journal says.
 use Rattle.std.specs.Prelude.{◌≡◌, refl, false, ℕ, List, [], ◌∷◌, slice_get, pos}
-use Rattle.exec_journal.specs.declared.plan.Branch.TheVariants.{Local, Remote}
-use Rattle.exec_journal.specs.declared.plan.Kind.TheVariants as kind
-use Rattle.exec_journal.specs.declared.plan.Plan.{Plan}
+use Rattle.run_plan.specs.declared.plan.Branch.TheVariants.{Local, Remote}
+use Rattle.run_plan.specs.declared.plan.Kind.TheVariants as kind
+use Rattle.run_plan.specs.declared.plan.Plan.{Plan}
 use Rattle.exec_journal.specs.declared.journal.Entry.{Entry}
 use Rattle.exec_journal.specs.declared.call.Call.TheVariants as call
 use Rattle.exec_journal.specs.declared.call.Found.TheVariants as found
@@ -14,9 +14,9 @@ use Rattle.exec_journal.specs.Attempts as a
 use Rattle.exec_journal.specs.Settled as s
 use Rattle.exec_journal.specs.Rules as r
 use Rattle.exec_journal.specs.Legal.{Legal}
-use Rattle.exec_journal.proofs.rows.Parts.{entry, answer, numbered, with_file, said_cancelled, worker, dynamic, plan_of, single, cancelling, multi, remote}
-use Rattle.exec_journal.proofs.rows.AnswersTwice as twice
-use Rattle.exec_journal.proofs.rows.DiesTwice as dies
+use Rattle.exec_journal.proofs.Parts.{entry, answer, numbered, with_file, said_cancelled, worker, dynamic, plan_of, single, cancelling, multi, remote}
+use Rattle.journal_laws.proofs.rows.AnswersTwice as twice
+use Rattle.journal_laws.proofs.rows.DiesTwice as dies
 use Rattle.worker_pool.specs.Rows.{Facts, new_facts, with_launch, change, set_started, set_broken, set_ended, set_killed, set_unbound, one_more, one_fewer, live_of, free_of}
 use Rattle.worker_pool.specs.Stands.{line_in, seat_in, live_in}
 

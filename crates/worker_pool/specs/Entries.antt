@@ -1,7 +1,7 @@
 -- What the laws ask of a journal and its next entry.
 use Rattle.std.specs.Prelude.{◌≡◌, ℕ, ◌==◌, Bool, true, false, ◌&&◌, ◌||◌, not, Some, None, is_some, if◌then◌else◌, List, [], ◌∷◌, length, filter}
-use Rattle.exec_journal.specs.declared.plan.Branch.{Branch}
-use Rattle.exec_journal.specs.declared.plan.Plan.{Plan}
+use Rattle.run_plan.specs.declared.plan.Branch.{Branch}
+use Rattle.run_plan.specs.declared.plan.Plan.{Plan}
 use Rattle.exec_journal.specs.declared.attempt.Attempt.{Attempt}
 use Rattle.exec_journal.specs.declared.journal.Entry.{Entry}
 use Rattle.exec_journal.specs.declared.call.Call.{Call}

@@ -1,10 +1,10 @@
 -- What the table keeps of lines and berths, and what a call makes of it.
 use Rattle.std.specs.Prelude.{ℕ, ◌+◌, ◌-◌, ◌*◌, Bool, true, false, ◌&&◌, not, Option, Some, None, unwrap_or, option_map, option_and_then, if◌then◌else◌, List, [], ◌∷◌, ◌++◌, length, slice_get, replicate}
-use Rattle.exec_journal.specs.declared.plan.Group.{Group}
-use Rattle.exec_journal.specs.declared.plan.Kind.{Kind}
-use Rattle.exec_journal.specs.declared.plan.Plan.{Plan}
-use Rattle.exec_journal.specs.Settled.{capacity}
-use Rattle.exec_journal.specs.Tallies.{update}
+use Rattle.run_plan.specs.declared.plan.Group.{Group}
+use Rattle.run_plan.specs.declared.plan.Kind.{Kind}
+use Rattle.run_plan.specs.declared.plan.Plan.{Plan}
+use Rattle.run_plan.specs.Groups.{capacity}
+use Rattle.list_lemmas.specs.Places.{update}
 use Rattle.worker_pool.specs.declared.Berth.{Berth}
 use Rattle.worker_pool.specs.declared.Line.{Line}
 

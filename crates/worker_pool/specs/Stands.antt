@@ -1,10 +1,11 @@
 -- When the table's facts are those of a journal, whose newest entry stands first.
 use Rattle.std.specs.Prelude.{◌≡◌, ℕ, ◌/◌, nat_lt, Bool, Option, Some, None, is_some, option_and_then, if◌then◌else◌, List, length, slice_get}
-use Rattle.exec_journal.specs.declared.plan.Plan.{Plan}
+use Rattle.run_plan.specs.declared.plan.Plan.{Plan}
 use Rattle.exec_journal.specs.declared.attempt.Attempt.{Attempt}
 use Rattle.exec_journal.specs.declared.journal.Entry.{Entry}
 use Rattle.exec_journal.specs.Words.{line_count, launch_of, last_line, started, broke, has_ended, was_killed, pending, live}
-use Rattle.exec_journal.specs.Settled.{berths, kind_of, capacity, bound}
+use Rattle.exec_journal.specs.Settled.{bound}
+use Rattle.run_plan.specs.Groups.{berths, kind_of, capacity}
 use Rattle.worker_pool.specs.declared.Berth.{Berth}
 use Rattle.worker_pool.specs.declared.Line.{Line}
 use Rattle.worker_pool.specs.Rows.{Facts, room_of}

@@ -2,8 +2,8 @@
 #![tactic(auto)]
 
 ghost use Rattle.std.specs.Prelude.{◌≡◌, ◌<◌, ◌≤◌, IfOk, [], Some, length, slice_get, sum_by};
-ghost use Rattle.exec_journal.specs.Settled.{capacity};
-ghost use Rattle.exec_journal.specs.Sound.{Sound};
+ghost use Rattle.run_plan.specs.Groups.{capacity};
+ghost use Rattle.run_plan.specs.Sound.{Sound};
 ghost use Rattle.worker_pool.specs.Rows.{new_facts, empty_berths, new_line, with_launch, change, set_started, set_broken, set_ended, set_killed, set_unbound, one_more, one_fewer, pending_of, capacity_of, last_of, is_live_row, live_of, free_in, free_of};
 ghost use Rattle.worker_pool.specs.Stands.{Stands};
 
@@ -55,7 +55,11 @@ impl Model for Pool {
 
     ghost Value = { Facts };
 
-    ghost view = { λ a. record { lines = a.lines.items; seats = a.berths.items; room = vec_capacity a.lines } };
+    ghost view = { λ a. record {
+      lines = a.lines.items;
+      seats = a.berths.items;
+      room = vec_capacity a.lines;
+    } };
 
     ghost invariant = { λ a. vec_capacity a.lines < 2 ^ 32 };
 }

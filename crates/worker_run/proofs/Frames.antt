@@ -4,7 +4,8 @@ use Rattle.std.proofs.lemmas.List.{nil_from_length, length-take-le}
 use Rattle.outside.specs.Lists.{Tells}
 use Rattle.outside.specs.Told.{TapTold}
 use Rattle.delimited_framing.specs.declared.frame.FrameFault.{FrameFault}
-use Rattle.delimited_framing.specs.Frame.{Unfinished, frame_at, Holds, FramesBad}
+use Rattle.delimited_framing.specs.Front.{Unfinished}
+use Rattle.delimited_framing.specs.Frame.{frame_at, Holds, FramesBad}
 use Rattle.delimited_framing.specs.Splitter.{Held, Stands, fed_more}
 use Rattle.worker_run.specs.Heard.{largest, IsOneAnswer, HasNoAnswer}
 use Rattle.worker_run.specs.Hearing.{Judges, OnAnswer, OnNoAnswer}

@@ -3,11 +3,11 @@ use Rattle.std.proofs.Common.{◌≡◌, ℕ, ◌+◌, min, Bool, true, false, c
 use Rattle.std.specs.Str.{bytes_eq}
 use Rattle.std.proofs.lemmas.List.Sums.{sum_by-cons}
 use Rattle.std.proofs.lemmas.Slice.Eq.{bytes_eq-Decides}
-use Rattle.exec_journal.specs.declared.plan.Group.{Group}
-use Rattle.exec_journal.specs.declared.plan.Plan.{Plan}
-use Rattle.exec_journal.specs.declared.plan.PlanAction.{PlanAction}
-use Rattle.exec_journal.specs.declared.plan.Kind.TheVariants as kind
-use Rattle.exec_journal.specs.Settled.{is_remote}
+use Rattle.run_plan.specs.declared.plan.Group.{Group}
+use Rattle.run_plan.specs.declared.plan.Plan.{Plan}
+use Rattle.run_plan.specs.declared.plan.PlanAction.{PlanAction}
+use Rattle.run_plan.specs.declared.plan.Kind.TheVariants as kind
+use Rattle.run_plan.specs.Groups.{is_remote}
 use Rattle.action_list.specs.declared.parts.GroupPart.{GroupPart}
 use Rattle.action_list.specs.declared.types.ListAction.{ListAction}
 use Rattle.action_list.specs.declared.types.Strategy.{Strategy}

@@ -3,7 +3,8 @@ use Rattle.std.proofs.Common.{◌≡◌, ℕ, ◌<◌, List, [], ◌∷◌, ◌+
 use Rattle.std.proofs.lemmas.List.{nil_from_length}
 use Rattle.wire_fields.specs.Varint.{number_at, varint_at}
 use Rattle.delimited_framing.specs.declared.frame.FrameFault.{FrameFault}
-use Rattle.delimited_framing.specs.Frame.{Whole, Unfinished, frame_at, Holds, Frames, FramesBad}
+use Rattle.delimited_framing.specs.Front.{Whole, Unfinished}
+use Rattle.delimited_framing.specs.Frame.{frame_at, Holds, Frames, FramesBad}
 use Rattle.delimited_framing.proofs.Faults.{bad_stays}
 use Rattle.delimited_framing.proofs.Streams.{Holds-more}
 use Rattle.worker_run.specs.Heard.{largest, IsPlain, IsOneAnswer, NeverAnswers, IsNoAnswer}

@@ -1,7 +1,7 @@
 -- How a run ends.
 use Rattle.std.specs.Prelude.{◌≡◌, ℕ, List, [], ◌∷◌, Option, Some, None, Result, Ok, Err, false, reverse}
 use Rattle.exec_journal.specs.declared.journal.Entry.{Entry}
-use Rattle.exec_journal.specs.declared.plan.Plan.{Plan}
+use Rattle.run_plan.specs.declared.plan.Plan.{Plan}
 use Rattle.tool_words.specs.declared.options.Options.{Options}
 use Rattle.outside.specs.Lists.{Gives}
 use Rattle.outside.specs.Told.{FloorTold, BerthTold, PlaceTold, LineTold, SinkTold}

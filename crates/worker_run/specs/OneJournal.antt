@@ -9,7 +9,7 @@ use Rattle.exec_journal.specs.declared.call.Found.TheVariants as found
 use Rattle.exec_journal.specs.declared.call.HowEnded.TheVariants as ended
 use Rattle.exec_journal.specs.declared.call.Started.TheVariants as started
 use Rattle.exec_journal.specs.declared.call.Written.TheVariants as written
-use Rattle.exec_journal.specs.declared.plan.Branch.TheVariants.{Local}
+use Rattle.run_plan.specs.declared.plan.Branch.TheVariants.{Local}
 use Rattle.exec_journal.specs.declared.reply.Reply.{Reply}
 use Rattle.exec_journal.specs.declared.reply.Reply.TheVariants as reply
 use Rattle.exec_journal.specs.declared.reply.Why.TheVariants as why

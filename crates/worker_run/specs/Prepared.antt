@@ -11,7 +11,7 @@ use Rattle.action_list.specs.declared.types.Strategy.TheVariants as strategy
 use Rattle.build_report.specs.declared.fault.RunFault.{RunFault}
 use Rattle.build_report.specs.declared.fault.RunFault.TheVariants as fault
 use Rattle.build_report.specs.declared.fault.Stage.TheVariants as stage
-use Rattle.exec_journal.specs.declared.plan.Plan.{Plan}
+use Rattle.run_plan.specs.declared.plan.Plan.{Plan}
 use Rattle.flag_files.specs.Expand.{expansion}
 use Rattle.flag_files.specs.Split.{request_words}
 use Rattle.flag_files.specs.declared.expanding.FlagFault.{FlagFault}

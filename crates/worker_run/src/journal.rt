@@ -6,7 +6,7 @@ ghost use Rattle.exec_journal.specs.declared.call.Found.TheVariants as found;
 ghost use Rattle.exec_journal.specs.declared.call.HowEnded.TheVariants as ended;
 ghost use Rattle.exec_journal.specs.declared.call.Started.TheVariants as started;
 ghost use Rattle.exec_journal.specs.declared.call.Written.TheVariants as written;
-ghost use Rattle.exec_journal.specs.declared.plan.Branch.TheVariants as branch;
+ghost use Rattle.run_plan.specs.declared.plan.Branch.TheVariants as branch;
 ghost use Rattle.exec_journal.specs.declared.reply.Reply.TheVariants as reply;
 ghost use Rattle.exec_journal.specs.declared.reply.Why.TheVariants as why;
 ghost use Rattle.worker_run.specs.OneJournal.{entry, plain_answer, entries_of, halts_of, journal_of};

@@ -2,7 +2,7 @@
 ghost use Rattle.std.specs.Prelude.{◌≡◌, ◌∷◌, [], true, IfOk};
 ghost use Rattle.std.specs.List.{All};
 ghost use Rattle.std.specs.Option.{IsSome};
-ghost use Rattle.exec_journal.specs.Sound.{Sound};
+ghost use Rattle.run_plan.specs.Sound.{Sound};
 ghost use Rattle.action_list.specs.Keys.{worker_words};
 ghost use Rattle.action_list.specs.Parts.{command_of};
 ghost use Rattle.action_list.specs.Plans.{plan_of};

@@ -1,6 +1,6 @@
 //! What is read before anything is started: the words, the list, and the sources of its action.
 ghost use Rattle.std.specs.Prelude.{◌≡◌, ◌∷◌, [], true, map, string_bytes};
-ghost use Rattle.exec_journal.specs.Sound.{Sound};
+ghost use Rattle.run_plan.specs.Sound.{Sound};
 ghost use Rattle.action_list.specs.Whole.{IsWhole};
 ghost use Rattle.outside.specs.Causes.{Counts};
 ghost use Rattle.outside.specs.Told.{SameFloor};

@@ -1,5 +1,5 @@
 use Rattle.std.proofs.Common.{◌≡◌, ◌+◌, sym, subst, ◌∙◌}
-use Rattle.exec_journal.specs.Sound.{Sound}
+use Rattle.run_plan.specs.Sound.{Sound}
 use Rattle.action_list.proofs.PlanLemmas.{plan_of-planned, whole_plan}
 use Rattle.action_list.proofs.SoundActions.{planned, sound_plan}
 use Rattle.action_list.proofs.planning.plan.Goals as goal

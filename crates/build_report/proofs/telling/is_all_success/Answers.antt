@@ -1,6 +1,6 @@
 use Rattle.std.proofs.Common.{◌≡◌, ◌<◌, ◌≤◌, List, length, reverse, subst, sym, ◌∙◌}
 use Rattle.std.specs.List.{list_all}
-use Rattle.exec_journal.specs.declared.plan.PlanAction.{PlanAction}
+use Rattle.run_plan.specs.declared.plan.PlanAction.{PlanAction}
 use Rattle.exec_journal.specs.Ends.{ends_of}
 use Rattle.build_report.specs.Report.{is_success}
 use Rattle.build_report.proofs.Statuses.{all_start, all_more, all_not, all_done}

@@ -1,6 +1,6 @@
 use Rattle.std.proofs.Common.{◌≡◌, ◌++◌, length, reverse, option_copied, OnOk, ap, sym, subst, ◌∙◌}
 use Rattle.std.specs.Prelude.{string_bytes}
-use Rattle.exec_journal.specs.Winners.{AreWinning}
+use Rattle.journal_ends.specs.Winning.{AreWinning}
 use Rattle.build_report.proofs.Told.{told}
 use Rattle.build_report.proofs.telling.push_lines.Goals as goal
 

@@ -1,5 +1,4 @@
-use Rattle.std.proofs.Common.{rules, refl, ap, ◌∙◌, [], ◌++◌, take}
-use Rattle.delimited_framing.specs.Splitter.{Held}
+use Rattle.std.proofs.Common.{rules, refl, ◌∙◌, [], ◌++◌, take}
 use Rattle.worker_run.proofs.Frames.{fed_on, judged, met_fault, unfinished_on, longer}
 use Rattle.worker_run.proofs.Streams.{nothing_is_unfinished}
 use Rattle.worker_run.proofs.hearing.hear.Goals as goal
@@ -61,10 +60,10 @@ loop-preserved g c =
     record {
       fed = i.fed ++ piece;
       taken = told.2 i.fed i.taken;
-      stands = rw (gives.0) fed;
-      unfinished = unfinished_on c.feed.new.self.limit (i.fed ++ piece) c.feed.new.self.rest limit gives.1.holds gives.1.unfinished;
-      limit = ap (λ (s : Held). s.limit) gives.0 ∙ limit;
-      fault = ap (λ (s : Held). s.fault) gives.0 ∙ same.1 ∙ i.fault;
+      stands = gives.0;
+      unfinished = unfinished_on c.feed.new.self.limit (i.fed ++ piece) c.next.new.self.rest limit gives.3.holds gives.3.unfinished;
+      limit = gives.1 ∙ limit;
+      fault = gives.2 ∙ same.1 ∙ i.fault;
       reads = longer i.fed c.read.new.into c.in-Bytes.count c.loop.counter told.0 told.1 i.reads;
       count = search rules;
       line = search rules;

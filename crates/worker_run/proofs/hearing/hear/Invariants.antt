@@ -1,6 +1,7 @@
 use Rattle.std.proofs.Common.{◌≡◌, ◌≤◌, ℕ, List, [], None, length}
 use Rattle.outside.specs.Lists.{Tells}
-use Rattle.delimited_framing.specs.Frame.{Unfinished, frame_at}
+use Rattle.delimited_framing.specs.Front.{Unfinished}
+use Rattle.delimited_framing.specs.Frame.{frame_at}
 use Rattle.delimited_framing.specs.Splitter.{Stands}
 use Rattle.worker_run.specs.Heard.{largest}
 use Rattle.worker_run.proofs.hearing.hear.Given as goal

@@ -1,0 +1,113 @@
+ghost use Rattle.std.specs.Prelude.{◌≡◌, IfOk};
+ghost use Rattle.remote_branch.specs.Jobs.{job_for, cancel_for};
+ghost use Rattle.due_frames.specs.Requests.{request_for, cancelling};
+ghost use Rattle.due_frames.specs.Frames.{IsWritten, IsSendDue, IsCancelDue, framed_request, framed_job, due_job};
+
+use crate::requests::{cancelling, request_of};
+use exec_journal::Speech;
+use plain_values::{Items, NoMemory};
+use remote_branch::{cancel_of, job_of};
+use remote_messages::{NamedFile, WorkAction, job_length};
+use sandbox_rooms::Room;
+use std::alloc::Global;
+use wire_messages::encode_delimited;
+
+/// The longest message that is written, in bytes.
+const LARGEST: u64 = 67_108_864;
+
+/// What is due for a Send.
+#[derive(Drop)]
+pub enum Due {
+    /// These bytes.
+    Frame(Items<u8>),
+    /// Nothing. The job would have more than 67,108,864 bytes.
+    TooLarge,
+}
+
+/// What is due for a Send of the action, as the request, or the job, with this number. No line that speaks JSON is
+/// written to yet.
+///
+/// # Errors
+///
+/// `NoMemory`.
+pub fn send_frame(
+    alloc: Global,
+    speech: Speech,
+    room: Room,
+    number: i32,
+    action: &WorkAction,
+    inputs: &[NamedFile],
+    verbose: bool,
+) -> Result<Due, NoMemory>
+    requires { IsWritten speech }
+    ensures { IfOk result (IsSendDue speech
+        (request_for number action.now inputs.now verbose room)
+        (job_for number action.now inputs.now)) }
+{
+    match speech {
+        Speech::Proto => {
+            let frame = request_frame(alloc, room, number, action, inputs, verbose)?;
+            Ok(Due::Frame(frame))
+        }
+        Speech::Json => unreachable!(),
+        Speech::Remote => job_frame(alloc, number, action, inputs),
+    }
+}
+
+/// What is due for a Cancel of the request, or the job, with this number. No line that speaks JSON is written to yet.
+///
+/// # Errors
+///
+/// `NoMemory`.
+pub fn cancel_frame(alloc: Global, speech: Speech, number: i32) -> Result<Items<u8>, NoMemory>
+    requires { IsWritten speech }
+    ensures { IfOk result (IsCancelDue speech number) }
+{
+    match speech {
+        Speech::Proto => cancelling_frame(alloc, number),
+        Speech::Json => unreachable!(),
+        Speech::Remote => cancelling_job_frame(alloc, number),
+    }
+}
+
+fn request_frame(
+    alloc: Global,
+    room: Room,
+    number: i32,
+    action: &WorkAction,
+    inputs: &[NamedFile],
+    verbose: bool,
+) -> Result<Items<u8>, NoMemory>
+    ensures { IfOk result (λ frame.
+        frame ≡ framed_request (request_for number action.now inputs.now verbose room)) }
+{
+    let request = request_of(alloc, room, number, action, inputs, verbose)?;
+    Ok(Items::of(encode_delimited(alloc, &request)?))
+}
+
+fn cancelling_frame(alloc: Global, number: i32) -> Result<Items<u8>, NoMemory>
+    ensures { IfOk result (λ frame. frame ≡ framed_request (cancelling number)) }
+{
+    Ok(Items::of(encode_delimited(alloc, &cancelling(alloc, number))?))
+}
+
+fn job_frame(
+    alloc: Global,
+    number: i32,
+    action: &WorkAction,
+    inputs: &[NamedFile],
+) -> Result<Due, NoMemory>
+    ensures { IfOk result (λ due. due ≡ due_job (job_for number action.now inputs.now)) }
+{
+    let job = job_of(alloc, number, action, inputs)?;
+    if job_length(&job) > LARGEST {
+        return Ok(Due::TooLarge);
+    }
+    Ok(Due::Frame(Items::of(encode_delimited(alloc, &job)?)))
+}
+
+fn cancelling_job_frame(alloc: Global, number: i32) -> Result<Items<u8>, NoMemory>
+    ensures { IfOk result (λ frame. frame ≡ framed_job (cancel_for number)) }
+{
+    Ok(Items::of(encode_delimited(alloc, &cancel_of(alloc, number))?))
+}

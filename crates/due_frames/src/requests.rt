@@ -1,0 +1,98 @@
+ghost use Rattle.std.specs.Prelude.{◌≡◌, IfOk, map};
+ghost use Rattle.worker_key.specs.Keys.{digest_text};
+ghost use Rattle.due_frames.specs.Requests.{input_of, request_for, cancelling, room_for, sandbox_for};
+
+use exec_journal::Kind;
+use plain_values::{Items, NoMemory, Text, texts_again};
+use remote_messages::{NamedFile, WorkAction};
+use sandbox_rooms::Room;
+use std::alloc::Global;
+use wire_messages::{Input, WorkRequest};
+use worker_key::digest_of;
+
+/// How much a worker may print that was asked to say more.
+const VERBOSE: i32 = 10;
+
+/// The room of a request with this number, by the kind of its line. The executor has rooms of its own.
+pub fn room_of(kind: Kind, number: i32) -> Room
+    ensures { result ≡ room_for kind number }
+{
+    match kind {
+        Kind::Single | Kind::Remote => Room::Whole,
+        Kind::Multi => Room::Shared,
+        Kind::Boxed => Room::Part { number },
+    }
+}
+
+/// The request of a Send.
+///
+/// # Errors
+///
+/// `NoMemory`.
+pub fn request_of(
+    alloc: Global,
+    room: Room,
+    number: i32,
+    action: &WorkAction,
+    inputs: &[NamedFile],
+    verbose: bool,
+) -> Result<WorkRequest, NoMemory>
+    ensures { IfOk result
+        (λ request. request ≡ request_for number action.now inputs.now verbose room) }
+{
+    Ok(WorkRequest {
+        arguments: texts_again(alloc, action.request_words.as_slice())?,
+        inputs: inputs_of(alloc, inputs)?,
+        request_id: number,
+        cancel: false,
+        verbosity: if verbose { VERBOSE } else { 0 },
+        sandbox_dir: sandbox_of(alloc, room)?,
+    })
+}
+
+/// The request of a Cancel. It takes no memory.
+pub fn cancelling(alloc: Global, number: i32) -> WorkRequest
+    ensures { result ≡ cancelling number }
+{
+    WorkRequest {
+        arguments: Items::of(Vec::new(alloc)),
+        inputs: Items::of(Vec::new(alloc)),
+        request_id: number,
+        cancel: true,
+        verbosity: 0,
+        sandbox_dir: Text::of(String::new(alloc)),
+    }
+}
+
+fn sandbox_of(alloc: Global, room: Room) -> Result<Text, NoMemory>
+    ensures { IfOk result (λ folder. folder ≡ sandbox_for room) }
+{
+    match room {
+        Room::Whole | Room::Shared => Ok(Text::of(String::new(alloc))),
+        Room::Part { number } => {
+            let folder = format!(in alloc; "__sandbox/{number}")?;
+            Ok(Text::of(folder))
+        }
+    }
+}
+
+fn inputs_of(alloc: Global, files: &[NamedFile]) -> Result<Items<Input>, NoMemory>
+    ensures { IfOk result (λ inputs. inputs ≡ map input_of files.now) }
+{
+    let mut inputs = Vec::new(alloc);
+    for file in files {
+        inputs.push(Input {
+            path: Text::copy_of(alloc, file.path.as_str())?,
+            digest: digits_of(alloc, file.content.bytes())?,
+        })?;
+    }
+    Ok(Items::of(inputs))
+}
+
+// The digits of the digest, as bytes.
+fn digits_of(alloc: Global, bytes: &[u8]) -> Result<Items<u8>, NoMemory>
+    ensures { IfOk result (λ digits. digits ≡ digest_text bytes.now) }
+{
+    let digits = digest_of(alloc, bytes)?;
+    Ok(Items::of(digits.as_str().as_bytes().to_vec(alloc)?))
+}

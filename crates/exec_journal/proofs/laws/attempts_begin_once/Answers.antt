@@ -1,5 +1,0 @@
-use Rattle.exec_journal.proofs.Begins.{begin_in_order}
-use Rattle.exec_journal.proofs.laws.attempts_begin_once.Goals as goal
-
-pub returns : goal.returns
-returns c = λ p j h. begin_in_order p j h

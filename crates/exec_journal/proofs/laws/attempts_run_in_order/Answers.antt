@@ -1,5 +1,0 @@
-use Rattle.exec_journal.proofs.Begins.{attempts_in_order}
-use Rattle.exec_journal.proofs.laws.attempts_run_in_order.Goals as goal
-
-pub returns : goal.returns
-returns c = λ p j h. attempts_in_order p j h

@@ -1,5 +1,0 @@
-use Rattle.exec_journal.proofs.Races.{race}
-use Rattle.exec_journal.proofs.laws.branches_win_once.Goals as goal
-
-pub returns : goal.returns
-returns c = λ p j h. race p j h

@@ -1,5 +1,0 @@
-use Rattle.exec_journal.proofs.Cleaned.{complete}
-use Rattle.exec_journal.proofs.laws.clean_runs_succeed.Goals as goal
-
-pub returns : goal.returns
-returns c = λ p j lane d sound legal clean none stop a x at. complete p j lane d sound legal clean none stop a x at

@@ -1,5 +1,0 @@
-use Rattle.exec_journal.proofs.Fresh.{fresh}
-use Rattle.exec_journal.proofs.laws.new_lines_are_fresh.Goals as goal
-
-pub returns : goal.returns
-returns c = λ p j l h le. fresh p j l h le

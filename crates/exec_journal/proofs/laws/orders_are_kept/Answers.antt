@@ -1,5 +1,0 @@
-use Rattle.exec_journal.proofs.Keeping.{kept}
-use Rattle.exec_journal.proofs.laws.orders_are_kept.Goals as goal
-
-pub returns : goal.returns
-returns c = λ p j s h. kept p j s h

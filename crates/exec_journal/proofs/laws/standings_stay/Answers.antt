@@ -1,5 +1,0 @@
-use Rattle.exec_journal.proofs.Quiet.{same_standings}
-use Rattle.exec_journal.proofs.laws.standings_stay.Goals as goal
-
-pub returns : goal.returns
-returns c = λ p j k h. same_standings p j k h

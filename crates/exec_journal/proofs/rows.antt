@@ -1,8 +1,0 @@
-pub mod Parts
-pub mod AnswersTwice
-pub mod OutOfOrder
-pub mod DiesTwice
-pub mod BothAnswer
-pub mod Cancelled
-pub mod Unwanted
-pub mod RemoteCancel

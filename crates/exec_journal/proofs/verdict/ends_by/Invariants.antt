@@ -1,6 +1,0 @@
-use Rattle.std.proofs.Common.{◌≡◌, ◌++◌, drop}
-use Rattle.exec_journal.specs.Verdicts.{ends_through}
-use Rattle.exec_journal.proofs.verdict.ends_by.Given as goal
-
-abbrev pub invariant-loop-a : goal.invariant-loop-a
-invariant-loop-a l = l.ends.items ++ ends_through l.standings (drop l.a l.verdicts) (drop l.a l.works) ≡ ends_through l.standings l.verdicts l.works

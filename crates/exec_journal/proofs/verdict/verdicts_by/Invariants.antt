@@ -1,6 +1,0 @@
-use Rattle.std.proofs.Common.{◌≡◌, ◌++◌, reverse, drop}
-use Rattle.exec_journal.specs.Verdicts.{verdicts_from}
-use Rattle.exec_journal.proofs.verdict.verdicts_by.Given as goal
-
-abbrev pub invariant-loop-a : goal.invariant-loop-a
-invariant-loop-a l = l.verdicts.items ++ verdicts_from l.plan (reverse l.entries) l.a (drop l.a l.plan.actions) ≡ verdicts_from l.plan (reverse l.entries) 0 l.plan.actions

@@ -1,0 +1,6 @@
+pub mod LookedBack
+pub mod States
+pub mod Judged
+pub mod Replayed
+pub mod Ended
+pub mod Answered

@@ -1,0 +1,4 @@
+pub mod Lookback
+pub mod Replay
+pub mod Endings
+pub mod Winning

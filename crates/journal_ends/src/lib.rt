@@ -1,0 +1,16 @@
+//! What a journal comes to: the outcome of each action, the fate of each branch, and the answer by which each was won.
+//!
+//! `outcome` and `fate` look back over the journal and take no memory; `action_ends` and `winning_answers` go through it
+//! from its start.
+#![tactic(auto)]
+
+mod attempt_state;
+mod endings;
+mod grant;
+mod lookback;
+mod outcomes;
+mod replay;
+mod winning;
+
+pub use outcomes::{action_ends, fate, has_success, outcome};
+pub use winning::winning_answers;

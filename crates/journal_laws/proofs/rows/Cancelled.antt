@@ -1,0 +1,167 @@
+-- A losing request is cancelled, and its worker goes on.
+use Rattle.std.specs.Prelude.{◌≡◌, refl, false, List, [], ◌∷◌, pos}
+use Rattle.run_plan.specs.declared.plan.Branch.TheVariants.{Local, Remote}
+use Rattle.run_plan.specs.declared.plan.Plan.{Plan}
+use Rattle.exec_journal.specs.declared.journal.Entry.{Entry}
+use Rattle.exec_journal.specs.declared.ends.Fate.TheVariants as fate
+use Rattle.exec_journal.specs.declared.ends.Outcome.TheVariants as outcome
+use Rattle.exec_journal.specs.declared.call.Call.TheVariants as call
+use Rattle.exec_journal.specs.declared.call.CommitEnd.TheVariants as commit
+use Rattle.exec_journal.specs.declared.call.Found.TheVariants as found
+use Rattle.exec_journal.specs.declared.call.Started.TheVariants as start
+use Rattle.exec_journal.specs.declared.call.Written.TheVariants as write
+use Rattle.exec_journal.specs.declared.reply.Reply.TheVariants as reply
+use Rattle.exec_journal.specs.declared.reply.BreachWhy.TheVariants as breach
+use Rattle.exec_journal.specs.declared.reply.Why.TheVariants as why
+use Rattle.exec_journal.specs.Words as w
+use Rattle.exec_journal.specs.Attempts as a
+use Rattle.exec_journal.specs.Settled as s
+use Rattle.exec_journal.specs.Rules as r
+use Rattle.exec_journal.specs.Outcomes as o
+use Rattle.exec_journal.specs.Rules.{rule}
+use Rattle.exec_journal.specs.Legal.{Legal}
+use Rattle.exec_journal.proofs.Parts.{entry, answer, numbered, with_file, said_cancelled, worker, dynamic, plan_of, single, cancelling, multi, remote}
+
+unfoldable pub plan : Plan
+unfolding plan_of dynamic cancelling remote
+plan = plan_of (dynamic ∷ dynamic ∷ []) (cancelling ∷ remote ∷ []) 2
+
+unfoldable pub cancelled_8 : List Entry
+unfolding entry
+cancelled_8 =
+    entry 2 (call.Wrote 1 (pos 1) write.Done) reply.Noted
+    ∷ entry 2 call.Ask (reply.Send 1 (pos 1) 0 Remote 1)
+    ∷ entry 0 (call.Wrote 0 (pos 0) write.Done) reply.Noted
+    ∷ entry 0 call.Ask (reply.Send 0 (pos 0) 0 Local 1)
+    ∷ entry 2 (call.Launched 1 start.Done) reply.Noted
+    ∷ entry 2 call.Ask (reply.Launch 1 0 Remote 1)
+    ∷ entry 0 (call.Launched 0 start.Done) reply.Noted
+    ∷ entry 0 call.Ask (reply.Launch 0 0 Local 1)
+    ∷ []
+
+unfoldable pub cancelled_14 : List Entry
+unfolding entry cancelled_8
+cancelled_14 =
+    entry 2 (call.Committed 0 Remote commit.Done) reply.Noted
+    ∷ entry 2 (call.Claim 0 Remote 1 (found.Files ((120 ∷ []) ∷ []))) reply.Granted
+    ∷ entry 2 call.Ask (reply.Gather 1 (pos 1) 0 Remote 1 (pos 0) false)
+    ∷ entry 3 (call.Answer 1 with_file) (reply.Matched 0 Remote 1)
+    ∷ entry 3 call.Take (reply.Line 1)
+    ∷ entry 1 call.Take (reply.Line 0)
+    ∷ cancelled_8
+
+unfoldable pub cancelled_16 : List Entry
+unfolding entry cancelled_8 cancelled_14
+cancelled_16 =
+    entry 0 (call.Wrote 0 (pos 0) write.Done) reply.Noted
+    ∷ entry 0 call.Ask (reply.Cancel 0 (pos 0))
+    ∷ cancelled_14
+
+unfoldable pub cancelled : List Entry
+unfolding entry cancelled_8 cancelled_14 cancelled_16
+cancelled =
+    entry 0 call.Ask (reply.Send 0 (pos 0) 1 Local 1)
+    ∷ entry 1 (call.Answer 0 answer) (reply.Late 0 Local 1)
+    ∷ cancelled_16
+
+pub cancelled_8_legal : Legal plan cancelled_8
+unfolding plan cancelled_8 cancelled_14 cancelled_16 cancelled entry answer numbered with_file said_cancelled worker dynamic plan_of single cancelling multi remote w.last_work w.stopped w.has_halted w.halted w.line_count w.started w.failed w.has_ended w.was_killed w.kill_ordered w.was_taken w.has_spoken w.has_greeted w.launch_of w.last_line w.lines_of w.sends w.was_sent w.ever_sent w.answered w.wrote w.is_pending w.pending w.has_cancel w.line_cause w.live w.grant_of w.granted w.commit_of w.match_of a.attempt a.line_of a.fault_of a.end_of a.ended a.dropped s.standings s.settled s.all_settled s.ready s.wanted s.bound s.queued s.earliest s.free_places r.gathered o.outcome_of o.fate_of
+cancelled_8_legal = (
+  (
+    (
+      (
+        (
+          (
+            (
+              (
+                tt,
+                record { scripted = refl; replied = refl; kept = refl },
+              ),
+              record { scripted = refl; replied = refl; kept = refl },
+            ),
+            record { scripted = refl; replied = refl; kept = refl },
+          ),
+          record { scripted = refl; replied = refl; kept = refl },
+        ),
+        record { scripted = refl; replied = refl; kept = refl },
+      ),
+      record { scripted = refl; replied = refl; kept = refl },
+    ),
+    record { scripted = refl; replied = refl; kept = refl },
+  ),
+  record { scripted = refl; replied = refl; kept = refl },
+)
+
+pub cancelled_14_legal : Legal plan cancelled_14
+unfolding plan cancelled_8 cancelled_14 cancelled_16 cancelled entry answer numbered with_file said_cancelled worker dynamic plan_of single cancelling multi remote w.last_work w.stopped w.has_halted w.halted w.line_count w.started w.failed w.has_ended w.was_killed w.kill_ordered w.was_taken w.has_spoken w.has_greeted w.launch_of w.last_line w.lines_of w.sends w.was_sent w.ever_sent w.answered w.wrote w.is_pending w.pending w.has_cancel w.line_cause w.live w.grant_of w.granted w.commit_of w.match_of a.attempt a.line_of a.fault_of a.end_of a.ended a.dropped s.standings s.settled s.all_settled s.ready s.wanted s.bound s.queued s.earliest s.free_places r.gathered o.outcome_of o.fate_of
+cancelled_14_legal = (
+  (
+    (
+      (
+        (
+          (
+            cancelled_8_legal,
+            record { scripted = refl; replied = refl; kept = refl },
+          ),
+          record { scripted = refl; replied = refl; kept = refl },
+        ),
+        record { scripted = refl; replied = refl; kept = refl },
+      ),
+      record { scripted = refl; replied = refl; kept = refl },
+    ),
+    record { scripted = refl; replied = refl; kept = refl },
+  ),
+  record { scripted = refl; replied = refl; kept = refl },
+)
+
+pub cancelled_16_legal : Legal plan cancelled_16
+unfolding plan cancelled_8 cancelled_14 cancelled_16 cancelled entry answer numbered with_file said_cancelled worker dynamic plan_of single cancelling multi remote w.last_work w.stopped w.has_halted w.halted w.line_count w.started w.failed w.has_ended w.was_killed w.kill_ordered w.was_taken w.has_spoken w.has_greeted w.launch_of w.last_line w.lines_of w.sends w.was_sent w.ever_sent w.answered w.wrote w.is_pending w.pending w.has_cancel w.line_cause w.live w.grant_of w.granted w.commit_of w.match_of a.attempt a.line_of a.fault_of a.end_of a.ended a.dropped s.standings s.settled s.all_settled s.ready s.wanted s.bound s.queued s.earliest s.free_places r.gathered o.outcome_of o.fate_of
+cancelled_16_legal = (
+  (
+    cancelled_14_legal,
+    record { scripted = refl; replied = refl; kept = refl },
+  ),
+  record { scripted = refl; replied = refl; kept = refl },
+)
+
+pub cancelled_legal : Legal plan cancelled
+unfolding plan cancelled_8 cancelled_14 cancelled_16 cancelled entry answer numbered with_file said_cancelled worker dynamic plan_of single cancelling multi remote w.last_work w.stopped w.has_halted w.halted w.line_count w.started w.failed w.has_ended w.was_killed w.kill_ordered w.was_taken w.has_spoken w.has_greeted w.launch_of w.last_line w.lines_of w.sends w.was_sent w.ever_sent w.answered w.wrote w.is_pending w.pending w.has_cancel w.line_cause w.live w.grant_of w.granted w.commit_of w.match_of a.attempt a.line_of a.fault_of a.end_of a.ended a.dropped s.standings s.settled s.all_settled s.ready s.wanted s.bound s.queued s.earliest s.free_places r.gathered o.outcome_of o.fate_of
+cancelled_legal = (
+  (
+    cancelled_16_legal,
+    record { scripted = refl; replied = refl; kept = refl },
+  ),
+  record { scripted = refl; replied = refl; kept = refl },
+)
+
+-- after the grant an answer comes late
+late_matched : Legal plan (entry 1 (call.Answer 0 answer) (reply.Matched 0 Local 1) ∷ cancelled_16) → ⊥
+unfolding plan cancelled_8 cancelled_14 cancelled_16 cancelled entry answer numbered with_file said_cancelled worker dynamic plan_of single cancelling multi remote w.last_work w.stopped w.has_halted w.halted w.line_count w.started w.failed w.has_ended w.was_killed w.kill_ordered w.was_taken w.has_spoken w.has_greeted w.launch_of w.last_line w.lines_of w.sends w.was_sent w.ever_sent w.answered w.wrote w.is_pending w.pending w.has_cancel w.line_cause w.live w.grant_of w.granted w.commit_of w.match_of a.attempt a.line_of a.fault_of a.end_of a.ended a.dropped s.standings s.settled s.all_settled s.ready s.wanted s.bound s.queued s.earliest s.free_places r.gathered o.outcome_of o.fate_of
+late_matched h = let e : (reply.Matched 0 Local 1) ≡ reply.Late 0 Local 1 = h.1.replied in cc
+
+-- a worker with cancellation is not killed
+killed_too : Legal plan (entry 0 call.Ask (reply.Kill 0 why.Unwanted) ∷ cancelled_14) → ⊥
+unfolding plan cancelled_8 cancelled_14 cancelled_16 cancelled entry answer numbered with_file said_cancelled worker dynamic plan_of single cancelling multi remote w.last_work w.stopped w.has_halted w.halted w.line_count w.started w.failed w.has_ended w.was_killed w.kill_ordered w.was_taken w.has_spoken w.has_greeted w.launch_of w.last_line w.lines_of w.sends w.was_sent w.ever_sent w.answered w.wrote w.is_pending w.pending w.has_cancel w.line_cause w.live w.grant_of w.granted w.commit_of w.match_of a.attempt a.line_of a.fault_of a.end_of a.ended a.dropped s.standings s.settled s.all_settled s.ready s.wanted s.bound s.queued s.earliest s.free_places r.gathered o.outcome_of o.fate_of
+killed_too h = let e : (reply.Kill 0 why.Unwanted) ≡ reply.Cancel 0 (pos 0) = h.1.replied in cc
+
+-- a request is cancelled once
+cancelled_twice : Legal plan (entry 0 call.Ask (reply.Cancel 0 (pos 0)) ∷ cancelled_16) → ⊥
+unfolding plan cancelled_8 cancelled_14 cancelled_16 cancelled entry answer numbered with_file said_cancelled worker dynamic plan_of single cancelling multi remote w.last_work w.stopped w.has_halted w.halted w.line_count w.started w.failed w.has_ended w.was_killed w.kill_ordered w.was_taken w.has_spoken w.has_greeted w.launch_of w.last_line w.lines_of w.sends w.was_sent w.ever_sent w.answered w.wrote w.is_pending w.pending w.has_cancel w.line_cause w.live w.grant_of w.granted w.commit_of w.match_of a.attempt a.line_of a.fault_of a.end_of a.ended a.dropped s.standings s.settled s.all_settled s.ready s.wanted s.bound s.queued s.earliest s.free_places r.gathered o.outcome_of o.fate_of
+cancelled_twice h = let e : (reply.Cancel 0 (pos 0)) ≡ reply.Idle = h.1.replied in cc
+
+-- an answer says cancelled only after a Cancel
+not_cancelled : rule plan cancelled_14 1 (call.Answer 0 said_cancelled) ≡ reply.Breach breach.NotCancelled
+unfolding plan cancelled_8 cancelled_14 cancelled_16 cancelled entry answer numbered with_file said_cancelled worker dynamic plan_of single cancelling multi remote w.last_work w.stopped w.has_halted w.halted w.line_count w.started w.failed w.has_ended w.was_killed w.kill_ordered w.was_taken w.has_spoken w.has_greeted w.launch_of w.last_line w.lines_of w.sends w.was_sent w.ever_sent w.answered w.wrote w.is_pending w.pending w.has_cancel w.line_cause w.live w.grant_of w.granted w.commit_of w.match_of a.attempt a.line_of a.fault_of a.end_of a.ended a.dropped s.standings s.settled s.all_settled s.ready s.wanted s.bound s.queued s.earliest s.free_places r.gathered o.outcome_of o.fate_of
+not_cancelled = refl
+
+outcome_0 : o.outcome_of plan cancelled 0 ≡ outcome.Success Remote
+unfolding plan cancelled_8 cancelled_14 cancelled_16 cancelled entry answer numbered with_file said_cancelled worker dynamic plan_of single cancelling multi remote w.last_work w.stopped w.has_halted w.halted w.line_count w.started w.failed w.has_ended w.was_killed w.kill_ordered w.was_taken w.has_spoken w.has_greeted w.launch_of w.last_line w.lines_of w.sends w.was_sent w.ever_sent w.answered w.wrote w.is_pending w.pending w.has_cancel w.line_cause w.live w.grant_of w.granted w.commit_of w.match_of a.attempt a.line_of a.fault_of a.end_of a.ended a.dropped s.standings s.settled s.all_settled s.ready s.wanted s.bound s.queued s.earliest s.free_places r.gathered o.outcome_of o.fate_of
+outcome_0 = refl
+
+local_fate : o.fate_of plan cancelled 0 Local ≡ fate.Lost
+unfolding plan cancelled_8 cancelled_14 cancelled_16 cancelled entry answer numbered with_file said_cancelled worker dynamic plan_of single cancelling multi remote w.last_work w.stopped w.has_halted w.halted w.line_count w.started w.failed w.has_ended w.was_killed w.kill_ordered w.was_taken w.has_spoken w.has_greeted w.launch_of w.last_line w.lines_of w.sends w.was_sent w.ever_sent w.answered w.wrote w.is_pending w.pending w.has_cancel w.line_cause w.live w.grant_of w.granted w.commit_of w.match_of a.attempt a.line_of a.fault_of a.end_of a.ended a.dropped s.standings s.settled s.all_settled s.ready s.wanted s.bound s.queued s.earliest s.free_places r.gathered o.outcome_of o.fate_of
+local_fate = refl
+
+local_fate_1 : o.fate_of plan cancelled 1 Remote ≡ fate.Idle
+unfolding plan cancelled_8 cancelled_14 cancelled_16 cancelled entry answer numbered with_file said_cancelled worker dynamic plan_of single cancelling multi remote w.last_work w.stopped w.has_halted w.halted w.line_count w.started w.failed w.has_ended w.was_killed w.kill_ordered w.was_taken w.has_spoken w.has_greeted w.launch_of w.last_line w.lines_of w.sends w.was_sent w.ever_sent w.answered w.wrote w.is_pending w.pending w.has_cancel w.line_cause w.live w.grant_of w.granted w.commit_of w.match_of a.attempt a.line_of a.fault_of a.end_of a.ended a.dropped s.standings s.settled s.all_settled s.ready s.wanted s.bound s.queued s.earliest s.free_places r.gathered o.outcome_of o.fate_of
+local_fate_1 = refl

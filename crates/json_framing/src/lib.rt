@@ -1,0 +1,9 @@
+//! Messages on a stream, each on a line, in whatever pieces the stream comes.
+#![tactic(auto)]
+
+mod line;
+mod readings;
+mod splitter;
+
+pub use readings::{given_lines_come_first, one_reading};
+pub use splitter::LineSplitter;

@@ -1,0 +1,15 @@
+//! Work requests and responses as JSON, one object on a line.
+//!
+//! Reading looks at the keys of a message in the order of its field numbers and answers the first fault. Writing
+//! gives the one written form: compact, keys in the order of their bytes, parts at their default left out.
+#![tactic(auto)]
+
+mod keys;
+mod parts;
+mod read;
+mod top;
+mod values;
+mod write;
+
+pub use read::{read_request_line, read_response_line};
+pub use write::{request_line, response_line};

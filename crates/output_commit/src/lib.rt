@@ -1,0 +1,9 @@
+//! An action's outputs are written to its place.
+#![tactic(auto)]
+
+mod commits;
+
+pub use commits::{Committed, commit};
+
+#[cfg(test)]
+mod tests;
