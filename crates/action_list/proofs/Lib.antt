@@ -2,7 +2,7 @@ pub mod Views
 pub mod Firsts
 pub mod Late
 pub mod Orders
-pub mod PlaceLemmas
+pub mod ProducerLemmas
 pub mod Maps
 pub mod PlanLemmas
 pub mod SoundGroups

@@ -7,7 +7,7 @@ use Rattle.run_plan.specs.declared.plan.Maker.{Maker}
 use Rattle.run_plan.specs.declared.plan.PlanAction.{PlanAction}
 use Rattle.run_plan.specs.Sound.{is_earlier}
 use Rattle.action_list.specs.declared.types.ListAction.{ListAction}
-use Rattle.action_list.specs.Plans.{maker_of, place_from, place_in, plan_action, plan_actions}
+use Rattle.action_list.specs.Plans.{maker_of, producer_from, producer_in, plan_action, plan_actions}
 
 -- the plan has the action, and the action this output
 abbrev pub is_there : List PlanAction → Maker → Bool
@@ -20,15 +20,15 @@ IsGood ys below m = (m.action < below) × (is_there ys m ≡ true)
 abbrev pub AreGood : List PlanAction → ℕ → Option Maker → Type 0
 AreGood ys below found = (m : Maker) → found ≡ Some m → IsGood ys below m
 
-place_in-good : (ys : List PlanAction) (below : ℕ) (found : Option Maker) (p : List ℕ) (a j : ℕ) (us : List (List ℕ)) → AreGood ys below found
-    → ((o : ℕ) → o < j + length us → IsGood ys below (record { action = a; output = o })) → AreGood ys below (place_in found p a j us)
-place_in-good ys below found p a j [] good each = good
-place_in-good ys below found p a j (u ∷ us) good each =
+producer_in-good : (ys : List PlanAction) (below : ℕ) (found : Option Maker) (p : List ℕ) (a j : ℕ) (us : List (List ℕ)) → AreGood ys below found
+    → ((o : ℕ) → o < j + length us → IsGood ys below (record { action = a; output = o })) → AreGood ys below (producer_in found p a j us)
+producer_in-good ys below found p a j [] good each = good
+producer_in-good ys below found p a j (u ∷ us) good each =
     let now : Option Maker = cond (bytes_eq u p) (Some (record { action = a; output = j })) found in
     let good_now : AreGood ys below now =
     elim (bytes_eq u p) as (λ b. AreGood ys below (cond b (Some (record { action = a; output = j })) found))
     [ true ↦ (λ m e. let same : record { action = a; output = j } ≡ m = cc in subst (λ n. IsGood ys below n) same (each j (omega arith))) | false ↦ good ] in
-    place_in-good ys below now p a (j + 1) us good_now (λ o h. each o (omega arith))
+    producer_in-good ys below now p a (j + 1) us good_now (λ o h. each o (omega arith))
 
 -- the plan's actions from a on have the outputs of these
 abbrev pub HasOutputs : List PlanAction → ℕ → List ListAction → Type 0
@@ -40,18 +40,18 @@ raised ys a b found le good m e = let g = good m e in (omega (arith, g.0), g.1)
 there_at : (ys : List PlanAction) (a o : ℕ) (y : PlanAction) → slice_get ys a ≡ Some y → o < length y.outputs → is_there ys (record { action = a; output = o }) ≡ true
 there_at ys a o y at within = ap (λ s. unwrap_or (option_map (λ x. ltb o (length x.outputs)) s) false) at ∙ lt-ltb o (length y.outputs) within
 
-place_from-good : (ys : List PlanAction) (found : Option Maker) (p : List ℕ) (a : ℕ) (zs : List ListAction) → AreGood ys a found → HasOutputs ys a zs → AreGood ys (a + length zs) (place_from found p a zs)
-place_from-good ys found p a [] good has = raised ys a (a + 0) found (omega arith) good
-place_from-good ys found p a (z ∷ zs) good has =
+producer_from-good : (ys : List PlanAction) (found : Option Maker) (p : List ℕ) (a : ℕ) (zs : List ListAction) → AreGood ys a found → HasOutputs ys a zs → AreGood ys (a + length zs) (producer_from found p a zs)
+producer_from-good ys found p a [] good has = raised ys a (a + 0) found (omega arith) good
+producer_from-good ys found p a (z ∷ zs) good has =
     let here = has 0 z refl in
     let zeroth : a + 0 ≡ a = omega arith in
     let at : slice_get ys a ≡ Some here.0 = ap (λ n. slice_get ys n) (sym zeroth) ∙ here.1 in
     let each : (o : ℕ) → o < 0 + length z.outputs → IsGood ys (a + 1) (record { action = a; output = o }) =
     λ o h. (omega arith, there_at ys a o here.0 at (subst (λ os. o < length os) (sym here.2) (omega arith))) in
-    let good_here = place_in-good ys (a + 1) found p a 0 z.outputs (raised ys a (a + 1) found (omega arith) good) each in
+    let good_here = producer_in-good ys (a + 1) found p a 0 z.outputs (raised ys a (a + 1) found (omega arith) good) each in
     let later : HasOutputs ys (a + 1) zs = λ k z' e. let h = has (suc k) z' e in let n : (a + 1) + k ≡ a + suc k = omega arith in (h.0, ap (λ m. slice_get ys m) n ∙ h.1, h.2) in
     let total : (a + 1) + length zs ≡ a + length (z ∷ zs) = omega arith in
-    subst (λ n. AreGood ys n (place_from found p a (z ∷ zs))) total (place_from-good ys (place_in found p a 0 z.outputs) p (a + 1) zs good_here later)
+    subst (λ n. AreGood ys n (producer_from found p a (z ∷ zs))) total (producer_from-good ys (producer_in found p a 0 z.outputs) p (a + 1) zs good_here later)
 
 -- the plan's actions have the outputs of the list's
 plan_at : (keys : List (List ℕ)) (before xs : List ListAction) (k : ℕ) (z : ListAction) → slice_get xs k ≡ Some z
@@ -93,4 +93,4 @@ sound_makers keys before rest ps =
     let ys = plan_actions keys [] (before ++ rest) in
     let total : 0 + length before ≡ length before = omega arith in
     makers_earlier ys (length before) (maker_of before) ps
-    (λ p. subst (λ n. AreGood ys n (maker_of before p)) total (place_from-good ys None p 0 before (nothing_good ys 0) (has_outputs keys before rest)))
+    (λ p. subst (λ n. AreGood ys n (maker_of before p)) total (producer_from-good ys None p 0 before (nothing_good ys 0) (has_outputs keys before rest)))

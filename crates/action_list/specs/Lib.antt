@@ -7,7 +7,7 @@ pub mod Lists
 pub mod Makers
 pub mod Order
 pub mod Parts
-pub mod Places
+pub mod Producers
 pub mod Plans
 pub mod Seen
 pub mod Tables

@@ -15,18 +15,18 @@ use Rattle.action_list.specs.Keys.{key_bytes, keys_of, takes_several}
 -- ---- what an action's inputs are made by
 
 -- The place of the path among these outputs of action a, the first of which has number j, or else what was found before.
-abbrev pub place_in : Option Maker → List ℕ → ℕ → ℕ → List (List ℕ) → Option Maker
-place_in found p a j [] = found
-place_in found p a j (u ∷ us) = place_in (if bytes_eq u p then Some (record { action = a; output = j }) else found) p a (j + 1) us
+abbrev pub producer_in : Option Maker → List ℕ → ℕ → ℕ → List (List ℕ) → Option Maker
+producer_in found p a j [] = found
+producer_in found p a j (u ∷ us) = producer_in (if bytes_eq u p then Some (record { action = a; output = j }) else found) p a (j + 1) us
 
-abbrev pub place_from : Option Maker → List ℕ → ℕ → List ListAction → Option Maker
-place_from found p a [] = found
-place_from found p a (x ∷ xs) = place_from (place_in found p a 0 x.outputs) p (a + 1) xs
+abbrev pub producer_from : Option Maker → List ℕ → ℕ → List ListAction → Option Maker
+producer_from found p a [] = found
+producer_from found p a (x ∷ xs) = producer_from (producer_in found p a 0 x.outputs) p (a + 1) xs
 
 -- The action among these, from the first of the list on, that makes the path, and which output it is.
 -- In a list without faults there is at most one.
 abbrev pub maker_of : List ListAction → List ℕ → Option Maker
-maker_of before p = place_from None p 0 before
+maker_of before p = producer_from None p 0 before
 
 -- ---- the groups
 

@@ -2,8 +2,8 @@
 use Rattle.std.specs.Prelude.{◌≡◌, ℕ, ◌≤◌, nat_le, List, [], length, true, Ok}
 use Rattle.std.specs.List.{list_all}
 use Rattle.action_list.specs.declared.types.ListAction.{ListAction}
-use Rattle.action_list.specs.declared.places.Places.{Places}
-use Rattle.action_list.specs.Places.{place_of}
+use Rattle.action_list.specs.declared.producers.Producers.{Producers}
+use Rattle.action_list.specs.Producers.{producer_of}
 use Rattle.action_list.specs.Plans.{maker_of}
 use Rattle.action_list.specs.Order.{orders_check}
 
@@ -13,6 +13,6 @@ pub record IsWhole (xs : List ListAction) : Type 0 where
   pub few_outputs : list_all (λ x. nat_le (length x.outputs) 256) xs ≡ true
   pub ordered : orders_check [] xs ≡ Ok tt
 
--- the table has the places of just these actions' outputs
-pub record KnowsPlaces (t : Places) (before : List ListAction) : Type 0 where
-  pub known : (q : List ℕ) → place_of t q ≡ maker_of before q
+-- the table has the producers of just these actions' outputs
+pub record KnowsProducers (t : Producers) (before : List ListAction) : Type 0 where
+  pub known : (q : List ℕ) → producer_of t q ≡ maker_of before q

@@ -5,13 +5,13 @@ ghost use Rattle.std.specs.Option.{option_copied};
 ghost use Rattle.std.specs.Str.{bytes_eq};
 ghost use Rattle.action_list.specs.declared.types.ListAction.{ListAction};
 ghost use Rattle.action_list.specs.Keys.{keys_of};
-ghost use Rattle.action_list.specs.Places.{place_of};
+ghost use Rattle.action_list.specs.Producers.{producer_of};
 ghost use Rattle.action_list.specs.Plans.{berths_at, executor_groups, first_user, groups_of, is_key, key_group, kind_of, local_key, local_of, number_of, plan_action, plan_actions, plan_of, remote_of, remote_users, share, users};
-ghost use Rattle.action_list.specs.Whole.{IsWhole, KnowsPlaces};
+ghost use Rattle.action_list.specs.Whole.{IsWhole, KnowsProducers};
 ghost use Rattle.run_plan.specs.Sound.{Sound};
 
 use crate::keys::{has_local, has_remote, key_bytes, keys_of, takes_several};
-use crate::places::Places;
+use crate::producers::Producers;
 use crate::{ActionList, ListAction};
 use plain_values::{Blob, Items, NoMemory, Text, texts_again};
 use run_plan::{Group, Kind, Maker, Plan, PlanAction};
@@ -223,12 +223,12 @@ fn plan_actions(
     requires whole { IsWhole actions.now }
     ensures { IfOk result (λ p. p ≡ plan_actions keys.now [] actions.now) }
 {
-    let mut places = Places::new(alloc);
+    let mut producers = Producers::new(alloc);
     let mut planned = Vec::new(alloc);
     let mut number = 0;
     for action in actions {
-        planned.push(plan_action(alloc, keys, &places, action)?)?;
-        note_outputs(alloc, &mut places, number, action)?;
+        planned.push(plan_action(alloc, keys, &producers, action)?)?;
+        note_outputs(alloc, &mut producers, number, action)?;
         number += 1;
     }
     Ok(Items::of(planned))
@@ -236,42 +236,46 @@ fn plan_actions(
 
 fn note_outputs(
     alloc: Global,
-    places: &mut Places,
+    producers: &mut Producers,
     number: u32,
     action: &ListAction,
 ) -> Result<(), NoMemory>
     requires { length action.now.outputs ≤ 256 }
-    ensures { (before : List ListAction) → KnowsPlaces places.old before → number ≡ length before
-        → OnOk result (KnowsPlaces places.new (before ++ action.now ∷ [])) }
+    ensures { (before : List ListAction) → KnowsProducers producers.old before → number ≡ length before
+        → OnOk result (KnowsProducers producers.new (before ++ action.now ∷ [])) }
 {
-    places.note_all(alloc, number, action.outputs.as_slice())
+    producers.note_all(alloc, number, action.outputs.as_slice())
 }
 
 fn plan_action(
     alloc: Global,
     keys: &[Blob],
-    places: &Places,
+    producers: &Producers,
     action: &ListAction,
 ) -> Result<PlanAction, NoMemory>
     requires { length keys.now ≤ 4096 }
-    ensures { (before : List ListAction) → KnowsPlaces places.now before
+    ensures { (before : List ListAction) → KnowsProducers producers.now before
         → IfOk result (λ p. p ≡ plan_action keys.now before action.now) }
 {
     Ok(PlanAction {
         name: Text::copy_of(alloc, action.name.as_str())?,
         outputs: texts_again(alloc, action.outputs.as_slice())?,
-        makers: makers_of(alloc, places, action.inputs.as_slice())?,
+        makers: makers_of(alloc, producers, action.inputs.as_slice())?,
         local: local_of(alloc, keys, action)?,
         remote: remote_of(keys, action),
     })
 }
 
-fn makers_of(alloc: Global, places: &Places, inputs: &[Text]) -> Result<Items<Maker>, NoMemory>
-    ensures { IfOk result (λ m. m ≡ filter_map (place_of places.now) inputs.now) }
+fn makers_of(
+    alloc: Global,
+    producers: &Producers,
+    inputs: &[Text],
+) -> Result<Items<Maker>, NoMemory>
+    ensures { IfOk result (λ m. m ≡ filter_map (producer_of producers.now) inputs.now) }
 {
     let mut makers = Vec::new(alloc);
     for path in inputs {
-        if let Some(maker) = places.get(path.as_str()) {
+        if let Some(maker) = producers.get(path.as_str()) {
             makers.push(maker)?;
         }
     }
@@ -292,11 +296,11 @@ fn number_of(keys: &[Blob], held: &Option<Blob>) -> Option<u32>
 {
     match held {
         None => None,
-        Some(bytes) => place_among(keys, bytes.bytes()),
+        Some(bytes) => producer_among(keys, bytes.bytes()),
     }
 }
 
-fn place_among(keys: &[Blob], bytes: &[u8]) -> Option<u32>
+fn producer_among(keys: &[Blob], bytes: &[u8]) -> Option<u32>
     requires { length keys.now ≤ 4096 }
     ensures { result ≡ position (λ key. bytes_eq key bytes.now) keys.now }
 {

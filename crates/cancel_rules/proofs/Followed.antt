@@ -30,12 +30,12 @@ use Rattle.request_table.specs.Entries.{EachOf, IsNewRequest, IsKnownBy, NoneIsP
 use Rattle.request_table.specs.Rows.{line_room}
 use Rattle.request_table.proofs.Lists.{find_append, filter_map, filter_reverse, map_reverse, map_map, reverse_front, each_and, filter_same, filter_none, map_same}
 use Rattle.request_table.proofs.Pending.{SameSent, Closes, Missed, pending_after, stays, none_missed, answer_entry, answer_closes, still_closes, ended_entry, ended_closes, ended_hits, ended_misses, wrote_entry, turned, wrote_closes, written_misses, past_misses, fault_hits, fault_misses, send_entry, sent_request, not_cancelled_yet, pending_here, pending_other, cancel_entry, of_lines, sent_too, pending_too, cancel_at}
-use Rattle.cancel_rules.specs.declared.Place.{Place}
+use Rattle.cancel_rules.specs.declared.RequestRow.{RequestRow}
 use Rattle.cancel_rules.specs.Entries.{WantedByGrant}
-use Rattle.cancel_rules.specs.Marks.{Facts, row, places_on, places_of, on_line, sent_place, with_sent, is_other, with_gone, with_ended, with_ask, with_asked, with_unwanted, is_marked, is_due, cancel_of}
-use Rattle.cancel_rules.specs.Stands.{place_in, row_in, Stands}
+use Rattle.cancel_rules.specs.Marks.{Facts, row, rows_on, rows_of, on_line, sent_row, with_sent, is_other, with_gone, with_ended, with_ask, with_asked, with_unwanted, is_marked, is_due, cancel_of}
+use Rattle.cancel_rules.specs.Stands.{request_row, row_in, Stands}
 
-pub new_stands : (p : Plan) (n : ℕ) (xs : List (ArrayVec Place)) (ys : List Bool) → n ≡ line_room p → xs ≡ replicate n (row []) → ys ≡ replicate (length p.actions) false → Stands p (record { lines = xs; unwanted = ys }) []
+pub new_stands : (p : Plan) (n : ℕ) (xs : List (ArrayVec RequestRow)) (ys : List Bool) → n ≡ line_room p → xs ≡ replicate n (row []) → ys ≡ replicate (length p.actions) false → Stands p (record { lines = xs; unwanted = ys }) []
 unfolding row_in pending sends granted grant_of
 new_stands p n xs ys room lines marks = record {
   lines = λ l. ap (λ zs. slice_get zs l) (lines ∙ ap (λ m. replicate m (row [])) room) ∙ get_replicate (row []) (line_room p) l;
@@ -44,14 +44,14 @@ new_stands p n xs ys room lines marks = record {
 
 -- ---- one row changes, and none
 
-within_room : (in_plan : Bool) (g : ArrayVec Place → ArrayVec Place) (x : ArrayVec Place) → option_map g (cond in_plan (Some x) None) ≡ cond in_plan (Some (g x)) None
+within_room : (in_plan : Bool) (g : ArrayVec RequestRow → ArrayVec RequestRow) (x : ArrayVec RequestRow) → option_map g (cond in_plan (Some x) None) ≡ cond in_plan (Some (g x)) None
 within_room true g x = refl
 within_room false g x = refl
 
-changed : (p : Plan) (f : Facts) (j k : List Entry) (l : ℕ) (g : List Place → List Place) → Stands p f j → row (g (row_in j l).items) ≡ row_in k l → ((c : ℕ) → (l == c) ≡ false → row_in j c ≡ row_in k c)
+changed : (p : Plan) (f : Facts) (j k : List Entry) (l : ℕ) (g : List RequestRow → List RequestRow) → Stands p f j → row (g (row_in j l).items) ≡ row_in k l → ((c : ℕ) → (l == c) ≡ false → row_in j c ≡ row_in k c)
     → ((a : ℕ) → granted k a ≡ granted j a) → Stands p (on_line g f l) k
 changed p f j k l g st here other grants = record {
-  lines = λ c. get_update (λ x. row (g x.items)) f.lines l c ∙ ap (λ (o : Option (ArrayVec Place)). cond (l == c) (option_map (λ x. row (g x.items)) o) o) (st.lines c) ∙ at c;
+  lines = λ c. get_update (λ x. row (g x.items)) f.lines l c ∙ ap (λ (o : Option (ArrayVec RequestRow)). cond (l == c) (option_map (λ x. row (g x.items)) o) o) (st.lines c) ∙ at c;
   grants = λ a. st.grants a ∙ ap (λ b. cond (nat_lt a (length p.actions)) (Some b) None) (sym (grants a));
 }
   where
@@ -75,10 +75,10 @@ grants_same j e h a = rw h refl
 
 -- ---- some requests aren't pending any longer
 
-place_same : (j k : List Entry) → SameSent j k → place_in j ≡ place_in k
+place_same : (j k : List Entry) → SameSent j k → request_row j ≡ request_row k
 place_same j k same = λ i. λ r. record { number = r.number; action = r.attempt.action; asked = sym (same.cancel r) i }
 
-row_by : (j k : List Entry) (l : ℕ) (rs : List Request) → SameSent j k → pending k l ≡ rs → row (reverse (map (place_in j) rs)) ≡ row_in k l
+row_by : (j k : List Entry) (l : ℕ) (rs : List Request) → SameSent j k → pending k l ≡ rs → row (reverse (map (request_row j) rs)) ≡ row_in k l
 unfolding row_in
 row_by j k l rs same e = λ i. row (reverse (map (place_same j k same i) (sym e i)))
 
@@ -93,8 +93,8 @@ module _ (j k : List Entry) (hit : Request → Bool) (c : Closes j k hit) (quiet
   row_without : (l : ℕ) (z : ℤ) → EachOf (λ r. hit r ≡ int_eq r.number z) (pending j l) → row (filter (is_other z) (row_in j l).items) ≡ row_in k l
   unfolding row_in
   row_without l z known =
-      ap row (filter_reverse (is_other z) (map (place_in j) (pending j l)) ∙ ap reverse (filter_map (is_other z) (place_in j) (pending j l)))
-      ∙ row_by j k l _ c.same (pending_after j k hit c l ∙ filter_same (λ r. not (hit r)) (λ r. is_other z (place_in j r)) (pending j l)
+      ap row (filter_reverse (is_other z) (map (request_row j) (pending j l)) ∙ ap reverse (filter_map (is_other z) (request_row j) (pending j l)))
+      ∙ row_by j k l _ c.same (pending_after j k hit c l ∙ filter_same (λ r. not (hit r)) (λ r. is_other z (request_row j r)) (pending j l)
       (each_and (λ r. hit r ≡ int_eq r.number z) (λ r. hit r ≡ int_eq r.number z) (λ r. not (hit r) ≡ not (int_eq r.number z)) (λ r h _. ap not h) (pending j l) known known))
 
   row_none : (l : ℕ) → EachOf (λ r. hit r ≡ true) (pending j l) → row [] ≡ row_in k l
@@ -142,18 +142,18 @@ module _ (p : Plan) (f : Facts) (j : List Entry) (lane l : ℕ) (n : ℤ) (how :
 -- ---- Send
 
 module _ (p : Plan) (f : Facts) (j : List Entry) (lane l : ℕ) (n : ℤ) (a : ℕ) (b : Branch) (t : ℕ) (st : Stands p f j) (new : IsNewRequest j l (attempt_of a b t)) where
-  same_places : place_in (send_entry lane l n a b t ∷ j) ≡ place_in j
+  same_places : request_row (send_entry lane l n a b t ∷ j) ≡ request_row j
   unfolding has_cancel
   same_places = refl
 
-  new_place : place_in (send_entry lane l n a b t ∷ j) (sent_request l n a b t) ≡ sent_place n a
+  new_place : request_row (send_entry lane l n a b t ∷ j) (sent_request l n a b t) ≡ sent_row n a
   new_place = λ i. record { number = n; action = a; asked = not_cancelled_yet j lane l n a b t new i }
 
-  row_sent : row ((row_in j l).items ++ sent_place n a ∷ []) ≡ row_in (send_entry lane l n a b t ∷ j) l
+  row_sent : row ((row_in j l).items ++ sent_row n a ∷ []) ≡ row_in (send_entry lane l n a b t ∷ j) l
   unfolding row_in
   row_sent = ap row (sym (
-      ap (λ rs. reverse (map (place_in (send_entry lane l n a b t ∷ j)) rs)) (pending_here j lane l n a b t new)
-      ∙ reverse_front (place_in (send_entry lane l n a b t ∷ j) (sent_request l n a b t)) (map (place_in (send_entry lane l n a b t ∷ j)) (pending j l))
+      ap (λ rs. reverse (map (request_row (send_entry lane l n a b t ∷ j)) rs)) (pending_here j lane l n a b t new)
+      ∙ reverse_front (request_row (send_entry lane l n a b t ∷ j) (sent_request l n a b t)) (map (request_row (send_entry lane l n a b t ∷ j)) (pending j l))
       ∙ (λ i. reverse (map (same_places i) (pending j l)) ++ new_place i ∷ [])))
 
   row_other : (d : ℕ) → (l == d) ≡ false → row_in j d ≡ row_in (send_entry lane l n a b t ∷ j) d
@@ -161,40 +161,40 @@ module _ (p : Plan) (f : Facts) (j : List Entry) (lane l : ℕ) (n : ℤ) (a : �
   row_other d apart = sym (λ i. row (reverse (map (same_places i) (pending_other j lane l n a b t new d apart i))))
 
   pub sends_kept : Stands p (with_sent f l n a) (send_entry lane l n a b t ∷ j)
-  sends_kept = changed p f j (send_entry lane l n a b t ∷ j) l (λ xs. xs ++ sent_place n a ∷ []) st row_sent row_other (grants_same j (send_entry lane l n a b t) refl)
+  sends_kept = changed p f j (send_entry lane l n a b t ∷ j) l (λ xs. xs ++ sent_row n a ∷ []) st row_sent row_other (grants_same j (send_entry lane l n a b t) refl)
 
 -- ---- Cancel
 
 module _ (j : List Entry) (lane l : ℕ) (n : ℤ) where
-  abbrev with_ask_of : Place → Bool → Place
+  abbrev with_ask_of : RequestRow → Bool → RequestRow
   with_ask_of y b = record { number = y.number; action = y.action; asked = b }
 
-  place_other : (q : Request) → was_sent j q.attempt ≡ true → (l == q.line) ≡ false → place_in j q ≡ place_in (cancel_entry lane l n ∷ j) q
-  place_other q sent off = ap (with_ask_of (place_in j q)) (sym (cancel_at j lane l n q sent ∙ ap (λ b. (b && int_eq n q.number) || has_cancel j q) off))
+  place_other : (q : Request) → was_sent j q.attempt ≡ true → (l == q.line) ≡ false → request_row j q ≡ request_row (cancel_entry lane l n ∷ j) q
+  place_other q sent off = ap (with_ask_of (request_row j q)) (sym (cancel_at j lane l n q sent ∙ ap (λ b. (b && int_eq n q.number) || has_cancel j q) off))
 
   int_eq_sym : (x y : ℤ) → int_eq x y ≡ int_eq y x
   int_eq_sym x y = one_answer (int_eq x y) (int_eq y x) (Decides-int_eq x y) ((λ h. sym ((Decides-int_eq y x).0 h)), (λ h. (Decides-int_eq y x).1 (sym h)))
 
-  place_asked : (q : Request) → was_sent j q.attempt ≡ true → (l == q.line) ≡ true → with_ask n (place_in j q) ≡ place_in (cancel_entry lane l n ∷ j) q
+  place_asked : (q : Request) → was_sent j q.attempt ≡ true → (l == q.line) ≡ true → with_ask n (request_row j q) ≡ request_row (cancel_entry lane l n ∷ j) q
   place_asked q sent on =
-      ap (with_ask_of (place_in j q)) (sym (cancel_at j lane l n q sent ∙ ap (λ b. (b && int_eq n q.number) || has_cancel j q) on ∙ ap (λ b. b || has_cancel j q) (int_eq_sym n q.number)))
+      ap (with_ask_of (request_row j q)) (sym (cancel_at j lane l n q sent ∙ ap (λ b. (b && int_eq n q.number) || has_cancel j q) on ∙ ap (λ b. b || has_cancel j q) (int_eq_sym n q.number)))
 
   row_asked : row (map (with_ask n) (row_in j l).items) ≡ row_in (cancel_entry lane l n ∷ j) l
   unfolding row_in
   row_asked =
-      ap row (map_reverse (with_ask n) (map (place_in j) (pending j l)) ∙ ap reverse (map_map (with_ask n) (place_in j) (pending j l)
-      ∙ map_same (λ q. with_ask n (place_in j q)) (place_in (cancel_entry lane l n ∷ j)) (pending j l)
-      (each_and (λ q. was_sent j q.attempt ≡ true) (λ q. (l == q.line) ≡ true) (λ q. with_ask n (place_in j q) ≡ place_in (cancel_entry lane l n ∷ j) q) (λ q sent on. place_asked q sent on)
+      ap row (map_reverse (with_ask n) (map (request_row j) (pending j l)) ∙ ap reverse (map_map (with_ask n) (request_row j) (pending j l)
+      ∙ map_same (λ q. with_ask n (request_row j q)) (request_row (cancel_entry lane l n ∷ j)) (pending j l)
+      (each_and (λ q. was_sent j q.attempt ≡ true) (λ q. (l == q.line) ≡ true) (λ q. with_ask n (request_row j q) ≡ request_row (cancel_entry lane l n ∷ j) q) (λ q sent on. place_asked q sent on)
       (pending j l) (sent_too j lane l n l) (of_lines (pending j l) l (λ q. (l == q.line) ≡ true) (λ q same. eq-eqb l q.line (sym same)) (pending_line j l)))
-      ∙ ap (map (place_in (cancel_entry lane l n ∷ j))) (sym (pending_too j lane l n l))))
+      ∙ ap (map (request_row (cancel_entry lane l n ∷ j))) (sym (pending_too j lane l n l))))
 
   row_unasked : (d : ℕ) → (l == d) ≡ false → row_in j d ≡ row_in (cancel_entry lane l n ∷ j) d
   unfolding row_in
   row_unasked d apart =
-      ap row (ap reverse (map_same (place_in j) (place_in (cancel_entry lane l n ∷ j)) (pending j d)
-      (each_and (λ q. was_sent j q.attempt ≡ true) (λ q. (l == q.line) ≡ false) (λ q. place_in j q ≡ place_in (cancel_entry lane l n ∷ j) q) (λ q sent off. place_other q sent off)
+      ap row (ap reverse (map_same (request_row j) (request_row (cancel_entry lane l n ∷ j)) (pending j d)
+      (each_and (λ q. was_sent j q.attempt ≡ true) (λ q. (l == q.line) ≡ false) (λ q. request_row j q ≡ request_row (cancel_entry lane l n ∷ j) q) (λ q sent off. place_other q sent off)
       (pending j d) (sent_too j lane l n d) (of_lines (pending j d) d (λ q. (l == q.line) ≡ false) (λ q e. ap (λ k. l == k) e ∙ apart) (pending_line j d)))
-      ∙ ap (map (place_in (cancel_entry lane l n ∷ j))) (sym (pending_too j lane l n d))))
+      ∙ ap (map (request_row (cancel_entry lane l n ∷ j))) (sym (pending_too j lane l n d))))
 
   pub cancels_kept : (p : Plan) (f : Facts) → Stands p f j → Stands p (with_asked f l n) (cancel_entry lane l n ∷ j)
   cancels_kept p f st = changed p f j (cancel_entry lane l n ∷ j) l (map (with_ask n)) st row_asked row_unasked (grants_same j (cancel_entry lane l n) refl)
@@ -252,39 +252,39 @@ or_none None = refl
 or_none (Some x) = refl
 
 -- the first of those that stand the other way round is the oldest
-find_oldest : (q : Place → Bool) (g : Request → Place) (rs : List Request) → find q (reverse (map g rs)) ≡ option_map g (oldest (filter (λ r. q (g r)) rs))
+find_oldest : (q : RequestRow → Bool) (g : Request → RequestRow) (rs : List Request) → find q (reverse (map g rs)) ≡ option_map g (oldest (filter (λ r. q (g r)) rs))
 find_oldest q g [] = refl
 find_oldest q g (r ∷ rs) =
     ap (find q) (reverse_front (g r) (map g rs)) ∙ find_append q (reverse (map g rs)) (g r ∷ [])
-    ∙ ap (λ (o : Option Place). or_else o (cond (q (g r)) (Some (g r)) None)) (find_oldest q g rs) ∙ newest (q (g r))
+    ∙ ap (λ (o : Option RequestRow). or_else o (cond (q (g r)) (Some (g r)) None)) (find_oldest q g rs) ∙ newest (q (g r))
   where
     newest : (b : Bool) → or_else (option_map g (oldest (filter (λ x. q (g x)) rs))) (cond b (Some (g r)) None) ≡ option_map g (oldest (cond b (r ∷ filter (λ x. q (g x)) rs) (filter (λ x. q (g x)) rs)))
     newest true = sym (map_or g (oldest (filter (λ x. q (g x)) rs)) r)
     newest false = or_none (option_map g (oldest (filter (λ x. q (g x)) rs)))
 
-map_number : (j : List Entry) (o : Option Request) → option_map (λ (x : Place). x.number) (option_map (place_in j) o) ≡ option_map (λ r. r.number) o
+map_number : (j : List Entry) (o : Option Request) → option_map (λ (x : RequestRow). x.number) (option_map (request_row j) o) ≡ option_map (λ r. r.number) o
 map_number j None = refl
 map_number j (Some r) = refl
 
 module _ (p : Plan) (f : Facts) (j : List Entry) (l : ℕ) (st : Stands p f j) (within : l < line_room p) where
-  pub places_are : places_of f l ≡ (row_in j l).items
-  places_are = ap places_on (st.lines l ∙ ap (λ b. cond b (Some (row_in j l)) None) (lt-ltb l (line_room p) within))
+  pub places_are : rows_of f l ≡ (row_in j l).items
+  places_are = ap rows_on (st.lines l ∙ ap (λ b. cond b (Some (row_in j l)) None) (lt-ltb l (line_room p) within))
 
-  pub count_is : length (places_of f l) ≡ length (pending j l)
+  pub count_is : length (rows_of f l) ≡ length (pending j l)
   unfolding row_in
-  count_is = ap length places_are ∙ length-reverse (map (place_in j) (pending j l)) ∙ length-map (pending j l) (place_in j)
+  count_is = ap length places_are ∙ length-reverse (map (request_row j) (pending j l)) ∙ length-map (pending j l) (request_row j)
 
   mark_is : (a : ℕ) → a < length p.actions → is_marked f.unwanted a ≡ granted j a
   mark_is a known = ap (λ (o : Option Bool). unwrap_or o false) (st.grants a ∙ ap (λ b. cond b (Some (granted j a)) None) (lt-ltb a (length p.actions) known))
 
-  due_is : (r : Request) → r.attempt.action < length p.actions → is_unwanted p j r ≡ granted j r.attempt.action → is_due f.unwanted (place_in j r) ≡ (is_unwanted p j r && not (has_cancel j r))
+  due_is : (r : Request) → r.attempt.action < length p.actions → is_unwanted p j r ≡ granted j r.attempt.action → is_due f.unwanted (request_row j r) ≡ (is_unwanted p j r && not (has_cancel j r))
   due_is r known wish = ap (λ b. b && not (has_cancel j r)) (mark_is r.attempt.action known ∙ sym wish)
 
   pub cancel_is : WantedByGrant p j l → cancel_of f l ≡ option_map (λ r. r.number) (oldest (filter (λ r. is_unwanted p j r && not (has_cancel j r)) (pending j l)))
   unfolding row_in
   cancel_is h =
-      ap (λ xs. option_map (λ (x : Place). x.number) (find (is_due f.unwanted) xs)) places_are
-      ∙ ap (option_map (λ (x : Place). x.number)) (find_oldest (is_due f.unwanted) (place_in j) (pending j l)) ∙ map_number j (oldest (filter (λ r. is_due f.unwanted (place_in j r)) (pending j l)))
+      ap (λ xs. option_map (λ (x : RequestRow). x.number) (find (is_due f.unwanted) xs)) places_are
+      ∙ ap (option_map (λ (x : RequestRow). x.number)) (find_oldest (is_due f.unwanted) (request_row j) (pending j l)) ∙ map_number j (oldest (filter (λ r. is_due f.unwanted (request_row j r)) (pending j l)))
       ∙ ap (λ rs. option_map (λ (r : Request). r.number) (oldest rs))
-      (filter_same (λ r. is_due f.unwanted (place_in j r)) (λ r. is_unwanted p j r && not (has_cancel j r)) (pending j l)
-      (each_and (λ r. r.attempt.action < length p.actions) (λ r. is_unwanted p j r ≡ granted j r.attempt.action) (λ r. is_due f.unwanted (place_in j r) ≡ (is_unwanted p j r && not (has_cancel j r))) due_is (pending j l) h.within h.grants))
+      (filter_same (λ r. is_due f.unwanted (request_row j r)) (λ r. is_unwanted p j r && not (has_cancel j r)) (pending j l)
+      (each_and (λ r. r.attempt.action < length p.actions) (λ r. is_unwanted p j r ≡ granted j r.attempt.action) (λ r. is_due f.unwanted (request_row j r) ≡ (is_unwanted p j r && not (has_cancel j r))) due_is (pending j l) h.within h.grants))

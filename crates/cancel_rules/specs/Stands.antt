@@ -6,14 +6,14 @@ use Rattle.exec_journal.specs.declared.journal.Entry.{Entry}
 use Rattle.exec_journal.specs.Entries.{Request}
 use Rattle.exec_journal.specs.Words.{pending, has_cancel, granted}
 use Rattle.request_table.specs.Rows.{line_room}
-use Rattle.cancel_rules.specs.declared.Place.{Place}
+use Rattle.cancel_rules.specs.declared.RequestRow.{RequestRow}
 use Rattle.cancel_rules.specs.Marks.{Facts, row}
 
-abbrev pub place_in : List Entry → Request → Place
-place_in j r = record { number = r.number; action = r.attempt.action; asked = has_cancel j r }
+abbrev pub request_row : List Entry → Request → RequestRow
+request_row j r = record { number = r.number; action = r.attempt.action; asked = has_cancel j r }
 
-unfoldable pub row_in : List Entry → ℕ → ArrayVec Place
-row_in j l = row (reverse (map (place_in j) (pending j l)))
+unfoldable pub row_in : List Entry → ℕ → ArrayVec RequestRow
+row_in j l = row (reverse (map (request_row j) (pending j l)))
 
 -- it has the plan's room, each line's pending requests, the earliest sent first, and of each action whether it has a grant
 pub record Stands (p : Plan) (f : Facts) (j : List Entry) : Type 0 where

@@ -17,7 +17,7 @@ ghost use Rattle.exec_journal.specs.Words.{pending, has_cancel, wrote, order_of}
 ghost use Rattle.request_table.specs.Entries.{IsNewRequest, IsKnownBy, NoneIsPending, is_still, is_calm};
 ghost use Rattle.request_table.specs.Rows.{line_room};
 ghost use Rattle.cancel_rules.specs.Entries.{WantedByGrant};
-ghost use Rattle.cancel_rules.specs.Marks.{Facts, places_of, with_sent, with_gone, with_ended, with_asked, with_unwanted, cancel_of};
+ghost use Rattle.cancel_rules.specs.Marks.{Facts, rows_of, with_sent, with_gone, with_ended, with_asked, with_unwanted, cancel_of};
 ghost use Rattle.cancel_rules.specs.Stands.{Stands};
 
 /// A Send: `sent` is called.
@@ -93,5 +93,5 @@ pub fn orders_are_the_journals()
         → cancel_of f l ≡ option_map (λ r. r.number) (oldest (filter
         (λ r. is_unwanted p j r && not (has_cancel j r)) (pending j l))) }
     ensures places { (p : Plan) (f : Facts) (j : List Entry) (l : ℕ) → Stands p f j
-        → l < line_room p → length (places_of f l) ≡ length (pending j l) }
+        → l < line_room p → length (rows_of f l) ≡ length (pending j l) }
 {}

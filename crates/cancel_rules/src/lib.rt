@@ -2,7 +2,7 @@
 #![tactic(auto)]
 
 ghost use Rattle.std.specs.Prelude.{◌≡◌, ◌*◌, ◌<◌, IfOk, [], ◌&&◌, not, false, option_copied, option_map, find, filter, map, replicate, length};
-ghost use Rattle.cancel_rules.specs.Marks.{row, new_facts, places_of, with_sent, with_gone, with_ended, with_ask, with_asked, with_unwanted, is_marked, is_due, cancel_of};
+ghost use Rattle.cancel_rules.specs.Marks.{row, new_facts, rows_of, with_sent, with_gone, with_ended, with_ask, with_asked, with_unwanted, is_marked, is_due, cancel_of};
 ghost use Rattle.cancel_rules.specs.Stands.{Stands};
 
 pub mod laws;
@@ -15,7 +15,7 @@ use std::marker::Model;
 
 /// A pending request, and whether a Cancel was ordered for it.
 #[derive(Clone, Copy, Debug, Default, PartialEq, Eq)]
-pub struct Place {
+pub struct RequestRow {
     pub number: i32,
     pub action: u32,
     pub asked: bool,
@@ -24,7 +24,7 @@ pub struct Place {
 /// The pending requests of a run, by line, the earliest sent first, and which actions don't want theirs any longer.
 #[derive(Drop)]
 pub struct Cancels {
-    lines: Vec<ArrayVec<Place, 8>>,
+    lines: Vec<ArrayVec<RequestRow, 8>>,
     unwanted: Vec<bool>,
 }
 
@@ -56,10 +56,10 @@ impl Cancels {
     /// Notes one more pending request of the line.
     pub fn sent(&mut self, line: u32, number: i32, action: u32)
         requires known { line < length self.old.lines }
-        requires place { length (places_of self.old line) < 8 }
+        requires place { length (rows_of self.old line) < 8 }
         ensures { self.new ≡ with_sent self.old line number action }
     {
-        self.lines[line as usize].push(Place {
+        self.lines[line as usize].push(RequestRow {
             number,
             action,
             asked: false,
@@ -108,18 +108,18 @@ impl Cancels {
     }
 }
 
-impl Place {
-    fn with_ask(self, number: i32) -> Place
+impl RequestRow {
+    fn with_ask(self, number: i32) -> RequestRow
         ensures { result ≡ with_ask number self }
     {
-        Place {
+        RequestRow {
             asked: self.number == number || self.asked,
             ..self
         }
     }
 }
 
-fn set_asked(places: &mut [Place], number: i32)
+fn set_asked(places: &mut [RequestRow], number: i32)
     ensures { places.new ≡ map (with_ask number) places.old }
 {
     for place in places.iter_mut() {
@@ -128,7 +128,7 @@ fn set_asked(places: &mut [Place], number: i32)
 }
 
 // The first of the places whose action is marked and that has no Cancel.
-fn first_due<'a>(places: &'a [Place], unwanted: &[bool]) -> Option<&'a Place>
+fn first_due<'a>(places: &'a [RequestRow], unwanted: &[bool]) -> Option<&'a RequestRow>
     ensures { option_copied result ≡ find (is_due unwanted.now) places.now }
 {
     places
@@ -160,7 +160,7 @@ fn line_room(plan: &Plan) -> Result<usize, NoMemory>
     branches.checked_mul(plan.limit as usize).ok_or(NoMemory)
 }
 
-fn new_lines(alloc: Global, room: usize) -> Result<Vec<ArrayVec<Place, 8>>, NoMemory>
+fn new_lines(alloc: Global, room: usize) -> Result<Vec<ArrayVec<RequestRow, 8>>, NoMemory>
     ensures { IfOk result (λ v. v.items ≡ replicate room (row [])) }
 {
     let mut lines = Vec::with_capacity(alloc, room)?;

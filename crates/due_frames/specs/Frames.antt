@@ -1,9 +1,10 @@
 -- The bytes that are due for an order, by what its line speaks.
-use Rattle.std.specs.Prelude.{◌≡◌, ℕ, ℤ, List, length, ltb, if◌then◌else◌}
+use Rattle.std.specs.Prelude.{ℕ, ℤ, List, [], ◌∷◌, ◌++◌, length, ltb, if◌then◌else◌}
 use Rattle.run_plan.specs.declared.plan.Speech.{Speech}
 use Rattle.run_plan.specs.declared.plan.Speech.TheVariants as speech
 use Rattle.wire_fields.specs.Spelling.{delimited}
 use Rattle.wire_messages.specs.Request.{request_spelling}
+use Rattle.json_messages.specs.Writing.{request_text}
 use Rattle.wire_messages.specs.declared.request.WorkRequest.{WorkRequest}
 use Rattle.remote_messages.specs.declared.job.Job.{Job}
 use Rattle.remote_messages.specs.Job.{job_spelling}
@@ -15,6 +16,10 @@ use Rattle.due_frames.specs.Requests.{cancelling}
 -- a request behind its length
 abbrev pub framed_request : WorkRequest → List ℕ
 framed_request request = delimited (request_spelling request)
+
+-- a request as JSON, with its line feed
+abbrev pub request_line : WorkRequest → List ℕ
+request_line request = request_text request ++ 10 ∷ []
 
 -- a job behind its length
 abbrev pub framed_job : Job → List ℕ
@@ -28,20 +33,14 @@ largest = 67108864
 abbrev pub due_job : Job → Due
 due_job job = if ltb largest (length (job_spelling job)) then due.TooLarge else due.Frame (framed_job job)
 
--- a line that is written to
-abbrev pub IsWritten : Speech → Type 0
-IsWritten speech.Proto = Unit {0}
-IsWritten speech.Json = ⊥
-IsWritten speech.Remote = Unit {0}
-
--- What is due for a Send: the request on a line that speaks delimited messages, the job on the executor's.
-abbrev pub IsSendDue : Speech → WorkRequest → Job → Due → Type 0
-IsSendDue speech.Proto request job d = d ≡ due.Frame (framed_request request)
-IsSendDue speech.Json request job d = ⊥
-IsSendDue speech.Remote request job d = d ≡ due_job job
+-- What is due for a Send: the request on a local line, in the form that the line speaks, and the job on the executor's.
+abbrev pub send_due : Speech → WorkRequest → Job → Due
+send_due speech.Proto request job = due.Frame (framed_request request)
+send_due speech.Json request job = due.Frame (request_line request)
+send_due speech.Remote request job = due_job job
 
 -- for a Cancel of the request, or the job, with this number
-abbrev pub IsCancelDue : Speech → ℤ → List ℕ → Type 0
-IsCancelDue speech.Proto number frame = frame ≡ framed_request (cancelling number)
-IsCancelDue speech.Json number frame = ⊥
-IsCancelDue speech.Remote number frame = frame ≡ framed_job (cancel_for number)
+abbrev pub cancel_due : Speech → ℤ → List ℕ
+cancel_due speech.Proto number = framed_request (cancelling number)
+cancel_due speech.Json number = request_line (cancelling number)
+cancel_due speech.Remote number = framed_job (cancel_for number)

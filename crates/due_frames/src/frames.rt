@@ -1,13 +1,14 @@
 ghost use Rattle.std.specs.Prelude.{◌≡◌, IfOk};
 ghost use Rattle.remote_branch.specs.Jobs.{job_for, cancel_for};
 ghost use Rattle.due_frames.specs.Requests.{request_for, cancelling};
-ghost use Rattle.due_frames.specs.Frames.{IsWritten, IsSendDue, IsCancelDue, framed_request, framed_job, due_job};
+ghost use Rattle.due_frames.specs.Frames.{send_due, cancel_due, framed_request, request_line, framed_job, due_job};
 
 use crate::requests::{cancelling, request_of};
-use exec_journal::Speech;
+use json_messages::request_line;
 use plain_values::{Items, NoMemory};
 use remote_branch::{cancel_of, job_of};
 use remote_messages::{NamedFile, WorkAction, job_length};
+use run_plan::Speech;
 use sandbox_rooms::Room;
 use std::alloc::Global;
 use wire_messages::encode_delimited;
@@ -24,8 +25,7 @@ pub enum Due {
     TooLarge,
 }
 
-/// What is due for a Send of the action, as the request, or the job, with this number. No line that speaks JSON is
-/// written to yet.
+/// What is due for a Send of the action, as the request, or the job, with this number.
 ///
 /// # Errors
 ///
@@ -39,8 +39,7 @@ pub fn send_frame(
     inputs: &[NamedFile],
     verbose: bool,
 ) -> Result<Due, NoMemory>
-    requires { IsWritten speech }
-    ensures { IfOk result (IsSendDue speech
+    ensures { IfOk result (λ due. due ≡ send_due speech
         (request_for number action.now inputs.now verbose room)
         (job_for number action.now inputs.now)) }
 {
@@ -49,23 +48,25 @@ pub fn send_frame(
             let frame = request_frame(alloc, room, number, action, inputs, verbose)?;
             Ok(Due::Frame(frame))
         }
-        Speech::Json => unreachable!(),
+        Speech::Json => {
+            let line = json_request(alloc, room, number, action, inputs, verbose)?;
+            Ok(Due::Frame(line))
+        }
         Speech::Remote => job_frame(alloc, number, action, inputs),
     }
 }
 
-/// What is due for a Cancel of the request, or the job, with this number. No line that speaks JSON is written to yet.
+/// What is due for a Cancel of the request, or the job, with this number.
 ///
 /// # Errors
 ///
 /// `NoMemory`.
 pub fn cancel_frame(alloc: Global, speech: Speech, number: i32) -> Result<Items<u8>, NoMemory>
-    requires { IsWritten speech }
-    ensures { IfOk result (IsCancelDue speech number) }
+    ensures { IfOk result (λ frame. frame ≡ cancel_due speech number) }
 {
     match speech {
         Speech::Proto => cancelling_frame(alloc, number),
-        Speech::Json => unreachable!(),
+        Speech::Json => cancelling_line(alloc, number),
         Speech::Remote => cancelling_job_frame(alloc, number),
     }
 }
@@ -85,10 +86,31 @@ fn request_frame(
     Ok(Items::of(encode_delimited(alloc, &request)?))
 }
 
+fn json_request(
+    alloc: Global,
+    room: Room,
+    number: i32,
+    action: &WorkAction,
+    inputs: &[NamedFile],
+    verbose: bool,
+) -> Result<Items<u8>, NoMemory>
+    ensures { IfOk result (λ line.
+        line ≡ request_line (request_for number action.now inputs.now verbose room)) }
+{
+    let request = request_of(alloc, room, number, action, inputs, verbose)?;
+    Ok(Items::of(request_line(alloc, &request)?))
+}
+
 fn cancelling_frame(alloc: Global, number: i32) -> Result<Items<u8>, NoMemory>
     ensures { IfOk result (λ frame. frame ≡ framed_request (cancelling number)) }
 {
     Ok(Items::of(encode_delimited(alloc, &cancelling(alloc, number))?))
+}
+
+fn cancelling_line(alloc: Global, number: i32) -> Result<Items<u8>, NoMemory>
+    ensures { IfOk result (λ line. line ≡ request_line (cancelling number)) }
+{
+    Ok(Items::of(request_line(alloc, &cancelling(alloc, number))?))
 }
 
 fn job_frame(

@@ -2,9 +2,9 @@ ghost use Rattle.std.specs.Prelude.{◌≡◌, IfOk, map};
 ghost use Rattle.worker_key.specs.Keys.{digest_text};
 ghost use Rattle.due_frames.specs.Requests.{input_of, request_for, cancelling, room_for, sandbox_for};
 
-use exec_journal::Kind;
 use plain_values::{Items, NoMemory, Text, texts_again};
 use remote_messages::{NamedFile, WorkAction};
+use run_plan::Kind;
 use sandbox_rooms::Room;
 use std::alloc::Global;
 use wire_messages::{Input, WorkRequest};

@@ -8,7 +8,7 @@ use Rattle.exec_journal.specs.declared.ends.Cause.{Cause}
 use Rattle.exec_journal.specs.declared.ends.Fate.{Fate}
 use Rattle.exec_journal.specs.declared.ends.Fate.TheVariants as fate
 use Rattle.journal_ends.specs.declared.grant.Grant.{Grant}
-use Rattle.journal_ends.specs.declared.grant.Prize.{Prize}
+use Rattle.journal_ends.specs.declared.grant.Prize.{GrantKind}
 use Rattle.journal_ends.specs.declared.grant.Prize.TheVariants as prize
 use Rattle.journal_ends.specs.declared.replay.ActionFact.{ActionFact}
 use Rattle.journal_ends.specs.declared.replay.BranchFact.{BranchFact}
@@ -60,7 +60,7 @@ abbrev pub commit_for : ActionFact → Branch → Option CommitEnd
 commit_for f Local = f.local.commit
 commit_for f Remote = f.remote.commit
 
-abbrev pub prize_outcome : Branch → Option CommitEnd → Prize → Option Outcome
+abbrev pub prize_outcome : Branch → Option CommitEnd → GrantKind → Option Outcome
 prize_outcome b c (prize.Exit n) = Some (outcome.Failed b n)
 prize_outcome b c prize.Files = commit_outcome b c
 prize_outcome b c prize.Nothing = None

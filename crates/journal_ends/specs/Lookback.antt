@@ -18,7 +18,7 @@ use Rattle.exec_journal.specs.declared.call.Written.TheVariants as write
 use Rattle.exec_journal.specs.declared.reply.Reply.{Reply}
 use Rattle.exec_journal.specs.declared.reply.Reply.TheVariants as reply
 use Rattle.journal_ends.specs.declared.grant.Grant.{Grant}
-use Rattle.journal_ends.specs.declared.grant.Prize.{Prize}
+use Rattle.journal_ends.specs.declared.grant.Prize.{GrantKind}
 use Rattle.journal_ends.specs.declared.grant.Prize.TheVariants as prize
 use Rattle.journal_ends.specs.declared.attempt_state.Track.{Track}
 use Rattle.list_lemmas.specs.Options.{or_else}
@@ -38,7 +38,7 @@ front entries i = reverse (take i entries)
 
 -- ---- a grant in short
 
-abbrev pub prize_of : Found → Prize
+abbrev pub prize_of : Found → GrantKind
 prize_of (found.Files fs) = prize.Files
 prize_of (found.Exit n) = prize.Exit n
 prize_of _ = prize.Nothing
@@ -126,12 +126,12 @@ pub record IsTrack (k : Track) (j : List Entry) (t : Attempt) : Type 0 where
 
 -- ---- by a grant in short
 
-abbrev pub standing_by : List Entry → Attempt → Prize → Option Standing
+abbrev pub standing_by : List Entry → Attempt → GrantKind → Option Standing
 standing_by j t (prize.Exit n) = Some Without
 standing_by j t prize.Files = by_commit (commit_of j t.action t.branch)
 standing_by j t prize.Nothing = None
 
-abbrev pub outcome_by : List Entry → Attempt → Prize → Option Outcome
+abbrev pub outcome_by : List Entry → Attempt → GrantKind → Option Outcome
 outcome_by j t (prize.Exit n) = Some (outcome.Failed t.branch n)
 outcome_by j t prize.Files = commit_outcome t.branch (commit_of j t.action t.branch)
 outcome_by j t prize.Nothing = None

@@ -4,7 +4,7 @@ ghost use Rattle.journal_ends.specs.Lookback.{ended_line};
 ghost use Rattle.journal_ends.specs.Replay.{AllNew, new_action, new_line, AreActions, AreLines, IsActionFact};
 ghost use Rattle.journal_ends.specs.Endings.{verdict_of, verdicts_from, verdict_by, own_by, commit_for, prize_outcome, is_gone, is_won_by, fate_by, standing_by, standing_of, outcome_by, standings_through, end_by, ends_through};
 
-use crate::grant::{Grant, Prize};
+use crate::grant::{Grant, GrantKind};
 use crate::outcomes::{committed_outcome, is_input_lost, loser_fate, starved_outcome, winner_fate};
 use crate::replay::{ActionFact, BranchFact, LineFact, ended_at, gather};
 use exec_journal::{
@@ -142,13 +142,13 @@ fn commit_of_branch(fact: &ActionFact, branch: Branch) -> Option<CommitEnd>
     }
 }
 
-fn by_prize(branch: Branch, commit: Option<CommitEnd>, prize: Prize) -> Option<Outcome>
+fn by_prize(branch: Branch, commit: Option<CommitEnd>, prize: GrantKind) -> Option<Outcome>
     ensures { result ≡ prize_outcome branch commit prize }
 {
     match prize {
-        Prize::Exit(code) => Some(Outcome::Failed(branch, code)),
-        Prize::Files => committed_outcome(branch, commit),
-        Prize::Nothing => None,
+        GrantKind::Exit(code) => Some(Outcome::Failed(branch, code)),
+        GrantKind::Files => committed_outcome(branch, commit),
+        GrantKind::Nothing => None,
     }
 }
 

@@ -7,12 +7,12 @@ use exec_journal::{Attempt, Call, Entry, Found, Reply};
 #[derive(Clone, Copy, Debug, PartialEq, Eq)]
 pub struct Grant {
     pub attempt: Attempt,
-    pub prize: Prize,
+    pub prize: GrantKind,
 }
 
 /// What a claim that was granted had found.
 #[derive(Clone, Copy, Debug, PartialEq, Eq)]
-pub enum Prize {
+pub enum GrantKind {
     Files,
     Exit(i32),
     Nothing,
@@ -40,12 +40,12 @@ pub fn grant_in(entry: &Entry, action: u32) -> Option<Grant>
     }
 }
 
-fn prize_in(found: &Found) -> Prize
+fn prize_in(found: &Found) -> GrantKind
     ensures { result ≡ prize_of found.now }
 {
     match found {
-        Found::Files(_) => Prize::Files,
-        Found::Exit(code) => Prize::Exit(*code),
-        Found::Missing(_) | Found::RoomFault | Found::Refused => Prize::Nothing,
+        Found::Files(_) => GrantKind::Files,
+        Found::Exit(code) => GrantKind::Exit(*code),
+        Found::Missing(_) | Found::RoomFault | Found::Refused => GrantKind::Nothing,
     }
 }

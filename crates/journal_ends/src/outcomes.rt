@@ -10,7 +10,7 @@ ghost use Rattle.run_plan.specs.Sound.{Sound};
 ghost use Rattle.exec_journal.specs.Outcomes.{grant_outcome, commit_outcome, least_without, skipped, outcome_after, outcome_of, won_or_spoiled, lost_fate, fate_after, fate_of, is_ok, is_some_ok, is_winner, lesser};
 
 use crate::endings::{ends_by, standings_by, verdicts};
-use crate::grant::Prize;
+use crate::grant::GrantKind;
 use crate::lookback::{commit, end, ever_sent, grant};
 use exec_journal::{
     ActionEnd, Attempt, Branch, Cause, CommitEnd, Entry, Fate, Journal, Maker, Outcome, Plan,
@@ -164,9 +164,12 @@ fn granted_outcome(entries: &[Entry], action: u32) -> Option<Outcome>
     let grant = grant(entries, action)?;
     let branch = grant.attempt.branch;
     match grant.prize {
-        Prize::Exit(code) => Some(Outcome::Failed(branch, code)),
-        Prize::Files => committed_outcome(branch, commit(entries, grant.attempt.action, branch)),
-        Prize::Nothing => None,
+        GrantKind::Exit(code) => Some(Outcome::Failed(branch, code)),
+        GrantKind::Files => committed_outcome(
+            branch,
+            commit(entries, grant.attempt.action, branch),
+        ),
+        GrantKind::Nothing => None,
     }
 }
 
@@ -185,13 +188,13 @@ fn granted_standing(entries: &[Entry], action: u32) -> Option<Standing>
 {
     let grant = grant(entries, action)?;
     match grant.prize {
-        Prize::Exit(_) => Some(Standing::Without),
-        Prize::Files => committed_standing(commit(
+        GrantKind::Exit(_) => Some(Standing::Without),
+        GrantKind::Files => committed_standing(commit(
             entries,
             grant.attempt.action,
             grant.attempt.branch,
         )),
-        Prize::Nothing => None,
+        GrantKind::Nothing => None,
     }
 }
 

@@ -9,7 +9,7 @@ use Rattle.exec_journal.specs.declared.ends.Standing.{Standing}
 use Rattle.exec_journal.specs.declared.ends.Standing.TheVariants.{Open, Succeeded, Without}
 use Rattle.exec_journal.specs.Settled.{is_settled, is_success}
 use Rattle.list_lemmas.specs.Places.{update}
-use Rattle.ready_order.specs.declared.Seat.{Seat}
+use Rattle.ready_order.specs.declared.BranchState.{BranchState}
 use Rattle.ready_order.specs.declared.ActionState.{ActionState}
 
 -- ---- a new table
@@ -36,11 +36,11 @@ new_states p = map new_state p.actions
 
 -- ---- what is queued
 
-abbrev pub seat_of : Branch → ActionState → Seat
+abbrev pub seat_of : Branch → ActionState → BranchState
 seat_of Local x = x.local
 seat_of Remote x = x.remote
 
-abbrev pub is_of : ℕ → Seat → Bool
+abbrev pub is_of : ℕ → BranchState → Bool
 is_of g s = unwrap_or (option_map (λ k. k == g) s.group) false
 
 -- it isn't settled by itself, and has no grant
@@ -55,7 +55,7 @@ abbrev pub is_ready : List ActionState → ActionState → Bool
 is_ready states x = list_all (has_success states) x.producers
 
 -- the branch is of the group and may begin an attempt; its action is open, and each producer has success
-abbrev pub may_begin : List ActionState → ℕ → ActionState → Seat → Bool
+abbrev pub may_begin : List ActionState → ℕ → ActionState → BranchState → Bool
 may_begin states g x s = is_of g s && (s.free && (is_open x && is_ready states x))
 
 abbrev pub is_queued : List ActionState → ℕ → ℕ → Branch → Bool
@@ -81,7 +81,7 @@ IsEarliest states g (Some x) = IsFirst states g x.0 x.1
 
 -- ---- what a call makes of it
 
-abbrev pub seat_with : Bool → Seat → Seat
+abbrev pub seat_with : Bool → BranchState → BranchState
 seat_with free s = record { group = s.group; free = free }
 
 abbrev pub state_with : Branch → Bool → ActionState → ActionState

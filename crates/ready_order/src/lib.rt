@@ -15,7 +15,7 @@ use std::marker::Model;
 /// Of a branch of an action: the group that runs it, where the action uses the branch, and whether it may begin an
 /// attempt: none of its attempts is under way, and there may be one more.
 #[derive(Clone, Copy, Debug, PartialEq, Eq)]
-pub struct Seat {
+pub struct BranchState {
     pub group: Option<u32>,
     pub free: bool,
 }
@@ -25,8 +25,8 @@ pub struct Seat {
 #[derive(Drop)]
 pub struct ActionState {
     pub producers: Items<u32>,
-    pub local: Seat,
-    pub remote: Seat,
+    pub local: BranchState,
+    pub remote: BranchState,
     pub granted: bool,
     pub own: Standing,
 }
@@ -117,11 +117,11 @@ impl Ready {
     }
 }
 
-impl Seat {
-    fn new(group: Option<u32>) -> Seat
+impl BranchState {
+    fn new(group: Option<u32>) -> BranchState
         ensures { result ≡ record { group = group; free = true } }
     {
-        Seat { group, free: true }
+        BranchState { group, free: true }
     }
 
     fn is_of(self, group: u32) -> bool
@@ -142,8 +142,8 @@ impl ActionState {
         let producers = makers.iter().map(|maker| maker.action).collect(alloc)?;
         Ok(ActionState {
             producers: Items::of(producers),
-            local: Seat::new(work.local),
-            remote: Seat::new(work.remote),
+            local: BranchState::new(work.local),
+            remote: BranchState::new(work.remote),
             granted: false,
             own: standing_at_start(work),
         })
@@ -202,7 +202,7 @@ fn queued_branch(actions: &[ActionState], group: u32, action: &ActionState) -> O
     }
 }
 
-fn may_begin(actions: &[ActionState], group: u32, action: &ActionState, seat: Seat) -> bool
+fn may_begin(actions: &[ActionState], group: u32, action: &ActionState, seat: BranchState) -> bool
     ensures { result ≡ may_begin actions.now group action.now seat }
 {
     seat.is_of(group) && seat.free && action.is_open() && is_ready(actions, action)

@@ -13,30 +13,30 @@ use Rattle.exec_journal.specs.Words.{sends, pending, is_pending}
 use Rattle.exec_journal.proofs.Ruled.{by_bool}
 use Rattle.request_table.specs.declared.Matching.{Matching}
 use Rattle.request_table.specs.declared.Matching.TheVariants.{Closed, Never}
-use Rattle.request_table.specs.declared.Place.{Place}
+use Rattle.request_table.specs.declared.RequestRow.{RequestRow}
 use Rattle.request_table.specs.Entries.{EachOf}
 use Rattle.request_table.specs.Rows.{Facts, line_room, is_open, waits_at, was_sent_by, matching_by, line_matching, matching_of}
-use Rattle.request_table.specs.Stands.{Waiting, waiting_in, place_in, natural, Numbered, Stands, open_request, of_sent, of_pending}
+use Rattle.request_table.specs.Stands.{Waiting, waiting_in, request_row, natural, Numbered, Stands, open_request, of_sent, of_pending}
 use Rattle.request_table.proofs.Lists.{find_append, reverse_front, int_eq_pos, each_filter}
 use Rattle.request_table.proofs.Kept.{last_in}
 use Rattle.request_table.proofs.Sent.{row_told}
 
-abbrev at_number : ℕ → Place → Bool
+abbrev at_number : ℕ → RequestRow → Bool
 at_number n x = x.number == n
 
-find_filter : (n : ℕ) (xs : List Place) → find (waits_at n) xs ≡ find (at_number n) (filter is_open xs)
+find_filter : (n : ℕ) (xs : List RequestRow) → find (waits_at n) xs ≡ find (at_number n) (filter is_open xs)
 find_filter n [] = refl
 find_filter n (x ∷ xs) = elim x.pending as (λ b. cond (b && (x.number == n)) (Some x) (find (waits_at n) xs) ≡ find (at_number n) (cond b (x ∷ filter is_open xs) (filter is_open xs))) [
-  | true ↦ ap (λ (o : Option Place). cond (x.number == n) (Some x) o) (find_filter n xs)
+  | true ↦ ap (λ (o : Option RequestRow). cond (x.number == n) (Some x) o) (find_filter n xs)
   | false ↦ find_filter n xs
 ]
 
 -- what a table's line finds, by its last number and its open places
-abbrev found_by : Option ℕ → ℕ → List Place → Matching
+abbrev found_by : Option ℕ → ℕ → List RequestRow → Matching
 found_by last n xs = matching_by last n (find (at_number n) xs)
 
 module _ (p : Plan) (f : Facts) (j : List Entry) (l : ℕ) (st : Stands p f j) (within : l < line_room p) where
-  pub matching_is : (n : ℕ) → matching_of f l (pos n) ≡ found_by (last_in j l) n (reverse (map (place_in j) (pending j l)))
+  pub matching_is : (n : ℕ) → matching_of f l (pos n) ≡ found_by (last_in j l) n (reverse (map (request_row j) (pending j l)))
   unfolding waiting_in
   matching_is n =
       let row = row_told p f j l st within in
@@ -56,28 +56,28 @@ module _ (j : List Entry) (n : ℕ) where
   abbrev wanted_number : Request → Bool
   wanted_number r = int_eq r.number (pos n)
 
-  abbrev open_places : List Request → List Place
-  open_places rs = reverse (map (place_in j) (filter (is_pending j) rs))
+  abbrev open_places : List Request → List RequestRow
+  open_places rs = reverse (map (request_row j) (filter (is_pending j) rs))
 
-  or_none : (o : Option Place) → o ≡ or_else o None
+  or_none : (o : Option RequestRow) → o ≡ or_else o None
   or_none None = refl
   or_none (Some x) = refl
 
   -- one newer request stands behind the others
-  find_newer : (r : Request) (rs : List Request) → find (at_number n) (open_places (r ∷ rs)) ≡ or_else (find (at_number n) (open_places rs)) (cond (is_pending j r) (cond (natural r.number == n) (Some (place_in j r)) None) None)
+  find_newer : (r : Request) (rs : List Request) → find (at_number n) (open_places (r ∷ rs)) ≡ or_else (find (at_number n) (open_places rs)) (cond (is_pending j r) (cond (natural r.number == n) (Some (request_row j r)) None) None)
   find_newer r rs = elim (is_pending j r) as
-      (λ b. find (at_number n) (reverse (map (place_in j) (cond b (r ∷ filter (is_pending j) rs) (filter (is_pending j) rs)))) ≡ or_else (find (at_number n) (open_places rs)) (cond b (cond (natural r.number == n) (Some (place_in j r)) None) None)) [
-        | true ↦ ap (find (at_number n)) (reverse_front (place_in j r) (map (place_in j) (filter (is_pending j) rs))) ∙ find_append (at_number n) (open_places rs) (place_in j r ∷ [])
+      (λ b. find (at_number n) (reverse (map (request_row j) (cond b (r ∷ filter (is_pending j) rs) (filter (is_pending j) rs)))) ≡ or_else (find (at_number n) (open_places rs)) (cond b (cond (natural r.number == n) (Some (request_row j r)) None) None)) [
+        | true ↦ ap (find (at_number n)) (reverse_front (request_row j r) (map (request_row j) (filter (is_pending j) rs))) ∙ find_append (at_number n) (open_places rs) (request_row j r ∷ [])
         | false ↦ or_none (find (at_number n) (open_places rs))
       ]
 
-  other_number : (b : Bool) → ◌≡◌ {A = Option Place} (cond b None None) None
-  other_number b = elim b as (λ c. ◌≡◌ {A = Option Place} (cond c None None) None) [ true ↦ refl | false ↦ refl ]
+  other_number : (b : Bool) → ◌≡◌ {A = Option RequestRow} (cond b None None) None
+  other_number b = elim b as (λ c. ◌≡◌ {A = Option RequestRow} (cond c None None) None) [ true ↦ refl | false ↦ refl ]
 
   -- with another number it is not found
   find_older : (r : Request) (rs : List Request) → (natural r.number == n) ≡ false → find (at_number n) (open_places (r ∷ rs)) ≡ find (at_number n) (open_places rs)
   find_older r rs apart =
-      find_newer r rs ∙ ap (λ c. or_else (find (at_number n) (open_places rs)) (cond (is_pending j r) (cond c (Some (place_in j r)) None) None)) apart
+      find_newer r rs ∙ ap (λ c. or_else (find (at_number n) (open_places rs)) (cond (is_pending j r) (cond c (Some (request_row j r)) None) None)) apart
       ∙ ap (or_else (find (at_number n) (open_places rs))) (other_number (is_pending j r)) ∙ sym (or_none (find (at_number n) (open_places rs)))
 
   -- all numbers are below
@@ -88,8 +88,8 @@ module _ (j : List Entry) (n : ℕ) where
       let below : length rs < n = omega arith in
       find_older r rs (ap (λ z. natural z == n) all.0 ∙ apart) ∙ none_above rs all.1 below
 
-  abbrev open_at : Option Request → Option Place
-  open_at (Some r) = cond (is_pending j r) (Some (place_in j r)) None
+  abbrev open_at : Option Request → Option RequestRow
+  open_at (Some r) = cond (is_pending j r) (Some (request_row j r)) None
   open_at None = None
 
   found_counting : (rs : List Request) → Numbered false rs → find (at_number n) (open_places rs) ≡ open_at (find wanted_number rs)
@@ -97,8 +97,8 @@ module _ (j : List Entry) (n : ℕ) where
   found_counting (r ∷ rs) all =
       by_bool (length rs + 1 == n) (λ b. find (at_number n) (open_places (r ∷ rs)) ≡ open_at (cond b (Some r) (find wanted_number rs)))
       (λ same. let below : length rs < n = (let e = eqb-true (length rs + 1) n same in omega arith) in
-      find_newer r rs ∙ ap (λ c. or_else (find (at_number n) (open_places rs)) (cond (is_pending j r) (cond c (Some (place_in j r)) None) None)) (ap (λ z. natural z == n) all.0 ∙ same)
-      ∙ ap (λ o. or_else o (cond (is_pending j r) (Some (place_in j r)) None)) (none_above rs all.1 below))
+      find_newer r rs ∙ ap (λ c. or_else (find (at_number n) (open_places rs)) (cond (is_pending j r) (cond c (Some (request_row j r)) None) None)) (ap (λ z. natural z == n) all.0 ∙ same)
+      ∙ ap (λ o. or_else o (cond (is_pending j r) (Some (request_row j r)) None)) (none_above rs all.1 below))
       (λ apart. find_older r rs (ap (λ z. natural z == n) all.0 ∙ apart) ∙ found_counting rs all.1)
       ∙ ap (λ b. open_at (cond b (Some r) (find wanted_number rs))) (sym (is_number r (length rs + 1) n all.0))
 
@@ -130,7 +130,7 @@ module _ (j : List Entry) (n : ℕ) where
 
   told_counting : (last : Option ℕ) (o : Option Request) → was_sent_by last n ≡ is_some o → matching_by last n (open_at o) ≡ of_sent j o
   told_counting last None h = ap (λ b. cond b Closed Never) h
-  told_counting last (Some r) h = elim (is_pending j r) as (λ b. matching_by last n (cond b (Some (place_in j r)) None) ≡ cond b (open_request j r) Closed) [
+  told_counting last (Some r) h = elim (is_pending j r) as (λ b. matching_by last n (cond b (Some (request_row j r)) None) ≡ cond b (open_request j r) Closed) [
     | true ↦ refl
     | false ↦ ap (λ b. cond b Closed Never) h
   ]
@@ -149,13 +149,13 @@ multi_answer p f j l (negsuc n) st within all = sym (ap (of_sent j) (none_negati
 -- ---- a Single line
 
 single_found : (j : List Entry) (l : ℕ) (last : Option ℕ) (rs : List Request) → EachOf IsZero rs → length rs ≤ 1 → last ≡ option_map (λ _. 0) (head (sends j l))
-    → matching_by last 0 (find (at_number 0) (reverse (map (place_in j) rs))) ≡ of_pending j l (head rs)
+    → matching_by last 0 (find (at_number 0) (reverse (map (request_row j) rs))) ≡ of_pending j l (head rs)
 single_found j l last [] all one h = ap (λ (o : Option ℕ). cond (was_sent_by o 0) Closed Never) h ∙ any_zero (head (sends j l))
   where
     any_zero : (o : Option Request) → cond (was_sent_by (option_map (λ _. 0) o) 0) Closed Never ≡ cond (is_some o) Closed Never
     any_zero None = refl
     any_zero (Some r) = refl
-single_found j l last (r ∷ []) all one h = ap (λ z. matching_by last 0 (cond (natural z == 0) (Some (place_in j r)) None)) all.0
+single_found j l last (r ∷ []) all one h = ap (λ z. matching_by last 0 (cond (natural z == 0) (Some (request_row j r)) None)) all.0
 single_found j l last (r ∷ q ∷ rs) all one h = absurd (omega arith)
 
 zero_last : (o : List Request) → Numbered true o → option_map (λ r. natural r.number) (head o) ≡ option_map (λ _. 0) (head o)

@@ -16,12 +16,12 @@ use Rattle.exec_journal.specs.Words.{sends, pending, is_pending, wrote, order_of
 use Rattle.exec_journal.specs.Rules.{head}
 use Rattle.exec_journal.proofs.Ruled.{by_bool}
 use Rattle.list_lemmas.proofs.Updates.{get_update}
-use Rattle.request_table.specs.declared.Line.{Line}
+use Rattle.request_table.specs.declared.LineRow.{LineRow}
 use Rattle.request_table.specs.declared.Matching.TheVariants.{Pending, Cancelled}
-use Rattle.request_table.specs.declared.Place.{Place}
+use Rattle.request_table.specs.declared.RequestRow.{RequestRow}
 use Rattle.request_table.specs.Entries.{EachOf, IsKnownBy, NoneIsPending, is_still, is_calm, finds_none}
 use Rattle.request_table.specs.Rows.{Facts, on_line, with_answer, with_reopened, with_unwritten, with_ended, answered_row, reopened_row, unwritten_row, ended_row, is_open, waits_at, open_matching, matching_by, line_matching, matching_of}
-use Rattle.request_table.specs.Stands.{told, waiting_in, place_in, natural, Numbered, AreNumbered, Stands}
+use Rattle.request_table.specs.Stands.{told, waiting_in, request_row, natural, Numbered, AreNumbered, Stands}
 use Rattle.request_table.proofs.Lists.{update_length, update_twice, filter_map, filter_reverse, each_and, each_filter, filter_same, filter_none, int_eq_pos}
 use Rattle.request_table.proofs.Pending.{SameSent, Closes, Missed, pending_after, stays, none_missed, answer_entry, answer_closes, still_closes, ended_entry, ended_closes, ended_hits, ended_misses, wrote_entry, turned, wrote_closes, written_misses, past_misses, fault_hits, fault_misses}
 use Rattle.request_table.proofs.Rowed.{facts_of}
@@ -52,7 +52,7 @@ number_is r n e = ap (λ z. int_eq z (pos n)) e ∙ int_eq_pos (natural r.number
 pub numbered_same : (j k : List Entry) (l : ℕ) → sends k l ≡ sends j l → AreNumbered j l → AreNumbered k l
 numbered_same j k l e n = record { single = n.single; numbers = subst (Numbered n.single) (sym e) n.numbers }
 
-place_same : (j k : List Entry) → SameSent j k → place_in j ≡ place_in k
+place_same : (j k : List Entry) → SameSent j k → request_row j ≡ request_row k
 place_same j k same = λ i. λ r. record { number = natural r.number; action = r.attempt.action; attempt = r.attempt.number; pending = true; cancelled = sym (same.cancel r) i }
 
 abbrev pub last_in : List Entry → ℕ → Option ℕ
@@ -60,7 +60,7 @@ last_in j l = option_map (λ r. natural r.number) (head (sends j l))
 
 -- then what waits hangs on what is pending alone
 waiting_by : (j k : List Entry) (l : ℕ) (rs : List Request) → SameSent j k → pending k l ≡ rs
-    → told_of (last_in j l) (reverse (map (place_in j) rs)) ≡ waiting_in k l
+    → told_of (last_in j l) (reverse (map (request_row j) rs)) ≡ waiting_in k l
 unfolding waiting_in
 waiting_by j k l rs same e =
     λ i. record { last = option_map (λ r. natural r.number) (head (sym (same.sent l) i)); places = reverse (map (place_same j k same i) (sym e i)) }
@@ -80,8 +80,8 @@ module _ (j k : List Entry) (hit : Request → Bool) (c : Closes j k hit) where
   waiting_without : (l n : ℕ) → EachOf IsNatural (pending j l) → EachOf (λ r. hit r ≡ int_eq r.number (pos n)) (pending j l) → without n (waiting_in j l) ≡ waiting_in k l
   unfolding waiting_in
   waiting_without l n natural_too known =
-      ap (told_of (last_in j l)) (filter_reverse (is_elsewhere n) (map (place_in j) (pending j l)) ∙ ap reverse (filter_map (is_elsewhere n) (place_in j) (pending j l)))
-      ∙ waiting_by j k l _ c.same (pending_after j k hit c l ∙ filter_same (λ r. not (hit r)) (λ r. is_elsewhere n (place_in j r)) (pending j l)
+      ap (told_of (last_in j l)) (filter_reverse (is_elsewhere n) (map (request_row j) (pending j l)) ∙ ap reverse (filter_map (is_elsewhere n) (request_row j) (pending j l)))
+      ∙ waiting_by j k l _ c.same (pending_after j k hit c l ∙ filter_same (λ r. not (hit r)) (λ r. is_elsewhere n (request_row j r)) (pending j l)
       (each_and IsNatural (λ r. hit r ≡ int_eq r.number (pos n)) (λ r. not (hit r) ≡ not (natural r.number == n)) (λ r e h. ap not (h ∙ number_is r n e)) (pending j l) natural_too known))
 
   -- all of them
@@ -94,7 +94,7 @@ module _ (j k : List Entry) (hit : Request → Bool) (c : Closes j k hit) where
   negative : (l n : ℕ) → EachOf IsNatural (pending j l) → EachOf (λ r. hit r ≡ int_eq r.number (negsuc n)) (pending j l) → Missed hit j l
   negative l n natural_too known = each_and IsNatural (λ r. hit r ≡ int_eq r.number (negsuc n)) (λ r. hit r ≡ false) (λ r e h. h ∙ ap (λ z. int_eq z (negsuc n)) e) (pending j l) natural_too known
 
-  one_closes : (p : Plan) (f : Facts) (l : ℕ) (z : ℤ) (g : ℕ → Line → Line) → Stands p f j → ((n : ℕ) (x : Line) → told (g n x) ≡ without n (told x))
+  one_closes : (p : Plan) (f : Facts) (l : ℕ) (z : ℤ) (g : ℕ → LineRow → LineRow) → Stands p f j → ((n : ℕ) (x : LineRow) → told (g n x) ≡ without n (told x))
       → EachOf (λ r. hit r ≡ int_eq r.number z) (pending j l) → ((d : ℕ) → (l == d) ≡ false → Missed hit j d) → Stands p (on_line g f l z) k
   one_closes p f l (pos n) g st tells here elsewhere =
       changed p f j k l (g n) (without n) st (tells n) (waiting_without l n (pending_natural j l (st.numbered l)) here) (λ d apart. waiting_stays d (elsewhere d apart)) (λ d. numbered_after d (st.numbered d))
@@ -123,7 +123,7 @@ taken_back p f j l (pos n) st =
     (changed p f j j l (λ x. reopened_row n (answered_row n x)) (λ w. w) st (told_back n) refl (λ d _. refl) st.numbered)
 
 -- a row that tells the same after the change
-row_untouched : (p : Plan) (f : Facts) (j : List Entry) (l : ℕ) (g : Line → Line) → Stands p f j → ((x : Line) → slice_get f.lines l ≡ Some x → told (g x) ≡ told x) → Stands p (with_row g f l) j
+row_untouched : (p : Plan) (f : Facts) (j : List Entry) (l : ℕ) (g : LineRow → LineRow) → Stands p f j → ((x : LineRow) → slice_get f.lines l ≡ Some x → told (g x) ≡ told x) → Stands p (with_row g f l) j
 row_untouched p f j l g st same = record {
   room = update_length g f.lines l ∙ st.room;
   kinds = st.kinds;
@@ -131,7 +131,7 @@ row_untouched p f j l g st same = record {
   numbered = st.numbered;
 }
   where
-    row : (o : Option Line) → slice_get f.lines l ≡ o → option_map told (option_map g o) ≡ option_map told o
+    row : (o : Option LineRow) → slice_get f.lines l ≡ o → option_map told (option_map g o) ≡ option_map told o
     row None e = refl
     row (Some x) e = ap Some (same x e)
 
@@ -139,26 +139,26 @@ row_untouched p f j l g st same = record {
     at c = by_bool (l == c) (λ b. option_map told (cond b (option_map g (slice_get f.lines c)) (slice_get f.lines c)) ≡ option_map told (slice_get f.lines c))
         (λ here. subst (λ d. option_map told (option_map g (slice_get f.lines d)) ≡ option_map told (slice_get f.lines d)) (eqb-true l c here) (row (slice_get f.lines l) refl)) (λ _. refl)
 
-not_open : (y : Place) → finds_none (open_matching y) ≡ false
+not_open : (y : RequestRow) → finds_none (open_matching y) ≡ false
 not_open y = elim y.cancelled as (λ b. finds_none (cond b (Cancelled y.action y.attempt) (Pending y.action y.attempt)) ≡ false) [ true ↦ refl | false ↦ refl ]
 
-none_found : (last : Option ℕ) (n : ℕ) (o : Option Place) → finds_none (matching_by last n o) ≡ true → o ≡ None
+none_found : (last : Option ℕ) (n : ℕ) (o : Option RequestRow) → finds_none (matching_by last n o) ≡ true → o ≡ None
 none_found last n None h = refl
 none_found last n (Some y) h = absurd (let e : false ≡ true = sym (not_open y) ∙ h in cc)
 
-none_taken : (n : ℕ) (xs : List Place) → find (waits_at n) xs ≡ None → filter (is_elsewhere n) (filter is_open xs) ≡ filter is_open xs
+none_taken : (n : ℕ) (xs : List RequestRow) → find (waits_at n) xs ≡ None → filter (is_elsewhere n) (filter is_open xs) ≡ filter is_open xs
 none_taken n [] h = refl
 none_taken n (x ∷ xs) h =
     by_bool x.pending (λ b. cond (b && (x.number == n)) (Some x) (find (waits_at n) xs) ≡ None → filter (is_elsewhere n) (cond b (x ∷ filter is_open xs) (filter is_open xs)) ≡ cond b (x ∷ filter is_open xs) (filter is_open xs))
     (λ _. by_bool (x.number == n) (λ b. cond b (Some x) (find (waits_at n) xs) ≡ None → cond (not b) (x ∷ filter (is_elsewhere n) (filter is_open xs)) (filter (is_elsewhere n) (filter is_open xs)) ≡ x ∷ filter is_open xs)
-    (λ _ k. absurd (cc)) (λ _ k. ap (λ (ys : List Place). x ∷ ys) (none_taken n xs k)))
+    (λ _ k. absurd (cc)) (λ _ k. ap (λ (ys : List RequestRow). x ∷ ys) (none_taken n xs k)))
     (λ _ k. none_taken n xs k) h
 
 pub nothing_found : (p : Plan) (f : Facts) (j : List Entry) (l : ℕ) (z : ℤ) → Stands p f j → finds_none (matching_of f l z) ≡ true → Stands p (with_answer f l z) j
 nothing_found p f j l (negsuc n) st h = st
 nothing_found p f j l (pos n) st h =
     row_untouched p f j l (answered_row n) st
-    (λ x at. told_answered n x ∙ ap (told_of x.last) (none_taken n x.places.items (none_found x.last n _ (subst (λ (o : Option Line). finds_none (line_matching (pos n) o) ≡ true) at h))))
+    (λ x at. told_answered n x ∙ ap (told_of x.last) (none_taken n x.places.items (none_found x.last n _ (subst (λ (o : Option LineRow). finds_none (line_matching (pos n) o) ≡ true) at h))))
 
 -- ---- Ended
 

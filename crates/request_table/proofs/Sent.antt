@@ -19,11 +19,11 @@ use Rattle.run_plan.specs.Groups.{group_of, is_single, kind_of, capacity}
 use Rattle.exec_journal.specs.Words.{sends, pending, has_cancel, was_sent}
 use Rattle.exec_journal.proofs.Lines.{pending_line}
 use Rattle.exec_journal.proofs.Ruled.{by_bool}
-use Rattle.request_table.specs.declared.Line.{Line}
-use Rattle.request_table.specs.declared.Place.{Place}
+use Rattle.request_table.specs.declared.LineRow.{LineRow}
+use Rattle.request_table.specs.declared.RequestRow.{RequestRow}
 use Rattle.request_table.specs.Entries.{EachOf, IsOfGroup, NumberedBy, IsNextSend}
 use Rattle.request_table.specs.Rows.{Facts, capacity_of, open_of, open_on, is_single_group, singles_of, line_room, single_by, single_of, last_of, number_after, next_number, new_place, sent_row, with_send, with_cancel, with_cancelled, cancelled_row}
-use Rattle.request_table.specs.Stands.{Waiting, told, waiting_in, place_in, natural, Numbered, AreNumbered, Stands}
+use Rattle.request_table.specs.Stands.{Waiting, told, waiting_in, request_row, natural, Numbered, AreNumbered, Stands}
 use Rattle.request_table.proofs.Lists.{each_and, map_same, map_reverse, map_map, reverse_front}
 use Rattle.request_table.proofs.Told.{with_more, with_mark, told_of, told_sent, told_cancelled, changed, unchanged}
 use Rattle.request_table.proofs.Pending.{send_entry, sent_request, unsent_uncancelled, sends_here, sends_other, pending_here, pending_other, cancel_entry, of_lines, sent_too, pending_too, cancel_at}
@@ -58,10 +58,10 @@ capacity_is p f j lane a b st group = ap capacity_of (single_is p f j lane a b s
 
 -- ---- the row of a line
 
-pub row_told : (p : Plan) (f : Facts) (j : List Entry) (l : ℕ) → Stands p f j → l < line_room p → (x : Line) × (slice_get f.lines l ≡ Some x) × (told x ≡ waiting_in j l)
+pub row_told : (p : Plan) (f : Facts) (j : List Entry) (l : ℕ) → Stands p f j → l < line_room p → (x : LineRow) × (slice_get f.lines l ≡ Some x) × (told x ≡ waiting_in j l)
 row_told p f j l st within = from (slice_get f.lines l) refl (st.each l ∙ ap (λ b. cond b (Some (waiting_in j l)) None) (lt-ltb l (line_room p) within))
   where
-    from : (o : Option Line) → slice_get f.lines l ≡ o → option_map told (slice_get f.lines l) ≡ Some (waiting_in j l) → (x : Line) × (slice_get f.lines l ≡ Some x) × (told x ≡ waiting_in j l)
+    from : (o : Option LineRow) → slice_get f.lines l ≡ o → option_map told (slice_get f.lines l) ≡ Some (waiting_in j l) → (x : LineRow) × (slice_get f.lines l ≡ Some x) × (told x ≡ waiting_in j l)
     from (Some x) at h = (x, at, (let e : Some (told x) ≡ Some (waiting_in j l) = sym (ap (option_map told) at) ∙ h in cc))
     from None at h = absurd (let e : None ≡ Some (waiting_in j l) = sym (ap (option_map told) at) ∙ h in cc)
 
@@ -69,7 +69,7 @@ row_last : (p : Plan) (f : Facts) (j : List Entry) (l : ℕ) → Stands p f j �
 unfolding waiting_in
 row_last p f j l st within =
     let row = row_told p f j l st within in
-    ap (λ (o : Option Line). unwrap_or (option_and_then (λ x. x.last) o) 0) row.1 ∙ ap (λ (w : Waiting). unwrap_or w.last 0) row.2
+    ap (λ (o : Option LineRow). unwrap_or (option_and_then (λ x. x.last) o) 0) row.1 ∙ ap (λ (w : Waiting). unwrap_or w.last 0) row.2
 
 -- the last number is at most the number of Sends
 last_most : (single : Bool) (rs : List Request) → Numbered single rs → unwrap_or (option_map (λ r. natural r.number) (head rs)) 0 ≤ length rs
@@ -89,7 +89,7 @@ pub places_are : (p : Plan) (f : Facts) (j : List Entry) (l : ℕ) → Stands p 
 unfolding waiting_in
 places_are p f j l st within =
     let row = row_told p f j l st within in
-    ap (λ (o : Option Line). length (open_on o)) row.1 ∙ ap (λ (w : Waiting). length w.places) row.2 ∙ length-reverse (map (place_in j) (pending j l)) ∙ length-map (pending j l) (place_in j)
+    ap (λ (o : Option LineRow). length (open_on o)) row.1 ∙ ap (λ (w : Waiting). length w.places) row.2 ∙ length-reverse (map (request_row j) (pending j l)) ∙ length-map (pending j l) (request_row j)
 
 -- the number after the last, as the kind has it
 last_number : (single : Bool) (rs : List Request) → Numbered single rs → pos (number_after single (unwrap_or (option_map (λ r. natural r.number) (head rs)) 0)) ≡ cond single (pos 0) (pos (length rs + 1))
@@ -108,22 +108,22 @@ next_number_is p f j lane l a b st within group earlier =
 -- ---- Send
 
 module _ (p : Plan) (f : Facts) (j : List Entry) (lane l : ℕ) (n : ℤ) (a : ℕ) (b : Branch) (t : ℕ) (st : Stands p f j) (within : l < line_room p) (next : IsNextSend p j lane l n a b t) where
-  same_places : place_in (send_entry lane l n a b t ∷ j) ≡ place_in j
+  same_places : request_row (send_entry lane l n a b t ∷ j) ≡ request_row j
   unfolding has_cancel
   same_places = refl
 
   number_is_next : n ≡ pos (next_number f l a b)
   number_is_next = next.number ∙ sym (next_number_is p f j lane l a b st within next.group next.earlier)
 
-  new_is : place_in j (sent_request l n a b t) ≡ new_place (next_number f l a b) a t
+  new_is : request_row j (sent_request l n a b t) ≡ new_place (next_number f l a b) a t
   new_is = λ i. record { number = natural (number_is_next i); action = a; attempt = t; pending = true; cancelled = unsent_uncancelled j (sent_request l n a b t) next.new.unsent i }
 
   waiting_sent : with_more (next_number f l a b) a t (waiting_in j l) ≡ waiting_in (send_entry lane l n a b t ∷ j) l
   unfolding waiting_in
   waiting_sent = sym (
       (λ i. told_of (option_map (λ r. natural r.number) (head (sends_here j lane l n a b t next.new i))) (reverse (map (same_places i) (pending_here j lane l n a b t next.new i))))
-      ∙ ap (told_of (Some (natural n))) (reverse_front (place_in j (sent_request l n a b t)) (map (place_in j) (pending j l)))
-      ∙ (λ i. told_of (Some (natural (number_is_next i))) (reverse (map (place_in j) (pending j l)) ++ new_is i ∷ [])))
+      ∙ ap (told_of (Some (natural n))) (reverse_front (request_row j (sent_request l n a b t)) (map (request_row j) (pending j l)))
+      ∙ (λ i. told_of (Some (natural (number_is_next i))) (reverse (map (request_row j) (pending j l)) ++ new_is i ∷ [])))
 
   waiting_other : (d : ℕ) → (l == d) ≡ false → waiting_in j d ≡ waiting_in (send_entry lane l n a b t ∷ j) d
   unfolding waiting_in
@@ -144,53 +144,53 @@ natural_equal : (m : ℕ) (z : ℤ) → z ≡ pos (natural z) → int_eq (pos m)
 natural_equal m z e = one_answer (int_eq (pos m) z) (natural z == m) (Decides-int_eq (pos m) z) ((λ h. sym (e ∙ ap pos (eqb-true (natural z) m h))), (λ h. eq-eqb (natural z) m (ap natural (sym h))))
 
 module _ (j : List Entry) (lane l : ℕ) (n : ℤ) where
-  abbrev with_cancel_of : Place → Bool → Place
+  abbrev with_cancel_of : RequestRow → Bool → RequestRow
   with_cancel_of y b = record { number = y.number; action = y.action; attempt = y.attempt; pending = y.pending; cancelled = b }
 
   -- a request of another line, or with another number
-  place_other : (q : Request) → was_sent j q.attempt ≡ true → ((l == q.line) && int_eq n q.number) ≡ false → place_in j q ≡ place_in (cancel_entry lane l n ∷ j) q
-  place_other q sent off = ap (with_cancel_of (place_in j q)) (sym (cancel_at j lane l n q sent ∙ ap (λ b. b || has_cancel j q) off))
+  place_other : (q : Request) → was_sent j q.attempt ≡ true → ((l == q.line) && int_eq n q.number) ≡ false → request_row j q ≡ request_row (cancel_entry lane l n ∷ j) q
+  place_other q sent off = ap (with_cancel_of (request_row j q)) (sym (cancel_at j lane l n q sent ∙ ap (λ b. b || has_cancel j q) off))
 
-  waiting_cancel : (d : ℕ) (g : Place → Place) → EachOf (λ q. g (place_in j q) ≡ place_in (cancel_entry lane l n ∷ j) q) (pending j d) → told_of (last_in j d) (map g (reverse (map (place_in j) (pending j d)))) ≡ waiting_in (cancel_entry lane l n ∷ j) d
+  waiting_cancel : (d : ℕ) (g : RequestRow → RequestRow) → EachOf (λ q. g (request_row j q) ≡ request_row (cancel_entry lane l n ∷ j) q) (pending j d) → told_of (last_in j d) (map g (reverse (map (request_row j) (pending j d)))) ≡ waiting_in (cancel_entry lane l n ∷ j) d
   unfolding waiting_in sends
   waiting_cancel d g each =
-      ap (told_of (last_in j d)) (map_reverse g (map (place_in j) (pending j d)) ∙ ap reverse (map_map g (place_in j) (pending j d) ∙ map_same (λ q. g (place_in j q)) (place_in (cancel_entry lane l n ∷ j)) (pending j d) each)
-      ∙ ap (λ rs. reverse (map (place_in (cancel_entry lane l n ∷ j)) rs)) (sym (pending_too j lane l n d)))
+      ap (told_of (last_in j d)) (map_reverse g (map (request_row j) (pending j d)) ∙ ap reverse (map_map g (request_row j) (pending j d) ∙ map_same (λ q. g (request_row j q)) (request_row (cancel_entry lane l n ∷ j)) (pending j d) each)
+      ∙ ap (λ rs. reverse (map (request_row (cancel_entry lane l n ∷ j)) rs)) (sym (pending_too j lane l n d)))
 
   numbered_cancel : (d : ℕ) → AreNumbered j d → AreNumbered (cancel_entry lane l n ∷ j) d
   unfolding sends
   numbered_cancel d h = numbered_same j (cancel_entry lane l n ∷ j) d refl h
 
   -- a request with this number, on this line
-  place_marked : (m : ℕ) (q : Request) → n ≡ pos m → IsNatural q × (was_sent j q.attempt ≡ true) → (l == q.line) ≡ true → with_cancel m (place_in j q) ≡ place_in (cancel_entry lane l n ∷ j) q
+  place_marked : (m : ℕ) (q : Request) → n ≡ pos m → IsNatural q × (was_sent j q.attempt ≡ true) → (l == q.line) ≡ true → with_cancel m (request_row j q) ≡ request_row (cancel_entry lane l n ∷ j) q
   place_marked m q e h on =
-      ap (with_cancel_of (place_in j q))
+      ap (with_cancel_of (request_row j q))
       (sym (cancel_at j lane l n q h.1 ∙ ap (λ b. (b && int_eq n q.number) || has_cancel j q) on ∙ ap (λ z. int_eq z q.number || has_cancel j q) e ∙ ap (λ b. b || has_cancel j q) (natural_equal m q.number h.0)))
 
   natural_and_sent : (d : ℕ) → AreNumbered j d → EachOf (λ q. IsNatural q × (was_sent j q.attempt ≡ true)) (pending j d)
   natural_and_sent d numbered = each_and IsNatural (λ q. was_sent j q.attempt ≡ true) (λ q. IsNatural q × (was_sent j q.attempt ≡ true)) (λ q h sent. (h, sent)) (pending j d) (pending_natural j d numbered) (sent_too j lane l n d)
 
-  marks : (m : ℕ) → n ≡ pos m → AreNumbered j l → EachOf (λ q. with_cancel m (place_in j q) ≡ place_in (cancel_entry lane l n ∷ j) q) (pending j l)
+  marks : (m : ℕ) → n ≡ pos m → AreNumbered j l → EachOf (λ q. with_cancel m (request_row j q) ≡ request_row (cancel_entry lane l n ∷ j) q) (pending j l)
   marks m e numbered =
-      each_and (λ q. IsNatural q × (was_sent j q.attempt ≡ true)) (λ q. (l == q.line) ≡ true) (λ q. with_cancel m (place_in j q) ≡ place_in (cancel_entry lane l n ∷ j) q) (λ q h on. place_marked m q e h on)
+      each_and (λ q. IsNatural q × (was_sent j q.attempt ≡ true)) (λ q. (l == q.line) ≡ true) (λ q. with_cancel m (request_row j q) ≡ request_row (cancel_entry lane l n ∷ j) q) (λ q h on. place_marked m q e h on)
       (pending j l) (natural_and_sent l numbered) (of_lines (pending j l) l (λ q. (l == q.line) ≡ true) (λ q same. eq-eqb l q.line (sym same)) (pending_line j l))
 
   -- no request has a negative number
-  none_marked : (m d : ℕ) → n ≡ negsuc m → AreNumbered j d → EachOf (λ q. place_in j q ≡ place_in (cancel_entry lane l n ∷ j) q) (pending j d)
+  none_marked : (m d : ℕ) → n ≡ negsuc m → AreNumbered j d → EachOf (λ q. request_row j q ≡ request_row (cancel_entry lane l n ∷ j) q) (pending j d)
   none_marked m d e numbered =
-      each_and (λ q. IsNatural q × (was_sent j q.attempt ≡ true)) (λ q. IsNatural q × (was_sent j q.attempt ≡ true)) (λ q. place_in j q ≡ place_in (cancel_entry lane l n ∷ j) q)
+      each_and (λ q. IsNatural q × (was_sent j q.attempt ≡ true)) (λ q. IsNatural q × (was_sent j q.attempt ≡ true)) (λ q. request_row j q ≡ request_row (cancel_entry lane l n ∷ j) q)
       (λ q h _. place_other q h.1 (ap (λ z. (l == q.line) && int_eq z q.number) e ∙ ap (λ z. (l == q.line) && int_eq (negsuc m) z) h.0 ∙ and_right (l == q.line) false refl))
       (pending j d) (natural_and_sent d numbered) (natural_and_sent d numbered)
 
-  others_stay : (d : ℕ) → (l == d) ≡ false → EachOf (λ q. place_in j q ≡ place_in (cancel_entry lane l n ∷ j) q) (pending j d)
+  others_stay : (d : ℕ) → (l == d) ≡ false → EachOf (λ q. request_row j q ≡ request_row (cancel_entry lane l n ∷ j) q) (pending j d)
   others_stay d apart =
-      each_and (λ q. was_sent j q.attempt ≡ true) (λ q. (l == q.line) ≡ false) (λ q. place_in j q ≡ place_in (cancel_entry lane l n ∷ j) q)
+      each_and (λ q. was_sent j q.attempt ≡ true) (λ q. (l == q.line) ≡ false) (λ q. request_row j q ≡ request_row (cancel_entry lane l n ∷ j) q)
       (λ q sent off. place_other q sent (ap (λ b. b && int_eq n q.number) off)) (pending j d) (sent_too j lane l n d)
       (of_lines (pending j d) d (λ q. (l == q.line) ≡ false) (λ q e. ap (λ k. l == k) e ∙ apart) (pending_line j d))
 
-  waiting_apart : (d : ℕ) → EachOf (λ q. place_in j q ≡ place_in (cancel_entry lane l n ∷ j) q) (pending j d) → waiting_in j d ≡ waiting_in (cancel_entry lane l n ∷ j) d
+  waiting_apart : (d : ℕ) → EachOf (λ q. request_row j q ≡ request_row (cancel_entry lane l n ∷ j) q) (pending j d) → waiting_in j d ≡ waiting_in (cancel_entry lane l n ∷ j) d
   unfolding waiting_in sends
-  waiting_apart d each = ap (told_of (last_in j d)) (ap reverse (map_same (place_in j) (place_in (cancel_entry lane l n ∷ j)) (pending j d) each ∙ ap (map (place_in (cancel_entry lane l n ∷ j))) (sym (pending_too j lane l n d))))
+  waiting_apart d each = ap (told_of (last_in j d)) (ap reverse (map_same (request_row j) (request_row (cancel_entry lane l n ∷ j)) (pending j d) each ∙ ap (map (request_row (cancel_entry lane l n ∷ j))) (sym (pending_too j lane l n d))))
 
   waiting_marked : (m : ℕ) → n ≡ pos m → AreNumbered j l → with_mark m (waiting_in j l) ≡ waiting_in (cancel_entry lane l n ∷ j) l
   unfolding waiting_in

@@ -5,19 +5,19 @@ use Rattle.exec_journal.specs.declared.journal.Entry.{Entry}
 use Rattle.exec_journal.specs.Entries.{Request}
 use Rattle.exec_journal.specs.Words.{sends, pending, is_pending, has_cancel}
 use Rattle.exec_journal.specs.Rules.{head}
-use Rattle.request_table.specs.declared.Line.{Line}
+use Rattle.request_table.specs.declared.LineRow.{LineRow}
 use Rattle.request_table.specs.declared.Matching.{Matching}
 use Rattle.request_table.specs.declared.Matching.TheVariants.{Pending, Cancelled, Closed, Never}
-use Rattle.request_table.specs.declared.Place.{Place}
+use Rattle.request_table.specs.declared.RequestRow.{RequestRow}
 use Rattle.request_table.specs.Rows.{Facts, is_open, line_room, singles_of}
 
 -- of a line: the number of its last Send, and its pending requests, the earliest sent first
 pub record Waiting : Type 0 where
   pub last : Option ℕ
-  pub places : List Place
+  pub places : List RequestRow
 
 -- what a row says of its line: it may still have requests that were answered
-abbrev pub told : Line → Waiting
+abbrev pub told : LineRow → Waiting
 told x = record { last = x.last; places = filter is_open x.places.items }
 
 -- no request has a negative number
@@ -25,11 +25,11 @@ abbrev pub natural : ℤ → ℕ
 natural (pos n) = n
 natural (negsuc n) = 0
 
-abbrev pub place_in : List Entry → Request → Place
-place_in j r = record { number = natural r.number; action = r.attempt.action; attempt = r.attempt.number; pending = true; cancelled = has_cancel j r }
+abbrev pub request_row : List Entry → Request → RequestRow
+request_row j r = record { number = natural r.number; action = r.attempt.action; attempt = r.attempt.number; pending = true; cancelled = has_cancel j r }
 
 unfoldable pub waiting_in : List Entry → ℕ → Waiting
-waiting_in j l = record { last = option_map (λ r. natural r.number) (head (sends j l)); places = reverse (map (place_in j) (pending j l)) }
+waiting_in j l = record { last = option_map (λ r. natural r.number) (head (sends j l)); places = reverse (map (request_row j) (pending j l)) }
 
 -- Sends, the newest first: all have the number 0, or their numbers count up from 1
 abbrev pub Numbered : Bool → List Request → Type 0

@@ -28,7 +28,7 @@ pub enum Matching {
 
 /// A request that was sent.
 #[derive(Clone, Copy, Debug, Default, PartialEq, Eq)]
-pub struct Place {
+pub struct RequestRow {
     pub number: u32,
     pub action: u32,
     pub attempt: u32,
@@ -39,9 +39,9 @@ pub struct Place {
 /// Of a line: the number of its last request, where one was sent, and those that are pending, the earliest first. The
 /// one that was answered last stands among them until the line's next answer or Send, so that it can be opened again.
 #[derive(Drop)]
-pub struct Line {
+pub struct LineRow {
     pub last: Option<u32>,
-    pub places: ArrayVec<Place, 8>,
+    pub places: ArrayVec<RequestRow, 8>,
 }
 
 /// Of an action: whether the groups that run its branches send one request at a time.
@@ -54,7 +54,7 @@ pub struct Singles {
 /// The requests of a run, by line. A contract sees what is known of each line and of each action.
 #[derive(Drop)]
 pub struct Requests {
-    lines: Vec<Line>,
+    lines: Vec<LineRow>,
     singles: Vec<Singles>,
 }
 
@@ -155,11 +155,11 @@ impl Requests {
     }
 }
 
-impl Line {
-    fn new() -> Line
+impl LineRow {
+    fn new() -> LineRow
         ensures { result ≡ new_line }
     {
-        Line {
+        LineRow {
             last: None,
             places: ArrayVec::new(),
         }
@@ -181,7 +181,7 @@ impl Line {
         ensures { self.new ≡ sent_row number action attempt self.old }
     {
         self.places.retain(|place| place.pending);
-        self.places.push(Place {
+        self.places.push(RequestRow {
             number,
             action,
             attempt,
@@ -236,7 +236,7 @@ impl Line {
     }
 }
 
-impl Place {
+impl RequestRow {
     fn matching(&self) -> Matching
         ensures { result ≡ open_matching self.now }
     {
@@ -247,10 +247,10 @@ impl Place {
         }
     }
 
-    fn with_pending(self, number: u32, pending: bool) -> Place
+    fn with_pending(self, number: u32, pending: bool) -> RequestRow
         ensures { result ≡ with_pending number pending self }
     {
-        Place {
+        RequestRow {
             pending: if self.number == number {
                 pending
             } else {
@@ -260,10 +260,10 @@ impl Place {
         }
     }
 
-    fn with_cancel(self, number: u32) -> Place
+    fn with_cancel(self, number: u32) -> RequestRow
         ensures { result ≡ with_cancel number self }
     {
-        Place {
+        RequestRow {
             cancelled: self.number == number || self.cancelled,
             ..self
         }
@@ -282,7 +282,7 @@ impl Singles {
 }
 
 // The pending request with this number.
-fn waiting_at(places: &[Place], number: u32) -> Option<&Place>
+fn waiting_at(places: &[RequestRow], number: u32) -> Option<&RequestRow>
     ensures { option_copied result ≡ find (waits_at number) places.now }
 {
     places
@@ -290,7 +290,7 @@ fn waiting_at(places: &[Place], number: u32) -> Option<&Place>
         .find(|place| place.pending && place.number == number)
 }
 
-fn set_pending(places: &mut [Place], number: u32, pending: bool)
+fn set_pending(places: &mut [RequestRow], number: u32, pending: bool)
     ensures { places.new ≡ map (with_pending number pending) places.old }
 {
     for place in places.iter_mut() {
@@ -298,7 +298,7 @@ fn set_pending(places: &mut [Place], number: u32, pending: bool)
     }
 }
 
-fn set_cancelled(places: &mut [Place], number: u32)
+fn set_cancelled(places: &mut [RequestRow], number: u32)
     ensures { places.new ≡ map (with_cancel number) places.old }
 {
     for place in places.iter_mut() {
@@ -339,12 +339,12 @@ fn line_room(plan: &Plan) -> Result<usize, NoMemory>
     }
 }
 
-fn new_lines(alloc: Global, room: usize) -> Result<Vec<Line>, NoMemory>
+fn new_lines(alloc: Global, room: usize) -> Result<Vec<LineRow>, NoMemory>
     ensures { IfOk result (λ v. v.items ≡ replicate room new_line) }
 {
     let mut lines = Vec::with_capacity(alloc, room)?;
     for _ in 0..room {
-        lines.push(Line::new())?;
+        lines.push(LineRow::new())?;
     }
     Ok(lines)
 }

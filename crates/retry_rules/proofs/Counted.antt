@@ -19,7 +19,7 @@ use Rattle.exec_journal.proofs.Ruled.{by_bool}
 use Rattle.list_lemmas.proofs.Updates.{set-update}
 use Rattle.std.proofs.lemmas.Option.{slice_get_read}
 use Rattle.retry_rules.specs.declared.After.{After}
-use Rattle.retry_rules.specs.declared.Ended.{Ended}
+use Rattle.retry_rules.specs.declared.EndedCounts.{EndedCounts}
 use Rattle.retry_rules.specs.Counts.{Facts, none_ended, count_of, ended_of, one_more, with_end, with_ends, after_attempt}
 use Rattle.retry_rules.specs.Stands.{Stands, ended_count, ended_in}
 use Rattle.retry_rules.specs.Entries.{times, EndsThese, EndsNone, IsGoing}
@@ -27,14 +27,14 @@ use Rattle.list_lemmas.proofs.Updates.{get_update, get_replicate}
 
 -- ---- rows of counts
 
-abbrev row : (ℕ → Branch → ℕ) → ℕ → Ended
+abbrev row : (ℕ → Branch → ℕ) → ℕ → EndedCounts
 row c a = record { local = c a Local; remote = c a Remote }
 
 -- the rows are these counts, for n actions
-Counts : ℕ → (ℕ → Branch → ℕ) → List Ended → Type 0
+Counts : ℕ → (ℕ → Branch → ℕ) → List EndedCounts → Type 0
 Counts n c xs = (a : ℕ) → slice_get xs a ≡ cond (nat_lt a n) (Some (row c a)) None
 
-counts_same : (n : ℕ) (c d : ℕ → Branch → ℕ) (xs : List Ended) → ((a : ℕ) (b : Branch) → c a b ≡ d a b) → Counts n c xs → Counts n d xs
+counts_same : (n : ℕ) (c d : ℕ → Branch → ℕ) (xs : List EndedCounts) → ((a : ℕ) (b : Branch) → c a b ≡ d a b) → Counts n c xs → Counts n d xs
 unfolding Counts
 counts_same n c d xs same h a = h a ∙ ap (λ r. cond (nat_lt a n) (Some r) None) (λ i. record { local = same a Local i; remote = same a Remote i })
 
@@ -58,11 +58,11 @@ more_at true false b l r = refl
 more_at false true b l r = refl
 more_at false false b l r = refl
 
-counts_more : (n : ℕ) (c : ℕ → Branch → ℕ) (xs : List Ended) (t : Attempt) → Counts n c xs → Counts n (λ a b. plus_if (is_branch_of a b t) (c a b)) (update (one_more t.branch) xs t.action)
+counts_more : (n : ℕ) (c : ℕ → Branch → ℕ) (xs : List EndedCounts) (t : Attempt) → Counts n c xs → Counts n (λ a b. plus_if (is_branch_of a b t) (c a b)) (update (one_more t.branch) xs t.action)
 unfolding Counts
 counts_more n c xs t h a =
     get_update (one_more t.branch) xs t.action a
-    ∙ ap (λ (o : Option Ended). cond (t.action == a) (option_map (one_more t.branch) o) o) (h a)
+    ∙ ap (λ (o : Option EndedCounts). cond (t.action == a) (option_map (one_more t.branch) o) o) (h a)
     ∙ more_at (t.action == a) (nat_lt a n) t.branch (c a Local) (c a Remote)
 
 times_one : (same : Bool) (t : Attempt) (ts : List Attempt) (n : ℕ) → length ts + plus_if same n ≡ length (cond same (t ∷ ts) ts) + n
@@ -84,7 +84,7 @@ limit_stays f (t ∷ ts) = limit_stays (with_end f t.action t.branch) ts
 
 -- ---- a new table
 
-pub new_stands : (p : Plan) (xs : List Ended) (limit : ℕ) → limit ≡ p.limit → xs ≡ replicate (length p.actions) none_ended → Stands p (record { ended = xs; limit = limit }) []
+pub new_stands : (p : Plan) (xs : List EndedCounts) (limit : ℕ) → limit ≡ p.limit → xs ≡ replicate (length p.actions) none_ended → Stands p (record { ended = xs; limit = limit }) []
 unfolding ended_count words.attempt words.ended words.end_of
 new_stands p xs limit l e = record {
   limit = l;
@@ -172,12 +172,12 @@ module _ (p : Plan) (f : Facts) (j : List Entry) (a : ℕ) (b : Branch) (s : Sta
 
 -- ---- the table's own calls
 
-pub read : (f f' : Facts) (a : ℕ) (b : Branch) (x : Ended) → f ≡ f' → a < length f'.ended → x ≡ get_or f.ended a x → ended_of f' a b ≡ count_of b x
+pub read : (f f' : Facts) (a : ℕ) (b : Branch) (x : EndedCounts) → f ≡ f' → a < length f'.ended → x ≡ get_or f.ended a x → ended_of f' a b ≡ count_of b x
 read f f' a b x e lt is =
     let within : a < length f.ended = rw e lt in
     ap (λ g. ended_of g a b) (sym e) ∙ ap (λ o. unwrap_or (option_map (count_of b) o) 0) (slice_get_read f.ended (length f.ended) a x refl within is)
 
-pub written : (f f' : Facts) (a : ℕ) (b : Branch) (x r : Ended) → f ≡ f' → a < length f'.ended → x ≡ get_or f.ended a x → r ≡ one_more b x
+pub written : (f f' : Facts) (a : ℕ) (b : Branch) (x r : EndedCounts) → f ≡ f' → a < length f'.ended → x ≡ get_or f.ended a x → r ≡ one_more b x
     → record { ended = set f.ended a r; limit = f.limit } ≡ with_end f' a b
 written f f' a b x r e lt is more =
     let within : a < length f.ended = rw e lt in
@@ -185,7 +185,7 @@ written f f' a b x r e lt is more =
     ∙ ap (λ ys. record { ended = ys; limit = f.limit }) (set-update (one_more b) f.ended a x within)
     ∙ ap (λ g. with_end g a b) e
 
-pub count_one_more : (b : Branch) (x : Ended) → count_of b (one_more b x) ≡ count_of b x + 1
+pub count_one_more : (b : Branch) (x : EndedCounts) → count_of b (one_more b x) ≡ count_of b x + 1
 count_one_more Local x = refl
 count_one_more Remote x = refl
 

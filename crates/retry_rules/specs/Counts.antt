@@ -7,21 +7,21 @@ use Rattle.exec_journal.specs.declared.attempt.Attempt.{Attempt}
 use Rattle.list_lemmas.specs.Places.{update}
 use Rattle.retry_rules.specs.declared.After.{After}
 use Rattle.retry_rules.specs.declared.After.TheVariants.{Again, Spent}
-use Rattle.retry_rules.specs.declared.Ended.{Ended}
+use Rattle.retry_rules.specs.declared.EndedCounts.{EndedCounts}
 
 pub record Facts : Type 0 where
   -- of each action
-  pub ended : List Ended
+  pub ended : List EndedCounts
   -- how many attempts of a branch there may be
   pub limit : ℕ
 
-abbrev pub none_ended : Ended
+abbrev pub none_ended : EndedCounts
 none_ended = record { local = 0; remote = 0 }
 
 abbrev pub new_facts : Plan → Facts
 new_facts p = record { ended = replicate (length p.actions) none_ended; limit = p.limit }
 
-abbrev pub count_of : Branch → Ended → ℕ
+abbrev pub count_of : Branch → EndedCounts → ℕ
 count_of Local x = x.local
 count_of Remote x = x.remote
 
@@ -29,7 +29,7 @@ count_of Remote x = x.remote
 abbrev pub ended_of : Facts → ℕ → Branch → ℕ
 ended_of f a b = unwrap_or (option_map (count_of b) (slice_get f.ended a)) 0
 
-abbrev pub one_more : Branch → Ended → Ended
+abbrev pub one_more : Branch → EndedCounts → EndedCounts
 one_more Local x = record { local = x.local + 1; remote = x.remote }
 one_more Remote x = record { local = x.local; remote = x.remote + 1 }
 

@@ -6,14 +6,14 @@ use Rattle.run_plan.specs.declared.plan.Plan.{Plan}
 use Rattle.exec_journal.specs.declared.journal.Entry.{Entry}
 use Rattle.exec_journal.specs.Entries.{attempt_of}
 use Rattle.exec_journal.specs.Attempts.{attempt, ended}
-use Rattle.retry_rules.specs.declared.Ended.{Ended}
+use Rattle.retry_rules.specs.declared.EndedCounts.{EndedCounts}
 use Rattle.retry_rules.specs.Counts.{Facts}
 
 -- how many attempts of the branch have ended: all up to its latest, or all but that one
 unfoldable pub ended_count : List Entry → ℕ → Branch → ℕ
 ended_count j a b = if ended j (attempt_of a b (attempt j a b)) then attempt j a b else attempt j a b - 1
 
-abbrev pub ended_in : List Entry → ℕ → Ended
+abbrev pub ended_in : List Entry → ℕ → EndedCounts
 ended_in j a = record { local = ended_count j a Local; remote = ended_count j a Remote }
 
 -- it has so many actions as the plan, with the journal's counts

@@ -23,7 +23,7 @@ pub enum After {
 
 /// Of an action: how many attempts of each of its branches have ended.
 #[derive(Clone, Copy, Debug, PartialEq, Eq)]
-pub struct Ended {
+pub struct EndedCounts {
     pub local: u32,
     pub remote: u32,
 }
@@ -31,7 +31,7 @@ pub struct Ended {
 /// How many attempts of each branch of a plan have ended, and how many there may be.
 #[derive(Drop)]
 pub struct Attempts {
-    ended: Vec<Ended>,
+    ended: Vec<EndedCounts>,
     limit: u32,
 }
 
@@ -49,7 +49,7 @@ impl Attempts {
         ensures facts { IfOk result (λ t. t ≡ new_facts plan.now) }
         ensures stands { IfOk result (λ t. Stands plan.now t []) }
     {
-        let none = Ended {
+        let none = EndedCounts {
             local: 0,
             remote: 0,
         };
@@ -76,7 +76,7 @@ impl Attempts {
     }
 }
 
-impl Ended {
+impl EndedCounts {
     fn of(self, branch: Branch) -> u32
         ensures { result ≡ count_of branch self }
     {
@@ -86,16 +86,16 @@ impl Ended {
         }
     }
 
-    fn with_one_more(self, branch: Branch) -> Ended
+    fn with_one_more(self, branch: Branch) -> EndedCounts
         requires { count_of branch self + 1 < 2 ^ 32 }
         ensures { result ≡ one_more branch self }
     {
         match branch {
-            Branch::Local => Ended {
+            Branch::Local => EndedCounts {
                 local: self.local + 1,
                 remote: self.remote,
             },
-            Branch::Remote => Ended {
+            Branch::Remote => EndedCounts {
                 local: self.local,
                 remote: self.remote + 1,
             },

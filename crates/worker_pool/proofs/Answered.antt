@@ -12,15 +12,15 @@ use Rattle.exec_journal.specs.Settled.{bound, one_if, free_places}
 use Rattle.run_plan.specs.Groups.{berths, kind_of, capacity}
 use Rattle.exec_journal.specs.Facts.{NameTheirLines, OfBerth}
 use Rattle.exec_journal.proofs.Lines.{last_line_own}
-use Rattle.worker_pool.specs.declared.Berth.{Berth}
-use Rattle.worker_pool.specs.declared.Line.{Line}
+use Rattle.worker_pool.specs.declared.BerthRow.{BerthRow}
+use Rattle.worker_pool.specs.declared.LineRow.{LineRow}
 use Rattle.worker_pool.specs.Rows.{Facts, pending_of, capacity_of, last_of, is_live_row, if_live, live_of, free_in, free_of}
 use Rattle.worker_pool.specs.Entries.{is_of, IsPendingOn}
 use Rattle.worker_pool.specs.Stands.{Stands, row_of, line_in, seat_in, live_in}
 
 module _ (p : Plan) (f : Facts) (j : List Entry) (s : Stands p f j) where
   module _ (l lane : ℕ) (t : Attempt) (launched : launch_of j l ≡ Some (lane, t)) where
-    abbrev row : Line
+    abbrev row : LineRow
     row = record { capacity = capacity (kind_of p (lane / 2)); started = started j l; broken = broke j l; ended = has_ended j l; killed = was_killed j l; bound = is_some (bound p j l); pending = length (pending j l) }
 
     row_is : slice_get f.lines l ≡ Some row
@@ -33,13 +33,13 @@ module _ (p : Plan) (f : Facts) (j : List Entry) (s : Stands p f j) where
 
     pub free_is : free_of f l ≡ free_places p j (kind_of p (lane / 2)) l
     unfolding free_places
-    free_is = ap (λ (o : Option Line). unwrap_or (option_map free_in o) 0) row_is ∙ ap (λ n. capacity (kind_of p (lane / 2)) - (length (pending j l) + n)) (one_is (bound p j l))
+    free_is = ap (λ (o : Option LineRow). unwrap_or (option_map free_in o) 0) row_is ∙ ap (λ n. capacity (kind_of p (lane / 2)) - (length (pending j l) + n)) (one_is (bound p j l))
 
     pub pending_is : pending_of f l ≡ length (pending j l)
-    pending_is = ap (λ (o : Option Line). unwrap_or (option_map (λ x. x.pending) o) 0) row_is
+    pending_is = ap (λ (o : Option LineRow). unwrap_or (option_map (λ x. x.pending) o) 0) row_is
 
     pub capacity_is : capacity_of f l ≡ capacity (kind_of p (lane / 2))
-    capacity_is = ap (λ (o : Option Line). unwrap_or (option_map (λ x. x.capacity) o) 0) row_is
+    capacity_is = ap (λ (o : Option LineRow). unwrap_or (option_map (λ x. x.capacity) o) 0) row_is
 
     pub within : l < length f.lines
     within = slice_get_within f.lines l row row_is
@@ -58,7 +58,7 @@ module _ (p : Plan) (f : Facts) (j : List Entry) (s : Stands p f j) where
 
     if_live_is : if_live f l ≡ cond (live j l) (Some l) None
     unfolding live
-    if_live_is = ap (λ (o : Option Line). option_and_then (λ x. cond (is_live_row x) (Some l) None) o) row_is
+    if_live_is = ap (λ (o : Option LineRow). option_and_then (λ x. cond (is_live_row x) (Some l) None) o) row_is
 
   module _ (w : ℕ) (known : w < berths p) where
     seat_is : slice_get f.seats w ≡ Some (record { capacity = capacity (kind_of p w); last = last_line j w })
@@ -71,7 +71,7 @@ module _ (p : Plan) (f : Facts) (j : List Entry) (s : Stands p f j) where
     seat_within = slice_get_within f.seats w _ seat_is
 
     pub last_is : last_of f w ≡ last_line j w
-    last_is = ap (λ (o : Option Berth). option_and_then (λ x. x.last) o) seat_is
+    last_is = ap (λ (o : Option BerthRow). option_and_then (λ x. x.last) o) seat_is
 
     live_by : (o : Option ℕ) → OfBerth j o w → option_and_then (if_live f) o ≡ option_and_then (λ l. cond (live j l) (Some l) None) o
     live_by None own = refl

@@ -9,7 +9,7 @@ use Rattle.exec_journal.specs.Words.{launch_of, started, broke, has_ended, was_k
 use Rattle.exec_journal.specs.Settled.{bound}
 use Rattle.list_lemmas.specs.Places.{update}
 use Rattle.list_lemmas.proofs.Updates.{get_update}
-use Rattle.worker_pool.specs.declared.Line.{Line}
+use Rattle.worker_pool.specs.declared.LineRow.{LineRow}
 use Rattle.worker_pool.specs.Rows.{Facts, change, set_started, set_broken, set_ended, set_killed, set_unbound, one_more, one_fewer, with_unbound}
 use Rattle.worker_pool.specs.Stands.{Stands, row_of, line_in, seat_with, seat_in}
 use Rattle.worker_pool.specs.Entries.{is_among, is_aside, ends_nothing}
@@ -81,16 +81,16 @@ unbound_get : (p : Plan) (f : Facts) (ls : List ℕ) (l : ℕ) (o : Option (ℕ 
 unbound_get p f [] l o s b e d u n h = h
 unbound_get p f (k ∷ ks) l o s b e d u n h =
     unbound_get p (change f k set_unbound) ks l o s b e d (not (k == l) && u) n
-    (get_update set_unbound f.lines k l ∙ ap (λ (q : Option Line). cond (k == l) (option_map set_unbound q) q) h ∙ unbound_row p (k == l) o s b e d u n)
+    (get_update set_unbound f.lines k l ∙ ap (λ (q : Option LineRow). cond (k == l) (option_map set_unbound q) q) h ∙ unbound_row p (k == l) o s b e d u n)
     ∙ ap (λ v. row_of p o s b e d v n) (regroup (k == l) (is_among l ks) u)
 
 -- ---- a table that stands for a journal, and its next entry, which launches nothing
 
 module _ (p : Plan) (f : Facts) (j : List Entry) (e : Entry) (s : Stands p f j) (plain : launch_in e.reply ≡ None) where
-  abbrev pub row_before : ℕ → Option Line
+  abbrev pub row_before : ℕ → Option LineRow
   row_before l = row_of p (launch_of j l) (started j l) (broke j l) (has_ended j l) (was_killed j l) (is_some (bound p j l)) (length (pending j l))
 
-  abbrev pub row_after : ℕ → Option Line
+  abbrev pub row_after : ℕ → Option LineRow
   row_after l = row_of p (launch_of j l) (started (e ∷ j) l) (broke (e ∷ j) l) (has_ended (e ∷ j) l) (was_killed (e ∷ j) l) (is_some (bound p (e ∷ j) l)) (length (pending (e ∷ j) l))
 
   stands_after : (g : Facts) → g.room ≡ f.room → g.seats ≡ f.seats → length g.lines ≡ length f.lines → ((l : ℕ) → slice_get g.lines l ≡ row_after l) → Stands p g (e ∷ j)
@@ -106,11 +106,11 @@ module _ (p : Plan) (f : Facts) (j : List Entry) (e : Entry) (s : Stands p f j) 
   unfolding line_in
   row_is l = s.each_line l
 
-  row_changed : (g : Line → Line) (k l : ℕ) → slice_get (update g f.lines k) l ≡ cond (k == l) (option_map g (row_before l)) (row_before l)
-  row_changed g k l = get_update g f.lines k l ∙ ap (λ (o : Option Line). cond (k == l) (option_map g o) o) (row_is l)
+  row_changed : (g : LineRow → LineRow) (k l : ℕ) → slice_get (update g f.lines k) l ≡ cond (k == l) (option_map g (row_before l)) (row_before l)
+  row_changed g k l = get_update g f.lines k l ∙ ap (λ (o : Option LineRow). cond (k == l) (option_map g o) o) (row_is l)
 
   -- one line changes
-  pub one_changes : (k : ℕ) (g : Line → Line) → ((l : ℕ) → cond (k == l) (option_map g (row_before l)) (row_before l) ≡ row_after l) → Stands p (change f k g) (e ∷ j)
+  pub one_changes : (k : ℕ) (g : LineRow → LineRow) → ((l : ℕ) → cond (k == l) (option_map g (row_before l)) (row_before l) ≡ row_after l) → Stands p (change f k g) (e ∷ j)
   one_changes k g h = stands_after (change f k g) refl refl (length-update g f.lines k) (λ l. row_changed g k l ∙ h l)
 
   -- none does
@@ -118,11 +118,11 @@ module _ (p : Plan) (f : Facts) (j : List Entry) (e : Entry) (s : Stands p f j) 
   none_changes h = stands_after f refl refl refl (λ l. row_is l ∙ h l)
 
   -- and changes again
-  pub twice_changes : (k : ℕ) (g h : Line → Line) → ((l : ℕ) → cond (k == l) (option_map h (cond (k == l) (option_map g (row_before l)) (row_before l))) (cond (k == l) (option_map g (row_before l)) (row_before l)) ≡ row_after l)
+  pub twice_changes : (k : ℕ) (g h : LineRow → LineRow) → ((l : ℕ) → cond (k == l) (option_map h (cond (k == l) (option_map g (row_before l)) (row_before l))) (cond (k == l) (option_map g (row_before l)) (row_before l)) ≡ row_after l)
       → Stands p (change (change f k g) k h) (e ∷ j)
   twice_changes k g h same =
       stands_after (change (change f k g) k h) refl refl (length-update h (update g f.lines k) k ∙ length-update g f.lines k)
-      (λ l. get_update h (update g f.lines k) k l ∙ ap (λ (o : Option Line). cond (k == l) (option_map h o) o) (row_changed g k l) ∙ same l)
+      (λ l. get_update h (update g f.lines k) k l ∙ ap (λ (o : Option LineRow). cond (k == l) (option_map h o) o) (row_changed g k l) ∙ same l)
 
   pub only_unbinds : (ls : List ℕ) → ((l : ℕ) → row_of p (launch_of j l) (started j l) (broke j l) (has_ended j l) (was_killed j l) (not (is_among l ls) && is_some (bound p j l)) (length (pending j l)) ≡ row_after l) → Stands p (with_unbound f ls) (e ∷ j)
   only_unbinds ls h =

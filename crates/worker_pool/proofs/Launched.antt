@@ -20,8 +20,8 @@ use Rattle.exec_journal.specs.Facts.{SameActions, IsFresh, begun}
 use Rattle.exec_journal.proofs.Begins.{same_attempt_eq}
 use Rattle.exec_journal.proofs.Quiet.{ended_same, wanted_same}
 use Rattle.list_lemmas.proofs.Updates.{get_update}
-use Rattle.worker_pool.specs.declared.Berth.{Berth}
-use Rattle.worker_pool.specs.declared.Line.{Line}
+use Rattle.worker_pool.specs.declared.BerthRow.{BerthRow}
+use Rattle.worker_pool.specs.declared.LineRow.{LineRow}
 use Rattle.worker_pool.specs.Rows.{Facts, new_line, set_last, seat_capacity, with_launch}
 use Rattle.worker_pool.specs.Stands.{Stands, row_of, line_in, seat_in}
 use Rattle.worker_pool.specs.Entries.{IsNew}
@@ -103,9 +103,9 @@ module _ (p : Plan) (f : Facts) (j : List Entry) (lane : ℕ) (t : Attempt) (s :
   unfolding seat_in
   seat_is =
       let within : nat_lt (lane / 2) (berths p) ≡ true = lt-ltb (lane / 2) (berths p) seated in
-      ap (λ (o : Option Berth). unwrap_or (option_map (λ x. x.capacity) o) 0) (s.each_seat (lane / 2) ∙ ap (λ b. cond b (Some (record { capacity = capacity (kind_of p (lane / 2)); last = last_line j (lane / 2) })) None) within)
+      ap (λ (o : Option BerthRow). unwrap_or (option_map (λ x. x.capacity) o) 0) (s.each_seat (lane / 2) ∙ ap (λ b. cond b (Some (record { capacity = capacity (kind_of p (lane / 2)); last = last_line j (lane / 2) })) None) within)
 
-  abbrev row_now : ℕ → Bool → Option Line
+  abbrev row_now : ℕ → Bool → Option LineRow
   row_now l b =
       row_of p (or_else (cond b (Some (lane, t)) None) (launch_of j l)) (started j l) (broke j l) (has_ended j l) (was_killed j l)
       (is_some (if_bound p (launch_entry ∷ j) (or_else (cond b (Some (lane, t)) None) (launch_of j l)))) (length (pending j l))

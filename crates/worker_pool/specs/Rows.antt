@@ -5,24 +5,24 @@ use Rattle.run_plan.specs.declared.plan.Kind.{Kind}
 use Rattle.run_plan.specs.declared.plan.Plan.{Plan}
 use Rattle.run_plan.specs.Groups.{capacity}
 use Rattle.list_lemmas.specs.Places.{update}
-use Rattle.worker_pool.specs.declared.Berth.{Berth}
-use Rattle.worker_pool.specs.declared.Line.{Line}
+use Rattle.worker_pool.specs.declared.BerthRow.{BerthRow}
+use Rattle.worker_pool.specs.declared.LineRow.{LineRow}
 
 pub record Facts : Type 0 where
   -- of each line, in the order of their numbers
-  pub lines : List Line
+  pub lines : List LineRow
   -- of each berth
-  pub seats : List Berth
+  pub seats : List BerthRow
   -- how many lines there may be
   pub room : ℕ
 
 -- ---- a new table
 
-abbrev pub empty_berth : Kind → Berth
+abbrev pub empty_berth : Kind → BerthRow
 empty_berth k = record { capacity = capacity k; last = None }
 
 -- berths are numbered group by group
-abbrev pub empty_berths : List Group → List Berth
+abbrev pub empty_berths : List Group → List BerthRow
 empty_berths [] = []
 empty_berths (g ∷ gs) = replicate g.berths (empty_berth g.kind) ++ empty_berths gs
 
@@ -35,10 +35,10 @@ new_facts p = record { lines = []; seats = empty_berths p.groups; room = room_of
 
 -- ---- a new line
 
-abbrev pub new_line : ℕ → Line
+abbrev pub new_line : ℕ → LineRow
 new_line c = record { capacity = c; started = false; broken = false; ended = false; killed = false; bound = true; pending = 0 }
 
-abbrev pub set_last : ℕ → Berth → Berth
+abbrev pub set_last : ℕ → BerthRow → BerthRow
 set_last l x = record { capacity = x.capacity; last = Some l }
 
 -- how many requests a line of the berth has room for
@@ -55,31 +55,31 @@ with_launch f w = record {
 
 -- ---- one line changes
 
-abbrev pub change : Facts → ℕ → (Line → Line) → Facts
+abbrev pub change : Facts → ℕ → (LineRow → LineRow) → Facts
 change f l g = record { lines = update g f.lines l; seats = f.seats; room = f.room }
 
-abbrev pub set_started : Line → Line
+abbrev pub set_started : LineRow → LineRow
 set_started x = record x { started = true }
 
-abbrev pub set_broken : Line → Line
+abbrev pub set_broken : LineRow → LineRow
 set_broken x = record x { broken = true }
 
 -- a line that has Ended broke, and nothing is pending on it or bound to it
-abbrev pub set_ended : Line → Line
+abbrev pub set_ended : LineRow → LineRow
 set_ended x = record x { broken = true; ended = true; bound = false; pending = 0 }
 
-abbrev pub set_killed : Line → Line
+abbrev pub set_killed : LineRow → LineRow
 set_killed x = record x { killed = true }
 
-abbrev pub set_unbound : Line → Line
+abbrev pub set_unbound : LineRow → LineRow
 set_unbound x = record x { bound = false }
 
 -- one pending request more
-abbrev pub one_more : Line → Line
+abbrev pub one_more : LineRow → LineRow
 one_more x = record x { pending = x.pending + 1 }
 
 -- one fewer
-abbrev pub one_fewer : Line → Line
+abbrev pub one_fewer : LineRow → LineRow
 one_fewer x = record x { pending = x.pending - 1 }
 
 -- nothing is bound to these lines any longer
@@ -99,7 +99,7 @@ capacity_of f l = unwrap_or (option_map (λ x. x.capacity) (slice_get f.lines l)
 abbrev pub last_of : Facts → ℕ → Option ℕ
 last_of f w = option_and_then (λ x. x.last) (slice_get f.seats w)
 
-abbrev pub is_live_row : Line → Bool
+abbrev pub is_live_row : LineRow → Bool
 is_live_row x = x.started && (not x.broken && not x.killed)
 
 abbrev pub if_live : Facts → ℕ → Option ℕ
@@ -110,7 +110,7 @@ abbrev pub live_of : Facts → ℕ → Option ℕ
 live_of f w = option_and_then (if_live f) (last_of f w)
 
 -- the capacity less the pending requests and the bound branch
-abbrev pub free_in : Line → ℕ
+abbrev pub free_in : LineRow → ℕ
 free_in x = x.capacity - (x.pending + (if x.bound then 1 else 0))
 
 abbrev pub free_of : Facts → ℕ → ℕ

@@ -16,7 +16,7 @@ use std::marker::Model;
 
 /// What is known of a line.
 #[derive(Clone, Copy, Debug, PartialEq, Eq)]
-pub struct Line {
+pub struct LineRow {
     /// How many requests it has room for.
     pub capacity: u32,
     /// It was launched with success.
@@ -33,7 +33,7 @@ pub struct Line {
 
 /// What is known of a berth.
 #[derive(Clone, Copy, Debug, PartialEq, Eq)]
-pub struct Berth {
+pub struct BerthRow {
     /// How many requests a line of it has room for.
     pub capacity: u32,
     /// Its last line.
@@ -45,8 +45,8 @@ pub struct Berth {
 #[derive(Drop)]
 pub struct Pool {
     // Never fuller than its capacity, which is the room for all lines that a run may launch.
-    lines: Vec<Line>,
-    berths: Vec<Berth>,
+    lines: Vec<LineRow>,
+    berths: Vec<BerthRow>,
 }
 
 impl Model for Pool {
@@ -88,7 +88,7 @@ impl Pool {
         let line = self.lines.len() as u32;
         let seat = &mut self.berths[berth as usize];
         seat.last = Some(line);
-        let row = Line::new(seat.capacity);
+        let row = LineRow::new(seat.capacity);
         self.lines.push_reserved(row);
         line
     }
@@ -189,7 +189,7 @@ impl Pool {
     }
 
     /// All that is known of the line.
-    pub fn line(&self, line: u32) -> Line
+    pub fn line(&self, line: u32) -> LineRow
         requires { line < length self.now.lines }
         ensures { slice_get self.now.lines line ≡ Some result }
     {
@@ -197,11 +197,11 @@ impl Pool {
     }
 }
 
-impl Line {
-    fn new(capacity: u32) -> Line
+impl LineRow {
+    fn new(capacity: u32) -> LineRow
         ensures { result ≡ new_line capacity }
     {
-        Line {
+        LineRow {
             capacity,
             started: false,
             broken: false,
@@ -229,13 +229,13 @@ impl Line {
 }
 
 // Berths without a line, group by group.
-fn berths_of(alloc: Global, groups: &[Group]) -> Result<Vec<Berth>, NoMemory>
+fn berths_of(alloc: Global, groups: &[Group]) -> Result<Vec<BerthRow>, NoMemory>
     requires { sum_by (λ g. g.berths) groups.now ≤ 64 }
     ensures { IfOk result (λ berths. berths.items ≡ empty_berths groups.now) }
 {
     let mut berths = Vec::new(alloc);
     for group in groups {
-        let empty = Berth {
+        let empty = BerthRow {
             capacity: capacity_of(group.kind),
             last: None,
         };

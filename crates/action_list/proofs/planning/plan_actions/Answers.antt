@@ -1,7 +1,7 @@
 use Rattle.std.proofs.Common.{◌≡◌, ◌++◌, ◌∷◌, [], ◌+◌, take, drop, length, sym, ap, subst, ◌∙◌, append_assoc, arith}
 use Rattle.std.proofs.lemmas.List.{length-take-le}
 use Rattle.action_list.specs.Plans.{plan_action, plan_actions}
-use Rattle.action_list.specs.Whole.{KnowsPlaces}
+use Rattle.action_list.specs.Whole.{KnowsProducers}
 use Rattle.action_list.proofs.Orders.{take_this, drop_this}
 use Rattle.action_list.proofs.planning.plan_actions.Goals as goal
 
@@ -19,7 +19,7 @@ loop-action-preserved c =
     let pushed = rw now at c.in_ok-push.ensures.items in
     record {
       counted = omega arith;
-      known = subst (λ ys. KnowsPlaces c.note_outputs.new.places ys) (sym this) (c.in_ok-note_outputs.ensures (take i xs) c.loop-action.invariant.known number);
+      known = subst (λ ys. KnowsProducers c.note_outputs.new.producers ys) (sym this) (c.in_ok-note_outputs.ensures (take i xs) c.loop-action.invariant.known number);
       made =
           ap (λ o. o ++ later) pushed
           ∙ append_assoc c.loop-action.planned.items (plan_action keys (take i xs) x ∷ []) later

@@ -2,26 +2,26 @@
 ghost use Rattle.std.specs.Prelude.{◌≡◌, ◌≤◌, ◌+◌, ◌^◌, ◌<◌, ℕ, List, length, None, OnOk, Some, if◌then◌else◌};
 ghost use Rattle.std.specs.Str.{bytes_eq};
 ghost use Rattle.std.specs.Option.{option_copied};
-ghost use Rattle.action_list.specs.Plans.{place_in};
+ghost use Rattle.action_list.specs.Plans.{producer_in};
 
 use indexmap::IndexMap;
 use plain_values::{NoMemory, Text};
 use run_plan::Maker;
 use std::alloc::Global;
 
-/// The place where each path is made.
+/// Which action makes each path, and as which of its outputs.
 #[derive(Drop)]
-pub struct Places {
+pub struct Producers {
     makers: IndexMap<String, Maker>,
 }
 
-impl Places {
-    ghost use Rattle.action_list.specs.Places.{place_of};
+impl Producers {
+    ghost use Rattle.action_list.specs.Producers.{producer_of};
 
-    pub fn new(alloc: Global) -> Places
-        ensures { (q : List ℕ) → place_of result q ≡ None }
+    pub fn new(alloc: Global) -> Producers
+        ensures { (q : List ℕ) → producer_of result q ≡ None }
     {
-        Places {
+        Producers {
             makers: IndexMap::new(alloc),
         }
     }
@@ -30,7 +30,7 @@ impl Places {
     pub fn note_all(&mut self, alloc: Global, action: u32, outputs: &[Text]) -> Result<(), NoMemory>
         requires { length outputs.now ≤ 256 }
         ensures { OnOk result ((q : List ℕ)
-            → place_of self.new q ≡ place_in (place_of self.old q) q action 0 outputs.now) }
+            → producer_of self.new q ≡ producer_in (producer_of self.old q) q action 0 outputs.now) }
     {
         let mut output = 0;
         for path in outputs {
@@ -42,8 +42,8 @@ impl Places {
 
     fn note(&mut self, alloc: Global, path: &str, maker: Maker) -> Result<(), NoMemory>
         ensures { OnOk result ((q : List ℕ)
-            → place_of self.new q ≡
-            (if bytes_eq path.now q then Some maker else place_of self.old q)) }
+            → producer_of self.new q ≡
+            (if bytes_eq path.now q then Some maker else producer_of self.old q)) }
     {
         self.makers.insert(String::from_str(alloc, path)?, maker)?;
         Ok(())
@@ -51,7 +51,7 @@ impl Places {
 
     /// The place of a path.
     pub fn get(&self, path: &str) -> Option<Maker>
-        ensures { result ≡ place_of self.now path.now }
+        ensures { result ≡ producer_of self.now path.now }
     {
         self.makers.get(path).copied()
     }

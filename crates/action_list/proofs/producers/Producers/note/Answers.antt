@@ -1,6 +1,6 @@
 use Rattle.std.proofs.Common.{string_bytes, Some}
 use Rattle.std.proofs.lemmas.Map.Text.{hash_map_updates_text}
-use Rattle.action_list.proofs.places.Places.note.Goals as goal
+use Rattle.action_list.proofs.producers.Producers.note.Goals as goal
 
 pub returns : goal.returns
 returns c = λ q.

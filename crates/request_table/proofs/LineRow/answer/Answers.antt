@@ -4,7 +4,7 @@ use Rattle.std.proofs.lemmas.List.{length-map}
 use Rattle.arrayvec.proofs.ArrayVecLemmas.{filter-from_retain, items-with_items}
 use Rattle.request_table.specs.Rows.{is_open, with_pending}
 use Rattle.request_table.proofs.Rowed.{row_of}
-use Rattle.request_table.proofs.Line.answer.Goals as goal
+use Rattle.request_table.proofs.LineRow.answer.Goals as goal
 
 pub returns-clause-row : goal.returns-clause-row
 returns-clause-row c =

@@ -2,7 +2,7 @@ use Rattle.std.proofs.Common.{◌<◌, Some, length, ap, ◌∙◌, ◌++◌, �
 use Rattle.arrayvec.proofs.ArrayVecLemmas.{filter-from_retain}
 use Rattle.request_table.specs.Rows.{is_open, new_place}
 use Rattle.request_table.proofs.Rowed.{row_of}
-use Rattle.request_table.proofs.Line.send.Goals as goal
+use Rattle.request_table.proofs.LineRow.send.Goals as goal
 
 pub push-requires : goal.push-requires
 push-requires c =

@@ -1,0 +1,43 @@
+ghost use Rattle.std.specs.Prelude.{◌≡◌};
+ghost use Rattle.sandbox_rooms.specs.Rooms.{prepare_asks};
+ghost use Rattle.order_acts.specs.Acts.{GivesFrame, Sends};
+
+use exec_journal::Written;
+use outside::{Berth, Feed, Io};
+use plain_values::{NoMemory, Text};
+use remote_messages::NamedFile;
+use sandbox_rooms::{Room, prepare};
+use std::alloc::Global;
+
+/// For a Send to a local line: makes the room ready, and gives the frame to the line.
+///
+/// # Errors
+///
+/// `NoMemory`, and then nothing was given.
+pub fn send_line<B: Berth>(
+    alloc: Global,
+    berth: &mut B,
+    feed: &mut B::Feed,
+    room: Room,
+    inputs: &[NamedFile],
+    outputs: &[Text],
+    frame: &[u8],
+) -> Result<Written, NoMemory>
+    ensures { Sends (prepare_asks room outputs.now inputs.now) frame.now result
+        (B.told berth.old) (B.told berth.new) (B.Feed.told feed.old) (B.Feed.told feed.new) }
+{
+    match prepare(alloc, berth, room, inputs, outputs)? {
+        Io::Done => Ok(give(feed, frame)),
+        Io::Failed => Ok(Written::RoomFault),
+    }
+}
+
+/// Gives a frame to a line, for a Cancel or a Send to the executor.
+pub fn give<F: Feed>(feed: &mut F, frame: &[u8]) -> Written
+    ensures { GivesFrame frame.now result (F.told feed.old) (F.told feed.new) }
+{
+    match feed.write(frame) {
+        Io::Done => Written::Done,
+        Io::Failed => Written::FeedFault,
+    }
+}
