@@ -6,6 +6,3 @@ mod requests;
 
 pub use frames::{Due, cancel_frame, send_frame};
 pub use requests::room_of;
-
-#[cfg(test)]
-mod tests;
