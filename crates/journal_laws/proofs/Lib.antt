@@ -24,3 +24,4 @@ pub mod Cancels
 pub mod Given
 pub mod Greeted
 pub mod Faulty
+pub mod Decided

@@ -1,3 +1,4 @@
+pub mod Opened
 pub mod AnswersTwice
 pub mod OutOfOrder
 pub mod DiesTwice

@@ -1,5 +1,5 @@
 //! What holds of every legal journal. The functions do nothing: each is a law, for those who keep tables of a journal.
-ghost use Rattle.std.specs.Prelude.{◌≡◌, ◌≤◌, ◌<◌, ◌*◌, ◌/◌, ◌⊎◌, ◌&&◌, ◌||◌, not, ℕ, ℤ, List, ◌∷◌, length, Some, None, true, false, slice_get};
+ghost use Rattle.std.specs.Prelude.{◌≡◌, ◌≤◌, ◌<◌, ◌*◌, ◌/◌, ◌⊎◌, ◌↔◌, ◌&&◌, ◌||◌, not, ℕ, ℤ, List, ◌∷◌, length, Some, None, true, false, slice_get};
 ghost use Rattle.std.specs.List.{list_all};
 ghost use Rattle.exec_journal.specs.declared.attempt.Attempt.{Attempt};
 ghost use Rattle.exec_journal.specs.declared.ends.Cause.{Cause};
@@ -34,6 +34,7 @@ ghost use Rattle.run_plan.specs.Sound.{Sound};
 ghost use Rattle.journal_laws.specs.Invariant.{EndsWith, claims_it, claimed, is_quiet_call, EachRequest, HasInputs, IsGoing, IsClaimable, IsWinner, LineFacts};
 ghost use Rattle.journal_laws.specs.Steps.{EndExactly, is_open_attempt, is_left_on, is_known, given_up, StandsThere, KillsOnce, IsGathering, IsDone, IsGreeting, SameRequests, BeginsOne, IsUngranted, IsGrantedFiles, WantedFollows, BoundIsCarried, IsFreshSend, IsFreshLaunch, IsNumberedSend, KnownByNumber, IsPastAttempt, WantedUnlessGranted};
 ghost use Rattle.exec_journal.specs.Legal.{Legal};
+ghost use Rattle.journal_laws.specs.IsLegal.{is_legal};
 ghost use Rattle.exec_journal.specs.Facts.{begun, IsOfBerth, NameTheirLines, IsFresh, AttemptsInOrder, BeginInOrder, SameActions, SameStandings};
 
 /// Lines are numbered in order, each line that an entry names was launched, and a lane names only lines of its own berth.
@@ -298,4 +299,9 @@ pub fn greetings_come_first()
     ensures cancels { (p : Plan) (e : Entry) (j : List Entry) (l : ℕ) (n : ℤ) → Sound p
         → Legal p (e ∷ j) → e.reply ≡ reply.Cancel l n
         → is_remote (kind_of p (e.lane / 2)) ≡ true → has_greeted j l ≡ true }
+{}
+
+/// `is_legal` decides which journals are legal.
+pub fn legal_is_decided()
+    ensures { (p : Plan) (j : List Entry) → (is_legal p j ≡ true) ↔ Legal p j }
 {}

@@ -1,5 +1,5 @@
 -- Both branches answer before either claims: one is granted, the other has lost.
-use Rattle.std.specs.Prelude.{◌≡◌, refl, false, List, [], ◌∷◌, pos}
+use Rattle.std.specs.Prelude.{◌≡◌, refl, true, false, List, [], ◌∷◌, pos}
 use Rattle.run_plan.specs.declared.plan.Branch.TheVariants.{Local, Remote}
 use Rattle.run_plan.specs.declared.plan.Plan.{Plan}
 use Rattle.exec_journal.specs.declared.journal.Entry.{Entry}
@@ -11,16 +11,12 @@ use Rattle.exec_journal.specs.declared.call.Found.TheVariants as found
 use Rattle.exec_journal.specs.declared.call.Started.TheVariants as start
 use Rattle.exec_journal.specs.declared.call.Written.TheVariants as write
 use Rattle.exec_journal.specs.declared.reply.Reply.TheVariants as reply
-use Rattle.exec_journal.specs.Words as w
-use Rattle.exec_journal.specs.Attempts as a
-use Rattle.exec_journal.specs.Settled as s
-use Rattle.exec_journal.specs.Rules as r
 use Rattle.exec_journal.specs.Outcomes as o
-use Rattle.exec_journal.specs.Rules.{rule}
-use Rattle.exec_journal.specs.Legal.{Legal}
-use Rattle.exec_journal.specs.Race.{Race, has_grant_of, committed}
+use Rattle.exec_journal.specs.Race.{Race}
 use Rattle.exec_journal.specs.Paired.{Paired}
-use Rattle.exec_journal.proofs.Parts.{entry, answer, numbered, with_file, said_cancelled, worker, dynamic, plan_of, single, cancelling, multi, remote}
+use Rattle.exec_journal.proofs.Parts.{entry, answer, with_file, dynamic, plan_of, single, remote}
+use Rattle.journal_laws.specs.IsLegal.{is_legal}
+use Rattle.journal_laws.proofs.rows.Opened.{words}
 
 unfoldable pub plan : Plan
 unfolding plan_of dynamic single remote
@@ -63,100 +59,37 @@ both =
     ∷ entry 0 (call.Claim 0 Local 1 (found.Files ((120 ∷ []) ∷ []))) reply.Lost
     ∷ both_15
 
-pub both_8_legal : Legal plan both_8
-unfolding plan both_8 both_14 both_15 both entry answer numbered with_file said_cancelled worker dynamic plan_of single cancelling multi remote w.last_work w.stopped w.has_halted w.halted w.line_count w.started w.failed w.has_ended w.was_killed w.kill_ordered w.was_taken w.has_spoken w.has_greeted w.launch_of w.last_line w.lines_of w.sends w.was_sent w.ever_sent w.answered w.wrote w.is_pending w.pending w.has_cancel w.line_cause w.live w.grant_of w.granted w.commit_of w.match_of a.attempt a.line_of a.fault_of a.end_of a.ended a.dropped s.standings s.settled s.all_settled s.ready s.wanted s.bound s.queued s.earliest s.free_places r.gathered o.outcome_of o.fate_of
-both_8_legal = (
-  (
-    (
-      (
-        (
-          (
-            (
-              (
-                tt,
-                record { scripted = refl; replied = refl; kept = refl },
-              ),
-              record { scripted = refl; replied = refl; kept = refl },
-            ),
-            record { scripted = refl; replied = refl; kept = refl },
-          ),
-          record { scripted = refl; replied = refl; kept = refl },
-        ),
-        record { scripted = refl; replied = refl; kept = refl },
-      ),
-      record { scripted = refl; replied = refl; kept = refl },
-    ),
-    record { scripted = refl; replied = refl; kept = refl },
-  ),
-  record { scripted = refl; replied = refl; kept = refl },
-)
-
-pub both_14_legal : Legal plan both_14
-unfolding plan both_8 both_14 both_15 both entry answer numbered with_file said_cancelled worker dynamic plan_of single cancelling multi remote w.last_work w.stopped w.has_halted w.halted w.line_count w.started w.failed w.has_ended w.was_killed w.kill_ordered w.was_taken w.has_spoken w.has_greeted w.launch_of w.last_line w.lines_of w.sends w.was_sent w.ever_sent w.answered w.wrote w.is_pending w.pending w.has_cancel w.line_cause w.live w.grant_of w.granted w.commit_of w.match_of a.attempt a.line_of a.fault_of a.end_of a.ended a.dropped s.standings s.settled s.all_settled s.ready s.wanted s.bound s.queued s.earliest s.free_places r.gathered o.outcome_of o.fate_of
-both_14_legal = (
-  (
-    (
-      (
-        (
-          (
-            both_8_legal,
-            record { scripted = refl; replied = refl; kept = refl },
-          ),
-          record { scripted = refl; replied = refl; kept = refl },
-        ),
-        record { scripted = refl; replied = refl; kept = refl },
-      ),
-      record { scripted = refl; replied = refl; kept = refl },
-    ),
-    record { scripted = refl; replied = refl; kept = refl },
-  ),
-  record { scripted = refl; replied = refl; kept = refl },
-)
-
-pub both_15_legal : Legal plan both_15
-unfolding plan both_8 both_14 both_15 both entry answer numbered with_file said_cancelled worker dynamic plan_of single cancelling multi remote w.last_work w.stopped w.has_halted w.halted w.line_count w.started w.failed w.has_ended w.was_killed w.kill_ordered w.was_taken w.has_spoken w.has_greeted w.launch_of w.last_line w.lines_of w.sends w.was_sent w.ever_sent w.answered w.wrote w.is_pending w.pending w.has_cancel w.line_cause w.live w.grant_of w.granted w.commit_of w.match_of a.attempt a.line_of a.fault_of a.end_of a.ended a.dropped s.standings s.settled s.all_settled s.ready s.wanted s.bound s.queued s.earliest s.free_places r.gathered o.outcome_of o.fate_of
-both_15_legal = (
-  both_14_legal,
-  record { scripted = refl; replied = refl; kept = refl },
-)
-
-pub both_legal : Legal plan both
-unfolding plan both_8 both_14 both_15 both entry answer numbered with_file said_cancelled worker dynamic plan_of single cancelling multi remote w.last_work w.stopped w.has_halted w.halted w.line_count w.started w.failed w.has_ended w.was_killed w.kill_ordered w.was_taken w.has_spoken w.has_greeted w.launch_of w.last_line w.lines_of w.sends w.was_sent w.ever_sent w.answered w.wrote w.is_pending w.pending w.has_cancel w.line_cause w.live w.grant_of w.granted w.commit_of w.match_of a.attempt a.line_of a.fault_of a.end_of a.ended a.dropped s.standings s.settled s.all_settled s.ready s.wanted s.bound s.queued s.earliest s.free_places r.gathered o.outcome_of o.fate_of
-both_legal = (
-  (
-    both_15_legal,
-    record { scripted = refl; replied = refl; kept = refl },
-  ),
-  record { scripted = refl; replied = refl; kept = refl },
-)
+both_legal : is_legal plan both ≡ true
+unfolding plan both words
+both_legal = refl
 
 -- the other branch is not granted too
-granted_twice : Legal plan (entry 0 (call.Claim 0 Local 1 (found.Files ((120 ∷ []) ∷ []))) reply.Granted ∷ both_15) → ⊥
-unfolding plan both_8 both_14 both_15 both entry answer numbered with_file said_cancelled worker dynamic plan_of single cancelling multi remote w.last_work w.stopped w.has_halted w.halted w.line_count w.started w.failed w.has_ended w.was_killed w.kill_ordered w.was_taken w.has_spoken w.has_greeted w.launch_of w.last_line w.lines_of w.sends w.was_sent w.ever_sent w.answered w.wrote w.is_pending w.pending w.has_cancel w.line_cause w.live w.grant_of w.granted w.commit_of w.match_of a.attempt a.line_of a.fault_of a.end_of a.ended a.dropped s.standings s.settled s.all_settled s.ready s.wanted s.bound s.queued s.earliest s.free_places r.gathered o.outcome_of o.fate_of
-granted_twice h = let e : reply.Granted ≡ reply.Lost = h.1.replied in cc
+granted_twice : is_legal plan (entry 0 (call.Claim 0 Local 1 (found.Files ((120 ∷ []) ∷ []))) reply.Granted ∷ both_15) ≡ false
+unfolding plan both_15 words
+granted_twice = refl
 
 -- the first claim is not lost
-nobody_wins : Legal plan (entry 2 (call.Claim 0 Remote 1 (found.Files ((120 ∷ []) ∷ []))) reply.Lost ∷ both_14) → ⊥
-unfolding plan both_8 both_14 both_15 both entry answer numbered with_file said_cancelled worker dynamic plan_of single cancelling multi remote w.last_work w.stopped w.has_halted w.halted w.line_count w.started w.failed w.has_ended w.was_killed w.kill_ordered w.was_taken w.has_spoken w.has_greeted w.launch_of w.last_line w.lines_of w.sends w.was_sent w.ever_sent w.answered w.wrote w.is_pending w.pending w.has_cancel w.line_cause w.live w.grant_of w.granted w.commit_of w.match_of a.attempt a.line_of a.fault_of a.end_of a.ended a.dropped s.standings s.settled s.all_settled s.ready s.wanted s.bound s.queued s.earliest s.free_places r.gathered o.outcome_of o.fate_of
-nobody_wins h = let e : reply.Lost ≡ reply.Granted = h.1.replied in cc
+nobody_wins : is_legal plan (entry 2 (call.Claim 0 Remote 1 (found.Files ((120 ∷ []) ∷ []))) reply.Lost ∷ both_14) ≡ false
+unfolding plan both_14 words
+nobody_wins = refl
 
 outcome_0 : o.outcome_of plan both 0 ≡ outcome.Success Remote
-unfolding plan both_8 both_14 both_15 both entry answer numbered with_file said_cancelled worker dynamic plan_of single cancelling multi remote w.last_work w.stopped w.has_halted w.halted w.line_count w.started w.failed w.has_ended w.was_killed w.kill_ordered w.was_taken w.has_spoken w.has_greeted w.launch_of w.last_line w.lines_of w.sends w.was_sent w.ever_sent w.answered w.wrote w.is_pending w.pending w.has_cancel w.line_cause w.live w.grant_of w.granted w.commit_of w.match_of a.attempt a.line_of a.fault_of a.end_of a.ended a.dropped s.standings s.settled s.all_settled s.ready s.wanted s.bound s.queued s.earliest s.free_places r.gathered o.outcome_of o.fate_of
+unfolding plan both words
 outcome_0 = refl
 
 local_fate : o.fate_of plan both 0 Local ≡ fate.Lost
-unfolding plan both_8 both_14 both_15 both entry answer numbered with_file said_cancelled worker dynamic plan_of single cancelling multi remote w.last_work w.stopped w.has_halted w.halted w.line_count w.started w.failed w.has_ended w.was_killed w.kill_ordered w.was_taken w.has_spoken w.has_greeted w.launch_of w.last_line w.lines_of w.sends w.was_sent w.ever_sent w.answered w.wrote w.is_pending w.pending w.has_cancel w.line_cause w.live w.grant_of w.granted w.commit_of w.match_of a.attempt a.line_of a.fault_of a.end_of a.ended a.dropped s.standings s.settled s.all_settled s.ready s.wanted s.bound s.queued s.earliest s.free_places r.gathered o.outcome_of o.fate_of
+unfolding plan both words
 local_fate = refl
 
 remote_fate : o.fate_of plan both 0 Remote ≡ fate.Won
-unfolding plan both_8 both_14 both_15 both entry answer numbered with_file said_cancelled worker dynamic plan_of single cancelling multi remote w.last_work w.stopped w.has_halted w.halted w.line_count w.started w.failed w.has_ended w.was_killed w.kill_ordered w.was_taken w.has_spoken w.has_greeted w.launch_of w.last_line w.lines_of w.sends w.was_sent w.ever_sent w.answered w.wrote w.is_pending w.pending w.has_cancel w.line_cause w.live w.grant_of w.granted w.commit_of w.match_of a.attempt a.line_of a.fault_of a.end_of a.ended a.dropped s.standings s.settled s.all_settled s.ready s.wanted s.bound s.queued s.earliest s.free_places r.gathered o.outcome_of o.fate_of
+unfolding plan both words
 remote_fate = refl
 
 -- at most one branch wins, and each consumed answer has its request
 both_race : Race both
-unfolding plan both_8 both_14 both_15 both entry answer numbered with_file said_cancelled worker dynamic plan_of single cancelling multi remote w.last_work w.stopped w.has_halted w.halted w.line_count w.started w.failed w.has_ended w.was_killed w.kill_ordered w.was_taken w.has_spoken w.has_greeted w.launch_of w.last_line w.lines_of w.sends w.was_sent w.ever_sent w.answered w.wrote w.is_pending w.pending w.has_cancel w.line_cause w.live w.grant_of w.granted w.commit_of w.match_of a.attempt a.line_of a.fault_of a.end_of a.ended a.dropped s.standings s.settled s.all_settled s.ready s.wanted s.bound s.queued s.earliest s.free_places r.gathered o.outcome_of o.fate_of has_grant_of committed
+unfolding both words
 both_race = (((((((((((((((((tt, refl), refl), refl), refl), refl), refl), refl), refl), refl), refl), refl), refl), refl), refl), refl), refl), refl)
 
 both_paired : Paired plan both
-unfolding plan both_8 both_14 both_15 both entry answer numbered with_file said_cancelled worker dynamic plan_of single cancelling multi remote w.last_work w.stopped w.has_halted w.halted w.line_count w.started w.failed w.has_ended w.was_killed w.kill_ordered w.was_taken w.has_spoken w.has_greeted w.launch_of w.last_line w.lines_of w.sends w.was_sent w.ever_sent w.answered w.wrote w.is_pending w.pending w.has_cancel w.line_cause w.live w.grant_of w.granted w.commit_of w.match_of a.attempt a.line_of a.fault_of a.end_of a.ended a.dropped s.standings s.settled s.all_settled s.ready s.wanted s.bound s.queued s.earliest s.free_places r.gathered o.outcome_of o.fate_of
+unfolding plan both words
 both_paired = (((((((((((((((((tt, refl), refl), refl), refl), refl), refl), refl), refl), refl), refl), refl), refl), refl), refl), refl), refl), refl)

@@ -1,5 +1,5 @@
 -- A losing request is cancelled, and its worker goes on.
-use Rattle.std.specs.Prelude.{◌≡◌, refl, false, List, [], ◌∷◌, pos}
+use Rattle.std.specs.Prelude.{◌≡◌, refl, true, false, List, [], ◌∷◌, pos}
 use Rattle.run_plan.specs.declared.plan.Branch.TheVariants.{Local, Remote}
 use Rattle.run_plan.specs.declared.plan.Plan.{Plan}
 use Rattle.exec_journal.specs.declared.journal.Entry.{Entry}
@@ -13,14 +13,11 @@ use Rattle.exec_journal.specs.declared.call.Written.TheVariants as write
 use Rattle.exec_journal.specs.declared.reply.Reply.TheVariants as reply
 use Rattle.exec_journal.specs.declared.reply.BreachWhy.TheVariants as breach
 use Rattle.exec_journal.specs.declared.reply.Why.TheVariants as why
-use Rattle.exec_journal.specs.Words as w
-use Rattle.exec_journal.specs.Attempts as a
-use Rattle.exec_journal.specs.Settled as s
-use Rattle.exec_journal.specs.Rules as r
 use Rattle.exec_journal.specs.Outcomes as o
 use Rattle.exec_journal.specs.Rules.{rule}
-use Rattle.exec_journal.specs.Legal.{Legal}
-use Rattle.exec_journal.proofs.Parts.{entry, answer, numbered, with_file, said_cancelled, worker, dynamic, plan_of, single, cancelling, multi, remote}
+use Rattle.exec_journal.proofs.Parts.{entry, answer, with_file, said_cancelled, worker, dynamic, plan_of, cancelling, remote}
+use Rattle.journal_laws.specs.IsLegal.{is_legal}
+use Rattle.journal_laws.proofs.rows.Opened.{words}
 
 unfoldable pub plan : Plan
 unfolding plan_of dynamic cancelling remote
@@ -64,104 +61,38 @@ cancelled =
     ∷ entry 1 (call.Answer 0 answer) (reply.Late 0 Local 1)
     ∷ cancelled_16
 
-pub cancelled_8_legal : Legal plan cancelled_8
-unfolding plan cancelled_8 cancelled_14 cancelled_16 cancelled entry answer numbered with_file said_cancelled worker dynamic plan_of single cancelling multi remote w.last_work w.stopped w.has_halted w.halted w.line_count w.started w.failed w.has_ended w.was_killed w.kill_ordered w.was_taken w.has_spoken w.has_greeted w.launch_of w.last_line w.lines_of w.sends w.was_sent w.ever_sent w.answered w.wrote w.is_pending w.pending w.has_cancel w.line_cause w.live w.grant_of w.granted w.commit_of w.match_of a.attempt a.line_of a.fault_of a.end_of a.ended a.dropped s.standings s.settled s.all_settled s.ready s.wanted s.bound s.queued s.earliest s.free_places r.gathered o.outcome_of o.fate_of
-cancelled_8_legal = (
-  (
-    (
-      (
-        (
-          (
-            (
-              (
-                tt,
-                record { scripted = refl; replied = refl; kept = refl },
-              ),
-              record { scripted = refl; replied = refl; kept = refl },
-            ),
-            record { scripted = refl; replied = refl; kept = refl },
-          ),
-          record { scripted = refl; replied = refl; kept = refl },
-        ),
-        record { scripted = refl; replied = refl; kept = refl },
-      ),
-      record { scripted = refl; replied = refl; kept = refl },
-    ),
-    record { scripted = refl; replied = refl; kept = refl },
-  ),
-  record { scripted = refl; replied = refl; kept = refl },
-)
-
-pub cancelled_14_legal : Legal plan cancelled_14
-unfolding plan cancelled_8 cancelled_14 cancelled_16 cancelled entry answer numbered with_file said_cancelled worker dynamic plan_of single cancelling multi remote w.last_work w.stopped w.has_halted w.halted w.line_count w.started w.failed w.has_ended w.was_killed w.kill_ordered w.was_taken w.has_spoken w.has_greeted w.launch_of w.last_line w.lines_of w.sends w.was_sent w.ever_sent w.answered w.wrote w.is_pending w.pending w.has_cancel w.line_cause w.live w.grant_of w.granted w.commit_of w.match_of a.attempt a.line_of a.fault_of a.end_of a.ended a.dropped s.standings s.settled s.all_settled s.ready s.wanted s.bound s.queued s.earliest s.free_places r.gathered o.outcome_of o.fate_of
-cancelled_14_legal = (
-  (
-    (
-      (
-        (
-          (
-            cancelled_8_legal,
-            record { scripted = refl; replied = refl; kept = refl },
-          ),
-          record { scripted = refl; replied = refl; kept = refl },
-        ),
-        record { scripted = refl; replied = refl; kept = refl },
-      ),
-      record { scripted = refl; replied = refl; kept = refl },
-    ),
-    record { scripted = refl; replied = refl; kept = refl },
-  ),
-  record { scripted = refl; replied = refl; kept = refl },
-)
-
-pub cancelled_16_legal : Legal plan cancelled_16
-unfolding plan cancelled_8 cancelled_14 cancelled_16 cancelled entry answer numbered with_file said_cancelled worker dynamic plan_of single cancelling multi remote w.last_work w.stopped w.has_halted w.halted w.line_count w.started w.failed w.has_ended w.was_killed w.kill_ordered w.was_taken w.has_spoken w.has_greeted w.launch_of w.last_line w.lines_of w.sends w.was_sent w.ever_sent w.answered w.wrote w.is_pending w.pending w.has_cancel w.line_cause w.live w.grant_of w.granted w.commit_of w.match_of a.attempt a.line_of a.fault_of a.end_of a.ended a.dropped s.standings s.settled s.all_settled s.ready s.wanted s.bound s.queued s.earliest s.free_places r.gathered o.outcome_of o.fate_of
-cancelled_16_legal = (
-  (
-    cancelled_14_legal,
-    record { scripted = refl; replied = refl; kept = refl },
-  ),
-  record { scripted = refl; replied = refl; kept = refl },
-)
-
-pub cancelled_legal : Legal plan cancelled
-unfolding plan cancelled_8 cancelled_14 cancelled_16 cancelled entry answer numbered with_file said_cancelled worker dynamic plan_of single cancelling multi remote w.last_work w.stopped w.has_halted w.halted w.line_count w.started w.failed w.has_ended w.was_killed w.kill_ordered w.was_taken w.has_spoken w.has_greeted w.launch_of w.last_line w.lines_of w.sends w.was_sent w.ever_sent w.answered w.wrote w.is_pending w.pending w.has_cancel w.line_cause w.live w.grant_of w.granted w.commit_of w.match_of a.attempt a.line_of a.fault_of a.end_of a.ended a.dropped s.standings s.settled s.all_settled s.ready s.wanted s.bound s.queued s.earliest s.free_places r.gathered o.outcome_of o.fate_of
-cancelled_legal = (
-  (
-    cancelled_16_legal,
-    record { scripted = refl; replied = refl; kept = refl },
-  ),
-  record { scripted = refl; replied = refl; kept = refl },
-)
+cancelled_legal : is_legal plan cancelled ≡ true
+unfolding plan cancelled words
+cancelled_legal = refl
 
 -- after the grant an answer comes late
-late_matched : Legal plan (entry 1 (call.Answer 0 answer) (reply.Matched 0 Local 1) ∷ cancelled_16) → ⊥
-unfolding plan cancelled_8 cancelled_14 cancelled_16 cancelled entry answer numbered with_file said_cancelled worker dynamic plan_of single cancelling multi remote w.last_work w.stopped w.has_halted w.halted w.line_count w.started w.failed w.has_ended w.was_killed w.kill_ordered w.was_taken w.has_spoken w.has_greeted w.launch_of w.last_line w.lines_of w.sends w.was_sent w.ever_sent w.answered w.wrote w.is_pending w.pending w.has_cancel w.line_cause w.live w.grant_of w.granted w.commit_of w.match_of a.attempt a.line_of a.fault_of a.end_of a.ended a.dropped s.standings s.settled s.all_settled s.ready s.wanted s.bound s.queued s.earliest s.free_places r.gathered o.outcome_of o.fate_of
-late_matched h = let e : (reply.Matched 0 Local 1) ≡ reply.Late 0 Local 1 = h.1.replied in cc
+late_matched : is_legal plan (entry 1 (call.Answer 0 answer) (reply.Matched 0 Local 1) ∷ cancelled_16) ≡ false
+unfolding plan cancelled_16 words
+late_matched = refl
 
 -- a worker with cancellation is not killed
-killed_too : Legal plan (entry 0 call.Ask (reply.Kill 0 why.Unwanted) ∷ cancelled_14) → ⊥
-unfolding plan cancelled_8 cancelled_14 cancelled_16 cancelled entry answer numbered with_file said_cancelled worker dynamic plan_of single cancelling multi remote w.last_work w.stopped w.has_halted w.halted w.line_count w.started w.failed w.has_ended w.was_killed w.kill_ordered w.was_taken w.has_spoken w.has_greeted w.launch_of w.last_line w.lines_of w.sends w.was_sent w.ever_sent w.answered w.wrote w.is_pending w.pending w.has_cancel w.line_cause w.live w.grant_of w.granted w.commit_of w.match_of a.attempt a.line_of a.fault_of a.end_of a.ended a.dropped s.standings s.settled s.all_settled s.ready s.wanted s.bound s.queued s.earliest s.free_places r.gathered o.outcome_of o.fate_of
-killed_too h = let e : (reply.Kill 0 why.Unwanted) ≡ reply.Cancel 0 (pos 0) = h.1.replied in cc
+killed_too : is_legal plan (entry 0 call.Ask (reply.Kill 0 why.Unwanted) ∷ cancelled_14) ≡ false
+unfolding plan cancelled_14 words
+killed_too = refl
 
 -- a request is cancelled once
-cancelled_twice : Legal plan (entry 0 call.Ask (reply.Cancel 0 (pos 0)) ∷ cancelled_16) → ⊥
-unfolding plan cancelled_8 cancelled_14 cancelled_16 cancelled entry answer numbered with_file said_cancelled worker dynamic plan_of single cancelling multi remote w.last_work w.stopped w.has_halted w.halted w.line_count w.started w.failed w.has_ended w.was_killed w.kill_ordered w.was_taken w.has_spoken w.has_greeted w.launch_of w.last_line w.lines_of w.sends w.was_sent w.ever_sent w.answered w.wrote w.is_pending w.pending w.has_cancel w.line_cause w.live w.grant_of w.granted w.commit_of w.match_of a.attempt a.line_of a.fault_of a.end_of a.ended a.dropped s.standings s.settled s.all_settled s.ready s.wanted s.bound s.queued s.earliest s.free_places r.gathered o.outcome_of o.fate_of
-cancelled_twice h = let e : (reply.Cancel 0 (pos 0)) ≡ reply.Idle = h.1.replied in cc
+cancelled_twice : is_legal plan (entry 0 call.Ask (reply.Cancel 0 (pos 0)) ∷ cancelled_16) ≡ false
+unfolding plan cancelled_16 words
+cancelled_twice = refl
 
 -- an answer says cancelled only after a Cancel
 not_cancelled : rule plan cancelled_14 1 (call.Answer 0 said_cancelled) ≡ reply.Breach breach.NotCancelled
-unfolding plan cancelled_8 cancelled_14 cancelled_16 cancelled entry answer numbered with_file said_cancelled worker dynamic plan_of single cancelling multi remote w.last_work w.stopped w.has_halted w.halted w.line_count w.started w.failed w.has_ended w.was_killed w.kill_ordered w.was_taken w.has_spoken w.has_greeted w.launch_of w.last_line w.lines_of w.sends w.was_sent w.ever_sent w.answered w.wrote w.is_pending w.pending w.has_cancel w.line_cause w.live w.grant_of w.granted w.commit_of w.match_of a.attempt a.line_of a.fault_of a.end_of a.ended a.dropped s.standings s.settled s.all_settled s.ready s.wanted s.bound s.queued s.earliest s.free_places r.gathered o.outcome_of o.fate_of
+unfolding plan cancelled_14 words
 not_cancelled = refl
 
 outcome_0 : o.outcome_of plan cancelled 0 ≡ outcome.Success Remote
-unfolding plan cancelled_8 cancelled_14 cancelled_16 cancelled entry answer numbered with_file said_cancelled worker dynamic plan_of single cancelling multi remote w.last_work w.stopped w.has_halted w.halted w.line_count w.started w.failed w.has_ended w.was_killed w.kill_ordered w.was_taken w.has_spoken w.has_greeted w.launch_of w.last_line w.lines_of w.sends w.was_sent w.ever_sent w.answered w.wrote w.is_pending w.pending w.has_cancel w.line_cause w.live w.grant_of w.granted w.commit_of w.match_of a.attempt a.line_of a.fault_of a.end_of a.ended a.dropped s.standings s.settled s.all_settled s.ready s.wanted s.bound s.queued s.earliest s.free_places r.gathered o.outcome_of o.fate_of
+unfolding plan cancelled words
 outcome_0 = refl
 
 local_fate : o.fate_of plan cancelled 0 Local ≡ fate.Lost
-unfolding plan cancelled_8 cancelled_14 cancelled_16 cancelled entry answer numbered with_file said_cancelled worker dynamic plan_of single cancelling multi remote w.last_work w.stopped w.has_halted w.halted w.line_count w.started w.failed w.has_ended w.was_killed w.kill_ordered w.was_taken w.has_spoken w.has_greeted w.launch_of w.last_line w.lines_of w.sends w.was_sent w.ever_sent w.answered w.wrote w.is_pending w.pending w.has_cancel w.line_cause w.live w.grant_of w.granted w.commit_of w.match_of a.attempt a.line_of a.fault_of a.end_of a.ended a.dropped s.standings s.settled s.all_settled s.ready s.wanted s.bound s.queued s.earliest s.free_places r.gathered o.outcome_of o.fate_of
+unfolding plan cancelled words
 local_fate = refl
 
 local_fate_1 : o.fate_of plan cancelled 1 Remote ≡ fate.Idle
-unfolding plan cancelled_8 cancelled_14 cancelled_16 cancelled entry answer numbered with_file said_cancelled worker dynamic plan_of single cancelling multi remote w.last_work w.stopped w.has_halted w.halted w.line_count w.started w.failed w.has_ended w.was_killed w.kill_ordered w.was_taken w.has_spoken w.has_greeted w.launch_of w.last_line w.lines_of w.sends w.was_sent w.ever_sent w.answered w.wrote w.is_pending w.pending w.has_cancel w.line_cause w.live w.grant_of w.granted w.commit_of w.match_of a.attempt a.line_of a.fault_of a.end_of a.ended a.dropped s.standings s.settled s.all_settled s.ready s.wanted s.bound s.queued s.earliest s.free_places r.gathered o.outcome_of o.fate_of
+unfolding plan cancelled words
 local_fate_1 = refl

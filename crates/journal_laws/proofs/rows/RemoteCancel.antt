@@ -1,5 +1,5 @@
 -- An executor that has greeted is asked to cancel a losing request; one that hasn't is left to finish it.
-use Rattle.std.specs.Prelude.{◌≡◌, refl, false, List, [], ◌∷◌, pos}
+use Rattle.std.specs.Prelude.{◌≡◌, refl, true, false, List, [], ◌∷◌, pos}
 use Rattle.run_plan.specs.declared.plan.Branch.TheVariants.{Local, Remote}
 use Rattle.run_plan.specs.declared.plan.Plan.{Plan}
 use Rattle.exec_journal.specs.declared.journal.Entry.{Entry}
@@ -11,14 +11,11 @@ use Rattle.exec_journal.specs.declared.call.Written.TheVariants as write
 use Rattle.exec_journal.specs.declared.ends.Outcome.TheVariants as outcome
 use Rattle.exec_journal.specs.declared.reply.Reply.TheVariants as reply
 use Rattle.exec_journal.specs.declared.reply.StrayWhy.TheVariants as stray
-use Rattle.exec_journal.specs.Words as w
-use Rattle.exec_journal.specs.Attempts as a
-use Rattle.exec_journal.specs.Settled as s
-use Rattle.exec_journal.specs.Rules as r
 use Rattle.exec_journal.specs.Outcomes as o
 use Rattle.exec_journal.specs.Rules.{rule}
-use Rattle.exec_journal.specs.Legal.{Legal}
 use Rattle.exec_journal.proofs.Parts.{entry, answer, greeting, cancelled_1, dynamic, plan_of, single, remote}
+use Rattle.journal_laws.specs.IsLegal.{is_legal}
+use Rattle.journal_laws.proofs.rows.Opened.{words}
 
 unfoldable pub plan : Plan
 unfolding plan_of dynamic single remote
@@ -71,47 +68,35 @@ silent_14 =
     ∷ entry 1 (call.Answer 0 answer) (reply.Matched 0 Local 1)
     ∷ remote_10
 
-pub remote_10_legal : Legal plan remote_10
-unfolding plan remote_10 greeted_11 greeted_15 greeted_18 silent_14 entry answer greeting cancelled_1 dynamic plan_of single remote w.last_work w.stopped w.has_halted w.halted w.line_count w.started w.failed w.has_ended w.was_killed w.kill_ordered w.was_taken w.has_spoken w.has_greeted w.launch_of w.last_line w.lines_of w.sends w.was_sent w.ever_sent w.answered w.wrote w.is_pending w.pending w.has_cancel w.line_cause w.live w.grant_of w.granted w.commit_of w.match_of a.attempt a.line_of a.fault_of a.end_of a.ended a.dropped s.standings s.settled s.all_settled s.ready s.wanted s.bound s.queued s.earliest s.free_places r.gathered o.outcome_of o.fate_of
-remote_10_legal = ((((((((((tt, record { scripted = refl; replied = refl; kept = refl }), record { scripted = refl; replied = refl; kept = refl }), record { scripted = refl; replied = refl; kept = refl }), record { scripted = refl; replied = refl; kept = refl }), record { scripted = refl; replied = refl; kept = refl }), record { scripted = refl; replied = refl; kept = refl }), record { scripted = refl; replied = refl; kept = refl }), record { scripted = refl; replied = refl; kept = refl }), record { scripted = refl; replied = refl; kept = refl }), record { scripted = refl; replied = refl; kept = refl })
+greeted_18_legal : is_legal plan greeted_18 ≡ true
+unfolding plan greeted_18 words
+greeted_18_legal = refl
 
-pub greeted_11_legal : Legal plan greeted_11
-unfolding plan remote_10 greeted_11 greeted_15 greeted_18 silent_14 entry answer greeting cancelled_1 dynamic plan_of single remote w.last_work w.stopped w.has_halted w.halted w.line_count w.started w.failed w.has_ended w.was_killed w.kill_ordered w.was_taken w.has_spoken w.has_greeted w.launch_of w.last_line w.lines_of w.sends w.was_sent w.ever_sent w.answered w.wrote w.is_pending w.pending w.has_cancel w.line_cause w.live w.grant_of w.granted w.commit_of w.match_of a.attempt a.line_of a.fault_of a.end_of a.ended a.dropped s.standings s.settled s.all_settled s.ready s.wanted s.bound s.queued s.earliest s.free_places r.gathered o.outcome_of o.fate_of
-greeted_11_legal = (remote_10_legal, record { scripted = refl; replied = refl; kept = refl })
-
-pub greeted_15_legal : Legal plan greeted_15
-unfolding plan remote_10 greeted_11 greeted_15 greeted_18 silent_14 entry answer greeting cancelled_1 dynamic plan_of single remote w.last_work w.stopped w.has_halted w.halted w.line_count w.started w.failed w.has_ended w.was_killed w.kill_ordered w.was_taken w.has_spoken w.has_greeted w.launch_of w.last_line w.lines_of w.sends w.was_sent w.ever_sent w.answered w.wrote w.is_pending w.pending w.has_cancel w.line_cause w.live w.grant_of w.granted w.commit_of w.match_of a.attempt a.line_of a.fault_of a.end_of a.ended a.dropped s.standings s.settled s.all_settled s.ready s.wanted s.bound s.queued s.earliest s.free_places r.gathered o.outcome_of o.fate_of
-greeted_15_legal = ((((greeted_11_legal, record { scripted = refl; replied = refl; kept = refl }), record { scripted = refl; replied = refl; kept = refl }), record { scripted = refl; replied = refl; kept = refl }), record { scripted = refl; replied = refl; kept = refl })
-
-pub greeted_18_legal : Legal plan greeted_18
-unfolding plan remote_10 greeted_11 greeted_15 greeted_18 silent_14 entry answer greeting cancelled_1 dynamic plan_of single remote w.last_work w.stopped w.has_halted w.halted w.line_count w.started w.failed w.has_ended w.was_killed w.kill_ordered w.was_taken w.has_spoken w.has_greeted w.launch_of w.last_line w.lines_of w.sends w.was_sent w.ever_sent w.answered w.wrote w.is_pending w.pending w.has_cancel w.line_cause w.live w.grant_of w.granted w.commit_of w.match_of a.attempt a.line_of a.fault_of a.end_of a.ended a.dropped s.standings s.settled s.all_settled s.ready s.wanted s.bound s.queued s.earliest s.free_places r.gathered o.outcome_of o.fate_of
-greeted_18_legal = (((greeted_15_legal, record { scripted = refl; replied = refl; kept = refl }), record { scripted = refl; replied = refl; kept = refl }), record { scripted = refl; replied = refl; kept = refl })
-
-pub silent_14_legal : Legal plan silent_14
-unfolding plan remote_10 greeted_11 greeted_15 greeted_18 silent_14 entry answer greeting cancelled_1 dynamic plan_of single remote w.last_work w.stopped w.has_halted w.halted w.line_count w.started w.failed w.has_ended w.was_killed w.kill_ordered w.was_taken w.has_spoken w.has_greeted w.launch_of w.last_line w.lines_of w.sends w.was_sent w.ever_sent w.answered w.wrote w.is_pending w.pending w.has_cancel w.line_cause w.live w.grant_of w.granted w.commit_of w.match_of a.attempt a.line_of a.fault_of a.end_of a.ended a.dropped s.standings s.settled s.all_settled s.ready s.wanted s.bound s.queued s.earliest s.free_places r.gathered o.outcome_of o.fate_of
-silent_14_legal = ((((remote_10_legal, record { scripted = refl; replied = refl; kept = refl }), record { scripted = refl; replied = refl; kept = refl }), record { scripted = refl; replied = refl; kept = refl }), record { scripted = refl; replied = refl; kept = refl })
+silent_14_legal : is_legal plan silent_14 ≡ true
+unfolding plan silent_14 words
+silent_14_legal = refl
 
 -- without the greeting the next request is sent
 sends_on : rule plan silent_14 2 call.Ask ≡ reply.Send 1 (pos 2) 1 Remote 1
-unfolding plan remote_10 greeted_11 greeted_15 greeted_18 silent_14 entry answer greeting cancelled_1 dynamic plan_of single remote w.last_work w.stopped w.has_halted w.halted w.line_count w.started w.failed w.has_ended w.was_killed w.kill_ordered w.was_taken w.has_spoken w.has_greeted w.launch_of w.last_line w.lines_of w.sends w.was_sent w.ever_sent w.answered w.wrote w.is_pending w.pending w.has_cancel w.line_cause w.live w.grant_of w.granted w.commit_of w.match_of a.attempt a.line_of a.fault_of a.end_of a.ended a.dropped s.standings s.settled s.all_settled s.ready s.wanted s.bound s.queued s.earliest s.free_places r.gathered o.outcome_of o.fate_of
+unfolding plan silent_14 words
 sends_on = refl
 
 -- a second greeting is an answer that nothing asked for
 greets_once : rule plan greeted_11 3 (call.Answer 1 greeting) ≡ reply.Stray stray.Never
-unfolding plan remote_10 greeted_11 greeted_15 greeted_18 silent_14 entry answer greeting cancelled_1 dynamic plan_of single remote w.last_work w.stopped w.has_halted w.halted w.line_count w.started w.failed w.has_ended w.was_killed w.kill_ordered w.was_taken w.has_spoken w.has_greeted w.launch_of w.last_line w.lines_of w.sends w.was_sent w.ever_sent w.answered w.wrote w.is_pending w.pending w.has_cancel w.line_cause w.live w.grant_of w.granted w.commit_of w.match_of a.attempt a.line_of a.fault_of a.end_of a.ended a.dropped s.standings s.settled s.all_settled s.ready s.wanted s.bound s.queued s.earliest s.free_places r.gathered o.outcome_of o.fate_of
+unfolding plan greeted_11 words
 greets_once = refl
 
 -- after it the next request goes out on the same line
 sends_after : rule plan greeted_18 2 call.Ask ≡ reply.Send 1 (pos 2) 1 Remote 1
-unfolding plan remote_10 greeted_11 greeted_15 greeted_18 silent_14 entry answer greeting cancelled_1 dynamic plan_of single remote w.last_work w.stopped w.has_halted w.halted w.line_count w.started w.failed w.has_ended w.was_killed w.kill_ordered w.was_taken w.has_spoken w.has_greeted w.launch_of w.last_line w.lines_of w.sends w.was_sent w.ever_sent w.answered w.wrote w.is_pending w.pending w.has_cancel w.line_cause w.live w.grant_of w.granted w.commit_of w.match_of a.attempt a.line_of a.fault_of a.end_of a.ended a.dropped s.standings s.settled s.all_settled s.ready s.wanted s.bound s.queued s.earliest s.free_places r.gathered o.outcome_of o.fate_of
+unfolding plan greeted_18 words
 sends_after = refl
 
 -- a local line greets nobody
 no_greeting : rule plan greeted_11 1 (call.Answer 0 greeting) ≡ reply.Matched 0 Local 1
-unfolding plan remote_10 greeted_11 greeted_15 greeted_18 silent_14 entry answer greeting cancelled_1 dynamic plan_of single remote w.last_work w.stopped w.has_halted w.halted w.line_count w.started w.failed w.has_ended w.was_killed w.kill_ordered w.was_taken w.has_spoken w.has_greeted w.launch_of w.last_line w.lines_of w.sends w.was_sent w.ever_sent w.answered w.wrote w.is_pending w.pending w.has_cancel w.line_cause w.live w.grant_of w.granted w.commit_of w.match_of a.attempt a.line_of a.fault_of a.end_of a.ended a.dropped s.standings s.settled s.all_settled s.ready s.wanted s.bound s.queued s.earliest s.free_places r.gathered o.outcome_of o.fate_of
+unfolding plan greeted_11 words
 no_greeting = refl
 
 -- the action is done by its local branch
 outcome_0 : o.outcome_of plan greeted_18 0 ≡ outcome.Success Local
-unfolding plan remote_10 greeted_11 greeted_15 greeted_18 silent_14 entry answer greeting cancelled_1 dynamic plan_of single remote w.last_work w.stopped w.has_halted w.halted w.line_count w.started w.failed w.has_ended w.was_killed w.kill_ordered w.was_taken w.has_spoken w.has_greeted w.launch_of w.last_line w.lines_of w.sends w.was_sent w.ever_sent w.answered w.wrote w.is_pending w.pending w.has_cancel w.line_cause w.live w.grant_of w.granted w.commit_of w.match_of a.attempt a.line_of a.fault_of a.end_of a.ended a.dropped s.standings s.settled s.all_settled s.ready s.wanted s.bound s.queued s.earliest s.free_places r.gathered o.outcome_of o.fate_of
+unfolding plan greeted_18 words
 outcome_0 = refl

@@ -1,5 +1,5 @@
 -- Without cancellation the worker of a losing request is killed.
-use Rattle.std.specs.Prelude.{◌≡◌, refl, false, List, [], ◌∷◌, pos}
+use Rattle.std.specs.Prelude.{◌≡◌, refl, true, false, List, [], ◌∷◌, pos}
 use Rattle.run_plan.specs.declared.plan.Branch.TheVariants.{Local, Remote}
 use Rattle.run_plan.specs.declared.plan.Plan.{Plan}
 use Rattle.exec_journal.specs.declared.journal.Entry.{Entry}
@@ -10,14 +10,9 @@ use Rattle.exec_journal.specs.declared.call.Started.TheVariants as start
 use Rattle.exec_journal.specs.declared.call.Written.TheVariants as write
 use Rattle.exec_journal.specs.declared.reply.Reply.TheVariants as reply
 use Rattle.exec_journal.specs.declared.reply.Why.TheVariants as why
-use Rattle.exec_journal.specs.Words as w
-use Rattle.exec_journal.specs.Attempts as a
-use Rattle.exec_journal.specs.Settled as s
-use Rattle.exec_journal.specs.Rules as r
-use Rattle.exec_journal.specs.Outcomes as o
-use Rattle.exec_journal.specs.Rules.{rule}
-use Rattle.exec_journal.specs.Legal.{Legal}
-use Rattle.exec_journal.proofs.Parts.{entry, answer, numbered, with_file, said_cancelled, worker, dynamic, plan_of, single, cancelling, multi, remote}
+use Rattle.exec_journal.proofs.Parts.{entry, with_file, worker, dynamic, plan_of, single, remote}
+use Rattle.journal_laws.specs.IsLegal.{is_legal}
+use Rattle.journal_laws.proofs.rows.Opened.{words}
 
 unfoldable pub plain_plan : Plan
 unfolding plan_of dynamic single remote
@@ -53,64 +48,11 @@ killed =
     entry 0 call.Ask (reply.Kill 0 why.Unwanted)
     ∷ killed_14
 
-pub killed_8_legal : Legal plain_plan killed_8
-unfolding plain_plan killed_8 killed_14 killed entry answer numbered with_file said_cancelled worker dynamic plan_of single cancelling multi remote w.last_work w.stopped w.has_halted w.halted w.line_count w.started w.failed w.has_ended w.was_killed w.kill_ordered w.was_taken w.has_spoken w.has_greeted w.launch_of w.last_line w.lines_of w.sends w.was_sent w.ever_sent w.answered w.wrote w.is_pending w.pending w.has_cancel w.line_cause w.live w.grant_of w.granted w.commit_of w.match_of a.attempt a.line_of a.fault_of a.end_of a.ended a.dropped s.standings s.settled s.all_settled s.ready s.wanted s.bound s.queued s.earliest s.free_places r.gathered o.outcome_of o.fate_of
-killed_8_legal = (
-  (
-    (
-      (
-        (
-          (
-            (
-              (
-                tt,
-                record { scripted = refl; replied = refl; kept = refl },
-              ),
-              record { scripted = refl; replied = refl; kept = refl },
-            ),
-            record { scripted = refl; replied = refl; kept = refl },
-          ),
-          record { scripted = refl; replied = refl; kept = refl },
-        ),
-        record { scripted = refl; replied = refl; kept = refl },
-      ),
-      record { scripted = refl; replied = refl; kept = refl },
-    ),
-    record { scripted = refl; replied = refl; kept = refl },
-  ),
-  record { scripted = refl; replied = refl; kept = refl },
-)
-
-pub killed_14_legal : Legal plain_plan killed_14
-unfolding plain_plan killed_8 killed_14 killed entry answer numbered with_file said_cancelled worker dynamic plan_of single cancelling multi remote w.last_work w.stopped w.has_halted w.halted w.line_count w.started w.failed w.has_ended w.was_killed w.kill_ordered w.was_taken w.has_spoken w.has_greeted w.launch_of w.last_line w.lines_of w.sends w.was_sent w.ever_sent w.answered w.wrote w.is_pending w.pending w.has_cancel w.line_cause w.live w.grant_of w.granted w.commit_of w.match_of a.attempt a.line_of a.fault_of a.end_of a.ended a.dropped s.standings s.settled s.all_settled s.ready s.wanted s.bound s.queued s.earliest s.free_places r.gathered o.outcome_of o.fate_of
-killed_14_legal = (
-  (
-    (
-      (
-        (
-          (
-            killed_8_legal,
-            record { scripted = refl; replied = refl; kept = refl },
-          ),
-          record { scripted = refl; replied = refl; kept = refl },
-        ),
-        record { scripted = refl; replied = refl; kept = refl },
-      ),
-      record { scripted = refl; replied = refl; kept = refl },
-    ),
-    record { scripted = refl; replied = refl; kept = refl },
-  ),
-  record { scripted = refl; replied = refl; kept = refl },
-)
-
-pub killed_legal : Legal plain_plan killed
-unfolding plain_plan killed_8 killed_14 killed entry answer numbered with_file said_cancelled worker dynamic plan_of single cancelling multi remote w.last_work w.stopped w.has_halted w.halted w.line_count w.started w.failed w.has_ended w.was_killed w.kill_ordered w.was_taken w.has_spoken w.has_greeted w.launch_of w.last_line w.lines_of w.sends w.was_sent w.ever_sent w.answered w.wrote w.is_pending w.pending w.has_cancel w.line_cause w.live w.grant_of w.granted w.commit_of w.match_of a.attempt a.line_of a.fault_of a.end_of a.ended a.dropped s.standings s.settled s.all_settled s.ready s.wanted s.bound s.queued s.earliest s.free_places r.gathered o.outcome_of o.fate_of
-killed_legal = (
-  killed_14_legal,
-  record { scripted = refl; replied = refl; kept = refl },
-)
+killed_legal : is_legal plain_plan killed ≡ true
+unfolding plain_plan killed words
+killed_legal = refl
 
 -- a worker without cancellation gets no Cancel
-cancelled_instead : Legal plain_plan (entry 0 call.Ask (reply.Cancel 0 (pos 0)) ∷ killed_14) → ⊥
-unfolding plain_plan killed_8 killed_14 killed entry answer numbered with_file said_cancelled worker dynamic plan_of single cancelling multi remote w.last_work w.stopped w.has_halted w.halted w.line_count w.started w.failed w.has_ended w.was_killed w.kill_ordered w.was_taken w.has_spoken w.has_greeted w.launch_of w.last_line w.lines_of w.sends w.was_sent w.ever_sent w.answered w.wrote w.is_pending w.pending w.has_cancel w.line_cause w.live w.grant_of w.granted w.commit_of w.match_of a.attempt a.line_of a.fault_of a.end_of a.ended a.dropped s.standings s.settled s.all_settled s.ready s.wanted s.bound s.queued s.earliest s.free_places r.gathered o.outcome_of o.fate_of
-cancelled_instead h = let e : (reply.Cancel 0 (pos 0)) ≡ reply.Kill 0 why.Unwanted = h.1.replied in cc
+cancelled_instead : is_legal plain_plan (entry 0 call.Ask (reply.Cancel 0 (pos 0)) ∷ killed_14) ≡ false
+unfolding plain_plan killed_14 words
+cancelled_instead = refl
