@@ -19,7 +19,7 @@ pub on_ok : {A E : Type 0} (r : Result A E) (P Q : Type 0) → (P → Q) → OnO
 on_ok (Result.Ok a) P Q f p = f p
 on_ok (Result.Err e) P Q f p = p
 
-spelled_more : {M : Type 0} (Spells : List ℕ → M → Type 0) (frames : List (List ℕ)) (messages : List M) (frame : List ℕ) (m : M) → AreSpelled Spells frames messages → Spells frame m → AreSpelled Spells (frames ++ frame ∷ []) (messages ++ m ∷ [])
+pub spelled_more : {M : Type 0} (Spells : List ℕ → M → Type 0) (frames : List (List ℕ)) (messages : List M) (frame : List ℕ) (m : M) → AreSpelled Spells frames messages → Spells frame m → AreSpelled Spells (frames ++ frame ∷ []) (messages ++ m ∷ [])
 spelled_more Spells [] [] frame m all one = (one, tt)
 spelled_more Spells [] (n ∷ ns) frame m all one = absurd all
 spelled_more Spells (f ∷ fs) [] frame m all one = absurd all
@@ -37,13 +37,13 @@ pub record IsCut (form : Form) : Type 0 where
   pub last : (stream : List ℕ) (frames : List (List ℕ)) (frame rest : List ℕ) → form.Holds largest stream (frames ++ frame ∷ []) rest → (mid : List ℕ) × (after : List ℕ) × form.Holds largest stream frames mid × (form.front largest mid ≡ Whole frame after)
 
 module _ (form : Form) (cut : IsCut form) {M : Type 0} (Spells : List ℕ → M → Type 0) (joined : List M → List Answer) where
-  pub heard_new : (s : Held) → joined [] ≡ [] → StandsFor form [] [] s → s.limit ≡ largest → s.fault ≡ None → Heard form Spells joined [] [] s
+  abbrev pub heard_new : (s : Held) → joined [] ≡ [] → StandsFor form [] [] s → s.limit ≡ largest → s.fault ≡ None → Heard form Spells joined [] [] s
   heard_new s none stands limit fault = record { frames = []; messages = []; stands = stands; limit = limit; no_fault = fault; spelled = tt; joins = none }
 
   pub whole_new : joined [] ≡ [] → IsWhole form Spells joined [] []
   whole_new none = ([], record { frames = []; messages = []; holds = cut.nothing; spelled = tt; joins = none }, cut.unfinished)
 
-  pub heard_piece : (fed piece : List ℕ) (answers : List Answer) (s s' : Held) → ((fed : List ℕ) (given : List (List ℕ)) → StandsFor form fed given s → StandsFor form (fed_more s.fault fed piece) given s')
+  abbrev pub heard_piece : (fed piece : List ℕ) (answers : List Answer) (s s' : Held) → ((fed : List ℕ) (given : List (List ℕ)) → StandsFor form fed given s → StandsFor form (fed_more s.fault fed piece) given s')
       → s'.limit ≡ s.limit → s'.fault ≡ s.fault → Heard form Spells joined fed answers s → Heard form Spells joined (fed ++ piece) answers s'
   heard_piece fed piece answers s s' step limit fault h = record {
     frames = h.frames;
@@ -65,11 +65,10 @@ module _ (form : Form) (cut : IsCut form) {M : Type 0} (Spells : List ℕ → M 
   first_more fed more answers b = (b.0 ++ more, record { frames = b.1.frames; messages = b.1.messages; holds = cut.more fed b.1.frames b.0 more b.1.holds; spelled = b.1.spelled; joins = b.1.joins })
 
   -- nothing whole is left: the cutter is another one by then
-  pub heard_all : (fed : List ℕ) (answers : List Answer) (s s' : Held) (h : Heard form Spells joined fed answers s) → StandsFor form fed h.frames s' → s'.limit ≡ s.limit → s'.fault ≡ s.fault → FramesOf form fed s.limit h.frames s'.rest
+  abbrev pub heard_all : (fed : List ℕ) (answers : List Answer) (s s' : Held) (h : Heard form Spells joined fed answers s) → StandsFor form fed h.frames s' → s'.limit ≡ s.limit → s'.fault ≡ s.fault → FramesOf form fed s.limit h.frames s'.rest
       → Heard form Spells joined fed answers s' × IsWhole form Spells joined fed answers
   heard_all fed answers s s' h stands limit fault f =
-      let holds = subst (λ (n : ℕ). form.Holds n fed h.frames s'.rest) h.limit f.holds in
-      (
+      let holds = subst (λ (n : ℕ). form.Holds n fed h.frames s'.rest) h.limit f.holds in (
         record { frames = h.frames; messages = h.messages; stands = stands; limit = limit ∙ h.limit; no_fault = fault ∙ h.no_fault; spelled = h.spelled; joins = h.joins },
         (s'.rest, record { frames = h.frames; messages = h.messages; holds = holds; spelled = h.spelled; joins = h.joins }, ap (λ (n : ℕ). form.front n s'.rest) (sym h.limit) ∙ f.unfinished),
       )
@@ -82,7 +81,7 @@ module _ (form : Form) (cut : IsCut form) {M : Type 0} (Spells : List ℕ → M 
   )
 
   -- one frame more: it spells a message, by which these answers come
-  pub heard_frame : (fed frame : List ℕ) (answers more : List Answer) (s s' : Held) (m : M) (h : Heard form Spells joined fed answers s) → StandsFor form fed (h.frames ++ frame ∷ []) s' → s'.limit ≡ s.limit → s'.fault ≡ s.fault
+  abbrev pub heard_frame : (fed frame : List ℕ) (answers more : List Answer) (s s' : Held) (m : M) (h : Heard form Spells joined fed answers s) → StandsFor form fed (h.frames ++ frame ∷ []) s' → s'.limit ≡ s.limit → s'.fault ≡ s.fault
       → Spells frame m → joined (h.messages ++ m ∷ []) ≡ joined h.messages ++ more → Heard form Spells joined fed (answers ++ more) s'
   heard_frame fed frame answers more s s' m h stands limit fault spells joins = record {
     frames = h.frames ++ frame ∷ [];

@@ -1,5 +1,5 @@
 -- What the bytes of a line say, by its speech.
-use Rattle.std.specs.Prelude.{◌≡◌, ℕ, List, [], ◌∷◌, ◌++◌, map, None}
+use Rattle.std.specs.Prelude.{◌≡◌, ℕ, List, [], ◌∷◌, ◌++◌, map, reverse, None}
 use Rattle.delimited_framing.specs.Front.{Form}
 use Rattle.delimited_framing.specs.Frame.{delimited_form}
 use Rattle.delimited_framing.specs.Splitter.{Held, StandsFor}
@@ -8,14 +8,17 @@ use Rattle.json_framing.specs.Lines.{line_form}
 use Rattle.json_framing.specs.declared.cutter.Framing.{Framing}
 use Rattle.json_framing.specs.declared.cutter.Framing.TheVariants as framing
 use Rattle.exec_journal.specs.declared.call.Answer.{Answer}
-use Rattle.exec_journal.specs.declared.plan.Speech.{Speech}
-use Rattle.exec_journal.specs.declared.plan.Speech.TheVariants as speech
+use Rattle.run_plan.specs.declared.plan.Speech.{Speech}
+use Rattle.run_plan.specs.declared.plan.Speech.TheVariants as speech
 use Rattle.wire_fields.specs.Message.{AreSpelled}
 use Rattle.wire_messages.specs.Response.{SpellsResponse}
+use Rattle.remote_messages.specs.JobResult.{SpellsJobResult}
+use Rattle.remote_branch.specs.Parts.{StandsFor as IsLeftBy}
+use Rattle.remote_branch.specs.declared.parts.Waiting.{Waiting}
 use Rattle.answer_reader.specs.declared.reader.AnswerReader.{AnswerReader}
 use Rattle.answer_reader.specs.declared.reader.Spoken.{Spoken}
 use Rattle.answer_reader.specs.declared.reader.Spoken.TheVariants as spoken
-use Rattle.answer_reader.specs.Answers.{of_response, SpellsLine}
+use Rattle.answer_reader.specs.Answers.{of_response, SpellsLine, results_say, ReadsResult}
 use Rattle.answer_reader.specs.Reading.{largest, BeginsWith, IsWhole, IsBroken, Reads}
 
 abbrev pub framing_for : Speech → Framing
@@ -23,35 +26,29 @@ framing_for speech.Proto = framing.Delimited
 framing_for speech.Json = framing.Lines
 framing_for speech.Remote = framing.Delimited
 
--- results of an executor are to come
-abbrev pub IsSpoken : Speech → Type 0
-IsSpoken speech.Proto = Unit {0}
-IsSpoken speech.Json = Unit {0}
-IsSpoken speech.Remote = ⊥
-
 -- the bytes begin with messages that say these answers
 unfoldable pub SaysFirst : Speech → List ℕ → List Answer → Type 0
 SaysFirst speech.Proto bytes answers = BeginsWith delimited_form SpellsResponse (map of_response) bytes answers
 SaysFirst speech.Json bytes answers = BeginsWith line_form SpellsLine (map of_response) bytes answers
-SaysFirst speech.Remote bytes answers = ⊥
+SaysFirst speech.Remote bytes answers = BeginsWith delimited_form SpellsJobResult results_say bytes answers
 
 -- these are all that they say, and nothing is wrong with what is left
 unfoldable pub SaysAll : Speech → List ℕ → List Answer → Type 0
 SaysAll speech.Proto bytes answers = IsWhole delimited_form SpellsResponse (map of_response) bytes answers
 SaysAll speech.Json bytes answers = IsWhole line_form SpellsLine (map of_response) bytes answers
-SaysAll speech.Remote bytes answers = ⊥
+SaysAll speech.Remote bytes answers = IsWhole delimited_form SpellsJobResult results_say bytes answers
 
 -- these are all that they say before what spells nothing
 unfoldable pub SaysBadly : Speech → List ℕ → List Answer → Type 0
 SaysBadly speech.Proto bytes answers = IsBroken delimited_form SpellsResponse (map of_response) bytes answers
 SaysBadly speech.Json bytes answers = IsBroken line_form SpellsLine (map of_response) bytes answers
-SaysBadly speech.Remote bytes answers = ⊥
+SaysBadly speech.Remote bytes answers = IsBroken delimited_form SpellsJobResult results_say bytes answers
 
--- what one frame says in each speech
-abbrev pub ReadsAs : Speech → List ℕ → Spoken → Type 0
-ReadsAs speech.Proto frame out = Reads SpellsResponse of_response frame out
-ReadsAs speech.Json frame out = Reads SpellsLine of_response frame out
-ReadsAs speech.Remote frame out = Unit {0}
+-- what one frame says in each speech, and what waits of an executor's results before and after it
+abbrev pub ReadsAs : Speech → List ℕ → List Waiting → Spoken → List Waiting → Type 0
+ReadsAs speech.Proto frame old out new = Reads SpellsResponse of_response frame out
+ReadsAs speech.Json frame old out new = Reads SpellsLine of_response frame out
+ReadsAs speech.Remote frame old out new = ReadsResult frame old out new
 
 -- ---- readers
 
@@ -65,14 +62,19 @@ pub record Heard (form : Form) {M : Type 0} (Spells : List ℕ → M → Type 0)
   pub spelled : AreSpelled Spells frames messages
   pub joins : joined messages ≡ answers
 
-abbrev pub HearsAs : Speech → List ℕ → List Answer → Held → Type 0
-HearsAs speech.Proto fed answers s = Heard delimited_form SpellsResponse (map of_response) fed answers s
-HearsAs speech.Json fed answers s = Heard line_form SpellsLine (map of_response) fed answers s
-HearsAs speech.Remote fed answers s = ⊥
+-- and so much waits of the results that came in parts
+pub record HeardResults (fed : List ℕ) (answers : List Answer) (s : Held) (waiting : List Waiting) : Type 0 where
+  pub heard : Heard delimited_form SpellsJobResult results_say fed answers s
+  pub left : IsLeftBy waiting (reverse heard.messages)
+
+abbrev pub HearsAs : Speech → List ℕ → List Answer → Held → List Waiting → Type 0
+HearsAs speech.Proto fed answers s waiting = Heard delimited_form SpellsResponse (map of_response) fed answers s
+HearsAs speech.Json fed answers s waiting = Heard line_form SpellsLine (map of_response) fed answers s
+HearsAs speech.Remote fed answers s waiting = HeardResults fed answers s waiting
 
 -- the reader, of this speech, was fed these bytes, and has given these answers
 unfoldable pub Hears : Speech → List ℕ → List Answer → AnswerReader → Type 0
-Hears s fed answers r = (r.speech ≡ s) × (framing_of r.cutter ≡ framing_for s) × HearsAs s fed answers (held r.cutter)
+Hears s fed answers r = (r.speech ≡ s) × (framing_of r.cutter ≡ framing_for s) × HearsAs s fed answers (held r.cutter) r.parts
 
 -- what it gives next
 abbrev pub SaysNext : Speech → List ℕ → List Answer → Spoken → AnswerReader → Type 0

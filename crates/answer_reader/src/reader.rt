@@ -1,14 +1,16 @@
 // The reader of a line.
 ghost use Rattle.std.specs.Prelude.{◌≡◌, ◌++◌, List, ℕ, [], IfOk, OnOk};
-ghost use Rattle.exec_journal.specs.declared.plan.Speech.{Speech};
+ghost use Rattle.run_plan.specs.declared.plan.Speech.{Speech};
 ghost use Rattle.exec_journal.specs.declared.call.Answer.{Answer};
-ghost use Rattle.answer_reader.specs.Says.{framing_for, Hears, SaysNext, IsSpoken, SaysAll};
+ghost use Rattle.answer_reader.specs.Says.{framing_for, Hears, SaysNext, SaysAll};
 
 use crate::answers::spoken_by;
 use delimited_framing::Next;
-use exec_journal::{Answer, Speech};
+use exec_journal::Answer;
 use json_framing::{Cutter, Framing};
 use plain_values::NoMemory;
+use remote_branch::Parts;
+use run_plan::Speech;
 use std::alloc::Global;
 
 /// The largest message, in bytes.
@@ -32,18 +34,19 @@ pub enum Spoken {
 pub struct AnswerReader {
     cutter: Cutter,
     speech: Speech,
+    parts: Parts,
 }
 
 impl AnswerReader {
     /// A reader of a line that speaks so.
     pub fn new(alloc: Global, speech: Speech) -> AnswerReader
-        requires { IsSpoken speech }
         ensures hears { Hears speech [] [] result }
         ensures waits { SaysAll speech [] [] }
     {
         AnswerReader {
             cutter: Cutter::new(alloc, framing_of(speech), LARGEST),
             speech,
+            parts: Parts::new(alloc),
         }
     }
 
@@ -71,7 +74,7 @@ impl AnswerReader {
         match self.cutter.next()? {
             Next::NotYet => Ok(Spoken::NotYet),
             Next::Bad(_) => Ok(Spoken::Bad),
-            Next::Frame(frame) => spoken_by(alloc, self.speech, &frame),
+            Next::Frame(frame) => spoken_by(alloc, self.speech, &mut self.parts, &frame),
         }
     }
 }
