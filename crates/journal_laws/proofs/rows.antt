@@ -6,3 +6,5 @@ pub mod BothAnswer
 pub mod Cancelled
 pub mod Unwanted
 pub mod RemoteCancel
+pub mod TwoBoxed
+pub mod Broken
