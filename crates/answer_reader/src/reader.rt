@@ -57,7 +57,8 @@ impl AnswerReader {
     /// `NoMemory`.
     pub fn feed(&mut self, piece: &[u8]) -> Result<(), NoMemory>
         ensures ok { OnOk result ((speech : Speech) (fed : List ℕ) (answers : List Answer)
-            → Hears speech fed answers self.old → Hears speech (fed ++ piece.now) answers self.new) }
+            → Hears speech fed answers self.old
+            → Hears speech (fed ++ piece.now) answers self.new) }
     {
         self.cutter.feed(piece)
     }
@@ -69,7 +70,8 @@ impl AnswerReader {
     /// `NoMemory`.
     pub fn next(&mut self, alloc: Global) -> Result<Spoken, NoMemory>
         ensures ok { IfOk result (λ spoken. (speech : Speech) (fed : List ℕ) (answers : List Answer)
-            → Hears speech fed answers self.old → SaysNext speech fed answers spoken self.new) }
+            → Hears speech fed answers self.old
+            → SaysNext speech fed answers spoken self.new) }
     {
         match self.cutter.next()? {
             Next::NotYet => Ok(Spoken::NotYet),

@@ -45,7 +45,8 @@ impl Cutter {
     pub fn feed(&mut self, piece: &[u8]) -> Result<(), NoMemory>
         ensures ok { OnOk result ((fed : List ℕ) (given : List (List ℕ))
             → StandsFor (form_of (framing_of self.old)) fed given (held self.old)
-            → StandsFor (form_of (framing_of self.old)) (fed_more (held self.old).fault fed piece.now) given (held self.new)) }
+            → StandsFor (form_of (framing_of self.old))
+            (fed_more (held self.old).fault fed piece.now) given (held self.new)) }
         ensures after_bad { IfSome (held self.old).fault (λ _. result ≡ Ok tt) }
         ensures same { IsSame self.old self.new × ((held self.new).fault ≡ (held self.old).fault) }
         ensures err { OnErr result (held self.new ≡ held self.old) }
@@ -65,7 +66,8 @@ impl Cutter {
         ensures after_bad { IfSome (held self.old).fault (λ fault. result ≡ Ok (Next.Bad fault)) }
         ensures ok { IfOk result (λ next. (fed : List ℕ) (given : List (List ℕ))
             → StandsFor (form_of (framing_of self.old)) fed given (held self.old)
-            → Gives (form_of (framing_of self.old)) fed given (held self.old) next (held self.new)) }
+            → Gives (form_of (framing_of self.old)) fed given
+            (held self.old) next (held self.new)) }
         ensures same { framing_of self.new ≡ framing_of self.old }
         ensures err { OnErr result (held self.new ≡ held self.old) }
     {
