@@ -25,3 +25,4 @@ pub mod Given
 pub mod Greeted
 pub mod Faulty
 pub mod Decided
+pub mod Debts
