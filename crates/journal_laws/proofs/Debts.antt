@@ -63,6 +63,15 @@ lanes_with e j (suc n) h = elim (cases_lt e.lane n) [
       omega (arith, lanes_before e j n high, ap (lane_owes j) same, ap (lane_owes (e ∷ j)) same))
 ]
 
+-- at first each lane owes its Halt
+lanes_first : (n : ℕ) → lanes_owe [] n ≡ n
+unfolding lanes_owe lane_owes stopped has_halted last_work
+lanes_first zero = refl
+lanes_first (suc n) = omega (arith, lanes_first n)
+
+pub owes_first : (p : Plan) → owes p [] ≡ 2 * berths p
+owes_first p = lanes_first (2 * berths p)
+
 -- ---- an entry raises it by one at most
 
 count_most : (b : Bool) → count b ≤ 1
@@ -103,7 +112,7 @@ halt_pays false false n is = omega arith
 halt_pays true h n is = absurd (cc)
 halt_pays false true n is = absurd (cc)
 
-wins_by : (a : ℕ) (b : Branch) (c : Call) (x : Reply) → is_commit_of a b c x ≡ true → wins_files c x ≡ true
+pub wins_by : (a : ℕ) (b : Branch) (c : Call) (x : Reply) → is_commit_of a b c x ≡ true → wins_files c x ≡ true
 wins_by a b (call.Claim c d t (found.Files f)) reply.Granted h = refl
 wins_by a b _ _ h = absurd (cc)
 

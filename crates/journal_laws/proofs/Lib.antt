@@ -26,3 +26,4 @@ pub mod Greeted
 pub mod Faulty
 pub mod Decided
 pub mod Debts
+pub mod Allowed

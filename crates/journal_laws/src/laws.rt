@@ -1,5 +1,5 @@
 //! What holds of every legal journal. The functions do nothing: each is a law, for those who keep tables of a journal.
-ghost use Rattle.std.specs.Prelude.{◌≡◌, ◌≤◌, ◌<◌, ◌*◌, ◌/◌, ◌⊎◌, ◌↔◌, ◌+◌, ◌==◌, ◌&&◌, ◌||◌, not, ℕ, ℤ, List, ◌∷◌, length, Some, None, true, false, slice_get};
+ghost use Rattle.std.specs.Prelude.{◌≡◌, ◌≤◌, ◌<◌, ◌*◌, ◌/◌, ◌⊎◌, ◌↔◌, ◌+◌, ◌==◌, ◌&&◌, ◌||◌, not, ℕ, ℤ, List, [], ◌∷◌, length, Some, None, true, false, slice_get};
 ghost use Rattle.std.specs.List.{list_all};
 ghost use Rattle.exec_journal.specs.declared.attempt.Attempt.{Attempt};
 ghost use Rattle.exec_journal.specs.declared.ends.Cause.{Cause};
@@ -21,9 +21,10 @@ ghost use Rattle.run_plan.specs.declared.plan.Branch.{Branch};
 ghost use Rattle.run_plan.specs.declared.plan.PlanAction.{PlanAction};
 ghost use Rattle.exec_journal.specs.declared.reply.Reply.TheVariants as reply;
 ghost use Rattle.exec_journal.specs.Settled.{settled, all_settled, ready, wanted};
-ghost use Rattle.run_plan.specs.Groups.{kind_of, is_single, is_remote, has_cancellation};
+ghost use Rattle.run_plan.specs.Groups.{berths, kind_of, is_single, is_remote, has_cancellation};
 ghost use Rattle.exec_journal.specs.History.{each};
 ghost use Rattle.exec_journal.specs.Rules.{rule, may_cancel};
+ghost use Rattle.exec_journal.specs.Scripts.{script};
 ghost use Rattle.exec_journal.specs.Race.{Race};
 ghost use Rattle.exec_journal.specs.Paired.{Paired};
 ghost use Rattle.exec_journal.specs.Kept.{Kept};
@@ -318,9 +319,13 @@ pub fn stops_finish_runs()
         → Finished p j → Finished p (e ∷ j) }
 {}
 
-/// A paid call is answered Noted, and stays paid for after entries of other lanes. With it one less
-/// is owed, and with any other call at most one more.
+/// At first each lane of the plan owes one call, its Halt.
+/// A paid call is in its lane's script, is answered Noted, and stays paid for after entries of
+/// other lanes. With it one less is owed, and with any other call at most one more.
 pub fn paid_calls_are_noted()
+    ensures first { (p : Plan) → owes p [] ≡ 2 * berths p }
+    ensures allowed { (p : Plan) (j : List Entry) (lane : ℕ) (c : Call) → Legal p j
+        → is_paid p j lane c ≡ true → script p j lane c ≡ true }
     ensures noted { (p : Plan) (j : List Entry) (lane : ℕ) (c : Call) → is_paid p j lane c ≡ true
         → rule p j lane c ≡ reply.Noted }
     ensures stays { (p : Plan) (e : Entry) (j : List Entry) (lane : ℕ) (c : Call)
