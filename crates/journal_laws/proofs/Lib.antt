@@ -25,3 +25,5 @@ pub mod Given
 pub mod Greeted
 pub mod Faulty
 pub mod Decided
+pub mod Debts
+pub mod Allowed

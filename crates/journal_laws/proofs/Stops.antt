@@ -213,9 +213,13 @@ module _ (p : Plan) (j : List Entry) (t : Attempt) (sound : Sound p) (legal : Le
             and_from _ _ (eq-eqb t.number p.limit same) (subst (λ n. ended j (attempt_of t.action t.branch n) ≡ true) same over)))
       ]
 
+-- where all actions are settled, nothing is lost
+pub settled_accounted : (p : Plan) (j : List Entry) → Sound p → Legal p j → all_settled p j ≡ true → Accounted p j
+settled_accounted p j sound legal all = record {
+  requests = ra.requests_accounted p j legal;
+  attempts = λ t over. attempt_accounted p j t sound legal all over;
+}
+
 -- at Stop, where no lane has halted
 pub accounted : (p : Plan) (j : List Entry) (lane : ℕ) (d : Call) → Sound p → Legal p j → r.rule p j lane d ≡ reply.Stop → halted j ≡ false → Accounted p j
-accounted p j lane d sound legal h none = record {
-  requests = ra.requests_accounted p j legal;
-  attempts = λ t over. attempt_accounted p j t sound legal (stop_settles p j lane d h none) over;
-}
+accounted p j lane d sound legal h none = settled_accounted p j sound legal (stop_settles p j lane d h none)

@@ -1,5 +1,5 @@
 //! What holds of every legal journal. The functions do nothing: each is a law, for those who keep tables of a journal.
-ghost use Rattle.std.specs.Prelude.{◌≡◌, ◌≤◌, ◌<◌, ◌*◌, ◌/◌, ◌⊎◌, ◌↔◌, ◌&&◌, ◌||◌, not, ℕ, ℤ, List, ◌∷◌, length, Some, None, true, false, slice_get};
+ghost use Rattle.std.specs.Prelude.{◌≡◌, ◌≤◌, ◌<◌, ◌*◌, ◌/◌, ◌⊎◌, ◌↔◌, ◌+◌, ◌==◌, ◌&&◌, ◌||◌, not, ℕ, ℤ, List, [], ◌∷◌, length, Some, None, true, false, slice_get};
 ghost use Rattle.std.specs.List.{list_all};
 ghost use Rattle.exec_journal.specs.declared.attempt.Attempt.{Attempt};
 ghost use Rattle.exec_journal.specs.declared.ends.Cause.{Cause};
@@ -21,9 +21,10 @@ ghost use Rattle.run_plan.specs.declared.plan.Branch.{Branch};
 ghost use Rattle.run_plan.specs.declared.plan.PlanAction.{PlanAction};
 ghost use Rattle.exec_journal.specs.declared.reply.Reply.TheVariants as reply;
 ghost use Rattle.exec_journal.specs.Settled.{settled, all_settled, ready, wanted};
-ghost use Rattle.run_plan.specs.Groups.{kind_of, is_single, is_remote, has_cancellation};
+ghost use Rattle.run_plan.specs.Groups.{berths, kind_of, is_single, is_remote, has_cancellation};
 ghost use Rattle.exec_journal.specs.History.{each};
 ghost use Rattle.exec_journal.specs.Rules.{rule, may_cancel};
+ghost use Rattle.exec_journal.specs.Scripts.{script};
 ghost use Rattle.exec_journal.specs.Race.{Race};
 ghost use Rattle.exec_journal.specs.Paired.{Paired};
 ghost use Rattle.exec_journal.specs.Kept.{Kept};
@@ -33,8 +34,10 @@ ghost use Rattle.exec_journal.specs.Outcomes.{outcome_of, is_ok};
 ghost use Rattle.run_plan.specs.Sound.{Sound};
 ghost use Rattle.journal_laws.specs.Invariant.{EndsWith, claims_it, claimed, is_quiet_call, EachRequest, HasInputs, IsGoing, IsClaimable, IsWinner, LineFacts};
 ghost use Rattle.journal_laws.specs.Steps.{EndExactly, is_open_attempt, is_left_on, is_known, given_up, StandsThere, KillsOnce, IsGathering, IsDone, IsGreeting, SameRequests, BeginsOne, IsUngranted, IsGrantedFiles, WantedFollows, BoundIsCarried, IsFreshSend, IsFreshLaunch, IsNumberedSend, KnownByNumber, IsPastAttempt, WantedUnlessGranted};
-ghost use Rattle.exec_journal.specs.Legal.{Legal};
+ghost use Rattle.exec_journal.specs.Legal.{Legal, after};
 ghost use Rattle.journal_laws.specs.IsLegal.{is_legal};
+ghost use Rattle.journal_laws.specs.Finished.{Finished};
+ghost use Rattle.journal_laws.specs.Paid.{is_paid, owes};
 ghost use Rattle.exec_journal.specs.Facts.{begun, IsOfBerth, NameTheirLines, IsFresh, AttemptsInOrder, BeginInOrder, SameActions, SameStandings};
 
 /// Lines are numbered in order, each line that an entry names was launched, and a lane names only lines of its own berth.
@@ -304,4 +307,31 @@ pub fn greetings_come_first()
 /// `is_legal` decides which journals are legal.
 pub fn legal_is_decided()
     ensures { (p : Plan) (j : List Entry) → (is_legal p j ≡ true) ↔ Legal p j }
+{}
+
+/// A run is finished where a lane is told to stop and none has halted, and stays finished.
+pub fn stops_finish_runs()
+    ensures stops { (p : Plan) (j : List Entry) (lane : ℕ) (c : Call) → Sound p → Legal p j
+        → rule p j lane c ≡ reply.Stop → halted j ≡ false → Finished p j }
+    ensures later { (p : Plan) (j : List Entry) (lane : ℕ) → Sound p → Legal p j
+        → stopped j lane ≡ true → halted j ≡ false → Finished p j }
+    ensures stays { (p : Plan) (e : Entry) (j : List Entry) → Sound p → Legal p (e ∷ j)
+        → Finished p j → Finished p (e ∷ j) }
+{}
+
+/// At first each lane of the plan owes one call, its Halt.
+/// A paid call is in its lane's script, is answered Noted, and stays paid for after entries of
+/// other lanes. With it one less is owed, and with any other call at most one more.
+pub fn paid_calls_are_noted()
+    ensures first { (p : Plan) → owes p [] ≡ 2 * berths p }
+    ensures allowed { (p : Plan) (j : List Entry) (lane : ℕ) (c : Call) → Legal p j
+        → is_paid p j lane c ≡ true → script p j lane c ≡ true }
+    ensures noted { (p : Plan) (j : List Entry) (lane : ℕ) (c : Call) → is_paid p j lane c ≡ true
+        → rule p j lane c ≡ reply.Noted }
+    ensures stays { (p : Plan) (e : Entry) (j : List Entry) (lane : ℕ) (c : Call)
+        → (e.lane == lane) ≡ false → is_paid p (e ∷ j) lane c ≡ is_paid p j lane c }
+    ensures less { (p : Plan) (j : List Entry) (lane : ℕ) (c : Call) → is_paid p j lane c ≡ true
+        → owes p (after j lane c (rule p j lane c)) + 1 ≡ owes p j }
+    ensures more { (p : Plan) (j : List Entry) (lane : ℕ) (c : Call)
+        → owes p (after j lane c (rule p j lane c)) ≤ owes p j + 1 }
 {}

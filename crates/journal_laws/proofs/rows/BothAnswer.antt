@@ -16,6 +16,7 @@ use Rattle.exec_journal.specs.Race.{Race}
 use Rattle.exec_journal.specs.Paired.{Paired}
 use Rattle.exec_journal.proofs.Parts.{entry, answer, with_file, dynamic, plan_of, single, remote}
 use Rattle.journal_laws.specs.IsLegal.{is_legal}
+use Rattle.journal_laws.specs.Paid.{is_paid, owes}
 use Rattle.journal_laws.proofs.rows.Opened.{words}
 
 unfoldable pub plan : Plan
@@ -93,3 +94,35 @@ both_race = (((((((((((((((((tt, refl), refl), refl), refl), refl), refl), refl)
 both_paired : Paired plan both
 unfolding plan both words
 both_paired = (((((((((((((((((tt, refl), refl), refl), refl), refl), refl), refl), refl), refl), refl), refl), refl), refl), refl), refl), refl), refl)
+
+-- with its grant a lane owes a Committed beside its Halt, and nobody else may make it
+owes_commit_too : owes plan both_15 ≡ 5
+unfolding plan both_15 words
+owes_commit_too = refl
+
+pays_commit : is_paid plan both_15 2 (call.Committed 0 Remote commit.Done) ≡ true
+unfolding plan both_15 words
+pays_commit = refl
+
+pays_no_other : is_paid plan both_15 0 (call.Committed 0 Remote commit.Done) ≡ false
+unfolding plan both_15 words
+pays_no_other = refl
+
+-- a lane that has halted may still commit, and doesn't halt again
+pays_after_halt : is_paid plan (entry 2 call.Halt reply.Noted ∷ both_15) 2 (call.Committed 0 Remote commit.Done) ≡ true
+unfolding plan both_15 words
+pays_after_halt = refl
+
+pays_one_halt : is_paid plan (entry 2 call.Halt reply.Noted ∷ both_15) 2 call.Halt ≡ false
+unfolding plan both_15 words
+pays_one_halt = refl
+
+-- once it has committed, its Halt alone is left
+owes_halts : owes plan both ≡ 4
+unfolding plan both words
+owes_halts = refl
+
+-- a lane that stopped owes nothing
+owes_no_more : owes plan (entry 1 call.Take reply.Stop ∷ both) ≡ 3
+unfolding plan both words
+owes_no_more = refl
