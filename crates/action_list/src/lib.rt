@@ -23,7 +23,9 @@ ghost use Rattle.action_list.specs.Whole.{IsWhole};
 ghost use Rattle.std.specs.Prelude.{IfOk};
 
 pub use faults::{Key, ListFault, ListRefusal, What};
+pub use keys::has_local;
 pub use parts::{GroupPart, group_parts};
+pub use places::Places;
 pub use planning::plan;
 use std::alloc::Global;
 pub use types::{ActionList, ListAction, Needs, Strategy};
@@ -43,6 +45,18 @@ pub fn read_list(alloc: Global, bytes: &[u8]) -> Result<ActionList, ListRefusal>
     ensures whole { IfOk result (λ l. IsWhole l.actions) }
 {
     listed::list_of(alloc, MAX_KEYS, bytes)
+}
+
+/// Reads an action list that may have so many worker keys.
+///
+/// # Errors
+///
+/// Those of `read_list`.
+pub fn read_list_with(alloc: Global, bytes: &[u8], keys: u32) -> Result<ActionList, ListRefusal>
+    ensures answer { Answers result (list_of keys bytes.now) }
+    ensures whole { IfOk result (λ l. IsWhole l.actions) }
+{
+    listed::list_of(alloc, keys as usize, bytes)
 }
 
 #[cfg(test)]

@@ -7,7 +7,7 @@ mod splitting;
 mod texts;
 
 pub use expanding::{FlagFault, expand};
-pub use splitting::{Split, SplitFault, split_args};
+pub use splitting::{Split, SplitFault, request_words, split_args};
 
 #[cfg(test)]
 mod tests;
