@@ -23,8 +23,10 @@ ghost use Rattle.action_list.specs.Whole.{IsWhole};
 ghost use Rattle.std.specs.Prelude.{IfOk};
 
 pub use faults::{Key, ListFault, ListRefusal, What};
+pub use keys::has_local;
 pub use parts::{GroupPart, group_parts};
 pub use planning::plan;
+pub use producers::Producers;
 use std::alloc::Global;
 pub use types::{ActionList, ListAction, Needs, Strategy};
 
@@ -43,4 +45,16 @@ pub fn read_list(alloc: Global, bytes: &[u8]) -> Result<ActionList, ListRefusal>
     ensures whole { IfOk result (λ l. IsWhole l.actions) }
 {
     listed::list_of(alloc, MAX_KEYS, bytes)
+}
+
+/// Reads an action list that may have so many worker keys.
+///
+/// # Errors
+///
+/// Those of `read_list`.
+pub fn read_list_with(alloc: Global, bytes: &[u8], keys: u32) -> Result<ActionList, ListRefusal>
+    ensures answer { Answers result (list_of keys bytes.now) }
+    ensures whole { IfOk result (λ l. IsWhole l.actions) }
+{
+    listed::list_of(alloc, keys as usize, bytes)
 }

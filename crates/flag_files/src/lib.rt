@@ -7,4 +7,4 @@ mod splitting;
 mod texts;
 
 pub use expanding::{FlagFault, expand};
-pub use splitting::{Split, SplitFault, split_args};
+pub use splitting::{Split, SplitFault, request_words, split_args};

@@ -1,5 +1,5 @@
 ghost use Rattle.std.specs.Prelude.{◌<◌, ◌≡◌, ◌∷◌, ◌++◌, length, filter, not, IfOk, OnOk};
-ghost use Rattle.flag_files.specs.Split.{Splits, begins_longer, is_flag_file_word, persistent_worker};
+ghost use Rattle.flag_files.specs.Split.{Splits, begins_longer, is_flag_file_word, persistent_worker, request_words};
 ghost use Rattle.flag_files.specs.declared.splitting.SplitFault.TheVariants.{NoMemory as no_memory};
 
 use crate::texts::begins_with;
@@ -45,6 +45,32 @@ pub fn split_args(alloc: Global, argv: &[Text], extra: &[Text]) -> Result<Split,
         startup: Items::of(startup),
         request: Items::of(request),
     })
+}
+
+/// The words of an action's requests: those after the program that name a flag file, in order.
+///
+/// # Errors
+///
+/// `NoMemory`.
+pub fn request_words(alloc: Global, argv: &[Text]) -> Result<Items<Text>, NoMemory>
+    ensures { IfOk result (λ words. words ≡ request_words argv.now) }
+{
+    match argv {
+        [] => Ok(Items::of(Vec::new(alloc))),
+        [_, words @ ..] => flag_file_words(alloc, words),
+    }
+}
+
+fn flag_file_words(alloc: Global, words: &[Text]) -> Result<Items<Text>, NoMemory>
+    ensures { IfOk result (λ l. l ≡ filter is_flag_file_word words.now) }
+{
+    let mut named = Vec::new(alloc);
+    for word in words {
+        if is_flag_file_word(word.as_str()) {
+            named.push(Text::copy_of(alloc, word.as_str())?)?;
+        }
+    }
+    Ok(Items::of(named))
 }
 
 fn sort_words(

@@ -1,0 +1,4 @@
+pub mod Courses
+pub mod Found
+pub mod Logged
+pub mod Made

@@ -1,0 +1,12 @@
+use Rattle.std.proofs.Common.{◌≤◌, ◌∷◌, [], take, flat_map}
+use Rattle.outside.specs.Told.{SameFloor}
+use Rattle.run_loading.specs.Reads.{Reads}
+use Rattle.run_loading.specs.Sources.{held, NewFound}
+use Rattle.run_loading.proofs.sources.Sources.read_all.Given as goal
+
+abbrev pub invariant-loop-path : goal.invariant-loop-path
+invariant-loop-path g l = record {
+  course : Reads (g.F.Floor.told l.initial.floor) (g.F.Floor.told l.floor) (NewFound (held l.initial.self) (flat_map (λ p. p ∷ []) (take l.path-index l.paths)) (held l.self));
+  count : (g.F.Floor.told l.initial.floor).faults ≤ (g.F.Floor.told l.floor).faults;
+  files : SameFloor (g.F.Floor.told l.initial.floor) (g.F.Floor.told l.floor);
+}

@@ -1,0 +1,5 @@
+pub mod Course
+pub mod Reads
+pub mod Sources
+pub mod Wanted
+pub mod Works

@@ -1,0 +1,10 @@
+//! Reads a list of actions and the files that they read, and makes their work of both.
+#![tactic(auto)]
+
+mod loading;
+mod reading;
+mod sources;
+mod works;
+
+pub use build_report::{RunFault, Stage};
+pub use loading::{Loaded, load, load_work, read_actions};
