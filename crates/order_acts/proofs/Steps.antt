@@ -1,23 +1,21 @@
 -- From calls to what is done for an order.
-use Rattle.std.proofs.Common.{◌≡◌, ◌≤◌, ◌<◌, ℕ, ◌+◌, List, [], ◌∷◌, ◌++◌, length, take, Option, Some, None, refl, sym, ap, subst, ◌∙◌, append-nil, length-append, arith}
+use Rattle.std.proofs.Common.{◌≡◌, ℕ, List, [], ◌∷◌, ◌++◌, length, take, Option, Some, None, refl, ap, ◌∙◌, length-append, arith}
 use Rattle.std.specs.Prelude.{Result, Ok, Err}
 use Rattle.plain_values.specs.declared.no_memory.NoMemory.{NoMemory}
 use Rattle.outside.specs.Causes.{Counts}
-use Rattle.outside.specs.Lists.{Adds, AddsFront, Gives, Tells}
-use Rattle.outside.specs.Launches.{launch_end}
+use Rattle.outside.specs.Lists.{Adds, AddsFront}
 use Rattle.outside.specs.Told.{BerthTold, FeedTold, SameBerth, SameFeed}
-use Rattle.outside.specs.declared.answers.Io.{Io}
 use Rattle.outside.specs.declared.answers.Io.TheVariants as io
 use Rattle.outside.specs.declared.berth.BerthCall.{BerthCall}
 use Rattle.outside.specs.declared.berth.BerthCall.TheVariants as call
 use Rattle.outside.specs.declared.command.Command.{Command}
 use Rattle.exec_journal.specs.declared.call.Written.{Written}
 use Rattle.exec_journal.specs.declared.call.Written.TheVariants as write
-use Rattle.sandbox_rooms.specs.Calls.{Asked, Whole, Stopped, Cut, Runs, Made, IsStopped, MakesRun}
-use Rattle.sandbox_rooms.proofs.Runs.{adds_none, made_on, made_less, made_none}
+use Rattle.sandbox_rooms.specs.Calls.{Asked, Whole, Stopped, Cut, MakesRun}
+use Rattle.sandbox_rooms.proofs.Runs.{adds_none, made_on}
 use Rattle.order_acts.specs.declared.launching.Opened.{Opened}
 use Rattle.order_acts.specs.declared.launching.Opened.TheVariants as opened
-use Rattle.order_acts.specs.Acts.{IsFront, Gave, GivenBy, GivesFrame, StartDone, Starts, LaunchDone, NotOpened, Launches, SendDone, Sends}
+use Rattle.order_acts.specs.Acts.{IsFront, Gave, GivesFrame, StartDone, Starts, LaunchDone, NotOpened, Launches, Sends}
 
 -- ---- bytes
 

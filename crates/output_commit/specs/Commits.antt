@@ -1,5 +1,5 @@
 -- An action's outputs, as they are written to its place.
-use Rattle.std.specs.Prelude.{◌≡◌, ℕ, ◌<◌, List, [], ◌∷◌, length, take}
+use Rattle.std.specs.Prelude.{ℕ, ◌<◌, List, [], ◌∷◌, length, take}
 use Rattle.outside.specs.Causes.{Counts}
 use Rattle.outside.specs.Lists.{Adds}
 use Rattle.outside.specs.Told.{PlaceTold, SamePlace}

@@ -13,8 +13,8 @@ use Rattle.std.specs.List.{cons_option}
 use Rattle.sandbox_rooms.specs.declared.room.Room.{Room}
 use Rattle.sandbox_rooms.specs.declared.room.Room.TheVariants as room_is
 use Rattle.std.specs.Prelude.{ℤ}
-use Rattle.sandbox_rooms.specs.Calls.{Asked, Clear, Folder, RunEnd, Whole, io_end, MakesRun}
-use Rattle.sandbox_rooms.specs.Rooms.{part_of, in_room, clear_asks, folder_of, folder_ask, folder_asks}
+use Rattle.sandbox_rooms.specs.Calls.{Clear, Folder, RunEnd, Whole, io_end, MakesRun}
+use Rattle.sandbox_rooms.specs.Rooms.{part_of, in_room, clear_asks, folder_of, folder_asks}
 use Rattle.sandbox_rooms.proofs.Runs.{run_io, run_none}
 
 split : (k n : ℕ) → k < suc n → (k ≡ n) ⊎ (k < n)

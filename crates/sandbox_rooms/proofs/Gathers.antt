@@ -1,11 +1,9 @@
 -- Looks at outputs, one after another.
-use Rattle.std.proofs.Common.{◌≡◌, ℕ, ◌+◌, ◌<◌, ◌≤◌, List, [], ◌∷◌, ◌++◌, length, map, take, drop, get_or, Bool, true, false, refl, subst, sym, append_assoc, append-nil, ◌∙◌, ap}
+use Rattle.std.proofs.Common.{◌≡◌, ℕ, ◌+◌, ◌<◌, ◌≤◌, List, [], ◌∷◌, ◌++◌, length, take, drop, get_or, Bool, true, false, refl, subst, sym, append_assoc, append-nil, ◌∙◌, ap}
 use Rattle.std.proofs.lemmas.List.{map-append, take_all, take-append-drop}
-use Rattle.std.specs.Prelude.{Result, Ok, Err, IfOk, OnErr}
+use Rattle.std.specs.Prelude.{Ok, Err}
 use Rattle.plain_values.specs.declared.no_memory.NoMemory.{NoMemory}
-use Rattle.outside.specs.Causes.{Counts}
-use Rattle.outside.specs.Lists.{Adds}
-use Rattle.outside.specs.Told.{BerthTold, SameBerth}
+use Rattle.outside.specs.Told.{BerthTold}
 use Rattle.outside.specs.declared.answers.Read.{Read}
 use Rattle.outside.specs.declared.answers.Read.TheVariants as read
 use Rattle.outside.specs.declared.berth.BerthCall.{BerthCall}
@@ -14,18 +12,8 @@ use Rattle.sandbox_rooms.specs.declared.room.Room.{Room}
 use Rattle.sandbox_rooms.specs.declared.gathering.Gathered.{Gathered}
 use Rattle.sandbox_rooms.specs.declared.gathering.Gathered.TheVariants as gathered
 use Rattle.sandbox_rooms.specs.Calls.{Asked, asked, went_well, RunEnd, Whole, Stopped, Cut, EndsHere, GoesOn, Runs, Made}
-use Rattle.sandbox_rooms.specs.Rooms.{in_room, get_ask, gather_asks, gathered_after, gathered_in, gather_end, Gives, IsRoomFault, MakesLooks}
-use Rattle.sandbox_rooms.proofs.Runs.{made_on, made_none, made_less, made_still, front_more, split_at, both, wider}
-
--- ---- one look
-
-pub got : (path : List ℕ) (r : Result Read NoMemory) (old new : BerthTold) → IfOk r (λ a. Adds (call.Get path a ∷ []) old.log new.log) → Counts old.faults new.faults (r ≡ Ok read.Failed) → SameBerth old new → IfOk r (λ a. Made (call.Get path a ∷ []) (a ≡ read.Failed) old new)
-got path (Ok a) old new log count same = record { log = log; count = record { later = count.later; rose = λ failed. count.rose (ap Ok failed) }; same = same }
-got path (Err e) old new log count same = tt
-
-pub got_none : (r : Result Read NoMemory) (old new : BerthTold) → OnErr r (new.log ≡ old.log) → Counts old.faults new.faults (r ≡ Ok read.Failed) → SameBerth old new → OnErr r (Made [] ⊥ old new)
-got_none (Ok a) old new log count same = tt
-got_none (Err e) old new log count same = made_still old new log count.later same
+use Rattle.sandbox_rooms.specs.Rooms.{in_room, get_ask, gather_asks, gathered_after, gathered_in, gather_end, IsRoomFault, MakesLooks}
+use Rattle.sandbox_rooms.proofs.Runs.{made_on, made_none, made_less, front_more, split_at, both, wider}
 
 -- ---- looks that all found their outputs
 
@@ -46,9 +34,6 @@ front_only [] qs [] h = tt
 front_only (p ∷ ps) qs [] h = tt
 front_only [] qs (c ∷ xs) h = absurd h
 front_only (p ∷ ps) qs (c ∷ xs) h = (h.0, goes_front (went_well c) xs (Runs Whole ps xs) (Runs Cut (ps ++ qs) xs) (λ r. front_only ps qs xs r) h.1)
-
-pub found_none : (room : Room) (told : BerthTold) → Found room [] 0 [] told told
-found_none room told = record { calls = []; runs = tt; gives = λ rest. refl; made = made_none told }
 
 -- the next one was found too
 pub found_more : (room : Room) (outputs : List (List ℕ)) (k : ℕ) (x output bytes : List ℕ) (files grown : List (List ℕ)) (Failed : Type 0) (old mid new : BerthTold) → k < length outputs → x ≡ get_or outputs k x → output ≡ x → grown ≡ files ++ bytes ∷ []

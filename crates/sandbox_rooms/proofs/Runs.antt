@@ -1,5 +1,5 @@
 -- Calls on a berth, one run after another.
-use Rattle.std.proofs.Common.{◌≡◌, ℕ, ◌+◌, ◌-◌, ◌^◌, min, ◌<◌, ◌≤◌, List, [], ◌∷◌, ◌++◌, length, map, take, drop, get_or, Bool, true, false, Option, refl, subst, sym, append_assoc, append-nil, ◌∙◌, ap, arith}
+use Rattle.std.proofs.Common.{◌≡◌, ℕ, ◌+◌, ◌<◌, ◌≤◌, List, [], ◌∷◌, ◌++◌, length, take, drop, get_or, Bool, true, false, Option, refl, subst, sym, append_assoc, append-nil, ◌∙◌, ap, arith}
 use Rattle.std.proofs.lemmas.List.{take_more, take-append-drop, take_all}
 use Rattle.outside.specs.Causes.{Counts, Rose}
 use Rattle.outside.specs.Lists.{Adds, Tells}
@@ -7,7 +7,7 @@ use Rattle.outside.specs.Told.{BerthTold, SameBerth}
 use Rattle.outside.specs.declared.answers.Io.{Io}
 use Rattle.outside.specs.declared.answers.Io.TheVariants as io
 use Rattle.outside.specs.declared.berth.BerthCall.{BerthCall}
-use Rattle.sandbox_rooms.specs.Calls.{Asked, asked, is_done, went_well, io_end, RunEnd, Whole, Stopped, Cut, EndsHere, StopsHere, GoesOn, Runs, Made, IsStopped, MakesRun}
+use Rattle.sandbox_rooms.specs.Calls.{Asked, asked, is_done, went_well, io_end, RunEnd, Whole, Stopped, Cut, EndsHere, GoesOn, Runs, Made, IsStopped, MakesRun}
 
 -- ---- what is added, and counts
 

@@ -1,17 +1,13 @@
 -- The one request, as it is written to a worker.
 use Rattle.std.specs.Prelude.{ℕ, List, [], map, Bool, false, pos, if◌then◌else◌}
-use Rattle.sha2.specs.Sha256.{sha256}
-use Rattle.hex.specs.Hex.{encode_lower}
+use Rattle.worker_key.specs.Keys.{digest_text}
 use Rattle.outside.specs.declared.floor.SourceFile.{SourceFile}
 use Rattle.wire_fields.specs.Spelling.{delimited, spelling}
 use Rattle.wire_messages.specs.Request.{request_fields}
 use Rattle.wire_messages.specs.declared.input.Input.{Input}
 use Rattle.wire_messages.specs.declared.request.WorkRequest.{WorkRequest}
 
--- the digest of a file's bytes, as the 64 lower-case hexadecimal digits of their SHA-256
-abbrev pub digest_text : List ℕ → List ℕ
-digest_text bytes = encode_lower (sha256 bytes)
-
+-- an input with the digest of its bytes
 abbrev pub input_of : SourceFile → Input
 input_of file = record { path = file.path; digest = digest_text file.bytes }
 

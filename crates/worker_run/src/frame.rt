@@ -1,10 +1,10 @@
 //! The one request, as it is written to a worker.
 ghost use Rattle.std.specs.Prelude.{◌≡◌, ◌∷◌, [], IfOk, map};
-ghost use Rattle.worker_run.specs.Frame.{digest_text, input_of, request_frame};
+ghost use Rattle.worker_run.specs.Frame.{input_of, request_frame};
 
+use due_frames::digest_text;
 use outside::SourceFile;
 use plain_values::{Items, NoMemory, Text};
-use sha2::{Digest, Sha256};
 use std::alloc::Global;
 use wire_messages::{Input, WorkRequest, encode_delimited};
 
@@ -46,13 +46,4 @@ fn inputs_of(alloc: Global, files: &[SourceFile]) -> Result<Items<Input>, NoMemo
         })?;
     }
     Ok(Items::of(inputs))
-}
-
-fn digest_text(alloc: Global, bytes: &[u8]) -> Result<Items<u8>, NoMemory>
-    ensures { IfOk result (λ text. text ≡ digest_text bytes.now) }
-{
-    let mut text = [0u8; 64];
-    let digest: [u8; 32] = Sha256::digest(bytes);
-    hex::encode_to_slice(digest, &mut text).unwrap();
-    Ok(Items::of(text.to_vec(alloc)?))
 }

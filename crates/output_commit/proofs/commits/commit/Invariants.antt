@@ -1,4 +1,4 @@
-use Rattle.std.proofs.Common.{◌≡◌, ◌≤◌, take}
+use Rattle.std.proofs.Common.{◌≤◌, take}
 use Rattle.outside.specs.Lists.{Adds}
 use Rattle.outside.specs.Told.{SamePlace}
 use Rattle.output_commit.specs.Commits.{writes_of}

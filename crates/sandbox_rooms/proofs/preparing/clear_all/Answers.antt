@@ -1,4 +1,4 @@
-use Rattle.std.proofs.Common.{rules, refl, map}
+use Rattle.std.proofs.Common.{rules, map}
 use Rattle.std.proofs.lemmas.List.{map-append}
 use Rattle.sandbox_rooms.specs.Calls.{Clear, Stopped}
 use Rattle.sandbox_rooms.proofs.Runs.{run_none, loop_go, loop_ends, loop_done}

@@ -1,4 +1,4 @@
-use Rattle.std.proofs.Common.{rules, refl, map}
+use Rattle.std.proofs.Common.{rules}
 use Rattle.std.proofs.lemmas.Result.{err_from_is_err_and}
 use Rattle.std.proofs.lemmas.List.Elements.{filter_map-append}
 use Rattle.sandbox_rooms.specs.Calls.{Stopped, Cut}

@@ -1,7 +1,7 @@
-use Rattle.std.proofs.Common.{◌≡◌, ap, ◌∙◌, List, ℕ, refl}
+use Rattle.std.proofs.Common.{◌≡◌, ap, ◌∙◌, refl}
 use Rattle.outside.specs.declared.berth.BerthCall.TheVariants as call
 use Rattle.sandbox_rooms.specs.Rooms.{in_room, put_ask}
-use Rattle.sandbox_rooms.specs.Calls.{Asked, Put}
+use Rattle.sandbox_rooms.specs.Calls.{Put}
 use Rattle.sandbox_rooms.proofs.Runs.{run_io}
 use Rattle.sandbox_rooms.proofs.preparing.put_one.Goals as goal
 
