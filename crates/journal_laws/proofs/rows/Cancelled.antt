@@ -15,7 +15,7 @@ use Rattle.exec_journal.specs.declared.reply.BreachWhy.TheVariants as breach
 use Rattle.exec_journal.specs.declared.reply.Why.TheVariants as why
 use Rattle.exec_journal.specs.Outcomes as o
 use Rattle.exec_journal.specs.Rules.{rule}
-use Rattle.exec_journal.proofs.Parts.{entry, answer, with_file, said_cancelled, worker, dynamic, plan_of, cancelling, remote}
+use Rattle.exec_journal.proofs.Parts.{entry, answer, with_file, said_cancelled, dynamic, plan_of, cancelling, remote}
 use Rattle.journal_laws.specs.IsLegal.{is_legal}
 use Rattle.journal_laws.proofs.rows.Opened.{words}
 

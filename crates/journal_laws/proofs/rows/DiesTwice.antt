@@ -19,7 +19,7 @@ use Rattle.exec_journal.specs.Outcomes as o
 use Rattle.exec_journal.specs.Rules.{rule}
 use Rattle.exec_journal.specs.Race.{Race}
 use Rattle.exec_journal.specs.Paired.{Paired}
-use Rattle.exec_journal.proofs.Parts.{entry, answer, with_file, dynamic, plan_of, single, remote}
+use Rattle.exec_journal.proofs.Parts.{entry, with_file, dynamic, plan_of, single, remote}
 use Rattle.journal_laws.specs.IsLegal.{is_legal}
 use Rattle.journal_laws.proofs.rows.Opened.{words}
 

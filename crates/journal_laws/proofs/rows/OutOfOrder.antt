@@ -9,7 +9,7 @@ use Rattle.exec_journal.specs.declared.call.Written.TheVariants as write
 use Rattle.exec_journal.specs.declared.reply.Reply.TheVariants as reply
 use Rattle.exec_journal.specs.declared.reply.StrayWhy.TheVariants as stray
 use Rattle.exec_journal.specs.Words as w
-use Rattle.exec_journal.proofs.Parts.{entry, answer, numbered, worker, plan_of, multi}
+use Rattle.exec_journal.proofs.Parts.{entry, numbered, worker, plan_of, multi}
 use Rattle.journal_laws.specs.IsLegal.{is_legal}
 use Rattle.journal_laws.proofs.rows.Opened.{words}
 

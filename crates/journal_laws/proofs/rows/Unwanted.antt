@@ -10,7 +10,7 @@ use Rattle.exec_journal.specs.declared.call.Started.TheVariants as start
 use Rattle.exec_journal.specs.declared.call.Written.TheVariants as write
 use Rattle.exec_journal.specs.declared.reply.Reply.TheVariants as reply
 use Rattle.exec_journal.specs.declared.reply.Why.TheVariants as why
-use Rattle.exec_journal.proofs.Parts.{entry, with_file, worker, dynamic, plan_of, single, remote}
+use Rattle.exec_journal.proofs.Parts.{entry, with_file, dynamic, plan_of, single, remote}
 use Rattle.journal_laws.specs.IsLegal.{is_legal}
 use Rattle.journal_laws.proofs.rows.Opened.{words}
 
