@@ -8,6 +8,3 @@ mod splitter;
 pub use frame::{FrameFault, Next};
 pub use readings::{delimited_is_read, given_frames_come_first, one_reading};
 pub use splitter::Splitter;
-
-#[cfg(test)]
-mod tests;

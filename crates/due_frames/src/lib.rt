@@ -5,7 +5,4 @@ mod frames;
 mod requests;
 
 pub use frames::{Due, cancel_frame, send_frame};
-pub use requests::room_of;
-
-#[cfg(test)]
-mod tests;
+pub use requests::{digest_text, room_of};

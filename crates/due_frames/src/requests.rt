@@ -83,14 +83,18 @@ fn inputs_of(alloc: Global, files: &[NamedFile]) -> Result<Items<Input>, NoMemor
     for file in files {
         inputs.push(Input {
             path: Text::copy_of(alloc, file.path.as_str())?,
-            digest: digits_of(alloc, file.content.bytes())?,
+            digest: digest_text(alloc, file.content.bytes())?,
         })?;
     }
     Ok(Items::of(inputs))
 }
 
-// The digits of the digest, as bytes.
-fn digits_of(alloc: Global, bytes: &[u8]) -> Result<Items<u8>, NoMemory>
+/// The 64 lower-case hexadecimal digits of the SHA-256 of the bytes, as an input of a request has them.
+///
+/// # Errors
+///
+/// `NoMemory`.
+pub fn digest_text(alloc: Global, bytes: &[u8]) -> Result<Items<u8>, NoMemory>
     ensures { IfOk result (λ digits. digits ≡ digest_text bytes.now) }
 {
     let digits = digest_of(alloc, bytes)?;

@@ -8,8 +8,8 @@ use Rattle.exec_journal.specs.declared.ends.Cause.{Cause}
 use Rattle.exec_journal.specs.declared.ends.Fate.{Fate}
 use Rattle.exec_journal.specs.declared.ends.Fate.TheVariants as fate
 use Rattle.journal_ends.specs.declared.grant.Grant.{Grant}
-use Rattle.journal_ends.specs.declared.grant.Prize.{GrantKind}
-use Rattle.journal_ends.specs.declared.grant.Prize.TheVariants as prize
+use Rattle.journal_ends.specs.declared.grant.GrantKind.{GrantKind}
+use Rattle.journal_ends.specs.declared.grant.GrantKind.TheVariants as prize
 use Rattle.journal_ends.specs.declared.replay.ActionFact.{ActionFact}
 use Rattle.journal_ends.specs.declared.replay.BranchFact.{BranchFact}
 use Rattle.exec_journal.specs.Entries.{same_branch}

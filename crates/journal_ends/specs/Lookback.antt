@@ -18,8 +18,8 @@ use Rattle.exec_journal.specs.declared.call.Written.TheVariants as write
 use Rattle.exec_journal.specs.declared.reply.Reply.{Reply}
 use Rattle.exec_journal.specs.declared.reply.Reply.TheVariants as reply
 use Rattle.journal_ends.specs.declared.grant.Grant.{Grant}
-use Rattle.journal_ends.specs.declared.grant.Prize.{GrantKind}
-use Rattle.journal_ends.specs.declared.grant.Prize.TheVariants as prize
+use Rattle.journal_ends.specs.declared.grant.GrantKind.{GrantKind}
+use Rattle.journal_ends.specs.declared.grant.GrantKind.TheVariants as prize
 use Rattle.journal_ends.specs.declared.attempt_state.Track.{Track}
 use Rattle.list_lemmas.specs.Options.{or_else}
 use Rattle.exec_journal.specs.Entries.{Request, is_look, is_halt, is_unwritten, is_for, consumed_in, granted_in, send_of_entry}

@@ -29,10 +29,14 @@ impl Model for LineSplitter {
 
     ghost Value = { Held };
 
-    ghost view = { λ s. record { limit = s.limit; rest = drop s.start s.held.items; fault = s.fault } };
+    ghost view = { λ s. record {
+      limit = s.limit;
+      rest = drop s.start s.held.items;
+      fault = s.fault;
+    } };
 
-    // Of what was read no more is held than of what is to be read. The part that was looked through holds no line
-    // feed.
+    // Of what was read no more is held than of what is to be read. The part that was looked
+    // through holds no line feed.
     ghost invariant = { λ s. (s.start + s.start ≤ length s.held.items)
         × (s.looked ≤ line_length (drop s.start s.held.items)) };
 }
@@ -59,7 +63,8 @@ impl LineSplitter {
     ///
     /// `NoMemory` if the piece finds no room; the splitter is then as it was.
     pub fn feed(&mut self, piece: &[u8]) -> Result<(), NoMemory>
-        ensures ok { OnOk result ((fed : List ℕ) (given : List (List ℕ)) → StandsFor line_form fed given self.old
+        ensures ok { OnOk result ((fed : List ℕ) (given : List (List ℕ))
+            → StandsFor line_form fed given self.old
             → StandsFor line_form (fed_more self.old.fault fed piece.now) given self.new) }
         ensures after_bad { IfSome self.old.fault (λ _. result ≡ Ok tt) }
         ensures same { (self.new.limit ≡ self.old.limit) × (self.new.fault ≡ self.old.fault) }
@@ -72,15 +77,16 @@ impl LineSplitter {
         Ok(())
     }
 
-    /// Gives the next line without its line feed, if all of it has come. A line that is too long is told as soon
-    /// as it is, and from then on for good.
+    /// Gives the next line without its line feed, if all of it has come. A line that is too long is
+    /// told as soon as it is, and from then on for good.
     ///
     /// # Errors
     ///
     /// `NoMemory` if the line finds no memory; the splitter is then as it was.
     pub fn next(&mut self) -> Result<Next, NoMemory>
         ensures after_bad { IfSome self.old.fault (λ fault. result ≡ Ok (Next.Bad fault)) }
-        ensures ok { IfOk result (λ next. (fed : List ℕ) (given : List (List ℕ)) → StandsFor line_form fed given self.old
+        ensures ok { IfOk result (λ next. (fed : List ℕ) (given : List (List ℕ))
+            → StandsFor line_form fed given self.old
             → Gives line_form fed given self.old next self.new) }
         ensures err { OnErr result (self.new ≡ self.old) }
     {
@@ -115,9 +121,9 @@ impl LineSplitter {
         &self.held[self.start..]
     }
 
-    // So many bytes more were read, and so many of those behind them were looked through. What was read is dropped
-    // when it is at least as long as what is left, so each byte that moves is paid for by one that was read. The
-    // room of a large line is given back when nothing is left.
+    // So many bytes more were read, and so many of those behind them were looked through. What was
+    // read is dropped when it is at least as long as what is left, so each byte that moves is paid
+    // for by one that was read. The room of a large line is given back when nothing is left.
     fn drop_read(&mut self, count: usize, looked: usize)
         requires count { count ≤ length self.old.rest }
         requires looked { looked ≤ line_length (drop count self.old.rest) }

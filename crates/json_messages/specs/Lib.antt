@@ -4,3 +4,4 @@ pub mod Top
 pub mod Values
 pub mod Messages
 pub mod Writing
+pub mod OneLine

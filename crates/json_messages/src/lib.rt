@@ -1,7 +1,8 @@
 //! Work requests and responses as JSON, one object on a line.
 //!
-//! Reading looks at the keys of a message in the order of its field numbers and answers the first fault. Writing
-//! gives the one written form: compact, keys in the order of their bytes, parts at their default left out.
+//! Reading looks at the keys of a message in the order of its field numbers and answers the first
+//! fault. Writing gives the one written form: compact, keys in the order of their bytes, parts at
+//! their default left out.
 #![tactic(auto)]
 
 mod keys;

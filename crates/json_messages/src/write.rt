@@ -6,6 +6,7 @@ ghost use Rattle.serde_json.specs.Read.{read};
 ghost use Rattle.serde_json.specs.View.{view};
 ghost use Rattle.serde_json.specs.Written.{compact_text, has_float};
 ghost use Rattle.json_messages.specs.Messages.{input_in, request_in, request_of, response_in, response_of};
+ghost use Rattle.json_messages.specs.OneLine.{IsOneLine};
 ghost use Rattle.json_messages.specs.Top.{json_in};
 ghost use Rattle.json_messages.specs.Values.{each};
 ghost use Rattle.json_messages.specs.Writing.{input_data, request_data, request_text, response_data, response_text};
@@ -16,7 +17,7 @@ use serde_json::Value;
 use std::alloc::Global;
 use wire_messages::{Input, JsonKey, WorkRequest, WorkResponse};
 
-/// The line of a response, with its line feed. Read without it, it is the response again.
+/// The line of a response, with the only line feed in it at its end. Read without it, it is the response again.
 ///
 /// # Errors
 ///
@@ -24,6 +25,7 @@ use wire_messages::{Input, JsonKey, WorkRequest, WorkResponse};
 pub fn response_line(alloc: Global, m: &WorkResponse) -> Result<Vec<u8>, NoMemory>
     ensures written { IfOk result (λ v. v.items ≡ response_text m.now ++ 10 ∷ []) }
     ensures spelled { OnOk result (response_of (response_text m.now) ≡ Ok m.now) }
+    ensures one_line { OnOk result (IsOneLine (response_text m.now)) }
 {
     let object = response_object(alloc, m)?;
     line_of(alloc, &object)
@@ -32,6 +34,7 @@ pub fn response_line(alloc: Global, m: &WorkResponse) -> Result<Vec<u8>, NoMemor
 fn response_object(alloc: Global, m: &WorkResponse) -> Result<Value, NoMemory>
     ensures written { IfOk result (λ v. view v ≡ response_data m.now) }
     ensures again { OnOk result (response_in (response_data m.now) ≡ Ok m.now) }
+    ensures one_line { OnOk result (IsOneLine (response_text m.now)) }
 {
     let mut parts = Parts::new(alloc);
     parts.number(JsonKey::ExitCode, m.exit_code)?;
@@ -41,7 +44,7 @@ fn response_object(alloc: Global, m: &WorkResponse) -> Result<Value, NoMemory>
     Ok(parts.into_object())
 }
 
-/// The line of a request, with its line feed. Read without it, it is the request again.
+/// The line of a request, with the only line feed in it at its end. Read without it, it is the request again.
 ///
 /// # Errors
 ///
@@ -49,6 +52,7 @@ fn response_object(alloc: Global, m: &WorkResponse) -> Result<Value, NoMemory>
 pub fn request_line(alloc: Global, m: &WorkRequest) -> Result<Vec<u8>, NoMemory>
     ensures written { IfOk result (λ v. v.items ≡ request_text m.now ++ 10 ∷ []) }
     ensures spelled { OnOk result (request_of (request_text m.now) ≡ Ok m.now) }
+    ensures one_line { OnOk result (IsOneLine (request_text m.now)) }
 {
     let object = request_object(alloc, m)?;
     line_of(alloc, &object)
@@ -57,6 +61,7 @@ pub fn request_line(alloc: Global, m: &WorkRequest) -> Result<Vec<u8>, NoMemory>
 fn request_object(alloc: Global, m: &WorkRequest) -> Result<Value, NoMemory>
     ensures written { IfOk result (λ v. view v ≡ request_data m.now) }
     ensures again { OnOk result (request_in (request_data m.now) ≡ Ok m.now) }
+    ensures one_line { OnOk result (IsOneLine (request_text m.now)) }
 {
     let arguments = text_values(alloc, m.arguments.as_slice())?;
     let inputs = input_values(alloc, m.inputs.as_slice())?;

@@ -4,6 +4,3 @@
 mod commits;
 
 pub use commits::{Committed, commit};
-
-#[cfg(test)]
-mod tests;

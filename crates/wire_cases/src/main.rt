@@ -8,12 +8,16 @@
 //! | `request BYTES`, `response BYTES`, `job BYTES`, `result BYTES` | the written form of the message, or its fault |
 //! | `frames PIECE PIECE ..` | what comes of each piece that is fed: frames, `-` where none is whole, the fault |
 //! | `many COUNT` | how many frames come of one piece with that many |
+//! | `response_line TEXT`, `response_bytes BYTES`, `request_line TEXT` | the written line of the message, or its fault |
+//! | `lines PIECE PIECE ..` | as `frames`, of lines of at most 8 bytes |
+//! | `many_lines COUNT` | how many lines come of one piece with that many |
 //!
-//! `tools/wire-vectors` writes the cases of requests and responses, with the written forms that protoc gives, into
-//! `stdin` and `stdout`. Other lines are printed as they are.
+//! `tools/wire-vectors` writes the cases of requests and responses, with the written forms that protoc gives, and
+//! `tools/line-vectors` those of lines, by Python, into `stdin` and `stdout`. Other lines are printed as they are.
 #![tactic(auto)]
 
 mod framing;
+mod lines;
 mod messages;
 mod numbers;
 
@@ -52,6 +56,11 @@ fn play(alloc: Global, line: &str) -> Result<String, NoMemory> {
         "result" => messages::result(alloc, rest),
         "frames" => framing::frames(alloc, rest),
         "many" => framing::many(alloc, rest),
+        "response_line" => lines::response(alloc, rest),
+        "response_bytes" => lines::response_bytes(alloc, rest),
+        "request_line" => lines::request(alloc, rest),
+        "lines" => lines::lines(alloc, rest),
+        "many_lines" => lines::many(alloc, rest),
         _ => Ok(String::from_str(alloc, line)?),
     }
 }

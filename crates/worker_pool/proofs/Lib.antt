@@ -9,4 +9,3 @@ pub mod Once
 pub mod Sent
 pub mod Updates
 pub mod Words
-pub mod Worked

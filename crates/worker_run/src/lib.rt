@@ -18,6 +18,3 @@ mod work;
 pub use build_report::{RunFault, Stage, Unbuilt, fault_line};
 pub use ended::{Ended, EndedLine, Halves, end_status};
 pub use run::run_build;
-
-#[cfg(test)]
-mod tests;

@@ -5,6 +5,7 @@ use Rattle.json_messages.specs.Values.{each}
 use Rattle.json_messages.specs.Writing.{input_data}
 use Rattle.json_messages.proofs.Backs.{request_back}
 use Rattle.json_messages.proofs.Digits.{small}
+use Rattle.json_messages.proofs.OneLine.{request_lined}
 use Rattle.json_messages.proofs.write.request_object.Goals as goal
 
 pub returns-clause-again : goal.returns-clause-again
@@ -13,3 +14,10 @@ returns-clause-again c =
     let first : FitsSigned w32 m.request_id = search rules in
     let second : FitsSigned w32 m.verbosity = search rules in
     request_back m (subst (λ (ms : List Input). each input_in (map input_data ms) ≡ Ok ms) c.as_slice-2.ensures c.in_ok-inputs.ensures.again) (small m.request_id first) (small m.verbosity second)
+
+pub returns-clause-one_line : goal.returns-clause-one_line
+returns-clause-one_line c =
+    let m = c.args.m.now in
+    let first : FitsSigned w32 m.request_id = search rules in
+    let second : FitsSigned w32 m.verbosity = search rules in
+    request_lined m (small m.request_id first) (small m.verbosity second)

@@ -17,3 +17,6 @@ returns-clause-written c = if_ok c.line_of.result _ _ (λ v e. e ∙ ap (λ (s :
 
 pub returns-clause-spelled : goal.returns-clause-spelled
 returns-clause-spelled c = on_ok c.line_of.result _ _ (λ e. response_spelled c.args.m.now _ c.in_ok-object.ensures.written e c.in_ok-object.ensures.again) c.line_of.ensures.again
+
+pub returns-clause-one_line : goal.returns-clause-one_line
+returns-clause-one_line c = on_ok c.line_of.result _ _ (λ e. c.in_ok-object.ensures.one_line) c.line_of.ensures.again

@@ -1,4 +1,4 @@
-use super::*;
+use output_commit::{Committed, commit};
 use outside::{Floor, Place};
 use outside_mem::{FailAt, MemFloor, Object, Script};
 use plain_values::{Blob, Text};
@@ -25,8 +25,9 @@ fn a_place_that_fails_has_what_was_written_before(rt: HostRuntime) -> Result<(),
     let end = commit(&mut place, &outputs, &[one, two]);
     assert_eq!(rt; end, Committed::PlaceFault { written: 1 });
     assert_eq!(rt; place.log().len(), 1);
-    assert_eq!(rt; place.log()[0].path.as_str(), "o1");
-    assert_eq!(rt; place.log()[0].bytes.bytes(), b"x".as_slice());
+    let first = place.log().first().ok_or("nothing was written")?;
+    assert_eq!(rt; first.path.as_str(), "o1");
+    assert_eq!(rt; first.bytes.bytes(), b"x".as_slice());
     assert_eq!(rt; place.faults(), 1);
     Ok(())
 }

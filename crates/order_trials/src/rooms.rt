@@ -1,8 +1,8 @@
-use super::*;
 use outside::{Berth, BerthCall, Floor, Io};
 use outside_mem::{MemFloor, Script};
 use plain_values::{Blob, Text};
 use remote_messages::NamedFile;
+use sandbox_rooms::{Gathered, Room, gather, prepare};
 use std::test::*;
 
 #[test]

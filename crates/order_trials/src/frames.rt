@@ -1,4 +1,4 @@
-use super::*;
+use due_frames::cancel_frame;
 use run_plan::Speech;
 use std::test::*;
 

@@ -1,5 +1,5 @@
-use super::*;
 use exec_journal::Answer;
+use remote_branch::{Parts, answer_of, cancel_of};
 use remote_messages::{decode_result, encode_job};
 use std::test::*;
 

@@ -1,0 +1,92 @@
+// The reader of a line.
+ghost use Rattle.std.specs.Prelude.{◌≡◌, ◌++◌, List, ℕ, [], IfOk, OnOk};
+ghost use Rattle.run_plan.specs.declared.plan.Speech.{Speech};
+ghost use Rattle.exec_journal.specs.declared.call.Answer.{Answer};
+ghost use Rattle.answer_reader.specs.Says.{framing_for, Hears, SaysNext, SaysAll};
+
+use crate::answers::spoken_by;
+use delimited_framing::Next;
+use exec_journal::Answer;
+use json_framing::{Cutter, Framing};
+use plain_values::NoMemory;
+use remote_branch::Parts;
+use run_plan::Speech;
+use std::alloc::Global;
+
+/// The largest message, in bytes.
+const LARGEST: u64 = 67_108_864;
+
+/// What a reader gives next.
+#[derive(Drop)]
+pub enum Spoken {
+    /// The next answer.
+    Answer(Answer),
+    /// A part of an answer whose last part hasn't come yet.
+    More,
+    /// No whole message has come, and no fault.
+    NotYet,
+    /// What stands next spells nothing. Nothing is read behind it.
+    Bad,
+}
+
+/// Reads the answers of one line.
+#[derive(Drop)]
+pub struct AnswerReader {
+    cutter: Cutter,
+    speech: Speech,
+    parts: Parts,
+}
+
+impl AnswerReader {
+    /// A reader of a line that speaks so.
+    pub fn new(alloc: Global, speech: Speech) -> AnswerReader
+        ensures hears { Hears speech [] [] result }
+        ensures waits { SaysAll speech [] [] }
+    {
+        AnswerReader {
+            cutter: Cutter::new(alloc, framing_of(speech), LARGEST),
+            speech,
+            parts: Parts::new(alloc),
+        }
+    }
+
+    /// Takes the next bytes of the line.
+    ///
+    /// # Errors
+    ///
+    /// `NoMemory`.
+    pub fn feed(&mut self, piece: &[u8]) -> Result<(), NoMemory>
+        ensures ok { OnOk result ((speech : Speech) (fed : List ℕ) (answers : List Answer)
+            → Hears speech fed answers self.old
+            → Hears speech (fed ++ piece.now) answers self.new) }
+    {
+        self.cutter.feed(piece)
+    }
+
+    /// Gives the next answer, if all of it has come.
+    ///
+    /// # Errors
+    ///
+    /// `NoMemory`.
+    pub fn next(&mut self, alloc: Global) -> Result<Spoken, NoMemory>
+        ensures ok { IfOk result (λ spoken. (speech : Speech) (fed : List ℕ) (answers : List Answer)
+            → Hears speech fed answers self.old
+            → SaysNext speech fed answers spoken self.new) }
+    {
+        match self.cutter.next()? {
+            Next::NotYet => Ok(Spoken::NotYet),
+            Next::Bad(_) => Ok(Spoken::Bad),
+            Next::Frame(frame) => spoken_by(alloc, self.speech, &mut self.parts, &frame),
+        }
+    }
+}
+
+// Workers that speak JSON write lines; all others write frames behind their lengths.
+fn framing_of(speech: Speech) -> Framing
+    ensures { result ≡ framing_for speech }
+{
+    match speech {
+        Speech::Json => Framing::Lines,
+        Speech::Proto | Speech::Remote => Framing::Delimited,
+    }
+}

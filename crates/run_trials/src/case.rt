@@ -1,0 +1,104 @@
+// What the next run has: sources, what the child leaves and gives, and which calls fail.
+use outside::SourceFile;
+use outside_mem::{Beat, FailAt, Object, Script};
+use plain_values::{Blob, NoMemory, Text};
+use std::alloc::Global;
+
+/// What the lines before have said.
+#[derive(Drop)]
+pub struct Case {
+    files: Vec<SourceFile>,
+    outputs: Vec<Text>,
+    answer: Vec<u8>,
+    fails: Vec<FailAt>,
+}
+
+impl Case {
+    pub fn new(alloc: Global) -> Case {
+        Case {
+            files: Vec::new(alloc),
+            outputs: Vec::new(alloc),
+            answer: Vec::new(alloc),
+            fails: Vec::new(alloc),
+        }
+    }
+
+    /// Notes what a line says; what is printed for it is the line itself, unless it says something.
+    pub fn note(&mut self, alloc: Global, line: &str) -> Result<String, NoMemory> {
+        let (kind, rest) = line.split_once(' ').unwrap_or((line, ""));
+        match kind {
+            "new" => *self = Case::new(alloc),
+            "file" => self.add_file(alloc, rest)?,
+            "leave" => self.outputs.push(Text::copy_of(alloc, rest)?)?,
+            "give" => self.answer = hex::decode(alloc, rest).unwrap_or(Vec::new(alloc)),
+            "fail" => self.add_fault(rest)?,
+            _ => return Ok(format!(in alloc; "{line}\n")?),
+        }
+        Ok(String::new(alloc))
+    }
+
+    fn add_file(&mut self, alloc: Global, line: &str) -> Result<(), NoMemory> {
+        let (path, text) = line.split_once(' ').unwrap_or((line, ""));
+        let text = text.replace(alloc, "\u{240a}", "\n")?;
+        self.files.retain(|file| file.path.as_str() != path);
+        self.files
+            .push(file(alloc, path, text.as_str().as_bytes())?)?;
+        Ok(())
+    }
+
+    fn add_fault(&mut self, line: &str) -> Result<(), NoMemory> {
+        let (object, nth) = line.split_once(' ').unwrap_or((line, "1"));
+        let nth = nth.parse::<u64>().unwrap_or(1);
+        self.fails.push(FailAt {
+            on: object_of(object),
+            nth,
+        })?;
+        Ok(())
+    }
+
+    /// The script of one run, after which no call is to fail.
+    pub fn script(&mut self, alloc: Global) -> Result<Script, NoMemory> {
+        let mut files = Vec::new(alloc);
+        for it in &self.files {
+            files.push(file(alloc, it.path.as_str(), it.bytes.bytes())?)?;
+        }
+        let mut beats = Vec::new(alloc);
+        beats.push(Beat::Hear(1))?;
+        for output in &self.outputs {
+            let path = Text::copy_of(alloc, output.as_str())?;
+            beats.push(Beat::Leave(path, Blob::of(alloc, b"x".to_vec(alloc)?)?))?;
+        }
+        beats.push(Beat::Give(Vec::from_slice(alloc, self.answer.as_slice())?))?;
+        let mut lines = Vec::new(alloc);
+        lines.push(Some(beats))?;
+        let fails = std::mem::replace(&mut self.fails, Vec::new(alloc));
+        Ok(Script {
+            files,
+            lines,
+            fails,
+        })
+    }
+}
+
+fn file(alloc: Global, path: &str, bytes: &[u8]) -> Result<SourceFile, NoMemory> {
+    Ok(SourceFile {
+        path: Text::copy_of(alloc, path)?,
+        bytes: Blob::of(alloc, Vec::from_slice(alloc, bytes)?)?,
+    })
+}
+
+// The objects of the one line, berth and action that there are.
+fn object_of(name: &str) -> Object {
+    match name {
+        "floor" => Object::FloorRead,
+        "launch" => Object::Launch(0),
+        "clear" => Object::Clear(0),
+        "folder" => Object::Folder(0),
+        "put" => Object::Put(0),
+        "get" => Object::Get(0),
+        "feed" => Object::Feed(0),
+        "tap" => Object::Tap(0),
+        "place" => Object::Place(0),
+        _ => Object::Sink,
+    }
+}

@@ -1,0 +1,67 @@
+//! Plays whole runs in memory, and prints what each came to.
+//!
+//! | A line of standard input | Does |
+//! |---|---|
+//! | `file PATH TEXT` | a source from now on, in place of one with that path; `␊` in TEXT stands for a line feed |
+//! | `leave PATH` | the child leaves this output from now on |
+//! | `new` | no source and no output from now on |
+//! | `give BYTES` | the child's answer from now on, in hexadecimal |
+//! | `fail OBJECT NTH` | the NTH call on this object fails in the next run |
+//! | `run WORD WORD ..` | a run with these words: its status, entries, writes, whether all children were killed, its report, and the line of its fault |
+//! | `reads`, `room`, `given` | what the floor, the first berth and the first line tell of the last run |
+//!
+//! Other lines are printed as they are. `tools/fail-alloc` plays the first run with each allocation refused in turn.
+#![tactic(auto)]
+
+mod case;
+mod played;
+
+use case::Case;
+use outside_mem::MemFloor;
+use plain_values::NoMemory;
+use std::alloc::Global;
+use std::io::{ErrorKind, Read};
+use std::{io, str};
+use worker_run::Ended;
+
+fn main(rt: HostRuntime) -> io::Result<()> {
+    let alloc = rt.alloc();
+    let mut bytes = Vec::new(alloc);
+    rt.reader().read_to_end(&mut bytes)?;
+    let Ok(text) = str::from_utf8(&bytes) else {
+        return Err(io::Error::from(ErrorKind::InvalidData));
+    };
+    let mut case = Case::new(alloc);
+    let mut last: Option<Ended<MemFloor>> = None;
+    for line in text.lines() {
+        let (kind, rest) = line.split_once(' ').unwrap_or((line, ""));
+        let told = match kind {
+            "run" => {
+                let (ended, told) = played::run(&rt, alloc, &mut case, rest).map_err(no_memory)?;
+                last = Some(ended);
+                told
+            }
+            "reads" | "room" | "given" => tell_last(alloc, &last, kind).map_err(no_memory)?,
+            _ => case.note(alloc, line).map_err(no_memory)?,
+        };
+        rt.print(told.as_str())?;
+    }
+    Ok(())
+}
+
+fn no_memory(_: NoMemory) -> io::Error {
+    io::Error::from(ErrorKind::OutOfMemory)
+}
+
+fn tell_last(
+    alloc: Global,
+    last: &Option<Ended<MemFloor>>,
+    kind: &str,
+) -> Result<String, NoMemory> {
+    match (last, kind) {
+        (None, _) => Ok(String::from_str(alloc, "no run\n")?),
+        (Some(ended), "reads") => played::reads(alloc, ended),
+        (Some(ended), "room") => played::room(alloc, ended),
+        (Some(ended), _) => played::given(alloc, ended),
+    }
+}

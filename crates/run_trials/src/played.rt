@@ -1,0 +1,120 @@
+// One run, and what its objects tell.
+use crate::case::Case;
+use outside::BerthCall;
+use outside_mem::{MemFloor, MemSink};
+use plain_values::NoMemory;
+use std::alloc::Global;
+use std::sync::Wait;
+use std::thread::Threads;
+use worker_run::{Ended, fault_line, run_build};
+
+pub fn run<R: Threads + Wait + Sync>(
+    rt: &R,
+    alloc: Global,
+    case: &mut Case,
+    line: &str,
+) -> Result<(Ended<MemFloor>, String), NoMemory> {
+    let script = case.script(alloc)?;
+    let mut sink = Vec::new(alloc);
+    for fail in &script.fails {
+        sink.push(*fail)?;
+    }
+    let mut out = MemSink::new(alloc, sink);
+    let floor = MemFloor::new(alloc, script)?;
+    let words = words(alloc, line)?;
+    let ended = run_build(rt, alloc, words.as_slice(), floor, &mut out);
+    let told = tell(
+        alloc,
+        &ended,
+        std::str::from_utf8(out.bytes()).unwrap_or("no text"),
+    )?;
+    Ok((ended, told))
+}
+
+fn words(alloc: Global, line: &str) -> Result<Vec<String>, NoMemory> {
+    let mut words = Vec::new(alloc);
+    if !line.is_empty() {
+        for word in line.split(' ') {
+            words.push(String::from_str(alloc, word)?)?;
+        }
+    }
+    Ok(words)
+}
+
+fn tell(alloc: Global, ended: &Ended<MemFloor>, report: &str) -> Result<String, NoMemory> {
+    let writes: &[_] = match ended.places.first() {
+        Some(place) => place.log(),
+        None => &[],
+    };
+    let killed = ended.lines.iter().all(|line| line
+        .halves
+        .as_ref()
+        .is_none_or(|halves| halves.child.is_killed()));
+    let mut told = format!(in alloc;
+        "status {} entries {} writes {} killed {killed}\n{report}",
+        ended.status,
+        ended.journal.entries().len(),
+        writes.len()
+    )?;
+    if let Some(fault) = &ended.fault {
+        told.push_str(fault_line(alloc, fault)?.as_str())?;
+        told.push_str("\n")?;
+    }
+    Ok(told)
+}
+
+/// The paths that the floor was asked for, in order.
+pub fn reads(alloc: Global, ended: &Ended<MemFloor>) -> Result<String, NoMemory> {
+    let mut told = String::from_str(alloc, "reads")?;
+    for read in ended.floor.log() {
+        told.push_str(" ")?;
+        told.push_str(read.path.as_str())?;
+    }
+    told.push_str("\n")?;
+    Ok(told)
+}
+
+/// The calls on the first berth, one a line.
+pub fn room(alloc: Global, ended: &Ended<MemFloor>) -> Result<String, NoMemory> {
+    let mut told = String::new(alloc);
+    let calls = match ended.berths.first() {
+        Some(berth) => berth.log().unwrap_or(&[]),
+        None => &[],
+    };
+    for call in calls {
+        let line = match call {
+            BerthCall::Launch { command, .. } => launch(alloc, command)?,
+            BerthCall::Clear { part, .. } => format!(in alloc; "clear {}\n", part.as_str())?,
+            BerthCall::Folder { path, .. } => format!(in alloc; "folder {}\n", path.as_str())?,
+            BerthCall::Put { path, .. } => format!(in alloc; "put {}\n", path.as_str())?,
+            BerthCall::Get { path, .. } => format!(in alloc; "get {}\n", path.as_str())?,
+        };
+        told.push_str(line.as_str())?;
+    }
+    Ok(told)
+}
+
+fn launch(alloc: Global, command: &outside::Command) -> Result<String, NoMemory> {
+    let mut line = format!(in alloc; "launch {}", command.program.as_str())?;
+    for word in command.words.as_slice() {
+        line.push_str(" ")?;
+        line.push_str(word.as_str())?;
+    }
+    for variable in command.env.as_slice() {
+        let set = format!(in alloc; " {}={}", variable.name.as_str(), variable.value.as_str())?;
+        line.push_str(set.as_str())?;
+    }
+    line.push_str("\n")?;
+    Ok(line)
+}
+
+/// The bytes that the first line was given, in hexadecimal.
+pub fn given(alloc: Global, ended: &Ended<MemFloor>) -> Result<String, NoMemory> {
+    match ended.lines.first().and_then(|line| line.halves.as_ref()) {
+        Some(halves) => {
+            let digits = hex::encode(alloc, halves.feed.given())?;
+            Ok(format!(in alloc; "given {}\n", digits.as_str())?)
+        }
+        None => Ok(String::from_str(alloc, "given nothing\n")?),
+    }
+}
