@@ -205,10 +205,11 @@ pub fn ends_are_exact()
 {}
 
 /// An attempt that was begun and hasn't ended is its branch's latest, within the limit, with its
-/// inputs made, and wanted unless its action has a grant. Such are those that a Launched or a
-/// Wrote is about, the pending ones, and those that were matched and not claimed. What is
-/// gathered, or is claimed of an action without a grant, is of an action that isn't settled; and
-/// a branch that was granted makes no Claim again.
+/// inputs made, and wanted unless its action has a grant. Such are those that a Launched is
+/// about, or a Wrote unless its line has ended without an answer to it, the pending ones, and
+/// those that were written, answered and not claimed. What is gathered, or is claimed of an
+/// action without a grant, is of an action that isn't settled; and a branch that was granted
+/// makes no Claim again.
 pub fn attempts_stand()
     ensures going { (p : Plan) (j : List Entry) (t : Attempt) → Legal p j → begun j t ≡ true
         → ended j t ≡ false → IsGoing j t }
