@@ -1,5 +1,5 @@
 -- Paid calls are answered Noted, stay paid for, and are counted.
-use Rattle.std.proofs.Common.{◌≡◌, ℕ, zero, suc, ◌+◌, ◌*◌, ◌<◌, ◌≤◌, ◌==◌, nat_lt, Bool, true, false, ◌&&◌, ◌||◌, not, List, [], ◌∷◌, Option, Some, None, inl, inr, refl, ap, sym, subst, ◌∙◌, arith}
+use Rattle.std.proofs.Common.{◌≡◌, ℕ, zero, suc, ◌+◌, ◌*◌, ◌<◌, ◌≤◌, ◌==◌, nat_lt, Bool, true, false, ◌&&◌, ◌||◌, not, List, [], ◌∷◌, Option, Some, None, inl, inr, refl, ap, arith}
 use Rattle.std.proofs.lemmas.Bool.{eq-eqb, ne_eqb, and_parts, ltb-true, cases_lt}
 use Rattle.run_plan.specs.declared.plan.Branch.{Branch}
 use Rattle.run_plan.specs.declared.plan.Plan.{Plan}
@@ -13,9 +13,9 @@ use Rattle.exec_journal.specs.declared.reply.Reply.TheVariants as reply
 use Rattle.exec_journal.specs.Entries.{is_kept, is_halt, is_stop}
 use Rattle.exec_journal.specs.Words.{last_work, stopped, has_halted}
 use Rattle.exec_journal.specs.Rules.{rule}
-use Rattle.exec_journal.specs.Scripts.{owes_commit, is_commit_of, is_owed_commit}
+use Rattle.exec_journal.specs.Scripts.{owes_commit, is_commit_of}
 use Rattle.exec_journal.specs.Legal.{after}
-use Rattle.journal_laws.specs.Paid.{may_halt, is_paid, wins_files, owes_files, count, lane_owes, lanes_owe, owes}
+use Rattle.journal_laws.specs.Paid.{is_paid, wins_files, owes_files, count, lane_owes, lanes_owe, owes}
 
 -- ---- the reply
 

@@ -1,13 +1,10 @@
 -- `is_legal` decides `Legal`.
-use Rattle.std.proofs.Common.{◌≡◌, ℕ, ◌==◌, Bool, true, false, ◌&&◌, List, [], ◌∷◌, refl, subst, ℤ}
-use Rattle.std.specs.Prelude.{bytes_eq}
+use Rattle.std.proofs.Common.{◌≡◌, ◌==◌, Bool, true, false, ◌&&◌, List, [], ◌∷◌, refl, subst, ℤ}
 use Rattle.std.specs.Ordering.{int_eq}
 use Rattle.std.proofs.lemmas.Bool.{eqb-true, eq-eqb, and_parts, and_from}
 use Rattle.std.proofs.lemmas.Bool.Decides.{Decides-int_eq}
 use Rattle.std.proofs.lemmas.Slice.Eq.{bytes_eq-Decides}
-use Rattle.run_plan.specs.declared.plan.Branch.{Branch}
 use Rattle.run_plan.specs.declared.plan.Plan.{Plan}
-use Rattle.exec_journal.specs.declared.attempt.Attempt.{Attempt}
 use Rattle.exec_journal.specs.declared.journal.Entry.{Entry}
 use Rattle.exec_journal.specs.declared.reply.Reply.{Reply}
 use Rattle.exec_journal.specs.declared.reply.Reply.TheVariants as reply
@@ -17,10 +14,10 @@ use Rattle.exec_journal.specs.declared.reply.StrayWhy.{StrayWhy}
 use Rattle.exec_journal.specs.declared.reply.StrayWhy.TheVariants as stray
 use Rattle.exec_journal.specs.declared.reply.Why.{Why}
 use Rattle.exec_journal.specs.declared.reply.Why.TheVariants as why
-use Rattle.exec_journal.specs.Entries.{attempt_of, same_attempt, is_kept}
+use Rattle.exec_journal.specs.Entries.{attempt_of, same_attempt}
 use Rattle.exec_journal.specs.Rules.{rule}
 use Rattle.exec_journal.specs.Scripts.{script}
-use Rattle.exec_journal.specs.Legal.{Legal, LegalEntry}
+use Rattle.exec_journal.specs.Legal.{Legal}
 use Rattle.exec_journal.proofs.Begins.{same_attempt_eq, same_attempt_refl}
 use Rattle.journal_laws.specs.IsLegal.{same_answer, same_why, same_stray, same_breach, same_reply, is_legal}
 

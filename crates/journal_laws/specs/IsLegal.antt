@@ -40,12 +40,14 @@ same_breach _ _ = false
 
 -- the two replies are equal
 unfoldable pub same_reply : Reply → Reply → Bool
-same_reply (reply.Launch l a b t) (reply.Launch m c d u) = (l == m) && same_attempt (attempt_of a b t) (attempt_of c d u)
+same_reply (reply.Launch l a b t) (reply.Launch m c d u) =
+    (l == m) && same_attempt (attempt_of a b t) (attempt_of c d u)
 same_reply (reply.Send l n a b t) (reply.Send m o c d u) =
     (l == m) && (int_eq n o && same_attempt (attempt_of a b t) (attempt_of c d u))
 same_reply (reply.Cancel l n) (reply.Cancel m o) = (l == m) && int_eq n o
 same_reply (reply.Gather l n a b t e r) (reply.Gather m o c d u f s) =
-    ((l == m) && (int_eq n o && same_attempt (attempt_of a b t) (attempt_of c d u))) && (int_eq e f && same_answer r s)
+    ((l == m) && (int_eq n o && same_attempt (attempt_of a b t) (attempt_of c d u)))
+    && (int_eq e f && same_answer r s)
 same_reply (reply.Kill l y) (reply.Kill m z) = (l == m) && same_why y z
 same_reply reply.Stop reply.Stop = true
 same_reply reply.Idle reply.Idle = true
@@ -57,8 +59,10 @@ same_reply reply.Lost reply.Lost = true
 same_reply reply.Dropped reply.Dropped = true
 same_reply reply.AgainLater reply.AgainLater = true
 same_reply (reply.Line l) (reply.Line m) = l == m
-same_reply (reply.Matched a b t) (reply.Matched c d u) = same_attempt (attempt_of a b t) (attempt_of c d u)
-same_reply (reply.Late a b t) (reply.Late c d u) = same_attempt (attempt_of a b t) (attempt_of c d u)
+same_reply (reply.Matched a b t) (reply.Matched c d u) =
+    same_attempt (attempt_of a b t) (attempt_of c d u)
+same_reply (reply.Late a b t) (reply.Late c d u) =
+    same_attempt (attempt_of a b t) (attempt_of c d u)
 same_reply reply.Greeted reply.Greeted = true
 same_reply (reply.Stray y) (reply.Stray z) = same_stray y z
 same_reply (reply.Breach y) (reply.Breach z) = same_breach y z

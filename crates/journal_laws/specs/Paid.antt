@@ -15,7 +15,7 @@ use Rattle.exec_journal.specs.Scripts.{is_owed_commit}
 abbrev pub may_halt : List Entry → ℕ → Bool
 may_halt j lane = not (stopped j lane) && not (has_halted j lane)
 
--- one Halt of each lane of the plan that neither stopped nor halted, and the Committed that a lane owes
+-- one Halt of each lane of the plan that neither stopped nor halted, and a Committed that is owed
 abbrev pub is_paid : Plan → List Entry → ℕ → Call → Bool
 is_paid p j lane call.Halt = nat_lt lane (2 * berths p) && may_halt j lane
 is_paid p j lane c = nat_lt lane (2 * berths p) && is_owed_commit c (last_work j lane)

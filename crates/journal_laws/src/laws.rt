@@ -1,4 +1,5 @@
-//! What holds of every legal journal. The functions do nothing: each is a law, for those who keep tables of a journal.
+//! What holds of every legal journal. The functions do nothing: each is a law, for those who keep
+//! tables of a journal.
 ghost use Rattle.std.specs.Prelude.{◌≡◌, ◌≤◌, ◌<◌, ◌*◌, ◌/◌, ◌⊎◌, ◌↔◌, ◌+◌, ◌==◌, ◌&&◌, ◌||◌, not, ℕ, ℤ, List, [], ◌∷◌, length, Some, None, true, false, slice_get};
 ghost use Rattle.std.specs.List.{list_all};
 ghost use Rattle.exec_journal.specs.declared.attempt.Attempt.{Attempt};
@@ -40,7 +41,8 @@ ghost use Rattle.journal_laws.specs.Finished.{Finished};
 ghost use Rattle.journal_laws.specs.Paid.{is_paid, owes};
 ghost use Rattle.exec_journal.specs.Facts.{begun, IsOfBerth, NameTheirLines, IsFresh, AttemptsInOrder, BeginInOrder, SameActions, SameStandings};
 
-/// Lines are numbered in order, each line that an entry names was launched, and a lane names only lines of its own berth.
+/// Lines are numbered in order, each line that an entry names was launched, and a lane names only
+/// lines of its own berth.
 pub fn lines_are_numbered()
     ensures { (p : Plan) (j : List Entry) → Legal p j → NameTheirLines j }
 {}
@@ -50,12 +52,14 @@ pub fn new_lines_are_fresh()
     ensures { (p : Plan) (j : List Entry) (l : ℕ) → Legal p j → line_count j ≤ l → IsFresh j l }
 {}
 
-/// Attempts of a branch run from 1 to its latest, at most to the limit, and all but the latest have ended.
+/// Attempts of a branch run from 1 to its latest, at most to the limit, and all but the latest
+/// have ended.
 pub fn attempts_run_in_order()
     ensures { (p : Plan) (j : List Entry) → Legal p j → AttemptsInOrder p j }
 {}
 
-/// Each attempt is launched at most once and sent at most once, and begins only where the one before it has ended.
+/// Each attempt is launched at most once and sent at most once, and begins only when the one
+/// before it has ended.
 pub fn attempts_begin_once()
     ensures { (p : Plan) (j : List Entry) → Legal p j → BeginInOrder j }
 {}
@@ -66,12 +70,14 @@ pub fn ends_are_final()
         → end_of (e ∷ j) t ≡ Some c }
 {}
 
-/// Where no attempt ends and nothing is granted or committed, all stays that is settled, ready or wanted.
+/// If no attempt ends and nothing is granted or committed, all stays as it was: what is settled,
+/// ready and wanted.
 pub fn standings_stay()
     ensures { (p : Plan) (j k : List Entry) → SameActions j k → SameStandings p j k }
 {}
 
-/// An action is granted once, and its files are committed once, by the lane that was granted them.
+/// An action is granted once, and its files are committed once, by the lane that was granted
+/// them.
 pub fn branches_win_once()
     ensures { (p : Plan) (j : List Entry) → Legal p j → Race j }
 {}
@@ -81,12 +87,12 @@ pub fn answers_are_paired()
     ensures { (p : Plan) (j : List Entry) → Legal p j → Paired p j }
 {}
 
-/// What is said of each order holds where it is given, and at most one line of a berth is live.
+/// What is said of each order holds when it is given, and at most one line of a berth is live.
 pub fn orders_are_kept()
     ensures { (p : Plan) (j : List Entry) → Sound p → Legal p j → Kept p j }
 {}
 
-/// Where a lane is told to stop and none has halted, all actions are settled and nothing is lost.
+/// When a lane is told to stop and none has halted, all actions are settled and nothing is lost.
 pub fn stops_settle_all()
     ensures settled { (p : Plan) (j : List Entry) (lane : ℕ) (c : Call)
         → rule p j lane c ≡ reply.Stop → halted j ≡ false → all_settled p j ≡ true }
@@ -96,14 +102,18 @@ pub fn stops_settle_all()
         → rule p j lane c ≡ reply.Stop → halted j ≡ false → Accounted p j }
 {}
 
-/// And where every worker did its part, every action has success.
+/// When a lane is told to stop, none has halted and every worker did its part, every action has
+/// success.
 pub fn clean_runs_succeed()
     ensures { (p : Plan) (j : List Entry) (lane : ℕ) (c : Call) → Sound p → Legal p j → Clean j
         → halted j ≡ false → rule p j lane c ≡ reply.Stop → (a : ℕ) (x : PlanAction)
         → slice_get p.actions a ≡ Some x → is_ok (outcome_of p j a) ≡ true }
 {}
 
-/// Where an attempt begins, and where a request is sent.
+/// An entry that begins an attempt for the first time ends, grants and commits nothing. A Launch
+/// is of a new line, and of a wanted branch's attempt of which nothing was said yet. A Send goes
+/// to a line of the lane's berth that hasn't ended and has a place for it, with the line's next
+/// number, and nothing was said yet of its request.
 pub fn begins_are_fresh()
     ensures begins { (p : Plan) (e : Entry) (j : List Entry) (t : Attempt) → Legal p (e ∷ j)
         → begun_in e.reply ≡ Some t → begun j t ≡ false → BeginsOne j e t }
@@ -116,7 +126,8 @@ pub fn begins_are_fresh()
         → 1 ≤ p.limit → send_in e.reply ≡ Some x → IsNumberedSend p j e.lane x }
 {}
 
-/// Which attempts end with an entry.
+/// An attempt ends only by a fault of its own, or when its line has ended and it has no answer or
+/// its feed failed; and each of these ends it, unless its action has a grant.
 pub fn ends_are_told()
     ensures only { (p : Plan) (e : Entry) (j : List Entry) (t : Attempt) → Legal p (e ∷ j)
         → ended (e ∷ j) t ≡ true → ended j t ≡ false → EndsWith j e t }
@@ -124,7 +135,9 @@ pub fn ends_are_told()
         → EndsWith j e t → granted (e ∷ j) t.action ≡ false → ended (e ∷ j) t ≡ true }
 {}
 
-/// Grants, Claims and commits.
+/// A Claim is of an attempt under way that was gathered and not claimed before. A grant is its
+/// action's first, and its attempt never ends. A Committed is the first of its branch, and that
+/// was granted files.
 pub fn claims_are_due()
     ensures claims { (p : Plan) (e : Entry) (j : List Entry) (t : Attempt) → Legal p (e ∷ j)
         → claims_it t e.call ≡ true → IsClaimable j t }
@@ -137,7 +150,11 @@ pub fn claims_are_due()
         → IsGrantedFiles j a b }
 {}
 
-/// What is wanted, bound and pending.
+/// A branch that isn't wanted isn't wanted again, and what is bound to a line is carried by it. A
+/// pending request is of an action of the plan, and is unwanted exactly when that has a grant.
+/// The requests of a line are numbered; of all pending ones exactly those of the attempt that an
+/// Answer or a Wrote is about have its number on its line; a request has one Wrote; and once a
+/// line has ended, no attempt that it carries is pending.
 pub fn branches_stand()
     ensures wanted { (p : Plan) (e : Entry) (j : List Entry) → Legal p (e ∷ j)
         → WantedFollows p j e }
@@ -157,7 +174,10 @@ pub fn branches_stand()
         → line_of j s ≡ Some l → has_ended j l ≡ true → IsPastAttempt j s }
 {}
 
-/// Exactly which attempts end with an entry of each kind.
+/// Exactly which attempts end with an entry. With a Launched that failed, a Wrote that says
+/// unwritten and a refused Claim it is the attempt that these are about; with an Ended, each one
+/// that is left on the line; with a failed feed, that request's if its line has ended; with any
+/// other call, none. Of an action with a grant none ends.
 pub fn ends_are_exact()
     ensures launched { (p : Plan) (e : Entry) (j : List Entry) (l m : ℕ) (how : Started)
         (s : Attempt) → Legal p (e ∷ j) → e.call ≡ call.Launched l how → is_done how ≡ false
@@ -184,7 +204,12 @@ pub fn ends_are_exact()
         → ended (e ∷ j) t ≡ true → ended j t ≡ false → begun_in e.reply ≡ None → IsGoing j t }
 {}
 
-/// What was begun, and what is under way.
+/// An attempt that was begun and hasn't ended is its branch's latest, within the limit, with its
+/// inputs made, and wanted unless its action has a grant. Such are those that a Launched is
+/// about, or a Wrote unless its line has ended without an answer to it, the pending ones, and
+/// those that were written, answered and not claimed. What is gathered, or is claimed of an
+/// action without a grant, is of an action that isn't settled; and a branch that was granted
+/// makes no Claim again.
 pub fn attempts_stand()
     ensures going { (p : Plan) (j : List Entry) (t : Attempt) → Legal p j → begun j t ≡ true
         → ended j t ≡ false → IsGoing j t }
@@ -224,7 +249,8 @@ pub fn attempts_stand()
         → attempt (e ∷ j) a b ≡ attempt j a b }
 {}
 
-/// What is settled stays settled and has an outcome, and each request is accounted for at each moment.
+/// What is settled stays settled and has an outcome, what is ready stays ready, and each request
+/// is accounted for at each moment.
 pub fn standings_grow()
     ensures settled { (p : Plan) (e : Entry) (j : List Entry) (a : ℕ) → Legal p (e ∷ j)
         → settled p j a ≡ true → settled p (e ∷ j) a ≡ true }
@@ -239,7 +265,8 @@ pub fn standings_grow()
         → list_all (is_request_accounted j) (each (λ _ e. send_in e.reply) j) ≡ true }
 {}
 
-/// A line is killed once, ends once, and where it was given up it has nothing left to do.
+/// A line is killed once and ends once; and one that was given up has nothing left to do, if no
+/// lane has halted.
 pub fn lines_end_once()
     ensures kills { (p : Plan) (e : Entry) (j : List Entry) (l : ℕ) → Legal p (e ∷ j)
         → orders_kill l e.reply ≡ true → KillsOnce j e l }
@@ -264,7 +291,10 @@ pub fn lines_end_once()
         → given_up j l ≡ true → IsDone p j l }
 {}
 
-/// Where lines and requests stand, and how many there are.
+/// There are at most as many lines as the two branches of all actions have attempts, and a Single
+/// line has at most one pending request. What an Answer or a Wrote is about stands among the
+/// requests of its line, what was answered is no longer pending, and an answer that says
+/// cancelled is never matched.
 pub fn requests_have_places()
     ensures lines { (p : Plan) (j : List Entry) (l : ℕ) → Legal p j → 1 ≤ p.limit
         → l < line_count j → l < 2 * length p.actions * p.limit }
@@ -281,8 +311,8 @@ pub fn requests_have_places()
         → x.cancelled ≡ false }
 {}
 
-/// A greeting is an executor's first answer. It changes nothing of lines, requests and attempts, its line stays greeted, and
-/// an executor's line gets a Cancel only once it has greeted.
+/// A greeting is an executor's first answer. It changes nothing of lines, requests and attempts,
+/// its line stays greeted, and an executor's line gets a Cancel only once it has greeted.
 pub fn greetings_come_first()
     ensures is { (p : Plan) (e : Entry) (j : List Entry) (l : ℕ) (x : Answer) → Legal p (e ∷ j)
         → e.call ≡ call.Answer l x → e.reply ≡ reply.Greeted → IsGreeting p j e.lane l x }
@@ -309,7 +339,8 @@ pub fn legal_is_decided()
     ensures { (p : Plan) (j : List Entry) → (is_legal p j ≡ true) ↔ Legal p j }
 {}
 
-/// A run is finished where a lane is told to stop and none has halted, and stays finished.
+/// A run is finished when a lane is told to stop and none has halted: all actions are settled,
+/// each has an outcome, and nothing is lost. It stays finished.
 pub fn stops_finish_runs()
     ensures stops { (p : Plan) (j : List Entry) (lane : ℕ) (c : Call) → Sound p → Legal p j
         → rule p j lane c ≡ reply.Stop → halted j ≡ false → Finished p j }
@@ -319,9 +350,9 @@ pub fn stops_finish_runs()
         → Finished p j → Finished p (e ∷ j) }
 {}
 
-/// At first each lane of the plan owes one call, its Halt.
-/// A paid call is in its lane's script, is answered Noted, and stays paid for after entries of
-/// other lanes. With it one less is owed, and with any other call at most one more.
+/// At first each lane of the plan owes one call, its Halt. A paid call is in its lane's script,
+/// is answered Noted, and stays paid for after entries of other lanes. With it one less is owed,
+/// and with any other call at most one more.
 pub fn paid_calls_are_noted()
     ensures first { (p : Plan) → owes p [] ≡ 2 * berths p }
     ensures allowed { (p : Plan) (j : List Entry) (lane : ℕ) (c : Call) → Legal p j

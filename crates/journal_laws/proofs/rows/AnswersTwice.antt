@@ -17,7 +17,7 @@ use Rattle.exec_journal.specs.declared.reply.Why.TheVariants as why
 use Rattle.exec_journal.specs.Outcomes as o
 use Rattle.exec_journal.proofs.Parts.{entry, answer, worker, plan_of, single}
 use Rattle.journal_laws.specs.IsLegal.{is_legal}
-use Rattle.journal_laws.proofs.rows.Opened.{words}
+use Rattle.journal_laws.proofs.rows.Opened.{words, misses}
 
 unfoldable pub plan : Plan
 unfolding plan_of worker single
@@ -62,17 +62,17 @@ unfolding plan twice words
 twice_legal = refl
 
 -- an answer is not consumed twice
-matched_twice : is_legal plan (entry 1 (call.Answer 0 answer) (reply.Matched 0 Local 1) ∷ twice_6) ≡ false
+matched_twice : misses plan (entry 1 (call.Answer 0 answer) (reply.Matched 0 Local 1) ∷ twice_6) ≡ true
 unfolding plan twice_6 words
 matched_twice = refl
 
 -- the Kill names the first break
-wrong_reason : is_legal plan (entry 0 call.Ask (reply.Kill 0 why.Ended) ∷ twice_7) ≡ false
+wrong_reason : misses plan (entry 0 call.Ask (reply.Kill 0 why.Ended) ∷ twice_7) ≡ true
 unfolding plan twice_7 words
 wrong_reason = refl
 
 -- nothing is launched into a room whose outputs are still to be gathered
-launch_too_early : is_legal plan (entry 0 call.Ask (reply.Launch 1 1 Local 1) ∷ twice_10) ≡ false
+launch_too_early : misses plan (entry 0 call.Ask (reply.Launch 1 1 Local 1) ∷ twice_10) ≡ true
 unfolding plan twice_10 words
 launch_too_early = refl
 

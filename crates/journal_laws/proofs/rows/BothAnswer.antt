@@ -17,7 +17,7 @@ use Rattle.exec_journal.specs.Paired.{Paired}
 use Rattle.exec_journal.proofs.Parts.{entry, answer, with_file, dynamic, plan_of, single, remote}
 use Rattle.journal_laws.specs.IsLegal.{is_legal}
 use Rattle.journal_laws.specs.Paid.{is_paid, owes}
-use Rattle.journal_laws.proofs.rows.Opened.{words}
+use Rattle.journal_laws.proofs.rows.Opened.{words, misses}
 
 unfoldable pub plan : Plan
 unfolding plan_of dynamic single remote
@@ -65,12 +65,12 @@ unfolding plan both words
 both_legal = refl
 
 -- the other branch is not granted too
-granted_twice : is_legal plan (entry 0 (call.Claim 0 Local 1 (found.Files ((120 ∷ []) ∷ []))) reply.Granted ∷ both_15) ≡ false
+granted_twice : misses plan (entry 0 (call.Claim 0 Local 1 (found.Files ((120 ∷ []) ∷ []))) reply.Granted ∷ both_15) ≡ true
 unfolding plan both_15 words
 granted_twice = refl
 
 -- the first claim is not lost
-nobody_wins : is_legal plan (entry 2 (call.Claim 0 Remote 1 (found.Files ((120 ∷ []) ∷ []))) reply.Lost ∷ both_14) ≡ false
+nobody_wins : misses plan (entry 2 (call.Claim 0 Remote 1 (found.Files ((120 ∷ []) ∷ []))) reply.Lost ∷ both_14) ≡ true
 unfolding plan both_14 words
 nobody_wins = refl
 

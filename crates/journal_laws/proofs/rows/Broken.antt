@@ -1,8 +1,7 @@
 -- Journals that break what is said of every legal one, and that the definitions refuse. None of them is legal.
-use Rattle.std.specs.Prelude.{◌≡◌, ℕ, refl, true, false, Some, None, List, [], ◌∷◌, pos, codes}
+use Rattle.std.specs.Prelude.{◌≡◌, refl, true, false, List, [], ◌∷◌, pos}
 use Rattle.run_plan.specs.declared.plan.Branch.TheVariants.{Local, Remote}
 use Rattle.run_plan.specs.declared.plan.Plan.{Plan}
-use Rattle.run_plan.specs.declared.plan.PlanAction.{PlanAction}
 use Rattle.exec_journal.specs.declared.journal.Entry.{Entry}
 use Rattle.exec_journal.specs.declared.call.Call.TheVariants as call
 use Rattle.exec_journal.specs.declared.call.CommitEnd.TheVariants as commit
@@ -17,7 +16,7 @@ use Rattle.exec_journal.specs.Race.{Race}
 use Rattle.exec_journal.specs.Paired.{Paired}
 use Rattle.exec_journal.specs.Kept.{Kept}
 use Rattle.exec_journal.specs.Accounted.{Accounted}
-use Rattle.exec_journal.proofs.Parts.{entry, answer, numbered, worker, dynamic, plan_of, single, multi, remote}
+use Rattle.exec_journal.proofs.Parts.{entry, numbered, worker, dynamic, plan_of, single, multi, remote}
 use Rattle.journal_laws.proofs.rows.Opened.{words}
 
 -- two dynamic actions, a Single berth and an executor's

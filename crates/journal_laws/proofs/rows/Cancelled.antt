@@ -15,9 +15,9 @@ use Rattle.exec_journal.specs.declared.reply.BreachWhy.TheVariants as breach
 use Rattle.exec_journal.specs.declared.reply.Why.TheVariants as why
 use Rattle.exec_journal.specs.Outcomes as o
 use Rattle.exec_journal.specs.Rules.{rule}
-use Rattle.exec_journal.proofs.Parts.{entry, answer, with_file, said_cancelled, worker, dynamic, plan_of, cancelling, remote}
+use Rattle.exec_journal.proofs.Parts.{entry, answer, with_file, said_cancelled, dynamic, plan_of, cancelling, remote}
 use Rattle.journal_laws.specs.IsLegal.{is_legal}
-use Rattle.journal_laws.proofs.rows.Opened.{words}
+use Rattle.journal_laws.proofs.rows.Opened.{words, misses}
 
 unfoldable pub plan : Plan
 unfolding plan_of dynamic cancelling remote
@@ -66,17 +66,17 @@ unfolding plan cancelled words
 cancelled_legal = refl
 
 -- after the grant an answer comes late
-late_matched : is_legal plan (entry 1 (call.Answer 0 answer) (reply.Matched 0 Local 1) ∷ cancelled_16) ≡ false
+late_matched : misses plan (entry 1 (call.Answer 0 answer) (reply.Matched 0 Local 1) ∷ cancelled_16) ≡ true
 unfolding plan cancelled_16 words
 late_matched = refl
 
 -- a worker with cancellation is not killed
-killed_too : is_legal plan (entry 0 call.Ask (reply.Kill 0 why.Unwanted) ∷ cancelled_14) ≡ false
+killed_too : misses plan (entry 0 call.Ask (reply.Kill 0 why.Unwanted) ∷ cancelled_14) ≡ true
 unfolding plan cancelled_14 words
 killed_too = refl
 
 -- a request is cancelled once
-cancelled_twice : is_legal plan (entry 0 call.Ask (reply.Cancel 0 (pos 0)) ∷ cancelled_16) ≡ false
+cancelled_twice : misses plan (entry 0 call.Ask (reply.Cancel 0 (pos 0)) ∷ cancelled_16) ≡ true
 unfolding plan cancelled_16 words
 cancelled_twice = refl
 

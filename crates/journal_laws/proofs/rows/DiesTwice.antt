@@ -19,9 +19,9 @@ use Rattle.exec_journal.specs.Outcomes as o
 use Rattle.exec_journal.specs.Rules.{rule}
 use Rattle.exec_journal.specs.Race.{Race}
 use Rattle.exec_journal.specs.Paired.{Paired}
-use Rattle.exec_journal.proofs.Parts.{entry, answer, with_file, dynamic, plan_of, single, remote}
+use Rattle.exec_journal.proofs.Parts.{entry, with_file, dynamic, plan_of, single, remote}
 use Rattle.journal_laws.specs.IsLegal.{is_legal}
-use Rattle.journal_laws.proofs.rows.Opened.{words}
+use Rattle.journal_laws.proofs.rows.Opened.{words, misses}
 
 unfoldable pub plan : Plan
 unfolding plan_of dynamic single remote
@@ -85,17 +85,17 @@ unfolding plan dies_twice_21 words
 answered_file = refl
 
 -- the next attempt has the next number
-first_attempt_again : is_legal plan (entry 0 call.Ask (reply.Launch 2 0 Local 1) ∷ dies_twice_12) ≡ false
+first_attempt_again : misses plan (entry 0 call.Ask (reply.Launch 2 0 Local 1) ∷ dies_twice_12) ≡ true
 unfolding plan dies_twice_12 words
 first_attempt_again = refl
 
 -- a new line has a new number
-line_again : is_legal plan (entry 0 call.Ask (reply.Launch 1 0 Local 2) ∷ dies_twice_12) ≡ false
+line_again : misses plan (entry 0 call.Ask (reply.Launch 1 0 Local 2) ∷ dies_twice_12) ≡ true
 unfolding plan dies_twice_12 words
 line_again = refl
 
 -- a broken line is killed before anything is launched
-third_attempt : is_legal plan (entry 0 call.Ask (reply.Launch 3 0 Local 3) ∷ dies_twice_18) ≡ false
+third_attempt : misses plan (entry 0 call.Ask (reply.Launch 3 0 Local 3) ∷ dies_twice_18) ≡ true
 unfolding plan dies_twice_18 words
 third_attempt = refl
 

@@ -9,9 +9,9 @@ use Rattle.exec_journal.specs.declared.call.Written.TheVariants as write
 use Rattle.exec_journal.specs.declared.reply.Reply.TheVariants as reply
 use Rattle.exec_journal.specs.declared.reply.StrayWhy.TheVariants as stray
 use Rattle.exec_journal.specs.Words as w
-use Rattle.exec_journal.proofs.Parts.{entry, answer, numbered, worker, plan_of, multi}
+use Rattle.exec_journal.proofs.Parts.{entry, numbered, worker, plan_of, multi}
 use Rattle.journal_laws.specs.IsLegal.{is_legal}
-use Rattle.journal_laws.proofs.rows.Opened.{words}
+use Rattle.journal_laws.proofs.rows.Opened.{words, misses}
 
 unfoldable pub plan : Plan
 unfolding plan_of worker multi
@@ -54,17 +54,17 @@ unfolding plan out_of_order words
 out_of_order_legal = refl
 
 -- an answer is not matched with the oldest request
-oldest_match : is_legal plan (entry 1 (call.Answer 0 (numbered 2)) (reply.Matched 0 Local 1) ∷ out_of_order_7) ≡ false
+oldest_match : misses plan (entry 1 (call.Answer 0 (numbered 2)) (reply.Matched 0 Local 1) ∷ out_of_order_7) ≡ true
 unfolding plan out_of_order_7 words
 oldest_match = refl
 
 -- a number is not used again on its line
-number_again : is_legal plan (entry 0 call.Ask (reply.Send 0 (pos 1) 1 Local 1) ∷ out_of_order_4) ≡ false
+number_again : misses plan (entry 0 call.Ask (reply.Send 0 (pos 1) 1 Local 1) ∷ out_of_order_4) ≡ true
 unfolding plan out_of_order_4 words
 number_again = refl
 
 -- the match that came first is gathered first
-second_gathered : is_legal plan (entry 0 call.Ask (reply.Gather 0 (pos 1) 0 Local 1 (pos 0) false) ∷ out_of_order_11) ≡ false
+second_gathered : misses plan (entry 0 call.Ask (reply.Gather 0 (pos 1) 0 Local 1 (pos 0) false) ∷ out_of_order_11) ≡ true
 unfolding plan out_of_order_11 words
 second_gathered = refl
 

@@ -1,5 +1,5 @@
 -- Two requests on a line with a part of the room for each: each has its number, and each is gathered by it.
-use Rattle.std.specs.Prelude.{◌≡◌, refl, true, false, Some, List, [], ◌∷◌, pos}
+use Rattle.std.specs.Prelude.{◌≡◌, refl, true, false, List, [], ◌∷◌, pos}
 use Rattle.run_plan.specs.declared.plan.Branch.TheVariants.{Local}
 use Rattle.run_plan.specs.declared.plan.Group.{Group}
 use Rattle.run_plan.specs.declared.plan.Kind.TheVariants as kind
@@ -16,7 +16,7 @@ use Rattle.exec_journal.specs.declared.reply.Why.TheVariants as why
 use Rattle.exec_journal.specs.Outcomes as o
 use Rattle.exec_journal.proofs.Parts.{entry, numbered, worker, plan_of}
 use Rattle.journal_laws.specs.IsLegal.{is_legal}
-use Rattle.journal_laws.proofs.rows.Opened.{words}
+use Rattle.journal_laws.proofs.rows.Opened.{words, misses}
 
 unfoldable pub boxed : Group
 boxed = record { kind = kind.Boxed; cancel = false; berths = 1 }
@@ -66,27 +66,27 @@ unfolding plan two_boxed words
 two_boxed_legal = refl
 
 -- the second request doesn't get the part of the first
-part_again : is_legal plan (entry 0 call.Ask (reply.Send 0 (pos 1) 1 Local 1) ∷ boxed_4) ≡ false
+part_again : misses plan (entry 0 call.Ask (reply.Send 0 (pos 1) 1 Local 1) ∷ boxed_4) ≡ true
 unfolding plan boxed_4 words
 part_again = refl
 
 -- nor is it sent without a number, as on a line with a whole room
-whole_room : is_legal plan (entry 0 call.Ask (reply.Send 0 (pos 0) 1 Local 1) ∷ boxed_4) ≡ false
+whole_room : misses plan (entry 0 call.Ask (reply.Send 0 (pos 0) 1 Local 1) ∷ boxed_4) ≡ true
 unfolding plan boxed_4 words
 whole_room = refl
 
 -- it waits for no answer, and gets no line of its own
-new_line : is_legal plan (entry 0 call.Ask (reply.Launch 1 1 Local 1) ∷ boxed_4) ≡ false
+new_line : misses plan (entry 0 call.Ask (reply.Launch 1 1 Local 1) ∷ boxed_4) ≡ true
 unfolding plan boxed_4 words
 new_line = refl
 
 -- the part that was answered first is gathered first
-second_part : is_legal plan (entry 0 call.Ask (reply.Gather 0 (pos 1) 0 Local 1 (pos 0) false) ∷ boxed_9) ≡ false
+second_part : misses plan (entry 0 call.Ask (reply.Gather 0 (pos 1) 0 Local 1 (pos 0) false) ∷ boxed_9) ≡ true
 unfolding plan boxed_9 words
 second_part = refl
 
 -- no output of one part is taken for the other's
-swapped : is_legal plan (entry 0 call.Ask (reply.Gather 0 (pos 1) 1 Local 1 (pos 0) false) ∷ boxed_9) ≡ false
+swapped : misses plan (entry 0 call.Ask (reply.Gather 0 (pos 1) 1 Local 1 (pos 0) false) ∷ boxed_9) ≡ true
 unfolding plan boxed_9 words
 swapped = refl
 

@@ -10,9 +10,9 @@ use Rattle.exec_journal.specs.declared.call.Started.TheVariants as start
 use Rattle.exec_journal.specs.declared.call.Written.TheVariants as write
 use Rattle.exec_journal.specs.declared.reply.Reply.TheVariants as reply
 use Rattle.exec_journal.specs.declared.reply.Why.TheVariants as why
-use Rattle.exec_journal.proofs.Parts.{entry, with_file, worker, dynamic, plan_of, single, remote}
+use Rattle.exec_journal.proofs.Parts.{entry, with_file, dynamic, plan_of, single, remote}
 use Rattle.journal_laws.specs.IsLegal.{is_legal}
-use Rattle.journal_laws.proofs.rows.Opened.{words}
+use Rattle.journal_laws.proofs.rows.Opened.{words, misses}
 
 unfoldable pub plain_plan : Plan
 unfolding plan_of dynamic single remote
@@ -53,6 +53,6 @@ unfolding plain_plan killed words
 killed_legal = refl
 
 -- a worker without cancellation gets no Cancel
-cancelled_instead : is_legal plain_plan (entry 0 call.Ask (reply.Cancel 0 (pos 0)) ∷ killed_14) ≡ false
+cancelled_instead : misses plain_plan (entry 0 call.Ask (reply.Cancel 0 (pos 0)) ∷ killed_14) ≡ true
 unfolding plain_plan killed_14 words
 cancelled_instead = refl
