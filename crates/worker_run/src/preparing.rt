@@ -67,7 +67,8 @@ pub fn work_of(
 pub fn plan_of(alloc: Global, options: &Options, list: &ActionList) -> Result<Plan, NoMemory>
     requires options { AreAccepted options.now }
     requires list { IsWhole list.now.actions }
-    ensures plan { IfOk result (λ p. p ≡ plan_of list.now.actions options.now.instances options.now.remote options.now.retries) }
+    ensures plan { IfOk result (λ p. p
+        ≡ plan_of list.now.actions options.now.instances options.now.remote options.now.retries) }
     ensures sound { IfOk result Sound }
 {
     plan(
@@ -113,10 +114,12 @@ fn command_of(
     plan: &Plan,
 ) -> Result<Command, NoMemory>
     requires sound { Sound plan.now }
-    requires plan { plan.now ≡ plan_of list.now.actions options.now.instances options.now.remote options.now.retries }
+    requires plan { plan.now
+        ≡ plan_of list.now.actions options.now.instances options.now.remote options.now.retries }
     requires one { list.now.actions ≡ action.now ∷ [] }
     requires served { is_served action.now ≡ true }
-    ensures { IfOk result (λ c. c ≡ command_of (worker_words action.now.argv options.now.extra) action.now.env) }
+    ensures { IfOk result (λ c. c ≡ command_of
+        (worker_words action.now.argv options.now.extra) action.now.env) }
 {
     let mut parts = group_parts(
         alloc,
