@@ -6,7 +6,7 @@ use run_loading::{Loaded, load};
 use std::alloc::Global;
 use std::test::Fail;
 
-// `a` reads the tool `t` and the flag file `f`, and makes `o`; `b` reads `t`, `f` again, `o` and `g`.
+// `a` reads the tool `t` and the flag file `f`, and makes `o`; `b` has `t`, `f`, `o` and `g`.
 const LIST: &str =
     "{\"actions\":[{\"name\":\"a\",\"mnemonic\":\"T\",\"argv\":[\"t\",\"@f\"],\"tools\":[\"t\"],\"inputs\":[\"f\"],\"outputs\":[\"o\"],\"requirements\":{\"supports-workers\":\"1\"}},{\"name\":\"b\",\"mnemonic\":\"T\",\"argv\":[\"t\",\"@g\"],\"tools\":[\"t\"],\"inputs\":[\"f\",\"o\",\"g\"],\"outputs\":[\"p\"],\"requirements\":{\"supports-workers\":\"1\"}}]}";
 

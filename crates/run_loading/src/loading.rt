@@ -28,15 +28,15 @@ pub struct Loaded {
 
 /// Reads the list at this path, which may have so many worker keys, and all that its actions read.
 ///
-/// The list is read first, then each action's tools and those of its inputs that no action makes, in order
-/// and each path once, up to the first that isn't found. Then the words of each action's request are
-/// expanded over its own source inputs. File contents are shared, not copied.
+/// The list is read first, then each action's tools and those of its inputs that no action makes, in
+/// order and each path once, up to the first that isn't found. Then the words of each action's request
+/// are expanded over its own source inputs. File contents are shared, not copied.
 ///
 /// # Errors
 ///
-/// The first of these: `Absent` or `FloorFailed` for the list, `List` with its first fault, `Absent` or
-/// `FloorFailed` for a tool or an input, `Flags` of the first action that has such a fault. `NoMemory`
-/// with `Before` at any time.
+/// The first of these: `Absent` or `FloorFailed` for the list, `List` with its first fault, `Absent`
+/// or `FloorFailed` for a tool or an input, `Flags` of the first action that has such a fault.
+/// `NoMemory` with `Before` at any time.
 pub fn load<F: Floor>(
     alloc: Global,
     path: &str,
@@ -85,8 +85,8 @@ pub fn read_actions<F: Floor>(
 ///
 /// # Errors
 ///
-/// `Absent` or `FloorFailed` for the first path that isn't found, `Flags` of the first action whose words
-/// can't be expanded; `NoMemory` with `Before`.
+/// `Absent` or `FloorFailed` for the first path that isn't found, `Flags` of the first action whose
+/// words can't be expanded; `NoMemory` with `Before`.
 pub fn load_work<F: Floor>(
     alloc: Global,
     list: &ActionList,

@@ -144,8 +144,8 @@ impl Sources {
         producers: &Producers,
     ) -> Result<(), RunFault>
         ensures course { Leads (F.told floor.old) (F.told floor.new) result
-            (ReadsOn (held self.old) (filter (is_source (producer_of producers.now)) (path.now
-            ∷ [])) (held self.new)) }
+            (ReadsOn (held self.old)
+            (filter (is_source (producer_of producers.now)) (path.now ∷ [])) (held self.new)) }
         ensures floor { Counts (F.told floor.old).faults (F.told floor.new).faults
             (IsFloorFailed (end_of result)) }
         ensures files { SameFloor (F.told floor.old) (F.told floor.new) }

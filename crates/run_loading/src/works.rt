@@ -24,10 +24,10 @@ pub fn work_of(
     sources: &Sources,
 ) -> Result<Work, RunFault>
     requires few { length actions.now ≤ 4096 }
-    requires files { HasAll (held sources.now) (paths_of_actions
-        (producer_of producers.now) actions.now) }
-    ensures { Works (map (due_work (producer_of producers.now)
-        (held sources.now)) actions.now) result }
+    requires files { HasAll (held sources.now)
+        (paths_of_actions (producer_of producers.now) actions.now) }
+    ensures { Works (map (due_work (producer_of producers.now) (held sources.now)) actions.now)
+        result }
 {
     let mut works = Vec::new(alloc);
     let mut number = 0;
@@ -129,8 +129,8 @@ fn inputs_of(
     sources: &Sources,
 ) -> Result<Items<WorkInput>, NoMemory>
     requires { HasAll (held sources.now) (paths_of_action (producer_of producers.now) action.now) }
-    ensures { IfOk result (λ inputs. inputs ≡ work_inputs (producer_of producers.now)
-        (held sources.now) action.now) }
+    ensures { IfOk result (λ inputs. inputs ≡
+        work_inputs (producer_of producers.now) (held sources.now) action.now) }
 {
     let mut inputs = Vec::new(alloc);
     for path in action.inputs.as_slice() {
@@ -146,8 +146,8 @@ fn inputs_of(
 fn origin_of(path: &str, producers: &Producers, sources: &Sources) -> Result<Origin, NoMemory>
     requires { producer_of producers.now path.now ≡ None
         → IsSome (file_at (held sources.now) path.now) }
-    ensures { IfOk result (λ origin. origin ≡ origin_of (producer_of producers.now path.now)
-        (bytes_at (held sources.now) path.now)) }
+    ensures { IfOk result (λ origin. origin ≡
+        origin_of (producer_of producers.now path.now) (bytes_at (held sources.now) path.now)) }
 {
     match producers.get(path) {
         Some(maker) => Ok(Origin::Made {
