@@ -1,7 +1,11 @@
-//! Tests of what is done for an order: rooms, outputs, the executor's answers, and the bytes of a Cancel. They stand here,
-//! since a crate that has tests is proved twice.
+//! Tests of what is done for an order and of what a line answers. They stand here, since a crate that has tests is
+//! proved twice.
 #![tactic(auto)]
 
+#[cfg(test)]
+mod acts;
+#[cfg(test)]
+mod answers;
 #[cfg(test)]
 mod commits;
 #[cfg(test)]
