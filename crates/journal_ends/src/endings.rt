@@ -1,5 +1,7 @@
 // How the actions of a plan end, by what was gathered from a journal.
 ghost use Rattle.std.specs.Prelude.{◌≡◌, ◌≤◌, ◌<◌, [], length, reverse, IfOk, is_some};
+ghost use Rattle.run_plan.specs.Sound.{Sound};
+ghost use Rattle.exec_journal.specs.Ends.{ends_of};
 ghost use Rattle.journal_ends.specs.Lookback.{ended_line};
 ghost use Rattle.journal_ends.specs.Replay.{AllNew, new_action, new_line, AreActions, AreLines, IsActionFact};
 ghost use Rattle.journal_ends.specs.Endings.{verdict_of, verdicts_from, verdict_by, own_by, commit_for, prize_outcome, is_gone, is_won_by, fate_by, standing_by, standing_of, outcome_by, standings_through, end_by, ends_through};
@@ -8,10 +10,27 @@ use crate::grant::{Grant, GrantKind};
 use crate::outcomes::{committed_outcome, is_input_lost, loser_fate, starved_outcome, winner_fate};
 use crate::replay::{ActionFact, BranchFact, LineFact, ended_at, gather};
 use exec_journal::{
-    ActionEnd, Branch, Cause, CommitEnd, Entry, Fate, Outcome, Plan, PlanAction, Standing,
+    ActionEnd, Branch, Cause, CommitEnd, Entry, Fate, Journal, Outcome, Plan, PlanAction, Standing,
 };
 use plain_values::NoMemory;
 use std::alloc::Global;
+
+/// How each action of the plan ends, in their order. It goes through the journal once, in time that is linear in the
+/// numbers of its entries and of the plan's actions and made inputs. In the journal of a run it never looks back.
+///
+/// # Errors
+///
+/// `NoMemory` where the list finds no memory.
+pub fn action_ends(alloc: Global, plan: &Plan, j: &Journal) -> Result<Vec<ActionEnd>, NoMemory>
+    requires { Sound plan.now }
+    ensures { IfOk result (λ ends. ends.items ≡ ends_of plan.now (reverse j.now)) }
+{
+    let works = plan.actions.as_slice();
+    let verdicts = verdicts(alloc, plan, j.entries())?;
+    let standings = standings_by(alloc, works, verdicts.as_slice())?;
+    let ends = ends_by(alloc, works, verdicts.as_slice(), standings.as_slice())?;
+    Ok(ends)
+}
 
 /// How an action ends but for its producers.
 #[derive(Clone, Copy, Debug, PartialEq, Eq)]

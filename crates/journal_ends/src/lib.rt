@@ -12,5 +12,6 @@ mod outcomes;
 mod replay;
 mod winning;
 
-pub use outcomes::{action_ends, fate, has_success, outcome};
+pub use endings::action_ends;
+pub use outcomes::{fate, has_success, outcome};
 pub use winning::winning_answers;

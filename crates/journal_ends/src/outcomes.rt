@@ -1,23 +1,19 @@
 // How an action and its branches end.
-ghost use Rattle.std.specs.Prelude.{◌≡◌, ◌<◌, ◌≤◌, length, reverse, take, slice_get, option_copied, IfOk, if◌then◌else◌};
+ghost use Rattle.std.specs.Prelude.{◌≡◌, ◌<◌, ◌≤◌, length, reverse, take, slice_get, option_copied, if◌then◌else◌};
 ghost use Rattle.std.specs.List.{list_any};
 ghost use Rattle.exec_journal.specs.Words.{grant_of};
 ghost use Rattle.exec_journal.specs.Attempts.{dropped};
 ghost use Rattle.exec_journal.specs.Settled.{by_commit, by_grant, all_dropped, unused_or_dropped, is_success, is_without, is_starved, standing_after, standings};
 ghost use Rattle.run_plan.specs.Groups.{group_of};
-ghost use Rattle.exec_journal.specs.Ends.{ends_of};
 ghost use Rattle.run_plan.specs.Sound.{Sound};
 ghost use Rattle.exec_journal.specs.Outcomes.{grant_outcome, commit_outcome, least_without, skipped, outcome_after, outcome_of, won_or_spoiled, lost_fate, fate_after, fate_of, is_ok, is_some_ok, is_winner, lesser};
 
-use crate::endings::{ends_by, standings_by, verdicts};
 use crate::grant::GrantKind;
 use crate::lookback::{commit, end, ever_sent, grant};
 use exec_journal::{
-    ActionEnd, Attempt, Branch, Cause, CommitEnd, Entry, Fate, Journal, Maker, Outcome, Plan,
-    PlanAction, Standing,
+    Attempt, Branch, Cause, CommitEnd, Entry, Fate, Journal, Maker, Outcome, Plan, PlanAction,
+    Standing,
 };
-use plain_values::NoMemory;
-use std::alloc::Global;
 
 /// The outcome of the action, by the journal. It takes no memory: it looks through the journal for each
 /// action on which this one may depend.
@@ -52,23 +48,6 @@ fn is_won(outcome: Option<Outcome>) -> bool
     ensures { result ≡ is_some_ok outcome }
 {
     matches!(outcome, Some(Outcome::Success(_)))
-}
-
-/// How each action of the plan ends, in their order. It goes through the journal once, in time that is linear in the
-/// numbers of its entries and of the plan's actions and made inputs. In the journal of a run it never looks back.
-///
-/// # Errors
-///
-/// `NoMemory` where the list finds no memory.
-pub fn action_ends(alloc: Global, plan: &Plan, j: &Journal) -> Result<Vec<ActionEnd>, NoMemory>
-    requires { Sound plan.now }
-    ensures { IfOk result (λ ends. ends.items ≡ ends_of plan.now (reverse j.now)) }
-{
-    let works = plan.actions.as_slice();
-    let verdicts = verdicts(alloc, plan, j.entries())?;
-    let standings = standings_by(alloc, works, verdicts.as_slice())?;
-    let ends = ends_by(alloc, works, verdicts.as_slice(), standings.as_slice())?;
-    Ok(ends)
 }
 
 fn outcome_in(plan: &Plan, entries: &[Entry], action: u32, work: &PlanAction) -> Outcome

@@ -4,7 +4,7 @@ use Rattle.run_plan.specs.declared.plan.PlanAction.{PlanAction}
 use Rattle.journal_ends.specs.declared.endings.Verdict.{Verdict}
 use Rattle.journal_ends.specs.Endings.{verdicts_from}
 use Rattle.journal_ends.proofs.Ended.{length-verdicts, ends_whole}
-use Rattle.journal_ends.proofs.outcomes.action_ends.Goals as goal
+use Rattle.journal_ends.proofs.endings.action_ends.Goals as goal
 
 pub standings_by-requires : goal.standings_by-requires
 standings_by-requires c =
