@@ -14,8 +14,6 @@ mod hall;
 mod lane;
 mod rounds;
 mod seats;
-#[cfg(test)]
-mod tests;
 mod traffic;
 mod watch;
 
@@ -56,6 +54,18 @@ fn small_run<R: Threads + Wait + Clock + CpuClock + Files + Print + Sync>(
     println!(rt; "traffic of 4 seats at the desk: {actions} actions")?;
     let actions = traffic(rt, alloc, 4, 5, Behind::Mutex, Limit::Second)?;
     println!(rt; "traffic of 4 seats behind a mutex: {actions} actions")?;
+    rung_alone(rt, alloc)
+}
+
+// Traffic in which a rest ends by a ring alone, so that it ends only if whoever has news is rung.
+fn rung_alone<R: Threads + Wait + Clock + CpuClock + Files + Print + Sync>(
+    rt: &R,
+    alloc: Global,
+) -> Result<(), Failure> {
+    for busy in [1u32, 4, 64] {
+        let actions = traffic(rt, alloc, busy, 50, Behind::Desk, Limit::None)?;
+        println!(rt; "traffic of {busy} seats without a limit: {actions} actions")?;
+    }
     Ok(())
 }
 
