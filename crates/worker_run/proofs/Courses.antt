@@ -17,7 +17,7 @@ use Rattle.build_report.specs.declared.fault.RunFault.TheVariants as fault
 use Rattle.build_report.specs.declared.fault.Unbuilt.TheVariants as unbuilt
 use Rattle.tool_words.specs.declared.options.Options.{Options}
 use Rattle.worker_run.specs.declared.sources.Sources.{Sources}
-use Rattle.worker_run.specs.declared.work.Work.{Work}
+use Rattle.worker_run.specs.declared.work.OneJob.{OneJob}
 use Rattle.worker_run.specs.declared.reading.Job.{Job}
 use Rattle.worker_run.specs.declared.reading.Job.TheVariants as job
 use Rattle.worker_run.specs.Course.{OptionsRead, ListRead, BytesRead, ActionsRead, ActionRead, OneRead, Logs, AreOfFiles, UnlessBefore, IsRead, ReadsOnce, end_of}
@@ -226,7 +226,7 @@ words_end o x sources fault.SinkFailed files old new l p = absurd p
 words_end o x sources fault.Words files old new l p = absurd p
 words_end o x sources (fault.List y) files old new l p = absurd p
 
-pub work_made : (o : Options) (x : ListAction) (sources : Sources) (work : Work) (files : Option (List SourceFile)) (old new : Option (List FloorRead)) → Logs files old new (λ reads. SourcesRead (source_paths x) reads (Ok sources)) → Prepares o x (held sources) (Ok work) → Logs files old new (λ reads. ActionRead o x reads (Ok (job.One work)))
+pub work_made : (o : Options) (x : ListAction) (sources : Sources) (work : OneJob) (files : Option (List SourceFile)) (old new : Option (List FloorRead)) → Logs files old new (λ reads. SourcesRead (source_paths x) reads (Ok sources)) → Prepares o x (held sources) (Ok work) → Logs files old new (λ reads. ActionRead o x reads (Ok (job.One work)))
 work_made o x sources work files old new l p = logs_weaker files old new (λ reads. SourcesRead (source_paths x) reads (Ok sources)) (λ reads. ActionRead o x reads (Ok (job.One work))) (λ reads h. (held sources, h, p)) l
 
 -- the action is of a kind that is done

@@ -12,7 +12,7 @@ use Rattle.tool_words.specs.declared.options.Options.{Options}
 use Rattle.worker_run.specs.declared.line.Reached.{Reached}
 use Rattle.worker_run.specs.declared.line.Stopped.{Stopped}
 use Rattle.worker_run.specs.declared.line.Stopped.TheVariants as stopped
-use Rattle.worker_run.specs.declared.work.Work.{Work}
+use Rattle.worker_run.specs.declared.work.OneJob.{OneJob}
 use Rattle.worker_run.specs.declared.reading.Job.{Job}
 use Rattle.worker_run.specs.declared.reading.Job.TheVariants as job
 use Rattle.worker_run.specs.Course.{Course, OptionsRead, ListRead, AfterList, BytesRead, ActionsRead, OneRead, Logs, Reads, UnlessBefore}
@@ -91,7 +91,7 @@ after_any (Some (fault.List x)) P Q started q = q
 after_any (Some (fault.Flags a x)) P Q started q = q
 
 -- an action's line was run
-pub ran_one : (work : Work) (came : Reached) (stop : Stopped) (end : Option RunFault) (run : Left) (old new : SinkTold) → IsAfterStart end → EndsBy stop end → LeavesOne work came stop run → Puts end (report_by work.plan run.journal) old new → OneEnds work end run old new
+pub ran_one : (work : OneJob) (came : Reached) (stop : Stopped) (end : Option RunFault) (run : Left) (old new : SinkTold) → IsAfterStart end → EndsBy stop end → LeavesOne work came stop run → Puts end (report_by work.plan run.journal) old new → OneEnds work end run old new
 ran_one work came stop end run old new started ends leaves puts = after_any end (LeavesNothing run old new) (EndsAs (Ok (job.One work)) end run old new) started (came, stop, ends, leaves, puts)
 
 -- ---- reads don't end in the sink's fault

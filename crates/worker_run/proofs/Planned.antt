@@ -1,7 +1,9 @@
 -- The plan of one action has one group, which is the action's.
-use Rattle.std.proofs.Common.{◌≡◌, ℕ, ◌+◌, min, Bool, true, false, cond, not, ◌&&◌, List, [], ◌∷◌, ◌++◌, map, length, position, Option, Some, None, get_or, length-append, option_and_then, slice_get, refl, ap, sym, ◌∙◌, arith}
+use Rattle.std.proofs.Common.{◌≡◌, ℕ, ◌+◌, ◌<◌, ◌^◌, leb, subst, min, Bool, true, false, cond, not, ◌&&◌, List, [], ◌∷◌, ◌++◌, map, length, position, Option, Some, None, get_or, length-append, option_and_then, slice_get, refl, ap, sym, ◌∙◌, arith}
 use Rattle.std.specs.Str.{bytes_eq}
 use Rattle.std.proofs.lemmas.List.Sums.{sum_by-cons}
+use Rattle.std.specs.List.{list_all}
+use Rattle.std.proofs.lemmas.Bool.{and_parts, leb-true}
 use Rattle.std.proofs.lemmas.Slice.Eq.{bytes_eq-Decides}
 use Rattle.run_plan.specs.declared.plan.Group.{Group}
 use Rattle.run_plan.specs.declared.plan.Plan.{Plan}
@@ -16,6 +18,7 @@ use Rattle.action_list.specs.Checks.{has_local, has_remote}
 use Rattle.action_list.specs.Keys.{key_bytes, keys_of, takes_several, with_bytes, worker_words}
 use Rattle.action_list.specs.Parts.{command_of, executor_part, is_of, parts_from, parts_of, user_of, user_part, worker_part}
 use Rattle.action_list.specs.Plans.{executor_groups, first_user, group_by, groups_of, key_group, local_key, local_of, number_of, plan_action, plan_actions, plan_of, remote_users, share, users}
+use Rattle.action_list.specs.Whole.{IsWhole}
 use Rattle.worker_run.specs.Prepared.{is_served, is_worker}
 
 served : (s : Strategy) (m j c : Bool) → (is_worker s && not m && not j && not c) ≡ true → (has_local s ≡ true) × (has_remote s ≡ false)
@@ -97,3 +100,12 @@ pub part_command : (x : ListAction) (xs : List ListAction) (i r t : ℕ) (extra 
 part_command x xs i r t extra es executor p parts rest part served one planned same is popped =
     ap (λ (q : GroupPart). q.command) (sole rest part (worker_part es x) (sym popped ∙ group_part x xs i r t es executor p parts served one planned is))
     ∙ ap (λ (fs : List (List ℕ)). command_of (worker_words x.argv fs) x.env) same
+
+-- ---- each output has a number
+
+pub few_outputs : (xs : List ListAction) (x : ListAction) (outputs : List (List ℕ)) → IsWhole xs → xs ≡ x ∷ [] → outputs ≡ x.outputs → length outputs < 2 ^ 32
+few_outputs xs x outputs whole one same =
+    let all : list_all (λ (y : ListAction). leb (length y.outputs) 256) (x ∷ []) ≡ true = subst (λ (ys : List ListAction). list_all (λ (y : ListAction). leb (length y.outputs) 256) ys ≡ true) one whole.few_outputs in
+    let most = leb-true (length x.outputs) 256 (and_parts (leb (length x.outputs) 256) true all).0 in
+    let e : length outputs ≡ length x.outputs = ap length same in
+    omega (arith, most, e)

@@ -1,201 +1,234 @@
--- Calls on a room and writes to a place, one after another.
-use Rattle.std.proofs.Common.{◌≡◌, ℕ, ◌+◌, ◌<◌, List, [], ◌∷◌, ◌++◌, length, map, drop, get_or, Bool, true, false, Option, Some, None, IfSome, refl, subst, sym, append_assoc, append-nil, ◌∙◌, ap, take, arith, zero, suc, add-one, ◌≤◌, ◌≢◌, ◌⊎◌, inl, inr, ◌==◌, cond, option_map, MatchOption, eq-eqb}
-use Rattle.std.specs.Path.{rfind_below}
-use Rattle.std.proofs.lemmas.Bool.{ne_eqb}
+-- What the calls that make a room ready, and the looks at its outputs, add to the log.
+use Rattle.std.proofs.Common.{◌≡◌, ℕ, ◌+◌, List, [], ◌∷◌, ◌++◌, length, map, Bool, true, false, Option, Some, None, IfSome, Result, Ok, Err, IfOk, refl, subst, sym, append_assoc, append-nil, ◌∙◌, ap, option_map}
 use Rattle.std.specs.List.{cons_option}
-use Rattle.std.proofs.lemmas.List.{drop_more, drop_all, map-append}
-use Rattle.std.proofs.lemmas.List.Elements.{filter_map-append}
+use Rattle.std.proofs.lemmas.List.{map-append}
+use Rattle.outside.specs.Causes.{Counts}
 use Rattle.outside.specs.Lists.{Adds, Tells}
+use Rattle.outside.specs.Told.{BerthTold}
+use Rattle.outside.specs.declared.answers.Io.{Io}
 use Rattle.outside.specs.declared.answers.Io.TheVariants as io
-use Rattle.outside.specs.declared.berth.BerthCall.{BerthCall}
-use Rattle.worker_run.specs.Rooms.{Asked, asked, went_well, IsRun, StopsUnless, AddsRun, AddsAbsent, EndsAbsent, Folder, folder_of, folders_of, folder_call, get_calls, writes_of}
 use Rattle.outside.specs.declared.answers.Read.TheVariants as read
+use Rattle.outside.specs.declared.berth.BerthCall.{BerthCall}
 use Rattle.outside.specs.declared.berth.BerthCall.TheVariants as call
-use Rattle.outside.specs.declared.place.PlaceWrite.{PlaceWrite}
+use Rattle.plain_values.specs.declared.no_memory.NoMemory.{NoMemory}
+use Rattle.remote_messages.specs.declared.file.NamedFile.{NamedFile}
+use Rattle.sandbox_rooms.specs.declared.room.Room.TheVariants as room
+use Rattle.sandbox_rooms.specs.declared.gathering.Gathered.{Gathered}
+use Rattle.sandbox_rooms.specs.declared.gathering.Gathered.TheVariants as gathered
+use Rattle.sandbox_rooms.specs.Calls.{Asked, Launch, Clear, Folder, Put, Get, asked, went_well, RunEnd, Whole, Stopped, Cut, run_end, GoesOn, Runs, IsStopped, MakesRun}
+use Rattle.sandbox_rooms.specs.Rooms.{FitsOutputs, MakesLooks, IsRoomFault, folder_of, folder_asks, put_ask, gathered_after, gather_end}
+use Rattle.worker_run.specs.Rooms.{StopsUnless, IsRun, AddsRun, EndsAbsent, AddsAbsent, folders_of, folder_call, put_call, fill_asks, fill_calls, get_asks, get_calls}
+use Rattle.worker_run.specs.Steps.{OnFiles, OnMissing}
 
 -- what is added after what was added
 pub adds_on : {A : Type 0} (xs ys : List A) (old mid new : Option (List A)) → Adds xs old mid → Adds ys mid new → Adds (xs ++ ys) old new
 adds_on {A = A} xs ys old mid new first second = λ zs holds. subst (λ (all : List A). Tells new all) (append_assoc zs xs ys) (second (zs ++ xs) (first zs holds))
 
--- one call that went well, and then a run of the rest
-run_one_more : (a : Asked) (asks : List Asked) (c : BerthCall) (zs : List BerthCall) (new : Option (List BerthCall)) → asked c ≡ a → went_well c ≡ true → IfSome new (λ ys. (more : List BerthCall) × (ys ≡ (zs ++ c ∷ []) ++ more) × IsRun asks more) → IfSome new (λ ys. (more : List BerthCall) × (ys ≡ zs ++ more) × IsRun (a ∷ asks) more)
-run_one_more a asks c zs None is well h = tt
-run_one_more a asks c zs (Some ys) is well h = (c ∷ h.0, h.1 ∙ append_assoc zs (c ∷ []) h.0, (is, subst (λ (b : Bool). StopsUnless b h.0) (sym well) tt, h.2))
-
-pub run_more : (a : Asked) (asks : List Asked) (c : BerthCall) (old mid new : Option (List BerthCall)) → asked c ≡ a → went_well c ≡ true → Adds (c ∷ []) old mid → AddsRun asks mid new → AddsRun (a ∷ asks) old new
-run_more a asks c old mid new is well first rest = λ zs holds. run_one_more a asks c zs new is well (rest (zs ++ c ∷ []) (first zs holds))
-
--- one call that didn't go well ends a run
-run_one_last : (a : Asked) (asks : List Asked) (c : BerthCall) (zs : List BerthCall) (new : Option (List BerthCall)) → asked c ≡ a → Tells new (zs ++ c ∷ []) → IfSome new (λ ys. (more : List BerthCall) × (ys ≡ zs ++ more) × IsRun (a ∷ asks) more)
-run_one_last a asks c zs None is h = tt
-run_one_last a asks c zs (Some ys) is h = (c ∷ [], h, (is, elim (went_well c) as (λ b. StopsUnless b []) [ true ↦ tt | false ↦ refl ], tt))
-
-pub run_last : (a : Asked) (asks : List Asked) (c : BerthCall) (old new : Option (List BerthCall)) → asked c ≡ a → Adds (c ∷ []) old new → AddsRun (a ∷ asks) old new
-run_last a asks c old new is h = λ zs holds. run_one_last a asks c zs new is (h zs holds)
-
--- the elements from an index on are that element and those behind it
-pub at_item : {X : Type 0} (xs : List X) (i : ℕ) (x : X) → i < length xs → x ≡ get_or xs i x → drop i xs ≡ x ∷ drop (i + 1) xs
-at_item xs i x below is = subst (λ y. drop i xs ≡ y ∷ drop (i + 1) xs) (sym is) (drop_more xs i x below)
-
--- A run over the elements of a list goes on at the next element, or stops at this one.
-pub runs_go : {X : Type 0} (ask : X → Asked) (xs : List X) (i : ℕ) (x : X) (c : BerthCall) (old mid new : Option (List BerthCall)) → i < length xs → x ≡ get_or xs i x → asked c ≡ ask x → went_well c ≡ true → Adds (c ∷ []) old mid → AddsRun (map ask (drop (i + 1) xs)) mid new → AddsRun (map ask (drop i xs)) old new
-runs_go {X = X} ask xs i x c old mid new below is asks well first rest =
-    subst (λ (ys : List X). AddsRun (map ask ys) old new) (sym (at_item xs i x below is)) (run_more (ask x) (map ask (drop (i + 1) xs)) c old mid new asks well first rest)
-
-pub runs_stop : {X : Type 0} (ask : X → Asked) (xs : List X) (i : ℕ) (x : X) (c : BerthCall) (old new : Option (List BerthCall)) → i < length xs → x ≡ get_or xs i x → asked c ≡ ask x → Adds (c ∷ []) old new → AddsRun (map ask (drop i xs)) old new
-runs_stop {X = X} ask xs i x c old new below is asks last =
-    subst (λ (ys : List X). AddsRun (map ask ys) old new) (sym (at_item xs i x below is)) (run_last (ask x) (map ask (drop (i + 1) xs)) c old new asks last)
-
--- the same of what is added for each element
-pub adds_go : {X C : Type 0} (f : X → C) (xs : List X) (i : ℕ) (x : X) (c : C) (old mid new : Option (List C)) → i < length xs → x ≡ get_or xs i x → c ≡ f x → Adds (c ∷ []) old mid → Adds (map f (drop (i + 1) xs)) mid new → Adds (map f (drop i xs)) old new
-adds_go {X = X} {C = C} f xs i x c old mid new below is calls first rest =
-    subst (λ (ys : List X). Adds (map f ys) old new) (sym (at_item xs i x below is)) (adds_on (f x ∷ []) (map f (drop (i + 1) xs)) old mid new (subst (λ (d : C). Adds (d ∷ []) old mid) calls first) rest)
-
--- the next output was found
-pub gets_go : (outputs : List (List ℕ)) (i : ℕ) (x bytes : List ℕ) (rest : List (List ℕ)) (old mid new : Option (List BerthCall)) → i < length outputs → x ≡ get_or outputs i x → Adds (call.Get x (read.Found bytes) ∷ []) old mid → Adds (get_calls (drop (i + 1) outputs) rest) mid new → Adds (get_calls (drop i outputs) (bytes ∷ rest)) old new
-gets_go outputs i x bytes rest old mid new below is first more =
-    subst (λ (ys : List (List ℕ)). Adds (get_calls ys (bytes ∷ rest)) old new) (sym (at_item outputs i x below is)) (adds_on (call.Get x (read.Found bytes) ∷ []) (get_calls (drop (i + 1) outputs) rest) old mid new first more)
-
--- one more of the writes
-write_more : (outputs files : List (List ℕ)) (i : ℕ) (d e : List ℕ) → i < length outputs → length files ≡ length outputs → take (suc i) (writes_of outputs files) ≡ take i (writes_of outputs files) ++ record { path = get_or outputs i d; bytes = get_or files i e } ∷ []
-write_more [] files i d e below same = absurd (omega arith)
-write_more (o ∷ outputs) [] i d e below same = absurd (omega arith)
-write_more (o ∷ outputs) (f ∷ files) zero d e below same = refl
-write_more (o ∷ outputs) (f ∷ files) (suc i) d e below same =
-    ap (λ (ws : List PlaceWrite). record { path = o; bytes = f } ∷ ws) (write_more outputs files i d e (omega arith) (omega arith))
-
--- the next write stands behind the ones before
-pub writes_go : (outputs files : List (List ℕ)) (i : ℕ) (x y path bytes : List ℕ) (old mid new : Option (List PlaceWrite)) → i < length outputs → length files ≡ length outputs → x ≡ get_or outputs i x → y ≡ get_or files i y → path ≡ x → bytes ≡ y → Adds (take i (writes_of outputs files)) old mid → Adds (record { path = path; bytes = bytes } ∷ []) mid new → Adds (take (i + 1) (writes_of outputs files)) old new
-writes_go outputs files i x y path bytes old mid new below same is_x is_y of_x of_y before next =
-    let more = write_more outputs files i x y below same in
-    let w : record { path = path; bytes = bytes } ≡ record { path = get_or outputs i x; bytes = get_or files i y } = λ k. record { path = (of_x ∙ is_x) k; bytes = (of_y ∙ is_y) k } in
-    rw add-one (subst (λ (ws : List PlaceWrite). Adds ws old new) (sym more)
-    (adds_on (take i (writes_of outputs files)) _ old mid new before (subst (λ (v : PlaceWrite). Adds (v ∷ []) mid new) w next)))
-
-none_more : (asks : List Asked) (xs : List BerthCall) (old : Option (List BerthCall)) → Tells old xs → IfSome old (λ ys. (more : List BerthCall) × (ys ≡ xs ++ more) × IsRun asks more)
-none_more asks xs None holds = tt
-none_more asks xs (Some ys) holds = ([], holds ∙ sym (append-nil xs), tt)
-
--- no call at all is a run too
-pub run_none : (asks : List Asked) (old new : Option (List BerthCall)) → new ≡ old → AddsRun asks old new
-run_none asks old new same = λ xs holds. subst (λ (o : Option (List BerthCall)). IfSome o (λ ys. (more : List BerthCall) × (ys ≡ xs ++ more) × IsRun asks more)) (sym same) (none_more asks xs old holds)
-
--- the files so far and one more
-pub found_go : (outputs files : List (List ℕ)) (i : ℕ) (x path bytes : List ℕ) (grown : List (List ℕ)) (start old mid : Option (List BerthCall)) → i < length outputs → x ≡ get_or outputs i x → path ≡ x → grown ≡ files ++ bytes ∷ []
-    → ((rest : List (List ℕ)) (final : Option (List BerthCall)) → Adds (get_calls (drop i outputs) rest) old final → Adds (get_calls outputs (files ++ rest)) start final)
-    → Adds (call.Get path (read.Found bytes) ∷ []) old mid
-    → (rest : List (List ℕ)) (final : Option (List BerthCall)) → Adds (get_calls (drop (i + 1) outputs) rest) mid final → Adds (get_calls outputs (grown ++ rest)) start final
-found_go outputs files i x path bytes grown start old mid below is of_x grows before next rest final more =
-    subst (λ (fs : List (List ℕ)). Adds (get_calls outputs fs) start final) (sym (ap (λ (gs : List (List ℕ)). gs ++ rest) grows ∙ append_assoc files (bytes ∷ []) rest))
-    (before (bytes ∷ rest) final (gets_go outputs i x bytes rest old mid final below is (subst (λ (p : List ℕ). Adds (call.Get p (read.Found bytes) ∷ []) old mid) of_x next) more))
-
--- the looks so far told what they did, and the last found nothing
-ends_absent : (path : List ℕ) (xs : List BerthCall) (new : Option (List BerthCall)) → Tells new (xs ++ call.Get path read.Absent ∷ []) → IfSome new EndsAbsent
-ends_absent path xs None h = tt
-ends_absent path xs (Some ys) h = (xs, path, h)
-
-pub absent_now : (path : List ℕ) (start old new : Option (List BerthCall)) → ((xs : List BerthCall) → Tells start xs → (ys : List BerthCall) × Tells old ys) → Adds (call.Get path read.Absent ∷ []) old new → AddsAbsent start new
-absent_now path start old new told more = λ xs holds. let t = told xs holds in ends_absent path t.0 new (more t.0 t.1)
-
 pub adds_none : {A : Type 0} (old : Option (List A)) → Adds [] old old
 adds_none {A = A} old = λ xs holds. subst (λ (ys : List A). Tells old ys) (sym (append-nil xs)) holds
 
--- all outputs were found
-pub found_all : (outputs files : List (List ℕ)) (i : ℕ) (start new : Option (List BerthCall)) → length outputs ≤ i
-    → ((rest : List (List ℕ)) (final : Option (List BerthCall)) → Adds (get_calls (drop i outputs) rest) new final → Adds (get_calls outputs (files ++ rest)) start final)
-    → Adds (get_calls outputs files) start new
-found_all outputs files i start new past before =
-    subst (λ (fs : List (List ℕ)). Adds (get_calls outputs fs) start new) (append-nil files)
-    (before [] new (subst (λ (os : List (List ℕ)). Adds (get_calls os []) new new) (sym (drop_all i outputs past)) (adds_none new)))
+-- ---- any run
 
--- ---- one run and then another
+goes_run : (end : RunEnd) (b : Bool) (asks : List Asked) (log : List BerthCall) → (Runs end asks log → IsRun asks log) → GoesOn end b log (Runs end asks log) → StopsUnless b log × IsRun asks log
+goes_run end true asks log f h = (tt, f h)
+goes_run Whole false asks log f h = absurd h
+goes_run Stopped false asks log f h = (h, subst (λ (l : List BerthCall). IsRun asks l) (sym h) tt)
+goes_run Cut false asks log f h = absurd h
 
-run_wider : (asks more : List Asked) (log : List BerthCall) → IsRun asks log → IsRun (asks ++ more) log
-run_wider asks more [] h = tt
-run_wider [] more (c ∷ log) h = absurd h
-run_wider (a ∷ asks) more (c ∷ log) h = (h.0, h.1, run_wider asks more log h.2)
+-- however it ended, a front of the calls was made
+runs_front : (end : RunEnd) (asks : List Asked) (log : List BerthCall) → Runs end asks log → IsRun asks log
+runs_front end asks [] h = tt
+runs_front end [] (c ∷ log) h = absurd h
+runs_front end (a ∷ asks) (c ∷ log) h =
+    let rest = goes_run end (went_well c) asks log (λ r. runs_front end asks log r) h.1 in
+    (h.0, rest.0, rest.1)
 
-grown_run : (asks more : List Asked) (xs : List BerthCall) (new : Option (List BerthCall)) → IfSome new (λ ys. (log : List BerthCall) × (ys ≡ xs ++ log) × IsRun asks log) → IfSome new (λ ys. (log : List BerthCall) × (ys ≡ xs ++ log) × IsRun (asks ++ more) log)
-grown_run asks more xs None h = tt
-grown_run asks more xs (Some ys) h = (h.0, h.1, run_wider asks more h.0 h.2)
+told_run : (asks : List Asked) (xs more : List BerthCall) (new : Option (List BerthCall)) → IsRun asks more → Tells new (xs ++ more) → IfSome new (λ ys. (log : List BerthCall) × (ys ≡ xs ++ log) × IsRun asks log)
+told_run asks xs more None run told = tt
+told_run asks xs more (Some ys) run told = (more, told, run)
 
--- a run that stops is one of the longer list too
-pub runs_wider : (asks more : List Asked) (old new : Option (List BerthCall)) → AddsRun asks old new → AddsRun (asks ++ more) old new
-runs_wider asks more old new h = λ xs holds. grown_run asks more xs new (h xs holds)
+adds_run : (end : RunEnd) (asks : List Asked) (calls : List BerthCall) (old new : Option (List BerthCall)) → Runs end asks calls → Adds calls old new → AddsRun asks old new
+adds_run end asks calls old new runs adds = λ xs holds. told_run asks xs calls new (runs_front end asks calls runs) (adds xs holds)
 
-after_calls : {X : Type 0} (ask : X → Asked) (done : X → BerthCall) → ((x : X) → asked (done x) ≡ ask x) → ((x : X) → went_well (done x) ≡ true) → (xs : List X) (asks : List Asked) (log : List BerthCall) → IsRun asks log → IsRun (map ask xs ++ asks) (map done xs ++ log)
-after_calls ask done is well [] asks log h = h
-after_calls ask done is well (x ∷ xs) asks log h = (is x, subst (λ (b : Bool). StopsUnless b (map done xs ++ log)) (sym (well x)) tt, after_calls ask done is well xs asks log h)
+-- ---- a whole run
 
-behind_calls : {X : Type 0} (ask : X → Asked) (done : X → BerthCall) → ((x : X) → asked (done x) ≡ ask x) → ((x : X) → went_well (done x) ≡ true) → (xs : List X) (asks : List Asked) (zs : List BerthCall) (new : Option (List BerthCall)) → IfSome new (λ ys. (log : List BerthCall) × (ys ≡ (zs ++ map done xs) ++ log) × IsRun asks log) → IfSome new (λ ys. (log : List BerthCall) × (ys ≡ zs ++ log) × IsRun (map ask xs ++ asks) log)
-behind_calls ask done is well xs asks zs None h = tt
-behind_calls ask done is well xs asks zs (Some ys) h = (map done xs ++ h.0, h.1 ∙ append_assoc zs (map done xs) h.0, after_calls ask done is well xs asks h.0 h.2)
+abbrev is_look : Asked → Bool
+is_look (Launch line command) = false
+is_look (Clear part) = false
+is_look (Folder path) = false
+is_look (Put path bytes) = false
+is_look (Get path) = true
 
--- calls that all went well, and then a run
-pub runs_after : {X : Type 0} (ask : X → Asked) (done : X → BerthCall) → ((x : X) → asked (done x) ≡ ask x) → ((x : X) → went_well (done x) ≡ true) → (xs : List X) (asks : List Asked) (old mid new : Option (List BerthCall)) → Adds (map done xs) old mid → AddsRun asks mid new → AddsRun (map ask xs ++ asks) old new
-runs_after ask done is well xs asks old mid new first second = λ zs holds. behind_calls ask done is well xs asks zs new (second (zs ++ map done xs) (first zs holds))
+-- the call that was answered Done
+abbrev done : Asked → BerthCall
+done (Launch line command) = call.Launch line command io.Done
+done (Clear part) = call.Clear part io.Done
+done (Folder path) = call.Folder path io.Done
+done (Put path bytes) = call.Put path bytes io.Done
+done (Get path) = call.Get path (read.Found [])
 
--- ---- the folders of outputs
+done_is : (c : BerthCall) → is_look (asked c) ≡ false → went_well c ≡ true → c ≡ done (asked c)
+done_is (call.Launch line command io.Done) plain well = refl
+done_is (call.Launch line command io.Failed) plain well = absurd cc
+done_is (call.Clear part io.Done) plain well = refl
+done_is (call.Clear part io.Failed) plain well = absurd cc
+done_is (call.Folder path io.Done) plain well = refl
+done_is (call.Folder path io.Failed) plain well = absurd cc
+done_is (call.Put path bytes io.Done) plain well = refl
+done_is (call.Put path bytes io.Failed) plain well = absurd cc
+done_is (call.Get path answer) plain well = absurd cc
 
--- the folders from an output on are its own and those of the outputs behind it
-pub folders_from : (outputs : List (List ℕ)) (i : ℕ) (x : List ℕ) → i < length outputs → x ≡ get_or outputs i x → folders_of (drop i outputs) ≡ folders_of (x ∷ []) ++ folders_of (drop (i + 1) outputs)
-folders_from outputs i x below is = ap folders_of (at_item outputs i x below is) ∙ filter_map-append folder_of (x ∷ []) (drop (i + 1) outputs)
+-- none of them is a look
+abbrev HasNoLook : List Asked → Type 0
+HasNoLook [] = Unit {0}
+HasNoLook (a ∷ asks) = (is_look a ≡ false) × HasNoLook asks
 
--- the next output's folder is made
-pub folders_go : (outputs : List (List ℕ)) (i : ℕ) (x path : List ℕ) (old mid new : Option (List BerthCall)) → i < length outputs → x ≡ get_or outputs i x → path ≡ x → Adds (map folder_call (folders_of (path ∷ []))) old mid → Adds (map folder_call (folders_of (drop (i + 1) outputs))) mid new → Adds (map folder_call (folders_of (drop i outputs))) old new
-folders_go outputs i x path old mid new below is same first rest =
-    let one = folders_of (x ∷ []) in
-    let later = folders_of (drop (i + 1) outputs) in
-    let e : map folder_call (folders_of (drop i outputs)) ≡ map folder_call one ++ map folder_call later = ap (map folder_call) (folders_from outputs i x below is) ∙ map-append folder_call one later in
-    subst (λ (cs : List BerthCall). Adds cs old new) (sym e) (adds_on (map folder_call one) (map folder_call later) old mid new (subst (λ (p : List ℕ). Adds (map folder_call (folders_of (p ∷ []))) old mid) same first) rest)
+no_look-append : (xs ys : List Asked) → HasNoLook xs → HasNoLook ys → HasNoLook (xs ++ ys)
+no_look-append [] ys h k = k
+no_look-append (x ∷ xs) ys h k = (h.0, no_look-append xs ys h.1 k)
 
-folder_asks : (outputs : List (List ℕ)) (i : ℕ) (x : List ℕ) → i < length outputs → x ≡ get_or outputs i x → map Folder (folders_of (drop i outputs)) ≡ map Folder (folders_of (x ∷ [])) ++ map Folder (folders_of (drop (i + 1) outputs))
-folder_asks outputs i x below is = ap (map Folder) (folders_from outputs i x below is) ∙ map-append Folder (folders_of (x ∷ [])) (folders_of (drop (i + 1) outputs))
+went : (b : Bool) (log : List BerthCall) (Rest : Type 0) → GoesOn Whole b log Rest → (b ≡ true) × Rest
+went true log Rest h = (refl, h)
+went false log Rest h = absurd h
 
-pub folders_run_on : (outputs : List (List ℕ)) (i : ℕ) (x path : List ℕ) (old mid new : Option (List BerthCall)) → i < length outputs → x ≡ get_or outputs i x → path ≡ x → Adds (map folder_call (folders_of (path ∷ []))) old mid → AddsRun (map Folder (folders_of (drop (i + 1) outputs))) mid new → AddsRun (map Folder (folders_of (drop i outputs))) old new
-folders_run_on outputs i x path old mid new below is same first rest =
-    subst (λ (asks : List Asked). AddsRun asks old new) (sym (folder_asks outputs i x below is))
-    (runs_after Folder folder_call (λ f. refl) (λ f. refl) (folders_of (x ∷ [])) (map Folder (folders_of (drop (i + 1) outputs))) old mid new (subst (λ (p : List ℕ). Adds (map folder_call (folders_of (p ∷ []))) old mid) same first) rest)
+whole_calls : (asks : List Asked) (calls : List BerthCall) → HasNoLook asks → Runs Whole asks calls → calls ≡ map done asks
+whole_calls [] [] plain h = refl
+whole_calls [] (c ∷ calls) plain h = absurd h
+whole_calls (a ∷ asks) [] plain h = absurd h
+whole_calls (a ∷ asks) (c ∷ calls) plain h =
+    let w = went (went_well c) calls (Runs Whole asks calls) h.1 in
+    let one : c ≡ done a = done_is c (ap is_look h.0 ∙ plain.0) w.0 ∙ ap done h.0 in
+    ap (λ (d : BerthCall). d ∷ calls) one ∙ ap (λ (ds : List BerthCall). done a ∷ ds) (whole_calls asks calls plain.1 w.1)
 
-pub folders_stop : (outputs : List (List ℕ)) (i : ℕ) (x path : List ℕ) (old new : Option (List BerthCall)) → i < length outputs → x ≡ get_or outputs i x → path ≡ x → AddsRun (map Folder (folders_of (path ∷ []))) old new → AddsRun (map Folder (folders_of (drop i outputs))) old new
-folders_stop outputs i x path old new below is same last =
-    subst (λ (asks : List Asked). AddsRun asks old new) (sym (folder_asks outputs i x below is))
-    (runs_wider (map Folder (folders_of (x ∷ []))) (map Folder (folders_of (drop (i + 1) outputs))) old new (subst (λ (p : List ℕ). AddsRun (map Folder (folders_of (p ∷ []))) old new) same last))
+-- ---- a room that is filled
 
--- one call for the folder that a path has
-pub folder_made : (path folder : List ℕ) (old new : Option (List BerthCall)) → Some folder ≡ folder_of path → Adds (call.Folder folder io.Done ∷ []) old new → Adds (map folder_call (folders_of (path ∷ []))) old new
-folder_made path folder old new is h = subst (λ (o : Option (List ℕ)). Adds (map folder_call (cons_option o [])) old new) is h
+no_look_folder : (o : Option (List ℕ)) (asks : List Asked) → HasNoLook asks → HasNoLook (cons_option (option_map (λ f. Folder f) o) asks)
+no_look_folder None asks h = h
+no_look_folder (Some f) asks h = (refl, h)
 
-pub folder_failed : (path folder : List ℕ) (old new : Option (List BerthCall)) → Some folder ≡ folder_of path → Adds (call.Folder folder io.Failed ∷ []) old new → AddsRun (map Folder (folders_of (path ∷ []))) old new
-folder_failed path folder old new is h = subst (λ (o : Option (List ℕ)). AddsRun (map Folder (cons_option o [])) old new) is (run_last (Folder folder) [] (call.Folder folder io.Failed) old new refl h)
+no_look_folders : (outputs : List (List ℕ)) → HasNoLook (folder_asks room.Whole outputs)
+no_look_folders [] = tt
+no_look_folders (o ∷ outputs) = no_look_folder (folder_of o) (folder_asks room.Whole outputs) (no_look_folders outputs)
 
-pub no_folder : (path : List ℕ) (log : Option (List BerthCall)) → None ≡ folder_of path → Adds (map folder_call (folders_of (path ∷ []))) log log
-no_folder path log is = subst (λ (o : Option (List ℕ)). Adds (map folder_call (cons_option o [])) log log) is (adds_none log)
+no_look_puts : (inputs : List NamedFile) → HasNoLook (map (put_ask room.Whole) inputs)
+no_look_puts [] = tt
+no_look_puts (x ∷ inputs) = (refl, no_look_puts inputs)
 
--- ---- the last slash
+done_folder : (o : Option (List ℕ)) (asks : List Asked) (folders : List (List ℕ)) → map done asks ≡ map folder_call folders → map done (cons_option (option_map (λ f. Folder f) o) asks) ≡ map folder_call (cons_option o folders)
+done_folder None asks folders h = h
+done_folder (Some f) asks folders h = ap (λ (cs : List BerthCall). call.Folder f io.Done ∷ cs) h
 
-split : (k n : ℕ) → k < suc n → (k ≡ n) ⊎ (k < n)
-split zero zero h = inl refl
-split zero (suc n) h = inr (omega arith)
-split (suc k) zero h = absurd (omega arith)
-split (suc k) (suc n) h = next (split k n (omega arith))
-  where
-    next : (k ≡ n) ⊎ (k < n) → (suc k ≡ suc n) ⊎ (suc k < suc n)
-    next (inl e) = inl (ap suc e)
-    next (inr l) = inr (omega (arith, l))
+done_folders : (outputs : List (List ℕ)) → map done (folder_asks room.Whole outputs) ≡ map folder_call (folders_of outputs)
+done_folders [] = refl
+done_folders (o ∷ outputs) = done_folder (folder_of o) (folder_asks room.Whole outputs) (folders_of outputs) (done_folders outputs)
 
-rfind_none : (c : ℕ) (text : List ℕ) (n : ℕ) → n ≤ length text → ((i : ℕ) → i < length text → get_or text i 0 ≢ c) → rfind_below c text n ≡ None
-rfind_none c text zero short none = refl
-rfind_none c text (suc n) short none = ap (λ b. cond b (Some n) (rfind_below c text n)) (ne_eqb (get_or text n 0) c (none n (omega arith))) ∙ rfind_none c text n (omega arith) none
+done_puts : (inputs : List NamedFile) → map done (map (put_ask room.Whole) inputs) ≡ map put_call inputs
+done_puts [] = refl
+done_puts (x ∷ inputs) = ap (λ (cs : List BerthCall). put_call x ∷ cs) (done_puts inputs)
 
-rfind_some : (c : ℕ) (text : List ℕ) (k n : ℕ) → k < n → n ≤ length text → get_or text k 0 ≡ c → ((i : ℕ) → k < i → i < length text → get_or text i 0 ≢ c) → rfind_below c text n ≡ Some k
-rfind_some c text k zero below short is later = absurd (omega arith)
-rfind_some c text k (suc n) below short is later = by (split k n below) (λ less. rfind_some c text k n less (omega arith) is later)
-  where
-    by : (k ≡ n) ⊎ (k < n) → (k < n → rfind_below c text n ≡ Some k) → cond (get_or text n 0 == c) (Some n) (rfind_below c text n) ≡ Some k
-    by (inl e) before = ap (λ b. cond b (Some n) (rfind_below c text n)) (eq-eqb (get_or text n 0) c (ap (λ (i : ℕ). get_or text i 0) (sym e) ∙ is)) ∙ ap Some (sym e)
-    by (inr l) before = ap (λ b. cond b (Some n) (rfind_below c text n)) (ne_eqb (get_or text n 0) c (later n l (omega arith))) ∙ before l
+fill_done : (outputs : List (List ℕ)) (inputs : List NamedFile) → map done (fill_asks outputs inputs) ≡ fill_calls outputs inputs
+fill_done outputs inputs =
+    let folders = folder_asks room.Whole outputs in
+    let puts = map (put_ask room.Whole) inputs in
+    ap (λ (cs : List BerthCall). call.Clear [] io.Done ∷ cs)
+    (map-append done folders puts ∙ ap (λ (cs : List BerthCall). cs ++ map done puts) (done_folders outputs) ∙ ap (λ (cs : List BerthCall). map folder_call (folders_of outputs) ++ cs) (done_puts inputs))
 
-pub folder_by : (path : List ℕ) (r : Option ℕ) → MatchOption r ((i : ℕ) → i < length path → get_or path i 0 ≢ 47) (λ k. (k < length path) × (get_or path k 0 ≡ 47) × ((i : ℕ) → k < i → i < length path → get_or path i 0 ≢ 47)) → option_map (λ end. take end path) r ≡ folder_of path
-folder_by path None h = ap (option_map (λ end. take end path)) (sym (rfind_none 47 path (length path) (omega arith) h))
-folder_by path (Some k) h = ap (option_map (λ end. take end path)) (sym (rfind_some 47 path k (length path) h.0 (omega arith) h.1 h.2))
+filled : (outputs : List (List ℕ)) (inputs : List NamedFile) (old new : BerthTold) → MakesRun Whole (fill_asks outputs inputs) old new → Adds (fill_calls outputs inputs) old.log new.log
+filled outputs inputs old new h =
+    let plain : HasNoLook (fill_asks outputs inputs) = (refl, no_look-append (folder_asks room.Whole outputs) (map (put_ask room.Whole) inputs) (no_look_folders outputs) (no_look_puts inputs)) in
+    subst (λ (cs : List BerthCall). Adds cs old.log new.log) (whole_calls (fill_asks outputs inputs) h.0 plain h.1 ∙ fill_done outputs inputs) h.2.log
+
+pub fill_done_by : (outputs : List (List ℕ)) (inputs : List NamedFile) (r : Result Io NoMemory) (old new : BerthTold) → MakesRun (run_end r) (fill_asks outputs inputs) old new → r ≡ Ok io.Done → Adds (fill_calls outputs inputs) old.log new.log
+fill_done_by outputs inputs r old new h is = filled outputs inputs old new (subst (λ (s : Result Io NoMemory). MakesRun (run_end s) (fill_asks outputs inputs) old new) is h)
+
+pub fill_part : (asks : List Asked) (r : Result Io NoMemory) (old new : BerthTold) → MakesRun (run_end r) asks old new → AddsRun asks old.log new.log
+fill_part asks r old new h = adds_run (run_end r) asks h.0 old.log new.log h.1 h.2.log
+
+pub fill_count : (asks : List Asked) (r : Result Io NoMemory) (old new : BerthTold) → MakesRun (run_end r) asks old new → Counts old.faults new.faults (r ≡ Ok io.Failed)
+fill_count asks r old new h = record {
+  later = h.2.count.later;
+  rose = λ failed. h.2.count.rose (subst (λ (s : Result Io NoMemory). IsStopped (run_end s)) (sym failed) tt);
+}
+
+-- ---- looks
+
+abbrev path_in : Asked → List ℕ
+path_in (Launch line command) = []
+path_in (Clear part) = []
+path_in (Folder path) = path
+path_in (Put path bytes) = path
+path_in (Get path) = path
+
+abbrev files_in : Gathered → List (List ℕ)
+files_in (gathered.Files files) = files
+files_in (gathered.Missing k) = []
+files_in gathered.RoomFault = []
+
+abbrev has_files : Gathered → Bool
+has_files (gathered.Files files) = true
+has_files (gathered.Missing k) = false
+has_files gathered.RoomFault = false
+
+abbrev is_missing : Gathered → Bool
+is_missing (gathered.Files files) = false
+is_missing (gathered.Missing k) = true
+is_missing gathered.RoomFault = false
+
+no : false ≡ true → ⊥
+no e = absurd cc
+
+one_found : (o path bytes : List ℕ) (calls : List BerthCall) (outputs rest : List (List ℕ)) → path ≡ o → calls ≡ get_calls outputs rest → call.Get path (read.Found bytes) ∷ calls ≡ get_calls (o ∷ outputs) (bytes ∷ rest)
+one_found o path bytes calls outputs rest same later =
+    ap (λ (p : List ℕ). call.Get p (read.Found bytes) ∷ calls) same ∙ ap (λ (cs : List BerthCall). call.Get o (read.Found bytes) ∷ cs) later
+
+-- where all were found, the calls are the looks with the files that they gave
+gets_made : (outputs : List (List ℕ)) (calls : List BerthCall) (k : ℕ) (before files : List (List ℕ)) → Runs Whole (get_asks outputs) calls → gathered.Files files ≡ gathered_after k before calls → (rest : List (List ℕ)) × (files ≡ before ++ rest) × (calls ≡ get_calls outputs rest)
+gets_made [] [] k before files runs is = ([], ap files_in is ∙ sym (append-nil before), refl)
+gets_made [] (c ∷ calls) k before files runs is = absurd runs
+gets_made (o ∷ outputs) [] k before files runs is = absurd runs
+gets_made (o ∷ outputs) (call.Get path (read.Found bytes) ∷ calls) k before files runs is =
+    let later = gets_made outputs calls (k + 1) (before ++ bytes ∷ []) files runs.1 is in
+    (bytes ∷ later.0, later.1 ∙ append_assoc before (bytes ∷ []) later.0, one_found o path bytes calls outputs later.0 (ap path_in runs.0) later.2)
+gets_made (o ∷ outputs) (call.Get path read.Absent ∷ calls) k before files runs is = absurd runs.1
+gets_made (o ∷ outputs) (call.Get path read.Failed ∷ calls) k before files runs is = absurd runs.1
+gets_made (o ∷ outputs) (call.Launch line command end ∷ calls) k before files runs is = absurd (no (sym (ap has_files is)))
+gets_made (o ∷ outputs) (call.Clear part end ∷ calls) k before files runs is = absurd (no (sym (ap has_files is)))
+gets_made (o ∷ outputs) (call.Folder path end ∷ calls) k before files runs is = absurd (no (sym (ap has_files is)))
+gets_made (o ∷ outputs) (call.Put path bytes end ∷ calls) k before files runs is = absurd (no (sym (ap has_files is)))
+
+pub look_found : (outputs : List (List ℕ)) (r : Result Gathered NoMemory) (old new : BerthTold) → MakesLooks (get_asks outputs) r old new → FitsOutputs (length outputs) r → IfOk r (λ g. OnFiles g (λ files. (length files ≡ length outputs) × Adds (get_calls outputs files) old.log new.log))
+look_found outputs (Ok (gathered.Files files)) old new h fits =
+    let g = gets_made outputs h.0 0 [] files h.1 h.2 in
+    (fits, subst (λ (cs : List BerthCall). Adds cs old.log new.log) (g.2 ∙ ap (get_calls outputs) (sym g.1)) h.3.log)
+look_found outputs (Ok (gathered.Missing k)) old new h fits = tt
+look_found outputs (Ok gathered.RoomFault) old new h fits = tt
+look_found outputs (Err e) old new h fits = tt
+
+pub look_part : (asks : List Asked) (r : Result Gathered NoMemory) (old new : BerthTold) → MakesLooks asks r old new → AddsRun asks old.log new.log
+look_part asks r old new h = adds_run (gather_end r) asks h.0 old.log new.log h.1 h.3.log
+
+-- where one was missing, the last call is the look that didn't find it
+last_absent : (asks : List Asked) (calls : List BerthCall) (k j : ℕ) (before : List (List ℕ)) → Runs Stopped asks calls → gathered.Missing k ≡ gathered_after j before calls → EndsAbsent calls
+last_absent asks [] k j before runs is = absurd (no (sym (ap is_missing is)))
+last_absent [] (c ∷ calls) k j before runs is = absurd runs
+last_absent (a ∷ asks) (call.Get path (read.Found bytes) ∷ calls) k j before runs is =
+    let later = last_absent asks calls k (j + 1) (before ++ bytes ∷ []) runs.1 is in
+    (call.Get path (read.Found bytes) ∷ later.0, later.1, ap (λ (cs : List BerthCall). call.Get path (read.Found bytes) ∷ cs) later.2)
+last_absent (a ∷ asks) (call.Get path read.Absent ∷ calls) k j before runs is =
+    ([], path, ap (λ (cs : List BerthCall). call.Get path read.Absent ∷ cs) runs.1)
+last_absent (a ∷ asks) (call.Get path read.Failed ∷ calls) k j before runs is = absurd (no (sym (ap is_missing is)))
+last_absent (a ∷ asks) (call.Launch line command end ∷ calls) k j before runs is = absurd (no (sym (ap is_missing is)))
+last_absent (a ∷ asks) (call.Clear part end ∷ calls) k j before runs is = absurd (no (sym (ap is_missing is)))
+last_absent (a ∷ asks) (call.Folder path end ∷ calls) k j before runs is = absurd (no (sym (ap is_missing is)))
+last_absent (a ∷ asks) (call.Put path bytes end ∷ calls) k j before runs is = absurd (no (sym (ap is_missing is)))
+
+absent_behind : (xs calls : List BerthCall) (new : Option (List BerthCall)) → EndsAbsent calls → Tells new (xs ++ calls) → IfSome new EndsAbsent
+absent_behind xs calls None ends told = tt
+absent_behind xs calls (Some ys) ends told =
+    (xs ++ ends.0, ends.1, told ∙ ap (λ (cs : List BerthCall). xs ++ cs) ends.2 ∙ sym (append_assoc xs ends.0 (call.Get ends.1 read.Absent ∷ [])))
+
+pub look_missing : (asks : List Asked) (r : Result Gathered NoMemory) (old new : BerthTold) → MakesLooks asks r old new → IfOk r (λ g. OnMissing g (AddsAbsent old.log new.log))
+look_missing asks (Ok (gathered.Files files)) old new h = tt
+look_missing asks (Ok (gathered.Missing k)) old new h = λ xs holds. absent_behind xs h.0 new.log (last_absent asks h.0 k 0 [] h.1 h.2) (h.3.log xs holds)
+look_missing asks (Ok gathered.RoomFault) old new h = tt
+look_missing asks (Err e) old new h = tt

@@ -2,14 +2,10 @@
 use Rattle.std.proofs.Common.{◌≡◌, ℕ, ◌<◌, ◌≤◌, List, [], ◌∷◌, ◌++◌, length, map, take, Option, Some, None, IfSome, refl, ap, sym, subst, ◌∙◌, arith, append-nil, length-append}
 use Rattle.std.proofs.lemmas.List.{take_all}
 use Rattle.outside.specs.Lists.{Adds, Tells}
-use Rattle.outside.specs.declared.floor.SourceFile.{SourceFile}
-use Rattle.outside.specs.declared.berth.BerthCall.{BerthCall}
 use Rattle.outside.specs.declared.place.PlaceWrite.{PlaceWrite}
 use Rattle.worker_run.specs.Heard.{IsOneAnswer, BeginsAnswer, NeverAnswers, Speaks}
-use Rattle.worker_run.specs.Rooms.{Asked, Folder, IsRun, folder_call, folders_of, fill_asks, fill_calls, put_ask, put_call, writes_of}
-use Rattle.worker_run.specs.Reached.{TellsRun}
+use Rattle.output_commit.specs.Commits.{writes_of}
 use Rattle.worker_run.proofs.Streams.{never_by_more}
-use Rattle.worker_run.proofs.Frames.{of_told}
 
 two_lists : {ys : List ℕ} → ys ≡ [] → ys ≡ 0 ∷ [] → ⊥
 two_lists {ys = ys} a b = let e : length ys ≡ 0 = ap length a in let f : length ys ≡ 1 = ap length b in omega arith
@@ -47,21 +43,6 @@ pub never_more : (text : List ℕ) (old new : Option (List ℕ)) → Speaks old 
 never_more text old None spoke p = tt
 never_more text None (Some ys) spoke p = absurd (silent ys (spoke [] tt) (spoke ys tt))
 never_more text (Some xs) (Some ys) spoke p = let m = spoke xs refl in subst NeverAnswers (sym m.2) (never_by_more xs text m.0 p m.1)
-
--- calls that all went well are a run
-puts_run : (inputs : List SourceFile) → IsRun (map put_ask inputs) (map put_call inputs)
-puts_run [] = tt
-puts_run (x ∷ inputs) = (refl, tt, puts_run inputs)
-
-folders_run : (folders : List (List ℕ)) (asks : List Asked) (calls : List BerthCall) → IsRun asks calls → IsRun (map Folder folders ++ asks) (map folder_call folders ++ calls)
-folders_run [] asks calls rest = rest
-folders_run (f ∷ folders) asks calls rest = (refl, tt, folders_run folders asks calls rest)
-
-fill_runs : (outputs : List (List ℕ)) (inputs : List SourceFile) → IsRun (fill_asks outputs inputs) (fill_calls outputs inputs)
-fill_runs outputs inputs = (refl, tt, folders_run (folders_of outputs) (map put_ask inputs) (map put_call inputs) (puts_run inputs))
-
-pub filled : (log : Option (List BerthCall)) (before : List BerthCall) (outputs : List (List ℕ)) (inputs : List SourceFile) → Tells log (before ++ fill_calls outputs inputs) → TellsRun log before (fill_asks outputs inputs)
-filled log before outputs inputs told = of_told (λ l. (more : List BerthCall) × (l ≡ before ++ more) × IsRun (fill_asks outputs inputs) more) log (before ++ fill_calls outputs inputs) told (fill_calls outputs inputs, refl, fill_runs outputs inputs)
 
 -- all writes
 writes_short : (outputs files : List (List ℕ)) → length (writes_of outputs files) ≤ length outputs

@@ -22,6 +22,7 @@ use Rattle.tool_words.specs.declared.options.Options.{Options}
 use Rattle.worker_run.specs.Prepared.{HasWork, IsFlagFault, is_served, plan_by}
 use Rattle.worker_run.specs.Sources.{AllFound, FirstLost, files_at, source_paths}
 use Rattle.flag_files.specs.Split.{request_words}
+use Rattle.worker_run.specs.declared.work.OneJob.{OneJob}
 use Rattle.worker_run.specs.declared.reading.Job.{Job}
 use Rattle.worker_run.specs.declared.reading.Job.TheVariants as job
 
@@ -80,6 +81,12 @@ abbrev pub OnPlan : Result Job RunFault → (Plan → Type 0) → Type 0
 OnPlan (Ok (job.Nothing plan)) P = P plan
 OnPlan (Ok (job.One work)) P = P work.plan
 OnPlan (Err f) P = Unit {0}
+
+-- what is to be done of an action
+abbrev pub OnWork : Result Job RunFault → (OneJob → Type 0) → Type 0
+OnWork (Ok (job.Nothing plan)) P = Unit {0}
+OnWork (Ok (job.One work)) P = P work
+OnWork (Err f) P = Unit {0}
 
 -- each answer is what the floor's files give, where it tells them
 abbrev pub AreOfFiles : Option (List SourceFile) → List FloorRead → Type 0

@@ -13,7 +13,7 @@ use Rattle.build_report.specs.declared.fault.RunFault.{RunFault}
 use Rattle.build_report.specs.declared.fault.RunFault.TheVariants as fault
 use Rattle.build_report.specs.declared.fault.Stage.TheVariants as stage
 use Rattle.build_report.specs.declared.fault.Unbuilt.TheVariants as unbuilt
-use Rattle.worker_run.specs.declared.work.Work.{Work}
+use Rattle.worker_run.specs.declared.work.OneJob.{OneJob}
 use Rattle.worker_run.specs.declared.reading.Job.{Job}
 use Rattle.worker_run.specs.declared.reading.Job.TheVariants as job
 use Rattle.worker_run.specs.declared.line.Reached.{Reached}
@@ -26,7 +26,7 @@ use Rattle.worker_run.specs.Seen.{end_told, Left, left, nothing_left, EndedTold}
 
 -- One berth, one line and one place, each with number 0. The journal says how far the line came, and what
 -- the objects tell agrees with it; where it came no further for an object of the outside, that is its cause.
-pub record LeavesOne (work : Work) (came : Reached) (stop : Stopped) (run : Left) : Type 0 where
+pub record LeavesOne (work : OneJob) (came : Reached) (stop : Stopped) (run : Left) : Type 0 where
   pub room : BerthTold
   pub line : Option LineTold
   pub place : PlaceTold
@@ -91,7 +91,7 @@ abbrev pub RunEnds : Option Options → FloorTold → EndedTold → SinkTold →
 RunEnds options before run old new = RunLeaves options before run.floor run.fault run.left old new
 
 -- The job is one action: what its run leaves, or nothing where memory was wanted before the lanes.
-abbrev pub OneEnds : Work → Option RunFault → Left → SinkTold → SinkTold → Type 0
+abbrev pub OneEnds : OneJob → Option RunFault → Left → SinkTold → SinkTold → Type 0
 OneEnds work end run old new = AfterStart end (LeavesNothing run old new) (EndsAs (Ok (job.One work)) end run old new)
 
 -- a fault that comes once all is read, or none

@@ -1,4 +1,3 @@
-pub mod Commits
 pub mod Course
 pub mod Ends
 pub mod Faults

@@ -5,19 +5,21 @@ use Rattle.outside.specs.Told.{BerthTold, PlaceTold, FeedTold, TapTold, LineTold
 use Rattle.outside.specs.declared.berth.BerthCall.{BerthCall}
 use Rattle.outside.specs.declared.place.PlaceWrite.{PlaceWrite}
 use Rattle.worker_run.specs.Heard.{IsOneAnswer, NeverAnswers, BeginsAnswer, HasNoAnswer}
-use Rattle.worker_run.specs.Rooms.{Asked, IsRun, launch_asks, launch_calls, fill_asks, fill_calls, get_asks, get_calls, writes_of, EndsAbsent}
+use Rattle.output_commit.specs.Commits.{writes_of}
+use Rattle.sandbox_rooms.specs.Calls.{Asked}
+use Rattle.worker_run.specs.Rooms.{IsRun, launch_asks, launch_calls, fill_asks, fill_calls, get_asks, get_calls, EndsAbsent}
 use Rattle.worker_run.specs.Seen.{IsKilledLine}
-use Rattle.worker_run.specs.declared.work.Work.{Work}
+use Rattle.worker_run.specs.declared.work.OneJob.{OneJob}
 use Rattle.worker_run.specs.declared.line.Reached.{Reached}
 use Rattle.worker_run.specs.declared.line.Reached.TheVariants as reached
 use Rattle.worker_run.specs.declared.line.Stopped.{Stopped}
 use Rattle.worker_run.specs.declared.line.Stopped.TheVariants as stopped
 
 -- the calls of a launch, and those up to the request
-abbrev pub before_request : Work → List BerthCall
+abbrev pub before_request : OneJob → List BerthCall
 before_request work = launch_calls work.command
 
-abbrev pub before_answer : Work → List BerthCall
+abbrev pub before_answer : OneJob → List BerthCall
 before_answer work = launch_calls work.command ++ fill_calls work.outputs work.inputs
 
 -- these calls, and then some of those, as far as it tells
@@ -25,7 +27,7 @@ abbrev pub TellsRun : Option (List BerthCall) → List BerthCall → List Asked 
 TellsRun log calls asks = IfSome log (λ l. (more : List BerthCall) × (l ≡ calls ++ more) × IsRun asks more)
 
 -- The room: each order's calls, one after another; of the last order perhaps not all.
-abbrev pub RoomStood : Work → Reached → Option (List BerthCall) → Type 0
+abbrev pub RoomStood : OneJob → Reached → Option (List BerthCall) → Type 0
 RoomStood work reached.Ordered log = TellsRun log [] (launch_asks work.command)
 RoomStood work reached.Launched log = TellsRun log (before_request work) (fill_asks work.outputs work.inputs)
 RoomStood work reached.Written log = Tells log (before_answer work)
@@ -35,7 +37,7 @@ RoomStood work (reached.Committed text files) log = Tells log (before_answer wor
 RoomStood work (reached.Ended text files) log = Tells log (before_answer work ++ get_calls work.outputs files)
 
 -- The place: nothing before the files are there, then a front of the writes, then all of them.
-abbrev pub PlaceStood : Work → Reached → Option (List PlaceWrite) → Type 0
+abbrev pub PlaceStood : OneJob → Reached → Option (List PlaceWrite) → Type 0
 PlaceStood work reached.Ordered log = Tells log []
 PlaceStood work reached.Launched log = Tells log []
 PlaceStood work reached.Written log = Tells log []
@@ -49,7 +51,7 @@ abbrev pub TellsFront : Option (List ℕ) → List ℕ → Type 0
 TellsFront given bytes = IfSome given (λ xs. (n : ℕ) × (n ≤ length bytes) × (xs ≡ take n bytes))
 
 -- The request: a front of it where it was ordered alone, else all of it.
-abbrev pub FeedStood : Work → Reached → Option (List ℕ) → Type 0
+abbrev pub FeedStood : OneJob → Reached → Option (List ℕ) → Type 0
 FeedStood work reached.Ordered given = Unit {0}
 FeedStood work reached.Launched given = TellsFront given work.frame
 FeedStood work reached.Written given = Tells given work.frame
@@ -70,7 +72,7 @@ TapStood (reached.Committed text files) tap = IfSome tap.taken (BeginsAnswer tex
 TapStood (reached.Ended text files) tap = IfSome tap.taken (λ all. IsOneAnswer all text) × IfSome tap.ended (λ b. b ≡ true)
 
 -- Without a launch there is no line; else its three objects tell this, and its child has been killed.
-abbrev pub LineStood : Work → Reached → Option LineTold → Type 0
+abbrev pub LineStood : OneJob → Reached → Option LineTold → Type 0
 LineStood work reached.Ordered None = Unit {0}
 LineStood work reached.Ordered (Some line) = ⊥
 LineStood work came None = ⊥

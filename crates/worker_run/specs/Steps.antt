@@ -3,8 +3,8 @@ use Rattle.std.specs.Prelude.{List, ℕ, Result, Ok, Err}
 use Rattle.plain_values.specs.declared.no_memory.NoMemory.{NoMemory}
 use Rattle.outside.specs.declared.answers.Launch.{Launch}
 use Rattle.outside.specs.declared.answers.Launch.TheVariants as launch
-use Rattle.worker_run.specs.declared.room.Gathered.{Gathered}
-use Rattle.worker_run.specs.declared.room.Gathered.TheVariants as gathered
+use Rattle.sandbox_rooms.specs.declared.gathering.Gathered.{Gathered}
+use Rattle.sandbox_rooms.specs.declared.gathering.Gathered.TheVariants as gathered
 
 module _ {D T C : Type 0} where
   -- it has not started
@@ -15,25 +15,12 @@ module _ {D T C : Type 0} where
 
 -- all outputs were found
 abbrev pub OnFiles : Gathered → (List (List ℕ) → Type 0) → Type 0
-OnFiles (gathered.Files files) P = P files.items
-OnFiles gathered.Missing P = Unit {0}
+OnFiles (gathered.Files files) P = P files
+OnFiles (gathered.Missing k) P = Unit {0}
 OnFiles gathered.RoomFault P = Unit {0}
-
--- not all outputs were found
-abbrev pub OnNoFiles : Result Gathered NoMemory → Type 0 → Type 0
-OnNoFiles (Ok (gathered.Files files)) P = Unit {0}
-OnNoFiles (Ok gathered.Missing) P = P
-OnNoFiles (Ok gathered.RoomFault) P = P
-OnNoFiles (Err e) P = P
 
 -- an output is missing
 abbrev pub OnMissing : Gathered → Type 0 → Type 0
 OnMissing (gathered.Files files) P = Unit {0}
-OnMissing gathered.Missing P = P
+OnMissing (gathered.Missing k) P = P
 OnMissing gathered.RoomFault P = Unit {0}
-
-abbrev pub IsRoomFault : Result Gathered NoMemory → Type 0
-IsRoomFault (Ok (gathered.Files files)) = ⊥
-IsRoomFault (Ok gathered.Missing) = ⊥
-IsRoomFault (Ok gathered.RoomFault) = Unit {0}
-IsRoomFault (Err e) = ⊥

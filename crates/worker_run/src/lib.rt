@@ -1,7 +1,6 @@
 //! The top call: it reads a list of actions, runs them, and reports.
 #![tactic(auto)]
 
-mod commits;
 mod ended;
 mod frame;
 mod hearing;

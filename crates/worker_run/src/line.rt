@@ -8,14 +8,16 @@ ghost use Rattle.outside.specs.declared.berth.BerthCall.{BerthCall};
 ghost use Rattle.outside.specs.declared.place.PlaceWrite.{PlaceWrite};
 ghost use Rattle.worker_run.specs.Reached.{before_request, before_answer, RoomStood, PlaceStood, FeedStood, TapStood, HeardStood, LineStood, WorkCause, HasCause, IsServed, IsStop, OnOutside, HoldsText, HoldsFiles, EndsWith, IsLaunched, IsWritten};
 ghost use Rattle.worker_run.specs.Heard.{IsOneAnswer};
-ghost use Rattle.worker_run.specs.declared.work.Work.{Work};
+ghost use Rattle.worker_run.specs.Prepared.{HasFewOutputs};
+ghost use Rattle.worker_run.specs.declared.work.OneJob.{OneJob};
 
-use crate::commits::{Committed, commit};
 use crate::hearing::{Heard, Silence, hear, listen};
-use crate::room::{Gathered, fill, gather, launch};
-use crate::work::Work;
+use crate::room::{fill, launch, look};
+use crate::work::OneJob;
+use output_commit::{Committed, commit};
 use outside::{Berth, Child, Feed, Io, Launch, Place, Tap};
 use plain_values::{Blob, Items, NoMemory, Text};
+use sandbox_rooms::Gathered;
 use std::alloc::Global;
 use std::marker::Model;
 
@@ -85,10 +87,11 @@ pub fn run_line<B: Berth, P: Place>(
     alloc: Global,
     berth: &mut B,
     place: &mut P,
-    work: &Work,
+    work: &OneJob,
 ) -> LineRun<B>
     requires room { Tells (B.told berth.old).log [] }
     requires place { Tells (P.told place.old).log [] }
+    requires few { HasFewOutputs work.now }
     ensures stop { IsStop result.reached result.stopped }
     ensures room { RoomStood work.now result.reached (B.told berth.new).log }
     ensures place { PlaceStood work.now result.reached (P.told place.new).log }
@@ -119,11 +122,12 @@ fn run_started<B: Berth, P: Place>(
     alloc: Global,
     berth: &mut B,
     place: &mut P,
-    work: &Work,
+    work: &OneJob,
     line: Line<B>,
 ) -> LineRun<B>
     requires room { Tells (B.told berth.old).log (before_request work.now) }
     requires place { Tells (P.told place.old).log [] }
+    requires few { HasFewOutputs work.now }
     requires feed { IsNewFeed 0 line.feed }
     requires tap { IsNewTap 0 line.tap }
     requires child { IsNewChild 0 line.child }
@@ -152,11 +156,11 @@ fn settle<T: Tap>(served: Served, tap: &mut T) -> Served
     requires served { IsServed served.reached served.stopped }
     requires heard { HeardStood served.reached (T.told tap.old).taken }
     ensures stop { IsStop result.reached result.stopped }
-    ensures room { (work : Work) (log : Option (List BerthCall))
+    ensures room { (work : OneJob) (log : Option (List BerthCall))
         → RoomStood work served.reached log → RoomStood work result.reached log }
-    ensures place { (work : Work) (log : Option (List PlaceWrite))
+    ensures place { (work : OneJob) (log : Option (List PlaceWrite))
         → PlaceStood work served.reached log → PlaceStood work result.reached log }
-    ensures feed { (work : Work) (given : Option (List ℕ))
+    ensures feed { (work : OneJob) (given : Option (List ℕ))
         → FeedStood work served.reached given → FeedStood work result.reached given }
     ensures tap { TapStood result.reached (T.told tap.new) }
     ensures cause { (room : BerthTold) (place : PlaceTold) (feed : FeedTold)
@@ -204,10 +208,11 @@ fn serve<B: Berth, P: Place>(
     place: &mut P,
     feed: &mut B::Feed,
     tap: &mut B::Tap,
-    work: &Work,
+    work: &OneJob,
 ) -> Served
     requires room { Tells (B.told berth.old).log (before_request work.now) }
     requires place { Tells (P.told place.old).log [] }
+    requires few { HasFewOutputs work.now }
     requires feed { Tells (B.Feed.told feed.old).given [] }
     requires tap { Tells (B.Tap.told tap.old).taken [] }
     ensures served { IsServed result.reached result.stopped }
@@ -222,17 +227,26 @@ fn serve<B: Berth, P: Place>(
     ensures feed_line { SameFeed (B.Feed.told feed.old) (B.Feed.told feed.new) }
     ensures tap_line { SameTap (B.Tap.told tap.old) (B.Tap.told tap.new) }
 {
-    if let Io::Failed = fill(berth, work.outputs.as_slice(), work.inputs.as_slice()) {
-        return Served {
+    match fill(
+        alloc,
+        berth,
+        work.outputs.as_slice(),
+        work.inputs.as_slice(),
+    ) {
+        Ok(Io::Done) => match feed.write(work.frame.as_slice()) {
+            Io::Done => answer(alloc, berth, place, tap, work),
+            Io::Failed => Served {
+                reached: Reached::Launched,
+                stopped: Stopped::Outside,
+            },
+        },
+        Ok(Io::Failed) => Served {
             reached: Reached::Launched,
             stopped: Stopped::Outside,
-        };
-    }
-    match feed.write(work.frame.as_slice()) {
-        Io::Done => answer(alloc, berth, place, tap, work),
-        Io::Failed => Served {
+        },
+        Err(NoMemory) => Served {
             reached: Reached::Launched,
-            stopped: Stopped::Outside,
+            stopped: Stopped::NoMemory,
         },
     }
 }
@@ -243,10 +257,11 @@ fn answer<B: Berth, P: Place>(
     berth: &mut B,
     place: &mut P,
     tap: &mut B::Tap,
-    work: &Work,
+    work: &OneJob,
 ) -> Served
     requires room { Tells (B.told berth.old).log (before_answer work.now) }
     requires place { Tells (P.told place.old).log [] }
+    requires few { HasFewOutputs work.now }
     requires tap { Tells (B.Tap.told tap.old).taken [] }
     ensures served { IsServed result.reached result.stopped }
     ensures written { IsWritten result.reached }
@@ -277,11 +292,12 @@ fn conclude<B: Berth, P: Place>(
     alloc: Global,
     berth: &mut B,
     place: &mut P,
-    work: &Work,
+    work: &OneJob,
     text: Text,
 ) -> Served
     requires room { Tells (B.told berth.old).log (before_answer work.now) }
     requires place { Tells (P.told place.old).log [] }
+    requires few { HasFewOutputs work.now }
     ensures served { IsServed result.reached result.stopped }
     ensures text { HoldsText text result.reached }
     ensures room { RoomStood work.now result.reached (B.told berth.new).log }
@@ -291,9 +307,9 @@ fn conclude<B: Berth, P: Place>(
     ensures berth_number { SameBerth (B.told berth.old) (B.told berth.new) }
     ensures place_number { SamePlace (P.told place.old) (P.told place.new) }
 {
-    match gather(alloc, berth, work.outputs.as_slice()) {
-        Ok(Gathered::Files(files)) => write_out(place, work, text, Items::of(files)),
-        Ok(Gathered::Missing) => Served {
+    match look(alloc, berth, work.outputs.as_slice()) {
+        Ok(Gathered::Files(files)) => write_out(place, work, text, files),
+        Ok(Gathered::Missing(_)) => Served {
             reached: Reached::Answered(text),
             stopped: Stopped::Outside,
         },
@@ -309,9 +325,10 @@ fn conclude<B: Berth, P: Place>(
 }
 
 // Writes the outputs to the place.
-fn write_out<P: Place>(place: &mut P, work: &Work, text: Text, files: Items<Blob>) -> Served
+fn write_out<P: Place>(place: &mut P, work: &OneJob, text: Text, files: Items<Blob>) -> Served
     requires files { length files ≡ length work.now.outputs }
     requires place { Tells (P.told place.old).log [] }
+    requires few { HasFewOutputs work.now }
     ensures served { IsServed result.reached result.stopped }
     ensures files { HoldsFiles text files result.reached }
     ensures place { PlaceStood work.now result.reached (P.told place.new).log }

@@ -1,5 +1,5 @@
 //! What the one action of a list asks of the outside, made of the list and of the files that were found.
-ghost use Rattle.std.specs.Prelude.{◌≡◌, ◌∷◌, [], true, IfOk};
+ghost use Rattle.std.specs.Prelude.{◌≡◌, ◌∷◌, [], true, IfOk, map};
 ghost use Rattle.std.specs.List.{All};
 ghost use Rattle.std.specs.Option.{IsSome};
 ghost use Rattle.run_plan.specs.Sound.{Sound};
@@ -9,18 +9,19 @@ ghost use Rattle.action_list.specs.Plans.{plan_of};
 ghost use Rattle.action_list.specs.Whole.{IsWhole};
 ghost use Rattle.flag_files.specs.Split.{request_words};
 ghost use Rattle.outside.specs.Floor.{file_at};
-ghost use Rattle.worker_run.specs.Prepared.{AreAccepted, is_served, Prepares, Expands};
+ghost use Rattle.worker_run.specs.Prepared.{AreAccepted, HasFewOutputs, is_served, named, Prepares, Expands};
 ghost use Rattle.worker_run.specs.Sources.{held};
 
 use crate::frame::request_frame;
 use crate::sources::Sources;
-use crate::work::Work;
+use crate::work::OneJob;
 use crate::{RunFault, Stage};
 use action_list::{ActionList, ListAction, group_parts, plan};
 use exec_journal::Plan;
 use flag_files::{FlagFault, SplitFault, expand, split_args};
 use outside::{Command, SourceFile};
 use plain_values::{Items, NoMemory, Text, texts_again};
+use remote_messages::NamedFile;
 use std::alloc::Global;
 use tool_words::Options;
 
@@ -35,7 +36,7 @@ pub fn work_of(
     list: &ActionList,
     action: &ListAction,
     sources: &Sources,
-) -> Result<Work, RunFault>
+) -> Result<OneJob, RunFault>
     requires options { AreAccepted options.now }
     requires list { IsWhole list.now.actions }
     requires one { list.now.actions ≡ action.now ∷ [] }
@@ -43,6 +44,7 @@ pub fn work_of(
     requires inputs { All (λ p. IsSome (file_at (held sources.now) p)) action.now.inputs }
     ensures work { Prepares options.now action.now (held sources.now) result }
     ensures sound { IfOk result (λ work. Sound work.plan) }
+    ensures few { IfOk result HasFewOutputs }
 {
     let inputs = sources.files_at(alloc, action.inputs.as_slice())?;
     let words = expanded(alloc, action.argv.as_slice(), inputs.as_slice())?;
@@ -50,13 +52,27 @@ pub fn work_of(
     let command = command_of(alloc, options, list, action, &plan)?;
     let frame = request_frame(alloc, words, inputs.as_slice(), options.verbose)?;
     let outputs = texts_again(alloc, action.outputs.as_slice())?;
-    Ok(Work {
+    Ok(OneJob {
         plan,
         command,
-        inputs,
+        inputs: named_files(alloc, inputs.as_slice())?,
         outputs,
         frame,
     })
+}
+
+// The files, as a room is given them. They share the bytes.
+fn named_files(alloc: Global, files: &[SourceFile]) -> Result<Items<NamedFile>, NoMemory>
+    ensures { IfOk result (λ given. given ≡ map named files.now) }
+{
+    let mut given = Vec::new(alloc);
+    for file in files {
+        given.push(NamedFile {
+            path: Text::copy_of(alloc, file.path.as_str())?,
+            content: file.bytes.again()?,
+        })?;
+    }
+    Ok(Items::of(given))
 }
 
 /// The plan of the list by these options.

@@ -5,12 +5,12 @@ ghost use Rattle.action_list.specs.Whole.{IsWhole};
 ghost use Rattle.outside.specs.Causes.{Counts};
 ghost use Rattle.outside.specs.Told.{SameFloor};
 ghost use Rattle.tool_words.specs.Options.{options_of};
-ghost use Rattle.worker_run.specs.Course.{Course, OptionsRead, ListRead, ActionsRead, OneRead, ActionRead, Reads, UnlessBefore, IsFloorFailed, OnPlan, end_of};
-ghost use Rattle.worker_run.specs.Prepared.{AreAccepted, is_served};
+ghost use Rattle.worker_run.specs.Course.{Course, OptionsRead, ListRead, ActionsRead, OneRead, ActionRead, Reads, UnlessBefore, IsFloorFailed, OnPlan, OnWork, end_of};
+ghost use Rattle.worker_run.specs.Prepared.{AreAccepted, HasFewOutputs, is_served};
 
 use crate::preparing::{plan_of, work_of};
 use crate::sources::{read_found, read_sources};
-use crate::work::Work;
+use crate::work::OneJob;
 use crate::{RunFault, Stage, Unbuilt};
 use action_list::{ActionList, ListAction, ListRefusal, Strategy, read_list};
 use exec_journal::Plan;
@@ -24,7 +24,7 @@ pub enum Job {
     /// The list has no actions. This is its plan.
     Nothing(Plan),
     /// The list has this one.
-    One(Work),
+    One(OneJob),
 }
 
 /// Reads the list that the words name, and what its action reads.
@@ -32,6 +32,7 @@ pub fn read_job<F: Floor>(alloc: Global, words: &[String], floor: &mut F) -> Res
     ensures course { UnlessBefore (end_of result) (Reads (F.told floor.old) (F.told floor.new)
         (λ reads. Course (options_of (map string_bytes words.now)) reads result)) }
     ensures sound { OnPlan result Sound }
+    ensures few { OnWork result HasFewOutputs }
     ensures floor { Counts (F.told floor.old).faults (F.told floor.new).faults
         (IsFloorFailed (end_of result)) }
     ensures files { SameFloor (F.told floor.old) (F.told floor.new) }
@@ -51,6 +52,7 @@ fn read_by_options<F: Floor>(
     ensures course { UnlessBefore (end_of result) (Reads (F.told floor.old) (F.told floor.new)
         (λ reads. OptionsRead options.now options.now.list reads result)) }
     ensures sound { OnPlan result Sound }
+    ensures few { OnWork result HasFewOutputs }
     ensures floor { Counts (F.told floor.old).faults (F.told floor.new).faults
         (IsFloorFailed (end_of result)) }
     ensures files { SameFloor (F.told floor.old) (F.told floor.new) }
@@ -72,6 +74,7 @@ fn read_at<F: Floor>(
     ensures course { UnlessBefore (end_of result) (Reads (F.told floor.old) (F.told floor.new)
         (λ reads. ListRead options.now path.now reads result)) }
     ensures sound { OnPlan result Sound }
+    ensures few { OnWork result HasFewOutputs }
     ensures floor { Counts (F.told floor.old).faults (F.told floor.new).faults
         (IsFloorFailed (end_of result)) }
     ensures files { SameFloor (F.told floor.old) (F.told floor.new) }
@@ -95,6 +98,7 @@ fn read_actions<F: Floor>(
     ensures course { UnlessBefore (end_of result) (Reads (F.told floor.old) (F.told floor.new)
         (λ reads. ActionsRead options.now list.now.actions reads result)) }
     ensures sound { OnPlan result Sound }
+    ensures few { OnWork result HasFewOutputs }
     ensures floor { Counts (F.told floor.old).faults (F.told floor.new).faults
         (IsFloorFailed (end_of result)) }
     ensures files { SameFloor (F.told floor.old) (F.told floor.new) }
@@ -120,6 +124,7 @@ fn read_one<F: Floor>(
     ensures course { UnlessBefore (end_of result) (Reads (F.told floor.old) (F.told floor.new)
         (λ reads. OneRead options.now action.now (is_served action.now) reads result)) }
     ensures sound { OnPlan result Sound }
+    ensures few { OnWork result HasFewOutputs }
     ensures floor { Counts (F.told floor.old).faults (F.told floor.new).faults
         (IsFloorFailed (end_of result)) }
     ensures files { SameFloor (F.told floor.old) (F.told floor.new) }
@@ -154,6 +159,7 @@ fn read_action<F: Floor>(
     ensures course { UnlessBefore (end_of result) (Reads (F.told floor.old) (F.told floor.new)
         (λ reads. ActionRead options.now action.now reads result)) }
     ensures sound { OnPlan result Sound }
+    ensures few { OnWork result HasFewOutputs }
     ensures floor { Counts (F.told floor.old).faults (F.told floor.new).faults
         (IsFloorFailed (end_of result)) }
     ensures files { SameFloor (F.told floor.old) (F.told floor.new) }

@@ -1,30 +1,21 @@
-//! What is done in a worker's room: it is emptied and the command started, it is filled for a request, and
-//! its outputs are looked at after the answer.
-ghost use Rattle.std.specs.Prelude.{◌≡◌, ◌∷◌, ◌++◌, [], length, map, Ok, IfOk};
-ghost use Rattle.std.specs.Option.{option_copied};
+//! What is done in the room of the one worker: it is emptied and the command started, it is filled for the
+//! request, and its outputs are looked at after the answer.
+ghost use Rattle.std.specs.Prelude.{◌≡◌, ◌<◌, ◌^◌, length, Ok, IfOk};
 ghost use Rattle.outside.specs.Causes.{Counts};
 ghost use Rattle.outside.specs.Told.{SameBerth};
 ghost use Rattle.outside.specs.Lists.{Adds};
 ghost use Rattle.outside.specs.Launches.{OnStarted, IsNewFeed, IsNewTap, IsNewChild};
 ghost use Rattle.outside.specs.declared.answers.Io.TheVariants as io;
 ghost use Rattle.outside.specs.declared.answers.Launch.TheVariants as launch;
-ghost use Rattle.worker_run.specs.Rooms.{AddsRun, launch_asks, launch_calls, Folder, folder_of, folders_of, folder_call, fill_asks, fill_calls, get_asks, get_calls, put_ask, put_call, AddsAbsent};
-ghost use Rattle.worker_run.specs.Steps.{OnNotStarted, OnFiles, OnNoFiles, OnMissing, IsRoomFault};
+ghost use Rattle.sandbox_rooms.specs.Rooms.{IsRoomFault};
+ghost use Rattle.worker_run.specs.Rooms.{AddsRun, AddsAbsent, launch_asks, launch_calls, fill_asks, fill_calls, get_asks, get_calls};
+ghost use Rattle.worker_run.specs.Steps.{OnNotStarted, OnFiles, OnMissing};
 
-use outside::{Berth, Command, Io, Launch, Read, SourceFile};
-use plain_values::{Blob, NoMemory, Text};
+use outside::{Berth, Command, Io, Launch};
+use plain_values::{NoMemory, Text};
+use remote_messages::NamedFile;
+use sandbox_rooms::{Gathered, Room, gather, prepare};
 use std::alloc::Global;
-
-/// What the looks at the outputs gave.
-#[derive(Drop)]
-pub enum Gathered {
-    /// Each output's bytes, in order.
-    Files(Vec<Blob>),
-    /// An output isn't there.
-    Missing,
-    /// A look failed.
-    RoomFault,
-}
 
 /// Empties the room, and starts the command of line 0 in it.
 pub fn launch<B: Berth>(
@@ -50,95 +41,25 @@ pub fn launch<B: Berth>(
 }
 
 /// Empties the room, makes the folders of the outputs, and puts the inputs into it.
-pub fn fill<B: Berth>(berth: &mut B, outputs: &[Text], inputs: &[SourceFile]) -> Io
-    ensures done { result ≡ io.Done → Adds (fill_calls outputs.now inputs.now)
+///
+/// # Errors
+///
+/// `NoMemory`.
+pub fn fill<B: Berth>(
+    alloc: Global,
+    berth: &mut B,
+    outputs: &[Text],
+    inputs: &[NamedFile],
+) -> Result<Io, NoMemory>
+    ensures done { result ≡ Ok io.Done → Adds (fill_calls outputs.now inputs.now)
         (B.told berth.old).log (B.told berth.new).log }
-    ensures failed { result ≡ io.Failed → AddsRun (fill_asks outputs.now inputs.now)
-        (B.told berth.old).log (B.told berth.new).log }
-    ensures count { Counts (B.told berth.old).faults (B.told berth.new).faults
-        (result ≡ io.Failed) }
-    ensures number { SameBerth (B.told berth.old) (B.told berth.new) }
-{
-    match berth.room_clear("") {
-        Io::Done => furnish(berth, outputs, inputs),
-        Io::Failed => Io::Failed,
-    }
-}
-
-fn furnish<B: Berth>(berth: &mut B, outputs: &[Text], inputs: &[SourceFile]) -> Io
-    ensures done { result ≡ io.Done → Adds
-        (map folder_call (folders_of outputs.now) ++ map put_call inputs.now)
-        (B.told berth.old).log (B.told berth.new).log }
-    ensures failed { result ≡ io.Failed → AddsRun
-        (map Folder (folders_of outputs.now) ++ map put_ask inputs.now)
+    ensures part { AddsRun (fill_asks outputs.now inputs.now)
         (B.told berth.old).log (B.told berth.new).log }
     ensures count { Counts (B.told berth.old).faults (B.told berth.new).faults
-        (result ≡ io.Failed) }
+        (result ≡ Ok io.Failed) }
     ensures number { SameBerth (B.told berth.old) (B.told berth.new) }
 {
-    match make_folders(berth, outputs) {
-        Io::Done => put_all(berth, inputs),
-        Io::Failed => Io::Failed,
-    }
-}
-
-fn make_folders<B: Berth>(berth: &mut B, outputs: &[Text]) -> Io
-    ensures done { result ≡ io.Done → Adds (map folder_call (folders_of outputs.now))
-        (B.told berth.old).log (B.told berth.new).log }
-    ensures failed { result ≡ io.Failed → AddsRun (map Folder (folders_of outputs.now))
-        (B.told berth.old).log (B.told berth.new).log }
-    ensures count { Counts (B.told berth.old).faults (B.told berth.new).faults
-        (result ≡ io.Failed) }
-    ensures number { SameBerth (B.told berth.old) (B.told berth.new) }
-{
-    for output in outputs {
-        if let Io::Failed = make_folder(berth, output.as_str()) {
-            return Io::Failed;
-        }
-    }
-    Io::Done
-}
-
-// Makes the folder of a path, where it has one.
-fn make_folder<B: Berth>(berth: &mut B, path: &str) -> Io
-    ensures done { result ≡ io.Done → Adds (map folder_call (folders_of (path.now ∷ [])))
-        (B.told berth.old).log (B.told berth.new).log }
-    ensures failed { result ≡ io.Failed → AddsRun (map Folder (folders_of (path.now ∷ [])))
-        (B.told berth.old).log (B.told berth.new).log }
-    ensures count { Counts (B.told berth.old).faults (B.told berth.new).faults
-        (result ≡ io.Failed) }
-    ensures number { SameBerth (B.told berth.old) (B.told berth.new) }
-{
-    match folder_of(path) {
-        Some(folder) => berth.room_folder(folder),
-        None => Io::Done,
-    }
-}
-
-fn folder_of(path: &str) -> Option<&str>
-    ensures { option_copied result ≡ folder_of path.now }
-{
-    match path.rfind('/') {
-        Some(end) => Some(&path[..end]),
-        None => None,
-    }
-}
-
-fn put_all<B: Berth>(berth: &mut B, inputs: &[SourceFile]) -> Io
-    ensures done { result ≡ io.Done → Adds (map put_call inputs.now)
-        (B.told berth.old).log (B.told berth.new).log }
-    ensures failed { result ≡ io.Failed → AddsRun (map put_ask inputs.now)
-        (B.told berth.old).log (B.told berth.new).log }
-    ensures count { Counts (B.told berth.old).faults (B.told berth.new).faults
-        (result ≡ io.Failed) }
-    ensures number { SameBerth (B.told berth.old) (B.told berth.new) }
-{
-    for input in inputs {
-        if let Io::Failed = berth.room_put(input.path.as_str(), input.bytes.bytes()) {
-            return Io::Failed;
-        }
-    }
-    Io::Done
+    prepare(alloc, berth, Room::Whole, inputs, outputs)
 }
 
 /// Looks at the outputs, one after another, up to the first that isn't found.
@@ -146,28 +67,16 @@ fn put_all<B: Berth>(berth: &mut B, inputs: &[SourceFile]) -> Io
 /// # Errors
 ///
 /// `NoMemory`.
-pub fn gather<B: Berth>(
-    alloc: Global,
-    berth: &mut B,
-    outputs: &[Text],
-) -> Result<Gathered, NoMemory>
+pub fn look<B: Berth>(alloc: Global, berth: &mut B, outputs: &[Text]) -> Result<Gathered, NoMemory>
+    requires { length outputs.now < 2 ^ 32 }
     ensures found { IfOk result (λ g. OnFiles g (λ files. (length files ≡ length outputs.now)
         × Adds (get_calls outputs.now files) (B.told berth.old).log (B.told berth.new).log)) }
-    ensures stopped { OnNoFiles result
-        (AddsRun (get_asks outputs.now) (B.told berth.old).log (B.told berth.new).log) }
+    ensures part { AddsRun (get_asks outputs.now) (B.told berth.old).log (B.told berth.new).log }
     ensures missing { IfOk result
         (λ g. OnMissing g (AddsAbsent (B.told berth.old).log (B.told berth.new).log)) }
     ensures count { Counts (B.told berth.old).faults (B.told berth.new).faults
         (IsRoomFault result) }
     ensures number { SameBerth (B.told berth.old) (B.told berth.new) }
 {
-    let mut files = Vec::with_capacity(alloc, outputs.len())?;
-    for output in outputs {
-        match berth.room_get(output.as_str())? {
-            Read::Found(bytes) => files.push_reserved(bytes),
-            Read::Absent => return Ok(Gathered::Missing),
-            Read::Failed => return Ok(Gathered::RoomFault),
-        }
-    }
-    Ok(Gathered::Files(files))
+    gather(alloc, berth, Room::Whole, outputs)
 }

@@ -7,12 +7,13 @@ ghost use Rattle.tool_words.specs.Options.{options_of};
 ghost use Rattle.worker_run.specs.Course.{IsFloorFailed};
 ghost use Rattle.worker_run.specs.Ends.{report_by, RunEnds, OneEnds, EndsBy, Puts, IsPutEnd, IsAfterReading, IsAfterStart};
 ghost use Rattle.worker_run.specs.Faults.{end_status};
+ghost use Rattle.worker_run.specs.Prepared.{HasFewOutputs};
 ghost use Rattle.outside.specs.Told.{SameFloor};
 
 use crate::line::{Stopped, run_line};
 use crate::reading::{Job, read_job};
 use crate::seats::make_seats;
-use crate::work::Work;
+use crate::work::OneJob;
 use crate::{Ended, RunFault, Stage, Unbuilt};
 use build_report::report;
 use exec_journal::{Journal, Plan};
@@ -58,8 +59,9 @@ pub fn run_build<R: Threads + Wait + Sync, F: Floor, O: Sink>(
     }
 }
 
-fn run_one<F: Floor, O: Sink>(alloc: Global, floor: F, work: &Work, out: &mut O) -> Ended<F>
-    requires { Sound work.now.plan }
+fn run_one<F: Floor, O: Sink>(alloc: Global, floor: F, work: &OneJob, out: &mut O) -> Ended<F>
+    requires sound { Sound work.now.plan }
+    requires few { HasFewOutputs work.now }
     ensures run { OneEnds work.now result.fault result.left (O.told out.old) (O.told out.new) }
     ensures kind { IsAfterReading result.fault }
     ensures log { result.floor.log ≡ (F.told floor).log }
