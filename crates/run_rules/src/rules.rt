@@ -1,0 +1,160 @@
+//! What a scheduling core is.
+ghost use Rattle.std.specs.Prelude.{◌≡◌, ◌≤◌, ◌<◌, ◌+◌, ◌/◌, ℕ, Bool, true, false, List, [], ◌∷◌, ◌++◌, Option, Some, None};
+ghost use Rattle.seat_desk.specs.declared.entry.Entry.{Entry};
+ghost use Rattle.seat_desk.specs.History.{entry, calls_by, Owes};
+ghost use Rattle.run_plan.specs.declared.plan.Branch.{Branch};
+ghost use Rattle.exec_journal.specs.declared.call.Call.{Call};
+ghost use Rattle.exec_journal.specs.declared.call.Call.TheVariants as call;
+ghost use Rattle.exec_journal.specs.declared.call.Started.TheVariants as start;
+ghost use Rattle.exec_journal.specs.declared.call.CommitEnd.{CommitEnd};
+ghost use Rattle.exec_journal.specs.declared.call.Found.TheVariants as found;
+ghost use Rattle.exec_journal.specs.declared.reply.Reply.{Reply};
+ghost use Rattle.exec_journal.specs.declared.reply.Reply.TheVariants as reply;
+ghost use Rattle.exec_journal.specs.declared.reply.Why.{Why};
+ghost use Rattle.exec_journal.specs.Entries.{is_kept};
+ghost use Rattle.run_rules.specs.Shelf.{child_at, tap_at, place_at, Fresh, Away};
+ghost use Rattle.run_rules.specs.Laws.{InScript, Fits, tap_lane, hearing_of, may_hear, Hears, Over, tells_of, claimed, is_taken, StepReplies, StepStands};
+
+use exec_journal::{Call, Reply};
+
+/// A scheduling core: it answers the calls of the lanes, and what it answers is a function of its plan and of the
+/// history of the calls that were kept.
+///
+/// Lane `2w` is the proxy lane of the berth `w`, and lane `2w + 1` its tap lane. A call that isn't in its lane's
+/// script is answered `Astray`. A law that needs what holds of every history that came about asks that the history be
+/// legal; the others hold of any list of entries.
+pub trait Rules: Sized + Drop {
+    /// What a core goes by. It never changes, and no value of it is made at run time.
+    type Plan;
+
+    // What this core goes by.
+    ghost plan: { Self → Self.Plan };
+
+    // Some plan.
+    ghost blank: { Self.Plan };
+
+    // The core may have come about by these calls, the oldest first: it stands for this history.
+    ghost stands: { Self → List (Entry Call Reply) → Type 0 };
+
+    // Some core may come about by these calls.
+    ghost legal: { Self.Plan → List (Entry Call Reply) → Type 0 };
+
+    // The reply to this lane's call after a history.
+    ghost rule: { Self.Plan → List (Entry Call Reply) → ℕ → Call → Reply };
+
+    // The calls of a lane that a history has paid for.
+    ghost paid: { Self.Plan → List (Entry Call Reply) → ℕ → Call → Type 0 };
+
+    // How many paid entries are still to come after a history.
+    ghost owes: { Self.Plan → List (Entry Call Reply) → ℕ };
+
+    // The number of berths.
+    ghost seats: { Self.Plan → ℕ };
+
+    // The process of this berth is an executor.
+    ghost remote: { Self.Plan → ℕ → Bool };
+
+    // The number of actions.
+    ghost actions: { Self.Plan → ℕ };
+
+    // The paths of this action's outputs.
+    ghost outputs: { Self.Plan → ℕ → List (List ℕ) };
+
+    /// Answers the call of this lane. Where the reply is to be a file, it may say want of memory instead.
+    fn step(&mut self, lane: u32, call: &Call) -> Reply
+        ensures plan { plan self.new ≡ plan self.old }
+        ensures reply { StepReplies stands (rule (plan self.old)) self.old lane call.now result }
+        ensures stands { StepStands stands self.old lane call.now result self.new };
+
+    /// The lanes that may have news after this lane was answered so, a bit for each: bit `k` is lane `k`. It is a
+    /// hint to those who wake lanes that wait, and no clause speaks of it.
+    fn stirs(&self, lane: u32, reply: &Reply) -> u128;
+
+    /// How many paid entries are still to come.
+    fn owed(&self) -> u64
+        ensures { Owes stands (owes (plan self.now)) self.now result };
+
+    /// The number of berths.
+    fn berths(&self) -> u32
+        ensures { result ≡ seats (plan self.now) };
+
+    // A paid call is answered Noted, and so never by want of memory.
+    ghost paid_is_noted: { (m : Self) (h : List (Entry Call Reply)) (lane : ℕ) (c : Call)
+        → stands m h → paid (plan m) h lane c → rule (plan m) h lane c ≡ reply.Noted };
+
+    // What a history pays for stays paid for after entries of other lanes.
+    ghost paid_stays: { (m : Self) (h more : List (Entry Call Reply)) (lane : ℕ) (c : Call)
+        → stands m (h ++ more) → calls_by lane more ≡ []
+        → paid (plan m) h lane c → paid (plan m) (h ++ more) lane c };
+
+    // A paid call pays one of what is owed.
+    ghost owes_less: { (m : Self) (h : List (Entry Call Reply)) (lane : ℕ) (c : Call)
+        → stands m h → paid (plan m) h lane c
+        → owes (plan m) (h ++ entry lane c reply.Noted ∷ []) + 1 ≡ owes (plan m) h };
+
+    // Any call raises it by two at most.
+    ghost owes_more: { (m : Self) (h : List (Entry Call Reply)) (lane : ℕ) (c : Call)
+        → stands m h → is_kept (rule (plan m) h lane c) ≡ true
+        → owes (plan m) (h ++ entry lane c (rule (plan m) h lane c) ∷ [])
+        ≤ owes (plan m) h + 2 };
+
+    // A call in its lane's script is answered by a reply of its kind.
+    ghost replies: { (q : Self.Plan) (h : List (Entry Call Reply)) (lane : ℕ) (c : Call)
+        → Fits c (rule q h lane c) };
+
+    // It stays in the script after entries of other lanes.
+    ghost script_stays: { (q : Self.Plan) (h more : List (Entry Call Reply)) (lane : ℕ) (c : Call)
+        → calls_by lane more ≡ []
+        → InScript (rule q) h lane c → InScript (rule q) (h ++ more) lane c };
+
+    // Which calls are in a tap lane's script, its own entries say alone.
+    ghost taps_hear: { (q : Self.Plan) (h : List (Entry Call Reply)) (w : ℕ) (c : Call)
+        → w < seats q → may_hear (hearing_of (calls_by (tap_lane w) h)) c ≡ true
+        → InScript (rule q) h (tap_lane w) c };
+
+    // Its Halt is paid for, until it was told to stop or has halted.
+    ghost taps_may_halt: { (q : Self.Plan) (h : List (Entry Call Reply)) (w : ℕ)
+        → w < seats q → (hearing_of (calls_by (tap_lane w) h) ≡ Over → ⊥)
+        → paid q h (tap_lane w) call.Halt };
+
+    // An Answer and an Ended come from the tap lane that hears the line.
+    ghost only_hears: { (q : Self.Plan) (h : List (Entry Call Reply)) (lane : ℕ) (c : Call) (l : ℕ)
+        → tells_of l c ≡ true → InScript (rule q) h lane c
+        → hearing_of (calls_by lane h) ≡ Hears l };
+
+    // A history for which a core stands is legal.
+    ghost stands_legal: { (m : Self) (h : List (Entry Call Reply)) → stands m h → legal (plan m) h };
+
+    // So is a legal history without its last entry, whose reply is the rule's, and is kept.
+    ghost legal_before: { (q : Self.Plan) (h : List (Entry Call Reply)) (e : Entry Call Reply)
+        → legal q (h ++ e ∷ [])
+        → legal q h × (e.reply ≡ rule q h e.lane e.call) × (is_kept e.reply ≡ true) };
+
+    // A line is launched on a berth of the plan.
+    ghost launches_on: { (q : Self.Plan) (h : List (Entry Call Reply)) (lane l : ℕ)
+        → legal q h → InScript (rule q) h lane (call.Launched l start.Done) → lane / 2 < seats q };
+
+    // A line is given to a tap lane while its tap lies on the shelf for its berth.
+    ghost takes_there: { (q : Self.Plan) (h : List (Entry Call Reply)) (lane l : ℕ)
+        → legal q h → rule q h lane call.Take ≡ reply.Line l → tap_at (lane / 2) h ≡ Some l };
+
+    // No line is given twice.
+    ghost takes_once: { (q : Self.Plan) (h : List (Entry Call Reply)) (lane l : ℕ)
+        → legal q h → rule q h lane call.Take ≡ reply.Line l → is_taken l h ≡ false };
+
+    // A Kill names the line whose child lies on the shelf for the lane's berth.
+    ghost kills_there: { (q : Self.Plan) (h : List (Entry Call Reply)) (lane l : ℕ) (y : Why)
+        → legal q h → rule q h lane call.Ask ≡ reply.Kill l y → child_at (lane / 2) h ≡ Some l };
+
+    // Files are granted once at most for each action, and only for one of the plan.
+    ghost grants_once: { (q : Self.Plan) (h : List (Entry Call Reply)) (lane a : ℕ) (b : Branch)
+        (t : ℕ) (fs : List (List ℕ))
+        → legal q h → rule q h lane (call.Claim a b t (found.Files fs)) ≡ reply.Granted
+        → (a < actions q) × (place_at a h ≡ Fresh) };
+
+    // A Committed comes from the lane that was granted the action's files, and the files are those of its last grant.
+    ghost commits_own: { (q : Self.Plan) (h : List (Entry Call Reply)) (lane a : ℕ) (b : Branch)
+        (how : CommitEnd)
+        → legal q h → InScript (rule q) h lane (call.Committed a b how)
+        → place_at a h ≡ Away (claimed (calls_by lane h)) };
+}
