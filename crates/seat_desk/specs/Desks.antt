@@ -6,7 +6,7 @@ use Rattle.seat_desk.specs.declared.entry.Entry.{Entry}
 use Rattle.seat_desk.specs.declared.view.Role.TheVariants.{Root, Lane}
 use Rattle.seat_desk.specs.declared.view.Stage.TheVariants.{Idle, Waits, Turn}
 use Rattle.seat_desk.specs.declared.view.View.{View}
-use Rattle.seat_desk.specs.History.{ReplyAfter, FactOfCall, FactOfGoodIn, FactOfGoodOut, FactOfWork, entry, after, calls_by, IsReply, GoesOn}
+use Rattle.seat_desk.specs.History.{ReplyAfter, FactOfCall, FactOfGoodIn, FactOfGoodOut, FactOfWork, entry, after, calls_by, IsReply, GoesOn, SomeStands}
 use Rattle.seat_desk.specs.Turns.{view_at, view_in_turn, view_after_turn, Only, Finds}
 
 -- a seat's view, and the slots that it holds
@@ -86,21 +86,23 @@ module _ {C R Q : Type 0} where
       → Type 0
   Grows keeps lane v h e w = (w.seen ≡ after keeps h e) × (w.mine ≡ after keeps v.mine e)
 
-  -- the reply is the machine's at a point h of the history, which goes on from what the pass had seen
-  abbrev pub Answers : ReplyAfter C R → (R → Bool) → FactOfCall C R → (Entry C R → Bool)
-      → {G : Type 0} → FactOfGoodOut C R G
+  -- the reply is the machine's at a point h of the history, which goes on from what the pass had seen, and for which some machine stands
+  abbrev pub Answers : {S : Type 0} → (S → List (Entry C R) → Type 0) → ReplyAfter C R → (R → Bool)
+      → FactOfCall C R → (Entry C R → Bool) → {G : Type 0} → FactOfGoodOut C R G
       → ℕ → View C R Q → C → R → Option G → View C R Q → Type 0
-  Answers next short may_be_short keeps comes_out lane v call reply good w =
+  Answers stands next short may_be_short keeps comes_out lane v call reply good w =
       (h : List (Entry C R)) × GoesOn lane v.seen h × IsReply next short may_be_short h lane call reply
       × Grows keeps lane v h (entry lane call reply) w × comes_out h lane call reply good
+      × SomeStands stands h
 
-  -- one call or two in one turn, at a point h of the history, which goes on from what the pass had seen
-  abbrev pub AnswersThen : {W G : Type 0} → FactOfWork W C R G → ReplyAfter C R → (R → Bool)
-      → FactOfCall C R → (Entry C R → Bool)
+  -- one call or two in one turn, at a point h of the history, which goes on from what the pass had seen, and for which some machine stands
+  abbrev pub AnswersThen : {W S G : Type 0} → FactOfWork W C R G → (S → List (Entry C R) → Type 0)
+      → ReplyAfter C R → (R → Bool) → FactOfCall C R → (Entry C R → Bool)
       → FactOfGoodOut C R G → ℕ → View C R Q → C → W → R → Option G → W → View C R Q → Type 0
-  AnswersThen {W} {G} meets next short may_be_short keeps comes_out lane v call work reply' good' work' w =
+  AnswersThen {W} {S} {G} meets stands next short may_be_short keeps comes_out lane v call work reply' good' work' w =
       (h : List (Entry C R)) × (reply : R) × (good : Option G) × GoesOn lane v.seen h
       × IsReply next short may_be_short h lane call reply × comes_out h lane call reply good
       × Follows meets next short keeps comes_out lane (after keeps h (entry lane call reply)) work reply good reply' good' work' w.seen
       × (calls_by lane w.seen ≡ w.mine)
       × ((news : List (Entry C R)) × (w.seen ≡ h ++ news) × (w.mine ≡ v.mine ++ news))
+      × SomeStands stands h

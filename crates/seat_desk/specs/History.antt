@@ -86,3 +86,7 @@ Owes {S} {C} {R} stands owes m n = (h : List (Entry C R)) → stands m h → n �
 abbrev pub StandsUnder : {S C R Q : Type 0} → (S → Q) → (S → List (Entry C R) → Type 0) → Q → S
     → List (Entry C R) → Type 0
 StandsUnder {S} {C} {R} {Q} rules stands q m h = stands m h × (rules m ≡ q)
+
+-- some machine stands for the history
+abbrev pub SomeStands : {S C R : Type 0} → (S → List (Entry C R) → Type 0) → List (Entry C R) → Type 0
+SomeStands {S} {C} {R} stands h = (m : S) × stands m h

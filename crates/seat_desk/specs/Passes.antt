@@ -75,17 +75,18 @@ module _ {M C R G Q : Type 0} {g : Ghosts M C R G Q} where
   abbrev pub IsPaidFor : Pass M C R G Q g → C → Type 0
   IsPaidFor p call = g.paid (rules p) (seen p) p.lane call
 
-  -- the call was made in one turn, by the rules of the machine: the reply is its reply at a point of the history that begins with all that the pass had seen
+  -- the call was made in one turn, by the rules of the machine: the reply is its reply at a point of the history that begins with all that the pass had seen, and for which some machine stands
   abbrev pub MakesCall : Pass M C R G Q g → C → R → Option G → Pass M C R G Q g → Type 0
   MakesCall p call reply good p' =
-      Answers (g.next (rules p)) g.short (g.may_be_short (rules p)) g.keeps (g.comes_out (rules p))
-      p.lane p.seat.me.0 call reply good p'.seat.me.0
+      Answers (StandsUnder g.rules g.stands (rules p)) (g.next (rules p)) g.short
+      (g.may_be_short (rules p)) g.keeps (g.comes_out (rules p)) p.lane p.seat.me.0 call reply good
+      p'.seat.me.0
 
   -- the same, and the reply is not short
   abbrev pub MakesPaidCall : Pass M C R G Q g → C → R → Option G → Pass M C R G Q g → Type 0
   MakesPaidCall p call reply good p' =
-      Answers (g.next (rules p)) g.short (λ _ _ _. ⊥) g.keeps (g.comes_out (rules p)) p.lane p.seat.me.0
-      call reply good p'.seat.me.0
+      Answers (StandsUnder g.rules g.stands (rules p)) (g.next (rules p)) g.short (λ _ _ _. ⊥) g.keeps
+      (g.comes_out (rules p)) p.lane p.seat.me.0 call reply good p'.seat.me.0
 
   -- no call was made: the history that the pass has seen may have grown by calls of other lanes, and its own list stays
   abbrev pub MakesNoCall : Pass M C R G Q g → Pass M C R G Q g → Type 0
@@ -98,9 +99,10 @@ module _ {M C R G Q : Type 0} {g : Ghosts M C R G Q} where
       (g.may_be_short (rules p)) g.keeps (g.paid (rules p)) (g.goes_in (rules p)) (g.comes_out (rules p))
       p.lane (seen p) call work
 
-  -- the call, and the one that the work answered, were made in one turn
+  -- the call, and the one that the work answered, were made in one turn, at such a point of the history
   abbrev pub MakesCallThen : {W : Type 0} → FactOfWork W C R G → Pass M C R G Q g → C → W → R
       → Option G → W → Pass M C R G Q g → Type 0
   MakesCallThen meets p call work reply good work' p' =
-      AnswersThen meets (g.next (rules p)) g.short (g.may_be_short (rules p)) g.keeps
-      (g.comes_out (rules p)) p.lane p.seat.me.0 call work reply good work' p'.seat.me.0
+      AnswersThen meets (StandsUnder g.rules g.stands (rules p)) (g.next (rules p)) g.short
+      (g.may_be_short (rules p)) g.keeps (g.comes_out (rules p)) p.lane p.seat.me.0 call work reply good
+      work' p'.seat.me.0

@@ -49,6 +49,7 @@ returns-clause-answer g c = let idle = c.args.pass.now.idle in let found = c.ent
             ∙ ap (λ (h : List (Entry g.row.M-Call.Denot g.row.M-Reply.Denot)). after g.M.Machine.keeps h e) (ap (calls_by c.args.pass.now.lane) same ∙ found.2 c.args.pass.now.lane idle.0))),
       ),
       subst (λ (q : g.row.M-Rules.Denot). g.M.Machine.comes_out q c.reserve.new.self.items c.args.pass.now.lane c.args.call c.step-reply.result.0 c.step-reply.result.1) c.enter-held.ensures.1.0.0.2 c.step-reply.ensures.comes,
+      (c.enter-held.result.machine, (subst (g.M.Machine.stands c.enter-held.result.machine) (sym same) found.0.0, found.0.2)),
     )
 
 pub returns-then-is_err-clause-refused : goal.returns-then-is_err-clause-refused

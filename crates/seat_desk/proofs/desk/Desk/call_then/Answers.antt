@@ -76,6 +76,7 @@ returns-clause-answer g c = let same : c.reserve.new.self.items ≡ c.enter-held
           (subst (λ (h : List (Entry g.row.M-Call.Denot g.row.M-Reply.Denot)). Follows g.W.Then.meets (g.M.Machine.next (g.M.Machine.rules c.step-reply.new.held.machine)) g.M.Machine.short g.M.Machine.keeps (g.M.Machine.comes_out (g.M.Machine.rules c.step-reply.new.held.machine)) c.args.pass.now.lane c.step-reply.new.held.history.items c.args.work.now c.step-reply.result.0 c.step-reply.result.1 c.follow-reply.result.0 c.follow-reply.result.1 c.follow-reply.new.work h) (all ∙ sym grew.0) c.follow-reply.ensures.follows)),
       grew.2,
       (news, grew.0 ∙ ap (λ (h : List (Entry g.row.M-Call.Denot g.row.M-Reply.Denot)). h ++ news) (sym same), grew.1),
+      (c.enter-held.result.machine, (subst (g.M.Machine.stands c.enter-held.result.machine) (sym same) c.enter-held.ensures.1.0.0.0, c.enter-held.ensures.1.0.0.2)),
     )
 
 pub returns-then-is_err-clause-refused : goal.returns-then-is_err-clause-refused
