@@ -1,0 +1,6 @@
+-- What the contracts of this crate cite.
+pub mod Jobs
+pub mod Lanes
+pub mod Callers
+pub mod Pairs
+pub mod Seats

@@ -1,0 +1,114 @@
+-- Lanes with their passes, before they run and after.
+use Rattle.std.specs.Prelude.{◌≡◌, ℕ, ◌+◌, ◌<◌, List, [], ◌∷◌}
+use Rattle.seat_desk.specs.declared.machine.Machine.{Ghosts}
+use Rattle.seat_desk.specs.declared.entry.Entry.{Entry}
+use Rattle.seat_desk.specs.declared.desk.Pass.{Pass}
+use Rattle.seat_desk.specs.declared.desk.Desk.{Desk}
+use Rattle.seat_desk.specs.declared.desk.Root.{Root}
+use Rattle.seat_desk.specs.declared.view.Joined.{Joined}
+use Rattle.seat_desk.specs.History.{StartsWith, calls_by}
+use Rattle.seat_desk.specs.Passes.{IsPassOf, IsRootOf, IsSamePass, mine, rules, seen, root_rules, root_seen, joined}
+use Rattle.lane_crew.specs.declared.job.Post.{Post}
+use Rattle.lane_crew.specs.declared.job.Post.TheVariants.{Ready, Ended, Empty}
+use Rattle.lane_crew.specs.declared.seat.Seated.{Seated}
+use Rattle.lane_crew.specs.declared.seat.Risen.{Risen}
+use Rattle.lane_crew.specs.Lanes.{IsFresh, FactBefore, FactOfRun}
+
+module _ {M C R G Q : Type 0} {g : Ghosts M C R G Q} where
+  -- the root has split no pass, seen nothing and joined nothing
+  abbrev pub IsNew : Root M C R G Q g → Type 0
+  IsNew r = (r.made ≡ 0) × (root_seen r ≡ []) × (joined r ≡ [])
+
+  -- the root is this desk's, by these rules; it has split so many passes, and joined none
+  abbrev pub IsMustered : Q → ℕ → Desk M C R G Q → Root M C R G Q g → Type 0
+  IsMustered q count desk r =
+      IsRootOf desk r × (r.made ≡ count) × (joined r ≡ []) × (root_rules r ≡ q)
+
+  module _ {L : Type 0} where
+    -- the lane of the number k may run at any desk that has bells enough and whose machine has these rules
+    abbrev pub MayRun : FactBefore L (Desk M C R G Q) (Pass M C R G Q g) → Q → ℕ → L → Type 0
+    MayRun may_run q k lane =
+        (desk : Desk M C R G Q) (bells : ℕ) (pass : Pass M C R G Q g) → IsPassOf desk pass
+        → IsFresh pass → pass.lane ≡ k → k < bells → rules pass ≡ q → may_run lane desk bells pass
+
+    -- so may these lanes, in order from the number k on
+    abbrev pub MayRunInOrder : FactBefore L (Desk M C R G Q) (Pass M C R G Q g) → Q → ℕ → List L
+        → Type 0
+    MayRunInOrder may_run q k [] = Unit {0}
+    MayRunInOrder may_run q k (lane ∷ lanes) =
+        MayRun may_run q k lane × MayRunInOrder may_run q (k + 1) lanes
+
+  module _ {L E : Type 0} where
+    -- the lane is at this post with a fresh pass of this number, of a desk whose machine has these rules
+    abbrev pub IsSeatOf : Desk M C R G Q → Q → ℕ → L
+        → Post (Seated M L C R G Q g) (Risen M E C R G Q g) → Type 0
+    IsSeatOf desk q k lane (Ready seat) =
+        (seat.lane ≡ lane) × IsPassOf desk seat.pass × IsFresh seat.pass × (seat.pass.lane ≡ k)
+        × (rules seat.pass ≡ q)
+    IsSeatOf desk q k lane (Ended risen) = ⊥
+    IsSeatOf desk q k lane Empty = ⊥
+
+    -- the lanes are at these posts, in order from the number k on
+    abbrev pub SeatedFrom : Desk M C R G Q → Q → ℕ → List L
+        → List (Post (Seated M L C R G Q g) (Risen M E C R G Q g)) → Type 0
+    SeatedFrom desk q k [] [] = Unit {0}
+    SeatedFrom desk q k (lane ∷ lanes) (post ∷ posts) =
+        IsSeatOf desk q k lane post × SeatedFrom desk q (k + 1) lanes posts
+    SeatedFrom desk q k [] (post ∷ posts) = ⊥
+    SeatedFrom desk q k (lane ∷ lanes) [] = ⊥
+
+    -- a lane of this desk has run at this post
+    abbrev pub HasRisen : Desk M C R G Q → Post (Seated M L C R G Q g) (Risen M E C R G Q g)
+        → Type 0
+    HasRisen desk (Ready seat) = ⊥
+    HasRisen desk (Ended risen) = IsPassOf desk risen.pass
+    HasRisen desk Empty = ⊥
+
+    -- the end was taken from this post, and its pass joined. The history h begins with what it has seen
+    abbrev pub IsHanded : List (Entry C R) → Post (Seated M L C R G Q g) (Risen M E C R G Q g)
+        → E → Joined C R → Type 0
+    IsHanded h (Ready seat) end j = ⊥
+    IsHanded h (Ended risen) end j =
+        (risen.end ≡ end) × (j ≡ record { lane = risen.pass.lane; calls = mine risen.pass })
+        × StartsWith h (seen risen.pass)
+    IsHanded h Empty end j = ⊥
+
+    -- so were those of all posts, in order
+    abbrev pub HandedOver : List (Entry C R)
+        → List (Post (Seated M L C R G Q g) (Risen M E C R G Q g)) → List E → List (Joined C R)
+        → Type 0
+    HandedOver h [] [] [] = Unit {0}
+    HandedOver h (post ∷ posts) (end ∷ ends) (j ∷ js) =
+        IsHanded h post end j × HandedOver h posts ends js
+    HandedOver h _ _ _ = ⊥
+
+    -- each lane gives back the pass that it was given
+    abbrev pub KeepsPasses : FactOfRun L E (Pass M C R G Q g) → Type 0
+    KeepsPasses has_run =
+        (lane : L) (before : Pass M C R G Q g) (end : E) (after : Pass M C R G Q g)
+        → has_run lane before end after → IsSamePass before after
+
+    -- the lane k ran with a fresh pass to this end. All that the history has of it are its calls
+    pub record LaneEnds (has_run : FactOfRun L E (Pass M C R G Q g)) (q : Q)
+        (history : List (Entry C R)) (k : ℕ) (lane : L) (end : E) : Type 0 where
+      -- its pass before it ran, and after
+      pub before : Pass M C R G Q g
+      pub after : Pass M C R G Q g
+      pub fresh : IsFresh before
+      pub number : before.lane ≡ k
+      pub by : rules before ≡ q
+      pub same : IsSamePass before after
+      -- what its kind says of it
+      pub ran : has_run lane before end after
+      -- the history goes on from what it saw, and has just its calls under its number
+      pub saw : StartsWith history (seen after)
+      pub made : mine after ≡ calls_by k history
+
+    -- so did these lanes, in order from the number k on
+    abbrev pub EachLane : FactOfRun L E (Pass M C R G Q g) → Q → List (Entry C R) → ℕ → List L
+        → List E → Type 0
+    EachLane has_run q history k [] [] = Unit {0}
+    EachLane has_run q history k (lane ∷ lanes) (end ∷ ends) =
+        LaneEnds has_run q history k lane end × EachLane has_run q history (k + 1) lanes ends
+    EachLane has_run q history k [] (end ∷ ends) = ⊥
+    EachLane has_run q history k (lane ∷ lanes) [] = ⊥

@@ -1,0 +1,44 @@
+//! One of two: a lane of one kind or the other, and what it ends with.
+ghost use Rattle.lane_crew.specs.Pairs.{MayRunOfKind, HasRunOfKind};
+
+use crate::lane::Lane;
+use lane_bells::Bells;
+use std::sync::Wait;
+use std::thread::Threads;
+
+/// Something of the first kind or of the second. A lane of either kind is a lane, and its end is of its
+/// kind, so lanes of two kinds stand in one list without a box.
+#[derive(Drop)]
+pub enum OfTwo<A, B> {
+    /// Of the first kind.
+    First(A),
+    /// Of the second.
+    Second(B),
+}
+
+impl<D, P, A: Lane<D, P>, B: Lane<D, P>> Lane<D, P> for OfTwo<A, B> {
+    type End = OfTwo<A::End, B::End>;
+
+    ghost may_run = { MayRunOfKind A.may_run B.may_run };
+
+    ghost has_run = { HasRunOfKind A.has_run B.has_run };
+
+    fn run<R: Threads + Wait + Sync>(
+        self,
+        rt: &R,
+        desk: &D,
+        bells: &Bells,
+        pass: P,
+    ) -> (OfTwo<A::End, B::End>, P) {
+        match self {
+            OfTwo::First(lane) => {
+                let (end, pass) = lane.run(rt, desk, bells, pass);
+                (OfTwo::First(end), pass)
+            }
+            OfTwo::Second(lane) => {
+                let (end, pass) = lane.run(rt, desk, bells, pass);
+                (OfTwo::Second(end), pass)
+            }
+        }
+    }
+}
