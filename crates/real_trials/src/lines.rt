@@ -18,7 +18,7 @@ pub fn play<B: Berth>(rt: &impl Print, alloc: Global, berth: &mut B) -> io::Resu
     }
     let nothing = command(alloc, "no/such/program").map_err(no_memory)?;
     match berth.launch(1, &nothing) {
-        Ok(Launch::Started(_, _, mut child)) => {
+        Ok(Launch::Started(_feed, _tap, mut child)) => {
             child.kill();
             println!(rt; "  started what isn't there")?;
         }
