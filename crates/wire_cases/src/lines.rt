@@ -19,7 +19,10 @@ pub fn response(alloc: Global, line: &str) -> Result<String, NoMemory> {
 }
 
 pub fn response_bytes(alloc: Global, digits: &str) -> Result<String, NoMemory> {
-    told(alloc, response_of(alloc, bytes_of(alloc, digits).as_slice()))
+    told(
+        alloc,
+        response_of(alloc, bytes_of(alloc, digits).as_slice()),
+    )
 }
 
 fn response_of(alloc: Global, line: &[u8]) -> Result<Vec<u8>, MessageFault> {
@@ -96,8 +99,9 @@ pub fn many(alloc: Global, digits: &str) -> Result<String, NoMemory> {
     let mut lines = 0u64;
     for _ in 0..MANY {
         match splitter.next()? {
-            Next::Frame(line) if line.as_slice() == b"a".as_slice() => lines =
-                lines.saturating_add(1),
+            Next::Frame(line) if line.as_slice() == b"a".as_slice() => lines = lines.saturating_add(
+                1,
+            ),
             _ => break,
         }
         splitter.feed(b"")?;
