@@ -1,0 +1,193 @@
+//! Lanes that fill and empty one slot.
+ghost use Rattle.std.specs.Prelude.{◌≡◌, ◌<◌, ◌≤◌, ◌*◌, false, length, IfOk};
+ghost use Rattle.seat_desk.specs.Turns.{NoneFrom};
+ghost use Rattle.seat_desk.specs.Passes.{IsPassOf, IsSamePass, mine};
+ghost use Rattle.lane_crew.specs.Lanes.{IsFresh};
+ghost use Rattle.crew_trials.specs.Ends.{HasMade, HasNumber, NumberedFrom, HasEndedSo, AreCounts};
+ghost use Rattle.crew_trials.specs.Slots.{is_idle, idle_not_kept, full_after};
+
+use crate::slot::{Answer, Ask, Slot};
+use lane_bells::Bells;
+use lane_crew::{Caller, Crew, CrewFault, Lane, Question, run_crew};
+use plain_values::NoMemory;
+use seat_desk::{Desk, Pass};
+use std::alloc::Global;
+use std::sync::Wait;
+use std::thread::Threads;
+
+/// Asks until it is done.
+#[derive(Drop)]
+pub struct Until {
+    /// What is asked.
+    pub ask: Ask,
+}
+
+impl Question<Slot> for Until {
+    ghost asks = { λ self. self.ask };
+
+    ghost idles = { is_idle };
+
+    ghost idle_is_not_kept = { λ e h. idle_not_kept e.reply h };
+
+    fn call(&self) -> Ask {
+        self.ask
+    }
+
+    fn is_idle(&self, reply: &Answer) -> bool {
+        match reply {
+            Answer::Done => false,
+            Answer::Idle => true,
+        }
+    }
+}
+
+/// Fills the slot.
+#[derive(Drop)]
+pub struct Filler {
+    /// The number of its lane.
+    pub number: u32,
+    /// How many times.
+    pub count: usize,
+}
+
+/// Empties it.
+#[derive(Drop)]
+pub struct Emptier {
+    /// The number of its lane.
+    pub number: u32,
+    /// How many times.
+    pub count: usize,
+}
+
+/// A lane of one kind or the other.
+#[derive(Drop)]
+pub enum SlotLane {
+    /// It fills the slot.
+    Fills(Filler),
+    /// It empties it.
+    Empties(Emptier),
+}
+
+impl SlotLane {
+    // Asks so many times, each until it is done, and answers how many were done with the pass.
+    fn run_until<R: Wait>(
+        rt: &R,
+        desk: &Desk<Slot>,
+        bells: &Bells,
+        pass: Pass<Slot>,
+        number: u32,
+        ask: Ask,
+        count: usize,
+    ) -> (usize, Pass<Slot>)
+        requires desk { IsPassOf desk.now pass }
+        requires fresh { IsFresh pass }
+        requires bell { number < bells.now }
+        ensures { IsSamePass pass result.1 × HasMade count (mine result.1) result.0 }
+    {
+        let question = Until { ask };
+        let mut caller = Caller::new(desk, bells, pass, number);
+        let mut made = 0;
+        while made < count {
+            if caller.ask(rt, &question).is_err() {
+                break;
+            }
+            made += 1;
+        }
+        (made, caller.into_pass())
+    }
+}
+
+/// What such a lane ends with: how many calls it made.
+#[derive(Drop)]
+pub enum SlotEnd {
+    /// So many times it filled the slot.
+    Filled(usize),
+    /// So many times it emptied it.
+    Emptied(usize),
+}
+
+impl Lane<Desk<Slot>, Pass<Slot>> for SlotLane {
+    type End = SlotEnd;
+
+    ghost may_run = { λ self desk bells pass. IsPassOf desk pass × IsFresh pass
+        × (pass.lane < bells) × HasNumber pass.lane self };
+
+    ghost has_run = { λ self pass end after. IsSamePass pass after
+        × HasEndedSo self (mine after) end };
+
+    fn run<R: Threads + Wait + Sync>(
+        self,
+        rt: &R,
+        desk: &Desk<Slot>,
+        bells: &Bells,
+        pass: Pass<Slot>,
+    ) -> (SlotEnd, Pass<Slot>) {
+        match self {
+            SlotLane::Fills(Filler { number, count }) => {
+                let (made, pass) = SlotLane::run_until(
+                    rt,
+                    desk,
+                    bells,
+                    pass,
+                    number,
+                    Ask::Fill,
+                    count,
+                );
+                (SlotEnd::Filled(made), pass)
+            }
+            SlotLane::Empties(Emptier { number, count }) => {
+                let (made, pass) = SlotLane::run_until(
+                    rt,
+                    desk,
+                    bells,
+                    pass,
+                    number,
+                    Ask::Empty,
+                    count,
+                );
+                (SlotEnd::Emptied(made), pass)
+            }
+        }
+    }
+}
+
+// So many pairs of lanes, by their numbers.
+fn lanes_of(alloc: Global, pairs: u32, count: usize) -> Result<Vec<SlotLane>, NoMemory>
+    requires { pairs ≤ 64 }
+    ensures numbered { IfOk result (λ v. NumberedFrom count 0 v.items) }
+    ensures count { IfOk result (λ v. length v.items ≡ 2 * pairs) }
+{
+    let mut lanes = Vec::new(alloc);
+    for pair in 0..pairs {
+        let number = 2 * pair;
+        lanes.push(SlotLane::Fills(Filler { number, count }))?;
+        let number = number + 1;
+        lanes.push(SlotLane::Empties(Emptier { number, count }))?;
+    }
+    Ok(lanes)
+}
+
+/// Up to 64 pairs of lanes, of which one fills the slot and the other empties it, so many times each.
+/// Each end is the number of calls that the history has of its lane.
+///
+/// # Errors
+///
+/// As of [`run_crew`].
+pub fn exchange<R: Threads + Wait + Sync>(
+    rt: &R,
+    alloc: Global,
+    pairs: u32,
+    count: usize,
+) -> Result<Crew<Slot, SlotEnd>, CrewFault>
+    requires { pairs ≤ 64 }
+    ensures others { IfOk result (λ c. NoneFrom (2 * pairs) c.history.items) }
+    ensures full { IfOk result (λ c. c.machine.full ≡ full_after false c.history.items) }
+    ensures ends { IfOk result (λ c. AreCounts count 0 c.history.items c.ends.items) }
+    ensures all { IfOk result (λ c. length c.ends.items ≡ 2 * pairs) }
+{
+    let Ok(lanes) = lanes_of(alloc, pairs, count) else {
+        return Err(CrewFault::Before);
+    };
+    let crew = run_crew(rt, alloc, Slot::new(), lanes)?;
+    Ok(crew)
+}
