@@ -1,0 +1,55 @@
+-- What is so of a legal journal where an entry comes, in the forms that the core asks for.
+use Rattle.std.specs.Prelude.{◌≡◌, ℕ, ◌≤◌, Bool, true, false, ◌&&◌, ◌||◌, not, Option, Some, None, is_some, option_map, List, ◌∷◌, slice_get}
+use Rattle.std.specs.List.{find, list_any}
+use Rattle.run_plan.specs.declared.plan.Branch.{Branch}
+use Rattle.run_plan.specs.declared.plan.Plan.{Plan}
+use Rattle.run_plan.specs.declared.plan.PlanAction.{PlanAction}
+use Rattle.exec_journal.specs.declared.attempt.Attempt.{Attempt}
+use Rattle.exec_journal.specs.declared.journal.Entry.{Entry}
+use Rattle.exec_journal.specs.declared.call.Written.{Written}
+use Rattle.exec_journal.specs.declared.call.Written.TheVariants as write
+use Rattle.exec_journal.specs.Entries.{same_attempt, is_for}
+use Rattle.exec_journal.specs.Words.{sends, pending, wrote, says_feed_fault, granted, grant_of, commit_of}
+use Rattle.exec_journal.specs.Rules.{gathered}
+use Rattle.exec_journal.specs.Attempts.{attempt, ended}
+use Rattle.exec_journal.specs.Settled.{bound}
+use Rattle.run_plan.specs.Groups.{group_of}
+
+-- the attempt was begun: its number is one of its branch's, and its action uses its branch
+pub record IsBegun (p : Plan) (j : List Entry) (t : Attempt) : Type 0 where
+  pub latest : ended j t ≡ false → t.number ≡ attempt j t.action t.branch
+  pub least : 1 ≤ t.number
+  pub most : t.number ≤ p.limit
+  pub action : PlanAction
+  pub place : slice_get p.actions t.action ≡ Some action
+  pub used : is_some (group_of action t.branch) ≡ true
+
+-- an entry with which this attempt ends, unless it has ended or its action has a grant, and nothing else does
+pub record EndsJust (p : Plan) (j : List Entry) (e : Entry) (t : Attempt) : Type 0 where
+  pub this : (u : Attempt) → ended (e ∷ j) u ≡ (ended j u || (same_attempt u t && not (granted j t.action)))
+  pub none_begins : (a : ℕ) (b : Branch) → attempt (e ∷ j) a b ≡ attempt j a b
+  pub grant : (a : ℕ) → grant_of (e ∷ j) a ≡ grant_of j a
+  pub commit : (a : ℕ) (b : Branch) → commit_of (e ∷ j) a b ≡ commit_of j a b
+  pub begun : IsBegun p j t
+
+-- ---- what stands on a line
+
+-- the request of the line whose Wrote is FeedFault
+abbrev pub fed_on : List Entry → ℕ → Option Attempt
+fed_on j l = option_map (λ x. x.attempt) (find (λ x. says_feed_fault (wrote j x.attempt)) (sends j l))
+
+-- it is pending on the line, its feed failed there, or it is bound to it
+abbrev pub stands_on : Plan → List Entry → ℕ → Attempt → Bool
+stands_on p j l t = list_any (λ x. same_attempt x.attempt t) (pending j l) || (is_for t (fed_on j l) || is_for t (bound p j l))
+
+-- ---- requests
+
+abbrev pub is_clean : Option Written → Bool
+is_clean None = true
+is_clean (Some write.Done) = true
+is_clean (Some _) = false
+
+-- its Wrote is missing or Done, and no Gather of it was ordered
+pub record IsClean (j : List Entry) (t : Attempt) : Type 0 where
+  pub write : is_clean (wrote j t) ≡ true
+  pub ungathered : gathered j t ≡ false
