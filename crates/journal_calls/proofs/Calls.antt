@@ -1,6 +1,5 @@
 -- What is so where a lane makes a call of its script: of grants, of the actions that are named, and of the request of an answer.
-use Rattle.std.proofs.Common.{◌≡◌, ℕ, suc, ◌/◌, ◌<◌, ◌==◌, nat_lt, true, false, ◌&&◌, not, cond, List, [], ◌∷◌, length, Option, Some, None, is_some, refl, sym, ap, subst, ◌∙◌}
-use Rattle.std.specs.Prelude.{slice_get}
+use Rattle.std.proofs.Common.{◌≡◌, ℕ, ◌/◌, ◌<◌, ◌==◌, nat_lt, true, false, ◌&&◌, not, cond, List, [], ◌∷◌, length, Option, Some, None, is_some, refl, sym, ap, subst, ◌∙◌}
 use Rattle.std.proofs.lemmas.Bool.{and_parts, or_parts}
 use Rattle.std.proofs.lemmas.Option.{slice_get_within}
 use Rattle.run_plan.specs.declared.plan.Branch.{Branch}
@@ -19,18 +18,16 @@ use Rattle.exec_journal.specs.declared.reply.Reply.{Reply}
 use Rattle.exec_journal.specs.declared.reply.Reply.TheVariants as reply
 use Rattle.list_lemmas.specs.Options.{unless_before}
 use Rattle.exec_journal.specs.Entries.{Request, attempt_of, same_branch, is_kept, launch_in, send_in, gather_in, consumed_in, matched_in, committed_in}
-use Rattle.exec_journal.specs.Words.{last_line, sends, pending, is_pending, wrote, granted, grant_of, commit_of}
-use Rattle.run_plan.specs.Groups.{berths}
+use Rattle.exec_journal.specs.Words.{wrote, granted, grant_of, commit_of}
 use Rattle.exec_journal.specs.Settled.{bound}
 use Rattle.exec_journal.specs.Rules as r
 use Rattle.exec_journal.specs.Rules.{gathered}
 use Rattle.exec_journal.specs.Scripts as sc
 use Rattle.exec_journal.specs.Legal.{Legal}
-use Rattle.exec_journal.specs.Facts.{begun, IsOfBerth}
+use Rattle.exec_journal.specs.Facts.{begun}
 use Rattle.exec_journal.specs.Race.{committed, commits}
 use Rattle.journal_laws.specs.Steps.{IsUngranted}
-use Rattle.journal_calls.specs.Moments.{is_clean, IsClean}
-use Rattle.exec_journal.proofs.Histories.{AllOf}
+use Rattle.journal_calls.specs.Moments.{is_clean, IsClean, IsSeated}
 use Rattle.exec_journal.proofs.Ruled as u
 use Rattle.exec_journal.proofs.Ruled.{by_bool}
 use Rattle.exec_journal.proofs.Begins.{begin_in_order, same_attempt_refl, bound_is}
@@ -41,10 +38,8 @@ use Rattle.journal_laws.proofs.Claims.{clash, false_by}
 use Rattle.journal_laws.proofs.Granted as g
 use Rattle.journal_laws.proofs.Races as ra
 use Rattle.journal_laws.proofs.Firm as f
-use Rattle.journal_laws.proofs.Keeping as ke
 use Rattle.journal_laws.proofs.Requests as q
 use Rattle.journal_laws.proofs.Offered as of
-use Rattle.journal_laws.proofs.Places as pl
 use Rattle.journal_laws.proofs.Stops as st
 use Rattle.journal_calls.specs.Matches.{is_faulty, is_spent}
 use Rattle.journal_calls.proofs.Requested as re
@@ -131,11 +126,6 @@ commit_within p j lane a b how legal may =
     begun_within p j (attempt_of a b is.number) legal (g.winner p j a (attempt_of a b is.number, found.Files is.files) legal is.winner).under_way.begun_yet
 
 -- ---- what is bound stands on the last line of a berth of the plan
-
-pub record IsSeated (p : Plan) (j : List Entry) (l : ℕ) : Type 0 where
-  pub berth : ℕ
-  pub within : berth < berths p
-  pub last : last_line j berth ≡ Some l
 
 pub bound_seat : (p : Plan) (j : List Entry) (l : ℕ) (t : Attempt) → Legal p j → bound p j l ≡ Some t → IsSeated p j l
 bound_seat p j l t legal h =

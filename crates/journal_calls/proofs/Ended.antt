@@ -138,7 +138,7 @@ launched_order p j lane l how legal may =
     let launch = c.launches_line_is l answer.order.reply answer.fits in
     record { order = answer.order; attempt = launch.0; newest = answer.newest; launch = launch.1; launched = newest_launched p j lane l launch.0 answer.order legal answer.newest launch.1 }
 
-launch_fault : (e : Entry) (j : List Entry) (l : ℕ) (how : Started) (d : Entry) (s t : Attempt) → e.call ≡ call.Launched l how → last_work j e.lane ≡ Some d → launch_in d.reply ≡ Some (l, s) → fault_at t j e ≡ cond (same_attempt s t) (start_cause how) None
+pub launch_fault : (e : Entry) (j : List Entry) (l : ℕ) (how : Started) (d : Entry) (s t : Attempt) → e.call ≡ call.Launched l how → last_work j e.lane ≡ Some d → launch_in d.reply ≡ Some (l, s) → fault_at t j e ≡ cond (same_attempt s t) (start_cause how) None
 launch_fault e j l how d s t is newest launch = rw (is, newest, launch) refl
 
 -- of what is bound, it names a fault of what is bound to its own line

@@ -8,3 +8,5 @@ pub mod LineEnds
 pub mod Same
 pub mod Gathers
 pub mod Recent
+pub mod Orders
+pub mod Unsent

@@ -107,7 +107,7 @@ hit_for : (j : List Entry) (t : Attempt) (o : Option Request) → option_map (λ
 hit_for j t None h = absurd (cc)
 hit_for j t (Some x) h = cc
 
-bound_to : (p : Plan) (j : List Entry) (l m : ℕ) (t : Attempt) → launch_of j l ≡ Some (m, t) → wanted p j t.action t.branch ≡ true → was_sent j t ≡ false → ended j t ≡ false → bound p j l ≡ Some t
+pub bound_to : (p : Plan) (j : List Entry) (l m : ℕ) (t : Attempt) → launch_of j l ≡ Some (m, t) → wanted p j t.action t.branch ≡ true → was_sent j t ≡ false → ended j t ≡ false → bound p j l ≡ Some t
 unfolding bound
 bound_to p j l m t at wish un going = rw (at, wish, un, going) refl
 

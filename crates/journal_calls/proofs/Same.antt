@@ -23,7 +23,6 @@ use Rattle.exec_journal.specs.Legal.{Legal}
 use Rattle.run_plan.specs.Sound.{Sound}
 use Rattle.exec_journal.specs.Facts.{SameActions}
 use Rattle.journal_laws.specs.Invariant.{EndsWith, ByFault, ByEnd, ByFeed}
-
 use Rattle.journal_calls.specs.Moments.{fed_on, stands_on}
 use Rattle.exec_journal.proofs.Histories.{AllOf, all_filter, all_find}
 use Rattle.exec_journal.proofs.Ruled as u

@@ -1,5 +1,5 @@
 -- What is so of a legal journal where an entry comes, in the forms that the core asks for.
-use Rattle.std.specs.Prelude.{◌≡◌, ℕ, ◌≤◌, Bool, true, false, ◌&&◌, ◌||◌, not, Option, Some, None, is_some, option_map, List, ◌∷◌, slice_get}
+use Rattle.std.specs.Prelude.{◌≡◌, ℕ, ◌*◌, ◌<◌, ◌≤◌, Bool, true, false, ◌&&◌, ◌||◌, not, Option, Some, None, is_some, option_map, option_and_then, List, ◌∷◌, length, slice_get}
 use Rattle.std.specs.List.{find, list_any}
 use Rattle.run_plan.specs.declared.plan.Branch.{Branch}
 use Rattle.run_plan.specs.declared.plan.Plan.{Plan}
@@ -9,11 +9,12 @@ use Rattle.exec_journal.specs.declared.journal.Entry.{Entry}
 use Rattle.exec_journal.specs.declared.call.Written.{Written}
 use Rattle.exec_journal.specs.declared.call.Written.TheVariants as write
 use Rattle.exec_journal.specs.Entries.{same_attempt, is_for}
-use Rattle.exec_journal.specs.Words.{sends, pending, wrote, says_feed_fault, granted, grant_of, commit_of}
+use Rattle.exec_journal.specs.Words.{line_count, last_line, sends, pending, was_sent, wrote, says_feed_fault, granted, grant_of, commit_of}
 use Rattle.exec_journal.specs.Rules.{gathered}
 use Rattle.exec_journal.specs.Attempts.{attempt, ended}
 use Rattle.exec_journal.specs.Settled.{bound}
-use Rattle.run_plan.specs.Groups.{group_of}
+use Rattle.exec_journal.specs.Facts.{BeginsNext}
+use Rattle.run_plan.specs.Groups.{berth_group, berths, capacity, group_of, kind_of}
 
 -- the attempt was begun: its number is one of its branch's, and its action uses its branch
 pub record IsBegun (p : Plan) (j : List Entry) (t : Attempt) : Type 0 where
@@ -53,3 +54,33 @@ is_clean (Some _) = false
 pub record IsClean (j : List Entry) (t : Attempt) : Type 0 where
   pub write : is_clean (wrote j t) ≡ true
   pub ungathered : gathered j t ≡ false
+
+-- ---- orders
+
+-- the line is the last of a berth of the plan
+pub record IsSeated (p : Plan) (j : List Entry) (l : ℕ) : Type 0 where
+  pub berth : ℕ
+  pub within : berth < berths p
+  pub last : last_line j berth ≡ Some l
+
+-- the branch of the attempt is run by this group
+abbrev pub BranchOf : Plan → Attempt → Option ℕ → Type 0
+BranchOf p t g = option_and_then (λ x. group_of x t.branch) (slice_get p.actions t.action) ≡ g
+
+-- a Send of the attempt to the line of the berth w: what is bound there is the latest of its branch, and what isn't begins next;
+-- and there is room for it
+pub record IsSendOf (p : Plan) (j : List Entry) (w l : ℕ) (t : Attempt) : Type 0 where
+  pub unsent : was_sent j t ≡ false
+  pub group : BranchOf p t (berth_group p w)
+  pub latest : bound p j l ≡ Some t → t.number ≡ attempt j t.action t.branch
+  pub fresh : bound p j l ≡ None → BeginsNext j t
+  pub place : length (pending j l) < capacity (kind_of p w)
+  pub room : length (sends j l) < 2 * length p.actions * p.limit
+  pub line : l < 2 * length p.actions * p.limit
+  pub within : t.action < length p.actions
+
+-- a Launch for the attempt on the berth w
+pub record IsLaunchOf (p : Plan) (j : List Entry) (w : ℕ) (t : Attempt) : Type 0 where
+  pub seated : w < berths p
+  pub room : line_count j < 2 * length p.actions * p.limit
+  pub within : t.action < length p.actions
