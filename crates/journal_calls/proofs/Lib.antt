@@ -10,3 +10,4 @@ pub mod Gathers
 pub mod Recent
 pub mod Orders
 pub mod Unsent
+pub mod LostWith

@@ -1,5 +1,5 @@
 -- What is so of a legal journal where an entry comes, in the forms that the core asks for.
-use Rattle.std.specs.Prelude.{◌≡◌, ℕ, ◌*◌, ◌<◌, ◌≤◌, Bool, true, false, ◌&&◌, ◌||◌, not, Option, Some, None, is_some, option_map, option_and_then, List, ◌∷◌, length, slice_get}
+use Rattle.std.specs.Prelude.{◌≡◌, ℕ, ◌*◌, ◌<◌, ◌≤◌, Bool, true, false, ◌&&◌, ◌||◌, not, Option, Some, None, is_some, option_map, option_and_then, List, [], ◌∷◌, ◌++◌, length, filter, map, slice_get}
 use Rattle.std.specs.List.{find, list_any}
 use Rattle.run_plan.specs.declared.plan.Branch.{Branch}
 use Rattle.run_plan.specs.declared.plan.Plan.{Plan}
@@ -8,8 +8,9 @@ use Rattle.exec_journal.specs.declared.attempt.Attempt.{Attempt}
 use Rattle.exec_journal.specs.declared.journal.Entry.{Entry}
 use Rattle.exec_journal.specs.declared.call.Written.{Written}
 use Rattle.exec_journal.specs.declared.call.Written.TheVariants as write
+use Rattle.list_lemmas.specs.Options.{and_more}
 use Rattle.exec_journal.specs.Entries.{same_attempt, is_for}
-use Rattle.exec_journal.specs.Words.{line_count, last_line, sends, pending, was_sent, wrote, says_feed_fault, granted, grant_of, commit_of}
+use Rattle.exec_journal.specs.Words.{line_count, last_line, sends, pending, was_sent, answered, wrote, says_feed_fault, granted, grant_of, commit_of}
 use Rattle.exec_journal.specs.Rules.{gathered}
 use Rattle.exec_journal.specs.Attempts.{attempt, ended}
 use Rattle.exec_journal.specs.Settled.{bound}
@@ -42,6 +43,25 @@ fed_on j l = option_map (λ x. x.attempt) (find (λ x. says_feed_fault (wrote j 
 -- it is pending on the line, its feed failed there, or it is bound to it
 abbrev pub stands_on : Plan → List Entry → ℕ → Attempt → Bool
 stands_on p j l t = list_any (λ x. same_attempt x.attempt t) (pending j l) || (is_for t (fed_on j l) || is_for t (bound p j l))
+
+-- it hasn't ended, and its action has no grant
+abbrev pub is_open_yet : List Entry → Attempt → Bool
+is_open_yet j t = not (ended j t) && not (granted j t.action)
+
+-- those that stand on the line: the one whose feed failed after its answer, the one that is bound, and what is pending
+abbrev pub standing_on : Plan → List Entry → ℕ → List Attempt
+standing_on p j l =
+    filter (answered j) (and_more (fed_on j l) [])
+    ++ and_more (bound p j l) (map (λ x. x.attempt) (pending j l))
+
+-- those of them that end with the line
+abbrev pub lost_with : Plan → List Entry → ℕ → List Attempt
+lost_with p j l = filter (is_open_yet j) (standing_on p j l)
+
+-- none stands there twice
+abbrev pub AreApart : List Attempt → Type 0
+AreApart [] = Unit {0}
+AreApart (t ∷ ts) = (list_any (same_attempt t) ts ≡ false) × AreApart ts
 
 -- ---- requests
 

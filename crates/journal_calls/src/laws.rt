@@ -1,6 +1,7 @@
 //! What holds where a call comes: of the lines, requests and attempts that it is about. The functions
 //! do nothing: each is a law, for a core that answers such calls.
 ghost use Rattle.std.specs.Prelude.{◌≡◌, ◌⊎◌, ◌+◌, ◌/◌, ◌<◌, ◌≤◌, ◌==◌, ◌&&◌, ◌||◌, not, ℕ, ℤ, true, false, List, ◌∷◌, Some, None, is_some, length, filter, option_map};
+ghost use Rattle.std.specs.List.{list_any};
 ghost use Rattle.run_plan.specs.declared.plan.Branch.{Branch};
 ghost use Rattle.run_plan.specs.declared.plan.Plan.{Plan};
 ghost use Rattle.run_plan.specs.Groups.{berth_group, capacity, is_single, kind_of};
@@ -18,7 +19,7 @@ ghost use Rattle.exec_journal.specs.declared.call.Written.{Written};
 ghost use Rattle.exec_journal.specs.declared.journal.Entry.{Entry};
 ghost use Rattle.exec_journal.specs.declared.reply.Reply.TheVariants as reply;
 ghost use Rattle.exec_journal.specs.Attempts.{ended, fault_at, line_of};
-ghost use Rattle.exec_journal.specs.Entries.{Request, gather_in, is_done, is_unwritten, launch_in, matched_in, refused_in, send_in};
+ghost use Rattle.exec_journal.specs.Entries.{Request, gather_in, is_done, is_unwritten, launch_in, matched_in, refused_in, same_attempt, send_in};
 ghost use Rattle.exec_journal.specs.Facts.{IsOfBerth, SameActions, call_line};
 ghost use Rattle.exec_journal.specs.Kept.{group_at};
 ghost use Rattle.exec_journal.specs.Legal.{Legal};
@@ -26,10 +27,10 @@ ghost use Rattle.exec_journal.specs.Rules.{gathers_next, is_other, may_cancel, o
 ghost use Rattle.exec_journal.specs.Scripts.{script};
 ghost use Rattle.exec_journal.specs.Settled.{bound};
 ghost use Rattle.exec_journal.specs.Words.{answered, broke, failed, grant_of, granted, has_cancel, has_ended, is_pending, last_line, launch_of, live, order_of, pending, says_feed_fault, sends, started, was_sent, wrote};
-ghost use Rattle.journal_laws.specs.Invariant.{EachRequest, NumberedAs, older};
+ghost use Rattle.journal_laws.specs.Invariant.{EachRequest, IsGoing, NumberedAs, older};
 ghost use Rattle.journal_laws.specs.Steps.{EndExactly, IsUngranted, KnownByNumber};
 ghost use Rattle.journal_calls.specs.Matches.{gather_of, is_spent, recent, waits_yet};
-ghost use Rattle.journal_calls.specs.Moments.{BranchOf, EndsJust, IsClean, IsLaunchOf, IsSeated, IsSendOf, fed_on, stands_on};
+ghost use Rattle.journal_calls.specs.Moments.{AreApart, BranchOf, EndsJust, IsClean, IsLaunchOf, IsSeated, IsSendOf, fed_on, lost_with, stands_on};
 
 /// A call in its script that names a line names the last of its lane's berth.
 pub fn calls_name_last_lines()
@@ -151,12 +152,20 @@ pub fn faults_end_one()
 {}
 
 /// With a line end exactly the attempts that stand on it, unless their action has a grant: what is
-/// pending there, what its feed failed for, and what is bound to it. Of one action one stands there.
+/// pending there, what its feed failed for, and what is bound to it. Their list has each once, and
+/// each was under way. Of one action one stands there.
 /// What was launched on the line and never sent is bound to it when it ends.
 pub fn lines_end_these()
     ensures these { (p : Plan) (e : Entry) (j : List Entry) (l : ℕ) (how : HowEnded)
         → Legal p (e ∷ j) → e.call ≡ call.Ended l how
         → EndExactly j e (λ t. stands_on p j l t && not (granted j t.action)) }
+    ensures listed { (p : Plan) (e : Entry) (j : List Entry) (l : ℕ) (how : HowEnded)
+        → Legal p (e ∷ j) → e.call ≡ call.Ended l how
+        → EndExactly j e (λ t. list_any (same_attempt t) (lost_with p j l)) }
+    ensures once { (p : Plan) (j : List Entry) (l : ℕ) → Legal p j → AreApart (lost_with p j l) }
+    ensures going { (p : Plan) (j : List Entry) (l : ℕ) (t : Attempt) → Legal p j
+        → has_ended j l ≡ false → list_any (same_attempt t) (lost_with p j l) ≡ true
+        → IsGoing j t }
     ensures one { (p : Plan) (j : List Entry) (l m : ℕ) (s t v : Attempt) → Sound p → Legal p j
         → launch_of j l ≡ Some (m, s) → stands_on p j l t ≡ true → stands_on p j l v ≡ true
         → ended j t ≡ false → ended j v ≡ false → t.action ≡ v.action → t ≡ v }
