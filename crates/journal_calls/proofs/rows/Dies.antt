@@ -1,4 +1,5 @@
--- A line dies: with what is bound to it, what is pending there, and what was answered after its feed had failed.
+-- A line dies: with what is bound to it, what is pending there, and what was answered after its
+-- feed had failed.
 use Rattle.std.specs.Prelude.{◌≡◌, refl, true, false, Some, List, [], ◌∷◌, pos}
 use Rattle.run_plan.specs.declared.plan.Branch.TheVariants.{Local}
 use Rattle.run_plan.specs.declared.plan.Plan.{Plan}

@@ -1,4 +1,5 @@
--- Faults, each with the one attempt that ends: of a launch, of a write, of a feed after the line's end, and of a claim.
+-- Faults, each with the one attempt that ends: of a launch, of a write, of a feed after the line's
+-- end, and of a claim.
 use Rattle.std.specs.Prelude.{◌≡◌, refl, true, false, Some, List, [], ◌∷◌, pos}
 use Rattle.run_plan.specs.declared.plan.Branch.TheVariants.{Local}
 use Rattle.run_plan.specs.declared.plan.Plan.{Plan}
@@ -50,7 +51,8 @@ unlaunched_bound : bound plan launch_1 0 ≡ Some (attempt_of 0 Local 1)
 unfolding plan launch_1 words
 unlaunched_bound = refl
 
-unlaunched_fault : fault_at (attempt_of 0 Local 1) launch_1 (entry 0 (call.Launched 0 start.LaunchFault) reply.Noted) ≡ Some cause.Launch
+unlaunched_fault : fault_at (attempt_of 0 Local 1) launch_1
+    (entry 0 (call.Launched 0 start.LaunchFault) reply.Noted) ≡ Some cause.Launch
 unfolding launch_1 words
 unlaunched_fault = refl
 
@@ -152,6 +154,7 @@ lost_scripted : script both.plan both.both_15 0 (call.Claim 0 Local 1 found.Room
 unfolding both.plan both.both_8 both.both_14 both.both_15 words
 lost_scripted = refl
 
-lost_goes_on : ended (entry 0 (call.Claim 0 Local 1 found.RoomFault) reply.Lost ∷ both.both_15) (attempt_of 0 Local 1) ≡ false
+lost_goes_on : ended (entry 0 (call.Claim 0 Local 1 found.RoomFault) reply.Lost ∷ both.both_15)
+    (attempt_of 0 Local 1) ≡ false
 unfolding both.both_8 both.both_14 both.both_15 words
 lost_goes_on = refl

@@ -42,7 +42,13 @@ launches = refl
 -- ---- of two requests one is matched: it waits, and the other keeps its place on the line
 
 unfoldable match_2 : Matched
-match_2 = record { line = 0; number = pos 2; attempt = attempt_of 1 Local 1; exit = pos 0; refused = false }
+match_2 = record {
+  line = 0;
+  number = pos 2;
+  attempt = attempt_of 1 Local 1;
+  exit = pos 0;
+  refused = false;
+}
 
 one_recent : recent dies.feed_7 0 ≡ match_2 ∷ []
 unfolding dies.early_3 dies.feed_7 match_2 recent words
@@ -68,7 +74,13 @@ spent = refl
 -- ---- what is written and waits is gathered
 
 unfoldable match_0 : Matched
-match_0 = record { line = 0; number = pos 0; attempt = attempt_of 0 Local 1; exit = pos 0; refused = false }
+match_0 = record {
+  line = 0;
+  number = pos 0;
+  attempt = attempt_of 0 Local 1;
+  exit = pos 0;
+  refused = false;
+}
 
 written_recent : recent twice.twice_6 0 ≡ match_0 ∷ []
 unfolding twice.twice_6 match_0 recent words
@@ -80,7 +92,8 @@ gathers = refl
 
 -- ---- a Claim finds its action open
 
-claims : script both.plan both.both_14 2 (call.Claim 0 Remote 1 (found.Files ((120 ∷ []) ∷ []))) ≡ true
+claims : script both.plan both.both_14 2 (call.Claim 0 Remote 1 (found.Files ((120 ∷ []) ∷ [])))
+    ≡ true
 unfolding both.plan both.both_8 both.both_14 words
 claims = refl
 
@@ -101,6 +114,7 @@ may_be_asked : may_cancel greets.plan greets.greeted_15 1 1 1 ≡ true
 unfolding greets.plan greets.remote_10 greets.greeted_11 greets.greeted_15 words
 may_be_asked = refl
 
-is_asked : has_cancel (entry 2 call.Ask (reply.Cancel 1 (pos 1)) ∷ greets.greeted_15) remote_1 ≡ true
+is_asked : has_cancel (entry 2 call.Ask (reply.Cancel 1 (pos 1)) ∷ greets.greeted_15) remote_1
+    ≡ true
 unfolding greets.remote_10 greets.greeted_11 greets.greeted_15 remote_1 words
 is_asked = refl
