@@ -11,4 +11,6 @@ pub mod Recent
 pub mod Orders
 pub mod Unsent
 pub mod LostWith
+pub mod Fulfilled
+pub mod Reports
 pub mod rows

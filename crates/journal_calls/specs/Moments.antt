@@ -9,9 +9,11 @@ use Rattle.exec_journal.specs.declared.journal.Entry.{Entry}
 use Rattle.exec_journal.specs.declared.call.Written.{Written}
 use Rattle.exec_journal.specs.declared.call.Written.TheVariants as write
 use Rattle.list_lemmas.specs.Options.{and_more}
-use Rattle.exec_journal.specs.Entries.{same_attempt, is_for}
-use Rattle.exec_journal.specs.Words.{line_count, last_line, sends, pending, was_sent, answered, wrote, says_feed_fault, granted, grant_of, commit_of}
+use Rattle.exec_journal.specs.Entries.{same_attempt, is_for, launch_in, send_in, gather_in, orders_kill}
+use Rattle.exec_journal.specs.Words.{last_work, line_count, last_line, sends, pending, was_sent, answered, wrote, says_feed_fault, granted, grant_of, commit_of}
 use Rattle.exec_journal.specs.Rules.{gathered}
+use Rattle.exec_journal.specs.Scripts.{hears_after, is_commit_of}
+use Rattle.journal_laws.specs.Steps.{is_line}
 use Rattle.exec_journal.specs.Attempts.{attempt, ended}
 use Rattle.exec_journal.specs.Settled.{bound}
 use Rattle.exec_journal.specs.Facts.{BeginsNext}
@@ -110,3 +112,36 @@ pub record IsLaunchOf (p : Plan) (j : List Entry) (w : ℕ) (t : Attempt) : Type
   pub seated : w < berths p
   pub room : line_count j < 2 * length p.actions * p.limit
   pub within : t.action < length p.actions
+
+-- ---- what is owed
+
+-- it is its lane's newest work, and asks for this
+pub record IsOwed (j : List Entry) (asks_it : Entry → Bool) : Type 0 where
+  pub lane : ℕ
+  pub order : Entry
+  pub newest : last_work j lane ≡ Some order
+  pub asks : asks_it order ≡ true
+
+-- a lane still reads the line: its newest work is the reply that gave it, or an Answer of it
+pub record IsRead (j : List Entry) (l : ℕ) : Type 0 where
+  pub lane : ℕ
+  pub work : Entry
+  pub newest : last_work j lane ≡ Some work
+  pub hears : hears_after l work.call work.reply ≡ true
+
+-- what an entry orders
+abbrev pub launches_line : ℕ → Entry → Bool
+launches_line l e = is_line (option_map (λ x. x.0) (launch_in e.reply)) l
+
+abbrev pub sends_attempt : Attempt → Entry → Bool
+sends_attempt t e = is_for t (option_map (λ r. r.attempt) (send_in e.reply))
+
+abbrev pub gathers_attempt : Attempt → Entry → Bool
+gathers_attempt t e = is_for t (gather_in e.reply)
+
+abbrev pub kills_line : ℕ → Entry → Bool
+kills_line l e = orders_kill l e.reply
+
+-- it was granted the files of this branch
+abbrev pub wins_files_of : ℕ → Branch → Entry → Bool
+wins_files_of a b e = is_commit_of a b e.call e.reply

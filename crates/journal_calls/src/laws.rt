@@ -1,7 +1,8 @@
 //! What holds where a call comes: of the lines, requests and attempts that it is about. The
 //! functions do nothing: each is a law, for a core that answers such calls.
-ghost use Rattle.std.specs.Prelude.{◌≡◌, ◌⊎◌, ◌+◌, ◌/◌, ◌<◌, ◌≤◌, ◌==◌, ◌&&◌, ◌||◌, not, ℕ, ℤ, true, false, List, ◌∷◌, Some, None, is_some, length, filter, option_map};
+ghost use Rattle.std.specs.Prelude.{◌≡◌, ◌⊎◌, ◌+◌, ◌*◌, ◌/◌, ◌<◌, ◌≤◌, ◌==◌, ◌&&◌, ◌||◌, not, ℕ, ℤ, true, false, List, ◌∷◌, Some, None, is_some, length, filter, option_map};
 ghost use Rattle.std.specs.List.{list_any};
+ghost use Rattle.std.specs.Ordering.{int_eq};
 ghost use Rattle.run_plan.specs.declared.plan.Branch.{Branch};
 ghost use Rattle.run_plan.specs.declared.plan.Plan.{Plan};
 ghost use Rattle.run_plan.specs.Groups.{berth_group, capacity, is_single, kind_of};
@@ -11,6 +12,7 @@ ghost use Rattle.exec_journal.specs.declared.call.Answer.{Answer};
 ghost use Rattle.exec_journal.specs.declared.call.Call.TheVariants as call;
 ghost use Rattle.exec_journal.specs.declared.call.Call.{Call};
 ghost use Rattle.exec_journal.specs.declared.call.CommitEnd.{CommitEnd};
+ghost use Rattle.exec_journal.specs.declared.call.Found.TheVariants as found;
 ghost use Rattle.exec_journal.specs.declared.call.Found.{Found};
 ghost use Rattle.exec_journal.specs.declared.call.HowEnded.{HowEnded};
 ghost use Rattle.exec_journal.specs.declared.call.Started.TheVariants as start;
@@ -20,18 +22,18 @@ ghost use Rattle.exec_journal.specs.declared.call.Written.{Written};
 ghost use Rattle.exec_journal.specs.declared.journal.Entry.{Entry};
 ghost use Rattle.exec_journal.specs.declared.reply.Reply.TheVariants as reply;
 ghost use Rattle.exec_journal.specs.Attempts.{ended, fault_at, line_of};
-ghost use Rattle.exec_journal.specs.Entries.{Request, gather_in, is_done, is_unwritten, launch_in, matched_in, refused_in, same_attempt, send_in};
-ghost use Rattle.exec_journal.specs.Facts.{IsOfBerth, SameActions, call_line};
+ghost use Rattle.exec_journal.specs.Entries.{Request, gather_in, launch_of_entry, is_done, is_unwritten, launch_in, matched_in, refused_in, same_attempt, send_in};
+ghost use Rattle.exec_journal.specs.Facts.{IsOfBerth, SameActions, begun, call_line};
 ghost use Rattle.exec_journal.specs.Kept.{group_at};
 ghost use Rattle.exec_journal.specs.Legal.{Legal};
-ghost use Rattle.exec_journal.specs.Rules.{gathers_next, is_other, may_cancel, oldest, rule};
+ghost use Rattle.exec_journal.specs.Rules.{gathered, gathers_next, is_other, may_cancel, oldest, rule};
 ghost use Rattle.exec_journal.specs.Scripts.{script};
 ghost use Rattle.exec_journal.specs.Settled.{bound};
-ghost use Rattle.exec_journal.specs.Words.{answered, broke, failed, grant_of, granted, has_cancel, has_ended, is_pending, last_line, launch_of, live, order_of, pending, says_feed_fault, sends, started, was_sent, wrote};
-ghost use Rattle.journal_laws.specs.Invariant.{EachRequest, IsGoing, NumberedAs, older};
+ghost use Rattle.exec_journal.specs.Words.{answered, broke, commit_of, failed, grant_of, granted, has_cancel, has_ended, is_pending, kill_ordered, last_line, last_work, launch_of, line_count, live, order_of, pending, says_feed_fault, sends, started, was_killed, was_sent, was_taken, wrote};
+ghost use Rattle.journal_laws.specs.Invariant.{claimed, EachRequest, IsGoing, NumberedAs, older};
 ghost use Rattle.journal_laws.specs.Steps.{EndExactly, IsUngranted, KnownByNumber};
 ghost use Rattle.journal_calls.specs.Matches.{gather_of, is_spent, recent, waits_yet};
-ghost use Rattle.journal_calls.specs.Moments.{AreApart, BranchOf, EndsJust, IsClean, IsLaunchOf, IsSeated, IsSendOf, fed_on, lost_with, stands_on};
+ghost use Rattle.journal_calls.specs.Moments.{AreApart, BranchOf, EndsJust, IsClean, IsLaunchOf, IsOwed, IsRead, IsSeated, IsSendOf, fed_on, gathers_attempt, kills_line, launches_line, lost_with, sends_attempt, stands_on, wins_files_of};
 
 /// A call in its script that names a line names the last of its lane's berth.
 pub fn calls_name_last_lines()
@@ -192,4 +194,54 @@ pub fn reports_change_nothing()
     ensures lost { (p : Plan) (e : Entry) (j : List Entry) (a : ℕ) (b : Branch) (t : ℕ) (x : Found)
         → Legal p (e ∷ j) → e.call ≡ call.Claim a b t x → e.reply ≡ reply.Lost
         → SameActions j (e ∷ j) }
+{}
+
+/// What was ordered is done, or its lane still owes it: a Launch its Launched, a Send its Wrote, a
+/// Gather its Claim, a Kill its Killed, and a grant of files its Committed. A line that was given
+/// to its tap lane has ended, or is still read.
+pub fn orders_are_met()
+    ensures launches { (p : Plan) (j : List Entry) (l m : ℕ) (t : Attempt) → Legal p j
+        → launch_of j l ≡ Some (m, t) → ((started j l || failed j l) ≡ true)
+        ⊎ IsOwed j (launches_line l) }
+    ensures sends { (p : Plan) (j : List Entry) (t : Attempt) → Legal p j
+        → was_sent j t ≡ true → (is_some (wrote j t) ≡ true) ⊎ IsOwed j (sends_attempt t) }
+    ensures gathers { (p : Plan) (j : List Entry) (t : Attempt) → Legal p j
+        → gathered j t ≡ true → (claimed j t ≡ true) ⊎ IsOwed j (gathers_attempt t) }
+    ensures kills { (p : Plan) (j : List Entry) (l : ℕ) → Legal p j
+        → kill_ordered j l ≡ true → (was_killed j l ≡ true) ⊎ IsOwed j (kills_line l) }
+    ensures grants { (p : Plan) (j : List Entry) (a : ℕ) (t : Attempt) (files : List (List ℕ))
+        → Legal p j → grant_of j a ≡ Some (t, found.Files files)
+        → (is_some (commit_of j a t.branch) ≡ true) ⊎ IsOwed j (wins_files_of a t.branch) }
+    ensures reads { (p : Plan) (j : List Entry) (l : ℕ) → Legal p j
+        → was_taken j l ≡ true → (has_ended j l ≡ true) ⊎ IsRead j l }
+{}
+
+/// A Launched answers its line's Launch, and a Wrote that says unwritten a Send, each the newest
+/// work of its lane. While a Wrote is owed, no feed of its line has failed.
+pub fn reports_answer_orders()
+    ensures launched { (p : Plan) (j : List Entry) (lane l m : ℕ) (how : Started) (t : Attempt)
+        → Legal p j → script p j lane (call.Launched l how) ≡ true
+        → launch_of j l ≡ Some (m, t) → launch_of_entry (last_work j lane) ≡ Some t }
+    ensures unwritten { (p : Plan) (j : List Entry) (lane l : ℕ) (n : ℤ) (how : Written)
+        → script p j lane (call.Wrote l n how) ≡ true → is_unwritten how ≡ true
+        → (x : Request) × (order_of j lane ≡ Some x) × (x.line ≡ l)
+        × (int_eq x.number n ≡ true) }
+    ensures unfed { (p : Plan) (j : List Entry) (lane : ℕ) (x : Request) → Legal p j
+        → order_of j lane ≡ Some x → fed_on j x.line ≡ None }
+{}
+
+/// There are no more lines, and no more requests on a line, than the two branches of all actions
+/// have attempts. Nothing has ended that wasn't begun, and nothing was answered that wasn't sent.
+/// The requests of a berth's last line are of the berth's group.
+pub fn journals_are_bounded()
+    ensures lines { (p : Plan) (j : List Entry) → Sound p → Legal p j
+        → line_count j ≤ 2 * length p.actions * p.limit }
+    ensures sends { (p : Plan) (j : List Entry) (l : ℕ) → Sound p → Legal p j
+        → length (sends j l) ≤ 2 * length p.actions * p.limit }
+    ensures begun { (p : Plan) (j : List Entry) (t : Attempt) → Legal p j
+        → begun j t ≡ false → ended j t ≡ false }
+    ensures sent { (p : Plan) (j : List Entry) (t : Attempt) → Legal p j
+        → was_sent j t ≡ false → answered j t ≡ false }
+    ensures group { (p : Plan) (j : List Entry) (w l : ℕ) → Legal p j → last_line j w ≡ Some l
+        → EachRequest (λ x. BranchOf p x.attempt (berth_group p w)) (sends j l) }
 {}

@@ -25,7 +25,7 @@ use Rattle.journal_laws.proofs.Claims.{clash}
 use Rattle.journal_laws.proofs.Debts.{wins_by}
 
 -- a proxy lane of the plan that didn't stop
-record MayCommit (p : Plan) (j : List Entry) (lane : ℕ) : Type 0 where
+pub record MayCommit (p : Plan) (j : List Entry) (lane : ℕ) : Type 0 where
   pub even : (lane % 2 == 0) ≡ true
   pub running : stopped j lane ≡ false
   pub place : nat_lt lane (2 * berths p) ≡ true
@@ -58,7 +58,7 @@ runs_beside false y w s none works n = n
 runs_beside true false w s none works n = n
 runs_beside true true w s none works n = absurd (clash w (works refl) none)
 
-may_commit : (p : Plan) (j : List Entry) (lane : ℕ) (d : Entry) → Legal p j → last_work j lane ≡ Some d → wins_files d.call d.reply ≡ true → MayCommit p j lane
+pub may_commit : (p : Plan) (j : List Entry) (lane : ℕ) (d : Entry) → Legal p j → last_work j lane ≡ Some d → wins_files d.call d.reply ≡ true → MayCommit p j lane
 unfolding last_work stopped
 may_commit p [] lane d legal h w = absurd (cc)
 may_commit p (e ∷ j) lane d legal h w = by (newest_cases e j lane d h) (λ k. may_commit p j lane d legal.0 k w)

@@ -69,7 +69,7 @@ hears_cases l c (reply.Line m) h = Given (ap reply.Line (eqb-true m l h))
 hears_cases l (call.Answer m a) _ h = Answers a (ap (λ n. call.Answer n a) (eqb-true m l h))
 hears_cases l _ _ h = absurd (cc)
 
-take_line : (p : Plan) (j : List Entry) (lane l : ℕ) (d : Call) (x : Reply) → u.Ruled p j lane d x → x ≡ reply.Line l → (d ≡ call.Take) × (was_taken j l ≡ false)
+pub take_line : (p : Plan) (j : List Entry) (lane l : ℕ) (d : Call) (x : Reply) → u.Ruled p j lane d x → x ≡ reply.Line l → (d ≡ call.Take) × (was_taken j l ≡ false)
 take_line p j lane l d x (u.Takes m here up new) h = (let n : m ≡ l = cc in (refl, subst (λ i. was_taken j i ≡ false) n new))
 take_line p j lane l d x (u.KillsBroken m y here run broken over) h = absurd (cc)
 take_line p j lane l d x (u.Notes e n) h = absurd (cc)
@@ -82,7 +82,7 @@ take_odd p e j legal is = elim (o.scripted p j e.lane call.Take (subst (λ (d : 
 ]
 
 -- the lane is a tap lane
-hearing_odd : (p : Plan) (j : List Entry) (lane l : ℕ) (d : Entry) → Legal p j → last_work j lane ≡ Some d → sc.hears_after l d.call d.reply ≡ true → (lane % 2 == 0) ≡ false
+pub hearing_odd : (p : Plan) (j : List Entry) (lane l : ℕ) (d : Entry) → Legal p j → last_work j lane ≡ Some d → sc.hears_after l d.call d.reply ≡ true → (lane % 2 == 0) ≡ false
 unfolding last_work
 hearing_odd p [] lane l d legal h y = absurd (cc)
 hearing_odd p (e ∷ j) lane l d legal h y = by (o.newest_cases e j lane d h) (λ m. hearing_odd p j lane l d legal.0 m y)

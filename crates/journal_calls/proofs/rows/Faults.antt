@@ -1,18 +1,19 @@
 -- Faults, each with the one attempt that ends: of a launch, of a write, of a feed after the line's
 -- end, and of a claim.
-use Rattle.std.specs.Prelude.{◌≡◌, refl, true, false, Some, List, [], ◌∷◌, pos}
-use Rattle.run_plan.specs.declared.plan.Branch.TheVariants.{Local}
+use Rattle.std.specs.Prelude.{◌≡◌, refl, true, false, Some, None, List, [], ◌∷◌, pos}
+use Rattle.run_plan.specs.declared.plan.Branch.TheVariants.{Local, Remote}
 use Rattle.run_plan.specs.declared.plan.Plan.{Plan}
 use Rattle.exec_journal.specs.declared.journal.Entry.{Entry}
 use Rattle.exec_journal.specs.declared.ends.Cause.TheVariants as cause
 use Rattle.exec_journal.specs.declared.call.Call.TheVariants as call
+use Rattle.exec_journal.specs.declared.call.CommitEnd.TheVariants as commit
 use Rattle.exec_journal.specs.declared.call.Found.TheVariants as found
 use Rattle.exec_journal.specs.declared.call.HowEnded.TheVariants as end
 use Rattle.exec_journal.specs.declared.call.Started.TheVariants as start
 use Rattle.exec_journal.specs.declared.call.Written.TheVariants as write
 use Rattle.exec_journal.specs.declared.reply.Reply.TheVariants as reply
 use Rattle.exec_journal.specs.Entries.{Request, attempt_of}
-use Rattle.exec_journal.specs.Words.{has_ended, is_pending, launch_of, order_of}
+use Rattle.exec_journal.specs.Words.{commit_of, failed, has_ended, is_pending, last_work, launch_of, order_of}
 use Rattle.exec_journal.specs.Attempts.{ended, fault_at}
 use Rattle.exec_journal.specs.Rules.{rule}
 use Rattle.exec_journal.specs.Scripts.{script}
@@ -59,6 +60,15 @@ unlaunched_fault = refl
 unlaunched_ends : ended unlaunched (attempt_of 0 Local 1) ≡ true
 unfolding unlaunched words
 unlaunched_ends = refl
+
+-- until then the launch is owed, and nothing was reported
+unlaunched_owed : last_work launch_1 0 ≡ Some (entry 0 call.Ask (reply.Launch 0 0 Local 1))
+unfolding launch_1 words
+unlaunched_owed = refl
+
+unlaunched_yet : failed launch_1 0 ≡ false
+unfolding launch_1 words
+unlaunched_yet = refl
 
 -- ---- a request isn't written
 
@@ -158,3 +168,18 @@ lost_goes_on : ended (entry 0 (call.Claim 0 Local 1 found.RoomFault) reply.Lost 
     (attempt_of 0 Local 1) ≡ false
 unfolding both.both_8 both.both_14 both.both_15 words
 lost_goes_on = refl
+
+-- ---- files that were granted are owed their Committed, and then have it
+
+commit_owed : last_work both.both_15 2 ≡ Some (entry 2
+    (call.Claim 0 Remote 1 (found.Files ((120 ∷ []) ∷ []))) reply.Granted)
+unfolding both.both_8 both.both_14 both.both_15 words
+commit_owed = refl
+
+commit_missing : commit_of both.both_15 0 Remote ≡ None
+unfolding both.both_8 both.both_14 both.both_15 words
+commit_missing = refl
+
+commit_done : commit_of both.both 0 Remote ≡ Some commit.Done
+unfolding both.both_8 both.both_14 both.both_15 both.both words
+commit_done = refl

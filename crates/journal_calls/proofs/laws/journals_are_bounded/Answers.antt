@@ -1,0 +1,12 @@
+use Rattle.journal_laws.proofs.Offered.{each_of}
+use Rattle.journal_calls.proofs.Reports as rp
+use Rattle.journal_calls.proofs.laws.journals_are_bounded.Goals as goal
+
+pub returns : goal.returns
+returns c = record {
+  lines = rp.few_lines;
+  sends = rp.few_sends;
+  begun = rp.unbegun_goes;
+  sent = rp.unsent_unanswered;
+  group = λ p j w l legal here. each_of _ _ (rp.grouped p j w l legal here);
+}
