@@ -1,10 +1,11 @@
 -- A line dies: with what is bound to it, what is pending there, and what was answered after its
 -- feed had failed.
-use Rattle.std.specs.Prelude.{◌≡◌, refl, true, false, Some, List, [], ◌∷◌, pos}
-use Rattle.run_plan.specs.declared.plan.Branch.TheVariants.{Local}
+use Rattle.std.specs.Prelude.{◌≡◌, refl, true, false, Some, None, List, [], ◌∷◌, pos}
+use Rattle.run_plan.specs.declared.plan.Branch.TheVariants.{Local, Remote}
 use Rattle.run_plan.specs.declared.plan.Plan.{Plan}
 use Rattle.exec_journal.specs.declared.journal.Entry.{Entry}
 use Rattle.exec_journal.specs.declared.call.Call.TheVariants as call
+use Rattle.exec_journal.specs.declared.call.Found.TheVariants as found
 use Rattle.exec_journal.specs.declared.call.HowEnded.TheVariants as end
 use Rattle.exec_journal.specs.declared.call.Started.TheVariants as start
 use Rattle.exec_journal.specs.declared.call.Written.TheVariants as write
@@ -13,8 +14,9 @@ use Rattle.exec_journal.specs.Entries.{Request, attempt_of}
 use Rattle.exec_journal.specs.Words.{answered, granted, has_ended, is_pending, order_of, was_sent}
 use Rattle.exec_journal.specs.Attempts.{ended, line_of}
 use Rattle.exec_journal.specs.Settled.{bound}
-use Rattle.exec_journal.proofs.Parts.{entry, numbered, worker, plan_of, multi}
+use Rattle.exec_journal.proofs.Parts.{entry, numbered, worker, plan_of, multi, with_file}
 use Rattle.journal_laws.specs.IsLegal.{is_legal}
+use Rattle.journal_laws.proofs.rows.BothAnswer as both
 use Rattle.journal_laws.proofs.rows.Opened.{words}
 use Rattle.journal_calls.specs.Moments.{fed_on, lost_with}
 
@@ -132,3 +134,41 @@ feed_ends = refl
 feed_ends_both : ended feed (attempt_of 0 Local 1) ≡ true
 unfolding plan feed words
 feed_ends_both = refl
+
+-- ---- a worker dies whose action another branch has won: nothing is bound to its line any more
+
+unfoldable won_11 : List Entry
+unfolding entry
+won_11 =
+    entry 1 call.Take (reply.Line 0)
+    ∷ entry 2 (call.Claim 0 Remote 1 (found.Files ((120 ∷ []) ∷ []))) reply.Granted
+    ∷ entry 2 call.Ask (reply.Gather 1 (pos 1) 0 Remote 1 (pos 0) false)
+    ∷ entry 3 (call.Answer 1 with_file) (reply.Matched 0 Remote 1)
+    ∷ entry 3 call.Take (reply.Line 1)
+    ∷ entry 2 (call.Wrote 1 (pos 1) write.Done) reply.Noted
+    ∷ entry 2 call.Ask (reply.Send 1 (pos 1) 0 Remote 1)
+    ∷ entry 2 (call.Launched 1 start.Done) reply.Noted
+    ∷ entry 2 call.Ask (reply.Launch 1 0 Remote 1)
+    ∷ entry 0 (call.Launched 0 start.Done) reply.Noted
+    ∷ entry 0 call.Ask (reply.Launch 0 0 Local 1)
+    ∷ []
+
+unfoldable won : List Entry
+unfolding entry won_11
+won = entry 1 (call.Ended 0 end.End) reply.Noted ∷ won_11
+
+won_legal : is_legal both.plan won ≡ true
+unfolding both.plan won won_11 words
+won_legal = refl
+
+won_unsent : was_sent won_11 (attempt_of 0 Local 1) ≡ false
+unfolding won_11 words
+won_unsent = refl
+
+won_unbound : bound both.plan won_11 0 ≡ None
+unfolding both.plan won_11 words
+won_unbound = refl
+
+won_goes_on : ended won (attempt_of 0 Local 1) ≡ false
+unfolding won won_11 words
+won_goes_on = refl
