@@ -135,6 +135,27 @@ feed_ends_both : ended feed (attempt_of 0 Local 1) ≡ true
 unfolding plan feed words
 feed_ends_both = refl
 
+-- ---- a feed fails before any answer: the request is pending too, and stands in the list once
+
+unfoldable cut_5 : List Entry
+unfolding entry early_3
+cut_5 =
+    entry 0 (call.Wrote 0 (pos 1) write.FeedFault) reply.Noted
+    ∷ entry 0 call.Ask (reply.Send 0 (pos 1) 0 Local 1)
+    ∷ early_3
+
+cut_legal : is_legal plan cut_5 ≡ true
+unfolding plan cut_5 early_3 words
+cut_legal = refl
+
+cut_fed : fed_on cut_5 0 ≡ Some (attempt_of 0 Local 1)
+unfolding plan cut_5 early_3 words
+cut_fed = refl
+
+cut_lost : lost_with plan cut_5 0 ≡ attempt_of 0 Local 1 ∷ []
+unfolding plan cut_5 early_3 words
+cut_lost = refl
+
 -- ---- a worker dies whose action another branch has won: nothing is bound to its line any more
 
 unfoldable won_11 : List Entry
