@@ -1,0 +1,13 @@
+pub mod Owing
+pub mod LastLines
+pub mod Spent
+pub mod Requested
+pub mod Ended
+pub mod Calls
+pub mod LineEnds
+pub mod Same
+pub mod Gathers
+pub mod Recent
+pub mod Orders
+pub mod Unsent
+pub mod LostWith
