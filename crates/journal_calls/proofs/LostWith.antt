@@ -21,7 +21,7 @@ use Rattle.exec_journal.specs.Legal.{Legal}
 use Rattle.journal_laws.specs.Invariant.{EachRequest, IsGoing}
 use Rattle.journal_laws.specs.Steps.{EndExactly}
 use Rattle.journal_calls.specs.Moments.{fed_on, stands_on, standing_on, lost_with, is_open_yet, AreApart}
-use Rattle.exec_journal.proofs.Histories.{AllOf, all_find}
+use Rattle.exec_journal.proofs.Histories.{all_find}
 use Rattle.exec_journal.proofs.Ruled.{by_bool, not_true}
 use Rattle.exec_journal.proofs.Begins.{begin_in_order, same_attempt_refl, same_attempt_eq}
 use Rattle.journal_laws.proofs.Carried as k
@@ -178,10 +178,12 @@ sends_apart p (e ∷ j) l legal = by (sent_on l e.reply) refl (sends_apart p j l
     by None is all = all
     by (Some x) is all =
         let s = q.sent_on_is l e.reply x is in
-        let new = of.fresh_send p e j x legal s.0 in
-        (none_any x.attempt (sends j l) (of.each_of _ _ (k.all_map (k.IsSentOn j l) (λ y. same_attempt x.attempt y.attempt ≡ false)
-        (λ y on. false_by _ (λ same. clash (was_sent j x.attempt) (subst (λ (a : Attempt). was_sent j a ≡ true) (sym (same_attempt_eq x.attempt y.attempt same)) on.sent) new.unsent))
-        (sends j l) (k.sends_on j l (begin_in_order p j legal.0)))), all)
+        let new = of.fresh_send p e j x legal s.0 in (
+          none_any x.attempt (sends j l) (of.each_of _ _ (k.all_map (k.IsSentOn j l) (λ y. same_attempt x.attempt y.attempt ≡ false)
+              (λ y on. false_by _ (λ same. clash (was_sent j x.attempt) (subst (λ (a : Attempt). was_sent j a ≡ true) (sym (same_attempt_eq x.attempt y.attempt same)) on.sent) new.unsent))
+              (sends j l) (k.sends_on j l (begin_in_order p j legal.0)))),
+          all,
+        )
 
 passed_apart : (pass : Request → Bool) (xs : List Request) → AreApart (map (λ (x : Request). x.attempt) xs) → AreApart (map (λ (x : Request). x.attempt) (filter pass xs))
 passed_apart pass [] all = tt

@@ -1,5 +1,5 @@
 -- Entries that may end an attempt, and don't: a Claim that is granted or lost, a Wrote with Done or of a Cancel, and a FeedFault before its line has Ended.
-use Rattle.std.proofs.Common.{◌≡◌, ℕ, ◌/◌, true, false, List, [], ◌∷◌, Option, Some, None, option_map, ◌⊎◌, inl, inr, refl, sym, ap, subst, ◌∙◌, ℤ}
+use Rattle.std.proofs.Common.{◌≡◌, ℕ, ◌/◌, Bool, true, false, cond, List, [], ◌∷◌, Option, Some, None, option_map, ◌⊎◌, inl, inr, refl, sym, ap, subst, ◌∙◌, ℤ}
 use Rattle.std.specs.List.{find, list_any}
 use Rattle.std.proofs.lemmas.Bool.{or_cases}
 use Rattle.run_plan.specs.declared.plan.Branch.{Branch}
@@ -10,13 +10,14 @@ use Rattle.exec_journal.specs.declared.call.Call.{Call}
 use Rattle.exec_journal.specs.declared.call.Call.TheVariants as call
 use Rattle.exec_journal.specs.declared.call.CommitEnd.{CommitEnd}
 use Rattle.exec_journal.specs.declared.call.Found.{Found}
+use Rattle.exec_journal.specs.declared.call.Started.TheVariants as start
 use Rattle.exec_journal.specs.declared.call.Written.{Written}
 use Rattle.exec_journal.specs.declared.call.Written.TheVariants as write
 use Rattle.exec_journal.specs.declared.reply.Reply.{Reply}
 use Rattle.exec_journal.specs.declared.reply.Reply.TheVariants as reply
-use Rattle.exec_journal.specs.Entries.{Request, same_attempt, is_for, committed_in, refused_in}
-use Rattle.exec_journal.specs.Words.{order_of, launch_of, sends, pending, is_pending, wrote, wrote_at, says_feed_fault, has_ended}
-use Rattle.exec_journal.specs.Attempts.{fault_at, ended}
+use Rattle.exec_journal.specs.Entries.{Request, same_attempt, is_for, committed_in, refused_in, launch_of_entry}
+use Rattle.exec_journal.specs.Words.{last_work, order_of, launch_of, sends, pending, is_pending, wrote, wrote_at, says_feed_fault, has_ended}
+use Rattle.exec_journal.specs.Attempts.{fault_at, fault_by, start_cause, ended}
 use Rattle.exec_journal.specs.Settled.{bound}
 use Rattle.exec_journal.specs.Rules as r
 use Rattle.exec_journal.specs.Legal.{Legal}
@@ -67,6 +68,35 @@ lost_same p e j a b n x legal is lost = record {
   where
     no_commit : (i : ℕ) (w : Branch) (how : CommitEnd) → committed_in i w (call.Claim a b n x) ≡ Some how → ⊥
     no_commit i w how h = cc
+
+-- ---- a Launched with Done
+
+pub started_same : (p : Plan) (e : Entry) (j : List Entry) (l : ℕ) → Legal p (e ∷ j) → e.call ≡ call.Launched l start.Done → SameActions j (e ∷ j)
+started_same p e j l legal is = record {
+  grant = λ i. en.grants_same e j i (rw is refl);
+  commit = λ i w. en.commits_same e j i w (λ how h. no_commit i w how (subst (λ (d : Call). committed_in i w d ≡ Some how) is h));
+  ended_too = λ t. same t;
+}
+  where
+    no_commit : (i : ℕ) (w : Branch) (how : CommitEnd) → committed_in i w (call.Launched l start.Done) ≡ Some how → ⊥
+    no_commit i w how h = cc
+
+    cases : (b : Bool) → cond b (start_cause start.Done) None ≡ None
+    cases true = refl
+    cases false = refl
+
+    unfaulted : (t : Attempt) → fault_at t j e ≡ None
+    unfaulted t = ap (λ (d : Call). fault_by t (last_work j e.lane) d e.reply) is ∙ cases (is_for t (launch_of_entry (last_work j e.lane)))
+
+    of_case : (t : Attempt) → EndsWith j e t → ⊥
+    of_case t (ByFault z h) = (let off = unfaulted t in let both : None ≡ Some z = sym off ∙ h in cc)
+    of_case t (ByEnd k how h at left) = (let both : call.Launched l start.Done ≡ call.Ended k how = sym is ∙ h in cc)
+    of_case t (ByFeed k h at over) = (let it = c.wrote_at_is j e t write.FeedFault h in let both : call.Launched l start.Done ≡ call.Wrote it.line it.number write.FeedFault = sym is ∙ it.is in cc)
+
+    same : (t : Attempt) → ended (e ∷ j) t ≡ ended j t
+    same t =
+        by_bool (ended j t) (λ z. ended j t ≡ z → ended (e ∷ j) t ≡ z) (λ _ old. ended_stays e j t old)
+        (λ _ going. false_by _ (λ now. of_case t (en.ends_with p e j t legal now going).0)) refl
 
 -- ---- a Wrote that ends nothing
 

@@ -13,6 +13,7 @@ ghost use Rattle.exec_journal.specs.declared.call.Call.{Call};
 ghost use Rattle.exec_journal.specs.declared.call.CommitEnd.{CommitEnd};
 ghost use Rattle.exec_journal.specs.declared.call.Found.{Found};
 ghost use Rattle.exec_journal.specs.declared.call.HowEnded.{HowEnded};
+ghost use Rattle.exec_journal.specs.declared.call.Started.TheVariants as start;
 ghost use Rattle.exec_journal.specs.declared.call.Started.{Started};
 ghost use Rattle.exec_journal.specs.declared.call.Written.TheVariants as write;
 ghost use Rattle.exec_journal.specs.declared.call.Written.{Written};
@@ -177,9 +178,11 @@ pub fn lines_end_these()
         → was_sent j t ≡ false → granted j t.action ≡ false → bound p j l ≡ Some t }
 {}
 
-/// What ends, grants and commits nothing: a Wrote of a Cancel, one with Done, one whose feed failed
-/// on a line that hasn't ended, and a Claim that is lost.
+/// What ends, grants and commits nothing: a Launched or a Wrote with Done, a Wrote of a Cancel, one
+/// whose feed failed on a line that hasn't ended, and a Claim that is lost.
 pub fn reports_change_nothing()
+    ensures started { (p : Plan) (e : Entry) (j : List Entry) (l : ℕ) → Legal p (e ∷ j)
+        → e.call ≡ call.Launched l start.Done → SameActions j (e ∷ j) }
     ensures written { (p : Plan) (e : Entry) (j : List Entry) (l : ℕ) (n : ℤ) (how : Written)
         → Legal p (e ∷ j) → e.call ≡ call.Wrote l n how → (how ≡ write.Done)
         ⊎ (order_of j e.lane ≡ None) → SameActions j (e ∷ j) }

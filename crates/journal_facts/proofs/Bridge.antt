@@ -46,21 +46,21 @@ use Rattle.cancel_rules.specs.Entries as cr
 use Rattle.race_core.specs.Entries as rc
 use Rattle.retry_rules.specs.Entries as rr
 
-each_of : (P : Request → Type 0) (xs : List Request) → EachRequest P xs → rq.EachOf P xs
+pub each_of : (P : Request → Type 0) (xs : List Request) → EachRequest P xs → rq.EachOf P xs
 each_of P [] all = tt
 each_of P (x ∷ xs) all = (all.0, each_of P xs all.1)
 
-numbered : (b : Bool) (xs : List Request) → NumberedAs b xs → Numbered b xs
+pub numbered : (b : Bool) (xs : List Request) → NumberedAs b xs → Numbered b xs
 numbered b [] all = tt
 numbered b (x ∷ xs) all = (all.0, numbered b xs all.1)
 
 -- ---- calls that grant and commit nothing
 
-no_commit : (d : Call) → is_commit d ≡ false → (a : ℕ) (b : Branch) (how : CommitEnd) → committed_in a b d ≡ Some how → ⊥
+pub no_commit : (d : Call) → is_commit d ≡ false → (a : ℕ) (b : Branch) (how : CommitEnd) → committed_in a b d ≡ Some how → ⊥
 no_commit (call.Committed x y z) h a b how k = cc
 no_commit _ h a b how k = absurd (cc)
 
-no_grant : (d : Call) (x : Reply) → is_quiet_call d ≡ true → granted_in d x ≡ None
+pub no_grant : (d : Call) (x : Reply) → is_quiet_call d ≡ true → granted_in d x ≡ None
 no_grant (call.Claim a b t f) x h = absurd (cc)
 no_grant _ x h = refl
 
@@ -312,7 +312,7 @@ pub ends_none : (p : Plan) (e : Entry) (j : List Entry) → Legal p (e ∷ j) �
 ends_none p e j legal calm = λ t. en.quiet_ends_none p e j t legal calm
 
 -- exactly this attempt ends: of its branch the latest, and of no other
-branch_is : (j : List Entry) (a : ℕ) (b : Branch) (y : Attempt) → IsGoing j y → is_branch_of a b y ≡ true → attempt_of a b (attempt j a b) ≡ y
+pub branch_is : (j : List Entry) (a : ℕ) (b : Branch) (y : Attempt) → IsGoing j y → is_branch_of a b y ≡ true → attempt_of a b (attempt j a b) ≡ y
 branch_is j a b y going h =
     let parts = and_parts (y.action == a) _ h in
     let x : y.action ≡ a = eqb-true y.action a parts.0 in
@@ -320,7 +320,7 @@ branch_is j a b y going h =
     let n : y.number ≡ attempt j a b = going.latest ∙ ap (λ i. attempt j i y.branch) x ∙ ap (λ (i : Branch). attempt j a i) z in
     sym (λ i. record { action = x i; branch = z i; number = n i })
 
-own_branch : (t : Attempt) → is_branch_of t.action t.branch t ≡ true
+pub own_branch : (t : Attempt) → is_branch_of t.action t.branch t ≡ true
 own_branch t = and_from _ _ (eq-eqb t.action t.action refl) (same_branch_refl t.branch)
 
 ends_branch : (j : List Entry) (e : Entry) (y : Attempt) (a : ℕ) (b : Branch) → EndExactly j e (same_attempt y) → IsGoing j y → is_branch_of a b y ≡ rr.ends_now j e a b

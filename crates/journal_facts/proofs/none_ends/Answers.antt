@@ -1,3 +1,4 @@
+use Rattle.journal_facts.proofs.EndsNone.{none_started, none_done, none_claimed}
 use Rattle.journal_facts.proofs.Bridge.{ends_none, none_launched, none_written, none_left, none_fed}
 use Rattle.journal_facts.proofs.none_ends.Goals as goal
 
@@ -8,4 +9,7 @@ returns c = record {
   written = λ p e j l n how x legal is un order won. none_written p e j l n how x legal is un order won;
   left = λ p e j l n how x legal is un order over unanswered. none_left p e j l n how x legal is un order over unanswered;
   fed = λ p e j l n x legal is order h. none_fed p e j l n x legal is order h;
+  started = none_started;
+  done = none_done;
+  claimed = none_claimed;
 }
