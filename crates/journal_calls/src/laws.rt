@@ -1,5 +1,5 @@
-//! What holds where a call comes: of the lines, requests and attempts that it is about. The functions
-//! do nothing: each is a law, for a core that answers such calls.
+//! What holds where a call comes: of the lines, requests and attempts that it is about. The
+//! functions do nothing: each is a law, for a core that answers such calls.
 ghost use Rattle.std.specs.Prelude.{◌≡◌, ◌⊎◌, ◌+◌, ◌/◌, ◌<◌, ◌≤◌, ◌==◌, ◌&&◌, ◌||◌, not, ℕ, ℤ, true, false, List, ◌∷◌, Some, None, is_some, length, filter, option_map};
 ghost use Rattle.std.specs.List.{list_any};
 ghost use Rattle.run_plan.specs.declared.plan.Branch.{Branch};
@@ -104,8 +104,8 @@ pub fn named_actions_are_planned()
         → Legal p j → script p j lane (call.Committed a b how) ≡ true → a < length p.actions }
 {}
 
-/// A Send has room on its line; it begins the next attempt of its branch, or sends the latest, which
-/// is bound to that line. A Launch has room for its line.
+/// A Send has room on its line; it begins the next attempt of its branch, or sends the latest,
+/// which is bound to that line. A Launch has room for its line.
 pub fn orders_have_room()
     ensures sends { (p : Plan) (j : List Entry) (lane l : ℕ) (n : ℤ) (t : Attempt) → Sound p
         → Legal p j → script p j lane call.Ask ≡ true

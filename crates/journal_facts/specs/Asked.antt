@@ -1,4 +1,5 @@
--- Which calls the premises are about, the entries with which one attempt ends, and the lines that are bound for an action.
+-- Which calls the premises are about, the entries with which one attempt ends, and the lines that
+-- are bound for an action.
 use Rattle.std.specs.Prelude.{◌≡◌, ℕ, zero, suc, ◌==◌, Bool, true, false, Option, Some, None, List, [], filter}
 use Rattle.run_plan.specs.declared.plan.Plan.{Plan}
 use Rattle.run_plan.specs.Groups.{berths}
@@ -24,7 +25,8 @@ is_report (call.Launched l how) = true
 is_report (call.Wrote l n how) = true
 is_report _ = false
 
--- exactly this attempt ends with the entry, which was under way; nothing begins, is granted or committed with it
+-- exactly this attempt ends with the entry, which was under way; nothing begins, is granted or
+-- committed with it
 pub record EndsOne (j : List Entry) (e : Entry) (t : Attempt) : Type 0 where
   pub exact : EndExactly j e (same_attempt t)
   pub going : IsGoing j t

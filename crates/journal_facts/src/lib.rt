@@ -1,5 +1,5 @@
-//! What the tables' laws ask for follows of every legal journal. The functions do nothing: each is a law, for the core that
-//! keeps the tables.
+//! What the tables' laws ask for follows of every legal journal. The functions do nothing: each is
+//! a law, for the core that keeps the tables.
 #![tactic(auto)]
 
 ghost use Rattle.std.specs.Prelude.{◌≡◌, ◌⊎◌, ◌&&◌, not, ℕ, ℤ, List, [], ◌∷◌, Some, None, true, false};
@@ -33,8 +33,8 @@ ghost use Rattle.request_table.specs.Entries as table;
 ghost use Rattle.cancel_rules.specs.Entries as rules;
 ghost use Rattle.journal_facts.specs.Asked.{is_commit, lines_bound_for, EndsOne};
 
-/// With which entries exactly one attempt ends: a refused Claim, a Launched with a fault, a Wrote that says that its request
-/// wasn't written, and one with FeedFault after the line's Ended.
+/// With which entries exactly one attempt ends: a refused Claim, a Launched with a fault, a Wrote
+/// that says that its request wasn't written, and one with FeedFault after the line's Ended.
 pub fn one_ends()
     ensures claimed { (p : Plan) (e : Entry) (j : List Entry) (y : Attempt × Found)
         → Legal p (e ∷ j) → refused_in e.call e.reply ≡ Some y → EndsOne j e y.0 }
@@ -140,8 +140,8 @@ pub fn retry_facts()
         → retry.EndsThese j e (lost_with p j l) }
 {}
 
-/// What the pool of lines asks for: of the lines to which something is bound, which are of an action,
-/// and which a fault is of; and where the request of a Wrote or an Answer is pending.
+/// What the pool of lines asks for: of the lines to which something is bound, which are of an
+/// action, and which a fault is of; and where the request of a Wrote or an Answer is pending.
 pub fn pool_facts()
     ensures wanted { (p : Plan) (e : Entry) (j : List Entry) → Legal p (e ∷ j)
         → pool.WantedStays p j e }
