@@ -4,3 +4,4 @@ pub mod BoundFor
 pub mod Listed
 pub mod EndsNone
 pub mod Worked
+mod Rows
