@@ -23,8 +23,8 @@ use exec_journal::{Call, Reply};
 /// history of the calls that were kept.
 ///
 /// Lane `2w` is the proxy lane of the berth `w`, and lane `2w + 1` its tap lane. A call that isn't in its lane's
-/// script is answered `Astray`. A law that needs what holds of every history that came about asks that the history be
-/// legal; the others hold of any list of entries.
+/// script is answered `Astray`. A law that needs what holds of every history that came about asks
+/// that the history be legal; the others hold of any list of entries.
 pub trait Rules: Sized + Drop {
     /// What a core goes by. It never changes, and no value of it is made at run time.
     type Plan;
@@ -129,7 +129,8 @@ pub trait Rules: Sized + Drop {
     // Which calls are in a proxy lane's script, its own entries say alone.
     ghost proxies_do: { (q : Self.Plan) (h : List (Entry Call Reply)) (w : ℕ) (c : Call)
         → w < seats q
-        → may_do (outputs q) (makers q) (remote q w) (duty_of (calls_by (proxy_lane w) h)) c ≡ true
+        → may_do (outputs q) (makers q) (remote q w)
+        (duty_of (calls_by (proxy_lane w) h)) c ≡ true
         → InScript (rule q) h (proxy_lane w) c };
 
     // Its Halt is paid for, until it was told to stop or has halted.
@@ -187,7 +188,8 @@ pub trait Rules: Sized + Drop {
         → legal q h → rule q h lane (call.Claim a b t (found.Files fs)) ≡ reply.Granted
         → (a < actions q) × (place_at a h ≡ Fresh) };
 
-    // A Committed comes from the lane that was granted the action's files, and the files are those of its last grant.
+    // A Committed comes from the lane that was granted the action's files, and the files are those
+    // of its last grant.
     ghost commits_own: { (q : Self.Plan) (h : List (Entry Call Reply)) (lane a : ℕ) (b : Branch)
         (how : CommitEnd)
         → legal q h → InScript (rule q) h lane (call.Committed a b how)
