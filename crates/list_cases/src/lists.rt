@@ -8,14 +8,26 @@ use std::alloc::Global;
 
 const INSTANCES: u32 = 4;
 
-pub fn list(alloc: Global, json: &str) -> Result<String, NoMemory> {
-    match read_list(alloc, json.as_bytes()) {
+pub fn list(alloc: Global, json: &[u8]) -> Result<String, NoMemory> {
+    match read_list(alloc, json) {
         Ok(list) => {
             let count = list.actions.as_slice().len();
             Ok(format!(in alloc; "{count} actions")?)
         }
         Err(refusal) => refused(alloc, refusal),
     }
+}
+
+/// The empty list with one key more, whose text holds a byte that no UTF-8 text has.
+pub fn list_that_is_no_text(alloc: Global) -> Result<String, NoMemory> {
+    list(alloc, b"{\"actions\":[],\"x\":\"\xff\"}")
+}
+
+/// A list of so many spaces.
+pub fn list_of_spaces(alloc: Global, digits: &str) -> Result<String, NoMemory> {
+    let count = digits.parse::<usize>().unwrap_or(0);
+    let spaces = vec![in alloc; b' '; count]?;
+    list(alloc, spaces.as_slice())
 }
 
 // The line of the fault, and behind it what to look at.

@@ -4,10 +4,14 @@
 //! |---|---|
 //! | `path PATH` | the path's fault, or `ok` |
 //! | `words WORD WORD ..` | the options that the command's words give, or `refused` |
-//! | `split WORD WORD ..` | start-up words and request words, or `no flag file` |
+//! | `empty_word` | the same of one empty word |
+//! | `split WORD WORD ..` | start-up words, with two further flags, and request words, or `no flag file` |
+//! | `split_alone WORD WORD ..` | the same without further flags |
 //! | `file PATH TEXT`, `bad PATH` | nothing: a file for `expand`, or one that isn't UTF-8 |
 //! | `expand WORD WORD ..` | the words that they stand for, or the fault |
 //! | `list JSON` | how many actions it has, or the line of its fault and what to look at |
+//! | `no_text` | the same of a list with the byte `ff` in a text, which no UTF-8 text has |
+//! | `spaces COUNT` | the same of so many spaces |
 //! | `plan JSON` | its groups with their berths, and the program of each |
 //! | `key` | the length of a worker key's canonical bytes, and its name |
 //! | `report HOW`, `short HOW` | the report of an action that was `won`, or `failed`, and its status |
@@ -55,9 +59,13 @@ fn play(alloc: Global, files: &mut CaseFiles, line: &str) -> Result<Option<Strin
     match kind {
         "path" => Ok(Some(words::path(alloc, rest)?)),
         "words" => Ok(Some(words::options(alloc, rest)?)),
-        "split" => Ok(Some(words::split(alloc, rest)?)),
+        "empty_word" => Ok(Some(words::options_of_an_empty_word(alloc)?)),
+        "split" => Ok(Some(words::split(alloc, rest, "-x @y")?)),
+        "split_alone" => Ok(Some(words::split(alloc, rest, "")?)),
         "expand" => Ok(Some(files.expand(alloc, rest)?)),
-        "list" => Ok(Some(lists::list(alloc, rest)?)),
+        "list" => Ok(Some(lists::list(alloc, rest.as_bytes())?)),
+        "no_text" => Ok(Some(lists::list_that_is_no_text(alloc)?)),
+        "spaces" => Ok(Some(lists::list_of_spaces(alloc, rest)?)),
         "plan" => Ok(Some(lists::groups(alloc, rest)?)),
         "key" => Ok(Some(keys::key(alloc)?)),
         "report" => Ok(Some(reports::reported(alloc, rest, false)?)),

@@ -35,9 +35,10 @@ pub fn joined(alloc: Global, words: &[Text]) -> Result<String, NoMemory> {
     Ok(line)
 }
 
-pub fn split(alloc: Global, line: &str) -> Result<String, NoMemory> {
+/// Start-up words with these further flags, and request words.
+pub fn split(alloc: Global, line: &str, extra: &str) -> Result<String, NoMemory> {
     let argv = texts(alloc, line)?;
-    let extra = texts(alloc, "-x @y")?;
+    let extra = texts(alloc, extra)?;
     if argv.is_empty() {
         return Ok(String::from_str(alloc, "no words")?);
     }
@@ -60,7 +61,16 @@ pub fn options(alloc: Global, line: &str) -> Result<String, NoMemory> {
             words.push(String::from_str(alloc, word)?)?;
         }
     }
-    match read_words(alloc, words.as_slice())? {
+    options_of(alloc, words.as_slice())
+}
+
+/// The options of one word, which is empty.
+pub fn options_of_an_empty_word(alloc: Global) -> Result<String, NoMemory> {
+    options_of(alloc, &[String::new(alloc)])
+}
+
+fn options_of(alloc: Global, words: &[String]) -> Result<String, NoMemory> {
+    match read_words(alloc, words)? {
         Some(options) => told(alloc, &options),
         None => Ok(String::from_str(alloc, "refused")?),
     }

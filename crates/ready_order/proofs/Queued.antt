@@ -30,7 +30,7 @@ get_before [] ys m lt = absurd (omega arith)
 get_before (x ∷ xs) ys zero lt = refl
 get_before (x ∷ xs) ys (suc m) lt = get_before xs ys m (omega arith)
 
-get_behind : {X : Type 0} (xs : List X) (y : X) → slice_get (xs ++ y ∷ []) (length xs) ≡ Some y
+pub get_behind : {X : Type 0} (xs : List X) (y : X) → slice_get (xs ++ y ∷ []) (length xs) ≡ Some y
 get_behind [] y = refl
 get_behind (x ∷ xs) y = get_behind xs y
 
@@ -49,13 +49,13 @@ not_without (Some Without) h = absurd (cc)
 not_without None h = refl
 
 module _ (p : Plan) (j : List Entry) where
-  standings_front : (xs : List PlanAction) (earlier : List Standing) (m : ℕ) → m < length earlier → slice_get (standings_from p j earlier xs) m ≡ slice_get earlier m
+  pub standings_front : (xs : List PlanAction) (earlier : List Standing) (m : ℕ) → m < length earlier → slice_get (standings_from p j earlier xs) m ≡ slice_get earlier m
   standings_front [] earlier m lt = refl
   standings_front (x ∷ xs) earlier m lt =
       let s = standing_after p j (length earlier) x earlier in
       standings_front xs (earlier ++ s ∷ []) m (omega (arith, length-append earlier (s ∷ []))) ∙ get_before earlier (s ∷ []) m lt
 
-  standings_length : (xs : List PlanAction) (earlier : List Standing) → length (standings_from p j earlier xs) ≡ length earlier + length xs
+  pub standings_length : (xs : List PlanAction) (earlier : List Standing) → length (standings_from p j earlier xs) ≡ length earlier + length xs
   standings_length [] earlier = omega arith
   standings_length (x ∷ xs) earlier =
       let s = standing_after p j (length earlier) x earlier in
@@ -110,7 +110,7 @@ module _ (p : Plan) (j : List Entry) where
   or_none true = refl
   or_none false = refl
 
-  settled_at : (a : ℕ) (x : PlanAction) → slice_get p.actions a ≡ Some x → ready p j x ≡ true → settled p j a ≡ is_settled (own_in p j a x)
+  pub settled_at : (a : ℕ) (x : PlanAction) → slice_get p.actions a ≡ Some x → ready p j x ≡ true → settled p j a ≡ is_settled (own_in p j a x)
   unfolding standings settled ready own_in
   settled_at a x h fed =
       let at = standing_at p.actions [] a a x (omega arith) h in
@@ -162,7 +162,7 @@ module _ (p : Plan) (states : List ActionState) (j : List Entry) (s : Stands p s
   all_success [] = refl
   all_success (m ∷ ms) = rw (success_is m.action, all_success ms) refl
 
-  ready_is : (x : PlanAction) → list_all (has_success states) (producers_of x) ≡ ready p j x
+  pub ready_is : (x : PlanAction) → list_all (has_success states) (producers_of x) ≡ ready p j x
   unfolding ready
   ready_is x = all_success x.makers
 
@@ -270,7 +270,7 @@ module _ (states : List ActionState) (g : ℕ) where
       (sym same, one_branch a b d h (subst (λ m. IsFirst states g m d) same k))))
 
   -- there is one answer at most
-  one_earliest : (r r' : Option (ℕ × Branch)) → IsEarliest states g r → IsEarliest states g r' → r ≡ r'
+  pub one_earliest : (r r' : Option (ℕ × Branch)) → IsEarliest states g r → IsEarliest states g r' → r ≡ r'
   one_earliest None None h k = refl
   one_earliest None (Some y) h k = absurd (let no = h y.0 y.1 in let yes = k.queued in cc)
   one_earliest (Some x) None h k = absurd (let no = k x.0 x.1 in let yes = h.queued in cc)

@@ -1,5 +1,5 @@
 -- What the table keeps of each action, what a call makes of it, and which branches are queued.
-use Rattle.std.specs.Prelude.{◌≡◌, ℕ, ◌<◌, ◌==◌, Bool, true, false, ◌&&◌, not, is_none, unwrap_or, option_map, Option, Some, None, if◌then◌else◌, List, map, slice_get}
+use Rattle.std.specs.Prelude.{◌≡◌, ℕ, ◌+◌, ◌<◌, ◌==◌, Bool, true, false, ◌&&◌, not, is_none, unwrap_or, option_map, Option, Some, None, if◌then◌else◌, List, [], ◌∷◌, map, slice_get}
 use Rattle.std.specs.List.{list_all}
 use Rattle.run_plan.specs.declared.plan.Branch.{Branch}
 use Rattle.run_plan.specs.declared.plan.Branch.TheVariants.{Local, Remote}
@@ -8,6 +8,7 @@ use Rattle.run_plan.specs.declared.plan.PlanAction.{PlanAction}
 use Rattle.exec_journal.specs.declared.ends.Standing.{Standing}
 use Rattle.exec_journal.specs.declared.ends.Standing.TheVariants.{Open, Succeeded, Without}
 use Rattle.exec_journal.specs.Settled.{is_settled, is_success}
+use Rattle.list_lemmas.specs.Options.{or_else}
 use Rattle.list_lemmas.specs.Places.{update}
 use Rattle.ready_order.specs.declared.BranchState.{BranchState}
 use Rattle.ready_order.specs.declared.ActionState.{ActionState}
@@ -54,6 +55,14 @@ has_success states a = is_success (option_map (λ x. x.own) (slice_get states a)
 abbrev pub is_ready : List ActionState → ActionState → Bool
 is_ready states x = list_all (has_success states) x.producers
 
+-- it isn't settled by itself, and every producer has success
+abbrev pub waits : List ActionState → ActionState → Bool
+waits states x = not (is_settled x.own) && is_ready states x
+
+-- no action does: each is settled by itself, or has a producer without success
+abbrev pub none_waits : List ActionState → Bool
+none_waits states = list_all (λ x. not (waits states x)) states
+
 -- the branch is of the group and may begin an attempt; its action is open, and each producer has success
 abbrev pub may_begin : List ActionState → ℕ → ActionState → BranchState → Bool
 may_begin states g x s = is_of g s && (s.free && (is_open x && is_ready states x))
@@ -78,6 +87,15 @@ pub record IsFirst (states : List ActionState) (g a : ℕ) (b : Branch) : Type 0
 abbrev pub IsEarliest : List ActionState → ℕ → Option (ℕ × Branch) → Type 0
 IsEarliest states g None = (a : ℕ) (b : Branch) → is_queued states g a b ≡ false
 IsEarliest states g (Some x) = IsFirst states g x.0 x.1
+
+-- of the actions from a on, the first with a queued branch
+abbrev pub earliest_from : List ActionState → ℕ → ℕ → List ActionState → Option (ℕ × Branch)
+earliest_from all g a [] = None
+earliest_from all g a (x ∷ xs) = or_else (option_map (λ b. (a, b)) (queued_branch all g x)) (earliest_from all g (a + 1) xs)
+
+-- the same as a search
+abbrev pub earliest_in : List ActionState → ℕ → Option (ℕ × Branch)
+earliest_in states g = earliest_from states g 0 states
 
 -- ---- what a call makes of it
 

@@ -7,10 +7,11 @@ ghost use Rattle.exec_journal.specs.declared.call.Found.TheVariants.{Files, Exit
 ghost use Rattle.exec_journal.specs.declared.journal.Entry.{Entry};
 ghost use Rattle.run_plan.specs.declared.plan.Branch.{Branch};
 ghost use Rattle.run_plan.specs.declared.plan.Plan.{Plan};
+ghost use Rattle.run_plan.specs.Sound.{Sound};
 ghost use Rattle.exec_journal.specs.declared.reply.Reply.TheVariants.{Granted, Noted};
-ghost use Rattle.exec_journal.specs.Settled.{earliest};
+ghost use Rattle.exec_journal.specs.Settled.{all_settled, earliest};
 ghost use Rattle.ready_order.specs.declared.ActionState.{ActionState};
-ghost use Rattle.ready_order.specs.Queue.{IsEarliest, with_taken, with_unwanted, with_settled};
+ghost use Rattle.ready_order.specs.Queue.{IsEarliest, earliest_in, none_waits, with_taken, with_unwanted, with_settled};
 ghost use Rattle.ready_order.specs.Stands.{Stands, branch_of};
 ghost use Rattle.ready_order.specs.Entries.{BeginsThis, EndsThese, IsOpen, WonFiles, SameBranches, with_ends, is_done};
 
@@ -59,11 +60,16 @@ pub fn others_change_nothing()
         → SameBranches j k → Stands p states k }
 {}
 
-/// The table's answer is the journal's: the action and the branch of the group's earliest queued branch.
+/// The table's answers are the journal's: the action and the branch of the group's earliest queued branch; and, where the
+/// plan is sound, whether all actions are settled.
 pub fn answers_are_the_journals()
-    ensures { (p : Plan) (states : List ActionState) (j : List Entry) (g : ℕ) (answer : Option (ℕ
+    ensures earliest { (p : Plan) (states : List ActionState) (j : List Entry) (g : ℕ) (answer : Option (ℕ
         × Branch)) → Stands p states j → IsEarliest states g answer
         → answer ≡ branch_of (earliest p j g) }
+    ensures search { (p : Plan) (states : List ActionState) (j : List Entry) (g : ℕ)
+        → Stands p states j → earliest_in states g ≡ branch_of (earliest p j g) }
+    ensures settled { (p : Plan) (states : List ActionState) (j : List Entry) → Stands p states j
+        → Sound p → none_waits states ≡ all_settled p j }
 {}
 
 /// The table has a state of each action of the plan, so that every call may name it.

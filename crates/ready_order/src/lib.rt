@@ -2,7 +2,7 @@
 #![tactic(auto)]
 
 ghost use Rattle.std.specs.Prelude.{◌≡◌, ◌<◌, ◌≤◌, ◌^◌, true, IfOk, [], length};
-ghost use Rattle.ready_order.specs.Queue.{new_standing, new_state, new_states, is_of, is_open, has_success, is_ready, may_begin, queued_branch, IsEarliest, state_with, with_taken, with_again, with_unwanted, with_settled};
+ghost use Rattle.ready_order.specs.Queue.{earliest_in, none_waits, waits, new_standing, new_state, new_states, is_of, is_open, has_success, is_ready, may_begin, queued_branch, IsEarliest, state_with, with_taken, with_again, with_unwanted, with_settled};
 ghost use Rattle.ready_order.specs.Stands.{Stands};
 
 pub mod laws;
@@ -84,9 +84,17 @@ impl Ready {
     /// The group's queued branch of the least action, with that action; `None` exactly where nothing of the group is
     /// queued.
     pub fn earliest(&self, group: u32) -> Option<(u32, Branch)>
-        ensures { IsEarliest self.now group result }
+        ensures first { IsEarliest self.now group result }
+        ensures search { result ≡ earliest_in self.now group }
     {
         first_queued(self.actions.as_slice(), group)
+    }
+
+    /// Every action is settled: each that isn't so by itself has a producer without success.
+    pub fn all_settled(&self) -> bool
+        ensures { result ≡ none_waits self.now }
+    {
+        none_waits(self.actions.as_slice())
     }
 
     /// Notes that the branch has begun an attempt.
@@ -217,6 +225,19 @@ fn is_ready(actions: &[ActionState], action: &ActionState) -> bool
         .as_slice()
         .iter()
         .all(|producer| has_success(actions, *producer))
+}
+
+// No action that isn't settled by itself has the success of all its producers.
+fn none_waits(actions: &[ActionState]) -> bool
+    ensures { result ≡ none_waits actions.now }
+{
+    actions.iter().all(|action| !waits(actions, action))
+}
+
+fn waits(actions: &[ActionState], action: &ActionState) -> bool
+    ensures { result ≡ waits actions.now action.now }
+{
+    action.own == Standing::Open && is_ready(actions, action)
 }
 
 fn has_success(actions: &[ActionState], action: u32) -> bool

@@ -1,6 +1,6 @@
 -- How the table follows Sends and Cancels, and what the number of a Send is.
 use Rattle.std.proofs.Common.{◌≡◌, ℕ, ◌+◌, ◌/◌, ◌<◌, ◌≤◌, ◌==◌, zero, suc, Bool, true, false, ◌&&◌, ◌||◌, cond, List, [], ◌∷◌, ◌++◌, length, reverse, Option, Some, None, option_map, option_and_then, unwrap_or, refl, ap, sym, subst, ◌∙◌, arith}
-use Rattle.std.specs.Prelude.{map, slice_get, ℤ, pos, negsuc}
+use Rattle.std.specs.Prelude.{filter, map, slice_get, ℤ, pos, negsuc}
 use Rattle.std.specs.Bool.{one_answer}
 use Rattle.std.specs.Ordering.{int_eq}
 use Rattle.std.proofs.lemmas.Bool.{eqb-true, eq-eqb, lt-ltb, and_right}
@@ -22,7 +22,7 @@ use Rattle.exec_journal.proofs.Ruled.{by_bool}
 use Rattle.request_table.specs.declared.LineRow.{LineRow}
 use Rattle.request_table.specs.declared.RequestRow.{RequestRow}
 use Rattle.request_table.specs.Entries.{EachOf, IsOfGroup, NumberedBy, IsNextSend}
-use Rattle.request_table.specs.Rows.{Facts, capacity_of, open_of, open_on, is_single_group, singles_of, line_room, single_by, single_of, last_of, number_after, next_number, new_place, sent_row, with_send, with_cancel, with_cancelled, cancelled_row}
+use Rattle.request_table.specs.Rows.{Facts, capacity_of, is_open, open_of, open_on, places_of, places_on, is_single_group, singles_of, line_room, single_by, single_of, last_of, number_after, next_number, new_place, sent_row, with_send, with_cancel, with_cancelled, cancelled_row}
 use Rattle.request_table.specs.Stands.{Waiting, told, waiting_in, request_row, natural, Numbered, AreNumbered, Stands}
 use Rattle.request_table.proofs.Lists.{each_and, map_same, map_reverse, map_map, reverse_front}
 use Rattle.request_table.proofs.Told.{with_more, with_mark, told_of, told_sent, told_cancelled, changed, unchanged}
@@ -90,6 +90,13 @@ unfolding waiting_in
 places_are p f j l st within =
     let row = row_told p f j l st within in
     ap (λ (o : Option LineRow). length (open_on o)) row.1 ∙ ap (λ (w : Waiting). length w.places) row.2 ∙ length-reverse (map (request_row j) (pending j l)) ∙ length-map (pending j l) (request_row j)
+
+-- those of a line's places that are pending are its pending requests
+pub open_is : (p : Plan) (f : Facts) (j : List Entry) (l : ℕ) → Stands p f j → l < line_room p → filter is_open (places_of f l) ≡ reverse (map (request_row j) (pending j l))
+unfolding waiting_in
+open_is p f j l st within =
+    let row = row_told p f j l st within in
+    ap (λ (o : Option LineRow). filter is_open (places_on o)) row.1 ∙ ap (λ (w : Waiting). w.places) row.2
 
 -- the number after the last, as the kind has it
 last_number : (single : Bool) (rs : List Request) → Numbered single rs → pos (number_after single (unwrap_or (option_map (λ r. natural r.number) (head rs)) 0)) ≡ cond single (pos 0) (pos (length rs + 1))

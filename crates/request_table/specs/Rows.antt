@@ -52,6 +52,14 @@ open_on None = []
 abbrev pub open_of : Facts → ℕ → List RequestRow
 open_of f l = open_on (slice_get f.lines l)
 
+abbrev pub places_on : Option LineRow → List RequestRow
+places_on (Some x) = x.places.items
+places_on None = []
+
+-- all that stand in the line's row: those that wait, and maybe one that was answered
+abbrev pub places_of : Facts → ℕ → List RequestRow
+places_of f l = places_on (slice_get f.lines l)
+
 -- the number of its last request, or 0
 abbrev pub last_of : Facts → ℕ → ℕ
 last_of f l = unwrap_or (option_and_then (λ x. x.last) (slice_get f.lines l)) 0

@@ -1,5 +1,5 @@
 //! How the table follows a journal. The functions do nothing: each is a law, for those who keep a table of a journal.
-ghost use Rattle.std.specs.Prelude.{◌≡◌, ◌+◌, ◌<◌, ◌≤◌, ◌/◌, ℕ, ℤ, List, ◌∷◌, Some, None, true, false, length, pos};
+ghost use Rattle.std.specs.Prelude.{◌≡◌, ◌+◌, ◌<◌, ◌≤◌, ◌/◌, ℕ, ℤ, List, ◌∷◌, Some, None, true, false, filter, length, map, pos, reverse};
 ghost use Rattle.std.specs.List.{find};
 ghost use Rattle.std.specs.Ordering.{int_eq};
 ghost use Rattle.exec_journal.specs.declared.attempt.Attempt.{Attempt};
@@ -17,8 +17,8 @@ ghost use Rattle.exec_journal.specs.Rules.{head, number_on};
 ghost use Rattle.run_plan.specs.Groups.{kind_of, capacity};
 ghost use Rattle.exec_journal.specs.Words.{sends, pending, wrote, order_of};
 ghost use Rattle.request_table.specs.Entries.{IsOfGroup, NumberedBy, IsNextSend, IsKnownBy, NoneIsPending, is_still, is_calm, finds_none};
-ghost use Rattle.request_table.specs.Rows.{Facts, line_room, last_of, next_number, open_of, single_of, capacity_of, matching_of, with_send, with_answer, with_reopened, with_unwritten, with_cancelled, with_ended};
-ghost use Rattle.request_table.specs.Stands.{Stands, Numbered, of_sent, of_pending};
+ghost use Rattle.request_table.specs.Rows.{Facts, is_open, line_room, last_of, next_number, open_of, places_of, single_of, capacity_of, matching_of, with_send, with_answer, with_reopened, with_unwritten, with_cancelled, with_ended};
+ghost use Rattle.request_table.specs.Stands.{Stands, Numbered, of_sent, of_pending, request_row};
 
 /// A Send: `send` is called.
 pub fn sends_are_kept()
@@ -117,4 +117,10 @@ pub fn answers_are_the_journals()
     ensures single { (p : Plan) (f : Facts) (j : List Entry) (l : ℕ) → Stands p f j
         → l < line_room p → Numbered true (sends j l) → length (pending j l) ≤ 1
         → matching_of f l (pos 0) ≡ of_pending j l (head (pending j l)) }
+{}
+
+/// Of what `places` gives, those that are pending are the line's pending requests, the earliest first.
+pub fn places_are_the_journals()
+    ensures { (p : Plan) (f : Facts) (j : List Entry) (l : ℕ) → Stands p f j → l < line_room p
+        → filter is_open (places_of f l) ≡ reverse (map (request_row j) (pending j l)) }
 {}

@@ -2,7 +2,7 @@
 #![tactic(auto)]
 
 ghost use Rattle.std.specs.Prelude.{◌≡◌, ◌+◌, ◌*◌, ◌<◌, ◌^◌, IfOk, [], option_copied, unwrap_or, find, filter, map, replicate, length, pos};
-ghost use Rattle.request_table.specs.Rows.{new_facts, is_single_group, singles_of, new_line, is_open, open_of, last_of, single_by, single_of, next_number, capacity_of, number_after, new_place, sent_row, with_send, was_sent_by, waits_at, open_matching, matching_by, row_matching, matching_of, with_pending, answered_row, reopened_row, with_answer, with_reopened, unwritten_row, with_unwritten, with_cancel, cancelled_row, with_cancelled, ended_row, with_ended};
+ghost use Rattle.request_table.specs.Rows.{new_facts, places_of, is_single_group, singles_of, new_line, is_open, open_of, last_of, single_by, single_of, next_number, capacity_of, number_after, new_place, sent_row, with_send, was_sent_by, waits_at, open_matching, matching_by, row_matching, matching_of, with_pending, answered_row, reopened_row, with_answer, with_reopened, unwritten_row, with_unwritten, with_cancel, cancelled_row, with_cancelled, ended_row, with_ended};
 ghost use Rattle.request_table.specs.Stands.{Stands};
 
 pub mod laws;
@@ -144,6 +144,14 @@ impl Requests {
         if let Ok(number) = u32::try_from(number) {
             self.lines[line as usize].cancelled(number);
         }
+    }
+
+    /// The line's requests, the earliest first: those that are pending, and maybe one that was answered.
+    pub fn places(&self, line: u32) -> &[RequestRow]
+        requires { line < length self.now.lines }
+        ensures { result.now ≡ places_of self.now line }
+    {
+        &self.lines[line as usize].places
     }
 
     /// Notes that the line has ended: nothing of it is pending.

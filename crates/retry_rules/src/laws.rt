@@ -1,11 +1,11 @@
 //! How the table follows a journal. The functions do nothing: each is a law, for those who keep a table of a journal.
-ghost use Rattle.std.specs.Prelude.{◌≡◌, ◌+◌, ◌<◌, ℕ, List, ◌∷◌, Some, false, length};
+ghost use Rattle.std.specs.Prelude.{◌≡◌, ◌+◌, ◌<◌, ◌≤◌, nat_le, ℕ, List, ◌∷◌, Some, false, length};
 ghost use Rattle.exec_journal.specs.declared.attempt.Attempt.{Attempt};
 ghost use Rattle.exec_journal.specs.declared.journal.Entry.{Entry};
 ghost use Rattle.run_plan.specs.declared.plan.Branch.{Branch};
 ghost use Rattle.run_plan.specs.declared.plan.Plan.{Plan};
 ghost use Rattle.exec_journal.specs.Attempts.{attempt, begun_in, ended};
-ghost use Rattle.exec_journal.specs.Facts.{BeginsNext, AttemptsInOrder};
+ghost use Rattle.exec_journal.specs.Facts.{BeginsNext, AttemptsInOrder, begun};
 ghost use Rattle.retry_rules.specs.Counts.{Facts, with_ends, ended_of, after_attempt};
 ghost use Rattle.retry_rules.specs.Entries.{EndsThese, EndsNone, IsGoing};
 ghost use Rattle.retry_rules.specs.Stands.{Stands};
@@ -39,4 +39,13 @@ pub fn answers_are_of_the_latest()
     ensures answer { (p : Plan) (f : Facts) (j : List Entry) (a : ℕ) (b : Branch) → Stands p f j
         → a < length p.actions → IsGoing j a b
         → after_attempt (ended_of f a b + 1) f.limit ≡ after_attempt (attempt j a b) p.limit }
+{}
+
+/// An attempt of an action of the plan has ended exactly where its number is at most the count of its branch; no attempt
+/// has ended that wasn't begun.
+pub fn counts_tell_ends()
+    ensures { (p : Plan) (f : Facts) (j : List Entry) (t : Attempt) → Stands p f j
+        → AttemptsInOrder p j → ((u : Attempt) → begun j u ≡ false → ended j u ≡ false)
+        → t.action < length p.actions → 1 ≤ t.number
+        → nat_le t.number (ended_of f t.action t.branch) ≡ ended j t }
 {}

@@ -7,7 +7,7 @@ ghost use Rattle.retry_rules.specs.Stands.{Stands};
 
 pub mod laws;
 
-use exec_journal::{Branch, Cause, Plan};
+use exec_journal::{Branch, Plan};
 use plain_values::NoMemory;
 use std::alloc::Global;
 use std::marker::Model;
@@ -62,7 +62,7 @@ impl Attempts {
 
     /// Counts one more attempt of the branch that has ended, whatever ended it, and says whether a next one may
     /// begin: the attempts that ended are the first so many, so this one's number is their count.
-    pub fn after_end(&mut self, action: u32, branch: Branch, _cause: Cause) -> After
+    pub fn after_end(&mut self, action: u32, branch: Branch) -> After
         requires known { action < length self.old.ended }
         requires unspent { ended_of self.old action branch < self.old.limit }
         ensures answer { result ≡ after_attempt
@@ -73,6 +73,14 @@ impl Attempts {
         let row = self.ended[action as usize].with_one_more(branch);
         self.ended[action as usize] = row;
         what_follows(row.of(branch), limit)
+    }
+
+    /// How many attempts of the branch have ended: those with the numbers from 1 up to it.
+    pub fn ended(&self, action: u32, branch: Branch) -> u32
+        requires { action < length self.now.ended }
+        ensures { result ≡ ended_of self.now action branch }
+    {
+        self.ended[action as usize].of(branch)
     }
 }
 

@@ -1,12 +1,12 @@
 -- What every core keeps to: the words of its laws.
-use Rattle.std.specs.Prelude.{◌≡◌, ℕ, ◌*◌, ◌+◌, ◌==◌, Bool, true, false, List, []}
+use Rattle.std.specs.Prelude.{◌≡◌, ℕ, ◌*◌, ◌+◌, ◌<◌, ◌==◌, Bool, true, false, List, [], length, filter, Option, Some, None, is_some}
 use Rattle.std.specs.List.{fold, list_any}
 use Rattle.exec_journal.specs.declared.call.Call.{Call}
 use Rattle.exec_journal.specs.declared.call.Call.TheVariants as call
 use Rattle.exec_journal.specs.declared.reply.Reply.{Reply}
 use Rattle.exec_journal.specs.declared.reply.Reply.TheVariants as reply
 use Rattle.run_rules.specs.Moves.{Past, History, Move, TakePlace, move_of}
-use Rattle.exec_journal.specs.Entries.{is_kept, takes}
+use Rattle.exec_journal.specs.Entries.{is_kept, takes, launch_in}
 use Rattle.seat_desk.specs.History.{entry, after, IsReply}
 
 -- the reply says want of memory
@@ -156,11 +156,27 @@ claimed_by fs _ = fs
 abbrev pub claimed : History → List (List ℕ)
 claimed own = fold (λ fs e. claimed_by fs (move_of e)) [] own
 
--- ---- lines are taken at most once
+-- ---- lines
+
+-- how many lines were ordered
+abbrev pub lines_in : History → ℕ
+lines_in h = length (filter (λ e. is_some (launch_in e.reply)) h)
 
 -- some tap lane was given the line
 abbrev pub is_taken : ℕ → History → Bool
 is_taken l h = list_any (λ e. takes l e.reply) h
+
+-- What holds where a lane is ordered so, with so many actions, the line whose child lies on the
+-- shelf for its berth, and so many lines before. A line is launched, and a lane is told to stop,
+-- where no child lies there; what is sent, cancelled or killed is of the line whose child does.
+abbrev pub OrderHolds : ℕ → Option ℕ → ℕ → Reply → Type 0
+OrderHolds actions child lines (reply.Launch l a b t) = (l ≡ lines) × (child ≡ None)
+OrderHolds actions child lines (reply.Send l n a b t) = (a < actions) × (child ≡ Some l)
+OrderHolds actions child lines (reply.Cancel l n) = child ≡ Some l
+OrderHolds actions child lines (reply.Gather l n a b t exit refused) = a < actions
+OrderHolds actions child lines (reply.Kill l y) = child ≡ Some l
+OrderHolds actions child lines reply.Stop = child ≡ None
+OrderHolds actions child lines _ = Unit {0}
 
 -- ---- a step of a core, whatever history it stands for
 module _ {S : Type 0} (stands : S → History → Type 0) where

@@ -1,19 +1,21 @@
 //! What a scheduling core is.
-ghost use Rattle.std.specs.Prelude.{◌≡◌, ◌≤◌, ◌<◌, ◌+◌, ◌/◌, ℕ, Bool, true, false, List, [], ◌∷◌, ◌++◌, Option, Some, None};
+ghost use Rattle.std.specs.Prelude.{◌≡◌, ◌≤◌, ◌<◌, ◌+◌, ◌/◌, ℕ, ℤ, Bool, true, false, List, [], ◌∷◌, ◌++◌, Option, Some, None};
 ghost use Rattle.seat_desk.specs.declared.entry.Entry.{Entry};
 ghost use Rattle.seat_desk.specs.History.{entry, calls_by, Owes};
 ghost use Rattle.run_plan.specs.declared.plan.Branch.{Branch};
+ghost use Rattle.run_plan.specs.declared.plan.Maker.{Maker};
 ghost use Rattle.exec_journal.specs.declared.call.Call.{Call};
 ghost use Rattle.exec_journal.specs.declared.call.Call.TheVariants as call;
 ghost use Rattle.exec_journal.specs.declared.call.Started.TheVariants as start;
 ghost use Rattle.exec_journal.specs.declared.call.CommitEnd.{CommitEnd};
 ghost use Rattle.exec_journal.specs.declared.call.Found.TheVariants as found;
+ghost use Rattle.exec_journal.specs.declared.call.Wanted.TheVariants as wanted;
 ghost use Rattle.exec_journal.specs.declared.reply.Reply.{Reply};
 ghost use Rattle.exec_journal.specs.declared.reply.Reply.TheVariants as reply;
-ghost use Rattle.exec_journal.specs.declared.reply.Why.{Why};
 ghost use Rattle.exec_journal.specs.Entries.{is_kept};
 ghost use Rattle.run_rules.specs.Shelf.{child_at, tap_at, place_at, Fresh, Away};
-ghost use Rattle.run_rules.specs.Laws.{InScript, Fits, tap_lane, hearing_of, may_hear, Hears, Over, tells_of, claimed, is_taken, StepReplies, StepStands};
+ghost use Rattle.run_rules.specs.Laws.{InScript, Fits, tap_lane, hearing_of, may_hear, Hears, Over, tells_of, claimed, says_file, lines_in, is_taken, OrderHolds, StepReplies, StepStands};
+ghost use Rattle.run_rules.specs.Duties.{Sends, Commits, Left, proxy_lane, duty_of, is_maker, may_do};
 
 use exec_journal::{Call, Reply};
 
@@ -21,8 +23,8 @@ use exec_journal::{Call, Reply};
 /// history of the calls that were kept.
 ///
 /// Lane `2w` is the proxy lane of the berth `w`, and lane `2w + 1` its tap lane. A call that isn't in its lane's
-/// script is answered `Astray`. A law that needs what holds of every history that came about asks that the history be
-/// legal; the others hold of any list of entries.
+/// script is answered `Astray`. A law that needs what holds of every history that came about asks
+/// that the history be legal; the others hold of any list of entries.
 pub trait Rules: Sized + Drop {
     /// What a core goes by. It never changes, and no value of it is made at run time.
     type Plan;
@@ -59,6 +61,9 @@ pub trait Rules: Sized + Drop {
 
     // The paths of this action's outputs.
     ghost outputs: { Self.Plan → ℕ → List (List ℕ) };
+
+    // The made inputs of this action.
+    ghost makers: { Self.Plan → ℕ → List Maker };
 
     /// Answers the call of this lane. Where the reply is to be a file, it may say want of memory instead.
     fn step(&mut self, lane: u32, call: &Call) -> Reply
@@ -102,6 +107,10 @@ pub trait Rules: Sized + Drop {
     ghost replies: { (q : Self.Plan) (h : List (Entry Call Reply)) (lane : ℕ) (c : Call)
         → Fits c (rule q h lane c) };
 
+    // A call in a script is one of a lane of the plan.
+    ghost lanes_are_known: { (q : Self.Plan) (h : List (Entry Call Reply)) (lane : ℕ) (c : Call)
+        → InScript (rule q) h lane c → lane / 2 < seats q };
+
     // It stays in the script after entries of other lanes.
     ghost script_stays: { (q : Self.Plan) (h more : List (Entry Call Reply)) (lane : ℕ) (c : Call)
         → calls_by lane more ≡ []
@@ -117,6 +126,24 @@ pub trait Rules: Sized + Drop {
         → w < seats q → (hearing_of (calls_by (tap_lane w) h) ≡ Over → ⊥)
         → paid q h (tap_lane w) call.Halt };
 
+    // Which calls are in a proxy lane's script, its own entries say alone.
+    ghost proxies_do: { (q : Self.Plan) (h : List (Entry Call Reply)) (w : ℕ) (c : Call)
+        → w < seats q
+        → may_do (outputs q) (makers q) (remote q w)
+        (duty_of (calls_by (proxy_lane w) h)) c ≡ true
+        → InScript (rule q) h (proxy_lane w) c };
+
+    // Its Halt is paid for, until it was told to stop or has halted.
+    ghost proxies_may_halt: { (q : Self.Plan) (h : List (Entry Call Reply)) (w : ℕ)
+        → w < seats q → (duty_of (calls_by (proxy_lane w) h) ≡ Left → ⊥)
+        → paid q h (proxy_lane w) call.Halt };
+
+    // So is the Committed of an action's branch that it was granted files of.
+    ghost commits_are_paid: { (q : Self.Plan) (h : List (Entry Call Reply)) (w a : ℕ) (b : Branch)
+        (fs : List (List ℕ)) (how : CommitEnd)
+        → w < seats q → duty_of (calls_by (proxy_lane w) h) ≡ Commits a b fs
+        → paid q h (proxy_lane w) (call.Committed a b how) };
+
     // An Answer and an Ended come from the tap lane that hears the line.
     ghost only_hears: { (q : Self.Plan) (h : List (Entry Call Reply)) (lane : ℕ) (c : Call) (l : ℕ)
         → tells_of l c ≡ true → InScript (rule q) h lane c
@@ -130,9 +157,22 @@ pub trait Rules: Sized + Drop {
         → legal q (h ++ e ∷ [])
         → legal q h × (e.reply ≡ rule q h e.lane e.call) × (is_kept e.reply ≡ true) };
 
-    // A line is launched on a berth of the plan.
-    ghost launches_on: { (q : Self.Plan) (h : List (Entry Call Reply)) (lane l : ℕ)
-        → legal q h → InScript (rule q) h lane (call.Launched l start.Done) → lane / 2 < seats q };
+    // What an order says holds: which line it names, which action, and what lies on the shelf then.
+    ghost orders_hold: { (q : Self.Plan) (h : List (Entry Call Reply)) (lane : ℕ)
+        → legal q h
+        → OrderHolds (actions q) (child_at (lane / 2) h) (lines_in h) (rule q h lane call.Ask) };
+
+    // The made inputs of a request that was ordered are there when its lane looks at them.
+    ghost inputs_are_there: { (q : Self.Plan) (h : List (Entry Call Reply)) (w l : ℕ) (n : ℤ)
+        (a c o : ℕ)
+        → legal q h → duty_of (calls_by (proxy_lane w) h) ≡ Sends l n a
+        → is_maker (makers q a) c o ≡ true
+        → says_file (rule q h (proxy_lane w) (call.Look (wanted.Made c o))) ≡ true };
+
+    // Nothing lies on the shelf for the berth where a line is put there.
+    ghost lines_find_room: { (q : Self.Plan) (h : List (Entry Call Reply)) (lane l : ℕ)
+        → legal q h → InScript (rule q) h lane (call.Launched l start.Done)
+        → (child_at (lane / 2) h ≡ None) × (tap_at (lane / 2) h ≡ None) };
 
     // A line is given to a tap lane while its tap lies on the shelf for its berth.
     ghost takes_there: { (q : Self.Plan) (h : List (Entry Call Reply)) (lane l : ℕ)
@@ -142,17 +182,14 @@ pub trait Rules: Sized + Drop {
     ghost takes_once: { (q : Self.Plan) (h : List (Entry Call Reply)) (lane l : ℕ)
         → legal q h → rule q h lane call.Take ≡ reply.Line l → is_taken l h ≡ false };
 
-    // A Kill names the line whose child lies on the shelf for the lane's berth.
-    ghost kills_there: { (q : Self.Plan) (h : List (Entry Call Reply)) (lane l : ℕ) (y : Why)
-        → legal q h → rule q h lane call.Ask ≡ reply.Kill l y → child_at (lane / 2) h ≡ Some l };
-
     // Files are granted once at most for each action, and only for one of the plan.
     ghost grants_once: { (q : Self.Plan) (h : List (Entry Call Reply)) (lane a : ℕ) (b : Branch)
         (t : ℕ) (fs : List (List ℕ))
         → legal q h → rule q h lane (call.Claim a b t (found.Files fs)) ≡ reply.Granted
         → (a < actions q) × (place_at a h ≡ Fresh) };
 
-    // A Committed comes from the lane that was granted the action's files, and the files are those of its last grant.
+    // A Committed comes from the lane that was granted the action's files, and the files are those
+    // of its last grant.
     ghost commits_own: { (q : Self.Plan) (h : List (Entry Call Reply)) (lane a : ℕ) (b : Branch)
         (how : CommitEnd)
         → legal q h → InScript (rule q) h lane (call.Committed a b how)

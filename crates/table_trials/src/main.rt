@@ -7,7 +7,7 @@ ghost use Rattle.run_plan.specs.Sound.{Sound};
 
 use action_list::{plan, read_list};
 use cancel_rules::Cancels;
-use exec_journal::{Branch, Cause, Plan};
+use exec_journal::{Branch, Plan};
 use plain_values::NoMemory;
 use race_core::Race;
 use ready_order::Ready;
@@ -73,7 +73,7 @@ fn tables(alloc: Global, plan: &Plan) -> Result<String, NoMemory>
     Ok(format!(in alloc;
         "winner {:?}\nafter the first attempt {:?}\nearliest {:?}",
         race.winner(0),
-        attempts.after_end(0, Branch::Local, Cause::Died),
+        attempts.after_end(0, Branch::Local),
         ready.earliest(0)
     )?)
 }

@@ -6,6 +6,7 @@
 //! | `number N` | its bytes, and their count by `varint_length` |
 //! | `varint BYTES`, `field BYTES` | what stands at the front |
 //! | `request BYTES`, `response BYTES`, `job BYTES`, `result BYTES` | the written form of the message, or its fault |
+//! | `request_length BYTES`, `parts BYTES` | a request's length before it is written; a response's parts |
 //! | `frames PIECE PIECE ..` | what comes of each piece that is fed: frames, `-` where none is whole, the fault |
 //! | `many COUNT` | how many frames come of one piece with that many |
 //! | `response_line TEXT`, `response_bytes BYTES`, `request_line TEXT` | the written line of the message, or its fault |
@@ -51,7 +52,9 @@ fn play(alloc: Global, line: &str) -> Result<String, NoMemory> {
         "varint" => numbers::varint(alloc, rest),
         "field" => numbers::field(alloc, rest),
         "request" => messages::request(alloc, rest),
+        "request_length" => messages::request_length(alloc, rest),
         "response" => messages::response(alloc, rest),
+        "parts" => messages::parts(alloc, rest),
         "job" => messages::job(alloc, rest),
         "result" => messages::result(alloc, rest),
         "frames" => framing::frames(alloc, rest),

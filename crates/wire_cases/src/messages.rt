@@ -4,7 +4,8 @@ use plain_values::NoMemory;
 use remote_messages::{decode_job, decode_result, encode_job, encode_result, job_length};
 use std::alloc::Global;
 use wire_messages::{
-    MessageFault, decode_request, decode_response, encode_request, encode_response,
+    Message, MessageFault, WorkResponse, decode_request, decode_response, encode_request,
+    encode_response,
 };
 
 fn written(alloc: Global, bytes: &[u8]) -> Result<String, NoMemory> {
@@ -23,6 +24,35 @@ pub fn request(alloc: Global, digits: &str) -> Result<String, NoMemory> {
         Ok(request) => written(alloc, encode_request(alloc, &request)?.as_slice()),
         Err(fault) => refused(alloc, fault),
     }
+}
+
+/// A request's length before it is written.
+pub fn request_length(alloc: Global, digits: &str) -> Result<String, NoMemory> {
+    match decode_request(alloc, bytes_of(alloc, digits).as_slice()) {
+        Ok(request) => Ok(format!(in alloc; "{}", request.encoded_len())?),
+        Err(fault) => refused(alloc, fault),
+    }
+}
+
+/// The parts of a response.
+pub fn parts(alloc: Global, digits: &str) -> Result<String, NoMemory> {
+    match decode_response(alloc, bytes_of(alloc, digits).as_slice()) {
+        Ok(response) => parts_of(alloc, &response),
+        Err(fault) => refused(alloc, fault),
+    }
+}
+
+fn parts_of(alloc: Global, response: &WorkResponse) -> Result<String, NoMemory> {
+    let WorkResponse {
+        exit_code,
+        output,
+        request_id,
+        was_cancelled,
+    } = response;
+    let output = output.as_str();
+    Ok(format!(in alloc;
+        "exit {exit_code} output {output:?} number {request_id} cancelled {was_cancelled}"
+    )?)
 }
 
 pub fn response(alloc: Global, digits: &str) -> Result<String, NoMemory> {

@@ -133,7 +133,7 @@ module _ (p : Plan) (f : Facts) (j : List Entry) (lane l : ℕ) (a : Answer) (x 
       by (inl h) = end_same answer_entry j u h (granted_same answer_entry j u.action refl)
       by (inr h) = ap (λ (o : Option Cause). or_else (end_of j u) (cond (granted (answer_entry ∷ j) u.action) None o)) h ∙ or_nothing (granted (answer_entry ∷ j) u.action) (end_of j u)
 
-  answer_actions : SameActions j (answer_entry ∷ j)
+  pub answer_actions : SameActions j (answer_entry ∷ j)
   unfolding ended
   answer_actions = same_actions answer_entry j (λ u. ap is_some (end_now u)) refl (λ c b. refl)
 

@@ -78,7 +78,7 @@ module _ (p : Plan) (f : Facts) (j : List Entry) (lane : ℕ) (t : Attempt) (s :
   unfolding fault_of line_of has_ended answered wrote line_cause
   over_same u = ap (λ (o : Option Cause). or_else (fault_of j u) o) (lost_same u (same_attempt t u) refl)
 
-  launch_actions : SameActions j (launch_entry ∷ j)
+  pub launch_actions : SameActions j (launch_entry ∷ j)
   launch_actions = same_actions launch_entry j (λ u. ended_same launch_entry j u (over_same u) (granted_same launch_entry j u.action refl)) refl (λ a b. refl)
 
   -- ---- what is bound

@@ -71,7 +71,7 @@ module _ (p : Plan) (f : Facts) (j : List Entry) (lane k : ℕ) (s : Stands p f 
   abbrev pub start_entry : Entry
   start_entry = record { lane = lane; call = call.Launched k start.Done; reply = reply.Noted }
 
-  start_actions : SameActions j (start_entry ∷ j)
+  pub start_actions : SameActions j (start_entry ∷ j)
   unfolding has_ended answered wrote line_cause
   start_actions =
       same_actions start_entry j
@@ -90,7 +90,7 @@ module _ (p : Plan) (f : Facts) (j : List Entry) (lane k : ℕ) (s : Stands p f 
   abbrev pub kill_entry : Entry
   kill_entry = record { lane = lane; call = call.Killed k; reply = reply.Noted }
 
-  kill_actions : SameActions j (kill_entry ∷ j)
+  pub kill_actions : SameActions j (kill_entry ∷ j)
   unfolding has_ended answered wrote line_cause
   kill_actions =
       same_actions kill_entry j
@@ -176,7 +176,7 @@ module _ (p : Plan) (f : Facts) (j : List Entry) (lane k : ℕ) (s : Stands p f 
     abbrev pub breach_entry : Entry
     breach_entry = record { lane = lane; call = call.Answer k a; reply = reply.Breach y }
 
-    breach_actions : SameActions j (breach_entry ∷ j)
+    pub breach_actions : SameActions j (breach_entry ∷ j)
     unfolding has_ended answered wrote line_cause
     breach_actions =
         same_actions breach_entry j

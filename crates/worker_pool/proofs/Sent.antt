@@ -33,7 +33,7 @@ unsent_write t (call.Wrote k n how) None h = refl
 unsent_write t (call.Wrote k n how) (Some q) h = rw h refl
 unsent_write t _ o h = refl
 
-unwritten : (j : List Entry) (t : Attempt) → was_sent j t ≡ false → wrote j t ≡ None
+pub unwritten : (j : List Entry) (t : Attempt) → was_sent j t ≡ false → wrote j t ≡ None
 unfolding wrote was_sent
 unwritten [] t h = refl
 unwritten (e ∷ j) t h =
@@ -81,7 +81,7 @@ module _ (p : Plan) (f : Facts) (j : List Entry) (lane l : ℕ) (n : ℤ) (t : A
   unfolding fault_of line_of has_ended answered wrote line_cause
   over_same u = ap (λ (o : Option Cause). or_else (fault_of j u) o) (lost_same u (same_attempt t u) refl)
 
-  send_actions : SameActions j (send_entry ∷ j)
+  pub send_actions : SameActions j (send_entry ∷ j)
   send_actions = same_actions send_entry j (λ u. ended_same send_entry j u (over_same u) (granted_same send_entry j u.action refl)) refl (λ a b. refl)
 
   -- ---- what stays bound

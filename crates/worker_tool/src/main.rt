@@ -2,7 +2,10 @@
 #![tactic(auto)]
 
 mod hints;
+mod names;
 
+use action_list::ListFault;
+use outside::Floor;
 use outside_real::{RealFloor, RealSink};
 use std::alloc::Global;
 use std::env::Env;
@@ -19,10 +22,12 @@ fn main(rt: HostRuntime) -> ExitCode {
     };
     let floor = RealFloor::new(rt, alloc);
     let mut out = RealSink::new(rt);
-    let ended = run_build(&rt, alloc, &words, floor, &mut out);
-    let last_error = ended.floor.last_error();
+    let mut ended = run_build(&rt, alloc, &words, floor, &mut out);
     if let Some(fault) = &ended.fault {
-        tell(&rt, alloc, fault, last_error);
+        tell(&rt, alloc, fault, ended.floor.last_error());
+        if let RunFault::List(fault) = fault {
+            name_action(&rt, alloc, &words, &mut ended.floor, fault);
+        }
     }
     ExitCode::from(ended.status)
 }
@@ -53,5 +58,18 @@ fn tell(rt: &impl Eprint, alloc: Global, fault: &RunFault, last_error: Option<&i
     }
     if let Ok(lines) = hints::lines(alloc, fault, last_error) {
         let _ = rt.eprint(lines.as_str());
+    }
+}
+
+// Prints which action of the list is meant, if it can be read again.
+fn name_action(
+    rt: &impl Eprint,
+    alloc: Global,
+    words: &[String],
+    floor: &mut impl Floor,
+    fault: &ListFault,
+) {
+    if let Ok(line) = names::line(alloc, words, floor, fault) {
+        let _ = rt.eprint(line.as_str());
     }
 }

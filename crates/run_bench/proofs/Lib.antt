@@ -1,0 +1,4 @@
+pub mod Saying
+pub mod Filling
+pub mod Turns
+pub mod Beginning

@@ -1,0 +1,47 @@
+//! Lists of slots, in each of which something lies or nothing does.
+ghost use Rattle.std.specs.Prelude.{◌≡◌, ◌<◌, IfOk, Some, None, map, set, replicate};
+ghost use Rattle.run_bench.specs.Slots.{lies_in};
+
+use plain_values::NoMemory;
+use std::alloc::Global;
+use std::collections::VecDeque;
+
+/// So many slots, in which nothing lies.
+pub(crate) fn empty_slots<X: Drop>(alloc: Global, count: usize) -> Result<Vec<Option<X>>, NoMemory>
+    ensures { IfOk result (λ v. v.items ≡ replicate count None) }
+{
+    let mut slots = Vec::with_capacity(alloc, count)?;
+    for _slot in 0..count {
+        slots.push_reserved(None);
+    }
+    Ok(slots)
+}
+
+/// A slot for each of these things, in their order, in which it lies.
+pub(crate) fn full_slots<X: Drop>(alloc: Global, things: Vec<X>) -> Result<Vec<Option<X>>, NoMemory>
+    ensures { IfOk result (λ v. v.items ≡ map Some things.items) }
+{
+    let mut slots = Vec::with_capacity(alloc, things.len())?;
+    let mut rest = VecDeque::from_vec(things);
+    while let Some(thing) = rest.pop_front() {
+        slots.push_reserved(Some(thing));
+    }
+    Ok(slots)
+}
+
+/// Takes what lies in the slot.
+pub(crate) fn take_at<X: Drop>(slots: &mut Vec<Option<X>>, index: usize) -> Option<X>
+    ensures taken { result ≡ lies_in slots.old.items index }
+    ensures left { slots.new.items ≡ set slots.old.items index None }
+{
+    slots.get_mut(index)?.take()
+}
+
+/// Puts it into the slot, if there is one.
+pub(crate) fn put_at<X: Drop>(slots: &mut Vec<Option<X>>, index: usize, thing: X)
+    ensures { slots.new.items ≡ set slots.old.items index (Some thing) }
+{
+    if index < slots.len() {
+        slots[index] = Some(thing);
+    }
+}
