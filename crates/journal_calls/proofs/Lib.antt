@@ -11,3 +11,4 @@ pub mod Recent
 pub mod Orders
 pub mod Unsent
 pub mod LostWith
+pub mod rows

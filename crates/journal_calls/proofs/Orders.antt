@@ -22,15 +22,23 @@ use Rattle.journal_laws.proofs.Places as pl
 use Rattle.journal_calls.specs.Moments.{IsSendOf, IsLaunchOf}
 use Rattle.journal_calls.proofs.Calls as ca
 
-bound_so : (p : Plan) (j : List Entry) (l n : ℕ) (t : Attempt) → launch_of j l ≡ Some (n, t) → wanted p j t.action t.branch ≡ true → was_sent j t ≡ false → ended j t ≡ false → bound p j l ≡ Some t
+bound_so : (p : Plan) (j : List Entry) (l n : ℕ) (t : Attempt) → launch_of j l ≡ Some (n, t)
+    → wanted p j t.action t.branch ≡ true → was_sent j t ≡ false → ended j t ≡ false
+    → bound p j l ≡ Some t
 unfolding bound
 bound_so p j l n t at wish unsent going = rw (at, wish, unsent, going) refl
 
 -- ---- a Send
 
-pub is_send : (p : Plan) (j : List Entry) (lane l : ℕ) (n : ℤ) (t : Attempt) → Sound p → Legal p j → sc.script p j lane call.Ask ≡ true → reply.Send l n t.action t.branch t.number ≡ r.rule p j lane call.Ask → IsSendOf p j (lane / 2) l t
+pub is_send : (p : Plan) (j : List Entry) (lane l : ℕ) (n : ℤ) (t : Attempt) → Sound p → Legal p j
+    → sc.script p j lane call.Ask ≡ true → reply.Send l n t.action t.branch t.number
+    ≡ r.rule p j lane call.Ask → IsSendOf p j (lane / 2) l t
 is_send p j lane l n t sound legal may is =
-    let e : Entry = record { lane = lane; call = call.Ask; reply = reply.Send l n t.action t.branch t.number } in
+    let e : Entry = record {
+      lane = lane;
+      call = call.Ask;
+      reply = reply.Send l n t.action t.branch t.number;
+    } in
     let x : Request = record { line = l; number = n; attempt = t } in
     let next : Legal p (e ∷ j) = (legal, record { scripted = may; replied = is; kept = refl }) in
     let new = of.fresh_send p e j x next refl in
@@ -39,7 +47,8 @@ is_send p j lane l n t sound legal may is =
     record {
       unsent = new.unsent;
       group = new.group;
-      latest = λ h. (let b = bound_is p j l t h in (g.going_is p j t legal (launched_begun j l b.lane t b.launched) b.going).latest);
+      latest = λ h. (let b = bound_is p j l t h in (g.going_is p j t legal
+          (launched_begun j l b.lane t b.launched) b.going).latest);
       fresh = λ none. by none wish (begin_in_order p (e ∷ j) next).1;
       place = place.place;
       room = place.room;
@@ -47,15 +56,23 @@ is_send p j lane l n t sound legal may is =
       within = ca.send_within p e j x next refl;
     }
   where
-    by : bound p j l ≡ None → wanted p j t.action t.branch ≡ true → BeginsNext j t ⊎ ContinuesOn j l t → BeginsNext j t
+    by : bound p j l ≡ None → wanted p j t.action t.branch ≡ true
+        → BeginsNext j t ⊎ ContinuesOn j l t → BeginsNext j t
     by none wish (inl next) = next
-    by none wish (inr on) = absurd (let some = bound_so p j l on.launched.0 t on.launched.1 wish on.unsent on.going in let both : None ≡ Some t = sym none ∙ some in cc)
+    by none wish (inr on) = absurd (let some = bound_so p j l on.launched.0 t on.launched.1 wish
+        on.unsent on.going in let both : None ≡ Some t = sym none ∙ some in cc)
 
 -- ---- a Launch
 
-pub is_launch : (p : Plan) (j : List Entry) (lane l : ℕ) (t : Attempt) → Sound p → Legal p j → sc.script p j lane call.Ask ≡ true → reply.Launch l t.action t.branch t.number ≡ r.rule p j lane call.Ask → IsLaunchOf p j (lane / 2) t
+pub is_launch : (p : Plan) (j : List Entry) (lane l : ℕ) (t : Attempt) → Sound p → Legal p j
+    → sc.script p j lane call.Ask ≡ true → reply.Launch l t.action t.branch t.number
+    ≡ r.rule p j lane call.Ask → IsLaunchOf p j (lane / 2) t
 is_launch p j lane l t sound legal may is =
-    let e : Entry = record { lane = lane; call = call.Ask; reply = reply.Launch l t.action t.branch t.number } in
+    let e : Entry = record {
+      lane = lane;
+      call = call.Ask;
+      reply = reply.Launch l t.action t.branch t.number;
+    } in
     let next : Legal p (e ∷ j) = (legal, record { scripted = may; replied = is; kept = refl }) in
     let new = pl.fresh_launch p e j (l, t) next sound.least refl in
     record { seated = new.seated; room = new.room; within = ca.launch_within p e j l t next refl }

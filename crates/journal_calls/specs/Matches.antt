@@ -13,7 +13,8 @@ use Rattle.exec_journal.specs.Entries.{attempt_of, send_in}
 use Rattle.exec_journal.specs.Words.{wrote, granted}
 use Rattle.exec_journal.specs.Rules.{gathered}
 
--- an answer that was matched: its line and number, its attempt, its exit code, and whether it is a refusal
+-- an answer that was matched: its line and number, its attempt, its exit code, and whether it is a
+-- refusal
 pub record Matched : Type 0 where
   pub line : ℕ
   pub number : ℤ
@@ -23,7 +24,13 @@ pub record Matched : Type 0 where
 
 abbrev pub matched_by : Call → Reply → Option Matched
 matched_by (call.Answer l x) (reply.Matched a b t) =
-    Some (record { line = l; number = x.number; attempt = attempt_of a b t; exit = x.exit; refused = nat_lt 0 (length x.refusal) })
+    Some (record {
+      line = l;
+      number = x.number;
+      attempt = attempt_of a b t;
+      exit = x.exit;
+      refused = nat_lt 0 (length x.refusal);
+    })
 matched_by _ _ = None
 
 abbrev pub matched_at : ℕ → Entry → Option Matched
@@ -51,5 +58,6 @@ abbrev pub gather_of : Matched → Reply
 gather_of m =
     reply.Gather m.line m.number m.attempt.action m.attempt.branch m.attempt.number m.exit m.refused
 
+-- so is it not yet
 abbrev pub waits_yet : List Entry → Matched → Bool
 waits_yet j m = not (is_spent j m.attempt)

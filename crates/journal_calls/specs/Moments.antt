@@ -26,9 +26,11 @@ pub record IsBegun (p : Plan) (j : List Entry) (t : Attempt) : Type 0 where
   pub place : slice_get p.actions t.action ≡ Some action
   pub used : is_some (group_of action t.branch) ≡ true
 
--- an entry with which this attempt ends, unless it has ended or its action has a grant, and nothing else does
+-- an entry with which this attempt ends, unless it has ended or its action has a grant, and nothing
+-- else does
 pub record EndsJust (p : Plan) (j : List Entry) (e : Entry) (t : Attempt) : Type 0 where
-  pub this : (u : Attempt) → ended (e ∷ j) u ≡ (ended j u || (same_attempt u t && not (granted j t.action)))
+  pub this : (u : Attempt)
+      → ended (e ∷ j) u ≡ (ended j u || (same_attempt u t && not (granted j t.action)))
   pub none_begins : (a : ℕ) (b : Branch) → attempt (e ∷ j) a b ≡ attempt j a b
   pub grant : (a : ℕ) → grant_of (e ∷ j) a ≡ grant_of j a
   pub commit : (a : ℕ) (b : Branch) → commit_of (e ∷ j) a b ≡ commit_of j a b
@@ -38,17 +40,21 @@ pub record EndsJust (p : Plan) (j : List Entry) (e : Entry) (t : Attempt) : Type
 
 -- the request of the line whose Wrote is FeedFault
 abbrev pub fed_on : List Entry → ℕ → Option Attempt
-fed_on j l = option_map (λ x. x.attempt) (find (λ x. says_feed_fault (wrote j x.attempt)) (sends j l))
+fed_on j l =
+    option_map (λ x. x.attempt) (find (λ x. says_feed_fault (wrote j x.attempt)) (sends j l))
 
 -- it is pending on the line, its feed failed there, or it is bound to it
 abbrev pub stands_on : Plan → List Entry → ℕ → Attempt → Bool
-stands_on p j l t = list_any (λ x. same_attempt x.attempt t) (pending j l) || (is_for t (fed_on j l) || is_for t (bound p j l))
+stands_on p j l t =
+    list_any (λ x. same_attempt x.attempt t) (pending j l)
+    || (is_for t (fed_on j l) || is_for t (bound p j l))
 
 -- it hasn't ended, and its action has no grant
 abbrev pub is_open_yet : List Entry → Attempt → Bool
 is_open_yet j t = not (ended j t) && not (granted j t.action)
 
--- those that stand on the line: the one whose feed failed after its answer, the one that is bound, and what is pending
+-- those that stand on the line: the one that was answered and whose feed failed, the one that is
+-- bound, and what is pending
 abbrev pub standing_on : Plan → List Entry → ℕ → List Attempt
 standing_on p j l =
     filter (answered j) (and_more (fed_on j l) [])
@@ -87,8 +93,8 @@ pub record IsSeated (p : Plan) (j : List Entry) (l : ℕ) : Type 0 where
 abbrev pub BranchOf : Plan → Attempt → Option ℕ → Type 0
 BranchOf p t g = option_and_then (λ x. group_of x t.branch) (slice_get p.actions t.action) ≡ g
 
--- a Send of the attempt to the line of the berth w: what is bound there is the latest of its branch, and what isn't begins next;
--- and there is room for it
+-- a Send of the attempt to the line of the berth w: what is bound there is the latest of its
+-- branch, and what isn't begins next; and there is room for it
 pub record IsSendOf (p : Plan) (j : List Entry) (w l : ℕ) (t : Attempt) : Type 0 where
   pub unsent : was_sent j t ≡ false
   pub group : BranchOf p t (berth_group p w)

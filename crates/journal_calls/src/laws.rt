@@ -1,5 +1,5 @@
-//! What holds where a call comes: of the lines, requests and attempts that it is about. The functions
-//! do nothing: each is a law, for a core that answers such calls.
+//! What holds where a call comes: of the lines, requests and attempts that it is about. The
+//! functions do nothing: each is a law, for a core that answers such calls.
 ghost use Rattle.std.specs.Prelude.{◌≡◌, ◌⊎◌, ◌+◌, ◌/◌, ◌<◌, ◌≤◌, ◌==◌, ◌&&◌, ◌||◌, not, ℕ, ℤ, true, false, List, ◌∷◌, Some, None, is_some, length, filter, option_map};
 ghost use Rattle.std.specs.List.{list_any};
 ghost use Rattle.run_plan.specs.declared.plan.Branch.{Branch};
@@ -13,6 +13,7 @@ ghost use Rattle.exec_journal.specs.declared.call.Call.{Call};
 ghost use Rattle.exec_journal.specs.declared.call.CommitEnd.{CommitEnd};
 ghost use Rattle.exec_journal.specs.declared.call.Found.{Found};
 ghost use Rattle.exec_journal.specs.declared.call.HowEnded.{HowEnded};
+ghost use Rattle.exec_journal.specs.declared.call.Started.TheVariants as start;
 ghost use Rattle.exec_journal.specs.declared.call.Started.{Started};
 ghost use Rattle.exec_journal.specs.declared.call.Written.TheVariants as write;
 ghost use Rattle.exec_journal.specs.declared.call.Written.{Written};
@@ -103,8 +104,8 @@ pub fn named_actions_are_planned()
         → Legal p j → script p j lane (call.Committed a b how) ≡ true → a < length p.actions }
 {}
 
-/// A Send has room on its line; it begins the next attempt of its branch, or sends the latest, which
-/// is bound to that line. A Launch has room for its line.
+/// A Send has room on its line; it begins the next attempt of its branch, or sends the latest,
+/// which is bound to that line. A Launch has room for its line.
 pub fn orders_have_room()
     ensures sends { (p : Plan) (j : List Entry) (lane l : ℕ) (n : ℤ) (t : Attempt) → Sound p
         → Legal p j → script p j lane call.Ask ≡ true
@@ -177,9 +178,11 @@ pub fn lines_end_these()
         → was_sent j t ≡ false → granted j t.action ≡ false → bound p j l ≡ Some t }
 {}
 
-/// What ends, grants and commits nothing: a Wrote of a Cancel, one with Done, one whose feed failed
-/// on a line that hasn't ended, and a Claim that is lost.
+/// What ends, grants and commits nothing: a Launched or a Wrote with Done, a Wrote of a Cancel, one
+/// whose feed failed on a line that hasn't ended, and a Claim that is lost.
 pub fn reports_change_nothing()
+    ensures started { (p : Plan) (e : Entry) (j : List Entry) (l : ℕ) → Legal p (e ∷ j)
+        → e.call ≡ call.Launched l start.Done → SameActions j (e ∷ j) }
     ensures written { (p : Plan) (e : Entry) (j : List Entry) (l : ℕ) (n : ℤ) (how : Written)
         → Legal p (e ∷ j) → e.call ≡ call.Wrote l n how → (how ≡ write.Done)
         ⊎ (order_of j e.lane ≡ None) → SameActions j (e ∷ j) }

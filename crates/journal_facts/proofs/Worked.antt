@@ -42,7 +42,14 @@ twice_facts =
     let f7 : Facts = with_launch f6 0 in
     f7
 
-twice_stands : (slice_get twice_facts.lines 0 ≡ line_in twice.plan twice.twice 0) × (slice_get twice_facts.lines 1 ≡ line_in twice.plan twice.twice 1) × (slice_get twice_facts.lines 2 ≡ line_in twice.plan twice.twice 2) × (slice_get twice_facts.seats 0 ≡ seat_in twice.plan twice.twice 0) × (slice_get twice_facts.seats 1 ≡ seat_in twice.plan twice.twice 1) × (live_of twice_facts 0 ≡ live_in twice.twice 0) × (free_of twice_facts 0 ≡ s.free_places twice.plan twice.twice kind.Single 0) × (free_of twice_facts 1 ≡ s.free_places twice.plan twice.twice kind.Single 1)
+twice_stands : (slice_get twice_facts.lines 0 ≡ line_in twice.plan twice.twice 0)
+    × (slice_get twice_facts.lines 1 ≡ line_in twice.plan twice.twice 1)
+    × (slice_get twice_facts.lines 2 ≡ line_in twice.plan twice.twice 2)
+    × (slice_get twice_facts.seats 0 ≡ seat_in twice.plan twice.twice 0)
+    × (slice_get twice_facts.seats 1 ≡ seat_in twice.plan twice.twice 1)
+    × (live_of twice_facts 0 ≡ live_in twice.twice 0) ×
+    (free_of twice_facts 0 ≡ s.free_places twice.plan twice.twice kind.Single 0)
+    × (free_of twice_facts 1 ≡ s.free_places twice.plan twice.twice kind.Single 1)
 unfolding twice_facts twice.plan twice.twice twice.twice_6 twice.twice_7 twice.twice_10 entry answer numbered with_file said_cancelled worker dynamic plan_of single cancelling multi remote line_in seat_in w.last_work w.stopped w.has_halted w.halted w.line_count w.started w.failed w.has_ended w.was_killed w.kill_ordered w.was_taken w.launch_of w.last_line w.lines_of w.sends w.was_sent w.ever_sent w.answered w.wrote w.is_pending w.pending w.has_cancel w.line_cause w.live w.grant_of w.granted w.commit_of w.match_of a.attempt a.line_of a.fault_of a.end_of a.ended a.dropped s.standings s.settled s.all_settled s.ready s.wanted s.bound s.queued s.earliest s.free_places r.gathered
 twice_stands = (refl, refl, refl, refl, refl, refl, refl, refl)
 
@@ -66,11 +73,23 @@ dies_facts =
     let f12 : Facts = change f11 1 one_fewer in
     f12
 
-dies_stands : (slice_get dies_facts.lines 0 ≡ line_in dies.plan dies.dies_twice 0) × (slice_get dies_facts.lines 1 ≡ line_in dies.plan dies.dies_twice 1) × (slice_get dies_facts.lines 2 ≡ line_in dies.plan dies.dies_twice 2) × (slice_get dies_facts.lines 3 ≡ line_in dies.plan dies.dies_twice 3) × (slice_get dies_facts.seats 0 ≡ seat_in dies.plan dies.dies_twice 0) × (slice_get dies_facts.seats 1 ≡ seat_in dies.plan dies.dies_twice 1) × (slice_get dies_facts.seats 2 ≡ seat_in dies.plan dies.dies_twice 2) × (live_of dies_facts 0 ≡ live_in dies.dies_twice 0) × (live_of dies_facts 1 ≡ live_in dies.dies_twice 1) × (free_of dies_facts 0 ≡ s.free_places dies.plan dies.dies_twice kind.Single 0) × (free_of dies_facts 1 ≡ s.free_places dies.plan dies.dies_twice kind.Remote 1) × (free_of dies_facts 2 ≡ s.free_places dies.plan dies.dies_twice kind.Single 2)
+dies_stands : (slice_get dies_facts.lines 0 ≡ line_in dies.plan dies.dies_twice 0)
+    × (slice_get dies_facts.lines 1 ≡ line_in dies.plan dies.dies_twice 1)
+    × (slice_get dies_facts.lines 2 ≡ line_in dies.plan dies.dies_twice 2)
+    × (slice_get dies_facts.lines 3 ≡ line_in dies.plan dies.dies_twice 3)
+    × (slice_get dies_facts.seats 0 ≡ seat_in dies.plan dies.dies_twice 0)
+    × (slice_get dies_facts.seats 1 ≡ seat_in dies.plan dies.dies_twice 1)
+    × (slice_get dies_facts.seats 2 ≡ seat_in dies.plan dies.dies_twice 2)
+    × (live_of dies_facts 0 ≡ live_in dies.dies_twice 0)
+    × (live_of dies_facts 1 ≡ live_in dies.dies_twice 1)
+    × (free_of dies_facts 0 ≡ s.free_places dies.plan dies.dies_twice kind.Single 0)
+    × (free_of dies_facts 1 ≡ s.free_places dies.plan dies.dies_twice kind.Remote 1)
+    × (free_of dies_facts 2 ≡ s.free_places dies.plan dies.dies_twice kind.Single 2)
 unfolding dies_facts dies.plan dies.dies_twice dies.dies_twice_8 dies.dies_twice_12 dies.dies_twice_18 dies.dies_twice_21 entry answer numbered with_file said_cancelled worker dynamic plan_of single cancelling multi remote line_in seat_in w.last_work w.stopped w.has_halted w.halted w.line_count w.started w.failed w.has_ended w.was_killed w.kill_ordered w.was_taken w.launch_of w.last_line w.lines_of w.sends w.was_sent w.ever_sent w.answered w.wrote w.is_pending w.pending w.has_cancel w.line_cause w.live w.grant_of w.granted w.commit_of w.match_of a.attempt a.line_of a.fault_of a.end_of a.ended a.dropped s.standings s.settled s.all_settled s.ready s.wanted s.bound s.queued s.earliest s.free_places r.gathered
 dies_stands = (refl, refl, refl, refl, refl, refl, refl, refl, refl, refl, refl, refl)
 
--- ---- a local branch is granted while the executor's line is being launched: what is bound to it isn't wanted any longer
+-- ---- a local branch is granted while the executor's line is being launched: what is bound to it
+-- isn't wanted any longer
 
 unfoldable plan : Plan
 unfolding plan_of dynamic single remote
@@ -98,11 +117,49 @@ granted =
 
 early_legal : Legal plan early
 unfolding plan early granted entry answer numbered with_file said_cancelled worker dynamic plan_of single cancelling multi remote w.last_work w.stopped w.has_halted w.halted w.line_count w.started w.failed w.has_ended w.was_killed w.kill_ordered w.was_taken w.launch_of w.last_line w.lines_of w.sends w.was_sent w.ever_sent w.answered w.wrote w.is_pending w.pending w.has_cancel w.line_cause w.live w.grant_of w.granted w.commit_of w.match_of a.attempt a.line_of a.fault_of a.end_of a.ended a.dropped s.standings s.settled s.all_settled s.ready s.wanted s.bound s.queued s.earliest s.free_places r.gathered
-early_legal = ((((tt, record { scripted = refl; replied = refl; kept = refl }), record { scripted = refl; replied = refl; kept = refl }), record { scripted = refl; replied = refl; kept = refl }), record { scripted = refl; replied = refl; kept = refl })
+early_legal = (
+  (
+    (
+      (tt, record { scripted = refl; replied = refl; kept = refl }),
+      record {
+        scripted =
+            refl;
+        replied = refl;
+        kept = refl;
+      },
+    ),
+    record { scripted = refl; replied = refl; kept = refl },
+  ),
+  record { scripted = refl; replied = refl; kept = refl },
+)
 
 granted_legal : Legal plan granted
 unfolding plan early granted entry answer numbered with_file said_cancelled worker dynamic plan_of single cancelling multi remote w.last_work w.stopped w.has_halted w.halted w.line_count w.started w.failed w.has_ended w.was_killed w.kill_ordered w.was_taken w.launch_of w.last_line w.lines_of w.sends w.was_sent w.ever_sent w.answered w.wrote w.is_pending w.pending w.has_cancel w.line_cause w.live w.grant_of w.granted w.commit_of w.match_of a.attempt a.line_of a.fault_of a.end_of a.ended a.dropped s.standings s.settled s.all_settled s.ready s.wanted s.bound s.queued s.earliest s.free_places r.gathered
-granted_legal = ((((((early_legal, record { scripted = refl; replied = refl; kept = refl }), record { scripted = refl; replied = refl; kept = refl }), record { scripted = refl; replied = refl; kept = refl }), record { scripted = refl; replied = refl; kept = refl }), record { scripted = refl; replied = refl; kept = refl }), record { scripted = refl; replied = refl; kept = refl })
+granted_legal = (
+  (
+    (
+      (
+        (
+          (early_legal, record { scripted = refl; replied = refl; kept = refl }),
+          record {
+            scripted =
+                refl;
+            replied = refl;
+            kept = refl;
+          },
+        ),
+        record { scripted = refl; replied = refl; kept = refl },
+      ),
+      record { scripted = refl; replied = refl; kept = refl },
+    ),
+    record {
+      scripted = refl;
+      replied = refl;
+      kept = refl;
+    },
+  ),
+  record { scripted = refl; replied = refl; kept = refl },
+)
 
 unfoldable early_facts : Facts
 unfolding plan plan_of worker dynamic single remote
@@ -113,7 +170,15 @@ early_facts =
     let f3 : Facts = with_launch f2 1 in
     f3
 
-early_stands : (slice_get early_facts.lines 0 ≡ line_in plan early 0) × (slice_get early_facts.lines 1 ≡ line_in plan early 1) × (slice_get early_facts.lines 2 ≡ line_in plan early 2) × (slice_get early_facts.seats 0 ≡ seat_in plan early 0) × (slice_get early_facts.seats 1 ≡ seat_in plan early 1) × (slice_get early_facts.seats 2 ≡ seat_in plan early 2) × (live_of early_facts 0 ≡ live_in early 0) × (live_of early_facts 1 ≡ live_in early 1) × (free_of early_facts 0 ≡ s.free_places plan early kind.Single 0) × (free_of early_facts 1 ≡ s.free_places plan early kind.Remote 1)
+early_stands : (slice_get early_facts.lines 0 ≡ line_in plan early 0)
+    × (slice_get early_facts.lines 1 ≡ line_in plan early 1)
+    × (slice_get early_facts.lines 2 ≡ line_in plan early 2)
+    × (slice_get early_facts.seats 0 ≡ seat_in plan early 0)
+    × (slice_get early_facts.seats 1 ≡ seat_in plan early 1)
+    × (slice_get early_facts.seats 2 ≡ seat_in plan early 2)
+    × (live_of early_facts 0 ≡ live_in early 0) × (live_of early_facts 1 ≡ live_in early 1)
+    × (free_of early_facts 0 ≡ s.free_places plan early kind.Single 0)
+    × (free_of early_facts 1 ≡ s.free_places plan early kind.Remote 1)
 unfolding early_facts plan early granted entry answer numbered with_file said_cancelled worker dynamic plan_of single cancelling multi remote line_in seat_in w.last_work w.stopped w.has_halted w.halted w.line_count w.started w.failed w.has_ended w.was_killed w.kill_ordered w.was_taken w.launch_of w.last_line w.lines_of w.sends w.was_sent w.ever_sent w.answered w.wrote w.is_pending w.pending w.has_cancel w.line_cause w.live w.grant_of w.granted w.commit_of w.match_of a.attempt a.line_of a.fault_of a.end_of a.ended a.dropped s.standings s.settled s.all_settled s.ready s.wanted s.bound s.queued s.earliest s.free_places r.gathered
 early_stands = (refl, refl, refl, refl, refl, refl, refl, refl, refl, refl)
 
@@ -129,6 +194,14 @@ granted_facts =
     let f6 : Facts = begin f5 1 in
     f6
 
-granted_stands : (slice_get granted_facts.lines 0 ≡ line_in plan granted 0) × (slice_get granted_facts.lines 1 ≡ line_in plan granted 1) × (slice_get granted_facts.lines 2 ≡ line_in plan granted 2) × (slice_get granted_facts.seats 0 ≡ seat_in plan granted 0) × (slice_get granted_facts.seats 1 ≡ seat_in plan granted 1) × (slice_get granted_facts.seats 2 ≡ seat_in plan granted 2) × (live_of granted_facts 0 ≡ live_in granted 0) × (live_of granted_facts 1 ≡ live_in granted 1) × (free_of granted_facts 0 ≡ s.free_places plan granted kind.Single 0) × (free_of granted_facts 1 ≡ s.free_places plan granted kind.Remote 1)
+granted_stands : (slice_get granted_facts.lines 0 ≡ line_in plan granted 0)
+    × (slice_get granted_facts.lines 1 ≡ line_in plan granted 1)
+    × (slice_get granted_facts.lines 2 ≡ line_in plan granted 2)
+    × (slice_get granted_facts.seats 0 ≡ seat_in plan granted 0)
+    × (slice_get granted_facts.seats 1 ≡ seat_in plan granted 1)
+    × (slice_get granted_facts.seats 2 ≡ seat_in plan granted 2)
+    × (live_of granted_facts 0 ≡ live_in granted 0) × (live_of granted_facts 1 ≡ live_in granted 1)
+    × (free_of granted_facts 0 ≡ s.free_places plan granted kind.Single 0)
+    × (free_of granted_facts 1 ≡ s.free_places plan granted kind.Remote 1)
 unfolding granted_facts plan early granted entry answer numbered with_file said_cancelled worker dynamic plan_of single cancelling multi remote line_in seat_in w.last_work w.stopped w.has_halted w.halted w.line_count w.started w.failed w.has_ended w.was_killed w.kill_ordered w.was_taken w.launch_of w.last_line w.lines_of w.sends w.was_sent w.ever_sent w.answered w.wrote w.is_pending w.pending w.has_cancel w.line_cause w.live w.grant_of w.granted w.commit_of w.match_of a.attempt a.line_of a.fault_of a.end_of a.ended a.dropped s.standings s.settled s.all_settled s.ready s.wanted s.bound s.queued s.earliest s.free_places r.gathered
 granted_stands = (refl, refl, refl, refl, refl, refl, refl, refl, refl, refl)

@@ -62,7 +62,8 @@ pub record HasInputs (p : Plan) (j : List Entry) (t : Attempt) : Type 0 where
 -- Sends, the newest first: all have the number 0, or their numbers count up from 1
 abbrev pub NumberedAs : Bool → List Request → Type 0
 NumberedAs single [] = Unit {0}
-NumberedAs single (r ∷ rs) = (r.number ≡ (if single then pos 0 else pos (length rs + 1))) × NumberedAs single rs
+NumberedAs single (r ∷ rs) =
+    (r.number ≡ (if single then pos 0 else pos (length rs + 1))) × NumberedAs single rs
 
 -- all but the newest
 abbrev pub older : List Request → List Request
@@ -74,12 +75,14 @@ abbrev pub EachRequest : (Request → Type 0) → List Request → Type 0
 EachRequest P [] = Unit {0}
 EachRequest P (r ∷ rs) = P r × EachRequest P rs
 
--- a line that the proxy lane of the berth w launched: its requests have the numbers of the berth's kind;
--- while a branch is bound to it, it has none; and in a Single group only its newest request can be pending
+-- a line that the proxy lane of the berth w launched: its requests have the numbers of the berth's
+-- kind; while a branch is bound to it, it has none; and in a Single group only its newest request
+-- can be pending
 pub record LineFacts (p : Plan) (j : List Entry) (l w : ℕ) : Type 0 where
   pub numbers : NumberedAs (is_single (kind_of p w)) (sends j l)
   pub unsent : (t : Attempt) → bound p j l ≡ Some t → sends j l ≡ []
-  pub closed : is_single (kind_of p w) ≡ true → EachRequest (λ q. is_pending j q ≡ false) (older (sends j l))
+  pub closed : is_single (kind_of p w) ≡ true
+      → EachRequest (λ q. is_pending j q ≡ false) (older (sends j l))
 
 -- ---- which attempts end with an entry
 
@@ -95,9 +98,12 @@ is_quiet_call _ = true
 abbrev pub is_left : List Entry → Attempt → Bool
 is_left j t = not (answered j t) || says_feed_fault (wrote j t)
 
--- how an attempt ends with the entry: its Launched has a fault, its Wrote says that it wasn't written, its Claim is refused;
--- its line Ends without it, or its Wrote is FeedFault and its line has Ended
+-- how an attempt ends with the entry: its Launched has a fault, its Wrote says that it wasn't
+-- written, its Claim is refused; its line Ends without it, or its Wrote is FeedFault and its line
+-- has Ended
 pub data EndsWith (j : List Entry) (e : Entry) (t : Attempt) : Type 0 where
   ByFault : (c : Cause) → fault_at t j e ≡ Some c → EndsWith j e t
-  ByEnd : (l : ℕ) (how : HowEnded) → e.call ≡ call.Ended l how → line_of j t ≡ Some l → is_left j t ≡ true → EndsWith j e t
-  ByFeed : (l : ℕ) → wrote_at t j e ≡ Some write.FeedFault → line_of j t ≡ Some l → has_ended j l ≡ true → EndsWith j e t
+  ByEnd : (l : ℕ) (how : HowEnded) → e.call ≡ call.Ended l how → line_of j t ≡ Some l
+      → is_left j t ≡ true → EndsWith j e t
+  ByFeed : (l : ℕ) → wrote_at t j e ≡ Some write.FeedFault → line_of j t ≡ Some l
+      → has_ended j l ≡ true → EndsWith j e t

@@ -1,4 +1,5 @@
--- What is so of a legal journal where an entry comes: what the tables and the core ask of each kind of entry.
+-- What is so of a legal journal where an entry comes: what the tables and the core ask of each kind
+-- of entry.
 use Rattle.std.specs.Prelude.{◌≡◌, ℕ, ◌*◌, ◌/◌, ◌<◌, ◌==◌, Bool, true, false, ◌&&◌, ◌||◌, not, Option, Some, None, option_and_then, List, ◌∷◌, length, slice_get, ℤ, pos, int_le}
 use Rattle.std.specs.Ordering.{int_eq}
 use Rattle.run_plan.specs.declared.plan.Branch.{Branch}
@@ -42,20 +43,23 @@ pub record IsGrantedFiles (j : List Entry) (a : ℕ) (b : Branch) : Type 0 where
   pub winner : grant_of j a ≡ Some (attempt_of a b number, found.Files files)
   pub uncommitted : commit_of j a b ≡ None
 
--- a branch that isn't wanted isn't wanted again, and one that is bound stays wanted until its action is granted or its attempt ends
+-- a branch that isn't wanted isn't wanted again, and one that is bound stays wanted until its
+-- action is granted or its attempt ends
 pub record WantedFollows (p : Plan) (j : List Entry) (e : Entry) : Type 0 where
   pub unwanted : (a : ℕ) (b : Branch) → wanted p j a b ≡ false → wanted p (e ∷ j) a b ≡ false
-  pub bound_yet : (l : ℕ) (t : Attempt) → bound p j l ≡ Some t → granted (e ∷ j) t.action ≡ false → ended (e ∷ j) t ≡ false → wanted p (e ∷ j) t.action t.branch ≡ true
+  pub bound_yet : (l : ℕ) (t : Attempt) → bound p j l ≡ Some t → granted (e ∷ j) t.action ≡ false
+      → ended (e ∷ j) t ≡ false → wanted p (e ∷ j) t.action t.branch ≡ true
 
 -- each line carries what is bound to it, which isn't answered
 pub record BoundIsCarried (p : Plan) (j : List Entry) : Type 0 where
   pub carrier : (l : ℕ) (t : Attempt) → bound p j l ≡ Some t → line_of j t ≡ Some l
   pub unanswered : (l : ℕ) (t : Attempt) → bound p j l ≡ Some t → answered j t ≡ false
 
--- a Send: of a branch of the lane's group, to a line that hasn't Ended; nothing was said yet of the request, and where its
--- attempt was launched, it was on this line
+-- a Send: of a branch of the lane's group, to a line that hasn't Ended; nothing was said yet of the
+-- request, and where its attempt was launched, it was on this line
 pub record IsFreshSend (p : Plan) (j : List Entry) (lane : ℕ) (t : Attempt) (l : ℕ) : Type 0 where
-  pub group : option_and_then (λ x. group_of x t.branch) (slice_get p.actions t.action) ≡ berth_group p (lane / 2)
+  pub group : option_and_then (λ x. group_of x t.branch) (slice_get p.actions t.action)
+      ≡ berth_group p (lane / 2)
   pub unended : has_ended j l ≡ false
   pub unsent : was_sent j t ≡ false
   pub unanswered : answered j t ≡ false
@@ -66,18 +70,21 @@ pub record IsFreshSend (p : Plan) (j : List Entry) (lane : ℕ) (t : Attempt) (l
 -- of all pending requests exactly those of this attempt stand on this line with this number
 pub record KnownByNumber (j : List Entry) (l : ℕ) (n : ℤ) (s : Attempt) : Type 0 where
   pub here : EachRequest (λ r. same_attempt s r.attempt ≡ int_eq r.number n) (pending j l)
-  pub elsewhere : (k : ℕ) → (l == k) ≡ false → EachRequest (λ r. same_attempt s r.attempt ≡ false) (pending j k)
+  pub elsewhere : (k : ℕ) → (l == k) ≡ false
+      → EachRequest (λ r. same_attempt s r.attempt ≡ false) (pending j k)
 
 -- no pending request is of this attempt
 abbrev pub IsPastAttempt : List Entry → Attempt → Type 0
 IsPastAttempt j s = (k : ℕ) → EachRequest (λ r. same_attempt s r.attempt ≡ false) (pending j k)
 
--- each pending request of the line is of an action of the plan, and isn't wanted exactly where that action has a grant
+-- each pending request of the line is of an action of the plan, and isn't wanted exactly where that
+-- action has a grant
 pub record WantedUnlessGranted (p : Plan) (j : List Entry) (l : ℕ) : Type 0 where
   pub within : EachRequest (λ r. r.attempt.action < length p.actions) (pending j l)
   pub grants : EachRequest (λ r. is_unwanted p j r ≡ granted j r.attempt.action) (pending j l)
 
--- a Launch: of an attempt that nothing was said of, of a wanted branch, by a berth of the plan; there is room for one more line
+-- a Launch: of an attempt that nothing was said of, of a wanted branch, by a berth of the plan;
+-- there is room for one more line
 pub record IsFreshLaunch (p : Plan) (j : List Entry) (lane : ℕ) (l : ℕ) (t : Attempt) : Type 0 where
   pub numbered : l ≡ line_count j
   pub unbegun : begun j t ≡ false
@@ -86,7 +93,8 @@ pub record IsFreshLaunch (p : Plan) (j : List Entry) (lane : ℕ) (l : ℕ) (t :
   pub seated : lane / 2 < berths p
   pub room : line_count j < 2 * length p.actions * p.limit
 
--- a Send: with the next number, to a line with a place for it and room for one more request; which was launched by the lane's berth
+-- a Send: with the next number, to a line with a place for it and room for one more request; which
+-- was launched by the lane's berth
 pub record IsNumberedSend (p : Plan) (j : List Entry) (lane : ℕ) (q : Request) : Type 0 where
   pub number : q.number ≡ number_on p j (lane / 2) q.line
   pub earlier : NumberedAs (is_single (kind_of p (lane / 2))) (sends j q.line)
@@ -159,7 +167,8 @@ given_up j l = ever (λ _ e. gives_up l e.reply) j
 
 -- ---- a greeting
 
--- an executor's first answer, with the number 0, which no request of the line has, and the version 2 or more
+-- an executor's first answer, with the number 0, which no request of the line has, and the
+-- version 2 or more
 pub record IsGreeting (p : Plan) (j : List Entry) (lane l : ℕ) (x : Answer) : Type 0 where
   pub of_executor : is_remote (kind_of p (lane / 2)) ≡ true
   pub number : x.number ≡ pos 0

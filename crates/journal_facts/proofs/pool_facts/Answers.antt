@@ -1,3 +1,5 @@
+use Rattle.journal_facts.proofs.Known.{written_on, written_nowhere, pending_on, are_faulted, each_of_all}
+use Rattle.journal_facts.proofs.BoundFor.{are_of_action}
 use Rattle.journal_facts.proofs.Bridge.{wanted_stays, carries, is_new, is_sent_to, is_pending_on, is_first}
 use Rattle.journal_facts.proofs.pool_facts.Goals as goal
 
@@ -9,4 +11,9 @@ returns c = record {
   sends = λ p e j x legal h. is_sent_to p e j x legal h;
   answers = λ p e j l x s legal ic is. is_pending_on p e j l x s legal ic is;
   writes = λ p j lane x legal h. is_first p j lane x legal h;
+  written = written_on;
+  closed = written_nowhere;
+  pending = λ p j l legal. each_of_all _ _ (pending_on p j l legal);
+  faults = are_faulted;
+  grants = are_of_action;
 }

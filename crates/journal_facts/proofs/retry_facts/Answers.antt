@@ -1,3 +1,4 @@
+use Rattle.journal_facts.proofs.Listed.{retries_listed}
 use Rattle.journal_facts.proofs.Bridge.{is_going, retries_one}
 use Rattle.journal_facts.proofs.retry_facts.Goals as goal
 
@@ -5,4 +6,5 @@ pub returns : goal.returns
 returns c = record {
   going = λ j t is. is_going j t is;
   ends = λ e j y is. retries_one e j y is;
+  lost = λ p e j l how legal is. retries_listed p e j l how legal is;
 }

@@ -10,7 +10,8 @@ returns c = record {
   listed = λ p e j l how legal is t. lost_exactly p e j l how legal is t;
   once = lost_apart;
   going = lost_going;
-  one = λ p j l m s t v sound legal at a b x y same. sa.standing_one p j l m s sound legal at t v a b x y same;
+  one = λ p j l m s t v sound legal at a b x y same. sa.standing_one p j l m s sound legal at t v a
+      b x y same;
   fed = sa.fed_now;
   unsent = unsent_bound;
 }

@@ -4,4 +4,9 @@ use Rattle.journal_calls.proofs.Requested.{bound_group}
 use Rattle.journal_calls.proofs.laws.lines_here_are_last.Goals as goal
 
 pub returns : goal.returns
-returns c = record { live = live_is_last; bound = bound_last; seat = bound_seat; group = bound_group }
+returns c = record {
+  live = live_is_last;
+  bound = bound_last;
+  seat = bound_seat;
+  group = bound_group;
+}

@@ -2,4 +2,10 @@ use Rattle.journal_calls.proofs.Calls as ca
 use Rattle.journal_calls.proofs.laws.named_actions_are_planned.Goals as goal
 
 pub returns : goal.returns
-returns c = record { launches = ca.launch_within; sends = ca.send_within; gathers = ca.gather_within; claims = ca.claim_within; commits = ca.commit_within }
+returns c = record {
+  launches = ca.launch_within;
+  sends = ca.send_within;
+  gathers = ca.gather_within;
+  claims = ca.claim_within;
+  commits = ca.commit_within;
+}

@@ -4,4 +4,9 @@ use Rattle.journal_calls.proofs.Calls.{match_unspent}
 use Rattle.journal_calls.proofs.laws.recent_matches_suffice.Goals as goal
 
 pub returns : goal.returns
-returns c = record { gathers = ga.gathers; room = λ p j w l sound legal here. room_for_match p j w l legal sound.least here; waits = match_unspent }
+returns c = record {
+  gathers = ga.gathers;
+  room = λ p j w l sound legal here.
+      room_for_match p j w l legal sound.least here;
+  waits = match_unspent;
+}

@@ -1,0 +1,3 @@
+pub mod Dies
+mod Faults
+mod Orders
