@@ -1,0 +1,5 @@
+use Rattle.core_laws.proofs.Scripted.{script_is}
+use Rattle.core_laws.proofs.laws.scripts_are_kept.Goals as goal
+
+pub returns : goal.returns
+returns c = λ p s j lane x st. script_is p j s.lanes lane x (st.lanes lane)

@@ -1,0 +1,5 @@
+pub mod Ends
+pub mod Facts
+pub mod Moments
+pub mod Premises
+pub mod Stands

@@ -1,0 +1,5 @@
+pub mod Carried
+pub mod Roomed
+pub mod Unbound
+pub mod Kept
+pub mod Places

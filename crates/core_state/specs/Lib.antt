@@ -1,0 +1,5 @@
+pub mod Choices
+pub mod Machine
+pub mod Noted
+pub mod Reports
+pub mod Steps

@@ -1,0 +1,69 @@
+// What a call in its lane's script makes of the tables, and what is noted of its entry.
+ghost use Rattle.std.specs.Prelude.{◌≡◌, false, ◌<◌, ◌/◌, length};
+ghost use Rattle.exec_journal.specs.Entries.{is_kept, is_look};
+ghost use Rattle.core_state.specs.Noted.{noted_if_kept};
+ghost use Rattle.core_state.specs.Steps.{CanMake, made_reply, made};
+
+use crate::State;
+use core_tables::Seat;
+use exec_journal::{Attempt, Call, Reply};
+
+impl State {
+    /// The reply to a call that is in its lane's script, and what it makes of the tables. A Look asks nothing of them.
+    pub fn make(&mut self, lane: u32, seat: Seat, call: &Call) -> Reply
+        requires can { CanMake self.old lane seat call.now }
+        requires no_look { is_look call.now ≡ false }
+        ensures reply { result ≡ made_reply self.old lane seat call.now }
+        ensures state { self.new ≡ made self.old lane seat call.now }
+    {
+        let berth = lane / 2;
+        match call {
+            Call::Ask => self.ask(berth),
+            Call::Launched { line, how } => self.launched(lane, *line, *how),
+            Call::Wrote { line, number, how } => self.wrote(lane, berth, *line, *number, *how),
+            Call::Look(_) => unreachable!(),
+            Call::Claim {
+                action,
+                branch,
+                attempt,
+                found,
+            } => self.claim(
+                Attempt {
+                    action: *action,
+                    branch: *branch,
+                    number: *attempt,
+                },
+                found,
+            ),
+            Call::Committed { action, how, .. } => self.committed(*action, *how),
+            Call::Killed { line } => self.killed(*line),
+            Call::Take => self.take(berth),
+            Call::Answer { line, answer } => self.answer(berth, seat, *line, answer),
+            Call::Ended { line, how } => self.ended(berth, seat, *line, *how),
+            Call::Halt => Reply::Noted,
+        }
+    }
+
+    /// Notes the entry that the call makes with its reply, where it is kept.
+    pub fn note(&mut self, lane: u32, call: &Call, reply: &Reply)
+        requires lane { lane < length self.old.lanes }
+        requires berth { lane / 2 < length self.old.greetings }
+        ensures { self.new ≡ noted_if_kept self.old lane call.now reply.now }
+    {
+        if is_kept(reply) {
+            self.lanes.note(lane, call, reply);
+            self.greetings.note(lane / 2, call, reply);
+            self.halted = matches!(call, Call::Halt) || self.halted;
+        }
+    }
+}
+
+// An entry with this reply joins the journal.
+fn is_kept(reply: &Reply) -> bool
+    ensures { result ≡ is_kept reply.now }
+{
+    !matches!(
+        reply,
+        Reply::Idle | Reply::File(_) | Reply::NoFile | Reply::NoMemory | Reply::Astray
+    )
+}

@@ -1,0 +1,5 @@
+pub mod Lanes
+pub mod Last
+pub mod Matches
+pub mod Seats
+pub mod Greetings

@@ -1,0 +1,15 @@
+//! What the scheduling core keeps beside the six tables: what each lane owes, what is known of each berth's last line and
+//! of its greeting, and the matches that wait there.
+#![tactic(auto)]
+
+mod greetings;
+mod lanes;
+mod last;
+mod matches;
+mod seat;
+
+pub use greetings::{Greeting, Greetings};
+pub use lanes::{LaneState, Lanes, Order, Said};
+pub use last::{LastLine, LastLines};
+pub use matches::{Match, Matches};
+pub use seat::{Seat, seat_of};

@@ -1,0 +1,8 @@
+pub mod New
+pub mod Stepped
+pub mod LegalFacts
+pub mod AllFacts
+pub mod Newest
+pub mod Looked
+pub mod Turned
+pub mod Promised

@@ -1,0 +1,109 @@
+-- One call that its lane's script has: what is kept stands for the journal with its entry.
+use Rattle.std.proofs.Common.{◌≡◌, ℕ, ◌/◌, ◌%◌, ◌<◌, ◌==◌, nat_lt, Bool, true, false, ◌&&◌, not, cond, List, ◌∷◌, length, Option, Some, None, inl, refl, ap, sym, subst, ◌∙◌}
+use Rattle.std.specs.Prelude.{slice_get}
+use Rattle.std.proofs.lemmas.Option.{slice_get_within}
+use Rattle.run_plan.specs.declared.plan.Plan.{Plan}
+use Rattle.exec_journal.specs.declared.attempt.Attempt.{Attempt}
+use Rattle.exec_journal.specs.declared.call.Call.{Call}
+use Rattle.exec_journal.specs.declared.call.Call.TheVariants as call
+use Rattle.exec_journal.specs.declared.call.Found.{Found}
+use Rattle.exec_journal.specs.declared.call.Wanted.{Wanted}
+use Rattle.exec_journal.specs.declared.journal.Entry.{Entry}
+use Rattle.exec_journal.specs.declared.reply.Reply.{Reply}
+use Rattle.exec_journal.specs.declared.reply.Reply.TheVariants as reply
+use Rattle.exec_journal.specs.Entries.{granted_in, is_kept, is_look}
+use Rattle.exec_journal.specs.Legal.{LegalEntry, after}
+use Rattle.exec_journal.specs.Scripts.{script}
+use Rattle.exec_journal.specs.Words.{grant_of}
+use Rattle.core_tables.specs.declared.seat.Seat.{Seat}
+use Rattle.core_tables.specs.declared.lanes.LaneState.{LaneState}
+use Rattle.core_tables.specs.Lanes.{allows_by, may_some}
+use Rattle.core_tables.specs.Seats.{seat_at}
+use Rattle.core_state.specs.declared.state.State.{State}
+use Rattle.core_state.specs.Noted.{noted_if_kept}
+use Rattle.core_state.specs.Steps.{CanMake, made, made_reply}
+use Rattle.core_laws.specs.Moments.{LegalMore}
+use Rattle.core_laws.specs.Stands as tables
+use Rattle.core_laws.proofs.Calls.{reply_is}
+use Rattle.file_table.specs.Slots as slots
+use Rattle.file_table.specs.Slots.{Follows, FoundFiles}
+use Rattle.file_table.specs.Stands as files
+use Rattle.file_table.proofs.Kept.{follows}
+use Rattle.spawn_core.specs.Answers.{Replies, answer}
+use Rattle.spawn_core.specs.Looks.{ToldLook}
+use Rattle.spawn_core.specs.Stands.{Stands}
+use Rattle.spawn_core.proofs.AllFacts.{all_facts}
+use Rattle.spawn_core.proofs.Looked.{look_told, look_unkept}
+use Rattle.spawn_core.proofs.Stepped.{allowed_is, script_here, seated, can_here, lane_here, berth_here, plan_here, reply_here, stands_here}
+
+-- a reply that isn't kept leaves no file
+unkept_files : (p : Plan) (c : Call) (r : Reply) (f g : slots.Facts) → is_kept r ≡ false → Follows p c r f g → g ≡ f
+unkept_files p (call.Claim a b n x) reply.Granted f g h k = absurd (cc)
+unkept_files p (call.Claim a b n x) _ f g h k = k
+unkept_files p (call.Answer l x) (reply.Matched a b n) f g h k = absurd (cc)
+unkept_files p (call.Answer l x) _ f g h k = k
+unkept_files p _ r f g h k = k
+
+module _ (p : Plan) (s : State) (f : slots.Facts) (j : List Entry) (lane : ℕ) (seat : Seat) (c : Call) (st : Stands p (record { state = s; files = f }) j)
+    (at : seat_at s.plan (lane / 2) ≡ Some seat) (look : is_look c ≡ false) (may : allows_by s.plan seat.kind s.lanes lane c ≡ true) where
+  abbrev all : LegalMore p j
+  all = all_facts p j st.tables.sound st.tables.legal
+
+  abbrev told : Reply
+  told = made_reply s lane seat c
+
+  pub can_turn : CanMake s lane seat c
+  can_turn = can_here p s j lane seat c st.tables at all look may
+
+  pub lane_turn : lane < length (made s lane seat c).lanes
+  lane_turn = lane_here p s j lane seat c st.tables at all look may
+
+  pub berth_turn : lane / 2 < length (made s lane seat c).greetings
+  berth_turn = berth_here p s j lane seat c st.tables at all look may
+
+  pub reply_turn : Replies (answer p j lane c) told
+  reply_turn = reply_here p s j lane seat c st.tables at all look may
+
+  abbrev entry : Entry
+  entry = record { lane = lane; call = c; reply = told }
+
+  legal : is_kept told ≡ true → LegalEntry p j entry
+  legal kept = record { scripted = script_here p s j lane seat c st.tables at all look may; replied = reply_is p s j lane seat c st.tables all (seated p s j lane seat c st.tables at) look (script_here p s j lane seat c st.tables at all look may); kept = kept }
+
+  module _ (g : slots.Facts) (h : Follows (made s lane seat c).plan c told f g) where
+    followed : Follows p c told f g
+    followed = subst (λ (q : Plan). Follows q c told f g) (plan_here p s j lane seat c st.tables at all look may ∙ st.tables.plan) h
+
+    files_turn : (b : Bool) → is_kept told ≡ b → files.Stands p g (cond b (entry ∷ j) j)
+    files_turn true kept = follows p f g j lane st.kept c told (λ x is. ((all.entries entry (legal kept)).grants x is).ungranted) followed
+    files_turn false kept = subst (λ (k : slots.Facts). files.Stands p k j) (sym (unkept_files p c told f g kept followed)) st.kept
+
+    pub stands_turn : Stands p (record { state = noted_if_kept (made s lane seat c) lane c told; files = g }) (after j lane c told)
+    stands_turn = record { tables = stands_here p s j lane seat c st.tables at all look may; kept = files_turn (is_kept told) refl }
+
+-- ---- what the check of a call says
+
+pub unlook : (c : Call) → ((w : Wanted) → c ≡ call.Look w → ⊥) → is_look c ≡ false
+unlook (call.Look w) h = absurd (h w refl)
+unlook _ h = refl
+
+module _ (p : Plan) (s : State) (f : slots.Facts) (j : List Entry) (lane : ℕ) (seat : Seat) (c : Call) (w : Wanted) (y : Reply) (st : Stands p (record { state = s; files = f }) j)
+    (at : seat_at s.plan (lane / 2) ≡ Some seat) (may : allows_by s.plan seat.kind s.lanes lane c ≡ true) (is : c ≡ call.Look w) (told : ToldLook s f lane w y) where
+  allowed_look : allows_by s.plan seat.kind s.lanes lane (call.Look w) ≡ true
+  allowed_look = ap (allows_by s.plan seat.kind s.lanes lane) (sym is) ∙ may
+
+  script_look : script p j lane (call.Look w) ≡ true
+  script_look = sym (allowed_is p s j lane seat (call.Look w) st.tables at) ∙ allowed_look
+
+  pub look_reply : Replies (answer p j lane c) y
+  look_reply = subst (λ (d : Call). Replies (answer p j lane d) y) (sym is) (look_told p s f j lane seat.kind st w y script_look (subst (λ (q : Plan). allows_by q seat.kind s.lanes lane (call.Look w) ≡ true) st.tables.plan allowed_look) told)
+
+  pub look_stands : Stands p (record { state = s; files = f }) (after j lane c y)
+  look_stands = subst (λ (b : Bool). Stands p (record { state = s; files = f }) (cond b (record { lane = lane; call = c; reply = y } ∷ j) j)) (sym (look_unkept s f lane w y told)) st
+
+pub lane_there : (p : Plan) (s : State) (lane : ℕ) (seat : Seat) (c : Call) → allows_by s.plan seat.kind s.lanes lane c ≡ true → lane < length s.lanes
+lane_there p s lane seat c may = by (slice_get s.lanes lane) refl may
+  where
+    by : (o : Option LaneState) → slice_get s.lanes lane ≡ o → may_some s.plan seat.kind (lane % 2 == 0) o c ≡ true → lane < length s.lanes
+    by (Some x) at h = slice_get_within s.lanes lane x at
+    by None at h = absurd (cc)

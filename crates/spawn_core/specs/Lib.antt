@@ -1,0 +1,4 @@
+pub mod Stands
+pub mod Answers
+pub mod Looks
+pub mod Orderly

@@ -1,0 +1,8 @@
+//! The scheduling core: the reply to each call of a lane is the rules', and what the core keeps stands for the journal of
+//! the calls so far.
+#![tactic(auto)]
+
+mod scheduler;
+mod turn;
+
+pub use scheduler::Core;

@@ -1,0 +1,121 @@
+// The core as its callers see it: it always stands for some journal.
+ghost use Rattle.std.specs.Prelude.{◌≡◌, ◌≤◌, List, [], IfOk, false, sum_by};
+ghost use Rattle.run_plan.specs.declared.plan.Plan.{Plan};
+ghost use Rattle.run_plan.specs.Sound.{Sound};
+ghost use Rattle.exec_journal.specs.declared.journal.Entry.{Entry};
+ghost use Rattle.exec_journal.specs.declared.reply.Reply.TheVariants as reply;
+ghost use Rattle.exec_journal.specs.Clean.{Clean};
+ghost use Rattle.exec_journal.specs.Legal.{after};
+ghost use Rattle.exec_journal.specs.Words.{halted};
+ghost use Rattle.journal_laws.specs.Finished.{Finished};
+ghost use Rattle.spawn_core.specs.Answers.{Replies, answer};
+ghost use Rattle.spawn_core.specs.Orderly.{Complete, Orderly};
+ghost use Rattle.spawn_core.specs.Stands.{Stands};
+
+use crate::turn::step;
+use cancel_rules::Cancels;
+use core_state::State;
+use core_tables::{Greetings, Lanes, LastLines, Matches};
+use exec_journal::{Call, Group, Plan, Reply};
+use file_table::Files;
+use plain_values::NoMemory;
+use race_core::Race;
+use ready_order::Ready;
+use request_table::Requests;
+use retry_rules::Attempts;
+use std::alloc::Global;
+use std::marker::Model;
+use worker_pool::Pool;
+
+/// The scheduling core of a run. A contract sees what it keeps; it always stands for some journal.
+#[derive(Drop)]
+pub struct Core {
+    state: State,
+    files: Files,
+}
+
+impl Model for Core {
+    ghost use Rattle.spawn_core.specs.Stands.{Kept, HasHistory};
+
+    ghost Value = { Kept };
+
+    ghost view = { λ a. record {
+      state = a.state;
+      files = a.files;
+    } };
+
+    ghost invariant = { λ a. HasHistory (record {
+      state = a.state;
+      files = a.files;
+    }) };
+}
+
+impl Core {
+    /// The core of a run in which nothing was called yet. It makes the room for all that later calls need.
+    ///
+    /// # Errors
+    ///
+    /// `NoMemory` where that room is not there.
+    pub fn new(alloc: Global, plan: Plan) -> Result<Core, NoMemory>
+        requires { Sound plan }
+        ensures { IfOk result (λ c. Stands plan c []) }
+    {
+        let berths = all_berths(plan.groups.as_slice()) as usize;
+        let pool = Pool::new(alloc, &plan)?;
+        let requests = Requests::new(alloc, &plan)?;
+        let cancels = Cancels::new(alloc, &plan)?;
+        let ready = Ready::new(alloc, &plan)?;
+        let race = Race::new(alloc, &plan)?;
+        let attempts = Attempts::new(alloc, &plan)?;
+        let lanes = Lanes::new(alloc, 2 * berths)?;
+        let last = LastLines::new(alloc, berths)?;
+        let greetings = Greetings::new(alloc, berths)?;
+        let matches = Matches::new(alloc, berths)?;
+        let files = Files::new(alloc, &plan)?;
+        let state = State {
+            plan,
+            pool,
+            requests,
+            cancels,
+            ready,
+            race,
+            attempts,
+            lanes,
+            last,
+            greetings,
+            matches,
+            halted: false,
+        };
+        Ok(Core { state, files })
+    }
+
+    /// The reply to a lane's call: the rules', or Astray where the call isn't in its lane's script. Only a Look takes
+    /// memory, and may say that there is none in place of a file.
+    ///
+    /// Where a lane is told to stop, and none has halted, the run is finished; and every action has success, where every
+    /// worker did its part.
+    pub fn step(&mut self, lane: u32, call: &Call) -> Reply
+        ensures reply { (p : Plan) (j : List Entry) → Stands p self.old j
+            → Replies (answer p j lane call.now) result }
+        ensures stands { (p : Plan) (j : List Entry) → Stands p self.old j
+            → Stands p self.new (after j lane call.now result) }
+        ensures orderly { (p : Plan) (j : List Entry) → Stands p self.new j → Orderly p j }
+        ensures stop { (p : Plan) (j : List Entry) → Stands p self.old j → result ≡ reply.Stop
+            → halted j ≡ false → Finished p j }
+        ensures complete { (p : Plan) (j : List Entry) → Stands p self.old j
+            → result ≡ reply.Stop → halted j ≡ false → Clean j → Complete p j }
+    {
+        step(&mut self.state, &mut self.files, lane, call)
+    }
+}
+
+fn all_berths(groups: &[Group]) -> u32
+    requires { sum_by (λ g. g.berths) groups.now ≤ 64 }
+    ensures { result ≡ sum_by (λ g. g.berths) groups.now }
+{
+    let mut berths = 0;
+    for group in groups {
+        berths += group.berths;
+    }
+    berths
+}
