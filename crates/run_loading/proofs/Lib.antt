@@ -2,3 +2,4 @@ pub mod Courses
 pub mod Found
 pub mod Logged
 pub mod Made
+pub mod Makers

@@ -8,3 +8,4 @@ mod works;
 
 pub use build_report::{RunFault, Stage};
 pub use loading::{Loaded, load, load_work, read_actions};
+pub use works::source_files;

@@ -2,7 +2,6 @@
 use Rattle.std.proofs.Common.{◌≡◌, ℕ, Bool, true, false, List, [], ◌∷◌, Option, Some, None, Result, Ok, Err, refl, subst, sym}
 use Rattle.outside.specs.Told.{FloorTold, SinkTold}
 use Rattle.outside.specs.declared.floor.FloorRead.{FloorRead}
-use Rattle.outside.specs.declared.floor.SourceFile.{SourceFile}
 use Rattle.build_report.specs.declared.fault.RunFault.{RunFault}
 use Rattle.build_report.specs.declared.fault.RunFault.TheVariants as fault
 use Rattle.build_report.specs.declared.fault.Stage.{Stage}
@@ -15,7 +14,9 @@ use Rattle.worker_run.specs.declared.line.Stopped.TheVariants as stopped
 use Rattle.worker_run.specs.declared.work.OneJob.{OneJob}
 use Rattle.worker_run.specs.declared.reading.Job.{Job}
 use Rattle.worker_run.specs.declared.reading.Job.TheVariants as job
-use Rattle.worker_run.specs.Course.{Course, OptionsRead, ListRead, AfterList, BytesRead, ActionsRead, OneRead, Logs, Reads, UnlessBefore}
+use Rattle.run_loading.specs.Course.{AfterList, BytesRead}
+use Rattle.run_loading.specs.Reads.{Reads, UnlessBefore}
+use Rattle.worker_run.specs.Course.{Course, OptionsRead, ListRead, ActionsRead, KindRead, OfList, most_keys}
 use Rattle.worker_run.specs.Prepared.{is_served}
 use Rattle.action_list.specs.Lists.{list_of}
 use Rattle.action_list.specs.declared.faults.ListFault.{ListFault}
@@ -96,23 +97,23 @@ ran_one work came stop end run old new started ends leaves puts = after_any end 
 
 -- ---- reads don't end in the sink's fault
 
-one_silent : (o : Options) (x : ListAction) (b : Bool) (reads : List FloorRead) → OneRead o x b reads (Err fault.SinkFailed) → ⊥
-one_silent o x true reads h = absurd h
-one_silent o x false reads h = absurd (let e = h.1 in cc)
+kind_silent : (o : Options) (x : ListAction) (b : Bool) (reads : List FloorRead) → KindRead o x b reads (Err fault.SinkFailed) → ⊥
+kind_silent o x true reads h = absurd h
+kind_silent o x false reads h = absurd (let e = h.1 in cc)
 
 actions_silent : (o : Options) (xs : List ListAction) (reads : List FloorRead) → ActionsRead o xs reads (Err fault.SinkFailed) → ⊥
 actions_silent o [] reads h = absurd (let e = h.1 in cc)
-actions_silent o (x ∷ []) reads h = one_silent o x (is_served x) reads h
+actions_silent o (x ∷ []) reads h = kind_silent o x (is_served x) reads h
 actions_silent o (x ∷ y ∷ xs) reads h = absurd (let e = h.1 in cc)
 
-bytes_silent : (o : Options) (r : Result ActionList ListFault) (reads : List FloorRead) → BytesRead o r reads (Err fault.SinkFailed) → ⊥
+bytes_silent : (o : Options) (r : Result ActionList ListFault) (reads : List FloorRead) → BytesRead (OfList o) r reads (Err fault.SinkFailed) → ⊥
 bytes_silent o (Err f) reads h = absurd (let e = h.1 in cc)
 bytes_silent o (Ok list) reads h = actions_silent o list.actions reads h
 
-after_silent : (o : Options) (path : List ℕ) (answer : Read) (reads : List FloorRead) → AfterList o path answer reads (Err fault.SinkFailed) → ⊥
+after_silent : (o : Options) (path : List ℕ) (answer : Read) (reads : List FloorRead) → AfterList (OfList o) most_keys path answer reads (Err fault.SinkFailed) → ⊥
 after_silent o path read.Absent reads h = absurd (let e = h.1 in cc)
 after_silent o path read.Failed reads h = absurd (let e = h.1 in cc)
-after_silent o path (read.Found bytes) reads h = bytes_silent o (list_of 48 bytes) reads h
+after_silent o path (read.Found bytes) reads h = bytes_silent o (list_of most_keys bytes) reads h
 
 list_silent : (o : Options) (path : List ℕ) (reads : List FloorRead) → ListRead o path reads (Err fault.SinkFailed) → ⊥
 list_silent o path [] h = absurd h
@@ -126,12 +127,12 @@ course_silent : (options : Option Options) (reads : List FloorRead) → Course o
 course_silent None reads h = absurd (let e = h.1 in cc)
 course_silent (Some o) reads h = named_silent o o.list reads h
 
-pub not_sink : (options : Option Options) (f : RunFault) (files : Option (List SourceFile)) (old new : Option (List FloorRead)) → UnlessBefore (Some f) (Logs files old new (λ reads. Course options reads (Err f))) → Some f ≡ Some fault.SinkFailed → ⊥
-not_sink options fault.SinkFailed files old new h e = course_silent options h.0 h.3
-not_sink options fault.Words files old new h e = absurd cc
-not_sink options (fault.NoMemory when) files old new h e = absurd cc
-not_sink options (fault.Absent at) files old new h e = absurd cc
-not_sink options (fault.FloorFailed at) files old new h e = absurd cc
-not_sink options (fault.NotYetBuilt what) files old new h e = absurd cc
-not_sink options (fault.List x) files old new h e = absurd cc
-not_sink options (fault.Flags a x) files old new h e = absurd cc
+pub not_sink : (options : Option Options) (f : RunFault) (old new : FloorTold) → UnlessBefore (Some f) (Reads old new (λ reads. Course options reads (Err f))) → Some f ≡ Some fault.SinkFailed → ⊥
+not_sink options fault.SinkFailed old new h e = course_silent options h.0 h.3
+not_sink options fault.Words old new h e = absurd cc
+not_sink options (fault.NoMemory when) old new h e = absurd cc
+not_sink options (fault.Absent at) old new h e = absurd cc
+not_sink options (fault.FloorFailed at) old new h e = absurd cc
+not_sink options (fault.NotYetBuilt what) old new h e = absurd cc
+not_sink options (fault.List x) old new h e = absurd cc
+not_sink options (fault.Flags a x) old new h e = absurd cc

@@ -1,10 +1,11 @@
 pub mod Courses
 pub mod Endings
 pub mod Frames
-pub mod Gathering
 pub mod Judged
+pub mod Launched
 pub mod Limits
 pub mod Planned
 pub mod Runs
+pub mod Sole
 pub mod Stages
 pub mod Streams

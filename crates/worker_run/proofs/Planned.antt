@@ -26,6 +26,9 @@ served strategy.Worker m j c e = (refl, refl)
 served strategy.Remote m j c e = absurd cc
 served strategy.Dynamic m j c e = absurd cc
 
+pub served_local : (x : ListAction) → is_served x ≡ true → has_local x.strategy ≡ true
+served_local x e = (served x.strategy x.needs.multiplex x.needs.json x.needs.cancel e).0
+
 one_key : (x : ListAction) → has_local x.strategy ≡ true → keys_of (x ∷ []) ≡ key_bytes x ∷ []
 one_key x e = ap (λ b. cond b (with_bytes [] (key_bytes x)) []) e
 

@@ -20,13 +20,6 @@ use Rattle.sandbox_rooms.specs.Rooms.{FitsOutputs, MakesLooks, IsRoomFault, fold
 use Rattle.worker_run.specs.Rooms.{StopsUnless, IsRun, AddsRun, EndsAbsent, AddsAbsent, folders_of, folder_call, put_call, fill_asks, fill_calls, get_asks, get_calls}
 use Rattle.worker_run.specs.Steps.{OnFiles, OnMissing}
 
--- what is added after what was added
-pub adds_on : {A : Type 0} (xs ys : List A) (old mid new : Option (List A)) → Adds xs old mid → Adds ys mid new → Adds (xs ++ ys) old new
-adds_on {A = A} xs ys old mid new first second = λ zs holds. subst (λ (all : List A). Tells new all) (append_assoc zs xs ys) (second (zs ++ xs) (first zs holds))
-
-pub adds_none : {A : Type 0} (old : Option (List A)) → Adds [] old old
-adds_none {A = A} old = λ xs holds. subst (λ (ys : List A). Tells old ys) (sym (append-nil xs)) holds
-
 -- ---- any run
 
 goes_run : (end : RunEnd) (b : Bool) (asks : List Asked) (log : List BerthCall) → (Runs end asks log → IsRun asks log) → GoesOn end b log (Runs end asks log) → StopsUnless b log × IsRun asks log

@@ -7,7 +7,6 @@ use Rattle.outside.specs.Lists.{Gives}
 use Rattle.outside.specs.Told.{FloorTold, BerthTold, PlaceTold, LineTold, SinkTold}
 use Rattle.outside.specs.declared.answers.Io.TheVariants as io
 use Rattle.outside.specs.declared.floor.FloorRead.{FloorRead}
-use Rattle.outside.specs.declared.floor.SourceFile.{SourceFile}
 use Rattle.build_report.specs.Report.{report_of}
 use Rattle.build_report.specs.declared.fault.RunFault.{RunFault}
 use Rattle.build_report.specs.declared.fault.RunFault.TheVariants as fault
@@ -19,7 +18,8 @@ use Rattle.worker_run.specs.declared.reading.Job.TheVariants as job
 use Rattle.worker_run.specs.declared.line.Reached.{Reached}
 use Rattle.worker_run.specs.declared.line.Stopped.{Stopped}
 use Rattle.worker_run.specs.declared.line.Stopped.TheVariants as stopped
-use Rattle.worker_run.specs.Course.{Course, Reads}
+use Rattle.run_loading.specs.Reads.{Reads}
+use Rattle.worker_run.specs.Course.{Course}
 use Rattle.worker_run.specs.OneJournal.{journal_of}
 use Rattle.worker_run.specs.Reached.{RoomStood, PlaceStood, LineStood, HasCause, IsStop, OnOutside}
 use Rattle.worker_run.specs.Seen.{end_told, Left, left, nothing_left, EndedTold}

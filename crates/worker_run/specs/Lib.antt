@@ -1,7 +1,6 @@
 pub mod Course
 pub mod Ends
 pub mod Faults
-pub mod Frame
 pub mod Heard
 pub mod Hearing
 pub mod Lists
@@ -10,5 +9,4 @@ pub mod Prepared
 pub mod Reached
 pub mod Rooms
 pub mod Seen
-pub mod Sources
 pub mod Steps

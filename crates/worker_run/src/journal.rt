@@ -124,8 +124,8 @@ fn note(entries: &mut Vec<Entry>, lane: u32, call: Call, reply: Reply)
 // The line is to be launched.
 fn note_order(entries: &mut Vec<Entry>)
     requires { length entries.old.items + 1 ≤ vec_capacity entries.old }
-    ensures items { entries.new.items ≡ entries.old.items ++ entry 0 call.Ask
-        (reply.Launch 0 0 branch.Local 1) ∷ [] }
+    ensures items { entries.new.items ≡ entries.old.items ++ entry PROXY call.Ask
+        (reply.Launch LINE ACTION branch.Local ATTEMPT) ∷ [] }
     ensures room { vec_capacity entries.new ≡ vec_capacity entries.old }
 {
     let launch = Reply::Launch {
@@ -140,9 +140,9 @@ fn note_order(entries: &mut Vec<Entry>)
 // The line is launched and taken, and the request is to be sent.
 fn note_launch(entries: &mut Vec<Entry>)
     requires { length entries.old.items + 3 ≤ vec_capacity entries.old }
-    ensures items { entries.new.items ≡ entries.old.items ++ entry 0
-        (call.Launched 0 started.Done) reply.Noted ∷ entry 1 call.Take (reply.Line 0)
-        ∷ entry 0 call.Ask (reply.Send 0 (pos 0) 0 branch.Local 1) ∷ [] }
+    ensures items { entries.new.items ≡ entries.old.items ++ entry PROXY
+        (call.Launched LINE started.Done) reply.Noted ∷ entry TAP call.Take (reply.Line LINE)
+        ∷ entry PROXY call.Ask (reply.Send LINE NUMBER ACTION branch.Local ATTEMPT) ∷ [] }
     ensures room { vec_capacity entries.new ≡ vec_capacity entries.old }
 {
     let launched = Call::Launched {
@@ -164,8 +164,8 @@ fn note_launch(entries: &mut Vec<Entry>)
 // The request is written.
 fn note_written(entries: &mut Vec<Entry>)
     requires { length entries.old.items + 1 ≤ vec_capacity entries.old }
-    ensures items { entries.new.items ≡ entries.old.items ++ entry 0 (call.Wrote 0
-        (pos 0) written.Done) reply.Noted ∷ [] }
+    ensures items { entries.new.items ≡ entries.old.items ++ entry PROXY
+        (call.Wrote LINE NUMBER written.Done) reply.Noted ∷ [] }
     ensures room { vec_capacity entries.new ≡ vec_capacity entries.old }
 {
     let wrote = Call::Wrote {
@@ -179,9 +179,10 @@ fn note_written(entries: &mut Vec<Entry>)
 // The request is answered, and its outputs are to be gathered.
 fn note_answer(alloc: Global, entries: &mut Vec<Entry>, text: Text)
     requires { length entries.old.items + 2 ≤ vec_capacity entries.old }
-    ensures items { entries.new.items ≡ entries.old.items ++ entry 1 (call.Answer 0
-        (plain_answer text)) (reply.Matched 0 branch.Local 1) ∷ entry 0 call.Ask (reply.Gather 0
-        (pos 0) 0 branch.Local 1 (pos 0) false) ∷ [] }
+    ensures items { entries.new.items ≡ entries.old.items ++ entry TAP
+        (call.Answer LINE (plain_answer text)) (reply.Matched ACTION branch.Local ATTEMPT)
+        ∷ entry PROXY call.Ask
+        (reply.Gather LINE NUMBER ACTION branch.Local ATTEMPT (pos 0) false) ∷ [] }
     ensures room { vec_capacity entries.new ≡ vec_capacity entries.old }
 {
     let answer = Answer {
@@ -214,8 +215,8 @@ fn note_answer(alloc: Global, entries: &mut Vec<Entry>, text: Text)
 // The files are claimed.
 fn note_claim(entries: &mut Vec<Entry>, files: Items<Blob>)
     requires { length entries.old.items + 1 ≤ vec_capacity entries.old }
-    ensures items { entries.new.items ≡ entries.old.items ++ entry 0 (call.Claim 0 branch.Local 1
-        (found.Files files)) reply.Granted ∷ [] }
+    ensures items { entries.new.items ≡ entries.old.items ++ entry PROXY
+        (call.Claim ACTION branch.Local ATTEMPT (found.Files files)) reply.Granted ∷ [] }
     ensures room { vec_capacity entries.new ≡ vec_capacity entries.old }
 {
     let claim = Call::Claim {
@@ -230,9 +231,9 @@ fn note_claim(entries: &mut Vec<Entry>, files: Items<Blob>)
 // The files are committed, and the line is killed.
 fn note_commit(entries: &mut Vec<Entry>)
     requires { length entries.old.items + 3 ≤ vec_capacity entries.old }
-    ensures items { entries.new.items ≡ entries.old.items ++ entry 0
-        (call.Committed 0 branch.Local commit.Done) reply.Noted ∷ entry 0 call.Ask
-        (reply.Kill 0 why.Quit) ∷ entry 0 (call.Killed 0) reply.Noted ∷ [] }
+    ensures items { entries.new.items ≡ entries.old.items ++ entry PROXY
+        (call.Committed ACTION branch.Local commit.Done) reply.Noted ∷ entry PROXY call.Ask
+        (reply.Kill LINE why.Quit) ∷ entry PROXY (call.Killed LINE) reply.Noted ∷ [] }
     ensures room { vec_capacity entries.new ≡ vec_capacity entries.old }
 {
     let committed = Call::Committed {
@@ -252,9 +253,9 @@ fn note_commit(entries: &mut Vec<Entry>)
 // The end of the line is read, and both lanes stop.
 fn note_end(entries: &mut Vec<Entry>)
     requires { length entries.old.items + 3 ≤ vec_capacity entries.old }
-    ensures items { entries.new.items ≡ entries.old.items ++ entry 1
-        (call.Ended 0 ended.End) reply.Noted ∷ entry 0 call.Ask reply.Stop
-        ∷ entry 1 call.Take reply.Stop ∷ [] }
+    ensures items { entries.new.items ≡ entries.old.items ++ entry TAP
+        (call.Ended LINE ended.End) reply.Noted ∷ entry PROXY call.Ask reply.Stop
+        ∷ entry TAP call.Take reply.Stop ∷ [] }
     ensures room { vec_capacity entries.new ≡ vec_capacity entries.old }
 {
     let end = Call::Ended {

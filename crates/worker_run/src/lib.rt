@@ -2,7 +2,6 @@
 #![tactic(auto)]
 
 mod ended;
-mod frame;
 mod hearing;
 mod journal;
 mod line;
@@ -11,7 +10,6 @@ mod reading;
 mod room;
 mod run;
 mod seats;
-mod sources;
 mod work;
 
 pub use build_report::{RunFault, Stage, Unbuilt, fault_line};

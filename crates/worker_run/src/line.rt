@@ -12,14 +12,18 @@ ghost use Rattle.worker_run.specs.Prepared.{HasFewOutputs};
 ghost use Rattle.worker_run.specs.declared.work.OneJob.{OneJob};
 
 use crate::hearing::{Heard, Silence, hear, listen};
-use crate::room::{fill, launch, look};
+use crate::room::{fill, look};
 use crate::work::OneJob;
+use order_acts::{Opened, launch_line};
 use output_commit::{Committed, commit};
-use outside::{Berth, Child, Feed, Io, Launch, Place, Tap};
+use outside::{Berth, Child, Feed, Io, Place, Tap};
 use plain_values::{Blob, Items, NoMemory, Text};
 use sandbox_rooms::Gathered;
 use std::alloc::Global;
 use std::marker::Model;
+
+/// The number of the one line.
+const LINE: u32 = 0;
 
 /// How far the line of the one action came.
 #[derive(Drop)]
@@ -101,11 +105,16 @@ pub fn run_line<B: Berth, P: Place>(
     ensures berth_number { SameBerth (B.told berth.old) (B.told berth.new) }
     ensures place_number { SamePlace (P.told place.old) (P.told place.new) }
 {
-    match launch(berth, &work.command) {
-        Ok(Launch::Started(feed, tap, child)) => {
+    match launch_line(berth, LINE, &work.command) {
+        Ok(Opened::Line(feed, tap, child)) => {
             run_started(alloc, berth, place, work, Line { feed, tap, child })
         }
-        Ok(Launch::Failed) => LineRun {
+        Ok(Opened::RoomFault) => LineRun {
+            reached: Reached::Ordered,
+            stopped: Stopped::Outside,
+            line: None,
+        },
+        Ok(Opened::LaunchFault) => LineRun {
             reached: Reached::Ordered,
             stopped: Stopped::Outside,
             line: None,
@@ -128,9 +137,9 @@ fn run_started<B: Berth, P: Place>(
     requires room { Tells (B.told berth.old).log (before_request work.now) }
     requires place { Tells (P.told place.old).log [] }
     requires few { HasFewOutputs work.now }
-    requires feed { IsNewFeed 0 line.feed }
-    requires tap { IsNewTap 0 line.tap }
-    requires child { IsNewChild 0 line.child }
+    requires feed { IsNewFeed LINE line.feed }
+    requires tap { IsNewTap LINE line.tap }
+    requires child { IsNewChild LINE line.child }
     ensures stop { IsStop result.reached result.stopped }
     ensures room { RoomStood work.now result.reached (B.told berth.new).log }
     ensures place { PlaceStood work.now result.reached (P.told place.new).log }

@@ -1,61 +1,60 @@
-//! What the one action of a list asks of the outside, made of the list and of the files that were found.
+//! What the one action of a list asks of the outside, made of the list and of the action's work.
 ghost use Rattle.std.specs.Prelude.{◌≡◌, ◌∷◌, [], true, IfOk, map};
-ghost use Rattle.std.specs.List.{All};
-ghost use Rattle.std.specs.Option.{IsSome};
 ghost use Rattle.run_plan.specs.Sound.{Sound};
 ghost use Rattle.action_list.specs.Keys.{worker_words};
 ghost use Rattle.action_list.specs.Parts.{command_of};
 ghost use Rattle.action_list.specs.Plans.{plan_of};
 ghost use Rattle.action_list.specs.Whole.{IsWhole};
-ghost use Rattle.flag_files.specs.Split.{request_words};
-ghost use Rattle.outside.specs.Floor.{file_at};
-ghost use Rattle.worker_run.specs.Prepared.{AreAccepted, HasFewOutputs, is_served, named, Prepares, Expands};
-ghost use Rattle.worker_run.specs.Sources.{held};
+ghost use Rattle.run_loading.specs.Works.{source_files};
+ghost use Rattle.worker_run.specs.Prepared.{AreAccepted, HasFewOutputs, IsJobOf, is_served, named, request_frame};
 
-use crate::frame::request_frame;
-use crate::sources::Sources;
 use crate::work::OneJob;
-use crate::{RunFault, Stage};
 use action_list::{ActionList, ListAction, group_parts, plan};
+use due_frames::{Due, send_frame};
 use exec_journal::Plan;
-use flag_files::{FlagFault, SplitFault, expand, split_args};
 use outside::{Command, SourceFile};
 use plain_values::{Items, NoMemory, Text, texts_again};
-use remote_messages::NamedFile;
+use remote_messages::{NamedFile, WorkAction};
+use run_loading::source_files;
+use run_plan::Speech;
+use sandbox_rooms::Room;
 use std::alloc::Global;
 use tool_words::Options;
 
-/// What the one action of the list asks of the outside, where these are its sources.
+/// The number of the one request.
+const NUMBER: i32 = 0;
+
+/// What the one action of the list asks of the outside, where this is its work.
 ///
 /// # Errors
 ///
-/// `Flags` where its request words can't be expanded; `NoMemory`.
-pub fn work_of(
+/// `NoMemory`.
+pub fn job_of(
     alloc: Global,
     options: &Options,
     list: &ActionList,
     action: &ListAction,
-    sources: &Sources,
-) -> Result<OneJob, RunFault>
+    work: &WorkAction,
+) -> Result<OneJob, NoMemory>
     requires options { AreAccepted options.now }
     requires list { IsWhole list.now.actions }
     requires one { list.now.actions ≡ action.now ∷ [] }
     requires served { is_served action.now ≡ true }
-    requires inputs { All (λ p. IsSome (file_at (held sources.now) p)) action.now.inputs }
-    ensures work { Prepares options.now action.now (held sources.now) result }
-    ensures sound { IfOk result (λ work. Sound work.plan) }
+    ensures job { IfOk result
+        (IsJobOf options.now action.now work.now (source_files work.now.inputs)) }
+    ensures sound { IfOk result (λ job. Sound job.plan) }
     ensures few { IfOk result HasFewOutputs }
 {
-    let inputs = sources.files_at(alloc, action.inputs.as_slice())?;
-    let words = expanded(alloc, action.argv.as_slice(), inputs.as_slice())?;
+    let files = source_files(alloc, work.inputs.as_slice())?;
+    let inputs = named_files(alloc, files.as_slice())?;
     let plan = plan_of(alloc, options, list)?;
     let command = command_of(alloc, options, list, action, &plan)?;
-    let frame = request_frame(alloc, words, inputs.as_slice(), options.verbose)?;
+    let frame = request_frame(alloc, work, inputs.as_slice(), options.verbose)?;
     let outputs = texts_again(alloc, action.outputs.as_slice())?;
     Ok(OneJob {
         plan,
         command,
-        inputs: named_files(alloc, inputs.as_slice())?,
+        inputs,
         outputs,
         frame,
     })
@@ -73,6 +72,30 @@ fn named_files(alloc: Global, files: &[SourceFile]) -> Result<Items<NamedFile>, 
         })?;
     }
     Ok(Items::of(given))
+}
+
+// The one request, as it is written to the worker.
+fn request_frame(
+    alloc: Global,
+    work: &WorkAction,
+    inputs: &[NamedFile],
+    verbose: bool,
+) -> Result<Items<u8>, NoMemory>
+    ensures { IfOk result (λ frame. frame ≡ request_frame work.now inputs.now verbose) }
+{
+    match send_frame(
+        alloc,
+        Speech::Proto,
+        Room::Whole,
+        NUMBER,
+        work,
+        inputs,
+        verbose,
+    )? {
+        Due::Frame(frame) => Ok(frame),
+        // Only a job for the executor is.
+        Due::TooLarge => unreachable!(),
+    }
 }
 
 /// The plan of the list by these options.
@@ -94,31 +117,6 @@ pub fn plan_of(alloc: Global, options: &Options, list: &ActionList) -> Result<Pl
         options.remote,
         options.retries,
     )
-}
-
-// The words of the action's request: those that name flag files, expanded over its inputs.
-fn expanded(alloc: Global, argv: &[Text], inputs: &[SourceFile]) -> Result<Vec<Text>, RunFault>
-    ensures { Expands (request_words argv.now) inputs.now result }
-{
-    let words = request_words(alloc, argv)?;
-    match expand(alloc, words.as_slice(), inputs) {
-        Ok(words) => Ok(words),
-        Err(FlagFault::NoMemory) => Err(RunFault::NoMemory(Stage::Before)),
-        Err(fault) => Err(RunFault::Flags { action: 0, fault }),
-    }
-}
-
-fn request_words(alloc: Global, argv: &[Text]) -> Result<Items<Text>, NoMemory>
-    ensures { IfOk result (λ words. words ≡ request_words argv.now) }
-{
-    if argv.is_empty() {
-        return Ok(Items::of(Vec::new(alloc)));
-    }
-    match split_args(alloc, argv, &[]) {
-        Ok(split) => Ok(split.request),
-        Err(SplitFault::NoFlagFile) => Ok(Items::of(Vec::new(alloc))),
-        Err(SplitFault::NoMemory) => Err(NoMemory),
-    }
 }
 
 // The command of the plan's one group.

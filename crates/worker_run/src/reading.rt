@@ -5,18 +5,22 @@ ghost use Rattle.action_list.specs.Whole.{IsWhole};
 ghost use Rattle.outside.specs.Causes.{Counts};
 ghost use Rattle.outside.specs.Told.{SameFloor};
 ghost use Rattle.tool_words.specs.Options.{options_of};
-ghost use Rattle.worker_run.specs.Course.{Course, OptionsRead, ListRead, ActionsRead, OneRead, ActionRead, Reads, UnlessBefore, IsFloorFailed, OnPlan, OnWork, end_of};
+ghost use Rattle.run_loading.specs.Reads.{IsFloorFailed, Leads, end_of};
+ghost use Rattle.worker_run.specs.Course.{Course, OptionsRead, ListRead, ActionsRead, KindRead, ActionRead, OnPlan, OnWork};
 ghost use Rattle.worker_run.specs.Prepared.{AreAccepted, HasFewOutputs, is_served};
 
-use crate::preparing::{plan_of, work_of};
-use crate::sources::{read_found, read_sources};
+use crate::preparing::{job_of, plan_of};
 use crate::work::OneJob;
-use crate::{RunFault, Stage, Unbuilt};
-use action_list::{ActionList, ListAction, ListRefusal, Strategy, read_list};
+use crate::{RunFault, Unbuilt};
+use action_list::{ActionList, ListAction, Strategy};
 use exec_journal::Plan;
 use outside::Floor;
+use run_loading::{load_work, read_actions};
 use std::alloc::Global;
 use tool_words::{Options, read_words};
+
+/// The most worker keys that a list may have.
+const KEYS: u32 = 48;
 
 /// What is to be done.
 #[derive(Drop)]
@@ -29,8 +33,8 @@ pub enum Job {
 
 /// Reads the list that the words name, and what its action reads.
 pub fn read_job<F: Floor>(alloc: Global, words: &[String], floor: &mut F) -> Result<Job, RunFault>
-    ensures course { UnlessBefore (end_of result) (Reads (F.told floor.old) (F.told floor.new)
-        (λ reads. Course (options_of (map string_bytes words.now)) reads result)) }
+    ensures course { Leads (F.told floor.old) (F.told floor.new) result
+        (Course (options_of (map string_bytes words.now))) }
     ensures sound { OnPlan result Sound }
     ensures few { OnWork result HasFewOutputs }
     ensures floor { Counts (F.told floor.old).faults (F.told floor.new).faults
@@ -49,8 +53,8 @@ fn read_by_options<F: Floor>(
     options: &Options,
 ) -> Result<Job, RunFault>
     requires { AreAccepted options.now }
-    ensures course { UnlessBefore (end_of result) (Reads (F.told floor.old) (F.told floor.new)
-        (λ reads. OptionsRead options.now options.now.list reads result)) }
+    ensures course { Leads (F.told floor.old) (F.told floor.new) result
+        (OptionsRead options.now options.now.list) }
     ensures sound { OnPlan result Sound }
     ensures few { OnWork result HasFewOutputs }
     ensures floor { Counts (F.told floor.old).faults (F.told floor.new).faults
@@ -71,23 +75,19 @@ fn read_at<F: Floor>(
     path: &str,
 ) -> Result<Job, RunFault>
     requires { AreAccepted options.now }
-    ensures course { UnlessBefore (end_of result) (Reads (F.told floor.old) (F.told floor.new)
-        (λ reads. ListRead options.now path.now reads result)) }
+    ensures course { Leads (F.told floor.old) (F.told floor.new) result
+        (ListRead options.now path.now) }
     ensures sound { OnPlan result Sound }
     ensures few { OnWork result HasFewOutputs }
     ensures floor { Counts (F.told floor.old).faults (F.told floor.new).faults
         (IsFloorFailed (end_of result)) }
     ensures files { SameFloor (F.told floor.old) (F.told floor.new) }
 {
-    let bytes = read_found(alloc, floor, path)?;
-    match read_list(alloc, bytes.bytes()) {
-        Ok(list) => read_actions(alloc, floor, options, &list),
-        Err(ListRefusal::Fault(fault)) => Err(RunFault::List(fault)),
-        Err(ListRefusal::NoMemory) => Err(RunFault::NoMemory(Stage::Before)),
-    }
+    let list = read_actions(alloc, path, KEYS, floor)?;
+    read_by_list(alloc, floor, options, &list)
 }
 
-fn read_actions<F: Floor>(
+fn read_by_list<F: Floor>(
     alloc: Global,
     floor: &mut F,
     options: &Options,
@@ -95,8 +95,8 @@ fn read_actions<F: Floor>(
 ) -> Result<Job, RunFault>
     requires options { AreAccepted options.now }
     requires list { IsWhole list.now.actions }
-    ensures course { UnlessBefore (end_of result) (Reads (F.told floor.old) (F.told floor.new)
-        (λ reads. ActionsRead options.now list.now.actions reads result)) }
+    ensures course { Leads (F.told floor.old) (F.told floor.new) result
+        (ActionsRead options.now list.now.actions) }
     ensures sound { OnPlan result Sound }
     ensures few { OnWork result HasFewOutputs }
     ensures floor { Counts (F.told floor.old).faults (F.told floor.new).faults
@@ -121,8 +121,8 @@ fn read_one<F: Floor>(
     requires options { AreAccepted options.now }
     requires list { IsWhole list.now.actions }
     requires one { list.now.actions ≡ action.now ∷ [] }
-    ensures course { UnlessBefore (end_of result) (Reads (F.told floor.old) (F.told floor.new)
-        (λ reads. OneRead options.now action.now (is_served action.now) reads result)) }
+    ensures course { Leads (F.told floor.old) (F.told floor.new) result
+        (KindRead options.now action.now (is_served action.now)) }
     ensures sound { OnPlan result Sound }
     ensures few { OnWork result HasFewOutputs }
     ensures floor { Counts (F.told floor.old).faults (F.told floor.new).faults
@@ -156,15 +156,15 @@ fn read_action<F: Floor>(
     requires list { IsWhole list.now.actions }
     requires one { list.now.actions ≡ action.now ∷ [] }
     requires served { is_served action.now ≡ true }
-    ensures course { UnlessBefore (end_of result) (Reads (F.told floor.old) (F.told floor.new)
-        (λ reads. ActionRead options.now action.now reads result)) }
+    ensures course { Leads (F.told floor.old) (F.told floor.new) result
+        (ActionRead options.now action.now) }
     ensures sound { OnPlan result Sound }
     ensures few { OnWork result HasFewOutputs }
     ensures floor { Counts (F.told floor.old).faults (F.told floor.new).faults
         (IsFloorFailed (end_of result)) }
     ensures files { SameFloor (F.told floor.old) (F.told floor.new) }
 {
-    let sources = read_sources(alloc, floor, action)?;
-    let work = work_of(alloc, options, list, action, &sources)?;
-    Ok(Job::One(work))
+    let work = load_work(alloc, list, floor)?;
+    let own = &work.actions.as_slice()[0];
+    Ok(Job::One(job_of(alloc, options, list, action, own)?))
 }

@@ -4,7 +4,7 @@ ghost use Rattle.std.specs.Option.{option_map};
 ghost use Rattle.run_plan.specs.Sound.{Sound};
 ghost use Rattle.outside.specs.Causes.{Counts};
 ghost use Rattle.tool_words.specs.Options.{options_of};
-ghost use Rattle.worker_run.specs.Course.{IsFloorFailed};
+ghost use Rattle.run_loading.specs.Reads.{IsFloorFailed};
 ghost use Rattle.worker_run.specs.Ends.{report_by, RunEnds, OneEnds, EndsBy, Puts, IsPutEnd, IsAfterReading, IsAfterStart};
 ghost use Rattle.worker_run.specs.Faults.{end_status};
 ghost use Rattle.worker_run.specs.Prepared.{HasFewOutputs};

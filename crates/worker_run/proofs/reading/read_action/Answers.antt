@@ -1,23 +1,25 @@
-use Rattle.std.proofs.Common.{[]}
+use Rattle.std.proofs.Common.{arith}
 use Rattle.std.proofs.lemmas.Result.{err_from_is_err_and}
-use Rattle.worker_run.specs.Sources.{held, with_paths}
-use Rattle.worker_run.proofs.Gathering.{each_has_file}
-use Rattle.worker_run.proofs.Courses.{sources_end, words_end, work_made}
+use Rattle.worker_run.proofs.Courses.{action_counted, action_ends, action_made}
 use Rattle.worker_run.proofs.reading.read_action.Goals as goal
-
-pub returns-in_err-sources-clause-course : goal.returns-in_err-sources-clause-course
-returns-in_err-sources-clause-course g c =
-    let p = err_from_is_err_and c.from_residual.result c.from_residual.ensures.1 in
-    rw (p.1, p.2) (sources_end c.args.options.now c.args.action.now _ (g.F.Floor.told c.args.floor.now).files (g.F.Floor.told c.args.floor.now).log (g.F.Floor.told c.read_sources.new.floor).log c.in_err-sources.ensures.course)
-
-pub work_of-requires-clause-inputs : goal.work_of-requires-clause-inputs
-work_of-requires-clause-inputs g c = each_has_file (with_paths [] c.args.action.now.tools) c.args.action.now.inputs (held c.in_ok-sources.sources) c.in_ok-sources.ensures.course.3.in_order
 
 pub returns-in_err-work-clause-course : goal.returns-in_err-work-clause-course
 returns-in_err-work-clause-course g c =
-    let p = err_from_is_err_and c.from_residual-in_err-work.result c.from_residual-in_err-work.ensures.1 in
-    rw (p.1, p.2) (words_end c.args.options.now c.args.action.now c.in_ok-sources.sources _ (g.F.Floor.told c.args.floor.now).files (g.F.Floor.told c.args.floor.now).log (g.F.Floor.told c.read_sources.new.floor).log c.in_ok-sources.ensures.course c.in_err-work.ensures.work)
+    let told = g.F.Floor.told in
+    let p = err_from_is_err_and c.from_residual.result c.from_residual.ensures.1 in
+    rw (p.1, p.2)
+    (action_ends c.args.options.now c.args.list.now.actions c.args.action.now (told c.args.floor.now) (told c.load_work.new.floor) _
+    c.requires.list c.requires.one c.requires.served c.in_err-work.ensures.course)
+
+pub index-as_slice-0-requires : goal.index-as_slice-0-requires
+index-as_slice-0-requires g c =
+    let told = g.F.Floor.told in
+    let n = action_counted c.args.list.now.actions c.args.action.now (told c.args.floor.now) (told c.load_work.new.floor) c.in_ok-work.work c.requires.one c.in_ok-work.ensures.course in
+    rw (c.as_slice.ensures) (omega (arith, n))
 
 pub returns-clause-course : goal.returns-clause-course
 returns-clause-course g c =
-    work_made c.args.options.now c.args.action.now c.in_ok-sources.sources c.in_ok-work.work (g.F.Floor.told c.args.floor.now).files (g.F.Floor.told c.args.floor.now).log (g.F.Floor.told c.read_sources.new.floor).log c.in_ok-sources.ensures.course c.in_ok-work.ensures.work
+    let told = g.F.Floor.told in
+    action_made c.args.options.now c.args.list.now.actions c.args.action.now (told c.args.floor.now) (told c.load_work.new.floor)
+    c.in_ok-work.work c.as_slice.result.now c.index-as_slice-0.result c.in_ok-job_of.field-0 c.requires.list c.requires.one c.requires.served
+    c.in_ok-work.ensures.course c.as_slice.ensures c.index-as_slice-0.is c.in_ok-job_of.ensures.job

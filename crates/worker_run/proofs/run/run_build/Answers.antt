@@ -28,5 +28,5 @@ pub returns-in-Err-clause-sink : goal.returns-in-Err-clause-sink
 returns-in-Err-clause-sink g c =
     rw (c.with_no_lane.ensures) (record {
       later = omega arith;
-      rose = λ e. absurd (not_sink (options_of (map string_bytes c.args.words.now)) c.in-Err.fault (g.F.Floor.told c.args.floor).files (g.F.Floor.told c.args.floor).log (g.F.Floor.told c.read_job.new.floor).log c.in-Err.ensures.course e);
+      rose = λ e. absurd (not_sink (options_of (map string_bytes c.args.words.now)) c.in-Err.fault (g.F.Floor.told c.args.floor) (g.F.Floor.told c.read_job.new.floor) c.in-Err.ensures.course e);
     })
