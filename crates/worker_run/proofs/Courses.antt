@@ -61,8 +61,8 @@ action_made o xs x old new work ws w made whole one served l same is j =
     reads_weaker old new
     (λ reads. WorkRead xs reads (Ok work)) (λ reads. ActionRead o x reads (Ok (job.One made)))
     (λ reads h.
-      let here = subst (λ ys. WorkRead ys reads (Ok work)) one h in
-      sole_made o x reads work w made sole served here own j) l
+    let here = subst (λ ys. WorkRead ys reads (Ok work)) one h in
+    sole_made o x reads work w made sole served here own j) l
 
 -- ---- its kind
 
