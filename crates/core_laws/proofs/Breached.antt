@@ -48,13 +48,21 @@ module _ (p : Plan) (s : State) (j : List Entry) (lane l : ℕ) (st : Stands p s
     wrote_entry = record { lane = lane; call = call.Wrote l n write.Done; reply = reply.Noted }
 
     wrote_quiet : IsQuiet p j wrote_entry
-    wrote_quiet = record { no_launch = refl; no_send = refl; no_take = λ m. refl; no_break = λ m. no_cause m (l == m) (order_of j lane); no_feed = aside_feed wrote_entry j refl }
+    wrote_quiet = record {
+      no_launch = refl;
+      no_send = refl;
+      no_take = λ m. refl;
+      no_break = λ m. no_cause m (l == m) (order_of j lane);
+      no_feed = aside_feed wrote_entry j refl;
+    }
       where
-        no_cause : (m : ℕ) (b : Bool) (o : Option Request) → ◌≡◌ {A = Option Cause} (cond b None None) None
+        no_cause : (m : ℕ) (b : Bool) (o : Option Request)
+            → ◌≡◌ {A = Option Cause} (cond b None None) None
         no_cause m true o = refl
         no_cause m false o = refl
 
-    whole : (t : Attempt) (o : Option Request) → is_faulty (wrote_if t (call.Wrote l n write.Done) o) ≡ false
+    whole : (t : Attempt) (o : Option Request) → is_faulty
+        (wrote_if t (call.Wrote l n write.Done) o) ≡ false
     whole t None = refl
     whole t (Some q) = by (same_attempt q.attempt t)
       where
@@ -62,19 +70,26 @@ module _ (p : Plan) (s : State) (j : List Entry) (lane l : ℕ) (st : Stands p s
         by true = refl
         by false = refl
 
-    faulty_same : (o q : Option Written) → is_faulty o ≡ false → is_faulty (unless_before o q) ≡ is_faulty q
+    faulty_same : (o q : Option Written) → is_faulty o ≡ false
+        → is_faulty (unless_before o q) ≡ is_faulty q
     faulty_same None q h = refl
     faulty_same (Some w) None h = h
     faulty_same (Some w) (Some v) h = refl
 
     wrote_spends : SpendsNone p j wrote_entry
     unfolding wrote granted grant_of gathered
-    wrote_spends = record { no_send = refl; no_match = refl; same = λ t. ap (λ b. gathered j t || (b || granted j t.action)) (faulty_same (wrote_at t j wrote_entry) (wrote j t) (whole t (order_of j lane))) }
+    wrote_spends = record {
+      no_send = refl;
+      no_match = refl;
+      same = λ t. ap (λ b. gathered j t || (b || granted j t.action))
+          (faulty_same (wrote_at t j wrote_entry) (wrote j t) (whole t (order_of j lane)));
+    }
 
     wrote_same : SameActions j (wrote_entry ∷ j)
     wrote_same = quiet_actions wrote_entry j refl refl
 
-    pub wrote_stands : Stands p (noted_after s lane (call.Wrote l n write.Done) reply.Noted) (wrote_entry ∷ j)
+    pub wrote_stands : Stands p (noted_after s lane (call.Wrote l n write.Done) reply.Noted)
+        (wrote_entry ∷ j)
     unfolding halted
     wrote_stands = record {
       plan = st.plan;
@@ -95,7 +110,9 @@ module _ (p : Plan) (s : State) (j : List Entry) (lane l : ℕ) (st : Stands p s
 
   -- ---- a Breach that no request is asked for: the line broke before, or the number is wrong
 
-  module _ (x : Answer) (y : BreachWhy) (may : script p j lane (call.Answer l x) ≡ true) (is : reply.Breach y ≡ r.rule p j lane (call.Answer l x)) (here : last_line j (lane / 2) ≡ Some l) where
+  module _ (x : Answer) (y : BreachWhy) (may : script p j lane (call.Answer l x) ≡ true)
+      (is : reply.Breach y ≡ r.rule p j lane (call.Answer l x))
+      (here : last_line j (lane / 2) ≡ Some l) where
     abbrev breach_entry : Entry
     breach_entry = record { lane = lane; call = call.Answer l x; reply = reply.Breach y }
 
@@ -107,7 +124,8 @@ module _ (p : Plan) (s : State) (j : List Entry) (lane l : ℕ) (st : Stands p s
     spends = record { no_send = refl; no_match = refl; same = λ t. refl }
 
     owned : (v : ℕ) (k : ℕ) → last_line j v ≡ Some k → IsOfBerth j k v
-    owned v k h = subst (λ (o : Option ℕ). OfBerth j o v) h (last_line_own v j (lines_named p j st.legal))
+    owned v k h = subst (λ (o : Option ℕ). OfBerth j o v) h
+        (last_line_own v j (lines_named p j st.legal))
 
     abbrev lane_in : Option (ℕ × Attempt) → ℕ
     lane_in (Some z) = z.0
@@ -124,38 +142,49 @@ module _ (p : Plan) (s : State) (j : List Entry) (lane l : ℕ) (st : Stands p s
     cause_more c None = refl
     cause_more c (Some d) = refl
 
-    broken_row : (k : ℕ) (b : Bool) → (l == k) ≡ b → row_of (breach_entry ∷ j) (Some k) ≡ cond b (set_cause cause.Breach (row_of j (Some k))) (row_of j (Some k))
+    broken_row : (k : ℕ) (b : Bool) → (l == k) ≡ b → row_of (breach_entry ∷ j) (Some k) ≡ cond b
+        (set_cause cause.Breach (row_of j (Some k))) (row_of j (Some k))
     unfolding launch_of was_taken line_cause fed_of sends wrote
-    broken_row k true h = rw h (ap (λ c. row_by (option_map (λ z. z.1) (launch_of j k)) (was_taken j k) c (fed_of j k)) (cause_more cause.Breach (line_cause j k)))
+    broken_row k true h = rw h (ap (λ c. row_by (option_map (λ z. z.1) (launch_of j k))
+        (was_taken j k) c (fed_of j k)) (cause_more cause.Breach (line_cause j k)))
     broken_row k false h = rw h refl
 
     broken_by : (v : ℕ) (o : Option ℕ) (b known : Bool) → last_line j v ≡ o → (lane / 2 == v) ≡ b
-        → cond b (option_map (set_cause cause.Breach) (cond known (Some (row_of j o)) None)) (cond known (Some (row_of j o)) None) ≡ cond known (Some (row_of (breach_entry ∷ j) o)) None
+        → cond b (option_map (set_cause cause.Breach) (cond known (Some (row_of j o)) None))
+        (cond known (Some (row_of j o)) None) ≡ cond known
+        (Some (row_of (breach_entry ∷ j) o)) None
     broken_by v o true false h e = refl
     broken_by v o false false h e = refl
     broken_by v None false true h e = refl
-    broken_by v None true true h e = absurd (let even = eqb-true (lane / 2) v e in let k = sym here ∙ ap (last_line j) even ∙ h in cc)
+    broken_by v None true true h e = absurd (let even = eqb-true (lane / 2) v e in
+        let k = sym here ∙ ap (last_line j) even ∙ h in cc)
     broken_by v (Some k) true true h e =
         let even = eqb-true (lane / 2) v e in
         let line : l ≡ k = (let q = sym here ∙ ap (last_line j) even ∙ h in cc) in
         ap Some (sym (broken_row k true (eq-eqb l k line)))
     broken_by v (Some k) false true h e =
         ap Some (sym (broken_row k false (by_bool (l == k) (λ b. (l == k) ≡ b → (l == k) ≡ false)
-        (λ yes q. absurd (let line = eqb-true l k yes in let w = one_berth v (h ∙ ap Some (sym line)) in let z = eq-eqb (lane / 2) v w in cc)) (λ ne q. q) refl)))
+        (λ yes q. absurd (let line = eqb-true l k yes in let w =
+        one_berth v (h ∙ ap Some (sym line)) in let z = eq-eqb (lane / 2) v w in cc))
+        (λ ne q. q) refl)))
 
     no_line : (w : ℕ) (b : Bool) → or_else (cond b None None) (last_line j w) ≡ last_line j w
     no_line w true = refl
     no_line w false = refl
 
-    last_is : (v : ℕ) → slice_get (update (set_cause cause.Breach) s.last (lane / 2)) v ≡ last_in p (breach_entry ∷ j) v
+    last_is : (v : ℕ) → slice_get (update (set_cause cause.Breach) s.last (lane / 2)) v ≡ last_in p
+        (breach_entry ∷ j) v
     unfolding last_in last_line
     last_is v =
         get_update (set_cause cause.Breach) s.last (lane / 2) v
-        ∙ ap (λ (o : Option LastLine). cond (lane / 2 == v) (option_map (set_cause cause.Breach) o) o) (st.last v)
+        ∙ ap (λ (o : Option LastLine). cond (lane / 2 == v)
+        (option_map (set_cause cause.Breach) o) o) (st.last v)
         ∙ broken_by v (last_line j v) (lane / 2 == v) (nat_lt v (berths p)) refl refl
-        ∙ ap (λ o. cond (nat_lt v (berths p)) (Some (row_of (breach_entry ∷ j) o)) None) (sym (no_line v (lane / 2 == v)))
+        ∙ ap (λ o. cond (nat_lt v (berths p)) (Some (row_of (breach_entry ∷ j) o)) None)
+        (sym (no_line v (lane / 2 == v)))
 
-    pub breach_stands : Stands p (noted_after (breached s (lane / 2) l) lane (call.Answer l x) (reply.Breach y)) (breach_entry ∷ j)
+    pub breach_stands : Stands p (noted_after (breached s (lane / 2) l) lane (call.Answer l x)
+        (reply.Breach y)) (breach_entry ∷ j)
     unfolding halted
     breach_stands = record {
       plan = st.plan;

@@ -88,13 +88,18 @@ work_launches : (o : Option Entry) → launched_in (order_of_work o) ≡ launch_
 work_launches None = refl
 work_launches (Some e) = order_launches e.reply
 
-pub launch_is : (p : Plan) (s : State) (j : List Entry) (lane : ℕ) (c : Call) → Stands p s j → script p j lane c ≡ true → launch_by s lane ≡ launch_of_entry (last_work j lane)
+pub launch_is : (p : Plan) (s : State) (j : List Entry) (lane : ℕ) (c : Call) → Stands p s j
+    → script p j lane c ≡ true → launch_by s lane ≡ launch_of_entry (last_work j lane)
 unfolding lane_in
 launch_is p s j lane c st may =
-    ap (λ (o : Option LaneState). launched_in (order_on o)) (st.lanes lane ∙ ap (λ b. cond b (Some (state_by (last_work j lane) (stopped j lane) (has_halted j lane))) None) (lane_inside p j lane c may))
+    ap (λ (o : Option LaneState). launched_in (order_on o))
+    (st.lanes lane ∙ ap (λ b. cond b (Some (state_by (last_work j lane) (stopped j lane)
+    (has_halted j lane))) None) (lane_inside p j lane c may))
     ∙ work_launches (last_work j lane)
 
-module _ (p : Plan) (s : State) (j : List Entry) (lane l : ℕ) (how : Started) (st : Stands p s j) (all : LegalMore p j) (may : script p j lane (call.Launched l how) ≡ true) (fault : is_done how ≡ false) where
+module _ (p : Plan) (s : State) (j : List Entry) (lane l : ℕ) (how : Started) (st : Stands p s j)
+    (all : LegalMore p j) (may : script p j lane (call.Launched l how) ≡ true)
+    (fault : is_done how ≡ false) where
   abbrev fault_entry : Entry
   fault_entry = record { lane = lane; call = call.Launched l how; reply = reply.Noted }
 
@@ -103,7 +108,13 @@ module _ (p : Plan) (s : State) (j : List Entry) (lane l : ℕ) (how : Started) 
 
   quiet : IsQuiet p j fault_entry
   unfolding wrote
-  quiet = record { no_launch = refl; no_send = refl; no_take = λ m. refl; no_break = λ m. refl; no_feed = λ u. refl }
+  quiet = record {
+    no_launch = refl;
+    no_send = refl;
+    no_take = λ m. refl;
+    no_break = λ m. refl;
+    no_feed = λ u. refl;
+  }
 
   spends : SpendsNone p j fault_entry
   unfolding wrote granted grant_of gathered
@@ -131,14 +142,17 @@ module _ (p : Plan) (s : State) (j : List Entry) (lane l : ℕ) (how : Started) 
 
     together : EndsTogether j fault_entry (t ∷ [])
     together = record {
-      these = λ u. (all.entries fault_entry fault_legal).launched l m how t refl fault at u ∙ ap (λ b. ended j u || b) (one_test j t u);
+      these = λ u. (all.entries fault_entry fault_legal).launched l m how t refl fault at u
+          ∙ ap (λ b. ended j u || b) (one_test j t u);
       none_begins = λ a b. attempt_other fault_entry j a b refl;
       grant = same_grant;
       commit = same_commit;
     }
 
     fault_is : (u : Attempt) → is_some (fault_at u j fault_entry) ≡ same_attempt t u
-    fault_is u = ap (λ o. is_some (cond (is_for u o) (start_cause how) None)) newest ∙ by_bool (same_attempt t u) (λ b. is_some (cond b (start_cause how) None) ≡ b) (λ _. started_some how fault) (λ _. refl)
+    fault_is u = ap (λ o. is_some (cond (is_for u o) (start_cause how) None)) newest
+        ∙ by_bool (same_attempt t u) (λ b. is_some (cond b (start_cause how) None) ≡ b)
+        (λ _. started_some how fault) (λ _. refl)
 
     -- of what is bound to a line, exactly where the line is this
     faulted : AreFaulted p j fault_entry (l ∷ [])
@@ -153,29 +167,51 @@ module _ (p : Plan) (s : State) (j : List Entry) (lane l : ℕ) (how : Started) 
             let b = bound_is p j k u was in
             by_bool (l == k) (λ c. (l == k) ≡ c → c ≡ same_attempt t u)
             (λ _ h. let line = eqb-true l k h in
-            let both : Some (m, t) ≡ Some (b.lane, u) = sym at ∙ ap (launch_of j) line ∙ b.launched in
+            let both : Some (m, t) ≡ Some (b.lane, u) = sym at ∙ ap (launch_of j) line
+            ∙ b.launched in
             let pair : (m, t) ≡ (b.lane, u) = cc in
             let one : t ≡ u = ap (λ (x : ℕ × Attempt). x.1) pair in
             sym (ap (same_attempt t) (sym one) ∙ same_attempt_refl t))
             (λ _ h. by_bool (same_attempt t u) (λ c. same_attempt t u ≡ c → false ≡ c)
-            (λ _ g. absurd (let one = same_attempt_eq t u g in let line = launched_once j (begin_in_order p j st.legal) l k m b.lane t at (b.launched ∙ ap (λ x. Some (b.lane, x)) (sym one)) in let z = eq-eqb l k line in cc)) (λ _ g. refl) refl) refl
+            (λ _ g. absurd (let one = same_attempt_eq t u g in
+            let line = launched_once j (begin_in_order p j st.legal) l k m b.lane t at
+            (b.launched ∙ ap (λ x. Some (b.lane, x)) (sym one)) in let z = eq-eqb l k line in
+            cc)) (λ _ g. refl) refl) refl
 
     aside : (not (is_done how) && true) ≡ true
     aside = rw fault refl
 
-    fault_keeps : Stands p (noted_after (with_end (with_pool s (rows.change s.pool l rows.set_unbound)) t) lane (call.Launched l how) reply.Noted) (fault_entry ∷ j)
+    fault_keeps : Stands p (noted_after (with_end (with_pool s
+        (rows.change s.pool l rows.set_unbound)) t) lane (call.Launched l how) reply.Noted)
+        (fault_entry ∷ j)
     unfolding halted
     fault_keeps = record {
       plan = st.plan;
       sound = st.sound;
       legal = (st.legal, fault_legal);
-      pool = aside_kept p s.pool j fault_entry st.pool aside (l ∷ []) (faults_unbind p j fault_entry aside refl (all.entries fault_entry fault_legal).stays (l ∷ []) faulted);
+      pool = aside_kept p s.pool j fault_entry st.pool aside (l ∷ [])
+          (faults_unbind p j fault_entry aside refl (all.entries fault_entry fault_legal).stays
+          (l ∷ []) faulted);
       requests = asks.others p s.requests j fault_entry st.requests refl refl;
       cancels = marks.others p s.cancels j fault_entry st.cancels refl refl refl;
-      ready = subst (λ (q : Plan). queue-stands.Stands p (states_after q s.race s.attempts s.ready t) (fault_entry ∷ j)) (sym st.plan)
-          (several_states p st.sound.least s.race j fault_entry (t ∷ []) (record { order = attempts_in_order p j st.legal; unbegun = all.facts.unbegun_goes; won = st.race }) ((started_at, all.more.used t started_at), tt) together s.attempts st.attempts s.ready st.ready);
-      race = races.others p s.race j (fault_entry ∷ j) st.race (record { grant = same_grant; commit = same_commit });
-      attempts = several_counts p st.sound.least s.race j fault_entry (t ∷ []) (record { order = attempts_in_order p j st.legal; unbegun = all.facts.unbegun_goes; won = st.race }) ((started_at, all.more.used t started_at), tt) together s.attempts st.attempts s.ready st.ready;
+      ready = subst (λ (q : Plan). queue-stands.Stands p
+          (states_after q s.race s.attempts s.ready t) (fault_entry ∷ j)) (sym st.plan)
+          (several_states p st.sound.least s.race j fault_entry (t ∷ [])
+          (record {
+            order = attempts_in_order p j st.legal;
+            unbegun = all.facts.unbegun_goes;
+            won = st.race;
+          }) ((started_at, all.more.used t started_at), tt) together s.attempts
+          st.attempts s.ready st.ready);
+      race = races.others p s.race j (fault_entry ∷ j) st.race
+          (record { grant = same_grant; commit = same_commit });
+      attempts = several_counts p st.sound.least s.race j fault_entry (t ∷ [])
+          (record {
+            order = attempts_in_order p j st.legal;
+            unbegun = all.facts.unbegun_goes;
+            won = st.race;
+          }) ((started_at, all.more.used t started_at), tt) together s.attempts
+          st.attempts s.ready st.ready;
       lanes = lanes_kept p j fault_entry s.lanes st.lanes;
       greetings = quiet_greetings p j fault_entry refl refl s.greetings st.greetings;
       last = last_kept p j fault_entry quiet s.last st.last;
@@ -183,19 +219,28 @@ module _ (p : Plan) (s : State) (j : List Entry) (lane l : ℕ) (how : Started) 
       halted = st.halted;
     }
 
-  launch_fault : Stands p (noted_after (launched_with s lane l how) lane (call.Launched l how) reply.Noted) (fault_entry ∷ j)
+  launch_fault : Stands p (noted_after (launched_with s lane l how) lane
+      (call.Launched l how) reply.Noted) (fault_entry ∷ j)
   launch_fault =
-      let own = (berth_of p s j (lane / 2) l st ((all.calls lane (call.Launched l how) may).names l refl)).owner in
+      let own = (berth_of p s j (lane / 2) l st ((all.calls lane (call.Launched l how) may).names l
+      refl)).owner in
       subst (λ x. Stands p (noted_after x lane (call.Launched l how) reply.Noted) (fault_entry ∷ j))
-      (sym (ap (λ b. cond b (with_pool s (rows.change s.pool l rows.set_started)) (end_of_some (with_pool s (rows.change s.pool l rows.set_unbound)) (launch_by s lane))) fault
-      ∙ ap (end_of_some (with_pool s (rows.change s.pool l rows.set_unbound))) (launch_is p s j lane (call.Launched l how) st may ∙ newest own.0 own.1 own.2)))
+      (sym (ap (λ b. cond b (with_pool s (rows.change s.pool l rows.set_started))
+      (end_of_some (with_pool s (rows.change s.pool l rows.set_unbound)) (launch_by s lane)))
+      fault
+      ∙ ap (end_of_some (with_pool s (rows.change s.pool l rows.set_unbound)))
+      (launch_is p s j lane (call.Launched l how) st may ∙ newest own.0 own.1 own.2)))
       (fault_keeps own.0 own.1 own.2)
 
-launched_keeps : (p : Plan) (s : State) (j : List Entry) (lane l : ℕ) (how : Started) → Stands p s j → LegalMore p j → script p j lane (call.Launched l how) ≡ true
-    → Stands p (noted_after (launched_with s lane l how) lane (call.Launched l how) reply.Noted) (record { lane = lane; call = call.Launched l how; reply = reply.Noted } ∷ j)
+launched_keeps : (p : Plan) (s : State) (j : List Entry) (lane l : ℕ) (how : Started) → Stands p s j
+    → LegalMore p j → script p j lane (call.Launched l how) ≡ true
+    → Stands p (noted_after (launched_with s lane l how) lane (call.Launched l how) reply.Noted)
+    (record { lane = lane; call = call.Launched l how; reply = reply.Noted } ∷ j)
 launched_keeps p s j lane l start.Done st all may = started_stands p s j lane st l may
-launched_keeps p s j lane l start.RoomFault st all may = launch_fault p s j lane l start.RoomFault st all may refl
-launched_keeps p s j lane l start.LaunchFault st all may = launch_fault p s j lane l start.LaunchFault st all may refl
+launched_keeps p s j lane l start.RoomFault st all may =
+    launch_fault p s j lane l start.RoomFault st all may refl
+launched_keeps p s j lane l start.LaunchFault st all may =
+    launch_fault p s j lane l start.LaunchFault st all may refl
 
 -- ---- a request that wasn't written was ordered
 
@@ -210,38 +255,56 @@ and_none true true = refl
 and_none true false = refl
 and_none false y = refl
 
-owed_sends : (p : Plan) (k : Kind) (l : ℕ) (n : ℤ) (how : Written) (x : Reply) → is_unwritten how ≡ true → is_owed p k (call.Wrote l n how) x ≡ true → is_some (send_in x) ≡ true
+owed_sends : (p : Plan) (k : Kind) (l : ℕ) (n : ℤ) (how : Written) (x : Reply)
+    → is_unwritten how ≡ true → is_owed p k (call.Wrote l n how) x ≡ true
+    → is_some (send_in x) ≡ true
 owed_sends p k l n how (reply.Send m o a b t) un h = refl
-owed_sends p k l n how (reply.Cancel m o) un h = absurd (let off = (λ i. (m == l) && (int_eq o n && whole_not how un i)) ∙ and_none (m == l) (int_eq o n) in cc)
+owed_sends p k l n how (reply.Cancel m o) un h = absurd
+    (let off = (λ i. (m == l) && (int_eq o n && whole_not how un i))
+    ∙ and_none (m == l) (int_eq o n) in cc)
 owed_sends p k l n how _ un h = absurd (cc)
 
 or_only : (b : Bool) → (b || false) ≡ true → b ≡ true
 or_only true h = refl
 or_only false h = absurd (cc)
 
-work_ordered : (p : Plan) (k : Kind) (l : ℕ) (n : ℤ) (how : Written) (o : Option Entry) → is_unwritten how ≡ true → is_owed_after p k (call.Wrote l n how) o ≡ true → is_some (send_of_entry o) ≡ true
+work_ordered : (p : Plan) (k : Kind) (l : ℕ) (n : ℤ) (how : Written) (o : Option Entry)
+    → is_unwritten how ≡ true → is_owed_after p k (call.Wrote l n how) o ≡ true
+    → is_some (send_of_entry o) ≡ true
 work_ordered p k l n how None un h = absurd (cc)
-work_ordered p k l n how (Some e) un h = owed_sends p k l n how e.reply un (or_only (is_owed p k (call.Wrote l n how) e.reply) h)
+work_ordered p k l n how (Some e) un h = owed_sends p k l n how e.reply un
+    (or_only (is_owed p k (call.Wrote l n how) e.reply) h)
 
-write_ordered : (p : Plan) (j : List Entry) (lane l : ℕ) (n : ℤ) (how : Written) → script p j lane (call.Wrote l n how) ≡ true → is_unwritten how ≡ true → is_some (order_of j lane) ≡ true
+write_ordered : (p : Plan) (j : List Entry) (lane l : ℕ) (n : ℤ) (how : Written)
+    → script p j lane (call.Wrote l n how) ≡ true → is_unwritten how ≡ true
+    → is_some (order_of j lane) ≡ true
 write_ordered p j lane l n how may un =
-    let rest = (and_parts (not (stopped j lane)) _ (and_parts (nat_lt lane (2 * berths p)) _ may).1).1 in
-    by_bool (has_halted j lane) (λ b. cond b false ((lane % 2 == 0) && is_owed_after p (kind_of p (lane / 2)) (call.Wrote l n how) (last_work j lane)) ≡ true → is_some (order_of j lane) ≡ true)
-    (λ _ h. absurd (cc)) (λ _ h. work_ordered p (kind_of p (lane / 2)) l n how (last_work j lane) un (and_parts (lane % 2 == 0) _ h).1) rest
+    let rest = (and_parts (not (stopped j lane)) _ (and_parts
+    (nat_lt lane (2 * berths p)) _ may).1).1 in
+    by_bool (has_halted j lane) (λ b. cond b false ((lane % 2 == 0)
+    && is_owed_after p (kind_of p (lane / 2)) (call.Wrote l n how) (last_work j lane)) ≡ true
+    → is_some (order_of j lane) ≡ true)
+    (λ _ h. absurd (cc)) (λ _ h. work_ordered p (kind_of p (lane / 2)) l n how (last_work j lane) un
+    (and_parts (lane % 2 == 0) _ h).1) rest
 
 -- ---- the others
 
-module _ (p : Plan) (s : State) (j : List Entry) (lane : ℕ) (st : Stands p s j) (all : LegalMore p j) where
+module _ (p : Plan) (s : State) (j : List Entry) (lane : ℕ) (st : Stands p s j)
+    (all : LegalMore p j) where
   Keeps : Call → State → Reply → Type 0
   Keeps c t y = Stands p (noted_after t lane c y) (record { lane = lane; call = c; reply = y } ∷ j)
 
-  noted_facts : (c : Call) → script p j lane c ≡ true → reply.Noted ≡ r.rule p j lane c → EntryFacts p j (record { lane = lane; call = c; reply = reply.Noted })
-  noted_facts c may is = all.entries (record { lane = lane; call = c; reply = reply.Noted }) (record { scripted = may; replied = is; kept = refl })
+  noted_facts : (c : Call) → script p j lane c ≡ true → reply.Noted ≡ r.rule p j lane c
+      → EntryFacts p j (record { lane = lane; call = c; reply = reply.Noted })
+  noted_facts c may is = all.entries (record { lane = lane; call = c; reply = reply.Noted })
+      (record { scripted = may; replied = is; kept = refl })
 
   -- ---- Wrote
 
   module _ (l : ℕ) (n : ℤ) where
-    unwritten_keeps : (how : Written) → script p j lane (call.Wrote l n how) ≡ true → is_unwritten how ≡ true → (o : Option Request) → order_of j lane ≡ o → is_some o ≡ true → Keeps (call.Wrote l n how) (wrote_with s lane (lane / 2) l n how) reply.Noted
+    unwritten_keeps : (how : Written) → script p j lane (call.Wrote l n how) ≡ true
+        → is_unwritten how ≡ true → (o : Option Request) → order_of j lane ≡ o → is_some o ≡ true
+        → Keeps (call.Wrote l n how) (wrote_with s lane (lane / 2) l n how) reply.Noted
     unfolding Keeps
     unwritten_keeps how may un None at g = absurd (cc)
     unwritten_keeps how may un (Some q) at g =
@@ -249,25 +312,35 @@ module _ (p : Plan) (s : State) (j : List Entry) (lane : ℕ) (st : Stands p s j
         let one = calls.writes l n how q refl at in
         let here = calls.names l refl in
         let entry = noted_facts (call.Wrote l n how) may refl in
-        write_fault_stands p s j lane l n how q one.place st all.facts may here un at one.line one.there one.first one.known all.more.used (all.more.grouped (lane / 2) l here) entry.stays (entry.unwritten l n how q refl un at)
+        write_fault_stands p s j lane l n how q one.place st all.facts may here un at one.line
+        one.there one.first one.known all.more.used (all.more.grouped (lane / 2) l here)
+        entry.stays (entry.unwritten l n how q refl un at)
 
-    fed_keeps : script p j lane (call.Wrote l n write.FeedFault) ≡ true → (o : Option Request) → order_of j lane ≡ o → Keeps (call.Wrote l n write.FeedFault) (wrote_with s lane (lane / 2) l n write.FeedFault) reply.Noted
+    fed_keeps : script p j lane (call.Wrote l n write.FeedFault) ≡ true → (o : Option Request)
+        → order_of j lane ≡ o → Keeps (call.Wrote l n write.FeedFault)
+        (wrote_with s lane (lane / 2) l n write.FeedFault) reply.Noted
     unfolding Keeps
     fed_keeps may None at =
         let here = (all.calls lane (call.Wrote l n write.FeedFault) may).names l refl in
-        cancel_fault_stands p s j lane l n st may here (noted_facts (call.Wrote l n write.FeedFault) may refl).stays at
+        cancel_fault_stands p s j lane l n st may here (noted_facts
+        (call.Wrote l n write.FeedFault) may refl).stays at
     fed_keeps may (Some q) at =
         let calls = all.calls lane (call.Wrote l n write.FeedFault) may in
         let one = calls.writes l n write.FeedFault q refl at in
         let entry = noted_facts (call.Wrote l n write.FeedFault) may refl in
-        feed_fault_stands p s j lane l n st may (calls.names l refl) entry.stays all.facts q one.place at one.line one.there one.first one.unfed all.more.used (entry.fed l n q refl at)
+        feed_fault_stands p s j lane l n st may (calls.names l refl) entry.stays all.facts q
+        one.place at one.line one.there one.first one.unfed all.more.used
+        (entry.fed l n q refl at)
 
-    wrote_keeps : (how : Written) → script p j lane (call.Wrote l n how) ≡ true → Keeps (call.Wrote l n how) (wrote_with s lane (lane / 2) l n how) reply.Noted
+    wrote_keeps : (how : Written) → script p j lane (call.Wrote l n how) ≡ true
+        → Keeps (call.Wrote l n how) (wrote_with s lane (lane / 2) l n how) reply.Noted
     unfolding Keeps
     wrote_keeps write.Done may = wrote_stands p s j lane l st n may
     wrote_keeps write.FeedFault may = fed_keeps may (order_of j lane) refl
-    wrote_keeps write.RoomFault may = unwritten_keeps write.RoomFault may refl (order_of j lane) refl (write_ordered p j lane l n write.RoomFault may refl)
-    wrote_keeps write.TooLarge may = unwritten_keeps write.TooLarge may refl (order_of j lane) refl (write_ordered p j lane l n write.TooLarge may refl)
+    wrote_keeps write.RoomFault may = unwritten_keeps write.RoomFault may refl
+        (order_of j lane) refl (write_ordered p j lane l n write.RoomFault may refl)
+    wrote_keeps write.TooLarge may = unwritten_keeps write.TooLarge may refl (order_of j lane) refl
+        (write_ordered p j lane l n write.TooLarge may refl)
 
   -- ---- Claim
 
@@ -275,7 +348,8 @@ module _ (p : Plan) (s : State) (j : List Entry) (lane : ℕ) (st : Stands p s j
     abbrev t : Attempt
     t = attempt_of a b n
 
-    bound_at : (l : ℕ) (u : Attempt) → bound p j l ≡ Some u → (w : ℕ) × (w < berths p) × (last_line j w ≡ Some l)
+    bound_at : (l : ℕ) (u : Attempt) → bound p j l ≡ Some u
+        → (w : ℕ) × (w < berths p) × (last_line j w ≡ Some l)
     bound_at l u h = let x = all.more.bound_at l u h in (x.berth, x.below, x.here)
 
     known : begun j t ≡ true → a < length p.actions
@@ -287,45 +361,82 @@ module _ (p : Plan) (s : State) (j : List Entry) (lane : ℕ) (st : Stands p s j
 
     won_is : begun j t ≡ true → is_won s t ≡ granted j a
     unfolding granted
-    won_is h = ap is_some (races.winner_is p s.race j a st.race (known h)) ∙ some_map (λ (y : Attempt × Found). y.0.branch) (grant_of j a)
+    won_is h = ap is_some (races.winner_is p s.race j a st.race (known h))
+        ∙ some_map (λ (y : Attempt × Found). y.0.branch) (grant_of j a)
 
     module _ (f : Found) (may : script p j lane (call.Claim a b n f) ≡ true) where
       one : ClaimsOne j a b n
       one = (all.calls lane (call.Claim a b n f) may).claims a n b f refl
 
-      again_keeps : granted j a ≡ false → (again : Bool) → cond again reply.AgainLater reply.Dropped ≡ r.rule p j lane (call.Claim a b n f) → Keeps (call.Claim a b n f) (with_end s t) (cond again reply.AgainLater reply.Dropped)
+      again_keeps : granted j a ≡ false → (again : Bool)
+          → cond again reply.AgainLater reply.Dropped ≡ r.rule p j lane (call.Claim a b n f)
+          → Keeps (call.Claim a b n f) (with_end s t) (cond again reply.AgainLater reply.Dropped)
       unfolding Keeps
       again_keeps free true is =
-          let entry = all.entries (record { lane = lane; call = call.Claim a b n f; reply = reply.AgainLater }) (record { scripted = may; replied = is; kept = refl }) in
-          again_stands p s j lane a n b f st may all.facts one.sent one.start (all.more.used t one.start) free is entry.stays (entry.refused (t, f) refl)
+          let entry = all.entries (record {
+            lane = lane;
+            call = call.Claim a b n f;
+            reply = reply.AgainLater;
+          }) (record { scripted = may; replied = is; kept = refl }) in
+          again_stands p s j lane a n b f st may all.facts one.sent one.start
+          (all.more.used t one.start) free is entry.stays (entry.refused (t, f) refl)
       again_keeps free false is =
-          let entry = all.entries (record { lane = lane; call = call.Claim a b n f; reply = reply.Dropped }) (record { scripted = may; replied = is; kept = refl }) in
-          dropped_stands p s j lane a n b f st may all.facts one.sent one.start (all.more.used t one.start) free is entry.stays (entry.refused (t, f) refl)
+          let entry = all.entries (record {
+            lane = lane;
+            call = call.Claim a b n f;
+            reply = reply.Dropped;
+          }) (record { scripted = may; replied = is; kept = refl }) in
+          dropped_stands p s j lane a n b f st may all.facts one.sent one.start
+          (all.more.used t one.start) free is entry.stays (entry.refused (t, f) refl)
 
-      granted_facts : reply.Granted ≡ r.rule p j lane (call.Claim a b n f) → EntryFacts p j (record { lane = lane; call = call.Claim a b n f; reply = reply.Granted })
-      granted_facts is = all.entries (record { lane = lane; call = call.Claim a b n f; reply = reply.Granted }) (record { scripted = may; replied = is; kept = refl })
+      granted_facts : reply.Granted ≡ r.rule p j lane (call.Claim a b n f)
+          → EntryFacts p j (record {
+            lane = lane;
+            call = call.Claim a b n f;
+            reply = reply.Granted;
+          })
+      granted_facts is = all.entries (record {
+        lane = lane;
+        call = call.Claim a b n f;
+        reply = reply.Granted;
+      }) (record { scripted = may; replied = is; kept = refl })
 
-    found_keeps : (f : Found) → script p j lane (call.Claim a b n f) ≡ true → granted j a ≡ false → found_reply s t f ≡ r.rule p j lane (call.Claim a b n f) → Keeps (call.Claim a b n f) (found_with s t f) (found_reply s t f)
+    found_keeps : (f : Found) → script p j lane (call.Claim a b n f) ≡ true → granted j a ≡ false
+        → found_reply s t f ≡ r.rule p j lane (call.Claim a b n f)
+        → Keeps (call.Claim a b n f) (found_with s t f) (found_reply s t f)
     unfolding Keeps
     found_keeps (found.Files fs) may free is =
         let entry = granted_facts (found.Files fs) may is in
         let open_yet = entry.grants (t, found.Files fs) refl in
-        granted_stands p s j lane a n b (found.Files fs) st may is open_yet.ungranted open_yet.uncommitted entry.stays bound_at (queue.with_unwanted s.ready a) (queues.granted_files p j lane a n b fs open_yet s.ready st.ready)
+        granted_stands p s j lane a n b (found.Files fs) st may is open_yet.ungranted
+        open_yet.uncommitted entry.stays bound_at (queue.with_unwanted s.ready a)
+        (queues.granted_files p j lane a n b fs open_yet s.ready st.ready)
     found_keeps (found.Exit code) may free is =
         let entry = granted_facts (found.Exit code) may is in
         let open_yet = entry.grants (t, found.Exit code) refl in
-        granted_stands p s j lane a n b (found.Exit code) st may is open_yet.ungranted open_yet.uncommitted entry.stays bound_at (queue.with_settled (queue.with_unwanted s.ready a) a false) (queues.granted_exit p j lane a n b code open_yet s.ready st.ready)
-    found_keeps (found.Missing k) may free is = again_keeps (found.Missing k) may free (nat_lt n s.plan.limit) is
-    found_keeps found.RoomFault may free is = again_keeps found.RoomFault may free (nat_lt n s.plan.limit) is
-    found_keeps found.Refused may free is = again_keeps found.Refused may free (nat_lt n s.plan.limit) is
+        granted_stands p s j lane a n b (found.Exit code) st may is open_yet.ungranted
+        open_yet.uncommitted entry.stays bound_at (queue.with_settled
+        (queue.with_unwanted s.ready a) a false) (queues.granted_exit p j lane a n b code
+        open_yet s.ready st.ready)
+    found_keeps (found.Missing k) may free is = again_keeps (found.Missing k) may free
+        (nat_lt n s.plan.limit) is
+    found_keeps found.RoomFault may free is = again_keeps found.RoomFault may free
+        (nat_lt n s.plan.limit) is
+    found_keeps found.Refused may free is = again_keeps found.Refused may free
+        (nat_lt n s.plan.limit) is
 
-    won_keeps : (f : Found) → script p j lane (call.Claim a b n f) ≡ true → (w : Bool) → is_won s t ≡ w → cond w reply.Lost (found_reply s t f) ≡ r.rule p j lane (call.Claim a b n f) → Keeps (call.Claim a b n f) (cond w s (found_with s t f)) (cond w reply.Lost (found_reply s t f))
+    won_keeps : (f : Found) → script p j lane (call.Claim a b n f) ≡ true → (w : Bool)
+        → is_won s t ≡ w → cond w reply.Lost (found_reply s t f) ≡ r.rule p j lane
+        (call.Claim a b n f) → Keeps (call.Claim a b n f) (cond w s (found_with s t f))
+        (cond w reply.Lost (found_reply s t f))
     unfolding Keeps
     won_keeps f may true h is = lost_stands p s j lane a n b f st may is
     won_keeps f may false h is = found_keeps f may (sym (won_is (one f may).start) ∙ h) is
 
-    claim_reply : (f : Found) → script p j lane (call.Claim a b n f) ≡ true → claim_reply_by s t f ≡ r.rule p j lane (call.Claim a b n f)
-    claim_reply f may = claim_is p s j lane a n b f st may (known (one f may).start) (one f may).apart
+    claim_reply : (f : Found) → script p j lane (call.Claim a b n f) ≡ true
+        → claim_reply_by s t f ≡ r.rule p j lane (call.Claim a b n f)
+    claim_reply f may = claim_is p s j lane a n b f st may (known (one f may).start)
+        (one f may).apart
 
   -- ---- Take
 
@@ -335,33 +446,52 @@ module _ (p : Plan) (s : State) (j : List Entry) (lane : ℕ) (st : Stands p s j
 
     stop_quiet : IsQuiet p j stop_entry
     unfolding wrote
-    stop_quiet = record { no_launch = refl; no_send = refl; no_take = λ m. refl; no_break = λ m. refl; no_feed = λ u. refl }
+    stop_quiet = record {
+      no_launch = refl;
+      no_send = refl;
+      no_take = λ m. refl;
+      no_break = λ m. refl;
+      no_feed = λ u. refl;
+    }
 
     stop_spends : SpendsNone p j stop_entry
     unfolding wrote granted grant_of gathered
     stop_spends = record { no_send = refl; no_match = refl; same = λ u. refl }
 
-    stop_keeps : (b : Bool) → cond b reply.Stop reply.Idle ≡ r.rule p j lane call.Take → is_kept (cond b reply.Stop reply.Idle) ≡ true → Keeps call.Take s (cond b reply.Stop reply.Idle)
+    stop_keeps : (b : Bool) → cond b reply.Stop reply.Idle ≡ r.rule p j lane call.Take
+        → is_kept (cond b reply.Stop reply.Idle) ≡ true → Keeps call.Take s
+        (cond b reply.Stop reply.Idle)
     unfolding Keeps
-    stop_keeps true is kept = quiet_stands p s j stop_entry st (record { scripted = may; replied = is; kept = refl }) refl refl refl refl refl refl (quiet_greetings p j stop_entry refl refl s.greetings st.greetings) stop_quiet stop_spends
+    stop_keeps true is kept = quiet_stands p s j stop_entry st
+        (record { scripted = may; replied = is; kept = refl }) refl refl refl refl refl refl
+        (quiet_greetings p j stop_entry refl refl s.greetings st.greetings) stop_quiet stop_spends
     stop_keeps false is kept = absurd (cc)
 
-    taken_keeps : (o : Option ℕ) → ((l : ℕ) → o ≡ Some l → last_line j (lane / 2) ≡ Some l) → take_reply s o ≡ r.rule p j lane call.Take → is_kept (take_reply s o) ≡ true → Keeps call.Take (taken_with s (lane / 2) o) (take_reply s o)
+    taken_keeps : (o : Option ℕ) → ((l : ℕ) → o ≡ Some l → last_line j (lane / 2) ≡ Some l)
+        → take_reply s o ≡ r.rule p j lane call.Take → is_kept (take_reply s o) ≡ true
+        → Keeps call.Take (taken_with s (lane / 2) o) (take_reply s o)
     unfolding Keeps
     taken_keeps (Some l) here is kept = take_stands p s j lane st l may (here l refl) is
     taken_keeps None here is kept = stop_keeps (is_over s) is kept
 
     takes_here : (q : Option ℕ) (l : ℕ) → takes_line s (lane / 2) q ≡ Some l → q ≡ Some l
     takes_here None l h = absurd (cc)
-    takes_here (Some k) l h = by_bool ((row_at s k).started && not (taken_on (slice_get s.last (lane / 2)))) (λ b. cond b (Some k) None ≡ Some l → Some k ≡ Some l) (λ _ g. g) (λ _ g. absurd (cc)) h
+    takes_here (Some k) l h = by_bool ((row_at s k).started
+        && not (taken_on (slice_get s.last (lane / 2)))) (λ b. cond b (Some k) None ≡ Some l
+        → Some k ≡ Some l) (λ _ g. g) (λ _ g. absurd (cc)) h
 
-    take_keeps : is_kept (take_reply s (takeable s (lane / 2))) ≡ true → Keeps call.Take (taken_with s (lane / 2) (takeable s (lane / 2))) (take_reply s (takeable s (lane / 2)))
-    take_keeps kept = taken_keeps (takeable s (lane / 2)) (λ l h. sym (last_is p s.pool j st.pool (lane / 2) (lane_within p j lane call.Take may)) ∙ takes_here (rows.last_of s.pool (lane / 2)) l h) (take_is p s j lane st may) kept
+    take_keeps : is_kept (take_reply s (takeable s (lane / 2))) ≡ true
+        → Keeps call.Take (taken_with s (lane / 2) (takeable s (lane / 2)))
+        (take_reply s (takeable s (lane / 2)))
+    take_keeps kept = taken_keeps (takeable s (lane / 2))
+        (λ l h. sym (last_is p s.pool j st.pool (lane / 2) (lane_within p j lane call.Take may))
+        ∙ takes_here (rows.last_of s.pool (lane / 2)) l h) (take_is p s j lane st may) kept
 
   -- ---- each call
 
   module _ (seat : Seat) (seated : seat_at p (lane / 2) ≡ Some seat) where
-    call_reply : (c : Call) → is_look c ≡ false → script p j lane c ≡ true → made_reply s lane seat c ≡ r.rule p j lane c
+    call_reply : (c : Call) → is_look c ≡ false → script p j lane c ≡ true
+        → made_reply s lane seat c ≡ r.rule p j lane c
     call_reply call.Ask h may = choice_is p s j lane st all.facts may
     call_reply (call.Launched l how) h may = refl
     call_reply (call.Wrote l n how) h may = refl
@@ -372,34 +502,49 @@ module _ (p : Plan) (s : State) (j : List Entry) (lane : ℕ) (st : Stands p s j
     call_reply call.Take h may = take_is p s j lane st may
     call_reply (call.Answer l x) h may =
         let here = (all.calls lane (call.Answer l x) may).names l refl in
-        answer_is p s j lane l seat x st all.facts may here seated (all.more.grouped (lane / 2) l here) (all.more.alone (lane / 2) l here)
+        answer_is p s j lane l seat x st all.facts may here seated
+        (all.more.grouped (lane / 2) l here) (all.more.alone (lane / 2) l here)
     call_reply (call.Ended l how) h may = refl
     call_reply call.Halt h may = refl
 
-    call_keeps : (c : Call) → is_look c ≡ false → script p j lane c ≡ true → is_kept (made_reply s lane seat c) ≡ true → Keeps c (made s lane seat c) (made_reply s lane seat c)
+    call_keeps : (c : Call) → is_look c ≡ false → script p j lane c ≡ true
+        → is_kept (made_reply s lane seat c) ≡ true → Keeps c (made s lane seat c)
+        (made_reply s lane seat c)
     unfolding Keeps
     call_keeps call.Ask h may kept = ask_stands p s j lane st all.facts may kept
     call_keeps (call.Launched l how) h may kept = launched_keeps p s j lane l how st all may
     call_keeps (call.Wrote l n how) h may kept = wrote_keeps l n how may
     call_keeps (call.Look x) h may kept = absurd (cc)
-    call_keeps (call.Claim a b n f) h may kept = won_keeps a n b f may (is_won s (attempt_of a b n)) refl (claim_reply a n b f may)
-    call_keeps (call.Committed a b how) h may kept = commit_stands p s j lane a b how st may (noted_facts (call.Committed a b how) may refl).stays ((all.calls lane (call.Committed a b how) may).commits a b how refl)
+    call_keeps (call.Claim a b n f) h may kept = won_keeps a n b f may
+        (is_won s (attempt_of a b n)) refl (claim_reply a n b f may)
+    call_keeps (call.Committed a b how) h may kept = commit_stands p s j lane a b how st may
+        (noted_facts (call.Committed a b how) may refl).stays
+        ((all.calls lane (call.Committed a b how) may).commits a b how refl)
     call_keeps (call.Killed l) h may kept = killed_stands p s j lane st l may
     call_keeps call.Take h may kept = take_keeps may kept
     call_keeps (call.Answer l x) h may kept =
         let calls = all.calls lane (call.Answer l x) may in
-        answered_stands p s j lane l seat x st may (calls.names l refl) (calls.consumes l x refl) (call_reply (call.Answer l x) refl may)
+        answered_stands p s j lane l seat x st may (calls.names l refl) (calls.consumes l x refl)
+        (call_reply (call.Answer l x) refl may)
     call_keeps (call.Ended l how) h may kept =
         let calls = all.calls lane (call.Ended l how) may in
         let here = calls.names l refl in
         let entry = noted_facts (call.Ended l how) may refl in
-        ended_stands p s j lane l seat how st all.facts may here seated all.more.used (all.more.grouped (lane / 2) l here) (calls.lost l how refl) all.more.carries entry.stays (entry.finished l how refl)
+        ended_stands p s j lane l seat how st all.facts may here seated all.more.used
+        (all.more.grouped (lane / 2) l here) (calls.lost l how refl) all.more.carries
+        entry.stays (entry.finished l how refl)
     call_keeps call.Halt h may kept = halt_stands p s j lane st may
 
-pub reply_is : (p : Plan) (s : State) (j : List Entry) (lane : ℕ) (seat : Seat) (c : Call) → Stands p s j → LegalMore p j → seat_at p (lane / 2) ≡ Some seat → is_look c ≡ false → script p j lane c ≡ true → made_reply s lane seat c ≡ r.rule p j lane c
+pub reply_is : (p : Plan) (s : State) (j : List Entry) (lane : ℕ) (seat : Seat) (c : Call)
+    → Stands p s j → LegalMore p j → seat_at p (lane / 2) ≡ Some seat → is_look c ≡ false
+    → script p j lane c ≡ true → made_reply s lane seat c ≡ r.rule p j lane c
 reply_is p s j lane seat c st all seated h may = call_reply p s j lane st all seat seated c h may
 
-pub call_stands : (p : Plan) (s : State) (j : List Entry) (lane : ℕ) (seat : Seat) (c : Call) → Stands p s j → LegalMore p j → seat_at p (lane / 2) ≡ Some seat → is_look c ≡ false → script p j lane c ≡ true → is_kept (made_reply s lane seat c) ≡ true
-    → Stands p (noted_after (made s lane seat c) lane c (made_reply s lane seat c)) (record { lane = lane; call = c; reply = made_reply s lane seat c } ∷ j)
+pub call_stands : (p : Plan) (s : State) (j : List Entry) (lane : ℕ) (seat : Seat) (c : Call)
+    → Stands p s j → LegalMore p j → seat_at p (lane / 2) ≡ Some seat → is_look c ≡ false
+    → script p j lane c ≡ true → is_kept (made_reply s lane seat c) ≡ true
+    → Stands p (noted_after (made s lane seat c) lane c (made_reply s lane seat c))
+    (record { lane = lane; call = c; reply = made_reply s lane seat c } ∷ j)
 unfolding Keeps
-call_stands p s j lane seat c st all seated h may kept = call_keeps p s j lane st all seat seated c h may kept
+call_stands p s j lane seat c st all seated h may kept =
+    call_keeps p s j lane st all seat seated c h may kept

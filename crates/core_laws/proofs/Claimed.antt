@@ -1,4 +1,5 @@
--- What a Claim that isn't granted, and a Committed, make of a state that stands for a journal; and the reply to a Claim.
+-- What a Claim that isn't granted, and a Committed, make of a state that stands for a journal; and
+-- the reply to a Claim.
 use Rattle.std.proofs.Common.{◌≡◌, ℕ, ◌<◌, nat_lt, Bool, true, false, ◌&&◌, ◌||◌, not, cond, List, [], ◌∷◌, length, Option, Some, None, is_some, refl, ap, sym, subst, ◌∙◌}
 use Rattle.run_plan.specs.declared.plan.Branch.{Branch}
 use Rattle.run_plan.specs.declared.plan.Plan.{Plan}
@@ -48,14 +49,21 @@ use Rattle.core_laws.proofs.Greeted.{quiet_greetings}
 
 -- ---- Lost
 
-module _ (p : Plan) (s : State) (j : List Entry) (lane a n : ℕ) (b : Branch) (f : Found) (st : Stands p s j) (may : script p j lane (call.Claim a b n f) ≡ true) where
+module _ (p : Plan) (s : State) (j : List Entry) (lane a n : ℕ) (b : Branch) (f : Found)
+    (st : Stands p s j) (may : script p j lane (call.Claim a b n f) ≡ true) where
   module _ (is : reply.Lost ≡ r.rule p j lane (call.Claim a b n f)) where
     abbrev lost_entry : Entry
     lost_entry = record { lane = lane; call = call.Claim a b n f; reply = reply.Lost }
 
     lost_quiet : IsQuiet p j lost_entry
     unfolding wrote
-    lost_quiet = record { no_launch = refl; no_send = refl; no_take = λ m. refl; no_break = λ m. refl; no_feed = λ u. refl }
+    lost_quiet = record {
+      no_launch = refl;
+      no_send = refl;
+      no_take = λ m. refl;
+      no_break = λ m. refl;
+      no_feed = λ u. refl;
+    }
 
     lost_spends : SpendsNone p j lost_entry
     unfolding wrote granted grant_of gathered
@@ -63,7 +71,8 @@ module _ (p : Plan) (s : State) (j : List Entry) (lane a n : ℕ) (b : Branch) (
 
     none_ends : (u : Attempt) → ended (lost_entry ∷ j) u ≡ ended j u
     unfolding has_ended answered wrote line_cause
-    none_ends u = ended_same lost_entry j u (over_same lost_entry j u refl refl (λ l. refl) refl refl (λ l h. refl)) (granted_same lost_entry j u.action refl)
+    none_ends u = ended_same lost_entry j u (over_same lost_entry j u refl refl
+        (λ l. refl) refl refl (λ l h. refl)) (granted_same lost_entry j u.action refl)
 
     lost_same : SameActions j (lost_entry ∷ j)
     lost_same = same_actions lost_entry j none_ends refl (λ c d. refl)
@@ -74,7 +83,8 @@ module _ (p : Plan) (s : State) (j : List Entry) (lane a n : ℕ) (b : Branch) (
       plan = st.plan;
       sound = st.sound;
       legal = (st.legal, record { scripted = may; replied = is; kept = refl });
-      pool = aside_kept p s.pool j lost_entry st.pool refl [] (aside_unbinds lost_entry j refl p lost_same);
+      pool = aside_kept p s.pool j lost_entry st.pool refl []
+          (aside_unbinds lost_entry j refl p lost_same);
       requests = asks.others p s.requests j lost_entry st.requests refl refl;
       cancels = marks.others p s.cancels j lost_entry st.cancels refl refl refl;
       ready = ready_kept p j lost_entry lost_same refl s.ready st.ready;
@@ -98,15 +108,28 @@ module _ (p : Plan) (s : State) (j : List Entry) (lane a n : ℕ) (b : Branch) (
 
   quiet : (again : Bool) → IsQuiet p j (entry again)
   unfolding wrote
-  quiet true = record { no_launch = refl; no_send = refl; no_take = λ m. refl; no_break = λ m. refl; no_feed = λ u. refl }
-  quiet false = record { no_launch = refl; no_send = refl; no_take = λ m. refl; no_break = λ m. refl; no_feed = λ u. refl }
+  quiet true = record {
+    no_launch = refl;
+    no_send = refl;
+    no_take = λ m. refl;
+    no_break = λ m. refl;
+    no_feed = λ u. refl;
+  }
+  quiet false = record {
+    no_launch = refl;
+    no_send = refl;
+    no_take = λ m. refl;
+    no_break = λ m. refl;
+    no_feed = λ u. refl;
+  }
 
   spends : (again : Bool) → SpendsNone p j (entry again)
   unfolding wrote granted grant_of gathered
   spends true = record { no_send = refl; no_match = refl; same = λ u. refl }
   spends false = record { no_send = refl; no_match = refl; same = λ u. refl }
 
-  fault_is : (again : Bool) (u : Attempt) → fault_at u j (entry again) ≡ cond (same_attempt (attempt_of a b n) u) (found_cause f) None
+  fault_is : (again : Bool) (u : Attempt) → fault_at u j (entry again) ≡ cond
+      (same_attempt (attempt_of a b n) u) (found_cause f) None
   fault_is true u = refl
   fault_is false u = refl
 
@@ -115,7 +138,8 @@ module _ (p : Plan) (s : State) (j : List Entry) (lane a n : ℕ) (b : Branch) (
   same_grant true c = refl
   same_grant false c = refl
 
-  same_commit : (again : Bool) (c : ℕ) (d : Branch) → commit_of (entry again ∷ j) c d ≡ commit_of j c d
+  same_commit : (again : Bool) (c : ℕ) (d : Branch) → commit_of (entry again ∷ j) c d
+      ≡ commit_of j c d
   unfolding commit_of
   same_commit true c d = refl
   same_commit false c d = refl
@@ -125,22 +149,31 @@ module _ (p : Plan) (s : State) (j : List Entry) (lane a n : ℕ) (b : Branch) (
   none_begins false c d = attempt_other (entry false) j c d refl
 
   -- what is bound wasn't sent, so it isn't what is claimed
-  none_faulted : (again : Bool) → was_sent j (attempt_of a b n) ≡ true → AreFaulted p j (entry again) []
+  none_faulted : (again : Bool) → was_sent j (attempt_of a b n) ≡ true
+      → AreFaulted p j (entry again) []
   none_faulted again sent = record {
-    each = λ l u was. sym (ap is_some (fault_is again u ∙ ap (λ x. cond x (found_cause f) None) (other u (bound_is p j l u was).unsent)));
+    each = λ l u was. sym (ap is_some (fault_is again u
+        ∙ ap (λ x. cond x (found_cause f) None) (other u (bound_is p j l u was).unsent)));
   }
     where
       other : (u : Attempt) → was_sent j u ≡ false → same_attempt (attempt_of a b n) u ≡ false
-      other u unsent = by_bool (same_attempt (attempt_of a b n) u) (λ x. same_attempt (attempt_of a b n) u ≡ x → x ≡ false)
-          (λ _ h. absurd (let k = ap (was_sent j) (same_attempt_eq (attempt_of a b n) u h) in cc)) (λ _ h. refl) refl
+      other u unsent = by_bool (same_attempt (attempt_of a b n) u)
+          (λ x. same_attempt (attempt_of a b n) u ≡ x → x ≡ false)
+          (λ _ h. absurd (let k = ap (was_sent j) (same_attempt_eq (attempt_of a b n) u h) in cc))
+          (λ _ h. refl) refl
 
-  module _ (facts : JournalFacts p j) (sent : was_sent j (attempt_of a b n) ≡ true) (start : begun j (attempt_of a b n) ≡ true) (uses : Uses p (attempt_of a b n)) (free : granted j a ≡ false) where
+  module _ (facts : JournalFacts p j) (sent : was_sent j (attempt_of a b n) ≡ true)
+      (start : begun j (attempt_of a b n) ≡ true) (uses : Uses p (attempt_of a b n))
+      (free : granted j a ≡ false) where
     abbrev t : Attempt
     t = attempt_of a b n
 
-    together : (again : Bool) → ((u : Attempt) → ended (entry again ∷ j) u ≡ (ended j u || same_attempt t u)) → EndsTogether j (entry again) (t ∷ [])
+    together : (again : Bool) → ((u : Attempt) → ended (entry again ∷ j) u ≡
+        (ended j u || same_attempt t u)) → EndsTogether j (entry again) (t ∷ [])
     together again ends = record {
-      these = λ u. ends u ∙ ap (λ x. ended j u || x) (sym (ap (λ x. same_attempt t u && not x) free ∙ and_true (same_attempt t u)) ∙ one_test j t u);
+      these = λ u. ends u ∙ ap (λ x. ended j u || x) (sym
+          (ap (λ x. same_attempt t u && not x) free ∙ and_true (same_attempt t u))
+          ∙ one_test j t u);
       none_begins = none_begins again;
       grant = same_grant again;
       commit = same_commit again;
@@ -150,27 +183,49 @@ module _ (p : Plan) (s : State) (j : List Entry) (lane a n : ℕ) (b : Branch) (
         and_true true = refl
         and_true false = refl
 
-    refused : (again : Bool) → LegalEntry p j (entry again) → WantedStays p j (entry again) → ((u : Attempt) → ended (entry again ∷ j) u ≡ (ended j u || same_attempt t u))
-        → (queue-stands.Stands p (states_after s.plan s.race s.attempts s.ready t) (entry again ∷ j)) × (race-stands.Stands p s.race (entry again ∷ j))
+    refused : (again : Bool) → LegalEntry p j (entry again) → WantedStays p j (entry again)
+        → ((u : Attempt) → ended (entry again ∷ j) u ≡ (ended j u || same_attempt t u))
+        → (queue-stands.Stands p (states_after s.plan s.race s.attempts s.ready t)
+        (entry again ∷ j)) × (race-stands.Stands p s.race (entry again ∷ j))
     refused again legal stays ends = (
-      subst (λ (q : Plan). queue-stands.Stands p (states_after q s.race s.attempts s.ready t) (entry again ∷ j)) (sym st.plan)
-          (several_states p st.sound.least s.race j (entry again) (t ∷ []) (record { order = attempts_in_order p j st.legal; unbegun = facts.unbegun_goes; won = st.race }) ((start, uses), tt) (together again ends) s.attempts st.attempts s.ready st.ready),
-      races.others p s.race j (entry again ∷ j) st.race (record { grant = same_grant again; commit = same_commit again }),
+      subst (λ (q : Plan). queue-stands.Stands p (states_after q s.race s.attempts s.ready t)
+          (entry again ∷ j)) (sym st.plan)
+          (several_states p st.sound.least s.race j (entry again) (t ∷ [])
+          (record {
+            order = attempts_in_order p j st.legal;
+            unbegun = facts.unbegun_goes;
+            won = st.race;
+          }) ((start, uses), tt) (together again ends) s.attempts st.attempts
+          s.ready st.ready),
+      races.others p s.race j (entry again ∷ j) st.race (record {
+        grant = same_grant again;
+        commit = same_commit again;
+      }),
     )
 
-    pub again_stands : reply.AgainLater ≡ r.rule p j lane (call.Claim a b n f) → WantedStays p j (entry true) → ((u : Attempt) → ended (entry true ∷ j) u ≡ (ended j u || same_attempt t u))
-        → Stands p (noted_after (with_end s t) lane (call.Claim a b n f) reply.AgainLater) (entry true ∷ j)
+    pub again_stands : reply.AgainLater ≡ r.rule p j lane (call.Claim a b n f)
+        → WantedStays p j (entry true) → ((u : Attempt) → ended (entry true ∷ j) u ≡
+        (ended j u || same_attempt t u))
+        → Stands p (noted_after (with_end s t) lane (call.Claim a b n f) reply.AgainLater)
+        (entry true ∷ j)
     unfolding halted
     again_stands is stays ends = record {
       plan = st.plan;
       sound = st.sound;
       legal = (st.legal, record { scripted = may; replied = is; kept = refl });
-      pool = aside_kept p s.pool j (entry true) st.pool refl [] (faults_unbind p j (entry true) refl refl stays [] (none_faulted true sent));
+      pool = aside_kept p s.pool j (entry true) st.pool refl []
+          (faults_unbind p j (entry true) refl refl stays [] (none_faulted true sent));
       requests = asks.others p s.requests j (entry true) st.requests refl refl;
       cancels = marks.others p s.cancels j (entry true) st.cancels refl refl refl;
       ready = (refused true (record { scripted = may; replied = is; kept = refl }) stays ends).0;
       race = (refused true (record { scripted = may; replied = is; kept = refl }) stays ends).1;
-      attempts = several_counts p st.sound.least s.race j (entry true) (t ∷ []) (record { order = attempts_in_order p j st.legal; unbegun = facts.unbegun_goes; won = st.race }) ((start, uses), tt) (together true ends) s.attempts st.attempts s.ready st.ready;
+      attempts = several_counts p st.sound.least s.race j (entry true) (t ∷ [])
+          (record {
+            order = attempts_in_order p j st.legal;
+            unbegun = facts.unbegun_goes;
+            won = st.race;
+          }) ((start, uses), tt) (together true ends) s.attempts st.attempts s.ready
+          st.ready;
       lanes = lanes_kept p j (entry true) s.lanes st.lanes;
       greetings = quiet_greetings p j (entry true) refl refl s.greetings st.greetings;
       last = last_kept p j (entry true) (quiet true) s.last st.last;
@@ -178,19 +233,29 @@ module _ (p : Plan) (s : State) (j : List Entry) (lane a n : ℕ) (b : Branch) (
       halted = st.halted;
     }
 
-    pub dropped_stands : reply.Dropped ≡ r.rule p j lane (call.Claim a b n f) → WantedStays p j (entry false) → ((u : Attempt) → ended (entry false ∷ j) u ≡ (ended j u || same_attempt t u))
-        → Stands p (noted_after (with_end s t) lane (call.Claim a b n f) reply.Dropped) (entry false ∷ j)
+    pub dropped_stands : reply.Dropped ≡ r.rule p j lane (call.Claim a b n f)
+        → WantedStays p j (entry false) → ((u : Attempt) → ended (entry false ∷ j) u ≡
+        (ended j u || same_attempt t u))
+        → Stands p (noted_after (with_end s t) lane (call.Claim a b n f) reply.Dropped)
+        (entry false ∷ j)
     unfolding halted
     dropped_stands is stays ends = record {
       plan = st.plan;
       sound = st.sound;
       legal = (st.legal, record { scripted = may; replied = is; kept = refl });
-      pool = aside_kept p s.pool j (entry false) st.pool refl [] (faults_unbind p j (entry false) refl refl stays [] (none_faulted false sent));
+      pool = aside_kept p s.pool j (entry false) st.pool refl []
+          (faults_unbind p j (entry false) refl refl stays [] (none_faulted false sent));
       requests = asks.others p s.requests j (entry false) st.requests refl refl;
       cancels = marks.others p s.cancels j (entry false) st.cancels refl refl refl;
       ready = (refused false (record { scripted = may; replied = is; kept = refl }) stays ends).0;
       race = (refused false (record { scripted = may; replied = is; kept = refl }) stays ends).1;
-      attempts = several_counts p st.sound.least s.race j (entry false) (t ∷ []) (record { order = attempts_in_order p j st.legal; unbegun = facts.unbegun_goes; won = st.race }) ((start, uses), tt) (together false ends) s.attempts st.attempts s.ready st.ready;
+      attempts = several_counts p st.sound.least s.race j (entry false) (t ∷ [])
+          (record {
+            order = attempts_in_order p j st.legal;
+            unbegun = facts.unbegun_goes;
+            won = st.race;
+          }) ((start, uses), tt) (together false ends) s.attempts st.attempts s.ready
+          st.ready;
       lanes = lanes_kept p j (entry false) s.lanes st.lanes;
       greetings = quiet_greetings p j (entry false) refl refl s.greetings st.greetings;
       last = last_kept p j (entry false) (quiet false) s.last st.last;
@@ -200,30 +265,43 @@ module _ (p : Plan) (s : State) (j : List Entry) (lane a n : ℕ) (b : Branch) (
 
   -- ---- the reply
 
-  module _ (known : a < length p.actions) (apart : (x : Attempt × Found) → grant_of j a ≡ Some x → same_branch x.0.branch b ≡ false) where
+  module _ (known : a < length p.actions) (apart : (x : Attempt × Found) → grant_of j a ≡ Some x
+      → same_branch x.0.branch b ≡ false) where
     found_is : (g : Found) → found_reply s (attempt_of a b n) g ≡ r.by_found p n g
     found_is (found.Files fs) = refl
     found_is (found.Exit m) = refl
-    found_is (found.Missing k) = ap (λ (q : Plan). cond (nat_lt n q.limit) reply.AgainLater reply.Dropped) st.plan
-    found_is found.RoomFault = ap (λ (q : Plan). cond (nat_lt n q.limit) reply.AgainLater reply.Dropped) st.plan
-    found_is found.Refused = ap (λ (q : Plan). cond (nat_lt n q.limit) reply.AgainLater reply.Dropped) st.plan
+    found_is (found.Missing k) = ap (λ (q : Plan). cond
+        (nat_lt n q.limit) reply.AgainLater reply.Dropped) st.plan
+    found_is found.RoomFault = ap (λ (q : Plan). cond (nat_lt n q.limit) reply.AgainLater
+        reply.Dropped) st.plan
+    found_is found.Refused = ap (λ (q : Plan). cond (nat_lt n q.limit) reply.AgainLater
+        reply.Dropped) st.plan
 
-    won_by : (o : Option (Attempt × Found)) → grant_of j a ≡ o → is_some (race-stands.branch_in o) ≡ r.is_other b o
+    won_by : (o : Option (Attempt × Found)) → grant_of j a ≡ o
+        → is_some (race-stands.branch_in o) ≡ r.is_other b o
     won_by None h = refl
     won_by (Some x) h = sym (ap not (apart x h))
 
     pub claim_is : claim_reply_by s (attempt_of a b n) f ≡ r.rule p j lane (call.Claim a b n f)
-    claim_is = λ i. cond ((ap is_some (races.winner_is p s.race j a st.race known) ∙ won_by (grant_of j a) refl) i) reply.Lost (found_is f i)
+    claim_is = λ i. cond ((ap is_some (races.winner_is p s.race j a st.race known)
+        ∙ won_by (grant_of j a) refl) i) reply.Lost (found_is f i)
 
 -- ---- Committed
 
-module _ (p : Plan) (s : State) (j : List Entry) (lane a : ℕ) (b : Branch) (how : CommitEnd) (st : Stands p s j) (may : script p j lane (call.Committed a b how) ≡ true) where
+module _ (p : Plan) (s : State) (j : List Entry) (lane a : ℕ) (b : Branch) (how : CommitEnd)
+    (st : Stands p s j) (may : script p j lane (call.Committed a b how) ≡ true) where
   abbrev commit_entry : Entry
   commit_entry = record { lane = lane; call = call.Committed a b how; reply = reply.Noted }
 
   commit_quiet : IsQuiet p j commit_entry
   unfolding wrote
-  commit_quiet = record { no_launch = refl; no_send = refl; no_take = λ m. refl; no_break = λ m. refl; no_feed = λ u. refl }
+  commit_quiet = record {
+    no_launch = refl;
+    no_send = refl;
+    no_take = λ m. refl;
+    no_break = λ m. refl;
+    no_feed = λ u. refl;
+  }
 
   commit_spends : SpendsNone p j commit_entry
   unfolding wrote granted grant_of gathered
@@ -231,7 +309,8 @@ module _ (p : Plan) (s : State) (j : List Entry) (lane a : ℕ) (b : Branch) (ho
 
   commit_ends : (u : Attempt) → ended (commit_entry ∷ j) u ≡ ended j u
   unfolding has_ended answered wrote line_cause
-  commit_ends u = ended_same commit_entry j u (over_same commit_entry j u refl refl (λ l. refl) refl refl (λ l h. refl)) (granted_same commit_entry j u.action refl)
+  commit_ends u = ended_same commit_entry j u (over_same commit_entry j u refl refl
+      (λ l. refl) refl refl (λ l h. refl)) (granted_same commit_entry j u.action refl)
 
   commit_begins : (c : ℕ) (d : Branch) → attempt (commit_entry ∷ j) c d ≡ attempt j c d
   commit_begins c d = attempt_other commit_entry j c d refl
@@ -242,20 +321,27 @@ module _ (p : Plan) (s : State) (j : List Entry) (lane a : ℕ) (b : Branch) (ho
 
   module _ (stays : WantedStays p j commit_entry) (won : queue-entries.WonFiles j a b) where
     won_by_this : race-entries.WonBy j a b
-    won_by_this = record { winner = ap race-stands.branch_in won.winner; uncommitted = won.uncommitted }
+    won_by_this = record {
+      winner = ap race-stands.branch_in won.winner;
+      uncommitted = won.uncommitted;
+    }
 
-    pub commit_stands : Stands p (noted_after (committed_with s a how) lane (call.Committed a b how) reply.Noted) (commit_entry ∷ j)
+    pub commit_stands : Stands p (noted_after (committed_with s a how) lane
+        (call.Committed a b how) reply.Noted) (commit_entry ∷ j)
     unfolding halted
     commit_stands = record {
       plan = st.plan;
       sound = st.sound;
       legal = (st.legal, record { scripted = may; replied = refl; kept = refl });
-      pool = aside_kept p s.pool j commit_entry st.pool refl [] (faults_unbind p j commit_entry refl refl stays [] (record { each = λ l u was. refl }));
+      pool = aside_kept p s.pool j commit_entry st.pool refl []
+          (faults_unbind p j commit_entry refl refl stays [] (record { each = λ l u was. refl }));
       requests = asks.others p s.requests j commit_entry st.requests refl refl;
       cancels = marks.others p s.cancels j commit_entry st.cancels refl refl refl;
-      ready = subst (λ x. queue-stands.Stands p (queue.with_settled s.ready a x) (commit_entry ∷ j)) (done_is how) (queues.committed p j lane a b how won s.ready st.ready);
+      ready = subst (λ x. queue-stands.Stands p (queue.with_settled s.ready a x) (commit_entry ∷ j))
+          (done_is how) (queues.committed p j lane a b how won s.ready st.ready);
       race = races.commits p s.race j lane a b how reply.Noted st.race won_by_this;
-      attempts = tallies.others_count p s.attempts j commit_entry st.attempts commit_begins commit_ends;
+      attempts = tallies.others_count p s.attempts j commit_entry st.attempts commit_begins
+          commit_ends;
       lanes = lanes_kept p j commit_entry s.lanes st.lanes;
       greetings = quiet_greetings p j commit_entry refl refl s.greetings st.greetings;
       last = last_kept p j commit_entry commit_quiet s.last st.last;

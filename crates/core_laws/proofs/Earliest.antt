@@ -31,23 +31,32 @@ module _ (p : Plan) (j : List Entry) where
   count_is : (n : ℕ) (over : Bool) → (nat_lt 0 n && not over) ≡ false → cond over n (n - 1) ≡ n
   count_is n true h = refl
   count_is n false h =
-      by_bool (nat_lt 0 n) (λ b. (b && true) ≡ false → n - 1 ≡ n) (λ yes k. absurd (cc)) (λ no k. let le = ltb-false 0 n no in omega arith) h
+      by_bool (nat_lt 0 n) (λ b. (b && true) ≡ false → n - 1 ≡ n) (λ yes k. absurd (cc))
+      (λ no k. let le = ltb-false 0 n no in omega arith) h
 
-  pub number_is : (f : counts.Facts) (g : ℕ) (t : Attempt) → tallies.Stands p f j → earliest p j g ≡ Some t → attempt_of t.action t.branch (ended_of f t.action t.branch + 1) ≡ t
+  pub number_is : (f : counts.Facts) (g : ℕ) (t : Attempt) → tallies.Stands p f j
+      → earliest p j g ≡ Some t → attempt_of t.action t.branch (ended_of f t.action t.branch + 1)
+      ≡ t
   unfolding ended_count
   number_is f g t st h =
       let n = earliest_next p j g t h in
       let q = queued_is p j t.action t.branch n.action n.waiting in
       let lt = slice_get_within p.actions t.action n.action n.place in
-      let e = ended_at p j f t.action t.branch st lt ∙ count_is (attempt j t.action t.branch) (ended j (attempt_of t.action t.branch (attempt j t.action t.branch))) q.idle in
+      let e = ended_at p j f t.action t.branch st lt ∙ count_is (attempt j t.action t.branch)
+      (ended j (attempt_of t.action t.branch (attempt j t.action t.branch))) q.idle in
       ap (attempt_of t.action t.branch) (ap (λ m. m + 1) e ∙ sym n.number)
 
-  by_some : (f : counts.Facts) (g : ℕ) (o : Option Attempt) → tallies.Stands p f j → earliest p j g ≡ o → option_map (λ (x : ℕ × Branch). attempt_of x.0 x.1 (ended_of f x.0 x.1 + 1)) (queues.branch_of o) ≡ o
+  by_some : (f : counts.Facts) (g : ℕ) (o : Option Attempt) → tallies.Stands p f j
+      → earliest p j g ≡ o → option_map (λ (x : ℕ × Branch). attempt_of x.0 x.1
+      (ended_of f x.0 x.1 + 1)) (queues.branch_of o) ≡ o
   by_some f g None st h = refl
   by_some f g (Some t) st h = ap Some (number_is f g t st h)
 
-  pub earliest_of_is : (states : List ActionState) (f : counts.Facts) (g : ℕ) → queues.Stands p states j → tallies.Stands p f j
-      → option_map (λ (x : ℕ × Branch). attempt_of x.0 x.1 (ended_of f x.0 x.1 + 1)) (earliest_in states g) ≡ earliest p j g
+  pub earliest_of_is : (states : List ActionState) (f : counts.Facts) (g : ℕ)
+      → queues.Stands p states j → tallies.Stands p f j
+      → option_map (λ (x : ℕ × Branch). attempt_of x.0 x.1 (ended_of f x.0 x.1 + 1))
+      (earliest_in states g) ≡ earliest p j g
   earliest_of_is states f g st tl =
       let found = earliest_is p states j g (earliest_in states g) st (search_is states g) in
-      ap (option_map (λ (x : ℕ × Branch). attempt_of x.0 x.1 (ended_of f x.0 x.1 + 1))) found ∙ by_some f g (earliest p j g) tl refl
+      ap (option_map (λ (x : ℕ × Branch). attempt_of x.0 x.1 (ended_of f x.0 x.1 + 1))) found
+      ∙ by_some f g (earliest p j g) tl refl

@@ -68,7 +68,8 @@ module _ (f : rows.Facts) (last : List LastLine) (a : ℕ) where
   lines zero = []
   lines (suc n) = lines n ++ line_if (its n) (rows.last_of f n)
 
-unbound_more : (f : rows.Facts) (ls : List ℕ) (l : ℕ) → rows.with_unbound f (ls ++ l ∷ []) ≡ rows.change (rows.with_unbound f ls) l rows.set_unbound
+unbound_more : (f : rows.Facts) (ls : List ℕ) (l : ℕ)
+    → rows.with_unbound f (ls ++ l ∷ []) ≡ rows.change (rows.with_unbound f ls) l rows.set_unbound
 unbound_more f [] l = refl
 unbound_more f (k ∷ ks) l = unbound_more (rows.change f k rows.set_unbound) ks l
 
@@ -81,17 +82,22 @@ module _ (f : rows.Facts) (last : List LastLine) (a : ℕ) where
   unfolding lines line_if
   unbound_is zero = refl
   unbound_is (suc n) =
-      ap (λ o. cond (its f last a n) (unbound_line (unbound_for f last a n) o) (unbound_for f last a n)) (same_last f (unbound_for f last a n) n (for_keeps f last a n))
-      ∙ ap (λ g. cond (its f last a n) (unbound_line g (rows.last_of f n)) g) (unbound_is n) ∙ by (its f last a n) (rows.last_of f n)
+      ap (λ o. cond (its f last a n) (unbound_line (unbound_for f last a n) o)
+      (unbound_for f last a n)) (same_last f (unbound_for f last a n) n (for_keeps f last a n))
+      ∙ ap (λ g. cond (its f last a n) (unbound_line g (rows.last_of f n)) g) (unbound_is n)
+      ∙ by (its f last a n) (rows.last_of f n)
     where
-      by : (b : Bool) (o : Option ℕ) → cond b (unbound_line (rows.with_unbound f (lines f last a n)) o) (rows.with_unbound f (lines f last a n)) ≡ rows.with_unbound f (lines f last a n ++ line_if f last a b o)
+      by : (b : Bool) (o : Option ℕ) → cond b (unbound_line
+          (rows.with_unbound f (lines f last a n)) o) (rows.with_unbound f (lines f last a n))
+          ≡ rows.with_unbound f (lines f last a n ++ line_if f last a b o)
       by true (Some l) = sym (unbound_more f (lines f last a n) l)
       by true None = ap (rows.with_unbound f) (sym (append_none (lines f last a n)))
       by false o = ap (rows.with_unbound f) (sym (append_none (lines f last a n)))
 
   among_append : (l : ℕ) (xs ys : List ℕ) → is_among l (xs ++ ys) ≡ (is_among l xs || is_among l ys)
   among_append l [] ys = refl
-  among_append l (x ∷ xs) ys = ap (λ b. (x == l) || b) (among_append l xs ys) ∙ assoc (x == l) (is_among l xs) (is_among l ys)
+  among_append l (x ∷ xs) ys = ap (λ b. (x == l) || b) (among_append l xs ys)
+      ∙ assoc (x == l) (is_among l xs) (is_among l ys)
     where
       assoc : (p q s : Bool) → (p || (q || s)) ≡ ((p || q) || s)
       assoc true q s = refl
@@ -109,13 +115,15 @@ module _ (f : rows.Facts) (last : List LastLine) (a : ℕ) where
   or_cases true y h = inl refl
   or_cases false y h = inr h
 
-  here_among : (b : Bool) (o : Option ℕ) (l : ℕ) → b ≡ true → o ≡ Some l → is_among l (line_if f last a b o) ≡ true
+  here_among : (b : Bool) (o : Option ℕ) (l : ℕ) → b ≡ true → o ≡ Some l
+      → is_among l (line_if f last a b o) ≡ true
   unfolding line_if
   here_among true (Some k) l h e = let same : k ≡ l = cc in or_left (k == l) false (eq-eqb k l same)
   here_among true None l h e = absurd (cc)
   here_among false o l h e = absurd (cc)
 
-  among_here : (b : Bool) (o : Option ℕ) (l : ℕ) → is_among l (line_if f last a b o) ≡ true → (b ≡ true) × (o ≡ Some l)
+  among_here : (b : Bool) (o : Option ℕ) (l : ℕ) → is_among l (line_if f last a b o) ≡ true
+      → (b ≡ true) × (o ≡ Some l)
   unfolding line_if
   among_here true (Some k) l h = (refl, ap Some (eqb-true k l (only (k == l) h)))
     where
@@ -125,15 +133,18 @@ module _ (f : rows.Facts) (last : List LastLine) (a : ℕ) where
   among_here true None l h = absurd (cc)
   among_here false o l h = absurd (cc)
 
-  among_from : (n w l : ℕ) → w < n → its f last a w ≡ true → rows.last_of f w ≡ Some l → is_among l (lines f last a n) ≡ true
+  among_from : (n w l : ℕ) → w < n → its f last a w ≡ true → rows.last_of f w ≡ Some l
+      → is_among l (lines f last a n) ≡ true
   unfolding lines
   among_from zero w l lt h e = absurd (omega arith)
   among_from (suc n) w l lt h e =
       among_append l (lines f last a n) (line_if f last a (its f last a n) (rows.last_of f n))
-      ∙ by_bool (nat_lt w n) (λ _. (is_among l (lines f last a n) || is_among l (line_if f last a (its f last a n) (rows.last_of f n))) ≡ true)
+      ∙ by_bool (nat_lt w n) (λ _. (is_among l (lines f last a n)
+      || is_among l (line_if f last a (its f last a n) (rows.last_of f n))) ≡ true)
       (λ yes. or_left _ _ (among_from n w l (ltb-true w n yes) h e))
       (λ ne. let ge = ltb-false w n ne in let same : w ≡ n = omega arith in
-      or_right (is_among l (lines f last a n)) _ (here_among (its f last a n) (rows.last_of f n) l (ap (its f last a) (sym same) ∙ h) (ap (rows.last_of f) (sym same) ∙ e)))
+      or_right (is_among l (lines f last a n)) _ (here_among (its f last a n) (rows.last_of f n) l
+      (ap (its f last a) (sym same) ∙ h) (ap (rows.last_of f) (sym same) ∙ e)))
 
   record Found_at (n l : ℕ) : Type 0 where
     berth : ℕ
@@ -145,17 +156,29 @@ module _ (f : rows.Facts) (last : List LastLine) (a : ℕ) where
   unfolding lines
   among_to zero l h = absurd (cc)
   among_to (suc n) l h =
-      elim (or_cases (is_among l (lines f last a n)) (is_among l (line_if f last a (its f last a n) (rows.last_of f n))) (sym (among_append l (lines f last a n) (line_if f last a (its f last a n) (rows.last_of f n))) ∙ h)) [
-        | inl before ↦ (let at = among_to n l before in let lt = at.below in record { berth = at.berth; below = omega arith; own = at.own; is = at.is })
-        | inr now ↦ (let at = among_here (its f last a n) (rows.last_of f n) l now in record { berth = n; below = omega arith; own = at.0; is = at.1 })
+      elim (or_cases (is_among l (lines f last a n)) (is_among l
+      (line_if f last a (its f last a n) (rows.last_of f n)))
+      (sym (among_append l (lines f last a n) (line_if f last a (its f last a n)
+      (rows.last_of f n))) ∙ h)) [
+        | inl before ↦ (let at = among_to n l before in let lt = at.below in
+            record { berth = at.berth; below = omega arith; own = at.own; is = at.is })
+        | inr now ↦ (let at = among_here (its f last a n) (rows.last_of f n) l now in
+            record { berth = n; below = omega arith; own = at.0; is = at.1 })
       ]
 
 -- ---- the entry
 
-module _ (p : Plan) (s : State) (j : List Entry) (lane a n : ℕ) (b : Branch) (f : Found) (st : Stands p s j) (may : script p j lane (call.Claim a b n f) ≡ true)
-    (is : reply.Granted ≡ r.rule p j lane (call.Claim a b n f)) (ungranted : grant_of j a ≡ None) (uncommitted : (c : Branch) → commit_of j a c ≡ None)
-    (stays : WantedStays p j (record { lane = lane; call = call.Claim a b n f; reply = reply.Granted }))
-    (bound_last : (l : ℕ) (t : Attempt) → bound p j l ≡ Some t → (w : ℕ) × (w < berths p) × (last_line j w ≡ Some l)) where
+module _ (p : Plan) (s : State) (j : List Entry) (lane a n : ℕ) (b : Branch) (f : Found)
+    (st : Stands p s j) (may : script p j lane (call.Claim a b n f) ≡ true)
+    (is : reply.Granted ≡ r.rule p j lane (call.Claim a b n f)) (ungranted : grant_of j a ≡ None)
+    (uncommitted : (c : Branch) → commit_of j a c ≡ None)
+    (stays : WantedStays p j (record {
+      lane = lane;
+      call = call.Claim a b n f;
+      reply = reply.Granted;
+    }))
+    (bound_last : (l : ℕ) (t : Attempt) → bound p j l ≡ Some t
+    → (w : ℕ) × (w < berths p) × (last_line j w ≡ Some l)) where
   abbrev e : Entry
   e = record { lane = lane; call = call.Claim a b n f; reply = reply.Granted }
 
@@ -176,14 +199,16 @@ module _ (p : Plan) (s : State) (j : List Entry) (lane a n : ℕ) (b : Branch) (
   unfolding granted grant_of
   granted_after u true h = rw h (first_is (grant_of j u))
     where
-      first_is : (o : Option (Attempt × Found)) → is_some (unless_before (Some (attempt_of a b n, f)) o) ≡ true
+      first_is : (o : Option (Attempt × Found)) → is_some
+          (unless_before (Some (attempt_of a b n, f)) o) ≡ true
       first_is None = refl
       first_is (Some y) = refl
   granted_after u false h = rw h refl
 
   closed : (v : Attempt) → granted (e ∷ j) v.action ≡ true → end_of (e ∷ j) v ≡ end_of j v
   unfolding end_of
-  closed v h = ap (λ x. or_else (end_of j v) (cond x None (over (e ∷ j) v))) h ∙ none_more (end_of j v)
+  closed v h = ap (λ x. or_else (end_of j v) (cond x None (over (e ∷ j) v))) h
+      ∙ none_more (end_of j v)
 
   ends_same : (u : Attempt) → end_of (e ∷ j) u ≡ end_of j u
   ends_same u = by_bool (a == u.action) (λ x. (a == u.action) ≡ x → end_of (e ∷ j) u ≡ end_of j u)
@@ -203,27 +228,38 @@ module _ (p : Plan) (s : State) (j : List Entry) (lane a n : ℕ) (b : Branch) (
   unfolding last_in
   seats = length_is s.last (berths p) (λ w. row_of j (last_line j w)) st.last
 
-  row_is : (w l : ℕ) → w < berths p → last_line j w ≡ Some l → slice_get s.last w ≡ Some (row_of j (Some l))
+  row_is : (w l : ℕ) → w < berths p → last_line j w ≡ Some l
+      → slice_get s.last w ≡ Some (row_of j (Some l))
   unfolding last_in
   row_is w l lt h =
       let inside : nat_lt w (berths p) ≡ true = lt-ltb w (berths p) lt in
-      st.last w ∙ ap (λ x. cond x (Some (row_of j (last_line j w))) None) inside ∙ ap (λ o. Some (row_of j o)) h
+      st.last w ∙ ap (λ x. cond x (Some (row_of j (last_line j w))) None) inside
+      ∙ ap (λ o. Some (row_of j o)) h
 
-  of_line : (w l : ℕ) (t : Attempt) → w < berths p → last_line j w ≡ Some l → bound p j l ≡ Some t → its s.pool s.last a w ≡ (t.action == a)
+  of_line : (w l : ℕ) (t : Attempt) → w < berths p → last_line j w ≡ Some l → bound p j l ≡ Some t
+      → its s.pool s.last a w ≡ (t.action == a)
   of_line w l t lt h was =
-      ap (λ o. is_of_action ((row_or_none o).attempt) a) (row_is w l lt h) ∙ ap (λ (o : Option (ℕ × Attempt)). is_of_action (option_map (λ x. x.1) o) a) (bound_is p j l t was).launched
+      ap (λ o. is_of_action ((row_or_none o).attempt) a) (row_is w l lt h)
+      ∙ ap (λ (o : Option (ℕ × Attempt)). is_of_action (option_map (λ x. x.1) o) a)
+      (bound_is p j l t was).launched
 
   these : AreOfAction p j a (lines s.pool s.last a (length s.last))
   these = record {
-    each = λ l t was. by_bool (a == t.action) (λ x. (a == t.action) ≡ x → is_among l (lines s.pool s.last a (length s.last)) ≡ x)
+    each = λ l t was. by_bool (a == t.action) (λ x. (a == t.action) ≡ x
+        → is_among l (lines s.pool s.last a (length s.last)) ≡ x)
         (λ yes h. let at = bound_last l t was in
-        among_from s.pool s.last a (length s.last) at.0 l (let len = seats in let lt = at.1 in omega arith)
-        (of_line at.0 l t at.1 at.2 was ∙ eq-eqb t.action a (sym (eqb-true a t.action h))) (last_is p s.pool j st.pool at.0 at.1 ∙ at.2))
-        (λ ne h. by_bool (is_among l (lines s.pool s.last a (length s.last))) (λ y. is_among l (lines s.pool s.last a (length s.last)) ≡ y → y ≡ false)
-        (λ yes k. absurd (let at = among_to s.pool s.last a (length s.last) l k in let len = seats in let below = at.below in let lt : at.berth < berths p = omega arith in
+        among_from s.pool s.last a (length s.last) at.0 l (let len = seats in let lt = at.1 in
+        omega arith)
+        (of_line at.0 l t at.1 at.2 was ∙ eq-eqb t.action a (sym (eqb-true a t.action h)))
+        (last_is p s.pool j st.pool at.0 at.1 ∙ at.2))
+        (λ ne h. by_bool (is_among l (lines s.pool s.last a (length s.last)))
+        (λ y. is_among l (lines s.pool s.last a (length s.last)) ≡ y → y ≡ false)
+        (λ yes k. absurd (let at = among_to s.pool s.last a (length s.last) l k in
+        let len = seats in let below = at.below in let lt : at.berth < berths p = omega arith in
         let here = sym (last_is p s.pool j st.pool at.berth lt) ∙ at.is in
         let own = sym (of_line at.berth l t lt here was) ∙ at.own in
-        let same = eq-eqb a t.action (sym (eqb-true t.action a own)) in cc)) (λ _ k. refl) refl) refl;
+        let same = eq-eqb a t.action (sym (eqb-true t.action a own)) in cc))
+        (λ _ k. refl) refl) refl;
   }
 
   -- ---- the matches
@@ -235,20 +271,33 @@ module _ (p : Plan) (s : State) (j : List Entry) (lane a n : ℕ) (b : Branch) (
   shuffle false g w q = refl
 
   eqb_sym : (x y : ℕ) → (x == y) ≡ (y == x)
-  eqb_sym x y = by_bool (x == y) (λ v. (x == y) ≡ v → v ≡ (y == x)) (λ _ h. sym (eq-eqb y x (sym (eqb-true x y h))))
-      (λ _ h. by_bool (y == x) (λ v. (y == x) ≡ v → false ≡ v) (λ _ k. absurd (let z = eq-eqb x y (sym (eqb-true y x k)) in cc)) (λ _ k. refl) refl) refl
+  eqb_sym x y = by_bool (x == y) (λ v. (x == y) ≡ v → v ≡ (y == x))
+      (λ _ h. sym (eq-eqb y x (sym (eqb-true x y h))))
+      (λ _ h. by_bool (y == x) (λ v. (y == x) ≡ v → false ≡ v)
+      (λ _ k. absurd (let z = eq-eqb x y (sym (eqb-true y x k)) in cc)) (λ _ k. refl) refl) refl
 
   won_match : (m : Matched) → spend_won a (match_in j m) ≡ match_in (e ∷ j) m
   unfolding wrote gathered
   won_match m =
-      ap (λ v. record { line = m.line; number = m.number; attempt = m.attempt; exit = m.exit; refused = m.refused; spent = v })
-      (ap (λ v. v || is_spent j m.attempt) (eqb_sym m.attempt.action a) ∙ shuffle (a == m.attempt.action) (gathered j m.attempt) (is_faulty (wrote j m.attempt)) (granted j m.attempt.action)
-      ∙ ap (λ v. gathered j m.attempt || (is_faulty (wrote j m.attempt) || v)) (sym (granted_after m.attempt.action (a == m.attempt.action) refl)))
+      ap (λ v. record {
+        line = m.line;
+        number = m.number;
+        attempt = m.attempt;
+        exit = m.exit;
+        refused = m.refused;
+        spent = v;
+      })
+      (ap (λ v. v || is_spent j m.attempt) (eqb_sym m.attempt.action a)
+      ∙ shuffle (a == m.attempt.action) (gathered j m.attempt) (is_faulty (wrote j m.attempt))
+      (granted j m.attempt.action)
+      ∙ ap (λ v. gathered j m.attempt || (is_faulty (wrote j m.attempt) || v))
+      (sym (granted_after m.attempt.action (a == m.attempt.action) refl)))
 
   abbrev rec : List Match → ArrayVec Match
   rec xs = record { items = xs }
 
-  recent_by : (w : ℕ) (x : Bool) → cond (x && false) [] (and_more (cond x None None) (recent j w)) ≡ recent j w
+  recent_by : (w : ℕ) (x : Bool) → cond (x && false) [] (and_more (cond x None None) (recent j w))
+      ≡ recent j w
   recent_by w true = refl
   recent_by w false = refl
 
@@ -256,33 +305,50 @@ module _ (p : Plan) (s : State) (j : List Entry) (lane a n : ℕ) (b : Branch) (
   unfolding recent
   recent_after w = recent_by w (lane / 2 == w)
 
-  won_by : (w : ℕ) (x : Bool) → option_map (won_row a) (cond x (Some (rec (reverse (map (match_in j) (recent j w))))) None) ≡ cond x (Some (rec (reverse (map (match_in (e ∷ j)) (recent (e ∷ j) w))))) None
+  won_by : (w : ℕ) (x : Bool) → option_map (won_row a)
+      (cond x (Some (rec (reverse (map (match_in j) (recent j w))))) None) ≡ cond x
+      (Some (rec (reverse (map (match_in (e ∷ j)) (recent (e ∷ j) w))))) None
   won_by w false = refl
   won_by w true =
-      ap (λ xs. Some (rec xs)) (map_reverse (spend_won a) (map (match_in j) (recent j w)) ∙ ap reverse (map_map (spend_won a) (match_in j) (recent j w) ∙ map_matches p j e (λ m. spend_won a (match_in j m)) (match_in (e ∷ j)) (recent j w) won_match))
+      ap (λ xs. Some (rec xs)) (map_reverse (spend_won a) (map (match_in j) (recent j w))
+      ∙ ap reverse (map_map (spend_won a) (match_in j) (recent j w)
+      ∙ map_matches p j e (λ m. spend_won a (match_in j m)) (match_in (e ∷ j))
+      (recent j w) won_match))
       ∙ ap (λ xs. Some (rec (reverse (map (match_in (e ∷ j)) xs)))) (sym (recent_after w))
 
   matches_is : (w : ℕ) → slice_get (with_won s.matches a) w ≡ matches_in p (e ∷ j) w
   unfolding matches_in
-  matches_is w = get_map (won_row a) s.matches w ∙ ap (option_map (won_row a)) (st.matches w) ∙ won_by w (nat_lt w (berths p))
+  matches_is w = get_map (won_row a) s.matches w ∙ ap (option_map (won_row a)) (st.matches w)
+      ∙ won_by w (nat_lt w (berths p))
 
   quiet : IsQuiet p j e
   unfolding wrote
-  quiet = record { no_launch = refl; no_send = refl; no_take = λ m. refl; no_break = λ m. refl; no_feed = λ u. refl }
+  quiet = record {
+    no_launch = refl;
+    no_send = refl;
+    no_take = λ m. refl;
+    no_break = λ m. refl;
+    no_feed = λ u. refl;
+  }
 
   module _ (states : List ActionState) (ready : queue-stands.Stands p states (e ∷ j)) where
-    pub granted_stands : Stands p (noted_after (record (granted_with s (attempt_of a b n)) { ready = states }) lane (call.Claim a b n f) reply.Granted) (e ∷ j)
+    pub granted_stands : Stands p (noted_after (record
+        (granted_with s (attempt_of a b n)) { ready = states }) lane
+        (call.Claim a b n f) reply.Granted) (e ∷ j)
     unfolding halted
     granted_stands = record {
       plan = st.plan;
       sound = st.sound;
       legal = (st.legal, legal);
-      pool = subst (λ q. pools.Stands p q (e ∷ j)) (sym (unbound_is s.pool s.last a (length s.last)))
-          (aside_kept p s.pool j e st.pool refl (lines s.pool s.last a (length s.last)) (grants_unbind p j lane a n b f (lines s.pool s.last a (length s.last)) stays these));
+      pool = subst (λ q. pools.Stands p q (e ∷ j)) (sym (unbound_is s.pool s.last a
+          (length s.last)))
+          (aside_kept p s.pool j e st.pool refl (lines s.pool s.last a (length s.last))
+          (grants_unbind p j lane a n b f (lines s.pool s.last a (length s.last)) stays these));
       requests = asks.others p s.requests j e st.requests refl refl;
       cancels = marks.grants_kept p s.cancels j lane a b n f st.cancels;
       ready = ready;
-      race = races.grants p s.race j lane a n b f st.race (record { ungranted = ungranted; uncommitted = uncommitted });
+      race = races.grants p s.race j lane a n b f st.race
+          (record { ungranted = ungranted; uncommitted = uncommitted });
       attempts = tallies.others_count p s.attempts j e st.attempts none_begins ended_same;
       lanes = lanes_kept p j e s.lanes st.lanes;
       greetings = quiet_greetings p j e refl refl s.greetings st.greetings;

@@ -25,7 +25,8 @@ use Rattle.core_laws.proofs.Rowed.{changed_rows}
 
 -- ---- an entry that is no Answer and orders no Launch
 
-module _ (p : Plan) (j : List Entry) (e : Entry) (quiet : is_answer e.call ≡ false) (plain : launch_in e.reply ≡ None) where
+module _ (p : Plan) (j : List Entry) (e : Entry) (quiet : is_answer e.call ≡ false)
+    (plain : launch_in e.reply ≡ None) where
   unlaunched : (r : Reply) (x : Greeting) → launch_in r ≡ None → unless_launched r x ≡ x
   unlaunched (reply.Launch l a b t) x h = absurd (cc)
   unlaunched _ x h = refl
@@ -45,22 +46,29 @@ module _ (p : Plan) (j : List Entry) (e : Entry) (quiet : is_answer e.call ≡ f
   of_same : (o : Option ℕ) → greeting_of (e ∷ j) o ≡ greeting_of j o
   unfolding has_spoken has_greeted
   of_same None = refl
-  of_same (Some l) = λ i. record { spoken = mute l e.call quiet i || has_spoken j l; greeted = no_greeting l e.call e.reply quiet i || has_greeted j l }
+  of_same (Some l) = λ i. record {
+    spoken = mute l e.call quiet i || has_spoken j l;
+    greeted = no_greeting l e.call e.reply quiet i || has_greeted j l;
+  }
 
   row_same : (b : Bool) (o : Option Greeting) → cond b (option_map (said_by e.call e.reply) o) o ≡ o
   row_same false o = refl
   row_same true None = refl
   row_same true (Some x) = ap Some (said_same e.call x quiet)
 
-  pub quiet_greetings : (rows : List Greeting) → ((w : ℕ) → slice_get rows w ≡ greeting_in p j w) → (w : ℕ) → slice_get (with_said rows (e.lane / 2) e.call e.reply) w ≡ greeting_in p (e ∷ j) w
+  pub quiet_greetings : (rows : List Greeting) → ((w : ℕ) → slice_get rows w ≡ greeting_in p j w)
+      → (w : ℕ) → slice_get (with_said rows (e.lane / 2) e.call e.reply) w ≡ greeting_in p (e ∷ j) w
   unfolding greeting_in
   quiet_greetings rows h w =
-      get_update (said_by e.call e.reply) rows (e.lane / 2) w ∙ row_same (e.lane / 2 == w) (slice_get rows w) ∙ h w
-      ∙ ap (λ x. cond (nat_lt w (berths p)) (Some x) None) (sym (of_same (last_line j w)) ∙ ap (greeting_of (e ∷ j)) (sym (last_same e j plain w)))
+      get_update (said_by e.call e.reply) rows (e.lane / 2) w
+      ∙ row_same (e.lane / 2 == w) (slice_get rows w) ∙ h w
+      ∙ ap (λ x. cond (nat_lt w (berths p)) (Some x) None)
+      (sym (of_same (last_line j w)) ∙ ap (greeting_of (e ∷ j)) (sym (last_same e j plain w)))
 
 -- ---- an Answer
 
-module _ (p : Plan) (s : State) (j : List Entry) (lane l : ℕ) (x : Answer) (y : Reply) (st : Stands p s j) (here : last_line j (lane / 2) ≡ Some l) (plain : launch_in y ≡ None) where
+module _ (p : Plan) (s : State) (j : List Entry) (lane l : ℕ) (x : Answer) (y : Reply)
+    (st : Stands p s j) (here : last_line j (lane / 2) ≡ Some l) (plain : launch_in y ≡ None) where
   abbrev e : Entry
   e = record { lane = lane; call = call.Answer l x; reply = y }
 
@@ -74,23 +82,36 @@ module _ (p : Plan) (s : State) (j : List Entry) (lane l : ℕ) (x : Answer) (y 
 
   own : greeting_of (e ∷ j) (Some l) ≡ said_by (call.Answer l x) y (greeting_of j (Some l))
   unfolding has_spoken has_greeted
-  own = λ i. record { spoken = eq-eqb l l refl i || has_spoken j l; greeted = own_greets y i || has_greeted j l }
+  own = λ i. record {
+    spoken = eq-eqb l l refl i || has_spoken j l;
+    greeted = own_greets y i || has_greeted j l;
+  }
 
   others : (k : ℕ) → (l == k) ≡ false → greeting_of (e ∷ j) (Some k) ≡ greeting_of j (Some k)
   unfolding has_spoken has_greeted
-  others k h = λ i. record { spoken = h i || has_spoken j k; greeted = other_greets k y h i || has_greeted j k }
+  others k h = λ i. record {
+    spoken = h i || has_spoken j k;
+    greeted = other_greets k y h i || has_greeted j k;
+  }
 
-  pub answer_greetings : (w : ℕ) → slice_get (with_said s.greetings (lane / 2) (call.Answer l x) y) w ≡ greeting_in p (e ∷ j) w
+  pub answer_greetings : (w : ℕ) → slice_get (with_said s.greetings (lane / 2) (call.Answer l x) y)
+      w ≡ greeting_in p (e ∷ j) w
   unfolding greeting_in
   answer_greetings =
-      changed_rows p s j e l st here plain greeting_of (said_by (call.Answer l x) y) own others refl s.greetings (with_said s.greetings (lane / 2) (call.Answer l x) y)
+      changed_rows p s j e l st here plain greeting_of (said_by (call.Answer l x) y) own others refl
+      s.greetings (with_said s.greetings (lane / 2) (call.Answer l x) y)
       st.greetings (λ v. get_update (said_by (call.Answer l x) y) s.greetings (lane / 2) v)
 
 -- ---- a Launch
 
 module _ (p : Plan) (j : List Entry) (lane l : ℕ) (t : Attempt) (free : IsFresh j l) where
   abbrev launch : Entry
-  launch = record { lane = lane; call = call.Ask; reply = reply.Launch l t.action t.branch t.number }
+  launch = record {
+    lane = lane;
+    call = call.Ask;
+    reply =
+        reply.Launch l t.action t.branch t.number;
+  }
 
   fresh_one : greeting_of (launch ∷ j) (Some l) ≡ silent
   unfolding has_spoken has_greeted
@@ -102,14 +123,19 @@ module _ (p : Plan) (j : List Entry) (lane l : ℕ) (t : Attempt) (free : IsFres
   old_same (Some k) = refl
 
   launched_by : (v : ℕ) (b known : Bool)
-      → cond b (option_map (λ (x : Greeting). silent) (cond known (Some (greeting_of j (last_line j v))) None)) (cond known (Some (greeting_of j (last_line j v))) None)
-      ≡ cond known (Some (greeting_of (launch ∷ j) (or_else (cond b (Some l) None) (last_line j v)))) None
+      → cond b (option_map (λ (x : Greeting). silent) (cond known
+      (Some (greeting_of j (last_line j v))) None)) (cond known
+      (Some (greeting_of j (last_line j v))) None)
+      ≡ cond known (Some (greeting_of (launch ∷ j) (or_else (cond b (Some l) None)
+      (last_line j v)))) None
   launched_by v true true = ap Some (sym fresh_one)
   launched_by v true false = refl
   launched_by v false true = ap Some (sym (old_same (last_line j v)))
   launched_by v false false = refl
 
-  pub launch_greetings : (rows : List Greeting) → ((w : ℕ) → slice_get rows w ≡ greeting_in p j w) → (w : ℕ) → slice_get (with_said rows (lane / 2) call.Ask launch.reply) w ≡ greeting_in p (launch ∷ j) w
+  pub launch_greetings : (rows : List Greeting) → ((w : ℕ) → slice_get rows w ≡ greeting_in p j w)
+      → (w : ℕ) → slice_get (with_said rows (lane / 2) call.Ask launch.reply) w ≡ greeting_in p
+      (launch ∷ j) w
   unfolding greeting_in last_line
   launch_greetings rows h v =
       get_update (λ (x : Greeting). silent) rows (lane / 2) v

@@ -32,39 +32,57 @@ use Rattle.core_laws.specs.Stands.{Stands}
 use Rattle.core_laws.proofs.Own.{lanes_kept, last_kept, matches_kept, IsQuiet, SpendsNone, ready_kept, race_kept, attempts_kept, map_matches}
 use Rattle.core_laws.proofs.Greeted.{answer_greetings}
 
-module _ (p : Plan) (s : State) (j : List Entry) (lane l : ℕ) (x : Answer) (t : Attempt) (st : Stands p s j) (may : script p j lane (call.Answer l x) ≡ true) (here : last_line j (lane / 2) ≡ Some l)
+module _ (p : Plan) (s : State) (j : List Entry) (lane l : ℕ) (x : Answer) (t : Attempt)
+    (st : Stands p s j) (may : script p j lane (call.Answer l x) ≡ true)
+    (here : last_line j (lane / 2) ≡ Some l)
     (on : IsPendingOn j t l) (known : IsKnownBy j l x.number t) where
   -- ---- Late
 
   module _ (is : reply.Late t.action t.branch t.number ≡ r.rule p j lane (call.Answer l x)) where
     abbrev late_entry : Entry
-    late_entry = record { lane = lane; call = call.Answer l x; reply = reply.Late t.action t.branch t.number }
+    late_entry = record {
+      lane = lane;
+      call = call.Answer l x;
+      reply = reply.Late t.action t.branch t.number;
+    }
 
     late_same : SameActions j (late_entry ∷ j)
-    late_same = answer_actions p s.pool j lane l x (reply.Late t.action t.branch t.number) t st.pool refl
+    late_same = answer_actions p s.pool j lane l x (reply.Late t.action t.branch t.number) t st.pool
+        refl
 
     late_quiet : IsQuiet p j late_entry
     unfolding wrote
-    late_quiet = record { no_launch = refl; no_send = refl; no_take = λ m. refl; no_break = λ m. refl; no_feed = λ u. refl }
+    late_quiet = record {
+      no_launch = refl;
+      no_send = refl;
+      no_take = λ m. refl;
+      no_break = λ m. refl;
+      no_feed = λ u. refl;
+    }
 
     late_spends : SpendsNone p j late_entry
     unfolding wrote granted grant_of gathered
     late_spends = record { no_send = refl; no_match = refl; same = λ u. refl }
 
-    pub late_stands : Stands p (noted_after (heard_late s l x.number) lane (call.Answer l x) (reply.Late t.action t.branch t.number)) (late_entry ∷ j)
+    pub late_stands : Stands p (noted_after (heard_late s l x.number) lane (call.Answer l x)
+        (reply.Late t.action t.branch t.number)) (late_entry ∷ j)
     unfolding halted
     late_stands = record {
       plan = st.plan;
       sound = st.sound;
       legal = (st.legal, record { scripted = may; replied = is; kept = refl });
-      pool = answers_kept p s.pool j lane l x (reply.Late t.action t.branch t.number) t st.pool refl on;
-      requests = asks.answers j lane l x (reply.Late t.action t.branch t.number) t refl p s.requests st.requests known;
-      cancels = marks.answers p s.cancels j lane l x (reply.Late t.action t.branch t.number) t st.cancels refl known;
+      pool = answers_kept p s.pool j lane l x (reply.Late t.action t.branch t.number) t st.pool refl
+          on;
+      requests = asks.answers j lane l x (reply.Late t.action t.branch t.number) t refl p s.requests
+          st.requests known;
+      cancels = marks.answers p s.cancels j lane l x (reply.Late t.action t.branch t.number) t
+          st.cancels refl known;
       ready = ready_kept p j late_entry late_same refl s.ready st.ready;
       race = race_kept p j late_entry late_same refl s.race st.race;
       attempts = attempts_kept p j late_entry late_same refl s.attempts st.attempts;
       lanes = lanes_kept p j late_entry s.lanes st.lanes;
-      greetings = answer_greetings p s j lane l x (reply.Late t.action t.branch t.number) st here refl;
+      greetings = answer_greetings p s j lane l x (reply.Late t.action t.branch t.number) st here
+          refl;
       last = last_kept p j late_entry late_quiet s.last st.last;
       matches = matches_kept p j late_entry late_spends s.matches st.matches;
       halted = st.halted;
@@ -72,66 +90,114 @@ module _ (p : Plan) (s : State) (j : List Entry) (lane l : ℕ) (x : Answer) (t 
 
   -- ---- Matched
 
-  module _ (is : reply.Matched t.action t.branch t.number ≡ r.rule p j lane (call.Answer l x)) (waits : is_spent j t ≡ false) where
+  module _ (is : reply.Matched t.action t.branch t.number ≡ r.rule p j lane (call.Answer l x))
+      (waits : is_spent j t ≡ false) where
     abbrev match_entry : Entry
-    match_entry = record { lane = lane; call = call.Answer l x; reply = reply.Matched t.action t.branch t.number }
+    match_entry = record {
+      lane = lane;
+      call = call.Answer l x;
+      reply = reply.Matched t.action t.branch t.number;
+    }
 
     match_actions : SameActions j (match_entry ∷ j)
-    match_actions = answer_actions p s.pool j lane l x (reply.Matched t.action t.branch t.number) t st.pool refl
+    match_actions = answer_actions p s.pool j lane l x
+        (reply.Matched t.action t.branch t.number) t st.pool refl
 
     match_quiet : IsQuiet p j match_entry
     unfolding wrote
-    match_quiet = record { no_launch = refl; no_send = refl; no_take = λ m. refl; no_break = λ m. refl; no_feed = λ u. refl }
+    match_quiet = record {
+      no_launch = refl;
+      no_send = refl;
+      no_take = λ m. refl;
+      no_break = λ m. refl;
+      no_feed = λ u. refl;
+    }
 
     abbrev matched : Matched
-    matched = record { line = l; number = x.number; attempt = t; exit = x.exit; refused = nat_lt 0 (length x.refusal) }
+    matched = record {
+      line = l;
+      number = x.number;
+      attempt = t;
+      exit = x.exit;
+      refused = nat_lt 0 (length x.refusal);
+    }
 
     spent_same : (u : Attempt) → is_spent (match_entry ∷ j) u ≡ is_spent j u
     unfolding wrote granted grant_of gathered
     spent_same u = refl
 
     old_same : (m : Matched) → match_in (match_entry ∷ j) m ≡ match_in j m
-    old_same m = ap (λ b. record { line = m.line; number = m.number; attempt = m.attempt; exit = m.exit; refused = m.refused; spent = b }) (spent_same m.attempt)
+    old_same m = ap (λ b. record {
+      line = m.line;
+      number = m.number;
+      attempt = m.attempt;
+      exit = m.exit;
+      refused = m.refused;
+      spent = b;
+    }) (spent_same m.attempt)
 
     new_is : new_match l x t ≡ match_in (match_entry ∷ j) matched
-    new_is = ap (λ b. record { line = l; number = x.number; attempt = t; exit = x.exit; refused = nat_lt 0 (length x.refusal); spent = b }) (sym waits ∙ sym (spent_same t))
+    new_is = ap (λ b. record {
+      line = l;
+      number = x.number;
+      attempt = t;
+      exit = x.exit;
+      refused = nat_lt 0 (length x.refusal);
+      spent = b;
+    }) (sym waits ∙ sym (spent_same t))
 
     abbrev rec : List Match → ArrayVec Match
     rec xs = record { items = xs }
 
-    row_now : (w : ℕ) → reverse (map (match_in j) (recent j w)) ++ new_match l x t ∷ [] ≡ reverse (map (match_in (match_entry ∷ j)) (matched ∷ recent j w))
+    row_now : (w : ℕ) → reverse (map (match_in j) (recent j w)) ++ new_match l x t ∷ [] ≡ reverse
+        (map (match_in (match_entry ∷ j)) (matched ∷ recent j w))
     row_now w =
-        (λ i. reverse (map_matches p j match_entry (match_in j) (match_in (match_entry ∷ j)) (recent j w) (λ m. sym (old_same m)) i) ++ new_is i ∷ [])
-        ∙ sym (reverse_front (match_in (match_entry ∷ j) matched) (map (match_in (match_entry ∷ j)) (recent j w)))
+        (λ i. reverse (map_matches p j match_entry (match_in j) (match_in (match_entry ∷ j))
+        (recent j w) (λ m. sym (old_same m)) i) ++ new_is i ∷ [])
+        ∙ sym (reverse_front (match_in (match_entry ∷ j) matched)
+        (map (match_in (match_entry ∷ j)) (recent j w)))
 
-    one_more : (w : ℕ) (b known_too : Bool) → cond b (option_map (on_row (λ ms. ms ++ new_match l x t ∷ [])) (cond known_too (Some (rec (reverse (map (match_in j) (recent j w))))) None)) (cond known_too (Some (rec (reverse (map (match_in j) (recent j w))))) None)
-        ≡ cond known_too (Some (rec (reverse (map (match_in (match_entry ∷ j)) (cond (b && false) [] (and_more (cond b (Some matched) None) (recent j w))))))) None
+    one_more : (w : ℕ) (b known_too : Bool) → cond b (option_map
+        (on_row (λ ms. ms ++ new_match l x t ∷ [])) (cond known_too
+        (Some (rec (reverse (map (match_in j) (recent j w))))) None))
+        (cond known_too (Some (rec (reverse (map (match_in j) (recent j w))))) None)
+        ≡ cond known_too (Some (rec (reverse (map (match_in (match_entry ∷ j))
+        (cond (b && false) [] (and_more (cond b (Some matched) None) (recent j w))))))) None
     one_more w true true = ap (λ xs. Some (rec xs)) (row_now w)
     one_more w true false = refl
-    one_more w false true = ap (λ xs. Some (rec (reverse xs))) (map_matches p j match_entry (match_in j) (match_in (match_entry ∷ j)) (recent j w) (λ m. sym (old_same m)))
+    one_more w false true = ap (λ xs. Some (rec (reverse xs)))
+        (map_matches p j match_entry (match_in j) (match_in (match_entry ∷ j)) (recent j w)
+        (λ m. sym (old_same m)))
     one_more w false false = refl
 
-    matches_is : (w : ℕ) → slice_get (with_match s.matches (lane / 2) (new_match l x t)) w ≡ matches_in p (match_entry ∷ j) w
+    matches_is : (w : ℕ) → slice_get (with_match s.matches (lane / 2) (new_match l x t)) w
+        ≡ matches_in p (match_entry ∷ j) w
     unfolding matches_in recent
     matches_is w =
         get_update (on_row (λ ms. ms ++ new_match l x t ∷ [])) s.matches (lane / 2) w
-        ∙ ap (λ (o : Option (ArrayVec Match)). cond (lane / 2 == w) (option_map (on_row (λ ms. ms ++ new_match l x t ∷ [])) o) o) (st.matches w)
+        ∙ ap (λ (o : Option (ArrayVec Match)). cond (lane / 2 == w)
+        (option_map (on_row (λ ms. ms ++ new_match l x t ∷ [])) o) o) (st.matches w)
         ∙ one_more w (lane / 2 == w) (nat_lt w (berths p))
 
-    pub match_stands : Stands p (noted_after (heard_match s (lane / 2) l x t) lane (call.Answer l x) (reply.Matched t.action t.branch t.number)) (match_entry ∷ j)
+    pub match_stands : Stands p (noted_after (heard_match s (lane / 2) l x t) lane (call.Answer l x)
+        (reply.Matched t.action t.branch t.number)) (match_entry ∷ j)
     unfolding halted
     match_stands = record {
       plan = st.plan;
       sound = st.sound;
       legal = (st.legal, record { scripted = may; replied = is; kept = refl });
-      pool = answers_kept p s.pool j lane l x (reply.Matched t.action t.branch t.number) t st.pool refl on;
-      requests = asks.answers j lane l x (reply.Matched t.action t.branch t.number) t refl p s.requests st.requests known;
-      cancels = marks.answers p s.cancels j lane l x (reply.Matched t.action t.branch t.number) t st.cancels refl known;
+      pool = answers_kept p s.pool j lane l x (reply.Matched t.action t.branch t.number) t st.pool
+          refl on;
+      requests = asks.answers j lane l x (reply.Matched t.action t.branch t.number) t refl p
+          s.requests st.requests known;
+      cancels = marks.answers p s.cancels j lane l x (reply.Matched t.action t.branch t.number) t
+          st.cancels refl known;
       ready = ready_kept p j match_entry match_actions refl s.ready st.ready;
       race = race_kept p j match_entry match_actions refl s.race st.race;
       attempts = attempts_kept p j match_entry match_actions refl s.attempts st.attempts;
       lanes = lanes_kept p j match_entry s.lanes st.lanes;
-      greetings = answer_greetings p s j lane l x (reply.Matched t.action t.branch t.number) st here refl;
+      greetings = answer_greetings p s j lane l x (reply.Matched t.action t.branch t.number) st here
+          refl;
       last = last_kept p j match_entry match_quiet s.last st.last;
       matches = matches_is;
       halted = st.halted;

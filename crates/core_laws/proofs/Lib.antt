@@ -12,7 +12,6 @@ pub mod Ends
 pub mod Heard
 pub mod Read
 pub mod Granted
-pub mod Faulted
 pub mod Breached
 pub mod Several
 pub mod Claimed

@@ -60,15 +60,22 @@ asked lane x = record { lane = lane; call = call.Ask; reply = x }
 
 -- ---- an entry that changes no table but the core's own
 
-module _ (p : Plan) (s : State) (j : List Entry) (e : Entry) (st : Stands p s j) (legal : LegalEntry p j e) (aside : is_aside e ≡ true) (nothing : ends_nothing e.call ≡ true) (still : is_still e.reply ≡ true) (calm : is_calm e.call ≡ true) (ungranted : granted_in e.call e.reply ≡ None) (plain : begun_in e.reply ≡ None)
-    (told : (w : ℕ) → slice_get (with_said s.greetings (e.lane / 2) e.call e.reply) w ≡ greeting_in p (e ∷ j) w) where
+module _ (p : Plan) (s : State) (j : List Entry) (e : Entry) (st : Stands p s j)
+    (legal : LegalEntry p j e) (aside : is_aside e ≡ true) (nothing : ends_nothing e.call ≡ true)
+    (still : is_still e.reply ≡ true) (calm : is_calm e.call ≡ true)
+    (ungranted : granted_in e.call e.reply ≡ None) (plain : begun_in e.reply ≡ None)
+    (told : (w : ℕ) → slice_get (with_said s.greetings (e.lane / 2) e.call e.reply) w
+    ≡ greeting_in p (e ∷ j) w) where
   abbrev with_own : State → List LastLine → List (ArrayVec Match) → State
   with_own t rows ms = record t { last = rows; matches = ms }
 
   same : SameActions j (e ∷ j)
   same = quiet_actions e j aside nothing
 
-  pub own_stands : (rows : List LastLine) (ms : List (ArrayVec Match)) → ((w : ℕ) → slice_get rows w ≡ last_in p (e ∷ j) w) → ((w : ℕ) → slice_get ms w ≡ matches_in p (e ∷ j) w) → Stands p (with_own (noted_after s e.lane e.call e.reply) rows ms) (e ∷ j)
+  pub own_stands : (rows : List LastLine) (ms : List (ArrayVec Match))
+      → ((w : ℕ) → slice_get rows w ≡ last_in p (e ∷ j) w)
+      → ((w : ℕ) → slice_get ms w ≡ matches_in p (e ∷ j) w)
+      → Stands p (with_own (noted_after s e.lane e.call e.reply) rows ms) (e ∷ j)
   unfolding halted
   own_stands rows ms last matches = record {
     plan = st.plan;
@@ -87,15 +94,23 @@ module _ (p : Plan) (s : State) (j : List Entry) (e : Entry) (st : Stands p s j)
     halted = ap (λ b. is_halt e.call || b) st.halted;
   }
 
-  pub quiet_stands : IsQuiet p j e → SpendsNone p j e → Stands p (noted_after s e.lane e.call e.reply) (e ∷ j)
-  quiet_stands quiet spends = own_stands s.last s.matches (last_kept p j e quiet s.last st.last) (matches_kept p j e spends s.matches st.matches)
+  pub quiet_stands : IsQuiet p j e → SpendsNone p j e
+      → Stands p (noted_after s e.lane e.call e.reply) (e ∷ j)
+  quiet_stands quiet spends = own_stands s.last s.matches (last_kept p j e quiet s.last st.last)
+      (matches_kept p j e spends s.matches st.matches)
 
 -- ---- Kill, Stop
 
 module _ (p : Plan) (j : List Entry) (lane : ℕ) where
   kill_quiet : (l : ℕ) (y : Why) → IsQuiet p j (asked lane (reply.Kill l y))
   unfolding wrote
-  kill_quiet l y = record { no_launch = refl; no_send = refl; no_take = λ m. refl; no_break = λ m. refl; no_feed = λ t. refl }
+  kill_quiet l y = record {
+    no_launch = refl;
+    no_send = refl;
+    no_take = λ m. refl;
+    no_break = λ m. refl;
+    no_feed = λ t. refl;
+  }
 
   kill_spends : (l : ℕ) (y : Why) → SpendsNone p j (asked lane (reply.Kill l y))
   unfolding wrote granted grant_of gathered
@@ -103,19 +118,38 @@ module _ (p : Plan) (j : List Entry) (lane : ℕ) where
 
   stop_quiet : (c : Call) → IsQuiet p j (asked lane reply.Stop)
   unfolding wrote
-  stop_quiet c = record { no_launch = refl; no_send = refl; no_take = λ m. refl; no_break = λ m. refl; no_feed = λ t. refl }
+  stop_quiet c = record {
+    no_launch = refl;
+    no_send = refl;
+    no_take = λ m. refl;
+    no_break = λ m. refl;
+    no_feed = λ t. refl;
+  }
 
   stop_spends : SpendsNone p j (asked lane reply.Stop)
   unfolding wrote granted grant_of gathered
   stop_spends = record { no_send = refl; no_match = refl; same = λ t. refl }
 
-  gather_quiet : (l : ℕ) (n : ℤ) (t : Attempt) (x : ℤ) (v : Bool) → IsQuiet p j (asked lane (reply.Gather l n t.action t.branch t.number x v))
+  gather_quiet : (l : ℕ) (n : ℤ) (t : Attempt) (x : ℤ) (v : Bool)
+      → IsQuiet p j (asked lane (reply.Gather l n t.action t.branch t.number x v))
   unfolding wrote
-  gather_quiet l n t x v = record { no_launch = refl; no_send = refl; no_take = λ m. refl; no_break = λ m. refl; no_feed = λ u. refl }
+  gather_quiet l n t x v = record {
+    no_launch = refl;
+    no_send = refl;
+    no_take = λ m. refl;
+    no_break = λ m. refl;
+    no_feed = λ u. refl;
+  }
 
   cancel_quiet : (l : ℕ) (n : ℤ) → IsQuiet p j (asked lane (reply.Cancel l n))
   unfolding wrote
-  cancel_quiet l n = record { no_launch = refl; no_send = refl; no_take = λ m. refl; no_break = λ m. refl; no_feed = λ u. refl }
+  cancel_quiet l n = record {
+    no_launch = refl;
+    no_send = refl;
+    no_take = λ m. refl;
+    no_break = λ m. refl;
+    no_feed = λ u. refl;
+  }
 
   cancel_spends : (l : ℕ) (n : ℤ) → SpendsNone p j (asked lane (reply.Cancel l n))
   unfolding wrote granted grant_of gathered
@@ -125,17 +159,27 @@ or_assoc : (x y z : Bool) → (x || (y || z)) ≡ ((x || y) || z)
 or_assoc true y z = refl
 or_assoc false y z = refl
 
-pub get_map : {X Y : Type 0} (g : X → Y) (xs : List X) (i : ℕ) → slice_get (map g xs) i ≡ option_map g (slice_get xs i)
+pub get_map : {X Y : Type 0} (g : X → Y) (xs : List X) (i : ℕ)
+    → slice_get (map g xs) i ≡ option_map g (slice_get xs i)
 get_map g [] i = refl
 get_map g (x ∷ xs) zero = refl
 get_map g (x ∷ xs) (suc i) = get_map g xs i
 
-module _ (p : Plan) (s : State) (j : List Entry) (lane : ℕ) (st : Stands p s j) (may : script p j lane call.Ask ≡ true) where
-  pub kill_stands : (l : ℕ) (y : Why) → reply.Kill l y ≡ r.rule p j lane call.Ask → Stands p (noted_after s lane call.Ask (reply.Kill l y)) (asked lane (reply.Kill l y) ∷ j)
-  kill_stands l y is = quiet_stands p s j (asked lane (reply.Kill l y)) st (record { scripted = may; replied = is; kept = refl }) refl refl refl refl refl refl (quiet_greetings p j (asked lane (reply.Kill l y)) refl refl s.greetings st.greetings) (kill_quiet p j lane l y) (kill_spends p j lane l y)
+module _ (p : Plan) (s : State) (j : List Entry) (lane : ℕ) (st : Stands p s j)
+    (may : script p j lane call.Ask ≡ true) where
+  pub kill_stands : (l : ℕ) (y : Why) → reply.Kill l y ≡ r.rule p j lane call.Ask
+      → Stands p (noted_after s lane call.Ask (reply.Kill l y)) (asked lane (reply.Kill l y) ∷ j)
+  kill_stands l y is = quiet_stands p s j (asked lane (reply.Kill l y)) st
+      (record { scripted = may; replied = is; kept = refl }) refl refl refl refl refl refl
+      (quiet_greetings p j (asked lane (reply.Kill l y)) refl refl s.greetings st.greetings)
+      (kill_quiet p j lane l y) (kill_spends p j lane l y)
 
-  pub stop_stands : reply.Stop ≡ r.rule p j lane call.Ask → Stands p (noted_after s lane call.Ask reply.Stop) (asked lane reply.Stop ∷ j)
-  stop_stands is = quiet_stands p s j (asked lane reply.Stop) st (record { scripted = may; replied = is; kept = refl }) refl refl refl refl refl refl (quiet_greetings p j (asked lane reply.Stop) refl refl s.greetings st.greetings) (stop_quiet p j lane call.Ask) (stop_spends p j lane)
+  pub stop_stands : reply.Stop ≡ r.rule p j lane call.Ask
+      → Stands p (noted_after s lane call.Ask reply.Stop) (asked lane reply.Stop ∷ j)
+  stop_stands is = quiet_stands p s j (asked lane reply.Stop) st
+      (record { scripted = may; replied = is; kept = refl }) refl refl refl refl refl refl
+      (quiet_greetings p j (asked lane reply.Stop) refl refl s.greetings st.greetings)
+      (stop_quiet p j lane call.Ask) (stop_spends p j lane)
 
   -- ---- Gather
 
@@ -145,9 +189,18 @@ module _ (p : Plan) (s : State) (j : List Entry) (lane : ℕ) (st : Stands p s j
 
     spent_match : (m : Matched) → spend_if t (match_in j m) ≡ match_in (gather_entry ∷ j) m
     unfolding wrote granted grant_of gathered
-    spent_match m = ap (λ b. record { line = m.line; number = m.number; attempt = m.attempt; exit = m.exit; refused = m.refused; spent = b }) (or_assoc (same_attempt t m.attempt) (gathered j m.attempt) (is_faulty (wrote j m.attempt) || granted j m.attempt.action))
+    spent_match m = ap (λ b. record {
+      line = m.line;
+      number = m.number;
+      attempt = m.attempt;
+      exit = m.exit;
+      refused = m.refused;
+      spent = b;
+    }) (or_assoc (same_attempt t m.attempt)
+        (gathered j m.attempt) (is_faulty (wrote j m.attempt) || granted j m.attempt.action))
 
-    recent_stays : (w : ℕ) (b : Bool) → cond (b && false) [] (and_more (cond b None None) (recent j w)) ≡ recent j w
+    recent_stays : (w : ℕ) (b : Bool) → cond (b && false) []
+        (and_more (cond b None None) (recent j w)) ≡ recent j w
     recent_stays w true = refl
     recent_stays w false = refl
 
@@ -158,18 +211,32 @@ module _ (p : Plan) (s : State) (j : List Entry) (lane : ℕ) (st : Stands p s j
     abbrev rec : List Match → ArrayVec Match
     rec xs = record { items = xs }
 
-    spent_row_is : (w : ℕ) (b : Bool) → option_map (spent_row t) (cond b (Some (rec (reverse (map (match_in j) (recent j w))))) None) ≡ cond b (Some (rec (reverse (map (match_in (gather_entry ∷ j)) (recent (gather_entry ∷ j) w))))) None
+    spent_row_is : (w : ℕ) (b : Bool) → option_map (spent_row t)
+        (cond b (Some (rec (reverse (map (match_in j) (recent j w))))) None) ≡ cond b
+        (Some (rec (reverse (map (match_in (gather_entry ∷ j)) (recent (gather_entry ∷ j) w)))))
+        None
     spent_row_is w false = refl
     spent_row_is w true =
-        ap (λ xs. Some (rec xs)) (map_reverse (spend_if t) (map (match_in j) (recent j w)) ∙ ap reverse (map_map (spend_if t) (match_in j) (recent j w) ∙ map_matches p j gather_entry (λ m. spend_if t (match_in j m)) (match_in (gather_entry ∷ j)) (recent j w) spent_match))
-        ∙ ap (λ xs. Some (rec (reverse (map (match_in (gather_entry ∷ j)) xs)))) (sym (recent_after w))
+        ap (λ xs. Some (rec xs)) (map_reverse (spend_if t) (map (match_in j) (recent j w))
+        ∙ ap reverse (map_map (spend_if t) (match_in j) (recent j w)
+        ∙ map_matches p j gather_entry (λ m. spend_if t (match_in j m))
+        (match_in (gather_entry ∷ j)) (recent j w) spent_match))
+        ∙ ap (λ xs. Some (rec (reverse (map (match_in (gather_entry ∷ j)) xs))))
+        (sym (recent_after w))
 
     spent_is : (w : ℕ) → slice_get (with_spent s.matches t) w ≡ matches_in p (gather_entry ∷ j) w
     unfolding matches_in
-    spent_is w = get_map (spent_row t) s.matches w ∙ ap (option_map (spent_row t)) (st.matches w) ∙ spent_row_is w (nat_lt w (berths p))
+    spent_is w = get_map (spent_row t) s.matches w ∙ ap (option_map (spent_row t)) (st.matches w)
+        ∙ spent_row_is w (nat_lt w (berths p))
 
-    pub gather_stands : reply.Gather l n t.action t.branch t.number x v ≡ r.rule p j lane call.Ask → Stands p (noted_after (record s { matches = with_spent s.matches t }) lane call.Ask (reply.Gather l n t.action t.branch t.number x v)) (gather_entry ∷ j)
-    gather_stands is = own_stands p s j gather_entry st (record { scripted = may; replied = is; kept = refl }) refl refl refl refl refl refl (quiet_greetings p j gather_entry refl refl s.greetings st.greetings) s.last (with_spent s.matches t) (last_kept p j gather_entry (gather_quiet p j lane l n t x v) s.last st.last) spent_is
+    pub gather_stands : reply.Gather l n t.action t.branch t.number x v ≡ r.rule p j lane call.Ask
+        → Stands p (noted_after (record s { matches = with_spent s.matches t }) lane call.Ask
+        (reply.Gather l n t.action t.branch t.number x v)) (gather_entry ∷ j)
+    gather_stands is = own_stands p s j gather_entry st
+        (record { scripted = may; replied = is; kept = refl }) refl refl refl refl refl refl
+        (quiet_greetings p j gather_entry refl refl s.greetings st.greetings) s.last
+        (with_spent s.matches t) (last_kept p j gather_entry
+        (gather_quiet p j lane l n t x v) s.last st.last) spent_is
 
   -- ---- Cancel
 
@@ -180,7 +247,9 @@ module _ (p : Plan) (s : State) (j : List Entry) (lane : ℕ) (st : Stands p s j
     cancel_same : SameActions j (cancel_entry ∷ j)
     cancel_same = quiet_actions cancel_entry j refl refl
 
-    pub cancel_stands : reply.Cancel l n ≡ r.rule p j lane call.Ask → Stands p (noted_after (carried s (lane / 2) (choice.Cancel l n)) lane call.Ask (reply.Cancel l n)) (cancel_entry ∷ j)
+    pub cancel_stands : reply.Cancel l n ≡ r.rule p j lane call.Ask
+        → Stands p (noted_after (carried s (lane / 2) (choice.Cancel l n)) lane call.Ask
+        (reply.Cancel l n)) (cancel_entry ∷ j)
     unfolding halted
     cancel_stands is = record {
       plan = st.plan;
@@ -201,7 +270,8 @@ module _ (p : Plan) (s : State) (j : List Entry) (lane : ℕ) (st : Stands p s j
 
   -- ---- Launch
 
-  module _ (t : Attempt) (next : earliest p j (group_at p (lane / 2)) ≡ Some t) (facts : JournalFacts p j) (lt : lane / 2 < berths p) where
+  module _ (t : Attempt) (next : earliest p j (group_at p (lane / 2)) ≡ Some t)
+      (facts : JournalFacts p j) (lt : lane / 2 < berths p) where
     abbrev launch_reply : Reply
     launch_reply = reply.Launch (line_count j) t.action t.branch t.number
 
@@ -224,7 +294,12 @@ module _ (p : Plan) (s : State) (j : List Entry) (lane : ℕ) (st : Stands p s j
       new : IsNew p j t
       new =
           let n = earliest_next p j (group_at p (lane / 2)) t next in
-          record { unbegun = begins.unbegun; going = going; wish = (queued_is p j t.action t.branch n.action n.waiting).wish }
+          record {
+            unbegun = begins.unbegun;
+            going = going;
+            wish =
+                (queued_is p j t.action t.branch n.action n.waiting).wish;
+          }
 
       launch_same : SameActions j (launch_entry ∷ j)
       launch_same = launch_actions p s.pool j lane t st.pool free new lt
@@ -236,30 +311,38 @@ module _ (p : Plan) (s : State) (j : List Entry) (lane : ℕ) (st : Stands p s j
       row_new : row_of (launch_entry ∷ j) (Some (line_count j)) ≡ row_by (Some t) false None None
       unfolding launch_of was_taken line_cause fed_of sends wrote
       row_new =
-          let here : (line_count j == line_count j) ≡ true = eq-eqb (line_count j) (line_count j) refl in
+          let here : (line_count j == line_count j) ≡ true =
+          eq-eqb (line_count j) (line_count j) refl in
           rw (here, free.take, free.break, free.send) refl
 
       row_old : (v : ℕ) (o : Option ℕ) → OfBerth j o v → row_of (launch_entry ∷ j) o ≡ row_of j o
       unfolding was_taken line_cause fed_of sends wrote
       row_old v None own = refl
-      row_old v (Some l) own = ap (λ o. row_by (option_map (λ x. x.1) o) (was_taken j l) (line_cause j l) (fed_of j l)) (launch_stays launch_entry j l refl own.below)
+      row_old v (Some l) own = ap (λ o. row_by (option_map (λ x. x.1) o) (was_taken j l)
+          (line_cause j l) (fed_of j l)) (launch_stays launch_entry j l refl own.below)
 
       last_by : (v : ℕ) (b known : Bool) → OfBerth j (last_line j v) v
-          → cond b (option_map (set_launched t) (cond known (Some (row_of j (last_line j v))) None)) (cond known (Some (row_of j (last_line j v))) None)
-          ≡ cond known (Some (row_of (launch_entry ∷ j) (or_else (cond b (Some (line_count j)) None) (last_line j v)))) None
+          → cond b (option_map (set_launched t) (cond known (Some (row_of j (last_line j v))) None))
+          (cond known (Some (row_of j (last_line j v))) None)
+          ≡ cond known (Some (row_of (launch_entry ∷ j) (or_else (cond b (Some (line_count j)) None)
+          (last_line j v)))) None
       last_by v true true own = ap Some (sym row_new)
       last_by v true false own = refl
       last_by v false true own = ap Some (sym (row_old v (last_line j v) own))
       last_by v false false own = refl
 
-      last_is : (v : ℕ) → slice_get (update (set_launched t) s.last (lane / 2)) v ≡ last_in p (launch_entry ∷ j) v
+      last_is : (v : ℕ) → slice_get (update (set_launched t) s.last (lane / 2)) v ≡ last_in p
+          (launch_entry ∷ j) v
       unfolding last_in last_line
       last_is v =
           get_update (set_launched t) s.last (lane / 2) v
-          ∙ ap (λ (o : Option LastLine). cond (lane / 2 == v) (option_map (set_launched t) o) o) (st.last v)
-          ∙ last_by v (lane / 2 == v) (nat_lt v (berths p)) (last_line_own v j (lines_named p j st.legal))
+          ∙ ap (λ (o : Option LastLine). cond (lane / 2 == v) (option_map (set_launched t) o) o)
+          (st.last v)
+          ∙ last_by v (lane / 2 == v) (nat_lt v (berths p)) (last_line_own v j
+          (lines_named p j st.legal))
 
-      pub launch_stands : Stands p (noted_after (launched_for s (lane / 2) t) lane call.Ask launch_reply) (launch_entry ∷ j)
+      pub launch_stands : Stands p (noted_after (launched_for s (lane / 2) t) lane call.Ask
+          launch_reply) (launch_entry ∷ j)
       unfolding halted
       launch_stands = record {
         plan = st.plan;
@@ -268,9 +351,16 @@ module _ (p : Plan) (s : State) (j : List Entry) (lane : ℕ) (st : Stands p s j
         pool = launches_kept p s.pool j lane t st.pool free new lt;
         requests = asks.others p s.requests j launch_entry st.requests refl refl;
         cancels = marks.others p s.cancels j launch_entry st.cancels refl refl refl;
-        ready = queues.begun p j launch_entry t (record { begins = refl; next = begins; going = going; same = launch_same }) s.ready st.ready;
-        race = races.others p s.race j (launch_entry ∷ j) st.race (record { grant = launch_same.grant; commit = launch_same.commit });
-        attempts = tallies.begins_count p s.attempts j launch_entry t st.attempts refl begins going launch_same.ended_too;
+        ready = queues.begun p j launch_entry t (record {
+          begins = refl;
+          next = begins;
+          going = going;
+          same = launch_same;
+        }) s.ready st.ready;
+        race = races.others p s.race j (launch_entry ∷ j) st.race
+            (record { grant = launch_same.grant; commit = launch_same.commit });
+        attempts = tallies.begins_count p s.attempts j launch_entry t st.attempts refl begins going
+            launch_same.ended_too;
         lanes = lanes_kept p j launch_entry s.lanes st.lanes;
         greetings = launch_greetings p j lane (line_count j) t free s.greetings st.greetings;
         last = last_is;

@@ -34,10 +34,14 @@ use Rattle.core_laws.specs.Stands.{Stands}
 use Rattle.retry_rules.proofs.Told.{ended_at}
 use Rattle.core_tables.proofs.Lengths.{length_is, length_as}
 
-module _ (p : Plan) (s : State) (j : List Entry) (st : Stands p s j) (facts : JournalFacts p j) where
+module _ (p : Plan) (s : State) (j : List Entry) (st : Stands p s j)
+    (facts : JournalFacts p j) where
   pub seats_are : length s.pool.seats ≡ berths p
   unfolding seat_in
-  seats_are = length_is s.pool.seats (berths p) (λ w. record { capacity = capacity (kind_of p w); last = last_line j w }) st.pool.each_seat
+  seats_are = length_is s.pool.seats (berths p) (λ w. record {
+    capacity = capacity (kind_of p w);
+    last = last_line j w;
+  }) st.pool.each_seat
 
   pub lasts_are : length s.last ≡ berths p
   unfolding last_in
@@ -45,7 +49,10 @@ module _ (p : Plan) (s : State) (j : List Entry) (st : Stands p s j) (facts : Jo
 
   pub matches_are : length s.matches ≡ berths p
   unfolding matches_in
-  matches_are = length_is s.matches (berths p) (λ w. record { items = reverse (map (match_in j) (recent j w)) }) st.matches
+  matches_are = length_is s.matches (berths p) (λ w. record {
+    items =
+        reverse (map (match_in j) (recent j w));
+  }) st.matches
 
   pub greetings_are : length s.greetings ≡ berths p
   unfolding greeting_in
@@ -62,16 +69,19 @@ module _ (p : Plan) (s : State) (j : List Entry) (st : Stands p s j) (facts : Jo
 
   seat_none : (v : ℕ) → nat_lt v (berths p) ≡ false → slice_get s.pool.seats v ≡ None
   unfolding seat_in
-  seat_none v ne = st.pool.each_seat v ∙ ap (λ b. cond b (Some (record { capacity = capacity (kind_of p v); last = last_line j v })) None) ne
+  seat_none v ne = st.pool.each_seat v ∙ ap (λ b. cond b
+      (Some (record { capacity = capacity (kind_of p v); last = last_line j v })) None) ne
 
   pub line_below : (v l : ℕ) → rows.last_of s.pool v ≡ Some l → l < length s.pool.lines
   line_below v l h =
       by_bool (nat_lt v (berths p)) (λ _. l < length s.pool.lines)
       (λ yes. let lt = ltb-true v (berths p) yes in
       let here = sym (last_is p s.pool j st.pool v lt) ∙ h in
-      let own = subst (λ (o : Option ℕ). OfBerth j o v) here (last_line_own v j (lines_named p j st.legal)) in
+      let own = subst (λ (o : Option ℕ). OfBerth j o v) here
+      (last_line_own v j (lines_named p j st.legal)) in
       let below = own.below in let count = st.pool.count in omega arith)
-      (λ ne. absurd (let none = seat_none v ne in let k = sym (ap (λ (o : Option BerthRow). option_and_then (λ x. x.last) o) none) ∙ h in cc))
+      (λ ne. absurd (let none = seat_none v ne in let k =
+      sym (ap (λ (o : Option BerthRow). option_and_then (λ x. x.last) o) none) ∙ h in cc))
 
   count_below : (over : Bool) (n : ℕ) → cond over n (n - 1) ≤ n
   count_below true n = omega arith
@@ -83,9 +93,11 @@ module _ (p : Plan) (s : State) (j : List Entry) (st : Stands p s j) (facts : Jo
       by_bool (nat_lt a (length p.actions)) (λ _. ended_of s.attempts a b ≤ 10)
       (λ yes. let e = ended_at p j s.attempts a b st.attempts (ltb-true a (length p.actions) yes) in
       let c = count_below (ended j (attempt_of a b (attempt j a b))) (attempt j a b) in
-      let limit = (attempts_in_order p j st.legal).limited a b st.sound.least in let most = st.sound.most in omega arith)
+      let limit = (attempts_in_order p j st.legal).limited a b st.sound.least in
+      let most = st.sound.most in omega arith)
       (λ ne. let none = st.attempts.each a ∙ ap (λ x. cond x (Some (ended_in j a)) None) ne in
-      let e = ap (λ (o : Option EndedCounts). unwrap_or (option_map (count_of b) o) 0) none in omega arith)
+      let e = ap (λ (o : Option EndedCounts). unwrap_or (option_map (count_of b) o) 0) none in
+      omega arith)
 
   pub reads : (w : ℕ) → w < berths p → Reads s w
   reads w lt =
@@ -99,7 +111,8 @@ module _ (p : Plan) (s : State) (j : List Entry) (st : Stands p s j) (facts : Jo
         matches = matches_are ∙ sym b;
         greetings = greetings_are ∙ sym b;
         lines = line_below;
-        cancels = (let count = st.pool.count in let fit = facts.lines_fit in let room = cancels_are in omega arith);
+        cancels = (let count = st.pool.count in let fit = facts.lines_fit in
+            let room = cancels_are in omega arith);
         actions = counts_are ∙ sym states_are;
         numbers = λ a c. (let small = number_small a c in omega arith);
         few = (let seats = st.sound.seats in omega arith);

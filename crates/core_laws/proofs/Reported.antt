@@ -41,13 +41,20 @@ module _ (p : Plan) (s : State) (j : List Entry) (lane : ℕ) (st : Stands p s j
 
     killed_quiet : IsQuiet p j killed_entry
     unfolding wrote
-    killed_quiet = record { no_launch = refl; no_send = refl; no_take = λ m. refl; no_break = λ m. refl; no_feed = λ t. refl }
+    killed_quiet = record {
+      no_launch = refl;
+      no_send = refl;
+      no_take = λ m. refl;
+      no_break = λ m. refl;
+      no_feed = λ t. refl;
+    }
 
     killed_spends : SpendsNone p j killed_entry
     unfolding wrote granted grant_of gathered
     killed_spends = record { no_send = refl; no_match = refl; same = λ t. refl }
 
-    pub killed_stands : Stands p (noted_after (killed_with s l) lane (call.Killed l) reply.Noted) (killed_entry ∷ j)
+    pub killed_stands : Stands p (noted_after (killed_with s l) lane (call.Killed l) reply.Noted)
+        (killed_entry ∷ j)
     unfolding halted
     killed_stands = record {
       plan = st.plan;
@@ -56,9 +63,12 @@ module _ (p : Plan) (s : State) (j : List Entry) (lane : ℕ) (st : Stands p s j
       pool = kills_kept p s.pool j lane l st.pool;
       requests = asks.others p s.requests j killed_entry st.requests refl refl;
       cancels = marks.others p s.cancels j killed_entry st.cancels refl refl refl;
-      ready = ready_kept p j killed_entry (kill_actions p s.pool j lane l st.pool) refl s.ready st.ready;
-      race = race_kept p j killed_entry (kill_actions p s.pool j lane l st.pool) refl s.race st.race;
-      attempts = attempts_kept p j killed_entry (kill_actions p s.pool j lane l st.pool) refl s.attempts st.attempts;
+      ready = ready_kept p j killed_entry (kill_actions p s.pool j lane l st.pool) refl s.ready
+          st.ready;
+      race = race_kept p j killed_entry (kill_actions p s.pool j lane l st.pool) refl s.race
+          st.race;
+      attempts = attempts_kept p j killed_entry (kill_actions p s.pool j lane l st.pool) refl
+          s.attempts st.attempts;
       lanes = lanes_kept p j killed_entry s.lanes st.lanes;
       greetings = quiet_greetings p j killed_entry refl refl s.greetings st.greetings;
       last = last_kept p j killed_entry killed_quiet s.last st.last;
@@ -74,13 +84,20 @@ module _ (p : Plan) (s : State) (j : List Entry) (lane : ℕ) (st : Stands p s j
 
     started_quiet : IsQuiet p j started_entry
     unfolding wrote
-    started_quiet = record { no_launch = refl; no_send = refl; no_take = λ m. refl; no_break = λ m. refl; no_feed = λ t. refl }
+    started_quiet = record {
+      no_launch = refl;
+      no_send = refl;
+      no_take = λ m. refl;
+      no_break = λ m. refl;
+      no_feed = λ t. refl;
+    }
 
     started_spends : SpendsNone p j started_entry
     unfolding wrote granted grant_of gathered
     started_spends = record { no_send = refl; no_match = refl; same = λ t. refl }
 
-    pub started_stands : Stands p (noted_after (launched_with s lane l start.Done) lane (call.Launched l start.Done) reply.Noted) (started_entry ∷ j)
+    pub started_stands : Stands p (noted_after (launched_with s lane l start.Done) lane
+        (call.Launched l start.Done) reply.Noted) (started_entry ∷ j)
     unfolding halted
     started_stands = record {
       plan = st.plan;
@@ -89,9 +106,12 @@ module _ (p : Plan) (s : State) (j : List Entry) (lane : ℕ) (st : Stands p s j
       pool = starts_kept p s.pool j lane l st.pool;
       requests = asks.others p s.requests j started_entry st.requests refl refl;
       cancels = marks.others p s.cancels j started_entry st.cancels refl refl refl;
-      ready = ready_kept p j started_entry (start_actions p s.pool j lane l st.pool) refl s.ready st.ready;
-      race = race_kept p j started_entry (start_actions p s.pool j lane l st.pool) refl s.race st.race;
-      attempts = attempts_kept p j started_entry (start_actions p s.pool j lane l st.pool) refl s.attempts st.attempts;
+      ready = ready_kept p j started_entry (start_actions p s.pool j lane l st.pool) refl s.ready
+          st.ready;
+      race = race_kept p j started_entry (start_actions p s.pool j lane l st.pool) refl s.race
+          st.race;
+      attempts = attempts_kept p j started_entry (start_actions p s.pool j lane l st.pool) refl
+          s.attempts st.attempts;
       lanes = lanes_kept p j started_entry s.lanes st.lanes;
       greetings = quiet_greetings p j started_entry refl refl s.greetings st.greetings;
       last = last_kept p j started_entry started_quiet s.last st.last;
@@ -107,18 +127,30 @@ module _ (p : Plan) (s : State) (j : List Entry) (lane : ℕ) (st : Stands p s j
 
     halt_quiet : IsQuiet p j halt_entry
     unfolding wrote
-    halt_quiet = record { no_launch = refl; no_send = refl; no_take = λ m. refl; no_break = λ m. refl; no_feed = λ t. refl }
+    halt_quiet = record {
+      no_launch = refl;
+      no_send = refl;
+      no_take = λ m. refl;
+      no_break = λ m. refl;
+      no_feed = λ t. refl;
+    }
 
     halt_spends : SpendsNone p j halt_entry
     unfolding wrote granted grant_of gathered
     halt_spends = record { no_send = refl; no_match = refl; same = λ t. refl }
 
     pub halt_stands : Stands p (noted_after s lane call.Halt reply.Noted) (halt_entry ∷ j)
-    halt_stands = quiet_stands p s j halt_entry st (record { scripted = may; replied = refl; kept = refl }) refl refl refl refl refl refl (quiet_greetings p j halt_entry refl refl s.greetings st.greetings) halt_quiet halt_spends
+    halt_stands = quiet_stands p s j halt_entry st (record {
+      scripted = may;
+      replied = refl;
+      kept = refl;
+    }) refl refl refl refl refl refl (quiet_greetings p j halt_entry refl refl
+        s.greetings st.greetings) halt_quiet halt_spends
 
   -- ---- Take
 
-  module _ (l : ℕ) (may : script p j lane call.Take ≡ true) (here : last_line j (lane / 2) ≡ Some l) (is : reply.Line l ≡ r.rule p j lane call.Take) where
+  module _ (l : ℕ) (may : script p j lane call.Take ≡ true) (here : last_line j (lane / 2) ≡ Some l)
+      (is : reply.Line l ≡ r.rule p j lane call.Take) where
     abbrev take_entry : Entry
     take_entry = record { lane = lane; call = call.Take; reply = reply.Line l }
 
@@ -127,7 +159,8 @@ module _ (p : Plan) (s : State) (j : List Entry) (lane : ℕ) (st : Stands p s j
     take_spends = record { no_send = refl; no_match = refl; same = λ t. refl }
 
     owned : (v : ℕ) (k : ℕ) → last_line j v ≡ Some k → IsOfBerth j k v
-    owned v k h = subst (λ (o : Option ℕ). OfBerth j o v) h (last_line_own v j (lines_named p j st.legal))
+    owned v k h = subst (λ (o : Option ℕ). OfBerth j o v) h
+        (last_line_own v j (lines_named p j st.legal))
 
     abbrev lane_in : Option (ℕ × Attempt) → ℕ
     lane_in (Some x) = x.0
@@ -141,36 +174,51 @@ module _ (p : Plan) (s : State) (j : List Entry) (lane : ℕ) (st : Stands p s j
         let same = ap lane_in (sym a.owner.2 ∙ b.owner.2) in
         sym a.owner.3 ∙ ap (λ n. n / 2) same ∙ b.owner.3
 
-    taken_row : (k : ℕ) (b : Bool) → (l == k) ≡ b → row_of (take_entry ∷ j) (Some k) ≡ cond b (set_taken (row_of j (Some k))) (row_of j (Some k))
+    taken_row : (k : ℕ) (b : Bool) → (l == k) ≡ b → row_of (take_entry ∷ j) (Some k) ≡ cond b
+        (set_taken (row_of j (Some k))) (row_of j (Some k))
     unfolding launch_of was_taken line_cause fed_of sends wrote
     taken_row k true h = rw h refl
     taken_row k false h = rw h refl
 
     taken_by : (v : ℕ) (o : Option ℕ) (b known : Bool) → last_line j v ≡ o → (lane / 2 == v) ≡ b
-        → cond b (option_map set_taken (cond known (Some (row_of j o)) None)) (cond known (Some (row_of j o)) None) ≡ cond known (Some (row_of (take_entry ∷ j) o)) None
+        → cond b (option_map set_taken (cond known (Some (row_of j o)) None))
+        (cond known (Some (row_of j o)) None) ≡ cond known
+        (Some (row_of (take_entry ∷ j) o)) None
     taken_by v o true false h e = refl
     taken_by v o false false h e = refl
     taken_by v None false true h e = refl
-    taken_by v None true true h e = absurd (let same = eqb-true (lane / 2) v e in let k = sym here ∙ ap (last_line j) same ∙ h in cc)
+    taken_by v None true true h e = absurd (let same = eqb-true (lane / 2) v e in
+        let k = sym here ∙ ap (last_line j) same ∙ h in cc)
     taken_by v (Some k) true true h e =
         let same = eqb-true (lane / 2) v e in
         let line : l ≡ k = (let q = sym here ∙ ap (last_line j) same ∙ h in cc) in
         ap Some (sym (taken_row k true (eq-eqb l k line)))
     taken_by v (Some k) false true h e =
         ap Some (sym (taken_row k false (by_bool (l == k) (λ b. (l == k) ≡ b → (l == k) ≡ false)
-        (λ yes q. absurd (let line = eqb-true l k yes in let w = one_berth v (h ∙ ap Some (sym line)) in let z = eq-eqb (lane / 2) v w in cc)) (λ no q. q) refl)))
+        (λ yes q. absurd (let line = eqb-true l k yes in let w =
+        one_berth v (h ∙ ap Some (sym line)) in let z = eq-eqb (lane / 2) v w in cc))
+        (λ no q. q) refl)))
 
     no_line : (w : ℕ) (b : Bool) → or_else (cond b None None) (last_line j w) ≡ last_line j w
     no_line w true = refl
     no_line w false = refl
 
-    taken_is : (v : ℕ) → slice_get (update set_taken s.last (lane / 2)) v ≡ last_in p (take_entry ∷ j) v
+    taken_is : (v : ℕ) → slice_get (update set_taken s.last (lane / 2)) v ≡ last_in p
+        (take_entry ∷ j) v
     unfolding last_in last_line
     taken_is v =
         get_update set_taken s.last (lane / 2) v
         ∙ ap (λ (o : Option LastLine). cond (lane / 2 == v) (option_map set_taken o) o) (st.last v)
         ∙ taken_by v (last_line j v) (lane / 2 == v) (nat_lt v (berths p)) refl refl
-        ∙ ap (λ o. cond (nat_lt v (berths p)) (Some (row_of (take_entry ∷ j) o)) None) (sym (no_line v (lane / 2 == v)))
+        ∙ ap (λ o. cond (nat_lt v (berths p)) (Some (row_of (take_entry ∷ j) o)) None)
+        (sym (no_line v (lane / 2 == v)))
 
-    pub take_stands : Stands p (noted_after (taken_with s (lane / 2) (Some l)) lane call.Take (reply.Line l)) (take_entry ∷ j)
-    take_stands = own_stands p s j take_entry st (record { scripted = may; replied = is; kept = refl }) refl refl refl refl refl refl (quiet_greetings p j take_entry refl refl s.greetings st.greetings) (update set_taken s.last (lane / 2)) s.matches taken_is (matches_kept p j take_entry take_spends s.matches st.matches)
+    pub take_stands : Stands p (noted_after (taken_with s (lane / 2) (Some l)) lane call.Take
+        (reply.Line l)) (take_entry ∷ j)
+    take_stands = own_stands p s j take_entry st (record {
+      scripted = may;
+      replied = is;
+      kept = refl;
+    }) refl refl refl refl refl refl (quiet_greetings p j take_entry refl refl
+        s.greetings st.greetings) (update set_taken s.last (lane / 2)) s.matches taken_is
+        (matches_kept p j take_entry take_spends s.matches st.matches)

@@ -1,4 +1,5 @@
--- The rows of last lines after an entry that says something of one berth's last line alone; and what a lane is to write.
+-- The rows of last lines after an entry that says something of one berth's last line alone; and
+-- what a lane is to write.
 use Rattle.std.proofs.Common.{◌≡◌, ℕ, ◌*◌, ◌/◌, ◌==◌, nat_lt, Bool, true, false, cond, List, ◌∷◌, Option, Some, None, option_map, refl, ap, sym, subst, ◌∙◌}
 use Rattle.std.specs.Prelude.{slice_get}
 use Rattle.std.proofs.lemmas.Bool.{and_parts, eqb-true, eq-eqb}
@@ -26,13 +27,17 @@ use Rattle.core_state.specs.Reports.{sent_in}
 use Rattle.core_laws.specs.Stands.{Stands}
 
 -- a line is of one berth
-pub berth_of : (p : Plan) (s : State) (j : List Entry) (w l : ℕ) → Stands p s j → last_line j w ≡ Some l → IsOfBerth j l w
-berth_of p s j w l st h = subst (λ (o : Option ℕ). OfBerth j o w) h (last_line_own w j (lines_named p j st.legal))
+pub berth_of : (p : Plan) (s : State) (j : List Entry) (w l : ℕ) → Stands p s j
+    → last_line j w ≡ Some l → IsOfBerth j l w
+berth_of p s j w l st h = subst (λ (o : Option ℕ). OfBerth j o w) h
+    (last_line_own w j (lines_named p j st.legal))
 
 -- rows by berth that are said of its last line, as `row` says it of any line
-module _ (p : Plan) (s : State) (j : List Entry) (e : Entry) (l : ℕ) (st : Stands p s j) (here : last_line j (e.lane / 2) ≡ Some l) (plain : launch_in e.reply ≡ None)
+module _ (p : Plan) (s : State) (j : List Entry) (e : Entry) (l : ℕ) (st : Stands p s j)
+    (here : last_line j (e.lane / 2) ≡ Some l) (plain : launch_in e.reply ≡ None)
     {R : Type 0} (row : List Entry → Option ℕ → R) (g : R → R)
-    (own : row (e ∷ j) (Some l) ≡ g (row j (Some l))) (others : (k : ℕ) → (l == k) ≡ false → row (e ∷ j) (Some k) ≡ row j (Some k)) (nothing : row (e ∷ j) None ≡ row j None) where
+    (own : row (e ∷ j) (Some l) ≡ g (row j (Some l))) (others : (k : ℕ) → (l == k) ≡ false
+    → row (e ∷ j) (Some k) ≡ row j (Some k)) (nothing : row (e ∷ j) None ≡ row j None) where
   abbrev lane_of : Option (ℕ × Attempt) → ℕ
   lane_of (Some z) = z.0
   lane_of None = 0
@@ -45,32 +50,46 @@ module _ (p : Plan) (s : State) (j : List Entry) (e : Entry) (l : ℕ) (st : Sta
       sym a.owner.3 ∙ ap (λ m. m / 2) even ∙ b.owner.3
 
   changed_by : (v : ℕ) (o : Option ℕ) (b known : Bool) → last_line j v ≡ o → (e.lane / 2 == v) ≡ b
-      → cond b (option_map g (cond known (Some (row j o)) None)) (cond known (Some (row j o)) None) ≡ cond known (Some (row (e ∷ j) o)) None
+      → cond b (option_map g (cond known (Some (row j o)) None)) (cond known (Some (row j o)) None)
+      ≡ cond known (Some (row (e ∷ j) o)) None
   changed_by v o true false h k = refl
   changed_by v o false false h k = refl
   changed_by v None false true h k = ap Some (sym nothing)
-  changed_by v None true true h k = absurd (let even = eqb-true (e.lane / 2) v k in let q = sym here ∙ ap (last_line j) even ∙ h in cc)
+  changed_by v None true true h k = absurd (let even = eqb-true (e.lane / 2) v k in
+      let q = sym here ∙ ap (last_line j) even ∙ h in cc)
   changed_by v (Some m) true true h k =
       let even = eqb-true (e.lane / 2) v k in
       let line : l ≡ m = (let q = sym here ∙ ap (last_line j) even ∙ h in cc) in
       ap Some (subst (λ i. g (row j (Some i)) ≡ row (e ∷ j) (Some i)) line (sym own))
   changed_by v (Some m) false true h k =
       ap Some (sym (others m (by_bool (l == m) (λ b. (l == m) ≡ b → (l == m) ≡ false)
-      (λ yes q. absurd (let line = eqb-true l m yes in let w = one_berth v (h ∙ ap Some (sym line)) in let z = eq-eqb (e.lane / 2) v w in cc)) (λ ne q. q) refl)))
+      (λ yes q. absurd (let line = eqb-true l m yes in let w =
+      one_berth v (h ∙ ap Some (sym line)) in let z = eq-eqb (e.lane / 2) v w in cc))
+      (λ ne q. q) refl)))
 
-  pub changed_rows : (before rows : List R) → ((v : ℕ) → slice_get before v ≡ cond (nat_lt v (berths p)) (Some (row j (last_line j v))) None)
-      → ((v : ℕ) → slice_get rows v ≡ cond (e.lane / 2 == v) (option_map g (slice_get before v)) (slice_get before v))
-      → (v : ℕ) → slice_get rows v ≡ cond (nat_lt v (berths p)) (Some (row (e ∷ j) (last_line (e ∷ j) v))) None
+  pub changed_rows : (before rows : List R) → ((v : ℕ)
+      → slice_get before v ≡ cond (nat_lt v (berths p)) (Some (row j (last_line j v))) None)
+      → ((v : ℕ) → slice_get rows v ≡ cond (e.lane / 2 == v) (option_map g (slice_get before v))
+      (slice_get before v))
+      → (v : ℕ) → slice_get rows v ≡ cond (nat_lt v (berths p))
+      (Some (row (e ∷ j) (last_line (e ∷ j) v))) None
   changed_rows before rows old h v =
       h v ∙ ap (λ (o : Option R). cond (e.lane / 2 == v) (option_map g o) o) (old v)
       ∙ changed_by v (last_line j v) (e.lane / 2 == v) (nat_lt v (berths p)) refl refl
-      ∙ ap (λ o. cond (nat_lt v (berths p)) (Some (row (e ∷ j) o)) None) (sym (last_same e j plain v))
+      ∙ ap (λ o. cond (nat_lt v (berths p)) (Some (row (e ∷ j) o)) None)
+      (sym (last_same e j plain v))
 
-module _ (p : Plan) (s : State) (j : List Entry) (e : Entry) (l : ℕ) (st : Stands p s j) (here : last_line j (e.lane / 2) ≡ Some l) (g : LastLine → LastLine) (plain : launch_in e.reply ≡ None)
-    (own : row_of (e ∷ j) (Some l) ≡ g (row_of j (Some l))) (others : (k : ℕ) → (l == k) ≡ false → row_of (e ∷ j) (Some k) ≡ row_of j (Some k)) where
-  pub changed_last : (rows : List LastLine) → ((v : ℕ) → slice_get rows v ≡ cond (e.lane / 2 == v) (option_map g (slice_get s.last v)) (slice_get s.last v)) → (v : ℕ) → slice_get rows v ≡ last_in p (e ∷ j) v
+module _ (p : Plan) (s : State) (j : List Entry) (e : Entry) (l : ℕ) (st : Stands p s j)
+    (here : last_line j (e.lane / 2) ≡ Some l) (g : LastLine → LastLine)
+    (plain : launch_in e.reply ≡ None)
+    (own : row_of (e ∷ j) (Some l) ≡ g (row_of j (Some l))) (others : (k : ℕ) → (l == k) ≡ false
+    → row_of (e ∷ j) (Some k) ≡ row_of j (Some k)) where
+  pub changed_last : (rows : List LastLine) → ((v : ℕ)
+      → slice_get rows v ≡ cond (e.lane / 2 == v) (option_map g (slice_get s.last v))
+      (slice_get s.last v)) → (v : ℕ) → slice_get rows v ≡ last_in p (e ∷ j) v
   unfolding last_in
-  changed_last rows h = changed_rows p s j e l st here plain row_of g own others refl s.last rows st.last h
+  changed_last rows h = changed_rows p s j e l st here plain row_of g own others refl s.last rows
+      st.last h
 
 -- ---- what the lane's newest work orders to send
 
@@ -84,15 +103,21 @@ order_sends (reply.Line l) = refl
 order_sends reply.Stop = refl
 order_sends _ = refl
 
-work_sends : (o : Option Entry) → sent_in (order_of_work o) ≡ option_map (λ r. r.attempt) (send_of_entry o)
+work_sends : (o : Option Entry) → sent_in (order_of_work o) ≡ option_map
+    (λ r. r.attempt) (send_of_entry o)
 work_sends None = refl
 work_sends (Some e) = order_sends e.reply
 
-pub lane_inside : (p : Plan) (j : List Entry) (lane : ℕ) (c : Call) → script p j lane c ≡ true → nat_lt lane (2 * berths p) ≡ true
+pub lane_inside : (p : Plan) (j : List Entry) (lane : ℕ) (c : Call) → script p j lane c ≡ true
+    → nat_lt lane (2 * berths p) ≡ true
 lane_inside p j lane c may = (and_parts (nat_lt lane (2 * berths p)) _ may).0
 
-pub sent_is : (p : Plan) (s : State) (j : List Entry) (lane : ℕ) (c : Call) → Stands p s j → script p j lane c ≡ true → sent_in (order_at s lane) ≡ option_map (λ r. r.attempt) (order_of j lane)
+pub sent_is : (p : Plan) (s : State) (j : List Entry) (lane : ℕ) (c : Call) → Stands p s j
+    → script p j lane c ≡ true → sent_in (order_at s lane) ≡ option_map
+    (λ r. r.attempt) (order_of j lane)
 unfolding lane_in
 sent_is p s j lane c st may =
-    ap (λ (o : Option LaneState). sent_in (order_on o)) (st.lanes lane ∙ ap (λ b. cond b (Some (state_by (last_work j lane) (stopped j lane) (has_halted j lane))) None) (lane_inside p j lane c may))
+    ap (λ (o : Option LaneState). sent_in (order_on o))
+    (st.lanes lane ∙ ap (λ b. cond b (Some (state_by (last_work j lane) (stopped j lane)
+    (has_halted j lane))) None) (lane_inside p j lane c may))
     ∙ work_sends (last_work j lane)

@@ -26,7 +26,8 @@ is_granted : Reply → Bool
 is_granted reply.Granted = true
 is_granted _ = false
 
-files_said : (a : ℕ) (b : Branch) (t : ℕ) (f : List (List ℕ)) (x : Reply) → is_granted x ≡ false → said_after (call.Claim a b t (found.Files f)) x ≡ said.Nothing
+files_said : (a : ℕ) (b : Branch) (t : ℕ) (f : List (List ℕ)) (x : Reply) → is_granted x ≡ false
+    → said_after (call.Claim a b t (found.Files f)) x ≡ said.Nothing
 unfolding is_granted
 files_said a b t f reply.Granted h = absurd (cc)
 files_said a b t f _ h = refl
@@ -35,7 +36,8 @@ answer_call : Call → Bool
 answer_call (call.Answer l x) = true
 answer_call _ = false
 
-files_unanswered : (a : ℕ) (b : Branch) (t : ℕ) (f : List (List ℕ)) (x : Reply) → is_answer (said_after (call.Claim a b t (found.Files f)) x) ≡ false
+files_unanswered : (a : ℕ) (b : Branch) (t : ℕ) (f : List (List ℕ)) (x : Reply)
+    → is_answer (said_after (call.Claim a b t (found.Files f)) x) ≡ false
 files_unanswered a b t f reply.Granted = refl
 files_unanswered a b t f _ = refl
 
@@ -80,14 +82,16 @@ ask_is c (reply.Breach y) = ap not (not_won c (reply.Breach y) refl)
 ask_is c reply.Astray = ap not (not_won c reply.Astray refl)
 ask_is c reply.NoMemory = ap not (not_won c reply.NoMemory refl)
 
-take_by : (x : Reply) (s : Said) (c : Call) → is_answer s ≡ answer_call c → may_take_by (order_after x) s ≡ may_take_after c x
+take_by : (x : Reply) (s : Said) (c : Call) → is_answer s ≡ answer_call c
+    → may_take_by (order_after x) s ≡ may_take_after c x
 unfolding answer_call
 take_by (reply.Line l) s c h = refl
 take_by reply.Stop s c h = refl
 take_by _ s (call.Answer l x) h = ap not h
 take_by _ s _ h = ap not h
 
-hear_by : (l : ℕ) (x : Reply) (c : Call) → hears_by l (order_after x) (said_after c x) ≡ hears_after l c x
+hear_by : (l : ℕ) (x : Reply) (c : Call) → hears_by l (order_after x) (said_after c x)
+    ≡ hears_after l c x
 hear_by l (reply.Line k) c = refl
 hear_by l reply.Granted (call.Claim a b t (found.Files f)) = refl
 hear_by l _ (call.Claim a b t (found.Files f)) = refl
@@ -97,13 +101,15 @@ hear_by l _ _ = refl
 
 -- ---- what is owed
 
-commit_granted : (a : ℕ) (b : Branch) (c : Call) (x : Reply) → owes_this_commit a b (said_after c x) ≡ is_commit_of a b c x
+commit_granted : (a : ℕ) (b : Branch) (c : Call) (x : Reply)
+    → owes_this_commit a b (said_after c x) ≡ is_commit_of a b c x
 commit_granted a b (call.Claim c d t (found.Files f)) reply.Granted = refl
 commit_granted a b (call.Claim c d t (found.Files f)) _ = refl
 commit_granted a b (call.Claim c d t _) x = refl
 commit_granted a b _ x = refl
 
-commit_is : (c : Call) (last : Option Entry) → owes_commit_by c (said_of_work last) ≡ is_owed_commit c last
+commit_is : (c : Call) (last : Option Entry) → owes_commit_by c (said_of_work last)
+    ≡ is_owed_commit c last
 commit_is (call.Committed a b how) (Some e) = commit_granted a b e.call e.reply
 commit_is (call.Committed a b how) None = refl
 commit_is _ last = refl
@@ -114,7 +120,8 @@ look_is p (look.Made c o) _ = refl
 look_is p (look.Answered k m o) (reply.Gather l n a b t e r) = refl
 look_is p (look.Answered k m o) _ = refl
 
-owed_is : (p : Plan) (k : Kind) (c : Call) (x : Reply) → is_owed_by p k c (order_after x) ≡ is_owed p k c x
+owed_is : (p : Plan) (k : Kind) (c : Call) (x : Reply)
+    → is_owed_by p k c (order_after x) ≡ is_owed p k c x
 owed_is p k (call.Launched l how) (reply.Launch m a b t) = refl
 owed_is p k (call.Launched l how) _ = refl
 owed_is p k (call.Wrote l n how) (reply.Send m o a b t) = refl
@@ -128,44 +135,56 @@ owed_is p k (call.Look w) x = look_is p w x
 owed_is p k _ x = refl
 
 module _ (p : Plan) (k : Kind) (proxy : Bool) where
-  owed_after : (c : Call) (last : Option Entry) → (is_owed_by p k c (order_of_work last) || owes_commit_by c (said_of_work last)) ≡ is_owed_after p k c last
+  owed_after : (c : Call) (last : Option Entry) → (is_owed_by p k c (order_of_work last)
+      || owes_commit_by c (said_of_work last)) ≡ is_owed_after p k c last
   owed_after c (Some e) = λ i. owed_is p k c e.reply i || commit_is c (Some e) i
   owed_after (call.Committed a b how) None = refl
   owed_after (call.Look (look.Made a o)) None = refl
   owed_after (call.Look (look.Answered l n o)) None = refl
   owed_after _ None = refl
 
-  ask_work : (last : Option Entry) → may_ask_by (order_of_work last) (said_of_work last) ≡ may_ask last
+  ask_work : (last : Option Entry) → may_ask_by (order_of_work last) (said_of_work last)
+      ≡ may_ask last
   ask_work None = refl
   ask_work (Some e) = ask_is e.call e.reply
 
-  take_work : (last : Option Entry) → may_take_by (order_of_work last) (said_of_work last) ≡ may_take last
+  take_work : (last : Option Entry) → may_take_by (order_of_work last) (said_of_work last)
+      ≡ may_take last
   take_work None = refl
   take_work (Some e) = take_by e.reply (said_after e.call e.reply) e.call (answer_is e.call e.reply)
 
-  hear_work : (last : Option Entry) (l : ℕ) → hears_by l (order_of_work last) (said_of_work last) ≡ hears last l
+  hear_work : (last : Option Entry) (l : ℕ) → hears_by l (order_of_work last) (said_of_work last)
+      ≡ hears last l
   hear_work None l = refl
   hear_work (Some e) l = hear_by l e.reply e.call
 
-  allowed_is : (c : Call) (last : Option Entry) → allowed_by p k proxy (order_of_work last) (said_of_work last) c ≡ allowed p k proxy last c
+  allowed_is : (c : Call) (last : Option Entry) → allowed_by p k proxy (order_of_work last)
+      (said_of_work last) c ≡ allowed p k proxy last c
   allowed_is call.Ask last = ap (λ b. proxy && b) (ask_work last)
   allowed_is call.Take last = ap (λ b. not proxy && b) (take_work last)
   allowed_is (call.Answer l x) last = ap (λ b. not proxy && b) (hear_work last l)
   allowed_is (call.Ended l how) last = ap (λ b. not proxy && b) (hear_work last l)
   allowed_is call.Halt last = refl
-  allowed_is (call.Launched l how) last = ap (λ b. proxy && b) (owed_after (call.Launched l how) last)
+  allowed_is (call.Launched l how) last = ap (λ b. proxy && b)
+      (owed_after (call.Launched l how) last)
   allowed_is (call.Wrote l n how) last = ap (λ b. proxy && b) (owed_after (call.Wrote l n how) last)
   allowed_is (call.Look w) last = ap (λ b. proxy && b) (owed_after (call.Look w) last)
   allowed_is (call.Claim a b t f) last = ap (λ b. proxy && b) (owed_after (call.Claim a b t f) last)
-  allowed_is (call.Committed a b how) last = ap (λ b. proxy && b) (owed_after (call.Committed a b how) last)
+  allowed_is (call.Committed a b how) last = ap (λ b. proxy && b)
+      (owed_after (call.Committed a b how) last)
   allowed_is (call.Killed l) last = ap (λ b. proxy && b) (owed_after (call.Killed l) last)
 
-pub script_is : (p : Plan) (j : List Entry) (lanes : List LaneState) (lane : ℕ) (c : Call) → slice_get lanes lane ≡ lane_in p j lane → allows_by p (kind_of p (lane / 2)) lanes lane c ≡ script p j lane c
+pub script_is : (p : Plan) (j : List Entry) (lanes : List LaneState) (lane : ℕ) (c : Call)
+    → slice_get lanes lane ≡ lane_in p j lane → allows_by p (kind_of p (lane / 2)) lanes lane c
+    ≡ script p j lane c
 unfolding lane_in
-script_is p j lanes lane c h = ap (λ o. may_some p (kind_of p (lane / 2)) (lane % 2 == 0) o c) h ∙ by (nat_lt lane (2 * berths p)) (stopped j lane) (has_halted j lane)
+script_is p j lanes lane c h = ap (λ o. may_some p (kind_of p (lane / 2)) (lane % 2 == 0) o c) h
+    ∙ by (nat_lt lane (2 * berths p)) (stopped j lane) (has_halted j lane)
   where
-    by : (known stop halt : Bool) → may_some p (kind_of p (lane / 2)) (lane % 2 == 0) (cond known (Some (state_by (last_work j lane) stop halt)) None) c
-        ≡ (known && (not stop && cond halt (is_owed_commit c (last_work j lane)) (allowed p (kind_of p (lane / 2)) (lane % 2 == 0) (last_work j lane) c)))
+    by : (known stop halt : Bool) → may_some p (kind_of p (lane / 2)) (lane % 2 == 0)
+        (cond known (Some (state_by (last_work j lane) stop halt)) None) c
+        ≡ (known && (not stop && cond halt (is_owed_commit c (last_work j lane))
+        (allowed p (kind_of p (lane / 2)) (lane % 2 == 0) (last_work j lane) c)))
     by false stop halt = refl
     by true true halt = refl
     by true false true = commit_is c (last_work j lane)

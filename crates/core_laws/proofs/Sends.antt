@@ -58,11 +58,13 @@ not_true : (b : Bool) → not b ≡ true → b ≡ false
 not_true true h = absurd (cc)
 not_true false h = refl
 
-find_same : (f g : Request → Bool) (xs : List Request) → ((x : Request) → f x ≡ g x) → find f xs ≡ find g xs
+find_same : (f g : Request → Bool) (xs : List Request) → ((x : Request) → f x ≡ g x)
+    → find f xs ≡ find g xs
 find_same f g [] h = refl
 find_same f g (x ∷ xs) h = λ i. cond (h x i) (Some x) (find_same f g xs h i)
 
-module _ (p : Plan) (s : State) (j : List Entry) (lane l : ℕ) (t : Attempt) (st : Stands p s j) (facts : JournalFacts p j) (may : script p j lane call.Ask ≡ true)
+module _ (p : Plan) (s : State) (j : List Entry) (lane l : ℕ) (t : Attempt) (st : Stands p s j)
+    (facts : JournalFacts p j) (may : script p j lane call.Ask ≡ true)
     (here : last_line j (lane / 2) ≡ Some l) (alive : live j l ≡ true) where
   abbrev number : ℤ
   number = r.number_on p j (lane / 2) l
@@ -78,19 +80,22 @@ module _ (p : Plan) (s : State) (j : List Entry) (lane l : ℕ) (t : Attempt) (s
   running = by (has_ended j l) refl
     where
       unbroken : is_some (line_cause j l) ≡ false
-      unbroken = not_true _ (and_parts (not (is_some (line_cause j l))) _ (and_parts (started j l) _ alive).1).0
+      unbroken = not_true _ (and_parts (not (is_some (line_cause j l))) _
+          (and_parts (started j l) _ alive).1).0
 
       by : (b : Bool) → has_ended j l ≡ b → has_ended j l ≡ false
       by false h = h
       by true h = absurd (let x = ended_broke j l h in let y = unbroken in cc)
 
   own : IsOfBerth j l (lane / 2)
-  own = subst (λ (o : Option ℕ). OfBerth j o (lane / 2)) here (last_line_own (lane / 2) j (lines_named p j st.legal))
+  own = subst (λ (o : Option ℕ). OfBerth j o (lane / 2)) here
+      (last_line_own (lane / 2) j (lines_named p j st.legal))
 
   in_room : l < line_room p
   in_room = let below = own.below in let fit = facts.lines_fit in omega arith
 
-  module _ (is : send_reply ≡ r.rule p j lane call.Ask) (unsent : was_sent j t ≡ false) (group : BranchOf p t (berth_group p (lane / 2))) where
+  module _ (is : send_reply ≡ r.rule p j lane call.Ask) (unsent : was_sent j t ≡ false)
+      (group : BranchOf p t (berth_group p (lane / 2))) where
     legal : LegalEntry p j e
     legal = record { scripted = may; replied = is; kept = refl }
 
@@ -98,18 +103,28 @@ module _ (p : Plan) (s : State) (j : List Entry) (lane l : ℕ) (t : Attempt) (s
     begins = (begin_in_order p (e ∷ j) (st.legal, legal)).1
 
     to : IsSentTo j t l
-    to = sent_to j (record { line = l; number = number; attempt = t }) (begin_in_order p j st.legal) begins running (facts.unsent_unanswered t unsent)
+    to = sent_to j (record { line = l; number = number; attempt = t })
+        (begin_in_order p j st.legal) begins running (facts.unsent_unanswered t unsent)
 
     new : IsNewRequest j l t
-    new = record { unsent = unsent; unanswered = facts.unsent_unanswered t unsent; unwritten = unwritten j t unsent; running = running }
+    new = record {
+      unsent = unsent;
+      unanswered = facts.unsent_unanswered t unsent;
+      unwritten = unwritten j t unsent;
+      running = running;
+    }
 
     same : SameActions j (e ∷ j)
     same = send_actions p s.pool j lane l number t st.pool to
 
     -- ---- what is kept of the last lines
 
-    fed_by : (k : ℕ) (b : Bool) → option_map (λ (x : Request). x.attempt) (find (λ x. says_feed_fault (wrote (e ∷ j) x.attempt)) (and_more (cond b (Some (record { line = l; number = number; attempt = t })) None) (sends j k)))
-        ≡ option_map (λ (x : Request). x.attempt) (find (λ x. says_feed_fault (wrote j x.attempt)) (sends j k))
+    fed_by : (k : ℕ) (b : Bool) → option_map (λ (x : Request). x.attempt)
+        (find (λ x. says_feed_fault (wrote (e ∷ j) x.attempt))
+        (and_more (cond b (Some (record { line = l; number = number; attempt = t })) None)
+        (sends j k)))
+        ≡ option_map (λ (x : Request). x.attempt) (find (λ x. says_feed_fault (wrote j x.attempt))
+        (sends j k))
     unfolding wrote
     fed_by k true = let none = unwritten j t unsent in rw none refl
     fed_by k false = refl
@@ -117,7 +132,8 @@ module _ (p : Plan) (s : State) (j : List Entry) (lane l : ℕ) (t : Attempt) (s
     row_same : (o : Option ℕ) → row_of (e ∷ j) o ≡ row_of j o
     unfolding launch_of was_taken line_cause fed_of sends
     row_same None = refl
-    row_same (Some k) = ap (row_by (option_map (λ x. x.1) (launch_of j k)) (was_taken j k) (line_cause j k)) (fed_by k (l == k))
+    row_same (Some k) = ap (row_by (option_map (λ x. x.1) (launch_of j k)) (was_taken j k)
+        (line_cause j k)) (fed_by k (l == k))
 
     no_line : (w : ℕ) (b : Bool) → or_else (cond b None None) (last_line j w) ≡ last_line j w
     no_line w true = refl
@@ -125,7 +141,8 @@ module _ (p : Plan) (s : State) (j : List Entry) (lane l : ℕ) (t : Attempt) (s
 
     last_is : (w : ℕ) → slice_get s.last w ≡ last_in p (e ∷ j) w
     unfolding last_in last_line
-    last_is w = st.last w ∙ ap (λ x. cond (nat_lt w (berths p)) (Some x) None) (sym (row_same (last_line j w)) ∙ ap (row_of (e ∷ j)) (sym (no_line w (lane / 2 == w))))
+    last_is w = st.last w ∙ ap (λ x. cond (nat_lt w (berths p)) (Some x) None)
+        (sym (row_same (last_line j w)) ∙ ap (row_of (e ∷ j)) (sym (no_line w (lane / 2 == w))))
 
     -- ---- the berth's matches
 
@@ -136,25 +153,36 @@ module _ (p : Plan) (s : State) (j : List Entry) (lane l : ℕ) (t : Attempt) (s
     abbrev rec : List Match → ArrayVec Match
     rec xs = record { items = xs }
 
-    cleared : (w : ℕ) (b known : Bool) → cond b (option_map (on_row (λ ms. [])) (cond known (Some (rec (reverse (map (match_in j) (recent j w))))) None)) (cond known (Some (rec (reverse (map (match_in j) (recent j w))))) None)
-        ≡ cond known (Some (rec (reverse (map (match_in (e ∷ j)) (cond (b && true) [] (and_more (cond b None None) (recent j w))))))) None
+    cleared : (w : ℕ) (b known : Bool) → cond b (option_map (on_row (λ ms. []))
+        (cond known (Some (rec (reverse (map (match_in j) (recent j w))))) None))
+        (cond known (Some (rec (reverse (map (match_in j) (recent j w))))) None)
+        ≡ cond known (Some (rec (reverse (map (match_in (e ∷ j))
+        (cond (b && true) [] (and_more (cond b None None) (recent j w))))))) None
     cleared w true true = refl
     cleared w true false = refl
-    cleared w false true = ap (λ xs. Some (rec (reverse xs))) (sym (map_matches p j e (match_in (e ∷ j)) (match_in j) (recent j w) match_same))
+    cleared w false true = ap (λ xs. Some (rec (reverse xs)))
+        (sym (map_matches p j e (match_in (e ∷ j)) (match_in j) (recent j w) match_same))
     cleared w false false = refl
 
     matches_is : (w : ℕ) → slice_get (with_clear s.matches (lane / 2)) w ≡ matches_in p (e ∷ j) w
     unfolding matches_in recent
     matches_is w =
         get_update (on_row (λ ms. [])) s.matches (lane / 2) w
-        ∙ ap (λ (o : Option (ArrayVec Match)). cond (lane / 2 == w) (option_map (on_row (λ ms. [])) o) o) (st.matches w)
+        ∙ ap (λ (o : Option (ArrayVec Match)). cond (lane / 2 == w)
+        (option_map (on_row (λ ms. [])) o) o) (st.matches w)
         ∙ cleared w (lane / 2 == w) (nat_lt w (berths p))
 
     next : IsNextSend p j lane l number t.action t.branch t.number
-    next = record { number = refl; group = group; earlier = facts.numbered (lane / 2) l here; new = new }
+    next = record {
+      number = refl;
+      group = group;
+      earlier = facts.numbered (lane / 2) l here;
+      new = new;
+    }
 
     number_is : pos (next_number s.requests l t.action t.branch) ≡ number
-    number_is = asks-sent.next_number_is p s.requests j lane l t.action t.branch st.requests in_room group (facts.numbered (lane / 2) l here)
+    number_is = asks-sent.next_number_is p s.requests j lane l t.action t.branch st.requests in_room
+        group (facts.numbered (lane / 2) l here)
 
     -- ---- what was bound to the line
 
@@ -162,7 +190,8 @@ module _ (p : Plan) (s : State) (j : List Entry) (lane l : ℕ) (t : Attempt) (s
       none_begins : (a : ℕ) (b : Branch) → attempt (e ∷ j) a b ≡ attempt j a b
       none_begins a b = by ((t.action == a) && same_branch t.branch b) refl
         where
-          by : (x : Bool) → ((t.action == a) && same_branch t.branch b) ≡ x → attempt (e ∷ j) a b ≡ attempt j a b
+          by : (x : Bool) → ((t.action == a) && same_branch t.branch b) ≡ x
+              → attempt (e ∷ j) a b ≡ attempt j a b
           by true h =
               let parts = and_parts (t.action == a) _ h in
               let action = eqb-true t.action a parts.0 in
@@ -170,17 +199,25 @@ module _ (p : Plan) (s : State) (j : List Entry) (lane l : ℕ) (t : Attempt) (s
               attempt_begun e j a b t refl h ∙ latest ∙ λ i. attempt j (action i) (branch i)
           by false h = attempt_other e j a b (ap (λ c. cond c (Some t.number) None) h)
 
-      pub bound_stands : Stands p (noted_after (sent s (lane / 2) l t true) lane call.Ask send_reply) (e ∷ j)
+      pub bound_stands : Stands p (noted_after (sent s (lane / 2) l t true) lane call.Ask
+          send_reply) (e ∷ j)
       unfolding halted
       bound_stands = record {
         plan = st.plan;
         sound = st.sound;
         legal = (st.legal, legal);
         pool = bound_sends_kept p s.pool j lane l number t st.pool to was;
-        requests = asks-sent.sends_kept p s.requests j lane l number t.action t.branch t.number st.requests in_room next;
-        cancels = subst (λ n. mark-stands.Stands p (mark-rows.with_sent s.cancels l n t.action) (e ∷ j)) (sym number_is) (marks.sends_kept p s.cancels j lane l number t.action t.branch t.number st.cancels new);
-        ready = queues.others p s.ready j (e ∷ j) st.ready (record { actions = same; none_begins = none_begins });
-        race = races.others p s.race j (e ∷ j) st.race (record { grant = same.grant; commit = same.commit });
+        requests = asks-sent.sends_kept p s.requests j lane l number t.action t.branch t.number
+            st.requests in_room next;
+        cancels = subst (λ n. mark-stands.Stands p (mark-rows.with_sent s.cancels l n t.action)
+            (e ∷ j)) (sym number_is) (marks.sends_kept p s.cancels j lane l number t.action t.branch
+            t.number st.cancels new);
+        ready = queues.others p s.ready j (e ∷ j) st.ready
+            (record { actions = same; none_begins = none_begins });
+        race = races.others p s.race j (e ∷ j) st.race (record {
+          grant = same.grant;
+          commit = same.commit;
+        });
         attempts = tallies.others_count p s.attempts j e st.attempts none_begins same.ended_too;
         lanes = lanes_kept p j e s.lanes st.lanes;
         greetings = quiet_greetings p j e refl refl s.greetings st.greetings;
@@ -195,18 +232,31 @@ module _ (p : Plan) (s : State) (j : List Entry) (lane l : ℕ) (t : Attempt) (s
       going : ended j t ≡ false
       going = facts.unbegun_goes t fresh_one.unbegun
 
-      pub new_stands : Stands p (noted_after (sent s (lane / 2) l t false) lane call.Ask send_reply) (e ∷ j)
+      pub new_stands : Stands p (noted_after (sent s (lane / 2) l t false) lane call.Ask send_reply)
+          (e ∷ j)
       unfolding halted
       new_stands = record {
         plan = st.plan;
         sound = st.sound;
         legal = (st.legal, legal);
         pool = sends_kept p s.pool j lane l number t st.pool to none;
-        requests = asks-sent.sends_kept p s.requests j lane l number t.action t.branch t.number st.requests in_room next;
-        cancels = subst (λ n. mark-stands.Stands p (mark-rows.with_sent s.cancels l n t.action) (e ∷ j)) (sym number_is) (marks.sends_kept p s.cancels j lane l number t.action t.branch t.number st.cancels new);
-        ready = queues.begun p j e t (record { begins = refl; next = fresh_one; going = going; same = same }) s.ready st.ready;
-        race = races.others p s.race j (e ∷ j) st.race (record { grant = same.grant; commit = same.commit });
-        attempts = tallies.begins_count p s.attempts j e t st.attempts refl fresh_one going same.ended_too;
+        requests = asks-sent.sends_kept p s.requests j lane l number t.action t.branch t.number
+            st.requests in_room next;
+        cancels = subst (λ n. mark-stands.Stands p (mark-rows.with_sent s.cancels l n t.action)
+            (e ∷ j)) (sym number_is) (marks.sends_kept p s.cancels j lane l number t.action t.branch
+            t.number st.cancels new);
+        ready = queues.begun p j e t (record {
+          begins = refl;
+          next = fresh_one;
+          going = going;
+          same = same;
+        }) s.ready st.ready;
+        race = races.others p s.race j (e ∷ j) st.race (record {
+          grant = same.grant;
+          commit = same.commit;
+        });
+        attempts = tallies.begins_count p s.attempts j e t st.attempts refl fresh_one going
+            same.ended_too;
         lanes = lanes_kept p j e s.lanes st.lanes;
         greetings = quiet_greetings p j e refl refl s.greetings st.greetings;
         last = last_is;

@@ -15,12 +15,14 @@ use Rattle.retry_rules.specs.Counts as counts
 use Rattle.core_state.specs.Machine.{counts_after, states_after}
 
 pub record EndsOne (p : Plan) (j : List Entry) (e : Entry) (t : Attempt) : Type 0 where
-  pub this : (u : Attempt) → ended (e ∷ j) u ≡ (ended j u || (same_attempt u t && not (granted j t.action)))
+  pub this : (u : Attempt) → ended (e ∷ j) u ≡ (ended j u
+      || (same_attempt u t && not (granted j t.action)))
   pub none_begins : (a : ℕ) (b : Branch) → attempt (e ∷ j) a b ≡ attempt j a b
   pub grant : (a : ℕ) → grant_of (e ∷ j) a ≡ grant_of j a
   pub commit : (a : ℕ) (b : Branch) → commit_of (e ∷ j) a b ≡ commit_of j a b
   -- it was under way, where it ends now: the latest of its branch
-  pub latest : ended j t ≡ false → granted j t.action ≡ false → t.number ≡ attempt j t.action t.branch
+  pub latest : ended j t ≡ false → granted j t.action ≡ false
+      → t.number ≡ attempt j t.action t.branch
   pub least : 1 ≤ t.number
   pub most : t.number ≤ p.limit
   -- its action uses its branch
@@ -34,6 +36,8 @@ abbrev pub chain_counts : List Won → counts.Facts → List Attempt → counts.
 chain_counts race f [] = f
 chain_counts race f (t ∷ ts) = chain_counts race (counts_after race f t) ts
 
-abbrev pub chain_states : Plan → List Won → counts.Facts → List ActionState → List Attempt → List ActionState
+abbrev pub chain_states : Plan → List Won → counts.Facts → List ActionState → List Attempt
+    → List ActionState
 chain_states p race f states [] = states
-chain_states p race f states (t ∷ ts) = chain_states p race (counts_after race f t) (states_after p race f states t) ts
+chain_states p race f states (t ∷ ts) = chain_states p race (counts_after race f t)
+    (states_after p race f states t) ts

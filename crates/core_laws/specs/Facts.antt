@@ -29,21 +29,30 @@ pub record JournalFacts (p : Plan) (j : List Entry) : Type 0 where
   -- each attempt has at most one line, and attempts of a branch run from 1 to at most the limit
   pub lines_fit : line_count j ≤ 2 * length p.actions * p.limit
   -- every line of a berth but its last failed, or has ended and was killed
-  pub live_last : (w l : ℕ) → last_line j w ≡ Some l → (k : ℕ) → Among k (lines_of j w) → live j k ≡ true → k ≡ l
+  pub live_last : (w l : ℕ) → last_line j w ≡ Some l → (k : ℕ) → Among k (lines_of j w)
+      → live j k ≡ true → k ≡ l
   -- where a lane may Ask, its last Launch was answered by a Launched
-  pub launched_yet : (lane l : ℕ) → script p j lane call.Ask ≡ true → last_line j (lane / 2) ≡ Some l → failed j l ≡ not (started j l)
-  -- a pending request's attempt is the latest of its branch and hasn't ended, and its action is ready: so it is wanted unless its
+  pub launched_yet : (lane l : ℕ) → script p j lane call.Ask ≡ true
+      → last_line j (lane / 2) ≡ Some l → failed j l ≡ not (started j l)
+  -- a pending request's attempt is the latest of its branch and hasn't ended, and its action is
+  -- ready: so it is wanted unless its
   -- action has a grant; and a Send names an action of the plan
   pub wanted_by_grant : (l : ℕ) → WantedByGrant p j l
   -- a Single berth is told to cancel only where its group has cancellation, on its own lines
-  pub no_cancel : (w l : ℕ) → last_line j w ≡ Some l → is_single (kind_of p w) ≡ true → has_cancellation p (group_at p w) ≡ false → EachOf (λ r. has_cancel j r ≡ false) (pending j l)
+  pub no_cancel : (w l : ℕ) → last_line j w ≡ Some l → is_single (kind_of p w) ≡ true
+      → has_cancellation p (group_at p w) ≡ false → EachOf
+      (λ r. has_cancel j r ≡ false) (pending j l)
   -- a line is launched for a branch of its berth's group
-  pub bound_group : (w l : ℕ) (t : Attempt) → last_line j w ≡ Some l → bound p j l ≡ Some t → BranchOf p t (berth_group p w)
+  pub bound_group : (w l : ℕ) (t : Attempt) → last_line j w ≡ Some l → bound p j l ≡ Some t
+      → BranchOf p t (berth_group p w)
   -- the requests of a berth's last line were numbered by the berth's kind
   pub numbered : (w l : ℕ) → last_line j w ≡ Some l → Numbering p j w l
-  -- where a lane may Ask, each request of its berth has its Wrote, and a match from before the berth's last Send waits no longer:
+  -- where a lane may Ask, each request of its berth has its Wrote, and a match from before the
+  -- berth's last Send waits no longer:
   -- a Send is ordered only where none waits
-  pub gathers : (lane : ℕ) → script p j lane call.Ask ≡ true → gathers_next j (lane / 2) ≡ option_map gather_of (oldest (filter (waits_yet j) (recent j (lane / 2))))
+  pub gathers : (lane : ℕ) → script p j lane call.Ask ≡ true
+      → gathers_next j (lane / 2) ≡ option_map gather_of
+      (oldest (filter (waits_yet j) (recent j (lane / 2))))
   -- no attempt has ended that wasn't begun
   pub unbegun_goes : (t : Attempt) → begun j t ≡ false → ended j t ≡ false
   -- a consumed answer has a Send of its attempt

@@ -38,14 +38,17 @@ abbrev pub AllBegun : Plan → List Entry → List Attempt → Type 0
 AllBegun p j [] = Unit {0}
 AllBegun p j (t ∷ ts) = ((begun j t ≡ true) × Uses p t) × AllBegun p j ts
 
--- of these attempts exactly those whose actions have no grant end with the entry, and it begins, grants and commits nothing
+-- of these attempts exactly those whose actions have no grant end with the entry, and it begins,
+-- grants and commits nothing
 pub record EndsTogether (j : List Entry) (e : Entry) (ts : List Attempt) : Type 0 where
-  pub these : (u : Attempt) → ended (e ∷ j) u ≡ (ended j u || (is_among ts u && not (granted j u.action)))
+  pub these : (u : Attempt) → ended (e ∷ j) u ≡ (ended j u
+      || (is_among ts u && not (granted j u.action)))
   pub none_begins : (a : ℕ) (b : Branch) → attempt (e ∷ j) a b ≡ attempt j a b
   pub grant : (a : ℕ) → grant_of (e ∷ j) a ≡ grant_of j a
   pub commit : (a : ℕ) (b : Branch) → commit_of (e ∷ j) a b ≡ commit_of j a b
 
--- each request of the line is of the group of the line's berth: a Send is of its lane's group, and a line has one lane
+-- each request of the line is of the group of the line's berth: a Send is of its lane's group, and
+-- a line has one lane
 abbrev pub SentInGroup : Plan → List Entry → ℕ → ℕ → Type 0
 SentInGroup p j w l = EachOf (λ r. BranchOf p r.attempt (berth_group p w)) (sends j l)
 
@@ -69,19 +72,28 @@ if_there None = []
 
 -- what is pending on the line, whose Wrote is FeedFault on it, and what is bound to it
 abbrev pub lost_with : Plan → List Entry → ℕ → List Attempt
-lost_with p j l = reverse (map (λ r. r.attempt) (pending j l)) ++ (if_there (fed_of j l) ++ if_there (bound p j l))
+lost_with p j l = reverse (map (λ r. r.attempt) (pending j l)) ++
+    (if_there (fed_of j l) ++ if_there (bound p j l))
 
--- of the attempts under way these are the ones that an Ended of the line leaves: what was launched on a line and not sent
--- is bound to it, what was sent is pending, or answered, or its Wrote says that it wasn't written and it has ended,
+-- of the attempts under way these are the ones that an Ended of the line leaves: what was launched
+-- on a line and not sent
+-- is bound to it, what was sent is pending, or answered, or its Wrote says that it wasn't written
+-- and it has ended,
 -- or it is the one request of the line with FeedFault
 pub record LostOn (p : Plan) (j : List Entry) (l : ℕ) : Type 0 where
-  pub each : (u : Attempt) → ended j u ≡ false → granted j u.action ≡ false → (is_line (line_of j u) l && is_left j u) ≡ is_among (lost_with p j l) u
+  pub each : (u : Attempt) → ended j u ≡ false → granted j u.action ≡ false
+      → (is_line (line_of j u) l && is_left j u) ≡ is_among (lost_with p j l) u
 
 -- ---- what an Answer consumes
 
--- it is the only request of its attempt, pending on this line and known by the answer's number; and where it is matched it has
--- no Gather yet, its Wrote says no fault, since that would have broken the line or ended it, and its action has no grant
+-- it is the only request of its attempt, pending on this line and known by the answer's number; and
+-- where it is matched it has
+-- no Gather yet, its Wrote says no fault, since that would have broken the line or ended it, and
+-- its action has no grant
 pub record ConsumesOne (p : Plan) (j : List Entry) (lane l : ℕ) (x : Answer) : Type 0 where
-  pub on : (t : Attempt) → consumed_in (rule p j lane (call.Answer l x)) ≡ Some t → IsPendingOn j t l
-  pub known : (t : Attempt) → consumed_in (rule p j lane (call.Answer l x)) ≡ Some t → IsKnownBy j l x.number t
-  pub waits : (t : Attempt) → matched_in (rule p j lane (call.Answer l x)) ≡ Some t → is_spent j t ≡ false
+  pub on : (t : Attempt) → consumed_in (rule p j lane (call.Answer l x)) ≡ Some t
+      → IsPendingOn j t l
+  pub known : (t : Attempt) → consumed_in (rule p j lane (call.Answer l x)) ≡ Some t
+      → IsKnownBy j l x.number t
+  pub waits : (t : Attempt) → matched_in (rule p j lane (call.Answer l x)) ≡ Some t
+      → is_spent j t ≡ false

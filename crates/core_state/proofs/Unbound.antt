@@ -29,4 +29,5 @@ for_keeps f last a (suc n) =
     record { seats = now.seats ∙ before.seats; lines = now.lines ∙ before.lines }
 
 pub last_kept : (f g : Facts) (v : ℕ) → Keeps f g → last_of g v ≡ last_of f v
-last_kept f g v k = ap (λ xs. last_of (record { lines = f.lines; seats = xs; room = f.room }) v) k.seats
+last_kept f g v k = ap (λ xs. last_of (record { lines = f.lines; seats = xs; room = f.room }) v)
+    k.seats

@@ -70,7 +70,8 @@ abbrev pub kill_by : ℕ → LineRow → Option Cause → Option Choice
 kill_by l x c = if is_runner x then option_map (λ y. choice.Kill l (why_of y)) c else None
 
 abbrev pub unwanted_by : State → Seat → ℕ → LineRow → Bool
-unwanted_by s seat l x = is_runner x && (is_single seat.kind && (not seat.cancel && is_some (cancel_of s.cancels l)))
+unwanted_by s seat l x = is_runner x && (is_single seat.kind
+    && (not seat.cancel && is_some (cancel_of s.cancels l)))
 
 abbrev pub waiting_at : State → ℕ → Option Match
 waiting_at s w = find is_waiting (matches_of s.matches w)
@@ -81,10 +82,12 @@ greeted_on None = false
 
 -- the line's group has cancellation, or it is an executor's line and has greeted
 abbrev pub may_cancel_by : State → ℕ → Seat → Bool
-may_cancel_by s w seat = seat.cancel || (is_remote seat.kind && greeted_on (slice_get s.greetings w))
+may_cancel_by s w seat = seat.cancel || (is_remote seat.kind
+    && greeted_on (slice_get s.greetings w))
 
 abbrev pub cancel_by : State → ℕ → Seat → ℕ → LineRow → Option Choice
-cancel_by s w seat l x = if pool.is_live_row x && may_cancel_by s w seat then option_map (choice.Cancel l) (cancel_of s.cancels l) else None
+cancel_by s w seat l x = if pool.is_live_row x && may_cancel_by s w seat then option_map
+    (choice.Cancel l) (cancel_of s.cancels l) else None
 
 abbrev pub next_of : State → ℕ × Branch → Attempt
 next_of s x = attempt_of x.0 x.1 (ended_of s.attempts x.0 x.1 + 1)
@@ -96,7 +99,8 @@ abbrev pub send_by : State → ℕ → Seat → ℕ → LineRow → Option Choic
 send_by s w seat l x =
     if pool.is_live_row x then
     (if x.bound then option_map (λ t. choice.Send l t true) (attempt_at s w)
-    else if nat_lt 0 (pool.free_of s.pool l) then option_map (λ t. choice.Send l t false) (earliest_of s seat.group) else None)
+    else if nat_lt 0 (pool.free_of s.pool l) then option_map
+    (λ t. choice.Send l t false) (earliest_of s seat.group) else None)
     else None
 
 abbrev pub line_has_room : pool.Facts → Option ℕ → Bool
@@ -117,14 +121,16 @@ launch_for (Some t) = choice.Launch t
 launch_for None = choice.Idle
 
 abbrev pub launch_by : State → Seat → Choice
-launch_by s seat = if some_room s.pool seat.first seat.berths then choice.Idle else launch_for (earliest_of s seat.group)
+launch_by s seat = if some_room s.pool seat.first seat.berths then choice.Idle else launch_for
+    (earliest_of s seat.group)
 
 abbrev pub after_gather : Choice → Option Match → Choice
 after_gather c (Some m) = choice.Gather m
 after_gather c None = c
 
 abbrev pub choice_without : State → ℕ → Seat → Choice
-choice_without s w seat = if is_over s then choice.Stop else after_gather (launch_by s seat) (waiting_at s w)
+choice_without s w seat = if is_over s then choice.Stop else after_gather (launch_by s seat)
+    (waiting_at s w)
 
 abbrev pub then_vacant : State → Seat → LineRow → Choice
 then_vacant s seat x = if is_vacant_row x then launch_by s seat else choice.Idle

@@ -42,7 +42,8 @@ abbrev pub sent_reply : State → ℕ → Attempt → Reply
 sent_reply s l t = reply.Send l (number_of s l t) t.action t.branch t.number
 
 abbrev pub occupied : rows.Facts → ℕ → Bool → rows.Facts
-occupied f l bound = if bound then rows.change (rows.change f l rows.one_more) l rows.set_unbound else rows.change f l rows.one_more
+occupied f l bound = if bound then rows.change (rows.change f l rows.one_more) l rows.set_unbound
+    else rows.change f l rows.one_more
 
 abbrev pub begun_by : List ActionState → Attempt → Bool → List ActionState
 begun_by states t bound = if bound then states else queue.with_taken states t.action t.branch
@@ -62,7 +63,8 @@ pub record CanSend (s : State) (w l : ℕ) (t : Attempt) : Type 0 where
   pub place : rows.pending_of s.pool l < rows.capacity_of s.pool l
   pub requests : l < length s.requests.lines
   pub planned : t.action < length s.requests.singles
-  pub free : length (asks.open_of s.requests l) < asks.capacity_of (asks.single_of s.requests t.action t.branch)
+  pub free : length (asks.open_of s.requests l) < asks.capacity_of
+      (asks.single_of s.requests t.action t.branch)
   pub fewer : asks.last_of s.requests l < length s.requests.lines
   pub cancels : l < length s.cancels.lines
   pub row : length (marks.rows_of s.cancels l) < 8
@@ -92,7 +94,8 @@ pub record CanLaunch (s : State) (w : ℕ) (t : Attempt) : Type 0 where
 abbrev pub carried_reply : State → ℕ → Choice → Reply
 carried_reply s w choice.Stop = reply.Stop
 carried_reply s w (choice.Kill l y) = reply.Kill l y
-carried_reply s w (choice.Gather m) = reply.Gather m.line m.number m.attempt.action m.attempt.branch m.attempt.number m.exit m.refused
+carried_reply s w (choice.Gather m) = reply.Gather m.line m.number m.attempt.action m.attempt.branch
+    m.attempt.number m.exit m.refused
 carried_reply s w (choice.Cancel l n) = reply.Cancel l n
 carried_reply s w (choice.Send l t bound) = sent_reply s l t
 carried_reply s w (choice.Launch t) = launched_reply s t
@@ -102,7 +105,10 @@ abbrev pub carried : State → ℕ → Choice → State
 carried s w choice.Stop = s
 carried s w (choice.Kill l y) = s
 carried s w (choice.Gather m) = record s { matches = with_spent s.matches m.attempt }
-carried s w (choice.Cancel l n) = record s { requests = asks.with_cancelled s.requests l n; cancels = marks.with_asked s.cancels l n }
+carried s w (choice.Cancel l n) = record s {
+  requests = asks.with_cancelled s.requests l n;
+  cancels = marks.with_asked s.cancels l n;
+}
 carried s w (choice.Send l t bound) = sent s w l t bound
 carried s w (choice.Launch t) = launched_for s w t
 carried s w choice.Idle = s
@@ -123,7 +129,8 @@ CanCarry s w _ = Unit {0}
 -- ---- the end of an attempt
 
 abbrev pub ends_yet : List Won → counts.Facts → Attempt → Bool
-ends_yet race f t = not (is_some (wins.winner_of race t.action) || nat_le t.number (counts.ended_of f t.action t.branch))
+ends_yet race f t = not (is_some (wins.winner_of race t.action)
+    || nat_le t.number (counts.ended_of f t.action t.branch))
 
 abbrev pub counts_after : List Won → counts.Facts → Attempt → counts.Facts
 counts_after race f t = if ends_yet race f t then counts.with_end f t.action t.branch else f
@@ -138,21 +145,28 @@ uses_branch p a b = is_some (option_and_then (λ x. group_of x b) (slice_get p.a
 -- the branch is dropped: where the other one is too, or isn't used, the action is settled
 abbrev pub states_spent : Plan → counts.Facts → List ActionState → ℕ → Branch → List ActionState
 states_spent p f states a b =
-    if not (uses_branch p a (other_branch b)) || nat_le p.limit (counts.ended_of f a (other_branch b)) then queue.with_settled states a false else states
+    if not (uses_branch p a (other_branch b)) || nat_le p.limit
+    (counts.ended_of f a (other_branch b)) then queue.with_settled states a false else states
 
 abbrev pub states_ended : Plan → counts.Facts → List ActionState → Attempt → List ActionState
 states_ended p f states t =
-    if nat_lt (counts.ended_of f t.action t.branch + 1) f.limit then queue.with_again states t.action t.branch
+    if nat_lt (counts.ended_of f t.action t.branch + 1) f.limit then queue.with_again states
+    t.action t.branch
     else states_spent p (counts.with_end f t.action t.branch) states t.action t.branch
 
-abbrev pub states_after : Plan → List Won → counts.Facts → List ActionState → Attempt → List ActionState
+abbrev pub states_after : Plan → List Won → counts.Facts → List ActionState → Attempt
+    → List ActionState
 states_after p race f states t = if ends_yet race f t then states_ended p f states t else states
 
 -- the attempt ends, unless it has ended, or its action has a grant
 abbrev pub with_end : State → Attempt → State
-with_end s t = record s { attempts = counts_after s.race s.attempts t; ready = states_after s.plan s.race s.attempts s.ready t }
+with_end s t = record s {
+  attempts = counts_after s.race s.attempts t;
+  ready = states_after s.plan s.race s.attempts s.ready t;
+}
 
-pub record EndFits (race : List Won) (f : counts.Facts) (states : List ActionState) (t : Attempt) : Type 0 where
+pub record EndFits (race : List Won) (f : counts.Facts) (states : List ActionState)
+    (t : Attempt) : Type 0 where
   pub race_known : t.action < length race
   pub counts_known : t.action < length f.ended
   pub states_known : t.action < length states
@@ -202,7 +216,8 @@ taken_on (Some x) = x.taken
 taken_on None = false
 
 abbrev pub takes_line : State → ℕ → Option ℕ → Option ℕ
-takes_line s w (Some l) = if (row_at s l).started && not (taken_on (slice_get s.last w)) then Some l else None
+takes_line s w (Some l) = if (row_at s l).started && not
+    (taken_on (slice_get s.last w)) then Some l else None
 takes_line s w None = None
 
 abbrev pub takeable : State → ℕ → Option ℕ
@@ -219,7 +234,10 @@ taken_with s w None = s
 -- ---- Claim, Committed
 
 abbrev pub committed_with : State → ℕ → CommitEnd → State
-committed_with s a how = record s { race = wins.with_commit s.race a (is_done how); ready = queue.with_settled s.ready a (is_done how) }
+committed_with s a how = record s {
+  race = wins.with_commit s.race a (is_done how);
+  ready = queue.with_settled s.ready a (is_done how);
+}
 
 abbrev pub is_of_action : Option Attempt → ℕ → Bool
 is_of_action (Some t) a = t.action == a
@@ -236,10 +254,12 @@ abbrev pub row_or_none : Option LastLine → LastLine
 row_or_none (Some x) = x
 row_or_none None = no_line
 
--- nothing is bound any longer to the last lines of the first n berths that were launched for the action
+-- nothing is bound any longer to the last lines of the first n berths that were launched for the
+-- action
 abbrev pub unbound_for : rows.Facts → List LastLine → ℕ → ℕ → rows.Facts
 unbound_for f last a zero = f
-unbound_for f last a (suc n) = unbound_at (unbound_for f last a n) (row_or_none (slice_get last n)) n a
+unbound_for f last a (suc n) = unbound_at (unbound_for f last a n)
+    (row_or_none (slice_get last n)) n a
 
 abbrev pub granted_with : State → Attempt → State
 granted_with s t = record s {

@@ -58,7 +58,10 @@ attempt_in p seat a t = attempt_of a (branch_in p a seat.group) t
 -- ---- Answer
 
 abbrev pub breached : State → ℕ → ℕ → State
-breached s w l = record s { pool = rows.change s.pool l rows.set_broken; last = update (set_cause cause.Breach) s.last w }
+breached s w l = record s {
+  pool = rows.change s.pool l rows.set_broken;
+  last = update (set_cause cause.Breach) s.last w;
+}
 
 abbrev pub unmatched_reply : Seat → StrayWhy → Reply
 unmatched_reply seat y = if is_single seat.kind then reply.Breach breach.Unasked else reply.Stray y
@@ -70,10 +73,18 @@ abbrev pub is_won : State → Attempt → Bool
 is_won s t = is_some (winner_of s.race t.action)
 
 abbrev pub consumed_reply : State → Attempt → Reply
-consumed_reply s t = if is_won s t then reply.Late t.action t.branch t.number else reply.Matched t.action t.branch t.number
+consumed_reply s t = if is_won s t then reply.Late t.action t.branch t.number else reply.Matched
+    t.action t.branch t.number
 
 abbrev pub new_match : ℕ → Answer → Attempt → Match
-new_match l x t = record { line = l; number = x.number; attempt = t; exit = x.exit; refused = nat_lt 0 (length x.refusal); spent = false }
+new_match l x t = record {
+  line = l;
+  number = x.number;
+  attempt = t;
+  exit = x.exit;
+  refused = nat_lt 0 (length x.refusal);
+  spent = false;
+}
 
 abbrev pub consumed_with : State → ℕ → ℕ → Answer → Attempt → State
 consumed_with s w l x t = record s {
@@ -84,10 +95,20 @@ consumed_with s w l x t = record s {
 
 -- the answer of a request whose action has a grant, and of one whose action has none
 abbrev pub heard_late : State → ℕ → ℤ → State
-heard_late s l n = record s { pool = rows.change s.pool l rows.one_fewer; requests = asks.with_answer s.requests l n; cancels = marks.with_gone s.cancels l n }
+heard_late s l n = record s {
+  pool = rows.change s.pool l rows.one_fewer;
+  requests = asks.with_answer s.requests l n;
+  cancels = marks.with_gone s.cancels l n;
+}
 
 abbrev pub heard_match : State → ℕ → ℕ → Answer → Attempt → State
-heard_match s w l x t = record s { pool = rows.change s.pool l rows.one_fewer; requests = asks.with_answer s.requests l x.number; cancels = marks.with_gone s.cancels l x.number; matches = with_match s.matches w (new_match l x t) }
+heard_match s w l x t = record s {
+  pool = rows.change s.pool l rows.one_fewer;
+  requests = asks.with_answer s.requests l x.number;
+  cancels = marks.with_gone s.cancels l x.number;
+  matches =
+      with_match s.matches w (new_match l x t);
+}
 
 abbrev pub heard : State → ℕ → ℤ → State
 heard s l n = record s { requests = asks.with_answer s.requests l n }
@@ -96,14 +117,18 @@ abbrev pub reopened : State → ℕ → ℤ → State
 reopened s l n = record s { requests = asks.with_reopened s.requests l n }
 
 abbrev pub matching_reply : State → Seat → Answer → Matching → Reply
-matching_reply s seat x (found.Pending a t) = if x.cancelled then reply.Breach breach.NotCancelled else consumed_reply s (attempt_in s.plan seat a t)
+matching_reply s seat x (found.Pending a t) = if x.cancelled then reply.Breach breach.NotCancelled
+    else consumed_reply s (attempt_in s.plan seat a t)
 matching_reply s seat x (found.Cancelled a t) = consumed_reply s (attempt_in s.plan seat a t)
 matching_reply s seat x found.Closed = unmatched_reply seat stray.Closed
 matching_reply s seat x found.Never = unmatched_reply seat stray.Never
 
 abbrev pub matching_with : State → ℕ → Seat → ℕ → Answer → Matching → State
-matching_with s w seat l x (found.Pending a t) = if x.cancelled then breached (reopened (heard s l x.number) l x.number) w l else consumed_with (heard s l x.number) w l x (attempt_in s.plan seat a t)
-matching_with s w seat l x (found.Cancelled a t) = consumed_with (heard s l x.number) w l x (attempt_in s.plan seat a t)
+matching_with s w seat l x (found.Pending a t) = if x.cancelled then breached
+    (reopened (heard s l x.number) l x.number) w l else consumed_with (heard s l x.number) w l x
+    (attempt_in s.plan seat a t)
+matching_with s w seat l x (found.Cancelled a t) =
+    consumed_with (heard s l x.number) w l x (attempt_in s.plan seat a t)
 matching_with s w seat l x found.Closed = unmatched_with (heard s l x.number) w seat l
 matching_with s w seat l x found.Never = unmatched_with (heard s l x.number) w seat l
 
@@ -127,7 +152,8 @@ spoken_on None = false
 
 -- an executor's first answer, with the number 0 and the version 2 or more
 abbrev pub is_greeting_by : Seat → Option Greeting → Answer → Bool
-is_greeting_by seat said x = is_remote seat.kind && (int_eq x.number (pos 0) && (int_le (pos 2) x.version && not (spoken_on said)))
+is_greeting_by seat said x = is_remote seat.kind &&
+    (int_eq x.number (pos 0) && (int_le (pos 2) x.version && not (spoken_on said)))
 
 abbrev pub answer_reply_by : State → ℕ → Seat → ℕ → Answer → Reply
 answer_reply_by s w seat l x =
@@ -171,16 +197,23 @@ sent_in (order.Send l n t) = Some t
 sent_in _ = None
 
 abbrev pub broken_by_feed : State → ℕ → ℕ → State
-broken_by_feed s w l = record s { pool = rows.change s.pool l rows.set_broken; last = update (set_cause cause.Feed) s.last w }
+broken_by_feed s w l = record s {
+  pool = rows.change s.pool l rows.set_broken;
+  last = update (set_cause cause.Feed) s.last w;
+}
 
 abbrev pub ended_if : Bool → State → Attempt → State
 ended_if over s t = if over then with_end s t else s
 
 abbrev pub fed_attempt : State → ℕ → Attempt → State
-fed_attempt s w t = record s { last = update (set_fed t) s.last w; matches = with_spent s.matches t }
+fed_attempt s w t = record s {
+  last = update (set_fed t) s.last w;
+  matches = with_spent s.matches t;
+}
 
 abbrev pub fed_by : State → ℕ → ℕ → Option Attempt → State
-fed_by s w l (Some t) = ended_if (row_at (broken_by_feed s w l) l).ended (fed_attempt (broken_by_feed s w l) w t) t
+fed_by s w l (Some t) = ended_if (row_at (broken_by_feed s w l) l).ended
+    (fed_attempt (broken_by_feed s w l) w t) t
 fed_by s w l None = broken_by_feed s w l
 
 abbrev pub fed_with : State → ℕ → ℕ → ℕ → State
@@ -193,7 +226,11 @@ abbrev pub is_pending_at : State → ℕ → Attempt → Bool
 is_pending_at s l t = list_any (is_open_for t) (asks.places_of s.requests l)
 
 abbrev pub dropped_from : State → ℕ → ℤ → State
-dropped_from s l n = record s { requests = asks.with_unwritten s.requests l n; cancels = marks.with_gone s.cancels l n; pool = rows.change s.pool l rows.one_fewer }
+dropped_from s l n = record s {
+  requests = asks.with_unwritten s.requests l n;
+  cancels = marks.with_gone s.cancels l n;
+  pool = rows.change s.pool l rows.one_fewer;
+}
 
 abbrev pub spent_for : State → Attempt → State
 spent_for s t = record s { matches = with_spent s.matches t }
@@ -223,34 +260,47 @@ pub record CanWrite (s : State) (lane w l : ℕ) (t : Option Attempt) : Type 0 w
   pub last : w < length s.last
   pub requests : l < length s.requests.lines
   pub cancels : l < length s.cancels.lines
-  pub pending : (u : Attempt) → t ≡ Some u → is_pending_at s l u ≡ true → 0 < rows.pending_of s.pool l
+  pub pending : (u : Attempt) → t ≡ Some u → is_pending_at s l u ≡ true
+      → 0 < rows.pending_of s.pool l
   pub ends : CanEndSome s t
 
 -- ---- Ended
 
 abbrev pub place_counts : Plan → List Won → counts.Facts → Seat → RequestRow → counts.Facts
-place_counts p race f seat x = if x.pending then counts_after race f (attempt_in p seat x.action x.attempt) else f
+place_counts p race f seat x = if x.pending then counts_after race f
+    (attempt_in p seat x.action x.attempt) else f
 
-abbrev pub place_states : Plan → List Won → counts.Facts → List ActionState → Seat → RequestRow → List ActionState
-place_states p race f states seat x = if x.pending then states_after p race f states (attempt_in p seat x.action x.attempt) else states
+abbrev pub place_states : Plan → List Won → counts.Facts → List ActionState → Seat → RequestRow
+    → List ActionState
+place_states p race f states seat x = if x.pending then states_after p race f states
+    (attempt_in p seat x.action x.attempt) else states
 
 abbrev pub places_counts : Plan → List Won → counts.Facts → Seat → List RequestRow → counts.Facts
 places_counts p race f seat [] = f
 places_counts p race f seat (x ∷ xs) = places_counts p race (place_counts p race f seat x) seat xs
 
-abbrev pub places_states : Plan → List Won → counts.Facts → List ActionState → Seat → List RequestRow → List ActionState
+abbrev pub places_states : Plan → List Won → counts.Facts → List ActionState → Seat
+    → List RequestRow → List ActionState
 places_states p race f states seat [] = states
-places_states p race f states seat (x ∷ xs) = places_states p race (place_counts p race f seat x) (place_states p race f states seat x) seat xs
+places_states p race f states seat (x ∷ xs) = places_states p race (place_counts p race f seat x)
+    (place_states p race f states seat x) seat xs
 
-abbrev pub PlaceFits : Plan → List Won → counts.Facts → List ActionState → Seat → RequestRow → Type 0
-PlaceFits p race f states seat x = x.pending ≡ true → EndFits race f states (attempt_in p seat x.action x.attempt)
+abbrev pub PlaceFits : Plan → List Won → counts.Facts → List ActionState → Seat → RequestRow
+    → Type 0
+PlaceFits p race f states seat x = x.pending ≡ true
+    → EndFits race f states (attempt_in p seat x.action x.attempt)
 
-abbrev pub CanEndPlaces : Plan → List Won → counts.Facts → List ActionState → Seat → List RequestRow → Type 0
+abbrev pub CanEndPlaces : Plan → List Won → counts.Facts → List ActionState → Seat → List RequestRow
+    → Type 0
 CanEndPlaces p race f states seat [] = Unit {0}
-CanEndPlaces p race f states seat (x ∷ xs) = PlaceFits p race f states seat x × CanEndPlaces p race f states seat xs
+CanEndPlaces p race f states seat (x ∷ xs) = PlaceFits p race f states seat x
+    × CanEndPlaces p race f states seat xs
 
 abbrev pub end_all : State → Seat → List RequestRow → State
-end_all s seat xs = record s { attempts = places_counts s.plan s.race s.attempts seat xs; ready = places_states s.plan s.race s.attempts s.ready seat xs }
+end_all s seat xs = record s {
+  attempts = places_counts s.plan s.race s.attempts seat xs;
+  ready = places_states s.plan s.race s.attempts s.ready seat xs;
+}
 
 abbrev pub fed_on : Option LastLine → Option Attempt
 fed_on (Some x) = x.fed
@@ -269,7 +319,8 @@ closed s w l how = record s {
 
 abbrev pub ended_with : State → ℕ → Seat → ℕ → HowEnded → State
 ended_with s w seat l how =
-    closed (end_of_some (end_of_some (end_all s seat (asks.places_of s.requests l)) (fed_on (slice_get s.last w))) (bound_on s w l)) w l how
+    closed (end_of_some (end_of_some (end_all s seat (asks.places_of s.requests l))
+    (fed_on (slice_get s.last w))) (bound_on s w l)) w l how
 
 pub record CanEndAll (s : State) (w : ℕ) (seat : Seat) (l : ℕ) : Type 0 where
   pub line : l < length s.pool.lines
@@ -278,4 +329,5 @@ pub record CanEndAll (s : State) (w : ℕ) (seat : Seat) (l : ℕ) : Type 0 wher
   pub cancels : l < length s.cancels.lines
   pub places : CanEndPlaces s.plan s.race s.attempts s.ready seat (asks.places_of s.requests l)
   pub fed : CanEndSome (end_all s seat (asks.places_of s.requests l)) (fed_on (slice_get s.last w))
-  pub bound : CanEndSome (end_of_some (end_all s seat (asks.places_of s.requests l)) (fed_on (slice_get s.last w))) (bound_on s w l)
+  pub bound : CanEndSome (end_of_some (end_all s seat (asks.places_of s.requests l))
+      (fed_on (slice_get s.last w))) (bound_on s w l)

@@ -7,4 +7,5 @@ mod reports;
 mod state;
 
 pub use choice::Choice;
+pub use make::is_kept;
 pub use state::State;

@@ -9,7 +9,8 @@ use core_tables::Seat;
 use exec_journal::{Attempt, Call, Reply};
 
 impl State {
-    /// The reply to a call that is in its lane's script, and what it makes of the tables. A Look asks nothing of them.
+    /// The reply to a call that is in its lane's script, and what it makes of the tables. A Look
+    /// asks nothing of them.
     pub fn make(&mut self, lane: u32, seat: Seat, call: &Call) -> Reply
         requires can { CanMake self.old lane seat call.now }
         requires no_look { is_look call.now ≡ false }
@@ -58,8 +59,8 @@ impl State {
     }
 }
 
-// An entry with this reply joins the journal.
-fn is_kept(reply: &Reply) -> bool
+/// An entry with this reply joins the journal.
+pub fn is_kept(reply: &Reply) -> bool
     ensures { result ≡ is_kept reply.now }
 {
     !matches!(

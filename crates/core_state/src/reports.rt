@@ -134,7 +134,8 @@ impl State {
         }
     }
 
-    // The feed takes nothing more: the line broke. Where it has ended before, the attempt is lost with it.
+    // The feed takes nothing more: the line broke. Where it has ended before, the attempt is lost
+    // with it.
     fn feed_fault(&mut self, lane: u32, berth: u32, line: u32) -> Reply
         requires { CanWrite self.old lane berth line (sent_in (order_at self.old lane)) }
         ensures reply { result ≡ Reply.Noted }
@@ -162,7 +163,8 @@ impl State {
         requires last { berth < length self.old.last }
         requires ends { CanEnd self.old attempt }
         ensures reply { result ≡ Reply.Noted }
-        ensures state { self.new ≡ ended_if (row_at self.old line).ended (fed_attempt self.old berth attempt) attempt }
+        ensures state { self.new ≡ ended_if (row_at self.old line).ended
+            (fed_attempt self.old berth attempt) attempt }
     {
         let over = self.pool.line(line).ended;
         self.last.fed(berth, attempt);
@@ -177,7 +179,8 @@ impl State {
     fn not_written(&mut self, lane: u32, berth: u32, line: u32, number: i32) -> Reply
         requires { CanWrite self.old lane berth line (sent_in (order_at self.old lane)) }
         ensures reply { result ≡ Reply.Noted }
-        ensures state { self.new ≡ unwritten_by self.old berth line number (sent_in (order_at self.old lane)) }
+        ensures state { self.new ≡ unwritten_by self.old berth line number
+            (sent_in (order_at self.old lane)) }
     {
         match self.lanes.state(lane).order {
             Order::Send { attempt, .. } => self.unwritten(lane, berth, line, number, attempt),
@@ -218,7 +221,8 @@ impl State {
         self.last.broke(berth, Cause::Breach);
     }
 
-    /// An Ended of this berth's last line: what is pending on it, bound to it, or wasn't written whole to it, ends.
+    /// An Ended of this berth's last line: what is pending on it, bound to it, or wasn't written
+    /// whole to it, ends.
     pub fn ended(&mut self, berth: u32, seat: Seat, line: u32, how: HowEnded) -> Reply
         requires { CanEndAll self.old berth seat line }
         ensures reply { result ≡ Reply.Noted }
@@ -280,7 +284,8 @@ fn end_places(
 )
     requires { CanEndPlaces plan.now race.now attempts.old ready.old seat places.now }
     ensures counts { attempts.new ≡ places_counts plan.now race.now attempts.old seat places.now }
-    ensures states { ready.new ≡ places_states plan.now race.now attempts.old ready.old seat places.now }
+    ensures states { ready.new ≡ places_states plan.now race.now attempts.old ready.old seat
+        places.now }
 {
     for place in places {
         end_place(plan, race, attempts, ready, place, seat);
@@ -297,7 +302,8 @@ fn end_place(
 )
     requires { PlaceFits plan.now race.now attempts.old ready.old seat place.now }
     ensures counts { attempts.new ≡ place_counts plan.now race.now attempts.old seat place.now }
-    ensures states { ready.new ≡ place_states plan.now race.now attempts.old ready.old seat place.now }
+    ensures states { ready.new ≡ place_states plan.now race.now attempts.old ready.old seat
+        place.now }
 {
     if place.pending {
         let attempt = Attempt {

@@ -130,7 +130,8 @@ impl State {
 }
 
 impl State {
-    /// A Launched of the lane's line: where it says a fault, the attempt for which the line was launched ends.
+    /// A Launched of the lane's line: where it says a fault, the attempt for which the line was
+    /// launched ends.
     pub fn launched(&mut self, lane: u32, line: u32, how: Started) -> Reply
         requires lane { lane < length self.old.lanes }
         requires line { line < length self.old.pool.lines }

@@ -34,7 +34,8 @@ placed g first (x ∷ xs) w lt =
       group = x;
       here = refl;
       numbered = rw e (let z : g ≡ g + 0 = omega arith in ap Some z);
-      seated = rw e (let z : g ≡ g + 0 = omega arith in let f : first ≡ first + 0 = omega arith in λ i. Some (seat_here (z i) (f i) x));
+      seated = rw e (let z : g ≡ g + 0 = omega arith in let f : first ≡ first + 0 = omega arith in
+          λ i. Some (seat_here (z i) (f i) x));
       from = omega arith;
       below = let h = ltb-true w x.berths yes in omega arith;
     })
@@ -49,14 +50,18 @@ placed g first (x ∷ xs) w lt =
       index = suc rest.index;
       group = rest.group;
       here = rest.here;
-      numbered = rw e (rest.numbered ∙ (let z : g + 1 + rest.index ≡ g + suc rest.index = omega arith in ap Some z));
-      seated = rw e (rest.seated ∙ (let z : g + 1 + rest.index ≡ g + suc rest.index = omega arith in let f : first + x.berths + sum (take rest.index xs) ≡ first + sum (x ∷ take rest.index xs) = omega arith in λ i. Some (seat_here (z i) (f i) rest.group)));
+      numbered = rw e (rest.numbered ∙ (let z : g + 1 + rest.index ≡ g + suc rest.index =
+          omega arith in ap Some z));
+      seated = rw e (rest.seated ∙ (let z : g + 1 + rest.index ≡ g + suc rest.index = omega arith in
+          let f : first + x.berths + sum (take rest.index xs) ≡ first + sum
+          (x ∷ take rest.index xs) = omega arith in λ i. Some (seat_here (z i) (f i) rest.group)));
       from = omega arith;
       below = omega arith;
     }) refl
 
 -- the berths of that group
-group_back : (g : ℕ) (xs : List Group) (i : ℕ) (x : Group) (v : ℕ) → slice_get xs i ≡ Some x → sum (take i xs) ≤ v → v < sum (take i xs) + x.berths → group_from g xs v ≡ Some (g + i)
+group_back : (g : ℕ) (xs : List Group) (i : ℕ) (x : Group) (v : ℕ) → slice_get xs i ≡ Some x
+    → sum (take i xs) ≤ v → v < sum (take i xs) + x.berths → group_from g xs v ≡ Some (g + i)
 group_back g [] i x v h le lt = absurd (cc)
 group_back g (y ∷ ys) zero x v h le lt =
     let same : y ≡ x = cc in
@@ -65,12 +70,15 @@ group_back g (y ∷ ys) zero x v h le lt =
     rw yes (let z : g ≡ g + 0 = omega arith in ap Some z)
 group_back g (y ∷ ys) (suc i) x v h le lt =
     let cons = sum_by-cons (λ (z : Group). z.berths) y (take i ys) in
-    by_bool (nat_lt v y.berths) (λ b. cond b (Some g) (group_from (g + 1) ys (v - y.berths)) ≡ Some (g + suc i))
+    by_bool (nat_lt v y.berths) (λ b. cond b (Some g) (group_from (g + 1) ys (v - y.berths)) ≡ Some
+    (g + suc i))
     (λ yes. let h2 = ltb-true v y.berths yes in absurd (omega arith))
     (λ no. let ge = ltb-false v y.berths no in
-    group_back (g + 1) ys i x (v - y.berths) h (omega arith) (omega arith) ∙ (let z : g + 1 + i ≡ g + suc i = omega arith in ap Some z))
+    group_back (g + 1) ys i x (v - y.berths) h (omega arith) (omega arith)
+    ∙ (let z : g + 1 + i ≡ g + suc i = omega arith in ap Some z))
 
-within_sum : (i : ℕ) (xs : List Group) (x : Group) → slice_get xs i ≡ Some x → sum (take i xs) + x.berths ≤ sum xs
+within_sum : (i : ℕ) (xs : List Group) (x : Group) → slice_get xs i ≡ Some x
+    → sum (take i xs) + x.berths ≤ sum xs
 within_sum i [] x h = absurd (cc)
 within_sum zero (y ∷ ys) x h =
     let same : y ≡ x = cc in
@@ -99,9 +107,11 @@ pub record IsSeat (p : Plan) (w : ℕ) (s : Seat) : Type 0 where
   pub own_below : w < s.first + s.berths
 
 abbrev kind_in : Plan → Option ℕ → Kind
-kind_in p o = unwrap_or (option_map (λ g. g.kind) (option_and_then (λ k. slice_get p.groups k) o)) kind.Single
+kind_in p o = unwrap_or (option_map (λ g. g.kind) (option_and_then (λ k. slice_get p.groups k) o))
+    kind.Single
 
-pub kind_by_group : (p : Plan) (v w g : ℕ) → berth_group p v ≡ Some g → berth_group p w ≡ Some g → kind_of p v ≡ kind_of p w
+pub kind_by_group : (p : Plan) (v w g : ℕ) → berth_group p v ≡ Some g → berth_group p w ≡ Some g
+    → kind_of p v ≡ kind_of p w
 kind_by_group p v w g a b = ap (kind_in p) a ∙ sym (ap (kind_in p) b)
 
 pub seat_is : (p : Plan) (w : ℕ) → w < berths p → (s : Seat) × IsSeat p w s
@@ -115,11 +125,13 @@ seat_is p w lt =
       record {
         is = at.seated ∙ (λ i. Some (seat_here (n i) (f i) at.group));
         group = g;
-        kind = ap (kind_in p) g ∙ ap (λ (o : Option Group). unwrap_or (option_map (λ y. y.kind) o) kind.Single) at.here;
+        kind = ap (kind_in p) g ∙ ap (λ (o : Option Group). unwrap_or
+            (option_map (λ y. y.kind) o) kind.Single) at.here;
         cancel = ap (λ (o : Option Group). unwrap_or (option_map (λ y. y.cancel) o) false) at.here;
         first = refl;
         berths = ap (λ (o : Option Group). unwrap_or (option_map (λ y. y.berths) o) 0) at.here;
-        others = λ v le below. group_back 0 p.groups at.index at.group v at.here le below ∙ ap Some n;
+        others = λ v le below. group_back 0 p.groups at.index at.group v at.here le below
+            ∙ ap Some n;
         known = λ v le below. let h = within_sum at.index p.groups at.group at.here in omega arith;
         own_from = at.from;
         own_below = at.below;
@@ -127,10 +139,12 @@ seat_is p w lt =
     )
 
 -- the group's berths are the plan's
-pub seat_fits : (p : Plan) (w : ℕ) (s : Seat) → w < berths p → seat_at p w ≡ Some s → s.first + s.berths ≤ berths p
+pub seat_fits : (p : Plan) (w : ℕ) (s : Seat) → w < berths p → seat_at p w ≡ Some s
+    → s.first + s.berths ≤ berths p
 seat_fits p w s lt h =
     let at = placed 0 0 p.groups w lt in
-    let here : Some (seat_here (0 + at.index) (0 + sum (take at.index p.groups)) at.group) ≡ Some s = sym at.seated ∙ h in
+    let here : Some (seat_here (0 + at.index) (0 + sum (take at.index p.groups)) at.group)
+    ≡ Some s = sym at.seated ∙ h in
     let same : seat_here (0 + at.index) (0 + sum (take at.index p.groups)) at.group ≡ s = cc in
     let f = ap (λ (x : Seat). x.first) same in
     let b = ap (λ (x : Seat). x.berths) same in

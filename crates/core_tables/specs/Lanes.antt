@@ -96,14 +96,17 @@ owes_commit_by _ s = false
 abbrev pub may_look_by : Plan → Wanted → Order → Bool
 may_look_by p (look.Made c o) (order.Send l n t) = makes p t.action c o
 may_look_by p (look.Answered k m o) (order.Gather l n t exit refused) =
-    ((k == l) && int_eq m n) && (int_eq exit (pos 0) && (not refused && nat_lt o (outputs_of p t.action)))
+    ((k == l) && int_eq m n) && (int_eq exit (pos 0) &&
+    (not refused && nat_lt o (outputs_of p t.action)))
 may_look_by p _ _ = false
 
 abbrev pub is_owed_by : Plan → Kind → Call → Order → Bool
 is_owed_by p k (call.Launched l how) (order.Launch m t) = m == l
 is_owed_by p k (call.Wrote l n how) (order.Send m o t) = (m == l) && int_eq o n
-is_owed_by p k (call.Wrote l n how) (order.Cancel m o) = (m == l) && (int_eq o n && is_whole_or_fault how)
-is_owed_by p k (call.Claim a b t f) (order.Gather l n u e r) = same_attempt (attempt_of a b t) u && may_find (outputs_of p a) (is_remote k) e r f
+is_owed_by p k (call.Wrote l n how) (order.Cancel m o) =
+    (m == l) && (int_eq o n && is_whole_or_fault how)
+is_owed_by p k (call.Claim a b t f) (order.Gather l n u e r) =
+    same_attempt (attempt_of a b t) u && may_find (outputs_of p a) (is_remote k) e r f
 is_owed_by p k (call.Killed l) (order.Kill m) = m == l
 is_owed_by p k (call.Look w) o = may_look_by p w o
 is_owed_by p k _ _ = false
@@ -117,7 +120,8 @@ allowed_by p k proxy o s call.Halt = true
 allowed_by p k proxy o s c = proxy && (is_owed_by p k c o || owes_commit_by c s)
 
 abbrev pub may_by : Plan → Kind → Bool → LaneState → Call → Bool
-may_by p k proxy s c = not s.stopped && (if s.halted then owes_commit_by c s.said else allowed_by p k proxy s.order s.said c)
+may_by p k proxy s c = not s.stopped && (if s.halted then owes_commit_by c s.said else allowed_by p
+    k proxy s.order s.said c)
 
 abbrev pub may_some : Plan → Kind → Bool → Option LaneState → Call → Bool
 may_some p k proxy (Some s) c = may_by p k proxy s c
@@ -137,7 +141,13 @@ said_of_work (Some e) = said_after e.call e.reply
 said_of_work None = said.Nothing
 
 abbrev pub state_by : Option Entry → Bool → Bool → LaneState
-state_by last stop halt = record { order = order_of_work last; said = said_of_work last; stopped = stop; halted = halt }
+state_by last stop halt = record {
+  order = order_of_work last;
+  said = said_of_work last;
+  stopped = stop;
+  halted = halt;
+}
 
 unfoldable pub lane_in : Plan → List Entry → ℕ → Option LaneState
-lane_in p j lane = if nat_lt lane (2 * berths p) then Some (state_by (last_work j lane) (stopped j lane) (has_halted j lane)) else None
+lane_in p j lane = if nat_lt lane (2 * berths p) then Some
+    (state_by (last_work j lane) (stopped j lane) (has_halted j lane)) else None

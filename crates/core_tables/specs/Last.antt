@@ -20,14 +20,20 @@ abbrev pub set_taken : LastLine → LastLine
 set_taken x = record { attempt = x.attempt; taken = true; cause = x.cause; fed = x.fed }
 
 abbrev pub set_cause : Cause → LastLine → LastLine
-set_cause c x = record { attempt = x.attempt; taken = x.taken; cause = or_else x.cause (Some c); fed = x.fed }
+set_cause c x = record {
+  attempt = x.attempt;
+  taken = x.taken;
+  cause = or_else x.cause (Some c);
+  fed = x.fed;
+}
 
 abbrev pub set_fed : Attempt → LastLine → LastLine
 set_fed t x = record { attempt = x.attempt; taken = x.taken; cause = x.cause; fed = Some t }
 
 -- ---- by the journal
 
--- the attempt of the line whose request has Wrote FeedFault: its feed takes nothing more, so there is at most one
+-- the attempt of the line whose request has Wrote FeedFault: its feed takes nothing more, so there
+-- is at most one
 unfoldable pub fed_of : List Entry → ℕ → Option Attempt
 fed_of j l = fed_on j l
 
@@ -35,7 +41,8 @@ abbrev pub row_by : Option Attempt → Bool → Option Cause → Option Attempt 
 row_by t taken c fed = record { attempt = t; taken = taken; cause = c; fed = fed }
 
 abbrev pub row_of : List Entry → Option ℕ → LastLine
-row_of j (Some l) = row_by (option_map (λ x. x.1) (launch_of j l)) (was_taken j l) (line_cause j l) (fed_of j l)
+row_of j (Some l) = row_by (option_map (λ x. x.1) (launch_of j l)) (was_taken j l) (line_cause j l)
+    (fed_of j l)
 row_of j None = no_line
 
 unfoldable pub last_in : Plan → List Entry → ℕ → Option LastLine

@@ -12,7 +12,14 @@ use Rattle.list_lemmas.specs.Places.{update}
 use Rattle.core_tables.specs.declared.matches.Match.{Match}
 
 abbrev pub blank : Match
-blank = record { line = 0; number = pos 0; attempt = attempt_of 0 Local 0; exit = pos 0; refused = false; spent = false }
+blank = record {
+  line = 0;
+  number = pos 0;
+  attempt = attempt_of 0 Local 0;
+  exit = pos 0;
+  refused = false;
+  spent = false;
+}
 
 abbrev pub no_matches : ArrayVec Match
 no_matches = record { items = [] }
@@ -57,7 +64,15 @@ with_won rows a = map (won_row a) rows
 -- ---- by the journal
 
 abbrev pub match_in : List Entry → Matched → Match
-match_in j m = record { line = m.line; number = m.number; attempt = m.attempt; exit = m.exit; refused = m.refused; spent = is_spent j m.attempt }
+match_in j m = record {
+  line = m.line;
+  number = m.number;
+  attempt = m.attempt;
+  exit = m.exit;
+  refused = m.refused;
+  spent = is_spent j m.attempt;
+}
 
 unfoldable pub matches_in : Plan → List Entry → ℕ → Option (ArrayVec Match)
-matches_in p j w = if nat_lt w (berths p) then Some (record { items = reverse (map (match_in j) (recent j w)) }) else None
+matches_in p j w = if nat_lt w (berths p) then Some
+    (record { items = reverse (map (match_in j) (recent j w)) }) else None

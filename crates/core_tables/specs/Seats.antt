@@ -5,12 +5,19 @@ use Rattle.run_plan.specs.declared.plan.Plan.{Plan}
 use Rattle.core_tables.specs.declared.seat.Seat.{Seat}
 
 abbrev pub seat_here : ℕ → ℕ → Group → Seat
-seat_here g first x = record { group = g; first = first; berths = x.berths; kind = x.kind; cancel = x.cancel }
+seat_here g first x = record {
+  group = g;
+  first = first;
+  berths = x.berths;
+  kind = x.kind;
+  cancel = x.cancel;
+}
 
 -- of the berth w of these groups, the first of which has the number g and the first berth `first`
 abbrev pub seat_from : ℕ → ℕ → List Group → ℕ → Option Seat
 seat_from g first [] w = None
-seat_from g first (x ∷ xs) w = if nat_lt w x.berths then Some (seat_here g first x) else seat_from (g + 1) (first + x.berths) xs (w - x.berths)
+seat_from g first (x ∷ xs) w = if nat_lt w x.berths then Some (seat_here g first x) else seat_from
+    (g + 1) (first + x.berths) xs (w - x.berths)
 
 abbrev pub seat_at : Plan → ℕ → Option Seat
 seat_at p w = seat_from 0 0 p.groups w

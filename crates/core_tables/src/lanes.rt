@@ -276,7 +276,8 @@ fn outputs_of(plan: &Plan, action: u32) -> usize
 }
 
 fn may_find(plan: &Plan, action: u32, kind: Kind, exit: i32, refused: bool, found: &Found) -> bool
-    ensures { result ≡ may_find (outputs_of plan.now action) (is_remote kind) exit refused found.now }
+    ensures { result ≡ may_find (outputs_of plan.now action)
+        (is_remote kind) exit refused found.now }
 {
     if exit != 0 {
         match found {

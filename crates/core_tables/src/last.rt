@@ -8,8 +8,9 @@ use plain_values::NoMemory;
 use std::alloc::Global;
 use std::marker::Model;
 
-/// Of a berth's last line: the attempt for which it was launched, whether a tap lane was given it, the cause of its
-/// first break, and the attempt whose request could not be written for a fault of its feed.
+/// Of a berth's last line: the attempt for which it was launched, whether a tap lane was given it,
+/// the cause of its first break, and the attempt whose request could not be written for a fault of
+/// its feed.
 #[derive(Clone, Copy, Debug, PartialEq, Eq)]
 pub struct LastLine {
     pub attempt: Option<Attempt>,

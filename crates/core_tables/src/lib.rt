@@ -1,5 +1,5 @@
-//! What the scheduling core keeps beside the six tables: what each lane owes, what is known of each berth's last line and
-//! of its greeting, and the matches that wait there.
+//! What the scheduling core keeps beside the six tables: what each lane owes, what is known of each
+//! berth's last line and of its greeting, and the matches that wait there.
 #![tactic(auto)]
 
 mod greetings;

@@ -1,4 +1,5 @@
-// The matches of each berth since its last Send: those of them that are not spent wait for a Gather.
+// The matches of each berth since its last Send: those of them that are not spent wait for a
+// Gather.
 ghost use Rattle.std.specs.Prelude.{◌≡◌, ◌<◌, length, IfOk, replicate, option_copied, find, map};
 ghost use Rattle.core_tables.specs.Matches.{no_matches, matches_of, spend_if, spend_won, with_match, with_clear, with_spent, with_won, spent_row, won_row, is_waiting};
 
@@ -8,8 +9,8 @@ use plain_values::NoMemory;
 use std::alloc::Global;
 use std::marker::Model;
 
-/// A match, and whether it waits no longer: a Gather of it was ordered, its request wasn't written whole, or its action
-/// has a grant.
+/// A match, and whether it waits no longer: a Gather of it was ordered, its request wasn't written
+/// whole, or its action has a grant.
 #[derive(Clone, Copy, Debug, PartialEq, Eq)]
 pub struct Match {
     pub line: u32,

@@ -4,7 +4,8 @@ ghost use Rattle.core_tables.specs.Seats.{seat_from};
 
 use exec_journal::{Group, Kind, Plan};
 
-/// A berth's group: its number, its first berth and how many it has, its kind, and whether it has cancellation.
+/// A berth's group: its number, its first berth and how many it has, its kind, and whether it has
+/// cancellation.
 #[derive(Clone, Copy, Debug, PartialEq, Eq)]
 pub struct Seat {
     pub group: u32,

@@ -39,7 +39,8 @@ pub record Filled (slots : List Slot) (n : ℕ) (content : ℕ → Option (List 
 -- each action has an empty slot for each of its outputs
 pub record AreNew (works : List PlanAction) (rows : List (List Slot)) : Type 0 where
   pub count : length rows ≡ length works
-  pub each : (a : ℕ) (work : PlanAction) (x : List Slot) → slice_get works a ≡ Some work → slice_get rows a ≡ Some x → Filled x (length work.outputs) (λ o. None)
+  pub each : (a : ℕ) (work : PlanAction) (x : List Slot) → slice_get works a ≡ Some work
+      → slice_get rows a ≡ Some x → Filled x (length work.outputs) (λ o. None)
 
 pub record IsNewFiles (works : List PlanAction) (f : Facts) : Type 0 where
   pub made : AreNew works f.made
@@ -49,10 +50,12 @@ pub record IsNewFiles (works : List PlanAction) (f : Facts) : Type 0 where
 -- ---- what an entry makes of it
 
 -- the slots of one action tell of these contents now, and the others stay
-pub record RowFilled (a : ℕ) (content : ℕ → Option (List ℕ)) (xs ys : List (List Slot)) : Type 0 where
+pub record RowFilled (a : ℕ) (content : ℕ → Option (List ℕ))
+    (xs ys : List (List Slot)) : Type 0 where
   pub count : length ys ≡ length xs
   pub rest : (k : ℕ) → (a == k) ≡ false → slice_get ys k ≡ slice_get xs k
-  pub row : (x y : List Slot) → slice_get xs a ≡ Some x → slice_get ys a ≡ Some y → Filled y (length x) content
+  pub row : (x y : List Slot) → slice_get xs a ≡ Some x → slice_get ys a ≡ Some y
+      → Filled y (length x) content
 
 -- of these files the last with the output's path
 abbrev pub file_for : List NamedFile → List (List ℕ) → ℕ → Option (List ℕ)

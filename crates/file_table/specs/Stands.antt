@@ -16,7 +16,8 @@ use Rattle.file_table.specs.declared.Slot.{Slot}
 use Rattle.file_table.specs.Slots.{Facts, Filled, file_for, outputs_at, rows_of}
 
 abbrev pub match_for : ℕ → Branch → Call → Reply → Option Answer
-match_for a b (call.Answer l x) (reply.Matched c d n) = if is_branch_of a b (attempt_of c d n) then Some x else None
+match_for a b (call.Answer l x) (reply.Matched c d n) =
+    if is_branch_of a b (attempt_of c d n) then Some x else None
 match_for a b _ _ = None
 
 -- the newest answer that was matched with an attempt of the branch
@@ -29,11 +30,15 @@ answer_file p a (Some x) o = file_for x.files (outputs_at p a) o
 answer_file p a None o = None
 
 -- of each action a slot for each output, which tells of its content
-pub record RowsStand (p : Plan) (rows : List (List Slot)) (content : ℕ → ℕ → Option (List ℕ)) : Type 0 where
+pub record RowsStand (p : Plan) (rows : List (List Slot)) (content : ℕ → ℕ
+    → Option (List ℕ)) : Type 0 where
   pub count : length rows ≡ length p.actions
-  pub each : (a : ℕ) (slots : List Slot) → slice_get rows a ≡ Some slots → Filled slots (length (outputs_at p a)) (content a)
+  pub each : (a : ℕ) (slots : List Slot) → slice_get rows a ≡ Some slots
+      → Filled slots (length (outputs_at p a)) (content a)
 
--- the files that the action was granted, and those that the newest matched answer of each of its branches has
+-- the files that the action was granted, and those that the newest matched answer of each of its
+-- branches has
 pub record Stands (p : Plan) (f : Facts) (j : List Entry) : Type 0 where
   pub made : RowsStand p f.made (λ a o. slice_get (files_of_grant (grant_of j a)) o)
-  pub answered : (b : Branch) → RowsStand p (rows_of b f) (λ a o. answer_file p a (newest_match j a b) o)
+  pub answered : (b : Branch) → RowsStand p (rows_of b f)
+      (λ a o. answer_file p a (newest_match j a b) o)

@@ -1,4 +1,5 @@
-//! How the table follows a journal. The functions do nothing: each is a law, for those who keep a table of a journal.
+//! How the table follows a journal. The functions do nothing: each is a law, for those who keep a
+//! table of a journal.
 ghost use Rattle.std.specs.Prelude.{◌≡◌, ℕ, List, [], ◌∷◌, Some, None};
 ghost use Rattle.run_plan.specs.declared.plan.Plan.{Plan};
 ghost use Rattle.exec_journal.specs.declared.attempt.Attempt.{Attempt};

@@ -1,5 +1,5 @@
-//! The files that actions were granted, and those that matched answers have for the outputs of their actions: contents
-//! are shared, and never copied.
+//! The files that actions were granted, and those that matched answers have for the outputs of
+//! their actions: contents are shared, and never copied.
 #![tactic(auto)]
 
 ghost use Rattle.std.specs.Prelude.{◌≡◌, IfOk, slice_get};
@@ -23,8 +23,8 @@ pub enum Slot {
     Short,
 }
 
-/// By action, and for each in the order of its outputs: the files that the action was granted, and those that the newest
-/// matched answer of each of its branches has.
+/// By action, and for each in the order of its outputs: the files that the action was granted, and
+/// those that the newest matched answer of each of its branches has.
 #[derive(Drop)]
 pub struct Files {
     made: Vec<Row>,
@@ -61,7 +61,8 @@ impl Files {
         })
     }
 
-    /// Keeps the files of an entry: those of a Claim that is granted, and those of an Answer that is matched.
+    /// Keeps the files of an entry: those of a Claim that is granted, and those of an Answer that
+    /// is matched.
     pub fn keep(&mut self, plan: &Plan, call: &Call, reply: &Reply)
         ensures { Follows plan.now call.now reply.now self.old self.new }
     {

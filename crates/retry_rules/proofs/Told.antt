@@ -14,16 +14,19 @@ use Rattle.retry_rules.specs.declared.EndedCounts.{EndedCounts}
 use Rattle.retry_rules.specs.Counts.{Facts, ended_of, count_of}
 use Rattle.retry_rules.specs.Stands.{Stands, ended_count, ended_in}
 
-pub ended_at : (p : Plan) (j : List Entry) (f : Facts) (a : ℕ) (b : Branch) → Stands p f j → a < length p.actions → ended_of f a b ≡ ended_count j a b
+pub ended_at : (p : Plan) (j : List Entry) (f : Facts) (a : ℕ) (b : Branch) → Stands p f j
+    → a < length p.actions → ended_of f a b ≡ ended_count j a b
 ended_at p j f a b st lt =
     let inside : nat_lt a (length p.actions) ≡ true = lt-ltb a (length p.actions) lt in
-    ap (λ (o : Option EndedCounts). unwrap_or (option_map (count_of b) o) 0) (st.each a ∙ ap (λ c. cond c (Some (ended_in j a)) None) inside) ∙ by b
+    ap (λ (o : Option EndedCounts). unwrap_or (option_map (count_of b) o) 0)
+    (st.each a ∙ ap (λ c. cond c (Some (ended_in j a)) None) inside) ∙ by b
   where
     by : (b : Branch) → count_of b (ended_in j a) ≡ ended_count j a b
     by Local = refl
     by Remote = refl
 
-module _ (p : Plan) (j : List Entry) (order : AttemptsInOrder p j) (unbegun : (t : Attempt) → begun j t ≡ false → ended j t ≡ false) where
+module _ (p : Plan) (j : List Entry) (order : AttemptsInOrder p j) (unbegun : (t : Attempt)
+    → begun j t ≡ false → ended j t ≡ false) where
   within : (u : Attempt) → ended j u ≡ true → u.number ≤ attempt j u.action u.branch
   within u h = by (begun j u) refl
     where
@@ -37,29 +40,45 @@ module _ (p : Plan) (j : List Entry) (order : AttemptsInOrder p j) (unbegun : (t
   its_last : (u : Attempt) → u.number ≡ attempt j u.action u.branch → ended j (last u) ≡ ended j u
   its_last u h = ap (λ n. ended j (attempt_of u.action u.branch n)) (sym h)
 
-  counted : (u : Attempt) → 1 ≤ u.number → (over x : Bool) → ended j (last u) ≡ over → ended j u ≡ x → nat_le u.number (cond over (attempt j u.action u.branch) (attempt j u.action u.branch - 1)) ≡ x
+  counted : (u : Attempt) → 1 ≤ u.number → (over x : Bool) → ended j (last u) ≡ over → ended j u ≡ x
+      → nat_le u.number (cond over (attempt j u.action u.branch) (attempt j u.action u.branch - 1))
+      ≡ x
   counted u least true true e h = le-leb u.number (attempt j u.action u.branch) (within u h)
   counted u least false true e h =
       let le = within u h in
-      by_bool (u.number == attempt j u.action u.branch) (λ b. (u.number == attempt j u.action u.branch) ≡ b → nat_le u.number (attempt j u.action u.branch - 1) ≡ true)
-      (λ yes k. absurd (let same = its_last u (eqb-true u.number (attempt j u.action u.branch) yes) in cc))
-      (λ ne k. le-leb u.number (attempt j u.action u.branch - 1) (apart u.number (attempt j u.action u.branch) le ne)) refl
+      by_bool (u.number == attempt j u.action u.branch) (λ b.
+      (u.number == attempt j u.action u.branch) ≡ b → nat_le u.number
+      (attempt j u.action u.branch - 1) ≡ true)
+      (λ yes k. absurd (let same = its_last u (eqb-true u.number (attempt j u.action u.branch) yes)
+      in cc))
+      (λ ne k. le-leb u.number (attempt j u.action u.branch - 1)
+      (apart u.number (attempt j u.action u.branch) le ne)) refl
     where
       apart : (m n : ℕ) → m ≤ n → (m == n) ≡ false → m ≤ n - 1
-      apart m n le ne = by_bool (nat_lt m n) (λ _. m ≤ n - 1) (λ lt. let l = ltb-true m n lt in omega arith) (λ ge. let g = ltb-false m n ge in absurd (let e : m ≡ n = omega arith in let y = eq-eqb m n e in cc))
+      apart m n le ne = by_bool (nat_lt m n) (λ _. m ≤ n - 1)
+          (λ lt. let l = ltb-true m n lt in omega arith) (λ ge. let g = ltb-false m n ge in
+          absurd (let e : m ≡ n = omega arith in let y = eq-eqb m n e in cc))
   counted u least over false e h =
-      by_bool (nat_le u.number (cond over (attempt j u.action u.branch) (attempt j u.action u.branch - 1))) (λ b. b ≡ false)
-      (λ yes. absurd (under over e (leb-true u.number (cond over (attempt j u.action u.branch) (attempt j u.action u.branch - 1)) yes))) (λ no. refl)
+      by_bool (nat_le u.number (cond over (attempt j u.action u.branch)
+      (attempt j u.action u.branch - 1))) (λ b. b ≡ false)
+      (λ yes. absurd (under over e (leb-true u.number (cond over (attempt j u.action u.branch)
+      (attempt j u.action u.branch - 1)) yes))) (λ no. refl)
     where
       before : u.number < attempt j u.action u.branch → ⊥
       before lt = let o = order.older u least lt in cc
 
-      under : (o : Bool) → ended j (last u) ≡ o → u.number ≤ cond o (attempt j u.action u.branch) (attempt j u.action u.branch - 1) → ⊥
+      under : (o : Bool) → ended j (last u) ≡ o → u.number ≤ cond o (attempt j u.action u.branch)
+          (attempt j u.action u.branch - 1) → ⊥
       under false k le = before (omega arith)
       under true k le =
-          by_bool (nat_lt u.number (attempt j u.action u.branch)) (λ _. ⊥) (λ lt. before (ltb-true u.number (attempt j u.action u.branch) lt))
-          (λ ge. let g = ltb-false u.number (attempt j u.action u.branch) ge in let same : u.number ≡ attempt j u.action u.branch = omega arith in let q = its_last u same in cc)
+          by_bool (nat_lt u.number (attempt j u.action u.branch)) (λ _. ⊥)
+          (λ lt. before (ltb-true u.number (attempt j u.action u.branch) lt))
+          (λ ge. let g = ltb-false u.number (attempt j u.action u.branch) ge in
+          let same : u.number ≡ attempt j u.action u.branch = omega arith in
+          let q = its_last u same in cc)
 
-  pub count_says : (f : Facts) (u : Attempt) → Stands p f j → u.action < length p.actions → 1 ≤ u.number → nat_le u.number (ended_of f u.action u.branch) ≡ ended j u
+  pub count_says : (f : Facts) (u : Attempt) → Stands p f j → u.action < length p.actions
+      → 1 ≤ u.number → nat_le u.number (ended_of f u.action u.branch) ≡ ended j u
   unfolding ended_count
-  count_says f u st lt least = ap (nat_le u.number) (ended_at p j f u.action u.branch st lt) ∙ counted u least (ended j (last u)) (ended j u) refl refl
+  count_says f u st lt least = ap (nat_le u.number) (ended_at p j f u.action u.branch st lt)
+      ∙ counted u least (ended j (last u)) (ended j u) refl refl

@@ -63,14 +63,20 @@ use Rattle.journal_calls.proofs.Recent.{room_for_match}
 -- ---- of each legal journal
 
 uses : (p : Plan) (j : List Entry) (t : Attempt) → Legal p j → begun j t ≡ true → Uses p t
-uses p j t legal h = let has = f.going_ready_at p j t legal h in record { action = has.action; place = has.place; group = has.group; runs = has.runs }
+uses p j t legal h = let has = f.going_ready_at p j t legal h in
+    record { action = has.action; place = has.place; group = has.group; runs = has.runs }
 
-grouped : (p : Plan) (j : List Entry) (w l : ℕ) → Legal p j → last_line j w ≡ Some l → SentInGroup p j w l
+grouped : (p : Plan) (j : List Entry) (w l : ℕ) → Legal p j → last_line j w ≡ Some l
+    → SentInGroup p j w l
 grouped p j w l legal here =
     let own = la.here_own p j w l legal here in
-    let seat : w < berths p = subst (λ n. n < berths p) own.owner.3 (re.seated p j l own.owner.0 own.owner.1 legal own.owner.2) in
-    let run = subst (λ n. AllOf (λ (x : Request). ke.RunsIn p x.attempt (u.group_at p n)) (sends j l)) own.owner.3 (ke.sends_run p j l own.owner.0 own.owner.1 legal own.owner.2) in
-    br.each_of _ _ (k.all_map (λ (x : Request). ke.RunsIn p x.attempt (u.group_at p w)) (λ x. BranchOf p x.attempt (berth_group p w)) (λ x h. of.runs_in_group p x.attempt w h seat) (sends j l) run)
+    let seat : w < berths p = subst (λ n. n < berths p) own.owner.3
+    (re.seated p j l own.owner.0 own.owner.1 legal own.owner.2) in
+    let run = subst (λ n. AllOf (λ (x : Request). ke.RunsIn p x.attempt (u.group_at p n))
+    (sends j l)) own.owner.3 (ke.sends_run p j l own.owner.0 own.owner.1 legal own.owner.2) in
+    br.each_of _ _ (k.all_map (λ (x : Request). ke.RunsIn p x.attempt (u.group_at p w))
+    (λ x. BranchOf p x.attempt (berth_group p w)) (λ x h. of.runs_in_group p x.attempt w h seat)
+    (sends j l) run)
 
 few : (n : Kind) → capacity n ≤ 8
 few kind.Single = omega arith
@@ -83,9 +89,12 @@ more p j sound legal = record {
   used = λ t h. uses p j t legal h;
   grouped = λ w l here. grouped p j w l legal here;
   carries = br.carries p j legal;
-  bound_at = λ l t h. (let s = ca.bound_seat p j l t legal h in record { berth = s.berth; below = s.within; here = s.last });
-  sends_fit = λ l. (let a = co.line_sends j l in let b = co.sends_made p j legal sound.least in let m = co.sent_most p j in omega arith);
-  matches_fit = λ w l here. (let a = room_for_match p j w l legal sound.least here in let b = few (kind_of p w) in omega arith);
+  bound_at = λ l t h. (let s = ca.bound_seat p j l t legal h in
+      record { berth = s.berth; below = s.within; here = s.last });
+  sends_fit = λ l. (let a = co.line_sends j l in let b = co.sends_made p j legal sound.least in
+      let m = co.sent_most p j in omega arith);
+  matches_fit = λ w l here. (let a = room_for_match p j w l legal sound.least here in
+      let b = few (kind_of p w) in omega arith);
   alone = λ w l here one. pl.one_pending p j l w legal (la.here_own p j w l legal here) one;
 }
 
@@ -95,44 +104,56 @@ module _ (p : Plan) (j : List Entry) (lane : ℕ) (sound : Sound p) (legal : Leg
   abbrev next : Call → Entry
   next d = ca.next_entry p j lane d
 
-  launches : (l m : ℕ) (how : Started) (t : Attempt) → sc.script p j lane (call.Launched l how) ≡ true → launch_of j l ≡ Some (m, t) → launch_of_entry (last_work j lane) ≡ Some t
+  launches : (l m : ℕ) (how : Started) (t : Attempt)
+      → sc.script p j lane (call.Launched l how) ≡ true → launch_of j l ≡ Some (m, t)
+      → launch_of_entry (last_work j lane) ≡ Some t
   launches l m how t may at =
       let x = ed.launched_order p j lane l how legal may in
       let both : Some (lane, x.attempt) ≡ Some (m, t) = sym x.launched ∙ at in
       let pair : (lane, x.attempt) ≡ (m, t) = cc in
       of_order x.order x.attempt t x.newest x.launch (ap (λ (y : ℕ × Attempt). y.1) pair)
     where
-      of_order : (d : Entry) (s t : Attempt) → last_work j lane ≡ Some d → launch_in d.reply ≡ Some (l, s) → s ≡ t → launch_of_entry (last_work j lane) ≡ Some t
+      of_order : (d : Entry) (s t : Attempt) → last_work j lane ≡ Some d
+          → launch_in d.reply ≡ Some (l, s) → s ≡ t → launch_of_entry (last_work j lane) ≡ Some t
       of_order d s t newest is same = rw (newest, is) (ap Some same)
 
-  none_fed : (xs : List Request) (x : Request) → r.head xs ≡ Some x → wrote j x.attempt ≡ None → AllOf (λ y. says_feed_fault (wrote j y.attempt) ≡ false) (older xs) → find (λ y. says_feed_fault (wrote j y.attempt)) xs ≡ None
+  none_fed : (xs : List Request) (x : Request) → r.head xs ≡ Some x → wrote j x.attempt ≡ None
+      → AllOf (λ y. says_feed_fault (wrote j y.attempt) ≡ false) (older xs)
+      → find (λ y. says_feed_fault (wrote j y.attempt)) xs ≡ None
   none_fed [] x h none all = refl
   none_fed (y ∷ ys) x h none all =
       let same : y ≡ x = cc in
       rw (subst (λ (z : Request). wrote j z.attempt ≡ None) (sym same) none) (rest ys all)
     where
-      rest : (zs : List Request) → AllOf (λ z. says_feed_fault (wrote j z.attempt) ≡ false) zs → find (λ z. says_feed_fault (wrote j z.attempt)) zs ≡ None
+      rest : (zs : List Request) → AllOf (λ z. says_feed_fault (wrote j z.attempt) ≡ false) zs
+          → find (λ z. says_feed_fault (wrote j z.attempt)) zs ≡ None
       rest [] every = refl
       rest (z ∷ zs) every = rw every.0 (rest zs every.1)
 
-  writes : (l : ℕ) (n : ℤ) (how : Written) (x : Request) → sc.script p j lane (call.Wrote l n how) ≡ true → order_of j lane ≡ Some x → WritesOne j l n x
+  writes : (l : ℕ) (n : ℤ) (how : Written) (x : Request)
+      → sc.script p j lane (call.Wrote l n how) ≡ true → order_of j lane ≡ Some x
+      → WritesOne j l n x
   unfolding fed_of
   writes l n how x may order =
       let e : Entry = next (call.Wrote l n how) in
       let after : Legal p (e ∷ j) = ca.next_legal p j lane (call.Wrote l n how) legal may refl in
       let it = la.writes_request p e j l n how x after refl order in
       let at = pl.written_place p j lane x legal order in
-      let head : r.head (sends j l) ≡ Some x = subst (λ i. r.head (sends j i) ≡ Some x) it.line (la.newest_head p j lane it.order x legal it.newest it.sends_it) in
+      let head : r.head (sends j l) ≡ Some x = subst (λ i. r.head (sends j i) ≡ Some x) it.line
+      (la.newest_head p j lane it.order x legal it.newest it.sends_it) in
       record {
         line = it.line;
         place = at.place;
         there = subst (λ i. slice_get (sends j i) at.place ≡ Some x) it.line at.is;
         first = pl.first_write p j lane x legal order;
         known = br.known_write p e j l n how x after refl order;
-        unfed = ap (option_map (λ (y : Request). y.attempt)) (none_fed (sends j l) x head (pl.first_write p j lane x legal order) (re.fed_last p j l legal));
+        unfed = ap (option_map (λ (y : Request). y.attempt))
+            (none_fed (sends j l) x head (pl.first_write p j lane x legal order)
+            (re.fed_last p j l legal));
       }
 
-  claims : (a n : ℕ) (b : Branch) (x : Found) → sc.script p j lane (call.Claim a b n x) ≡ true → ClaimsOne j a b n
+  claims : (a n : ℕ) (b : Branch) (x : Found) → sc.script p j lane (call.Claim a b n x) ≡ true
+      → ClaimsOne j a b n
   claims a n b x may =
       let e : Entry = next (call.Claim a b n x) in
       let after : Legal p (e ∷ j) = ca.claim_legal p j lane a b n x legal may in
@@ -140,7 +161,8 @@ module _ (p : Plan) (j : List Entry) (lane : ℕ) (sound : Sound p) (legal : Leg
       record {
         sent = c.answered_sent p j (attempt_of a b n) legal it.consumed;
         start = it.under_way.begun_yet;
-        apart = λ y h. g.never_twice p e j (attempt_of a b n) after (same_attempt_refl (attempt_of a b n)) y h;
+        apart = λ y h. g.never_twice p e j (attempt_of a b n) after
+            (same_attempt_refl (attempt_of a b n)) y h;
       }
 
   consumed_kept : (x : Reply) (t : Attempt) → consumed_in x ≡ Some t → is_kept x ≡ true
@@ -152,18 +174,23 @@ module _ (p : Plan) (j : List Entry) (lane : ℕ) (sound : Sound p) (legal : Leg
   matched_consumed (reply.Matched a b n) t h = h
   matched_consumed _ t h = absurd (cc)
 
-  consumes : (l : ℕ) (x : Answer) → sc.script p j lane (call.Answer l x) ≡ true → ConsumesOne p j lane l x
+  consumes : (l : ℕ) (x : Answer) → sc.script p j lane (call.Answer l x) ≡ true
+      → ConsumesOne p j lane l x
   consumes l x may = record {
     on = λ t h. br.is_pending_on p (next (call.Answer l x)) j l x t (after t h) refl h;
     known = λ t h. br.known_answer p (next (call.Answer l x)) j l x t (after t h) refl h;
-    waits = λ t h. ca.match_unspent p (next (call.Answer l x)) j l x t (after t (matched_consumed (r.rule p j lane (call.Answer l x)) t h)) refl h;
+    waits = λ t h. ca.match_unspent p (next (call.Answer l x)) j l x t
+        (after t (matched_consumed (r.rule p j lane (call.Answer l x)) t h)) refl h;
   }
     where
-      after : (t : Attempt) → consumed_in (r.rule p j lane (call.Answer l x)) ≡ Some t → Legal p (next (call.Answer l x) ∷ j)
-      after t h = ca.next_legal p j lane (call.Answer l x) legal may (consumed_kept (r.rule p j lane (call.Answer l x)) t h)
+      after : (t : Attempt) → consumed_in (r.rule p j lane (call.Answer l x)) ≡ Some t
+          → Legal p (next (call.Answer l x) ∷ j)
+      after t h = ca.next_legal p j lane (call.Answer l x) legal may
+          (consumed_kept (r.rule p j lane (call.Answer l x)) t h)
 
   -- what stands on the line is what is lost with it
-  any_there : (t : Attempt) (o : Option Attempt) → list_any (same_attempt t) (if_there o) ≡ is_for t o
+  any_there : (t : Attempt) (o : Option Attempt) → list_any (same_attempt t) (if_there o)
+      ≡ is_for t o
   any_there t None = refl
   any_there t (Some s) = last (same_attempt t s) ∙ ed.same_sym t s
     where
@@ -171,21 +198,28 @@ module _ (p : Plan) (j : List Entry) (lane : ℕ) (sound : Sound p) (legal : Leg
       last true = refl
       last false = refl
 
-  any_pending : (t : Attempt) (xs : List Request) → list_any (λ x. same_attempt t x.attempt) xs ≡ list_any (λ x. same_attempt x.attempt t) xs
+  any_pending : (t : Attempt) (xs : List Request) → list_any
+      (λ x. same_attempt t x.attempt) xs ≡ list_any (λ x. same_attempt x.attempt t) xs
   any_pending t [] = refl
   any_pending t (x ∷ xs) = λ i. ed.same_sym t x.attempt i || any_pending t xs i
 
   among_is : (l : ℕ) (t : Attempt) → is_among (lost_with p j l) t ≡ stands_on p j l t
   unfolding fed_of
   among_is l t =
-      any_append (same_attempt t) (reverse (map (λ (x : Request). x.attempt) (pending j l))) (if_there (fed_of j l) ++ if_there (bound p j l))
+      any_append (same_attempt t) (reverse (map (λ (x : Request). x.attempt) (pending j l)))
+      (if_there (fed_of j l) ++ if_there (bound p j l))
       ∙ (λ i. first i || rest i)
     where
-      first : list_any (same_attempt t) (reverse (map (λ (x : Request). x.attempt) (pending j l))) ≡ list_any (λ (x : Request). same_attempt x.attempt t) (pending j l)
-      first = any_reverse (same_attempt t) (map (λ (x : Request). x.attempt) (pending j l)) ∙ any_map (same_attempt t) (λ (x : Request). x.attempt) (pending j l) ∙ any_pending t (pending j l)
+      first : list_any (same_attempt t) (reverse (map (λ (x : Request). x.attempt) (pending j l)))
+          ≡ list_any (λ (x : Request). same_attempt x.attempt t) (pending j l)
+      first = any_reverse (same_attempt t) (map (λ (x : Request). x.attempt) (pending j l))
+          ∙ any_map (same_attempt t) (λ (x : Request). x.attempt) (pending j l)
+          ∙ any_pending t (pending j l)
 
-      rest : list_any (same_attempt t) (if_there (fed_of j l) ++ if_there (bound p j l)) ≡ (is_for t (fed_on j l) || is_for t (bound p j l))
-      rest = any_append (same_attempt t) (if_there (fed_of j l)) (if_there (bound p j l)) ∙ (λ i. any_there t (fed_of j l) i || any_there t (bound p j l) i)
+      rest : list_any (same_attempt t) (if_there (fed_of j l) ++ if_there (bound p j l)) ≡
+          (is_for t (fed_on j l) || is_for t (bound p j l))
+      rest = any_append (same_attempt t) (if_there (fed_of j l)) (if_there (bound p j l))
+          ∙ (λ i. any_there t (fed_of j l) i || any_there t (bound p j l) i)
 
   lost : (l : ℕ) (how : HowEnded) → sc.script p j lane (call.Ended l how) ≡ true → LostOn p j l
   lost l how may = record { each = λ t going free. sides t going free ∙ sym (among_is l t) }
@@ -197,21 +231,31 @@ module _ (p : Plan) (j : List Entry) (lane : ℕ) (sound : Sound p) (legal : Leg
       is_at : (o : Option ℕ) → o ≡ Some l → is_line o l ≡ true
       is_at o h = rw h (eq-eqb l l refl)
 
-      sides : (t : Attempt) → ended j t ≡ false → granted j t.action ≡ false → (is_line (line_of j t) l && is_left j t) ≡ stands_on p j l t
+      sides : (t : Attempt) → ended j t ≡ false → granted j t.action ≡ false
+          → (is_line (line_of j t) l && is_left j t) ≡ stands_on p j l t
       sides t going free =
-          by_bool (stands_on p j l t) (λ b. stands_on p j l t ≡ b → (is_line (line_of j t) l && is_left j t) ≡ b)
-          (λ _ on. let x = le.stands_left p j l t legal on in and_from _ _ (is_at (line_of j t) x.carrier) x.left)
+          by_bool (stands_on p j l t) (λ b. stands_on p j l t ≡ b
+          → (is_line (line_of j t) l && is_left j t) ≡ b)
+          (λ _ on. let x = le.stands_left p j l t legal on in
+          and_from _ _ (is_at (line_of j t) x.carrier) x.left)
           (λ _ off. false_by _ (λ h. let parts = and_parts (is_line (line_of j t) l) _ h in
-          clash _ (le.left_stands p j l t legal (ll.heard p j lane l how legal may).running (at_line (line_of j t) parts.0) parts.1 free going) off)) refl
+          clash _ (le.left_stands p j l t legal (ll.heard p j lane l how legal may).running
+          (at_line (line_of j t) parts.0) parts.1 free going) off)) refl
 
   calls : (d : Call) → sc.script p j lane d ≡ true → CallFacts p j lane d
   calls d may = record {
     names = λ l is. ll.names_last p j lane l d legal may is;
-    launches = λ l m how t is at. launches l m how t (subst (λ (z : Call). sc.script p j lane z ≡ true) is may) at;
-    writes = λ l n how x is order. writes l n how x (subst (λ (z : Call). sc.script p j lane z ≡ true) is may) order;
-    claims = λ a n b x is. claims a n b x (subst (λ (z : Call). sc.script p j lane z ≡ true) is may);
-    commits = λ a b how is. (let now = subst (λ (z : Call). sc.script p j lane z ≡ true) is may in br.won_files p (next (call.Committed a b how)) j a b how (ca.next_legal p j lane (call.Committed a b how) legal now refl) refl);
-    commits_within = λ a b how is. ca.commit_within p j lane a b how legal (subst (λ (z : Call). sc.script p j lane z ≡ true) is may);
+    launches = λ l m how t is at. launches l m how t (subst
+        (λ (z : Call). sc.script p j lane z ≡ true) is may) at;
+    writes = λ l n how x is order. writes l n how x (subst
+        (λ (z : Call). sc.script p j lane z ≡ true) is may) order;
+    claims = λ a n b x is. claims a n b x (subst (λ (z : Call). sc.script p j lane z ≡ true) is
+        may);
+    commits = λ a b how is. (let now = subst (λ (z : Call). sc.script p j lane z ≡ true) is may in
+        br.won_files p (next (call.Committed a b how)) j a b how
+        (ca.next_legal p j lane (call.Committed a b how) legal now refl) refl);
+    commits_within = λ a b how is. ca.commit_within p j lane a b how legal
+        (subst (λ (z : Call). sc.script p j lane z ≡ true) is may);
     consumes = λ l x is. consumes l x (subst (λ (z : Call). sc.script p j lane z ≡ true) is may);
     lost = λ l how is. lost l how (subst (λ (z : Call). sc.script p j lane z ≡ true) is may);
   }
@@ -223,10 +267,12 @@ entries p j e sound legal = record {
   stays = br.wanted_stays p e j legal;
   grants = λ x h. br.is_open p e j x legal h;
   launch_room = λ x h. (pl.fresh_launch p e j x legal sound.least h).room;
-  send_room = λ x h. (let s = pl.numbered_send p e j x legal sound.least h in record { place = s.place; left = s.room });
+  send_room = λ x h. (let s = pl.numbered_send p e j x legal sound.least h in
+      record { place = s.place; left = s.room });
   launched = λ l m how t is fault at. ex.launched_ends p e j l m how t legal is fault at;
   unwritten = λ l n how x is un order. ex.unwritten_ends p e j l n how x legal is un order;
-  fed = λ l n x is order. ex.feed_ends p e j l n x legal is order (ed.order_carrier p j e.lane x legal.0 order);
+  fed = λ l n x is order. ex.feed_ends p e j l n x legal is order
+      (ed.order_carrier p j e.lane x legal.0 order);
   refused = λ x h. ex.refused_ends p e j x legal h;
   finished = λ l how is. ex.line_ends p e j l how legal is;
 }

@@ -25,7 +25,8 @@ among_all P k (l ∷ ls) all (inl here) = subst P (sym here) all.0
 among_all P k (l ∷ ls) all (inr more) = among_all P k ls all.1 more
 
 -- a Single line is no executor's, so it has a Cancel only where its group has cancellation
-single_only : (k : Kind) (c g : Bool) → is_single k ≡ true → c ≡ false → (c || (is_remote k && g)) ≡ false
+single_only : (k : Kind) (c g : Bool) → is_single k ≡ true → c ≡ false
+    → (c || (is_remote k && g)) ≡ false
 single_only kind.Single c g one none = rw none refl
 single_only kind.Multi c g one none = absurd (cc)
 single_only kind.Boxed c g one none = absurd (cc)
@@ -33,11 +34,14 @@ single_only kind.Remote c g one none = absurd (cc)
 
 pub facts : (p : Plan) (j : List Entry) → Sound p → Legal p j → JournalFacts p j
 facts p j sound legal = record {
-  lines_fit = (let a = n.lines_made p j legal in let b = n.made_most p j legal sound.least in omega arith);
-  live_last = λ w l here k among up. among_all (λ i. live j i ≡ true → i ≡ l) k (lines_of j w) (ll.live_last p j w l legal here) among up;
+  lines_fit = (let a = n.lines_made p j legal in let b = n.made_most p j legal sound.least in
+      omega arith);
+  live_last = λ w l here k among up. among_all (λ i. live j i ≡ true → i ≡ l) k (lines_of j w)
+      (ll.live_last p j w l legal here) among up;
   launched_yet = λ lane l asks here. ll.launched_yet p j lane l legal asks here;
   wanted_by_grant = λ l. br.wanted_by_grant p j l legal;
-  no_cancel = λ w l here one none. br.each_of _ _ (re.no_cancel p j w l legal here (single_only (kind_of p w) (has_cancellation p (group_at p w)) (has_greeted j l) one none));
+  no_cancel = λ w l here one none. br.each_of _ _ (re.no_cancel p j w l legal here
+      (single_only (kind_of p w) (has_cancellation p (group_at p w)) (has_greeted j l) one none));
   bound_group = λ w l t here at. re.bound_group p j w l t legal here at;
   numbered = λ w l here. br.numbered _ (sends j l) (re.numbered p j w l legal here);
   gathers = λ lane asks. gathers p j lane legal asks;

@@ -52,24 +52,32 @@ some_is : (o : Option (List ℕ)) → is_some o ≡ true → is_file (r.file_rep
 some_is (Some x) h = refl
 some_is None h = absurd (cc)
 
-pub told_file : (x : Slot) (o : Option (List ℕ)) (y : Reply) → Tells x o → Told (Some x) y → Replies (r.file_reply o) y
+pub told_file : (x : Slot) (o : Option (List ℕ)) (y : Reply) → Tells x o → Told (Some x) y
+    → Replies (r.file_reply o) y
 told_file Absent o y h t = inl (t ∙ ap r.file_reply (sym h))
 told_file (Here content) o y h (inl t) = inl (t ∙ ap r.file_reply (sym h))
 told_file (Here content) o y h (inr t) = inr (ap (λ q. is_file (r.file_reply q)) h, t)
 told_file Short o y h t = inr (some_is o h, t)
 
 -- a slot that is there
-slot_there : (p : Plan) (rows : List (List Slot)) (c : ℕ → ℕ → Option (List ℕ)) (a o : ℕ) (y : Reply) → RowsStand p rows c → a < length p.actions → o < length (outputs_at p a) → Told (slot_at rows a o) y → Replies (r.file_reply (c a o)) y
+slot_there : (p : Plan) (rows : List (List Slot)) (c : ℕ → ℕ → Option (List ℕ)) (a o : ℕ)
+    (y : Reply) → RowsStand p rows c → a < length p.actions → o < length (outputs_at p a)
+    → Told (slot_at rows a o) y → Replies (r.file_reply (c a o)) y
 slot_there p rows c a o y st within below t = row (slice_get_cases rows a).1
   where
-    there : (slots : List Slot) → Filled slots (length (outputs_at p a)) (c a) → Told (slice_get slots o) y → Replies (r.file_reply (c a o)) y
+    there : (slots : List Slot) → Filled slots (length (outputs_at p a)) (c a)
+        → Told (slice_get slots o) y → Replies (r.file_reply (c a o)) y
     there slots full t = by (slice_get_cases slots o).1
       where
-        by : ((x : Slot) × (o < length slots) × (slice_get slots o ≡ Some x) × (get_or slots o x ≡ x)) ⊎ ((length slots ≤ o) × (slice_get slots o ≡ None)) → Replies (r.file_reply (c a o)) y
+        by : ((x : Slot) × (o < length slots) × (slice_get slots o ≡ Some x)
+            × (get_or slots o x ≡ x)) ⊎ ((length slots ≤ o) × (slice_get slots o ≡ None))
+            → Replies (r.file_reply (c a o)) y
         by (inl w) = told_file w.0 (c a o) y (full.each o w.0 w.2) (subst (λ q. Told q y) w.2 t)
         by (inr w) = absurd (let le = w.0 in let n = full.count in omega arith)
 
-    row : ((x : List Slot) × (a < length rows) × (slice_get rows a ≡ Some x) × (get_or rows a x ≡ x)) ⊎ ((length rows ≤ a) × (slice_get rows a ≡ None)) → Replies (r.file_reply (c a o)) y
+    row : ((x : List Slot) × (a < length rows) × (slice_get rows a ≡ Some x)
+        × (get_or rows a x ≡ x)) ⊎ ((length rows ≤ a) × (slice_get rows a ≡ None))
+        → Replies (r.file_reply (c a o)) y
     row (inl w) = there w.0 (st.each a w.0 w.2) (subst (λ q. Told (slot_in q o) y) w.2 t)
     row (inr w) = absurd (let le = w.0 in let n = st.count in omega arith)
 
@@ -79,29 +87,38 @@ record IsOutput (p : Plan) (a o : ℕ) : Type 0 where
   within : a < length p.actions
   below : o < length (outputs_at p a)
 
-some_maker : (q : Maker → Bool) (e : Maker → Bool) (ms : List Maker) → list_any q ms ≡ true → list_all e ms ≡ true → (m : Maker) × (q m ≡ true) × (e m ≡ true)
+some_maker : (q : Maker → Bool) (e : Maker → Bool) (ms : List Maker) → list_any q ms ≡ true
+    → list_all e ms ≡ true → (m : Maker) × (q m ≡ true) × (e m ≡ true)
 some_maker q e [] h k = absurd (cc)
 some_maker q e (m ∷ ms) h k = elim (or_cases (q m) (list_any q ms) h) [
   | inl here ↦ (m, here, (and_parts (e m) _ k).0)
   | inr more ↦ some_maker q e ms more (and_parts (e m) _ k).1
 ]
 
-output_by : (p : Plan) (a o : ℕ) (q : Option PlanAction) → slice_get p.actions a ≡ q → unwrap_or (option_map (λ x. nat_lt o (length x.outputs)) q) false ≡ true → IsOutput p a o
+output_by : (p : Plan) (a o : ℕ) (q : Option PlanAction) → slice_get p.actions a ≡ q
+    → unwrap_or (option_map (λ x. nat_lt o (length x.outputs)) q) false ≡ true → IsOutput p a o
 output_by p a o (Some x) at h = record {
   within = slice_get_within p.actions a x at;
-  below = (let lt = ltb-true o (length x.outputs) h in let n : length (outputs_at p a) ≡ length x.outputs = ap (λ q. length (outputs_on q)) at in omega arith);
+  below = (let lt = ltb-true o (length x.outputs) h in
+      let n : length (outputs_at p a) ≡ length x.outputs = ap (λ q. length (outputs_on q)) at in
+      omega arith);
 }
 output_by p a o None at h = absurd (cc)
 
-made_output : (p : Plan) (b a o : ℕ) (q : Option PlanAction) → Sound p → slice_get p.actions b ≡ q → unwrap_or (option_map (λ x. list_any (λ m. is_made m a o) x.makers) q) false ≡ true → IsOutput p a o
+made_output : (p : Plan) (b a o : ℕ) (q : Option PlanAction) → Sound p → slice_get p.actions b ≡ q
+    → unwrap_or (option_map (λ x. list_any (λ m. is_made m a o) x.makers) q) false ≡ true
+    → IsOutput p a o
 made_output p b a o None sound at h = absurd (cc)
 made_output p b a o (Some x) sound at h =
     let all = sound_at p 0 p.actions b x sound.each_action at in
-    let earlier = (and_parts (has_branches (length p.groups) x) _ (and_parts (nat_lt (length x.outputs) (2 ^ 32)) _ all).1).1 in
+    let earlier = (and_parts (has_branches (length p.groups) x) _
+    (and_parts (nat_lt (length x.outputs) (2 ^ 32)) _ all).1).1 in
     let m = some_maker (λ m. is_made m a o) (is_earlier p.actions (0 + b)) x.makers h earlier in
     let parts = and_parts (m.0.action == a) _ m.1 in
-    let out = output_by p m.0.action m.0.output (slice_get p.actions m.0.action) refl (and_parts (nat_lt m.0.action (0 + b)) _ m.2).1 in
-    subst (λ i. IsOutput p i o) (eqb-true m.0.action a parts.0) (subst (λ i. IsOutput p m.0.action i) (eqb-true m.0.output o parts.1) out)
+    let out = output_by p m.0.action m.0.output (slice_get p.actions m.0.action) refl
+    (and_parts (nat_lt m.0.action (0 + b)) _ m.2).1 in
+    subst (λ i. IsOutput p i o) (eqb-true m.0.action a parts.0)
+    (subst (λ i. IsOutput p m.0.action i) (eqb-true m.0.output o parts.1) out)
 
 -- ---- the whole Look
 
@@ -124,46 +141,65 @@ work_gathers None = refl
 work_gathers (Some e) = order_gathers e.reply
 
 -- the file of an answer, as the rule looks for it
-answer_same : (p : Plan) (a o : ℕ) (x : Answer) → option_and_then (λ path. r.last_file x.files path) (r.path_of p a o) ≡ answer_file p a (Some x) o
+answer_same : (p : Plan) (a o : ℕ) (x : Answer) → option_and_then
+    (λ path. r.last_file x.files path) (r.path_of p a o) ≡ answer_file p a (Some x) o
 answer_same p a o x = by (slice_get p.actions a)
   where
-    by : (q : Option PlanAction) → option_and_then (λ path. r.last_file x.files path) (option_and_then (λ y. slice_get y.outputs o) q) ≡ option_and_then (r.last_file x.files) (slice_get (outputs_on q) o)
+    by : (q : Option PlanAction) → option_and_then (λ path. r.last_file x.files path)
+        (option_and_then (λ y. slice_get y.outputs o) q) ≡ option_and_then (r.last_file x.files)
+        (slice_get (outputs_on q) o)
     by None = refl
     by (Some y) = refl
 
-answered_same : (p : Plan) (a o : ℕ) (m : Option Answer) → option_and_then (λ x. option_and_then (λ path. r.last_file x.files path) (r.path_of p a o)) m ≡ answer_file p a m o
+answered_same : (p : Plan) (a o : ℕ) (m : Option Answer)
+    → option_and_then (λ x. option_and_then (λ path. r.last_file x.files path) (r.path_of p a o)) m
+    ≡ answer_file p a m o
 answered_same p a o None = refl
 answered_same p a o (Some x) = answer_same p a o x
 
 gather_output : (p : Plan) (a o : ℕ) → o < outputs_of p a → IsOutput p a o
 gather_output p a o lt = by (slice_get p.actions a) refl lt
   where
-    by : (q : Option PlanAction) → slice_get p.actions a ≡ q → o < unwrap_or (option_map (λ x. length x.outputs) q) 0 → IsOutput p a o
+    by : (q : Option PlanAction) → slice_get p.actions a ≡ q
+        → o < unwrap_or (option_map (λ x. length x.outputs) q) 0 → IsOutput p a o
     by None at h = absurd (omega arith)
-    by (Some x) at h = record { within = slice_get_within p.actions a x at; below = (let n : length (outputs_at p a) ≡ length x.outputs = ap (λ q. length (outputs_on q)) at in omega arith) }
+    by (Some x) at h = record {
+      within = slice_get_within p.actions a x at;
+      below = (let n : length (outputs_at p a) ≡ length x.outputs =
+          ap (λ q. length (outputs_on q)) at in omega arith);
+    }
 
 -- what the lane may look at is what its newest work orders
-may_look : (q : Plan) (kind : Kind) (even : Bool) (x : Option LaneState) (w : Wanted) → may_some q kind even x (call.Look w) ≡ true → may_look_by q w (order_on x) ≡ true
+may_look : (q : Plan) (kind : Kind) (even : Bool) (x : Option LaneState) (w : Wanted)
+    → may_some q kind even x (call.Look w) ≡ true → may_look_by q w (order_on x) ≡ true
 may_look q kind even (Some x) w h =
     let parts = and_parts (not x.stopped) _ h in
-    by_bool x.halted (λ b. cond b false (even && (may_look_by q w x.order || false)) ≡ true → may_look_by q w x.order ≡ true) (λ _ g. absurd (cc))
-    (λ _ g. let more = (and_parts even _ g).1 in sym (or_false (may_look_by q w x.order)) ∙ more) parts.1
+    by_bool x.halted (λ b. cond b false (even && (may_look_by q w x.order || false)) ≡ true
+    → may_look_by q w x.order ≡ true) (λ _ g. absurd (cc))
+    (λ _ g. let more = (and_parts even _ g).1 in sym (or_false (may_look_by q w x.order))
+    ∙ more) parts.1
   where
     or_false : (b : Bool) → (b || false) ≡ b
     or_false true = refl
     or_false false = refl
 may_look q kind even None w h = absurd (cc)
 
-module _ (p : Plan) (s : State) (f : slots.Facts) (j : List Entry) (lane : ℕ) (kind : Kind) (st : Stands p (record { state = s; files = f }) j) where
-  order_is : (w : Wanted) → script p j lane (call.Look w) ≡ true → order_at s lane ≡ order_of_work (last_work j lane)
+module _ (p : Plan) (s : State) (f : slots.Facts) (j : List Entry) (lane : ℕ) (kind : Kind)
+    (st : Stands p (record { state = s; files = f }) j) where
+  order_is : (w : Wanted) → script p j lane (call.Look w) ≡ true
+      → order_at s lane ≡ order_of_work (last_work j lane)
   unfolding lane_in
   order_is w may =
-      ap order_on (st.tables.lanes lane ∙ ap (λ b. cond b (Some (state_by (last_work j lane) (stopped j lane) (has_halted j lane))) None) (lane_inside p j lane (call.Look w) may))
+      ap order_on (st.tables.lanes lane ∙ ap (λ b. cond b
+      (Some (state_by (last_work j lane) (stopped j lane) (has_halted j lane))) None)
+      (lane_inside p j lane (call.Look w) may))
 
-  made_look : (b a o : ℕ) (y : Reply) → makes p b a o ≡ true → Told (slot_at f.made a o) y → Replies (r.look_reply p j lane (look.Made a o)) y
+  made_look : (b a o : ℕ) (y : Reply) → makes p b a o ≡ true → Told (slot_at f.made a o) y
+      → Replies (r.look_reply p j lane (look.Made a o)) y
   made_look b a o y h t =
       let out = made_output p b a o (slice_get p.actions b) st.tables.sound refl h in
-      slot_there p f.made (λ i k. slice_get (r.files_of_grant (grant_of j i)) k) a o y st.kept.made out.within out.below t
+      slot_there p f.made (λ i k. slice_get (r.files_of_grant (grant_of j i)) k) a o y st.kept.made
+      out.within out.below t
 
   -- what the lane is to gather is under way, and was matched
   module _ (t : Attempt) (ordered : gather_of_entry (last_work j lane) ≡ Some t) where
@@ -171,17 +207,27 @@ module _ (p : Plan) (s : State) (f : slots.Facts) (j : List Entry) (lane : ℕ) 
     is_newest = by (match_of j t) refl
       where
         by : (m : Option Answer) → match_of j t ≡ m → m ≡ files.newest_match j t.action t.branch
-        by (Some x) at = sym (newest_of p j t x st.tables.legal (gathering_going p j lane t st.tables.legal ordered) at)
-        by None at = absurd (let some = gathered_match p j t st.tables.legal (gathering_ordered p j lane t ordered) in let no = ap is_some at in cc)
+        by (Some x) at = sym (newest_of p j t x st.tables.legal
+            (gathering_going p j lane t st.tables.legal ordered) at)
+        by None at = absurd (let some = gathered_match p j t st.tables.legal
+            (gathering_ordered p j lane t ordered) in let no = ap is_some at in cc)
 
-    gather_look : (l o : ℕ) (n : ℤ) (y : Reply) → o < outputs_of p t.action → Told (slot_at (rows_of t.branch f) t.action o) y → Replies (r.look_reply p j lane (look.Answered l n o)) y
+    gather_look : (l o : ℕ) (n : ℤ) (y : Reply) → o < outputs_of p t.action
+        → Told (slot_at (rows_of t.branch f) t.action o) y
+        → Replies (r.look_reply p j lane (look.Answered l n o)) y
     gather_look l o n y lt told =
         let out = gather_output p t.action o lt in
         subst (λ (q : Option (List ℕ)). Replies (r.file_reply q) y)
-        (sym (ap (λ q. r.answered_file p j q o) ordered ∙ answered_same p t.action o (match_of j t) ∙ ap (λ m. answer_file p t.action m o) is_newest))
-        (slot_there p (rows_of t.branch f) (λ i k. answer_file p i (files.newest_match j i t.branch) k) t.action o y (st.kept.answered t.branch) out.within out.below told)
+        (sym (ap (λ q. r.answered_file p j q o) ordered ∙ answered_same p t.action o (match_of j t)
+        ∙ ap (λ m. answer_file p t.action m o) is_newest))
+        (slot_there p (rows_of t.branch f) (λ i k. answer_file p i
+        (files.newest_match j i t.branch) k) t.action o y (st.kept.answered t.branch) out.within
+        out.below told)
 
-  answered_look : (o : Order) (l k : ℕ) (n : ℤ) (y : Reply) → gathered_by o ≡ gather_of_entry (last_work j lane) → may_look_by p (look.Answered l n k) o ≡ true → ToldGather f o k y → Replies (r.look_reply p j lane (look.Answered l n k)) y
+  answered_look : (o : Order) (l k : ℕ) (n : ℤ) (y : Reply)
+      → gathered_by o ≡ gather_of_entry (last_work j lane)
+      → may_look_by p (look.Answered l n k) o ≡ true → ToldGather f o k y
+      → Replies (r.look_reply p j lane (look.Answered l n k)) y
   answered_look (order.Gather i m t exit refused) l k n y is may told =
       let parts = and_parts ((l == i) && int_eq n m) _ may in
       let more = and_parts (int_eq exit (pos 0)) _ parts.1 in
@@ -189,18 +235,26 @@ module _ (p : Plan) (s : State) (f : slots.Facts) (j : List Entry) (lane : ℕ) 
       gather_look t (sym is) l k n y (ltb-true k (outputs_of p t.action) last.1) told
   answered_look _ l k n y is may told = absurd (cc)
 
-  sent_look : (o : Order) (a k : ℕ) (y : Reply) → may_look_by p (look.Made a k) o ≡ true → Told (slot_at f.made a k) y → Replies (r.look_reply p j lane (look.Made a k)) y
+  sent_look : (o : Order) (a k : ℕ) (y : Reply) → may_look_by p (look.Made a k) o ≡ true
+      → Told (slot_at f.made a k) y → Replies (r.look_reply p j lane (look.Made a k)) y
   sent_look (order.Send l n t) a k y may told = made_look t.action a k y may told
   sent_look _ a k y may told = absurd (cc)
 
-  look_is : (w : Wanted) (y : Reply) → script p j lane (call.Look w) ≡ true → may_look_by p w (order_at s lane) ≡ true → ToldLook s f lane w y → Replies (r.look_reply p j lane w) y
+  look_is : (w : Wanted) (y : Reply) → script p j lane (call.Look w) ≡ true
+      → may_look_by p w (order_at s lane) ≡ true → ToldLook s f lane w y
+      → Replies (r.look_reply p j lane w) y
   look_is (look.Made a k) y may ordered told = sent_look (order_at s lane) a k y ordered told
   look_is (look.Answered l n k) y may ordered told =
-      answered_look (order_at s lane) l k n y (ap gathered_by (order_is (look.Answered l n k) may) ∙ work_gathers (last_work j lane)) ordered told
+      answered_look (order_at s lane) l k n y (ap gathered_by (order_is (look.Answered l n k) may)
+      ∙ work_gathers (last_work j lane)) ordered told
 
-  pub look_told : (w : Wanted) (y : Reply) → script p j lane (call.Look w) ≡ true → may_some p kind (lane % 2 == 0) (slice_get s.lanes lane) (call.Look w) ≡ true → ToldLook s f lane w y → Replies (answer p j lane (call.Look w)) y
+  pub look_told : (w : Wanted) (y : Reply) → script p j lane (call.Look w) ≡ true
+      → may_some p kind (lane % 2 == 0) (slice_get s.lanes lane) (call.Look w) ≡ true
+      → ToldLook s f lane w y → Replies (answer p j lane (call.Look w)) y
   look_told w y may allowed told =
-      subst (λ (b : Bool). Replies (cond b (r.look_reply p j lane w) reply.Astray) y) (sym may) (look_is w y may (may_look p kind (lane % 2 == 0) (slice_get s.lanes lane) w allowed) told)
+      subst (λ (b : Bool). Replies (cond b (r.look_reply p j lane w) reply.Astray) y) (sym may)
+      (look_is w y may (may_look p kind (lane % 2 == 0) (slice_get s.lanes lane) w allowed)
+      told)
 
 -- the reply to a Look isn't kept
 told_unkept : (o : Option Slot) (y : Reply) → Told o y → is_kept y ≡ false
@@ -210,10 +264,13 @@ told_unkept (Some Short) y h = ap is_kept h
 told_unkept (Some Absent) y h = ap is_kept h
 told_unkept None y h = ap is_kept h
 
-gather_unkept : (f : slots.Facts) (o : Order) (k : ℕ) (y : Reply) → ToldGather f o k y → is_kept y ≡ false
-gather_unkept f (order.Gather l n t e v) k y h = told_unkept (slot_at (rows_of t.branch f) t.action k) y h
+gather_unkept : (f : slots.Facts) (o : Order) (k : ℕ) (y : Reply) → ToldGather f o k y
+    → is_kept y ≡ false
+gather_unkept f (order.Gather l n t e v) k y h = told_unkept
+    (slot_at (rows_of t.branch f) t.action k) y h
 gather_unkept f _ k y h = ap is_kept h
 
-pub look_unkept : (s : State) (f : slots.Facts) (lane : ℕ) (w : Wanted) (y : Reply) → ToldLook s f lane w y → is_kept y ≡ false
+pub look_unkept : (s : State) (f : slots.Facts) (lane : ℕ) (w : Wanted) (y : Reply)
+    → ToldLook s f lane w y → is_kept y ≡ false
 look_unkept s f lane (look.Made a o) y h = told_unkept (slot_at f.made a o) y h
 look_unkept s f lane (look.Answered l n o) y h = gather_unkept f (order_at s lane) o y h

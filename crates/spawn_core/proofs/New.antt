@@ -23,10 +23,15 @@ use Rattle.file_table.specs.Slots.{Facts, IsNewFiles}
 use Rattle.file_table.proofs.Kept as kept
 use Rattle.spawn_core.specs.Stands.{HasHistory, Stands}
 
-module _ (p : Plan) (s : State) (sound : Sound p) (plan : s.plan ≡ p) (m n : ℕ) (m_is : m ≡ 2 * berths p) (n_is : n ≡ berths p)
-    (pool : pools.Stands p s.pool []) (requests : asks.Stands p s.requests []) (cancels : marks.Stands p s.cancels []) (ready : queues.Stands p s.ready [])
-    (race : races.Stands p s.race []) (attempts : counts.Stands p s.attempts []) (lanes : s.lanes ≡ replicate m no_work) (last : s.last ≡ replicate n no_line) (greetings : s.greetings ≡ replicate n silent)
-    (matches : s.matches ≡ replicate n no_matches) (unhalted : s.halted ≡ false) (f : Facts) (files : IsNewFiles p.actions f) where
+module _ (p : Plan) (s : State) (sound : Sound p) (plan : s.plan ≡ p) (m n : ℕ)
+    (m_is : m ≡ 2 * berths p) (n_is : n ≡ berths p)
+    (pool : pools.Stands p s.pool []) (requests : asks.Stands p s.requests [])
+    (cancels : marks.Stands p s.cancels []) (ready : queues.Stands p s.ready [])
+    (race : races.Stands p s.race []) (attempts : counts.Stands p s.attempts [])
+    (lanes : s.lanes ≡ replicate m no_work) (last : s.last ≡ replicate n no_line)
+    (greetings : s.greetings ≡ replicate n silent)
+    (matches : s.matches ≡ replicate n no_matches) (unhalted : s.halted ≡ false) (f : Facts)
+    (files : IsNewFiles p.actions f) where
   new_tables : tables.Stands p s []
   unfolding halted lane_in last_work stopped has_halted last_in last_line greeting_in matches_in recent
   new_tables = record {
@@ -39,10 +44,14 @@ module _ (p : Plan) (s : State) (sound : Sound p) (plan : s.plan ≡ p) (m n : �
     ready = ready;
     race = race;
     attempts = attempts;
-    lanes = λ k. ap (λ xs. slice_get xs k) lanes ∙ get_replicate no_work m k ∙ ap (λ c. cond (nat_lt k c) (Some no_work) None) m_is;
-    last = λ k. ap (λ xs. slice_get xs k) last ∙ get_replicate no_line n k ∙ ap (λ c. cond (nat_lt k c) (Some no_line) None) n_is;
-    greetings = λ k. ap (λ xs. slice_get xs k) greetings ∙ get_replicate silent n k ∙ ap (λ c. cond (nat_lt k c) (Some silent) None) n_is;
-    matches = λ k. ap (λ xs. slice_get xs k) matches ∙ get_replicate no_matches n k ∙ ap (λ c. cond (nat_lt k c) (Some no_matches) None) n_is;
+    lanes = λ k. ap (λ xs. slice_get xs k) lanes ∙ get_replicate no_work m k
+        ∙ ap (λ c. cond (nat_lt k c) (Some no_work) None) m_is;
+    last = λ k. ap (λ xs. slice_get xs k) last ∙ get_replicate no_line n k
+        ∙ ap (λ c. cond (nat_lt k c) (Some no_line) None) n_is;
+    greetings = λ k. ap (λ xs. slice_get xs k) greetings ∙ get_replicate silent n k
+        ∙ ap (λ c. cond (nat_lt k c) (Some silent) None) n_is;
+    matches = λ k. ap (λ xs. slice_get xs k) matches ∙ get_replicate no_matches n k
+        ∙ ap (λ c. cond (nat_lt k c) (Some no_matches) None) n_is;
     halted = unhalted;
   }
 

@@ -39,13 +39,19 @@ orderly p j sound legal = record {
 }
 
 -- where the reply is Stop, it is the rule's
-stop_is : (b : Bool) (x y : Reply) → y ≡ reply.Stop → Replies (cond b x reply.Astray) y → x ≡ reply.Stop
+stop_is : (b : Bool) (x y : Reply) → y ≡ reply.Stop → Replies (cond b x reply.Astray) y
+    → x ≡ reply.Stop
 stop_is true x y h (inl same) = sym same ∙ h
 stop_is false x y h (inl same) = absurd (let k = sym h ∙ same in cc)
 stop_is b x y h (inr short) = absurd (let k = sym h ∙ short.1 in cc)
 
-pub stops : (p : Plan) (j : List Entry) (lane : ℕ) (c : Call) (y : Reply) → Sound p → Legal p j → Replies (answer p j lane c) y → y ≡ reply.Stop → halted j ≡ false → Finished p j
-stops p j lane c y sound legal told h none = finished p j sound legal (stop_settles p j lane c (stop_is (script p j lane c) (rule p j lane c) y h told) none)
+pub stops : (p : Plan) (j : List Entry) (lane : ℕ) (c : Call) (y : Reply) → Sound p → Legal p j
+    → Replies (answer p j lane c) y → y ≡ reply.Stop → halted j ≡ false → Finished p j
+stops p j lane c y sound legal told h none = finished p j sound legal
+    (stop_settles p j lane c (stop_is (script p j lane c) (rule p j lane c) y h told) none)
 
-pub completes : (p : Plan) (j : List Entry) (lane : ℕ) (c : Call) (y : Reply) → Sound p → Legal p j → Replies (answer p j lane c) y → y ≡ reply.Stop → halted j ≡ false → Clean j → Complete p j
-completes p j lane c y sound legal told h none clean = λ a x at. complete p j lane c sound legal clean none (stop_is (script p j lane c) (rule p j lane c) y h told) a x at
+pub completes : (p : Plan) (j : List Entry) (lane : ℕ) (c : Call) (y : Reply) → Sound p → Legal p j
+    → Replies (answer p j lane c) y → y ≡ reply.Stop → halted j ≡ false → Clean j → Complete p j
+completes p j lane c y sound legal told h none clean =
+    λ a x at. complete p j lane c sound legal clean none
+    (stop_is (script p j lane c) (rule p j lane c) y h told) a x at

@@ -52,7 +52,8 @@ use Rattle.core_laws.proofs.Scripted.{script_is}
 use Rattle.core_tables.proofs.Seated.{seat_is}
 use Rattle.core_laws.proofs.Chosen.{lane_within}
 
--- ---- a call in its script changes neither the plan nor what is noted of its lane and its berth's greeting
+-- ---- a call in its script changes neither the plan nor what is noted of its lane and its berth's
+-- greeting
 
 abbrev Own : Type 0
 Own = Plan × List LaneState × List Greeting
@@ -61,11 +62,13 @@ abbrev pub own_of : State → Own
 own_of t = (t.plan, t.lanes, t.greetings)
 
 module _ (s : State) where
-  either : (b : Bool) (t u : State) → own_of t ≡ own_of s → own_of u ≡ own_of s → own_of (cond b t u) ≡ own_of s
+  either : (b : Bool) (t u : State) → own_of t ≡ own_of s → own_of u ≡ own_of s
+      → own_of (cond b t u) ≡ own_of s
   either true t u x y = x
   either false t u x y = y
 
-  end_lanes : (t : State) (o : Option Attempt) → own_of t ≡ own_of s → own_of (m.end_of_some t o) ≡ own_of s
+  end_lanes : (t : State) (o : Option Attempt) → own_of t ≡ own_of s
+      → own_of (m.end_of_some t o) ≡ own_of s
   end_lanes t None h = h
   end_lanes t (Some u) h = h
 
@@ -82,19 +85,25 @@ module _ (s : State) where
   fed_lanes w l None = refl
   fed_lanes w l (Some t) = by ((row_at (reports.broken_by_feed s w l) l).ended)
     where
-      by : (b : Bool) → own_of (reports.ended_if b (reports.fed_attempt (reports.broken_by_feed s w l) w t) t) ≡ own_of s
+      by : (b : Bool) → own_of (reports.ended_if b (reports.fed_attempt
+          (reports.broken_by_feed s w l) w t) t) ≡ own_of s
       by true = refl
       by false = refl
 
-  unwritten_lanes : (w l : ℕ) (n : ℤ) (o : Option Attempt) → own_of (reports.unwritten_by s w l n o) ≡ own_of s
+  unwritten_lanes : (w l : ℕ) (n : ℤ) (o : Option Attempt)
+      → own_of (reports.unwritten_by s w l n o) ≡ own_of s
   unwritten_lanes w l n None = refl
-  unwritten_lanes w l n (Some t) = either (reports.is_pending_at s l t) (reports.dropped_from s l n) (reports.breached s w l) refl refl
+  unwritten_lanes w l n (Some t) = either (reports.is_pending_at s l t) (reports.dropped_from s l n)
+      (reports.breached s w l) refl refl
 
-  wrote_lanes : (lane w l : ℕ) (n : ℤ) (how : Written) → own_of (reports.wrote_with s lane w l n how) ≡ own_of s
+  wrote_lanes : (lane w l : ℕ) (n : ℤ) (how : Written)
+      → own_of (reports.wrote_with s lane w l n how) ≡ own_of s
   wrote_lanes lane w l n write.Done = refl
   wrote_lanes lane w l n write.FeedFault = fed_lanes w l (reports.sent_in (m.order_at s lane))
-  wrote_lanes lane w l n write.RoomFault = unwritten_lanes w l n (reports.sent_in (m.order_at s lane))
-  wrote_lanes lane w l n write.TooLarge = unwritten_lanes w l n (reports.sent_in (m.order_at s lane))
+  wrote_lanes lane w l n write.RoomFault = unwritten_lanes w l n
+      (reports.sent_in (m.order_at s lane))
+  wrote_lanes lane w l n write.TooLarge = unwritten_lanes w l n
+      (reports.sent_in (m.order_at s lane))
 
   found_lanes : (t : Attempt) (f : Found) → own_of (m.found_with s t f) ≡ own_of s
   found_lanes t (found.Files fs) = refl
@@ -107,49 +116,66 @@ module _ (s : State) where
   taken_lanes w None = refl
   taken_lanes w (Some l) = refl
 
-  matching_lanes : (w l : ℕ) (seat : Seat) (x : Answer) (y : Matching) → own_of (reports.matching_with s w seat l x y) ≡ own_of s
+  matching_lanes : (w l : ℕ) (seat : Seat) (x : Answer) (y : Matching)
+      → own_of (reports.matching_with s w seat l x y) ≡ own_of s
   matching_lanes w l seat x (match.Pending a t) = either x.cancelled _ _ refl refl
   matching_lanes w l seat x (match.Cancelled a t) = refl
   matching_lanes w l seat x match.Closed = either (is_single seat.kind) _ _ refl refl
   matching_lanes w l seat x match.Never = either (is_single seat.kind) _ _ refl refl
 
-  answered_lanes : (w l : ℕ) (seat : Seat) (x : Answer) → own_of (reports.answered_with s w seat l x) ≡ own_of s
+  answered_lanes : (w l : ℕ) (seat : Seat) (x : Answer)
+      → own_of (reports.answered_with s w seat l x) ≡ own_of s
   answered_lanes w l seat x =
       either ((row_at s l).broken) (reports.breached s w l) _ refl
-      (either (reports.is_greeting_by seat (slice_get s.greetings w) x) s (reports.told_with s w seat l x) refl
-      (either (reports.is_wrong seat x) (reports.breached s w l) (reports.matching_with s w seat l x (asks.matching_of s.requests l x.number)) refl (matching_lanes w l seat x (asks.matching_of s.requests l x.number))))
+      (either (reports.is_greeting_by seat (slice_get s.greetings w) x) s
+      (reports.told_with s w seat l x) refl
+      (either (reports.is_wrong seat x) (reports.breached s w l)
+      (reports.matching_with s w seat l x (asks.matching_of s.requests l x.number)) refl
+      (matching_lanes w l seat x (asks.matching_of s.requests l x.number))))
 
   made_lanes : (lane : ℕ) (seat : Seat) (c : Call) → own_of (made s lane seat c) ≡ own_of s
   made_lanes lane seat call.Ask = carried_lanes (lane / 2) (chosen s (lane / 2))
-  made_lanes lane seat (call.Launched l how) = either (is_done how) _ _ refl (end_lanes (m.with_pool s (rows.change s.pool l rows.set_unbound)) (m.launch_by s lane) refl)
+  made_lanes lane seat (call.Launched l how) = either (is_done how) _ _ refl
+      (end_lanes (m.with_pool s (rows.change s.pool l rows.set_unbound)) (m.launch_by s lane) refl)
   made_lanes lane seat (call.Wrote l n how) = wrote_lanes lane (lane / 2) l n how
   made_lanes lane seat (call.Look x) = refl
-  made_lanes lane seat (call.Claim a b n f) = either (m.is_won s (attempt_of a b n)) s (m.found_with s (attempt_of a b n) f) refl (found_lanes (attempt_of a b n) f)
+  made_lanes lane seat (call.Claim a b n f) = either (m.is_won s (attempt_of a b n)) s
+      (m.found_with s (attempt_of a b n) f) refl (found_lanes (attempt_of a b n) f)
   made_lanes lane seat (call.Committed a b how) = refl
   made_lanes lane seat (call.Killed l) = refl
   made_lanes lane seat call.Take = taken_lanes (lane / 2) (m.takeable s (lane / 2))
   made_lanes lane seat (call.Answer l x) = answered_lanes (lane / 2) l seat x
   made_lanes lane seat (call.Ended l how) =
-      end_lanes (m.end_of_some (reports.end_all s seat (asks.places_of s.requests l)) (reports.fed_on (slice_get s.last (lane / 2)))) (reports.bound_on s (lane / 2) l)
-      (end_lanes (reports.end_all s seat (asks.places_of s.requests l)) (reports.fed_on (slice_get s.last (lane / 2))) refl)
+      end_lanes (m.end_of_some (reports.end_all s seat (asks.places_of s.requests l))
+      (reports.fed_on (slice_get s.last (lane / 2)))) (reports.bound_on s (lane / 2) l)
+      (end_lanes (reports.end_all s seat (asks.places_of s.requests l))
+      (reports.fed_on (slice_get s.last (lane / 2))) refl)
   made_lanes lane seat call.Halt = refl
 
-lane_known : (p : Plan) (s : State) (j : List Entry) (lane : ℕ) (c : Call) → Stands p s j → script p j lane c ≡ true → lane < length s.lanes
+lane_known : (p : Plan) (s : State) (j : List Entry) (lane : ℕ) (c : Call) → Stands p s j
+    → script p j lane c ≡ true → lane < length s.lanes
 unfolding lane_in
 lane_known p s j lane c st may =
     let within = lane_inside p j lane c may in
-    slice_get_within s.lanes lane (state_by (last_work j lane) (stopped j lane) (has_halted j lane)) (st.lanes lane ∙ ap (λ b. cond b (Some (state_by (last_work j lane) (stopped j lane) (has_halted j lane))) None) within)
+    slice_get_within s.lanes lane (state_by (last_work j lane) (stopped j lane) (has_halted j lane))
+    (st.lanes lane ∙ ap (λ b. cond b (Some (state_by (last_work j lane) (stopped j lane)
+    (has_halted j lane))) None) within)
 
-berth_known : (p : Plan) (s : State) (j : List Entry) (lane : ℕ) (c : Call) → Stands p s j → script p j lane c ≡ true → lane / 2 < length s.greetings
+berth_known : (p : Plan) (s : State) (j : List Entry) (lane : ℕ) (c : Call) → Stands p s j
+    → script p j lane c ≡ true → lane / 2 < length s.greetings
 unfolding greeting_in
 berth_known p s j lane c st may =
-    let within : nat_lt (lane / 2) (berths p) ≡ true = lt-ltb (lane / 2) (berths p) (lane_within p j lane c may) in
-    slice_get_within s.greetings (lane / 2) (greeting_of j (last_line j (lane / 2))) (st.greetings (lane / 2) ∙ ap (λ b. cond b (Some (greeting_of j (last_line j (lane / 2)))) None) within)
+    let within : nat_lt (lane / 2) (berths p) ≡ true =
+    lt-ltb (lane / 2) (berths p) (lane_within p j lane c may) in
+    slice_get_within s.greetings (lane / 2) (greeting_of j (last_line j (lane / 2)))
+    (st.greetings (lane / 2) ∙ ap (λ b. cond b (Some (greeting_of j (last_line j (lane / 2))))
+    None) within)
 
 -- ---- a reply that isn't kept changes nothing
 
 module _ (s : State) where
-  carried_unkept : (w : ℕ) (x : Choice) → is_kept (m.carried_reply s w x) ≡ false → m.carried s w x ≡ s
+  carried_unkept : (w : ℕ) (x : Choice) → is_kept (m.carried_reply s w x) ≡ false
+      → m.carried s w x ≡ s
   carried_unkept w choice.Stop h = absurd (cc)
   carried_unkept w (choice.Kill l y) h = absurd (cc)
   carried_unkept w (choice.Gather x) h = absurd (cc)
@@ -158,7 +184,8 @@ module _ (s : State) where
   carried_unkept w (choice.Launch t) h = absurd (cc)
   carried_unkept w choice.Idle h = refl
 
-  taken_unkept : (w : ℕ) (o : Option ℕ) → is_kept (m.take_reply s o) ≡ false → m.taken_with s w o ≡ s
+  taken_unkept : (w : ℕ) (o : Option ℕ) → is_kept (m.take_reply s o) ≡ false
+      → m.taken_with s w o ≡ s
   taken_unkept w (Some l) h = absurd (cc)
   taken_unkept w None h = refl
 
@@ -173,36 +200,51 @@ module _ (s : State) where
   found_kept t found.RoomFault = refusal_kept (nat_lt t.number s.plan.limit)
   found_kept t found.Refused = refusal_kept (nat_lt t.number s.plan.limit)
 
-  kept_either : (b : Bool) (x y : Reply) → is_kept x ≡ true → is_kept y ≡ true → is_kept (cond b x y) ≡ true
+  kept_either : (b : Bool) (x y : Reply) → is_kept x ≡ true → is_kept y ≡ true
+      → is_kept (cond b x y) ≡ true
   kept_either true x y a c = a
   kept_either false x y a c = c
 
   consumed_kept : (t : Attempt) → is_kept (reports.consumed_reply s t) ≡ true
-  consumed_kept t = kept_either (reports.is_won s t) (reply.Late t.action t.branch t.number) (reply.Matched t.action t.branch t.number) refl refl
+  consumed_kept t = kept_either (reports.is_won s t) (reply.Late t.action t.branch t.number)
+      (reply.Matched t.action t.branch t.number) refl refl
 
-  matching_kept : (seat : Seat) (x : Answer) (y : Matching) → is_kept (reports.matching_reply s seat x y) ≡ true
-  matching_kept seat x (match.Pending a t) = kept_either x.cancelled (reply.Breach breach.NotCancelled) (reports.consumed_reply s (reports.attempt_in s.plan seat a t)) refl (consumed_kept (reports.attempt_in s.plan seat a t))
+  matching_kept : (seat : Seat) (x : Answer) (y : Matching)
+      → is_kept (reports.matching_reply s seat x y) ≡ true
+  matching_kept seat x (match.Pending a t) = kept_either x.cancelled
+      (reply.Breach breach.NotCancelled) (reports.consumed_reply s
+      (reports.attempt_in s.plan seat a t)) refl (consumed_kept
+      (reports.attempt_in s.plan seat a t))
   matching_kept seat x (match.Cancelled a t) = consumed_kept (reports.attempt_in s.plan seat a t)
-  matching_kept seat x match.Closed = kept_either (is_single seat.kind) (reply.Breach breach.Unasked) (reply.Stray stray.Closed) refl refl
-  matching_kept seat x match.Never = kept_either (is_single seat.kind) (reply.Breach breach.Unasked) (reply.Stray stray.Never) refl refl
+  matching_kept seat x match.Closed = kept_either (is_single seat.kind)
+      (reply.Breach breach.Unasked) (reply.Stray stray.Closed) refl refl
+  matching_kept seat x match.Never = kept_either (is_single seat.kind) (reply.Breach breach.Unasked)
+      (reply.Stray stray.Never) refl refl
 
   told_kept : (seat : Seat) (l : ℕ) (x : Answer) → is_kept (reports.told_reply s seat l x) ≡ true
   told_kept seat l x =
-      kept_either (reports.is_wrong seat x) (reply.Breach breach.WrongNumber) (reports.matching_reply s seat x (asks.matching_of s.requests l x.number)) refl (matching_kept seat x (asks.matching_of s.requests l x.number))
+      kept_either (reports.is_wrong seat x) (reply.Breach breach.WrongNumber)
+      (reports.matching_reply s seat x (asks.matching_of s.requests l x.number)) refl
+      (matching_kept seat x (asks.matching_of s.requests l x.number))
 
-  answer_kept : (w : ℕ) (seat : Seat) (l : ℕ) (x : Answer) → is_kept (reports.answer_reply_by s w seat l x) ≡ true
+  answer_kept : (w : ℕ) (seat : Seat) (l : ℕ) (x : Answer)
+      → is_kept (reports.answer_reply_by s w seat l x) ≡ true
   answer_kept w seat l x =
       kept_either ((row_at s l).broken) (reply.Breach breach.Broken) _ refl
-      (kept_either (reports.is_greeting_by seat (slice_get s.greetings w) x) reply.Greeted (reports.told_reply s seat l x) refl (told_kept seat l x))
+      (kept_either (reports.is_greeting_by seat (slice_get s.greetings w) x) reply.Greeted
+      (reports.told_reply s seat l x) refl (told_kept seat l x))
 
   clash : {X : Type 0} (b : Bool) → b ≡ true → b ≡ false → X
   clash b h k = absurd (let both : true ≡ false = sym h ∙ k in cc)
 
-  unkept : (lane : ℕ) (seat : Seat) (c : Call) → is_look c ≡ false → is_kept (made_reply s lane seat c) ≡ false → made s lane seat c ≡ s
+  unkept : (lane : ℕ) (seat : Seat) (c : Call) → is_look c ≡ false
+      → is_kept (made_reply s lane seat c) ≡ false → made s lane seat c ≡ s
   unkept lane seat call.Ask look h = carried_unkept (lane / 2) (chosen s (lane / 2)) h
   unkept lane seat call.Take look h = taken_unkept (lane / 2) (m.takeable s (lane / 2)) h
   unkept lane seat (call.Look x) look h = refl
-  unkept lane seat (call.Claim a b n f) look h = clash _ (kept_either (m.is_won s (attempt_of a b n)) reply.Lost (m.found_reply s (attempt_of a b n) f) refl (found_kept (attempt_of a b n) f)) h
+  unkept lane seat (call.Claim a b n f) look h = clash _
+      (kept_either (m.is_won s (attempt_of a b n)) reply.Lost
+      (m.found_reply s (attempt_of a b n) f) refl (found_kept (attempt_of a b n) f)) h
   unkept lane seat (call.Answer l x) look h = clash _ (answer_kept (lane / 2) seat l x) h
   unkept lane seat (call.Launched l how) look h = absurd (cc)
   unkept lane seat (call.Wrote l n how) look h = absurd (cc)
@@ -214,7 +256,8 @@ module _ (s : State) where
 -- ---- a call that its lane's script has
 
 -- what the check of a call says
-module _ (p : Plan) (s : State) (j : List Entry) (lane : ℕ) (seat : Seat) (c : Call) (st : Stands p s j) (at : seat_at s.plan (lane / 2) ≡ Some seat) where
+module _ (p : Plan) (s : State) (j : List Entry) (lane : ℕ) (seat : Seat) (c : Call)
+    (st : Stands p s j) (at : seat_at s.plan (lane / 2) ≡ Some seat) where
   pub seated : seat_at p (lane / 2) ≡ Some seat
   seated = ap (λ (q : Plan). seat_at q (lane / 2)) (sym st.plan) ∙ at
 
@@ -224,20 +267,29 @@ module _ (p : Plan) (s : State) (j : List Entry) (lane : ℕ) (seat : Seat) (c :
       let same : y.0 ≡ seat = (let z = sym y.1.is ∙ seated in cc) in
       sym (y.1.kind ∙ ap (λ (x : Seat). x.kind) same)
 
-  outside : nat_lt lane (2 * berths p) ≡ false → allows_by p seat.kind s.lanes lane c ≡ script p j lane c
+  outside : nat_lt lane (2 * berths p) ≡ false → allows_by p seat.kind s.lanes lane c
+      ≡ script p j lane c
   unfolding lane_in
   outside h =
-      ap (λ o. may_some p seat.kind (lane % 2 == 0) o c) (st.lanes lane ∙ ap (λ b. cond b (Some (state_by (last_work j lane) (stopped j lane) (has_halted j lane))) None) h)
-      ∙ ap (λ b. b && (not (stopped j lane) && cond (has_halted j lane) (is_owed_commit c (last_work j lane)) (allowed p (kind_of p (lane / 2)) (lane % 2 == 0) (last_work j lane) c))) (sym h)
+      ap (λ o. may_some p seat.kind (lane % 2 == 0) o c)
+      (st.lanes lane ∙ ap (λ b. cond b (Some (state_by (last_work j lane) (stopped j lane)
+      (has_halted j lane))) None) h)
+      ∙ ap (λ b. b && (not (stopped j lane) && cond (has_halted j lane)
+      (is_owed_commit c (last_work j lane)) (allowed p (kind_of p (lane / 2)) (lane % 2 == 0)
+      (last_work j lane) c))) (sym h)
 
   pub allowed_is : allows_by s.plan seat.kind s.lanes lane c ≡ script p j lane c
   allowed_is =
       ap (λ (q : Plan). allows_by q seat.kind s.lanes lane c) st.plan
-      ∙ by_bool (nat_lt lane (2 * berths p)) (λ b. nat_lt lane (2 * berths p) ≡ b → allows_by p seat.kind s.lanes lane c ≡ script p j lane c)
-      (λ yes _. let l = ltb-true lane (2 * berths p) yes in ap (λ k. allows_by p k s.lanes lane c) (kind_by (omega arith)) ∙ script_is p j s.lanes lane c (st.lanes lane))
+      ∙ by_bool (nat_lt lane (2 * berths p)) (λ b. nat_lt lane (2 * berths p) ≡ b
+      → allows_by p seat.kind s.lanes lane c ≡ script p j lane c)
+      (λ yes _. let l = ltb-true lane (2 * berths p) yes in
+      ap (λ k. allows_by p k s.lanes lane c) (kind_by (omega arith))
+      ∙ script_is p j s.lanes lane c (st.lanes lane))
       (λ _ h. outside h) refl
 
-  module _ (all : LegalMore p j) (look : is_look c ≡ false) (may : allows_by s.plan seat.kind s.lanes lane c ≡ true) where
+  module _ (all : LegalMore p j) (look : is_look c ≡ false)
+      (may : allows_by s.plan seat.kind s.lanes lane c ≡ true) where
     pub script_here : script p j lane c ≡ true
     script_here = sym allowed_is ∙ may
 
@@ -245,23 +297,33 @@ module _ (p : Plan) (s : State) (j : List Entry) (lane : ℕ) (seat : Seat) (c :
     can_here = can_make p s j lane seat c st all script_here
 
     pub lane_here : lane < length (made s lane seat c).lanes
-    lane_here = subst (λ (o : Own). lane < length o.1) (sym (made_lanes s lane seat c)) (lane_known p s j lane c st script_here)
+    lane_here = subst (λ (o : Own). lane < length o.1) (sym (made_lanes s lane seat c))
+        (lane_known p s j lane c st script_here)
 
     pub berth_here : lane / 2 < length (made s lane seat c).greetings
-    berth_here = subst (λ (o : Own). lane / 2 < length o.2) (sym (made_lanes s lane seat c)) (berth_known p s j lane c st script_here)
+    berth_here = subst (λ (o : Own). lane / 2 < length o.2) (sym (made_lanes s lane seat c))
+        (berth_known p s j lane c st script_here)
 
     pub plan_here : (made s lane seat c).plan ≡ s.plan
     plan_here = ap (λ (o : Own). o.0) (made_lanes s lane seat c)
 
     pub reply_here : Replies (answer p j lane c) (made_reply s lane seat c)
-    reply_here = inl (reply_is p s j lane seat c st all seated look script_here ∙ ap (λ b. cond b (r.rule p j lane c) reply.Astray) (sym script_here))
+    reply_here = inl (reply_is p s j lane seat c st all seated look script_here
+        ∙ ap (λ b. cond b (r.rule p j lane c) reply.Astray) (sym script_here))
 
     -- whether the reply is kept
-    kept_by : (b : Bool) → is_kept (made_reply s lane seat c) ≡ b → Stands p (cond b (noted_after (made s lane seat c) lane c (made_reply s lane seat c)) (made s lane seat c)) (cond b (record { lane = lane; call = c; reply = made_reply s lane seat c } ∷ j) j)
+    kept_by : (b : Bool) → is_kept (made_reply s lane seat c) ≡ b
+        → Stands p (cond b (noted_after (made s lane seat c) lane c (made_reply s lane seat c))
+        (made s lane seat c)) (cond b (record {
+          lane = lane;
+          call = c;
+          reply = made_reply s lane seat c;
+        } ∷ j) j)
     kept_by true h = call_stands p s j lane seat c st all seated look script_here h
     kept_by false h = subst (λ x. Stands p x j) (sym (unkept s lane seat c look h)) st
 
-    pub stands_here : Stands p (noted_if_kept (made s lane seat c) lane c (made_reply s lane seat c)) (after j lane c (made_reply s lane seat c))
+    pub stands_here : Stands p (noted_if_kept (made s lane seat c) lane c
+        (made_reply s lane seat c)) (after j lane c (made_reply s lane seat c))
     stands_here = kept_by (is_kept (made_reply s lane seat c)) refl
 
   module _ (out : allows_by s.plan seat.kind s.lanes lane c ≡ false) where
@@ -269,10 +331,13 @@ module _ (p : Plan) (s : State) (j : List Entry) (lane : ℕ) (seat : Seat) (c :
     reply_out = inl (ap (λ b. cond b (r.rule p j lane c) reply.Astray) (sym (sym allowed_is ∙ out)))
 
 -- a berth that isn't the plan's
-pub reply_none : (p : Plan) (s : State) (j : List Entry) (lane : ℕ) (c : Call) → Stands p s j → seat_at s.plan (lane / 2) ≡ None → Replies (answer p j lane c) reply.Astray
+pub reply_none : (p : Plan) (s : State) (j : List Entry) (lane : ℕ) (c : Call) → Stands p s j
+    → seat_at s.plan (lane / 2) ≡ None → Replies (answer p j lane c) reply.Astray
 reply_none p s j lane c st at =
     inl (ap (λ b. cond b (r.rule p j lane c) reply.Astray) (sym none))
   where
     none : script p j lane c ≡ false
     none = by_bool (script p j lane c) (λ b. script p j lane c ≡ b → b ≡ false)
-        (λ _ h. absurd (let y = seat_is p (lane / 2) (lane_within p j lane c h) in let z = sym y.1.is ∙ ap (λ (q : Plan). seat_at q (lane / 2)) (sym st.plan) ∙ at in cc)) (λ _ _. refl) refl
+        (λ _ h. absurd (let y = seat_is p (lane / 2) (lane_within p j lane c h) in
+        let z = sym y.1.is ∙ ap (λ (q : Plan). seat_at q (lane / 2)) (sym st.plan) ∙ at in cc))
+        (λ _ _. refl) refl

@@ -37,15 +37,18 @@ use Rattle.spawn_core.proofs.Looked.{look_told, look_unkept}
 use Rattle.spawn_core.proofs.Stepped.{allowed_is, script_here, seated, can_here, lane_here, berth_here, plan_here, reply_here, stands_here}
 
 -- a reply that isn't kept leaves no file
-unkept_files : (p : Plan) (c : Call) (r : Reply) (f g : slots.Facts) → is_kept r ≡ false → Follows p c r f g → g ≡ f
+unkept_files : (p : Plan) (c : Call) (r : Reply) (f g : slots.Facts) → is_kept r ≡ false
+    → Follows p c r f g → g ≡ f
 unkept_files p (call.Claim a b n x) reply.Granted f g h k = absurd (cc)
 unkept_files p (call.Claim a b n x) _ f g h k = k
 unkept_files p (call.Answer l x) (reply.Matched a b n) f g h k = absurd (cc)
 unkept_files p (call.Answer l x) _ f g h k = k
 unkept_files p _ r f g h k = k
 
-module _ (p : Plan) (s : State) (f : slots.Facts) (j : List Entry) (lane : ℕ) (seat : Seat) (c : Call) (st : Stands p (record { state = s; files = f }) j)
-    (at : seat_at s.plan (lane / 2) ≡ Some seat) (look : is_look c ≡ false) (may : allows_by s.plan seat.kind s.lanes lane c ≡ true) where
+module _ (p : Plan) (s : State) (f : slots.Facts) (j : List Entry) (lane : ℕ) (seat : Seat)
+    (c : Call) (st : Stands p (record { state = s; files = f }) j)
+    (at : seat_at s.plan (lane / 2) ≡ Some seat) (look : is_look c ≡ false)
+    (may : allows_by s.plan seat.kind s.lanes lane c ≡ true) where
   abbrev all : LegalMore p j
   all = all_facts p j st.tables.sound st.tables.legal
 
@@ -68,18 +71,33 @@ module _ (p : Plan) (s : State) (f : slots.Facts) (j : List Entry) (lane : ℕ) 
   entry = record { lane = lane; call = c; reply = told }
 
   legal : is_kept told ≡ true → LegalEntry p j entry
-  legal kept = record { scripted = script_here p s j lane seat c st.tables at all look may; replied = reply_is p s j lane seat c st.tables all (seated p s j lane seat c st.tables at) look (script_here p s j lane seat c st.tables at all look may); kept = kept }
+  legal kept = record {
+    scripted = script_here p s j lane seat c st.tables at all look may;
+    replied = reply_is p s j lane seat c st.tables all
+        (seated p s j lane seat c st.tables at) look (script_here p s j lane seat c st.tables at all
+        look may);
+    kept = kept;
+  }
 
   module _ (g : slots.Facts) (h : Follows (made s lane seat c).plan c told f g) where
     followed : Follows p c told f g
-    followed = subst (λ (q : Plan). Follows q c told f g) (plan_here p s j lane seat c st.tables at all look may ∙ st.tables.plan) h
+    followed = subst (λ (q : Plan). Follows q c told f g)
+        (plan_here p s j lane seat c st.tables at all look may ∙ st.tables.plan) h
 
     files_turn : (b : Bool) → is_kept told ≡ b → files.Stands p g (cond b (entry ∷ j) j)
-    files_turn true kept = follows p f g j lane st.kept c told (λ x is. ((all.entries entry (legal kept)).grants x is).ungranted) followed
-    files_turn false kept = subst (λ (k : slots.Facts). files.Stands p k j) (sym (unkept_files p c told f g kept followed)) st.kept
+    files_turn true kept = follows p f g j lane st.kept c told
+        (λ x is. ((all.entries entry (legal kept)).grants x is).ungranted) followed
+    files_turn false kept = subst (λ (k : slots.Facts). files.Stands p k j)
+        (sym (unkept_files p c told f g kept followed)) st.kept
 
-    pub stands_turn : Stands p (record { state = noted_if_kept (made s lane seat c) lane c told; files = g }) (after j lane c told)
-    stands_turn = record { tables = stands_here p s j lane seat c st.tables at all look may; kept = files_turn (is_kept told) refl }
+    pub stands_turn : Stands p (record {
+      state = noted_if_kept (made s lane seat c) lane c told;
+      files = g;
+    }) (after j lane c told)
+    stands_turn = record {
+      tables = stands_here p s j lane seat c st.tables at all look may;
+      kept = files_turn (is_kept told) refl;
+    }
 
 -- ---- what the check of a call says
 
@@ -87,8 +105,10 @@ pub unlook : (c : Call) → ((w : Wanted) → c ≡ call.Look w → ⊥) → is_
 unlook (call.Look w) h = absurd (h w refl)
 unlook _ h = refl
 
-module _ (p : Plan) (s : State) (f : slots.Facts) (j : List Entry) (lane : ℕ) (seat : Seat) (c : Call) (w : Wanted) (y : Reply) (st : Stands p (record { state = s; files = f }) j)
-    (at : seat_at s.plan (lane / 2) ≡ Some seat) (may : allows_by s.plan seat.kind s.lanes lane c ≡ true) (is : c ≡ call.Look w) (told : ToldLook s f lane w y) where
+module _ (p : Plan) (s : State) (f : slots.Facts) (j : List Entry) (lane : ℕ) (seat : Seat)
+    (c : Call) (w : Wanted) (y : Reply) (st : Stands p (record { state = s; files = f }) j)
+    (at : seat_at s.plan (lane / 2) ≡ Some seat) (may : allows_by s.plan seat.kind s.lanes lane c
+    ≡ true) (is : c ≡ call.Look w) (told : ToldLook s f lane w y) where
   allowed_look : allows_by s.plan seat.kind s.lanes lane (call.Look w) ≡ true
   allowed_look = ap (allows_by s.plan seat.kind s.lanes lane) (sym is) ∙ may
 
@@ -96,14 +116,21 @@ module _ (p : Plan) (s : State) (f : slots.Facts) (j : List Entry) (lane : ℕ) 
   script_look = sym (allowed_is p s j lane seat (call.Look w) st.tables at) ∙ allowed_look
 
   pub look_reply : Replies (answer p j lane c) y
-  look_reply = subst (λ (d : Call). Replies (answer p j lane d) y) (sym is) (look_told p s f j lane seat.kind st w y script_look (subst (λ (q : Plan). allows_by q seat.kind s.lanes lane (call.Look w) ≡ true) st.tables.plan allowed_look) told)
+  look_reply = subst (λ (d : Call). Replies (answer p j lane d) y) (sym is)
+      (look_told p s f j lane seat.kind st w y script_look
+      (subst (λ (q : Plan). allows_by q seat.kind s.lanes lane (call.Look w) ≡ true) st.tables.plan
+      allowed_look) told)
 
   pub look_stands : Stands p (record { state = s; files = f }) (after j lane c y)
-  look_stands = subst (λ (b : Bool). Stands p (record { state = s; files = f }) (cond b (record { lane = lane; call = c; reply = y } ∷ j) j)) (sym (look_unkept s f lane w y told)) st
+  look_stands = subst (λ (b : Bool). Stands p (record { state = s; files = f })
+      (cond b (record { lane = lane; call = c; reply = y } ∷ j) j))
+      (sym (look_unkept s f lane w y told)) st
 
-pub lane_there : (p : Plan) (s : State) (lane : ℕ) (seat : Seat) (c : Call) → allows_by s.plan seat.kind s.lanes lane c ≡ true → lane < length s.lanes
+pub lane_there : (p : Plan) (s : State) (lane : ℕ) (seat : Seat) (c : Call)
+    → allows_by s.plan seat.kind s.lanes lane c ≡ true → lane < length s.lanes
 lane_there p s lane seat c may = by (slice_get s.lanes lane) refl may
   where
-    by : (o : Option LaneState) → slice_get s.lanes lane ≡ o → may_some s.plan seat.kind (lane % 2 == 0) o c ≡ true → lane < length s.lanes
+    by : (o : Option LaneState) → slice_get s.lanes lane ≡ o
+        → may_some s.plan seat.kind (lane % 2 == 0) o c ≡ true → lane < length s.lanes
     by (Some x) at h = slice_get_within s.lanes lane x at
     by None at h = absurd (cc)

@@ -11,8 +11,10 @@ use Rattle.exec_journal.specs.Race.{Race}
 use Rattle.exec_journal.specs.Words.{halted, stopped}
 use Rattle.journal_laws.specs.Finished.{Finished}
 
--- each call was in its script and each reply is the rules'; an action is granted once; each consumed answer has a request of
--- its own; what is said of each order held when it was given; and once a lane was told to stop, and none has halted, all
+-- each call was in its script and each reply is the rules'; an action is granted once; each
+-- consumed answer has a request of
+-- its own; what is said of each order held when it was given; and once a lane was told to stop, and
+-- none has halted, all
 -- actions are settled, each has an outcome, and nothing is lost
 pub record Orderly (p : Plan) (j : List Entry) : Type 0 where
   pub legal : Legal p j
@@ -23,4 +25,5 @@ pub record Orderly (p : Plan) (j : List Entry) : Type 0 where
 
 -- every action has success
 abbrev pub Complete : Plan → List Entry → Type 0
-Complete p j = (a : ℕ) (x : PlanAction) → slice_get p.actions a ≡ Some x → is_ok (outcome_of p j a) ≡ true
+Complete p j = (a : ℕ) (x : PlanAction) → slice_get p.actions a ≡ Some x
+    → is_ok (outcome_of p j a) ≡ true

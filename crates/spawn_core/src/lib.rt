@@ -1,5 +1,5 @@
-//! The scheduling core: the reply to each call of a lane is the rules', and what the core keeps stands for the journal of
-//! the calls so far.
+//! The scheduling core: the reply to each call of a lane is the rules', and what the core keeps
+//! stands for the journal of the calls so far.
 #![tactic(auto)]
 
 mod scheduler;

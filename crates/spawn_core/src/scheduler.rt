@@ -51,7 +51,8 @@ impl Model for Core {
 }
 
 impl Core {
-    /// The core of a run in which nothing was called yet. It makes the room for all that later calls need.
+    /// The core of a run in which nothing was called yet. It makes the room for all that later
+    /// calls need.
     ///
     /// # Errors
     ///
@@ -89,11 +90,11 @@ impl Core {
         Ok(Core { state, files })
     }
 
-    /// The reply to a lane's call: the rules', or Astray where the call isn't in its lane's script. Only a Look takes
-    /// memory, and may say that there is none in place of a file.
+    /// The reply to a lane's call: the rules', or Astray where the call isn't in its lane's script.
+    /// Only a Look takes memory, and may say that there is none in place of a file.
     ///
-    /// Where a lane is told to stop, and none has halted, the run is finished; and every action has success, where every
-    /// worker did its part.
+    /// Where a lane is told to stop, and none has halted, the run is finished; and every action has
+    /// success, where every worker did its part.
     pub fn step(&mut self, lane: u32, call: &Call) -> Reply
         ensures reply { (p : Plan) (j : List Entry) → Stands p self.old j
             → Replies (answer p j lane call.now) result }

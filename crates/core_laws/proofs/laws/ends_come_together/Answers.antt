@@ -4,8 +4,18 @@ use Rattle.core_laws.proofs.laws.ends_come_together.Goals as goal
 
 pub returns-clause-counts : goal.returns-clause-counts
 returns-clause-counts c = λ p s j e ts st facts all together.
-    several_counts p st.sound.least s.race j e ts (record { order = attempts_in_order p j st.legal; unbegun = facts.unbegun_goes; won = st.race }) all together s.attempts st.attempts s.ready st.ready
+    several_counts p st.sound.least s.race j e ts (record {
+      order = attempts_in_order p j st.legal;
+      unbegun = facts.unbegun_goes;
+      won = st.race;
+    }) all together s.attempts st.attempts s.ready
+    st.ready
 
 pub returns-clause-states : goal.returns-clause-states
 returns-clause-states c = λ p s j e ts st facts all together.
-    several_states p st.sound.least s.race j e ts (record { order = attempts_in_order p j st.legal; unbegun = facts.unbegun_goes; won = st.race }) all together s.attempts st.attempts s.ready st.ready
+    several_states p st.sound.least s.race j e ts (record {
+      order = attempts_in_order p j st.legal;
+      unbegun = facts.unbegun_goes;
+      won = st.race;
+    }) all together s.attempts st.attempts s.ready
+    st.ready

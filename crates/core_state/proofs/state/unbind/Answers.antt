@@ -16,5 +16,6 @@ pub unbind_at-requires-clause-lines : goal.unbind_at-requires-clause-lines
 unbind_at-requires-clause-lines c = λ v l h.
     let keeps = for_keeps c.args.pool.now c.args.last.now c.args.action c.loop-berth.berth in
     let lines = ap (λ (f : Facts). length f.lines) c.loop-berth.invariant ∙ keeps.lines in
-    let lt = c.requires.lines v l (sym (last_kept c.args.pool.now _ v keeps) ∙ ap (λ (f : Facts). last_of f v) (sym c.loop-berth.invariant) ∙ h) in
+    let lt = c.requires.lines v l (sym (last_kept c.args.pool.now _ v keeps)
+    ∙ ap (λ (f : Facts). last_of f v) (sym c.loop-berth.invariant) ∙ h) in
     omega arith

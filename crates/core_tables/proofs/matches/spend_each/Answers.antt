@@ -15,13 +15,17 @@ pub loop-row-preserved : goal.loop-row-preserved
 loop-row-preserved c =
     let changed = c.spend.ensures ∙ ap (map (spend_if c.args.attempt)) c.deref_mut.ensures.value in
     let same = ap length changed ∙ length-map _ (spend_if c.args.attempt) in
-    ap (λ (ms : List Match). set c.loop-row.rows c.loop-row.row-index (row_of ms)) (items-with_items _ _ same ∙ changed)
-    ∙ ap (λ ys. set ys c.loop-row.row-index (spent_row c.args.attempt (get_or ys c.loop-row.row-index c.row-item.result))) c.loop-row.invariant
-    ∙ map_first_step (spent_row c.args.attempt) c.loop-row.row-index c.args.rows.now c.row-item.result c.loop-row-test.true
+    ap (λ (ms : List Match). set c.loop-row.rows c.loop-row.row-index (row_of ms))
+    (items-with_items _ _ same ∙ changed)
+    ∙ ap (λ ys. set ys c.loop-row.row-index (spent_row c.args.attempt
+    (get_or ys c.loop-row.row-index c.row-item.result))) c.loop-row.invariant
+    ∙ map_first_step (spent_row c.args.attempt) c.loop-row.row-index c.args.rows.now
+    c.row-item.result c.loop-row-test.true
 
 pub returns : goal.returns
 returns c =
     let least = c.loop-row-test.false in
     let most = c.loop-row.auto.row-index-end in
     let all : c.loop-row.row-index ≡ length c.args.rows.now = omega arith in
-    c.loop-row.invariant ∙ ap (λ i. map_first (spent_row c.args.attempt) i c.args.rows.now) all ∙ map_first_all (spent_row c.args.attempt) c.args.rows.now
+    c.loop-row.invariant ∙ ap (λ i. map_first (spent_row c.args.attempt) i c.args.rows.now) all
+    ∙ map_first_all (spent_row c.args.attempt) c.args.rows.now

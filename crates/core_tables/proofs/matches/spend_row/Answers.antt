@@ -6,12 +6,15 @@ use Rattle.core_tables.proofs.matches.spend_row.Goals as goal
 pub loop-one-preserved : goal.loop-one-preserved
 loop-one-preserved c =
     ap (λ y. set c.loop-one.found c.loop-one.one-index y) c.spend_won.ensures
-    ∙ ap (λ ys. set ys c.loop-one.one-index (spend_won c.args.action (get_or ys c.loop-one.one-index blank))) c.loop-one.invariant
-    ∙ map_first_step (spend_won c.args.action) c.loop-one.one-index c.args.found.now blank c.loop-one-test.true
+    ∙ ap (λ ys. set ys c.loop-one.one-index (spend_won c.args.action
+    (get_or ys c.loop-one.one-index blank))) c.loop-one.invariant
+    ∙ map_first_step (spend_won c.args.action) c.loop-one.one-index c.args.found.now blank
+    c.loop-one-test.true
 
 pub returns : goal.returns
 returns c =
     let least = c.loop-one-test.false in
     let most = c.loop-one.auto.one-index-end in
     let all : c.loop-one.one-index ≡ length c.args.found.now = omega arith in
-    c.loop-one.invariant ∙ ap (λ i. map_first (spend_won c.args.action) i c.args.found.now) all ∙ map_first_all (spend_won c.args.action) c.args.found.now
+    c.loop-one.invariant ∙ ap (λ i. map_first (spend_won c.args.action) i c.args.found.now) all
+    ∙ map_first_all (spend_won c.args.action) c.args.found.now

@@ -3,4 +3,5 @@ use Rattle.core_tables.specs.Seats.{seat_from}
 use Rattle.core_tables.proofs.seat.seat_in.Given as goal
 
 abbrev pub invariant-loop-number : goal.invariant-loop-number
-invariant-loop-number l = (seat_from l.number l.first (drop l.number l.groups) l.rest ≡ seat_from 0 0 l.groups l.berth) × (l.first + l.rest ≡ l.berth)
+invariant-loop-number l = (seat_from l.number l.first (drop l.number l.groups) l.rest
+    ≡ seat_from 0 0 l.groups l.berth) × (l.first + l.rest ≡ l.berth)

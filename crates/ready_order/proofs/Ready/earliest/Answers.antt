@@ -6,4 +6,6 @@ use Rattle.ready_order.proofs.Ready.earliest.Goals as goal
 
 pub returns-clause-search : goal.returns-clause-search
 returns-clause-search c =
-    sym (found_is _ _ _ c.first_queued.ensures) ∙ ap (λ (states : List ActionState). earliest_in states c.args.group) (c.as_slice.ensures.value ∙ c.self.view_is)
+    sym (found_is _ _ _ c.first_queued.ensures) ∙ ap (λ
+    (states : List ActionState). earliest_in states c.args.group)
+    (c.as_slice.ensures.value ∙ c.self.view_is)

@@ -8,7 +8,8 @@ pub returns-clause-earliest : goal.returns-clause-earliest
 returns-clause-earliest c = λ p states j g answer s h. earliest_is p states j g answer s h
 
 pub returns-clause-search : goal.returns-clause-search
-returns-clause-search c = λ p states j g s. earliest_is p states j g (earliest_in states g) s (search_is states g)
+returns-clause-search c = λ p states j g s. earliest_is p states j g (earliest_in states g) s
+    (search_is states g)
 
 pub returns-clause-settled : goal.returns-clause-settled
 returns-clause-settled c = λ p states j s sound. over_is p states j s sound

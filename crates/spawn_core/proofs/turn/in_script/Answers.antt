@@ -12,26 +12,39 @@ use Rattle.spawn_core.proofs.turn.in_script.Goals as goal
 
 pub returns-in-Look-clause-reply : goal.returns-in-Look-clause-reply
 returns-in-Look-clause-reply c = λ p j st.
-    look_reply p c.args.state.now c.args.files.now j c.args.lane c.args.seat c.args.call.now c.in-Look.wanted c.look.result st c.requires.seated c.requires.allowed c.in-Look.is c.look.ensures
+    look_reply p c.args.state.now c.args.files.now j c.args.lane c.args.seat c.args.call.now
+    c.in-Look.wanted c.look.result st c.requires.seated c.requires.allowed c.in-Look.is
+    c.look.ensures
 
 pub returns-in-Look-clause-stands : goal.returns-in-Look-clause-stands
 returns-in-Look-clause-stands c = λ p j st.
-    look_stands p c.args.state.now c.args.files.now j c.args.lane c.args.seat c.args.call.now c.in-Look.wanted c.look.result st c.requires.seated c.requires.allowed c.in-Look.is c.look.ensures
+    look_stands p c.args.state.now c.args.files.now j c.args.lane c.args.seat c.args.call.now
+    c.in-Look.wanted c.look.result st c.requires.seated c.requires.allowed c.in-Look.is
+    c.look.ensures
 
 pub make-reply-requires : goal.make-reply-requires
 make-reply-requires c =
     let h = c.requires.history in
     let quiet = unlook c.args.call.now c.in_default.not-Look in
-    record { can = can_turn h.plan c.args.state.now c.args.files.now h.journal c.args.lane c.args.seat c.args.call.now h.stands c.requires.seated quiet c.requires.allowed; no_look = quiet }
+    record {
+      can = can_turn h.plan c.args.state.now c.args.files.now h.journal c.args.lane
+          c.args.seat c.args.call.now h.stands c.requires.seated quiet c.requires.allowed;
+      no_look = quiet;
+    }
 
 pub note-requires : goal.note-requires
 note-requires c =
     let h = c.requires.history in
     let quiet = unlook c.args.call.now c.in_default.not-Look in
-    let lane = lane_turn h.plan c.args.state.now c.args.files.now h.journal c.args.lane c.args.seat c.args.call.now h.stands c.requires.seated quiet c.requires.allowed in
-    let berth = berth_turn h.plan c.args.state.now c.args.files.now h.journal c.args.lane c.args.seat c.args.call.now h.stands c.requires.seated quiet c.requires.allowed in
+    let lane = lane_turn h.plan c.args.state.now c.args.files.now h.journal c.args.lane c.args.seat
+    c.args.call.now h.stands c.requires.seated quiet c.requires.allowed in
+    let berth = berth_turn h.plan c.args.state.now c.args.files.now h.journal c.args.lane
+    c.args.seat c.args.call.now h.stands c.requires.seated quiet c.requires.allowed in
     let state = sym c.make-reply.ensures.state in
-    record { lane = subst (λ (x : State). c.args.lane < length x.lanes) state lane; berth = subst (λ (x : State). c.args.lane / 2 < length x.greetings) state berth }
+    record {
+      lane = subst (λ (x : State). c.args.lane < length x.lanes) state lane;
+      berth = subst (λ (x : State). c.args.lane / 2 < length x.greetings) state berth;
+    }
 
 pub returns : goal.returns
 returns c =
@@ -39,14 +52,26 @@ returns c =
     let state = c.make-reply.ensures.state in
     let reply = c.make-reply.ensures.reply in
     let told : Reply = made_reply c.args.state.now c.args.lane c.args.seat c.args.call.now in
-    let followed = subst (λ (y : Reply). Follows (made c.args.state.now c.args.lane c.args.seat c.args.call.now).plan c.args.call.now y c.args.files.now c.keep.new.self) reply
-    (subst (λ (x : State). Follows x.plan c.args.call.now c.make-reply.result c.args.files.now c.keep.new.self) state c.keep.ensures) in
+    let followed = subst (λ (y : Reply). Follows (made c.args.state.now c.args.lane c.args.seat
+    c.args.call.now).plan c.args.call.now y c.args.files.now c.keep.new.self) reply
+    (subst (λ (x : State). Follows x.plan c.args.call.now c.make-reply.result c.args.files.now
+    c.keep.new.self) state c.keep.ensures) in
     record {
       reply = λ p j st. subst (Replies (answer p j c.args.lane c.args.call.now)) (sym reply)
-          (reply_turn p c.args.state.now c.args.files.now j c.args.lane c.args.seat c.args.call.now st c.requires.seated quiet c.requires.allowed);
+          (reply_turn p c.args.state.now c.args.files.now j c.args.lane c.args.seat c.args.call.now
+          st c.requires.seated quiet c.requires.allowed);
       stands = λ p j st.
-          subst (λ (x : State). Stands p (record { state = x; files = c.keep.new.self }) (after j c.args.lane c.args.call.now c.make-reply.result))
-          (sym (c.note.ensures ∙ (λ i. noted_if_kept (state i) c.args.lane c.args.call.now (reply i))))
-          (subst (λ (y : Reply). Stands p (record { state = noted_if_kept (made c.args.state.now c.args.lane c.args.seat c.args.call.now) c.args.lane c.args.call.now told; files = c.keep.new.self }) (after j c.args.lane c.args.call.now y)) (sym reply)
-          (stands_turn p c.args.state.now c.args.files.now j c.args.lane c.args.seat c.args.call.now st c.requires.seated quiet c.requires.allowed c.keep.new.self followed));
+          subst (λ (x : State). Stands p (record { state = x; files = c.keep.new.self })
+          (after j c.args.lane c.args.call.now c.make-reply.result))
+          (sym (c.note.ensures ∙ (λ i. noted_if_kept (state i) c.args.lane c.args.call.now
+          (reply i))))
+          (subst (λ (y : Reply). Stands p (record {
+            state = noted_if_kept
+                (made c.args.state.now c.args.lane c.args.seat c.args.call.now) c.args.lane
+                c.args.call.now told;
+            files = c.keep.new.self;
+          }) (after j c.args.lane c.args.call.now
+          y)) (sym reply)
+          (stands_turn p c.args.state.now c.args.files.now j c.args.lane c.args.seat c.args.call.now
+          st c.requires.seated quiet c.requires.allowed c.keep.new.self followed));
     }

@@ -5,7 +5,8 @@ use Rattle.core_state.specs.Choices.{next_of}
 use Rattle.core_state.proofs.state.State.earliest.Goals as goal
 
 pub ended-requires : goal.ended-requires
-ended-requires c = let h = c.in-Some.ensures.first in rw c.requires.actions (queued_within _ _ _ _ h.queued)
+ended-requires c = let h = c.in-Some.ensures.first in
+    rw c.requires.actions (queued_within _ _ _ _ h.queued)
 
 pub returns-in-None : goal.returns-in-None
 returns-in-None c = ap (option_map (next_of c.args.self.now)) c.in-None.ensures.search

@@ -5,8 +5,10 @@ use Rattle.core_state.proofs.state.State.send.Goals as goal
 
 pub returns-clause-state : goal.returns-clause-state
 returns-clause-state c =
-    let number = number_fits c.send-number.result _ c.send-number.ensures.number c.requires.small ∙ c.send-number.ensures.number in
-    let cancels = c.sent.ensures ∙ ap (λ n. with_sent c.args.self.now.cancels c.args.line n c.args.attempt.action) number in
+    let number = number_fits c.send-number.result _ c.send-number.ensures.number c.requires.small
+    ∙ c.send-number.ensures.number in
+    let cancels = c.sent.ensures ∙ ap (λ n. with_sent c.args.self.now.cancels c.args.line n
+    c.args.attempt.action) number in
     λ i. record {
       plan = c.args.self.now.plan;
       pool = c.occupy.ensures i;

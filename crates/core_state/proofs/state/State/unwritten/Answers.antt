@@ -13,5 +13,7 @@ with_matches s ms = record s { matches = ms }
 pub returns-clause-state : goal.returns-clause-state
 returns-clause-state c =
     let made = ap (with_matches c.lose.new.self) c.spent.ensures in
-    let lost = c.lose.ensures ∙ ap (λ n. lost_from c.args.self.now c.args.berth c.args.line n c.args.attempt) (to_z-of_z c.ranges.number) in
-    c.end.ensures ∙ ap (λ q. with_end q c.args.attempt) (made ∙ ap (λ q. spent_for q c.args.attempt) lost)
+    let lost = c.lose.ensures ∙ ap (λ n. lost_from c.args.self.now c.args.berth c.args.line n
+    c.args.attempt) (to_z-of_z c.ranges.number) in
+    c.end.ensures ∙ ap (λ q. with_end q c.args.attempt)
+    (made ∙ ap (λ q. spent_for q c.args.attempt) lost)

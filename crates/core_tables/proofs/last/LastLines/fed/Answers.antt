@@ -4,4 +4,5 @@ use Rattle.core_tables.proofs.Written.{written}
 use Rattle.core_tables.proofs.last.LastLines.fed.Goals as goal
 
 pub returns : goal.returns
-returns c = written (set_fed c.args.attempt) _ _ c.args.berth c.index-row.result.now _ c.self.view_is c.requires c.index-row.ensures refl
+returns c = written (set_fed c.args.attempt) _ _ c.args.berth c.index-row.result.now _
+    c.self.view_is c.requires c.index-row.ensures refl

@@ -3,4 +3,5 @@ use Rattle.core_tables.proofs.Written.{replaced}
 use Rattle.core_tables.proofs.last.LastLines.launched.Goals as goal
 
 pub returns : goal.returns
-returns c = replaced (set_launched c.args.attempt no_line) _ _ c.args.berth c.self.view_is c.requires
+returns c = replaced (set_launched c.args.attempt no_line) _ _ c.args.berth c.self.view_is
+    c.requires

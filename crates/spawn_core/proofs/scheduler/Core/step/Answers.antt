@@ -8,8 +8,12 @@ returns-clause-orderly c = λ p j st. orderly p j st.tables.sound st.tables.lega
 
 pub returns-clause-stop : goal.returns-clause-stop
 returns-clause-stop c = λ p j st told none.
-    stops p j c.args.lane c.args.call.now c.step.result st.tables.sound st.tables.legal (c.step.ensures.reply p j (subst (λ (k : Kept). Stands p k j) (sym c.self.view_is) st)) told none
+    stops p j c.args.lane c.args.call.now c.step.result st.tables.sound st.tables.legal
+    (c.step.ensures.reply p j (subst (λ (k : Kept). Stands p k j) (sym c.self.view_is) st)) told
+    none
 
 pub returns-clause-complete : goal.returns-clause-complete
 returns-clause-complete c = λ p j st told none clean.
-    completes p j c.args.lane c.args.call.now c.step.result st.tables.sound st.tables.legal (c.step.ensures.reply p j (subst (λ (k : Kept). Stands p k j) (sym c.self.view_is) st)) told none clean
+    completes p j c.args.lane c.args.call.now c.step.result st.tables.sound st.tables.legal
+    (c.step.ensures.reply p j (subst (λ (k : Kept). Stands p k j) (sym c.self.view_is) st)) told
+    none clean
