@@ -63,7 +63,7 @@ sole_wanted x whole =
 
 due_own : (x : ListAction) (files : List SourceFile) → IsWhole (x ∷ []) → is_served x ≡ true
     → due_words x (work_inputs (maker_of (x ∷ [])) files x)
-      ≡ expansion (request_words x.argv) (files_at files x.inputs)
+    ≡ expansion (request_words x.argv) (files_at files x.inputs)
 due_own x files whole served =
     let makers = maker_of (x ∷ []) in
     let words = request_words x.argv in
@@ -146,7 +146,7 @@ sole_job : (o : Options) (x : ListAction) (files : List SourceFile) (w : WorkAct
     → IsWhole (x ∷ []) → is_served x ≡ true → due_work (maker_of (x ∷ [])) files x ≡ Ok w
     → IsJobOf o x w (source_files w.inputs) made
     → (expansion (request_words x.argv) (files_at files x.inputs) ≡ Ok w.request_words)
-      × IsJobOf o x w (files_at files x.inputs) made
+    × IsJobOf o x w (files_at files x.inputs) made
 sole_job o x files w made whole served due h =
     let inputs = work_inputs (maker_of (x ∷ [])) files x in
     let m = words_made x inputs (due_words x inputs) w due in
@@ -163,4 +163,5 @@ sole_made o x reads work w made whole served h is j =
     let same : d.0 ≡ w = let e = sym d.1 ∙ is in cc in
     let due : due_work (maker_of (x ∷ [])) h.0 x ≡ Ok w = d.2 ∙ ap (λ v. Ok v) same in
     let found = on_wanted x (λ ps. AllFound ps reads h.0) whole h.1 in
-    (h.0, found, w, sole_job o x h.0 w made whole served due j)
+    let own = sole_job o x h.0 w made whole served due j in
+    (h.0, found, (w, own.0, own.1))
