@@ -1,5 +1,5 @@
 -- What the reads lead to, step by step.
-use Rattle.std.proofs.Common.{◌≡◌, ℕ, ◌<◌, ◌≤◌, ◌+◌, List, [], ◌∷◌, ◌++◌, length, take, drop, get_or, flat_map, filter, map, Bool, true, false, cond, Option, Some, None, Result, Ok, Err, refl, ap, sym, subst, append-nil, is_none, ◌∙◌}
+use Rattle.std.proofs.Common.{◌≡◌, ℕ, ◌<◌, ◌≤◌, ◌+◌, List, [], ◌∷◌, ◌++◌, length, take, drop, get_or, flat_map, filter, Bool, true, false, cond, Option, Some, None, Result, Ok, Err, refl, ap, sym, subst, append-nil, is_none, ◌∙◌}
 use Rattle.std.proofs.lemmas.List.{take_more, take_all, take-append-drop}
 use Rattle.std.proofs.lemmas.List.Concat.{flat_map-append}
 use Rattle.std.proofs.lemmas.List.Elements.{filter-append}
@@ -8,20 +8,19 @@ use Rattle.action_list.specs.Lists.{list_of}
 use Rattle.action_list.specs.declared.faults.ListFault.{ListFault}
 use Rattle.action_list.specs.declared.types.ActionList.{ActionList}
 use Rattle.outside.specs.Told.{FloorTold, SameFloor}
-use Rattle.outside.specs.Floor.{one_read, file_at}
+use Rattle.outside.specs.Floor.{file_at}
 use Rattle.outside.specs.declared.answers.Read.{Read}
 use Rattle.outside.specs.declared.answers.Read.TheVariants as read
 use Rattle.outside.specs.declared.floor.FloorRead.{FloorRead}
 use Rattle.outside.specs.declared.floor.SourceFile.{SourceFile}
 use Rattle.build_report.specs.declared.fault.RunFault.{RunFault}
-use Rattle.build_report.specs.declared.fault.RunFault.TheVariants as fault
 use Rattle.run_loading.specs.Course.{BytesRead, AfterList, ListFirst, IsList}
-use Rattle.run_loading.specs.Reads.{Reads, UnlessBefore, OnLost, OneLost, OneRead, EndsSo}
+use Rattle.run_loading.specs.Reads.{Reads, UnlessBefore, OneLost, OneRead}
 use Rattle.run_loading.specs.Sources.{ReadsOn, NewFound, NewLost, SourcesRead, held}
 use Rattle.run_loading.specs.Wanted.{source_file, each_once, is_source, FirstLost, Makers}
 use Rattle.run_loading.specs.declared.sources.Sources.{Sources}
 use Rattle.run_loading.proofs.Found.{found_one, found_before, lost_one, found_none, found_on, lost_on, lost_wider, all_found, first_lost}
-use Rattle.run_loading.proofs.Logged.{reads_none, reads_weaker, reads_on, unless_weaker, unless_reads_weaker, unless_reads_on, lost_weaker}
+use Rattle.run_loading.proofs.Logged.{reads_none, reads_weaker, reads_on, unless_reads_weaker, unless_reads_on, lost_weaker}
 
 -- ---- the list
 

@@ -1,5 +1,5 @@
 -- Reads that a floor logs, one after another.
-use Rattle.std.proofs.Common.{◌≡◌, ℕ, List, [], ◌∷◌, ◌++◌, Option, Some, None, IfSome, Result, Ok, Err, refl, sym, subst, append-nil, append_assoc}
+use Rattle.std.proofs.Common.{ℕ, List, [], ◌++◌, Option, Some, None, IfSome, sym, subst, append-nil, append_assoc}
 use Rattle.std.proofs.lemmas.List.Elements.{All-cons, All-nil, All-append}
 use Rattle.outside.specs.Lists.{Adds, Tells}
 use Rattle.outside.specs.Told.{FloorTold, SameFloor}

@@ -1,5 +1,5 @@
 -- Work that is made of the list and the files.
-use Rattle.std.proofs.Common.{◌≡◌, ℕ, suc, ◌<◌, ◌≤◌, ◌+◌, List, [], ◌∷◌, ◌++◌, length, map, take, drop, get_or, filter, flat_map, Bool, true, false, cond, is_none, Option, Some, None, Result, Ok, Err, refl, ap, sym, subst, append_assoc, length-take, ◌∙◌, arith}
+use Rattle.std.proofs.Common.{◌≡◌, ℕ, suc, ◌<◌, ◌≤◌, ◌+◌, List, [], ◌∷◌, ◌++◌, length, map, take, drop, get_or, filter, flat_map, Bool, true, false, cond, is_none, Some, None, Result, Ok, Err, refl, ap, sym, subst, append_assoc, length-take, ◌∙◌, arith}
 use Rattle.std.specs.List.{All}
 use Rattle.std.specs.Option.{IsSome}
 use Rattle.std.proofs.lemmas.List.{take-append-drop, map_more, map-append, take_all, take_more}
@@ -13,7 +13,6 @@ use Rattle.action_list.proofs.ProducerLemmas.{more_producers}
 use Rattle.action_list.specs.declared.types.ListAction.{ListAction}
 use Rattle.build_report.specs.declared.fault.RunFault.{RunFault}
 use Rattle.build_report.specs.declared.fault.RunFault.TheVariants as fault
-use Rattle.flag_files.specs.declared.expanding.FlagFault.{FlagFault}
 use Rattle.outside.specs.Floor.{file_at}
 use Rattle.outside.specs.Told.{FloorTold}
 use Rattle.outside.specs.declared.floor.FloorRead.{FloorRead}
@@ -25,7 +24,7 @@ use Rattle.run_loading.specs.Course.{WorkRead}
 use Rattle.run_loading.specs.Reads.{Leads, Reads, UnlessBefore, OnLost}
 use Rattle.run_loading.specs.Sources.{HasAll, SourcesRead, held}
 use Rattle.run_loading.specs.Wanted.{FirstLost, Makers, is_source, paths_of_action, paths_of_actions, wanted}
-use Rattle.run_loading.specs.Works.{Gives, IsFirstFault, Works, due_work, file_from, source_files, work_by, work_inputs}
+use Rattle.run_loading.specs.Works.{Gives, Works, due_work, file_from, source_files, work_by, work_inputs}
 use Rattle.run_loading.specs.declared.sources.Sources.{Sources}
 use Rattle.run_loading.proofs.Found.{each_has_file}
 use Rattle.run_loading.proofs.Logged.{reads_weaker, unless_reads_weaker}

@@ -1,5 +1,5 @@
 -- What a list reads: its actions' tools and source inputs, each path once.
-use Rattle.std.specs.Prelude.{◌≡◌, ℕ, Bool, is_none, List, [], ◌∷◌, ◌++◌, map, filter, flat_map, if◌then◌else◌, Option, Result, Ok, Err}
+use Rattle.std.specs.Prelude.{◌≡◌, ℕ, Bool, is_none, List, [], ◌∷◌, ◌++◌, map, filter, flat_map, if◌then◌else◌, Option}
 use Rattle.run_plan.specs.declared.plan.Maker.{Maker}
 use Rattle.action_list.specs.Order.{is_among}
 use Rattle.action_list.specs.Plans.{maker_of}

@@ -18,7 +18,7 @@ use Rattle.tool_words.specs.declared.options.Options.{Options}
 use Rattle.worker_run.specs.declared.work.OneJob.{OneJob}
 use Rattle.worker_run.specs.declared.reading.Job.{Job}
 use Rattle.worker_run.specs.declared.reading.Job.TheVariants as job
-use Rattle.worker_run.specs.Course.{OptionsRead, ListRead, ActionsRead, ActionRead, KindRead}
+use Rattle.worker_run.specs.Course.{Course, OptionsRead, ListRead, ActionsRead, ActionRead, KindRead}
 use Rattle.worker_run.specs.Prepared.{AreAccepted, IsJobOf, is_served, plan_by}
 use Rattle.worker_run.proofs.Sole.{sole_count, sole_fault, sole_made}
 
@@ -125,3 +125,9 @@ pub generated : (o : Options) (told : FloorTold) → o.list ≡ None → AreAcce
 generated o told is accepted =
     reads_none told (NoWords o o.list)
     (subst (λ (l : Option (List ℕ)). NoWords o l []) (sym is) (accepted.generator is, (refl, refl)))
+
+pub words_refused : (options : Option Options) (told : FloorTold) → options ≡ None
+    → Reads told told (λ reads. Course options reads (Err fault.Words))
+words_refused options told none =
+    reads_none told (λ reads. Course options reads (Err fault.Words))
+    (subst (λ (o : Option Options). Course o [] (Err fault.Words)) (sym none) (refl, refl))

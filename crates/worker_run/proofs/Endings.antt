@@ -1,5 +1,6 @@
 -- From what was read to how the run ends.
-use Rattle.std.proofs.Common.{◌≡◌, ℕ, Bool, true, false, List, [], ◌∷◌, Option, Some, None, Result, Ok, Err, refl, subst, sym}
+use Rattle.std.proofs.Common.{◌≡◌, ◌≤◌, arith, ℕ, Bool, true, false, List, [], ◌∷◌, Option, Some, None, Result, Ok, Err, refl, subst, sym}
+use Rattle.outside.specs.Causes.{Counts}
 use Rattle.outside.specs.Told.{FloorTold, SinkTold}
 use Rattle.outside.specs.declared.floor.FloorRead.{FloorRead}
 use Rattle.build_report.specs.declared.fault.RunFault.{RunFault}
@@ -15,7 +16,7 @@ use Rattle.worker_run.specs.declared.work.OneJob.{OneJob}
 use Rattle.worker_run.specs.declared.reading.Job.{Job}
 use Rattle.worker_run.specs.declared.reading.Job.TheVariants as job
 use Rattle.run_loading.specs.Course.{AfterList, BytesRead}
-use Rattle.run_loading.specs.Reads.{Reads, UnlessBefore}
+use Rattle.run_loading.specs.Reads.{IsFloorFailed, Reads, UnlessBefore}
 use Rattle.worker_run.specs.Course.{Course, OptionsRead, ListRead, ActionsRead, KindRead, OfList, most_keys}
 use Rattle.worker_run.specs.Prepared.{is_served}
 use Rattle.action_list.specs.Lists.{list_of}
@@ -25,7 +26,7 @@ use Rattle.action_list.specs.declared.types.ListAction.{ListAction}
 use Rattle.outside.specs.declared.answers.Read.{Read}
 use Rattle.outside.specs.declared.answers.Read.TheVariants as read
 use Rattle.worker_run.specs.Seen.{Left, nothing_left}
-use Rattle.worker_run.specs.Ends.{RunLeaves, OneEnds, Ran, AfterStart, LeavesNothing, EndsAs, EndsBy, LeavesOne, IsAfterStart, Puts, report_by}
+use Rattle.worker_run.specs.Ends.{RunLeaves, OneEnds, Ran, AfterStart, LeavesNothing, EndsAs, EndsBy, LeavesOne, IsAfterReading, IsAfterStart, Puts, report_by}
 
 -- what holds after the start, weakened
 after_weaker : (end : Option RunFault) (P Q R : Type 0) → (Q → R) → AfterStart end P Q → AfterStart end P R
@@ -94,6 +95,35 @@ after_any (Some (fault.Flags a x)) P Q started q = q
 -- an action's line was run
 pub ran_one : (work : OneJob) (came : Reached) (stop : Stopped) (end : Option RunFault) (run : Left) (old new : SinkTold) → IsAfterStart end → EndsBy stop end → LeavesOne work came stop run → Puts end (report_by work.plan run.journal) old new → OneEnds work end run old new
 ran_one work came stop end run old new started ends leaves puts = after_any end (LeavesNothing run old new) (EndsAs (Ok (job.One work)) end run old new) started (came, stop, ends, leaves, puts)
+
+-- ---- after the reading the floor doesn't fail
+
+not_the_floor : (end : Option RunFault) → IsAfterReading end → IsFloorFailed end → ⊥
+not_the_floor None after failed = failed
+not_the_floor (Some (fault.Absent at)) after failed = after
+not_the_floor (Some (fault.FloorFailed at)) after failed = after
+not_the_floor (Some (fault.NoMemory when)) after failed = failed
+not_the_floor (Some (fault.NotYetBuilt what)) after failed = failed
+not_the_floor (Some fault.SinkFailed) after failed = failed
+not_the_floor (Some fault.Words) after failed = failed
+not_the_floor (Some (fault.List x)) after failed = failed
+not_the_floor (Some (fault.Flags a x)) after failed = failed
+
+pub floor_counted : (end : Option RunFault) (old mid new : ℕ) → IsAfterReading end → old ≤ mid → mid ≤ new
+    → Counts old new (IsFloorFailed end)
+floor_counted end old mid new after first second =
+    record { later = omega (arith, first, second); rose = λ failed. absurd (not_the_floor end after failed) }
+
+pub put_after : (end : Option RunFault) → EndsBy stopped.Whole end → IsAfterReading end
+put_after None ends = tt
+put_after (Some (fault.Absent at)) ends = ends
+put_after (Some (fault.FloorFailed at)) ends = ends
+put_after (Some (fault.NoMemory when)) ends = tt
+put_after (Some (fault.NotYetBuilt what)) ends = tt
+put_after (Some fault.SinkFailed) ends = tt
+put_after (Some fault.Words) ends = tt
+put_after (Some (fault.List x)) ends = tt
+put_after (Some (fault.Flags a x)) ends = tt
 
 -- ---- reads don't end in the sink's fault
 

@@ -163,4 +163,5 @@ sole_made o x reads work w made whole served h is j =
     let same : d.0 ≡ w = let e = sym d.1 ∙ is in cc in
     let due : due_work (maker_of (x ∷ [])) h.0 x ≡ Ok w = d.2 ∙ ap (λ v. Ok v) same in
     let found = on_wanted x (λ ps. AllFound ps reads h.0) whole h.1 in
-    (h.0, found, w, sole_job o x h.0 w made whole served due j)
+    let own = sole_job o x h.0 w made whole served due j in
+    (h.0, found, (w, own.0, own.1))

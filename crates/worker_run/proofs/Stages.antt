@@ -1,11 +1,17 @@
 -- From one stage of the line to the next.
-use Rattle.std.proofs.Common.{◌≡◌, ℕ, ◌<◌, ◌≤◌, List, [], ◌∷◌, ◌++◌, length, map, take, Option, Some, None, IfSome, refl, ap, sym, subst, ◌∙◌, arith, append-nil, length-append}
+use Rattle.std.proofs.Common.{◌≡◌, ℕ, ◌<◌, ◌≤◌, List, [], ◌∷◌, ◌++◌, length, map, take, Option, Some, None, IfSome, refl, ap, sym, subst, ◌∙◌, arith, append-nil, append_assoc, length-append}
 use Rattle.std.proofs.lemmas.List.{take_all}
 use Rattle.outside.specs.Lists.{Adds, Tells}
 use Rattle.outside.specs.declared.place.PlaceWrite.{PlaceWrite}
 use Rattle.worker_run.specs.Heard.{IsOneAnswer, BeginsAnswer, NeverAnswers, Speaks}
 use Rattle.output_commit.specs.Commits.{writes_of}
 use Rattle.worker_run.proofs.Streams.{never_by_more}
+
+-- some were added, and then more
+pub further : {A : Type 0} (old mid new first second : List A) → mid ≡ old ++ first → new ≡ mid ++ second
+    → new ≡ old ++ (first ++ second)
+further {A = A} old mid new first second before now =
+    now ∙ ap (λ (xs : List A). xs ++ second) before ∙ append_assoc old first second
 
 two_lists : {ys : List ℕ} → ys ≡ [] → ys ≡ 0 ∷ [] → ⊥
 two_lists {ys = ys} a b = let e : length ys ≡ 0 = ap length a in let f : length ys ≡ 1 = ap length b in omega arith

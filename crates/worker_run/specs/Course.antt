@@ -40,31 +40,31 @@ ActionRead o x reads (Err f) = OnLost f (FirstLost (source_paths x) reads)
 
 -- whether the action is of a kind that is done
 abbrev pub KindRead : Options → ListAction → Bool → List FloorRead → Result Job RunFault → Type 0
-KindRead o x true reads job = ActionRead o x reads job
-KindRead o x false reads job = EndsSo (Err (fault.NotYetBuilt unbuilt.Plan)) reads job
+KindRead o x true reads made = ActionRead o x reads made
+KindRead o x false reads made = EndsSo (Err (fault.NotYetBuilt unbuilt.Plan)) reads made
 
 -- what a list with these actions leads to: so far no more than one action is done, and that not of every kind
 abbrev pub ActionsRead : Options → List ListAction → List FloorRead → Result Job RunFault → Type 0
-ActionsRead o [] reads job = EndsSo (Ok (job.Nothing (plan_by o []))) reads job
-ActionsRead o (x ∷ []) reads job = KindRead o x (is_served x) reads job
-ActionsRead o (x ∷ y ∷ more) reads job = EndsSo (Err (fault.NotYetBuilt unbuilt.Plan)) reads job
+ActionsRead o [] reads made = EndsSo (Ok (job.Nothing (plan_by o []))) reads made
+ActionsRead o (x ∷ []) reads made = KindRead o x (is_served x) reads made
+ActionsRead o (x ∷ y ∷ more) reads made = EndsSo (Err (fault.NotYetBuilt unbuilt.Plan)) reads made
 
 abbrev pub OfList : Options → ActionList → List FloorRead → Result Job RunFault → Type 0
-OfList o list reads job = ActionsRead o list.actions reads job
+OfList o list reads made = ActionsRead o list.actions reads made
 
 -- The list is read first.
 abbrev pub ListRead : Options → List ℕ → List FloorRead → Result Job RunFault → Type 0
-ListRead o path reads job = ListFirst (OfList o) most_keys path reads job
+ListRead o path reads made = ListFirst (OfList o) most_keys path reads made
 
 -- There is a list, or a generator in its place.
 abbrev pub OptionsRead : Options → Option (List ℕ) → List FloorRead → Result Job RunFault → Type 0
-OptionsRead o None reads job = IsSome o.generate × EndsSo (Err (fault.NotYetBuilt unbuilt.Words)) reads job
-OptionsRead o (Some path) reads job = (o.generate ≡ None) × ListRead o path reads job
+OptionsRead o None reads made = IsSome o.generate × EndsSo (Err (fault.NotYetBuilt unbuilt.Words)) reads made
+OptionsRead o (Some path) reads made = (o.generate ≡ None) × ListRead o path reads made
 
 -- The reads in the order of work, up to the first that isn't answered Found, and what they lead to.
 abbrev pub Course : Option Options → List FloorRead → Result Job RunFault → Type 0
-Course None reads job = EndsSo (Err fault.Words) reads job
-Course (Some o) reads job = OptionsRead o o.list reads job
+Course None reads made = EndsSo (Err fault.Words) reads made
+Course (Some o) reads made = OptionsRead o o.list reads made
 
 -- the plan of what is to be done
 abbrev pub OnPlan : Result Job RunFault → (Plan → Type 0) → Type 0

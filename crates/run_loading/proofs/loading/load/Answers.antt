@@ -1,6 +1,6 @@
-use Rattle.std.proofs.Common.{Err, None, Ok, Some, refl}
+use Rattle.std.proofs.Common.{Err, None, Some, refl}
 use Rattle.std.proofs.lemmas.Result.{err_from_is_err_and}
-use Rattle.run_loading.specs.Course.{Loads, WorkRead}
+use Rattle.run_loading.specs.Course.{Loads}
 use Rattle.run_loading.proofs.Courses.{list_leads, list_stops}
 use Rattle.run_loading.proofs.loading.load.Goals as goal
 

@@ -11,8 +11,8 @@ returns-in_err-work-clause-course g c =
     (action_ends c.args.options.now c.args.list.now.actions c.args.action.now (told c.args.floor.now) (told c.load_work.new.floor) _
     c.requires.list c.requires.one c.requires.served c.in_err-work.ensures.course)
 
-pub index-as_slice-0-requires : goal.index-as_slice-0-requires
-index-as_slice-0-requires g c =
+pub bounds-as_slice-0 : goal.bounds-as_slice-0
+bounds-as_slice-0 g c =
     let told = g.F.Floor.told in
     let n = action_counted c.args.list.now.actions c.args.action.now (told c.args.floor.now) (told c.load_work.new.floor) c.in_ok-work.work c.requires.one c.in_ok-work.ensures.course in
     rw (c.as_slice.ensures) (omega (arith, n))

@@ -2,7 +2,7 @@ use Rattle.std.proofs.Common.{arith, Ok, map, string_bytes, refl, ap, ◌∙◌}
 use Rattle.tool_words.specs.Options.{options_of}
 use Rattle.worker_run.specs.Seen.{EndedTold}
 use Rattle.worker_run.specs.declared.reading.Job.TheVariants as job
-use Rattle.worker_run.proofs.Endings.{one_ends, none_ends, fault_ends, not_sink}
+use Rattle.worker_run.proofs.Endings.{one_ends, none_ends, fault_ends, floor_counted, not_sink, put_after}
 use Rattle.worker_run.proofs.run.run_build.Goals as goal
 
 pub returns-in-Ok-One-clause-run : goal.returns-in-Ok-One-clause-run
@@ -30,3 +30,19 @@ returns-in-Err-clause-sink g c =
       later = omega arith;
       rose = λ e. absurd (not_sink (options_of (map string_bytes c.args.words.now)) c.in-Err.fault (g.F.Floor.told c.args.floor) (g.F.Floor.told c.read_job.new.floor) c.in-Err.ensures.course e);
     })
+
+pub returns-in-Ok-One-clause-floor : goal.returns-in-Ok-One-clause-floor
+returns-in-Ok-One-clause-floor g c =
+    let told = g.F.Floor.told in
+    floor_counted c.run_one.result.fault (told c.args.floor).faults (told c.read_job.new.floor).faults
+    c.run_one.result.floor.faults c.run_one.ensures.kind c.in-Ok-One.ensures.floor.later c.run_one.ensures.count
+
+pub returns-in-Ok-Nothing-clause-floor : goal.returns-in-Ok-Nothing-clause-floor
+returns-in-Ok-Nothing-clause-floor g c =
+    let told = g.F.Floor.told in
+    let w = c.with_no_lane-ended.ensures in
+    let f = c.with_fault.ensures in
+    let after = (told c.read_job.new.floor).faults in
+    let kind = put_after c.put_report-fault.result c.put_report-fault.ensures.ends in
+    rw (f, w)
+    (floor_counted c.put_report-fault.result (told c.args.floor).faults after after kind c.in-Ok-Nothing.ensures.floor.later (omega arith))

@@ -1,4 +1,4 @@
-use Rattle.std.proofs.Common.{filter, subst, List, ℕ}
+use Rattle.std.proofs.Common.{filter}
 use Rattle.std.proofs.lemmas.Result.{err_from_is_err_and}
 use Rattle.action_list.specs.Producers.{producer_of}
 use Rattle.run_loading.specs.Reads.{end_of}
