@@ -65,15 +65,19 @@ pub trait Rules: Sized + Drop {
     // The made inputs of this action.
     ghost makers: { Self.Plan → ℕ → List Maker };
 
+    // The lanes at which the core hints after this lane was answered so, a bit for each.
+    ghost hints: { Self → ℕ → Reply → ℕ → Type 0 };
+
     /// Answers the call of this lane. Where the reply is to be a file, it may say want of memory instead.
     fn step(&mut self, lane: u32, call: &Call) -> Reply
         ensures plan { plan self.new ≡ plan self.old }
         ensures reply { StepReplies stands (rule (plan self.old)) self.old lane call.now result }
         ensures stands { StepStands stands self.old lane call.now result self.new };
 
-    /// The lanes that may have news after this lane was answered so, a bit for each: bit `k` is lane `k`. It is a
-    /// hint to those who wake lanes that wait, and no clause speaks of it.
-    fn stirs(&self, lane: u32, reply: &Reply) -> u128;
+    /// The lanes that may have news after this lane was answered so, a bit for each: bit `k` is
+    /// lane `k`. It is a hint to those who wake lanes that wait.
+    fn stirs(&self, lane: u32, reply: &Reply) -> u128
+        ensures { hints self.now lane reply.now result };
 
     /// How many paid entries are still to come.
     fn owed(&self) -> u64
