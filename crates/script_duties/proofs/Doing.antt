@@ -84,7 +84,8 @@ module _ (p : Plan) (k : Kind) where
   send_may n x l o a b t call.Ask h = absurd (cc)
   send_may n x l o a b t (call.Launched k how) h = absurd (cc)
   send_may n x l o a b t (call.Wrote k m how) h = (λ i. h i || false)
-  send_may n x l o a b t (call.Look (wanted.Made c e)) h = (λ i. (sym (makes_so (slice_get p.actions a) (λ m. is_made m c e)) ∙ h) i || false)
+  send_may n x l o a b t (call.Look (wanted.Made c e)) h =
+      (λ i. (sym (makes_so (slice_get p.actions a) (λ m. is_made m c e)) ∙ h) i || false)
   send_may n x l o a b t (call.Look (wanted.Answered j m e)) h = absurd (cc)
   send_may n x l o a b t (call.Claim c d u f) h = absurd (cc)
   send_may n x l o a b t (call.Committed c d how) h = absurd (cc)
@@ -115,10 +116,12 @@ module _ (p : Plan) (k : Kind) where
   gather_may n x l o a b t exit refused (call.Launched k how) h = absurd (cc)
   gather_may n x l o a b t exit refused (call.Wrote k m how) h = absurd (cc)
   gather_may n x l o a b t exit refused (call.Look (wanted.Made c e)) h = absurd (cc)
-  gather_may n x l o a b t exit refused (call.Look (wanted.Answered j m e)) h = (λ i. (ap (λ (q : ℕ).
+  gather_may n x l o a b t exit refused (call.Look (wanted.Answered j m e)) h =
+      (λ i. (ap (λ (q : ℕ).
       ((j == l) && int_eq m o) && (int_eq exit (pos 0) && (not refused && nat_lt e q)))
       (sym (outputs_so (slice_get p.actions a))) ∙ h) i || false)
-  gather_may n x l o a b t exit refused (call.Claim c d u f) h = (λ i. (ap (λ (q : ℕ). same_attempt (attempt_of c d u) (attempt_of a b t)
+  gather_may n x l o a b t exit refused (call.Claim c d u f) h =
+      (λ i. (ap (λ (q : ℕ). same_attempt (attempt_of c d u) (attempt_of a b t)
       && may_find q (is_remote k) exit refused f) (sym (outputs_so (slice_get p.actions c))) ∙ h) i
       || false)
   gather_may n x l o a b t exit refused (call.Committed c d how) h = absurd (cc)
@@ -178,7 +181,8 @@ module _ (p : Plan) (k : Kind) where
   order_may n x reply.Dropped c other h = asks_only (May n x reply.Dropped) c h refl refl
   order_may n x reply.AgainLater c other h = asks_only (May n x reply.AgainLater) c h refl refl
   order_may n x (reply.Line l) c other h = asks_only (May n x (reply.Line l)) c h refl refl
-  order_may n x (reply.Matched a b t) c other h = asks_only (May n x (reply.Matched a b t)) c h refl refl
+  order_may n x (reply.Matched a b t) c other h =
+      asks_only (May n x (reply.Matched a b t)) c h refl refl
   order_may n x (reply.Late a b t) c other h = asks_only (May n x (reply.Late a b t)) c h refl refl
   order_may n x reply.Greeted c other h = asks_only (May n x reply.Greeted) c h refl refl
   order_may n x (reply.Stray y) c other h = asks_only (May n x (reply.Stray y)) c h refl refl
@@ -231,19 +235,28 @@ module _ (p : Plan) (k : Kind) where
   grant_may : (n : ℕ) (x : Call) (c : Call) → Do (duty_of_work x reply.Granted) c ≡ true
       → May n x reply.Granted c
   grant_may n (call.Claim a b t (found.Files fs)) c h = commit_may n a b t fs c h
-  grant_may n (call.Claim a b t (found.Exit q)) c h = asks_only (May n (call.Claim a b t (found.Exit q)) reply.Granted) c h refl refl
-  grant_may n (call.Claim a b t (found.Missing q)) c h = asks_only (May n (call.Claim a b t (found.Missing q)) reply.Granted) c h refl refl
-  grant_may n (call.Claim a b t found.RoomFault) c h = asks_only (May n (call.Claim a b t found.RoomFault) reply.Granted) c h refl refl
-  grant_may n (call.Claim a b t found.Refused) c h = asks_only (May n (call.Claim a b t found.Refused) reply.Granted) c h refl refl
+  grant_may n (call.Claim a b t (found.Exit q)) c h =
+      asks_only (May n (call.Claim a b t (found.Exit q)) reply.Granted) c h refl refl
+  grant_may n (call.Claim a b t (found.Missing q)) c h =
+      asks_only (May n (call.Claim a b t (found.Missing q)) reply.Granted) c h refl refl
+  grant_may n (call.Claim a b t found.RoomFault) c h =
+      asks_only (May n (call.Claim a b t found.RoomFault) reply.Granted) c h refl refl
+  grant_may n (call.Claim a b t found.Refused) c h =
+      asks_only (May n (call.Claim a b t found.Refused) reply.Granted) c h refl refl
   grant_may n call.Ask c h = asks_only (May n call.Ask reply.Granted) c h refl refl
-  grant_may n (call.Launched k how) c h = asks_only (May n (call.Launched k how) reply.Granted) c h refl refl
-  grant_may n (call.Wrote k m how) c h = asks_only (May n (call.Wrote k m how) reply.Granted) c h refl refl
+  grant_may n (call.Launched k how) c h =
+      asks_only (May n (call.Launched k how) reply.Granted) c h refl refl
+  grant_may n (call.Wrote k m how) c h =
+      asks_only (May n (call.Wrote k m how) reply.Granted) c h refl refl
   grant_may n (call.Look v) c h = asks_only (May n (call.Look v) reply.Granted) c h refl refl
-  grant_may n (call.Committed a b how) c h = asks_only (May n (call.Committed a b how) reply.Granted) c h refl refl
+  grant_may n (call.Committed a b how) c h =
+      asks_only (May n (call.Committed a b how) reply.Granted) c h refl refl
   grant_may n (call.Killed k) c h = asks_only (May n (call.Killed k) reply.Granted) c h refl refl
   grant_may n call.Take c h = asks_only (May n call.Take reply.Granted) c h refl refl
-  grant_may n (call.Answer k z) c h = asks_only (May n (call.Answer k z) reply.Granted) c h refl refl
-  grant_may n (call.Ended k how) c h = asks_only (May n (call.Ended k how) reply.Granted) c h refl refl
+  grant_may n (call.Answer k z) c h =
+      asks_only (May n (call.Answer k z) reply.Granted) c h refl refl
+  grant_may n (call.Ended k how) c h =
+      asks_only (May n (call.Ended k how) reply.Granted) c h refl refl
   grant_may n call.Halt c h = asks_only (May n call.Halt reply.Granted) c h refl refl
 
   grant_is : (r : Reply) → is_grant r ≡ true → r ≡ reply.Granted

@@ -220,7 +220,8 @@ module _ (s : Duty) (e : Past) (j : List Entry) (lane : ℕ) (own : (e.lane == l
   -- it had left
   was_gone : has_left s ≡ true → DutyIs (duty_then s e) (E ∷ j) lane
   was_gone gone =
-      let still : duty_then s e ≡ Left = ap (λ (d : Duty). duty_by d e.call e.reply) (left_is s gone) in
+      let still : duty_then s e ≡ Left = ap (λ (d : Duty). duty_by d e.call e.reply)
+      (left_is s gone) in
       let both : (stopped (E ∷ j) lane || has_halted (E ∷ j) lane) ≡ true =
       (λ i. stops_own i || halts_own i)
       ∙ or_true (stopped j lane) (has_halted j lane) (sym is.gone ∙ gone) (is_stop e.reply)
