@@ -75,6 +75,8 @@ impl Machine for Rounds {
 
     ghost owes = { λ q h. 0 };
 
+    ghost hints = { λ m lane r lanes. Unit {0} };
+
     ghost short_is_not_kept = { λ e s. not_kept e.reply s };
 
     ghost paid_is_not_short = { λ m h lane c s p. absurd p };

@@ -73,6 +73,8 @@ impl Machine for Slot {
 
     ghost owes = { λ q h. 0 };
 
+    ghost hints = { λ m lane r lanes. Unit {0} };
+
     ghost short_is_not_kept = { λ e h. Prim.search h };
 
     ghost paid_is_not_short = { λ m h lane c s p. absurd p };

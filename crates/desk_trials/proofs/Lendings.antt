@@ -63,11 +63,11 @@ some_follows None c e = cc
 some_follows (Some t) c e = cc
 
 -- what the pass has after the turn
-pub lent_and_back : {W Q S : Type 0} (stands : S → H → Type 0) (lane : ℕ) (v w : View Ask Answer Q) (work work' : W) (reply' : Answer) (good' : Option Token) → spot_of v.seen ≡ Here lane
+pub lent_and_back : {W Q S : Type 0} (stands : S → H → Type 0) (hints : S → ℕ → Answer → ℕ → Type 0) (lanes lane : ℕ) (v w : View Ask Answer Q) (work work' : W) (reply' : Answer) (good' : Option Token) → spot_of v.seen ≡ Here lane
     → AnswersThen (λ (work : W) (reply : Answer) (good : Option Token) (answer : Option (Ask × Option Token)) (work' : W). answer ≡ answer_to reply good) stands (λ (h : H) (lane : ℕ) (c : Ask). reply_of (spot_of h) lane c)
-    (λ (r : Answer). false) (λ (h : H) (lane : ℕ) (c : Ask). ⊥) (λ (e : Entry Ask Answer). changes e.reply) (λ (h : H) (lane : ℕ) (c : Ask) (r : Answer) (g : Option Token). ComesOut r g) lane v Borrow work reply' good' work' w
+    (λ (r : Answer). false) (λ (h : H) (lane : ℕ) (c : Ask). ⊥) (λ (e : Entry Ask Answer). changes e.reply) (λ (h : H) (lane : ℕ) (c : Ask) (r : Answer) (g : Option Token). ComesOut r g) hints lane v Borrow work reply' good' work' w lanes
     → (spot_of w.seen ≡ Here lane) × (w.mine ≡ v.mine ++ entry lane Borrow Lent ∷ entry lane Return Returned ∷ [])
-lent_and_back {W} {Q} {S} stands lane v w work work' reply' good' lies a = let h : H = a.0 in let e1 : Entry Ask Answer = entry lane Borrow Lent in let e2 : Entry Ask Answer = entry lane Return Returned in
+lent_and_back {W} {Q} {S} stands hints lanes lane v w work work' reply' good' lies a = let h : H = a.0 in let e1 : Entry Ask Answer = entry lane Borrow Lent in let e2 : Entry Ask Answer = entry lane Return Returned in
     let here : spot_of h ≡ Here lane = ap (λ (l : H). spot_of l) a.3.1 ∙ here_still v.seen a.3.0 lane a.3.2 lies in
     let lent : a.1 ≡ Lent = ⊎_elim (λ t. t) (λ t. absurd t.1) a.4 ∙ lend_reply (spot_of h) lane here in
     let after1 : after (λ (e : Entry Ask Answer). changes e.reply) h (entry lane Borrow a.1) ≡ h ++ e1 ∷ [] = ap (λ (r : Answer). after (λ (e : Entry Ask Answer). changes e.reply) h (entry lane Borrow r)) lent in

@@ -1,5 +1,5 @@
 -- Where the token is, after a history.
-use Rattle.std.specs.Prelude.{◌≡◌, ℕ, ◌==◌, Bool, true, false, cond, List, Option, None, IsSome, fold}
+use Rattle.std.specs.Prelude.{◌≡◌, ℕ, ◌^◌, ◌-◌, ◌==◌, Bool, true, false, cond, List, Option, None, IsSome, fold}
 use Rattle.seat_desk.specs.declared.entry.Entry.{Entry}
 use Rattle.desk_trials.specs.declared.locker.Ask.{Ask}
 use Rattle.desk_trials.specs.declared.locker.Ask.TheVariants.{Leave, Take, Borrow, Return}
@@ -56,6 +56,15 @@ changes Taken = true
 changes Nothing = false
 changes Lent = true
 changes Returned = true
+
+-- the lanes that an answer stirs: all, once the shelf is empty
+abbrev pub stirred_by : Answer → ℕ
+stirred_by Taken = 2 ^ 128 - 1
+stirred_by Left = 0
+stirred_by Busy = 0
+stirred_by Nothing = 0
+stirred_by Lent = 0
+stirred_by Returned = 0
 
 -- a token goes in with Leave and with Return
 abbrev pub GoesIn : {G : Type 0} → Ask → Option G → Type 0

@@ -67,6 +67,8 @@ impl Machine for Counter {
 
     ghost owes = { λ q h. 0 };
 
+    ghost hints = { λ m lane r lanes. lanes ≡ 0 };
+
     ghost short_is_not_kept = { λ e s. short_goes e.call e.reply s };
 
     ghost paid_is_not_short = { λ m h lane c s p. absurd p };

@@ -1,7 +1,7 @@
 //! A machine with goods: one shelf, on which a lane leaves a token that it alone may take or borrow.
 ghost use Rattle.std.specs.Prelude.{◌≡◌, ◌+◌, ℕ, List, [], ◌∷◌, ◌++◌, true, false, Option, Some, None, IsSome};
 ghost use Rattle.std.proofs.Common.{sym, refl};
-ghost use Rattle.desk_trials.specs.Shelf.{reply_of, spot_then, spot_of, changes, GoesIn, ComesOut, Fits, owes_by, IsPaid};
+ghost use Rattle.desk_trials.specs.Shelf.{reply_of, spot_then, spot_of, changes, GoesIn, ComesOut, Fits, owes_by, IsPaid, stirred_by};
 ghost use Rattle.seat_desk.specs.History.{entry};
 ghost use Rattle.desk_trials.specs.ShelfLaws.{true_not_false, paid_still, less_owed, more_owed};
 
@@ -95,6 +95,8 @@ impl Machine for Locker {
     ghost comes_out = { λ q h lane c r g. ComesOut r g };
 
     ghost owes = { λ q h. owes_by (spot_of h) };
+
+    ghost hints = { λ m lane r lanes. lanes ≡ stirred_by r };
 
     ghost short_is_not_kept = { λ e h. absurd (true_not_false (sym h)) };
 

@@ -12,7 +12,8 @@ use Rattle.run_bench.specs.Bench.{IsOf, IsInSpot, IsChildOf, IsTapOf, IsPlaceOf,
 nothing_lies : {X : Type 0} (Of : ℕ → X → Type 0) (n : ℕ) (slots : List (Option X))
     → slots ≡ replicate n None → Hold n (λ i o. IsOf Of None o) slots
 nothing_lies {X} Of n slots e =
-    subst (λ (xs : List (Option X)). Hold n (λ i (o : Option X). IsOf Of None o) xs) (sym e) record {
+    subst (λ (xs : List (Option X)). Hold n (λ i (o : Option X). IsOf Of None o) xs)
+    (sym e) record {
       as_many = length-replicate n None;
       each = λ i lt. get_or-replicate n i None None lt;
     }

@@ -2,3 +2,4 @@ pub mod Saying
 pub mod Filling
 pub mod Turns
 pub mod Beginning
+pub mod Own

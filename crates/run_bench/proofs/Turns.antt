@@ -72,7 +72,8 @@ moved_by : (h : History) (lane : ℕ) (c : Call) (r : Reply) (b : Bool) → is_k
     → Moved h (cond b (h ++ entry lane c r ∷ []) h) (lane / 2) (move_in lane c r)
 moved_by h lane c r true e = kept_moved h lane c r
 moved_by h lane c r false e =
-    subst (Moved h h (lane / 2)) (sym (unkept_moves_nothing lane c r e)) (nothing_moved h (lane / 2))
+    subst (Moved h h (lane / 2)) (sym (unkept_moves_nothing lane c r e))
+    (nothing_moved h (lane / 2))
 
 -- the history after a call
 abbrev pub History_after : History → ℕ → Call → Reply → History
@@ -180,7 +181,8 @@ module _ {K T P : Type 0} (child : K → ChildTold) (tap : T → TapTold) (place
     abbrev Turned : Move → Option (Good K T P) → Type 0
     Turned m put =
         Comes child tap place outputs h w m (good_then (shift_for m) w children taps places)
-        × Lies child tap place outputs berths actions h' (children_then (shift_for m) w put children)
+        × Lies child tap place outputs berths actions h'
+        (children_then (shift_for m) w put children)
         (taps_then (shift_for m) w put taps) (places_then (shift_for m) put places)
 
     puts_line : (l : ℕ) (put : Option (Good K T P)) → Moved h h' w (PutLine l)
@@ -202,7 +204,8 @@ module _ {K T P : Type 0} (child : K → ChildTold) (tap : T → TapTold) (place
         → tap_at w h ≡ Some l → Turned (TakeTap l) put
     takes_tap l put d lt at = (
       tap_out l (lies_in taps w)
-          (subst (λ (x : Option ℕ). IsOf (IsTapOf tap) x (lies_in taps w)) at (lies.taps.each w lt)),
+          (subst (λ (x : Option ℕ). IsOf (IsTapOf tap) x (lies_in taps w)) at
+          (lies.taps.each w lt)),
       record {
         children = children_stay (TakeTap l) d (λ o. refl);
         taps = taps_fill (TakeTap l) None d refl;
@@ -420,7 +423,8 @@ module _ {K T P : Type 0} (child : K → ChildTold) (tap : T → TapTold) (place
       ]
 
   -- a turn
-  pub turns : (c : Call) (r : Reply) (put : Option (Good K T P)) (children children' : List (Option K))
+  pub turns : (c : Call) (r : Reply) (put : Option (Good K T P))
+      (children children' : List (Option K))
       (taps taps' : List (Option T)) (places places' : List (Option P)) (out : Option (Good K T P))
       → Is c r → Goes c put
       → Lies child tap place outputs berths actions h children taps places
@@ -429,17 +433,21 @@ module _ {K T P : Type 0} (child : K → ChildTold) (tap : T → TapTold) (place
       → places' ≡ places_then (shift_for (move_in lane c r)) put places
       → out ≡ good_then (shift_for (move_in lane c r)) (lane / 2) children taps places
       → ComesOut child tap place outputs h lane c r out
-      × Lies child tap place outputs berths actions (History_after h lane c r) children' taps' places'
+      × Lies child tap place outputs berths actions
+      (History_after h lane c r) children' taps' places'
   turns c r put children children' taps taps' places places' out is goes lies cs ts ps o =
       let t = turned child tap place outputs berths actions h (History_after h lane c r) (lane / 2)
       children taps places lies (move_in lane c r) put (moved h lane c r) (may c r put is goes) in (
-        subst (λ (x : Option (Good K T P)). ComesOut child tap place outputs h lane c r x) (sym o) t.0,
+        subst (λ (x : Option (Good K T P)). ComesOut child tap place outputs h lane c r x)
+            (sym o) t.0,
         subst (λ (x : List (Option K)). Lies child tap place outputs berths actions
             (History_after h lane c r) x taps' places') (sym cs)
             (subst (λ (x : List (Option T)). Lies child tap place outputs berths actions
-            (History_after h lane c r) (children_then (shift_for (move_in lane c r)) (lane / 2) put children)
+            (History_after h lane c r) (children_then (shift_for (move_in lane c r))
+            (lane / 2) put children)
             x places') (sym ts)
             (subst (λ (x : List (Option P)). Lies child tap place outputs berths actions
-            (History_after h lane c r) (children_then (shift_for (move_in lane c r)) (lane / 2) put children)
+            (History_after h lane c r) (children_then (shift_for (move_in lane c r))
+            (lane / 2) put children)
             (taps_then (shift_for (move_in lane c r)) (lane / 2) put taps) x) (sym ps) t.1)),
       )

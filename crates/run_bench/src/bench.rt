@@ -97,6 +97,8 @@ impl<B: Berth, P: Place, C: Rules> Machine for Bench<B, P, C> {
 
     ghost owes = { λ q h. C.owes q h };
 
+    ghost hints = { λ m lane r lanes. C.hints m.core lane r lanes };
+
     ghost short_is_not_kept = { λ e s. short_not_kept e.reply s };
 
     ghost paid_is_not_short = { λ m h lane c s p. noted_not_short (C.rule (C.plan m.core) h lane c)

@@ -7,6 +7,7 @@
 #![tactic(auto)]
 
 mod bench;
+pub mod laws;
 mod replies;
 mod shelf;
 mod slots;

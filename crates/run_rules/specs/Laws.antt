@@ -182,8 +182,10 @@ OrderHolds actions child lines _ = Unit {0}
 module _ {S : Type 0} (stands : S → History → Type 0) where
   -- the reply is the rule's, or says want of memory in place of a file
   abbrev pub StepReplies : (History → ℕ → Call → Reply) → S → ℕ → Call → Reply → Type 0
-  StepReplies rule m lane c r = (h : History) → stands m h → IsReply rule is_short (λ h lane c. says_file (rule h lane c) ≡ true) h lane c r
+  StepReplies rule m lane c r = (h : History) → stands m h
+      → IsReply rule is_short (λ h lane c. says_file (rule h lane c) ≡ true) h lane c r
 
   -- afterwards the core stands for the history with the entry, where it is kept
   abbrev pub StepStands : S → ℕ → Call → Reply → S → Type 0
-  StepStands m lane c r m' = (h : History) → stands m h → stands m' (after (λ e. is_kept e.reply) h (entry lane c r))
+  StepStands m lane c r m' = (h : History) → stands m h
+      → stands m' (after (λ e. is_kept e.reply) h (entry lane c r))

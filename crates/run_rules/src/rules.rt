@@ -19,12 +19,12 @@ ghost use Rattle.run_rules.specs.Duties.{Sends, Commits, Left, proxy_lane, duty_
 
 use exec_journal::{Call, Reply};
 
-/// A scheduling core: it answers the calls of the lanes, and what it answers is a function of its plan and of the
-/// history of the calls that were kept.
+/// A scheduling core: it answers the calls of the lanes, and what it answers is a function of its
+/// plan and of the history of the calls that were kept.
 ///
-/// Lane `2w` is the proxy lane of the berth `w`, and lane `2w + 1` its tap lane. A call that isn't in its lane's
-/// script is answered `Astray`. A law that needs what holds of every history that came about asks
-/// that the history be legal; the others hold of any list of entries.
+/// Lane `2w` is the proxy lane of the berth `w`, and lane `2w + 1` its tap lane. A call that isn't in
+/// its lane's script is answered `Astray`. A law that needs what holds of every history that came
+/// about asks that the history be legal; the others hold of any list of entries.
 pub trait Rules: Sized + Drop {
     /// What a core goes by. It never changes, and no value of it is made at run time.
     type Plan;
@@ -65,15 +65,20 @@ pub trait Rules: Sized + Drop {
     // The made inputs of this action.
     ghost makers: { Self.Plan → ℕ → List Maker };
 
-    /// Answers the call of this lane. Where the reply is to be a file, it may say want of memory instead.
+    // The lanes at which the core hints after this lane was answered so, a bit for each.
+    ghost hints: { Self → ℕ → Reply → ℕ → Type 0 };
+
+    /// Answers the call of this lane. Where the reply is to be a file, it may say want of memory
+    /// instead.
     fn step(&mut self, lane: u32, call: &Call) -> Reply
         ensures plan { plan self.new ≡ plan self.old }
         ensures reply { StepReplies stands (rule (plan self.old)) self.old lane call.now result }
         ensures stands { StepStands stands self.old lane call.now result self.new };
 
-    /// The lanes that may have news after this lane was answered so, a bit for each: bit `k` is lane `k`. It is a
-    /// hint to those who wake lanes that wait, and no clause speaks of it.
-    fn stirs(&self, lane: u32, reply: &Reply) -> u128;
+    /// The lanes that may have news after this lane was answered so, a bit for each: bit `k` is
+    /// lane `k`. It is a hint to those who wake lanes that wait.
+    fn stirs(&self, lane: u32, reply: &Reply) -> u128
+        ensures { hints self.now lane reply.now result };
 
     /// How many paid entries are still to come.
     fn owed(&self) -> u64

@@ -6,7 +6,7 @@ use Rattle.seat_desk.specs.declared.entry.Entry.{Entry}
 use Rattle.seat_desk.specs.declared.view.Role.TheVariants.{Root, Lane}
 use Rattle.seat_desk.specs.declared.view.Stage.TheVariants.{Idle, Waits, Turn}
 use Rattle.seat_desk.specs.declared.view.View.{View}
-use Rattle.seat_desk.specs.History.{ReplyAfter, FactOfCall, FactOfGoodIn, FactOfGoodOut, FactOfWork, entry, after, calls_by, IsReply, GoesOn, SomeStands}
+use Rattle.seat_desk.specs.History.{ReplyAfter, FactOfCall, FactOfGoodIn, FactOfGoodOut, FactOfHint, FactOfWork, entry, after, calls_by, IsReply, GoesOn, SomeStands, HintsBoth}
 use Rattle.seat_desk.specs.Turns.{view_at, view_in_turn, view_after_turn, Only, Finds}
 
 -- a seat's view, and the slots that it holds
@@ -95,14 +95,18 @@ module _ {C R Q : Type 0} where
       × Grows keeps lane v h (entry lane call reply) w × comes_out h lane call reply good
       × SomeStands stands h
 
-  -- one call or two in one turn, at a point h of the history, which goes on from what the pass had seen, and for which some machine stands
+  -- One call or two in one turn, at a point h of the history, which goes on from what the pass had
+  -- seen, and for which some machine stands. The lanes are those at which it hints after either.
   abbrev pub AnswersThen : {W S G : Type 0} → FactOfWork W C R G → (S → List (Entry C R) → Type 0)
       → ReplyAfter C R → (R → Bool) → FactOfCall C R → (Entry C R → Bool)
-      → FactOfGoodOut C R G → ℕ → View C R Q → C → W → R → Option G → W → View C R Q → Type 0
-  AnswersThen {W} {S} {G} meets stands next short may_be_short keeps comes_out lane v call work reply' good' work' w =
+      → FactOfGoodOut C R G → FactOfHint S R → ℕ → View C R Q → C → W → R → Option G → W
+      → View C R Q → ℕ → Type 0
+  AnswersThen {W} {S} {G} meets stands next short may_be_short keeps comes_out hints lane v call work
+      reply' good' work' w lanes =
       (h : List (Entry C R)) × (reply : R) × (good : Option G) × GoesOn lane v.seen h
       × IsReply next short may_be_short h lane call reply × comes_out h lane call reply good
       × Follows meets next short keeps comes_out lane (after keeps h (entry lane call reply)) work reply good reply' good' work' w.seen
       × (calls_by lane w.seen ≡ w.mine)
       × ((news : List (Entry C R)) × (w.seen ≡ h ++ news) × (w.mine ≡ v.mine ++ news))
       × SomeStands stands h
+      × HintsBoth stands hints lane (after keeps h (entry lane call reply)) reply w.seen reply' lanes

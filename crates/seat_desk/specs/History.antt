@@ -1,5 +1,6 @@
 -- Histories: lists of entries, the oldest first.
 use Rattle.std.specs.Prelude.{◌≡◌, ℕ, ◌==◌, Bool, cond, List, [], ◌∷◌, ◌++◌, ◌⊎◌, true, Option}
+use Rattle.std.specs.Int.Bits.{bit_or}
 use Rattle.seat_desk.specs.declared.entry.Entry.{Entry}
 
 -- a reply to each call of a lane after a history
@@ -86,6 +87,23 @@ Owes {S} {C} {R} stands owes m n = (h : List (Entry C R)) → stands m h → n �
 abbrev pub StandsUnder : {S C R Q : Type 0} → (S → Q) → (S → List (Entry C R) → Type 0) → Q → S
     → List (Entry C R) → Type 0
 StandsUnder {S} {C} {R} {Q} rules stands q m h = stands m h × (rules m ≡ q)
+
+-- a hint of a machine after a lane was answered so
+abbrev pub FactOfHint : Type 0 → Type 0 → Type 1
+FactOfHint S R = S → ℕ → R → ℕ → Type 0
+
+-- some machine that stands for the history hints so
+abbrev pub SomeHints : {S C R : Type 0} → (S → List (Entry C R) → Type 0) → FactOfHint S R
+    → List (Entry C R) → ℕ → R → ℕ → Type 0
+SomeHints {S} {C} {R} stands hints h lane reply lanes =
+    (m : S) × stands m h × hints m lane reply lanes
+
+-- The lanes are those of the hints after each of two replies, when the history was h and h'.
+abbrev pub HintsBoth : {S C R : Type 0} → (S → List (Entry C R) → Type 0) → FactOfHint S R → ℕ
+    → List (Entry C R) → R → List (Entry C R) → R → ℕ → Type 0
+HintsBoth {S} {C} {R} stands hints lane h reply h' reply' lanes =
+    (first : ℕ) × (second : ℕ) × SomeHints stands hints h lane reply first
+    × SomeHints stands hints h' lane reply' second × (lanes ≡ bit_or first second)
 
 -- some machine stands for the history
 abbrev pub SomeStands : {S C R : Type 0} → (S → List (Entry C R) → Type 0) → List (Entry C R) → Type 0

@@ -6,7 +6,7 @@ use Rattle.seat_desk.specs.declared.view.Joined.{Joined}
 use Rattle.seat_desk.specs.declared.desk.Pass.{Pass}
 use Rattle.seat_desk.specs.declared.desk.Root.{Root}
 use Rattle.seat_desk.specs.declared.desk.Desk.{Desk}
-use Rattle.seat_desk.specs.History.{FactOfWork, GoesOn, StandsUnder}
+use Rattle.seat_desk.specs.History.{FactOfWork, GoesOn, StandsUnder, SomeHints}
 use Rattle.seat_desk.specs.Turns.{first_view, root_after_split, new_pass_view}
 use Rattle.seat_desk.specs.Desks.{Answers, AnswersThen, MayThen}
 
@@ -88,6 +88,11 @@ module _ {M C R G Q : Type 0} {g : Ghosts M C R G Q} where
       Answers (StandsUnder g.rules g.stands (rules p)) (g.next (rules p)) g.short (λ _ _ _. ⊥) g.keeps
       (g.comes_out (rules p)) p.lane p.seat.me.0 call reply good p'.seat.me.0
 
+  -- the pass stirs the lanes at which the machine hints after this reply
+  abbrev pub Stirs : Pass M C R G Q g → R → Pass M C R G Q g → Type 0
+  Stirs p reply p' =
+      SomeHints (StandsUnder g.rules g.stands (rules p)) g.hints (seen p') p.lane reply p'.stirs
+
   -- no call was made: the history that the pass has seen may have grown by calls of other lanes, and its own list stays
   abbrev pub MakesNoCall : Pass M C R G Q g → Pass M C R G Q g → Type 0
   MakesNoCall p p' = GoesOn p.lane (seen p) (seen p') × (mine p' ≡ mine p)
@@ -99,10 +104,11 @@ module _ {M C R G Q : Type 0} {g : Ghosts M C R G Q} where
       (g.may_be_short (rules p)) g.keeps (g.paid (rules p)) (g.goes_in (rules p)) (g.comes_out (rules p))
       p.lane (seen p) call work
 
-  -- the call, and the one that the work answered, were made in one turn, at such a point of the history
+  -- The call, and the one that the work answered, were made in one turn, at such a point of the
+  -- history. The pass stirs the lanes at which the machine hints after either.
   abbrev pub MakesCallThen : {W : Type 0} → FactOfWork W C R G → Pass M C R G Q g → C → W → R
       → Option G → W → Pass M C R G Q g → Type 0
   MakesCallThen meets p call work reply good work' p' =
       AnswersThen meets (StandsUnder g.rules g.stands (rules p)) (g.next (rules p)) g.short
-      (g.may_be_short (rules p)) g.keeps (g.comes_out (rules p)) p.lane p.seat.me.0 call work reply good
-      work' p'.seat.me.0
+      (g.may_be_short (rules p)) g.keeps (g.comes_out (rules p)) g.hints p.lane p.seat.me.0 call work
+      reply good work' p'.seat.me.0 p'.stirs

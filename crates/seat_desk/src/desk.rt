@@ -78,15 +78,18 @@ pub struct Refused<M: Machine> {
 }
 
 impl<M: Machine> Pass<M> {
-    /// The lanes that may have news after the last call of this pass, a bit for each: bit `k` is
-    /// lane `k`. It is the machine's hint (`Machine::stirs`), and no clause speaks of it.
-    pub fn stirs(&self) -> u128 {
+    /// The lanes that may have news after the last call of this pass, or after its last two if they
+    /// were made in one turn, a bit for each: bit `k` is lane `k`. It is the machine's hint
+    /// (`Machine::stirs`).
+    pub fn stirs(&self) -> u128
+        ensures { result ≡ self.now.stirs }
+    {
         self.stirs
     }
 }
 
 impl<M: Machine> Desk<M> {
-    ghost use Rattle.seat_desk.specs.Passes.{IsPassOf, IsRootOf, IsSamePass, IsSameRoot, IsNewRoot, IsNewPass, SplitsOne, Suits, IsPaidFor, MakesCall, MakesPaidCall, MakesNoCall, MayMakeThen, MakesCallThen, joined, mine, seen, root_rules, root_seen};
+    ghost use Rattle.seat_desk.specs.Passes.{IsPassOf, IsRootOf, IsSamePass, IsSameRoot, IsNewRoot, IsNewPass, SplitsOne, Suits, IsPaidFor, MakesCall, MakesPaidCall, MakesNoCall, MayMakeThen, MakesCallThen, Stirs, joined, mine, seen, root_rules, root_seen};
 
     /// A desk with this machine, which stands for the empty history, and its root.
     ///
@@ -151,6 +154,7 @@ impl<M: Machine> Desk<M> {
         requires suits { Suits pass.old call put }
         ensures same { IsSamePass pass.old pass.new }
         ensures answer { IfOk result (λ r. MakesCall pass.old call r.0 r.1 pass.new) }
+        ensures stirs { IfOk result (λ r. Stirs pass.old r.0 pass.new) }
         ensures refused { IfErr result (λ e. (e.call ≡ call) × (e.put ≡ put)
             × MakesNoCall pass.old pass.new) }
     {
@@ -183,6 +187,7 @@ impl<M: Machine> Desk<M> {
         requires paid { IsPaidFor pass.old call }
         ensures same { IsSamePass pass.old pass.new }
         ensures answer { MakesPaidCall pass.old call result.0 result.1 pass.new }
+        ensures stirs { Stirs pass.old result.0 pass.new }
         ensures not_short { M.short result.0 ≡ false }
     {
         let lane = pass.lane;

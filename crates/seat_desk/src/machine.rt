@@ -60,6 +60,9 @@ pub trait Machine: Sized + Drop {
     // How many paid entries are still to come after a history.
     ghost owes: { Self.Rules → List (Entry Self.Call Self.Reply) → ℕ };
 
+    // The lanes at which the machine hints after this lane was answered so, a bit for each.
+    ghost hints: { Self → ℕ → Self.Reply → ℕ → Type 0 };
+
     /// Whether the entry of this call joins the history.
     fn is_kept(lane: u32, call: &Self::Call, reply: &Self::Reply) -> bool
         ensures { result ≡ keeps (entry lane call.now reply.now) };
@@ -89,8 +92,9 @@ pub trait Machine: Sized + Drop {
             (rules self.old)) self.old lane call.now put result.0 result.1 };
 
     /// The lanes that may have news after this lane was answered so, a bit for each: bit `k` is
-    /// lane `k`. It is a hint to those who wake lanes that wait, and no clause speaks of it.
-    fn stirs(&self, lane: u32, reply: &Self::Reply) -> u128;
+    /// lane `k`. It is a hint to those who wake lanes that wait.
+    fn stirs(&self, lane: u32, reply: &Self::Reply) -> u128
+        ensures { hints self.now lane reply.now result };
 
     /// How many paid entries are still to come.
     fn owed(&self) -> u64

@@ -6,7 +6,8 @@ pub returns : goal.returns
 returns g c = (
   c.requires.core,
   begins g.B.Child.Child.told g.B.Tap.Tap.told g.P.Place.told
-      (g.C.Rules.outputs (g.C.Rules.plan c.args.core)) (g.C.Rules.seats (g.C.Rules.plan c.args.core))
+      (g.C.Rules.outputs (g.C.Rules.plan c.args.core)) (g.C.Rules.seats
+      (g.C.Rules.plan c.args.core))
       (g.C.Rules.actions (g.C.Rules.plan c.args.core)) c.in_ok-shelf.shelf.children.items
       c.in_ok-shelf.shelf.taps.items c.in_ok-shelf.shelf.places.items c.args.places.items
       c.requires.places

@@ -62,3 +62,10 @@ invariant_of-pass g c = record { idle = idle_again c.args.pass.now.lane c.args.p
 
 pub invariant_of-pass-2 : goal.invariant_of-pass-2
 invariant_of-pass-2 g c = record { idle = idle_again c.args.pass.now.lane c.args.pass.now.seat.me c.enter-held.new.seat.me c.leave-2.new.seat.me c.enter-held.result.history.items _ c.args.pass.now.idle c.enter-held.ensures.1.1 c.leave-2.ensures.1 }
+
+pub returns-clause-stirs : goal.returns-clause-stirs
+returns-clause-stirs g c = let last = (after_turn c.args.pass.now.lane c.args.pass.now.seat.me c.enter-held.new.seat.me c.leave-2.new.seat.me c.enter-held.result.history.items _ c.args.pass.now.idle c.enter-held.ensures.1.1 c.leave-2.ensures.1) in (
+  c.step-reply.new.held.machine,
+  (subst (g.M.Machine.stands c.step-reply.new.held.machine) (sym (ap (λ m. m.0.seen) last)) c.step-reply.ensures.good.0, c.step-reply.ensures.good.2 ∙ c.enter-held.ensures.1.0.0.2),
+  c.stirs-stirs.ensures,
+)

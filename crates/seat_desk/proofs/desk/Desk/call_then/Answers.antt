@@ -77,6 +77,13 @@ returns-clause-answer g c = let same : c.reserve.new.self.items ≡ c.enter-held
       grew.2,
       (news, grew.0 ∙ ap (λ (h : List (Entry g.row.M-Call.Denot g.row.M-Reply.Denot)). h ++ news) (sym same), grew.1),
       (c.enter-held.result.machine, (subst (g.M.Machine.stands c.enter-held.result.machine) (sym same) c.enter-held.ensures.1.0.0.0, c.enter-held.ensures.1.0.0.2)),
+      (
+        c.stirs-first.result,
+        c.stirs.result,
+        (c.step-reply.new.held.machine, (subst (g.M.Machine.stands c.step-reply.new.held.machine) c.step-reply.ensures.history c.step-reply.ensures.good.0, c.step-reply.ensures.good.2 ∙ c.enter-held.ensures.1.0.0.2), c.stirs-first.ensures),
+        (c.follow-reply.new.held.machine, (subst (g.M.Machine.stands c.follow-reply.new.held.machine) (all ∙ sym grew.0) c.follow-reply.ensures.good.0, c.follow-reply.ensures.good.2 ∙ (c.step-reply.ensures.good.2 ∙ c.enter-held.ensures.1.0.0.2)), c.stirs.ensures),
+        refl,
+      ),
     )
 
 pub returns-then-is_err-clause-refused : goal.returns-then-is_err-clause-refused

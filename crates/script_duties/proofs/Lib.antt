@@ -1,0 +1,3 @@
+pub mod Going
+pub mod Paying
+pub mod Doing

@@ -1,0 +1,2 @@
+-- What the law cites.
+pub mod Owed

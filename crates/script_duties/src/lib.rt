@@ -1,0 +1,4 @@
+//! What a proxy lane owes by its own entries is what the journal's script asks of it.
+#![tactic(auto)]
+
+pub mod laws;
