@@ -41,7 +41,8 @@ pub fn owed_calls_are_paid()
         → is_paid p (journal_of h) (proxy_lane w) (call.Committed a b how) ≡ true }
 {}
 
-/// A call in a lane's script is one of a lane of the plan, and entries of other lanes leave it there.
+/// A call in a lane's script is one of a lane of the plan, and entries of other lanes leave it
+/// there.
 pub fn scripts_stay()
     ensures known { (p : Plan) (h : List (Entry Call Reply)) (lane : ℕ) (c : Call)
         → script p (journal_of h) lane c ≡ true → lane / 2 < berths p }
