@@ -178,15 +178,15 @@ left_is Left e = refl
 
 -- ---- what the journal says after an entry
 
-record Then (e : Entry) (j : List Entry) (lane : ℕ) : Type 0 where
-  stops : stopped (e ∷ j) lane ≡ (((e.lane == lane) && is_stop e.reply) || stopped j lane)
-  halts : has_halted (e ∷ j) lane ≡ (((e.lane == lane) && is_halt e.call) || has_halted j lane)
-  other : ((e.lane == lane) && (not (is_look e.call) && not (is_halt e.call))) ≡ false
+pub record Then (e : Entry) (j : List Entry) (lane : ℕ) : Type 0 where
+  pub stops : stopped (e ∷ j) lane ≡ (((e.lane == lane) && is_stop e.reply) || stopped j lane)
+  pub halts : has_halted (e ∷ j) lane ≡ (((e.lane == lane) && is_halt e.call) || has_halted j lane)
+  pub other : ((e.lane == lane) && (not (is_look e.call) && not (is_halt e.call))) ≡ false
       → last_work (e ∷ j) lane ≡ last_work j lane
-  work : ((e.lane == lane) && (not (is_look e.call) && not (is_halt e.call))) ≡ true
+  pub work : ((e.lane == lane) && (not (is_look e.call) && not (is_halt e.call))) ≡ true
       → last_work (e ∷ j) lane ≡ Some e
 
-then : (e : Entry) (j : List Entry) (lane : ℕ) → Then e j lane
+pub then : (e : Entry) (j : List Entry) (lane : ℕ) → Then e j lane
 unfolding stopped has_halted last_work
 then e j lane = record {
   stops = refl;
@@ -309,7 +309,7 @@ other_entry s e j lane other is =
       owed = λ h. is.owed h ∙ ap owed_by (sym works);
     }
 
-flip : (a b : ℕ) (c : Bool) → (a == b) ≡ c → (b == a) ≡ c
+pub flip : (a b : ℕ) (c : Bool) → (a == b) ≡ c → (b == a) ≡ c
 flip a b true h = eq-eqb b a (sym (eqb-true a b h))
 flip a b false h = by_bool (b == a) (λ c. (b == a) ≡ c → c ≡ false)
     (λ y. absurd (let x : true ≡ false = sym (eq-eqb a b (sym (eqb-true b a y))) ∙ h in cc))

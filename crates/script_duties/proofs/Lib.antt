@@ -1,3 +1,4 @@
 pub mod Going
 pub mod Paying
 pub mod Doing
+pub mod Staying

@@ -1,6 +1,6 @@
 //! How a proxy lane's duty and the words of its script belong together. The functions do nothing:
 //! each is a law.
-ghost use Rattle.std.specs.Prelude.{◌≡◌, ◌<◌, ℕ, true, List};
+ghost use Rattle.std.specs.Prelude.{◌≡◌, ◌<◌, ◌/◌, ℕ, true, List, [], ◌++◌};
 ghost use Rattle.seat_desk.specs.declared.entry.Entry.{Entry};
 ghost use Rattle.seat_desk.specs.History.{calls_by};
 ghost use Rattle.exec_journal.specs.declared.call.Call.{Call};
@@ -39,4 +39,14 @@ pub fn owed_calls_are_paid()
         (fs : List (List ℕ)) (how : CommitEnd) → w < berths p
         → duty_of (calls_by (proxy_lane w) h) ≡ Commits a b fs
         → is_paid p (journal_of h) (proxy_lane w) (call.Committed a b how) ≡ true }
+{}
+
+/// A call in a lane's script is one of a lane of the plan, and entries of other lanes leave it
+/// there.
+pub fn scripts_stay()
+    ensures known { (p : Plan) (h : List (Entry Call Reply)) (lane : ℕ) (c : Call)
+        → script p (journal_of h) lane c ≡ true → lane / 2 < berths p }
+    ensures stays { (p : Plan) (h more : List (Entry Call Reply)) (lane : ℕ) (c : Call)
+        → calls_by lane more ≡ []
+        → script p (journal_of (h ++ more)) lane c ≡ script p (journal_of h) lane c }
 {}
