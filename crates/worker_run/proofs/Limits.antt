@@ -1,5 +1,5 @@
 -- What holds of given options, as it is asked for here.
-use Rattle.std.proofs.Common.{◌≡◌, List, ℕ, Bool, true, false, not, Option, Some, None, is_some, ap, refl, sym, ◌∙◌}
+use Rattle.std.proofs.Common.{◌≡◌, ℕ, true, false, not, Option, Some, None, is_some, ap, refl, sym, ◌∙◌}
 use Rattle.tool_words.specs.Options.{AreInLimits}
 use Rattle.tool_words.specs.declared.options.Options.{Options}
 use Rattle.worker_run.specs.Prepared.{AreAccepted}

@@ -16,7 +16,7 @@ use Rattle.sandbox_rooms.specs.declared.room.Room.TheVariants as room
 use Rattle.sandbox_rooms.specs.declared.gathering.Gathered.{Gathered}
 use Rattle.sandbox_rooms.specs.declared.gathering.Gathered.TheVariants as gathered
 use Rattle.sandbox_rooms.specs.Calls.{Asked, Launch, Clear, Folder, Put, Get, asked, went_well, RunEnd, Whole, Stopped, Cut, run_end, GoesOn, Runs, IsStopped, MakesRun}
-use Rattle.sandbox_rooms.specs.Rooms.{FitsOutputs, MakesLooks, IsRoomFault, folder_of, folder_asks, put_ask, gathered_after, gather_end}
+use Rattle.sandbox_rooms.specs.Rooms.{FitsOutputs, MakesLooks, folder_of, folder_asks, put_ask, gathered_after, gather_end}
 use Rattle.worker_run.specs.Rooms.{StopsUnless, IsRun, AddsRun, EndsAbsent, AddsAbsent, folders_of, folder_call, put_call, fill_asks, fill_calls, get_asks, get_calls}
 use Rattle.worker_run.specs.Steps.{OnFiles, OnMissing}
 

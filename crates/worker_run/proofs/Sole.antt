@@ -1,9 +1,8 @@
 -- What the loading of a list with one action gives.
-use Rattle.std.proofs.Common.{◌≡◌, ℕ, ◌+◌, List, [], ◌∷◌, ◌++◌, length, filter, map, flat_map, cond, Bool, true, is_none, Option, None, Result, Ok, Err, refl, ap, sym, subst, append-nil, length-append, ◌∙◌, arith}
+use Rattle.std.proofs.Common.{◌≡◌, ℕ, List, [], ◌∷◌, ◌++◌, length, filter, map, cond, Bool, true, is_none, Option, None, Result, Ok, Err, refl, ap, sym, subst, append-nil, length-append, ◌∙◌, arith}
 use Rattle.std.specs.List.{All, cons_option}
 use Rattle.std.proofs.lemmas.List.Elements.{All-head, All-tail}
 use Rattle.run_plan.specs.declared.plan.Maker.{Maker}
-use Rattle.action_list.specs.Checks.{has_local}
 use Rattle.action_list.specs.Plans.{maker_of}
 use Rattle.action_list.specs.Whole.{IsWhole}
 use Rattle.action_list.specs.declared.types.ListAction.{ListAction}

@@ -1,5 +1,5 @@
 -- What may be heard of a child that was asked once.
-use Rattle.std.specs.Prelude.{◌≡◌, ◌⊎◌, ℕ, ◌<◌, ◌≤◌, ◌^◌, pos, List, [], ◌∷◌, ◌++◌, length, Bool, true, false, Option, IfSome}
+use Rattle.std.specs.Prelude.{◌≡◌, ◌⊎◌, ℕ, ◌<◌, ◌≤◌, ◌^◌, pos, List, [], ◌∷◌, ◌++◌, length, true, false, Option, IfSome}
 use Rattle.delimited_framing.specs.Frame.{Frames}
 use Rattle.outside.specs.Lists.{Tells}
 use Rattle.outside.specs.Told.{TapTold}
