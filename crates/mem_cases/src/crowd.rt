@@ -36,12 +36,12 @@ fn reads_once<R: Wait + Drop>(mut line: Line<R>) -> Taken {
     line.tap.read(&mut [0; 4])
 }
 
-/// A child that is read on a thread of its own, which kills the child before it once it has its own byte.
+/// A child that is read on a thread of its own, which kills others once it has its own byte.
 #[derive(Drop)]
 struct Seat<R> {
     feed: MemFeed<R>,
     tap: MemTap<R>,
-    before: MemChild<R>,
+    kills: Vec<MemChild<R>>,
 }
 
 impl<R: Wait + Drop> Seat<R> {
@@ -50,7 +50,9 @@ impl<R: Wait + Drop> Seat<R> {
         let mut piece = [0u8; 4];
         let heard = self.feed.write(&[0]);
         let byte = self.tap.read(&mut piece);
-        self.before.kill();
+        for child in &mut self.kills {
+            child.kill();
+        }
         let end = self.tap.read(&mut piece);
         heard == Io::Done && byte == Taken::Bytes(1) && end == Taken::End
     }
@@ -69,15 +71,22 @@ pub fn crowd<R: Threads + Wait + Clock + CpuClock + Sync + Clone + Drop + Send>(
         stage.launch(alloc, "").map_err(no_memory)?;
     }
     let mut lines = stage.lines;
-    let Some(first) = lines.pop() else {
+    let Some(
+        Line {
+            feed: _,
+            tap,
+            child,
+        },
+    ) = lines.pop()
+    else {
         return Ok(String::from_str(alloc, "not launched")?);
     };
-    let seats = seats(alloc, lines).map_err(no_memory)?;
+    let seats = seats(alloc, child, lines).map_err(no_memory)?;
     let begun = rt.process_cpu_time()?;
     let (served, waited) = join(
         rt,
         move || thread::map_vec(rt, seats, &|seat: Seat<R>| seat.serve()),
-        move || starts_late(rt, first),
+        move || starts_late(rt, tap),
     );
     let served = served?.iter().filter(|served| **served).count();
     let is_idle = waited.is_some_and(|waited| waited.saturating_sub(begun).as_millis() < FIFTH);
@@ -95,29 +104,32 @@ fn beats(alloc: Global, count: u32) -> io::Result<String> {
     Ok(words)
 }
 
-fn seats<R: Wait + Drop>(alloc: Global, lines: Vec<Line<R>>) -> Result<Vec<Seat<R>>, NoMemory> {
-    let mut pipes = Vec::new(alloc);
-    let mut children = Vec::new(alloc);
+// A seat for each line. Each kills the child before it, the first of them this one, and the last its own too.
+fn seats<R: Wait + Drop>(
+    alloc: Global,
+    first: MemChild<R>,
+    lines: Vec<Line<R>>,
+) -> Result<Vec<Seat<R>>, NoMemory> {
+    let mut seats = Vec::new(alloc);
+    let mut before = first;
     for line in lines {
         let Line { feed, tap, child } = line;
-        pipes.push((feed, tap))?;
-        children.push(child)?;
+        let mut kills = Vec::new(alloc);
+        kills.push(std::mem::replace(&mut before, child))?;
+        seats.push(Seat { feed, tap, kills })?;
     }
-    if let Some(last) = children.pop() {
-        children.insert(0, last)?;
-    }
-    let mut seats = Vec::new(alloc);
-    for ((feed, tap), before) in pipes.into_iter().zip(children) {
-        seats.push(Seat { feed, tap, before })?;
+    if let Some(seat) = seats.last_mut() {
+        seat.kills.push(before)?;
     }
     Ok(seats)
 }
 
 // The processor time until here, after the others have waited long; then the first gate is raised.
-fn starts_late<R: Wait + Clock + CpuClock + Drop>(rt: &R, mut line: Line<R>) -> Option<Duration> {
+fn starts_late<R: Wait + Clock + CpuClock + Drop>(rt: &R, mut tap: MemTap<R>) -> Option<Duration> {
     thread::sleep(rt, Duration::from_secs(LONG));
     let waited = rt.process_cpu_time();
-    line.tap.read(&mut [0; 4]);
-    line.child.kill();
+    let mut piece = [0u8; 4];
+    tap.read(&mut piece);
+    tap.read(&mut piece);
     waited.ok()
 }

@@ -3,7 +3,7 @@ use std::sync::atomic::{AtomicU64, Ordering};
 use std::time::Duration;
 
 /// How long a rest with an end lasts at most, in milliseconds.
-const BRIEFLY: u64 = 10;
+const BRIEFLY: u64 = 100;
 
 /// Where an object rests until it has news. Whoever waits counts the rings, then looks, and then rests unless a ring
 /// has come since: so no ring is lost.
@@ -35,7 +35,7 @@ impl Bell {
         self.rings.park(rt, rings);
     }
 
-    /// The same, for some milliseconds at most.
+    /// The same, for a tenth of a second at most.
     pub fn rest_briefly<R: Wait>(&self, rt: &R, rings: u32) {
         self.rings
             .park_timeout(rt, rings, Duration::from_millis(BRIEFLY));

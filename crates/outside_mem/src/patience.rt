@@ -9,8 +9,8 @@ const BRISK_TURNS: u64 = 200;
 const MOST_TURNS: u64 = 10_000_000;
 
 /// What a rest counts that no ring has ended. A turn without a rest takes about a microsecond, and such a rest takes
-/// ten thousand.
-const TURNS_OF_A_REST: u64 = 10_000;
+/// a hundred thousand.
+const TURNS_OF_A_REST: u64 = 100_000;
 
 /// How long one wait has gone on.
 #[derive(Drop)]
