@@ -4,6 +4,7 @@ use outside_mem::{MemFloor, Script};
 use plain_values::{Blob, NoMemory, Text};
 use run_loading::{Loaded, load};
 use std::alloc::Global;
+use std::sync::Wait;
 use std::test::Fail;
 
 // `a` reads the tool `t` and the flag file `f`, and makes `o`; `b` has `t`, `f`, `o` and `g`.
@@ -18,7 +19,11 @@ fn file(alloc: Global, path: &str, text: &str) -> Result<SourceFile, NoMemory> {
 }
 
 // A floor with the list, `t`, `f`, and `g` with this text, where one is given.
-fn floor(alloc: Global, g: Option<&str>) -> Result<MemFloor, NoMemory> {
+fn floor<R: Wait + Clone + Drop>(
+    rt: R,
+    alloc: Global,
+    g: Option<&str>,
+) -> Result<MemFloor<R>, NoMemory> {
     let mut files = Vec::new(alloc);
     files.push(file(alloc, "l.json", LIST)?)?;
     files.push(file(alloc, "t", "tool")?)?;
@@ -27,6 +32,7 @@ fn floor(alloc: Global, g: Option<&str>) -> Result<MemFloor, NoMemory> {
         files.push(file(alloc, "g", text)?)?;
     }
     MemFloor::new(
+        rt,
         alloc,
         Script {
             files,
@@ -66,7 +72,7 @@ fn each_path_is_read_once(rt: HostRuntime) -> Result<(), Fail> {
         (None, "worker_tool: not there: g"),
     ];
     for (g, answer) in rows {
-        let mut floor = floor(alloc, g)?;
+        let mut floor = floor(rt, alloc, g)?;
         let loaded = load(alloc, "l.json", 48, &mut floor);
         assert_eq!(rt; told(alloc, &loaded)?.as_str(), answer);
         let mut reads = String::new(alloc);

@@ -17,7 +17,7 @@ fn a_place_that_fails_has_what_was_written_before(rt: HostRuntime) -> Result<(),
         lines: Vec::new(alloc),
         fails,
     };
-    let mut floor = MemFloor::new(alloc, script)?;
+    let mut floor = MemFloor::new(rt, alloc, script)?;
     let mut place = floor.make_place(0)?;
     let outputs = [Text::copy_of(alloc, "o1")?, Text::copy_of(alloc, "o2")?];
     let one = Blob::of(alloc, b"x".as_slice().to_vec(alloc)?)?;

@@ -13,7 +13,7 @@ fn a_part_is_filled_and_looked_at(rt: HostRuntime) -> Result<(), Fail> {
         lines: Vec::new(alloc),
         fails: Vec::new(alloc),
     };
-    let mut floor = MemFloor::new(alloc, script)?;
+    let mut floor = MemFloor::new(rt, alloc, script)?;
     let mut berth = floor.make_berth(0)?;
     let content = Blob::of(alloc, b"abc".as_slice().to_vec(alloc)?)?;
     let path = Text::copy_of(alloc, "f")?;

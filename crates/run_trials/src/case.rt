@@ -69,6 +69,7 @@ impl Case {
             beats.push(Beat::Leave(path, Blob::of(alloc, b"x".to_vec(alloc)?)?))?;
         }
         beats.push(Beat::Give(Vec::from_slice(alloc, self.answer.as_slice())?))?;
+        beats.push(Beat::Die)?;
         let mut lines = Vec::new(alloc);
         lines.push(Some(beats))?;
         let fails = std::mem::replace(&mut self.fails, Vec::new(alloc));

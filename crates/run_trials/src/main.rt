@@ -21,6 +21,7 @@ use outside_mem::MemFloor;
 use plain_values::NoMemory;
 use std::alloc::Global;
 use std::io::{ErrorKind, Read};
+use std::sync::Wait;
 use std::{io, str};
 use worker_run::Ended;
 
@@ -32,7 +33,7 @@ fn main(rt: HostRuntime) -> io::Result<()> {
         return Err(io::Error::from(ErrorKind::InvalidData));
     };
     let mut case = Case::new(alloc);
-    let mut last: Option<Ended<MemFloor>> = None;
+    let mut last: Option<Ended<MemFloor<HostRuntime>>> = None;
     for line in text.lines() {
         let (kind, rest) = line.split_once(' ').unwrap_or((line, ""));
         let told = match kind {
@@ -53,9 +54,9 @@ fn no_memory(_: NoMemory) -> io::Error {
     io::Error::from(ErrorKind::OutOfMemory)
 }
 
-fn tell_last(
+fn tell_last<R: Wait + Clone + Drop>(
     alloc: Global,
-    last: &Option<Ended<MemFloor>>,
+    last: &Option<Ended<MemFloor<R>>>,
     kind: &str,
 ) -> Result<String, NoMemory> {
     match (last, kind) {

@@ -8,19 +8,19 @@ use std::sync::Wait;
 use std::thread::Threads;
 use worker_run::{Ended, fault_line, run_build};
 
-pub fn run<R: Threads + Wait + Sync>(
+pub fn run<R: Threads + Wait + Sync + Clone + Drop>(
     rt: &R,
     alloc: Global,
     case: &mut Case,
     line: &str,
-) -> Result<(Ended<MemFloor>, String), NoMemory> {
+) -> Result<(Ended<MemFloor<R>>, String), NoMemory> {
     let script = case.script(alloc)?;
     let mut sink = Vec::new(alloc);
     for fail in &script.fails {
         sink.push(*fail)?;
     }
     let mut out = MemSink::new(alloc, sink);
-    let floor = MemFloor::new(alloc, script)?;
+    let floor = MemFloor::new(rt.clone()?, alloc, script)?;
     let words = words(alloc, line)?;
     let ended = run_build(rt, alloc, words.as_slice(), floor, &mut out);
     let told = tell(
@@ -41,7 +41,11 @@ fn words(alloc: Global, line: &str) -> Result<Vec<String>, NoMemory> {
     Ok(words)
 }
 
-fn tell(alloc: Global, ended: &Ended<MemFloor>, report: &str) -> Result<String, NoMemory> {
+fn tell<R: Wait + Clone + Drop>(
+    alloc: Global,
+    ended: &Ended<MemFloor<R>>,
+    report: &str,
+) -> Result<String, NoMemory> {
     let writes: &[_] = match ended.places.first() {
         Some(place) => place.log(),
         None => &[],
@@ -64,7 +68,10 @@ fn tell(alloc: Global, ended: &Ended<MemFloor>, report: &str) -> Result<String, 
 }
 
 /// The paths that the floor was asked for, in order.
-pub fn reads(alloc: Global, ended: &Ended<MemFloor>) -> Result<String, NoMemory> {
+pub fn reads<R: Wait + Clone + Drop>(
+    alloc: Global,
+    ended: &Ended<MemFloor<R>>,
+) -> Result<String, NoMemory> {
     let mut told = String::from_str(alloc, "reads")?;
     for read in ended.floor.log() {
         told.push_str(" ")?;
@@ -75,7 +82,10 @@ pub fn reads(alloc: Global, ended: &Ended<MemFloor>) -> Result<String, NoMemory>
 }
 
 /// The calls on the first berth, one a line.
-pub fn room(alloc: Global, ended: &Ended<MemFloor>) -> Result<String, NoMemory> {
+pub fn room<R: Wait + Clone + Drop>(
+    alloc: Global,
+    ended: &Ended<MemFloor<R>>,
+) -> Result<String, NoMemory> {
     let mut told = String::new(alloc);
     let calls = match ended.berths.first() {
         Some(berth) => berth.log().unwrap_or(&[]),
@@ -109,7 +119,10 @@ fn launch(alloc: Global, command: &outside::Command) -> Result<String, NoMemory>
 }
 
 /// The bytes that the first line was given, in hexadecimal.
-pub fn given(alloc: Global, ended: &Ended<MemFloor>) -> Result<String, NoMemory> {
+pub fn given<R: Wait + Clone + Drop>(
+    alloc: Global,
+    ended: &Ended<MemFloor<R>>,
+) -> Result<String, NoMemory> {
     match ended.lines.first().and_then(|line| line.halves.as_ref()) {
         Some(halves) => {
             let digits = hex::encode(alloc, halves.feed.given())?;

@@ -1,0 +1,90 @@
+// What the words of a case say.
+use crate::number;
+use outside::SourceFile;
+use outside_mem::{Beat, FailAt, Object, Script};
+use plain_values::{Blob, NoMemory, Text};
+use std::alloc::Global;
+
+/// The script of these words.
+pub fn script(alloc: Global, words: &str) -> Result<Script, NoMemory> {
+    let mut files = Vec::new(alloc);
+    let mut lines = Vec::new(alloc);
+    let mut fails = Vec::new(alloc);
+    let mut beats = Some(Vec::new(alloc));
+    for word in words.split(' ') {
+        let (kind, rest) = word.split_once('=').unwrap_or((word, ""));
+        match kind {
+            "/" => {
+                let done = std::mem::replace(&mut beats, Some(Vec::new(alloc)));
+                lines.push(done)?;
+            }
+            "obliging" => beats = None,
+            "file" => {
+                let (path, bytes) = path_and_bytes(alloc, rest)?;
+                files.push(SourceFile { path, bytes })?;
+            }
+            "fail" => fails.push(failing(rest))?,
+            _ => {
+                if let (Some(beats), Some(beat)) = (&mut beats, beat_of(alloc, kind, rest)?) {
+                    beats.push(beat)?;
+                }
+            }
+        }
+    }
+    lines.push(beats)?;
+    Ok(Script {
+        files,
+        lines,
+        fails,
+    })
+}
+
+fn beat_of(alloc: Global, kind: &str, rest: &str) -> Result<Option<Beat>, NoMemory> {
+    Ok(Some(match kind {
+        "hear" => Beat::Hear(number(rest)),
+        "leave" => {
+            let (path, bytes) = path_and_bytes(alloc, rest)?;
+            Beat::Leave(path, bytes)
+        }
+        "give" => Beat::Give(bytes_of(alloc, rest)),
+        "choose" => {
+            let (first, second) = rest.split_once(',').unwrap_or((rest, ""));
+            Beat::Choose(bytes_of(alloc, first), bytes_of(alloc, second))
+        }
+        "raise" => Beat::Raise(number(rest)),
+        "await" => Beat::Await(number(rest)),
+        "die" => Beat::Die,
+        _ => return Ok(None),
+    }))
+}
+
+/// The bytes of hexadecimal digits.
+pub fn bytes_of(alloc: Global, digits: &str) -> Vec<u8> {
+    hex::decode(alloc, digits).unwrap_or(Vec::new(alloc))
+}
+
+fn path_and_bytes(alloc: Global, word: &str) -> Result<(Text, Blob), NoMemory> {
+    let (path, digits) = word.split_once(',').unwrap_or((word, ""));
+    let bytes = Blob::of(alloc, bytes_of(alloc, digits))?;
+    Ok((Text::copy_of(alloc, path)?, bytes))
+}
+
+fn failing(word: &str) -> FailAt {
+    let (object, nth) = word.split_once(',').unwrap_or((word, "1"));
+    let on = match object {
+        "floor" => Object::FloorRead,
+        "launch" => Object::Launch(0),
+        "clear" => Object::Clear(0),
+        "folder" => Object::Folder(0),
+        "put" => Object::Put(0),
+        "get" => Object::Get(0),
+        "feed" => Object::Feed(0),
+        "tap" => Object::Tap(0),
+        "place" => Object::Place(0),
+        _ => Object::Sink,
+    };
+    FailAt {
+        on,
+        nth: u64::from(number(nth)),
+    }
+}

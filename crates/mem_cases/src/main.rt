@@ -1,0 +1,91 @@
+//! Plays cases of the objects in memory, one a line of standard input, and prints what each comes to. Bytes are
+//! hexadecimal.
+//!
+//! A line `case WORD WORD .. : STEP STEP ..` says what a floor has and what is done with its objects, and the answers
+//! of the steps are printed. The words:
+//!
+//! | Word | Says |
+//! |---|---|
+//! | `hear=N`, `leave=PATH,BYTES`, `give=BYTES`, `choose=BYTES,BYTES`, `raise=N`, `await=N`, `die` | the next beat of the line |
+//! | `/` | the next line's beats follow |
+//! | `obliging` | the line has no beats |
+//! | `file=PATH,BYTES` | a source |
+//! | `fail=OBJECT,NTH` | the NTH call on this object of berth, line or action 0 fails |
+//!
+//! | Step | Does |
+//! |---|---|
+//! | `launch`, `launch=WORD` | launches the next line, whose command has this word; later steps are of this line |
+//! | `line=N` | later steps are of line N |
+//! | `write=BYTES`, `read`, `read=SIZE`, `kill` | a call on its feed, its tap or its child |
+//! | `clear=PATH`, `folder=PATH`, `put=PATH,BYTES`, `get=PATH` | a call on the berth |
+//! | `source=PATH`, `store=PATH,BYTES`, `sink=BYTES` | a read of the floor, a write to the place of action 0, a put |
+//! | `faults` | the count of faults of all objects |
+//!
+//! `generated COUNT` prints the sources of a generated list. `late` has two lines wait at once for what never comes.
+//! `crowd COUNT` has so many children wait on threads of their own, each for the one before, and says how many of them
+//! gave their byte and then ended, and whether the wait took less than a fifth of a processor. Other lines are printed
+//! as they are.
+//!
+//! `tools/mem-vectors` writes `stdin` and `stdout`.
+#![tactic(auto)]
+
+mod case;
+mod crowd;
+mod stage;
+mod steps;
+
+use outside::Floor;
+use outside_mem::MemFloor;
+use plain_values::NoMemory;
+use std::alloc::Global;
+use std::io::{ErrorKind, Read};
+use std::sync::Wait;
+use std::{io, str};
+
+fn main(rt: HostRuntime) -> io::Result<()> {
+    let alloc = rt.alloc();
+    let mut bytes = Vec::new(alloc);
+    rt.reader().read_to_end(&mut bytes)?;
+    let Ok(text) = str::from_utf8(&bytes) else {
+        return Err(io::Error::from(ErrorKind::InvalidData));
+    };
+    for line in text.lines() {
+        let (kind, rest) = line.split_once(' ').unwrap_or((line, ""));
+        let told = match kind {
+            "case" => steps::play(rt, alloc, rest).map_err(no_memory)?,
+            "generated" => generated(rt, alloc, number(rest)).map_err(no_memory)?,
+            "late" => crowd::late(&rt, alloc).map_err(no_memory)?,
+            "crowd" => crowd::crowd(&rt, alloc, number(rest))?,
+            _ => String::from_str(alloc, line)?,
+        };
+        println!(&rt; "{}", told.as_str())?;
+    }
+    Ok(())
+}
+
+pub fn no_memory(_: NoMemory) -> io::Error {
+    io::Error::from(ErrorKind::OutOfMemory)
+}
+
+/// The number that a text spells, or 0.
+pub fn number(text: &str) -> u32 {
+    text.parse::<u32>().unwrap_or(0)
+}
+
+fn generated<R: Wait + Clone + Drop>(
+    rt: R,
+    alloc: Global,
+    actions: u32,
+) -> Result<String, NoMemory> {
+    let mut floor = MemFloor::generated(rt, alloc, actions)?;
+    let mut told = String::new(alloc);
+    for action in 0..=actions {
+        let path = format!(in alloc; "flags/{action}")?;
+        let answer = floor.read(path.as_str())?;
+        if action > 0 {
+            told.push_str(" ")?;
+        }
+        told.push_str(steps::found(alloc, &answer)?.as_str())?;
+    }
+    Ok(told)
+}

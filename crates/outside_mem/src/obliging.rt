@@ -1,0 +1,229 @@
+//! A child that does at once what it is asked.
+ghost use Rattle.std.specs.Prelude.{◌≡◌, [], map, IfOk};
+ghost use Rattle.outside_mem.specs.Obliging.{response_to, result_to, made_file, made_content, under};
+
+use crate::actor::Acted;
+use crate::ears::Ears;
+use crate::line::Line;
+use crate::patience::Patience;
+use crate::ready::Ready;
+use json_framing::Framing;
+use json_messages::{read_request_line, response_line};
+use plain_values::{Blob, Items, NoMemory, Text};
+use remote_messages::{Job, JobResult, NamedFile, decode_job};
+use std::alloc::Global;
+use std::sync::Wait;
+use wire_messages::{
+    Message, MessageFault, WorkRequest, WorkResponse, decode_request, encode_delimited,
+};
+
+/// The version of the remote protocol that it speaks as an executor.
+const VERSION: i32 = 2;
+
+#[derive(Drop)]
+pub struct Obliging {
+    alloc: Global,
+    ears: Ears,
+    greeted: bool,
+}
+
+impl Obliging {
+    pub fn new(alloc: Global, ears: Ears) -> Obliging {
+        Obliging {
+            alloc,
+            ears,
+            greeted: false,
+        }
+    }
+
+    /// Answers until bytes are ready or, where nothing is left to answer, the child was killed.
+    pub fn play<R: Wait>(
+        &mut self,
+        rt: &R,
+        line: &Line,
+        ready: &mut Ready,
+    ) -> Result<Acted, NoMemory> {
+        if line.serves && !self.greeted {
+            self.greeted = true;
+            add(self.alloc, &greeting(self.alloc), ready)?;
+            return Ok(Acted::On);
+        }
+        let mut patience = Patience::new();
+        for _ in rt.forever() {
+            let rings = line.bell.rings();
+            let killed = line.is_killed(rt);
+            self.ears.listen(rt, line)?;
+            if let Some((framing, frame)) = self.ears.next()? {
+                self.answer(rt, line, framing, frame.as_slice(), ready)?;
+                if !ready.is_empty() {
+                    return Ok(Acted::On);
+                }
+            } else if killed {
+                return Ok(Acted::Ended);
+            } else {
+                patience.turn(rt, &line.bell, rings);
+            }
+        }
+        unreachable!()
+    }
+
+    // Answers one frame. One that spells no message gets no answer.
+    fn answer<R: Wait>(
+        &self,
+        rt: &R,
+        line: &Line,
+        framing: Framing,
+        frame: &[u8],
+        ready: &mut Ready,
+    ) -> Result<(), NoMemory> {
+        let alloc = self.alloc;
+        if line.serves {
+            let Some(job) = read(decode_job(alloc, frame))? else {
+                return Ok(());
+            };
+            if let Some(result) = result_of(alloc, &job)? {
+                add(alloc, &result, ready)?;
+            }
+            return Ok(());
+        }
+        let Some(request) = read(match framing {
+            Framing::Delimited => decode_request(alloc, frame),
+            Framing::Lines => read_request_line(alloc, frame),
+        })?
+        else {
+            return Ok(());
+        };
+        if let Some(response) = response_of(alloc, &request) {
+            leave_outputs(alloc, rt, line, &request)?;
+            match framing {
+                Framing::Delimited => add(alloc, &response, ready)?,
+                Framing::Lines => ready.add(response_line(alloc, &response)?.as_slice())?,
+            }
+        }
+        Ok(())
+    }
+}
+
+// The message, where the frame spells one.
+fn read<M>(message: Result<M, MessageFault>) -> Result<Option<M>, NoMemory> {
+    match message {
+        Ok(message) => Ok(Some(message)),
+        Err(MessageFault::NoMemory) => Err(NoMemory),
+        Err(_) => Ok(None),
+    }
+}
+
+fn add<M: Message>(alloc: Global, message: &M, ready: &mut Ready) -> Result<(), NoMemory> {
+    ready.add(encode_delimited(alloc, message)?.as_slice())
+}
+
+fn empty(alloc: Global) -> Text
+    ensures { result ≡ [] }
+{
+    Text::of(String::new(alloc))
+}
+
+fn greeting(alloc: Global) -> JobResult {
+    JobResult {
+        id: 0,
+        exit_code: 0,
+        text: empty(alloc),
+        files: Items::of(Vec::new(alloc)),
+        refusal: empty(alloc),
+        cancelled: false,
+        more: false,
+        version: VERSION,
+    }
+}
+
+// The answer to a request, which a cancel request doesn't get.
+fn response_of(alloc: Global, request: &WorkRequest) -> Option<WorkResponse>
+    ensures { result ≡ response_to request.now }
+{
+    if request.cancel {
+        return None;
+    }
+    Some(WorkResponse {
+        exit_code: 0,
+        output: empty(alloc),
+        request_id: request.request_id,
+        was_cancelled: false,
+    })
+}
+
+// The result of a job, which a cancelling one doesn't get.
+fn result_of(alloc: Global, job: &Job) -> Result<Option<JobResult>, NoMemory>
+    ensures { IfOk result (λ r. r ≡ result_to job.now) }
+{
+    if job.cancel {
+        return Ok(None);
+    }
+    Ok(Some(JobResult {
+        id: job.id,
+        exit_code: 0,
+        text: empty(alloc),
+        files: made_files(alloc, job.outputs.as_slice())?,
+        refusal: empty(alloc),
+        cancelled: false,
+        more: false,
+        version: 0,
+    }))
+}
+
+fn made_files(alloc: Global, outputs: &[Text]) -> Result<Items<NamedFile>, NoMemory>
+    ensures { IfOk result (λ files. files ≡ map made_file outputs.now) }
+{
+    let mut files = Vec::new(alloc);
+    for output in outputs {
+        files.push(made_file_of(alloc, output.as_str())?)?;
+    }
+    Ok(Items::of(files))
+}
+
+fn made_file_of(alloc: Global, path: &str) -> Result<NamedFile, NoMemory>
+    ensures { IfOk result (λ file. file ≡ made_file path.now) }
+{
+    Ok(NamedFile {
+        path: Text::copy_of(alloc, path)?,
+        content: content_of(alloc, path)?,
+    })
+}
+
+// The bytes of an output: its path and a line feed.
+fn content_of(alloc: Global, path: &str) -> Result<Blob, NoMemory>
+    ensures { IfOk result (λ b. b ≡ made_content path.now) }
+{
+    let mut bytes = Vec::new(alloc);
+    bytes.extend_from_slice(path.as_bytes())?;
+    bytes.push(b'\n')?;
+    Blob::of(alloc, bytes)
+}
+
+// Where an output of a request is left: under the folder that it names, if it names one.
+fn left_path(alloc: Global, request: &WorkRequest, path: &str) -> Result<Text, NoMemory>
+    ensures { IfOk result (λ left. left ≡ under request.now.sandbox_dir path.now) }
+{
+    let folder = request.sandbox_dir.as_str();
+    if folder.is_empty() {
+        return Text::copy_of(alloc, path);
+    }
+    let mut left = String::from_str(alloc, folder)?;
+    left.push_str("/")?;
+    left.push_str(path)?;
+    Ok(Text::of(left))
+}
+
+fn leave_outputs<R: Wait>(
+    alloc: Global,
+    rt: &R,
+    line: &Line,
+    request: &WorkRequest,
+) -> Result<(), NoMemory> {
+    for argument in request.arguments.as_slice() {
+        if let Some(path) = argument.as_str().strip_prefix("--out=") {
+            let left = left_path(alloc, request, path)?;
+            line.leave(rt, left.as_str(), content_of(alloc, path)?)?;
+        }
+    }
+    Ok(())
+}
