@@ -12,7 +12,7 @@ use std::env::Env;
 use std::io::ErrorKind;
 use std::process::ExitCode;
 use std::{env, io};
-use worker_run::{RunFault, Stage, fault_line, run_build};
+use worker_run::{Ended, RunFault, Stage, fault_line, run_build};
 
 fn main(rt: HostRuntime) -> ExitCode {
     let alloc = rt.alloc();
@@ -22,14 +22,20 @@ fn main(rt: HostRuntime) -> ExitCode {
     };
     let floor = RealFloor::new(rt, alloc);
     let mut out = RealSink::new(rt);
-    let mut ended = run_build(&rt, alloc, &words, floor, &mut out);
-    if let Some(fault) = &ended.fault {
-        tell(&rt, alloc, fault, ended.floor.last_error());
+    let ended = run_build(&rt, alloc, &words, floor, &mut out);
+    let Ended {
+        status,
+        fault,
+        mut floor,
+        ..
+    } = ended;
+    if let Some(fault) = &fault {
+        tell(&rt, alloc, fault, floor.last_error());
         if let RunFault::List(fault) = fault {
-            name_action(&rt, alloc, &words, &mut ended.floor, fault);
+            name_action(&rt, alloc, &words, &mut floor, fault);
         }
     }
-    ExitCode::from(ended.status)
+    ExitCode::from(status)
 }
 
 fn words(rt: &(impl Env + AllocGlobal), alloc: Global) -> io::Result<Vec<String>> {

@@ -17,13 +17,16 @@ pub fn line(
     floor: &mut impl Floor,
     fault: &ListFault,
 ) -> Result<String, NoMemory> {
-    let (Some(number), Some(options)) = (action_of(fault), read_words(alloc, words)?) else {
+    let Some(number) = action_of(fault) else {
         return Ok(String::new(alloc));
     };
-    let Some(path) = options.list else {
+    let Some(options) = read_words(alloc, words)? else {
         return Ok(String::new(alloc));
     };
-    match floor.read(path.as_str())? {
+    let Some(path) = options.list.as_ref().map(|path| path.as_str()) else {
+        return Ok(String::new(alloc));
+    };
+    match floor.read(path)? {
         Read::Found(bytes) => line_in(alloc, bytes.bytes(), number),
         Read::Absent | Read::Failed => Ok(String::new(alloc)),
     }
