@@ -28,7 +28,7 @@ use Rattle.remote_branch.specs.Parts.{answer_at, and_more, joined, StandsFor as 
 use Rattle.remote_branch.specs.declared.parts.Waiting.{Waiting}
 use Rattle.answer_reader.specs.Answers.{of_response, SpellsLine, results_say, ReadsPart}
 use Rattle.answer_reader.specs.Reading.{largest, Reads}
-use Rattle.answer_reader.specs.Says.{framing_for, Heard, HeardResults, SaysFirst, SaysAll, SaysBadly, HearsAs, Hears, SaysNext, ReadsAs}
+use Rattle.answer_reader.specs.Says.{framing_for, Heard, HeardResults, SaysFirst, SaysAll, SaysBadly, HearsAs, Hears, SaysNext, ReadsAs, ReadsPartAs}
 use Rattle.answer_reader.proofs.Streams.{IsCut, heard_new, whole_new, heard_piece, heard_first, first_more, heard_all, heard_fault, heard_frame, heard_none, after_frame}
 
 -- ---- the two forms
@@ -112,7 +112,7 @@ all_as speech.Remote fed answers h h' waiting gave x =
     let a = heard_all delimited_form frames_cut SpellsJobResult results_say fed answers h h' x.heard n.0 n.1 n.2 n.3 in
     (record { heard = a.0; left = x.left }, a.1)
 
-pub not_yet : (s : Speech) (fed : List ℕ) (answers : List Answer) (r r' : AnswerReader) → r'.speech ≡ r.speech → r'.parts ≡ r.parts → framing_of r'.cutter ≡ framing_of r.cutter → Gave (framing_of r.cutter) (held r.cutter) next.NotYet (held r'.cutter) → Hears s fed answers r → SaysNext s fed answers spoken.NotYet r'
+pub not_yet : (s : Speech) (fed : List ℕ) (answers : List Answer) (r r' : AnswerReader) → r'.speech ≡ r.speech → r'.parts ≡ r.parts → framing_of r'.cutter ≡ framing_of r.cutter → Gave (framing_of r.cutter) (held r.cutter) next.NotYet (held r'.cutter) → Hears s fed answers r → SaysNext s fed answers spoken.NotYet r r'
 unfolding Hears
 not_yet s fed answers r r' same stays framed gave x =
     let a = all_as s fed answers (held r.cutter) (held r'.cutter) r.parts (subst (λ (y : Framing). Gave y (held r.cutter) next.NotYet (held r'.cutter)) x.1 gave) x.2 in
@@ -124,7 +124,7 @@ bad_as speech.Proto fed answers h h' waiting fault gave x = heard_fault delimite
 bad_as speech.Json fed answers h h' waiting fault gave x = heard_fault line_form lines_cut SpellsLine (map of_response) fed answers h fault x (gave fed x.frames x.stands).3
 bad_as speech.Remote fed answers h h' waiting fault gave x = heard_fault delimited_form frames_cut SpellsJobResult results_say fed answers h fault x.heard (gave fed x.heard.frames x.heard.stands).3
 
-pub faulty : (s : Speech) (fed : List ℕ) (answers : List Answer) (r r' : AnswerReader) (fault : FrameFault) → Gave (framing_of r.cutter) (held r.cutter) (next.Bad fault) (held r'.cutter) → Hears s fed answers r → SaysNext s fed answers spoken.Bad r'
+pub faulty : (s : Speech) (fed : List ℕ) (answers : List Answer) (r r' : AnswerReader) (fault : FrameFault) → Gave (framing_of r.cutter) (held r.cutter) (next.Bad fault) (held r'.cutter) → Hears s fed answers r → SaysNext s fed answers spoken.Bad r r'
 unfolding Hears
 faulty s fed answers r r' fault gave x = bad_as s fed answers (held r.cutter) (held r'.cutter) r.parts fault (subst (λ (y : Framing). Gave y (held r.cutter) (next.Bad fault) (held r'.cutter)) x.1 gave) x.2
 
@@ -133,11 +133,11 @@ faulty s fed answers r r' fault gave x = bad_as s fed answers (held r.cutter) (h
 abbrev pub Framed : Framing → Held → List ℕ → Held → Type 0
 Framed f h frame h' = (fed : List ℕ) (given : List (List ℕ)) → StandsFor (form_of f) fed given h → StandsFor (form_of f) fed (given ++ frame ∷ []) h' × (h'.limit ≡ h.limit) × (h'.fault ≡ h.fault)
 
-abbrev After : Speech → List ℕ → List Answer → Held → List Waiting → Spoken → Type 0
-After s fed answers h waiting (spoken.Answer a) = HearsAs s fed (answers ++ a ∷ []) h waiting
-After s fed answers h waiting spoken.More = HearsAs s fed answers h waiting
-After s fed answers h waiting spoken.NotYet = HearsAs s fed answers h waiting × SaysAll s fed answers
-After s fed answers h waiting spoken.Bad = SaysBadly s fed answers
+abbrev After : Speech → List ℕ → List Answer → Held → Held → List Waiting → Spoken → Type 0
+After s fed answers old h waiting (spoken.Answer a) = HearsAs s fed (answers ++ a ∷ []) h waiting
+After s fed answers old h waiting spoken.More = HearsAs s fed answers h waiting × ReadsPartAs s fed old h
+After s fed answers old h waiting spoken.NotYet = HearsAs s fed answers h waiting × SaysAll s fed answers
+After s fed answers old h waiting spoken.Bad = SaysBadly s fed answers
 
 -- ---- one result more
 
@@ -159,7 +159,7 @@ no_answer rs r e =
 left_on : (waiting : List Waiting) (rs : List JobResult) (r : JobResult) → IsLeftBy waiting (r ∷ reverse rs) → IsLeftBy waiting (reverse (rs ++ r ∷ []))
 left_on waiting rs r left = subst (λ (ms : List JobResult). IsLeftBy waiting ms) (sym (reverse_push rs r)) left
 
-part_as : (fed frame : List ℕ) (answers : List Answer) (h h' : Held) (old new : List Waiting) (out : Spoken) → Framed (framing_for speech.Remote) h frame h' → ReadsAs speech.Remote frame old out new → HeardResults fed answers h old → After speech.Remote fed answers h' new out
+part_as : (fed frame : List ℕ) (answers : List Answer) (h h' : Held) (old new : List Waiting) (out : Spoken) → Framed (framing_for speech.Remote) h frame h' → ReadsAs speech.Remote frame old out new → HeardResults fed answers h old → After speech.Remote fed answers h h' new out
 unfolding SaysAll SaysBadly
 part_as fed frame answers h h' old new (spoken.Answer a) framed reads x =
     let f = framed fed x.heard.frames x.heard.stands in
@@ -168,8 +168,10 @@ part_as fed frame answers h h' old new (spoken.Answer a) framed reads x =
 part_as fed frame answers h h' old new spoken.More framed reads x =
     let f = framed fed x.heard.frames x.heard.stands in
     let p = reads (reverse x.heard.messages) x.left in
-    let heard = heard_frame delimited_form frames_cut SpellsJobResult results_say fed frame answers [] h h' p.0 x.heard f.0 f.1 f.2 p.1 (no_answer x.heard.messages p.0 p.2) in
-    subst (λ (as' : List Answer). HeardResults fed as' h' new) (append-nil answers) (record { heard = heard; left = left_on new x.heard.messages p.0 p.3 })
+    let heard = heard_frame delimited_form frames_cut SpellsJobResult results_say fed frame answers [] h h' p.0 x.heard f.0 f.1 f.2 p.1 (no_answer x.heard.messages p.0 p.2) in (
+      subst (λ (as' : List Answer). HeardResults fed as' h' new) (append-nil answers) (record { heard = heard; left = left_on new x.heard.messages p.0 p.3 }),
+      record { frames = x.heard.frames; frame = frame; result = p.0; before = x.heard.stands; after = f.0; spelled = p.1 },
+    )
 part_as fed frame answers h h' old new spoken.Bad framed reads x =
     let f = framed fed x.heard.frames x.heard.stands in
     heard_none delimited_form frames_cut SpellsJobResult results_say fed frame answers h h' x.heard f.0 f.1 (reads (reverse x.heard.messages) x.left)
@@ -177,7 +179,7 @@ part_as fed frame answers h h' old new spoken.NotYet framed reads x = absurd (re
 
 -- ---- one frame more
 
-after_as : (s : Speech) (fed frame : List ℕ) (answers : List Answer) (h h' : Held) (old new : List Waiting) (out : Spoken) → Framed (framing_for s) h frame h' → ReadsAs s frame old out new → HearsAs s fed answers h old → After s fed answers h' new out
+after_as : (s : Speech) (fed frame : List ℕ) (answers : List Answer) (h h' : Held) (old new : List Waiting) (out : Spoken) → Framed (framing_for s) h frame h' → ReadsAs s frame old out new → HearsAs s fed answers h old → After s fed answers h h' new out
 unfolding SaysAll SaysBadly
 after_as speech.Proto fed frame answers h h' old new (spoken.Answer a) framed reads x = let f = framed fed x.frames x.stands in after_frame delimited_form frames_cut SpellsResponse of_response fed frame answers h h' x f.0 f.1 f.2 (spoken.Answer a) reads
 after_as speech.Proto fed frame answers h h' old new spoken.Bad framed reads x = let f = framed fed x.frames x.stands in after_frame delimited_form frames_cut SpellsResponse of_response fed frame answers h h' x f.0 f.1 f.2 spoken.Bad reads
@@ -189,16 +191,17 @@ after_as speech.Json fed frame answers h h' old new spoken.More framed reads x =
 after_as speech.Json fed frame answers h h' old new spoken.NotYet framed reads x = absurd reads
 after_as speech.Remote fed frame answers h h' old new out framed reads x = part_as fed frame answers h h' old new out framed reads x
 
-says_after : (s : Speech) (fed : List ℕ) (answers : List Answer) (r' : AnswerReader) (out : Spoken) → r'.speech ≡ s → framing_of r'.cutter ≡ framing_for s → After s fed answers (held r'.cutter) r'.parts out → SaysNext s fed answers out r'
+says_after : (s : Speech) (fed : List ℕ) (answers : List Answer) (r r' : AnswerReader) (out : Spoken) → r'.speech ≡ s → framing_of r'.cutter ≡ framing_for s → After s fed answers (held r.cutter) (held r'.cutter) r'.parts out
+    → SaysNext s fed answers out r r'
 unfolding Hears
-says_after s fed answers r' (spoken.Answer a) same framed x = (same, framed, x)
-says_after s fed answers r' spoken.More same framed x = (same, framed, x)
-says_after s fed answers r' spoken.NotYet same framed x = ((same, framed, x.0), x.1)
-says_after s fed answers r' spoken.Bad same framed x = x
+says_after s fed answers r r' (spoken.Answer a) same framed x = (same, framed, x)
+says_after s fed answers r r' spoken.More same framed x = ((same, framed, x.0), x.1)
+says_after s fed answers r r' spoken.NotYet same framed x = ((same, framed, x.0), x.1)
+says_after s fed answers r r' spoken.Bad same framed x = x
 
-pub of_frame : (s t : Speech) (fed frame : List ℕ) (answers : List Answer) (r r' : AnswerReader) (out : Spoken) → r'.speech ≡ r.speech → r.speech ≡ t → framing_of r'.cutter ≡ framing_of r.cutter → Framed (framing_of r.cutter) (held r.cutter) frame (held r'.cutter) → ReadsAs t frame r.parts out r'.parts → Hears s fed answers r → SaysNext s fed answers out r'
+pub of_frame : (s t : Speech) (fed frame : List ℕ) (answers : List Answer) (r r' : AnswerReader) (out : Spoken) → r'.speech ≡ r.speech → r.speech ≡ t → framing_of r'.cutter ≡ framing_of r.cutter → Framed (framing_of r.cutter) (held r.cutter) frame (held r'.cutter) → ReadsAs t frame r.parts out r'.parts → Hears s fed answers r → SaysNext s fed answers out r r'
 unfolding Hears
 of_frame s t fed frame answers r r' out same is framed frames reads x =
     let reads' = subst (λ (u : Speech). ReadsAs u frame r.parts out r'.parts) (sym is ∙ x.0) reads in
     let frames' = subst (λ (y : Framing). Framed y (held r.cutter) frame (held r'.cutter)) x.1 frames in
-    says_after s fed answers r' out (same ∙ x.0) (framed ∙ x.1) (after_as s fed frame answers (held r.cutter) (held r'.cutter) r.parts r'.parts out frames' reads' x.2)
+    says_after s fed answers r r' out (same ∙ x.0) (framed ∙ x.1) (after_as s fed frame answers (held r.cutter) (held r'.cutter) r.parts r'.parts out frames' reads' x.2)

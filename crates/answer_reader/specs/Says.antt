@@ -13,6 +13,7 @@ use Rattle.run_plan.specs.declared.plan.Speech.TheVariants as speech
 use Rattle.wire_fields.specs.Message.{AreSpelled}
 use Rattle.wire_messages.specs.Response.{SpellsResponse}
 use Rattle.remote_messages.specs.JobResult.{SpellsJobResult}
+use Rattle.remote_messages.specs.declared.job_result.JobResult.{JobResult}
 use Rattle.remote_branch.specs.Parts.{StandsFor as IsLeftBy}
 use Rattle.remote_branch.specs.declared.parts.Waiting.{Waiting}
 use Rattle.answer_reader.specs.declared.reader.AnswerReader.{AnswerReader}
@@ -76,9 +77,25 @@ HearsAs speech.Remote fed answers s waiting = HeardResults fed answers s waiting
 unfoldable pub Hears : Speech → List ℕ → List Answer → AnswerReader → Type 0
 Hears s fed answers r = (r.speech ≡ s) × (framing_of r.cutter ≡ framing_for s) × HearsAs s fed answers (held r.cutter) r.parts
 
--- what it gives next
-abbrev pub SaysNext : Speech → List ℕ → List Answer → Spoken → AnswerReader → Type 0
-SaysNext s fed answers (spoken.Answer x) r = Hears s fed (answers ++ x ∷ []) r
-SaysNext s fed answers spoken.More r = Hears s fed answers r
-SaysNext s fed answers spoken.NotYet r = Hears s fed answers r × SaysAll s fed answers
-SaysNext s fed answers spoken.Bad r = SaysBadly s fed answers
+-- one result more was read of what was fed
+pub record ReadsOneMore (fed : List ℕ) (old new : Held) : Type 0 where
+  pub frames : List (List ℕ)
+  pub frame : List ℕ
+  pub result : JobResult
+  pub before : StandsFor delimited_form fed frames old
+  pub after : StandsFor delimited_form fed (frames ++ frame ∷ []) new
+  pub spelled : SpellsJobResult frame result
+
+-- a part of an answer was read: only an executor's answers come in parts
+abbrev pub ReadsPartAs : Speech → List ℕ → Held → Held → Type 0
+ReadsPartAs speech.Proto fed old new = ⊥
+ReadsPartAs speech.Json fed old new = ⊥
+ReadsPartAs speech.Remote fed old new = ReadsOneMore fed old new
+
+-- what it gives next, and what it was and is then
+abbrev pub SaysNext : Speech → List ℕ → List Answer → Spoken → AnswerReader → AnswerReader → Type 0
+SaysNext s fed answers (spoken.Answer x) old new = Hears s fed (answers ++ x ∷ []) new
+SaysNext s fed answers spoken.More old new =
+    Hears s fed answers new × ReadsPartAs s fed (held old.cutter) (held new.cutter)
+SaysNext s fed answers spoken.NotYet old new = Hears s fed answers new × SaysAll s fed answers
+SaysNext s fed answers spoken.Bad old new = SaysBadly s fed answers

@@ -71,7 +71,7 @@ impl AnswerReader {
     pub fn next(&mut self, alloc: Global) -> Result<Spoken, NoMemory>
         ensures ok { IfOk result (λ spoken. (speech : Speech) (fed : List ℕ) (answers : List Answer)
             → Hears speech fed answers self.old
-            → SaysNext speech fed answers spoken self.new) }
+            → SaysNext speech fed answers spoken self.old self.new) }
     {
         match self.cutter.next()? {
             Next::NotYet => Ok(Spoken::NotYet),

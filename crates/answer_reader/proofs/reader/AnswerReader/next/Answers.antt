@@ -31,6 +31,6 @@ returns-in-Frame c =
     let framed : Framed (framing_of r.cutter) (held r.cutter) c.in-Frame.frame.items (held r'.cutter) = rw (c.in-Frame.is) at (c.in_ok-next.ensures.ok) in
     record {
       ok = if_ok c.spoken_by.result (λ (out : Spoken). ReadsAs r.speech c.deref.result.now r.parts out r'.parts)
-          (λ (out : Spoken). (s : Speech) (fed : List ℕ) (answers : List Answer) → Hears s fed answers r → SaysNext s fed answers out r')
+          (λ (out : Spoken). (s : Speech) (fed : List ℕ) (answers : List Answer) → Hears s fed answers r → SaysNext s fed answers out r r')
           (λ out reads s fed answers x. of_frame s r.speech fed c.in-Frame.frame.items answers r r' out refl refl c.next.ensures.same framed (rw (c.deref.ensures.value) at reads) x) c.spoken_by.ensures;
     }
