@@ -19,7 +19,7 @@ use Rattle.run_plan.specs.declared.plan.PlanAction.{PlanAction}
 use Rattle.exec_journal.specs.declared.ends.Outcome.{Outcome}
 use Rattle.exec_journal.specs.declared.ends.Outcome.TheVariants as outcome
 use Rattle.exec_journal.specs.declared.ends.Standing.{Standing}
-use Rattle.exec_journal.specs.declared.ends.Standing.TheVariants.{Open, Succeeded, Without}
+use Rattle.exec_journal.specs.declared.ends.Standing.TheVariants.{Open, Succeeded, Unsuccessful}
 use Rattle.exec_journal.specs.declared.journal.Entry.{Entry}
 use Rattle.journal_ends.specs.declared.endings.Verdict.{Verdict}
 use Rattle.exec_journal.specs.Words.{grant_of}
@@ -41,14 +41,14 @@ verdicts_from p j a (x ∷ xs) = verdict_of p j a x ∷ verdicts_from p j (suc a
 
 abbrev pub standing_of : Outcome → Standing
 standing_of (outcome.Success b) = Succeeded
-standing_of _ = Without
+standing_of _ = Unsuccessful
 
 abbrev pub standing_own : Option Outcome → Standing → Standing
 standing_own (Some o) s = standing_of o
 standing_own None s = s
 
 abbrev pub standing_by : Verdict → PlanAction → List Standing → Standing
-standing_by v x earlier = standing_own v.own (if v.dropped || is_starved x earlier then Without else Open)
+standing_by v x earlier = standing_own v.own (if v.dropped || is_starved x earlier then Unsuccessful else Open)
 
 abbrev pub outcome_by : Verdict → PlanAction → List Standing → Outcome
 outcome_by v x standings =

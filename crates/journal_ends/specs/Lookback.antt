@@ -7,7 +7,7 @@ use Rattle.exec_journal.specs.declared.ends.Cause.TheVariants as cause
 use Rattle.exec_journal.specs.declared.ends.Outcome.{Outcome}
 use Rattle.exec_journal.specs.declared.ends.Outcome.TheVariants as outcome
 use Rattle.exec_journal.specs.declared.ends.Standing.{Standing}
-use Rattle.exec_journal.specs.declared.ends.Standing.TheVariants.{Without}
+use Rattle.exec_journal.specs.declared.ends.Standing.TheVariants.{Unsuccessful}
 use Rattle.exec_journal.specs.declared.journal.Entry.{Entry}
 use Rattle.exec_journal.specs.declared.call.Call.{Call}
 use Rattle.exec_journal.specs.declared.call.Call.TheVariants as call
@@ -127,7 +127,7 @@ pub record IsTrack (k : Track) (j : List Entry) (t : Attempt) : Type 0 where
 -- ---- by a grant in short
 
 abbrev pub standing_by : List Entry → Attempt → GrantKind → Option Standing
-standing_by j t (prize.Exit n) = Some Without
+standing_by j t (prize.Exit n) = Some Unsuccessful
 standing_by j t prize.Files = by_commit (commit_of j t.action t.branch)
 standing_by j t prize.Nothing = None
 

@@ -4,6 +4,7 @@ use Rattle.outside.specs.declared.berth.BerthCall.{BerthCall}
 use Rattle.outside.specs.declared.floor.FloorRead.{FloorRead}
 use Rattle.outside.specs.declared.floor.SourceFile.{SourceFile}
 use Rattle.outside.specs.declared.place.PlaceWrite.{PlaceWrite}
+use Rattle.outside.specs.declared.shop.ShopCall.{ShopCall}
 
 -- how often it has failed, its files, and its reads so far
 pub record FloorTold : Type 0 where
@@ -46,6 +47,11 @@ pub record ChildTold : Type 0 where
 pub record SinkTold : Type 0 where
   pub faults : ℕ
   pub contents : Option (List ℕ)
+
+-- how often it has failed, and the calls so far with their answers
+pub record ShopTold : Type 0 where
+  pub faults : ℕ
+  pub log : Option (List ShopCall)
 
 -- the three objects of a line that was launched
 pub record LineTold : Type 0 where
