@@ -114,7 +114,8 @@ track_after k t order e won line = record {
 abbrev pub concerns : Attempt → Option Entry → Entry → Bool
 concerns t order e =
     (is_some (carrier_in t e.reply) || is_for t (consumed_in e.reply))
-    || ((is_some (wrote_if t e.call (send_of_entry order)) || is_some (fault_by t order e.call e.reply)) || is_some (grants t.action e))
+    || ((is_some (wrote_if t e.call (send_of_entry order))
+    || is_some (fault_by t order e.call e.reply)) || is_some (grants t.action e))
 
 -- it is what the journal says of the attempt
 pub record IsTrack (k : Track) (j : List Entry) (t : Attempt) : Type 0 where

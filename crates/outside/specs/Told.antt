@@ -18,8 +18,8 @@ pub record BerthTold : Type 0 where
   pub faults : ℕ
   pub log : Option (List BerthCall)
 
--- The action whose place it is, how often it has failed, and the writes that were done, in order. A write
--- that was made and then undone stays in it.
+-- The action whose place it is, how often it has failed, and the writes that were done, in order. A
+-- write that was made and then undone stays in it.
 pub record PlaceTold : Type 0 where
   pub number : ℕ
   pub faults : ℕ
@@ -31,7 +31,8 @@ pub record FeedTold : Type 0 where
   pub faults : ℕ
   pub given : Option (List ℕ)
 
--- the line whose tap it is, how often it has failed, the bytes taken, and whether a read has answered End
+-- the line whose tap it is, how often it has failed, the bytes taken, and whether a read has
+-- answered End
 pub record TapTold : Type 0 where
   pub line : Option ℕ
   pub faults : ℕ
@@ -62,8 +63,8 @@ pub record LineTold : Type 0 where
 abbrev pub line_told : FeedTold → TapTold → ChildTold → LineTold
 line_told feed tap child = record { feed = feed; tap = tap; child = child }
 
--- What an object is doesn't change: the floor's files, the number of a berth or a place, the line of a feed,
--- a tap or a child.
+-- What an object is doesn't change: the floor's files, the number of a berth or a place, the line
+-- of a feed, a tap or a child.
 abbrev pub SameFloor : FloorTold → FloorTold → Type 0
 SameFloor old new = new.files ≡ old.files
 
