@@ -22,6 +22,23 @@ pub enum JobEnd {
     Failed,
 }
 
+impl JobEnd {
+    /// An equal one, which shares the bytes.
+    ///
+    /// # Errors
+    ///
+    /// `NoMemory` where the bytes can have no further owner.
+    pub fn again(&self) -> Result<JobEnd, NoMemory>
+        ensures { IfOk result (λ e. e ≡ self.now) }
+    {
+        Ok(match self {
+            JobEnd::Exit(code, output) => JobEnd::Exit(*code, output.again()?),
+            JobEnd::Signal => JobEnd::Signal,
+            JobEnd::Failed => JobEnd::Failed,
+        })
+    }
+}
+
 /// One call on a shop, with its answer.
 #[derive(Drop)]
 pub enum ShopCall {
