@@ -1,5 +1,6 @@
 -- The names of the keys, and what stands at one.
 use Rattle.std.specs.Prelude.{ℕ, List, codes, Option, Some, None, option_and_then}
+use Rattle.list_lemmas.specs.Options.{or_else}
 use Rattle.serde_json.specs.Data.{Data, null, boolean, number, string, array, object}
 use Rattle.serde_json.specs.Find.{get}
 use Rattle.wire_messages.specs.declared.fault.JsonKey.{JsonKey}
@@ -33,10 +34,6 @@ snake key.ExitCode = codes "exit_code"
 snake key.Output = codes "output"
 snake key.WasCancelled = codes "was_cancelled"
 
-abbrev pub or_else : {A : Type 0} → Option A → Option A → Option A
-or_else None other = other
-or_else (Some x) other = Some x
-
 -- `null` stands for the default, as nothing does
 abbrev pub unless_null : Data → Option Data
 unless_null null = None
@@ -46,6 +43,7 @@ unless_null (string s) = Some (string s)
 unless_null (array ds) = Some (array ds)
 unless_null (object ms) = Some (object ms)
 
--- What stands at a key of an object. If both names are there, the first one counts, and the other isn't looked at.
+-- What stands at a key of an object. If both names are there, the first one counts, and the other
+-- isn't looked at.
 abbrev pub value_at : JsonKey → Data → Option Data
 value_at k d = option_and_then unless_null (or_else (get (camel k) d) (get (snake k) d))

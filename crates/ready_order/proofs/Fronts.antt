@@ -1,8 +1,7 @@
 -- How many elements of a list, from the first on, pass a test.
-use Rattle.std.proofs.Common.{◌≡◌, ℕ, zero, suc, ◌+◌, ◌<◌, ◌≤◌, ◌==◌, nat_eq, Bool, true, false, ◌&&◌, ◌||◌, cond, List, [], ◌∷◌, length, get_or, refl, ap, sym, ◌∙◌, arith}
-use Rattle.std.specs.List.{list_any, list_all, prefix_len}
+use Rattle.std.proofs.Common.{◌≡◌, ℕ, suc, ◌+◌, ◌≤◌, ◌==◌, nat_eq, Bool, true, ◌&&◌, cond, List, [], ◌∷◌, length, refl, ◌∙◌, arith}
+use Rattle.std.specs.List.{list_all, prefix_len}
 use Rattle.std.proofs.lemmas.Bool.{or_left, or_right, eq-eqb, eqb-true, ne_eqb}
-use Rattle.std.proofs.lemmas.List.Sums.{prefix_len-le-length}
 use Rattle.exec_journal.proofs.Ruled.{by_bool}
 use Rattle.ready_order.specs.Board.{is_in}
 
@@ -34,14 +33,17 @@ module _ (f g : ℕ → Bool) where
       (λ yes. rw (more x yes) (omega arith)) (λ no. omega arith)
 
 -- all pass exactly where the front is the whole
-pub all_by_front : (f : ℕ → Bool) (xs : List ℕ) → nat_eq (prefix_len f xs) (length xs) ≡ list_all f xs
+pub all_by_front : (f : ℕ → Bool) (xs : List ℕ) → nat_eq (prefix_len f xs) (length xs)
+    ≡ list_all f xs
 all_by_front f [] = refl
 all_by_front f (x ∷ xs) =
-    by_bool (f x) (λ b. nat_eq (cond b (1 + prefix_len f xs) 0) (suc (length xs)) ≡ (b && list_all f xs))
+    by_bool (f x) (λ b. nat_eq (cond b (1 + prefix_len f xs) 0) (suc (length xs)) ≡
+    (b && list_all f xs))
     (λ yes. step (prefix_len f xs) (length xs) ∙ all_by_front f xs)
     (λ no. ne_eqb 0 (suc (length xs)) (λ e. omega arith))
   where
     step : (m n : ℕ) → nat_eq (1 + m) (suc n) ≡ nat_eq m n
     step m n = by_bool (nat_eq m n) (λ b. nat_eq m n ≡ b → nat_eq (1 + m) (suc n) ≡ b)
         (λ yes h. let e = eqb-true m n h in eq-eqb (1 + m) (suc n) (omega arith))
-        (λ no h. ne_eqb (1 + m) (suc n) (λ e. let k : m ≡ n = omega arith in let t = eq-eqb m n k in absurd (cc))) refl
+        (λ no h. ne_eqb (1 + m) (suc n) (λ e. let k : m ≡ n = omega arith in let t =
+        eq-eqb m n k in absurd (cc))) refl

@@ -1,17 +1,17 @@
 -- What a settled action leaves of what is noted: its users' producers have another success than before.
-use Rattle.std.proofs.Common.{◌≡◌, ℕ, ◌<◌, ◌≤◌, ◌≢◌, Bool, true, false, not, cond, List, [], length, get_or, Option, Some, None, option_map, inl, inr, refl, ap, sym, subst, ◌∙◌, arith}
+use Rattle.std.proofs.Common.{◌≡◌, ℕ, ◌<◌, ◌≢◌, Bool, true, false, not, cond, List, [], length, get_or, Option, Some, None, option_map, inl, inr, refl, ap, sym, subst, ◌∙◌, arith}
 use Rattle.std.specs.Prelude.{slice_get}
 use Rattle.std.specs.Bool.{beq}
 use Rattle.std.proofs.lemmas.Bool.{cases_eq}
 use Rattle.std.proofs.lemmas.List.{length-map}
-use Rattle.std.proofs.lemmas.Option.{slice_get-map, slice_get_within, get_or_from_slice_get}
+use Rattle.std.proofs.lemmas.Option.{slice_get-map, slice_get_within}
 use Rattle.exec_journal.specs.Settled.{is_success}
 use Rattle.exec_journal.proofs.Ruled.{by_bool}
 use Rattle.list_lemmas.specs.Places.{update}
 use Rattle.ready_order.specs.declared.ActionState.{ActionState}
 use Rattle.ready_order.specs.Facts.{Facts}
 use Rattle.ready_order.specs.Queue.{has_success, settled_state}
-use Rattle.ready_order.specs.Board.{AreKnown, AreUsers, Fits, IsNoted, RightAt, SameOf, Shape, is_in, shape_of, shapes, supplied_by}
+use Rattle.ready_order.specs.Board.{AreKnown, Fits, IsNoted, RightAt, SameOf, Shape, is_in, shape_of, shapes}
 use Rattle.ready_order.proofs.Fronts.{front_same, front_more}
 use Rattle.ready_order.proofs.Told.{right_known, same_right, same_supplied}
 use Rattle.ready_order.proofs.States.{shapes_kept, update_beside, update_here, right_kept}
@@ -23,29 +23,37 @@ same_test false false e = refl
 same_test true false e = sym e
 same_test false true e = e
 
-settled_success : (s : Bool) (x : ActionState) → is_success (option_map (λ y. y.own) (option_map (settled_state s) (Some x))) ≡ s
+settled_success : (s : Bool) (x : ActionState) → is_success (option_map (λ y. y.own) (option_map
+    (settled_state s) (Some x))) ≡ s
 settled_success true x = refl
 settled_success false x = refl
 
 -- whose state it was before
 origin : (g : ActionState → ActionState) → ((x : ActionState) → shape_of (g x) ≡ shape_of x)
-    → (states : List ActionState) (a c : ℕ) (y : ActionState) → slice_get (update g states a) c ≡ Some y
+    → (states : List ActionState) (a c : ℕ) (y : ActionState) → slice_get (update g states a) c
+    ≡ Some y
     → (x : ActionState) × (slice_get states c ≡ Some x) × (y.producers ≡ x.producers)
 origin g same states a c y here = by (slice_get states c) refl
   where
     shape : option_map shape_of (slice_get states c) ≡ Some (shape_of y)
     shape =
-        sym (slice_get-map shape_of states c) ∙ sym (ap (λ ss. slice_get ss c) (shapes_kept g same states a))
+        sym (slice_get-map shape_of states c) ∙ sym (ap (λ ss. slice_get ss c)
+        (shapes_kept g same states a))
         ∙ slice_get-map shape_of (update g states a) c ∙ ap (option_map shape_of) here
-    by : (o : Option ActionState) → slice_get states c ≡ o → (x : ActionState) × (slice_get states c ≡ Some x) × (y.producers ≡ x.producers)
-    by None e = let k = shape in absurd (let z : ◌≡◌ {A = Option Shape} None (Some (shape_of y)) = sym (ap (option_map shape_of) e) ∙ k in cc)
+
+    by : (o : Option ActionState) → slice_get states c ≡ o → (x : ActionState) ×
+        (slice_get states c ≡ Some x) × (y.producers ≡ x.producers)
+    by None e = let k = shape in absurd (let z : ◌≡◌ {A = Option Shape} None (Some (shape_of y)) =
+        sym (ap (option_map shape_of) e) ∙ k in cc)
     by (Some x) e =
-        let z : ◌≡◌ {A = Option Shape} (Some (shape_of x)) (Some (shape_of y)) = sym (ap (option_map shape_of) e) ∙ shape in
+        let z : ◌≡◌ {A = Option Shape} (Some (shape_of x)) (Some (shape_of y)) = sym (ap
+        (option_map shape_of) e) ∙ shape in
         let k : shape_of x ≡ shape_of y = cc in
         (x, e, sym (ap (λ s. s.producers) k))
 
 module _ (s : Bool) (states : List ActionState) (users : List (List ℕ)) (f : Facts) (a : ℕ)
-    (n : IsNoted states users f) (x : ActionState) (here : slice_get states a ≡ Some x) (us : List ℕ)
+    (n : IsNoted states users f) (x : ActionState) (here : slice_get states a ≡ Some x)
+    (us : List ℕ)
     (are : us ≡ cond (not (beq (has_success states a) s)) (get_or users a []) []) where
   abbrev now : List ActionState
   now = update (settled_state s) states a
@@ -55,12 +63,14 @@ module _ (s : Bool) (states : List ActionState) (users : List (List ℕ)) (f : F
 
   success_here : has_success now a ≡ s
   success_here =
-      ap (λ o. is_success (option_map (λ y. y.own) o)) (update_here (settled_state s) states a ∙ ap (option_map (settled_state s)) here)
+      ap (λ o. is_success (option_map (λ y. y.own) o)) (update_here (settled_state s) states a ∙ ap
+      (option_map (settled_state s)) here)
       ∙ settled_success s x
 
   success_beside : (q : ℕ) → q ≢ a → has_success now q ≡ has_success states q
   success_beside q apart =
-      ap (λ o. is_success (option_map (λ y. y.own) o)) (update_beside (settled_state s) states a q apart)
+      ap (λ o. is_success (option_map (λ y. y.own) o)) (update_beside
+      (settled_state s) states a q apart)
 
   pub settled_fits : Fits (shapes now) f
   settled_fits = rw (shapes_kept (settled_state s) kept states a) n.fits
@@ -73,24 +83,28 @@ module _ (s : Bool) (states : List ActionState) (users : List (List ℕ)) (f : F
       (λ same none. absurd (cc)) (λ other hit. n.linked.known a c hit) (sym (ap (is_in c) are) ∙ m))
 
   -- an action that isn't followed has the same producers with success
-  unaffected : (c : ℕ) (y : ActionState) → slice_get states c ≡ Some y → is_in c us ≡ false → (q : ℕ)
+  unaffected : (c : ℕ) (y : ActionState) → slice_get states c ≡ Some y → is_in c us ≡ false →
+      (q : ℕ)
       → is_in q y.producers ≡ true → has_success now q ≡ has_success states q
   unaffected c y at out q m =
       elim (cases_eq q a) [
-        inl same ↦
-        rw same
-        (by_bool (beq (has_success states a) s)
-        (λ b. beq (has_success states a) s ≡ b → is_in c (cond (not b) (get_or users a []) []) ≡ false → has_success now a ≡ has_success states a)
-        (λ _ e _. success_here ∙ sym (same_test (has_success states a) s e))
-        (λ _ _ none.
-        let shape : slice_get (shapes states) c ≡ Some (shape_of y) = slice_get-map shape_of states c ∙ ap (option_map shape_of) at in
-        let size = length-map states shape_of in
-        let low = slice_get_within states a x here in
-        let m' : is_in a y.producers ≡ true = rw same at m in
-        let hit = n.linked.among a c (shape_of y) (slice_get_within states c y at) shape (omega arith) m' in
-        absurd (cc))
-        refl (sym (ap (is_in c) are) ∙ out))
-      | inr apart ↦ success_beside q apart
+        | inl same ↦
+            rw same
+            (by_bool (beq (has_success states a) s)
+            (λ b. beq (has_success states a) s ≡ b → is_in c (cond (not b) (get_or users a []) [])
+            ≡ false → has_success now a ≡ has_success states a)
+            (λ _ e _. success_here ∙ sym (same_test (has_success states a) s e))
+            (λ _ _ none.
+            let shape : slice_get (shapes states) c ≡ Some (shape_of y) =
+            slice_get-map shape_of states c ∙ ap (option_map shape_of) at in
+            let size = length-map states shape_of in
+            let low = slice_get_within states a x here in
+            let m' : is_in a y.producers ≡ true = rw same at m in
+            let hit = n.linked.among a c (shape_of y) (slice_get_within states c y at) shape
+            (omega arith) m' in
+            absurd (cc))
+            refl (sym (ap (is_in c) are) ∙ out))
+        | inr apart ↦ success_beside q apart
       ]
 
   pub settled_known : s ≡ true → (c : ℕ) → AreKnown now c (get_or f.supplied c 0)
@@ -99,8 +113,8 @@ module _ (s : Bool) (states : List ActionState) (users : List (List ℕ)) (f : F
       let known = right_known states f c (n.right c) w.0 w.1 in
       let more = front_more (has_success states) (has_success now) w.0.producers (λ q hit.
       elim (cases_eq q a) [
-        inl same ↦ rw same (success_here ∙ won)
-      | inr apart ↦ success_beside q apart ∙ hit
+        | inl same ↦ rw same (success_here ∙ won)
+        | inr apart ↦ success_beside q apart ∙ hit
       ]) in
       rw w.2 (omega arith)
 
@@ -121,7 +135,8 @@ module _ (s : Bool) (states : List ActionState) (users : List (List ℕ)) (f : F
         (λ out y at.
         let w = origin (settled_state s) kept states a a y at in
         let known = right_known states f a (n.right a) w.0 w.1 in
-        let front = front_same (has_success states) (has_success now) w.0.producers (λ q m. unaffected a w.0 w.1 out q m) in
+        let front = front_same (has_success states) (has_success now) w.0.producers
+        (λ q m. unaffected a w.0 w.1 out q m) in
         let was = same_supplied f h a (others a out) in
         rw w.2 (omega arith))
 
@@ -130,10 +145,14 @@ module _ (s : Bool) (states : List ActionState) (users : List (List ℕ)) (f : F
         → ((c : ℕ) → c ≢ a → SameOf h k c) → IsNoted now users k
     settled_noted k fits right beside = record {
       small = rw (length_update (settled_state s) states a) n.small;
-      linked = rw (shapes_kept (settled_state s) kept states a, length_update (settled_state s) states a) n.linked;
+      linked = rw (
+        shapes_kept (settled_state s) kept states a,
+        length_update
+            (settled_state s) states a,
+      ) n.linked;
       fits = fits;
       right = λ c. elim (cases_eq c a) [
-          inl e ↦ subst (RightAt now k) (sym e) right
+        | inl e ↦ subst (RightAt now k) (sym e) right
         | inr apart ↦ same_right now h k c (beside c apart) (right_beside c apart)
-        ];
+      ];
     }

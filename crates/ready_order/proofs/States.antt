@@ -1,23 +1,22 @@
 -- What a change of one state leaves of the others, and of what is noted.
-use Rattle.std.proofs.Common.{◌≡◌, ℕ, zero, suc, ◌<◌, ◌≤◌, ◌≢◌, ◌^◌, ◌==◌, Bool, true, false, ◌&&◌, not, cond, List, [], ◌∷◌, length, get_or, map, Option, Some, None, is_some, option_map, inl, inr, refl, ap, sym, subst, ◌∙◌, arith}
+use Rattle.std.proofs.Common.{◌≡◌, ℕ, zero, suc, ◌≤◌, ◌≢◌, Bool, true, ◌&&◌, not, cond, List, [], ◌∷◌, get_or, Option, Some, None, is_some, option_map, inl, inr, refl, ap, sym, subst, ◌∙◌}
 use Rattle.std.specs.Prelude.{slice_get}
-use Rattle.std.proofs.lemmas.Bool.{cases_eq, eqb-true, eqb-false, ne_eqb, eq-eqb}
+use Rattle.std.proofs.lemmas.Bool.{cases_eq, ne_eqb, eq-eqb}
 use Rattle.exec_journal.specs.Settled.{is_settled, is_success}
-use Rattle.exec_journal.specs.declared.ends.Standing.{Standing}
-use Rattle.exec_journal.proofs.Ruled.{by_bool}
 use Rattle.list_lemmas.specs.Places.{update}
 use Rattle.list_lemmas.proofs.Updates.{get_update}
 use Rattle.ready_order.specs.declared.ActionState.{ActionState}
 use Rattle.ready_order.specs.Facts.{Facts}
 use Rattle.run_plan.specs.declared.plan.Branch.{Branch}
 use Rattle.run_plan.specs.declared.plan.Branch.TheVariants.{Local, Remote}
-use Rattle.ready_order.specs.Queue.{has_success, is_ready, state_with}
-use Rattle.ready_order.specs.Board.{AreKnown, AreUsers, Fits, IsNoted, IsRight, RightAt, SameOf, is_in, mark, queued_if, shape_of, shapes, supplied_by}
+use Rattle.ready_order.specs.Queue.{has_success, state_with}
+use Rattle.ready_order.specs.Board.{AreKnown, Fits, IsNoted, RightAt, SameOf, is_in, mark, queued_if, shape_of, shapes, supplied_by}
 use Rattle.ready_order.proofs.Fronts.{front_same, all_same}
 use Rattle.ready_order.proofs.Told.{right_known, same_right}
 use Rattle.ready_order.proofs.Written.{length_update}
 
-pub shapes_kept : (g : ActionState → ActionState) → ((x : ActionState) → shape_of (g x) ≡ shape_of x)
+pub shapes_kept : (g : ActionState → ActionState) → ((x : ActionState) → shape_of (g x)
+    ≡ shape_of x)
     → (states : List ActionState) (a : ℕ) → shapes (update g states a) ≡ shapes states
 shapes_kept g same [] a = refl
 shapes_kept g same (x ∷ xs) zero = ap (λ s. s ∷ shapes xs) (same x)
@@ -27,7 +26,8 @@ pub update_beside : (g : ActionState → ActionState) (states : List ActionState
     → slice_get (update g states a) c ≡ slice_get states c
 update_beside g states a c apart =
     get_update g states a c
-    ∙ ap (λ b. cond b (option_map g (slice_get states c)) (slice_get states c)) (ne_eqb a c (λ e. apart (sym e)))
+    ∙ ap (λ b. cond b (option_map g (slice_get states c)) (slice_get states c)) (ne_eqb a c
+    (λ e. apart (sym e)))
 
 pub update_here : (g : ActionState → ActionState) (states : List ActionState) (a : ℕ)
     → slice_get (update g states a) a ≡ option_map g (slice_get states a)
@@ -37,15 +37,19 @@ update_here g states a =
 
 -- where every state keeps its own standing, the same actions have success
 pub success_kept : (g : ActionState → ActionState) → ((x : ActionState) → (g x).own ≡ x.own)
-    → (states : List ActionState) (a q : ℕ) → has_success (update g states a) q ≡ has_success states q
+    → (states : List ActionState) (a q : ℕ) → has_success (update g states a) q
+    ≡ has_success states q
 success_kept g same states a q =
     elim (cases_eq q a) [
-      inl here ↦
-      rw here (ap (λ o. is_success (option_map (λ x. x.own) o)) (update_here g states a) ∙ own_same (slice_get states a))
-    | inr apart ↦ ap (λ o. is_success (option_map (λ x. x.own) o)) (update_beside g states a q apart)
+      | inl here ↦
+          rw here (ap (λ o. is_success (option_map (λ x. x.own) o)) (update_here g states a) ∙ own_same
+          (slice_get states a))
+      | inr apart ↦ ap (λ o. is_success (option_map (λ x. x.own) o))
+          (update_beside g states a q apart)
     ]
   where
-    own_same : (o : Option ActionState) → is_success (option_map (λ x. x.own) (option_map g o)) ≡ is_success (option_map (λ x. x.own) o)
+    own_same : (o : Option ActionState) → is_success (option_map (λ x. x.own) (option_map g o))
+        ≡ is_success (option_map (λ x. x.own) o)
     own_same None = refl
     own_same (Some x) = ap (λ s. is_success (Some s)) (same x)
 
@@ -63,7 +67,8 @@ right_kept states states' f c e same right = λ x here.
     record {
       supplied = r.supplied ∙ ap Some (sym front);
       waiting = r.waiting ∙ ap (λ b. Some (mark c (not (is_settled x.own) && b))) (sym all);
-      queued = λ g lt. r.queued g lt ∙ ap (λ b. Some (mark c (is_some (queued_if b g x)))) (sym all);
+      queued = λ g lt. r.queued g lt ∙ ap (λ b. Some (mark c (is_some (queued_if b g x))))
+          (sym all);
     }
 
 -- ---- a change that leaves each standing
@@ -82,24 +87,27 @@ module _ (g : ActionState → ActionState) (same : (x : ActionState) → shape_o
       by None old e = absurd (cc)
       by (Some y) old e =
           let is : g y ≡ x = cc in
-          let ps : x.producers ≡ y.producers = ap (λ z. z.producers) (sym is) ∙ ap (λ s. s.producers) (same y) in
-          let front = front_same (has_success states) (has_success (update g states a)) y.producers (λ q m. success_kept g own states a q) in
+          let ps : x.producers ≡ y.producers = ap (λ z. z.producers) (sym is) ∙ ap
+          (λ s. s.producers) (same y) in
+          let front = front_same (has_success states) (has_success (update g states a)) y.producers
+          (λ q m. success_kept g own states a q) in
           let known = right_known states f a (n.right a) y old in
           rw (ps, front) known
 
-  pub noted_again : (h : Facts) → Fits (shapes (update g states a)) h → RightAt (update g states a) h a
+  pub noted_again : (h : Facts) → Fits (shapes (update g states a)) h → RightAt
+      (update g states a) h a
       → ((c : ℕ) → c ≢ a → SameOf f h c) → IsNoted (update g states a) users h
   noted_again h fits here others = record {
     small = rw (length_update g states a) n.small;
     linked = rw (shapes_kept g same states a, length_update g states a) n.linked;
     fits = fits;
     right = λ c. elim (cases_eq c a) [
-        inl e ↦ subst (RightAt (update g states a) h) (sym e) here
+      | inl e ↦ subst (RightAt (update g states a) h) (sym e) here
       | inr apart ↦
-        same_right (update g states a) f h c (others c apart)
-        (right_kept states (update g states a) f c (update_beside g states a c apart)
-        (λ x old q m. success_kept g own states a q) (n.right c))
-      ];
+          same_right (update g states a) f h c (others c apart)
+          (right_kept states (update g states a) f c (update_beside g states a c apart)
+          (λ x old q m. success_kept g own states a q) (n.right c))
+    ];
   }
 
 pub free_same : (b : Branch) (v : Bool) (x : ActionState) → shape_of (state_with b v x) ≡ shape_of x

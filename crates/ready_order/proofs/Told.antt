@@ -1,18 +1,19 @@
 -- What is noted stays right, or is right at first.
-use Rattle.std.proofs.Common.{◌≡◌, ℕ, zero, suc, ◌+◌, ◌<◌, ◌≤◌, ◌≢◌, ◌==◌, nat_lt, Bool, true, false, ◌||◌, cond, List, [], ◌∷◌, take, length, get_or, map, Option, Some, None, option_map, unwrap_or, inl, inr, refl, ap, sym, subst, ◌∙◌, arith}
+use Rattle.std.proofs.Common.{◌≡◌, ℕ, zero, suc, ◌+◌, ◌<◌, ◌≢◌, ◌==◌, Bool, true, false, ◌||◌, cond, List, [], ◌∷◌, take, length, get_or, Some, None, unwrap_or, inl, inr, refl, ap, sym, subst, ◌∙◌, arith}
 use Rattle.std.specs.Prelude.{slice_get, replicate, option_and_then}
-use Rattle.std.proofs.lemmas.Bool.{lt-ltb, cases_lt, cases_eq, or_left, or_right, or_parts, eq-eqb, ne_eqb, eqb-false}
+use Rattle.std.proofs.lemmas.Bool.{lt-ltb, cases_eq, or_left, or_right, or_parts, eq-eqb, ne_eqb, eqb-false}
 use Rattle.std.proofs.lemmas.List.{length-replicate}
-use Rattle.std.proofs.lemmas.Option.{slice_get-get_or, slice_get_within, get_or_from_slice_get, unwrap_or-slice_get}
+use Rattle.std.proofs.lemmas.Option.{slice_get_within, get_or_from_slice_get, unwrap_or-slice_get}
 use Rattle.std.proofs.lemmas.List.Folds.{list_any_more}
 use Rattle.exec_journal.proofs.Ruled.{by_bool}
 use Rattle.list_lemmas.proofs.Updates.{get_replicate}
 use Rattle.winner_tree.specs.declared.TheConstants.{ABSENT}
 use Rattle.ready_order.specs.declared.ActionState.{ActionState}
 use Rattle.ready_order.specs.Facts.{Facts}
-use Rattle.ready_order.specs.Board.{AreKnown, Fits, IsRight, RightAt, SameOf, Shape, is_in, names, place, shape_of, shapes, supplied_by}
+use Rattle.ready_order.specs.Board.{AreKnown, Fits, RightAt, SameOf, Shape, is_in, names, supplied_by}
 
-pub same_right : (states : List ActionState) (f h : Facts) (a : ℕ) → SameOf f h a → RightAt states f a
+pub same_right : (states : List ActionState) (f h : Facts) (a : ℕ) → SameOf f h a
+    → RightAt states f a
     → RightAt states h a
 same_right states f h a s right = λ x here.
     let r = right x here in
@@ -22,7 +23,8 @@ same_right states f h a s right = λ x here.
       queued = λ g lt. s.queued g ∙ r.queued g (let e = s.groups in omega arith);
     }
 
-pub same_supplied : (f h : Facts) (a : ℕ) → SameOf f h a → get_or h.supplied a 0 ≡ get_or f.supplied a 0
+pub same_supplied : (f h : Facts) (a : ℕ) → SameOf f h a → get_or h.supplied a 0
+    ≡ get_or f.supplied a 0
 same_supplied f h a s =
     sym (unwrap_or-slice_get h.supplied a 0) ∙ ap (λ o. unwrap_or o 0) s.supplied
     ∙ unwrap_or-slice_get f.supplied a 0
@@ -81,7 +83,8 @@ module _ (all : List Shape) (groups : ℕ)
         let is : slice_get empty.queues g ≡ Some (replicate n ABSENT) = row_at g (omega arith) in
         let e : q ≡ replicate n ABSENT = cc in
         ap length e ∙ length-replicate n ABSENT ∙ size;
-    named = λ a g s h m. let lt = named a g s h m in let many = length-replicate groups (replicate n ABSENT) in omega arith;
+    named = λ a g s h m. let lt = named a g s h m in let many = length-replicate groups
+        (replicate n ABSENT) in omega arith;
     strange = λ a g s h m lt.
         let many = length-replicate groups (replicate n ABSENT) in
         let within = slice_get_within all a s h in
@@ -94,7 +97,8 @@ module _ (all : List Shape) (groups : ℕ)
 pub is_in_at : (xs : List ℕ) (k : ℕ) → k < length xs → is_in (get_or xs k 0) xs ≡ true
 is_in_at [] k lt = absurd (omega arith)
 is_in_at (x ∷ xs) zero lt = or_left (x == x) (is_in x xs) (eq-eqb x x refl)
-is_in_at (x ∷ xs) (suc k) lt = or_right (x == get_or xs k 0) (is_in (get_or xs k 0) xs) (is_in_at xs k (omega arith))
+is_in_at (x ∷ xs) (suc k) lt = or_right (x == get_or xs k 0) (is_in (get_or xs k 0) xs)
+    (is_in_at xs k (omega arith))
 
 -- the next user is noted, and the others before it stay right
 pub next_right : (states : List ActionState) (f h : Facts) (xs : List ℕ) (k : ℕ) → k < length xs
@@ -103,12 +107,13 @@ pub next_right : (states : List ActionState) (f h : Facts) (xs : List ℕ) (k : 
     → (a : ℕ) → is_in a (take (k + 1) xs) ≡ true → RightAt states h a
 next_right states f h xs k lt before now others a m =
     elim (cases_eq a (get_or xs k 0)) [
-      inl same ↦ subst (RightAt states h) (sym same) now
-    | inr apart ↦
-      (let more = list_any_more (λ x. x == a) xs k 0 lt in
-      let miss : (get_or xs k 0 == a) ≡ false = ne_eqb (get_or xs k 0) a (λ e. apart (sym e)) in
-      let old : is_in a (take k xs) ≡ true = or_false (is_in a (take k xs)) ∙ sym (more ∙ ap (λ b. is_in a (take k xs) || b) miss) ∙ m in
-      same_right states f h a (others a apart) (before a old))
+      | inl same ↦ subst (RightAt states h) (sym same) now
+      | inr apart ↦
+          (let more = list_any_more (λ x. x == a) xs k 0 lt in
+          let miss : (get_or xs k 0 == a) ≡ false = ne_eqb (get_or xs k 0) a (λ e. apart (sym e)) in
+          let old : is_in a (take k xs) ≡ true = or_false (is_in a (take k xs)) ∙ sym (more ∙ ap
+          (λ b. is_in a (take k xs) || b) miss) ∙ m in
+          same_right states f h a (others a apart) (before a old))
     ]
   where
     or_false : (b : Bool) → b ≡ (b || false)
@@ -122,10 +127,12 @@ pub next_same : (f g h : Facts) (xs : List ℕ) (k : ℕ) → k < length xs
 next_same f g h xs k lt before others a m =
     let more = list_any_more (λ x. x == a) xs k 0 lt in
     let parts = or_parts (is_in a (take k xs)) (get_or xs k 0 == a) (sym more ∙ m) in
-    same_trans f g h a (before a parts.0) (others a (λ e. eqb-false (get_or xs k 0) a parts.1 (sym e)))
+    same_trans f g h a (before a parts.0) (others a (λ e. eqb-false (get_or xs k 0) a parts.1
+    (sym e)))
 
 -- so many of the next user's producers are known
-pub next_known : (states : List ActionState) (f g : Facts) (xs : List ℕ) (k a known : ℕ) (success : Bool)
+pub next_known : (states : List ActionState) (f g : Facts) (xs : List ℕ) (k a known : ℕ)
+    (success : Bool)
     → ((c : ℕ) → is_in c (take k xs) ≡ true → RightAt states g c)
     → ((c : ℕ) → is_in c (take k xs) ≡ false → SameOf f g c)
     → (success ≡ true → (c : ℕ) → AreKnown states c (get_or f.supplied c 0))

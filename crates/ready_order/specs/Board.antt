@@ -1,5 +1,5 @@
 -- When what is noted beside the states is right.
-use Rattle.std.specs.Prelude.{◌≡◌, ℕ, ◌==◌, ◌<◌, ◌≤◌, ◌≢◌, ◌^◌, Bool, true, false, ◌&&◌, ◌||◌, is_some, unwrap_or, option_map, option_and_then, Option, Some, None, if◌then◌else◌, List, [], length, map, slice_get, slice_set, get_or}
+use Rattle.std.specs.Prelude.{◌≡◌, ℕ, ◌==◌, ◌<◌, ◌≤◌, ◌^◌, Bool, true, false, ◌&&◌, ◌||◌, is_some, unwrap_or, option_map, option_and_then, Option, Some, None, if◌then◌else◌, List, [], length, map, slice_get, slice_set, get_or}
 use Rattle.std.specs.List.{list_any, prefix_len}
 use Rattle.run_plan.specs.declared.plan.Branch.{Branch}
 use Rattle.run_plan.specs.declared.plan.Branch.TheVariants.{Local, Remote}

@@ -96,7 +96,7 @@ impl Ready {
         state.own = if success {
             Standing::Succeeded
         } else {
-            Standing::Without
+            Standing::Unsuccessful
         };
         let users = all_or_none(self.users.of_action(number), had_success != success);
         self.board.follow(self.actions.as_slice(), users, success);
@@ -237,7 +237,7 @@ fn standing_at_start(work: &PlanAction) -> Standing
     ensures { result ≡ new_standing work.now }
 {
     if work.local.is_none() && work.remote.is_none() {
-        Standing::Without
+        Standing::Unsuccessful
     } else {
         Standing::Open
     }

@@ -7,5 +7,7 @@ use Rattle.ready_order.proofs.Ready.all_settled.Goals as goal
 
 pub returns : goal.returns
 returns c =
-    subst (λ (ss : List ActionState). nat_eq c.first_waiting.result ABSENT ≡ none_waits ss) c.self.view_is
-    (waiting_is c.self.inside.actions.items c.self.inside.users c.self.inside.board c.self.invariant c.first_waiting.result c.first_waiting.ensures)
+    subst (λ (ss : List ActionState). nat_eq c.first_waiting.result ABSENT
+    ≡ none_waits ss) c.self.view_is
+    (waiting_is c.self.inside.actions.items c.self.inside.users c.self.inside.board
+    c.self.invariant c.first_waiting.result c.first_waiting.ensures)

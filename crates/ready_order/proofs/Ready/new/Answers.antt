@@ -19,7 +19,10 @@ invariant_of-result c =
     let most = c.requires in
     record {
       small = grind (arith, common_steps);
-      linked = subst (λ (ss : List ActionState). AreUsers (shapes ss) (length ss) users) e1 (c.in_ok-users.ensures {u = tt});
-      fits = subst (λ (ss : List ActionState). Fits (shapes ss) board) e2 (c.in_ok-board.ensures {u = tt}).fits;
-      right = subst (λ (ss : List ActionState). (a : ℕ) → RightAt ss board a) e2 (c.in_ok-board.ensures {u = tt}).right;
+      linked = subst (λ (ss : List ActionState). AreUsers (shapes ss) (length ss) users) e1
+          (c.in_ok-users.ensures {u = tt});
+      fits = subst (λ (ss : List ActionState). Fits (shapes ss) board) e2
+          (c.in_ok-board.ensures {u = tt}).fits;
+      right = subst (λ (ss : List ActionState). (a : ℕ) → RightAt ss board a) e2
+          (c.in_ok-board.ensures {u = tt}).right;
     }

@@ -1,8 +1,7 @@
-use Rattle.std.proofs.Common.{◌≡◌, ◌<◌, ℕ, List, length, set, refl, subst, ◌∙◌}
-use Rattle.list_lemmas.specs.Places.{update}
+use Rattle.std.proofs.Common.{◌<◌, List, length, refl, subst, ◌∙◌}
 use Rattle.ready_order.specs.declared.ActionState.{ActionState}
 use Rattle.ready_order.specs.Queue.{granted_state}
-use Rattle.ready_order.specs.Board.{AreKnown, Fits, RightAt, shapes}
+use Rattle.ready_order.specs.Board.{Fits, RightAt, shapes}
 use Rattle.ready_order.proofs.States.{fits_kept, known_kept, noted_again}
 use Rattle.ready_order.proofs.Written.{written}
 use Rattle.ready_order.proofs.Ready.unwanted.Goals as goal
@@ -16,7 +15,8 @@ refresh-requires-clause-fits c =
     let lt : a < length states = rw c.self.view_is c.requires in
     let is = written g states states a x _ refl lt c.index_mut-state.ensures.value refl in
     rw (c.as_slice.ensures.value, is)
-    (fits_kept g (λ y. refl) (λ y. refl) states c.self.inside.users c.self.inside.board a c.self.invariant)
+    (fits_kept g (λ y. refl)
+    (λ y. refl) states c.self.inside.users c.self.inside.board a c.self.invariant)
 
 pub refresh-requires-clause-low : goal.refresh-requires-clause-low
 refresh-requires-clause-low c =
@@ -27,7 +27,8 @@ refresh-requires-clause-low c =
     let lt : a < length states = rw c.self.view_is c.requires in
     let is = written g states states a x _ refl lt c.index_mut-state.ensures.value refl in
     rw (c.as_slice.ensures.value, is)
-    (known_kept g (λ y. refl) (λ y. refl) states c.self.inside.users c.self.inside.board a c.self.invariant)
+    (known_kept g (λ y. refl)
+    (λ y. refl) states c.self.inside.users c.self.inside.board a c.self.invariant)
 
 pub invariant_of-self : goal.invariant_of-self
 invariant_of-self c =
@@ -40,9 +41,13 @@ invariant_of-self c =
     let whole = c.as_slice.ensures.value ∙ is in
     let h = c.refresh.new.self in
     rw is
-    (noted_again g (λ y. refl) (λ y. refl) states c.self.inside.users c.self.inside.board a c.self.invariant h
+    (noted_again g (λ y. refl)
+    (λ y. refl) states c.self.inside.users c.self.inside.board a c.self.invariant h
     (subst (λ (ss : List ActionState). Fits (shapes ss) h) whole c.refresh.ensures.fits)
-    (subst (λ (ss : List ActionState). RightAt ss h a) whole c.refresh.ensures.right) c.refresh.ensures.others)
+    (subst (λ (ss : List ActionState). RightAt ss h a) whole c.refresh.ensures.right)
+    c.refresh.ensures.others)
 
 pub returns : goal.returns
-returns c = written granted_state _ _ c.args.action c.index_mut-state.result.now _ c.self.view_is c.requires c.index_mut-state.ensures.value refl
+returns c =
+    written granted_state _ _ c.args.action c.index_mut-state.result.now _ c.self.view_is
+    c.requires c.index_mut-state.ensures.value refl

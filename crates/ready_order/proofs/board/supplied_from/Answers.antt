@@ -15,10 +15,14 @@ loop-supplied-init c =
 
 pub returns-else-has_success : goal.returns-else-has_success
 returns-else-has_success c =
-    sym (prefix_len_is (has_success c.args.actions.now) c.args.producers.now c.loop-supplied.supplied 0
-    c.loop-supplied.invariant.within c.loop-supplied.invariant.passed (λ _. sym c.has_success.ensures ∙ c.if-has_success.false))
+    sym (prefix_len_is
+    (has_success c.args.actions.now) c.args.producers.now c.loop-supplied.supplied 0
+    c.loop-supplied.invariant.within c.loop-supplied.invariant.passed
+    (λ _. sym c.has_success.ensures ∙ c.if-has_success.false))
 
 pub returns-after-loop-supplied : goal.returns-after-loop-supplied
 returns-after-loop-supplied c =
-    sym (prefix_len_is (has_success c.args.actions.now) c.args.producers.now c.loop-supplied.supplied 0
-    c.loop-supplied.invariant.within c.loop-supplied.invariant.passed (λ lt. absurd (let past = c.loop-supplied-test.false in omega arith)))
+    sym (prefix_len_is
+    (has_success c.args.actions.now) c.args.producers.now c.loop-supplied.supplied 0
+    c.loop-supplied.invariant.within c.loop-supplied.invariant.passed (λ lt. absurd (let past =
+    c.loop-supplied-test.false in omega arith)))

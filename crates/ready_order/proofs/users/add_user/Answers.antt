@@ -1,4 +1,4 @@
-use Rattle.std.proofs.Common.{◌≡◌, ℕ, ◌+◌, ◌++◌, ◌∷◌, [], List, length, map, get_or, set, take, Vec, Global, refl, ap, sym, subst, ◌∙◌, arith}
+use Rattle.std.proofs.Common.{◌≡◌, ℕ, ◌+◌, ◌++◌, ◌∷◌, [], List, map, get_or, set, take, Vec, Global, refl, ap, sym, subst, ◌∙◌, arith}
 use Rattle.std.proofs.lemmas.List.{length-map, map-set, get_or-map}
 use Rattle.ready_order.specs.Board.{IsAdded}
 use Rattle.ready_order.proofs.UsersAdded.{put_on, left_out}
@@ -19,14 +19,21 @@ loop-producer-preserved c =
     let size = length-map lists items in
     let P : List (List ℕ) → Type 0 = λ now. IsAdded (take (i + 1) ps) u old now in
     elim c.if-producer-lists.branch [
-      then-producer-lists+in_ok-push w ↦
-      (let lt = w.if-producer-lists.true in
-      let front : get_or (map items lists) p [] ≡ (get_or lists p w.index-lists-producer.result).items = get_or-map items lists p w.index-lists-producer.result [] lt in
-      let more : w.push.new.self.items ≡ get_or (map items lists) p [] ++ u ∷ [] = w.in_ok-push.ensures.items ∙ sym (ap (λ (l : List ℕ). l ++ u ∷ []) front) in
-      let is : map items c.if-producer-lists.lists ≡ set (map items lists) p (get_or (map items lists) p [] ++ u ∷ []) =
-      ap (map items) w.lists-is ∙ map-set items lists p w.push.new.self ∙ ap (set (map items lists) p) more in
-      subst P (sym is) (put_on ps i u c.loop-producer-test.true old (map items lists) c.loop-producer.invariant p (omega arith) refl))
-    | else-producer-lists w ↦
-      (let past = w.if-producer-lists.false in
-      subst P (sym (ap (map items) w.lists-is)) (left_out ps i u c.loop-producer-test.true old (map items lists) c.loop-producer.invariant p (omega arith) refl))
+      | then-producer-lists+in_ok-push w ↦
+          (let lt = w.if-producer-lists.true in
+          let front : get_or (map items lists) p [] ≡
+          (get_or lists p w.index-lists-producer.result).items =
+          get_or-map items lists p w.index-lists-producer.result [] lt in
+          let more : w.push.new.self.items ≡ get_or (map items lists) p [] ++ u ∷ [] =
+          w.in_ok-push.ensures.items ∙ sym (ap (λ (l : List ℕ). l ++ u ∷ []) front) in
+          let is : map items c.if-producer-lists.lists ≡ set (map items lists) p (get_or
+          (map items lists) p [] ++ u ∷ []) =
+          ap (map items) w.lists-is ∙ map-set items lists p w.push.new.self ∙ ap (set
+          (map items lists) p) more in
+          subst P (sym is) (put_on ps i u c.loop-producer-test.true old
+          (map items lists) c.loop-producer.invariant p (omega arith) refl))
+      | else-producer-lists w ↦
+          (let past = w.if-producer-lists.false in
+          subst P (sym (ap (map items) w.lists-is)) (left_out ps i u c.loop-producer-test.true old
+          (map items lists) c.loop-producer.invariant p (omega arith) refl))
     ]

@@ -4,4 +4,5 @@ use Rattle.ready_order.proofs.users.add_user.Given as goal
 
 abbrev pub invariant-loop-producer : goal.invariant-loop-producer
 invariant-loop-producer l =
-    IsAdded (take l.producer-index l.producers) l.user (map (λ v. v.items) l.initial.lists) (map (λ v. v.items) l.lists)
+    IsAdded (take l.producer-index l.producers) l.user (map (λ v. v.items) l.initial.lists) (map
+    (λ v. v.items) l.lists)

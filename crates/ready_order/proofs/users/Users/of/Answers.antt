@@ -1,4 +1,4 @@
-use Rattle.std.proofs.Common.{◌≡◌, ℕ, ◌+◌, List, length, map, Vec, Global, Some, option_map, refl, ap, sym, subst, ◌∙◌, arith}
+use Rattle.std.proofs.Common.{◌≡◌, ℕ, ◌+◌, List, length, map, Vec, Global, Some, option_map, refl, ap, sym, subst, ◌∙◌}
 use Rattle.std.specs.Prelude.{slice_get}
 use Rattle.std.proofs.lemmas.List.{with_items_is}
 use Rattle.std.proofs.lemmas.Option.{slice_get_read, slice_get-map}
@@ -16,8 +16,10 @@ loop-number-preserved c =
     let x = c.index-actions-number.result in
     let lists = c.loop-number.lists in
     let new = c.add_user.new.lists in
-    let here : slice_get states i ≡ Some x = slice_get_read states (length states) i x refl c.loop-number-test.true c.index-actions-number.is in
-    let shape : slice_get (shapes states) i ≡ Some (shape_of x) = slice_get-map shape_of states i ∙ ap (option_map shape_of) here in
+    let here : slice_get states i ≡ Some x = slice_get_read states
+    (length states) i x refl c.loop-number-test.true c.index-actions-number.is in
+    let shape : slice_get (shapes states) i ≡ Some (shape_of x) = slice_get-map shape_of states i
+    ∙ ap (option_map shape_of) here in
     let value = c.deref_mut.ensures.value in
     let len : length new ≡ lists.len = c.add_user.auto.lists ∙ c.deref_mut.ensures.len in
     let whole = with_items_is lists new len in
@@ -25,5 +27,7 @@ loop-number-preserved c =
     let Q : List ℕ → Type 0 = λ ps. IsAdded ps i (map items lists.items) (map items new) in
     let R : List (List ℕ) → Type 0 = λ old. IsAdded c.as_slice.result.now i old (map items new) in
     let added : IsAdded x.producers i (map items lists.items) (map items new) =
-    subst Q c.as_slice.ensures (subst R (ap (map items) value) (c.in_ok-add_user.ensures {u = tt})) in
-    subst P (sym (ap (map items) whole)) (users_more (shapes states) i (shape_of x) (map items lists.items) (map items new) c.loop-number.invariant shape added)
+    subst Q c.as_slice.ensures (subst R (ap (map items) value) (c.in_ok-add_user.ensures {u =
+    tt})) in
+    subst P (sym (ap (map items) whole)) (users_more (shapes states) i (shape_of x)
+    (map items lists.items) (map items new) c.loop-number.invariant shape added)
