@@ -1,0 +1,4 @@
+pub mod Along
+pub mod Fitting
+pub mod Hearing
+pub mod Paying

@@ -1,0 +1,78 @@
+//! What the journal's rules answer after a history. The functions do nothing: each is a law.
+ghost use Rattle.std.specs.Prelude.{◌≡◌, ◌≤◌, ◌<◌, ◌+◌, ◌/◌, ℕ, true, List, [], ◌∷◌, ◌++◌};
+ghost use Rattle.seat_desk.specs.declared.entry.Entry.{Entry};
+ghost use Rattle.seat_desk.specs.History.{entry, calls_by};
+ghost use Rattle.exec_journal.specs.declared.call.Call.{Call};
+ghost use Rattle.exec_journal.specs.declared.call.Call.TheVariants as call;
+ghost use Rattle.exec_journal.specs.declared.call.CommitEnd.{CommitEnd};
+ghost use Rattle.exec_journal.specs.declared.reply.Reply.{Reply};
+ghost use Rattle.exec_journal.specs.declared.reply.Reply.TheVariants as reply;
+ghost use Rattle.exec_journal.specs.Entries.{is_kept};
+ghost use Rattle.run_plan.specs.declared.plan.Plan.{Plan};
+ghost use Rattle.run_plan.specs.declared.plan.Branch.{Branch};
+ghost use Rattle.run_plan.specs.Groups.{berths, kind_of, is_remote};
+ghost use Rattle.run_rules.specs.Laws.{InScript, Fits, tap_lane, hearing_of, may_hear, Hears, Over, tells_of};
+ghost use Rattle.run_rules.specs.Duties.{proxy_lane, duty_of, may_do, Commits, Left};
+ghost use Rattle.script_duties.specs.Owed.{outputs_in, makers_in};
+ghost use Rattle.history_laws.specs.Ruled.{answer_after, IsPaidAfter, owes_after, CameAbout};
+
+/// A call in its lane's script is answered by a reply of its kind.
+pub fn replies_fit()
+    ensures { (p : Plan) (h : List (Entry Call Reply)) (lane : ℕ) (c : Call)
+        → Fits c (answer_after p h lane c) }
+{}
+
+/// A call in a script is one of a lane of the plan, and entries of other lanes leave it there.
+pub fn scripts_are_lanes()
+    ensures known { (p : Plan) (h : List (Entry Call Reply)) (lane : ℕ) (c : Call)
+        → InScript (answer_after p) h lane c → lane / 2 < berths p }
+    ensures stays { (p : Plan) (h more : List (Entry Call Reply)) (lane : ℕ) (c : Call)
+        → calls_by lane more ≡ [] → InScript (answer_after p) h lane c
+        → InScript (answer_after p) (h ++ more) lane c }
+{}
+
+/// Which calls are in a proxy lane's script, its own entries say alone. Its Halt is paid for until it
+/// was told to stop or has halted, and so is the Committed that it owes.
+pub fn proxies_do_their_duties()
+    ensures does { (p : Plan) (h : List (Entry Call Reply)) (w : ℕ) (c : Call) → w < berths p
+        → may_do (outputs_in p) (makers_in p) (is_remote (kind_of p w))
+        (duty_of (calls_by (proxy_lane w) h)) c ≡ true
+        → InScript (answer_after p) h (proxy_lane w) c }
+    ensures halts { (p : Plan) (h : List (Entry Call Reply)) (w : ℕ) → w < berths p
+        → (duty_of (calls_by (proxy_lane w) h) ≡ Left → ⊥)
+        → IsPaidAfter p h (proxy_lane w) call.Halt }
+    ensures commits { (p : Plan) (h : List (Entry Call Reply)) (w a : ℕ) (b : Branch)
+        (fs : List (List ℕ)) (how : CommitEnd) → w < berths p
+        → duty_of (calls_by (proxy_lane w) h) ≡ Commits a b fs
+        → IsPaidAfter p h (proxy_lane w) (call.Committed a b how) }
+{}
+
+/// Which calls are in a tap lane's script, its own entries say alone, and its Halt is paid for
+/// until it was told to stop or has halted. An Answer and an Ended come from the tap lane that hears
+/// the line.
+pub fn taps_are_heard()
+    ensures hears { (p : Plan) (h : List (Entry Call Reply)) (w : ℕ) (c : Call) → w < berths p
+        → may_hear (hearing_of (calls_by (tap_lane w) h)) c ≡ true
+        → InScript (answer_after p) h (tap_lane w) c }
+    ensures halts { (p : Plan) (h : List (Entry Call Reply)) (w : ℕ) → w < berths p
+        → (hearing_of (calls_by (tap_lane w) h) ≡ Over → ⊥)
+        → IsPaidAfter p h (tap_lane w) call.Halt }
+    ensures only { (p : Plan) (h : List (Entry Call Reply)) (lane : ℕ) (c : Call) (l : ℕ)
+        → tells_of l c ≡ true → InScript (answer_after p) h lane c
+        → hearing_of (calls_by lane h) ≡ Hears l }
+{}
+
+/// A paid call is answered Noted, stays paid for after entries of other lanes, and pays one of what
+/// is owed; and any call raises that by two at most.
+pub fn paid_calls_are_counted()
+    ensures noted { (p : Plan) (h : List (Entry Call Reply)) (lane : ℕ) (c : Call)
+        → CameAbout p h → IsPaidAfter p h lane c → answer_after p h lane c ≡ reply.Noted }
+    ensures stays { (p : Plan) (h more : List (Entry Call Reply)) (lane : ℕ) (c : Call)
+        → calls_by lane more ≡ [] → IsPaidAfter p h lane c → IsPaidAfter p (h ++ more) lane c }
+    ensures less { (p : Plan) (h : List (Entry Call Reply)) (lane : ℕ) (c : Call)
+        → IsPaidAfter p h lane c
+        → owes_after p (h ++ entry lane c reply.Noted ∷ []) + 1 ≡ owes_after p h }
+    ensures more { (p : Plan) (h : List (Entry Call Reply)) (lane : ℕ) (c : Call)
+        → is_kept (answer_after p h lane c) ≡ true
+        → owes_after p (h ++ entry lane c (answer_after p h lane c) ∷ []) ≤ owes_after p h + 2 }
+{}
