@@ -1,17 +1,19 @@
 //! What the journal's rules answer after a history. The functions do nothing: each is a law.
-ghost use Rattle.std.specs.Prelude.{◌≡◌, ◌≤◌, ◌<◌, ◌+◌, ◌/◌, ℕ, true, List, [], ◌∷◌, ◌++◌};
+ghost use Rattle.std.specs.Prelude.{◌≡◌, ◌≤◌, ◌<◌, ◌+◌, ◌/◌, ℕ, true, false, List, [], ◌∷◌, ◌++◌, length, Some, None};
 ghost use Rattle.seat_desk.specs.declared.entry.Entry.{Entry};
 ghost use Rattle.seat_desk.specs.History.{entry, calls_by};
 ghost use Rattle.exec_journal.specs.declared.call.Call.{Call};
 ghost use Rattle.exec_journal.specs.declared.call.Call.TheVariants as call;
 ghost use Rattle.exec_journal.specs.declared.call.CommitEnd.{CommitEnd};
+ghost use Rattle.exec_journal.specs.declared.call.Started.TheVariants as start;
 ghost use Rattle.exec_journal.specs.declared.reply.Reply.{Reply};
 ghost use Rattle.exec_journal.specs.declared.reply.Reply.TheVariants as reply;
 ghost use Rattle.exec_journal.specs.Entries.{is_kept};
 ghost use Rattle.run_plan.specs.declared.plan.Plan.{Plan};
 ghost use Rattle.run_plan.specs.declared.plan.Branch.{Branch};
 ghost use Rattle.run_plan.specs.Groups.{berths, kind_of, is_remote};
-ghost use Rattle.run_rules.specs.Laws.{InScript, Fits, tap_lane, hearing_of, may_hear, Hears, Over, tells_of};
+ghost use Rattle.run_rules.specs.Laws.{InScript, Fits, tap_lane, hearing_of, may_hear, Hears, Over, tells_of, OrderHolds, lines_in, is_taken};
+ghost use Rattle.run_rules.specs.Shelf.{child_at, tap_at};
 ghost use Rattle.run_rules.specs.Duties.{proxy_lane, duty_of, may_do, Commits, Left};
 ghost use Rattle.script_duties.specs.Owed.{outputs_in, makers_in};
 ghost use Rattle.history_laws.specs.Ruled.{answer_after, IsPaidAfter, owes_after, CameAbout};
@@ -75,4 +77,28 @@ pub fn paid_calls_are_counted()
     ensures more { (p : Plan) (h : List (Entry Call Reply)) (lane : ℕ) (c : Call)
         → is_kept (answer_after p h lane c) ≡ true
         → owes_after p (h ++ entry lane c (answer_after p h lane c) ∷ []) ≤ owes_after p h + 2 }
+{}
+
+/// Where a lane is ordered to launch or to stop, no child lies on the shelf for its berth; where it is
+/// to send, cancel or kill, the child of that line does. A new line has the next number, and what is
+/// sent or gathered is of an action of the plan.
+pub fn orders_hold()
+    ensures { (p : Plan) (h : List (Entry Call Reply)) (lane : ℕ) → CameAbout p h
+        → OrderHolds (length p.actions) (child_at (lane / 2) h) (lines_in h)
+        (answer_after p h lane call.Ask) }
+{}
+
+/// Nothing lies on the shelf for the berth where a line is put there.
+pub fn lines_find_room()
+    ensures { (p : Plan) (h : List (Entry Call Reply)) (lane l : ℕ) → CameAbout p h
+        → InScript (answer_after p) h lane (call.Launched l start.Done)
+        → (child_at (lane / 2) h ≡ None) × (tap_at (lane / 2) h ≡ None) }
+{}
+
+/// A line is given to a tap lane while its tap lies on the shelf for its berth, and never twice.
+pub fn taps_are_given_once()
+    ensures there { (p : Plan) (h : List (Entry Call Reply)) (lane l : ℕ) → CameAbout p h
+        → answer_after p h lane call.Take ≡ reply.Line l → tap_at (lane / 2) h ≡ Some l }
+    ensures once { (p : Plan) (h : List (Entry Call Reply)) (lane l : ℕ)
+        → answer_after p h lane call.Take ≡ reply.Line l → is_taken l h ≡ false }
 {}
