@@ -6,3 +6,6 @@ pub mod Steps
 pub mod Lying
 pub mod Bridging
 pub mod Ordering
+pub mod Places
+pub mod Granting
+pub mod Inputs

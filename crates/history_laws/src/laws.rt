@@ -1,20 +1,22 @@
 //! What the journal's rules answer after a history. The functions do nothing: each is a law.
-ghost use Rattle.std.specs.Prelude.{◌≡◌, ◌≤◌, ◌<◌, ◌+◌, ◌/◌, ℕ, true, false, List, [], ◌∷◌, ◌++◌, length, Some, None};
+ghost use Rattle.std.specs.Prelude.{◌≡◌, ◌≤◌, ◌<◌, ◌+◌, ◌/◌, ℕ, ℤ, true, false, List, [], ◌∷◌, ◌++◌, length, Some, None};
 ghost use Rattle.seat_desk.specs.declared.entry.Entry.{Entry};
 ghost use Rattle.seat_desk.specs.History.{entry, calls_by};
 ghost use Rattle.exec_journal.specs.declared.call.Call.{Call};
 ghost use Rattle.exec_journal.specs.declared.call.Call.TheVariants as call;
 ghost use Rattle.exec_journal.specs.declared.call.CommitEnd.{CommitEnd};
+ghost use Rattle.exec_journal.specs.declared.call.Found.TheVariants as found;
 ghost use Rattle.exec_journal.specs.declared.call.Started.TheVariants as start;
+ghost use Rattle.exec_journal.specs.declared.call.Wanted.TheVariants as wanted;
 ghost use Rattle.exec_journal.specs.declared.reply.Reply.{Reply};
 ghost use Rattle.exec_journal.specs.declared.reply.Reply.TheVariants as reply;
 ghost use Rattle.exec_journal.specs.Entries.{is_kept};
 ghost use Rattle.run_plan.specs.declared.plan.Plan.{Plan};
 ghost use Rattle.run_plan.specs.declared.plan.Branch.{Branch};
 ghost use Rattle.run_plan.specs.Groups.{berths, kind_of, is_remote};
-ghost use Rattle.run_rules.specs.Laws.{InScript, Fits, tap_lane, hearing_of, may_hear, Hears, Over, tells_of, OrderHolds, lines_in, is_taken};
-ghost use Rattle.run_rules.specs.Shelf.{child_at, tap_at};
-ghost use Rattle.run_rules.specs.Duties.{proxy_lane, duty_of, may_do, Commits, Left};
+ghost use Rattle.run_rules.specs.Laws.{InScript, Fits, tap_lane, hearing_of, may_hear, Hears, Over, tells_of, OrderHolds, claimed, lines_in, is_taken, says_file};
+ghost use Rattle.run_rules.specs.Shelf.{child_at, tap_at, place_at, Fresh, Away};
+ghost use Rattle.run_rules.specs.Duties.{proxy_lane, duty_of, is_maker, may_do, Sends, Commits, Left};
 ghost use Rattle.script_duties.specs.Owed.{outputs_in, makers_in};
 ghost use Rattle.history_laws.specs.Ruled.{answer_after, IsPaidAfter, owes_after, CameAbout};
 
@@ -101,4 +103,25 @@ pub fn taps_are_given_once()
         → answer_after p h lane call.Take ≡ reply.Line l → tap_at (lane / 2) h ≡ Some l }
     ensures once { (p : Plan) (h : List (Entry Call Reply)) (lane l : ℕ)
         → answer_after p h lane call.Take ≡ reply.Line l → is_taken l h ≡ false }
+{}
+
+/// Files are granted once at most for each action, and only for one of the plan. A Committed comes
+/// from the lane that was granted the action's files, and the files are those of its last grant.
+pub fn files_are_granted_once()
+    ensures grants { (p : Plan) (h : List (Entry Call Reply)) (lane a : ℕ) (b : Branch) (t : ℕ)
+        (fs : List (List ℕ)) → CameAbout p h
+        → answer_after p h lane (call.Claim a b t (found.Files fs)) ≡ reply.Granted
+        → (a < length p.actions) × (place_at a h ≡ Fresh) }
+    ensures commits { (p : Plan) (h : List (Entry Call Reply)) (lane a : ℕ) (b : Branch)
+        (how : CommitEnd) → CameAbout p h
+        → InScript (answer_after p) h lane (call.Committed a b how)
+        → place_at a h ≡ Away (claimed (calls_by lane h)) }
+{}
+
+/// The made inputs of a request that was ordered are there when its lane looks at them.
+pub fn inputs_are_there()
+    ensures { (p : Plan) (h : List (Entry Call Reply)) (w l : ℕ) (n : ℤ) (a c o : ℕ)
+        → CameAbout p h → duty_of (calls_by (proxy_lane w) h) ≡ Sends l n a
+        → is_maker (makers_in p a) c o ≡ true
+        → says_file (answer_after p h (proxy_lane w) (call.Look (wanted.Made c o))) ≡ true }
 {}
