@@ -15,7 +15,8 @@ first (Ok fine ∷ checks) = first checks
 first (Err f ∷ checks) = Err f
 
 -- what follows where there is no fault
-abbrev pub and_then : {A B : Type 0} → Result A ListFault → (A → Result B ListFault) → Result B ListFault
+abbrev pub and_then : {A B : Type 0} → Result A ListFault → (A → Result B ListFault)
+    → Result B ListFault
 and_then (Ok x) f = f x
 and_then (Err e) f = Err e
 

@@ -29,7 +29,8 @@ abbrev pub too_many : {A : Type 0} → What → ℕ → List A → Check
 too_many w limit xs = count_check w limit (length xs)
 
 abbrev pub is_name : List ℕ → Bool
-is_name s = nat_lt 0 (length s) && nat_le (length s) 256 && list_all (λ b. nat_le 33 b && not (b == 127)) s
+is_name s =
+    nat_lt 0 (length s) && nat_le (length s) 256 && list_all (λ b. nat_le 33 b && not (b == 127)) s
 
 abbrev pub name_check : ℕ → List ℕ → Check
 name_check a s = if is_name s then Ok tt else Err (fault.BadName a)
@@ -64,7 +65,8 @@ value_of name vs = option_map (λ v. v.value) (find (λ v. bytes_eq v.name name)
 
 abbrev pub protocol_check : ℕ → Option (List ℕ) → Check
 protocol_check a None = Ok tt
-protocol_check a (Some s) = if bytes_eq s (codes "json") || bytes_eq s (codes "proto") then Ok tt else Err (fault.BadRequirement a)
+protocol_check a (Some s) = if bytes_eq s (codes "json") || bytes_eq s (codes "proto") then Ok tt
+    else Err (fault.BadRequirement a)
 
 abbrev pub replacement_check : ℕ → Option (List ℕ) → Check
 replacement_check a None = Ok tt
@@ -121,7 +123,8 @@ says s (Some t) = bytes_eq t s
 abbrev pub is_set : List ℕ → List Variable → Bool
 is_set name vs = says (codes "1") (value_of name vs)
 
--- A worker is only used where that is allowed, and where a flag file gives it the words of a request.
+-- A worker is only used where that is allowed, and where a flag file gives it the words of a
+-- request.
 abbrev pub local_check : ℕ → Draft → Check
 local_check a d =
     if is_set (codes "supports-workers") (list_in d.requirements)
@@ -155,7 +158,8 @@ key_check a d key.Requirements = optional a key.Requirements (requirements_check
 key_check a d key.Strategy = strategy_check a d d.strategy
 
 abbrev pub keys_in_order : List Key
-keys_in_order = key.Action ∷ key.Name ∷ key.Mnemonic ∷ key.Argv ∷ key.Env ∷ key.Tools ∷ key.Inputs ∷ key.Outputs ∷ key.Requirements ∷ key.Strategy ∷ []
+keys_in_order = key.Action ∷ key.Name ∷ key.Mnemonic ∷ key.Argv ∷ key.Env ∷ key.Tools ∷ key.Inputs ∷
+    key.Outputs ∷ key.Requirements ∷ key.Strategy ∷ []
 
 -- the first fault of the action with this number
 unfoldable pub action_check : ℕ → Draft → Check

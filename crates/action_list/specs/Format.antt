@@ -39,7 +39,8 @@ variable e = record { name = e.0; value = unwrap_or (as_str e.1) [] }
 abbrev pub all_variables : List (List ℕ × Data) → Option (List Variable)
 all_variables es = if list_all (λ e. is_text e.1) es then Some (map variable es) else None
 
--- The variables of an object of texts, in the order of their names. Of a name that stands twice the last counts.
+-- The variables of an object of texts, in the order of their names. Of a name that stands twice the
+-- last counts.
 abbrev pub variables : Data → Option (List Variable)
 variables d = option_and_then (λ ms. all_variables (entries ms)) (as_object d)
 

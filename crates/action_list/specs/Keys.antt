@@ -34,9 +34,9 @@ unread_tool path = record { name = path; value = [] }
 abbrev pub worker_words : List (List ℕ) → List (List ℕ) → List (List ℕ)
 worker_words argv extra = if length (request_words argv) == 0 then [] else startup_words argv extra
 
--- The key of an action's worker, but for the digests of its tools and the extra flags. A path has one
--- digest in a run, and the flags are the same for all, so two actions agree in this exactly where they
--- agree in the whole key.
+-- The key of an action's worker, but for the digests of its tools and the extra flags. A path has
+-- one digest in a run, and the flags are the same for all, so two actions agree in this exactly
+-- where they agree in the whole key.
 abbrev pub list_key : ListAction → WorkerKey
 list_key x = record {
   mnemonic = unwrap_or x.needs.key_mnemonic x.mnemonic;

@@ -17,7 +17,8 @@ list_check limit xs = first (orders_check [] xs ∷ keys_check limit xs ∷ [])
 
 abbrev pub list_of_datas : ℕ → List Data → Result ActionList ListFault
 list_of_datas limit ds =
-    and_then (first (actions_check 0 ds ∷ list_check limit (map action_in ds) ∷ [])) (λ fine. Ok (record { actions = map action_in ds }))
+    and_then (first (actions_check 0 ds ∷ list_check limit (map action_in ds) ∷ []))
+    (λ fine. Ok (record { actions = map action_in ds }))
 
 abbrev pub list_of_top : ℕ → Data → Result ActionList ListFault
 list_of_top limit d = and_then (actions_in d) (list_of_datas limit)

@@ -14,7 +14,8 @@ abbrev pub outputs_of : List ListAction → List (List ℕ)
 outputs_of xs = flat_map (λ x. x.outputs) xs
 
 abbrev pub name_twice : ℕ → List ListAction → ListAction → Check
-name_twice a before x = if list_any (λ y. bytes_eq y.name x.name) before then Err (fault.TwiceNamed a) else Ok tt
+name_twice a before x =
+    if list_any (λ y. bytes_eq y.name x.name) before then Err (fault.TwiceNamed a) else Ok tt
 
 -- the first path that stands among those made before, or at an earlier place
 abbrev pub first_again : List (List ℕ) → List (List ℕ) → Option (List ℕ)
@@ -40,7 +41,8 @@ order_check before x rest =
 -- the first fault of the actions that follow these
 abbrev pub orders_check : List ListAction → List ListAction → Check
 orders_check before [] = Ok tt
-orders_check before (x ∷ xs) = first (order_check before x (x ∷ xs) ∷ orders_check (before ++ x ∷ []) xs ∷ [])
+orders_check before (x ∷ xs) =
+    first (order_check before x (x ∷ xs) ∷ orders_check (before ++ x ∷ []) xs ∷ [])
 
 -- ---- how the code looks for inputs that are made later
 
@@ -51,7 +53,8 @@ or_maker (Some later) here = Some later
 -- the number of the last of these actions that makes the path, where the first has number a
 abbrev pub last_from : ℕ → List ListAction → List ℕ → Option ℕ
 last_from a [] q = None
-last_from a (x ∷ xs) q = or_maker (last_from (a + 1) xs q) (if is_among x.outputs q then Some a else None)
+last_from a (x ∷ xs) q =
+    or_maker (last_from (a + 1) xs q) (if is_among x.outputs q then Some a else None)
 
 -- the last maker has this number or a later one
 abbrev pub is_late : ℕ → Option ℕ → Bool

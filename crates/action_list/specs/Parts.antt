@@ -38,20 +38,24 @@ executor_part executor = record {
 }
 
 abbrev pub unused_part : GroupPart
-unused_part = record { command = record { program = []; words = []; env = [] }; speech = speech.Proto }
+unused_part =
+    record { command = record { program = []; words = []; env = [] }; speech = speech.Proto }
 
 abbrev pub user_part : List (List ℕ) → Option ListAction → GroupPart
 user_part extra None = unused_part
 user_part extra (Some x) = worker_part extra x
 
-abbrev pub part_of : List ListAction → List PlanAction → List (List ℕ) → List ℕ → ℕ → Group → GroupPart
+abbrev pub part_of : List ListAction → List PlanAction → List (List ℕ) → List ℕ → ℕ → Group
+    → GroupPart
 part_of xs ys extra executor number group =
     if is_remote group.kind then executor_part executor else user_part extra (user_of xs ys number)
 
 -- the parts of the groups from this number on
-abbrev pub parts_from : List ListAction → List PlanAction → List (List ℕ) → List ℕ → ℕ → List Group → List GroupPart
+abbrev pub parts_from : List ListAction → List PlanAction → List (List ℕ) → List ℕ → ℕ → List Group
+    → List GroupPart
 parts_from xs ys extra executor number [] = []
-parts_from xs ys extra executor number (g ∷ gs) = part_of xs ys extra executor number g ∷ parts_from xs ys extra executor (number + 1) gs
+parts_from xs ys extra executor number (g ∷ gs) =
+    part_of xs ys extra executor number g ∷ parts_from xs ys extra executor (number + 1) gs
 
 abbrev pub parts_of : List ListAction → Plan → List (List ℕ) → List ℕ → List GroupPart
 parts_of xs p extra executor = parts_from xs p.actions extra executor 0 p.groups

@@ -14,17 +14,19 @@ use Rattle.action_list.specs.Keys.{key_bytes, keys_of, takes_several}
 
 -- ---- what an action's inputs are made by
 
--- The place of the path among these outputs of action a, the first of which has number j, or else what was found before.
+-- The place of the path among these outputs of action a, the first of which has number j, or else
+-- what was found before.
 abbrev pub producer_in : Option Maker → List ℕ → ℕ → ℕ → List (List ℕ) → Option Maker
 producer_in found p a j [] = found
-producer_in found p a j (u ∷ us) = producer_in (if bytes_eq u p then Some (record { action = a; output = j }) else found) p a (j + 1) us
+producer_in found p a j (u ∷ us) = producer_in
+    (if bytes_eq u p then Some (record { action = a; output = j }) else found) p a (j + 1) us
 
 abbrev pub producer_from : Option Maker → List ℕ → ℕ → List ListAction → Option Maker
 producer_from found p a [] = found
 producer_from found p a (x ∷ xs) = producer_from (producer_in found p a 0 x.outputs) p (a + 1) xs
 
--- The action among these, from the first of the list on, that makes the path, and which output it is.
--- In a list without faults there is at most one.
+-- The action among these, from the first of the list on, that makes the path, and which output it
+-- is. In a list without faults there is at most one.
 abbrev pub maker_of : List ListAction → List ℕ → Option Maker
 maker_of before p = producer_from None p 0 before
 
@@ -70,12 +72,14 @@ abbrev pub remote_users : List ListAction → ℕ
 remote_users xs = count_by (λ x. has_remote x.strategy) xs
 
 abbrev pub executor_groups : ℕ → List Group
-executor_groups berths = if berths == 0 then [] else record { kind = kind.Remote; cancel = false; berths = berths } ∷ []
+executor_groups berths =
+    if berths == 0 then [] else record { kind = kind.Remote; cancel = false; berths = berths } ∷ []
 
 -- The group of each key, and then the executor, where an action has a remote branch.
 abbrev pub groups_of : List ListAction → List (Option (List ℕ)) → List (List ℕ) → ℕ → ℕ → List Group
 groups_of xs held keys instances remote =
-    map (key_group xs held (share (map (users held) keys) instances)) keys ++ executor_groups (min remote (remote_users xs))
+    map (key_group xs held (share (map (users held) keys) instances)) keys
+    ++ executor_groups (min remote (remote_users xs))
 
 -- ---- the actions
 
@@ -102,7 +106,8 @@ plan_action keys before x = record {
 -- the actions that follow these
 abbrev pub plan_actions : List (List ℕ) → List ListAction → List ListAction → List PlanAction
 plan_actions keys before [] = []
-plan_actions keys before (x ∷ xs) = plan_action keys before x ∷ plan_actions keys (before ++ x ∷ []) xs
+plan_actions keys before (x ∷ xs) =
+    plan_action keys before x ∷ plan_actions keys (before ++ x ∷ []) xs
 
 unfoldable pub plan_of : List ListAction → ℕ → ℕ → ℕ → Plan
 plan_of xs instances remote retries = record {

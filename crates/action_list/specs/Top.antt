@@ -22,7 +22,8 @@ json_in bytes =
     else Err (fault.TooMany what.Bytes (length bytes))
 
 abbrev pub few_actions : List Data → Result (List Data) ListFault
-few_actions ds = if nat_le (length ds) 4096 then Ok ds else Err (fault.TooMany what.Actions (length ds))
+few_actions ds =
+    if nat_le (length ds) 4096 then Ok ds else Err (fault.TooMany what.Actions (length ds))
 
 abbrev pub if_array : Option Items → Result (List Data) ListFault
 if_array None = Err (fault.WrongKind None key.Actions)
@@ -34,4 +35,5 @@ if_there (Some d) = if_array (as_array d)
 
 -- the values of the actions
 abbrev pub actions_in : Data → Result (List Data) ListFault
-actions_in d = if is_some (as_object d) then if_there (get (codes "actions") d) else Err (fault.WrongKind None key.Top)
+actions_in d = if is_some (as_object d) then if_there (get (codes "actions") d)
+    else Err (fault.WrongKind None key.Top)

@@ -31,8 +31,10 @@ results_say rs = reverse (joined (reverse rs))
 
 -- what one result says after these, the newest first, and what then waits
 abbrev pub ReadsPart : List ℕ → List JobResult → Spoken → List Waiting → Type 0
-ReadsPart frame rs (spoken.Answer x) waiting = (r : JobResult) × SpellsJobResult frame r × (answer_at r rs ≡ Some x) × IsLeftBy waiting (r ∷ rs)
-ReadsPart frame rs spoken.More waiting = (r : JobResult) × SpellsJobResult frame r × (answer_at r rs ≡ None) × IsLeftBy waiting (r ∷ rs)
+ReadsPart frame rs (spoken.Answer x) waiting = (r : JobResult) × SpellsJobResult frame r
+    × (answer_at r rs ≡ Some x) × IsLeftBy waiting (r ∷ rs)
+ReadsPart frame rs spoken.More waiting =
+    (r : JobResult) × SpellsJobResult frame r × (answer_at r rs ≡ None) × IsLeftBy waiting (r ∷ rs)
 ReadsPart frame rs spoken.Bad waiting = (r : JobResult) → SpellsJobResult frame r → ⊥
 ReadsPart frame rs spoken.NotYet waiting = ⊥
 

@@ -22,7 +22,8 @@ module _ {M : Type 0} (Spells : List ℕ → M → Type 0) where
   BrokenAt (Bad fault) = Unit {0}
 
 -- frames of a form that spell messages, which join to answers
-module _ (form : Form) {M : Type 0} (Spells : List ℕ → M → Type 0) (joined : List M → List Answer) where
+module _ (form : Form) {M : Type 0} (Spells : List ℕ → M → Type 0)
+    (joined : List M → List Answer) where
   -- the bytes are messages that join to these answers, and then the rest
   pub record ReadTo (bytes : List ℕ) (answers : List Answer) (rest : List ℕ) : Type 0 where
     pub frames : List (List ℕ)
@@ -37,11 +38,13 @@ module _ (form : Form) {M : Type 0} (Spells : List ℕ → M → Type 0) (joined
 
   -- these are all: less than a frame is left, and no fault
   abbrev pub IsWhole : List ℕ → List Answer → Type 0
-  IsWhole bytes answers = (rest : List ℕ) × ReadTo bytes answers rest × (form.front largest rest ≡ Unfinished)
+  IsWhole bytes answers =
+      (rest : List ℕ) × ReadTo bytes answers rest × (form.front largest rest ≡ Unfinished)
 
   -- these come before what spells no message
   abbrev pub IsBroken : List ℕ → List Answer → Type 0
-  IsBroken bytes answers = (rest : List ℕ) × ReadTo bytes answers rest × BrokenAt Spells (form.front largest rest)
+  IsBroken bytes answers =
+      (rest : List ℕ) × ReadTo bytes answers rest × BrokenAt Spells (form.front largest rest)
 
 -- what one frame says, where each message is an answer
 module _ {M : Type 0} (Spells : List ℕ → M → Type 0) (answer_of : M → Answer) where

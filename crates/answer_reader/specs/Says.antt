@@ -29,21 +29,28 @@ framing_for speech.Remote = framing.Delimited
 
 -- the bytes begin with messages that say these answers
 unfoldable pub SaysFirst : Speech → List ℕ → List Answer → Type 0
-SaysFirst speech.Proto bytes answers = BeginsWith delimited_form SpellsResponse (map of_response) bytes answers
-SaysFirst speech.Json bytes answers = BeginsWith line_form SpellsLine (map of_response) bytes answers
-SaysFirst speech.Remote bytes answers = BeginsWith delimited_form SpellsJobResult results_say bytes answers
+SaysFirst speech.Proto bytes answers =
+    BeginsWith delimited_form SpellsResponse (map of_response) bytes answers
+SaysFirst speech.Json bytes answers =
+    BeginsWith line_form SpellsLine (map of_response) bytes answers
+SaysFirst speech.Remote bytes answers =
+    BeginsWith delimited_form SpellsJobResult results_say bytes answers
 
 -- these are all that they say, and nothing is wrong with what is left
 unfoldable pub SaysAll : Speech → List ℕ → List Answer → Type 0
-SaysAll speech.Proto bytes answers = IsWhole delimited_form SpellsResponse (map of_response) bytes answers
+SaysAll speech.Proto bytes answers =
+    IsWhole delimited_form SpellsResponse (map of_response) bytes answers
 SaysAll speech.Json bytes answers = IsWhole line_form SpellsLine (map of_response) bytes answers
-SaysAll speech.Remote bytes answers = IsWhole delimited_form SpellsJobResult results_say bytes answers
+SaysAll speech.Remote bytes answers =
+    IsWhole delimited_form SpellsJobResult results_say bytes answers
 
 -- these are all that they say before what spells nothing
 unfoldable pub SaysBadly : Speech → List ℕ → List Answer → Type 0
-SaysBadly speech.Proto bytes answers = IsBroken delimited_form SpellsResponse (map of_response) bytes answers
+SaysBadly speech.Proto bytes answers =
+    IsBroken delimited_form SpellsResponse (map of_response) bytes answers
 SaysBadly speech.Json bytes answers = IsBroken line_form SpellsLine (map of_response) bytes answers
-SaysBadly speech.Remote bytes answers = IsBroken delimited_form SpellsJobResult results_say bytes answers
+SaysBadly speech.Remote bytes answers =
+    IsBroken delimited_form SpellsJobResult results_say bytes answers
 
 -- what one frame says in each speech, and what waits of an executor's results before and after it
 abbrev pub ReadsAs : Speech → List ℕ → List Waiting → Spoken → List Waiting → Type 0
@@ -54,7 +61,8 @@ ReadsAs speech.Remote frame old out new = ReadsResult frame old out new
 -- ---- readers
 
 -- The cutter was fed these bytes, without a fault, and its frames say these answers.
-pub record Heard (form : Form) {M : Type 0} (Spells : List ℕ → M → Type 0) (joined : List M → List Answer) (fed : List ℕ) (answers : List Answer) (s : Held) : Type 0 where
+pub record Heard (form : Form) {M : Type 0} (Spells : List ℕ → M → Type 0)
+    (joined : List M → List Answer) (fed : List ℕ) (answers : List Answer) (s : Held) : Type 0 where
   pub frames : List (List ℕ)
   pub messages : List M
   pub stands : StandsFor form fed frames s
@@ -64,18 +72,22 @@ pub record Heard (form : Form) {M : Type 0} (Spells : List ℕ → M → Type 0)
   pub joins : joined messages ≡ answers
 
 -- and so much waits of the results that came in parts
-pub record HeardResults (fed : List ℕ) (answers : List Answer) (s : Held) (waiting : List Waiting) : Type 0 where
+pub record HeardResults (fed : List ℕ) (answers : List Answer) (s : Held)
+    (waiting : List Waiting) : Type 0 where
   pub heard : Heard delimited_form SpellsJobResult results_say fed answers s
   pub left : IsLeftBy waiting (reverse heard.messages)
 
 abbrev pub HearsAs : Speech → List ℕ → List Answer → Held → List Waiting → Type 0
-HearsAs speech.Proto fed answers s waiting = Heard delimited_form SpellsResponse (map of_response) fed answers s
-HearsAs speech.Json fed answers s waiting = Heard line_form SpellsLine (map of_response) fed answers s
+HearsAs speech.Proto fed answers s waiting =
+    Heard delimited_form SpellsResponse (map of_response) fed answers s
+HearsAs speech.Json fed answers s waiting =
+    Heard line_form SpellsLine (map of_response) fed answers s
 HearsAs speech.Remote fed answers s waiting = HeardResults fed answers s waiting
 
 -- the reader, of this speech, was fed these bytes, and has given these answers
 unfoldable pub Hears : Speech → List ℕ → List Answer → AnswerReader → Type 0
-Hears s fed answers r = (r.speech ≡ s) × (framing_of r.cutter ≡ framing_for s) × HearsAs s fed answers (held r.cutter) r.parts
+Hears s fed answers r = (r.speech ≡ s) × (framing_of r.cutter ≡ framing_for s)
+    × HearsAs s fed answers (held r.cutter) r.parts
 
 -- one result more was read of what was fed
 pub record ReadsOneMore (fed : List ℕ) (old new : Held) : Type 0 where

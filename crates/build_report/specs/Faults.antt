@@ -44,7 +44,8 @@ list_action (list.TwiceMade a p) = Some a
 list_action (list.MadeLater a p) = Some a
 
 abbrev pub list_text : List ℕ → Option ℕ → List ℕ
-list_text name (Some a) = codes "worker_tool: list refused: " ++ (name ++ (codes " action " ++ decimal a))
+list_text name (Some a) =
+    codes "worker_tool: list refused: " ++ (name ++ (codes " action " ++ decimal a))
 list_text name None = codes "worker_tool: list refused: " ++ name
 
 abbrev pub flag_name : FlagFault → List ℕ
@@ -61,8 +62,10 @@ flag_path (flag.NotText p) = Some p
 flag_path _ = None
 
 abbrev pub flag_text : List ℕ → Option (List ℕ) → ℕ → List ℕ
-flag_text name (Some path) a = codes "worker_tool: flag file refused: " ++ (name ++ (codes " " ++ (path ++ (codes " action " ++ decimal a))))
-flag_text name None a = codes "worker_tool: flag file refused: " ++ (name ++ (codes " action " ++ decimal a))
+flag_text name (Some path) a = codes "worker_tool: flag file refused: "
+    ++ (name ++ (codes " " ++ (path ++ (codes " action " ++ decimal a))))
+flag_text name None a =
+    codes "worker_tool: flag file refused: " ++ (name ++ (codes " action " ++ decimal a))
 
 abbrev pub fault_text : RunFault → List ℕ
 fault_text fault.Words = codes "worker_tool: words are not accepted"

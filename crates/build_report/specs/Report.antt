@@ -38,7 +38,8 @@ lines_from p j a (e ∷ es) = action_lines p j a e ++ lines_from p j (suc a) es
 
 -- the same by the winners' answers
 abbrev pub lines_told : Plan → ℕ → List ActionEnd → List (Option Answer) → List ℕ
-lines_told p a (e ∷ es) (x ∷ xs) = (end_line p a e ++ marked (answer_text x)) ++ lines_told p (suc a) es xs
+lines_told p a (e ∷ es) (x ∷ xs) =
+    (end_line p a e ++ marked (answer_text x)) ++ lines_told p (suc a) es xs
 lines_told p a _ _ = []
 
 -- ---- the last line
@@ -73,11 +74,14 @@ count_of test es = count_by test es
 
 abbrev pub totals_line : ℕ → ℕ → ℕ → ℕ → ℕ → List ℕ
 totals_line all ok failed broken skipped =
-    codes "actions=" ++ (decimal all ++ (codes " ok=" ++ (decimal ok ++ (codes " failed=" ++ (decimal failed
-    ++ (codes " broken=" ++ (decimal broken ++ (codes " skipped=" ++ (decimal skipped ++ (10 ∷ []))))))))))
+    codes "actions="
+    ++ (decimal all ++ (codes " ok=" ++ (decimal ok ++ (codes " failed=" ++ (decimal failed
+    ++ (codes " broken="
+    ++ (decimal broken ++ (codes " skipped=" ++ (decimal skipped ++ (10 ∷ []))))))))))
 
 abbrev pub last_line : List ActionEnd → List ℕ
-last_line es = totals_line (length es) (count_of is_success es) (count_of has_failed es) (count_of is_broken es) (count_of is_skipped es)
+last_line es = totals_line (length es) (count_of is_success es) (count_of has_failed es)
+    (count_of is_broken es) (count_of is_skipped es)
 
 -- a short report is the last line alone
 abbrev pub report_by : Plan → List Entry → Bool → List ActionEnd → List ℕ

@@ -24,7 +24,8 @@ path_of p a o = unwrap_or (option_and_then (λ x. slice_get x.outputs o) (slice_
 
 abbrev pub outcome_words : Plan → Outcome → List ℕ
 outcome_words p (outcome.Success b) = codes "ok " ++ branch_word b
-outcome_words p (outcome.Failed b n) = codes "failed " ++ (branch_word b ++ (codes " " ++ signed_decimal n))
+outcome_words p (outcome.Failed b n) =
+    codes "failed " ++ (branch_word b ++ (codes " " ++ signed_decimal n))
 outcome_words p (outcome.Spoiled b k) = codes "broken"
 outcome_words p outcome.Dropped = codes "broken"
 outcome_words p (outcome.Skipped m) = codes "skipped " ++ name_of p m
@@ -47,14 +48,16 @@ abbrev pub fate_words : Plan → ℕ → Fate → List ℕ
 fate_words p a fate.Unused = codes "unused"
 fate_words p a (fate.Spoiled k) = codes "spoiled:" ++ decimal k
 fate_words p a fate.Won = codes "won"
-fate_words p a (fate.Dropped c n) = codes "dropped:" ++ (cause_words p a c ++ (codes ":" ++ decimal n))
+fate_words p a (fate.Dropped c n) =
+    codes "dropped:" ++ (cause_words p a c ++ (codes ":" ++ decimal n))
 fate_words p a fate.Lost = codes "lost"
 fate_words p a fate.Idle = codes "idle"
 
 -- a text, each of its lines behind two spaces, a bar and a space, and with a line feed at its end
 abbrev pub marked_from : Bool → List ℕ → List ℕ
 marked_from at_start [] = if at_start then [] else 10 ∷ []
-marked_from at_start (c ∷ cs) = (if at_start then codes "  | " else []) ++ (c ∷ marked_from (c == 10) cs)
+marked_from at_start (c ∷ cs) =
+    (if at_start then codes "  | " else []) ++ (c ∷ marked_from (c == 10) cs)
 
 abbrev pub marked : List ℕ → List ℕ
 marked text = marked_from true text

@@ -15,7 +15,10 @@ request_row j r = record { number = r.number; action = r.attempt.action; asked =
 unfoldable pub row_in : List Entry → ℕ → ArrayVec RequestRow
 row_in j l = row (reverse (map (request_row j) (pending j l)))
 
--- it has the plan's room, each line's pending requests, the earliest sent first, and of each action whether it has a grant
+-- it has the plan's room, each line's pending requests, the earliest sent first, and of each action
+-- whether it has a grant
 pub record Stands (p : Plan) (f : Facts) (j : List Entry) : Type 0 where
-  pub lines : (l : ℕ) → slice_get f.lines l ≡ (if nat_lt l (line_room p) then Some (row_in j l) else None)
-  pub grants : (a : ℕ) → slice_get f.unwanted a ≡ (if nat_lt a (length p.actions) then Some (granted j a) else None)
+  pub lines : (l : ℕ)
+      → slice_get f.lines l ≡ (if nat_lt l (line_room p) then Some (row_in j l) else None)
+  pub grants : (a : ℕ)
+      → slice_get f.unwanted a ≡ (if nat_lt a (length p.actions) then Some (granted j a) else None)

@@ -7,5 +7,4 @@ mod reports;
 mod state;
 
 pub use choice::Choice;
-pub use make::is_kept;
 pub use state::State;

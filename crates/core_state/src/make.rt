@@ -1,6 +1,6 @@
 // What a call in its lane's script makes of the tables, and what is noted of its entry.
 ghost use Rattle.std.specs.Prelude.{◌≡◌, false, ◌<◌, ◌/◌, length};
-ghost use Rattle.exec_journal.specs.Entries.{is_kept, is_look};
+ghost use Rattle.exec_journal.specs.Entries.{is_look};
 ghost use Rattle.core_state.specs.Noted.{noted_if_kept};
 ghost use Rattle.core_state.specs.Steps.{CanMake, made_reply, made};
 
@@ -51,20 +51,10 @@ impl State {
         requires berth { lane / 2 < length self.old.greetings }
         ensures { self.new ≡ noted_if_kept self.old lane call.now reply.now }
     {
-        if is_kept(reply) {
+        if reply.is_kept() {
             self.lanes.note(lane, call, reply);
             self.greetings.note(lane / 2, call, reply);
             self.halted = matches!(call, Call::Halt) || self.halted;
         }
     }
-}
-
-/// An entry with this reply joins the journal.
-pub fn is_kept(reply: &Reply) -> bool
-    ensures { result ≡ is_kept reply.now }
-{
-    !matches!(
-        reply,
-        Reply::Idle | Reply::File(_) | Reply::NoFile | Reply::NoMemory | Reply::Astray
-    )
 }

@@ -6,7 +6,6 @@ use crate::calls::{call_of, lane_of};
 use crate::replies::told;
 use action_list::{plan, read_list};
 use build_report::report;
-use core_state::is_kept;
 use exec_journal::{Call, Entry, Journal, Plan};
 use plain_values::NoMemory;
 use spawn_core::Core;
@@ -64,7 +63,7 @@ impl Run {
     fn call(&mut self, alloc: Global, line: &str, lane: u32, call: Call) -> io::Result<String> {
         let reply = self.core.step(lane, &call);
         let said = told(alloc, &reply).map_err(failed)?;
-        if is_kept(&reply) {
+        if reply.is_kept() {
             self.entries.push(Entry { lane, call, reply })?;
         }
         Ok(format!(in alloc; "{line} = {}", said.as_str())?)

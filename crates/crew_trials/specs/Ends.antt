@@ -18,7 +18,8 @@ abbrev pub HasNumber : ℕ → SlotLane → Type 0
 HasNumber k (Fills lane) = lane.number ≡ k
 HasNumber k (Empties lane) = lane.number ≡ k
 
--- the lane has the number k, so it fills if k is even, and empties if it is odd. It makes `most` calls
+-- the lane has the number k, so it fills if k is even, and empties if it is odd. It makes `most`
+-- calls
 abbrev pub IsNumbered : ℕ → ℕ → SlotLane → Type 0
 IsNumbered most k (Fills lane) = (lane.number ≡ k) × (lane.count ≡ most) × (k % 2 ≡ 0)
 IsNumbered most k (Empties lane) = (lane.number ≡ k) × (lane.count ≡ most) × (k % 2 ≡ 1)

@@ -44,11 +44,16 @@ FramesBad stream limit frames fault = FaultOf delimited_form stream limit frames
 
 -- what was found is what stands at the front
 abbrev pub IsFrameAt : ℕ → List ℕ → Found → Type 0
-IsFrameAt limit bytes (found.Whole start end) = (frame_at limit bytes ≡ Whole (take (end - start) (drop start bytes)) (drop end bytes)) × (start ≤ end) × (end ≤ length bytes)
+IsFrameAt limit bytes
+    (found.Whole start end) = (frame_at limit bytes ≡ Whole (take (end - start) (drop start bytes))
+    (drop end bytes)) × (start ≤ end) × (end ≤ length bytes)
 IsFrameAt limit bytes found.Unfinished = frame_at limit bytes ≡ Unfinished
 IsFrameAt limit bytes (found.Bad fault) = frame_at limit bytes ≡ Bad fault
 
 -- What is written behind its length is read as one frame, and several are read as these.
 pub record DelimitedIsRead : Type 0 where
-  pub one : (limit : ℕ) (frame rest : List ℕ) → length frame ≤ limit → limit < 2 ^ 64 → frame_at limit (delimited frame ++ rest) ≡ Whole frame rest
-  pub all : (limit : ℕ) (frames : List (List ℕ)) → AllByRecursion (λ frame. length frame ≤ limit) frames → limit < 2 ^ 64 → Frames (flat_map delimited frames) limit frames []
+  pub one : (limit : ℕ) (frame rest : List ℕ) → length frame ≤ limit → limit < 2 ^ 64
+      → frame_at limit (delimited frame ++ rest) ≡ Whole frame rest
+  pub all : (limit : ℕ) (frames : List (List ℕ))
+      → AllByRecursion (λ frame. length frame ≤ limit) frames → limit < 2 ^ 64
+      → Frames (flat_map delimited frames) limit frames []

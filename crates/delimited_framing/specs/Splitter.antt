@@ -29,14 +29,21 @@ module _ (form : Form) where
 
   -- what a splitter gives next, and what it is then
   abbrev pub Gives : List ℕ → List (List ℕ) → Held → Next → Held → Type 0
-  Gives fed given old (next.Frame frame) new = StandsFor fed (given ++ frame.items ∷ []) new × (new.limit ≡ old.limit) × (new.fault ≡ old.fault)
-  Gives fed given old next.NotYet new = StandsFor fed given new × (new.limit ≡ old.limit) × (new.fault ≡ old.fault) × FramesOf form fed old.limit given new.rest
-  Gives fed given old (next.Bad fault) new = StandsFor fed given new × (new.limit ≡ old.limit) × (new.fault ≡ Some fault) × FaultOf form fed old.limit given fault
+  Gives fed given old (next.Frame frame) new = StandsFor fed (given ++ frame.items ∷ []) new
+      × (new.limit ≡ old.limit) × (new.fault ≡ old.fault)
+  Gives fed given old next.NotYet new = StandsFor fed given new × (new.limit ≡ old.limit)
+      × (new.fault ≡ old.fault) × FramesOf form fed old.limit given new.rest
+  Gives fed given old (next.Bad fault) new = StandsFor fed given new × (new.limit ≡ old.limit)
+      × (new.fault ≡ Some fault) × FaultOf form fed old.limit given fault
 
   -- Whatever follows what was fed, the frames that were given are the first of the whole stream's.
   pub record GivenFirst : Type 0 where
-    pub frames : (fed more : List ℕ) (given frames : List (List ℕ)) (rest : List ℕ) (s : Held) → StandsFor fed given s → FramesOf form (fed ++ more) s.limit frames rest → (later : List (List ℕ)) × (frames ≡ given ++ later)
-    pub faults : (fed more : List ℕ) (given frames : List (List ℕ)) (fault : FrameFault) (s : Held) → StandsFor fed given s → FaultOf form (fed ++ more) s.limit frames fault → (later : List (List ℕ)) × (frames ≡ given ++ later)
+    pub frames : (fed more : List ℕ) (given frames : List (List ℕ)) (rest : List ℕ) (s : Held)
+        → StandsFor fed given s → FramesOf form (fed ++ more) s.limit frames rest
+        → (later : List (List ℕ)) × (frames ≡ given ++ later)
+    pub faults : (fed more : List ℕ) (given frames : List (List ℕ)) (fault : FrameFault) (s : Held)
+        → StandsFor fed given s → FaultOf form (fed ++ more) s.limit frames fault
+        → (later : List (List ℕ)) × (frames ≡ given ++ later)
 
 abbrev pub Stands : List ℕ → List (List ℕ) → Held → Type 0
 Stands fed given s = StandsFor delimited_form fed given s

@@ -19,7 +19,8 @@ added (e ∷ es) = part e.call + added es
 -- each reply is the sum so far modulo q, where the sum before is n
 abbrev pub CountsFrom : ℕ → ℕ → List (Entry Ask Answer) → Type 0
 CountsFrom q n [] = Unit {0}
-CountsFrom q n (e ∷ es) = (e.reply ≡ Sum ((n + part e.call) % q)) × CountsFrom q (n + part e.call) es
+CountsFrom q n (e ∷ es) =
+    (e.reply ≡ Sum ((n + part e.call) % q)) × CountsFrom q (n + part e.call) es
 
 -- a sum that came about by this history
 abbrev pub IsSum : ℕ → ℕ → List (Entry Ask Answer) → Type 0

@@ -10,7 +10,8 @@ use Rattle.desk_trials.specs.declared.locker.Token.{Token}
 abbrev pub stamped : Token → Token
 stamped t = record { number = (t.number + 1) % 2 ^ 64 }
 
--- what follows an answer: a token that was lent is put back with its number raised, and else nothing follows
+-- what follows an answer: a token that was lent is put back with its number raised, and else
+-- nothing follows
 abbrev pub answer_to : Answer → Option Token → Option (Ask × Option Token)
 answer_to Lent None = None
 answer_to Lent (Some t) = Some (Return, Some (stamped t))

@@ -31,9 +31,11 @@ largest = 67108864
 
 -- a job that is longer is not written
 abbrev pub due_job : Job → Due
-due_job job = if ltb largest (length (job_spelling job)) then due.TooLarge else due.Frame (framed_job job)
+due_job job =
+    if ltb largest (length (job_spelling job)) then due.TooLarge else due.Frame (framed_job job)
 
--- What is due for a Send: the request on a local line, in the form that the line speaks, and the job on the executor's.
+-- What is due for a Send: the request on a local line, in the form that the line speaks, and the
+-- job on the executor's.
 abbrev pub send_due : Speech → WorkRequest → Job → Due
 send_due speech.Proto request job = due.Frame (framed_request request)
 send_due speech.Json request job = due.Frame (request_line request)

@@ -11,7 +11,8 @@ use Rattle.sandbox_rooms.specs.declared.room.Room.TheVariants as room
 use Rattle.sandbox_rooms.specs.Rooms.{part_of}
 use Rattle.worker_key.specs.Keys.{digest_text}
 
--- The room of a request with this number, by the kind of its line. The executor has rooms of its own.
+-- The room of a request with this number, by the kind of its line. The executor has rooms of its
+-- own.
 abbrev pub room_for : Kind → ℤ → Room
 room_for kind.Single number = room.Whole
 room_for kind.Multi number = room.Shared
@@ -41,4 +42,6 @@ request_for number action inputs verbose room = record {
 
 -- the request of a Cancel: the number, and that the request which has it is to be given up
 abbrev pub cancelling : ℤ → WorkRequest
-cancelling number = record { arguments = []; inputs = []; request_id = number; cancel = true; verbosity = pos 0; sandbox_dir = [] }
+cancelling number = record
+    { arguments = []; inputs = []; request_id = number; cancel = true; verbosity = pos 0;
+    sandbox_dir = [] }

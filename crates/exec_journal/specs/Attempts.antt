@@ -70,12 +70,14 @@ refused_cause t (Some x) = if same_attempt x.0 t then found_cause x.1 else None
 refused_cause t None = None
 
 abbrev pub fault_by : Attempt → Option Entry → Call → Reply → Option Cause
-fault_by t last (call.Launched l how) _ = if is_for t (launch_of_entry last) then start_cause how else None
-fault_by t last (call.Wrote l n how) _ = if is_for t (option_map (λ r. r.attempt) (send_of_entry last)) then unwritten_cause how else None
+fault_by t last (call.Launched l how) _ =
+    if is_for t (launch_of_entry last) then start_cause how else None
+fault_by t last (call.Wrote l n how) _ = if is_for t
+    (option_map (λ r. r.attempt) (send_of_entry last)) then unwritten_cause how else None
 fault_by t last c r = refused_cause t (refused_in c r)
 
--- a fault of the attempt's own at this entry: its Launched has a fault, its Wrote is RoomFault or TooLarge,
--- or its Claim was answered AgainLater or Dropped
+-- a fault of the attempt's own at this entry: its Launched has a fault, its Wrote is RoomFault or
+-- TooLarge, or its Claim was answered AgainLater or Dropped
 abbrev pub fault_at : Attempt → List Entry → Entry → Option Cause
 fault_at t before e = fault_by t (last_work before e.lane) e.call e.reply
 
@@ -83,18 +85,20 @@ fault_at t before e = fault_by t (last_work before e.lane) e.call e.reply
 unfoldable pub fault_of : List Entry → Attempt → Option Cause
 fault_of j t = first (fault_at t) j
 
--- its line has Ended, and its request is unanswered (so also where it is still bound), or has Wrote FeedFault:
--- then it is lost with the line, for the line's cause
+-- its line has Ended, and its request is unanswered (so also where it is still bound), or has Wrote
+-- FeedFault: then it is lost with the line, for the line's cause
 abbrev pub lost_cause : List Entry → Attempt → Option ℕ → Option Cause
 lost_cause j t (Some l) =
-    if has_ended j l && (not (answered j t) || says_feed_fault (wrote j t)) then line_cause j l else None
+    if has_ended j l && (not (answered j t) || says_feed_fault (wrote j t)) then line_cause j l
+    else None
 lost_cause j t None = None
 
 -- the cause, where a moment has come at which the attempt ends
 abbrev pub over : List Entry → Attempt → Option Cause
 over j t = or_else (fault_of j t) (lost_cause j t (line_of j t))
 
--- the cause with which the attempt ended, at the first such moment. It stays ended. Of an action with a grant no attempt ends
+-- the cause with which the attempt ended, at the first such moment. It stays ended. Of an action
+-- with a grant no attempt ends
 unfoldable pub end_of : List Entry → Attempt → Option Cause
 end_of [] t = None
 end_of (e ∷ j) t = or_else (end_of j t) (if granted (e ∷ j) t.action then None else over (e ∷ j) t)

@@ -8,7 +8,8 @@ use Rattle.exec_journal.specs.declared.journal.Entry.{Entry}
 use Rattle.exec_journal.specs.Outcomes.{outcome_of, fate_of}
 
 abbrev pub action_end : Plan → List Entry → ℕ → ActionEnd
-action_end p j a = record { outcome = outcome_of p j a; local = fate_of p j a Local; remote = fate_of p j a Remote }
+action_end p j a = record
+    { outcome = outcome_of p j a; local = fate_of p j a Local; remote = fate_of p j a Remote }
 
 -- those of the actions from a on
 abbrev pub ends_from : Plan → List Entry → ℕ → List PlanAction → List ActionEnd

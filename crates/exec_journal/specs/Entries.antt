@@ -31,7 +31,8 @@ abbrev pub attempt_of : ℕ → Branch → ℕ → Attempt
 attempt_of a b t = record { action = a; branch = b; number = t }
 
 abbrev pub same_attempt : Attempt → Attempt → Bool
-same_attempt s t = (s.action == t.action) && (same_branch s.branch t.branch && (s.number == t.number))
+same_attempt s t =
+    (s.action == t.action) && (same_branch s.branch t.branch && (s.number == t.number))
 
 abbrev pub is_branch_of : ℕ → Branch → Attempt → Bool
 is_branch_of a b t = (t.action == a) && same_branch t.branch b

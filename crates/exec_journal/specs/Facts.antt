@@ -50,7 +50,8 @@ abbrev pub IsNext : List Entry → Option (ℕ × Attempt) → Type 0
 IsNext j (Some x) = x.0 ≡ line_count j
 IsNext j None = Unit {0}
 
--- lines are numbered in order; and each line that an entry names was launched, at that entry or before, by its own berth's lane
+-- lines are numbered in order; and each line that an entry names was launched, at that entry or
+-- before, by its own berth's lane
 pub record NamesItsLine (j : List Entry) (e : Entry) : Type 0 where
   pub called : OfBerth j (call_line e.call) (e.lane / 2)
   pub replied : OfBerth (e ∷ j) (reply_line e.reply) (e.lane / 2)
@@ -78,17 +79,22 @@ pub record IsFresh (j : List Entry) (l : ℕ) : Type 0 where
 unfoldable pub begun : List Entry → Attempt → Bool
 begun j t = ever (λ _ e. is_for t (begun_in e.reply)) j
 
--- attempts of a branch run from 1 to its latest, at most to the limit, and all but the latest have ended
+-- attempts of a branch run from 1 to its latest, at most to the limit, and all but the latest have
+-- ended
 pub record AttemptsInOrder (p : Plan) (j : List Entry) : Type 0 where
-  pub numbered : (t : Attempt) → begun j t ≡ true → (1 ≤ t.number) × (t.number ≤ attempt j t.action t.branch)
-  pub older : (t : Attempt) → 1 ≤ t.number → t.number < attempt j t.action t.branch → ended j t ≡ true
+  pub numbered : (t : Attempt) → begun j t ≡ true → (1 ≤ t.number)
+      × (t.number ≤ attempt j t.action t.branch)
+  pub older : (t : Attempt) → 1 ≤ t.number → t.number < attempt j t.action t.branch
+      → ended j t ≡ true
   pub limited : (a : ℕ) (b : Branch) → 1 ≤ p.limit → attempt j a b ≤ p.limit
 
--- a Launch begins the attempt after the branch's latest, and so does a Send of an attempt that wasn't launched before.
--- An attempt is sent once: where it was launched before, on the line on which it was
+-- a Launch begins the attempt after the branch's latest, and so does a Send of an attempt that
+-- wasn't launched before. An attempt is sent once: where it was launched before, on the line on
+-- which it was
 pub record BeginsNext (j : List Entry) (t : Attempt) : Type 0 where
   pub next : t.number ≡ attempt j t.action t.branch + 1
-  pub after : (attempt j t.action t.branch ≡ 0) ⊎ (ended j (attempt_of t.action t.branch (attempt j t.action t.branch)) ≡ true)
+  pub after : (attempt j t.action t.branch ≡ 0)
+      ⊎ (ended j (attempt_of t.action t.branch (attempt j t.action t.branch)) ≡ true)
   pub unbegun : begun j t ≡ false
 
 pub record ContinuesOn (j : List Entry) (l : ℕ) (t : Attempt) : Type 0 where

@@ -38,7 +38,9 @@ is_gathered_out j w = is_none (gathers_next j w)
 -- a Launch: the berth is vacant, no live line of the group has a free place, and its room is free
 abbrev pub launch_kept : Plan → List Entry → ℕ → Bool
 launch_kept p j w =
-    (is_vacant j (last_line j w) && not (some_free p j (kind_of p w) (first_berth p (group_at p w)) (berths_of p (group_at p w))))
+    (is_vacant j (last_line j w)
+    && not (some_free p j (kind_of p w) (first_berth p (group_at p w))
+    (berths_of p (group_at p w))))
     && (is_room_free j w && is_gathered_out j w)
 
 abbrev pub is_ready : Plan → List Entry → ℕ → Bool
@@ -48,13 +50,16 @@ is_ready p j a = unwrap_or (option_map (ready p j) (slice_get p.actions a)) fals
 abbrev pub is_alone : List Entry → ℕ → ℕ → Bool
 is_alone j l a = not (list_any (λ r. r.attempt.action == a) (pending j l))
 
--- a Send: its line is live, its action ready and its branch wanted; off Single lines its number is new there and the action
--- has no other request there; on a Single line the berth's room is free. With it the line has room for its pending requests
+-- a Send: its line is live, its action ready and its branch wanted; off Single lines its number is
+-- new there and the action has no other request there; on a Single line the berth's room is free.
+-- With it the line has room for its pending requests
 abbrev pub send_kept : Plan → List Entry → Entry → ℕ → ℤ → ℕ → Branch → Bool
 send_kept p j e l n a b =
     (live j l && (is_ready p j a && wanted p j a b))
-    && ((if is_single (kind_of p (e.lane / 2)) then is_room_free j (e.lane / 2) else is_new_number j l n && is_alone j l a)
-    && (is_gathered_out j (e.lane / 2) && nat_le (length (pending (e ∷ j) l)) (capacity (kind_of p (e.lane / 2)))))
+    && ((if is_single (kind_of p (e.lane / 2)) then is_room_free j (e.lane / 2)
+    else is_new_number j l n && is_alone j l a)
+    && (is_gathered_out j (e.lane / 2)
+    && nat_le (length (pending (e ∷ j) l)) (capacity (kind_of p (e.lane / 2)))))
 
 abbrev pub same_why : Why → Why → Bool
 same_why why.Ended why.Ended = true
@@ -62,18 +67,21 @@ same_why why.Breach why.Breach = true
 same_why why.Feed why.Feed = true
 same_why _ _ = false
 
--- a Kill names the line's first break; or, for Unwanted, a Single line without cancellation has a pending request that
--- isn't wanted; or, for Quit, all is over
+-- a Kill names the line's first break; or, for Unwanted, a Single line without cancellation has a
+-- pending request that isn't wanted; or, for Quit, all is over
 abbrev pub kill_kept : Plan → List Entry → ℕ → ℕ → Why → Bool
-kill_kept p j w l why.Unwanted = is_single (kind_of p w) && (not (has_cancellation p (group_at p w)) && has_unwanted p j l)
+kill_kept p j w l why.Unwanted =
+    is_single (kind_of p w) && (not (has_cancellation p (group_at p w)) && has_unwanted p j l)
 kill_kept p j w l why.Quit = is_over p j
 kill_kept p j w l y = unwrap_or (option_map (λ c. same_why (why_of c) y) (line_cause j l)) false
 
--- a Cancel: its group has cancellation or its line has greeted, and its request is pending, isn't wanted and has no earlier Cancel
+-- a Cancel: its group has cancellation or its line has greeted, and its request is pending, isn't
+-- wanted and has no earlier Cancel
 abbrev pub cancel_kept : Plan → List Entry → ℕ → ℕ → ℤ → Bool
 cancel_kept p j w l n =
     may_cancel p j w (group_at p w) l
-    && list_any (λ r. int_eq r.number n && (is_unwanted p j r && not (has_cancel j r))) (pending j l)
+    && list_any (λ r. int_eq r.number n && (is_unwanted p j r && not (has_cancel j r)))
+    (pending j l)
 
 abbrev pub order_kept : Plan → List Entry → Entry → Reply → Bool
 order_kept p j e (reply.Launch l a b t) = launch_kept p j (e.lane / 2)

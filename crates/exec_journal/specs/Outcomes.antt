@@ -50,7 +50,8 @@ least_without standings (m ∷ ms) =
     else lesser (Some m.action) (least_without standings ms)
 
 abbrev pub skipped : List Standing → PlanAction → Outcome
-skipped standings x = unwrap_or (option_map (λ m. outcome.Skipped m) (least_without standings x.makers)) outcome.Unsettled
+skipped standings x = unwrap_or
+    (option_map (λ m. outcome.Skipped m) (least_without standings x.makers)) outcome.Unsettled
 
 abbrev pub outcome_after : Plan → List Entry → ℕ → PlanAction → List Standing → Outcome
 outcome_after p j a x standings =
@@ -59,7 +60,9 @@ outcome_after p j a x standings =
     else if is_starved x standings then skipped standings x else outcome.Unsettled)
 
 unfoldable pub outcome_of : Plan → List Entry → ℕ → Outcome
-outcome_of p j a = unwrap_or (option_map (λ x. outcome_after p j a x (standings p j)) (slice_get p.actions a)) outcome.Unsettled
+outcome_of p j a = unwrap_or
+    (option_map (λ x. outcome_after p j a x (standings p j))
+    (slice_get p.actions a)) outcome.Unsettled
 
 abbrev pub is_ok : Outcome → Bool
 is_ok (outcome.Success b) = true
@@ -80,7 +83,8 @@ abbrev pub won_or_spoiled : Option CommitEnd → Fate
 won_or_spoiled (Some (commit.PlaceFault k)) = fate.Spoiled k
 won_or_spoiled _ = fate.Won
 
--- with the cause of its last attempt, of as many attempts as the limit says; else it was sent or not
+-- with the cause of its last attempt, of as many attempts as the limit says; else it was sent or
+-- not
 abbrev pub lost_fate : ℕ → Option Cause → Bool → Fate
 lost_fate limit (Some c) sent = fate.Dropped c limit
 lost_fate limit None true = fate.Lost
@@ -94,7 +98,8 @@ fate_after p j a b (Some g) =
     else lost_fate p.limit (end_of j (attempt_of a b p.limit)) (ever_sent j a b)
 
 unfoldable pub fate_of : Plan → List Entry → ℕ → Branch → Fate
-fate_of p j a b = unwrap_or (option_map (λ x. fate_after p j a b (group_of x b)) (slice_get p.actions a)) fate.Unused
+fate_of p j a b = unwrap_or
+    (option_map (λ x. fate_after p j a b (group_of x b)) (slice_get p.actions a)) fate.Unused
 
 -- ---- the winner's answer
 

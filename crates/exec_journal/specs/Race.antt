@@ -22,8 +22,8 @@ commits a _ = false
 unfoldable pub committed : List Entry → ℕ → Bool
 committed j a = ever (λ _ e. commits a e.call) j
 
--- a grant comes where the action has none yet; a Committed of a branch comes after the same lane was granted its
--- files, and where no Committed of the action stands yet
+-- a grant comes where the action has none yet; a Committed of a branch comes after the same lane
+-- was granted its files, and where no Committed of the action stands yet
 abbrev pub race_at : List Entry → ℕ → Call → Reply → Bool
 race_at j lane (call.Claim a b t f) reply.Granted = not (granted j a)
 race_at j lane (call.Committed a b how) r = has_grant_of j lane a b && not (committed j a)

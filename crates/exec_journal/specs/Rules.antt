@@ -62,7 +62,8 @@ quits p j last = when (is_over p j) (leave j last)
 -- kill a broken line: the reply says why it broke first
 abbrev pub kills_broken : List Entry → Option ℕ → Option Reply
 kills_broken j None = None
-kills_broken j (Some l) = if runs j l then option_map (λ y. reply.Kill l (why_of y)) (line_cause j l) else None
+kills_broken j (Some l) =
+    if runs j l then option_map (λ y. reply.Kill l (why_of y)) (line_cause j l) else None
 
 abbrev pub is_unwanted : Plan → List Entry → Request → Bool
 is_unwanted p j r = not (wanted p j r.attempt.action r.attempt.branch)
@@ -71,23 +72,28 @@ is_unwanted p j r = not (wanted p j r.attempt.action r.attempt.branch)
 abbrev pub has_unwanted : Plan → List Entry → ℕ → Bool
 has_unwanted p j l = list_any (is_unwanted p j) (pending j l)
 
--- kill an unwanted request's line: a Single line without cancellation, with a pending request that isn't wanted
+-- kill an unwanted request's line: a Single line without cancellation, with a pending request that
+-- isn't wanted
 abbrev pub kills_unwanted : Plan → List Entry → ℕ → ℕ → Option ℕ → Option Reply
 kills_unwanted p j w g None = None
 kills_unwanted p j w g (Some l) =
-    when (runs j l && ((is_single (kind_of p w) && not (has_cancellation p g)) && has_unwanted p j l)) (reply.Kill l why.Unwanted)
+    when (runs j l
+    && ((is_single (kind_of p w) && not (has_cancellation p g)) && has_unwanted p j l))
+    (reply.Kill l why.Unwanted)
 
 -- a Gather of the attempt was ordered
 unfoldable pub gathered : List Entry → Attempt → Bool
 gathered j t = ever (λ _ e. is_for t (gather_in e.reply)) j
 
--- a match that waits for its Gather: its Wrote says Done, it has no Gather yet, and its action has no grant
+-- a match that waits for its Gather: its Wrote says Done, it has no Gather yet, and its action has
+-- no grant
 abbrev pub waits : List Entry → Attempt → Bool
 waits j t = says_done (wrote j t) && (not (gathered j t) && not (granted j t.action))
 
 abbrev pub gather_for : List Entry → Call → Reply → Option Reply
 gather_for j (call.Answer l x) (reply.Matched a b t) =
-    when (waits j (attempt_of a b t)) (reply.Gather l x.number a b t x.exit (nat_lt 0 (length x.refusal)))
+    when (waits j (attempt_of a b t))
+    (reply.Gather l x.number a b t x.exit (nat_lt 0 (length x.refusal)))
 gather_for j _ _ = None
 
 -- gather: the match of the berth's lines that waits and whose Answer stands first
@@ -101,17 +107,20 @@ cancel_for r = reply.Cancel r.line r.number
 abbrev pub may_cancel : Plan → List Entry → ℕ → ℕ → ℕ → Bool
 may_cancel p j w g l = has_cancellation p g || (is_remote (kind_of p w) && has_greeted j l)
 
--- cancel: a live line that can be asked to; the earliest sent of its pending requests that aren't wanted and have no Cancel
+-- cancel: a live line that can be asked to; the earliest sent of its pending requests that aren't
+-- wanted and have no Cancel
 abbrev pub cancels_next : Plan → List Entry → ℕ → ℕ → Option ℕ → Option Reply
 cancels_next p j w g None = None
 cancels_next p j w g (Some l) =
     if live j l && may_cancel p j w g l
-    then option_map cancel_for (oldest (filter (λ r. is_unwanted p j r && not (has_cancel j r)) (pending j l)))
+    then option_map cancel_for
+    (oldest (filter (λ r. is_unwanted p j r && not (has_cancel j r)) (pending j l)))
     else None
 
 -- the bound branch, or else, where there is a free place, the group's earliest
 abbrev pub next_for : Plan → List Entry → ℕ → ℕ → ℕ → Option Attempt
-next_for p j w g l = or_else (bound p j l) (if nat_lt 0 (free_places p j (kind_of p w) l) then earliest p j g else None)
+next_for p j w g l = or_else (bound p j l)
+    (if nat_lt 0 (free_places p j (kind_of p w) l) then earliest p j g else None)
 
 -- 0 on a Single line, else one more than the number of earlier Sends on that line
 abbrev pub number_on : Plan → List Entry → ℕ → ℕ → ℤ
@@ -123,7 +132,8 @@ send_order p j w l t = reply.Send l (number_on p j w l) t.action t.branch t.numb
 -- send: to a live line
 abbrev pub sends_next : Plan → List Entry → ℕ → ℕ → Option ℕ → Option Reply
 sends_next p j w g None = None
-sends_next p j w g (Some l) = if live j l then option_map (send_order p j w l) (next_for p j w g l) else None
+sends_next p j w g (Some l) =
+    if live j l then option_map (send_order p j w l) (next_for p j w g l) else None
 
 -- the berth has no line, or its last failed to launch, or has Ended and was killed
 abbrev pub is_vacant : List Entry → Option ℕ → Bool
@@ -152,15 +162,18 @@ ask p j w g last =
 
 -- ---- Take, Answer, Claim, Look
 
--- the line here, where it was launched with Done and isn't taken; else Stop where all is over; else Idle
+-- the line here, where it was launched with Done and isn't taken; else Stop where all is over; else
+-- Idle
 abbrev pub take_reply : Plan → List Entry → Option ℕ → Reply
-take_reply p j (Some l) = if started j l && not (was_taken j l) then reply.Line l else (if is_over p j then reply.Stop else reply.Idle)
+take_reply p j (Some l) = if started j l && not (was_taken j l) then reply.Line l
+    else (if is_over p j then reply.Stop else reply.Idle)
 take_reply p j None = if is_over p j then reply.Stop else reply.Idle
 
 abbrev pub consume : List Entry → Answer → Request → Reply
 consume j x r =
     if x.cancelled && not (has_cancel j r) then reply.Breach breach.NotCancelled
-    else if granted j r.attempt.action then reply.Late r.attempt.action r.attempt.branch r.attempt.number
+    else if granted j r.attempt.action
+    then reply.Late r.attempt.action r.attempt.branch r.attempt.number
     else reply.Matched r.attempt.action r.attempt.branch r.attempt.number
 
 -- on a Single line: its pending request
@@ -175,14 +188,16 @@ answer_multi j x (Some r) = if is_pending j r then consume j x r else reply.Stra
 
 -- an executor's first answer, with the number 0 and the version 2 or more
 abbrev pub is_greeting : Plan → List Entry → ℕ → ℕ → Answer → Bool
-is_greeting p j w l x = is_remote (kind_of p w) && (int_eq x.number (pos 0) && (int_le (pos 2) x.version && not (has_spoken j l)))
+is_greeting p j w l x = is_remote (kind_of p w)
+    && (int_eq x.number (pos 0) && (int_le (pos 2) x.version && not (has_spoken j l)))
 
 abbrev pub answer_reply : Plan → List Entry → ℕ → ℕ → Answer → Reply
 answer_reply p j w l x =
     if broke j l then reply.Breach breach.Broken
     else if is_greeting p j w l x then reply.Greeted
     else if is_single (kind_of p w) then
-    (if int_eq x.number (pos 0) then answer_single j x (head (pending j l)) else reply.Breach breach.WrongNumber)
+    (if int_eq x.number (pos 0) then answer_single j x (head (pending j l))
+        else reply.Breach breach.WrongNumber)
     else answer_multi j x (find (λ r. int_eq r.number x.number) (sends j l))
 
 abbrev pub is_other : Branch → Option (Attempt × Found) → Bool
@@ -194,7 +209,8 @@ by_found p t (found.Files b) = reply.Granted
 by_found p t (found.Exit n) = reply.Granted
 by_found p t _ = if nat_lt t p.limit then reply.AgainLater else reply.Dropped
 
--- Lost where the other branch was granted; else Granted for files and an exit code; else AgainLater below the limit; else Dropped
+-- Lost where the other branch was granted; else Granted for files and an exit code; else AgainLater
+-- below the limit; else Dropped
 abbrev pub claim_reply : Plan → List Entry → ℕ → Branch → ℕ → Found → Reply
 claim_reply p j a b t f = if is_other b (grant_of j a) then reply.Lost else by_found p t f
 
@@ -213,22 +229,26 @@ path_of p a o = option_and_then (λ x. slice_get x.outputs o) (slice_get p.actio
 -- the content of the last file with this path
 abbrev pub last_file : List NamedFile → List ℕ → Option (List ℕ)
 last_file [] path = None
-last_file (f ∷ fs) path = or_else (last_file fs path) (if bytes_eq f.path path then Some f.content else None)
+last_file (f ∷ fs) path =
+    or_else (last_file fs path) (if bytes_eq f.path path then Some f.content else None)
 
 -- what the answer of this attempt holds for an output of its action
 abbrev pub answered_file : Plan → List Entry → Option Attempt → ℕ → Option (List ℕ)
 answered_file p j (Some t) o =
-    option_and_then (λ x. option_and_then (λ path. last_file x.files path) (path_of p t.action o)) (match_of j t)
+    option_and_then (λ x. option_and_then (λ path. last_file x.files path) (path_of p t.action o))
+    (match_of j t)
 answered_file p j None o = None
 
 -- an output that an action made, or one that the answer has for which the lane is to gather
 abbrev pub look_reply : Plan → List Entry → ℕ → Wanted → Reply
 look_reply p j lane (look.Made a o) = file_reply (slice_get (files_of_grant (grant_of j a)) o)
-look_reply p j lane (look.Answered l n o) = file_reply (answered_file p j (gather_of_entry (last_work j lane)) o)
+look_reply p j lane (look.Answered l n o) =
+    file_reply (answered_file p j (gather_of_entry (last_work j lane)) o)
 
 -- the reply to each call
 abbrev pub rule : Plan → List Entry → ℕ → Call → Reply
-rule p j lane call.Ask = ask p j (lane / 2) (unwrap_or (berth_group p (lane / 2)) 0) (last_line j (lane / 2))
+rule p j lane call.Ask =
+    ask p j (lane / 2) (unwrap_or (berth_group p (lane / 2)) 0) (last_line j (lane / 2))
 rule p j lane (call.Look w) = look_reply p j lane w
 rule p j lane (call.Claim a b t f) = claim_reply p j a b t f
 rule p j lane call.Take = take_reply p j (last_line j (lane / 2))

@@ -1,4 +1,5 @@
--- Which calls a lane may make next. Lane 2w is the proxy lane of the berth w, lane 2w + 1 its tap lane.
+-- Which calls a lane may make next. Lane 2w is the proxy lane of the berth w, lane 2w + 1 its tap
+-- lane.
 use Rattle.std.specs.Prelude.{ℕ, ◌*◌, ◌/◌, ◌%◌, ◌==◌, nat_lt, Bool, true, false, ◌&&◌, ◌||◌, not, Option, Some, None, unwrap_or, option_map, if◌then◌else◌, List, length, slice_get, ℤ, pos}
 use Rattle.std.specs.List.{list_any}
 use Rattle.std.specs.Ordering.{int_eq}
@@ -23,7 +24,8 @@ use Rattle.run_plan.specs.Groups.{kind_of, is_remote, berths}
 
 -- ---- what a lane owes
 
--- after an order the lane owes the call that answers it, after Granted to files a Committed: it may not Ask. After Stop neither
+-- after an order the lane owes the call that answers it, after Granted to files a Committed: it may
+-- not Ask. After Stop neither
 abbrev pub may_ask_after : Call → Reply → Bool
 may_ask_after _ (reply.Launch l a b t) = false
 may_ask_after _ (reply.Send l n a b t) = false
@@ -90,9 +92,11 @@ is_made m a o = (m.action == a) && (m.output == o)
 
 -- this output of the action c is an input of the action a
 abbrev pub makes : Plan → ℕ → ℕ → ℕ → Bool
-makes p a c o = unwrap_or (option_map (λ x. list_any (λ m. is_made m c o) x.makers) (slice_get p.actions a)) false
+makes p a c o = unwrap_or
+    (option_map (λ x. list_any (λ m. is_made m c o) x.makers) (slice_get p.actions a)) false
 
--- at the made inputs after a Send; at the answered outputs after a Gather of an answer that holds files
+-- at the made inputs after a Send; at the answered outputs after a Gather of an answer that holds
+-- files
 abbrev pub may_look : Plan → Wanted → Reply → Bool
 may_look p (look.Made c o) (reply.Send l n a b t) = makes p a c o
 may_look p (look.Answered k m o) (reply.Gather l n a b t exit refused) =
@@ -105,9 +109,11 @@ may_look p _ _ = false
 abbrev pub is_owed : Plan → Kind → Call → Reply → Bool
 is_owed p k (call.Launched l how) (reply.Launch m a b t) = m == l
 is_owed p k (call.Wrote l n how) (reply.Send m o a b t) = (m == l) && int_eq o n
-is_owed p k (call.Wrote l n how) (reply.Cancel m o) = (m == l) && (int_eq o n && is_whole_or_fault how)
+is_owed p k (call.Wrote l n how) (reply.Cancel m o) =
+    (m == l) && (int_eq o n && is_whole_or_fault how)
 is_owed p k (call.Claim a b t f) (reply.Gather l n c d u e r) =
-    same_attempt (attempt_of a b t) (attempt_of c d u) && may_find (outputs_of p a) (is_remote k) e r f
+    same_attempt (attempt_of a b t) (attempt_of c d u)
+    && may_find (outputs_of p a) (is_remote k) e r f
 is_owed p k (call.Killed l) (reply.Kill m y) = m == l
 is_owed p k (call.Look w) r = may_look p w r
 is_owed p k _ _ = false
@@ -144,7 +150,8 @@ allowed p k proxy last (call.Ended l how) = not proxy && hears last l
 allowed p k proxy last call.Halt = true
 allowed p k proxy last c = proxy && is_owed_after p k c last
 
--- a lane of the plan; nothing after Stop; after a Halt nothing but an owed Committed; else as its newest work says
+-- a lane of the plan; nothing after Stop; after a Halt nothing but an owed Committed; else as its
+-- newest work says
 abbrev pub script : Plan → List Entry → ℕ → Call → Bool
 script p j lane c =
     nat_lt lane (2 * berths p) && (not (stopped j lane) &&

@@ -11,7 +11,7 @@ use Rattle.run_plan.specs.declared.plan.PlanAction.{PlanAction}
 use Rattle.exec_journal.specs.declared.attempt.Attempt.{Attempt}
 use Rattle.exec_journal.specs.declared.journal.Entry.{Entry}
 use Rattle.exec_journal.specs.declared.ends.Standing.{Standing}
-use Rattle.exec_journal.specs.declared.ends.Standing.TheVariants.{Open, Succeeded, Without}
+use Rattle.exec_journal.specs.declared.ends.Standing.TheVariants.{Open, Succeeded, Unsuccessful}
 use Rattle.exec_journal.specs.declared.call.Found.{Found}
 use Rattle.exec_journal.specs.declared.call.Found.TheVariants as found
 use Rattle.exec_journal.specs.declared.call.CommitEnd.{CommitEnd}
@@ -24,9 +24,9 @@ use Rattle.run_plan.specs.Groups.{group_of, berths, capacity}
 
 -- ---- settled actions
 
-abbrev pub is_without : Option Standing → Bool
-is_without (Some Without) = true
-is_without _ = false
+abbrev pub is_unsuccessful : Option Standing → Bool
+is_unsuccessful (Some Unsuccessful) = true
+is_unsuccessful _ = false
 
 abbrev pub is_success : Option Standing → Bool
 is_success (Some Succeeded) = true
@@ -35,16 +35,17 @@ is_success _ = false
 abbrev pub is_settled : Standing → Bool
 is_settled Open = false
 is_settled Succeeded = true
-is_settled Without = true
+is_settled Unsuccessful = true
 
 abbrev pub by_commit : Option CommitEnd → Option Standing
 by_commit (Some commit.Done) = Some Succeeded
-by_commit (Some (commit.PlaceFault k)) = Some Without
+by_commit (Some (commit.PlaceFault k)) = Some Unsuccessful
 by_commit None = None
 
--- a grant to an exit code settles the action without success; a grant to files does with its Committed, as that says
+-- a grant to an exit code settles the action without success; a grant to files does with its
+-- Committed, as that says
 abbrev pub by_grant : List Entry → Option (Attempt × Found) → Option Standing
-by_grant j (Some (t, found.Exit n)) = Some Without
+by_grant j (Some (t, found.Exit n)) = Some Unsuccessful
 by_grant j (Some (t, found.Files fs)) = by_commit (commit_of j t.action t.branch)
 by_grant j _ = None
 
@@ -54,16 +55,18 @@ unused_or_dropped p j a b (Some g) = dropped p j a b
 
 -- every branch that the action uses is dropped
 abbrev pub all_dropped : Plan → List Entry → ℕ → PlanAction → Bool
-all_dropped p j a x = unused_or_dropped p j a Local x.local && unused_or_dropped p j a Remote x.remote
+all_dropped p j a x =
+    unused_or_dropped p j a Local x.local && unused_or_dropped p j a Remote x.remote
 
 -- some producer of the action's inputs is settled without success
 abbrev pub is_starved : PlanAction → List Standing → Bool
-is_starved x earlier = list_any (λ m. is_without (slice_get earlier m.action)) x.makers
+is_starved x earlier = list_any (λ m. is_unsuccessful (slice_get earlier m.action)) x.makers
 
 -- the action's standing, where those of the actions before it are known
 abbrev pub standing_after : Plan → List Entry → ℕ → PlanAction → List Standing → Standing
 standing_after p j a x earlier =
-    unwrap_or (by_grant j (grant_of j a)) (if all_dropped p j a x || is_starved x earlier then Without else Open)
+    unwrap_or (by_grant j (grant_of j a))
+    (if all_dropped p j a x || is_starved x earlier then Unsuccessful else Open)
 
 -- those of the first actions, and then those of the rest, one by one
 abbrev pub standings_from : Plan → List Entry → List Standing → List PlanAction → List Standing
@@ -116,7 +119,8 @@ queued p j a b x = wanted p j a b && (ready p j x && not (is_under_way j a b))
 abbrev pub queued_in : Plan → List Entry → ℕ → ℕ → PlanAction → Option Attempt
 queued_in p j g a x =
     if uses x Local g && queued p j a Local x then Some (attempt_of a Local (attempt j a Local + 1))
-    else if uses x Remote g && queued p j a Remote x then Some (attempt_of a Remote (attempt j a Remote + 1))
+    else if uses x Remote g && queued p j a Remote x
+    then Some (attempt_of a Remote (attempt j a Remote + 1))
     else None
 
 abbrev pub earliest_from : Plan → List Entry → ℕ → ℕ → List PlanAction → Option Attempt

@@ -1,4 +1,5 @@
--- Lanes, lines, requests and grants, as functions of the journal so far, whose newest entry stands first.
+-- Lanes, lines, requests and grants, as functions of the journal so far, whose newest entry stands
+-- first.
 use Rattle.std.specs.Prelude.{ℕ, ◌/◌, ◌==◌, Bool, true, false, ◌&&◌, not, Option, Some, None, is_some, option_map, if◌then◌else◌, List, length, filter}
 use Rattle.std.specs.Ordering.{int_eq}
 use Rattle.run_plan.specs.declared.plan.Branch.{Branch}
@@ -26,7 +27,8 @@ use Rattle.exec_journal.specs.Entries.{Request, same_attempt, is_branch_of, is_f
 
 -- an entry of the lane that is neither a Look nor a Halt
 abbrev pub work_at : ℕ → Entry → Option Entry
-work_at lane e = if (e.lane == lane) && (not (is_look e.call) && not (is_halt e.call)) then Some e else None
+work_at lane e =
+    if (e.lane == lane) && (not (is_look e.call) && not (is_halt e.call)) then Some e else None
 
 -- the lane's newest such entry: what the lane owes hangs on it
 unfoldable pub last_work : List Entry → ℕ → Option Entry
@@ -154,9 +156,11 @@ abbrev pub says_feed_fault : Option Written → Bool
 says_feed_fault (Some write.FeedFault) = true
 says_feed_fault _ = false
 
--- a request that was sent is pending where it isn't answered, its Wrote isn't RoomFault or TooLarge, and its line hasn't Ended
+-- a request that was sent is pending where it isn't answered, its Wrote isn't RoomFault or
+-- TooLarge, and its line hasn't Ended
 unfoldable pub is_pending : List Entry → Request → Bool
-is_pending j r = not (answered j r.attempt) && (not (says_unwritten (wrote j r.attempt)) && not (has_ended j r.line))
+is_pending j r = not (answered j r.attempt)
+    && (not (says_unwritten (wrote j r.attempt)) && not (has_ended j r.line))
 
 unfoldable pub pending : List Entry → ℕ → List Request
 pending j l = filter (is_pending j) (sends j l)
@@ -177,7 +181,8 @@ end_cause end.TapFault = cause.Tap
 end_cause end.BadFrame = cause.Frame
 end_cause end.Long = cause.Long
 
--- a Wrote breaks its line where the feed failed, or where it says that a request wasn't written which was already answered
+-- a Wrote breaks its line where the feed failed, or where it says that a request wasn't written
+-- which was already answered
 abbrev pub write_cause : List Entry → Written → Option Request → Option Cause
 write_cause before write.FeedFault _ = Some cause.Feed
 write_cause before write.Done _ = None

@@ -74,7 +74,9 @@ pub enum Cause {
 /// What is known of an action: whether it is settled, and how.
 #[derive(Clone, Copy, Debug, PartialEq, Eq)]
 pub enum Standing {
+    /// It isn't settled yet.
     Open,
     Succeeded,
-    Without,
+    /// It is settled, and not with success: it failed, was spoiled, dropped or skipped.
+    Unsuccessful,
 }

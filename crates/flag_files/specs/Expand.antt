@@ -15,7 +15,8 @@ has_double_slash (b ∷ bs) = starts_with nat_eq (b ∷ bs) (codes "//") || has_
 
 -- the word is one that is replaced by the lines of a file
 abbrev pub names_file : List ℕ → Bool
-names_file word = starts_with nat_eq word (codes "@") && nat_lt 1 (length word) && not (starts_with nat_eq word (codes "@@")) && not (has_double_slash word)
+names_file word = starts_with nat_eq word (codes "@") && nat_lt 1 (length word)
+    && not (starts_with nat_eq word (codes "@@")) && not (has_double_slash word)
 
 -- the path of the file that the word names
 abbrev pub file_name : List ℕ → Option (List ℕ)
@@ -45,7 +46,8 @@ steps_of_word w (Some path) steps_of_file = steps_of_file path
 -- a word's steps, where a file may still name files this many levels deep
 unfoldable pub steps : ℕ → List SourceFile → List ℕ → List Step
 steps zero files w = steps_of_word w (file_name w) (λ path. stops (fault.TooDeep path) ∷ [])
-steps (suc levels) files w = steps_of_word w (file_name w) (λ path. steps_of_text (steps levels files) (file_text files path))
+steps (suc levels) files w = steps_of_word w (file_name w)
+    (λ path. steps_of_text (steps levels files) (file_text files path))
 
 -- so many words with so many bytes are not too many
 abbrev pub fits : List (List ℕ) → Bool
@@ -55,7 +57,8 @@ fits words = nat_le (length words) 262144 && nat_le (sum_by length words) 167772
 abbrev pub walk : List (List ℕ) → List Step → Result (List (List ℕ)) FlagFault
 walk before [] = Ok before
 walk before (stops f ∷ later) = Err f
-walk before (stays w ∷ later) = if fits (before ++ w ∷ []) then walk (before ++ w ∷ []) later else Err fault.TooManyWords
+walk before (stays w ∷ later) =
+    if fits (before ++ w ∷ []) then walk (before ++ w ∷ []) later else Err fault.TooManyWords
 
 abbrev pub max_depth : ℕ
 max_depth = 16
@@ -72,7 +75,8 @@ Refuses (fault.NotText path) due = due ≡ Err (fault.NotText path)
 Refuses fault.TooManyWords due = due ≡ Err fault.TooManyWords
 
 -- After a part of the walk these are the words, or its fault is answered.
-abbrev pub Answers : Result (Unit {0}) FlagFault → List (List ℕ) → Result (List (List ℕ)) FlagFault → Type 0
+abbrev pub Answers : Result (Unit {0}) FlagFault → List (List ℕ) → Result (List (List ℕ)) FlagFault
+    → Type 0
 Answers (Ok done) now due = due ≡ Ok now
 Answers (Err f) now due = Refuses f due
 

@@ -10,7 +10,8 @@ abbrev pub begins_longer : List ℕ → List ℕ → Bool
 begins_longer word front = starts_with nat_eq word front && nat_lt (length front) (length word)
 
 abbrev pub is_flag_file_word : List ℕ → Bool
-is_flag_file_word word = begins_longer word (codes "@") || begins_longer word (codes "-flagfile=") || begins_longer word (codes "--flagfile=")
+is_flag_file_word word = begins_longer word (codes "@") || begins_longer word (codes "-flagfile=")
+    || begins_longer word (codes "--flagfile=")
 
 -- what a worker is told, so that it stays
 unfoldable pub persistent_worker : List ℕ
@@ -23,10 +24,12 @@ request_words (program ∷ words) = filter is_flag_file_word words
 
 abbrev pub startup_words : List (List ℕ) → List (List ℕ) → List (List ℕ)
 startup_words [] extra = persistent_worker ∷ extra
-startup_words (program ∷ words) extra = program ∷ filter (λ w. not (is_flag_file_word w)) words ++ persistent_worker ∷ extra
+startup_words (program ∷ words) extra =
+    program ∷ filter (λ w. not (is_flag_file_word w)) words ++ persistent_worker ∷ extra
 
 -- The two lists, or a refusal where there is no word for a request.
 abbrev pub Splits : List (List ℕ) → List (List ℕ) → Result Split SplitFault → Type 0
-Splits argv extra (Ok s) = (s.startup ≡ startup_words argv extra) × (s.request ≡ request_words argv) × (request_words argv ≢ [])
+Splits argv extra (Ok s) = (s.startup ≡ startup_words argv extra) × (s.request ≡ request_words argv)
+    × (request_words argv ≢ [])
 Splits argv extra (Err fault.NoFlagFile) = request_words argv ≡ []
 Splits argv extra (Err fault.NoMemory) = Unit {0}

@@ -16,7 +16,7 @@ use Rattle.exec_journal.specs.declared.call.Found.TheVariants as found
 use Rattle.exec_journal.specs.declared.ends.ActionEnd.{ActionEnd}
 use Rattle.exec_journal.specs.declared.ends.Cause.{Cause}
 use Rattle.exec_journal.specs.declared.ends.Standing.{Standing}
-use Rattle.exec_journal.specs.declared.ends.Standing.TheVariants.{Open, Without}
+use Rattle.exec_journal.specs.declared.ends.Standing.TheVariants.{Open, Unsuccessful}
 use Rattle.journal_ends.specs.declared.grant.Grant.{Grant}
 use Rattle.exec_journal.specs.declared.journal.Entry.{Entry}
 use Rattle.journal_ends.specs.declared.replay.ActionFact.{ActionFact}
@@ -201,7 +201,7 @@ through_from p j earlier a [] h = refl
 through_from p j earlier a (x ∷ xs) h =
     let s = standing_by (verdict_of p j a x) x earlier in
     let same : s ≡ standing_after p j (length earlier) x earlier =
-    (grant_standing j (grant_of j a) (cond (all_dropped p j a x || is_starved x earlier) Without Open) ∙ ap (λ n. standing_after p j n x earlier) (sym h)) in
+    (grant_standing j (grant_of j a) (cond (all_dropped p j a x || is_starved x earlier) Unsuccessful Open) ∙ ap (λ n. standing_after p j n x earlier) (sym h)) in
     let long : length (earlier ++ s ∷ []) ≡ suc a = (length_push earlier s ∙ add-one (length earlier) ∙ ap suc h) in
     through_from p j (earlier ++ s ∷ []) (suc a) xs long
     ∙ ap (λ (y : Standing). standings_from p j (earlier ++ y ∷ []) xs) same

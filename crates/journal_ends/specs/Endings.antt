@@ -19,7 +19,7 @@ use Rattle.run_plan.specs.declared.plan.PlanAction.{PlanAction}
 use Rattle.exec_journal.specs.declared.ends.Outcome.{Outcome}
 use Rattle.exec_journal.specs.declared.ends.Outcome.TheVariants as outcome
 use Rattle.exec_journal.specs.declared.ends.Standing.{Standing}
-use Rattle.exec_journal.specs.declared.ends.Standing.TheVariants.{Open, Succeeded, Without}
+use Rattle.exec_journal.specs.declared.ends.Standing.TheVariants.{Open, Succeeded, Unsuccessful}
 use Rattle.exec_journal.specs.declared.journal.Entry.{Entry}
 use Rattle.journal_ends.specs.declared.endings.Verdict.{Verdict}
 use Rattle.exec_journal.specs.Words.{grant_of}
@@ -41,18 +41,21 @@ verdicts_from p j a (x ∷ xs) = verdict_of p j a x ∷ verdicts_from p j (suc a
 
 abbrev pub standing_of : Outcome → Standing
 standing_of (outcome.Success b) = Succeeded
-standing_of _ = Without
+standing_of _ = Unsuccessful
 
 abbrev pub standing_own : Option Outcome → Standing → Standing
 standing_own (Some o) s = standing_of o
 standing_own None s = s
 
 abbrev pub standing_by : Verdict → PlanAction → List Standing → Standing
-standing_by v x earlier = standing_own v.own (if v.dropped || is_starved x earlier then Without else Open)
+standing_by v x earlier =
+    standing_own v.own (if v.dropped || is_starved x earlier then Unsuccessful else Open)
 
 abbrev pub outcome_by : Verdict → PlanAction → List Standing → Outcome
 outcome_by v x standings =
-    unwrap_or v.own (if v.dropped then outcome.Dropped else if is_starved x standings then skipped standings x else outcome.Unsettled)
+    unwrap_or v.own
+    (if v.dropped then outcome.Dropped else if is_starved x standings then skipped standings x
+    else outcome.Unsettled)
 
 -- ---- by what was gathered
 
@@ -79,24 +82,30 @@ is_won_by b None = false
 
 abbrev pub fate_by : ℕ → Option ℕ → Branch → Option Grant → BranchFact → Option Cause → Fate
 fate_by limit None b g f e = fate.Unused
-fate_by limit (Some k) b g f e = if is_won_by b g then won_or_spoiled f.commit else lost_fate limit e f.sent
+fate_by limit (Some k) b g f e =
+    if is_won_by b g then won_or_spoiled f.commit else lost_fate limit e f.sent
 
 -- with the causes of the lines of its last attempts, where those have ended
 abbrev pub verdict_by : ℕ → ActionFact → PlanAction → Option Cause → Option Cause → Verdict
 verdict_by limit f x local_line remote_line = record {
   own = own_by f f.grant;
-  dropped = is_gone x.local (end_now f.local.track (is_some f.grant) local_line) && is_gone x.remote (end_now f.remote.track (is_some f.grant) remote_line);
-  local = fate_by limit x.local Local f.grant f.local (end_now f.local.track (is_some f.grant) local_line);
-  remote = fate_by limit x.remote Remote f.grant f.remote (end_now f.remote.track (is_some f.grant) remote_line);
+  dropped = is_gone x.local (end_now f.local.track (is_some f.grant) local_line)
+      && is_gone x.remote (end_now f.remote.track (is_some f.grant) remote_line);
+  local = fate_by limit x.local Local f.grant f.local
+      (end_now f.local.track (is_some f.grant) local_line);
+  remote = fate_by limit x.remote Remote f.grant f.remote
+      (end_now f.remote.track (is_some f.grant) remote_line);
 }
 
 -- the standings of all actions, one by one
 abbrev pub standings_through : List Standing → List Verdict → List PlanAction → List Standing
-standings_through earlier (v ∷ vs) (x ∷ xs) = standings_through (earlier ++ standing_by v x earlier ∷ []) vs xs
+standings_through earlier (v ∷ vs) (x ∷ xs) =
+    standings_through (earlier ++ standing_by v x earlier ∷ []) vs xs
 standings_through earlier _ _ = earlier
 
 abbrev pub end_by : Verdict → PlanAction → List Standing → ActionEnd
-end_by v x standings = record { outcome = outcome_by v x standings; local = v.local; remote = v.remote }
+end_by v x standings =
+    record { outcome = outcome_by v x standings; local = v.local; remote = v.remote }
 
 abbrev pub ends_through : List Standing → List Verdict → List PlanAction → List ActionEnd
 ends_through standings (v ∷ vs) (x ∷ xs) = end_by v x standings ∷ ends_through standings vs xs

@@ -7,7 +7,7 @@ use Rattle.exec_journal.specs.declared.ends.Cause.TheVariants as cause
 use Rattle.exec_journal.specs.declared.ends.Outcome.{Outcome}
 use Rattle.exec_journal.specs.declared.ends.Outcome.TheVariants as outcome
 use Rattle.exec_journal.specs.declared.ends.Standing.{Standing}
-use Rattle.exec_journal.specs.declared.ends.Standing.TheVariants.{Without}
+use Rattle.exec_journal.specs.declared.ends.Standing.TheVariants.{Unsuccessful}
 use Rattle.exec_journal.specs.declared.journal.Entry.{Entry}
 use Rattle.exec_journal.specs.declared.call.Call.{Call}
 use Rattle.exec_journal.specs.declared.call.Call.TheVariants as call
@@ -114,7 +114,8 @@ track_after k t order e won line = record {
 abbrev pub concerns : Attempt → Option Entry → Entry → Bool
 concerns t order e =
     (is_some (carrier_in t e.reply) || is_for t (consumed_in e.reply))
-    || ((is_some (wrote_if t e.call (send_of_entry order)) || is_some (fault_by t order e.call e.reply)) || is_some (grants t.action e))
+    || ((is_some (wrote_if t e.call (send_of_entry order))
+    || is_some (fault_by t order e.call e.reply)) || is_some (grants t.action e))
 
 -- it is what the journal says of the attempt
 pub record IsTrack (k : Track) (j : List Entry) (t : Attempt) : Type 0 where
@@ -127,7 +128,7 @@ pub record IsTrack (k : Track) (j : List Entry) (t : Attempt) : Type 0 where
 -- ---- by a grant in short
 
 abbrev pub standing_by : List Entry → Attempt → GrantKind → Option Standing
-standing_by j t (prize.Exit n) = Some Without
+standing_by j t (prize.Exit n) = Some Unsuccessful
 standing_by j t prize.Files = by_commit (commit_of j t.action t.branch)
 standing_by j t prize.Nothing = None
 

@@ -47,7 +47,8 @@ broken_line _ = None
 abbrev pub answers_after : List Bool → ℕ → Branch → Option Attempt → List Bool
 answers_after flags a b o = update_if (λ _. true) flags (number_if a b o)
 
-abbrev pub branch_after : BranchFact → Attempt → Option Entry → Entry → Bool → Option Cause → BranchFact
+abbrev pub branch_after : BranchFact → Attempt → Option Entry → Entry → Bool → Option Cause
+    → BranchFact
 branch_after f t order e won line = record {
   commit = option_or f.commit (committed_in t.action t.branch e.call);
   sent = f.sent || is_of_branch t.action t.branch (send_in e.reply);
@@ -58,12 +59,15 @@ branch_after f t order e won line = record {
 abbrev pub action_after : List Entry → ℕ → ℕ → Option Entry → Entry → ActionFact → ActionFact
 action_after j limit a order e f = record {
   grant = option_or f.grant (option_map grant_fact (grants a e));
-  local = branch_after f.local (attempt_of a Local limit) order e (is_some f.grant) (ended_line j f.local.track.line);
-  remote = branch_after f.remote (attempt_of a Remote limit) order e (is_some f.grant) (ended_line j f.remote.track.line);
+  local = branch_after f.local (attempt_of a Local limit) order e (is_some f.grant)
+      (ended_line j f.local.track.line);
+  remote = branch_after f.remote (attempt_of a Remote limit) order e (is_some f.grant)
+      (ended_line j f.remote.track.line);
 }
 
 abbrev pub line_after : Bool → ℕ → Entry → LineFact → LineFact
-line_after late l e f = record { cause = option_or f.cause (break_when late l e.call e.reply); ended = ends l e.call || f.ended }
+line_after late l e f = record { cause = option_or f.cause
+    (break_when late l e.call e.reply); ended = ends l e.call || f.ended }
 
 -- ---- it is what the journal says
 
@@ -73,14 +77,16 @@ branch_of f Remote = f.remote
 
 -- what the facts say of the attempt, where they have a flag for it
 abbrev pub answer_flag : List ActionFact → Attempt → Option Bool
-answer_flag fs t = option_and_then (λ f. slice_get (branch_of f t.branch).answers t.number) (slice_get fs t.action)
+answer_flag fs t =
+    option_and_then (λ f. slice_get (branch_of f t.branch).answers t.number) (slice_get fs t.action)
 
 abbrev pub line_fact : List Entry → ℕ → LineFact
 line_fact j l = record { cause = line_cause j l; ended = has_ended j l }
 
 -- each flag says whether the attempt of the branch with that number was answered
 pub record AreAnswers (flags : List Bool) (j : List Entry) (a : ℕ) (b : Branch) : Type 0 where
-  pub each : (n : ℕ) (flag : Bool) → slice_get flags n ≡ Some flag → flag ≡ answered j (attempt_of a b n)
+  pub each : (n : ℕ) (flag : Bool) → slice_get flags n ≡ Some flag
+      → flag ≡ answered j (attempt_of a b n)
 
 pub record IsBranchFact (f : BranchFact) (j : List Entry) (t : Attempt) : Type 0 where
   pub commits : f.commit ≡ commit_of j t.action t.branch
@@ -100,8 +106,10 @@ pub record AreLines (fs : List LineFact) (j : List Entry) : Type 0 where
   pub each : (l : ℕ) (f : LineFact) → slice_get fs l ≡ Some f → f ≡ line_fact j l
 
 -- the newest work of each lane, as `held` reads it from what stands at the lane's place
-pub record AreOrders {R : Type 0} (held : R → Option Entry) (orders : List R) (j : List Entry) : Type 0 where
-  pub each : (lane : ℕ) (order : R) → slice_get orders lane ≡ Some order → held order ≡ last_work j lane
+pub record AreOrders {R : Type 0} (held : R → Option Entry) (orders : List R)
+    (j : List Entry) : Type 0 where
+  pub each : (lane : ℕ) (order : R) → slice_get orders lane ≡ Some order
+      → held order ≡ last_work j lane
 
 -- ---- of which nothing was said yet
 
@@ -109,7 +117,8 @@ abbrev pub new_line : LineFact
 new_line = record { cause = None; ended = false }
 
 abbrev pub new_branch : BranchFact
-new_branch = record { commit = None; sent = false; answers = replicate 11 false; track = record { line = None; answered = false; wrote = None; fault = None; ended = None } }
+new_branch = record { commit = None; sent = false; answers = replicate 11 false; track = record
+    { line = None; answered = false; wrote = None; fault = None; ended = None } }
 
 abbrev pub new_action : ActionFact
 new_action = record { grant = None; local = new_branch; remote = new_branch }

@@ -1,4 +1,5 @@
--- By which answer each action was won, as it is gathered by going through the journal twice: for the grants, and then for the answers.
+-- By which answer each action was won, as it is gathered by going through the journal twice: for
+-- the grants, and then for the answers.
 use Rattle.std.specs.Prelude.{◌≡◌, ℕ, ◌==◌, Bool, false, if◌then◌else◌, Option, Some, None, option_map, List, slice_get}
 use Rattle.std.specs.Option.{option_or}
 use Rattle.exec_journal.specs.declared.attempt.Attempt.{Attempt}
@@ -44,15 +45,21 @@ is_at (Some b) a = b == a
 is_at None a = false
 
 -- each holds the first answer that was matched with the winner so far
-pub record AreAnswers {R : Type 0} (held : R → Option Answer) (xs : List R) (ws : List (Option Attempt)) (j : List Entry) : Type 0 where
-  pub each : (a : ℕ) (x : R) (w : Option Attempt) → slice_get xs a ≡ Some x → slice_get ws a ≡ Some w → held x ≡ answer_in j w
+pub record AreAnswers {R : Type 0} (held : R → Option Answer) (xs : List R)
+    (ws : List (Option Attempt)) (j : List Entry) : Type 0 where
+  pub each : (a : ℕ) (x : R) (w : Option Attempt) → slice_get xs a ≡ Some x
+      → slice_get ws a ≡ Some w → held x ≡ answer_in j w
 
 -- each holds the action's
-pub record AreWinning {R : Type 0} (held : R → Option Answer) (xs : List R) (j : List Entry) : Type 0 where
+pub record AreWinning {R : Type 0} (held : R → Option Answer) (xs : List R)
+    (j : List Entry) : Type 0 where
   pub each : (a : ℕ) (x : R) → slice_get xs a ≡ Some x → held x ≡ winning_answer j (grant_of j a)
 
 -- at the action that the entry matches the answer is noted, unless there is one; the others stay
-pub record NotesAnswer {R : Type 0} (held : R → Option Answer) (xs ys : List R) (ws : List (Option Attempt)) (e : Entry) : Type 0 where
-  pub here : (a : ℕ) (x y : R) (w : Option Attempt) → slice_get xs a ≡ Some x → slice_get ys a ≡ Some y → slice_get ws a ≡ Some w
-      → held y ≡ (if is_at (matched_action e.reply) a then option_or (held x) (answer_at w e) else held x)
+pub record NotesAnswer {R : Type 0} (held : R → Option Answer) (xs ys : List R)
+    (ws : List (Option Attempt)) (e : Entry) : Type 0 where
+  pub here : (a : ℕ) (x y : R) (w : Option Attempt) → slice_get xs a ≡ Some x
+      → slice_get ys a ≡ Some y → slice_get ws a ≡ Some w
+      → held y ≡ (if is_at (matched_action e.reply) a then option_or (held x) (answer_at w e)
+      else held x)
   pub there : (a : ℕ) (y : R) → slice_get ys a ≡ Some y → (x : R) × (slice_get xs a ≡ Some x)

@@ -230,10 +230,10 @@ fn next_standing(verdict: &Verdict, work: &PlanAction, earlier: &[Standing]) -> 
 {
     match verdict.own {
         Some(Outcome::Success(_)) => Standing::Succeeded,
-        Some(_) => Standing::Without,
+        Some(_) => Standing::Unsuccessful,
         None => {
             if verdict.dropped || is_input_lost(work.makers.as_slice(), earlier) {
-                Standing::Without
+                Standing::Unsuccessful
             } else {
                 Standing::Open
             }

@@ -3,7 +3,7 @@ ghost use Rattle.std.specs.Prelude.{◌≡◌, ◌<◌, ◌≤◌, length, rever
 ghost use Rattle.std.specs.List.{list_any};
 ghost use Rattle.exec_journal.specs.Words.{grant_of};
 ghost use Rattle.exec_journal.specs.Attempts.{dropped};
-ghost use Rattle.exec_journal.specs.Settled.{by_commit, by_grant, all_dropped, unused_or_dropped, is_success, is_without, is_starved, standing_after, standings};
+ghost use Rattle.exec_journal.specs.Settled.{by_commit, by_grant, all_dropped, unused_or_dropped, is_success, is_unsuccessful, is_starved, standing_after, standings};
 ghost use Rattle.run_plan.specs.Groups.{group_of};
 ghost use Rattle.run_plan.specs.Sound.{Sound};
 ghost use Rattle.exec_journal.specs.Outcomes.{grant_outcome, commit_outcome, least_without, skipped, outcome_after, outcome_of, won_or_spoiled, lost_fate, fate_after, fate_of, is_ok, is_some_ok, is_winner, lesser};
@@ -167,7 +167,7 @@ fn granted_standing(entries: &[Entry], action: u32) -> Option<Standing>
 {
     let grant = grant(entries, action)?;
     match grant.prize {
-        GrantKind::Exit(_) => Some(Standing::Without),
+        GrantKind::Exit(_) => Some(Standing::Unsuccessful),
         GrantKind::Files => committed_standing(commit(
             entries,
             grant.attempt.action,
@@ -182,7 +182,7 @@ fn committed_standing(commit: Option<CommitEnd>) -> Option<Standing>
 {
     match commit {
         Some(CommitEnd::Done) => Some(Standing::Succeeded),
-        Some(CommitEnd::PlaceFault { .. }) => Some(Standing::Without),
+        Some(CommitEnd::PlaceFault { .. }) => Some(Standing::Unsuccessful),
         None => None,
     }
 }
@@ -248,7 +248,7 @@ fn standing_next(
             if is_all_dropped(plan, entries, action, work)
                 || is_input_lost(work.makers.as_slice(), earlier)
             {
-                Standing::Without
+                Standing::Unsuccessful
             } else {
                 Standing::Open
             }
@@ -257,15 +257,15 @@ fn standing_next(
 }
 
 pub fn is_input_lost(makers: &[Maker], standings: &[Standing]) -> bool
-    ensures { result ≡ list_any (λ m. is_without (slice_get standings.now m.action)) makers.now }
+    ensures { result ≡ list_any (λ m. is_unsuccessful (slice_get standings.now m.action)) makers.now }
 {
     makers.iter().any(|m| is_lost(standings, m.action))
 }
 
 fn is_lost(standings: &[Standing], action: u32) -> bool
-    ensures { result ≡ is_without (slice_get standings.now action) }
+    ensures { result ≡ is_unsuccessful (slice_get standings.now action) }
 {
-    matches!(standings.get(action as usize), Some(Standing::Without))
+    matches!(standings.get(action as usize), Some(Standing::Unsuccessful))
 }
 
 fn is_succeeded(standings: &[Standing], action: u32) -> bool

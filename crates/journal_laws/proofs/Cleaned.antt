@@ -34,7 +34,7 @@ use Rattle.list_lemmas.specs.Options.{unless_before}
 use Rattle.exec_journal.specs.Entries.{Request, attempt_of, same_attempt, same_branch, is_for, launch_in, send_in, orders_kill, ends, granted_in, committed_in, launch_of_entry, send_of_entry}
 use Rattle.exec_journal.specs.Words.{last_work, line_count, launch_of, sends, sent_on, pending, is_pending, was_sent, answered, wrote, wrote_at, says_unwritten, says_feed_fault, has_ended, has_cancel, kill_ordered, line_cause, broke, break_at, break_by, order_of, granted, grant_of, commit_of, halted}
 use Rattle.exec_journal.specs.Attempts.{line_of, carrier_in, end_of, fault_by, ended, dropped}
-use Rattle.exec_journal.specs.Settled.{is_settled, is_without, by_commit, by_grant, all_dropped, is_starved, standing_after, standings_from, standings, settled, all_settled, wanted, bound}
+use Rattle.exec_journal.specs.Settled.{is_settled, is_unsuccessful, by_commit, by_grant, all_dropped, is_starved, standing_after, standings_from, standings, settled, all_settled, wanted, bound}
 use Rattle.run_plan.specs.Groups.{kind_of, is_single}
 use Rattle.exec_journal.specs.Rules as r
 use Rattle.exec_journal.specs.Rules.{is_unwanted}
@@ -661,13 +661,13 @@ module _ (p : Plan) (j : List Entry) (sound : Sound p) (legal : Legal p j) (clea
   ]
 
   pub NoneWithout : List Standing → Type 0
-  NoneWithout xs = (i : ℕ) → is_without (slice_get xs i) ≡ false
+  NoneWithout xs = (i : ℕ) → is_unsuccessful (slice_get xs i) ≡ false
 
   fed_all : (x : PlanAction) (xs : List Standing) → NoneWithout xs → is_starved x xs ≡ false
   unfolding NoneWithout
   fed_all x xs h = all x.makers
     where
-      all : (ms : List Maker) → list_any (λ m. is_without (slice_get xs m.action)) ms ≡ false
+      all : (ms : List Maker) → list_any (λ m. is_unsuccessful (slice_get xs m.action)) ms ≡ false
       all [] = refl
       all (m ∷ ms) = rw (h m.action) (all ms)
 
@@ -679,17 +679,17 @@ module _ (p : Plan) (j : List Entry) (sound : Sound p) (legal : Legal p j) (clea
     | inr success ↦ inr (rw success refl, success)
   ]
 
-  none_more : (xs : List Standing) (s : Standing) → NoneWithout xs → is_without (Some s) ≡ false → NoneWithout (xs ++ s ∷ [])
+  none_more : (xs : List Standing) (s : Standing) → NoneWithout xs → is_unsuccessful (Some s) ≡ false → NoneWithout (xs ++ s ∷ [])
   unfolding NoneWithout
   none_more [] s h k zero = k
   none_more [] s h k (suc i) = refl
   none_more (x ∷ xs) s h k zero = h zero
   none_more (x ∷ xs) s h k (suc i) = none_more xs s (λ n. h (suc n)) k i
 
-  not_without : (a : ℕ) (x : PlanAction) (xs : List Standing) → slice_get p.actions a ≡ Some x → NoneWithout xs → is_without (Some (standing_after p j a x xs)) ≡ false
+  not_without : (a : ℕ) (x : PlanAction) (xs : List Standing) → slice_get p.actions a ≡ Some x → NoneWithout xs → is_unsuccessful (Some (standing_after p j a x xs)) ≡ false
   not_without a x xs at h = elim (clean_standing a x xs at h) [
-    | inl o ↦ ap (λ z. is_without (Some z)) o.0
-    | inr o ↦ ap (λ z. is_without (Some z)) o.0
+    | inl o ↦ ap (λ z. is_unsuccessful (Some z)) o.0
+    | inr o ↦ ap (λ z. is_unsuccessful (Some z)) o.0
   ]
 
   none_from : (rest : List PlanAction) (xs : List Standing) → ((i : ℕ) → slice_get rest i ≡ slice_get p.actions (length xs + i)) → NoneWithout xs → NoneWithout (standings_from p j xs rest)
@@ -707,9 +707,9 @@ module _ (p : Plan) (j : List Entry) (sound : Sound p) (legal : Legal p j) (clea
   unfolding NoneWithout f.Extends
   front_none xs ext i = by (slice_get xs i) refl
     where
-      by : (o : Option Standing) → slice_get xs i ≡ o → is_without o ≡ false
+      by : (o : Option Standing) → slice_get xs i ≡ o → is_unsuccessful o ≡ false
       by None is = refl
-      by (Some s) is = subst (λ o. is_without o ≡ false) (ext i s is) (none_without i)
+      by (Some s) is = subst (λ o. is_unsuccessful o ≡ false) (ext i s is) (none_without i)
 
   won_is_ok : (a : ℕ) → by_grant j (grant_of j a) ≡ Some Succeeded → (d : Outcome) → is_ok (unwrap_or (grant_outcome j (grant_of j a)) d) ≡ true
   won_is_ok a h d = by (grant_of j a) h

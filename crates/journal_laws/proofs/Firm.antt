@@ -11,7 +11,7 @@ use Rattle.run_plan.specs.declared.plan.PlanAction.{PlanAction}
 use Rattle.exec_journal.specs.declared.attempt.Attempt.{Attempt}
 use Rattle.exec_journal.specs.declared.journal.Entry.{Entry}
 use Rattle.exec_journal.specs.declared.ends.Standing.{Standing}
-use Rattle.exec_journal.specs.declared.ends.Standing.TheVariants.{Open, Succeeded, Without}
+use Rattle.exec_journal.specs.declared.ends.Standing.TheVariants.{Open, Succeeded, Unsuccessful}
 use Rattle.exec_journal.specs.declared.call.Call.{Call}
 use Rattle.exec_journal.specs.declared.call.CommitEnd.{CommitEnd}
 use Rattle.exec_journal.specs.declared.call.Found.{Found}
@@ -21,7 +21,7 @@ use Rattle.list_lemmas.specs.Options.{or_else, unless_before}
 use Rattle.exec_journal.specs.Entries.{attempt_of, committed_in}
 use Rattle.exec_journal.specs.Words.{granted, grant_of, commit_of}
 use Rattle.exec_journal.specs.Attempts.{begun_in, ended, dropped}
-use Rattle.exec_journal.specs.Settled.{uses, is_without, is_success, is_settled, by_commit, by_grant, unused_or_dropped, all_dropped, is_starved, standing_after, standings_from, standings, settled, ready, wanted, bound, earliest, free_places}
+use Rattle.exec_journal.specs.Settled.{uses, is_unsuccessful, is_success, is_settled, by_commit, by_grant, unused_or_dropped, all_dropped, is_starved, standing_after, standings_from, standings, settled, ready, wanted, bound, earliest, free_places}
 use Rattle.run_plan.specs.Groups.{group_of, kind_of}
 use Rattle.exec_journal.specs.Rules as r
 use Rattle.exec_journal.specs.Legal.{Legal}
@@ -58,8 +58,8 @@ all_map : {X : Type 0} (p q : X → Bool) → ((x : X) → p x ≡ true → q x 
 all_map p q f [] h = refl
 all_map p q f (x ∷ xs) h = let parts = and_parts (p x) _ h in and_from _ _ (f x parts.0) (all_map p q f xs parts.1)
 
-pub without_is : (o : Option Standing) → is_without o ≡ true → o ≡ Some Without
-without_is (Some Without) h = refl
+pub without_is : (o : Option Standing) → is_unsuccessful o ≡ true → o ≡ Some Unsuccessful
+without_is (Some Unsuccessful) h = refl
 without_is (Some Open) h = absurd (cc)
 without_is (Some Succeeded) h = absurd (cc)
 without_is None h = absurd (cc)
@@ -67,12 +67,12 @@ without_is None h = absurd (cc)
 success_is : (o : Option Standing) → is_success o ≡ true → o ≡ Some Succeeded
 success_is (Some Succeeded) h = refl
 success_is (Some Open) h = absurd (cc)
-success_is (Some Without) h = absurd (cc)
+success_is (Some Unsuccessful) h = absurd (cc)
 success_is None h = absurd (cc)
 
 starved_stays : (x : PlanAction) (xs ys : List Standing) → Follows xs ys → is_starved x xs ≡ true → is_starved x ys ≡ true
 unfolding Follows
-starved_stays x xs ys f h = any_map (λ (m : Maker). is_without (slice_get xs m.action)) (λ (m : Maker). is_without (slice_get ys m.action)) (λ m y. rw (f m.action Without (without_is _ y) refl) refl) x.makers h
+starved_stays x xs ys f h = any_map (λ (m : Maker). is_unsuccessful (slice_get xs m.action)) (λ (m : Maker). is_unsuccessful (slice_get ys m.action)) (λ m y. rw (f m.action Unsuccessful (without_is _ y) refl) refl) x.makers h
 
 -- the second begins as the first
 unfoldable pub Extends : List Standing → List Standing → Type 0
@@ -93,13 +93,13 @@ from_extends p j earlier [] i s h = h
 from_extends p j earlier (x ∷ xs) i s h = from_extends p j (earlier ++ standing_after p j (length earlier) x earlier ∷ []) xs i s (get_append earlier _ i s h)
 
 -- what is ready isn't starved
-fed : (ms : List Maker) (xs ys : List Standing) → Extends xs ys → list_any (λ m. is_without (slice_get xs m.action)) ms ≡ true → list_all (λ m. is_success (slice_get ys m.action)) ms ≡ true → ⊥
+fed : (ms : List Maker) (xs ys : List Standing) → Extends xs ys → list_any (λ m. is_unsuccessful (slice_get xs m.action)) ms ≡ true → list_all (λ m. is_success (slice_get ys m.action)) ms ≡ true → ⊥
 unfolding Extends
 fed [] xs ys f h y = cc
 fed (m ∷ ms) xs ys f h y =
     let parts = and_parts (is_success (slice_get ys m.action)) _ y in
-    elim (or_cases (is_without (slice_get xs m.action)) _ h) [
-      | inl here ↦ (let a = f m.action Without (without_is _ here) in let b = success_is _ parts.0 in let both : Some Without ≡ Some Succeeded = sym a ∙ b in absurd (cc))
+    elim (or_cases (is_unsuccessful (slice_get xs m.action)) _ h) [
+      | inl here ↦ (let a = f m.action Unsuccessful (without_is _ here) in let b = success_is _ parts.0 in let both : Some Unsuccessful ≡ Some Succeeded = sym a ∙ b in absurd (cc))
       | inr more ↦ fed ms xs ys f more parts.1
     ]
 
@@ -118,10 +118,10 @@ standing_step : (p : Plan) (j k : List Entry) (a : ℕ) (x : PlanAction) (xs ys 
     → is_settled (standing_after p j a x xs) ≡ true → standing_after p k a x ys ≡ standing_after p j a x xs
 standing_step p j k a x xs ys keeps f ext h = by (by_grant j (grant_of j a)) refl h
   where
-    without : (by_grant k (grant_of k a) ≡ None) → (all_dropped p k a x || is_starved x ys) ≡ true → standing_after p k a x ys ≡ Without
+    without : (by_grant k (grant_of k a) ≡ None) → (all_dropped p k a x || is_starved x ys) ≡ true → standing_after p k a x ys ≡ Unsuccessful
     without none test = rw (none, test) refl
 
-    by_test : by_grant j (grant_of j a) ≡ None → (all_dropped p j a x || is_starved x xs) ≡ true → standing_after p k a x ys ≡ Without
+    by_test : by_grant j (grant_of j a) ≡ None → (all_dropped p j a x || is_starved x xs) ≡ true → standing_after p k a x ys ≡ Unsuccessful
     by_test none test = elim (or_cases (all_dropped p j a x) _ test) [
       | inl gone ↦ elim (keeps.new none) [
         | inl still ↦ without still (or_left _ _ (keeps.spent gone))
@@ -133,12 +133,12 @@ standing_step p j k a x xs ys keeps f ext h = by (by_grant j (grant_of j a)) ref
       ]
     ]
 
-    by : (o : Option Standing) → by_grant j (grant_of j a) ≡ o → is_settled (unwrap_or o (cond (all_dropped p j a x || is_starved x xs) Without Open)) ≡ true
-        → standing_after p k a x ys ≡ unwrap_or o (cond (all_dropped p j a x || is_starved x xs) Without Open)
+    by : (o : Option Standing) → by_grant j (grant_of j a) ≡ o → is_settled (unwrap_or o (cond (all_dropped p j a x || is_starved x xs) Unsuccessful Open)) ≡ true
+        → standing_after p k a x ys ≡ unwrap_or o (cond (all_dropped p j a x || is_starved x xs) Unsuccessful Open)
     by (Some s) is q = rw (keeps.own s is) refl
     by None is q =
         by_bool (all_dropped p j a x || is_starved x xs)
-        (λ b. (all_dropped p j a x || is_starved x xs) ≡ b → is_settled (cond b Without Open) ≡ true → standing_after p k a x ys ≡ cond b Without Open)
+        (λ b. (all_dropped p j a x || is_starved x xs) ≡ b → is_settled (cond b Unsuccessful Open) ≡ true → standing_after p k a x ys ≡ cond b Unsuccessful Open)
         (λ _ test _. by_test is test) (λ _ _ m. absurd (cc)) refl q
 
 pub length_more : (zs : List Standing) (z : Standing) → length (zs ++ z ∷ []) ≡ suc (length zs)

@@ -12,7 +12,7 @@ use Rattle.exec_journal.specs.declared.journal.Entry.{Entry}
 use Rattle.exec_journal.specs.declared.ends.Outcome.{Outcome}
 use Rattle.exec_journal.specs.declared.ends.Outcome.TheVariants as outcome
 use Rattle.exec_journal.specs.declared.ends.Standing.{Standing}
-use Rattle.exec_journal.specs.declared.ends.Standing.TheVariants.{Open, Succeeded, Without}
+use Rattle.exec_journal.specs.declared.ends.Standing.TheVariants.{Open, Succeeded, Unsuccessful}
 use Rattle.exec_journal.specs.declared.call.CommitEnd.{CommitEnd}
 use Rattle.exec_journal.specs.declared.call.CommitEnd.TheVariants as commit
 use Rattle.exec_journal.specs.declared.call.Found.{Found}
@@ -24,7 +24,7 @@ use Rattle.exec_journal.specs.declared.reply.Reply.TheVariants as reply
 use Rattle.exec_journal.specs.Entries.{is_stop, is_halt, gather_in, is_branch_of}
 use Rattle.exec_journal.specs.Words.{answered, wrote, says_done, says_unwritten, says_feed_fault, has_ended, granted, grant_of, commit_of, halted, stopped}
 use Rattle.exec_journal.specs.Attempts.{attempt, ended, begun_in}
-use Rattle.exec_journal.specs.Settled.{is_settled, is_without, is_success, by_commit, by_grant, all_dropped, is_starved, standing_after, standings_from, standings, settled, all_settled}
+use Rattle.exec_journal.specs.Settled.{is_settled, is_unsuccessful, is_success, by_commit, by_grant, all_dropped, is_starved, standing_after, standings_from, standings, settled, all_settled}
 use Rattle.exec_journal.specs.Outcomes.{outcome_of, outcome_after, grant_outcome, commit_outcome, least_without, lesser, skipped}
 use Rattle.exec_journal.specs.Legal.{Legal}
 use Rattle.exec_journal.specs.Facts.{begun}
@@ -102,7 +102,7 @@ unwon j (Some (t, found.Files fs)) h = by (commit_of j t.action t.branch) h
     by None k = refl
 unwon j (Some (t, _)) h = refl
 
-least_there : (xs : List Standing) (ms : List Maker) → list_any (λ m. is_without (slice_get xs m.action)) ms ≡ true → is_some (least_without xs ms) ≡ true
+least_there : (xs : List Standing) (ms : List Maker) → list_any (λ m. is_unsuccessful (slice_get xs m.action)) ms ≡ true → is_some (least_without xs ms) ≡ true
 least_there xs [] h = absurd (cc)
 least_there xs (m ∷ ms) h = by (slice_get xs m.action) refl (λ b. least_there xs ms b)
   where
@@ -110,14 +110,14 @@ least_there xs (m ∷ ms) h = by (slice_get xs m.action) refl (λ b. least_there
     there None = refl
     there (Some n) = refl
 
-    rest : is_without (slice_get xs m.action) ≡ false → (list_any (λ z. is_without (slice_get xs z.action)) ms ≡ true → is_some (least_without xs ms) ≡ true) → is_some (least_without xs ms) ≡ true
-    rest off ih = elim (or_cases (is_without (slice_get xs m.action)) _ h) [ inl a ↦ absurd (clash _ a off) | inr b ↦ ih b ]
+    rest : is_unsuccessful (slice_get xs m.action) ≡ false → (list_any (λ z. is_unsuccessful (slice_get xs z.action)) ms ≡ true → is_some (least_without xs ms) ≡ true) → is_some (least_without xs ms) ≡ true
+    rest off ih = elim (or_cases (is_unsuccessful (slice_get xs m.action)) _ h) [ inl a ↦ absurd (clash _ a off) | inr b ↦ ih b ]
 
-    by : (o : Option Standing) → slice_get xs m.action ≡ o → (list_any (λ z. is_without (slice_get xs z.action)) ms ≡ true → is_some (least_without xs ms) ≡ true)
+    by : (o : Option Standing) → slice_get xs m.action ≡ o → (list_any (λ z. is_unsuccessful (slice_get xs z.action)) ms ≡ true → is_some (least_without xs ms) ≡ true)
         → is_some (cond (is_success o) (least_without xs ms) (lesser (Some m.action) (least_without xs ms))) ≡ true
     by (Some Succeeded) is ih = rest (rw is refl) ih
     by (Some Open) is ih = there (least_without xs ms)
-    by (Some Without) is ih = there (least_without xs ms)
+    by (Some Unsuccessful) is ih = there (least_without xs ms)
     by None is ih = there (least_without xs ms)
 
 skipped_known : (xs : List Standing) (x : PlanAction) → is_starved x xs ≡ true → is_known (skipped xs x) ≡ true
@@ -129,7 +129,7 @@ skipped_known xs x h = by (least_without xs x.makers) (least_there xs x.makers h
 
 starved_more : (x : PlanAction) (xs ys : List Standing) → f.Extends xs ys → is_starved x xs ≡ true → is_starved x ys ≡ true
 unfolding f.Extends
-starved_more x xs ys ext h = f.any_map (λ (m : Maker). is_without (slice_get xs m.action)) (λ (m : Maker). is_without (slice_get ys m.action)) (λ m y. rw (ext m.action Without (f.without_is _ y)) refl) x.makers h
+starved_more x xs ys ext h = f.any_map (λ (m : Maker). is_unsuccessful (slice_get xs m.action)) (λ (m : Maker). is_unsuccessful (slice_get ys m.action)) (λ m y. rw (ext m.action Unsuccessful (f.without_is _ y)) refl) x.makers h
 
 pub outcome_known : (p : Plan) (j : List Entry) (a : ℕ) (x : PlanAction) → slice_get p.actions a ≡ Some x → settled p j a ≡ true → is_known (outcome_of p j a) ≡ true
 unfolding settled outcome_of
@@ -147,10 +147,10 @@ outcome_known p j a x at h =
         rw starved (skipped_known (standings p j) x starved))) refl
 
     by : (front : List Standing) → f.Extends front (standings p j) → (o : Option Standing) → by_grant j (grant_of j a) ≡ o
-        → is_settled (unwrap_or o (cond (all_dropped p j a x || is_starved x front) Without Open)) ≡ true → is_known (outcome_after p j a x (standings p j)) ≡ true
+        → is_settled (unwrap_or o (cond (all_dropped p j a x || is_starved x front) Unsuccessful Open)) ≡ true → is_known (outcome_after p j a x (standings p j)) ≡ true
     by front ext (Some s) is k = won_known j (grant_of j a) s _ is
     by front ext None is k =
-        by_bool (all_dropped p j a x || is_starved x front) (λ b. (all_dropped p j a x || is_starved x front) ≡ b → is_settled (cond b Without Open) ≡ true → is_known (outcome_after p j a x (standings p j)) ≡ true)
+        by_bool (all_dropped p j a x || is_starved x front) (λ b. (all_dropped p j a x || is_starved x front) ≡ b → is_settled (cond b Unsuccessful Open) ≡ true → is_known (outcome_after p j a x (standings p j)) ≡ true)
         (λ _ test _. rw (unwon j (grant_of j a) is) (lost front ext test)) (λ _ _ m. absurd (cc)) refl k
 
 -- ---- after Stop

@@ -11,11 +11,13 @@ use Rattle.json_framing.specs.declared.line.Found.TheVariants as found
 abbrev pub line_length : List ℕ → ℕ
 line_length bytes = prefix_len (λ b. not (b == 10)) bytes
 
--- The line at the front, without its line feed, and what is behind it. One of too many bytes is a fault, with or without its line feed.
+-- The line at the front, without its line feed, and what is behind it. One of too many bytes is a
+-- fault, with or without its line feed.
 unfoldable pub line_at : ℕ → List ℕ → Front
 line_at limit bytes =
     if nat_lt limit (line_length bytes) then Bad (TooLong (limit + 1))
-    else if nat_lt (line_length bytes) (length bytes) then Whole (take (line_length bytes) bytes) (drop (line_length bytes + 1) bytes)
+    else if nat_lt (line_length bytes) (length bytes)
+    then Whole (take (line_length bytes) bytes) (drop (line_length bytes + 1) bytes)
     else Unfinished
 
 -- nothing but spaces, tabs and carriage returns
@@ -27,7 +29,8 @@ says_something line = not (is_blank line)
 
 -- the stream is lines, of which these aren't blank, and then the rest
 abbrev pub Holds : ℕ → List ℕ → List (List ℕ) → List ℕ → Type 0
-Holds limit stream lines rest = (all : List (List ℕ)) × HoldsBy (line_at limit) stream all rest × (lines ≡ filter says_something all)
+Holds limit stream lines rest = (all : List (List ℕ)) × HoldsBy (line_at limit) stream all rest
+    × (lines ≡ filter says_something all)
 
 -- lines that aren't blank
 abbrev pub line_form : Form
@@ -49,10 +52,13 @@ Skips limit bytes rest = Holds limit bytes [] rest
 abbrev pub IsLineAt : ℕ → List ℕ → Found → Type 0
 IsLineAt limit bytes (found.Whole start end) =
     Skips limit bytes (drop start bytes)
-    × (line_at limit (drop start bytes) ≡ Whole (take (end - start) (drop start bytes)) (drop (end + 1) bytes))
+    × (line_at limit (drop start bytes) ≡ Whole (take (end - start) (drop start bytes))
+    (drop (end + 1) bytes))
     × (says_something (take (end - start) (drop start bytes)) ≡ Bool.true)
     × (start ≤ end) × (end < length bytes)
 IsLineAt limit bytes (found.Unfinished start) =
-    Skips limit bytes (drop start bytes) × (line_at limit (drop start bytes) ≡ Unfinished) × (start ≤ length bytes)
+    Skips limit bytes (drop start bytes) × (line_at limit (drop start bytes) ≡ Unfinished)
+    × (start ≤ length bytes)
 IsLineAt limit bytes (found.TooLong start n) =
-    Skips limit bytes (drop start bytes) × (line_at limit (drop start bytes) ≡ Bad (TooLong n)) × (n ≡ limit + 1) × (start ≤ length bytes)
+    Skips limit bytes (drop start bytes) × (line_at limit (drop start bytes) ≡ Bad (TooLong n))
+    × (n ≡ limit + 1) × (start ≤ length bytes)

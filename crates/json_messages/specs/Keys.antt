@@ -46,6 +46,7 @@ unless_null (string s) = Some (string s)
 unless_null (array ds) = Some (array ds)
 unless_null (object ms) = Some (object ms)
 
--- What stands at a key of an object. If both names are there, the first one counts, and the other isn't looked at.
+-- What stands at a key of an object. If both names are there, the first one counts, and the other
+-- isn't looked at.
 abbrev pub value_at : JsonKey → Data → Option Data
 value_at k d = option_and_then unless_null (or_else (get (camel k) d) (get (snake k) d))

@@ -19,7 +19,8 @@ response_in d =
     and_then (text_at key.Output d) (λ output.
     and_then (number_at key.RequestId d) (λ request_id.
     and_then (flag_at key.WasCancelled d) (λ was_cancelled.
-    Ok (record { exit_code = exit_code; output = output; request_id = request_id; was_cancelled = was_cancelled })))))
+    Ok (record { exit_code = exit_code; output = output; request_id = request_id; was_cancelled =
+        was_cancelled })))))
 
 -- the response that a line is, or its first fault
 abbrev pub response_of : List ℕ → Result WorkResponse MessageFault
@@ -28,7 +29,8 @@ response_of line = and_then (object_in line) response_in
 abbrev pub input_in : Data → Result Input MessageFault
 input_in d =
     if is_some (as_object d)
-    then and_then (text_at key.Path d) (λ path. and_then (digest_at d) (λ digest. Ok (record { path = path; digest = digest })))
+    then and_then (text_at key.Path d)
+    (λ path. and_then (digest_at d) (λ digest. Ok (record { path = path; digest = digest })))
     else Err (fault.WrongKind key.Inputs)
 
 abbrev pub inputs_at : Data → Result (List Input) MessageFault
@@ -42,7 +44,8 @@ request_in d =
     and_then (flag_at key.Cancel d) (λ cancel.
     and_then (number_at key.Verbosity d) (λ verbosity.
     and_then (text_at key.SandboxDir d) (λ sandbox_dir.
-    Ok (record { arguments = arguments; inputs = inputs; request_id = request_id; cancel = cancel; verbosity = verbosity; sandbox_dir = sandbox_dir })))))))
+    Ok (record { arguments = arguments; inputs = inputs; request_id = request_id; cancel = cancel;
+        verbosity = verbosity; sandbox_dir = sandbox_dir })))))))
 
 -- the request that a line is, or its first fault
 abbrev pub request_of : List ℕ → Result WorkRequest MessageFault

@@ -16,7 +16,8 @@ use Rattle.json_messages.specs.Answers.{and_then}
 use Rattle.json_messages.specs.Keys.{or_else, value_at}
 
 -- a part's default if nothing stands there
-abbrev pub default_or : {A : Type 0} → A → (Data → Result A MessageFault) → Option Data → Result A MessageFault
+abbrev pub default_or : {A : Type 0} → A → (Data → Result A MessageFault) → Option Data
+    → Result A MessageFault
 default_or default kind None = Ok default
 default_or default kind (Some d) = kind d
 
@@ -48,7 +49,8 @@ text_number s = if is_whole_text s then Some (signed_digits_value 10 s) else Non
 
 -- a number that 64 bits hold, signed or unsigned
 abbrev pub number_of : Data → Option ℤ
-number_of d = or_else (option_and_then as_i64 (as_number d)) (option_map pos (option_and_then as_u64 (as_number d)))
+number_of d = or_else (option_and_then as_i64 (as_number d))
+    (option_map pos (option_and_then as_u64 (as_number d)))
 
 -- a text or a number that is a whole number
 abbrev pub whole_by : Option (List ℕ) → Data → Option ℤ
@@ -108,11 +110,13 @@ abbrev pub elements : JsonKey → Data → Result (List Data) MessageFault
 elements k d = of_kind k (option_map datas (as_array d))
 
 -- each element's value, or the first element's fault
-abbrev pub each : {A : Type 0} → (Data → Result A MessageFault) → List Data → Result (List A) MessageFault
+abbrev pub each : {A : Type 0} → (Data → Result A MessageFault) → List Data
+    → Result (List A) MessageFault
 each kind [] = Ok []
 each kind (d ∷ ds) = and_then (kind d) (λ x. and_then (each kind ds) (λ xs. Ok (x ∷ xs)))
 
-abbrev pub list_in : {A : Type 0} → JsonKey → (Data → Result A MessageFault) → Data → Result (List A) MessageFault
+abbrev pub list_in : {A : Type 0} → JsonKey → (Data → Result A MessageFault) → Data
+    → Result (List A) MessageFault
 list_in k kind d = and_then (elements k d) (each kind)
 
 abbrev pub texts_at : JsonKey → Data → Result (List (List ℕ)) MessageFault

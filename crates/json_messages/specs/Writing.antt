@@ -36,7 +36,8 @@ abbrev pub array_data : List Data → Option Data
 array_data [] = None
 array_data (d ∷ ds) = Some (array (items_of (d ∷ ds)))
 
--- An object with the parts of which something is written. Its members are in the order of the bytes of their names.
+-- An object with the parts of which something is written. Its members are in the order of the bytes
+-- of their names.
 abbrev pub said : JsonKey → Option Data → Members → Members
 said k None ms = ms
 said k (Some d) ms = put (camel k) d ms

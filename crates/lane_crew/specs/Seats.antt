@@ -25,7 +25,8 @@ module _ {M C R G Q : Type 0} {g : Ghosts M C R G Q} where
       IsRootOf desk r × (r.made ≡ count) × (joined r ≡ []) × (root_rules r ≡ q)
 
   module _ {L : Type 0} where
-    -- the lane of the number k may run at any desk that has bells enough and whose machine has these rules
+    -- the lane of the number k may run at any desk that has bells enough and whose machine has
+    -- these rules
     abbrev pub MayRun : FactBefore L (Desk M C R G Q) (Pass M C R G Q g) → Q → ℕ → L → Type 0
     MayRun may_run q k lane =
         (desk : Desk M C R G Q) (bells : ℕ) (pass : Pass M C R G Q g) → IsPassOf desk pass
@@ -39,7 +40,8 @@ module _ {M C R G Q : Type 0} {g : Ghosts M C R G Q} where
         MayRun may_run q k lane × MayRunInOrder may_run q (k + 1) lanes
 
   module _ {L E : Type 0} where
-    -- the lane is at this post with a fresh pass of this number, of a desk whose machine has these rules
+    -- the lane is at this post with a fresh pass of this number, of a desk whose machine has these
+    -- rules
     abbrev pub IsSeatOf : Desk M C R G Q → Q → ℕ → L
         → Post (Seated M L C R G Q g) (Risen M E C R G Q g) → Type 0
     IsSeatOf desk q k lane (Ready seat) =
@@ -64,7 +66,8 @@ module _ {M C R G Q : Type 0} {g : Ghosts M C R G Q} where
     HasRisen desk (Ended risen) = IsPassOf desk risen.pass
     HasRisen desk Empty = ⊥
 
-    -- the end was taken from this post, and its pass joined. The history h begins with what it has seen
+    -- the end was taken from this post, and its pass joined. The history h begins with what it has
+    -- seen
     abbrev pub IsHanded : List (Entry C R) → Post (Seated M L C R G Q g) (Risen M E C R G Q g)
         → E → Joined C R → Type 0
     IsHanded h (Ready seat) end j = ⊥

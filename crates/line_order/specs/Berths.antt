@@ -21,7 +21,8 @@ abbrev pub own_lines : List Entry → ℕ → List ℕ
 own_lines j lane = each (λ _ e. own_line lane e) j
 
 module _ {T : Type 0} where
-  -- each thing is of a line of this berth w, no line has two, and the fact F of w and the line holds of it
+  -- each thing is of a line of this berth w, no line has two, and the fact F of w and the line
+  -- holds of it
   pub record AreOfBerth (j : List Entry) (F : ℕ → ℕ → T → Type 0) (w : ℕ)
       (things : List (Numbered T)) : Type 0 where
     pub own : (x : Numbered T) → In x things → IsOfBerth j x.line w

@@ -6,7 +6,8 @@ abbrev pub or_else : {X : Type 0} → Option X → Option X → Option X
 or_else (Some x) o = Some x
 or_else None o = o
 
--- what is new, unless there was something before. It looks at what is new first: where that is nothing it computes away
+-- what is new, unless there was something before. It looks at what is new first: where that is
+-- nothing it computes away
 abbrev pub unless_before : {X : Type 0} → Option X → Option X → Option X
 unless_before None o = o
 unless_before (Some x) None = Some x

@@ -1,6 +1,6 @@
 // What the words of a case say.
 use crate::number;
-use outside::SourceFile;
+use outside::{JobEnd, SourceFile};
 use outside_mem::{Beat, FailAt, Object, Script};
 use plain_values::{Blob, NoMemory, Text};
 use std::alloc::Global;
@@ -37,6 +37,28 @@ pub fn script(alloc: Global, words: &str) -> Result<Script, NoMemory> {
         lines,
         fails,
     })
+}
+
+/// How the runs of the shop end, one after another.
+pub fn ends(alloc: Global, words: &str) -> Result<Vec<JobEnd>, NoMemory> {
+    let mut ends = Vec::new(alloc);
+    for word in words.split(' ') {
+        if let Some(rest) = word.strip_prefix("end=") {
+            ends.push(end_of(alloc, rest)?)?;
+        }
+    }
+    Ok(ends)
+}
+
+fn end_of(alloc: Global, rest: &str) -> Result<JobEnd, NoMemory> {
+    match rest {
+        "signal" => Ok(JobEnd::Signal),
+        "failed" => Ok(JobEnd::Failed),
+        _ => {
+            let (code, output) = path_and_bytes(alloc, rest)?;
+            Ok(JobEnd::Exit((number(code.as_str()) & 255) as i32, output))
+        }
+    }
 }
 
 fn beat_of(alloc: Global, kind: &str, rest: &str) -> Result<Option<Beat>, NoMemory> {
@@ -81,6 +103,8 @@ fn failing(word: &str) -> FailAt {
         "feed" => Object::Feed(0),
         "tap" => Object::Tap(0),
         "place" => Object::Place(0),
+        "shop-put" => Object::ShopPut,
+        "shop-get" => Object::ShopGet,
         _ => Object::Sink,
     };
     FailAt {

@@ -9,7 +9,8 @@
 //! | `hear=N`, `leave=PATH,BYTES`, `give=BYTES`, `choose=BYTES,BYTES`, `raise=N`, `await=N`, `die` | the next beat of the line |
 //! | `/` | the next line's beats follow |
 //! | `obliging` | the line has no beats |
-//! | `file=PATH,BYTES` | a source |
+//! | `file=PATH,BYTES` | a source, which the shop has too |
+//! | `end=CODE,BYTES`, `end=signal`, `end=failed` | how the next run of the shop ends |
 //! | `fail=OBJECT,NTH` | the NTH call on this object of berth, line or action 0 fails |
 //!
 //! | Step | Does |
@@ -19,6 +20,7 @@
 //! | `write=BYTES`, `read`, `read=SIZE`, `kill` | a call on its feed, its tap or its child |
 //! | `clear=PATH`, `folder=PATH`, `put=PATH,BYTES`, `get=PATH` | a call on the berth |
 //! | `source=PATH`, `store=PATH,BYTES`, `sink=BYTES` | a read of the floor, a write to the place of action 0, a put |
+//! | `shop-put=PATH,BYTES`, `shop-get=PATH`, `shop-run=FOLDER,WORD` | a call on the shop |
 //! | `faults` | the count of faults of all objects |
 //!
 //! `generated COUNT` prints the sources of a generated list. `late` has two lines wait at once for what never comes.

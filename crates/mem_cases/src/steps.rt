@@ -2,8 +2,9 @@
 use crate::case::bytes_of;
 use crate::number;
 use crate::stage::{Line, Stage};
-use outside::{Berth, Child, Feed, Floor, Io, Place, Read, Sink, Taken, Tap};
-use plain_values::NoMemory;
+use outside::{Berth, Child, Feed, Floor, Io, JobEnd, Place, Read, Shop, Sink, Taken, Tap};
+use outside_mem::MemShop;
+use plain_values::{NoMemory, Text};
 use std::alloc::Global;
 use std::sync::Wait;
 
@@ -29,6 +30,7 @@ pub fn play<R: Wait + Clone + Drop>(rt: R, alloc: Global, case: &str) -> Result<
                 Some(line) => on_line(alloc, line, kind, rest)?,
                 None => text(alloc, "no line")?,
             },
+            "shop-put" | "shop-get" | "shop-run" => on_shop(alloc, &mut stage.shop, kind, rest)?,
             _ => on_stage(alloc, &mut stage, kind, rest)?,
         };
         if !told.is_empty() {
@@ -87,6 +89,29 @@ fn on_stage<R: Wait + Clone + Drop>(
     }
 }
 
+fn on_shop(alloc: Global, shop: &mut MemShop, kind: &str, rest: &str) -> Result<String, NoMemory> {
+    let (path, other) = rest.split_once(',').unwrap_or((rest, ""));
+    match kind {
+        "shop-put" => done(alloc, shop.put(path, bytes_of(alloc, other).as_slice())),
+        "shop-get" => found(alloc, &shop.get(path)?),
+        _ => {
+            let word = Text::copy_of(alloc, other)?;
+            ended(alloc, &shop.run(path, &[word], &[])?)
+        }
+    }
+}
+
+fn ended(alloc: Global, end: &JobEnd) -> Result<String, NoMemory> {
+    match end {
+        JobEnd::Exit(code, output) => {
+            let output = hex::encode(alloc, output.bytes())?;
+            Ok(format!(in alloc; "{code},{output}")?)
+        }
+        JobEnd::Signal => text(alloc, "signal"),
+        JobEnd::Failed => text(alloc, "failed"),
+    }
+}
+
 fn done(alloc: Global, end: Io) -> Result<String, NoMemory> {
     match end {
         Io::Done => text(alloc, "done"),
@@ -124,7 +149,8 @@ fn faults<R: Wait + Clone + Drop>(alloc: Global, stage: &Stage<R>) -> Result<Str
         .faults()
         .saturating_add(stage.berth.faults())
         .saturating_add(stage.place.faults())
-        .saturating_add(stage.sink.faults());
+        .saturating_add(stage.sink.faults())
+        .saturating_add(stage.shop.faults());
     for line in &stage.lines {
         count = count
             .saturating_add(line.feed.faults())

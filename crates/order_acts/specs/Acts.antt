@@ -1,4 +1,5 @@
--- What is done for an order: the calls that are made on the berth, and the bytes that are given to the line's feed.
+-- What is done for an order: the calls that are made on the berth, and the bytes that are given to
+-- the line's feed.
 use Rattle.std.specs.Prelude.{◌≡◌, ◌≤◌, ◌<◌, ℕ, List, [], ◌∷◌, length, take, Result, Ok, Err}
 use Rattle.plain_values.specs.declared.no_memory.NoMemory.{NoMemory}
 use Rattle.outside.specs.Causes.{Counts}
@@ -27,7 +28,8 @@ use Rattle.order_acts.specs.declared.launching.Opened.TheVariants as opened
 abbrev pub IsFront : List ℕ → List ℕ → Type 0
 IsFront frame given = (n : ℕ) × (n ≤ length frame) × (given ≡ take n frame)
 
--- These bytes were given to the feed. They stand at the end of what it was given, and its count rose where it failed.
+-- These bytes were given to the feed. They stand at the end of what it was given, and its count
+-- rose where it failed.
 pub record Gave (given : List ℕ) (Failed : Type 0) (old new : FeedTold) : Type 0 where
   pub given_on : Adds given old.given new.given
   pub count : Counts old.faults new.faults Failed
@@ -48,15 +50,18 @@ GivenBy frame write.RoomFault given = ⊥
 GivenBy frame write.TooLarge given = ⊥
 
 abbrev pub GivesFrame : List ℕ → Written → FeedTold → FeedTold → Type 0
-GivesFrame frame how old new = (given : List ℕ) × GivenBy frame how given × Gave given (IsFeedFault how) old new
+GivesFrame frame how old new =
+    (given : List ℕ) × GivenBy frame how given × Gave given (IsFeedFault how) old new
 
 -- ---- Launch
 
 -- the calls, by what is reported: the room is emptied, and the line's command is started in it
 abbrev pub LaunchedBy : ℕ → Command → Started → List BerthCall → Type 0
-LaunchedBy line command start.Done calls = calls ≡ call.Clear [] io.Done ∷ call.Launch line command io.Done ∷ []
+LaunchedBy line command start.Done calls =
+    calls ≡ call.Clear [] io.Done ∷ call.Launch line command io.Done ∷ []
 LaunchedBy line command start.RoomFault calls = calls ≡ call.Clear [] io.Failed ∷ []
-LaunchedBy line command start.LaunchFault calls = calls ≡ call.Clear [] io.Done ∷ call.Launch line command io.Failed ∷ []
+LaunchedBy line command start.LaunchFault calls =
+    calls ≡ call.Clear [] io.Done ∷ call.Launch line command io.Failed ∷ []
 
 module _ {D T C : Type 0} where
   abbrev pub started_as : Opened D T C → Started
@@ -80,20 +85,25 @@ module _ {D T C : Type 0} where
   NotOpened (Ok opened.LaunchFault) = Unit {0}
   NotOpened (Err e) = ⊥
 
-  abbrev pub Launches : ℕ → Command → Result (Opened D T C) NoMemory → BerthTold → BerthTold → Type 0
+  abbrev pub Launches : ℕ → Command → Result (Opened D T C) NoMemory → BerthTold → BerthTold
+      → Type 0
   Launches line command result old new =
-      (calls : List BerthCall) × LaunchDone line command result calls × Made calls (NotOpened result) old new
+      (calls : List BerthCall) × LaunchDone line command result calls
+      × Made calls (NotOpened result) old new
 
   -- the launch itself, in a room that was emptied
   abbrev pub StartDone : ℕ → Command → Result (Opened D T C) NoMemory → List BerthCall → Type 0
-  StartDone line command (Ok (opened.Line feed tap child)) calls = calls ≡ call.Launch line command io.Done ∷ []
+  StartDone line command (Ok (opened.Line feed tap child)) calls =
+      calls ≡ call.Launch line command io.Done ∷ []
   StartDone line command (Ok opened.RoomFault) calls = ⊥
-  StartDone line command (Ok opened.LaunchFault) calls = calls ≡ call.Launch line command io.Failed ∷ []
+  StartDone line command (Ok opened.LaunchFault) calls =
+      calls ≡ call.Launch line command io.Failed ∷ []
   StartDone line command (Err e) calls = calls ≡ []
 
   abbrev pub Starts : ℕ → Command → Result (Opened D T C) NoMemory → BerthTold → BerthTold → Type 0
   Starts line command result old new =
-      (calls : List BerthCall) × StartDone line command result calls × Made calls (NotOpened result) old new
+      (calls : List BerthCall) × StartDone line command result calls
+      × Made calls (NotOpened result) old new
 
 -- ---- Send to a local line
 
@@ -105,7 +115,8 @@ SentBy asks frame write.RoomFault calls given = Runs Stopped asks calls × (give
 SentBy asks frame write.TooLarge calls given = ⊥
 
 -- with no report, since memory was wanted, nothing was given
-abbrev pub SendDone : List Asked → List ℕ → Result Written NoMemory → List BerthCall → List ℕ → Type 0
+abbrev pub SendDone : List Asked → List ℕ → Result Written NoMemory → List BerthCall → List ℕ
+    → Type 0
 SendDone asks frame (Ok how) calls given = SentBy asks frame how calls given
 SendDone asks frame (Err e) calls given = Runs Cut asks calls × (given ≡ [])
 
@@ -120,7 +131,8 @@ abbrev pub FeedFailed : Result Written NoMemory → Type 0
 FeedFailed (Ok how) = IsFeedFault how
 FeedFailed (Err e) = ⊥
 
-abbrev pub Sends : List Asked → List ℕ → Result Written NoMemory → BerthTold → BerthTold → FeedTold → FeedTold → Type 0
+abbrev pub Sends : List Asked → List ℕ → Result Written NoMemory → BerthTold → BerthTold → FeedTold
+    → FeedTold → Type 0
 Sends asks frame result old new before after =
     (calls : List BerthCall) × (given : List ℕ) × SendDone asks frame result calls given
     × Made calls (RoomFailed result) old new × Gave given (FeedFailed result) before after
@@ -134,7 +146,8 @@ found_as gathered.RoomFault = found.RoomFault
 
 -- what is reported is what the looks gave
 abbrev pub ReportsLooks : List Asked → Result Found NoMemory → BerthTold → BerthTold → Type 0
-ReportsLooks asks (Ok f) old new = (g : Gathered) × (f ≡ found_as g) × MakesLooks asks (Ok g) old new
+ReportsLooks asks (Ok f) old new =
+    (g : Gathered) × (f ≡ found_as g) × MakesLooks asks (Ok g) old new
 ReportsLooks asks (Err e) old new = MakesLooks asks (Err e) old new
 
 -- a file for each output, or one of the outputs

@@ -11,7 +11,8 @@ use Rattle.output_commit.specs.declared.commits.Committed.TheVariants as committ
 abbrev pub writes_of : List (List ℕ) → List (List ℕ) → List PlaceWrite
 writes_of [] files = []
 writes_of (output ∷ outputs) [] = []
-writes_of (output ∷ outputs) (file ∷ files) = record { path = output; bytes = file } ∷ writes_of outputs files
+writes_of (output ∷ outputs) (file ∷ files) =
+    record { path = output; bytes = file } ∷ writes_of outputs files
 
 abbrev pub IsPlaceFault : Committed → Type 0
 IsPlaceFault committed.Done = ⊥
@@ -22,9 +23,10 @@ abbrev pub written_of : ℕ → Committed → ℕ
 written_of all committed.Done = all
 written_of all (committed.PlaceFault written) = written
 
--- These outputs were written with their files, in order, and nothing else was: all of them, or the first ones where
--- the next one's write failed. Then the place's count rose.
-pub record Commits (outputs files : List (List ℕ)) (end : Committed) (old new : PlaceTold) : Type 0 where
+-- These outputs were written with their files, in order, and nothing else was: all of them, or the
+-- first ones where the next one's write failed. Then the place's count rose.
+pub record Commits (outputs files : List (List ℕ)) (end : Committed)
+    (old new : PlaceTold) : Type 0 where
   pub log : Adds (take (written_of (length outputs) end) (writes_of outputs files)) old.log new.log
   pub fewer : IsPlaceFault end → written_of (length outputs) end < length outputs
   pub count : Counts old.faults new.faults (IsPlaceFault end)

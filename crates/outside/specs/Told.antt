@@ -4,6 +4,7 @@ use Rattle.outside.specs.declared.berth.BerthCall.{BerthCall}
 use Rattle.outside.specs.declared.floor.FloorRead.{FloorRead}
 use Rattle.outside.specs.declared.floor.SourceFile.{SourceFile}
 use Rattle.outside.specs.declared.place.PlaceWrite.{PlaceWrite}
+use Rattle.outside.specs.declared.shop.ShopCall.{ShopCall}
 
 -- how often it has failed, its files, and its reads so far
 pub record FloorTold : Type 0 where
@@ -17,8 +18,8 @@ pub record BerthTold : Type 0 where
   pub faults : ℕ
   pub log : Option (List BerthCall)
 
--- The action whose place it is, how often it has failed, and the writes that were done, in order. A write
--- that was made and then undone stays in it.
+-- The action whose place it is, how often it has failed, and the writes that were done, in order. A
+-- write that was made and then undone stays in it.
 pub record PlaceTold : Type 0 where
   pub number : ℕ
   pub faults : ℕ
@@ -30,7 +31,8 @@ pub record FeedTold : Type 0 where
   pub faults : ℕ
   pub given : Option (List ℕ)
 
--- the line whose tap it is, how often it has failed, the bytes taken, and whether a read has answered End
+-- the line whose tap it is, how often it has failed, the bytes taken, and whether a read has
+-- answered End
 pub record TapTold : Type 0 where
   pub line : Option ℕ
   pub faults : ℕ
@@ -47,6 +49,11 @@ pub record SinkTold : Type 0 where
   pub faults : ℕ
   pub contents : Option (List ℕ)
 
+-- how often it has failed, and the calls so far with their answers
+pub record ShopTold : Type 0 where
+  pub faults : ℕ
+  pub log : Option (List ShopCall)
+
 -- the three objects of a line that was launched
 pub record LineTold : Type 0 where
   pub feed : FeedTold
@@ -56,8 +63,8 @@ pub record LineTold : Type 0 where
 abbrev pub line_told : FeedTold → TapTold → ChildTold → LineTold
 line_told feed tap child = record { feed = feed; tap = tap; child = child }
 
--- What an object is doesn't change: the floor's files, the number of a berth or a place, the line of a feed,
--- a tap or a child.
+-- What an object is doesn't change: the floor's files, the number of a berth or a place, the line
+-- of a feed, a tap or a child.
 abbrev pub SameFloor : FloorTold → FloorTold → Type 0
 SameFloor old new = new.files ≡ old.files
 

@@ -29,7 +29,8 @@ has_fault path fault.Reserved = bytes_eq (first_segment path) (codes "__sandbox"
 
 -- the faults in the order in which they are looked for
 abbrev pub faults_in_order : List PathFault
-faults_in_order = fault.Empty ∷ fault.TooLong ∷ fault.Nul ∷ fault.Absolute ∷ fault.DoubleSlash ∷ fault.Dot ∷ fault.DotDot ∷ fault.Reserved ∷ []
+faults_in_order = fault.Empty ∷ fault.TooLong ∷ fault.Nul ∷ fault.Absolute ∷ fault.DoubleSlash ∷
+    fault.Dot ∷ fault.DotDot ∷ fault.Reserved ∷ []
 
 -- the first fault that the path has
 abbrev pub path_fault : List ℕ → Option PathFault

@@ -18,7 +18,8 @@ new_rows p = replicate (length p.actions) open_row
 abbrev pub winner_of : List Won → ℕ → Option Branch
 winner_of rows a = option_and_then (λ x. x.winner) (slice_get rows a)
 
--- lost exactly where the action has a winner, which is the other branch where the claiming one isn't
+-- lost exactly where the action has a winner, which is the other branch where the claiming one
+-- isn't
 abbrev pub claim_answer : Option Branch → ClaimReply
 claim_answer None = Granted
 claim_answer (Some b) = Lost

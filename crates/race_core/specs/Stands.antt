@@ -27,4 +27,5 @@ won_in j a = record { winner = branch_in (grant_of j a); committed = commit_by j
 
 -- it has so many rows as the plan has actions, each as the journal has it
 pub record Stands (p : Plan) (rows : List Won) (j : List Entry) : Type 0 where
-  pub each : (a : ℕ) → slice_get rows a ≡ (if nat_lt a (length p.actions) then Some (won_in j a) else None)
+  pub each : (a : ℕ)
+      → slice_get rows a ≡ (if nat_lt a (length p.actions) then Some (won_in j a) else None)

@@ -14,9 +14,9 @@ use Rattle.exec_journal.specs.declared.call.Found.TheVariants as found
 use Rattle.exec_journal.specs.declared.call.CommitEnd.{CommitEnd}
 use Rattle.exec_journal.specs.declared.call.CommitEnd.TheVariants as commit
 use Rattle.exec_journal.specs.declared.ends.Standing.{Standing}
-use Rattle.exec_journal.specs.declared.ends.Standing.TheVariants.{Open, Succeeded, Without}
+use Rattle.exec_journal.specs.declared.ends.Standing.TheVariants.{Open, Succeeded, Unsuccessful}
 use Rattle.exec_journal.specs.declared.journal.Entry.{Entry}
-use Rattle.exec_journal.specs.Settled.{by_commit, by_grant, all_dropped, is_starved, is_success, is_without, is_settled, standing_after, standings_from, standings, settled, all_settled, ready}
+use Rattle.exec_journal.specs.Settled.{by_commit, by_grant, all_dropped, is_starved, is_success, is_unsuccessful, is_settled, standing_after, standings_from, standings, settled, all_settled, ready}
 use Rattle.run_plan.specs.Sound.{Sound, are_sound_from, is_sound_action, is_earlier, has_branches}
 use Rattle.exec_journal.specs.Words.{grant_of, commit_of}
 use Rattle.exec_journal.proofs.Ruled.{by_bool}
@@ -115,13 +115,13 @@ module _ (p : Plan) (j : List Entry) where
       → is_settled v ≡ true
   commit_settles (Some commit.Done) v h = let same : Succeeded ≡ v = cc in
       subst (λ z. is_settled z ≡ true) same refl
-  commit_settles (Some (commit.PlaceFault k)) v h = let same : Without ≡ v = cc in
+  commit_settles (Some (commit.PlaceFault k)) v h = let same : Unsuccessful ≡ v = cc in
       subst (λ z. is_settled z ≡ true) same refl
   commit_settles None v h = absurd (cc)
 
   grant_settles : (o : Option (Attempt × Found)) (v : Standing) → by_grant j o ≡ Some v
       → is_settled v ≡ true
-  grant_settles (Some (t, found.Exit n)) v h = let same : Without ≡ v = cc in
+  grant_settles (Some (t, found.Exit n)) v h = let same : Unsuccessful ≡ v = cc in
       subst (λ z. is_settled z ≡ true) same refl
   grant_settles (Some (t, found.Files fs)) v h = commit_settles (commit_of j t.action t.branch) v h
   grant_settles (Some (t, found.Missing k)) v h = absurd (cc)
@@ -131,8 +131,8 @@ module _ (p : Plan) (j : List Entry) where
 
   -- settled by itself, or starved
   settles : (o : Option Standing) (d t : Bool) → ((v : Standing) → o ≡ Some v → is_settled v ≡ true)
-      → (is_settled (unwrap_or o (cond d Without Open)) ≡ true) ⊎ (t ≡ true)
-      → is_settled (unwrap_or o (cond (d || t) Without Open)) ≡ true
+      → (is_settled (unwrap_or o (cond d Unsuccessful Open)) ≡ true) ⊎ (t ≡ true)
+      → is_settled (unwrap_or o (cond (d || t) Unsuccessful Open)) ≡ true
   settles (Some v) d t g h = g v refl
   settles None true t g h = refl
   settles None false true g h = refl
@@ -140,9 +140,9 @@ module _ (p : Plan) (j : List Entry) where
   settles None false false g (inr h) = absurd (cc)
 
   without_of : (o : Option Standing) (v : Standing) → o ≡ Some v → is_settled v ≡ true
-      → is_success o ≡ false → is_without o ≡ true
+      → is_success o ≡ false → is_unsuccessful o ≡ true
   without_of (Some Succeeded) v e h k = absurd (cc)
-  without_of (Some Without) v e h k = refl
+  without_of (Some Unsuccessful) v e h k = refl
   without_of (Some Open) v e h k = let same : Open ≡ v = cc in
       absurd (let x = subst (λ z. is_settled z ≡ true) same in let y = ap is_settled same ∙ h in cc)
   without_of None v e h k = absurd (cc)
@@ -192,11 +192,11 @@ module _ (p : Plan) (j : List Entry) where
           let starves : list_all (λ m. is_success (slice_get (standings p j) m.action)) x.makers
           ≡ false → is_starved x at.before ≡ true =
           some_fails (is_earlier p.actions a) (λ m. is_success (slice_get (standings p j) m.action))
-          (λ m. is_without (slice_get at.before m.action))
+          (λ m. is_unsuccessful (slice_get at.before m.action))
           (λ m ear fails.
           let lower = ltb-true m.action a (and_parts (nat_lt m.action a) _ ear).0 in
           let prod = standing_of m.action (omega arith) in
-          ap is_without (at.same m.action lower) ∙ without_of
+          ap is_unsuccessful (at.same m.action lower) ∙ without_of
           (slice_get (standings p j) m.action) prod.0 prod.1
           (settled_before n m.action (omega arith) (omega arith) prod.0 prod.1) fails)
           x.makers earlier in

@@ -9,7 +9,7 @@ use Rattle.run_plan.specs.declared.plan.Plan.{Plan}
 use Rattle.run_plan.specs.declared.plan.PlanAction.{PlanAction}
 use Rattle.exec_journal.specs.declared.attempt.Attempt.{Attempt}
 use Rattle.exec_journal.specs.declared.ends.Standing.{Standing}
-use Rattle.exec_journal.specs.declared.ends.Standing.TheVariants.{Open, Without}
+use Rattle.exec_journal.specs.declared.ends.Standing.TheVariants.{Open, Unsuccessful}
 use Rattle.exec_journal.specs.declared.journal.Entry.{Entry}
 use Rattle.exec_journal.specs.declared.call.Found.{Found}
 use Rattle.list_lemmas.specs.Options.{or_else}
@@ -105,7 +105,7 @@ module _ (p : Plan) (k : List Entry) where
 
   one_made : (hit below : Bool) (b : Branch) (d : Bool) (x : PlanAction) (l r g : Bool) (o : Standing)
       → cond hit (cond below (state_with b true (made x l r g o)) (cond d (settled_state false (made x l r g o)) (made x l r g o))) (made x l r g o)
-      ≡ made x (((hit && same_branch b Local) && below) || l) (((hit && same_branch b Remote) && below) || r) g (cond ((hit && not below) && d) Without o)
+      ≡ made x (((hit && same_branch b Local) && below) || l) (((hit && same_branch b Remote) && below) || r) g (cond ((hit && not below) && d) Unsuccessful o)
   one_made true true Local d x l r g o = refl
   one_made true true Remote d x l r g o = refl
   one_made true false Local true x l r g o = refl
@@ -120,7 +120,7 @@ module _ (p : Plan) (k : List Entry) where
   or_twice false true l = refl
   or_twice false false l = refl
 
-  settle_twice : (one rest d : Bool) (o : Standing) → cond (rest && d) Without (cond (one && d) Without o) ≡ cond ((one || rest) && d) Without o
+  settle_twice : (one rest d : Bool) (o : Standing) → cond (rest && d) Unsuccessful (cond (one && d) Unsuccessful o) ≡ cond ((one || rest) && d) Unsuccessful o
   settle_twice true true true o = refl
   settle_twice true true false o = refl
   settle_twice true false true o = refl
@@ -130,14 +130,14 @@ module _ (p : Plan) (k : List Entry) where
   settle_twice false false d o = refl
 
   all_made : (ts : List Attempt) (a : ℕ) (x : PlanAction) (l r g : Bool) (o : Standing)
-      → end_states p k ts a x (made x l r g o) ≡ made x (frees p a Local ts || l) (frees p a Remote ts || r) g (cond (spends p a ts && all_dropped p k a x) Without o)
+      → end_states p k ts a x (made x l r g o) ≡ made x (frees p a Local ts || l) (frees p a Remote ts || r) g (cond (spends p a ts && all_dropped p k a x) Unsuccessful o)
   unfolding end_states end_state frees spends
   all_made [] a x l r g o = refl
   all_made (t ∷ ts) a x l r g o =
       let below = nat_lt t.number p.limit in
       let d = all_dropped p k a x in
       ap (end_states p k ts a x) (one_made (t.action == a) below t.branch d x l r g o)
-      ∙ all_made ts a x (((t.action == a) && same_branch t.branch Local && below) || l) (((t.action == a) && same_branch t.branch Remote && below) || r) g (cond (((t.action == a) && not below) && d) Without o)
+      ∙ all_made ts a x (((t.action == a) && same_branch t.branch Local && below) || l) (((t.action == a) && same_branch t.branch Remote && below) || r) g (cond (((t.action == a) && not below) && d) Unsuccessful o)
       ∙ made_same x _ _ _ _ g g _ _ (or_twice (is_branch_of a Local t && below) (frees p a Local ts) l) (or_twice (is_branch_of a Remote t && below) (frees p a Remote ts) r) refl
       (settle_twice ((t.action == a) && not below) (spends p a ts) d o)
 
@@ -249,12 +249,12 @@ module _ (p : Plan) (j : List Entry) (e : Entry) (ts : List Attempt) (h : EndsTh
       let parts = and_parts (unused_or_dropped p j a Local x.local) _ all in
       and_from (unused_or_dropped p (e ∷ j) a Local x.local) _ (unused_stays a Local x.local parts.0) (unused_stays a Remote x.remote parts.1)
 
-  drop_more : (now before : Bool) → (before ≡ true → now ≡ true) → cond now Without (cond before Without Open) ≡ cond now Without Open
+  drop_more : (now before : Bool) → (before ≡ true → now ≡ true) → cond now Unsuccessful (cond before Unsuccessful Open) ≡ cond now Unsuccessful Open
   drop_more true before h = refl
   drop_more false true h = absurd (let both = h refl in cc)
   drop_more false false h = refl
 
-  own_spent : (a : ℕ) (x : PlanAction) → spends p a ts ≡ true → cond (all_dropped p (e ∷ j) a x) Without (own_in p j a x) ≡ own_in p (e ∷ j) a x
+  own_spent : (a : ℕ) (x : PlanAction) → spends p a ts ≡ true → cond (all_dropped p (e ∷ j) a x) Unsuccessful (own_in p j a x) ≡ own_in p (e ∷ j) a x
   unfolding spends own_in
   own_spent a x spent =
       let one = any_among (λ t. (t.action == a) && not (nat_lt t.number p.limit)) ts spent in
@@ -273,9 +273,9 @@ module _ (p : Plan) (j : List Entry) (e : Entry) (ts : List Attempt) (h : EndsTh
       cc))
       (λ off. refl)
 
-  own_after : (a : ℕ) (x : PlanAction) → cond (spends p a ts && all_dropped p (e ∷ j) a x) Without (own_in p j a x) ≡ own_in p (e ∷ j) a x
+  own_after : (a : ℕ) (x : PlanAction) → cond (spends p a ts && all_dropped p (e ∷ j) a x) Unsuccessful (own_in p j a x) ≡ own_in p (e ∷ j) a x
   own_after a x =
-      by_bool (spends p a ts) (λ v. cond (v && all_dropped p (e ∷ j) a x) Without (own_in p j a x) ≡ own_in p (e ∷ j) a x) (own_spent a x)
+      by_bool (spends p a ts) (λ v. cond (v && all_dropped p (e ∷ j) a x) Unsuccessful (own_in p j a x) ≡ own_in p (e ∷ j) a x) (own_spent a x)
       (λ unspent. own_same p j (e ∷ j) a x (grant_same j (e ∷ j) a (h.grant a) h.commit) (all_dropped_same p j (e ∷ j) a x (λ b. dropped_kept a b (unspent_limit a b unspent))))
 
   pub ends : (states : List ActionState) → Stands p states j → Stands p (with_ends p (e ∷ j) states ts) (e ∷ j)

@@ -9,7 +9,7 @@ use Rattle.run_plan.specs.declared.plan.Plan.{Plan}
 use Rattle.run_plan.specs.declared.plan.PlanAction.{PlanAction}
 use Rattle.exec_journal.specs.declared.attempt.Attempt.{Attempt}
 use Rattle.exec_journal.specs.declared.ends.Standing.{Standing}
-use Rattle.exec_journal.specs.declared.ends.Standing.TheVariants.{Open, Succeeded, Without}
+use Rattle.exec_journal.specs.declared.ends.Standing.TheVariants.{Open, Succeeded, Unsuccessful}
 use Rattle.exec_journal.specs.declared.journal.Entry.{Entry}
 use Rattle.exec_journal.specs.declared.call.Call.TheVariants as call
 use Rattle.exec_journal.specs.declared.call.CommitEnd.{CommitEnd}
@@ -166,7 +166,7 @@ grant_changed true x l r g o = refl
 grant_changed false x l r g o = refl
 
 exit_changed : (hit : Bool) (x : PlanAction) (l r g : Bool) (o : Standing)
-    → cond hit (settled_state false (cond hit (granted_state (made x l r g o)) (made x l r g o))) (cond hit (granted_state (made x l r g o)) (made x l r g o)) ≡ made x l r (cond hit true g) (cond hit Without o)
+    → cond hit (settled_state false (cond hit (granted_state (made x l r g o)) (made x l r g o))) (cond hit (granted_state (made x l r g o)) (made x l r g o)) ≡ made x l r (cond hit true g) (cond hit Unsuccessful o)
 exit_changed true x l r g o = refl
 exit_changed false x l r g o = refl
 
@@ -238,7 +238,7 @@ module _ (p : Plan) (j : List Entry) (lane a t : ℕ) (b : Branch) (files : List
   unfolding own_in
   own_files x =
       rw (open_yet.ungranted, grant_here p j lane a t b (found.Files files) open_yet, commit_kept p j lane a t b (found.Files files) open_yet a b, open_yet.uncommitted b)
-      (ap (λ d. cond d Without Open) (drops_kept p j lane a t b (found.Files files) open_yet a x))
+      (ap (λ d. cond d Unsuccessful Open) (drops_kept p j lane a t b (found.Files files) open_yet a x))
 
   own_at : (c : ℕ) (x : PlanAction) → own_in p j c x ≡ own_in p after_files c x
   own_at c x =
@@ -257,13 +257,13 @@ module _ (p : Plan) (j : List Entry) (lane a t : ℕ) (b : Branch) (code : ℤ) 
   abbrev after_exit : List Entry
   after_exit = after p j lane a t b (found.Exit code) open_yet
 
-  own_exit : (x : PlanAction) → Without ≡ own_in p after_exit a x
+  own_exit : (x : PlanAction) → Unsuccessful ≡ own_in p after_exit a x
   unfolding own_in
   own_exit x = rw (grant_here p j lane a t b (found.Exit code) open_yet) refl
 
-  own_exit_at : (c : ℕ) (x : PlanAction) → cond (a == c) Without (own_in p j c x) ≡ own_in p after_exit c x
+  own_exit_at : (c : ℕ) (x : PlanAction) → cond (a == c) Unsuccessful (own_in p j c x) ≡ own_in p after_exit c x
   own_exit_at c x =
-      by_bool (a == c) (λ v. cond v Without (own_in p j c x) ≡ own_in p after_exit c x) (λ same. subst (λ d. Without ≡ own_in p after_exit d x) (eqb-true a c same) (own_exit x))
+      by_bool (a == c) (λ v. cond v Unsuccessful (own_in p j c x) ≡ own_in p after_exit c x) (λ same. subst (λ d. Unsuccessful ≡ own_in p after_exit d x) (eqb-true a c same) (own_exit x))
       (own_aside p j lane a t b (found.Exit code) open_yet c x)
 
   pub granted_exit : (states : List ActionState) → Stands p states j → Stands p (with_settled (with_unwanted states a) a false) after_exit
@@ -277,11 +277,11 @@ module _ (p : Plan) (j : List Entry) (lane a t : ℕ) (b : Branch) (code : ℤ) 
 -- ---- a commit
 
 settle_changed : (hit v : Bool) (x : PlanAction) (l r g : Bool) (o : Standing)
-    → cond hit (settled_state v (made x l r g o)) (made x l r g o) ≡ made x l r g (cond hit (cond v Succeeded Without) o)
+    → cond hit (settled_state v (made x l r g o)) (made x l r g o) ≡ made x l r g (cond hit (cond v Succeeded Unsuccessful) o)
 settle_changed true v x l r g o = refl
 settle_changed false v x l r g o = refl
 
-by_done : (how : CommitEnd) (d : Standing) → cond (is_done how) Succeeded Without ≡ unwrap_or (by_commit (Some how)) d
+by_done : (how : CommitEnd) (d : Standing) → cond (is_done how) Succeeded Unsuccessful ≡ unwrap_or (by_commit (Some how)) d
 by_done commit.Done d = refl
 by_done (commit.PlaceFault n) d = refl
 
@@ -333,11 +333,11 @@ module _ (p : Plan) (j : List Entry) (lane a : ℕ) (b : Branch) (how : CommitEn
   ends_then : (s : Attempt) → ended then s ≡ ended j s
   ends_then s = ended_same commit_entry j s (over_then s) (sym (granted_same j then s.action (grant_then s.action)))
 
-  own_committed : (x : PlanAction) → cond (is_done how) Succeeded Without ≡ own_in p then a x
+  own_committed : (x : PlanAction) → cond (is_done how) Succeeded Unsuccessful ≡ own_in p then a x
   unfolding own_in
   own_committed x =
       let here : by_grant then (grant_of then a) ≡ by_commit (Some how) = ap (by_grant then) (grant_then a ∙ won.winner) ∙ ap by_commit commit_here in
-      by_done how (cond (all_dropped p then a x) Without Open) ∙ ap (λ o. unwrap_or o (cond (all_dropped p then a x) Without Open)) (sym here)
+      by_done how (cond (all_dropped p then a x) Unsuccessful Open) ∙ ap (λ o. unwrap_or o (cond (all_dropped p then a x) Unsuccessful Open)) (sym here)
 
   grant_off : (c : ℕ) (o : Option (Attempt × Found)) → grant_of j c ≡ o → (a == c) ≡ false → by_grant j o ≡ by_grant then o
   grant_off c None h apart = refl
@@ -350,10 +350,10 @@ module _ (p : Plan) (j : List Entry) (lane a : ℕ) (b : Branch) (how : CommitEn
   drops_then : (c : ℕ) (x : PlanAction) → all_dropped p j c x ≡ all_dropped p then c x
   drops_then c x = all_dropped_same p j then c x (λ d. dropped_same p j then c d ends_then)
 
-  own_then : (c : ℕ) (x : PlanAction) → cond (a == c) (cond (is_done how) Succeeded Without) (own_in p j c x) ≡ own_in p then c x
+  own_then : (c : ℕ) (x : PlanAction) → cond (a == c) (cond (is_done how) Succeeded Unsuccessful) (own_in p j c x) ≡ own_in p then c x
   own_then c x =
-      by_bool (a == c) (λ v. cond v (cond (is_done how) Succeeded Without) (own_in p j c x) ≡ own_in p then c x)
-      (λ same. subst (λ d. cond (is_done how) Succeeded Without ≡ own_in p then d x) (eqb-true a c same) (own_committed x))
+      by_bool (a == c) (λ v. cond v (cond (is_done how) Succeeded Unsuccessful) (own_in p j c x) ≡ own_in p then c x)
+      (λ same. subst (λ d. cond (is_done how) Succeeded Unsuccessful ≡ own_in p then d x) (eqb-true a c same) (own_committed x))
       (λ apart. own_same p j then c x (grant_off c (grant_of j c) refl apart ∙ ap (by_grant then) (sym (grant_then c))) (drops_then c x))
 
   pub committed : (states : List ActionState) → Stands p states j → Stands p (with_settled states a (is_done how)) then

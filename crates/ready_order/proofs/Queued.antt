@@ -11,13 +11,13 @@ use Rattle.run_plan.specs.declared.plan.Plan.{Plan}
 use Rattle.run_plan.specs.declared.plan.PlanAction.{PlanAction}
 use Rattle.exec_journal.specs.declared.attempt.Attempt.{Attempt}
 use Rattle.exec_journal.specs.declared.ends.Standing.{Standing}
-use Rattle.exec_journal.specs.declared.ends.Standing.TheVariants.{Open, Succeeded, Without}
+use Rattle.exec_journal.specs.declared.ends.Standing.TheVariants.{Open, Succeeded, Unsuccessful}
 use Rattle.exec_journal.specs.declared.journal.Entry.{Entry}
 use Rattle.list_lemmas.specs.Options.{or_else}
 use Rattle.exec_journal.specs.Words.{grant_of, granted}
 use Rattle.exec_journal.specs.Entries.{attempt_of}
 use Rattle.exec_journal.specs.Attempts.{attempt, dropped}
-use Rattle.exec_journal.specs.Settled.{by_grant, all_dropped, is_starved, is_success, is_without, is_settled, standing_after, standings_from, standings, settled, ready, wanted, is_under_way, uses, queued, queued_in, earliest_from, earliest}
+use Rattle.exec_journal.specs.Settled.{by_grant, all_dropped, is_starved, is_success, is_unsuccessful, is_settled, standing_after, standings_from, standings, settled, ready, wanted, is_under_way, uses, queued, queued_in, earliest_from, earliest}
 use Rattle.exec_journal.proofs.Ruled.{by_bool}
 use Rattle.ready_order.specs.declared.ActionState.{ActionState}
 use Rattle.ready_order.specs.Queue.{producers_of, has_success, is_queued, IsFirst, IsEarliest}
@@ -40,12 +40,12 @@ get_behind (x ∷ xs) y = get_behind xs y
 record StandsAt (p : Plan) (j : List Entry) (whole : List Standing) (a : ℕ) (x : PlanAction) : Type 0 where
   pub before : List Standing
   pub is : slice_get whole a ≡ Some (standing_after p j a x before)
-  pub front : (m : ℕ) → is_success (slice_get whole m) ≡ true → is_without (slice_get before m) ≡ false
+  pub front : (m : ℕ) → is_success (slice_get whole m) ≡ true → is_unsuccessful (slice_get before m) ≡ false
 
-not_without : (o : Option Standing) → is_success o ≡ true → is_without o ≡ false
+not_without : (o : Option Standing) → is_success o ≡ true → is_unsuccessful o ≡ false
 not_without (Some Succeeded) h = refl
 not_without (Some Open) h = refl
-not_without (Some Without) h = absurd (cc)
+not_without (Some Unsuccessful) h = absurd (cc)
 not_without None h = refl
 
 module _ (p : Plan) (j : List Entry) where
@@ -72,15 +72,15 @@ module _ (p : Plan) (j : List Entry) where
         is = subst (λ n. slice_get (standings_from p j (earlier ++ s ∷ []) xs) n ≡ Some (standing_after p j n x earlier)) here
             (standings_front xs (earlier ++ s ∷ []) (length earlier) (omega (arith, length-append earlier (s ∷ [])))
             ∙ get_behind earlier s ∙ ap (λ z. Some (standing_after p j (length earlier) z earlier)) same);
-        front = λ m k. by_bool (nat_lt m (length earlier)) (λ _. is_without (slice_get earlier m) ≡ false)
+        front = λ m k. by_bool (nat_lt m (length earlier)) (λ _. is_unsuccessful (slice_get earlier m) ≡ false)
             (λ lt. not_without (slice_get earlier m) (ap is_success (sym (standings_front (y ∷ xs) earlier m (ltb-true m (length earlier) lt))) ∙ k))
-            (λ past. ap is_without (slice_get_past earlier m (ltb-false m (length earlier) past)));
+            (λ past. ap is_unsuccessful (slice_get_past earlier m (ltb-false m (length earlier) past)));
       }
   standing_at (y ∷ xs) earlier (suc i) a x e h =
       let s = standing_after p j (length earlier) y earlier in
       standing_at xs (earlier ++ s ∷ []) i a x (omega (arith, length-append earlier (s ∷ []))) h
 
-  own_success : (o : Option Standing) (d s : Bool) → is_success (Some (unwrap_or o (cond (d || s) Without Open))) ≡ is_success (Some (unwrap_or o (cond d Without Open)))
+  own_success : (o : Option Standing) (d s : Bool) → is_success (Some (unwrap_or o (cond (d || s) Unsuccessful Open))) ≡ is_success (Some (unwrap_or o (cond d Unsuccessful Open)))
   own_success (Some v) d s = refl
   own_success None true s = refl
   own_success None false true = refl
@@ -99,8 +99,8 @@ module _ (p : Plan) (j : List Entry) where
       past_end (inr w) = let le = w.0 in omega (arith, standings_length p.actions [])
 
   -- where its producers have success, none of them settles it
-  unstarved : (whole before : List Standing) (ms : List Maker) → ((m : ℕ) → is_success (slice_get whole m) ≡ true → is_without (slice_get before m) ≡ false)
-      → list_all (λ m. is_success (slice_get whole m.action)) ms ≡ true → list_any (λ m. is_without (slice_get before m.action)) ms ≡ false
+  unstarved : (whole before : List Standing) (ms : List Maker) → ((m : ℕ) → is_success (slice_get whole m) ≡ true → is_unsuccessful (slice_get before m) ≡ false)
+      → list_all (λ m. is_success (slice_get whole m.action)) ms ≡ true → list_any (λ m. is_unsuccessful (slice_get before m.action)) ms ≡ false
   unstarved whole before [] front h = refl
   unstarved whole before (m ∷ ms) front h =
       let parts = and_parts (is_success (slice_get whole m.action)) _ h in
@@ -116,8 +116,8 @@ module _ (p : Plan) (j : List Entry) where
       let at = standing_at p.actions [] a a x (omega arith) h in
       let none = unstarved (standings_from p j [] p.actions) at.before x.makers at.front fed in
       ap (λ o. unwrap_or (option_map is_settled o) false) at.is
-      ∙ ap (λ b. is_settled (unwrap_or (by_grant j (grant_of j a)) (cond (all_dropped p j a x || b) Without Open))) none
-      ∙ ap (λ b. is_settled (unwrap_or (by_grant j (grant_of j a)) (cond b Without Open))) (or_none (all_dropped p j a x))
+      ∙ ap (λ b. is_settled (unwrap_or (by_grant j (grant_of j a)) (cond (all_dropped p j a x || b) Unsuccessful Open))) none
+      ∙ ap (λ b. is_settled (unwrap_or (by_grant j (grant_of j a)) (cond b Unsuccessful Open))) (or_none (all_dropped p j a x))
 
 -- ---- the table's queued branches
 

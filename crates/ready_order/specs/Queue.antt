@@ -6,7 +6,7 @@ use Rattle.run_plan.specs.declared.plan.Branch.TheVariants.{Local, Remote}
 use Rattle.run_plan.specs.declared.plan.Plan.{Plan}
 use Rattle.run_plan.specs.declared.plan.PlanAction.{PlanAction}
 use Rattle.exec_journal.specs.declared.ends.Standing.{Standing}
-use Rattle.exec_journal.specs.declared.ends.Standing.TheVariants.{Open, Succeeded, Without}
+use Rattle.exec_journal.specs.declared.ends.Standing.TheVariants.{Open, Succeeded, Unsuccessful}
 use Rattle.exec_journal.specs.Settled.{is_settled, is_success}
 use Rattle.list_lemmas.specs.Options.{or_else}
 use Rattle.list_lemmas.specs.Places.{update}
@@ -21,7 +21,7 @@ producers_of x = map (λ m. m.action) x.makers
 
 -- an action that uses no branch has none left
 abbrev pub new_standing : PlanAction → Standing
-new_standing x = if is_none x.local && is_none x.remote then Without else Open
+new_standing x = if is_none x.local && is_none x.remote then Unsuccessful else Open
 
 abbrev pub new_state : PlanAction → ActionState
 new_state x = record {
@@ -121,7 +121,7 @@ abbrev pub with_unwanted : List ActionState → ℕ → List ActionState
 with_unwanted states a = update granted_state states a
 
 abbrev pub settled_state : Bool → ActionState → ActionState
-settled_state success x = record x { own = if success then Succeeded else Without }
+settled_state success x = record x { own = if success then Succeeded else Unsuccessful }
 
 abbrev pub with_settled : List ActionState → ℕ → Bool → List ActionState
 with_settled states a success = update (settled_state success) states a

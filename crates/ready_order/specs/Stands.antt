@@ -6,7 +6,7 @@ use Rattle.run_plan.specs.declared.plan.Plan.{Plan}
 use Rattle.run_plan.specs.declared.plan.PlanAction.{PlanAction}
 use Rattle.exec_journal.specs.declared.attempt.Attempt.{Attempt}
 use Rattle.exec_journal.specs.declared.ends.Standing.{Standing}
-use Rattle.exec_journal.specs.declared.ends.Standing.TheVariants.{Open, Without}
+use Rattle.exec_journal.specs.declared.ends.Standing.TheVariants.{Open, Unsuccessful}
 use Rattle.exec_journal.specs.declared.journal.Entry.{Entry}
 use Rattle.exec_journal.specs.Words.{grant_of, granted}
 use Rattle.exec_journal.specs.Attempts.{dropped}
@@ -20,7 +20,7 @@ is_free p j a b = not (is_under_way j a b) && not (dropped p j a b)
 
 -- the action's standing by its own grant, commit and drops, whatever its producers' are
 unfoldable pub own_in : Plan → List Entry → ℕ → PlanAction → Standing
-own_in p j a x = unwrap_or (by_grant j (grant_of j a)) (if all_dropped p j a x then Without else Open)
+own_in p j a x = unwrap_or (by_grant j (grant_of j a)) (if all_dropped p j a x then Unsuccessful else Open)
 
 abbrev pub state_in : Plan → List Entry → ℕ → PlanAction → ActionState
 state_in p j a x = record {

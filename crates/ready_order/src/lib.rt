@@ -77,7 +77,7 @@ impl Ready {
         state.own = if success {
             Standing::Succeeded
         } else {
-            Standing::Without
+            Standing::Unsuccessful
         };
     }
 
@@ -178,7 +178,7 @@ fn standing_at_start(work: &PlanAction) -> Standing
     ensures { result ≡ new_standing work.now }
 {
     if work.local.is_none() && work.remote.is_none() {
-        Standing::Without
+        Standing::Unsuccessful
     } else {
         Standing::Open
     }

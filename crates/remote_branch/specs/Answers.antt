@@ -1,4 +1,5 @@
--- The answer that a result gives: the job's number, exit code, text, refusal, files and all else that it says.
+-- The answer that a result gives: the job's number, exit code, text, refusal, files and all else
+-- that it says.
 use Rattle.std.specs.Prelude.{List, map}
 use Rattle.remote_messages.specs.declared.file.NamedFile.{NamedFile}
 use Rattle.remote_messages.specs.declared.job_result.JobResult.{JobResult}

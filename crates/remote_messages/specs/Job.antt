@@ -23,7 +23,8 @@ pub record IsJob (fs : List WireField) (m : Job) : Type 0 where
 -- its arguments and outputs are texts, its inputs files, and its environment variables
 abbrev pub job_refuses : WireField → Fault → Type 0
 job_refuses f x =
-    RefusesText 2 f x ⊎ (RefusesMessage FaultyFile 3 f x ⊎ (RefusesText 4 f x ⊎ RefusesMessage FaultyVariable 5 f x))
+    RefusesText 2 f x
+    ⊎ (RefusesMessage FaultyFile 3 f x ⊎ (RefusesText 4 f x ⊎ RefusesMessage FaultyVariable 5 f x))
 
 abbrev pub SpellsJob : List ℕ → Job → Type 0
 SpellsJob bytes m = Spells job_refuses IsJob bytes m
@@ -37,8 +38,10 @@ file_spelling m = spelling (file_fields m)
 
 -- the fields that are written of a job
 unfoldable pub job_fields : Job → List WireField
-job_fields m = int32_field 1 m.id ++ repeated_field 2 m.arguments ++ repeated_field 3 (map file_spelling m.inputs)
-    ++ repeated_field 4 m.outputs ++ repeated_field 5 (map variable_spelling m.env) ++ bool_field 6 m.cancel
+job_fields m = int32_field 1 m.id ++ repeated_field 2 m.arguments
+    ++ repeated_field 3 (map file_spelling m.inputs)
+    ++ repeated_field 4 m.outputs ++ repeated_field 5 (map variable_spelling m.env)
+    ++ bool_field 6 m.cancel
 
 -- the one written form of a job
 abbrev pub job_spelling : Job → List ℕ

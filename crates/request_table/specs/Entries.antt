@@ -24,7 +24,8 @@ EachOf P (r ∷ rs) = P r × EachOf P rs
 
 -- the branch is run by the lane's own group
 abbrev pub IsOfGroup : Plan → ℕ → ℕ → Branch → Type 0
-IsOfGroup p lane a b = option_and_then (λ x. group_of x b) (slice_get p.actions a) ≡ berth_group p (lane / 2)
+IsOfGroup p lane a b =
+    option_and_then (λ x. group_of x b) (slice_get p.actions a) ≡ berth_group p (lane / 2)
 
 -- the line's Sends so far were numbered as the lane's group does
 abbrev pub NumberedBy : Plan → List Entry → ℕ → ℕ → Type 0
@@ -38,7 +39,8 @@ pub record IsNewRequest (j : List Entry) (l : ℕ) (t : Attempt) : Type 0 where
   pub running : has_ended j l ≡ false
 
 -- a Send of a new request has the next number of its line, which is of the branch's group
-pub record IsNextSend (p : Plan) (j : List Entry) (lane l : ℕ) (n : ℤ) (a : ℕ) (b : Branch) (t : ℕ) : Type 0 where
+pub record IsNextSend (p : Plan) (j : List Entry) (lane l : ℕ) (n : ℤ) (a : ℕ) (b : Branch)
+    (t : ℕ) : Type 0 where
   pub number : n ≡ number_on p j (lane / 2) l
   pub group : IsOfGroup p lane a b
   pub earlier : NumberedBy p j lane l
@@ -47,7 +49,8 @@ pub record IsNextSend (p : Plan) (j : List Entry) (lane l : ℕ) (n : ℤ) (a : 
 -- of all pending requests exactly those of this attempt stand on this line with this number
 pub record IsKnownBy (j : List Entry) (l : ℕ) (n : ℤ) (s : Attempt) : Type 0 where
   pub here : EachOf (λ r. same_attempt s r.attempt ≡ int_eq r.number n) (pending j l)
-  pub elsewhere : (k : ℕ) → (l == k) ≡ false → EachOf (λ r. same_attempt s r.attempt ≡ false) (pending j k)
+  pub elsewhere : (k : ℕ) → (l == k) ≡ false
+      → EachOf (λ r. same_attempt s r.attempt ≡ false) (pending j k)
 
 -- no pending request is of this attempt: it was answered, or its line has ended
 abbrev pub IsPast : List Entry → Attempt → Type 0

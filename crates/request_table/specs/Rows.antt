@@ -24,7 +24,9 @@ pub record Facts : Type 0 where
 
 -- whether the group is Single
 abbrev pub is_single_group : Plan → Option ℕ → Bool
-is_single_group p o = is_single (unwrap_or (option_map (λ g. g.kind) (option_and_then (λ k. slice_get p.groups k) o)) kind.Single)
+is_single_group p o = is_single
+    (unwrap_or (option_map (λ g. g.kind)
+    (option_and_then (λ k. slice_get p.groups k) o)) kind.Single)
 
 abbrev pub singles_of : Plan → PlanAction → Singles
 singles_of p x = record { local = is_single_group p x.local; remote = is_single_group p x.remote }
@@ -37,7 +39,8 @@ abbrev pub line_room : Plan → ℕ
 line_room p = length p.actions * 2 * p.limit
 
 abbrev pub new_facts : Plan → Facts
-new_facts p = record { lines = replicate (line_room p) new_line; singles = map (singles_of p) p.actions }
+new_facts p =
+    record { lines = replicate (line_room p) new_line; singles = map (singles_of p) p.actions }
 
 -- ---- what is known of a line
 
@@ -87,10 +90,12 @@ abbrev pub new_place : ℕ → ℕ → ℕ → RequestRow
 new_place n a t = record { number = n; action = a; attempt = t; pending = true; cancelled = false }
 
 abbrev pub sent_row : ℕ → ℕ → ℕ → LineRow → LineRow
-sent_row n a t x = record { last = Some n; places = record { items = filter is_open x.places.items ++ new_place n a t ∷ [] } }
+sent_row n a t x = record { last = Some n; places = record { items = filter is_open x.places.items
+    ++ new_place n a t ∷ [] } }
 
 abbrev pub with_send : Facts → ℕ → ℕ → Branch → ℕ → Facts
-with_send f l a b t = record { lines = update (sent_row (next_number f l a b) a t) f.lines l; singles = f.singles }
+with_send f l a b t =
+    record { lines = update (sent_row (next_number f l a b) a t) f.lines l; singles = f.singles }
 
 -- ---- Answer
 
@@ -118,19 +123,25 @@ line_matching (pos n) (Some x) = row_matching n x
 line_matching (pos n) None = Never
 line_matching (negsuc n) o = Never
 
--- pending where a request of the line with this number is, closed where one was, and never where none was sent with it
+-- pending where a request of the line with this number is, closed where one was, and never where
+-- none was sent with it
 abbrev pub matching_of : Facts → ℕ → ℤ → Matching
 matching_of f l n = line_matching n (slice_get f.lines l)
 
 abbrev pub with_pending : ℕ → Bool → RequestRow → RequestRow
-with_pending n now x = record { number = x.number; action = x.action; attempt = x.attempt; pending = if x.number == n then now else x.pending; cancelled = x.cancelled }
+with_pending n now x = record
+    { number = x.number; action = x.action; attempt = x.attempt; pending = if x.number == n then now
+    else x.pending; cancelled = x.cancelled }
 
--- it isn't pending from now on. Until the line's next answer or Send it stands there still, so that it can be opened again
+-- it isn't pending from now on. Until the line's next answer or Send it stands there still, so that
+-- it can be opened again
 abbrev pub answered_row : ℕ → LineRow → LineRow
-answered_row n x = record { last = x.last; places = record { items = map (with_pending n false) (filter is_open x.places.items) } }
+answered_row n x = record { last = x.last; places = record { items = map (with_pending n false)
+    (filter is_open x.places.items) } }
 
 abbrev pub reopened_row : ℕ → LineRow → LineRow
-reopened_row n x = record { last = x.last; places = record { items = map (with_pending n true) x.places.items } }
+reopened_row n x =
+    record { last = x.last; places = record { items = map (with_pending n true) x.places.items } }
 
 abbrev pub on_line : (ℕ → LineRow → LineRow) → Facts → ℕ → ℤ → Facts
 on_line g f l (pos n) = record { lines = update (g n) f.lines l; singles = f.singles }
@@ -145,16 +156,20 @@ with_reopened f l n = on_line reopened_row f l n
 -- ---- Wrote, Cancel, Ended
 
 abbrev pub unwritten_row : ℕ → LineRow → LineRow
-unwritten_row n x = record { last = x.last; places = record { items = filter (λ y. not (y.number == n)) x.places.items } }
+unwritten_row n x = record { last = x.last; places = record { items = filter
+    (λ y. not (y.number == n)) x.places.items } }
 
 abbrev pub with_unwritten : Facts → ℕ → ℤ → Facts
 with_unwritten f l n = on_line unwritten_row f l n
 
 abbrev pub with_cancel : ℕ → RequestRow → RequestRow
-with_cancel n x = record { number = x.number; action = x.action; attempt = x.attempt; pending = x.pending; cancelled = (x.number == n) || x.cancelled }
+with_cancel n x = record
+    { number = x.number; action = x.action; attempt = x.attempt; pending = x.pending; cancelled =
+    (x.number == n) || x.cancelled }
 
 abbrev pub cancelled_row : ℕ → LineRow → LineRow
-cancelled_row n x = record { last = x.last; places = record { items = map (with_cancel n) x.places.items } }
+cancelled_row n x =
+    record { last = x.last; places = record { items = map (with_cancel n) x.places.items } }
 
 abbrev pub with_cancelled : Facts → ℕ → ℤ → Facts
 with_cancelled f l n = on_line cancelled_row f l n

@@ -26,31 +26,39 @@ natural (pos n) = n
 natural (negsuc n) = 0
 
 abbrev pub request_row : List Entry → Request → RequestRow
-request_row j r = record { number = natural r.number; action = r.attempt.action; attempt = r.attempt.number; pending = true; cancelled = has_cancel j r }
+request_row j r = record
+    { number = natural r.number; action = r.attempt.action; attempt = r.attempt.number; pending =
+    true; cancelled = has_cancel j r }
 
 unfoldable pub waiting_in : List Entry → ℕ → Waiting
-waiting_in j l = record { last = option_map (λ r. natural r.number) (head (sends j l)); places = reverse (map (request_row j) (pending j l)) }
+waiting_in j l = record { last = option_map (λ r. natural r.number)
+    (head (sends j l)); places = reverse (map (request_row j) (pending j l)) }
 
 -- Sends, the newest first: all have the number 0, or their numbers count up from 1
 abbrev pub Numbered : Bool → List Request → Type 0
 Numbered single [] = Unit {0}
-Numbered single (r ∷ rs) = (r.number ≡ (if single then pos 0 else pos (length rs + 1))) × Numbered single rs
+Numbered single (r ∷ rs) =
+    (r.number ≡ (if single then pos 0 else pos (length rs + 1))) × Numbered single rs
 
 pub record AreNumbered (j : List Entry) (l : ℕ) : Type 0 where
   pub single : Bool
   pub numbers : Numbered single (sends j l)
 
--- it has the plan's room and kinds, each line as the journal has it, and requests are numbered in order
+-- it has the plan's room and kinds, each line as the journal has it, and requests are numbered in
+-- order
 pub record Stands (p : Plan) (f : Facts) (j : List Entry) : Type 0 where
   pub room : length f.lines ≡ line_room p
   pub kinds : f.singles ≡ map (singles_of p) p.actions
-  pub each : (l : ℕ) → option_map told (slice_get f.lines l) ≡ (if nat_lt l (line_room p) then Some (waiting_in j l) else None)
+  pub each : (l : ℕ)
+      → option_map told (slice_get f.lines l) ≡
+      (if nat_lt l (line_room p) then Some (waiting_in j l) else None)
   pub numbered : (l : ℕ) → AreNumbered j l
 
 -- ---- what an answer finds, by the journal
 
 abbrev pub open_request : List Entry → Request → Matching
-open_request j r = if has_cancel j r then Cancelled r.attempt.action r.attempt.number else Pending r.attempt.action r.attempt.number
+open_request j r = if has_cancel j r then Cancelled r.attempt.action r.attempt.number
+    else Pending r.attempt.action r.attempt.number
 
 -- of the request that was sent with the answer's number
 abbrev pub of_sent : List Entry → Option Request → Matching

@@ -12,10 +12,11 @@ times a b ts = length (filter (is_branch_of a b) ts)
 
 -- the branch's latest attempt ends with this entry
 abbrev pub ends_now : List Entry → Entry → ℕ → Branch → Bool
-ends_now j e a b = ended (e ∷ j) (attempt_of a b (attempt j a b)) && not (ended j (attempt_of a b (attempt j a b)))
+ends_now j e a b =
+    ended (e ∷ j) (attempt_of a b (attempt j a b)) && not (ended j (attempt_of a b (attempt j a b)))
 
--- the entry begins no attempt, and exactly these attempts end with it: of each branch the latest, where that ends.
--- An attempt that ends has begun, so its number isn't 0
+-- the entry begins no attempt, and exactly these attempts end with it: of each branch the latest,
+-- where that ends. An attempt that ends has begun, so its number isn't 0
 pub record EndsThese (j : List Entry) (e : Entry) (ts : List Attempt) : Type 0 where
   pub none_begins : (a : ℕ) (b : Branch) → attempt (e ∷ j) a b ≡ attempt j a b
   pub these : (a : ℕ) (b : Branch) → times a b ts ≡ (if ends_now j e a b then 1 else 0)

@@ -11,7 +11,8 @@ use Rattle.retry_rules.specs.Counts.{Facts}
 
 -- how many attempts of the branch have ended: all up to its latest, or all but that one
 unfoldable pub ended_count : List Entry → ℕ → Branch → ℕ
-ended_count j a b = if ended j (attempt_of a b (attempt j a b)) then attempt j a b else attempt j a b - 1
+ended_count j a b =
+    if ended j (attempt_of a b (attempt j a b)) then attempt j a b else attempt j a b - 1
 
 abbrev pub ended_in : List Entry → ℕ → EndedCounts
 ended_in j a = record { local = ended_count j a Local; remote = ended_count j a Remote }
@@ -19,4 +20,5 @@ ended_in j a = record { local = ended_count j a Local; remote = ended_count j a 
 -- it has so many actions as the plan, with the journal's counts
 pub record Stands (p : Plan) (f : Facts) (j : List Entry) : Type 0 where
   pub limit : f.limit ≡ p.limit
-  pub each : (a : ℕ) → slice_get f.ended a ≡ (if nat_lt a (length p.actions) then Some (ended_in j a) else None)
+  pub each : (a : ℕ)
+      → slice_get f.ended a ≡ (if nat_lt a (length p.actions) then Some (ended_in j a) else None)

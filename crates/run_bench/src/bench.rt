@@ -11,7 +11,7 @@ ghost use Rattle.run_bench.specs.Bench.{Lies, Remains, GoesIn, ComesOut};
 ghost use Rattle.run_bench.specs.Shifts.{children_then, taps_then, places_then, good_then};
 ghost use Rattle.run_bench.specs.BenchLaws.{short_not_kept, noted_not_short, suits_on, pays_one};
 
-use crate::replies::{copy_of, joins};
+use crate::replies::copy_of;
 use crate::shelf::{Good, Shelf};
 use exec_journal::{Call, Reply};
 use outside::{Berth, Place};
@@ -117,7 +117,7 @@ impl<B: Berth, P: Place, C: Rules> Machine for Bench<B, P, C> {
         (C.script_stays (C.plan m.core) h more lane c none) i };
 
     fn is_kept(_lane: u32, _call: &Call, reply: &Reply) -> bool {
-        joins(reply)
+        reply.is_kept()
     }
 
     fn copy(reply: &Reply) -> Reply {

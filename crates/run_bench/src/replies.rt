@@ -4,16 +4,6 @@ ghost use Rattle.exec_journal.specs.Entries.{is_kept};
 
 use exec_journal::Reply;
 
-/// An entry with this reply joins the history.
-pub(crate) fn joins(reply: &Reply) -> bool
-    ensures { result ≡ is_kept reply.now }
-{
-    !matches!(
-        reply,
-        Reply::Idle | Reply::File(_) | Reply::NoFile | Reply::NoMemory | Reply::Astray
-    )
-}
-
 /// An equal reply, if it joins the history, and else Idle. It takes no memory.
 pub(crate) fn copy_of(reply: &Reply) -> Reply
     ensures { is_kept reply.now ≡ true → result ≡ reply.now }

@@ -14,11 +14,13 @@ use Rattle.build_report.specs.declared.fault.Stage.TheVariants as stage
 
 -- each answer is what the floor's files give, where it tells them
 abbrev pub AreOfFiles : Option (List SourceFile) → List FloorRead → Type 0
-AreOfFiles told reads = IfSome told (λ files. All (λ r. MayAnswer (file_at files r.path) r.answer) reads)
+AreOfFiles told reads =
+    IfSome told (λ files. All (λ r. MayAnswer (file_at files r.path) r.answer) reads)
 
 -- some reads of this floor, which it has logged where it tells
 abbrev pub Reads : FloorTold → FloorTold → (List FloorRead → Type 0) → Type 0
-Reads before after P = (reads : List FloorRead) × Adds reads before.log after.log × AreOfFiles before.files reads × P reads
+Reads before after P = (reads : List FloorRead) × Adds reads before.log after.log
+    × AreOfFiles before.files reads × P reads
 
 -- the fault of a step, or none
 abbrev pub end_of : {T : Type 0} → Result T RunFault → Option RunFault
@@ -31,8 +33,10 @@ UnlessBefore (Some (fault.NoMemory when)) P = when ≡ stage.Before
 UnlessBefore end P = P
 
 -- The floor's reads led to this result, or memory was wanted.
-abbrev pub Leads : {T : Type 0} → FloorTold → FloorTold → Result T RunFault → (List FloorRead → Result T RunFault → Type 0) → Type 0
-Leads before after result P = UnlessBefore (end_of result) (Reads before after (λ reads. P reads result))
+abbrev pub Leads : {T : Type 0} → FloorTold → FloorTold → Result T RunFault
+    → (List FloorRead → Result T RunFault → Type 0) → Type 0
+Leads before after result P =
+    UnlessBefore (end_of result) (Reads before after (λ reads. P reads result))
 
 -- the floor failed
 abbrev pub IsFloorFailed : Option RunFault → Type 0

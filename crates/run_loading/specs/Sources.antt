@@ -25,20 +25,23 @@ SourcesRead paths reads (Ok sources) = AllFound paths reads (held sources)
 SourcesRead paths reads (Err f) = OnLost f (FirstLost paths reads)
 
 -- Behind the files that are there already these were found, those of the paths that are new.
-pub record NewFound (before : List SourceFile) (paths : List (List ℕ)) (after : List SourceFile) (reads : List FloorRead) : Type 0 where
+pub record NewFound (before : List SourceFile) (paths : List (List ℕ)) (after : List SourceFile)
+    (reads : List FloorRead) : Type 0 where
   pub files : List SourceFile
   pub grown : after ≡ before ++ files
   pub made : reads ≡ map found_read files
   pub in_order : with_paths (paths_of before) paths ≡ paths_of after
 
 -- Behind the files that are there already some were found, and then this new path was not.
-pub record NewLost (before : List SourceFile) (paths : List (List ℕ)) (reads : List FloorRead) (path : List ℕ) (answer : Read) : Type 0 where
+pub record NewLost (before : List SourceFile) (paths : List (List ℕ)) (reads : List FloorRead)
+    (path : List ℕ) (answer : Read) : Type 0 where
   pub files : List SourceFile
   pub later : List (List ℕ)
   pub made : reads ≡ map found_read files ++ one_read path answer
   pub in_order : with_paths (paths_of before) paths ≡ paths_of (before ++ files) ++ path ∷ later
 
 -- what the reads of those of these paths that are new lead to
-abbrev pub ReadsOn : List SourceFile → List (List ℕ) → List SourceFile → List FloorRead → Result (Unit {0}) RunFault → Type 0
+abbrev pub ReadsOn : List SourceFile → List (List ℕ) → List SourceFile → List FloorRead
+    → Result (Unit {0}) RunFault → Type 0
 ReadsOn before paths after reads (Ok done) = NewFound before paths after reads
 ReadsOn before paths after reads (Err f) = OnLost f (NewLost before paths reads)

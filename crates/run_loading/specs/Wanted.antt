@@ -51,12 +51,14 @@ abbrev pub found_read : SourceFile → FloorRead
 found_read file = record { path = file.path; answer = read.Found file.bytes }
 
 -- These are all the reads: one of each path, in order, and it found this file.
-pub record AllFound (paths : List (List ℕ)) (reads : List FloorRead) (files : List SourceFile) : Type 0 where
+pub record AllFound (paths : List (List ℕ)) (reads : List FloorRead)
+    (files : List SourceFile) : Type 0 where
   pub made : reads ≡ map found_read files
   pub in_order : paths ≡ paths_of files
 
 -- These are all the reads: one of each path, in order, up to this one, which was not found.
-pub record FirstLost (paths : List (List ℕ)) (reads : List FloorRead) (path : List ℕ) (answer : Read) : Type 0 where
+pub record FirstLost (paths : List (List ℕ)) (reads : List FloorRead) (path : List ℕ)
+    (answer : Read) : Type 0 where
   pub files : List SourceFile
   pub later : List (List ℕ)
   pub made : reads ≡ map found_read files ++ one_read path answer

@@ -30,7 +30,8 @@ origin_of (Some m) bytes = origin.Made m.action m.output
 origin_of None bytes = origin.Source bytes
 
 abbrev pub work_input : Makers → List SourceFile → List ℕ → WorkInput
-work_input makers files path = record { path = path; origin = origin_of (makers path) (bytes_at files path) }
+work_input makers files path =
+    record { path = path; origin = origin_of (makers path) (bytes_at files path) }
 
 abbrev pub work_inputs : Makers → List SourceFile → ListAction → List WorkInput
 work_inputs makers files x = map (work_input makers files) x.inputs
@@ -47,7 +48,8 @@ source_files inputs = filter_map (λ i. file_from i.path i.origin) inputs
 
 -- The words of an action's request, expanded over its own source files. A remote action has none.
 abbrev pub due_words : ListAction → List WorkInput → Result (List (List ℕ)) FlagFault
-due_words x inputs = if has_local x.strategy then expansion (request_words x.argv) (source_files inputs) else Ok []
+due_words x inputs =
+    if has_local x.strategy then expansion (request_words x.argv) (source_files inputs) else Ok []
 
 abbrev pub work_action : ListAction → List WorkInput → List (List ℕ) → WorkAction
 work_action x inputs words = record {
@@ -58,7 +60,8 @@ work_action x inputs words = record {
   inputs = inputs;
 }
 
-abbrev pub with_words : ListAction → List WorkInput → Result (List (List ℕ)) FlagFault → Result WorkAction FlagFault
+abbrev pub with_words : ListAction → List WorkInput → Result (List (List ℕ)) FlagFault
+    → Result WorkAction FlagFault
 with_words x inputs (Ok words) = Ok (work_action x inputs words)
 with_words x inputs (Err f) = Err f
 
@@ -72,7 +75,8 @@ due_work makers files x = work_by x (work_inputs makers files x)
 -- ---- answers
 
 -- This is the first fault, of the action with this number; want of memory is none.
-pub record IsFirstFault (dues : List (Result WorkAction FlagFault)) (number : ℕ) (f : FlagFault) : Type 0 where
+pub record IsFirstFault (dues : List (Result WorkAction FlagFault)) (number : ℕ)
+    (f : FlagFault) : Type 0 where
   pub earlier : List WorkAction
   pub later : List (Result WorkAction FlagFault)
   pub stands : dues ≡ map (λ w. Ok w) earlier ++ Err f ∷ later

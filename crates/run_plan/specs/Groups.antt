@@ -1,4 +1,5 @@
--- The plan's groups and berths: which group runs a branch, which berths it has, and how much room a line has.
+-- The plan's groups and berths: which group runs a branch, which berths it has, and how much room a
+-- line has.
 use Rattle.std.specs.Prelude.{ℕ, ◌+◌, ◌-◌, nat_lt, Bool, true, false, Option, Some, None, unwrap_or, option_map, option_and_then, if◌then◌else◌, List, [], ◌∷◌, slice_get, sum_by, take}
 use Rattle.run_plan.specs.declared.plan.Branch.{Branch}
 use Rattle.run_plan.specs.declared.plan.Branch.TheVariants.{Local, Remote}
@@ -33,7 +34,9 @@ berths_of p g = unwrap_or (option_map (λ x. x.berths) (slice_get p.groups g)) 0
 
 -- the kind of the berth's group
 abbrev pub kind_of : Plan → ℕ → Kind
-kind_of p w = unwrap_or (option_map (λ g. g.kind) (option_and_then (λ k. slice_get p.groups k) (berth_group p w))) kind.Single
+kind_of p w = unwrap_or
+    (option_map (λ g. g.kind)
+    (option_and_then (λ k. slice_get p.groups k) (berth_group p w))) kind.Single
 
 abbrev pub has_cancellation : Plan → ℕ → Bool
 has_cancellation p g = unwrap_or (option_map (λ x. x.cancel) (slice_get p.groups g)) false

@@ -20,16 +20,20 @@ are_different _ _ = true
 abbrev pub has_branches : ℕ → PlanAction → Bool
 has_branches groups x =
     (is_some x.local || is_some x.remote)
-    && ((names_group groups x.local && names_group groups x.remote) && are_different x.local x.remote)
+    && ((names_group groups x.local && names_group groups x.remote)
+    && are_different x.local x.remote)
 
 -- a made input is an output of an earlier action
 abbrev pub is_earlier : List PlanAction → ℕ → Maker → Bool
 is_earlier actions a m =
-    nat_lt m.action a && unwrap_or (option_map (λ x. nat_lt m.output (length x.outputs)) (slice_get actions m.action)) false
+    nat_lt m.action a
+    && unwrap_or (option_map (λ x. nat_lt m.output (length x.outputs))
+    (slice_get actions m.action)) false
 
 abbrev pub is_sound_action : Plan → ℕ → PlanAction → Bool
 is_sound_action p a x =
-    nat_lt (length x.outputs) (2 ^ 32) && (has_branches (length p.groups) x && list_all (is_earlier p.actions a) x.makers)
+    nat_lt (length x.outputs) (2 ^ 32)
+    && (has_branches (length p.groups) x && list_all (is_earlier p.actions a) x.makers)
 
 -- each of the actions from a on
 abbrev pub are_sound_from : Plan → ℕ → List PlanAction → Bool

@@ -84,7 +84,8 @@ Runs end asks [] = EndsHere end asks
 Runs end [] (c ∷ log) = ⊥
 Runs end (a ∷ asks) (c ∷ log) = (asked c ≡ a) × GoesOn end (went_well c) log (Runs end asks log)
 
--- These calls were made on the berth. They stand at the end of its log, and its count rose where one failed.
+-- These calls were made on the berth. They stand at the end of its log, and its count rose where
+-- one failed.
 pub record Made (calls : List BerthCall) (Failed : Type 0) (old new : BerthTold) : Type 0 where
   pub log : Adds calls old.log new.log
   pub count : Counts old.faults new.faults Failed
@@ -97,4 +98,5 @@ IsStopped Cut = ⊥
 
 -- some first of these calls were made on the berth, and they ended so
 abbrev pub MakesRun : RunEnd → List Asked → BerthTold → BerthTold → Type 0
-MakesRun end asks old new = (calls : List BerthCall) × Runs end asks calls × Made calls (IsStopped end) old new
+MakesRun end asks old new =
+    (calls : List BerthCall) × Runs end asks calls × Made calls (IsStopped end) old new

@@ -25,8 +25,8 @@ in_room room.Whole path = path
 in_room room.Shared path = path
 in_room (room.Part number) path = part_of number ++ 47 ∷ path
 
--- What is cleared: all, each output, or the request's folder. That folder is made anew, so that a worker finds it
--- also where it has no file yet.
+-- What is cleared: all, each output, or the request's folder. That folder is made anew, so that a
+-- worker finds it also where it has no file yet.
 abbrev pub clear_asks : Room → List (List ℕ) → List Asked
 clear_asks room.Whole outputs = Clear [] ∷ []
 clear_asks room.Shared outputs = map Clear outputs
@@ -64,7 +64,8 @@ gather_asks room outputs = map (get_ask room) outputs
 -- what looks gave, after these files
 abbrev pub gathered_after : ℕ → List (List ℕ) → List BerthCall → Gathered
 gathered_after k files [] = gathered.Files files
-gathered_after k files (call.Get path (read.Found bytes) ∷ log) = gathered_after (k + 1) (files ++ bytes ∷ []) log
+gathered_after k files (call.Get path (read.Found bytes) ∷ log) =
+    gathered_after (k + 1) (files ++ bytes ∷ []) log
 gathered_after k files (call.Get path read.Absent ∷ log) = gathered.Missing k
 gathered_after k files (_ ∷ log) = gathered.RoomFault
 
@@ -87,10 +88,12 @@ IsRoomFault (Ok (gathered.Missing k)) = ⊥
 IsRoomFault (Ok gathered.RoomFault) = Unit {0}
 IsRoomFault (Err e) = ⊥
 
--- The outputs were looked at, up to the first that wasn't found, and the answer says what was found.
+-- The outputs were looked at, up to the first that wasn't found, and the answer says what was
+-- found.
 abbrev pub MakesLooks : List Asked → Result Gathered NoMemory → BerthTold → BerthTold → Type 0
 MakesLooks asks result old new =
-    (calls : List BerthCall) × Runs (gather_end result) asks calls × Gives result calls × Made calls (IsRoomFault result) old new
+    (calls : List BerthCall) × Runs (gather_end result) asks calls × Gives result calls
+    × Made calls (IsRoomFault result) old new
 
 -- There is a file for each output, or an output is named that there is.
 abbrev pub FitsOutputs : ℕ → Result Gathered NoMemory → Type 0

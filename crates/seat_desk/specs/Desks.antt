@@ -1,5 +1,5 @@
--- What the calls of a desk ask and give, said of views and of the functions that give a machine its meaning.
--- Their words for passes stand in Passes.
+-- What the calls of a desk ask and give, said of views and of the functions that give a machine its
+-- meaning. Their words for passes stand in Passes.
 use Rattle.std.specs.Prelude.{◌≡◌, ◌⊎◌, ℕ, ◌≤◌, ◌%◌, ◌^◌, Bool, false, List, [], ◌∷◌, ◌++◌, Option, Some, None}
 use Rattle.atomic_table.specs.Table.{Me}
 use Rattle.seat_desk.specs.declared.entry.Entry.{Entry}
@@ -66,14 +66,17 @@ module _ {C R : Type 0} where
       → List (Entry C R) → Type 0
   Follows {W} {G} meets next short keeps comes_out lane h work reply good reply' good' work' h' =
       (meets work reply good None work' × (reply' ≡ reply) × (good' ≡ None) × (h' ≡ h))
-      ⊎ ((call : C) × (put : Option G) × meets work reply good (Some (call, put)) work' × (reply' ≡ next h lane call) × (short reply' ≡ false)
+      ⊎ ((call : C) × (put : Option G) × meets work reply good (Some (call, put)) work'
+      × (reply' ≡ next h lane call) × (short reply' ≡ false)
       × comes_out h lane call reply' good' × (h' ≡ after keeps h (entry lane call reply')))
 
-  -- the same for whatever reply and good the first call of a turn may get, after what its pass has seen
+  -- the same for whatever reply and good the first call of a turn may get, after what its pass has
+  -- seen
   abbrev pub MayThen : {W S G : Type 0} → FactOfWork W C R G → (S → List (Entry C R) → Type 0)
       → ReplyAfter C R → (R → Bool) → FactOfCall C R → (Entry C R → Bool) → FactOfCall C R
       → FactOfGoodIn C R G → FactOfGoodOut C R G → ℕ → List (Entry C R) → C → W → Type 0
-  MayThen {W} {S} {G} meets stands next short may_be_short keeps paid goes_in comes_out lane seen call work =
+  MayThen {W} {S} {G} meets stands next short may_be_short keeps paid goes_in comes_out lane seen
+      call work =
       (h rest : List (Entry C R)) (m : S) (reply : R) (good : Option G) → h ≡ seen ++ rest
       → calls_by lane rest ≡ []
       → stands m (after keeps h (entry lane call reply))
@@ -81,17 +84,20 @@ module _ {C R : Type 0} where
       → MayFollow meets paid goes_in lane (after keeps h (entry lane call reply)) work reply good
 
 module _ {C R Q : Type 0} where
-  -- the pass has seen the history h, with the entry where it is kept, and `mine` has grown by that entry
+  -- the pass has seen the history h, with the entry where it is kept, and `mine` has grown by that
+  -- entry
   abbrev pub Grows : (Entry C R → Bool) → ℕ → View C R Q → List (Entry C R) → Entry C R → View C R Q
       → Type 0
   Grows keeps lane v h e w = (w.seen ≡ after keeps h e) × (w.mine ≡ after keeps v.mine e)
 
-  -- the reply is the machine's at a point h of the history, which goes on from what the pass had seen, and for which some machine stands
+  -- the reply is the machine's at a point h of the history, which goes on from what the pass had
+  -- seen, and for which some machine stands
   abbrev pub Answers : {S : Type 0} → (S → List (Entry C R) → Type 0) → ReplyAfter C R → (R → Bool)
       → FactOfCall C R → (Entry C R → Bool) → {G : Type 0} → FactOfGoodOut C R G
       → ℕ → View C R Q → C → R → Option G → View C R Q → Type 0
   Answers stands next short may_be_short keeps comes_out lane v call reply good w =
-      (h : List (Entry C R)) × GoesOn lane v.seen h × IsReply next short may_be_short h lane call reply
+      (h : List (Entry C R)) × GoesOn lane v.seen h
+      × IsReply next short may_be_short h lane call reply
       × Grows keeps lane v h (entry lane call reply) w × comes_out h lane call reply good
       × SomeStands stands h
 
@@ -101,12 +107,15 @@ module _ {C R Q : Type 0} where
       → ReplyAfter C R → (R → Bool) → FactOfCall C R → (Entry C R → Bool)
       → FactOfGoodOut C R G → FactOfHint S R → ℕ → View C R Q → C → W → R → Option G → W
       → View C R Q → ℕ → Type 0
-  AnswersThen {W} {S} {G} meets stands next short may_be_short keeps comes_out hints lane v call work
+  AnswersThen {W} {S} {G} meets stands next short may_be_short keeps comes_out hints lane v call
+      work
       reply' good' work' w lanes =
       (h : List (Entry C R)) × (reply : R) × (good : Option G) × GoesOn lane v.seen h
       × IsReply next short may_be_short h lane call reply × comes_out h lane call reply good
-      × Follows meets next short keeps comes_out lane (after keeps h (entry lane call reply)) work reply good reply' good' work' w.seen
+      × Follows meets next short keeps comes_out lane
+      (after keeps h (entry lane call reply)) work reply good reply' good' work' w.seen
       × (calls_by lane w.seen ≡ w.mine)
       × ((news : List (Entry C R)) × (w.seen ≡ h ++ news) × (w.mine ≡ v.mine ++ news))
       × SomeStands stands h
-      × HintsBoth stands hints lane (after keeps h (entry lane call reply)) reply w.seen reply' lanes
+      × HintsBoth stands hints lane
+      (after keeps h (entry lane call reply)) reply w.seen reply' lanes

@@ -10,15 +10,18 @@ module _ {M C R : Type 0} where
   abbrev pub log_of : Held M C R → List (Entry C R)
   log_of y = y.history.items
 
-  -- there is room for the call's entry and for what the machine owes after it: room for three more than it owes now, or the call was paid for
+  -- there is room for the call's entry and for what the machine owes after it: room for three more
+  -- than it owes now, or the call was paid for
   abbrev pub HasRoom : (List (Entry C R) → ℕ) → FactOfCall C R → ℕ → C → Held M C R → Type 0
   HasRoom owes paid lane call y =
       (vec_len y.history + owes y.history.items + 3 ≤ vec_capacity y.history)
       ⊎ (paid y.history.items lane call)
 
-  -- the machine has the rules q and stands for the history, which has room for what the machine owes
+  -- the machine has the rules q and stands for the history, which has room for what the machine
+  -- owes
   abbrev pub IsGood : {Q : Type 0} → (M → Q) → (M → List (Entry C R) → Type 0)
       → (Q → List (Entry C R) → ℕ) → Q → Held M C R → Type 0
   IsGood {Q} rules stands owes q y =
       stands y.machine y.history.items
-      × (vec_len y.history + owes q y.history.items ≤ vec_capacity y.history) × (rules y.machine ≡ q)
+      × (vec_len y.history + owes q y.history.items ≤ vec_capacity y.history)
+      × (rules y.machine ≡ q)

@@ -56,13 +56,15 @@ module _ {C R : Type 0} where
   GoesOn lane seen h = (rest : List (Entry C R)) × (h ≡ seen ++ rest) × (calls_by lane rest ≡ [])
 
 -- What a call of a machine asks and gives, whatever history the machine stands for.
-module _ {S C R G : Type 0} (stands : S → List (Entry C R) → Type 0) (goes_in : FactOfGoodIn C R G) where
+module _ {S C R G : Type 0} (stands : S → List (Entry C R) → Type 0)
+    (goes_in : FactOfGoodIn C R G) where
   -- the good suits the call, after a history that the machine stands for
   abbrev pub Ready : S → ℕ → C → Option G → Type 0
   Ready m lane call put = (h : List (Entry C R)) × stands m h × goes_in h lane call put
 
   -- the reply is the one after each history that the machine stands for
-  abbrev pub Replies : ReplyAfter C R → (R → Bool) → FactOfCall C R → S → ℕ → C → Option G → R → Type 0
+  abbrev pub Replies : ReplyAfter C R → (R → Bool) → FactOfCall C R → S → ℕ → C → Option G → R
+      → Type 0
   Replies next short may_be_short m lane call put r =
       (h : List (Entry C R)) → stands m h → goes_in h lane call put
       → IsReply next short may_be_short h lane call r
@@ -79,7 +81,8 @@ module _ {S C R G : Type 0} (stands : S → List (Entry C R) → Type 0) (goes_i
       (h : List (Entry C R)) → stands m h → goes_in h lane call put → comes_out h lane call r good
 
 -- n is what is owed after each history that the machine stands for
-abbrev pub Owes : {S C R : Type 0} → (S → List (Entry C R) → Type 0) → (List (Entry C R) → ℕ) → S → ℕ
+abbrev pub Owes : {S C R : Type 0} → (S → List (Entry C R) → Type 0) → (List (Entry C R) → ℕ) → S
+    → ℕ
     → Type 0
 Owes {S} {C} {R} stands owes m n = (h : List (Entry C R)) → stands m h → n ≡ owes h
 
@@ -106,5 +109,6 @@ HintsBoth {S} {C} {R} stands hints lane h reply h' reply' lanes =
     × SomeHints stands hints h' lane reply' second × (lanes ≡ bit_or first second)
 
 -- some machine stands for the history
-abbrev pub SomeStands : {S C R : Type 0} → (S → List (Entry C R) → Type 0) → List (Entry C R) → Type 0
+abbrev pub SomeStands : {S C R : Type 0} → (S → List (Entry C R) → Type 0) → List (Entry C R)
+    → Type 0
 SomeStands {S} {C} {R} stands h = (m : S) × stands m h

@@ -52,7 +52,8 @@ module _ {M C R G Q : Type 0} {g : Ghosts M C R G Q} where
   IsSameRoot r r' =
       (r'.seat.table_id ≡ r.seat.table_id) × (r'.made ≡ r.made) × (root_rules r' ≡ root_rules r)
 
-  -- the root of a desk whose machine has these rules: it has split no pass, seen nothing and joined nothing
+  -- the root of a desk whose machine has these rules: it has split no pass, seen nothing and joined
+  -- nothing
   abbrev pub IsNewRoot : Q → Root M C R G Q g → Type 0
   IsNewRoot rules r = (r.made ≡ 0) × (r.seat.me.0 ≡ first_view rules)
 
@@ -62,10 +63,12 @@ module _ {M C R G Q : Type 0} {g : Ghosts M C R G Q} where
       (r'.seat.table_id ≡ r.seat.table_id) × (r'.made ≡ r.made + 1)
       × (r'.seat.me.0 ≡ root_after_split r.seat.me.0)
 
-  -- the pass is of the root's desk and of the next lane, has seen what the root has, and made no call
+  -- the pass is of the root's desk and of the next lane, has seen what the root has, and made no
+  -- call
   abbrev pub IsNewPass : Root M C R G Q g → Pass M C R G Q g → Type 0
   IsNewPass r p =
-      (p.seat.table_id ≡ r.seat.table_id) × (p.lane ≡ r.made) × (p.seat.me.0 ≡ new_pass_view r.seat.me.0)
+      (p.seat.table_id ≡ r.seat.table_id) × (p.lane ≡ r.made)
+      × (p.seat.me.0 ≡ new_pass_view r.seat.me.0)
 
   -- this may go in with the call, a good or none, after what the pass has seen
   abbrev pub Suits : Pass M C R G Q g → C → Option G → Type 0
@@ -75,7 +78,8 @@ module _ {M C R G Q : Type 0} {g : Ghosts M C R G Q} where
   abbrev pub IsPaidFor : Pass M C R G Q g → C → Type 0
   IsPaidFor p call = g.paid (rules p) (seen p) p.lane call
 
-  -- the call was made in one turn, by the rules of the machine: the reply is its reply at a point of the history that begins with all that the pass had seen, and for which some machine stands
+  -- the call was made in one turn, by the rules of the machine: the reply is its reply at a point
+  -- of the history that begins with all that the pass had seen, and for which some machine stands
   abbrev pub MakesCall : Pass M C R G Q g → C → R → Option G → Pass M C R G Q g → Type 0
   MakesCall p call reply good p' =
       Answers (StandsUnder g.rules g.stands (rules p)) (g.next (rules p)) g.short
@@ -85,7 +89,8 @@ module _ {M C R G Q : Type 0} {g : Ghosts M C R G Q} where
   -- the same, and the reply is not short
   abbrev pub MakesPaidCall : Pass M C R G Q g → C → R → Option G → Pass M C R G Q g → Type 0
   MakesPaidCall p call reply good p' =
-      Answers (StandsUnder g.rules g.stands (rules p)) (g.next (rules p)) g.short (λ _ _ _. ⊥) g.keeps
+      Answers (StandsUnder g.rules g.stands (rules p)) (g.next (rules p)) g.short
+      (λ _ _ _. ⊥) g.keeps
       (g.comes_out (rules p)) p.lane p.seat.me.0 call reply good p'.seat.me.0
 
   -- the pass stirs the lanes at which the machine hints after this reply
@@ -93,15 +98,18 @@ module _ {M C R G Q : Type 0} {g : Ghosts M C R G Q} where
   Stirs p reply p' =
       SomeHints (StandsUnder g.rules g.stands (rules p)) g.hints (seen p') p.lane reply p'.stirs
 
-  -- no call was made: the history that the pass has seen may have grown by calls of other lanes, and its own list stays
+  -- no call was made: the history that the pass has seen may have grown by calls of other lanes,
+  -- and its own list stays
   abbrev pub MakesNoCall : Pass M C R G Q g → Pass M C R G Q g → Type 0
   MakesNoCall p p' = GoesOn p.lane (seen p) (seen p') × (mine p' ≡ mine p)
 
-  -- whatever the work answers to the call's reply is paid for by the history with the call's entry, and its good suits there
+  -- whatever the work answers to the call's reply is paid for by the history with the call's entry,
+  -- and its good suits there
   abbrev pub MayMakeThen : {W : Type 0} → FactOfWork W C R G → Pass M C R G Q g → C → W → Type 0
   MayMakeThen meets p call work =
       MayThen meets (StandsUnder g.rules g.stands (rules p)) (g.next (rules p)) g.short
-      (g.may_be_short (rules p)) g.keeps (g.paid (rules p)) (g.goes_in (rules p)) (g.comes_out (rules p))
+      (g.may_be_short (rules p)) g.keeps (g.paid (rules p)) (g.goes_in (rules p))
+          (g.comes_out (rules p))
       p.lane (seen p) call work
 
   -- The call, and the one that the work answered, were made in one turn, at such a point of the
@@ -110,5 +118,6 @@ module _ {M C R G Q : Type 0} {g : Ghosts M C R G Q} where
       → Option G → W → Pass M C R G Q g → Type 0
   MakesCallThen meets p call work reply good work' p' =
       AnswersThen meets (StandsUnder g.rules g.stands (rules p)) (g.next (rules p)) g.short
-      (g.may_be_short (rules p)) g.keeps (g.comes_out (rules p)) g.hints p.lane p.seat.me.0 call work
+      (g.may_be_short (rules p)) g.keeps
+          (g.comes_out (rules p)) g.hints p.lane p.seat.me.0 call work
       reply good work' p'.seat.me.0 p'.stirs

@@ -1,7 +1,7 @@
--- The rule of the desk's table, and what each step on it tells.
---
--- Word 0 is the number of tickets drawn, word 1 the number of turns that have ended, both modulo 2^64, and the slot has the machine with its history.
--- So a ticket is served where word 1 is its number. The slot is out with the seat whose ticket is served, or at home.
+-- The rule of the desk's table, and what each step on it tells.  Word 0 is the number of tickets
+-- drawn, word 1 the number of turns that have ended, both modulo 2^64, and the slot has the machine
+-- with its history. So a ticket is served where word 1 is its number. The slot is out with the seat
+-- whose ticket is served, or at home.
 use Rattle.std.specs.Prelude.{◌≡◌, ◌≢◌, ℕ, ◌+◌, ◌%◌, ◌^◌, ◌<◌, ◌≤◌, Bool, true, false, List, [], ◌∷◌, ◌++◌, length, Option, Some}
 use mathlib.Core.Option as maybe
 use lib.ListN.{get_elem?}
@@ -53,43 +53,52 @@ module _ {C R Q : Type 0} where
   -- the first seat, at a machine of the rules q
   abbrev pub first_view : Q → View C R Q
   first_view q =
-      record { role = Root 0; rules = q; stage = Idle; seen = []; told = []; mine = []; joined = [] }
+      record { role = Root 0; rules = q; stage = Idle; seen = []; told = []; mine = []; joined = []
+      }
 
   -- the view at this place in the line
   abbrev pub view_at : View C R Q → Stage → View C R Q
   view_at v stage =
       record
-      { role = v.role; rules = v.rules; stage = stage; seen = v.seen; told = v.told; mine = v.mine; joined = v.joined }
+      { role = v.role; rules = v.rules; stage = stage; seen = v.seen; told = v.told; mine = v.mine;
+          joined = v.joined }
 
   -- the view in its turn, where the history is h
   abbrev pub view_in_turn : View C R Q → ℕ → List (Entry C R) → View C R Q
   view_in_turn v t h =
       record
-      { role = v.role; rules = v.rules; stage = Turn t; seen = h; told = v.told; mine = v.mine; joined = v.joined }
+      { role = v.role; rules = v.rules; stage = Turn t; seen = h; told = v.told; mine = v.mine;
+          joined = v.joined }
 
   -- the view after a turn of the lane k that left the history h
   abbrev pub view_after_turn : View C R Q → ℕ → List (Entry C R) → View C R Q
   view_after_turn v k h =
       record
-      { role = v.role; rules = v.rules; stage = Idle; seen = h; told = v.told; mine = calls_by k h; joined = v.joined }
+      { role = v.role; rules = v.rules; stage = Idle; seen = h; told = v.told; mine = calls_by k h;
+          joined = v.joined }
 
   -- the view where the history is h
   abbrev pub view_with : View C R Q → List (Entry C R) → View C R Q
   view_with v h =
       record
-      { role = v.role; rules = v.rules; stage = v.stage; seen = h; told = v.told; mine = v.mine; joined = v.joined }
+      { role = v.role; rules = v.rules; stage = v.stage; seen = h; told = v.told; mine = v.mine;
+          joined = v.joined }
 
   -- the root after one more split
   abbrev pub root_after_split : View C R Q → View C R Q
   root_after_split v =
       record
-      { role = Root (passes_made v.role + 1); rules = v.rules; stage = v.stage; seen = v.seen; told = v.told; mine = v.mine; joined = v.joined }
+      { role = Root
+          (passes_made v.role + 1); rules = v.rules; stage = v.stage; seen = v.seen; told = v.told;
+          mine = v.mine; joined = v.joined }
 
   -- the new pass, which has seen what the root has
   abbrev pub new_pass_view : View C R Q → View C R Q
   new_pass_view v =
       record
-      { role = Lane (passes_made v.role); rules = v.rules; stage = Idle; seen = v.seen; told = []; mine = []; joined = [] }
+      { role = Lane
+          (passes_made v.role); rules = v.rules; stage = Idle; seen = v.seen; told = []; mine = [];
+          joined = [] }
 
   -- the lane of a pass, with its calls
   abbrev pub joined_of : View C R Q → Joined C R
@@ -99,7 +108,8 @@ module _ {C R Q : Type 0} where
   abbrev pub root_after_join : View C R Q → View C R Q → View C R Q
   root_after_join v w =
       record
-      { role = v.role; rules = v.rules; stage = v.stage; seen = v.seen; told = w.seen; mine = v.mine; joined = v.joined ++ joined_of w ∷ [] }
+      { role = v.role; rules = v.rules; stage = v.stage; seen = v.seen; told = w.seen; mine =
+          v.mine; joined = v.joined ++ joined_of w ∷ [] }
 
   -- what is left of a pass that was joined
   abbrev pub view_gone : Q → View C R Q
@@ -147,7 +157,8 @@ module _ {C R Q : Type 0} (rules : Q) (log : List (Entry C R)) (joined : List (J
   Plays (Lane k) = (seat ≡ k + 1) × (calls_by k log ≡ v.mine) × Apart k joined × (v.rules ≡ rules)
   Plays Gone = v.stage ≡ Idle
 
--- H is what lies in the slot, log_of its history, and good what holds of it under the rules of the machine
+-- H is what lies in the slot, log_of its history, and good what holds of it under the rules of the
+-- machine
 module _ {H C R Q : Type 0} (log_of : H → List (Entry C R)) (good : Q → H → Type 0) where
   -- the slot is out with the seat that is served (busy), or at home with the history so far
   abbrev pub Lies : Q → Bool → List (Entry C R) → List (maybe.Option (Option (H))) → Type 0
@@ -155,7 +166,8 @@ module _ {H C R Q : Type 0} (log_of : H → List (Entry C R)) (good : Q → H �
   Lies rules false log homes =
       (y : H) × (homes ≡ maybe.some (Some y) ∷ []) × (log_of y ≡ log) × good rules y
 
-  -- the rule: there are a history, numbers of tickets and an owner of each ticket for which all of this holds
+  -- the rule: there are a history, numbers of tickets and an owner of each ticket for which all of
+  -- this holds
   pub record Kept (s : State (Option (H)) (View C R Q)) : Type 0 where
     -- what the machine goes by
     pub rules : Q
@@ -195,27 +207,33 @@ module _ {H C R Q : Type 0} (log_of : H → List (Entry C R)) (good : Q → H �
   abbrev pub TellsDraw : SeatState → ℕ → SeatState → Type 0
   TellsDraw m n m' = (m'.1 ≡ m.1) × ((t : ℕ) × (t % 2 ^ 64 ≡ n) × (m'.0 ≡ view_at m.0 (Waits t)))
 
-  -- the history that was found in the slot: it begins with all that was seen, and of this lane it has just its own calls
+  -- the history that was found in the slot: it begins with all that was seen, and of this lane it
+  -- has just its own calls
   abbrev pub Finds : View C R Q → H → Type 0
   Finds v y =
       good v.rules y × StartsWith (log_of y) v.seen
       × ((k : ℕ) → v.role ≡ Lane k → calls_by k (log_of y) ≡ v.mine)
 
-  -- looking at the served word: where it is the seat's ticket, the slot is taken, and else nothing changes
+  -- looking at the served word: where it is the seat's ticket, the slot is taken, and else nothing
+  -- changes
   abbrev pub TellsLook : SeatState → ℕ → SeatState → Type 0
   TellsLook m n m' = (t : ℕ) → m.0.stage ≡ Waits t
-      → (n ≡ t % 2 ^ 64 → (y : H) × Finds m.0 y × (m'.0 ≡ view_in_turn m.0 t (log_of y)) × (m'.1 ≡ (0, Some y) ∷ m.1))
+      → (n ≡ t % 2 ^ 64 → (y : H) × Finds m.0 y × (m'.0 ≡ view_in_turn m.0 t (log_of y))
+      × (m'.1 ≡ (0, Some y) ∷ m.1))
       × (n ≢ t % 2 ^ 64 → m' ≡ m)
 
   -- ending the turn: the slot is at home, and the pass has seen the history that the turn left
   abbrev pub TellsEnd : SeatState → ℕ → SeatState → Type 0
   TellsEnd m n m' =
       (m'.1 ≡ [])
-      × ((k : ℕ) (y : H) → m.0.role ≡ Lane k → m.1 ≡ (0, Some y) ∷ [] → m'.0 ≡ view_after_turn m.0 k (log_of y))
+      × ((k : ℕ) (y : H) → m.0.role ≡ Lane k → m.1 ≡ (0, Some y) ∷ []
+      → m'.0 ≡ view_after_turn m.0 k (log_of y))
 
-  -- the root sees the history so far: it begins with all that it had seen and was told of, and no later lane has a call in it
+  -- the root sees the history so far: it begins with all that it had seen and was told of, and no
+  -- later lane has a call in it
   abbrev pub TellsGather : SeatState → ℕ → SeatState → Type 0
   TellsGather m n m' =
       (m'.1 ≡ m.1)
-      × ((h : List (Entry C R)) × (m'.0 ≡ view_with m.0 h) × StartsWith h m.0.seen × StartsWith h m.0.told
+      × ((h : List (Entry C R)) × (m'.0 ≡ view_with m.0 h) × StartsWith h m.0.seen
+      × StartsWith h m.0.told
       × ((made : ℕ) → m.0.role ≡ Root made → (k : ℕ) → made ≤ k → calls_by k h ≡ []))

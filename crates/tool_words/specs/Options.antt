@@ -1,4 +1,5 @@
--- Which words are accepted, and the options that they give. Their order doesn't matter, but for that of the extra flags.
+-- Which words are accepted, and the options that they give. Their order doesn't matter, but for
+-- that of the extra flags.
 use Rattle.std.specs.Prelude.{◌≡◌, ◌≤◌, ℕ, Bool, not, is_some, ◌&&◌, ◌==◌, ◌+◌, Option, Some, None, unwrap_or, if◌then◌else◌, List, [], ◌∷◌, nat_le, codes, count_by, filter_map}
 use Rattle.std.specs.List.{list_all, list_any}
 use Rattle.tool_words.specs.declared.options.Options.{Options}
@@ -8,11 +9,13 @@ use Rattle.tool_words.specs.Words.{fits, number_in, text_in}
 
 -- every kind of word that there is
 abbrev pub kinds : List Kind
-kinds = kind.List ∷ kind.Verbose ∷ kind.Instances ∷ kind.Remote ∷ kind.Retries ∷ kind.Generate ∷ kind.Executor ∷ kind.ExtraFlag ∷ []
+kinds = kind.List ∷ kind.Verbose ∷ kind.Instances ∷ kind.Remote ∷ kind.Retries ∷ kind.Generate ∷
+    kind.Executor ∷ kind.ExtraFlag ∷ []
 
 -- the kinds that stand at most once
 abbrev pub single_kinds : List Kind
-single_kinds = kind.List ∷ kind.Verbose ∷ kind.Instances ∷ kind.Remote ∷ kind.Retries ∷ kind.Generate ∷ kind.Executor ∷ []
+single_kinds = kind.List ∷ kind.Verbose ∷ kind.Instances ∷ kind.Remote ∷ kind.Retries ∷
+    kind.Generate ∷ kind.Executor ∷ []
 
 abbrev pub count : Kind → List (List ℕ) → ℕ
 count k words = count_by (fits k) words
@@ -20,7 +23,8 @@ count k words = count_by (fits k) words
 abbrev pub is_known : List ℕ → Bool
 is_known word = list_any (λ k. fits k word) kinds
 
--- Each word is of some kind, all but the extra flags stand at most once, and there is one list or one generator.
+-- Each word is of some kind, all but the extra flags stand at most once, and there is one list or
+-- one generator.
 abbrev pub is_accepted : List (List ℕ) → Bool
 is_accepted words =
     list_all is_known words

@@ -7,7 +7,8 @@ use Rattle.tool_words.specs.declared.word.Kind.TheVariants as kind
 
 -- what stands behind this front of a word, maybe nothing
 abbrev pub after_front : List ℕ → List ℕ → Option (List ℕ)
-after_front front word = if starts_with nat_eq word front then Some (drop (length front) word) else None
+after_front front word =
+    if starts_with nat_eq word front then Some (drop (length front) word) else None
 
 abbrev pub unless_empty : Option (List ℕ) → Option (List ℕ)
 unless_empty None = None
@@ -27,14 +28,16 @@ value_of digits = fold (λ n d. 10 * n + (d - 48)) 0 digits
 
 -- one to four decimal digits
 abbrev pub is_short_number : List ℕ → Bool
-is_short_number digits = nat_le 1 (length digits) && nat_le (length digits) 4 && list_all is_digit digits
+is_short_number digits =
+    nat_le 1 (length digits) && nat_le (length digits) 4 && list_all is_digit digits
 
 -- the number, where it lies within these limits
 abbrev pub within : ℕ → ℕ → ℕ → Option ℕ
 within least most n = if nat_le least n && nat_le n most then Some n else None
 
 abbrev pub number_of : ℕ → ℕ → List ℕ → Option ℕ
-number_of least most digits = if is_short_number digits then within least most (value_of digits) else None
+number_of least most digits =
+    if is_short_number digits then within least most (value_of digits) else None
 
 -- the number behind the front of an option
 abbrev pub number_behind : List ℕ → ℕ → ℕ → List ℕ → Option ℕ

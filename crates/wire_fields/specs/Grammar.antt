@@ -1,7 +1,8 @@
--- The grammar of a varint, said of bytes and not of a reader. Protocol Buffers' encoding page, section "Base
--- 128 Varints": each byte has a continuation bit, its top bit, which says that a further byte belongs to the
--- number, and a payload of seven bits; the payloads make up the number, the lowest first. A number of 64 bits
--- takes ten bytes at most, and the tenth has the one bit that nine payloads leave of 64.
+-- The grammar of a varint, said of bytes and not of a reader. Protocol Buffers' encoding page,
+-- section "Base 128 Varints": each byte has a continuation bit, its top bit, which says that a
+-- further byte belongs to the number, and a payload of seven bits; the payloads make up the number,
+-- the lowest first. A number of 64 bits takes ten bytes at most, and the tenth has the one bit that
+-- nine payloads leave of 64.
 use Rattle.std.specs.Prelude.{◌≡◌, ◌↔◌, ℕ, ◌+◌, ◌*◌, ◌%◌, ◌^◌, ◌<◌, ◌≤◌, List, [], ◌∷◌, ◌++◌, length, take, Ok, Err}
 use Rattle.std.specs.List.{AllByRecursion}
 use Rattle.wire_fields.specs.declared.varint.Varint.{Varint}
@@ -55,11 +56,13 @@ SpellsVarint bytes (Whole value used) = IsVarint (take used bytes) value
 SpellsVarint bytes Cut = IsCutVarint bytes
 SpellsVarint bytes Bad = IsBadVarint bytes
 
--- The function of the bytes that every other definition uses says what the grammar says, and what is written
--- is spelled so, in the fewest bytes.
+-- The function of the bytes that every other definition uses says what the grammar says, and what
+-- is written is spelled so, in the fewest bytes.
 pub record VarintGrammar : Type 0 where
-  pub whole : (bytes : List ℕ) (number : ℕ) (rest : List ℕ) → (varint_at bytes ≡ Ok (number, rest)) ↔ BeginsWith bytes number rest
+  pub whole : (bytes : List ℕ) (number : ℕ) (rest : List ℕ)
+      → (varint_at bytes ≡ Ok (number, rest)) ↔ BeginsWith bytes number rest
   pub cut : (bytes : List ℕ) → (varint_at bytes ≡ Err CutField) ↔ IsCutVarint bytes
   pub bad : (bytes : List ℕ) → (varint_at bytes ≡ Err BadVarint) ↔ IsBadVarint bytes
   pub written : (number : ℕ) → number < 2 ^ 64 → IsVarint (varint number) number
-  pub shortest : (bytes : List ℕ) (number : ℕ) → IsVarint bytes number → length (varint number) ≤ length bytes
+  pub shortest : (bytes : List ℕ) (number : ℕ) → IsVarint bytes number
+      → length (varint number) ≤ length bytes

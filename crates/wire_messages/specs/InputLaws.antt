@@ -1,4 +1,5 @@
--- Fields mean at most one input, a field has at most one fault, and the written form of an input spells it.
+-- Fields mean at most one input, a field has at most one fault, and the written form of an input
+-- spells it.
 use Rattle.std.specs.Prelude.{◌≡◌, ℕ, List, []}
 use Rattle.std.proofs.Common.{sym, ap, ◌∙◌, arith}
 use Rattle.wire_fields.specs.Varint.{Fault}
@@ -29,11 +30,15 @@ digests m = simp by_spans
 
 input_writable : (m : Input) → IsInputValue m → AreWritable (input_fields m)
 unfolding input_fields
-input_writable m v = AreWritable-append _ _ (bytes_writable 1 m.path (omega arith) (omega arith) v.path.1) (bytes_writable 2 m.digest (omega arith) (omega arith) v.digest)
+input_writable m v = AreWritable-append _ _
+    (bytes_writable 1 m.path (omega arith) (omega arith) v.path.1)
+    (bytes_writable 2 m.digest (omega arith) (omega arith) v.digest)
 
 input_sound : (m : Input) → IsInputValue m → IsSound input_refuses (input_fields m)
 unfolding input_fields
-input_sound m v = IsSound-append input_refuses _ _ (bytes_sound input_refuses 1 m.path (λ x r. r.1 v.path.0)) (bytes_sound input_refuses 2 m.digest (λ x r. absurd (omega (arith, r.0))))
+input_sound m v = IsSound-append input_refuses _ _
+    (bytes_sound input_refuses 1 m.path (λ x r. r.1 v.path.0))
+    (bytes_sound input_refuses 2 m.digest (λ x r. absurd (omega (arith, r.0))))
 
 pub input_again : (m : Input) → IsInputValue m → SpellsInput (spelling (input_fields m)) m
 input_again m v = record {
@@ -42,6 +47,7 @@ input_again m v = record {
   sound = input_sound m v;
   meant = record {
     path = sym (ap (λ (xs : List (List ℕ)). last_or [] xs) (paths m) ∙ last-own_bytes 1 m.path);
-    digest = sym (ap (λ (xs : List (List ℕ)). last_or [] xs) (digests m) ∙ last-own_bytes 2 m.digest);
+    digest =
+        sym (ap (λ (xs : List (List ℕ)). last_or [] xs) (digests m) ∙ last-own_bytes 2 m.digest);
   };
 }

@@ -35,7 +35,9 @@ input_spelling m = spelling (input_fields m)
 
 -- the fields that are written of a request
 unfoldable pub request_fields : WorkRequest → List WireField
-request_fields m = repeated_field 1 m.arguments ++ repeated_field 2 (map input_spelling m.inputs) ++ int32_field 3 m.request_id ++ bool_field 4 m.cancel ++ int32_field 5 m.verbosity ++ bytes_field 6 m.sandbox_dir
+request_fields m = repeated_field 1 m.arguments ++ repeated_field 2 (map input_spelling m.inputs)
+    ++ int32_field 3 m.request_id ++ bool_field 4 m.cancel ++ int32_field 5 m.verbosity
+    ++ bytes_field 6 m.sandbox_dir
 
 -- the one written form of a request
 abbrev pub request_spelling : WorkRequest → List ℕ

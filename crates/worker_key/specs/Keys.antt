@@ -51,7 +51,10 @@ letters k = protocol_letter k.json ∷ mode_letter k.mode ∷ cancel_digit k.can
 
 -- The byte strings of a key: before each list stands its length in decimal.
 abbrev pub strings : WorkerKey → List (List ℕ)
-strings k = k.mnemonic ∷ decimal (length k.startup) ∷ (k.startup ++ decimal (length k.env) ∷ (pairs k.env ++ decimal (length k.tools) ∷ (pairs k.tools ++ letters k)))
+strings k = k.mnemonic ∷ decimal (length k.startup) ∷
+    (k.startup
+    ++ decimal (length k.env) ∷
+    (pairs k.env ++ decimal (length k.tools) ∷ (pairs k.tools ++ letters k)))
 
 -- the bytes after their number, which takes eight bytes, the highest first
 unfoldable pub counted : List ℕ → List ℕ

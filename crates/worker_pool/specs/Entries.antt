@@ -64,10 +64,12 @@ pub record AreOfAction (p : Plan) (j : List Entry) (a : ℕ) (ls : List ℕ) : T
 pub record AreFaulted (p : Plan) (j : List Entry) (e : Entry) (ls : List ℕ) : Type 0 where
   pub each : (l : ℕ) (t : Attempt) → bound p j l ≡ Some t → is_among l ls ≡ is_some (fault_at t j e)
 
--- a branch that isn't wanted isn't wanted again, and one that is bound stays wanted until its action is granted or its attempt ends
+-- a branch that isn't wanted isn't wanted again, and one that is bound stays wanted until its
+-- action is granted or its attempt ends
 pub record WantedStays (p : Plan) (j : List Entry) (e : Entry) : Type 0 where
   pub unwanted : (a : ℕ) (b : Branch) → wanted p j a b ≡ false → wanted p (e ∷ j) a b ≡ false
-  pub bound_yet : (l : ℕ) (t : Attempt) → bound p j l ≡ Some t → granted (e ∷ j) t.action ≡ false → ended (e ∷ j) t ≡ false → wanted p (e ∷ j) t.action t.branch ≡ true
+  pub bound_yet : (l : ℕ) (t : Attempt) → bound p j l ≡ Some t → granted (e ∷ j) t.action ≡ false
+      → ended (e ∷ j) t ≡ false → wanted p (e ∷ j) t.action t.branch ≡ true
 
 -- each line carries what is bound to it, which isn't answered
 pub record CarriesItsBound (p : Plan) (j : List Entry) : Type 0 where
@@ -102,7 +104,8 @@ pub record IsFirstWrite (j : List Entry) (lane : ℕ) (q : Request) : Type 0 whe
   pub order : order_of j lane ≡ Some q
   pub first : wrote j q.attempt ≡ None
 
--- a request is sent once, to a line that hasn't ended, and where its attempt was launched, to the line on which it was
+-- a request is sent once, to a line that hasn't ended, and where its attempt was launched, to the
+-- line on which it was
 pub record IsSentTo (j : List Entry) (t : Attempt) (l : ℕ) : Type 0 where
   pub unended : has_ended j l ≡ false
   pub unsent : was_sent j t ≡ false

@@ -10,22 +10,28 @@ use Rattle.worker_pool.specs.declared.BerthRow.{BerthRow}
 use Rattle.worker_pool.specs.declared.LineRow.{LineRow}
 use Rattle.worker_pool.specs.Rows.{Facts, room_of}
 
--- a line's row, where it was launched: its capacity is that of its berth's group, and the rest is what the journal says of it
-abbrev pub row_of : Plan → Option (ℕ × Attempt) → Bool → Bool → Bool → Bool → Bool → ℕ → Option LineRow
+-- a line's row, where it was launched: its capacity is that of its berth's group, and the rest is
+-- what the journal says of it
+abbrev pub row_of : Plan → Option (ℕ × Attempt) → Bool → Bool → Bool → Bool → Bool → ℕ
+    → Option LineRow
 row_of p None s b e d o n = None
 row_of p (Some x) s b e d o n =
-    Some (record { capacity = capacity (kind_of p (x.0 / 2)); started = s; broken = b; ended = e; killed = d; bound = o; pending = n })
+    Some (record { capacity = capacity
+    (kind_of p (x.0 / 2)); started = s; broken = b; ended = e; killed = d; bound = o; pending = n })
 
 unfoldable pub line_in : Plan → List Entry → ℕ → Option LineRow
-line_in p j l = row_of p (launch_of j l) (started j l) (broke j l) (has_ended j l) (was_killed j l) (is_some (bound p j l)) (length (pending j l))
+line_in p j l = row_of p (launch_of j l) (started j l) (broke j l) (has_ended j l) (was_killed j l)
+    (is_some (bound p j l)) (length (pending j l))
 
 abbrev pub seat_with : Plan → ℕ → Option ℕ → Option BerthRow
-seat_with p w o = if nat_lt w (berths p) then Some (record { capacity = capacity (kind_of p w); last = o }) else None
+seat_with p w o = if nat_lt w (berths p)
+    then Some (record { capacity = capacity (kind_of p w); last = o }) else None
 
 unfoldable pub seat_in : Plan → List Entry → ℕ → Option BerthRow
 seat_in p j w = seat_with p w (last_line j w)
 
--- it has a row for each line that was launched and for each berth of the plan, as the journal has them, and the plan's room
+-- it has a row for each line that was launched and for each berth of the plan, as the journal has
+-- them, and the plan's room
 pub record Stands (p : Plan) (f : Facts) (j : List Entry) : Type 0 where
   pub room : f.room ≡ room_of p
   pub count : length f.lines ≡ line_count j
