@@ -23,7 +23,8 @@ tap_is w h = along (tap_entry w) None (tap_then w) (λ o e. refl) h []
 -- ---- how many lines there were
 
 count_along : (h : History) (j : List Entry)
-    → length (filter (λ e. is_some (launch_in e.reply)) h) + length (each (λ _ e. launch_in e.reply) j)
+    → length (filter (λ e. is_some (launch_in e.reply)) h)
+    + length (each (λ _ e. launch_in e.reply) j)
     ≡ length (each (λ _ e. launch_in e.reply) (fold (λ j e. to_entry e ∷ j) j h))
 count_along [] j = omega arith
 count_along (e ∷ h) j = by (launch_in e.reply) (count_along h (to_entry e ∷ j))

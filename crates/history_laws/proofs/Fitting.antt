@@ -1,5 +1,5 @@
--- The rules answer each call by a reply of its kind, so a call is in its lane's script exactly if it
--- isn't answered Astray.
+-- The rules answer each call by a reply of its kind, so a call is in its lane's script exactly if
+-- it isn't answered Astray.
 use Rattle.std.proofs.Common.{◌≡◌, ℕ, Bool, true, false, cond, refl, ap, sym, ◌∙◌}
 use Rattle.run_plan.specs.declared.plan.Plan.{Plan}
 use Rattle.exec_journal.specs.declared.call.Call.{Call}

@@ -1,5 +1,5 @@
--- Files are granted while the action's place lies fresh on the shelf, and committed by the lane whose
--- last grant they are.
+-- Files are granted while the action's place lies fresh on the shelf, and committed by the lane
+-- whose last grant they are.
 use Rattle.std.proofs.Common.{◌≡◌, ℕ, ◌%◌, ◌==◌, ◌<◌, Bool, true, false, cond, ◌&&◌, List, [], ◌∷◌, length, Option, Some, None, ◌⊎◌, inl, inr, refl, ap, sym, subst, ◌∙◌}
 use Rattle.std.proofs.lemmas.Bool.{and_parts, eqb-true, eq-eqb}
 use Rattle.run_plan.specs.declared.plan.Branch.{Branch}
@@ -151,7 +151,8 @@ newest_files p (e ∷ j) lane d t fs legal h is = by (owed.newest_cases e j lane
         → (last_work j lane ≡ Some d → WinsFiles p j lane t fs) → WinsFiles p (e ∷ j) lane t fs
     by (inl own) ih =
         let mine : granted_in e.call e.reply ≡ Some (t, found.Files fs) =
-        subst (λ (x : Entry). granted_in x.call x.reply ≡ Some (t, found.Files fs)) (sym own.0) is in
+        subst (λ (x : Entry). granted_in x.call x.reply ≡ Some (t, found.Files fs))
+        (sym own.0) is in
         let free = offered.is_ungranted p e j (t, found.Files fs) legal mine in record {
           granted_it = grant_new e j (t, found.Files fs) mine free.ungranted;
           claimed_it = ap (λ (b : Bool). cond b (claim_entry (claimed_in lane j) e)

@@ -1,5 +1,5 @@
--- What a request's lane may look at was made: the producer was granted files and committed them, and
--- it has a file for each of its outputs.
+-- What a request's lane may look at was made: the producer was granted files and committed them,
+-- and it has a file for each of its outputs.
 use Rattle.std.proofs.Common.{◌≡◌, ℕ, ℤ, zero, suc, ◌+◌, ◌*◌, ◌/◌, ◌%◌, ◌^◌, ◌<◌, ◌==◌, nat_lt, Bool, true, false, cond, ◌&&◌, ◌||◌, not, List, [], ◌∷◌, length, Option, Some, None, option_map, unwrap_or, ◌⊎◌, inl, inr, refl, ap, sym, subst, ◌∙◌, pos, arith}
 use Rattle.std.specs.Prelude.{slice_get}
 use Rattle.std.specs.List.{list_all, list_any}
@@ -146,7 +146,8 @@ made_files : (p : Plan) (j : List Entry) (c : ℕ) (x : PlanAction) → slice_ge
     → is_success (slice_get (standings p j) c) ≡ true → MadeFiles j c
 made_files p j c x at h =
     let stands = firm.stands_at p j c x at in
-    by_standing j c (all_dropped p j c x || is_starved x stands.front) _ _ (grant_of j c) refl refl refl
+    by_standing j c (all_dropped p j c x || is_starved x stands.front) _ _ (grant_of j c) refl refl
+    refl
     (ap is_success (sym stands.is) ∙ h)
 
 -- ---- a grant has a file for each output

@@ -9,3 +9,5 @@ pub mod Ordering
 pub mod Places
 pub mod Granting
 pub mod Inputs
+pub mod Counting
+pub mod Growing

@@ -222,11 +222,13 @@ halts_here e j is = or_left ((e.lane == e.lane) && is_halt e.call) _
 -- what a proxy lane moves, and a tap lane
 proxy_moves : (e : Entry) (c : Call) (x : Reply) → (e.lane % 2 == 0) ≡ true → e.call ≡ c
     → e.reply ≡ x → move_in e.lane e.call e.reply ≡ proxy_move c x
-proxy_moves e c x even is so = (λ i. cond (even i) (proxy_move (is i) (so i)) (tap_move (is i) (so i)))
+proxy_moves e c x even is so =
+    (λ i. cond (even i) (proxy_move (is i) (so i)) (tap_move (is i) (so i)))
 
 tap_moves : (e : Entry) (c : Call) (x : Reply) → (e.lane % 2 == 0) ≡ false → e.call ≡ c
     → e.reply ≡ x → move_in e.lane e.call e.reply ≡ tap_move c x
-tap_moves e c x odd is so = (λ i. cond (odd i) (proxy_move (is i) (so i)) (tap_move (is i) (so i)))
+tap_moves e c x odd is so =
+    (λ i. cond (odd i) (proxy_move (is i) (so i)) (tap_move (is i) (so i)))
 
 no_launch : (x y : Reply) → x ≡ y → launch_in y ≡ None → launch_in x ≡ None
 no_launch x y is none = ap launch_in is ∙ none

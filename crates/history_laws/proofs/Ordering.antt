@@ -176,7 +176,8 @@ given_by p j lane l c x (u.Notes d n) is so = absurd (cc)
 given_by p j lane l c x _ is so = absurd (cc)
 
 -- an answer that isn't Astray is the rule's
-pub ruled_so : (p : Plan) (h : History) (lane : ℕ) (c : Call) (x : Reply) → answer_after p h lane c ≡ x
+pub ruled_so : (p : Plan) (h : History) (lane : ℕ) (c : Call) (x : Reply)
+    → answer_after p h lane c ≡ x
     → (x ≡ reply.Astray → ⊥)
     → (script p (journal_of h) lane c ≡ true) × (rule p (journal_of h) lane c ≡ x)
 ruled_so p h lane c x is other =

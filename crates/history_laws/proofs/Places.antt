@@ -1,5 +1,5 @@
--- Where the place of an action is after a legal journal: it is taken with the grant of its files, and
--- put back with their Committed.
+-- Where the place of an action is after a legal journal: it is taken with the grant of its files,
+-- and put back with their Committed.
 use Rattle.std.proofs.Common.{◌≡◌, ℕ, ◌%◌, ◌==◌, Bool, true, false, cond, ◌&&◌, List, [], ◌∷◌, Option, Some, None, refl, ap, sym, subst, ◌∙◌}
 use Rattle.std.proofs.lemmas.Bool.{eqb-true, eq-eqb}
 use Rattle.run_plan.specs.declared.plan.Branch.{Branch}
@@ -129,7 +129,8 @@ place_ruled p j a lane c x _ = leaves a lane c x refl (λ d b. refl) (λ s. refl
 
 -- ---- how the words go on
 
-grant_same_as : (e : Entry) (j : List Entry) (a : ℕ) → of_action a (granted_in e.call e.reply) ≡ None
+grant_same_as : (e : Entry) (j : List Entry) (a : ℕ)
+    → of_action a (granted_in e.call e.reply) ≡ None
     → grant_of (e ∷ j) a ≡ grant_of j a
 unfolding grant_of
 grant_same_as e j a h = rw h refl
@@ -157,7 +158,8 @@ spot_same : (j k : List Entry) (o : Option (Attempt × Found))
     → commit_of k y.0.action y.0.branch ≡ commit_of j y.0.action y.0.branch)
     → spot_by j o ≡ spot_by k o
 spot_same j k None same = refl
-spot_same j k (Some (t, found.Files fs)) same = ap (spot_of fs) (sym (same (t, found.Files fs) refl))
+spot_same j k (Some (t, found.Files fs)) same =
+    ap (spot_of fs) (sym (same (t, found.Files fs) refl))
 spot_same j k (Some (t, found.Exit n)) same = refl
 spot_same j k (Some (t, found.Missing n)) same = refl
 spot_same j k (Some (t, found.RoomFault)) same = refl

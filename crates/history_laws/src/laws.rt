@@ -35,8 +35,8 @@ pub fn scripts_are_lanes()
         → InScript (answer_after p) (h ++ more) lane c }
 {}
 
-/// Which calls are in a proxy lane's script, its own entries say alone. Its Halt is paid for until it
-/// was told to stop or has halted, and so is the Committed that it owes.
+/// Which calls are in a proxy lane's script, its own entries say alone. Its Halt is paid for until
+/// it was told to stop or has halted, and so is the Committed that it owes.
 pub fn proxies_do_their_duties()
     ensures does { (p : Plan) (h : List (Entry Call Reply)) (w : ℕ) (c : Call) → w < berths p
         → may_do (outputs_in p) (makers_in p) (is_remote (kind_of p w))
@@ -52,8 +52,8 @@ pub fn proxies_do_their_duties()
 {}
 
 /// Which calls are in a tap lane's script, its own entries say alone, and its Halt is paid for
-/// until it was told to stop or has halted. An Answer and an Ended come from the tap lane that hears
-/// the line.
+/// until it was told to stop or has halted. An Answer and an Ended come from the tap lane that
+/// hears the line.
 pub fn taps_are_heard()
     ensures hears { (p : Plan) (h : List (Entry Call Reply)) (w : ℕ) (c : Call) → w < berths p
         → may_hear (hearing_of (calls_by (tap_lane w) h)) c ≡ true
@@ -81,9 +81,9 @@ pub fn paid_calls_are_counted()
         → owes_after p (h ++ entry lane c (answer_after p h lane c) ∷ []) ≤ owes_after p h + 2 }
 {}
 
-/// Where a lane is ordered to launch or to stop, no child lies on the shelf for its berth; where it is
-/// to send, cancel or kill, the child of that line does. A new line has the next number, and what is
-/// sent or gathered is of an action of the plan.
+/// Where a lane is ordered to launch or to stop, no child lies on the shelf for its berth; where it
+/// is to send, cancel or kill, the child of that line does. A new line has the next number, and
+/// what is sent or gathered is of an action of the plan.
 pub fn orders_hold()
     ensures { (p : Plan) (h : List (Entry Call Reply)) (lane : ℕ) → CameAbout p h
         → OrderHolds (length p.actions) (child_at (lane / 2) h) (lines_in h)
@@ -124,4 +124,12 @@ pub fn inputs_are_there()
         → CameAbout p h → duty_of (calls_by (proxy_lane w) h) ≡ Sends l n a
         → is_maker (makers_in p a) c o ≡ true
         → says_file (answer_after p h (proxy_lane w) (call.Look (wanted.Made c o))) ≡ true }
+{}
+
+/// A legal history without its last entry is legal; and that entry's reply is the rule's, and is
+/// kept.
+pub fn histories_grow_by_rule()
+    ensures { (p : Plan) (h : List (Entry Call Reply)) (e : Entry Call Reply)
+        → CameAbout p (h ++ e ∷ []) → CameAbout p h
+        × (e.reply ≡ answer_after p h e.lane e.call) × (is_kept e.reply ≡ true) }
 {}
