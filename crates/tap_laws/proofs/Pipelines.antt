@@ -132,6 +132,23 @@ module _ (lane l : ℕ) where
   own_all (e ∷ h) a =
       own_by e h (lane == e.lane) (tells_of l e.call) refl refl a.0 (own_all h a.1)
 
+-- where no call tells of the line, there is nothing
+module _ (l : ℕ) where
+  abbrev pub Silent : History → Type 0
+  Silent h = (said_on l h ≡ []) × (end_on l h ≡ None)
+
+  silent_by : (e : Past) (h : History) (told : Bool) → tells_of l e.call ≡ told
+      → (tells_of l e.call ≡ true → ⊥) → Silent h → Silent (e ∷ h)
+  silent_by e h false is never s = (
+    silent_answer l e.call (said_on l h) is ∙ s.0,
+    silent_end l e.call (end_on l h) is ∙ s.1,
+  )
+  silent_by e h true is never s = absurd (never is)
+
+  pub silent_all : (h : History) → Each (λ e. tells_of l e.call ≡ true → ⊥) h → Silent h
+  silent_all [] a = (refl, refl)
+  silent_all (e ∷ h) a = silent_by e h (tells_of l e.call) refl a.0 (silent_all h a.1)
+
 -- ---- the answers of one line
 
 said_own : (l : ℕ) (es : History) (xs : List Answer) → AreAnswers l es xs → said_on l es ≡ xs
@@ -530,3 +547,11 @@ module _ (h : History) (told : Told h) (lane : ℕ) where
         pipes s lane h taps (calls_by lane h) apart p
             (each_taken s lane (Same h (calls_by lane h)) taps (calls_by lane h) p taken_says),
       )
+
+  -- a line that was given to nobody
+  pub not_given : (l : ℕ) → takers l h ≡ [] → Silent l h
+  not_given l none =
+      let Tells : Past → Type 0 = λ e. tells_of l e.call ≡ true → takers l h ≡ e.lane ∷ [] in
+      silent_all l h (each_so Tells (λ e. tells_of l e.call ≡ true → ⊥) h
+      (λ e tells said. let x : e.lane ∷ [] ≡ [] = sym (tells said) ∙ none in cc)
+      (told.tells l))

@@ -144,7 +144,7 @@ none_or : (b c : Bool) → (b || c) ≡ false → (b ≡ false) × (c ≡ false)
 none_or true c e = absurd (cc)
 none_or false c e = (refl, e)
 
-no_takers : (l : ℕ) (h : History) → is_taken l h ≡ false → takers l h ≡ []
+pub no_takers : (l : ℕ) (h : History) → is_taken l h ≡ false → takers l h ≡ []
 no_takers l [] e = refl
 no_takers l (x ∷ h) e =
     let n = none_or (takes l x.reply) (is_taken l h) e in

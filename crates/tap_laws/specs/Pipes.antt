@@ -1,5 +1,5 @@
 -- What the whole history says of each line that a tap lane took.
-use Rattle.std.specs.Prelude.{◌≡◌, ℕ, ◌==◌, List, [], ◌∷◌, Option, Some, None, if◌then◌else◌, IfSome}
+use Rattle.std.specs.Prelude.{◌≡◌, ℕ, ◌==◌, false, List, [], ◌∷◌, Option, Some, None, if◌then◌else◌, IfSome}
 use Rattle.seat_desk.specs.History.{calls_by}
 use Rattle.outside.specs.Told.{TapTold}
 use Rattle.run_plan.specs.declared.plan.Speech.{Speech}
@@ -8,6 +8,7 @@ use Rattle.exec_journal.specs.declared.call.Call.{Call}
 use Rattle.exec_journal.specs.declared.call.Call.TheVariants as call
 use Rattle.exec_journal.specs.declared.call.HowEnded.{HowEnded}
 use Rattle.run_rules.specs.Moves.{History}
+use Rattle.run_rules.specs.Laws.{is_taken}
 use Rattle.tap_lane.specs.declared.ends.Want.{Want}
 use Rattle.tap_lane.specs.Heard.{SaysTo, EndedBy}
 use Rattle.tap_lane.specs.Lane.{LaneEnds}
@@ -58,3 +59,9 @@ SaysWhatTapsTell {Q} legal =
     (q : Q) (h : History) (s : Speech) (lane : ℕ) (halted : Option Want)
     (taps : List (ℕ × TapTold)) → legal q h → LaneEnds s lane halted taps (calls_by lane h)
     → AllApart taps × Each (PipeOf s h) taps
+
+-- Of a line that no lane was given a legal history tells no answer and no end.
+abbrev pub SilentUnlessGiven : {Q : Type 0} → (Q → History → Type 0) → Type 0
+SilentUnlessGiven {Q} legal =
+    (q : Q) (h : History) (l : ℕ) → legal q h → is_taken l h ≡ false
+    → (said_on l h ≡ []) × (end_on l h ≡ None)

@@ -1,7 +1,7 @@
-//! What follows of a tap lane's end for the whole history. The function does nothing: it is a law.
+//! What the whole history says of the lines of tap lanes. The functions do nothing: each is a law.
 #![tactic(auto)]
 
-ghost use Rattle.tap_laws.specs.Pipes.{SaysWhatTapsTell};
+ghost use Rattle.tap_laws.specs.Pipes.{SaysWhatTapsTell, SilentUnlessGiven};
 
 use run_rules::Rules;
 
@@ -10,4 +10,10 @@ use run_rules::Rules;
 /// these lines, and none of them was taken twice.
 pub fn history_says_what_taps_tell<C: Rules>()
     ensures { SaysWhatTapsTell C.legal }
+{}
+
+/// Of a line that no tap lane was given, whose tap lies on the shelf still, the history tells no answer
+/// and no end.
+pub fn lines_not_given_are_silent<C: Rules>()
+    ensures { SilentUnlessGiven C.legal }
 {}
