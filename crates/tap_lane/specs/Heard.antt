@@ -29,9 +29,9 @@ AreAnswers l [] (x ∷ xs) = ⊥
 AreAnswers l (e ∷ es) [] = ⊥
 AreAnswers l (e ∷ es) (x ∷ xs) = IsAnswer l x e × AreAnswers l es xs
 
--- The answers are what the bytes taken say, by how the line has ended: all that they say, and nothing
--- is wrong with them; after BadFrame all that they say before what spells nothing; where it hasn't
--- ended, the first of what they say.
+-- The answers are what the bytes taken say, by how the line has ended: all that they say, and
+-- nothing is wrong with them; after BadFrame all that they say before what spells nothing; where it
+-- hasn't ended, the first of what they say.
 abbrev pub SaysTo : Speech → Option HowEnded → List ℕ → List Answer → Type 0
 SaysTo s (Some end.End) bytes answers = SaysAll s bytes answers
 SaysTo s (Some end.TapFault) bytes answers = SaysAll s bytes answers

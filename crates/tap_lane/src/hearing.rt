@@ -63,8 +63,8 @@ pub(crate) fn hear<B: Berth, P: Place, C: Rules, R: Wait>(
     }
 }
 
-// Tells each answer of a line, up to its end. Memory is wanted only for bytes that were taken, while the
-// tap is open.
+// Tells each answer of a line, up to its end. Memory is wanted only for bytes that were taken, while
+// the tap is open.
 fn listen<B: Berth, P: Place, C: Rules, R: Wait>(
     rt: &R,
     alloc: Global,

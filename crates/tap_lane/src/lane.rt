@@ -22,9 +22,9 @@ use std::sync::Wait;
 /// The most bytes of one read.
 const PIECE: usize = 65_536;
 
-/// Hears the lines of a berth, one after the other, until the core says Stop, or memory is wanted. Then
-/// it halts. `mine` of the pass that it gives back has, line after line, its Take, the answers that the
-/// bytes of its tap spell in this speech, in order, and its Ended.
+/// Hears the lines of a berth, one after the other, until the core says Stop, or memory is wanted.
+/// Then it halts. `mine` of the pass that it gives back has, line after line, its Take, the answers
+/// that the bytes of its tap spell in this speech, in order, and its Ended.
 pub fn run<B: Berth, P: Place, C: Rules, R: Wait>(
     rt: &R,
     alloc: Global,

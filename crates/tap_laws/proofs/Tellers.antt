@@ -166,8 +166,8 @@ reversed (e ∷ h) =
     let r = reversed h in
     (r.0 ++ e ∷ [], ap (λ (g : History). e ∷ g) r.1 ∙ sym (rev_last r.0 e))
 
--- each line was given once at most; a lane that hears a line was given it, and so was one that tells
--- of it
+-- each line was given once at most; a lane that hears a line was given it, and so was one that
+-- tells of it
 pub record Told (h : History) : Type 0 where
   pub once : (l : ℕ) → (takers l h ≡ []) ⊎ ((k : ℕ) × (takers l h ≡ k ∷ []))
   pub hears : (k l : ℕ) → hearing_of (calls_by k h) ≡ Hears l → takers l h ≡ k ∷ []

@@ -32,8 +32,8 @@ abbrev pub end_on : ℕ → History → Option HowEnded
 end_on l [] = None
 end_on l (e ∷ h) = end_in l e.call (end_on l h)
 
--- The tap is the line's. All answers of the line, whichever lane told them, are what the bytes taken
--- say, by how the line has ended; and it has ended so for cause.
+-- The tap is the line's. All answers of the line, whichever lane told them, are what the bytes
+-- taken say, by how the line has ended; and it has ended so for cause.
 pub record PipeOf (s : Speech) (h : History) (t : ℕ × TapTold) : Type 0 where
   pub of_line : IfSome t.1.line (λ n. n ≡ t.0)
   pub says : IfSome t.1.taken (λ bytes. SaysTo s (end_on t.0 h) bytes (said_on t.0 h))
@@ -52,8 +52,8 @@ abbrev pub AllApart : List (ℕ × TapTold) → Type 0
 AllApart [] = Unit {0}
 AllApart (t ∷ ts) = NotIn t.0 ts × AllApart ts
 
--- Where a legal history has of a lane what a tap lane leaves, it says of each line that the lane took
--- just what its tap tells, and no line was taken twice.
+-- Where a legal history has of a lane what a tap lane leaves, it says of each line that the lane
+-- took just what its tap tells, and no line was taken twice.
 abbrev pub SaysWhatTapsTell : {Q : Type 0} → (Q → History → Type 0) → Type 0
 SaysWhatTapsTell {Q} legal =
     (q : Q) (h : History) (s : Speech) (lane : ℕ) (halted : Option Want)

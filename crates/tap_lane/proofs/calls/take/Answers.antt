@@ -22,6 +22,7 @@ unreachable-requires-in_default g c =
     c.ask.new.self.pass.seat.me.0 (call.Take) c.in-Ok.reply c.in-Ok.good take_no_file
     (λ h. law.replies q h pass.lane (call.Take))
     (λ h w below may. law.taps_hear q h w (call.Take) below may)
-    c.requires.lane pass.idle.3 (take_may pass.seat.me.0.mine c.requires.free) (a.0, a.1, a.2, a.3, a.4) in
+    c.requires.lane pass.idle.3 (take_may pass.seat.me.0.mine c.requires.free)
+    (a.0, a.1, a.2, a.3, a.4) in
     no_other c.in-Ok.reply (of_take c.in-Ok.reply k.fitting) c.in-Ok.ensures.answer.1
     c.in_default.not-Line c.in_default.not-Stop

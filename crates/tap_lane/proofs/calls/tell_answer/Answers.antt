@@ -21,10 +21,12 @@ returns-in-Ok-clause-ok g c =
     = ComesOut g.B.Child.Child.told g.B.Tap.Tap.told g.P.Place.told (g.C.Rules.outputs q) in
     let a = c.in-Ok.ensures.answer in
     let k = called (g.C.Rules.rule q) comes (g.C.Rules.seats q) pass.lane pass.seat.me.0
-    c.call.new.self.pass.seat.me.0 (call.Answer l x) c.in-Ok.field-0.0 c.in-Ok.field-0.1 (λ r fit. (answer_leads l x r fit).1)
+    c.call.new.self.pass.seat.me.0 (call.Answer l x) c.in-Ok.field-0.0 c.in-Ok.field-0.1
+    (λ r fit. (answer_leads l x r fit).1)
     (λ h. law.replies q h pass.lane (call.Answer l x))
     (λ h w below may. law.taps_hear q h w (call.Answer l x) below may)
-    c.requires.lane pass.idle.3 (answer_may pass.seat.me.0.mine l x c.requires.hears) (a.0, a.1, a.2, a.3, a.4) in
+    c.requires.lane pass.idle.3 (answer_may pass.seat.me.0.mine l x c.requires.hears)
+    (a.0, a.1, a.2, a.3, a.4) in
     answered (g.C.Rules.rule q) comes pass.lane pass.seat.me.0.mine
     c.call.new.self.pass.seat.me.0.mine c.in-Ok.field-0.1 l x c.in-Ok.field-0.0 k
     c.requires.hears

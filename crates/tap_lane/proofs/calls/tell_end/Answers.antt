@@ -21,10 +21,12 @@ returns-in-Ok-clause-ok g c =
     = ComesOut g.B.Child.Child.told g.B.Tap.Tap.told g.P.Place.told (g.C.Rules.outputs q) in
     let a = c.in-Ok.ensures.answer in
     let k = called (g.C.Rules.rule q) comes (g.C.Rules.seats q) pass.lane pass.seat.me.0
-    c.call.new.self.pass.seat.me.0 (call.Ended l how) c.in-Ok.field-0.0 c.in-Ok.field-0.1 noted_no_file
+    c.call.new.self.pass.seat.me.0 (call.Ended l how) c.in-Ok.field-0.0 c.in-Ok.field-0.1
+    noted_no_file
     (λ h. law.replies q h pass.lane (call.Ended l how))
     (λ h w below may. law.taps_hear q h w (call.Ended l how) below may)
-    c.requires.lane pass.idle.3 (end_may pass.seat.me.0.mine l how c.requires.hears) (a.0, a.1, a.2, a.3, a.4) in
+    c.requires.lane pass.idle.3 (end_may pass.seat.me.0.mine l how c.requires.hears)
+    (a.0, a.1, a.2, a.3, a.4) in
     ended (g.C.Rules.rule q) comes pass.lane pass.seat.me.0.mine
     c.call.new.self.pass.seat.me.0.mine c.in-Ok.field-0.1 l how c.in-Ok.field-0.0 k
     c.requires.hears
