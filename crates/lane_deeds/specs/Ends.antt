@@ -1,0 +1,50 @@
+-- How a proxy lane ends.
+use Rattle.std.specs.Prelude.{◌≡◌, ℕ, List, [], ◌∷◌, ◌++◌, Bool, true, false, Option, Some, None}
+use Rattle.seat_desk.specs.History.{entry}
+use Rattle.exec_journal.specs.declared.call.Call.TheVariants as call
+use Rattle.exec_journal.specs.declared.reply.Reply.TheVariants as reply
+use Rattle.remote_messages.specs.declared.work.WorkAction.{WorkAction}
+use Rattle.run_rules.specs.Moves.{History}
+use Rattle.run_rules.specs.Duties.{Duty, Asks, Launches, Sends, Cancels, Gathers, Commits, Kills, Left, duty_of}
+use Rattle.lane_deeds.specs.declared.post.Post.{Post}
+use Rattle.lane_deeds.specs.declared.cause.Cause.{Cause}
+use Rattle.lane_deeds.specs.declared.cause.Cause.TheVariants as cause
+use Rattle.lane_deeds.specs.Deeds.{Deed, DeedOf, IsCut, Acts}
+
+-- a lane that owes a Committed makes it first, and one that has left makes nothing
+abbrev pub may_halt : Duty → Bool
+may_halt (Commits a b fs) = false
+may_halt Left = false
+may_halt Asks = true
+may_halt (Launches l) = true
+may_halt (Sends l n a) = true
+may_halt (Cancels l n) = true
+may_halt (Gathers l n t exit refused) = true
+may_halt (Kills l) = true
+
+module _ (post : Post) (actions : List WorkAction) where
+  -- what the lane had done where it found no memory: for what it owed, or for the call by which it
+  -- would have reported it
+  abbrev pub HaltsBy : Cause → Duty → Deed → Type 0
+  HaltsBy cause.NoMemory s d = IsCut post actions s d
+  HaltsBy (cause.Refused c) s d = (may_halt s ≡ true) × DeedOf post actions s c d
+
+  -- it halted, by its last entry
+  pub record Halts (lane : ℕ) (by : Cause) (own : History) (deeds : List Deed) : Type 0 where
+    pub before : History
+    pub done : List Deed
+    pub last : Deed
+    pub made : own ≡ before ++ entry lane call.Halt reply.Noted ∷ []
+    pub did : deeds ≡ done ++ last ∷ []
+    pub acts : Acts post actions Asks before done
+    pub halts : HaltsBy by (duty_of before) last
+
+  -- it was told to stop, having made no Halt
+  pub record Stops (own : History) (deeds : List Deed) : Type 0 where
+    pub acts : Acts post actions Asks own deeds
+    pub left : duty_of own ≡ Left
+
+  -- the one or the other, as it says
+  abbrev pub Ends : ℕ → Option Cause → History → List Deed → Type 0
+  Ends lane None own deeds = Stops own deeds
+  Ends lane (Some by) own deeds = Halts lane by own deeds

@@ -1,0 +1,5 @@
+-- What contracts cite of a proxy lane's deeds.
+pub mod Deeds
+pub mod Told
+pub mod Lines
+pub mod Ends

@@ -1,0 +1,6 @@
+pub mod Replies
+pub mod Entries
+pub mod Askings
+pub mod Reportings
+pub mod Lookings
+pub mod Claimings

@@ -1,0 +1,85 @@
+-- What an Ask is answered, and what it leaves.
+use Rattle.std.proofs.Common.{refl}
+use Rattle.std.specs.Prelude.{◌≡◌, ◌≤◌, ℕ, ◌+◌, Bool, true, false, is_some, if◌then◌else◌, Option, Some, None}
+use Rattle.seat_desk.specs.declared.machine.Machine.{Ghosts}
+use Rattle.seat_desk.specs.declared.desk.Pass.{Pass}
+use Rattle.seat_desk.specs.Passes.{mine, seen}
+use Rattle.run_plan.specs.declared.plan.Branch.{Branch}
+use Rattle.exec_journal.specs.declared.call.Call.{Call}
+use Rattle.exec_journal.specs.declared.call.Call.TheVariants as call
+use Rattle.exec_journal.specs.declared.reply.Reply.{Reply}
+use Rattle.exec_journal.specs.declared.reply.Reply.TheVariants as reply
+use Rattle.exec_journal.specs.declared.reply.Why.{Why}
+use Rattle.exec_journal.specs.Entries.{is_kept, launch_in}
+use Rattle.outside.specs.Launches.{IsNewChild}
+use Rattle.outside.specs.Told.{ChildTold}
+use Rattle.run_rules.specs.Shelf.{child_at}
+use Rattle.run_rules.specs.Laws.{OrderHolds, lines_in}
+use Rattle.run_bench.specs.declared.shelf.Good.{Good}
+use Rattle.proxy_calls.specs.declared.asking.Order.{Order}
+use Rattle.proxy_calls.specs.declared.asking.Order.TheVariants as order
+use Rattle.proxy_calls.specs.Calls.{MakesOne}
+use Rattle.proxy_calls.specs.Goods.{IsChildThere, child_good}
+
+abbrev pub is_idle : Reply → Bool
+is_idle reply.Idle = true
+is_idle _ = false
+
+-- such a reply is not kept
+pub idle_not_kept : (r : Reply) → is_idle r ≡ true → is_kept r ≡ false
+idle_not_kept (reply.Launch l a b t) e = absurd (cc)
+idle_not_kept (reply.Send l n a b t) e = absurd (cc)
+idle_not_kept (reply.Cancel l n) e = absurd (cc)
+idle_not_kept (reply.Gather l n a b t x y) e = absurd (cc)
+idle_not_kept (reply.Kill l y) e = absurd (cc)
+idle_not_kept reply.Stop e = absurd (cc)
+idle_not_kept reply.Idle e = refl
+idle_not_kept reply.Noted e = absurd (cc)
+idle_not_kept (reply.File f) e = absurd (cc)
+idle_not_kept reply.NoFile e = absurd (cc)
+idle_not_kept reply.Granted e = absurd (cc)
+idle_not_kept reply.Lost e = absurd (cc)
+idle_not_kept reply.Dropped e = absurd (cc)
+idle_not_kept reply.AgainLater e = absurd (cc)
+idle_not_kept (reply.Line l) e = absurd (cc)
+idle_not_kept (reply.Matched a b t) e = absurd (cc)
+idle_not_kept (reply.Late a b t) e = absurd (cc)
+idle_not_kept reply.Greeted e = absurd (cc)
+idle_not_kept (reply.Stray y) e = absurd (cc)
+idle_not_kept (reply.Breach y) e = absurd (cc)
+idle_not_kept reply.Astray e = absurd (cc)
+idle_not_kept reply.NoMemory e = absurd (cc)
+
+module _ {K : Type 0} (told : K → ChildTold) where
+  -- with a Kill the line's child comes out
+  abbrev pub GivesChild : {T P : Type 0} → Reply → Option (Good K T P) → Type 0
+  GivesChild (reply.Kill l y) g = IsChildThere told (Some l) (child_good g)
+  GivesChild _ g = Unit {0}
+
+  -- this is what the reply orders; nothing, where it says Stop
+  abbrev pub IsOrdered : Reply → Option (Order K) → Type 0
+  IsOrdered r None = r ≡ reply.Stop
+  IsOrdered r (Some (order.Launch l)) =
+      (a : ℕ) × (b : Branch) × (t : ℕ) × (r ≡ reply.Launch l a b t)
+  IsOrdered r (Some (order.Send l n a)) = (b : Branch) × (t : ℕ) × (r ≡ reply.Send l n a b t)
+  IsOrdered r (Some (order.Cancel l n)) = r ≡ reply.Cancel l n
+  IsOrdered r (Some (order.Gather l n t exit refused)) =
+      r ≡ reply.Gather l n t.action t.branch t.number exit refused
+  IsOrdered r (Some (order.Kill l k)) =
+      ((y : Why) × (r ≡ reply.Kill l y)) × IsNewChild l (told k)
+
+-- so many lines were ordered, with what the reply orders
+abbrev pub lines_with : Reply → ℕ → ℕ
+lines_with r lines = if is_some (launch_in r) then lines + 1 else lines
+
+-- The Ask was answered so, when so many lines had been ordered. What the order says holds.
+pub record HasAsked {M G Q K : Type 0} {g : Ghosts M Call Reply G Q} (actions : ℕ)
+    (told : K → ChildTold) (berth : ℕ) (order : Option (Order K))
+    (p p' : Pass M Call Reply G Q g) : Type 0 where
+  pub reply : Reply
+  pub lines : ℕ
+  pub is_ordered : IsOrdered told reply order
+  pub made : MakesOne call.Ask reply p p'
+  pub holds : OrderHolds actions (child_at berth (mine p)) lines reply
+  pub later : lines_in (seen p) ≤ lines
+  pub lines_then : lines_in (seen p') ≡ lines_with reply lines

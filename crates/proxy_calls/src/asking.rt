@@ -1,0 +1,145 @@
+//! What a proxy lane is ordered.
+ghost use Rattle.std.specs.Prelude.{◌≡◌, ◌<◌, false, true, IfOk, OnErr};
+ghost use Rattle.seat_desk.specs.Passes.{IsSamePass, mine, rules};
+ghost use Rattle.exec_journal.specs.declared.call.Call.TheVariants as call;
+ghost use Rattle.run_rules.specs.Laws.{fits_ask};
+ghost use Rattle.run_rules.specs.Duties.{Asks, duty_of};
+ghost use Rattle.proxy_calls.specs.Calls.{IsProxyOf, MakesNone};
+ghost use Rattle.proxy_calls.specs.Orders.{is_idle, idle_not_kept, GivesChild, IsOrdered, HasAsked};
+
+use crate::goods::child_in;
+use exec_journal::{Attempt, Call, Reply};
+use lane_crew::{Caller, Question};
+use outside::{Berth, Place};
+use plain_values::NoMemory;
+use run_bench::{Bench, Good};
+use run_rules::Rules;
+use std::sync::Wait;
+
+/// What a lane is ordered.
+#[derive(Drop)]
+pub enum Order<K> {
+    /// To start a line.
+    Launch {
+        line: u32,
+    },
+    /// To write a request of the action to the line.
+    Send {
+        line: u32,
+        number: i32,
+        action: u32,
+    },
+    /// To give a request up.
+    Cancel {
+        line: u32,
+        number: i32,
+    },
+    /// To look at what came of an answer, and claim it.
+    Gather {
+        line: u32,
+        number: i32,
+        attempt: Attempt,
+        exit: i32,
+        refused: bool,
+    },
+    /// To kill this child, which is the line's.
+    Kill {
+        line: u32,
+        child: K,
+    },
+}
+
+/// The question for the next order.
+#[derive(Drop)]
+pub struct NextOrder;
+
+impl<B: Berth, P: Place, C: Rules> Question<Bench<B, P, C>> for NextOrder {
+    ghost asks = { λ self. call.Ask };
+
+    ghost idles = { is_idle };
+
+    ghost idle_is_not_kept = { λ e h. idle_not_kept e.reply h };
+
+    fn call(&self) -> Call {
+        Call::Ask
+    }
+
+    fn is_idle(&self, reply: &Reply) -> bool {
+        matches!(reply, Reply::Idle)
+    }
+}
+
+/// Asks until there is an order, or the lane is told to stop, which is `None`. While there is
+/// neither, the lane rests by its bell.
+///
+/// # Errors
+///
+/// `NoMemory`, if the desk had none for the entry. Then nothing was asked.
+pub fn ask<B: Berth, P: Place, C: Rules, R: Wait>(
+    rt: &R,
+    caller: &mut Caller<'_, Bench<B, P, C>>,
+    berth: u32,
+) -> Result<Option<Order<B::Child>>, NoMemory>
+    requires lane { IsProxyOf C.seats berth caller.old.pass }
+    requires asks { duty_of (mine caller.old.pass) ≡ Asks }
+    ensures same { IsSamePass caller.old.pass caller.new.pass }
+    ensures ordered { IfOk result (λ order. HasAsked (C.actions (rules caller.old.pass))
+        B.Child.told berth order caller.old.pass caller.new.pass) }
+    ensures refused { OnErr result (MakesNone caller.old.pass caller.new.pass) }
+{
+    match caller.ask(rt, &NextOrder) {
+        Ok(answer) => Ok(order_of::<B, P>(answer.0, answer.1)),
+        Err(_refused) => Err(NoMemory),
+    }
+}
+
+// The order that a reply gives, with what came out.
+fn order_of<B: Berth, P: Place>(
+    reply: Reply,
+    good: Option<Good<B::Child, B::Tap, P>>,
+) -> Option<Order<B::Child>>
+    requires fits { fits_ask reply ≡ true }
+    requires not_idle { is_idle reply ≡ false }
+    requires child { GivesChild B.Child.told reply good }
+    ensures { IsOrdered B.Child.told reply result }
+{
+    match reply {
+        Reply::Launch { line, .. } => Some(Order::Launch { line }),
+        Reply::Send {
+            line,
+            number,
+            action,
+            ..
+        } => Some(Order::Send {
+            line,
+            number,
+            action,
+        }),
+        Reply::Cancel { line, number } => Some(Order::Cancel { line, number }),
+        Reply::Gather {
+            line,
+            number,
+            action,
+            branch,
+            attempt,
+            exit,
+            refused,
+        } => Some(Order::Gather {
+            line,
+            number,
+            attempt: Attempt {
+                action,
+                branch,
+                number: attempt,
+            },
+            exit,
+            refused,
+        }),
+        Reply::Kill { line, why: _ } => match child_in(good) {
+            Some(child) => Some(Order::Kill { line, child }),
+            None => unreachable!(),
+        },
+        Reply::Stop => None,
+        _ => unreachable!(),
+    }
+}

@@ -1,0 +1,102 @@
+//! The Claim of what was found for an answer, and the commit of files that were granted.
+ghost use Rattle.std.specs.Prelude.{◌≡◌, ◌<◌, ◌^◌, true, length, IfOk, IfErr};
+ghost use Rattle.seat_desk.specs.Passes.{IsSamePass, mine, rules};
+ghost use Rattle.run_rules.specs.Shelf.{Fresh, Back};
+ghost use Rattle.run_rules.specs.Duties.{Asks, duty_of};
+ghost use Rattle.run_bench.specs.Objects.{IsPlaceAt};
+ghost use Rattle.proxy_calls.specs.Calls.{IsProxyOf, MakesNone, MayMake};
+ghost use Rattle.proxy_calls.specs.Claims.{claim_of, HasClaimed, HasCommitted, OwesCommit};
+
+use crate::goods::place_in;
+use exec_journal::{Attempt, Call, CommitEnd, Found};
+use lane_crew::Caller;
+use output_commit::{Committed, commit};
+use outside::{Berth, Place};
+use plain_values::{Blob, Text};
+use run_bench::{Bench, Good};
+use run_rules::Rules;
+use seat_desk::Refused;
+use std::sync::Wait;
+
+/// Claims what was found for the attempt. If files were claimed and granted, it gives the action's
+/// place, to which nothing was written.
+///
+/// # Errors
+///
+/// The Claim itself, if the desk had no memory for its entry. Then it was not made.
+pub fn claim<B: Berth, P: Place, C: Rules, R: Wait>(
+    rt: &R,
+    caller: &mut Caller<'_, Bench<B, P, C>>,
+    berth: u32,
+    attempt: Attempt,
+    found: Found,
+) -> Result<Option<P>, Call>
+    requires lane { IsProxyOf C.seats berth caller.old.pass }
+    requires may { MayMake C.outputs C.makers C.remote berth caller.old.pass
+        (claim_of attempt found) }
+    ensures same { IsSamePass caller.old.pass caller.new.pass }
+    ensures claimed { IfOk result (λ place. HasClaimed P.told
+        (C.outputs (rules caller.old.pass) attempt.action) attempt found place
+        caller.old.pass caller.new.pass) }
+    ensures refused { IfErr result (λ call. (call ≡ claim_of attempt found)
+        × MakesNone caller.old.pass caller.new.pass) }
+{
+    let call = Call::Claim {
+        action: attempt.action,
+        branch: attempt.branch,
+        attempt: attempt.number,
+        found,
+    };
+    match caller.call(rt, call, None) {
+        Ok(answer) => Ok(place_in(answer.1)),
+        Err(refused) => {
+            let Refused { call, put: _ } = refused;
+            Err(call)
+        }
+    }
+}
+
+/// Writes the files that were granted to the action's place, and reports how that ended. The place
+/// goes back onto the shelf. It takes no memory.
+pub fn commit_files<B: Berth, P: Place, C: Rules, R: Wait>(
+    rt: &R,
+    caller: &mut Caller<'_, Bench<B, P, C>>,
+    berth: u32,
+    attempt: Attempt,
+    files: &[Blob],
+    outputs: &[Text],
+    place: P,
+)
+    requires lane { IsProxyOf C.seats berth caller.old.pass }
+    requires owes { OwesCommit attempt files.now (mine caller.old.pass) }
+    requires outputs { C.outputs (rules caller.old.pass) attempt.action ≡ outputs.now }
+    requires fits { length files.now ≡ length outputs.now }
+    requires few { length outputs.now < 2 ^ 32 }
+    requires place { IsPlaceAt attempt.action outputs.now Fresh (P.told place) }
+    ensures same { IsSamePass caller.old.pass caller.new.pass }
+    ensures committed { HasCommitted attempt caller.old.pass caller.new.pass }
+    ensures asks { duty_of (mine caller.new.pass) ≡ Asks }
+{
+    let mut place = place;
+    let how = write_out(&mut place, attempt.action, outputs, files);
+    let call = Call::Committed {
+        action: attempt.action,
+        branch: attempt.branch,
+        how,
+    };
+    let _answer = caller.call_paid(rt, call, Some(Good::Place(place)));
+}
+
+// Writes the files, and says how that ended.
+fn write_out<P: Place>(place: &mut P, action: u32, outputs: &[Text], files: &[Blob]) -> CommitEnd
+    requires place { IsPlaceAt action outputs.now Fresh (P.told place.old) }
+    requires fits { length files.now ≡ length outputs.now }
+    requires few { length outputs.now < 2 ^ 32 }
+    ensures { IsPlaceAt action outputs.now (Back files.now result) (P.told place.new) }
+{
+    let _ = action;
+    match commit(place, outputs, files) {
+        Committed::Done => CommitEnd::Done,
+        Committed::PlaceFault { written } => CommitEnd::PlaceFault { written },
+    }
+}

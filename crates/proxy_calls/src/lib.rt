@@ -1,0 +1,16 @@
+//! The calls of a proxy lane, one by one: what each makes of the lane's own entries, and what it
+//! owes then. None is answered as a call off its script.
+#![tactic(auto)]
+
+mod asking;
+mod claiming;
+mod goods;
+mod halting;
+mod looking;
+mod reporting;
+
+pub use asking::{Order, ask};
+pub use claiming::{claim, commit_files};
+pub use halting::halt;
+pub use looking::{look, look_made};
+pub use reporting::{Unsaid, tell, tell_started};

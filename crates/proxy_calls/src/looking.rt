@@ -1,0 +1,88 @@
+//! Looks at made inputs, and at the outputs of an answer.
+ghost use Rattle.std.specs.Prelude.{◌≡◌, true, IfOk};
+ghost use Rattle.seat_desk.specs.Passes.{IsSamePass, mine, rules, seen};
+ghost use Rattle.exec_journal.specs.declared.call.Call.TheVariants as call;
+ghost use Rattle.lane_deeds.specs.Told.{IsTold};
+ghost use Rattle.proxy_calls.specs.Calls.{IsProxyOf, MakesNone, MayMake};
+ghost use Rattle.run_rules.specs.Duties.{is_maker};
+ghost use Rattle.proxy_calls.specs.Looks.{told_as, made_as, OwesSend};
+
+use exec_journal::{Call, Reply, Wanted};
+use lane_crew::Caller;
+use outside::{Berth, Place};
+use plain_values::{Blob, NoMemory};
+use run_bench::Bench;
+use run_plan::Maker;
+use run_rules::Rules;
+use std::sync::Wait;
+
+/// The bytes that the core has of what is wanted, or `None` if it has none.
+///
+/// # Errors
+///
+/// `NoMemory`.
+pub fn look<B: Berth, P: Place, C: Rules, R: Wait>(
+    rt: &R,
+    caller: &mut Caller<'_, Bench<B, P, C>>,
+    berth: u32,
+    wanted: Wanted,
+) -> Result<Option<Blob>, NoMemory>
+    requires lane { IsProxyOf C.seats berth caller.old.pass }
+    requires may { MayMake C.outputs C.makers C.remote berth caller.old.pass
+        (call.Look wanted) }
+    ensures same { IsSamePass caller.old.pass caller.new.pass }
+    ensures told { IfOk result (λ found. IsTold (C.rule (rules caller.old.pass))
+        caller.old.pass.lane (seen caller.new.pass) (told_as wanted found)) }
+    ensures none { MakesNone caller.old.pass caller.new.pass }
+{
+    match caller.call(rt, Call::Look(wanted), None) {
+        Ok(answer) => {
+            let (reply, _good) = answer;
+            match reply {
+                Reply::File(bytes) => Ok(Some(bytes)),
+                Reply::NoFile => Ok(None),
+                _ => Err(NoMemory),
+            }
+        }
+        Err(_refused) => Err(NoMemory),
+    }
+}
+
+/// The bytes of a made input of the request that is to be sent. They are there.
+///
+/// # Errors
+///
+/// `NoMemory`.
+pub fn look_made<B: Berth, P: Place, C: Rules, R: Wait>(
+    rt: &R,
+    caller: &mut Caller<'_, Bench<B, P, C>>,
+    berth: u32,
+    action: u32,
+    maker: Maker,
+) -> Result<Blob, NoMemory>
+    requires lane { IsProxyOf C.seats berth caller.old.pass }
+    requires owes { OwesSend action (mine caller.old.pass) }
+    requires made { is_maker (C.makers (rules caller.old.pass) action) maker.action maker.output
+        ≡ true }
+    ensures same { IsSamePass caller.old.pass caller.new.pass }
+    ensures told { IfOk result (λ bytes. IsTold (C.rule (rules caller.old.pass))
+        caller.old.pass.lane (seen caller.new.pass) (made_as maker bytes)) }
+    ensures none { MakesNone caller.old.pass caller.new.pass }
+{
+    let _ = action;
+    let wanted = Wanted::Made {
+        action: maker.action,
+        output: maker.output,
+    };
+    match caller.call(rt, Call::Look(wanted), None) {
+        Ok(answer) => {
+            let (reply, _good) = answer;
+            match reply {
+                Reply::File(bytes) => Ok(bytes),
+                Reply::NoFile => unreachable!(),
+                _ => Err(NoMemory),
+            }
+        }
+        Err(_refused) => Err(NoMemory),
+    }
+}

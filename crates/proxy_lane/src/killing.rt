@@ -1,0 +1,114 @@
+//! What a proxy lane does for a Kill, and where it halts.
+ghost use Rattle.std.specs.Prelude.{◌≡◌, true, None, Some, OnOk, IfErr};
+ghost use Rattle.seat_desk.specs.Passes.{IsSamePass, mine};
+ghost use Rattle.outside.specs.Launches.{IsNewChild};
+ghost use Rattle.run_rules.specs.Duties.{Asks, Kills, duty_of};
+ghost use Rattle.lane_deeds.specs.Ends.{may_halt};
+ghost use Rattle.exec_journal.specs.declared.call.Call.TheVariants as call;
+ghost use Rattle.exec_journal.specs.declared.reply.Reply.TheVariants as reply;
+ghost use Rattle.proxy_calls.specs.Calls.{IsProxyOf, MakesOne};
+ghost use Rattle.proxy_lane.specs.Lanes.{held_of};
+ghost use Rattle.proxy_lane.specs.Steps.{open_in, HasRoom, IsShelved, Goes, Halts, IsLaidBy, AreLaidBy};
+
+use crate::hands::{EndedFeed, Hands, OpenFeed};
+use exec_journal::Call;
+use lane_crew::Caller;
+use lane_deeds::{Cause, Post};
+use outside::{Berth, Child, Place};
+use proxy_calls::{halt, tell};
+use remote_messages::WorkAction;
+use run_bench::Bench;
+use run_rules::Rules;
+use std::sync::Wait;
+
+/// Kills the open line's child, which is laid by with the line's feed, and reports it.
+///
+/// # Errors
+///
+/// Why the lane is to halt.
+pub(crate) fn kill<B: Berth, P: Place, C: Rules, R: Wait>(
+    rt: &R,
+    post: &Post,
+    actions: &[WorkAction],
+    caller: &mut Caller<'_, Bench<B, P, C>>,
+    lane: u32,
+    hands: &mut Hands<B, B::Feed, B::Child>,
+    line: u32,
+    child: B::Child,
+) -> Result<(), Cause>
+    requires lane { IsProxyOf C.seats lane caller.old.pass }
+    requires owes { duty_of (mine caller.old.pass) ≡ Kills line }
+    requires shelved { IsShelved lane caller.old.pass None }
+    requires open { open_in hands.old ≡ Some line }
+    requires child { IsNewChild line (B.Child.told child) }
+    requires room { HasRoom hands.old }
+    ensures same { IsSamePass caller.old.pass caller.new.pass }
+    ensures shelved { IsShelved lane caller.new.pass None }
+    ensures closed { open_in hands.new ≡ None }
+    ensures goes { OnOk result ((duty_of (mine caller.new.pass) ≡ Asks)
+        × Goes post.now actions.now C.rule
+        caller.old.pass (held_of B.told B.Feed.told B.Child.told hands.old)
+        caller.new.pass (held_of B.told B.Feed.told B.Child.told hands.new)) }
+    ensures halts { IfErr result (λ cause. Halts post.now actions.now C.rule cause
+        caller.old.pass (held_of B.told B.Feed.told B.Child.told hands.old)
+        caller.new.pass (held_of B.told B.Feed.told B.Child.told hands.new)) }
+{
+    let _ = (post, actions);
+    lay_by::<B>(hands, line, child);
+    match tell(rt, caller, lane, Call::Killed { line }) {
+        Ok(()) => Ok(()),
+        Err(call) => Err(Cause::Refused(call)),
+    }
+}
+
+// Kills the child, and puts it with the open line's feed behind the lines that ended.
+fn lay_by<B: Berth>(hands: &mut Hands<B, B::Feed, B::Child>, line: u32, child: B::Child)
+    requires open { open_in hands.old ≡ Some line }
+    requires child { IsNewChild line (B.Child.told child) }
+    requires room { HasRoom hands.old }
+    ensures { IsLaidBy line (held_of B.told B.Feed.told B.Child.told hands.old)
+        (held_of B.told B.Feed.told B.Child.told hands.new) }
+{
+    match hands.open.take() {
+        Some(open) => {
+            let OpenFeed { line: _, feed } = open;
+            let mut child = child;
+            child.kill();
+            hands.ended.push_reserved(EndedFeed { line, feed, child });
+        }
+        None => unreachable!(),
+    }
+}
+
+/// Halts. If a line is open, its child comes off the shelf and is killed.
+pub(crate) fn give_up<B: Berth, P: Place, C: Rules, R: Wait>(
+    rt: &R,
+    caller: &mut Caller<'_, Bench<B, P, C>>,
+    lane: u32,
+    hands: &mut Hands<B, B::Feed, B::Child>,
+)
+    requires lane { IsProxyOf C.seats lane caller.old.pass }
+    requires may { may_halt (duty_of (mine caller.old.pass)) ≡ true }
+    requires shelved { IsShelved lane caller.old.pass (open_in hands.old) }
+    requires room { HasRoom hands.old }
+    ensures same { IsSamePass caller.old.pass caller.new.pass }
+    ensures halted { MakesOne call.Halt reply.Noted caller.old.pass caller.new.pass }
+    ensures laid_by { AreLaidBy (open_in hands.old)
+        (held_of B.told B.Feed.told B.Child.told hands.old)
+        (held_of B.told B.Feed.told B.Child.told hands.new) }
+{
+    match (halt(rt, caller, lane), open_line(hands)) {
+        (Some(child), Some(line)) => lay_by::<B>(hands, line, child),
+        _ => {}
+    }
+}
+
+// The line that is open.
+fn open_line<B, D, K>(hands: &Hands<B, D, K>) -> Option<u32>
+    ensures { result ≡ open_in hands.now }
+{
+    match &hands.open {
+        Some(open) => Some(open.line),
+        None => None,
+    }
+}

@@ -1,0 +1,108 @@
+//! What a proxy lane does for a Launch.
+ghost use Rattle.std.specs.Prelude.{◌≡◌, false, None, OnOk, IfErr};
+ghost use Rattle.seat_desk.specs.Passes.{IsSamePass, mine};
+ghost use Rattle.run_rules.specs.Duties.{Asks, Launches, duty_of};
+ghost use Rattle.exec_journal.specs.declared.call.Call.TheVariants as call;
+ghost use Rattle.exec_journal.specs.declared.reply.Reply.TheVariants as reply;
+ghost use Rattle.exec_journal.specs.Entries.{is_done};
+ghost use Rattle.lane_deeds.specs.declared.cause.Cause.TheVariants.{Refused};
+ghost use Rattle.proxy_calls.specs.Calls.{IsProxyOf, MakesNone, MakesOne};
+ghost use Rattle.proxy_lane.specs.Lanes.{held_of};
+ghost use Rattle.proxy_lane.specs.Steps.{open_in, HasRoom, IsShelved, IsNewLine, Goes, Halts};
+
+use crate::hands::{EndedFeed, Hands, OpenFeed};
+use exec_journal::{Call, Started};
+use lane_crew::Caller;
+use lane_deeds::{Cause, Post};
+use order_acts::{Opened, launch_line};
+use outside::{Berth, Child, Place};
+use proxy_calls::{Unsaid, tell, tell_started};
+use remote_messages::WorkAction;
+use run_bench::Bench;
+use run_rules::Rules;
+use std::sync::Wait;
+
+/// Starts a line, and reports how that went.
+///
+/// # Errors
+///
+/// Why the lane is to halt. A child that was started by then is killed.
+pub(crate) fn launch<B: Berth, P: Place, C: Rules, R: Wait>(
+    rt: &R,
+    post: &Post,
+    actions: &[WorkAction],
+    caller: &mut Caller<'_, Bench<B, P, C>>,
+    lane: u32,
+    hands: &mut Hands<B, B::Feed, B::Child>,
+    line: u32,
+) -> Result<(), Cause>
+    requires lane { IsProxyOf C.seats lane caller.old.pass }
+    requires owes { duty_of (mine caller.old.pass) ≡ Launches line }
+    requires shelved { IsShelved lane caller.old.pass None }
+    requires open { open_in hands.old ≡ None }
+    requires new { IsNewLine line caller.old.pass }
+    ensures same { IsSamePass caller.old.pass caller.new.pass }
+    ensures shelved { IsShelved lane caller.new.pass (open_in hands.new) }
+    ensures room { HasRoom hands.new }
+    ensures goes { OnOk result ((duty_of (mine caller.new.pass) ≡ Asks)
+        × Goes post.now actions.now C.rule
+        caller.old.pass (held_of B.told B.Feed.told B.Child.told hands.old)
+        caller.new.pass (held_of B.told B.Feed.told B.Child.told hands.new)) }
+    ensures halts { IfErr result (λ cause. Halts post.now actions.now C.rule cause
+        caller.old.pass (held_of B.told B.Feed.told B.Child.told hands.old)
+        caller.new.pass (held_of B.told B.Feed.told B.Child.told hands.new)) }
+{
+    let _ = actions;
+    if hands.ended.reserve(1).is_err() {
+        return Err(Cause::NoMemory);
+    }
+    match launch_line(&mut hands.berth, line, &post.command) {
+        Ok(Opened::Line(feed, tap, child)) => {
+            match tell_started(rt, caller, lane, line, child, tap) {
+                Ok(()) => {
+                    hands.open = Some(OpenFeed { line, feed });
+                    Ok(())
+                }
+                Err(unsaid) => {
+                    let Unsaid { mut child } = unsaid;
+                    child.kill();
+                    hands.unsaid = Some(EndedFeed { line, feed, child });
+                    Err(Cause::Refused(Call::Launched {
+                        line,
+                        how: Started::Done,
+                    }))
+                }
+            }
+        }
+        Ok(Opened::RoomFault) => {
+            not_started(rt, caller, lane, line, Started::RoomFault)
+        }
+        Ok(Opened::LaunchFault) => {
+            not_started(rt, caller, lane, line, Started::LaunchFault)
+        }
+        Err(_) => Err(Cause::NoMemory),
+    }
+}
+
+// Reports that the line wasn't started.
+fn not_started<B: Berth, P: Place, C: Rules, R: Wait>(
+    rt: &R,
+    caller: &mut Caller<'_, Bench<B, P, C>>,
+    lane: u32,
+    line: u32,
+    how: Started,
+) -> Result<(), Cause>
+    requires lane { IsProxyOf C.seats lane caller.old.pass }
+    requires owes { duty_of (mine caller.old.pass) ≡ Launches line }
+    requires fault { is_done how ≡ false }
+    ensures same { IsSamePass caller.old.pass caller.new.pass }
+    ensures told { OnOk result (MakesOne (call.Launched line how) reply.Noted
+        caller.old.pass caller.new.pass × (duty_of (mine caller.new.pass) ≡ Asks)) }
+    ensures refused { IfErr result (λ cause. (cause ≡ Refused (call.Launched line how))
+        × MakesNone caller.old.pass caller.new.pass) }
+{
+    match tell(rt, caller, lane, Call::Launched { line, how }) {
+        Ok(()) => Ok(()),
+        Err(call) => Err(Cause::Refused(call)),
+    }
+}
