@@ -1,0 +1,95 @@
+//! Measures the scheduling core: steps a second over whole runs, which one thread plays for all lanes.
+//!
+//! ```text
+//! bench_core          small runs, which print counts and no times
+//! bench_core times    runs of 64 to 4,096 actions, with times
+//! ```
+//!
+//! A run is played once, and each call of a lane noted. What is timed is that these calls are made again on a new core,
+//! so that a figure has nothing in it but `Core::step`.
+#![tactic(auto)]
+
+mod berth;
+mod failure;
+mod lists;
+mod record;
+mod watch;
+
+use failure::Failure;
+use lists::{Answering, Shape, Work};
+use record::{Made, committed, play, replay};
+use std::alloc::Global;
+use std::env;
+use std::env::Env;
+use std::time::{Clock, CpuClock};
+use watch::{Measure, Watch};
+
+const WORKS: [(Shape, Answering); 4] = [
+    (Shape::Chain, Answering::OneByOne),
+    (Shape::Chain, Answering::Several),
+    (Shape::Wide, Answering::OneByOne),
+    (Shape::Wide, Answering::Several),
+];
+
+// How many steps are timed of each work at least.
+const TIMED_STEPS: usize = 4_000_000;
+
+fn main(rt: HostRuntime) -> Result<(), Failure> {
+    let timed = env::args(&rt)?.nth(1).is_some();
+    if timed {
+        for actions in [64u32, 256, 512, 1024, 2048, 4096] {
+            time_works(&rt, rt.alloc(), actions)?;
+        }
+        return Ok(());
+    }
+    small_runs(&rt, rt.alloc())
+}
+
+fn small_runs<R: Print>(rt: &R, alloc: Global) -> Result<(), Failure> {
+    for (shape, answering) in WORKS {
+        let work = Work::new(alloc, shape, answering, 64)?;
+        let calls = play(alloc, &work)?;
+        let done = committed(calls.as_slice());
+        let steps = calls.len();
+        let name = work.name();
+        println!(rt; "{name}: 64 actions, {done} committed, {steps} steps")?;
+    }
+    Ok(())
+}
+
+fn time_works<R: Clock + CpuClock + Print>(
+    rt: &R,
+    alloc: Global,
+    actions: u32,
+) -> Result<(), Failure> {
+    for (shape, answering) in WORKS {
+        let work = Work::new(alloc, shape, answering, actions)?;
+        let calls = play(alloc, &work)?;
+        let measure = time_replays(rt, alloc, &work, calls.as_slice())?;
+        let steps = calls.len();
+        let name = work.name();
+        println!(rt;
+            "{name}: {actions} actions, {steps} steps a run, {} steps a second, {} ns a step",
+            measure.a_second(),
+            measure.nanos_each()
+        )?;
+    }
+    Ok(())
+}
+
+fn time_replays<R: Clock + CpuClock>(
+    rt: &R,
+    alloc: Global,
+    work: &Work,
+    calls: &[Made],
+) -> Result<Measure, Failure> {
+    let times = TIMED_STEPS / calls.len().max(1);
+    let mut measure = Measure::none();
+    for _ in 0..times.max(3) {
+        let mut core = work.core(alloc)?;
+        let watch = Watch::start(rt)?;
+        replay(&mut core, calls);
+        measure = measure.and(watch.stop(rt, calls.len() as u64)?);
+    }
+    Ok(measure)
+}
