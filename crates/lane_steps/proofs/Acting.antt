@@ -1,8 +1,27 @@
 -- What is done outside for a Send, a Cancel and a Gather.
-use Rattle.std.proofs.Common.{◌≡◌, ◌⊎◌, inl, inr, ℕ, ℤ, Bool, true, false, cond, List, [], ◌∷◌, ◌++◌, length, Option, Some, None, Result, refl, ap, sym, subst, ◌∙◌, arith}
+use Rattle.std.proofs.Common.{◌≡◌, ◌⊎◌, inl, inr, ℕ, ℤ, Bool, true, false, cond, List, [], ◌∷◌, ◌++◌, length, Option, Some, None, Result, refl, ap, sym, subst, ◌∙◌, arith, ◌&&◌, ◌<◌, pos, eq-eqb, lt-ltb}
+use Rattle.std.specs.Ordering.{int_eq}
+use Rattle.std.proofs.lemmas.Cmp.{int_eq_equiv}
+use Rattle.run_plan.specs.declared.plan.Branch.{Branch}
+use Rattle.run_plan.specs.declared.plan.Branch.TheVariants.{Local, Remote}
+use Rattle.run_plan.specs.declared.plan.Maker.{Maker}
+use Rattle.exec_journal.specs.declared.attempt.Attempt.{Attempt}
+use Rattle.exec_journal.specs.declared.call.Call.TheVariants as call
+use Rattle.exec_journal.specs.declared.call.Started.{Started}
+use Rattle.exec_journal.specs.declared.call.Started.TheVariants as start
+use Rattle.exec_journal.specs.declared.call.Wanted.TheVariants as wanted
+use Rattle.exec_journal.specs.Entries.{attempt_of, same_attempt, same_branch, is_done}
+use Rattle.exec_journal.specs.Scripts.{may_find}
+use Rattle.run_rules.specs.Duties as duties
+use Rattle.run_rules.specs.Duties.{Duty, Cancels, Gathers, duty_of, may_do}
+use Rattle.proxy_calls.specs.Claims.{claim_of}
+use Rattle.proxy_calls.specs.Reports.{is_report}
+use Rattle.lane_steps.specs.Steps.{OwesWrote}
 use Rattle.plain_values.specs.declared.no_memory.NoMemory.{NoMemory}
 use Rattle.run_plan.specs.Groups.{is_remote}
-use Rattle.outside.specs.Told.{BerthTold, FeedTold}
+use Rattle.outside.specs.Launches.{IsNewChild}
+use Rattle.outside.specs.Told.{BerthTold, FeedTold, ChildTold}
+use Rattle.proxy_calls.specs.Goods.{IsChildThere}
 use Rattle.outside.specs.declared.berth.BerthCall.{BerthCall}
 use Rattle.exec_journal.specs.declared.call.Call.{Call}
 use Rattle.exec_journal.specs.declared.call.Written.{Written}
@@ -19,9 +38,15 @@ use Rattle.sandbox_rooms.specs.Rooms.{MakesLooks}
 use Rattle.sandbox_rooms.proofs.Runs.{made_none}
 use Rattle.due_frames.specs.declared.frames.Due.{Due}
 use Rattle.due_frames.specs.declared.frames.Due.TheVariants as due
-use Rattle.due_frames.specs.Frames.{cancel_due}
-use Rattle.std.specs.Prelude.{IfOk}
-use Rattle.order_acts.specs.Acts.{GivenBy, GivesFrame, Gave, RoomFailed, FeedFailed, IsFeedFault, Sends, ReportsLooks, found_as}
+use Rattle.due_frames.specs.Frames.{send_due, cancel_due}
+use Rattle.std.specs.Prelude.{IfOk, OnOk, IfErr, option_map}
+use Rattle.sandbox_rooms.specs.declared.room.Room.{Room}
+use Rattle.sandbox_rooms.specs.Rooms.{prepare_asks}
+use Rattle.remote_branch.specs.Jobs.{job_for}
+use Rattle.due_frames.specs.Requests.{room_for, request_for}
+use Rattle.lane_steps.specs.declared.hands.OpenFeed.{OpenFeed}
+use Rattle.lane_steps.specs.Lanes.{open_of}
+use Rattle.order_acts.specs.Acts.{GivenBy, GivesFrame, Gave, RoomFailed, FeedFailed, IsFeedFault, Sends, ReportsLooks, FoundFits, found_as}
 use Rattle.run_rules.specs.Moves.{History}
 use Rattle.lane_deeds.specs.declared.post.Post.{Post}
 use Rattle.lane_deeds.specs.Deeds.{Looked, Deed, AreInputs, looks_of, looks_from, lacks, send_asks, due_for, look_asks, FoundIn}
@@ -230,3 +255,160 @@ module _ (post : Post) (rule : History → ℕ → Call → Reply) (lane line : 
     told = tt;
     berth = x.3;
   }
+
+-- ---- what may be reported
+
+same_side : (b : Branch) → same_branch b b ≡ true
+same_side Local = refl
+same_side Remote = refl
+
+same_number : (n : ℤ) → int_eq n n ≡ true
+same_number n = int_eq_equiv.refl n
+
+same_try : (t : Attempt) → same_attempt (attempt_of t.action t.branch t.number) t ≡ true
+same_try t = (λ i. eq-eqb t.action t.action refl i
+    && (same_side t.branch i && eq-eqb t.number t.number refl i))
+
+pub may_wrote : (outputs : ℕ → List (List ℕ)) (makers : ℕ → List Maker) (remote : Bool)
+    (own : History) (l : ℕ) (n : ℤ) (how : Written) → OwesWrote l n (Result.Ok how) own
+    → may_do outputs makers remote (duty_of own) (call.Wrote l n how) ≡ true
+may_wrote outputs makers remote own l n how (inl x) =
+    ap (λ (s : Duty). may_do outputs makers remote s (call.Wrote l n how)) x.1
+    ∙ (λ i. eq-eqb l l refl i && same_number n i)
+may_wrote outputs makers remote own l n how (inr x) =
+    ap (λ (s : Duty). may_do outputs makers remote s (call.Wrote l n how)) x.0
+    ∙ (λ i. eq-eqb l l refl i && (same_number n i && x.1 i))
+
+pub fault_report : (l : ℕ) (how : Started) → is_done how ≡ false
+    → is_report (call.Launched l how) ≡ true
+fault_report l start.Done e = absurd (cc)
+fault_report l start.RoomFault e = refl
+fault_report l start.LaunchFault e = refl
+
+-- a Claim of what was found
+pub may_claim_found : (outputs : ℕ → List (List ℕ)) (makers : ℕ → List Maker) (remote : Bool)
+    (own : History) (l : ℕ) (n : ℤ) (t : Attempt) (exit : ℤ) (refused : Bool) (f : Found)
+    → duty_of own ≡ Gathers l n t exit refused
+    → may_find (length (outputs t.action)) remote exit refused f ≡ true
+    → may_do outputs makers remote (duty_of own) (claim_of t f) ≡ true
+may_claim_found outputs makers remote own l n t exit refused f duty fits =
+    ap (λ (s : Duty). may_do outputs makers remote s (claim_of t f)) duty
+    ∙ (λ i. same_try t i && fits i)
+
+-- a Look at an output of the answer
+pub may_look_at : (outputs : ℕ → List (List ℕ)) (makers : ℕ → List Maker) (remote : Bool)
+    (own : History) (l : ℕ) (n : ℤ) (t : Attempt) (k : ℕ)
+    → duty_of own ≡ Gathers l n t (pos 0) false → k < length (outputs t.action)
+    → may_do outputs makers remote (duty_of own) (call.Look (wanted.Answered l n k)) ≡ true
+may_look_at outputs makers remote own l n t k duty below =
+    ap (λ (s : Duty). may_do outputs makers remote s (call.Look (wanted.Answered l n k))) duty
+    ∙ (λ i. (eq-eqb l l refl i && same_number n i) && lt-ltb k (length (outputs t.action)) below i)
+
+-- what fits an answer
+pub answered_fits : (rule : History → ℕ → Call → Reply) (lane l : ℕ) (n : ℤ) (outputs : ℕ) (f : Found)
+    (seen : History) → IsAnswered rule lane l n outputs f seen
+    → may_find outputs true (pos 0) false f ≡ true
+answered_fits rule lane l n outputs (found.Files fs) seen x = eq-eqb (length fs) outputs x.0
+answered_fits rule lane l n outputs (found.Missing k) seen x = lt-ltb k outputs x.0
+answered_fits rule lane l n outputs (found.Exit c) seen x = absurd x
+answered_fits rule lane l n outputs found.RoomFault seen x = absurd x
+answered_fits rule lane l n outputs found.Refused seen x = absurd x
+
+pub looked_fits : (outputs : ℕ) (f : Found) → FoundFits outputs (Result.Ok f)
+    → may_find outputs false (pos 0) false f ≡ true
+looked_fits outputs (found.Files fs) x = eq-eqb (length fs) outputs x
+looked_fits outputs (found.Missing k) x = lt-ltb k outputs x
+looked_fits outputs (found.Exit c) x = absurd x
+looked_fits outputs found.RoomFault x = refl
+looked_fits outputs found.Refused x = absurd x
+
+executor_asks_ : (b : Bool) (rooms : List Asked) → b ≡ true → cond b [] rooms ≡ []
+executor_asks_ b rooms is = ap (λ (x : Bool). cond x [] rooms) is
+
+pub executor_asks : (post : Post) (n : ℤ) (action : WorkAction) (inputs : List NamedFile)
+    → is_remote post.kind ≡ true → send_asks post n action inputs ≡ []
+executor_asks post n action inputs is =
+    executor_asks_ (is_remote post.kind) (prepare_asks (room_for post.kind n) action.outputs inputs) is
+
+pub local_asks : (post : Post) (n : ℤ) (action : WorkAction) (inputs : List NamedFile) (room : Room)
+    (outputs : List (List ℕ)) → is_remote post.kind ≡ false → room ≡ room_for post.kind n
+    → outputs ≡ action.outputs
+    → send_asks post n action inputs ≡ prepare_asks room outputs inputs
+local_asks post n action inputs room outputs is of_room of_outputs =
+    ap (λ (x : Bool). cond x [] (prepare_asks (room_for post.kind n) action.outputs inputs)) is
+    ∙ (λ i. prepare_asks (sym of_room i) (sym of_outputs i) inputs)
+
+pub due_is : (post : Post) (n : ℤ) (action : WorkAction) (inputs : List NamedFile) (room : Room)
+    (x : Due) → room ≡ room_for post.kind n
+    → x ≡ send_due post.speech (request_for n action inputs post.verbose room) (job_for n action inputs)
+    → x ≡ due_for post n action inputs
+due_is post n action inputs room x of_room is = is
+    ∙ ap (λ (r : Room). send_due post.speech (request_for n action inputs post.verbose r)
+    (job_for n action inputs)) of_room
+
+-- ---- results
+
+pub on_ok : {A E : Type 0} (r : Result A E) (P Q : Type 0) → (P → Q) → OnOk r P → OnOk r Q
+on_ok (Result.Ok a) P Q f x = f x
+on_ok (Result.Err e) P Q f x = tt
+
+pub if_err : {A E : Type 0} (r : Result A E) (P Q : E → Type 0) → ((e : E) → P e → Q e) → IfErr r P
+    → IfErr r Q
+if_err (Result.Ok a) P Q f x = tt
+if_err (Result.Err e) P Q f x = f e x
+
+-- ---- the open line
+
+pub line_is : {D : Type 0} (o : Option (OpenFeed D)) (x : OpenFeed D) (l : ℕ)
+    → option_map (λ (y : OpenFeed D). y.line) o ≡ Some l → o ≡ Some x → x.line ≡ l
+line_is {D} o x l is e =
+    let y : Some x.line ≡ Some l = sym (ap (option_map (λ (z : OpenFeed D). z.line)) e) ∙ is in cc
+
+pub no_line : {D : Type 0} (o : Option (OpenFeed D)) (l : ℕ)
+    → option_map (λ (y : OpenFeed D). y.line) o ≡ Some l → o ≡ None → ⊥
+no_line {D} o l is e =
+    (let y : None ≡ Some l = sym (ap (option_map (λ (z : OpenFeed D). z.line)) e) ∙ is in cc)
+
+pub same_line : {D : Type 0} (o : Option (OpenFeed D)) (x : OpenFeed D) → o ≡ Some x
+    → Some x.line ≡ option_map (λ (y : OpenFeed D). y.line) o
+same_line {D} o x e = sym (ap (option_map (λ (y : OpenFeed D). y.line)) e)
+
+pub none_open : {D : Type 0} (feed : D → FeedTold) (o : Option (OpenFeed D))
+    → option_map (λ (y : OpenFeed D). y.line) o ≡ None → option_map (open_of feed) o ≡ None
+none_open feed None is = refl
+none_open feed (Some x) is = absurd (cc)
+
+-- ---- what is owed after it was written
+
+pub wrote_owed : (l : ℕ) (n : ℤ) (a : ℕ) (result : Result Written NoMemory) (own own' : History)
+    → duty_of own ≡ duties.Sends l n a → own' ≡ own → OwesWrote l n result own'
+wrote_owed l n a (Result.Ok how) own own' duty is = inl (a, ap duty_of is ∙ duty)
+wrote_owed l n a (Result.Err e) own own' duty is = tt
+
+pub cancel_owed : (post : Post) (n : ℤ) (l : ℕ) (result : Result Written NoMemory) (own : History)
+    (before after : FeedTold) → duty_of own ≡ Cancels l n → CancelActs post n result before after
+    → OwesWrote l n result own
+cancel_owed post n l (Result.Ok write.Done) own before after duty x = inr (duty, refl)
+cancel_owed post n l (Result.Ok write.FeedFault) own before after duty x = inr (duty, refl)
+cancel_owed post n l (Result.Ok write.RoomFault) own before after duty x = absurd x.1
+cancel_owed post n l (Result.Ok write.TooLarge) own before after duty x = absurd x.1
+cancel_owed post n l (Result.Err e) own before after duty x = tt
+
+-- ---- children
+
+pub none_there : {K : Type 0} (told : K → ChildTold) (o : Option ℕ) (r : Option K)
+    → IsChildThere told o r → r ≡ None → o ≡ None
+none_there told None r x e = refl
+none_there told (Some l) None x e = absurd x
+none_there told (Some l) (Some k) x e = absurd (cc)
+
+pub some_there : {K : Type 0} (told : K → ChildTold) (o : Option ℕ) (l : ℕ) (r : Option K) (k : K)
+    → IsChildThere told o r → o ≡ Some l → r ≡ Some k → IsNewChild l (told k)
+some_there {K} told o l r k x is e =
+    subst (λ (y : Option K). IsChildThere told (Some l) y) e
+    (subst (λ (z : Option ℕ). IsChildThere told z r) is x)
+
+pub closed_line : {D : Type 0} (feed : D → FeedTold) (o : Option (OpenFeed D))
+    → option_map (open_of feed) o ≡ None → option_map (λ (y : OpenFeed D). y.line) o ≡ None
+closed_line feed None is = refl
+closed_line feed (Some x) is = absurd (cc)

@@ -1,5 +1,5 @@
 -- Files that were taken together, one after the other.
-use Rattle.std.proofs.Common.{◌≡◌, ℕ, ◌+◌, ◌<◌, zero, suc, ℤ, List, [], ◌∷◌, ◌++◌, length, Some, refl, ap, sym, subst, ◌∙◌, append_assoc, append-nil, arith}
+use Rattle.std.proofs.Common.{◌≡◌, ℕ, ◌+◌, ◌<◌, zero, suc, ℤ, get_or, take, add-one, List, [], ◌∷◌, ◌++◌, length, Some, refl, ap, sym, subst, ◌∙◌, append_assoc, append-nil, arith}
 use Rattle.seat_desk.specs.History.{StartsWith}
 use Rattle.exec_journal.specs.declared.call.Call.{Call}
 use Rattle.exec_journal.specs.declared.call.Wanted.TheVariants as wanted
@@ -69,3 +69,14 @@ looks_on l n fs f k is =
     let same : 0 + length fs ≡ k = omega arith in
     from_more l n 0 fs f
     ∙ (λ i. looks_from l n 0 fs ++ record { wanted = wanted.Answered l n (same i); found = Some f } ∷ [])
+
+-- the next input stands behind the ones before
+pub take_next : {X : Type 0} (xs : List X) (i : ℕ) (x : X) → i < length xs → x ≡ get_or xs i x
+    → take (i + 1) xs ≡ take i xs ++ x ∷ []
+take_next xs i x below is = rw add-one (take-suc-at xs i x below ∙ ap (λ y. take i xs ++ y ∷ []) (sym is))
+  where
+    take-suc-at : {X : Type 0} (xs : List X) (i : ℕ) (x : X) → i < length xs
+        → take (suc i) xs ≡ take i xs ++ get_or xs i x ∷ []
+    take-suc-at [] i x below = absurd (omega arith)
+    take-suc-at (y ∷ xs) zero x below = refl
+    take-suc-at (y ∷ xs) (suc i) x below = ap (λ zs. y ∷ zs) (take-suc-at xs i x (omega arith))

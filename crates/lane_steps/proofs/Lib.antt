@@ -8,3 +8,4 @@ pub mod Ending
 pub mod Rounds
 pub mod Filing
 pub mod Acting
+pub mod Serving
