@@ -14,7 +14,7 @@ use Rattle.run_rules.specs.Duties.{Duty, duty_then}
 use Rattle.lane_deeds.specs.declared.post.Post.{Post}
 use Rattle.lane_deeds.specs.Deeds.{Looked, Deed, DeedOf, Acts, calls_of, given_by, given_to}
 use Rattle.lane_deeds.specs.Told.{IsTold, AreTold, AllTold}
-use Rattle.lane_deeds.specs.Lines.{started_by, started_in, process_of, processes_in, room_fault, room_faults, feed_fault, feed_faults, RoseBy, Back, IsFed, IsBack, IsServed}
+use Rattle.lane_deeds.specs.Lines.{started_by, started_in, room_fault, room_faults, feed_fault, feed_faults, RoseBy, Back, IsFed, IsBack, IsServed}
 
 -- ---- the entries with their deeds
 
@@ -82,13 +82,6 @@ started_more [] e = append-nil (started_by e.call)
 started_more (x ∷ own) e =
     ap (λ (ls : List ℕ). started_by x.call ++ ls) (started_more own e)
     ∙ sym (append_assoc (started_by x.call) (started_in own) (started_by e.call))
-
-pub processes_more : (cs ds : List BerthCall)
-    → processes_in (cs ++ ds) ≡ processes_in cs ++ processes_in ds
-processes_more [] ds = refl
-processes_more (c ∷ cs) ds =
-    ap (λ (ls : List ℕ). process_of c ++ ls) (processes_more cs ds)
-    ∙ sym (append_assoc (process_of c) (processes_in cs) (processes_in ds))
 
 room_more : (own : History) (e : Past)
     → room_faults (own ++ e ∷ []) ≡ room_faults own + room_fault e.call

@@ -2,15 +2,14 @@
 use Rattle.std.specs.Prelude.{◌≡◌, ℕ, ◌+◌, ◌-◌, ◌^◌, ◌≤◌, ◌==◌, min, true, if◌then◌else◌, List, [], ◌∷◌, ◌++◌, map, All, Option, Some, None, IfSome}
 use Rattle.outside.specs.Lists.{Tells, Adds}
 use Rattle.outside.specs.Told.{BerthTold, SameBerth, FeedTold, ChildTold}
-use Rattle.outside.specs.declared.answers.Io.TheVariants as io
-use Rattle.outside.specs.declared.berth.BerthCall.{BerthCall}
-use Rattle.outside.specs.declared.berth.BerthCall.TheVariants as berth
 use Rattle.exec_journal.specs.declared.call.Call.{Call}
 use Rattle.exec_journal.specs.declared.call.Call.TheVariants as call
 use Rattle.exec_journal.specs.declared.call.Started.TheVariants as start
 use Rattle.exec_journal.specs.declared.call.Written.TheVariants as write
 use Rattle.exec_journal.specs.declared.call.Found.TheVariants as found
 use Rattle.run_rules.specs.Moves.{History}
+use Rattle.lane_deeds.specs.declared.cause.Cause.{Cause}
+use Rattle.lane_deeds.specs.declared.cause.Cause.TheVariants as cause
 use Rattle.lane_deeds.specs.Deeds.{Deed, calls_of, given_to}
 
 -- ---- lines that were started
@@ -23,15 +22,6 @@ started_by _ = []
 abbrev pub started_in : History → List ℕ
 started_in [] = []
 started_in (e ∷ es) = started_by e.call ++ started_in es
-
-abbrev pub process_of : BerthCall → List ℕ
-process_of (berth.Launch l command io.Done) = l ∷ []
-process_of _ = []
-
--- by the calls on the berth
-abbrev pub processes_in : List BerthCall → List ℕ
-processes_in [] = []
-processes_in (c ∷ cs) = process_of c ++ processes_in cs
 
 -- ---- faults
 
@@ -94,11 +84,16 @@ abbrev pub listed : {A : Type 0} → Option A → List A
 listed None = []
 listed (Some x) = x ∷ []
 
--- Each line that the entries say was started comes back, in order, with its child killed. So does
--- the process of one more line, where it was started and there was no memory to say so.
-pub record AreBack (own : History) (deeds : List Deed) (backs : List Back) (unsaid : Option Back)
-    : Type 0 where
+-- the line that was started, and that the lane halted over, since there was no memory to report it
+abbrev pub unsaid_by : Option Cause → List ℕ
+unsaid_by (Some (cause.Refused (call.Launched l start.Done))) = l ∷ []
+unsaid_by _ = []
+
+-- Each line that the entries say was started comes back, in order, with its child killed, and so does
+-- the one that could not be reported.
+pub record AreBack (own : History) (deeds : List Deed) (halted : Option Cause) (backs : List Back)
+    (unsaid : Option Back) : Type 0 where
   pub lines : lines_of backs ≡ started_in own
   pub each : All (IsBack own deeds) backs
+  pub last : lines_of (listed unsaid) ≡ unsaid_by halted
   pub also : All (IsBack own deeds) (listed unsaid)
-  pub processes : processes_in (calls_of deeds) ≡ started_in own ++ lines_of (listed unsaid)

@@ -1,33 +1,11 @@
-//! What a proxy lane has in its hands.
+//! The lane's hands, and the work of an action.
 ghost use Rattle.std.specs.Prelude.{◌≡◌, ◌<◌, length, slice_get, Some};
+ghost use Rattle.run_plan.specs.Groups.{is_remote};
+ghost use Rattle.lane_steps.specs.Steps.{open_in};
 
+use lane_steps::Hands;
 use remote_messages::WorkAction;
-
-/// The feed of a line that has ended, with the line's child, which was killed.
-#[derive(Drop)]
-pub struct EndedFeed<D, K> {
-    pub line: u32,
-    pub feed: D,
-    pub child: K,
-}
-
-/// The feed of a line that was started. Its child lies on the shelf.
-#[derive(Drop)]
-pub struct OpenFeed<D> {
-    pub line: u32,
-    pub feed: D,
-}
-
-/// The berth, the feed of the line that is open, and what came of the lines before it. There is
-/// room in `ended` for the line that is open.
-#[derive(Drop)]
-pub(crate) struct Hands<B, D, K> {
-    pub berth: B,
-    pub open: Option<OpenFeed<D>>,
-    pub ended: Vec<EndedFeed<D, K>>,
-    /// A line that was started, and there was no memory to report it.
-    pub unsaid: Option<EndedFeed<D, K>>,
-}
+use run_plan::Kind;
 
 /// The work of an action.
 pub(crate) fn action_at(actions: &[WorkAction], number: u32) -> &WorkAction
@@ -38,4 +16,21 @@ pub(crate) fn action_at(actions: &[WorkAction], number: u32) -> &WorkAction
         Some(action) => action,
         None => unreachable!(),
     }
+}
+
+/// The line that is open.
+pub(crate) fn open_line<B, D, K>(hands: &Hands<B, D, K>) -> Option<u32>
+    ensures { result ≡ open_in hands.now }
+{
+    match &hands.open {
+        Some(open) => Some(open.line),
+        None => None,
+    }
+}
+
+/// It is the kind of the executor's lines.
+pub(crate) fn is_executor(kind: Kind) -> bool
+    ensures { result ≡ is_remote kind }
+{
+    matches!(kind, Kind::Remote)
 }

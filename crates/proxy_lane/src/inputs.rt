@@ -5,7 +5,7 @@ ghost use Rattle.lane_deeds.specs.Deeds.{AreInputs, IsFrom, look_at, looks_of};
 ghost use Rattle.lane_deeds.specs.Told.{AreTold};
 ghost use Rattle.proxy_calls.specs.Calls.{IsProxyOf, MakesNone};
 ghost use Rattle.proxy_calls.specs.Looks.{OwesSend};
-ghost use Rattle.proxy_lane.specs.Work.{IsMadeBy};
+ghost use Rattle.lane_steps.specs.Work.{IsMadeBy};
 
 use lane_crew::Caller;
 use outside::{Berth, Place};
@@ -46,7 +46,7 @@ pub(crate) fn inputs_of<B: Berth, P: Place, C: Rules, R: Wait>(
     for input in inputs {
         let path = Text::copy_of(alloc, input.path.as_str())?;
         let content = content_of(rt, caller, berth, action, &input.origin)?;
-        files.push_reserved(NamedFile { path, content });
+        files.push(NamedFile { path, content })?;
     }
     Ok(files)
 }

@@ -7,13 +7,14 @@ ghost use Rattle.lane_deeds.specs.Ends.{may_halt};
 ghost use Rattle.exec_journal.specs.declared.call.Call.TheVariants as call;
 ghost use Rattle.exec_journal.specs.declared.reply.Reply.TheVariants as reply;
 ghost use Rattle.proxy_calls.specs.Calls.{IsProxyOf, MakesOne};
-ghost use Rattle.proxy_lane.specs.Lanes.{held_of};
-ghost use Rattle.proxy_lane.specs.Steps.{open_in, HasRoom, IsShelved, Goes, Halts, IsLaidBy, AreLaidBy};
+ghost use Rattle.lane_steps.specs.Lanes.{held_of};
+ghost use Rattle.lane_steps.specs.Steps.{open_in, HasRoom, IsShelved, Goes, Halts, IsLaidBy, AreLaidBy};
 
-use crate::hands::{EndedFeed, Hands, OpenFeed};
+use crate::hands::open_line;
 use exec_journal::Call;
 use lane_crew::Caller;
 use lane_deeds::{Cause, Post};
+use lane_steps::{EndedFeed, Hands, OpenFeed};
 use outside::{Berth, Child, Place};
 use proxy_calls::{halt, tell};
 use remote_messages::WorkAction;
@@ -26,7 +27,7 @@ use std::sync::Wait;
 /// # Errors
 ///
 /// Why the lane is to halt.
-pub(crate) fn kill<B: Berth, P: Place, C: Rules, R: Wait>(
+pub fn kill<B: Berth, P: Place, C: Rules, R: Wait>(
     rt: &R,
     post: &Post,
     actions: &[WorkAction],
@@ -53,7 +54,8 @@ pub(crate) fn kill<B: Berth, P: Place, C: Rules, R: Wait>(
         caller.old.pass (held_of B.told B.Feed.told B.Child.told hands.old)
         caller.new.pass (held_of B.told B.Feed.told B.Child.told hands.new)) }
 {
-    let _ = (post, actions);
+    let _ = post;
+    let _ = actions;
     lay_by::<B>(hands, line, child);
     match tell(rt, caller, lane, Call::Killed { line }) {
         Ok(()) => Ok(()),
@@ -81,7 +83,7 @@ fn lay_by<B: Berth>(hands: &mut Hands<B, B::Feed, B::Child>, line: u32, child: B
 }
 
 /// Halts. If a line is open, its child comes off the shelf and is killed.
-pub(crate) fn give_up<B: Berth, P: Place, C: Rules, R: Wait>(
+pub fn give_up<B: Berth, P: Place, C: Rules, R: Wait>(
     rt: &R,
     caller: &mut Caller<'_, Bench<B, P, C>>,
     lane: u32,
@@ -97,18 +99,12 @@ pub(crate) fn give_up<B: Berth, P: Place, C: Rules, R: Wait>(
         (held_of B.told B.Feed.told B.Child.told hands.old)
         (held_of B.told B.Feed.told B.Child.told hands.new) }
 {
-    match (halt(rt, caller, lane), open_line(hands)) {
-        (Some(child), Some(line)) => lay_by::<B>(hands, line, child),
-        _ => {}
-    }
-}
-
-// The line that is open.
-fn open_line<B, D, K>(hands: &Hands<B, D, K>) -> Option<u32>
-    ensures { result ≡ open_in hands.now }
-{
-    match &hands.open {
-        Some(open) => Some(open.line),
-        None => None,
+    let child = halt(rt, caller, lane);
+    match child {
+        Some(child) => match open_line(hands) {
+            Some(line) => lay_by::<B>(hands, line, child),
+            None => {}
+        },
+        None => {}
     }
 }

@@ -1,5 +1,5 @@
 //! What a proxy lane does for a Launch.
-ghost use Rattle.std.specs.Prelude.{◌≡◌, false, None, OnOk, IfErr};
+ghost use Rattle.std.specs.Prelude.{◌≡◌, ◌<◌, vec_len, vec_capacity, false, None, OnOk, IfErr};
 ghost use Rattle.seat_desk.specs.Passes.{IsSamePass, mine};
 ghost use Rattle.run_rules.specs.Duties.{Asks, Launches, duty_of};
 ghost use Rattle.exec_journal.specs.declared.call.Call.TheVariants as call;
@@ -7,13 +7,13 @@ ghost use Rattle.exec_journal.specs.declared.reply.Reply.TheVariants as reply;
 ghost use Rattle.exec_journal.specs.Entries.{is_done};
 ghost use Rattle.lane_deeds.specs.declared.cause.Cause.TheVariants.{Refused};
 ghost use Rattle.proxy_calls.specs.Calls.{IsProxyOf, MakesNone, MakesOne};
-ghost use Rattle.proxy_lane.specs.Lanes.{held_of};
-ghost use Rattle.proxy_lane.specs.Steps.{open_in, HasRoom, IsShelved, IsNewLine, Goes, Halts};
+ghost use Rattle.lane_steps.specs.Lanes.{held_of};
+ghost use Rattle.lane_steps.specs.Steps.{open_in, HasRoom, IsShelved, IsNewLine, Goes, Halts};
 
-use crate::hands::{EndedFeed, Hands, OpenFeed};
 use exec_journal::{Call, Started};
 use lane_crew::Caller;
 use lane_deeds::{Cause, Post};
+use lane_steps::{EndedFeed, Hands, OpenFeed};
 use order_acts::{Opened, launch_line};
 use outside::{Berth, Child, Place};
 use proxy_calls::{Unsaid, tell, tell_started};
@@ -27,7 +27,7 @@ use std::sync::Wait;
 /// # Errors
 ///
 /// Why the lane is to halt. A child that was started by then is killed.
-pub(crate) fn launch<B: Berth, P: Place, C: Rules, R: Wait>(
+pub fn launch<B: Berth, P: Place, C: Rules, R: Wait>(
     rt: &R,
     post: &Post,
     actions: &[WorkAction],
@@ -52,12 +52,46 @@ pub(crate) fn launch<B: Berth, P: Place, C: Rules, R: Wait>(
         caller.old.pass (held_of B.told B.Feed.told B.Child.told hands.old)
         caller.new.pass (held_of B.told B.Feed.told B.Child.told hands.new)) }
 {
-    let _ = actions;
-    if hands.ended.reserve(1).is_err() {
-        return Err(Cause::NoMemory);
+    match hands.ended.reserve(1) {
+        Ok(()) => start(rt, post, actions, caller, lane, hands, line),
+        Err(_) => Err(Cause::NoMemory),
     }
-    match launch_line(&mut hands.berth, line, &post.command) {
-        Ok(Opened::Line(feed, tap, child)) => {
+}
+
+// The same, where there is room for the line when it ends.
+fn start<B: Berth, P: Place, C: Rules, R: Wait>(
+    rt: &R,
+    post: &Post,
+    actions: &[WorkAction],
+    caller: &mut Caller<'_, Bench<B, P, C>>,
+    lane: u32,
+    hands: &mut Hands<B, B::Feed, B::Child>,
+    line: u32,
+) -> Result<(), Cause>
+    requires lane { IsProxyOf C.seats lane caller.old.pass }
+    requires owes { duty_of (mine caller.old.pass) ≡ Launches line }
+    requires shelved { IsShelved lane caller.old.pass None }
+    requires open { open_in hands.old ≡ None }
+    requires space { vec_len hands.old.ended < vec_capacity hands.old.ended }
+    requires new { IsNewLine line caller.old.pass }
+    ensures same { IsSamePass caller.old.pass caller.new.pass }
+    ensures shelved { IsShelved lane caller.new.pass (open_in hands.new) }
+    ensures room { HasRoom hands.new }
+    ensures goes { OnOk result ((duty_of (mine caller.new.pass) ≡ Asks)
+        × Goes post.now actions.now C.rule
+        caller.old.pass (held_of B.told B.Feed.told B.Child.told hands.old)
+        caller.new.pass (held_of B.told B.Feed.told B.Child.told hands.new)) }
+    ensures halts { IfErr result (λ cause. Halts post.now actions.now C.rule cause
+        caller.old.pass (held_of B.told B.Feed.told B.Child.told hands.old)
+        caller.new.pass (held_of B.told B.Feed.told B.Child.told hands.new)) }
+{
+    let _ = actions;
+    let opened = match launch_line(&mut hands.berth, line, &post.command) {
+        Ok(opened) => opened,
+        Err(_) => return Err(Cause::NoMemory),
+    };
+    match opened {
+        Opened::Line(feed, tap, child) => {
             match tell_started(rt, caller, lane, line, child, tap) {
                 Ok(()) => {
                     hands.open = Some(OpenFeed { line, feed });
@@ -74,13 +108,8 @@ pub(crate) fn launch<B: Berth, P: Place, C: Rules, R: Wait>(
                 }
             }
         }
-        Ok(Opened::RoomFault) => {
-            not_started(rt, caller, lane, line, Started::RoomFault)
-        }
-        Ok(Opened::LaunchFault) => {
-            not_started(rt, caller, lane, line, Started::LaunchFault)
-        }
-        Err(_) => Err(Cause::NoMemory),
+        Opened::RoomFault => not_started(rt, caller, lane, line, Started::RoomFault),
+        Opened::LaunchFault => not_started(rt, caller, lane, line, Started::LaunchFault),
     }
 }
 

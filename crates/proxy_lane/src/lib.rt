@@ -1,13 +1,13 @@
-//! The proxy lane of a berth: it asks, does what it is ordered, and reports.
+//! The steps of a proxy lane: what it does for a Launch, a Send, a Cancel and a Kill, with the report,
+//! and where it halts. Each says what it makes of what the lane has done so far.
 #![tactic(auto)]
 
-mod gathering;
 mod hands;
 mod inputs;
 mod killing;
-mod lane;
 mod launching;
 mod sending;
 
-pub use hands::{EndedFeed, OpenFeed};
-pub use lane::{LaneEnd, ProxyEnd, run};
+pub use killing::{give_up, kill};
+pub use launching::launch;
+pub use sending::{cancel, send};

@@ -3,25 +3,26 @@ ghost use Rattle.std.specs.Prelude.{◌≡◌, ◌<◌, length, Some, OnOk, IfEr
 ghost use Rattle.seat_desk.specs.Passes.{IsSamePass, mine, rules, seen};
 ghost use Rattle.run_rules.specs.Duties.{Asks, Sends, Cancels, duty_of};
 ghost use Rattle.proxy_calls.specs.Calls.{IsProxyOf, MakesNone};
-ghost use Rattle.proxy_lane.specs.Acts.{Writes, SendActs, CancelActs};
-ghost use Rattle.proxy_lane.specs.Lanes.{held_of};
-ghost use Rattle.proxy_lane.specs.Steps.{open_in, SameShelf, Goes, Halts, OwesWrote, TellsWrote, IsCauseOf};
-ghost use Rattle.proxy_lane.specs.Work.{IsWork, IsWorkOf};
+ghost use Rattle.lane_steps.specs.Acts.{Writes, SendActs, CancelActs};
+ghost use Rattle.lane_steps.specs.Lanes.{held_of};
+ghost use Rattle.lane_steps.specs.Steps.{open_in, SameShelf, Goes, Halts, OwesWrote, TellsWrote, IsCauseOf};
+ghost use Rattle.lane_steps.specs.Work.{IsWork, IsWorkOf};
+ghost use Rattle.due_frames.specs.declared.frames.Due.TheVariants.{Frame};
 ghost use Rattle.lane_deeds.specs.Deeds.{send_asks, due_for};
 
-use crate::hands::{Hands, OpenFeed, action_at};
+use crate::hands::{action_at, is_executor};
 use crate::inputs::inputs_of;
 use due_frames::{Due, cancel_frame, room_of, send_frame};
 use exec_journal::{Call, Written};
 use lane_crew::Caller;
 use lane_deeds::{Cause, Post};
+use lane_steps::{Hands, OpenFeed};
 use order_acts::{give, send_line};
 use outside::{Berth, Feed, Place};
 use plain_values::NoMemory;
 use proxy_calls::tell;
 use remote_messages::{NamedFile, WorkAction};
 use run_bench::Bench;
-use run_plan::Kind;
 use run_rules::Rules;
 use std::alloc::Global;
 use std::sync::Wait;
@@ -55,8 +56,14 @@ pub(crate) fn act_send<B: Berth, P: Place, C: Rules, R: Wait>(
         line number work.now result (seen caller.new.pass)
         (B.told berth.old) (B.told berth.new) (B.Feed.told feed.old) (B.Feed.told feed.new) }
 {
-    let inputs = inputs_of(rt, alloc, caller, lane, action, work.inputs.as_slice())?;
-    write(alloc, post, work, berth, feed, number, inputs.as_slice())
+    let sources = work.inputs.as_slice();
+    match inputs_of(rt, alloc, caller, lane, action, sources) {
+        Ok(inputs) => {
+            let files = inputs.as_slice();
+            write(alloc, post, work, berth, feed, number, files)
+        }
+        Err(no_memory) => Err(no_memory),
+    }
 }
 
 // Makes the room ready, and writes what is due.
@@ -74,21 +81,39 @@ fn write<B: Berth>(
         (B.told berth.old) (B.told berth.new) (B.Feed.told feed.old) (B.Feed.told feed.new) }
 {
     let room = room_of(post.kind, number);
-    match send_frame(alloc, post.speech, room, number, work, inputs, post.verbose)? {
+    let due = match send_frame(alloc, post.speech, room, number, work, inputs, post.verbose) {
+        Ok(due) => due,
+        Err(no_memory) => return Err(no_memory),
+    };
+    match due {
         Due::TooLarge => Ok(Written::TooLarge),
-        Due::Frame(frame) => match post.kind {
-            Kind::Remote => Ok(give(feed, frame.as_slice())),
-            Kind::Single | Kind::Multi | Kind::Boxed => send_line(
-                alloc,
-                berth,
-                feed,
-                room,
-                inputs,
-                work.outputs.as_slice(),
-                frame.as_slice(),
-            ),
-        },
+        Due::Frame(frame) => {
+            let bytes = frame.as_slice();
+            write_frame(alloc, post, work, berth, feed, number, inputs, bytes)
+        }
     }
+}
+
+// Makes the room ready, where the line has one, and writes the frame.
+fn write_frame<B: Berth>(
+    alloc: Global,
+    post: &Post,
+    work: &WorkAction,
+    berth: &mut B,
+    feed: &mut B::Feed,
+    number: i32,
+    inputs: &[NamedFile],
+    frame: &[u8],
+) -> Result<Written, NoMemory>
+    ensures { Writes (send_asks post.now number work.now inputs.now) (Frame frame.now) result
+        (B.told berth.old) (B.told berth.new) (B.Feed.told feed.old) (B.Feed.told feed.new) }
+{
+    if is_executor(post.kind) {
+        return Ok(give(feed, frame));
+    }
+    let room = room_of(post.kind, number);
+    let outputs = work.outputs.as_slice();
+    send_line(alloc, berth, feed, room, inputs, outputs, frame)
 }
 
 /// For a Cancel: writes to the line that the request is to be given up.
@@ -104,8 +129,13 @@ pub(crate) fn act_cancel<D: Feed>(
 ) -> Result<Written, NoMemory>
     ensures { CancelActs post.now number result (D.told feed.old) (D.told feed.new) }
 {
-    let frame = cancel_frame(alloc, post.speech, number)?;
-    Ok(give(feed, frame.as_slice()))
+    match cancel_frame(alloc, post.speech, number) {
+        Ok(frame) => {
+            let bytes = frame.as_slice();
+            Ok(give(feed, bytes))
+        }
+        Err(no_memory) => Err(no_memory),
+    }
 }
 
 /// Carries out a Send on the open line, and reports how that went.
@@ -113,7 +143,7 @@ pub(crate) fn act_cancel<D: Feed>(
 /// # Errors
 ///
 /// Why the lane is to halt.
-pub(crate) fn send<B: Berth, P: Place, C: Rules, R: Wait>(
+pub fn send<B: Berth, P: Place, C: Rules, R: Wait>(
     rt: &R,
     alloc: Global,
     post: &Post,
@@ -143,7 +173,10 @@ pub(crate) fn send<B: Berth, P: Place, C: Rules, R: Wait>(
 {
     match hands.open.take() {
         Some(open) => {
-            let OpenFeed { line: _, mut feed } = open;
+            let OpenFeed {
+                line: open_line,
+                mut feed,
+            } = open;
             let work = action_at(actions, action);
             let wrote = act_send(
                 rt,
@@ -158,7 +191,10 @@ pub(crate) fn send<B: Berth, P: Place, C: Rules, R: Wait>(
                 number,
                 action,
             );
-            hands.open = Some(OpenFeed { line, feed });
+            hands.open = Some(OpenFeed {
+                line: open_line,
+                feed,
+            });
             report(rt, caller, lane, line, number, wrote)
         }
         None => unreachable!(),
@@ -170,7 +206,7 @@ pub(crate) fn send<B: Berth, P: Place, C: Rules, R: Wait>(
 /// # Errors
 ///
 /// Why the lane is to halt.
-pub(crate) fn cancel<B: Berth, P: Place, C: Rules, R: Wait>(
+pub fn cancel<B: Berth, P: Place, C: Rules, R: Wait>(
     rt: &R,
     alloc: Global,
     post: &Post,
@@ -197,9 +233,15 @@ pub(crate) fn cancel<B: Berth, P: Place, C: Rules, R: Wait>(
     let _ = actions;
     match hands.open.take() {
         Some(open) => {
-            let OpenFeed { line: _, mut feed } = open;
+            let OpenFeed {
+                line: open_line,
+                mut feed,
+            } = open;
             let wrote = act_cancel(alloc, post, &mut feed, number);
-            hands.open = Some(OpenFeed { line, feed });
+            hands.open = Some(OpenFeed {
+                line: open_line,
+                feed,
+            });
             report(rt, caller, lane, line, number, wrote)
         }
         None => unreachable!(),

@@ -13,7 +13,7 @@ IsMadeBy makers (origin.Made c o) = is_maker makers c o ≡ true
 
 -- what is asked of the work of one action
 pub record IsWork (outputs : List (List ℕ)) (makers : List Maker) (action : WorkAction) : Type 0 where
-  pub outputs : action.outputs ≡ outputs
+  pub same_outputs : action.outputs ≡ outputs
   pub few : length action.outputs < 2 ^ 32
   pub made : All (λ input. IsMadeBy makers input.origin) action.inputs
 

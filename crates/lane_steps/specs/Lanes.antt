@@ -16,13 +16,13 @@ use Rattle.run_rules.specs.Laws.{lines_in}
 use Rattle.run_rules.specs.Duties.{Asks, duty_of}
 use Rattle.lane_deeds.specs.declared.post.Post.{Post}
 use Rattle.lane_deeds.specs.declared.cause.Cause.{Cause}
-use Rattle.lane_deeds.specs.Deeds.{Deed, Acts, calls_of, given_to}
+use Rattle.lane_deeds.specs.Deeds.{Deed, Acts, given_to}
 use Rattle.lane_deeds.specs.Told.{AllTold}
-use Rattle.lane_deeds.specs.Lines.{Back, IsFed, IsBack, IsServed, feed_faults, started_in, processes_in, lines_of, listed}
+use Rattle.lane_deeds.specs.Lines.{Back, IsFed, IsBack, IsServed, feed_faults, started_in, lines_of, listed, unsaid_by}
 use Rattle.lane_deeds.specs.Ends.{HaltsBy}
-use Rattle.proxy_lane.specs.declared.hands.EndedFeed.{EndedFeed}
-use Rattle.proxy_lane.specs.declared.hands.OpenFeed.{OpenFeed}
-use Rattle.proxy_lane.specs.declared.hands.Hands.{Hands}
+use Rattle.lane_steps.specs.declared.hands.EndedFeed.{EndedFeed}
+use Rattle.lane_steps.specs.declared.hands.OpenFeed.{OpenFeed}
+use Rattle.lane_steps.specs.declared.hands.Hands.{Hands}
 
 -- the line that is open, by what its feed tells
 pub record Open : Type 0 where
@@ -32,24 +32,24 @@ pub record Open : Type 0 where
 -- what the lane has in its hands, by what it tells
 pub record Held : Type 0 where
   pub berth : BerthTold
-  pub open : Option Open
+  pub opened : Option Open
   pub ended : List Back
   pub unsaid : Option Back
 
-module _ {B D K : Type 0} (berth : B → BerthTold) (feed : D → FeedTold) (child : K → ChildTold) where
-  abbrev pub back_of : EndedFeed D K → Back
-  back_of x = record { line = x.line; feed = feed x.feed; child = child x.child }
+abbrev pub back_of : {D K : Type 0} → (D → FeedTold) → (K → ChildTold) → EndedFeed D K → Back
+back_of feed child x = record { line = x.line; feed = feed x.feed; child = child x.child }
 
-  abbrev pub open_of : OpenFeed D → Open
-  open_of x = record { line = x.line; feed = feed x.feed }
+abbrev pub open_of : {D : Type 0} → (D → FeedTold) → OpenFeed D → Open
+open_of feed x = record { line = x.line; feed = feed x.feed }
 
-  abbrev pub held_of : Hands B D K → Held
-  held_of h = record {
-    berth = berth h.berth;
-    open = option_map open_of h.open;
-    ended = map back_of h.ended.items;
-    unsaid = option_map back_of h.unsaid;
-  }
+abbrev pub held_of : {B D K : Type 0} → (B → BerthTold) → (D → FeedTold) → (K → ChildTold)
+    → Hands B D K → Held
+held_of berth feed child h = record {
+  berth = berth h.berth;
+  opened = option_map (open_of feed) h.open;
+  ended = map (back_of feed child) h.ended.items;
+  unsaid = option_map (back_of feed child) h.unsaid;
+}
 
 abbrev pub open_line : Option Open → Option ℕ
 open_line o = option_map (λ x. x.line) o
@@ -72,11 +72,10 @@ module _ (rule : History → ℕ → Call → Reply) (lane : ℕ) where
     pub berth : IsServed own deeds first h.berth
     pub ended : All (IsBack own deeds) h.ended
     pub unsaid : All (IsBack own deeds) (listed h.unsaid)
-    pub open : IsOpenFed own deeds h.open
-    pub lines : lines_of h.ended ++ listed (open_line h.open) ≡ started_in own
-    pub after : IsAfter h.open h.ended
+    pub opened : IsOpenFed own deeds h.opened
+    pub lines : lines_of h.ended ++ listed (open_line h.opened) ≡ started_in own
+    pub after : IsAfter h.opened h.ended
     pub below : All (λ l. l < lines_in seen) (started_in own)
-    pub processes : processes_in (calls_of deeds) ≡ started_in own ++ lines_of (listed h.unsaid)
     -- a line after all that were started was given nothing
     pub untouched : (l : ℕ) → All (λ k. k < l) (started_in own)
         → (given_to l deeds ≡ []) × (feed_faults l own ≡ 0)
@@ -97,3 +96,4 @@ module _ (rule : History → ℕ → Call → Reply) (lane : ℕ) where
     pub acts : Acts post actions Asks own deeds
     pub halts : HaltsBy post actions cause (duty_of own) last
     pub holds : Holds (own ++ entry lane call.Halt reply.Noted ∷ []) (deeds ++ last ∷ []) seen first h
+    pub said : lines_of (listed h.unsaid) ≡ unsaid_by (Some cause)

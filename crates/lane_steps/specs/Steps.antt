@@ -34,8 +34,8 @@ use Rattle.proxy_calls.specs.declared.asking.Order.TheVariants as order
 use Rattle.proxy_calls.specs.Calls.{MakesOne, MayMake}
 use Rattle.proxy_calls.specs.Claims.{claim_of}
 use Rattle.lane_deeds.specs.Lines.{Back, IsKilled, IsServed, AreBack, started_in}
-use Rattle.proxy_lane.specs.declared.hands.Hands.{Hands}
-use Rattle.proxy_lane.specs.Lanes.{Open, Held, Keeps, Halting}
+use Rattle.lane_steps.specs.declared.hands.Hands.{Hands}
+use Rattle.lane_steps.specs.Lanes.{Open, Held, Keeps, Halting}
 
 -- the files that were found
 abbrev pub files_in : Found → List (List ℕ)
@@ -61,13 +61,14 @@ IsCauseOfClaim t f (cause.Refused c) = c ≡ claim_of t f
 
 -- the open line was laid by, with its child, which was killed
 pub record IsLaidBy (line : ℕ) (h h' : Held) : Type 0 where
-  pub open : Open
+  pub was_open : Open
   pub back : Back
-  pub was : h.open ≡ Some open
-  pub of_line : open.line ≡ line
-  pub is_back : (back.line ≡ open.line) × (back.feed ≡ open.feed) × IsKilled back.line back.child
+  pub was : h.opened ≡ Some was_open
+  pub of_line : was_open.line ≡ line
+  pub is_back : (back.line ≡ was_open.line) × (back.feed ≡ was_open.feed)
+      × IsKilled back.line back.child
   pub ended : h'.ended ≡ h.ended ++ back ∷ []
-  pub rest : (h'.open ≡ None) × (h'.berth ≡ h.berth) × (h'.unsaid ≡ h.unsaid)
+  pub rest : (h'.opened ≡ None) × (h'.berth ≡ h.berth) × (h'.unsaid ≡ h.unsaid)
 
 -- so was every line that was open
 abbrev pub AreLaidBy : Option ℕ → Held → Held → Type 0
@@ -82,7 +83,17 @@ pub record Ended (post : Post) (actions : List WorkAction) (rule : History → �
   pub ends : Ends post actions lane halted own deeds
   pub told : AllTold rule lane seen deeds
   pub berth : IsServed own deeds old new
-  pub lines : AreBack own deeds feeds unsaid
+  pub lines : AreBack own deeds halted feeds unsaid
+
+-- the lane may report it
+abbrev pub OwesWrote : ℕ → ℤ → Result Written NoMemory → History → Type 0
+OwesWrote l n (Ok how) own = ((a : ℕ) × (duty_of own ≡ Sends l n a))
+    ⊎ ((duty_of own ≡ Cancels l n) × (is_whole_or_fault how ≡ true))
+OwesWrote l n (Err e) own = Unit {0}
+
+abbrev pub IsCauseOf : ℕ → ℤ → Result Written NoMemory → Cause → Type 0
+IsCauseOf l n (Ok how) by = by ≡ cause.Refused (call.Wrote l n how)
+IsCauseOf l n (Err e) by = by ≡ cause.NoMemory
 
 module _ {B D K : Type 0} where
   -- the line that is open
@@ -96,7 +107,7 @@ module _ {B D K : Type 0} where
 module _ {M G Q : Type 0} {g : Ghosts M Call Reply G Q} where
   -- the child of the open line lies on the shelf for the berth, and none where no line is open
   abbrev pub IsShelved : ℕ → Pass M Call Reply G Q g → Option ℕ → Type 0
-  IsShelved w p open = child_at w (mine p) ≡ open
+  IsShelved w p line = child_at w (mine p) ≡ line
 
   -- no line with a number from this one on was started, and this one was ordered
   abbrev pub IsNewLine : ℕ → Pass M Call Reply G Q g → Type 0
@@ -108,6 +119,11 @@ module _ {M G Q : Type 0} {g : Ghosts M Call Reply G Q} where
     Goes p h p' h' = (first : BerthTold)
         → Keeps (rule (rules p)) p.lane post actions (mine p) (seen p) first h
         → Keeps (rule (rules p)) p.lane post actions (mine p') (seen p') first h'
+
+    -- so it does, of some berth at first
+    abbrev pub SomeKeeps : Pass M Call Reply G Q g → Held → Type 0
+    SomeKeeps p h = (first : BerthTold)
+        × Keeps (rule (rules p)) p.lane post actions (mine p) (seen p) first h
 
     abbrev pub Halts : Cause → Pass M Call Reply G Q g → Held → Pass M Call Reply G Q g → Held
         → Type 0
@@ -124,20 +140,10 @@ module _ {M G Q : Type 0} {g : Ghosts M Call Reply G Q} where
 
   -- ---- the report of what was written
 
-  -- the lane may report it
-  abbrev pub OwesWrote : ℕ → ℤ → Result Written NoMemory → History → Type 0
-  OwesWrote l n (Ok how) own = ((a : ℕ) × (duty_of own ≡ Sends l n a))
-      ⊎ ((duty_of own ≡ Cancels l n) × (is_whole_or_fault how ≡ true))
-  OwesWrote l n (Err e) own = Unit {0}
-
   abbrev pub TellsWrote : ℕ → ℤ → Result Written NoMemory → Pass M Call Reply G Q g
       → Pass M Call Reply G Q g → Type 0
   TellsWrote l n (Ok how) p p' = MakesOne (call.Wrote l n how) reply.Noted p p'
   TellsWrote l n (Err e) p p' = ⊥
-
-  abbrev pub IsCauseOf : ℕ → ℤ → Result Written NoMemory → Cause → Type 0
-  IsCauseOf l n (Ok how) by = by ≡ cause.Refused (call.Wrote l n how)
-  IsCauseOf l n (Err e) by = by ≡ cause.NoMemory
 
   -- ---- the Claim of what was found
 
@@ -157,16 +163,16 @@ module _ {M G Q : Type 0} {g : Ghosts M Call Reply G Q} where
   -- what holds where the lane is ordered so, with so many actions
   abbrev pub MayObey : {K : Type 0} → ℕ → (K → ChildTold) → ℕ → Order K
       → Pass M Call Reply G Q g → Option ℕ → Type 0
-  MayObey actions told w (order.Launch l) p open =
-      (duty_of (mine p) ≡ Launches l) × (open ≡ None) × IsShelved w p open × IsNewLine l p
-  MayObey actions told w (order.Send l n a) p open =
-      (duty_of (mine p) ≡ Sends l n a) × (open ≡ Some l) × IsShelved w p open × (a < actions)
-  MayObey actions told w (order.Cancel l n) p open =
-      (duty_of (mine p) ≡ Cancels l n) × (open ≡ Some l) × IsShelved w p open
-  MayObey actions told w (order.Gather l n t exit refused) p open =
-      (duty_of (mine p) ≡ Gathers l n t exit refused) × IsShelved w p open × (t.action < actions)
-  MayObey actions told w (order.Kill l k) p open =
-      (duty_of (mine p) ≡ Kills l) × (open ≡ Some l) × IsShelved w p None × IsNewChild l (told k)
+  MayObey actions told w (order.Launch l) p line =
+      (duty_of (mine p) ≡ Launches l) × (line ≡ None) × IsShelved w p line × IsNewLine l p
+  MayObey actions told w (order.Send l n a) p line =
+      (duty_of (mine p) ≡ Sends l n a) × (line ≡ Some l) × IsShelved w p line × (a < actions)
+  MayObey actions told w (order.Cancel l n) p line =
+      (duty_of (mine p) ≡ Cancels l n) × (line ≡ Some l) × IsShelved w p line
+  MayObey actions told w (order.Gather l n t exit refused) p line =
+      (duty_of (mine p) ≡ Gathers l n t exit refused) × IsShelved w p line × (t.action < actions)
+  MayObey actions told w (order.Kill l k) p line =
+      (duty_of (mine p) ≡ Kills l) × (line ≡ Some l) × IsShelved w p None × IsNewChild l (told k)
 
   -- ---- a round, and the whole lane
 
@@ -176,7 +182,7 @@ module _ {M G Q : Type 0} {g : Ghosts M Call Reply G Q} where
         → Type 0
     GoesTo true p h p' h' = (duty_of (mine p') ≡ Asks) × Goes post actions rule p h p' h'
     GoesTo false p h p' h' =
-        (duty_of (mine p') ≡ Left) × (h'.open ≡ None) × Goes post actions rule p h p' h'
+        (duty_of (mine p') ≡ Left) × (h'.opened ≡ None) × Goes post actions rule p h p' h'
 
     -- the lane has ended so, if what it had done by then held
     abbrev pub Finishes : Option Cause → Pass M Call Reply G Q g → Held → Pass M Call Reply G Q g

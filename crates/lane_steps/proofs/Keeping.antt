@@ -23,11 +23,11 @@ use Rattle.lane_deeds.specs.declared.post.Post.{Post}
 use Rattle.lane_deeds.specs.declared.cause.Cause.{Cause}
 use Rattle.lane_deeds.specs.Deeds.{Deed, DeedOf, Acts}
 use Rattle.lane_deeds.specs.Told.{AreTold}
-use Rattle.lane_deeds.specs.Lines.{RoseBy, room_fault, feed_fault}
+use Rattle.lane_deeds.specs.Lines.{RoseBy, room_fault, feed_fault, lines_of, listed, unsaid_by}
 use Rattle.lane_deeds.specs.Ends.{HaltsBy}
 use Rattle.lane_deeds.proofs.Growing.{acts_more}
-use Rattle.proxy_lane.specs.Lanes.{Open, Held, Holds, Keeps, Halting}
-use Rattle.proxy_lane.proofs.Holding.{Touches}
+use Rattle.lane_steps.specs.Lanes.{Open, Held, Holds, Keeps, Halting}
+use Rattle.lane_steps.proofs.Holding.{Touches}
 
 -- ---- counts
 
@@ -104,12 +104,14 @@ module _ (rule : History → ℕ → Call → Reply) (lane : ℕ) (post : Post) 
   pub halting_more : (cause : Cause) (own' seen' : History) (h' : Held) (d : Deed) → own' ≡ own
       → HaltsBy post actions cause (duty_of own) d
       → Holds rule lane (own ++ halt ∷ []) (k.deeds ++ d ∷ []) seen' first h'
+      → lines_of (listed h'.unsaid) ≡ unsaid_by (Some cause)
       → Halting rule lane post actions cause own' seen' first h'
-  halting_more cause own' seen' h' d is by holds = record {
+  halting_more cause own' seen' h' d is by holds said = record {
     deeds = k.deeds;
     last = d;
     acts = subst (λ (x : History). Acts post actions Asks x k.deeds) (sym is) k.acts;
     halts = subst (λ (x : History). HaltsBy post actions cause (duty_of x) d) (sym is) by;
     holds = subst (λ (x : History). Holds rule lane (x ++ halt ∷ []) (k.deeds ++ d ∷ []) seen' first h')
         (sym is) holds;
+    said = said;
   }

@@ -18,13 +18,13 @@ use Rattle.run_rules.specs.Laws.{lines_in}
 use Rattle.run_rules.specs.Duties.{Asks, duty_of}
 use Rattle.lane_deeds.specs.declared.post.Post.{Post}
 use Rattle.lane_deeds.specs.declared.cause.Cause.{Cause}
-use Rattle.lane_deeds.specs.Deeds.{Deed, DeedOf, Acts, calls_of, given_by, given_to}
+use Rattle.lane_deeds.specs.Deeds.{Deed, DeedOf, Acts, given_by, given_to}
 use Rattle.lane_deeds.specs.Told.{AreTold, AllTold}
-use Rattle.lane_deeds.specs.Lines.{started_by, started_in, processes_in, room_fault, feed_fault, feed_faults, RoseBy, Back, IsFed, IsBack, IsKilled, IsServed, lines_of, listed}
+use Rattle.lane_deeds.specs.Lines.{started_by, started_in, room_fault, feed_fault, feed_faults, RoseBy, Back, IsFed, IsBack, IsKilled, IsServed, lines_of, listed}
 use Rattle.lane_deeds.specs.Ends.{HaltsBy}
-use Rattle.lane_deeds.proofs.Growing.{acts_more, calls_more, all_told_later, all_told_more, started_more, processes_more, served_none, served_more, given_more, feed_more, fed_more, fed_still, LeavesFeed, backs_still, leaves_all, gives_other, gives_own}
+use Rattle.lane_deeds.proofs.Growing.{acts_more, all_told_later, all_told_more, started_more, served_none, served_more, given_more, feed_more, fed_more, fed_still, LeavesFeed, backs_still, leaves_all, gives_other, gives_own}
 use Rattle.proxy_calls.proofs.Askings.{lines_later}
-use Rattle.proxy_lane.specs.Lanes.{Open, Held, open_line, IsAfter, IsOpenFed, Holds, Keeps, Halting}
+use Rattle.lane_steps.specs.Lanes.{Open, Held, open_line, IsAfter, IsOpenFed, Holds, Keeps, Halting}
 
 all_last : {X : Type 0} (P : X → Type 0) (xs : List X) (y : X) → All P (xs ++ y ∷ []) → P y
 all_last P [] y a = a 0 y (omega arith)
@@ -43,11 +43,9 @@ pub record Touches (e : Past) (d : Deed) (old new : BerthTold) : Type 0 where
   pub faults : RoseBy (room_fault e.call) old.faults new.faults
   pub same : SameBerth old new
 
--- an entry that starts no line, and tells no fault of a feed, with a deed that started no process
--- and gave nothing
+-- an entry that starts no line, and tells no fault of a feed, with a deed that gave nothing
 pub record IsQuiet (e : Past) (d : Deed) : Type 0 where
   pub starts : started_by e.call ≡ []
-  pub processes : processes_in d.calls ≡ []
   pub gives : d.given ≡ []
   pub feeds : (l : ℕ) → feed_fault l e.call ≡ 0
 
@@ -55,128 +53,117 @@ module _ (rule : History → ℕ → Call → Reply) (lane : ℕ) (own : History
     (seen : History) (first : BerthTold) (h : Held) (k : Holds rule lane own ds seen first h)
     (e : Past) (d : Deed) (seen' : History) (more : StartsWith seen' seen)
     (told : AreTold rule lane seen' d.looks) (new : BerthTold) (touches : Touches e d h.berth new)
-    where
-  told_then : AllTold rule lane seen' (ds ++ d ∷ [])
-  told_then = all_told_more rule lane seen' ds d (all_told_later rule lane seen seen' more ds k.told) told
+  where
+    told_then : AllTold rule lane seen' (ds ++ d ∷ [])
+    told_then = all_told_more rule lane seen' ds d (all_told_later rule lane seen seen' more ds k.told) told
 
-  berth_then : IsServed (own ++ e ∷ []) (ds ++ d ∷ []) first new
-  berth_then = served_more own ds e d first h.berth new k.berth touches.log touches.faults touches.same
+    berth_then : IsServed (own ++ e ∷ []) (ds ++ d ∷ []) first new
+    berth_then = served_more own ds e d first h.berth new k.berth touches.log touches.faults touches.same
 
-  below_then : (ls : List ℕ) → All (λ l. l < lines_in seen) ls → All (λ l. l < lines_in seen') ls
-  below_then ls below = λ i y lt.
-      let one : slice_index_or ls i y < lines_in seen = below i y lt in
-      let later = lines_later seen' seen more in
-      omega arith
+    below_then : (ls : List ℕ) → All (λ l. l < lines_in seen) ls → All (λ l. l < lines_in seen') ls
+    below_then ls below = λ i y lt.
+        let one : slice_index_or ls i y < lines_in seen = below i y lt in
+        let later = lines_later seen' seen more in
+        omega arith
 
-  same_lines : started_by e.call ≡ [] → started_in (own ++ e ∷ []) ≡ started_in own
-  same_lines none = started_more own e
-      ∙ (ap (λ (ls : List ℕ). started_in own ++ ls) none ∙ append-nil (started_in own))
+    same_lines : started_by e.call ≡ [] → started_in (own ++ e ∷ []) ≡ started_in own
+    same_lines none = started_more own e
+        ∙ (ap (λ (ls : List ℕ). started_in own ++ ls) none ∙ append-nil (started_in own))
 
-  same_processes : processes_in d.calls ≡ []
-      → processes_in (calls_of (ds ++ d ∷ [])) ≡ processes_in (calls_of ds)
-  same_processes none = ap processes_in (calls_more ds d)
-      ∙ (processes_more (calls_of ds) d.calls
-      ∙ (ap (λ (ls : List ℕ). processes_in (calls_of ds) ++ ls) none
-      ∙ append-nil (processes_in (calls_of ds))))
+    -- a line that the entry leaves was given no more
+    untouched_then : (l : ℕ) → LeavesFeed e d l → All (λ n. n < l) (started_in own)
+        → (given_to l (ds ++ d ∷ []) ≡ []) × (feed_faults l (own ++ e ∷ []) ≡ 0)
+    untouched_then l leave later =
+        let u = k.untouched l later in
+        let more = feed_more l own e in (
+          given_more l ds d ∙ (ap (λ (bs : List ℕ). given_to l ds ++ bs) leave.0
+              ∙ (append-nil (given_to l ds) ∙ u.0)),
+          (let z = u.1 in let y = leave.1 in omega arith),
+        )
 
-  -- a line that the entry leaves was given no more
-  untouched_then : (l : ℕ) → LeavesFeed e d l → All (λ n. n < l) (started_in own)
-      → (given_to l (ds ++ d ∷ []) ≡ []) × (feed_faults l (own ++ e ∷ []) ≡ 0)
-  untouched_then l leave later =
-      let u = k.untouched l later in
-      let more = feed_more l own e in (
-        given_more l ds d ∙ (ap (λ (bs : List ℕ). given_to l ds ++ bs) leave.0
-        ∙ (append-nil (given_to l ds) ∙ u.0)),
-        (let z = u.1 in let y = leave.1 in omega arith),
-      )
+    -- the entry leaves all feeds
+    module _ (quiet : IsQuiet e d) where
+      leaves : (l : ℕ) → LeavesFeed e d l
+      leaves l = leaves_all e d l quiet.gives (quiet.feeds l)
 
-  -- the entry leaves all feeds
-  module _ (quiet : IsQuiet e d) where
-    leaves : (l : ℕ) → LeavesFeed e d l
-    leaves l = leaves_all e d l quiet.gives (quiet.feeds l)
+      open_still : (o : Option Open) → IsOpenFed own ds o
+          → IsOpenFed (own ++ e ∷ []) (ds ++ d ∷ []) o
+      open_still None fed = tt
+      open_still (Some o) fed = fed_still own ds e d o.line o.feed fed (leaves o.line)
 
-    open_still : (o : Option Open) → IsOpenFed own ds o
-        → IsOpenFed (own ++ e ∷ []) (ds ++ d ∷ []) o
-    open_still None fed = tt
-    open_still (Some o) fed = fed_still own ds e d o.line o.feed fed (leaves o.line)
+      pub holds_quiet : Holds rule lane (own ++ e ∷ []) (ds ++ d ∷ []) seen' first
+          (record h { berth = new })
+      holds_quiet = record {
+        told = told_then;
+        berth = berth_then;
+        ended = backs_still own ds e d h.ended k.ended (λ i y lt. leaves (slice_index_or h.ended i y).line);
+        unsaid = backs_still own ds e d (listed h.unsaid) k.unsaid
+            (λ i y lt. leaves (slice_index_or (listed h.unsaid) i y).line);
+        opened = open_still h.opened k.opened;
+        lines = k.lines ∙ sym (same_lines quiet.starts);
+        after = k.after;
+        below = subst (λ (ls : List ℕ). All (λ l. l < lines_in seen') ls) (sym (same_lines quiet.starts))
+            (below_then (started_in own) k.below);
+        untouched = λ l later. untouched_then l (leaves l)
+            (subst (λ (ls : List ℕ). All (λ n. n < l) ls) (same_lines quiet.starts) later);
+      }
 
-    pub holds_quiet : Holds rule lane (own ++ e ∷ []) (ds ++ d ∷ []) seen' first
-        (record h { berth = new })
-    holds_quiet = record {
-      told = told_then;
-      berth = berth_then;
-      ended = backs_still own ds e d h.ended k.ended (λ i y lt. leaves (slice_index_or h.ended i y).line);
-      unsaid = backs_still own ds e d (listed h.unsaid) k.unsaid
-          (λ i y lt. leaves (slice_index_or (listed h.unsaid) i y).line);
-      open = open_still h.open k.open;
-      lines = k.lines ∙ sym (same_lines quiet.starts);
-      after = k.after;
-      below = subst (λ (ls : List ℕ). All (λ l. l < lines_in seen') ls) (sym (same_lines quiet.starts))
-          (below_then (started_in own) k.below);
-      processes = same_processes quiet.processes ∙ (k.processes
-          ∙ ap (λ (ls : List ℕ). ls ++ lines_of (listed h.unsaid)) (sym (same_lines quiet.starts)));
-      untouched = λ l later. untouched_then l (leaves l)
-          (subst (λ (ls : List ℕ). All (λ n. n < l) ls) (same_lines quiet.starts) later);
-    }
+    -- the entry is about the open line's feed
+    module _ (o : Open) (is_open : h.opened ≡ Some o) (none : h.unsaid ≡ None)
+        (starts : started_by e.call ≡ [])
+        (on_line : d.line ≡ o.line) (others : (l : ℕ) → l < o.line → feed_fault l e.call ≡ 0)
+        (later_none : (l : ℕ) → o.line < l → feed_fault l e.call ≡ 0)
+        (feed : FeedTold) (given : Adds d.given o.feed.given feed.given)
+        (faults : RoseBy (feed_fault o.line e.call) o.feed.faults feed.faults)
+        (same : SameFeed o.feed feed) where
+      after_open : All (λ x. x.line < o.line) h.ended
+      after_open = subst (λ (p : Option Open). IsAfter p h.ended) is_open k.after
 
-  -- the entry is about the open line's feed
-  module _ (o : Open) (is_open : h.open ≡ Some o) (none : h.unsaid ≡ None)
-      (starts : started_by e.call ≡ []) (processes : processes_in d.calls ≡ [])
-      (on_line : d.line ≡ o.line) (others : (l : ℕ) → l < o.line → feed_fault l e.call ≡ 0)
-      (later_none : (l : ℕ) → o.line < l → feed_fault l e.call ≡ 0)
-      (feed : FeedTold) (given : Adds d.given o.feed.given feed.given)
-      (faults : RoseBy (feed_fault o.line e.call) o.feed.faults feed.faults)
-      (same : SameFeed o.feed feed) where
-    after_open : All (λ x. x.line < o.line) h.ended
-    after_open = subst (λ (p : Option Open). IsAfter p h.ended) is_open k.after
+      leaves_ended : All (λ x. LeavesFeed e d x.line) h.ended
+      leaves_ended = λ i y lt.
+          let x : Back = slice_index_or h.ended i y in
+          (gives_other d o.line x.line on_line (after_open i y lt), others x.line (after_open i y lt))
 
-    leaves_ended : All (λ x. LeavesFeed e d x.line) h.ended
-    leaves_ended = λ i y lt.
-        let x : Back = slice_index_or h.ended i y in
-        (gives_other d o.line x.line on_line (after_open i y lt), others x.line (after_open i y lt))
+      leaves_unsaid : All (λ x. LeavesFeed e d x.line) (listed h.unsaid)
+      leaves_unsaid = subst (λ (u : Option Back). All (λ x. LeavesFeed e d x.line) (listed u)) (sym none)
+          (All-nil (λ x. LeavesFeed e d x.line))
 
-    leaves_unsaid : All (λ x. LeavesFeed e d x.line) (listed h.unsaid)
-    leaves_unsaid = subst (λ (u : Option Back). All (λ x. LeavesFeed e d x.line) (listed u)) (sym none)
-        (All-nil (λ x. LeavesFeed e d x.line))
+      open_below : (l : ℕ) → All (λ n. n < l) (started_in own) → o.line < l
+      open_below l later = all_last (λ n. n < l) (lines_of h.ended) o.line
+          (subst (λ (ls : List ℕ). All (λ n. n < l) ls)
+          (sym (ap (λ (p : Option Open). lines_of h.ended ++ listed (open_line p)) (sym is_open) ∙ k.lines))
+          later)
 
-    open_below : (l : ℕ) → All (λ n. n < l) (started_in own) → o.line < l
-    open_below l later = all_last (λ n. n < l) (lines_of h.ended) o.line
-        (subst (λ (ls : List ℕ). All (λ n. n < l) ls)
-        (sym (ap (λ (p : Option Open). lines_of h.ended ++ listed (open_line p)) (sym is_open) ∙ k.lines))
-        later)
+      gives_later : (l : ℕ) → o.line < l → given_by l d ≡ []
+      gives_later l above =
+          let other : d.line ≡ l → ⊥ = λ x. omega arith in
+          ap (λ (b : Bool). cond b d.given []) (ne_eqb d.line l other)
 
-    gives_later : (l : ℕ) → o.line < l → given_by l d ≡ []
-    gives_later l above =
-        let other : d.line ≡ l → ⊥ = λ x. omega arith in
-        ap (λ (b : Bool). cond b d.given []) (ne_eqb d.line l other)
+      fed_on : IsFed (own ++ e ∷ []) (ds ++ d ∷ []) o.line feed
+      fed_on = fed_more own ds e d o.line o.feed feed
+          (subst (λ (p : Option Open). IsOpenFed own ds p) is_open k.opened)
+          (subst (λ (bs : List ℕ). Adds bs o.feed.given feed.given) (sym (gives_own d o.line on_line)) given)
+          faults same
 
-    fed_on : IsFed (own ++ e ∷ []) (ds ++ d ∷ []) o.line feed
-    fed_on = fed_more own ds e d o.line o.feed feed
-        (subst (λ (p : Option Open). IsOpenFed own ds p) is_open k.open)
-        (subst (λ (bs : List ℕ). Adds bs o.feed.given feed.given) (sym (gives_own d o.line on_line)) given)
-        faults same
-
-    pub holds_given : Holds rule lane (own ++ e ∷ []) (ds ++ d ∷ []) seen' first
-        (record h { berth = new; open = Some (record { line = o.line; feed = feed }) })
-    holds_given = record {
-      told = told_then;
-      berth = berth_then;
-      ended = backs_still own ds e d h.ended k.ended leaves_ended;
-      unsaid = backs_still own ds e d (listed h.unsaid) k.unsaid leaves_unsaid;
-      open = fed_on;
-      lines = ap (λ (p : Option Open). lines_of h.ended ++ listed (open_line p)) (sym is_open)
-          ∙ (k.lines ∙ sym (same_lines starts));
-      after = after_open;
-      below = subst (λ (ls : List ℕ). All (λ l. l < lines_in seen') ls) (sym (same_lines starts))
-          (below_then (started_in own) k.below);
-      processes = same_processes processes ∙ (k.processes
-          ∙ ap (λ (ls : List ℕ). ls ++ lines_of (listed h.unsaid)) (sym (same_lines starts)));
-      untouched = λ l later.
-          let own_later : All (λ n. n < l) (started_in own) =
-          subst (λ (ls : List ℕ). All (λ n. n < l) ls) (same_lines starts) later in
-          let above = open_below l own_later in
-          untouched_then l (gives_later l above, later_none l above) own_later;
-    }
+      pub holds_given : Holds rule lane (own ++ e ∷ []) (ds ++ d ∷ []) seen' first
+          (record h { berth = new; opened = Some (record { line = o.line; feed = feed }) })
+      holds_given = record {
+        told = told_then;
+        berth = berth_then;
+        ended = backs_still own ds e d h.ended k.ended leaves_ended;
+        unsaid = backs_still own ds e d (listed h.unsaid) k.unsaid leaves_unsaid;
+        opened = fed_on;
+        lines = ap (λ (p : Option Open). lines_of h.ended ++ listed (open_line p)) (sym is_open)
+            ∙ (k.lines ∙ sym (same_lines starts));
+        after = after_open;
+        below = subst (λ (ls : List ℕ). All (λ l. l < lines_in seen') ls) (sym (same_lines starts))
+            (below_then (started_in own) k.below);
+        untouched = λ l later.
+            let own_later : All (λ n. n < l) (started_in own) =
+            subst (λ (ls : List ℕ). All (λ n. n < l) ls) (same_lines starts) later in
+            let above = open_below l own_later in
+            untouched_then l (gives_later l above, later_none l above) own_later;
+      }
 
 -- ---- a line that was started
 
@@ -185,7 +172,7 @@ module _ (rule : History → ℕ → Call → Reply) (lane : ℕ) (own : History
     (e : Past) (d : Deed) (seen' : History) (more : StartsWith seen' seen)
     (told : AreTold rule lane seen' d.looks) (new : BerthTold) (touches : Touches e d h.berth new)
     (l : ℕ) (gives : d.given ≡ []) (feeds : (n : ℕ) → feed_fault n e.call ≡ 0)
-    (processes : processes_in d.calls ≡ l ∷ []) (none : h.open ≡ None) (said : h.unsaid ≡ None)
+    (none : h.opened ≡ None)
     (fresh : All (λ n. n < l) (started_in own)) (ordered : l < lines_in seen) where
   leave : (n : ℕ) → LeavesFeed e d n
   leave n = leaves_all e d n gives (feeds n)
@@ -230,36 +217,24 @@ module _ (rule : History → ℕ → Call → Reply) (lane : ℕ) (own : History
   ordered_on : l < lines_in seen'
   ordered_on = let later = lines_later seen' seen more in omega arith
 
-  no_unsaid : lines_of (listed h.unsaid) ≡ []
-  no_unsaid = ap (λ (u : Option Back). lines_of (listed u)) said
-
-  processes_on : processes_in (calls_of (ds ++ d ∷ [])) ≡ started_in own ++ l ∷ []
-  processes_on = ap processes_in (calls_more ds d)
-      ∙ (processes_more (calls_of ds) d.calls
-      ∙ ((λ i. (k.processes ∙ (ap (λ (ls : List ℕ). started_in own ++ ls) no_unsaid
-      ∙ append-nil (started_in own))) i ++ processes i)))
-
   -- it was reported: it is open
   module _ (feed : FeedTold) (fed : IsFed [] [] l feed) (starts : started_by e.call ≡ l ∷ []) where
     lines_on : started_in (own ++ e ∷ []) ≡ started_in own ++ l ∷ []
     lines_on = started_more own e ∙ ap (λ (ls : List ℕ). started_in own ++ ls) starts
 
     pub holds_started : Holds rule lane (own ++ e ∷ []) (ds ++ d ∷ []) seen' first
-        (record h { berth = new; open = Some (record { line = l; feed = feed }) })
+        (record h { berth = new; opened = Some (record { line = l; feed = feed }) })
     holds_started = record {
       told = told_on;
       berth = berth_on;
       ended = ended_on;
       unsaid = backs_still own ds e d (listed h.unsaid) k.unsaid all_said;
-      open = of_new feed fed;
+      opened = of_new feed fed;
       lines = ap (λ (ls : List ℕ). ls ++ l ∷ []) all_ended ∙ sym lines_on;
       after = earlier;
       below = subst (λ (ls : List ℕ). All (λ n. n < lines_in seen') ls) (sym lines_on)
           (All-append (λ n. n < lines_in seen') (started_in own) (l ∷ []) below_on
           (All-cons (λ n. n < lines_in seen') l [] ordered_on (All-nil (λ n. n < lines_in seen'))));
-      processes = processes_on ∙ (sym lines_on
-          ∙ (sym (append-nil (started_in (own ++ e ∷ [])))
-          ∙ ap (λ (ls : List ℕ). started_in (own ++ e ∷ []) ++ ls) (sym no_unsaid)));
       untouched = λ n later.
           let both : All (λ m. m < n) (started_in own ++ l ∷ []) =
           subst (λ (ls : List ℕ). All (λ m. m < n) ls) lines_on later in
@@ -289,11 +264,10 @@ module _ (rule : History → ℕ → Call → Reply) (lane : ℕ) (own : History
       ended = ended_on;
       unsaid = All-cons (IsBack (own ++ e ∷ []) (ds ++ d ∷ [])) back [] back_on
           (All-nil (IsBack (own ++ e ∷ []) (ds ++ d ∷ [])));
-      open = subst (λ (o : Option Open). IsOpenFed (own ++ e ∷ []) (ds ++ d ∷ []) o) (sym none) tt;
+      opened = subst (λ (o : Option Open). IsOpenFed (own ++ e ∷ []) (ds ++ d ∷ []) o) (sym none) tt;
       lines = k.lines ∙ sym lines_off;
       after = k.after;
       below = subst (λ (ls : List ℕ). All (λ n. n < lines_in seen') ls) (sym lines_off) below_on;
-      processes = processes_on ∙ (λ i. sym lines_off i ++ sym of i ∷ []);
       untouched = λ n later.
           untouched_then rule lane own ds seen first h k e d seen' more told new touches n (leave n)
           (subst (λ (ls : List ℕ). All (λ m. m < n) ls) lines_off later);
@@ -303,48 +277,46 @@ module _ (rule : History → ℕ → Call → Reply) (lane : ℕ) (own : History
 
 module _ (rule : History → ℕ → Call → Reply) (lane : ℕ) (own : History) (ds : List Deed)
     (seen : History) (first : BerthTold) (h : Held) (k : Holds rule lane own ds seen first h)
-    (o : Open) (was : h.open ≡ Some o) (back : Back)
+    (o : Open) (was : h.opened ≡ Some o) (back : Back)
     (is : (back.line ≡ o.line) × (back.feed ≡ o.feed) × IsKilled back.line back.child) where
   back_is : IsBack own ds back
   back_is = (
     subst (λ (n : ℕ). IsFed own ds n back.feed) (sym is.0)
         (subst (λ (f : FeedTold). IsFed own ds o.line f) (sym is.1)
-        (subst (λ (p : Option Open). IsOpenFed own ds p) was k.open)),
+        (subst (λ (p : Option Open). IsOpenFed own ds p) was k.opened)),
     is.2,
   )
 
   pub holds_laid : Holds rule lane own ds seen first
-      (record h { open = None; ended = h.ended ++ back ∷ [] })
+      (record h { opened = None; ended = h.ended ++ back ∷ [] })
   holds_laid = record {
     told = k.told;
     berth = k.berth;
     ended = All-append (IsBack own ds) h.ended (back ∷ []) k.ended
         (All-cons (IsBack own ds) back [] back_is (All-nil (IsBack own ds)));
     unsaid = k.unsaid;
-    open = tt;
+    opened = tt;
     lines = append-nil (lines_of (h.ended ++ back ∷ []))
         ∙ (map-append (λ (x : Back). x.line) h.ended (back ∷ [])
         ∙ ((λ i. lines_of h.ended ++ is.0 i ∷ [])
         ∙ (ap (λ (p : Option Open). lines_of h.ended ++ listed (open_line p)) (sym was) ∙ k.lines)));
     after = tt;
     below = k.below;
-    processes = k.processes;
     untouched = k.untouched;
   }
 
 -- before its first call
 pub holds_first : (rule : History → ℕ → Call → Reply) (lane : ℕ) (seen : History) (berth : BerthTold)
     → Holds rule lane [] [] seen berth
-    (record { berth = berth; open = None; ended = []; unsaid = None })
+    (record { berth = berth; opened = None; ended = []; unsaid = None })
 holds_first rule lane seen berth = record {
   told = tt;
   berth = served_none berth;
   ended = All-nil (IsBack [] []);
   unsaid = All-nil (IsBack [] []);
-  open = tt;
+  opened = tt;
   lines = refl;
   after = tt;
   below = All-nil (λ l. l < lines_in seen);
-  processes = refl;
   untouched = λ l later. (refl, refl);
 }

@@ -1,0 +1,11 @@
+pub mod Holding
+pub mod Keeping
+pub mod Sends
+pub mod Starts
+pub mod Founds
+pub mod Shelving
+pub mod Ending
+pub mod Rounds
+pub mod Filing
+pub mod Acting
+pub mod Serving

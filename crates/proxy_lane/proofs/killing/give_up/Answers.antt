@@ -1,0 +1,43 @@
+use Rattle.std.proofs.Common.{◌≡◌, ℕ, Option, Some, None, Result, List, [], ◌∷◌, refl, ap, sym, subst, ◌∙◌, arith, eq-eqb, append-nil}
+use Rattle.std.specs.Prelude.{option_map, map, slice_get}
+use Rattle.seat_desk.specs.Passes.{mine, rules, seen}
+use Rattle.exec_journal.specs.declared.call.Call.{Call}
+use Rattle.exec_journal.specs.declared.call.Call.TheVariants as call
+use Rattle.exec_journal.specs.declared.call.Started.TheVariants as start
+use Rattle.exec_journal.specs.declared.reply.Reply.{Reply}
+use Rattle.exec_journal.specs.declared.reply.Reply.TheVariants as reply
+use Rattle.run_rules.specs.Shelf.{child_at}
+use Rattle.run_rules.specs.Duties.{Duty, Asks, duty_of, proxy_lane, may_do}
+use Rattle.lane_deeds.specs.declared.cause.Cause.{Cause}
+use Rattle.lane_deeds.specs.declared.cause.Cause.TheVariants as cause
+use Rattle.proxy_calls.specs.Calls.{MakesNone, MakesOne}
+use Rattle.lane_steps.specs.Lanes.{Open, Held, open_of, back_of, held_of}
+use Rattle.lane_steps.specs.Steps.{AreLaidBy}
+use Rattle.lane_steps.proofs.Acting.{none_there, some_there}
+use Rattle.proxy_lane.proofs.killing.give_up.Goals as goal
+
+pub lay_by-requires-clause-open : goal.lay_by-requires-clause-open
+lay_by-requires-clause-open g c = sym c.open_line.ensures ∙ c.in-Some-open_line.is
+
+pub lay_by-requires-clause-child : goal.lay_by-requires-clause-child
+lay_by-requires-clause-child g c =
+    some_there g.B.Child.Child.told (child_at c.args.lane (mine c.args.caller.now.pass))
+    c.in-Some-open_line.line c.halt-child.result c.in-Some.child c.halt-child.ensures.child
+    (c.requires.shelved ∙ (sym c.open_line.ensures ∙ c.in-Some-open_line.is)) c.in-Some.is
+
+pub returns-in-Some-open_line-clause-laid_by : goal.returns-in-Some-open_line-clause-laid_by
+returns-in-Some-open_line-clause-laid_by g c =
+    subst (λ (o : Option ℕ). AreLaidBy o (held_of g.B.Berth.told g.B.Feed.Feed.told g.B.Child.Child.told c.args.hands.now)
+    (held_of g.B.Berth.told g.B.Feed.Feed.told g.B.Child.Child.told c.lay_by.new.hands)) (sym (sym c.open_line.ensures ∙ c.in-Some-open_line.is)) c.lay_by.ensures
+
+pub returns-in-None-open_line-clause-laid_by : goal.returns-in-None-open_line-clause-laid_by
+returns-in-None-open_line-clause-laid_by g c =
+    let h = held_of g.B.Berth.told g.B.Feed.Feed.told g.B.Child.Child.told c.args.hands.now in
+    subst (λ (o : Option ℕ). AreLaidBy o h h) (sym (sym c.open_line.ensures ∙ c.in-None-open_line.is)) refl
+
+pub returns-in-None-clause-laid_by : goal.returns-in-None-clause-laid_by
+returns-in-None-clause-laid_by g c =
+    let h = held_of g.B.Berth.told g.B.Feed.Feed.told g.B.Child.Child.told c.args.hands.now in
+    let none = none_there g.B.Child.Child.told (child_at c.args.lane (mine c.args.caller.now.pass))
+    c.halt-child.result c.halt-child.ensures.child c.in-None.is in
+    subst (λ (o : Option ℕ). AreLaidBy o h h) (sym (sym c.requires.shelved ∙ none)) refl

@@ -1,0 +1,68 @@
+use Rattle.std.proofs.Common.{◌≡◌, ℕ, Option, Some, None, Result, List, [], ◌∷◌, refl, ap, sym, subst, ◌∙◌, arith, eq-eqb, append-nil}
+use Rattle.std.specs.Prelude.{option_map, map, slice_get}
+use Rattle.seat_desk.specs.Passes.{mine, rules, seen}
+use Rattle.exec_journal.specs.declared.call.Call.{Call}
+use Rattle.exec_journal.specs.declared.call.Call.TheVariants as call
+use Rattle.exec_journal.specs.declared.call.Started.TheVariants as start
+use Rattle.exec_journal.specs.declared.reply.Reply.{Reply}
+use Rattle.exec_journal.specs.declared.reply.Reply.TheVariants as reply
+use Rattle.run_rules.specs.Shelf.{child_at}
+use Rattle.run_rules.specs.Duties.{Duty, Asks, duty_of, proxy_lane, may_do}
+use Rattle.lane_deeds.specs.declared.cause.Cause.{Cause}
+use Rattle.lane_deeds.specs.declared.cause.Cause.TheVariants as cause
+use Rattle.proxy_calls.specs.Calls.{MakesNone, MakesOne}
+use Rattle.lane_steps.specs.Lanes.{Open, Held, open_of, back_of, held_of}
+use Rattle.lane_steps.proofs.Acting.{closed_line}
+use Rattle.lane_steps.proofs.Shelving.{child_more}
+use Rattle.lane_steps.proofs.Ending.{kill_goes, kill_halts}
+use Rattle.proxy_lane.proofs.killing.kill.Goals as goal
+
+pub tell-requires-clause-may : goal.tell-requires-clause-may
+tell-requires-clause-may g c =
+    let q = c.args.caller.now.pass.seat.me.0.rules in
+    ap (λ (s : Duty). may_do (g.C.Rules.outputs q) (g.C.Rules.makers q) (g.C.Rules.remote q c.args.lane) s
+    (call.Killed c.args.line)) c.requires.owes ∙ eq-eqb c.args.line c.args.line refl
+
+pub returns-in-Ok-clause-shelved : goal.returns-in-Ok-clause-shelved
+returns-in-Ok-clause-shelved g c =
+    let p = c.args.caller.now.pass in
+    ap (child_at c.args.lane) c.in-Ok.ensures.told.0.1
+    ∙ (child_more c.args.lane p.lane (mine p) (call.Killed c.args.line) reply.Noted c.requires.lane.0
+    ∙ c.requires.shelved)
+
+pub returns-in-Err-clause-shelved : goal.returns-in-Err-clause-shelved
+returns-in-Err-clause-shelved g c =
+    ap (child_at c.args.lane) c.in-Err.ensures.refused.1.1 ∙ c.requires.shelved
+
+pub returns-in-Ok-clause-closed : goal.returns-in-Ok-clause-closed
+returns-in-Ok-clause-closed g c =
+    closed_line g.B.Feed.Feed.told c.lay_by.new.hands.open c.lay_by.ensures.rest.0
+
+pub returns-in-Err-clause-closed : goal.returns-in-Err-clause-closed
+returns-in-Err-clause-closed g c =
+    closed_line g.B.Feed.Feed.told c.lay_by.new.hands.open c.lay_by.ensures.rest.0
+
+pub returns-in-Ok-clause-goes : goal.returns-in-Ok-clause-goes
+returns-in-Ok-clause-goes g c =
+    let post = c.args.post.now in
+    let actions = c.args.actions.now in
+    let rule = g.C.Rules.rule in
+    let p = c.args.caller.now.pass in
+    let h = held_of g.B.Berth.told g.B.Feed.Feed.told g.B.Child.Child.told c.args.hands.now in
+    let h1 = held_of g.B.Berth.told g.B.Feed.Feed.told g.B.Child.Child.told c.lay_by.new.hands in (
+      c.in-Ok.ensures.told.1,
+      kill_goes post actions rule p c.tell.new.caller.pass h h1 c.args.line c.requires.owes c.lay_by.ensures
+          c.in-Ok.ensures.told.0,
+    )
+
+pub returns-in-Err-clause-halts : goal.returns-in-Err-clause-halts
+returns-in-Err-clause-halts g c =
+    let post = c.args.post.now in
+    let actions = c.args.actions.now in
+    let rule = g.C.Rules.rule in
+    let p = c.args.caller.now.pass in
+    let h = held_of g.B.Berth.told g.B.Feed.Feed.told g.B.Child.Child.told c.args.hands.now in
+    let h1 = held_of g.B.Berth.told g.B.Feed.Feed.told g.B.Child.Child.told c.lay_by.new.hands in
+    kill_halts post actions rule p c.tell.new.caller.pass h h1 c.args.line c.requires.owes c.lay_by.ensures
+    (cause.Refused c.in-Err.call) c.in-Err.ensures.refused.1
+    (ap (λ (x : Call). cause.Refused x) c.in-Err.ensures.refused.0)

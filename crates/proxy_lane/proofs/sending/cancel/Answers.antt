@@ -1,0 +1,124 @@
+use Rattle.std.proofs.Math.Facts.{to_z-of_z}
+use Rattle.std.specs.Prelude.{ℤ}
+use Rattle.std.proofs.Common.{◌≡◌, ℕ, Option, Some, None, Result, refl, ap, sym, subst, ◌∙◌, arith}
+use Rattle.std.specs.Prelude.{option_map, slice_get, OnOk, IfErr}
+use Rattle.lane_steps.specs.Acts.{SendActs, CancelActs}
+use Rattle.seat_desk.specs.Passes.{mine, rules, seen}
+use Rattle.plain_values.specs.declared.no_memory.NoMemory.{NoMemory}
+use Rattle.exec_journal.specs.declared.call.Call.{Call}
+use Rattle.exec_journal.specs.declared.call.Call.TheVariants as call
+use Rattle.exec_journal.specs.declared.call.Written.{Written}
+use Rattle.exec_journal.specs.declared.reply.Reply.{Reply}
+use Rattle.exec_journal.specs.declared.reply.Reply.TheVariants as reply
+use Rattle.run_rules.specs.Shelf.{child_at}
+use Rattle.run_rules.specs.Duties.{Asks, duty_of, proxy_lane}
+use Rattle.lane_deeds.specs.declared.cause.Cause.{Cause}
+use Rattle.proxy_calls.specs.Calls.{MakesNone, MakesOne}
+use Rattle.lane_steps.specs.Lanes.{Open, Held, open_of, held_of}
+use Rattle.std.proofs.Common.{[], append-nil, ◌⊎◌, inl, inr}
+use Rattle.lane_steps.specs.Steps.{SameShelf, Goes, Halts, OwesWrote, TellsWrote, IsCauseOf}
+use Rattle.lane_steps.proofs.Acting.{on_ok, if_err, line_is, no_line, same_line, cancel_owed}
+use Rattle.lane_steps.proofs.Shelving.{wrote_shelved}
+use Rattle.lane_steps.proofs.Sends.{cancel_goes, cancel_halts}
+use Rattle.proxy_lane.proofs.sending.cancel.Goals as goal
+
+pub report-requires-clause-owes : goal.report-requires-clause-owes
+report-requires-clause-owes g c =
+    subst (λ (n : ℤ). OwesWrote c.args.line n c.act_cancel-wrote.result c.args.caller.now.pass.seat.me.0.mine) (sym (to_z-of_z c.ranges.number))
+    (cancel_owed c.args.post.now c.args.number c.args.line c.act_cancel-wrote.result
+    c.args.caller.now.pass.seat.me.0.mine (g.B.Feed.Feed.told c.in-Some.open.feed)
+    (g.B.Feed.Feed.told c.act_cancel-wrote.new.feed) c.requires.owes
+    (subst (λ (n : ℤ). CancelActs c.args.post.now n c.act_cancel-wrote.result
+    (g.B.Feed.Feed.told c.in-Some.open.feed) (g.B.Feed.Feed.told c.act_cancel-wrote.new.feed)) (to_z-of_z c.ranges.number)
+    c.act_cancel-wrote.ensures))
+
+pub unreachable-requires : goal.unreachable-requires
+unreachable-requires g c = no_line c.args.hands.now.open c.args.line c.requires.open
+    (sym c.take.ensures.value ∙ c.in-None.is)
+
+pub returns-clause-shelf : goal.returns-clause-shelf
+returns-clause-shelf g c =
+    let post = c.args.post.now in
+    let actions = c.args.actions.now in
+    let rule = g.C.Rules.rule in
+    let p = c.args.caller.now.pass in
+    let p1 = p in
+    let p2 = c.report.new.caller.pass in
+    let feed = g.B.Feed.Feed.told in
+    let h = held_of g.B.Berth.told g.B.Feed.Feed.told g.B.Child.Child.told c.args.hands.now in
+    let was = sym c.take.ensures.value ∙ c.in-Some.is in
+    let o = open_of feed c.in-Some.open in
+    let is_open = ap (option_map (open_of feed)) was in
+    let of = line_is c.args.hands.now.open c.in-Some.open c.args.line c.requires.open was in
+    let result = c.act_cancel-wrote.result in
+    let none : MakesNone p p = (([], sym (append-nil (seen p))), refl) in
+    let lane = refl in
+    let new = g.B.Berth.told c.args.hands.now.berth in
+    let after = feed c.act_cancel-wrote.new.feed in
+    let then = record h { berth = new; opened = Some (record { line = o.line; feed = after }) } in (
+      wrote_shelved c.args.lane c.args.line c.args.number result p p1 p2 c.report.result
+          c.requires.lane.0 none lane (subst (λ (n : ℤ). OnOk c.report.result ((duty_of (mine p2) ≡ Asks)
+          × TellsWrote c.args.line n result p1 p2)) (to_z-of_z c.ranges.number) c.report.ensures.told) (subst (λ (n : ℤ). IfErr c.report.result (λ by. MakesNone p1 p2
+          × IsCauseOf c.args.line n result by)) (to_z-of_z c.ranges.number) c.report.ensures.refused),
+      same_line c.args.hands.now.open c.in-Some.open was,
+      refl,
+    )
+
+pub returns-clause-goes : goal.returns-clause-goes
+returns-clause-goes g c =
+    let post = c.args.post.now in
+    let actions = c.args.actions.now in
+    let rule = g.C.Rules.rule in
+    let p = c.args.caller.now.pass in
+    let p1 = p in
+    let p2 = c.report.new.caller.pass in
+    let feed = g.B.Feed.Feed.told in
+    let h = held_of g.B.Berth.told g.B.Feed.Feed.told g.B.Child.Child.told c.args.hands.now in
+    let was = sym c.take.ensures.value ∙ c.in-Some.is in
+    let o = open_of feed c.in-Some.open in
+    let is_open = ap (option_map (open_of feed)) was in
+    let of = line_is c.args.hands.now.open c.in-Some.open c.args.line c.requires.open was in
+    let result = c.act_cancel-wrote.result in
+    let none : MakesNone p p = (([], sym (append-nil (seen p))), refl) in
+    let lane = refl in
+    let new = g.B.Berth.told c.args.hands.now.berth in
+    let after = feed c.act_cancel-wrote.new.feed in
+    let then = record h { berth = new; opened = Some (record { line = o.line; feed = after }) } in
+    on_ok c.report.result
+    ((duty_of (mine p2) ≡ Asks) × TellsWrote c.args.line c.args.number result p1 p2)
+    ((duty_of (mine p2) ≡ Asks) × Goes post actions rule p h p2 then)
+    (λ x. (
+      x.0,
+      cancel_goes post actions rule p p1 p2 h o is_open c.args.line c.args.number of none lane new after
+          c.requires.owes refl result (subst (λ (n : ℤ). CancelActs post n result o.feed after) (to_z-of_z c.ranges.number) c.act_cancel-wrote.ensures) x.1,
+    ))
+    (subst (λ (n : ℤ). OnOk c.report.result ((duty_of (mine p2) ≡ Asks)
+    × TellsWrote c.args.line n result p1 p2)) (to_z-of_z c.ranges.number) c.report.ensures.told)
+
+pub returns-clause-halts : goal.returns-clause-halts
+returns-clause-halts g c =
+    let post = c.args.post.now in
+    let actions = c.args.actions.now in
+    let rule = g.C.Rules.rule in
+    let p = c.args.caller.now.pass in
+    let p1 = p in
+    let p2 = c.report.new.caller.pass in
+    let feed = g.B.Feed.Feed.told in
+    let h = held_of g.B.Berth.told g.B.Feed.Feed.told g.B.Child.Child.told c.args.hands.now in
+    let was = sym c.take.ensures.value ∙ c.in-Some.is in
+    let o = open_of feed c.in-Some.open in
+    let is_open = ap (option_map (open_of feed)) was in
+    let of = line_is c.args.hands.now.open c.in-Some.open c.args.line c.requires.open was in
+    let result = c.act_cancel-wrote.result in
+    let none : MakesNone p p = (([], sym (append-nil (seen p))), refl) in
+    let lane = refl in
+    let new = g.B.Berth.told c.args.hands.now.berth in
+    let after = feed c.act_cancel-wrote.new.feed in
+    let then = record h { berth = new; opened = Some (record { line = o.line; feed = after }) } in
+    if_err c.report.result
+    (λ by. MakesNone p1 p2 × IsCauseOf c.args.line c.args.number result by)
+    (λ by. Halts post actions rule by p h p2 then)
+    (λ by x. cancel_halts post actions rule p p1 p2 h o is_open c.args.line c.args.number of none lane new after
+    c.requires.owes refl result by (subst (λ (n : ℤ). CancelActs post n result o.feed after) (to_z-of_z c.ranges.number) c.act_cancel-wrote.ensures) x.0 x.1)
+    (subst (λ (n : ℤ). IfErr c.report.result (λ by. MakesNone p1 p2
+    × IsCauseOf c.args.line n result by)) (to_z-of_z c.ranges.number) c.report.ensures.refused)

@@ -1,0 +1,51 @@
+use Rattle.lane_steps.specs.Acts.{Writes}
+use Rattle.remote_branch.specs.Jobs.{job_for}
+use Rattle.due_frames.specs.Requests.{room_for, request_for}
+use Rattle.due_frames.specs.Frames.{send_due}
+use Rattle.std.proofs.Math.Facts.{to_z-of_z}
+use Rattle.std.specs.Prelude.{ℤ}
+use Rattle.std.proofs.Common.{◌≡◌, ap, sym, subst, ◌∙◌}
+use Rattle.due_frames.specs.declared.frames.Due.TheVariants.{Frame, TooLarge}
+use Rattle.std.specs.Prelude.{ℕ, List}
+use Rattle.lane_deeds.specs.Deeds.{send_asks, due_for}
+use Rattle.lane_steps.proofs.Acting.{due_writes, large_writes, cut_writes, due_is}
+use Rattle.proxy_lane.proofs.sending.write.Goals as goal
+
+pub returns-in-TooLarge : goal.returns-in-TooLarge
+returns-in-TooLarge g c =
+    let post = c.args.post.now in
+    let work = c.args.work.now in
+    let files = c.args.inputs.now in
+    large_writes (send_asks post c.args.number work files) (due_for post c.args.number work files)
+    (g.B.Berth.told c.args.berth.now) (g.B.Feed.Feed.told c.args.feed.now)
+    (sym (due_is post c.args.number work files c.room_of-room.result TooLarge (c.room_of-room.ensures
+    ∙ ap (λ (n : ℤ). room_for c.args.post.now.kind n) (to_z-of_z c.ranges.number))
+    (sym c.in-TooLarge.is ∙ (c.in-Ok.ensures ∙ ap (λ (n : ℤ). send_due post.speech
+    (request_for n work files post.verbose c.room_of-room.result) (job_for n work files)) (to_z-of_z c.ranges.number)))))
+
+pub returns-in-Frame : goal.returns-in-Frame
+returns-in-Frame g c =
+    let post = c.args.post.now in
+    let work = c.args.work.now in
+    let files = c.args.inputs.now in
+    due_writes (send_asks post c.args.number work files) (due_for post c.args.number work files)
+    (Frame c.as_slice-bytes.result.now) c.write_frame.result
+    (g.B.Berth.told c.args.berth.now) (g.B.Berth.told c.write_frame.new.berth)
+    (g.B.Feed.Feed.told c.args.feed.now) (g.B.Feed.Feed.told c.write_frame.new.feed)
+    (ap (λ (bs : List ℕ). Frame bs) c.as_slice-bytes.ensures
+    ∙ due_is post c.args.number work files c.room_of-room.result (Frame c.in-Frame.frame)
+    (c.room_of-room.ensures
+    ∙ ap (λ (n : ℤ). room_for c.args.post.now.kind n) (to_z-of_z c.ranges.number)) (sym c.in-Frame.is ∙ (c.in-Ok.ensures ∙ ap (λ (n : ℤ). send_due post.speech
+    (request_for n work files post.verbose c.room_of-room.result) (job_for n work files)) (to_z-of_z c.ranges.number))))
+    (subst (λ (n : ℤ). Writes (send_asks post n work files) (Frame c.as_slice-bytes.result.now)
+    c.write_frame.result (g.B.Berth.told c.args.berth.now) (g.B.Berth.told c.write_frame.new.berth)
+    (g.B.Feed.Feed.told c.args.feed.now) (g.B.Feed.Feed.told c.write_frame.new.feed)) (to_z-of_z c.ranges.number)
+    c.write_frame.ensures)
+
+pub returns-in-Err : goal.returns-in-Err
+returns-in-Err g c =
+    let post = c.args.post.now in
+    let work = c.args.work.now in
+    let files = c.args.inputs.now in
+    cut_writes (send_asks post c.args.number work files) (due_for post c.args.number work files)
+    c.in-Err.no_memory (g.B.Berth.told c.args.berth.now) (g.B.Feed.Feed.told c.args.feed.now)
