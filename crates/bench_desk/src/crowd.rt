@@ -1,9 +1,11 @@
-//! Lanes that call an adder without a pause: at a desk, behind a bare `Mutex`, and alone.
+//! Lanes that call an adder without a pause: at a desk, through callers, behind a bare `Mutex`, and alone.
 ghost use Rattle.std.specs.Prelude.{◌≡◌, ◌+◌, ◌<◌, ◌≤◌, ◌^◌, ◌-◌, All, IfOk};
 ghost use Rattle.seat_desk.specs.Passes.{IsPassOf, IsRootOf};
 
 use desk_trials::adder::{Add, Adder};
 use desk_trials::adding::adds;
+use lane_bells::Bells;
+use lane_crew::Caller;
 use plain_values::NoMemory;
 use seat_desk::{Desk, HistoryEntry, Machine, Pass, Root};
 use std::alloc::Global;
@@ -84,6 +86,59 @@ pub fn at_desk<R: Threads + Wait + Sync>(
         },
     )?;
     Ok(total(made))
+}
+
+/// The same at a desk that each lane calls through a [`Caller`], as the lanes of a crew do.
+///
+/// # Errors
+///
+/// As of [`at_desk`].
+pub fn by_callers<R: Threads + Wait + Sync>(
+    rt: &R,
+    alloc: Global,
+    lanes: u32,
+    turns: usize,
+) -> Result<usize, NoMemory>
+    requires { lanes < 1000 }
+{
+    let (desk, mut root) = Desk::new(alloc, Adder::new())?;
+    let passes = passes(rt, alloc, &desk, &mut root, lanes)?;
+    let desk = &desk;
+    let start = Barrier::new(lanes as usize);
+    let made = thread::map_vec(
+        rt,
+        passes,
+        &|pass: Pass<Adder>| -> usize
+            requires { IsPassOf desk.now pass }
+        {
+            start.wait(rt);
+            adds_by_caller(rt, alloc, desk, pass, turns).unwrap_or(0)
+        },
+    )?;
+    Ok(total(made))
+}
+
+// The adder stirs nobody and no call of it rests, so each lane has bells of its own.
+fn adds_by_caller<R: Wait>(
+    rt: &R,
+    alloc: Global,
+    desk: &Desk<Adder>,
+    pass: Pass<Adder>,
+    turns: usize,
+) -> Result<usize, NoMemory>
+    requires { IsPassOf desk.now pass }
+{
+    let bells = Bells::new(alloc, 1)?;
+    let mut caller = Caller::new(desk, &bells, pass, 0);
+    let mut made = 0usize;
+    for _ in 0..turns {
+        if caller.call(rt, Add { number: 1 }, None).is_err() {
+            break;
+        }
+        made = made.wrapping_add(1);
+    }
+    drop(caller.into_pass());
+    Ok(made)
 }
 
 /// The same behind a bare `Mutex`.

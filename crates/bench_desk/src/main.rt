@@ -1,4 +1,4 @@
-//! Measures the desk beside a bare `Mutex`.
+//! Measures the desk beside a bare `Mutex`, and lanes that call it through callers.
 //!
 //! ```text
 //! bench_desk                          a small run, which prints counts and no times
@@ -17,7 +17,7 @@ mod seats;
 mod traffic;
 mod watch;
 
-use crowd::{alone, at_desk, behind_mutex};
+use crowd::{alone, at_desk, behind_mutex, by_callers};
 use failure::Failure;
 use seats::{Behind, Limit, rest, traffic};
 use std::alloc::Global;
@@ -46,6 +46,8 @@ fn small_run<R: Threads + Wait + Clock + CpuClock + Files + Print + Sync>(
 ) -> Result<(), Failure> {
     let turns = at_desk(rt, alloc, 4, 100)?;
     println!(rt; "a crowd of 4 lanes at the desk: {turns} turns")?;
+    let turns = by_callers(rt, alloc, 4, 100)?;
+    println!(rt; "a crowd of 4 callers at the desk: {turns} turns")?;
     let turns = behind_mutex(rt, alloc, 4, 100)?;
     println!(rt; "a crowd of 4 lanes behind a mutex: {turns} turns")?;
     let turns = alone(alloc, 400);
@@ -84,6 +86,14 @@ fn time_crowd<R: Threads + Wait + Clock + CpuClock + Print + Sync>(
         "crowd {lanes} desk: {} turns a second, {} ns a turn",
         desk.a_second(made),
         desk.nanos_each(made)
+    )?;
+    let watch = Watch::start(rt)?;
+    let made = by_callers(rt, alloc, lanes, each)? as u64;
+    let callers = watch.stop(rt)?;
+    println!(rt;
+        "crowd {lanes} callers: {} turns a second, {} ns a turn",
+        callers.a_second(made),
+        callers.nanos_each(made)
     )?;
     let watch = Watch::start(rt)?;
     let made = behind_mutex(rt, alloc, lanes, each)? as u64;

@@ -18,8 +18,11 @@ abbrev pub row : List RequestRow → ArrayVec RequestRow
 row xs = record { items = xs }
 
 abbrev pub new_facts : Plan → Facts
-new_facts p = record { lines = replicate (line_room p) (row []); unwanted = replicate
-    (length p.actions) false }
+new_facts p = record {
+  lines = replicate (line_room p) (row []);
+  unwanted = replicate
+      (length p.actions) false;
+}
 
 abbrev pub rows_on : Option (ArrayVec RequestRow) → List RequestRow
 rows_on (Some x) = x.items

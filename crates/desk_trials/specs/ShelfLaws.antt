@@ -53,10 +53,10 @@ others_leave spot lane stays (e ∷ es) none = dite (ℕ_discrete lane e.lane)
     (let b : (lane == e.lane) ≡ true = eq-eqb lane e.lane same in let x : e ∷ calls_by lane es ≡ []
     = ap (λ (t : Bool). cond t (e ∷ calls_by lane es) (calls_by lane es)) (sym b) ∙ none in cc))
     (λ other. let b :
-        (lane == e.lane) ≡ false = ne_eqb lane e.lane other in let rest : calls_by lane es ≡ [] = ap
-        (λ (t : Bool). cond t (e ∷ calls_by lane es) (calls_by lane es)) (sym b) ∙ none in
+    (lane == e.lane) ≡ false = ne_eqb lane e.lane other in let rest : calls_by lane es ≡ [] = ap
+    (λ (t : Bool). cond t (e ∷ calls_by lane es) (calls_by lane es)) (sym b) ∙ none in
     ap (λ (o : Spot). fold spot_after o es) (stays e.lane e.reply (λ q. other (sym q)))
-        ∙ others_leave spot lane stays es rest)
+    ∙ others_leave spot lane stays es rest)
 
 -- what a history pays for stays paid for after entries of other lanes
 pub paid_still : (h more : List (Entry Ask Answer)) (lane : ℕ) (c : Ask) → calls_by lane more ≡ []
@@ -82,12 +82,12 @@ less_by o lane Borrow p = absurd p
 less_by o lane Take p =
     subst (λ (x : Spot). owes_by (spot_then x lane (reply_of x lane Take)) + 1 ≡ owes_by x) (sym p)
     (let b : (lane == lane) ≡ true = eq-eqb lane lane refl in subst
-        (λ (t : Bool). owes_by (spot_then (Here lane) lane (cond t Taken Nothing)) + 1 ≡ 1) (sym b)
+    (λ (t : Bool). owes_by (spot_then (Here lane) lane (cond t Taken Nothing)) + 1 ≡ 1) (sym b)
     (subst (λ (t : Bool). owes_by (cond t Empty (Here lane)) + 1 ≡ 1) (sym b) refl))
 less_by o lane Return p = subst
     (λ (x : Spot). owes_by (spot_then x lane (reply_of x lane Return)) + 1 ≡ owes_by x) (sym p)
     (let b : (lane == lane) ≡ true = eq-eqb lane lane refl in subst
-        (λ (t : Bool). owes_by (spot_then (Away lane) lane (cond t Returned Busy)) + 1 ≡ 2) (sym b)
+    (λ (t : Bool). owes_by (spot_then (Away lane) lane (cond t Returned Busy)) + 1 ≡ 2) (sym b)
     (subst (λ (t : Bool). owes_by (cond t (Here lane) (Away lane)) + 1 ≡ 2) (sym b) refl))
 
 owes_le : (o : Spot) → owes_by o ≤ 2

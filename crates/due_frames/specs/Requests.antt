@@ -42,6 +42,11 @@ request_for number action inputs verbose room = record {
 
 -- the request of a Cancel: the number, and that the request which has it is to be given up
 abbrev pub cancelling : ℤ → WorkRequest
-cancelling number = record
-    { arguments = []; inputs = []; request_id = number; cancel = true; verbosity = pos 0;
-    sandbox_dir = [] }
+cancelling number = record {
+  arguments = [];
+  inputs = [];
+  request_id = number;
+  cancel = true;
+  verbosity = pos 0;
+  sandbox_dir = [];
+}

@@ -197,7 +197,7 @@ answer_reply p j w l x =
     else if is_greeting p j w l x then reply.Greeted
     else if is_single (kind_of p w) then
     (if int_eq x.number (pos 0) then answer_single j x (head (pending j l))
-        else reply.Breach breach.WrongNumber)
+    else reply.Breach breach.WrongNumber)
     else answer_multi j x (find (λ r. int_eq r.number x.number) (sends j l))
 
 abbrev pub is_other : Branch → Option (Attempt × Found) → Bool

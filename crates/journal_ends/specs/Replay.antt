@@ -66,8 +66,11 @@ action_after j limit a order e f = record {
 }
 
 abbrev pub line_after : Bool → ℕ → Entry → LineFact → LineFact
-line_after late l e f = record { cause = option_or f.cause
-    (break_when late l e.call e.reply); ended = ends l e.call || f.ended }
+line_after late l e f = record {
+  cause = option_or f.cause
+      (break_when late l e.call e.reply);
+  ended = ends l e.call || f.ended;
+}
 
 -- ---- it is what the journal says
 
@@ -117,8 +120,13 @@ abbrev pub new_line : LineFact
 new_line = record { cause = None; ended = false }
 
 abbrev pub new_branch : BranchFact
-new_branch = record { commit = None; sent = false; answers = replicate 11 false; track = record
-    { line = None; answered = false; wrote = None; fault = None; ended = None } }
+new_branch = record {
+  commit = None;
+  sent = false;
+  answers = replicate 11 false;
+  track = record
+      { line = None; answered = false; wrote = None; fault = None; ended = None };
+}
 
 abbrev pub new_action : ActionFact
 new_action = record { grant = None; local = new_branch; remote = new_branch }

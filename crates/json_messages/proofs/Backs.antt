@@ -15,7 +15,8 @@ use Rattle.wire_messages.specs.declared.input.Input.{Input}
 use Rattle.wire_messages.specs.declared.request.WorkRequest.{WorkRequest}
 use Rattle.wire_messages.specs.declared.response.WorkResponse.{WorkResponse}
 use Rattle.json_messages.specs.Answers.{and_then}
-use Rattle.json_messages.specs.Keys.{or_else, unless_null, value_at, camel, snake}
+use Rattle.list_lemmas.specs.Options.{or_else}
+use Rattle.json_messages.specs.Keys.{unless_null, value_at, camel, snake}
 use Rattle.json_messages.specs.Values.{datas, default_or, decoded, digest_in, each, flag_in, is_small, list_in, number_in, text_in, in_range}
 use Rattle.json_messages.specs.Messages.{input_in, inputs_at, request_in, request_of, response_in, response_of}
 use Rattle.json_messages.specs.Writing.{array_data, digest_data, flag_data, input_data, input_parts, members_after, number_data, object_of, request_data, request_parts, request_text, response_data, response_parts, response_text, text_data}

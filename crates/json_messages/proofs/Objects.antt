@@ -10,7 +10,8 @@ use Rattle.serde_json.specs.View.{items_of}
 use Rattle.serde_json.specs.Written.{has_float, items_have_float, members_have_float}
 use Rattle.serde_json.proofs.Views.{get_member-put, get_member-put_other}
 use Rattle.wire_messages.specs.declared.fault.JsonKey.{JsonKey}
-use Rattle.json_messages.specs.Keys.{camel, or_else}
+use Rattle.list_lemmas.specs.Options.{or_else}
+use Rattle.json_messages.specs.Keys.{camel}
 use Rattle.json_messages.specs.Writing.{said, members_after, object_of, array_data}
 
 -- ---- what stands at a name

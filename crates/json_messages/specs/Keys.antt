@@ -1,5 +1,6 @@
 -- The names of the keys, and what stands at one.
 use Rattle.std.specs.Prelude.{ℕ, List, codes, Option, Some, None, option_and_then}
+use Rattle.list_lemmas.specs.Options.{or_else}
 use Rattle.serde_json.specs.Data.{Data, null, boolean, number, string, array, object}
 use Rattle.serde_json.specs.Find.{get}
 use Rattle.wire_messages.specs.declared.fault.JsonKey.{JsonKey}
@@ -32,10 +33,6 @@ snake key.SandboxDir = codes "sandbox_dir"
 snake key.ExitCode = codes "exit_code"
 snake key.Output = codes "output"
 snake key.WasCancelled = codes "was_cancelled"
-
-abbrev pub or_else : {A : Type 0} → Option A → Option A → Option A
-or_else None other = other
-or_else (Some x) other = Some x
 
 -- `null` stands for the default, as nothing does
 abbrev pub unless_null : Data → Option Data

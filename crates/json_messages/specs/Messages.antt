@@ -19,8 +19,13 @@ response_in d =
     and_then (text_at key.Output d) (λ output.
     and_then (number_at key.RequestId d) (λ request_id.
     and_then (flag_at key.WasCancelled d) (λ was_cancelled.
-    Ok (record { exit_code = exit_code; output = output; request_id = request_id; was_cancelled =
-        was_cancelled })))))
+    Ok (record {
+      exit_code = exit_code;
+      output = output;
+      request_id = request_id;
+      was_cancelled =
+          was_cancelled;
+    })))))
 
 -- the response that a line is, or its first fault
 abbrev pub response_of : List ℕ → Result WorkResponse MessageFault
@@ -44,8 +49,14 @@ request_in d =
     and_then (flag_at key.Cancel d) (λ cancel.
     and_then (number_at key.Verbosity d) (λ verbosity.
     and_then (text_at key.SandboxDir d) (λ sandbox_dir.
-    Ok (record { arguments = arguments; inputs = inputs; request_id = request_id; cancel = cancel;
-        verbosity = verbosity; sandbox_dir = sandbox_dir })))))))
+    Ok (record {
+      arguments = arguments;
+      inputs = inputs;
+      request_id = request_id;
+      cancel = cancel;
+      verbosity = verbosity;
+      sandbox_dir = sandbox_dir;
+    })))))))
 
 -- the request that a line is, or its first fault
 abbrev pub request_of : List ℕ → Result WorkRequest MessageFault

@@ -13,7 +13,8 @@ use Rattle.wire_messages.specs.declared.fault.JsonKey.TheVariants as key
 use Rattle.wire_messages.specs.declared.fault.MessageFault.{MessageFault}
 use Rattle.wire_messages.specs.declared.fault.MessageFault.TheVariants as fault
 use Rattle.json_messages.specs.Answers.{and_then}
-use Rattle.json_messages.specs.Keys.{or_else, value_at}
+use Rattle.list_lemmas.specs.Options.{or_else}
+use Rattle.json_messages.specs.Keys.{value_at}
 
 -- a part's default if nothing stands there
 abbrev pub default_or : {A : Type 0} → A → (Data → Result A MessageFault) → Option Data

@@ -23,10 +23,10 @@
 //! | `shop-put=PATH,BYTES`, `shop-get=PATH`, `shop-run=FOLDER,WORD` | a call on the shop |
 //! | `faults` | the count of faults of all objects |
 //!
-//! `generated COUNT` prints the sources of a generated list. `late` has two lines wait at once for what never comes.
-//! `crowd COUNT` has so many children wait on threads of their own, each for the one before, and says how many of them
-//! gave their byte and then ended, and whether the wait took less than a fifth of a processor. Other lines are printed
-//! as they are.
+//! `generated COUNT` prints the sources of a generated list, and `list COUNT` the list. `late` has two lines wait at
+//! once for what never comes. `crowd COUNT` has so many children wait on threads of their own, each for the one before,
+//! and says how many of them gave their byte and then ended, and whether the wait took less than a fifth of a processor.
+//! Other lines are printed as they are.
 //!
 //! `tools/mem-vectors` writes `stdin` and `stdout`.
 #![tactic(auto)]
@@ -36,6 +36,7 @@ mod crowd;
 mod stage;
 mod steps;
 
+use generated_list::generated_list;
 use outside::Floor;
 use outside_mem::MemFloor;
 use plain_values::NoMemory;
@@ -56,6 +57,7 @@ fn main(rt: HostRuntime) -> io::Result<()> {
         let told = match kind {
             "case" => steps::play(rt, alloc, rest).map_err(no_memory)?,
             "generated" => generated(rt, alloc, number(rest)).map_err(no_memory)?,
+            "list" => list(alloc, number(rest)).map_err(no_memory)?,
             "late" => crowd::late(&rt, alloc).map_err(no_memory)?,
             "crowd" => crowd::crowd(&rt, alloc, number(rest))?,
             _ => String::from_str(alloc, line)?,
@@ -90,4 +92,13 @@ fn generated<R: Wait + Clone + Drop>(
         told.push_str(steps::found(alloc, &answer)?.as_str())?;
     }
     Ok(told)
+}
+
+// The text of a generated list.
+fn list(alloc: Global, actions: u32) -> Result<String, NoMemory> {
+    let text = generated_list(alloc, actions)?;
+    match str::from_utf8(&text) {
+        Ok(text) => Ok(String::from_str(alloc, text)?),
+        Err(_) => Ok(String::new(alloc)),
+    }
 }

@@ -4,3 +4,11 @@ pub mod Followed
 pub mod Ended
 pub mod Earliest
 pub mod AllSettled
+pub mod Fronts
+pub mod Places
+pub mod Noted
+pub mod Told
+pub mod States
+pub mod Settled
+pub mod Found
+pub mod UsersAdded

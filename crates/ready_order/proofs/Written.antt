@@ -1,12 +1,10 @@
 -- What the table's own calls make of its states.
-use Rattle.std.proofs.Common.{◌≡◌, ℕ, zero, suc, ◌+◌, ◌<◌, ◌≤◌, nat_lt, Bool, true, false, cond, List, [], ◌∷◌, length, get_or, set, Some, None, refl, ap, subst, ◌∙◌, arith}
+use Rattle.std.proofs.Common.{◌≡◌, ℕ, zero, suc, ◌<◌, Bool, true, false, cond, List, [], ◌∷◌, length, get_or, set, Some, None, refl, ap, ◌∙◌}
 use Rattle.std.specs.Prelude.{unwrap_or, option_map}
-use Rattle.std.proofs.lemmas.Bool.{ltb-true, ltb-false}
-use Rattle.std.proofs.lemmas.Option.{slice_get_read, slice_get_past}
+use Rattle.std.proofs.lemmas.Option.{slice_get_read}
 use Rattle.run_plan.specs.declared.plan.Branch.{Branch}
 use Rattle.run_plan.specs.declared.plan.Branch.TheVariants.{Local, Remote}
 use Rattle.list_lemmas.specs.Places.{update}
-use Rattle.exec_journal.proofs.Ruled.{by_bool}
 use Rattle.list_lemmas.proofs.Updates.{set-update}
 use Rattle.ready_order.specs.declared.ActionState.{ActionState}
 use Rattle.ready_order.specs.Queue.{may_begin, is_queued, queued_branch, IsFirst, seat_of}
@@ -41,19 +39,3 @@ module _ (states : List ActionState) (g : ℕ) where
       by Local false true l r h = absurd (cc)
       by Remote false true l r h = record { queued = read a x lt is Remote ∙ r; least = none; local_first = λ e. read a x lt is Local ∙ l }
       by b false false l r h = absurd (cc)
-
-  pub not_here : (a : ℕ) (x : ActionState) → a < length states → x ≡ get_or states a x → NoneBefore a → queued_branch states g x ≡ None → NoneBefore (a + 1)
-  not_here a x lt is none h c d le =
-      by_bool (nat_lt c a) (λ _. is_queued states g c d ≡ false) (λ below. none c d (ltb-true c a below))
-      (λ past. let l = ltb-false c a past in subst (λ m. is_queued states g m d ≡ false) (omega arith) (read a x lt is d ∙ none_of d (may_begin states g x x.local) (may_begin states g x x.remote) refl refl h))
-    where
-      none_of : (d : Branch) (local remote : Bool) → may_begin states g x x.local ≡ local → may_begin states g x x.remote ≡ remote → cond local (Some Local) (cond remote (Some Remote) None) ≡ None → may_begin states g x (seat_of d x) ≡ false
-      none_of d true remote l r h = absurd (cc)
-      none_of d false true l r h = absurd (cc)
-      none_of Local false false l r h = l
-      none_of Remote false false l r h = r
-
-  pub not_at_all : (a : ℕ) → length states ≤ a → NoneBefore a → (c : ℕ) (d : Branch) → is_queued states g c d ≡ false
-  not_at_all a le none c d =
-      by_bool (nat_lt c a) (λ _. is_queued states g c d ≡ false) (λ below. none c d (ltb-true c a below))
-      (λ past. let l = ltb-false c a past in ap (λ o. unwrap_or (option_map (λ y. may_begin states g y (seat_of d y)) o) false) (slice_get_past states c (omega arith)))

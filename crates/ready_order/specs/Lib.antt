@@ -1,3 +1,5 @@
 pub mod Queue
+pub mod Facts
+pub mod Board
 pub mod Stands
 pub mod Entries

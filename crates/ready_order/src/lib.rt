@@ -1,16 +1,23 @@
 //! Which branches are queued: what each group begins next.
 #![tactic(auto)]
 
-ghost use Rattle.std.specs.Prelude.{◌≡◌, ◌<◌, ◌≤◌, ◌^◌, true, IfOk, [], length};
-ghost use Rattle.ready_order.specs.Queue.{earliest_in, none_waits, waits, new_standing, new_state, new_states, is_of, is_open, has_success, is_ready, may_begin, queued_branch, IsEarliest, state_with, with_taken, with_again, with_unwanted, with_settled};
+ghost use Rattle.std.specs.Prelude.{◌≡◌, ◌<◌, ◌≤◌, ◌^◌, ◌&&◌, not, true, IfOk, if◌then◌else◌, [], length};
+ghost use Rattle.exec_journal.specs.Settled.{is_settled};
+ghost use Rattle.ready_order.specs.Queue.{earliest_in, none_waits, new_standing, new_state, new_states, is_of, is_open, has_success, IsEarliest, state_with, with_taken, with_again, with_unwanted, with_settled};
+ghost use Rattle.ready_order.specs.Board.{queued_if};
 ghost use Rattle.ready_order.specs.Stands.{Stands};
 
+mod board;
 pub mod laws;
+mod users;
 
+use crate::board::Board;
+use crate::users::Users;
 use exec_journal::{Branch, Plan, PlanAction, Standing};
 use plain_values::{Items, NoMemory};
 use std::alloc::Global;
 use std::marker::Model;
+use winner_tree::ABSENT;
 
 /// Of a branch of an action: the group that runs it, where the action uses the branch, and whether it may begin an
 /// attempt: none of its attempts is under way, and there may be one more.
@@ -35,17 +42,21 @@ pub struct ActionState {
 #[derive(Drop)]
 pub struct Ready {
     actions: Vec<ActionState>,
+    users: Users,
+    // Follows the states at each call.
+    board: Board,
 }
 
 impl Model for Ready {
-    ghost use Rattle.std.specs.Prelude.{List, ◌≤◌, ◌^◌, length};
+    ghost use Rattle.std.specs.Prelude.{List};
     ghost use Rattle.ready_order.specs.declared.ActionState.{ActionState};
+    ghost use Rattle.ready_order.specs.Board.{IsNoted};
 
     ghost Value = { List ActionState };
 
     ghost view = { λ r. r.actions.items };
 
-    ghost invariant = { λ r. length r.actions.items ≤ 2 ^ 32 };
+    ghost invariant = { λ r. IsNoted r.actions.items r.users r.board };
 }
 
 impl Ready {
@@ -64,7 +75,13 @@ impl Ready {
         for work in works {
             actions.push(ActionState::of(alloc, work)?)?;
         }
-        Ok(Ready { actions })
+        let users = Users::of(alloc, actions.as_slice())?;
+        let board = Board::of(alloc, actions.as_slice())?;
+        Ok(Ready {
+            actions,
+            users,
+            board,
+        })
     }
 
     /// Notes that the action is settled by itself: it was committed whole (`success`), or not so; or it was granted an
@@ -73,12 +90,17 @@ impl Ready {
         requires { action < length self.old }
         ensures { self.new ≡ with_settled self.old action success }
     {
-        let state = &mut self.actions[action as usize];
+        let number = action as usize;
+        let had_success = has_success(self.actions.as_slice(), action);
+        let state = &mut self.actions[number];
         state.own = if success {
             Standing::Succeeded
         } else {
             Standing::Unsuccessful
         };
+        let users = all_or_none(self.users.of_action(number), had_success != success);
+        self.board.follow(self.actions.as_slice(), users, success);
+        self.board.refresh(self.actions.as_slice(), number);
     }
 
     /// The group's queued branch of the least action, with that action; `None` exactly where nothing of the group is
@@ -87,14 +109,19 @@ impl Ready {
         ensures first { IsEarliest self.now group result }
         ensures search { result ≡ earliest_in self.now group }
     {
-        first_queued(self.actions.as_slice(), group)
+        let first = self.board.first(group);
+        if first == ABSENT {
+            return None;
+        }
+        let branch = self.actions[first as usize].queued_if(true, group)?;
+        Some((first as u32, branch))
     }
 
     /// Every action is settled: each that isn't so by itself has a producer without success.
     pub fn all_settled(&self) -> bool
         ensures { result ≡ none_waits self.now }
     {
-        none_waits(self.actions.as_slice())
+        self.board.first_waiting() == ABSENT
     }
 
     /// Notes that the branch has begun an attempt.
@@ -102,8 +129,10 @@ impl Ready {
         requires { action < length self.old }
         ensures { self.new ≡ with_taken self.old action branch }
     {
-        let state = &mut self.actions[action as usize];
+        let number = action as usize;
+        let state = &mut self.actions[number];
         state.set_free(branch, false);
+        self.board.refresh(self.actions.as_slice(), number);
     }
 
     /// Notes that the branch's latest attempt has ended below the limit.
@@ -111,8 +140,10 @@ impl Ready {
         requires { action < length self.old }
         ensures { self.new ≡ with_again self.old action branch }
     {
-        let state = &mut self.actions[action as usize];
+        let number = action as usize;
+        let state = &mut self.actions[number];
         state.set_free(branch, true);
+        self.board.refresh(self.actions.as_slice(), number);
     }
 
     /// Notes that a branch of the action was granted, so that none is wanted any more.
@@ -120,8 +151,10 @@ impl Ready {
         requires { action < length self.old }
         ensures { self.new ≡ with_unwanted self.old action }
     {
-        let state = &mut self.actions[action as usize];
+        let number = action as usize;
+        let state = &mut self.actions[number];
         state.granted = true;
+        self.board.refresh(self.actions.as_slice(), number);
     }
 }
 
@@ -166,6 +199,32 @@ impl ActionState {
         }
     }
 
+    // The branch of the action that is queued in the group, where its producers are ready: the local one, where both are.
+    fn queued_if(&self, ready: bool, group: u32) -> Option<Branch>
+        ensures { result ≡ queued_if ready group self.now }
+    {
+        if self.may_begin(ready, group, self.local) {
+            Some(Branch::Local)
+        } else if self.may_begin(ready, group, self.remote) {
+            Some(Branch::Remote)
+        } else {
+            None
+        }
+    }
+
+    fn may_begin(&self, ready: bool, group: u32, seat: BranchState) -> bool
+        ensures { result ≡ (is_of group seat && (seat.free && (is_open self.now && ready))) }
+    {
+        seat.is_of(group) && seat.free && self.is_open() && ready
+    }
+
+    // It isn't settled by itself, and its producers are ready.
+    fn waits(&self, ready: bool) -> bool
+        ensures { result ≡ (not (is_settled self.now.own) && ready) }
+    {
+        self.own == Standing::Open && ready
+    }
+
     // It isn't settled by itself, and has no grant.
     fn is_open(&self) -> bool
         ensures { result ≡ is_open self.now }
@@ -184,60 +243,11 @@ fn standing_at_start(work: &PlanAction) -> Standing
     }
 }
 
-// The queued branch of the least action that has one of the group.
-fn first_queued(actions: &[ActionState], group: u32) -> Option<(u32, Branch)>
-    requires { length actions.now ≤ 2 ^ 32 }
-    ensures { IsEarliest actions.now group result }
+// The users, where what they take has changed.
+fn all_or_none(users: &[u32], changed: bool) -> &[u32]
+    ensures { result.now ≡ (if changed then users.now else []) }
 {
-    for (number, action) in actions.iter().enumerate() {
-        if let Some(branch) = queued_branch(actions, group, action) {
-            return Some((number as u32, branch));
-        }
-    }
-    None
-}
-
-// The branch of the action that is queued in the group: the local one, where both are.
-fn queued_branch(actions: &[ActionState], group: u32, action: &ActionState) -> Option<Branch>
-    ensures { result ≡ queued_branch actions.now group action.now }
-{
-    if may_begin(actions, group, action, action.local) {
-        Some(Branch::Local)
-    } else if may_begin(actions, group, action, action.remote) {
-        Some(Branch::Remote)
-    } else {
-        None
-    }
-}
-
-fn may_begin(actions: &[ActionState], group: u32, action: &ActionState, seat: BranchState) -> bool
-    ensures { result ≡ may_begin actions.now group action.now seat }
-{
-    seat.is_of(group) && seat.free && action.is_open() && is_ready(actions, action)
-}
-
-// Every producer of the action's inputs has success.
-fn is_ready(actions: &[ActionState], action: &ActionState) -> bool
-    ensures { result ≡ is_ready actions.now action.now }
-{
-    action
-        .producers
-        .as_slice()
-        .iter()
-        .all(|producer| has_success(actions, *producer))
-}
-
-// No action that isn't settled by itself has the success of all its producers.
-fn none_waits(actions: &[ActionState]) -> bool
-    ensures { result ≡ none_waits actions.now }
-{
-    actions.iter().all(|action| !waits(actions, action))
-}
-
-fn waits(actions: &[ActionState], action: &ActionState) -> bool
-    ensures { result ≡ waits actions.now action.now }
-{
-    action.own == Standing::Open && is_ready(actions, action)
+    if changed { users } else { &[] }
 }
 
 fn has_success(actions: &[ActionState], action: u32) -> bool

@@ -138,14 +138,14 @@ job_writable m v =
     let arguments = texts_fine job_refuses 2 argument_fine m.arguments
     (recursion_from_All _ m.arguments v.arguments) in
     let inputs = messages_fine job_refuses 3 IsFileValue file_spelling SpellsFile file_again
-        input_fine m.inputs (recursion_from_All _ m.inputs v.inputs) in
+    input_fine m.inputs (recursion_from_All _ m.inputs v.inputs) in
     let outputs =
-        texts_fine job_refuses 4 output_fine m.outputs (recursion_from_All _ m.outputs v.outputs) in
+    texts_fine job_refuses 4 output_fine m.outputs (recursion_from_All _ m.outputs v.outputs) in
     let env = messages_fine job_refuses 5 IsVariableValue variable_spelling SpellsVariable
-        variable_again variable_fine m.env (recursion_from_All _ m.env v.env) in
+    variable_again variable_fine m.env (recursion_from_All _ m.env v.env) in
     AreWritable-append _ _
-        (AreWritable-append _ _
-        (AreWritable-append _ _ (AreWritable-append _ _ (AreWritable-append _ _
+    (AreWritable-append _ _
+    (AreWritable-append _ _ (AreWritable-append _ _ (AreWritable-append _ _
     (int32_writable 1 m.id (omega arith) (omega arith) v.id)
     (repeated_writable 2 m.arguments (omega arith) (omega arith) arguments.1))
     (repeated_writable 3 (map file_spelling m.inputs) (omega arith) (omega arith) inputs.1))
@@ -159,15 +159,15 @@ job_sound m v =
     let arguments = texts_fine job_refuses 2 argument_fine m.arguments
     (recursion_from_All _ m.arguments v.arguments) in
     let inputs = messages_fine job_refuses 3 IsFileValue file_spelling SpellsFile file_again
-        input_fine m.inputs (recursion_from_All _ m.inputs v.inputs) in
+    input_fine m.inputs (recursion_from_All _ m.inputs v.inputs) in
     let outputs =
-        texts_fine job_refuses 4 output_fine m.outputs (recursion_from_All _ m.outputs v.outputs) in
+    texts_fine job_refuses 4 output_fine m.outputs (recursion_from_All _ m.outputs v.outputs) in
     let env = messages_fine job_refuses 5 IsVariableValue variable_spelling SpellsVariable
-        variable_again variable_fine m.env (recursion_from_All _ m.env v.env) in
+    variable_again variable_fine m.env (recursion_from_All _ m.env v.env) in
     IsSound-append job_refuses _ _
-        (IsSound-append job_refuses _ _
-        (IsSound-append job_refuses _ _
-        (IsSound-append job_refuses _ _ (IsSound-append job_refuses _ _
+    (IsSound-append job_refuses _ _
+    (IsSound-append job_refuses _ _
+    (IsSound-append job_refuses _ _ (IsSound-append job_refuses _ _
     (number_sound job_refuses 1 (cast_unsigned w64 m.id) (number_fine 1 (cast_unsigned w64 m.id)))
     (repeated_sound job_refuses 2 m.arguments arguments.0))
     (repeated_sound job_refuses 3 (map file_spelling m.inputs) inputs.0))
@@ -180,10 +180,10 @@ job_means m v =
     let inputs = messages_fine job_refuses 3 IsFileValue file_spelling SpellsFile file_again
     input_fine m.inputs (recursion_from_All _ m.inputs v.inputs) in
     let env = messages_fine job_refuses 5 IsVariableValue variable_spelling SpellsVariable
-        variable_again variable_fine m.env (recursion_from_All _ m.env v.env) in
+    variable_again variable_fine m.env (recursion_from_All _ m.env v.env) in
     record {
       id = sym (ap (λ (xs : List ℕ). int32 (last_or 0 xs)) (ids m)
-      ∙ ap int32 (last-own_number 1 (cast_unsigned w64 m.id)) ∙ int32_bits m.id v.id);
+          ∙ ap int32 (last-own_number 1 (cast_unsigned w64 m.id)) ∙ int32_bits m.id v.id);
       arguments = sym (arguments_of m ∙ spans-own_repeated 2 m.arguments);
       inputs = subst (λ (ss : List (List ℕ)). AreSpelled SpellsFile ss m.inputs)
           (sym (inputs_of m ∙ spans-own_repeated 3 (map file_spelling m.inputs)))

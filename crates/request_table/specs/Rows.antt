@@ -90,8 +90,13 @@ abbrev pub new_place : ℕ → ℕ → ℕ → RequestRow
 new_place n a t = record { number = n; action = a; attempt = t; pending = true; cancelled = false }
 
 abbrev pub sent_row : ℕ → ℕ → ℕ → LineRow → LineRow
-sent_row n a t x = record { last = Some n; places = record { items = filter is_open x.places.items
-    ++ new_place n a t ∷ [] } }
+sent_row n a t x = record {
+  last = Some n;
+  places = record {
+    items = filter is_open x.places.items
+        ++ new_place n a t ∷ [];
+  };
+}
 
 abbrev pub with_send : Facts → ℕ → ℕ → Branch → ℕ → Facts
 with_send f l a b t =
@@ -129,15 +134,25 @@ abbrev pub matching_of : Facts → ℕ → ℤ → Matching
 matching_of f l n = line_matching n (slice_get f.lines l)
 
 abbrev pub with_pending : ℕ → Bool → RequestRow → RequestRow
-with_pending n now x = record
-    { number = x.number; action = x.action; attempt = x.attempt; pending = if x.number == n then now
-    else x.pending; cancelled = x.cancelled }
+with_pending n now x = record {
+  number = x.number;
+  action = x.action;
+  attempt = x.attempt;
+  pending = if x.number == n then now
+      else x.pending;
+  cancelled = x.cancelled;
+}
 
 -- it isn't pending from now on. Until the line's next answer or Send it stands there still, so that
 -- it can be opened again
 abbrev pub answered_row : ℕ → LineRow → LineRow
-answered_row n x = record { last = x.last; places = record { items = map (with_pending n false)
-    (filter is_open x.places.items) } }
+answered_row n x = record {
+  last = x.last;
+  places = record {
+    items = map (with_pending n false)
+        (filter is_open x.places.items);
+  };
+}
 
 abbrev pub reopened_row : ℕ → LineRow → LineRow
 reopened_row n x =
@@ -156,16 +171,26 @@ with_reopened f l n = on_line reopened_row f l n
 -- ---- Wrote, Cancel, Ended
 
 abbrev pub unwritten_row : ℕ → LineRow → LineRow
-unwritten_row n x = record { last = x.last; places = record { items = filter
-    (λ y. not (y.number == n)) x.places.items } }
+unwritten_row n x = record {
+  last = x.last;
+  places = record {
+    items = filter
+        (λ y. not (y.number == n)) x.places.items;
+  };
+}
 
 abbrev pub with_unwritten : Facts → ℕ → ℤ → Facts
 with_unwritten f l n = on_line unwritten_row f l n
 
 abbrev pub with_cancel : ℕ → RequestRow → RequestRow
-with_cancel n x = record
-    { number = x.number; action = x.action; attempt = x.attempt; pending = x.pending; cancelled =
-    (x.number == n) || x.cancelled }
+with_cancel n x = record {
+  number = x.number;
+  action = x.action;
+  attempt = x.attempt;
+  pending = x.pending;
+  cancelled =
+      (x.number == n) || x.cancelled;
+}
 
 abbrev pub cancelled_row : ℕ → LineRow → LineRow
 cancelled_row n x =

@@ -26,13 +26,21 @@ natural (pos n) = n
 natural (negsuc n) = 0
 
 abbrev pub request_row : List Entry → Request → RequestRow
-request_row j r = record
-    { number = natural r.number; action = r.attempt.action; attempt = r.attempt.number; pending =
-    true; cancelled = has_cancel j r }
+request_row j r = record {
+  number = natural r.number;
+  action = r.attempt.action;
+  attempt = r.attempt.number;
+  pending =
+      true;
+  cancelled = has_cancel j r;
+}
 
 unfoldable pub waiting_in : List Entry → ℕ → Waiting
-waiting_in j l = record { last = option_map (λ r. natural r.number)
-    (head (sends j l)); places = reverse (map (request_row j) (pending j l)) }
+waiting_in j l = record {
+  last = option_map (λ r. natural r.number)
+      (head (sends j l));
+  places = reverse (map (request_row j) (pending j l));
+}
 
 -- Sends, the newest first: all have the number 0, or their numbers count up from 1
 abbrev pub Numbered : Bool → List Request → Type 0

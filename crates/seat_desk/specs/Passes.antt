@@ -109,7 +109,7 @@ module _ {M C R G Q : Type 0} {g : Ghosts M C R G Q} where
   MayMakeThen meets p call work =
       MayThen meets (StandsUnder g.rules g.stands (rules p)) (g.next (rules p)) g.short
       (g.may_be_short (rules p)) g.keeps (g.paid (rules p)) (g.goes_in (rules p))
-          (g.comes_out (rules p))
+      (g.comes_out (rules p))
       p.lane (seen p) call work
 
   -- The call, and the one that the work answered, were made in one turn, at such a point of the
@@ -119,5 +119,5 @@ module _ {M C R G Q : Type 0} {g : Ghosts M C R G Q} where
   MakesCallThen meets p call work reply good work' p' =
       AnswersThen meets (StandsUnder g.rules g.stands (rules p)) (g.next (rules p)) g.short
       (g.may_be_short (rules p)) g.keeps
-          (g.comes_out (rules p)) g.hints p.lane p.seat.me.0 call work
+      (g.comes_out (rules p)) g.hints p.lane p.seat.me.0 call work
       reply good work' p'.seat.me.0 p'.stirs

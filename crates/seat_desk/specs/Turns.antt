@@ -53,52 +53,95 @@ module _ {C R Q : Type 0} where
   -- the first seat, at a machine of the rules q
   abbrev pub first_view : Q → View C R Q
   first_view q =
-      record { role = Root 0; rules = q; stage = Idle; seen = []; told = []; mine = []; joined = []
+      record {
+        role = Root 0;
+        rules = q;
+        stage = Idle;
+        seen = [];
+        told = [];
+        mine = [];
+        joined = [];
       }
 
   -- the view at this place in the line
   abbrev pub view_at : View C R Q → Stage → View C R Q
   view_at v stage =
-      record
-      { role = v.role; rules = v.rules; stage = stage; seen = v.seen; told = v.told; mine = v.mine;
-          joined = v.joined }
+      record {
+        role = v.role;
+        rules = v.rules;
+        stage = stage;
+        seen = v.seen;
+        told = v.told;
+        mine = v.mine;
+        joined = v.joined;
+      }
 
   -- the view in its turn, where the history is h
   abbrev pub view_in_turn : View C R Q → ℕ → List (Entry C R) → View C R Q
   view_in_turn v t h =
-      record
-      { role = v.role; rules = v.rules; stage = Turn t; seen = h; told = v.told; mine = v.mine;
-          joined = v.joined }
+      record {
+        role = v.role;
+        rules = v.rules;
+        stage = Turn t;
+        seen = h;
+        told = v.told;
+        mine = v.mine;
+        joined = v.joined;
+      }
 
   -- the view after a turn of the lane k that left the history h
   abbrev pub view_after_turn : View C R Q → ℕ → List (Entry C R) → View C R Q
   view_after_turn v k h =
-      record
-      { role = v.role; rules = v.rules; stage = Idle; seen = h; told = v.told; mine = calls_by k h;
-          joined = v.joined }
+      record {
+        role = v.role;
+        rules = v.rules;
+        stage = Idle;
+        seen = h;
+        told = v.told;
+        mine = calls_by k h;
+        joined = v.joined;
+      }
 
   -- the view where the history is h
   abbrev pub view_with : View C R Q → List (Entry C R) → View C R Q
   view_with v h =
-      record
-      { role = v.role; rules = v.rules; stage = v.stage; seen = h; told = v.told; mine = v.mine;
-          joined = v.joined }
+      record {
+        role = v.role;
+        rules = v.rules;
+        stage = v.stage;
+        seen = h;
+        told = v.told;
+        mine = v.mine;
+        joined = v.joined;
+      }
 
   -- the root after one more split
   abbrev pub root_after_split : View C R Q → View C R Q
   root_after_split v =
-      record
-      { role = Root
-          (passes_made v.role + 1); rules = v.rules; stage = v.stage; seen = v.seen; told = v.told;
-          mine = v.mine; joined = v.joined }
+      record {
+        role = Root
+            (passes_made v.role + 1);
+        rules = v.rules;
+        stage = v.stage;
+        seen = v.seen;
+        told = v.told;
+        mine = v.mine;
+        joined = v.joined;
+      }
 
   -- the new pass, which has seen what the root has
   abbrev pub new_pass_view : View C R Q → View C R Q
   new_pass_view v =
-      record
-      { role = Lane
-          (passes_made v.role); rules = v.rules; stage = Idle; seen = v.seen; told = []; mine = [];
-          joined = [] }
+      record {
+        role = Lane
+            (passes_made v.role);
+        rules = v.rules;
+        stage = Idle;
+        seen = v.seen;
+        told = [];
+        mine = [];
+        joined = [];
+      }
 
   -- the lane of a pass, with its calls
   abbrev pub joined_of : View C R Q → Joined C R
@@ -107,9 +150,16 @@ module _ {C R Q : Type 0} where
   -- the root after a join: it is told what the pass has seen, and keeps its calls
   abbrev pub root_after_join : View C R Q → View C R Q → View C R Q
   root_after_join v w =
-      record
-      { role = v.role; rules = v.rules; stage = v.stage; seen = v.seen; told = w.seen; mine =
-          v.mine; joined = v.joined ++ joined_of w ∷ [] }
+      record {
+        role = v.role;
+        rules = v.rules;
+        stage = v.stage;
+        seen = v.seen;
+        told = w.seen;
+        mine =
+            v.mine;
+        joined = v.joined ++ joined_of w ∷ [];
+      }
 
   -- what is left of a pass that was joined
   abbrev pub view_gone : Q → View C R Q

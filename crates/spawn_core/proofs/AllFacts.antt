@@ -1,5 +1,5 @@
 -- All that the core asks of legal journals, for each journal, each call and each entry.
-use Rattle.std.proofs.Common.{◌≡◌, ℕ, ◌+◌, ◌<◌, ◌≤◌, Bool, true, false, ◌&&◌, ◌||◌, List, [], ◌∷◌, ◌++◌, reverse, map, Option, Some, None, option_map, refl, sym, ap, subst, ◌∙◌, ℤ, arith}
+use Rattle.std.proofs.Common.{◌≡◌, ℕ, ◌<◌, ◌≤◌, Bool, true, false, ◌&&◌, ◌||◌, List, [], ◌∷◌, ◌++◌, reverse, map, Option, Some, None, option_map, refl, sym, ap, subst, ◌∙◌, ℤ, arith}
 use Rattle.std.specs.Prelude.{slice_get}
 use Rattle.std.specs.List.{find, list_any}
 use Rattle.std.proofs.lemmas.Bool.{eqb-true, eq-eqb, and_parts, and_from}
@@ -20,7 +20,7 @@ use Rattle.exec_journal.specs.declared.reply.Reply.{Reply}
 use Rattle.exec_journal.specs.declared.reply.Reply.TheVariants as reply
 use Rattle.exec_journal.specs.Entries.{Request, attempt_of, same_attempt, is_for, is_kept, launch_in, consumed_in, matched_in, launch_of_entry}
 use Rattle.exec_journal.specs.Words.{last_work, last_line, launch_of, order_of, sends, pending, wrote, says_feed_fault, granted}
-use Rattle.exec_journal.specs.Attempts.{attempt, ended, line_of}
+use Rattle.exec_journal.specs.Attempts.{ended, line_of}
 use Rattle.run_plan.specs.Groups.{berth_group, berths, capacity, kind_of}
 use Rattle.exec_journal.specs.Settled.{bound}
 use Rattle.exec_journal.specs.Rules as r

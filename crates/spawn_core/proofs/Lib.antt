@@ -6,3 +6,4 @@ pub mod Newest
 pub mod Looked
 pub mod Turned
 pub mod Promised
+pub mod Outlooks

@@ -1,11 +1,10 @@
 -- A Look that its lane's script has: the table of files answers as the rule does.
-use Rattle.std.proofs.Common.{◌≡◌, ℕ, zero, suc, ◌+◌, ◌/◌, ◌%◌, ◌^◌, ◌<◌, ◌≤◌, ◌==◌, nat_lt, Bool, true, false, ◌&&◌, ◌||◌, not, cond, List, [], ◌∷◌, length, get_or, Option, Some, None, is_some, option_map, unwrap_or, ◌⊎◌, inl, inr, refl, ap, sym, subst, ◌∙◌, ℤ, pos, arith}
+use Rattle.std.proofs.Common.{◌≡◌, ℕ, ◌+◌, ◌%◌, ◌^◌, ◌<◌, ◌≤◌, ◌==◌, nat_lt, Bool, true, false, ◌&&◌, ◌||◌, not, cond, List, [], ◌∷◌, length, get_or, Option, Some, None, is_some, option_map, unwrap_or, ◌⊎◌, inl, inr, refl, ap, sym, subst, ◌∙◌, ℤ, pos, arith}
 use Rattle.std.specs.Prelude.{slice_get, option_and_then}
 use Rattle.std.specs.List.{list_all, list_any}
 use Rattle.std.specs.Ordering.{int_eq}
 use Rattle.std.proofs.lemmas.Bool.{and_parts, eqb-true, ltb-true, or_cases}
 use Rattle.std.proofs.lemmas.Option.{slice_get_cases, slice_get_within}
-use Rattle.run_plan.specs.declared.plan.Branch.{Branch}
 use Rattle.run_plan.specs.declared.plan.Kind.{Kind}
 use Rattle.run_plan.specs.declared.plan.Maker.{Maker}
 use Rattle.run_plan.specs.declared.plan.Plan.{Plan}
@@ -21,18 +20,16 @@ use Rattle.exec_journal.specs.declared.reply.Reply.{Reply}
 use Rattle.exec_journal.specs.declared.reply.Reply.TheVariants as reply
 use Rattle.exec_journal.specs.Rules as r
 use Rattle.exec_journal.specs.Scripts.{is_made, makes, outputs_of, script}
-use Rattle.exec_journal.specs.Entries.{attempt_of, gather_in, gather_of_entry, is_kept}
-use Rattle.exec_journal.specs.Legal.{Legal}
+use Rattle.exec_journal.specs.Entries.{gather_in, gather_of_entry, is_kept}
 use Rattle.exec_journal.specs.Words.{grant_of, has_halted, last_work, match_of, stopped}
 use Rattle.exec_journal.specs.Rules.{gathered}
 use Rattle.exec_journal.proofs.Ruled.{by_bool}
 use Rattle.core_tables.specs.declared.lanes.LaneState.{LaneState}
 use Rattle.core_tables.specs.declared.lanes.Order.{Order}
 use Rattle.core_tables.specs.declared.lanes.Order.TheVariants as order
-use Rattle.core_tables.specs.Lanes.{allows_by, lane_in, may_look_by, may_some, order_after, order_of_work, state_by}
+use Rattle.core_tables.specs.Lanes.{lane_in, may_look_by, may_some, order_after, order_of_work, state_by}
 use Rattle.core_state.specs.declared.state.State.{State}
 use Rattle.core_state.specs.Machine.{order_at, order_on}
-use Rattle.core_laws.specs.Stands as tables
 use Rattle.core_laws.proofs.Rowed.{lane_inside}
 use Rattle.file_table.specs.Stands as files
 use Rattle.ready_order.proofs.AllSettled.{sound_at}

@@ -1,5 +1,5 @@
 -- The answer that a lane is to gather is the newest matched answer of its branch.
-use Rattle.std.proofs.Common.{◌≡◌, ℕ, zero, suc, ◌/◌, ◌<◌, ◌≤◌, ◌==◌, Bool, true, false, ◌&&◌, ◌||◌, not, cond, List, [], ◌∷◌, Option, Some, None, is_some, ◌⊎◌, inl, inr, refl, ap, sym, subst, ◌∙◌, arith}
+use Rattle.std.proofs.Common.{◌≡◌, ℕ, zero, suc, ◌/◌, ◌≤◌, ◌==◌, Bool, true, false, ◌&&◌, ◌||◌, not, cond, List, [], ◌∷◌, Option, Some, None, is_some, ◌⊎◌, inl, inr, refl, ap, sym, subst, ◌∙◌, arith}
 use Rattle.std.specs.Prelude.{slice_get}
 use Rattle.std.proofs.lemmas.Bool.{and_parts, eqb-true, or_cases}
 use Rattle.run_plan.specs.declared.plan.Branch.{Branch}
@@ -13,12 +13,11 @@ use Rattle.exec_journal.specs.declared.call.Written.TheVariants as write
 use Rattle.exec_journal.specs.declared.journal.Entry.{Entry}
 use Rattle.exec_journal.specs.declared.reply.Reply.{Reply}
 use Rattle.exec_journal.specs.declared.reply.Reply.TheVariants as reply
-use Rattle.exec_journal.specs.Attempts.{attempt}
 use Rattle.exec_journal.specs.Entries.{Request, attempt_of, consumed_in, gather_in, gather_of_entry, is_branch_of, is_for, matched_in, same_attempt, same_branch}
 use Rattle.exec_journal.specs.Legal.{Legal}
 use Rattle.exec_journal.specs.Rules.{gathered}
 use Rattle.exec_journal.specs.Words.{answered, is_pending, last_work, match_at, match_of, says_done, says_feed_fault, sends, wrote}
-use Rattle.exec_journal.proofs.Begins.{attempts_in_order, begin_in_order, same_attempt_eq, same_attempt_refl, same_branch_eq, same_branch_refl}
+use Rattle.exec_journal.proofs.Begins.{attempts_in_order, begin_in_order, same_attempt_eq, same_attempt_refl, same_branch_eq}
 use Rattle.exec_journal.proofs.Histories.{AllOf, AtSome, some_map}
 use Rattle.exec_journal.proofs.Ruled as u
 use Rattle.exec_journal.proofs.Ruled.{by_bool}

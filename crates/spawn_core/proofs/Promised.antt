@@ -1,5 +1,5 @@
 -- What is promised of the journal that a core stands for.
-use Rattle.std.proofs.Common.{◌≡◌, ℕ, Bool, true, false, cond, List, ◌⊎◌, inl, inr, refl, ap, sym, ◌∙◌}
+use Rattle.std.proofs.Common.{◌≡◌, ℕ, Bool, true, false, cond, List, inl, inr, sym, ◌∙◌}
 use Rattle.run_plan.specs.declared.plan.Plan.{Plan}
 use Rattle.run_plan.specs.Sound.{Sound}
 use Rattle.exec_journal.specs.declared.call.Call.{Call}
@@ -19,7 +19,7 @@ use Rattle.journal_laws.proofs.Known.{outcome_known, stopped_settled}
 use Rattle.journal_laws.proofs.Races.{race}
 use Rattle.journal_laws.proofs.Requests.{paired}
 use Rattle.journal_laws.proofs.Stops.{each_settled, settled_accounted, stop_settles}
-use Rattle.spawn_core.specs.Answers.{Replies, answer, is_file}
+use Rattle.spawn_core.specs.Answers.{Replies, answer}
 use Rattle.spawn_core.specs.Orderly.{Complete, Orderly}
 
 finished : (p : Plan) (j : List Entry) → Sound p → Legal p j → all_settled p j ≡ true → Finished p j

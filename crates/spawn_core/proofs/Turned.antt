@@ -1,20 +1,17 @@
 -- One call that its lane's script has: what is kept stands for the journal with its entry.
-use Rattle.std.proofs.Common.{◌≡◌, ℕ, ◌/◌, ◌%◌, ◌<◌, ◌==◌, nat_lt, Bool, true, false, ◌&&◌, not, cond, List, ◌∷◌, length, Option, Some, None, inl, refl, ap, sym, subst, ◌∙◌}
+use Rattle.std.proofs.Common.{◌≡◌, ℕ, ◌/◌, ◌%◌, ◌<◌, ◌==◌, Bool, true, false, cond, List, ◌∷◌, length, Option, Some, None, refl, ap, sym, subst, ◌∙◌}
 use Rattle.std.specs.Prelude.{slice_get}
 use Rattle.std.proofs.lemmas.Option.{slice_get_within}
 use Rattle.run_plan.specs.declared.plan.Plan.{Plan}
-use Rattle.exec_journal.specs.declared.attempt.Attempt.{Attempt}
 use Rattle.exec_journal.specs.declared.call.Call.{Call}
 use Rattle.exec_journal.specs.declared.call.Call.TheVariants as call
-use Rattle.exec_journal.specs.declared.call.Found.{Found}
 use Rattle.exec_journal.specs.declared.call.Wanted.{Wanted}
 use Rattle.exec_journal.specs.declared.journal.Entry.{Entry}
 use Rattle.exec_journal.specs.declared.reply.Reply.{Reply}
 use Rattle.exec_journal.specs.declared.reply.Reply.TheVariants as reply
-use Rattle.exec_journal.specs.Entries.{granted_in, is_kept, is_look}
+use Rattle.exec_journal.specs.Entries.{is_kept, is_look}
 use Rattle.exec_journal.specs.Legal.{LegalEntry, after}
 use Rattle.exec_journal.specs.Scripts.{script}
-use Rattle.exec_journal.specs.Words.{grant_of}
 use Rattle.core_tables.specs.declared.seat.Seat.{Seat}
 use Rattle.core_tables.specs.declared.lanes.LaneState.{LaneState}
 use Rattle.core_tables.specs.Lanes.{allows_by, may_some}
@@ -23,7 +20,6 @@ use Rattle.core_state.specs.declared.state.State.{State}
 use Rattle.core_state.specs.Noted.{noted_if_kept}
 use Rattle.core_state.specs.Steps.{CanMake, made, made_reply}
 use Rattle.core_laws.specs.Moments.{LegalMore}
-use Rattle.core_laws.specs.Stands as tables
 use Rattle.core_laws.proofs.Calls.{reply_is}
 use Rattle.file_table.specs.Slots as slots
 use Rattle.file_table.specs.Slots.{Follows, FoundFiles}

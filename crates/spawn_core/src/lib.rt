@@ -2,6 +2,7 @@
 //! stands for the journal of the calls so far.
 #![tactic(auto)]
 
+mod outlook;
 mod scheduler;
 mod turn;
 

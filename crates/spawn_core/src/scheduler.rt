@@ -1,6 +1,7 @@
 // The core as its callers see it: it always stands for some journal.
-ghost use Rattle.std.specs.Prelude.{◌≡◌, ◌≤◌, List, [], IfOk, false, sum_by};
+ghost use Rattle.std.specs.Prelude.{◌≡◌, ◌≤◌, ◌<◌, ◌*◌, List, [], IfOk, false, sum_by};
 ghost use Rattle.run_plan.specs.declared.plan.Plan.{Plan};
+ghost use Rattle.run_plan.specs.Groups.{berths};
 ghost use Rattle.run_plan.specs.Sound.{Sound};
 ghost use Rattle.exec_journal.specs.declared.journal.Entry.{Entry};
 ghost use Rattle.exec_journal.specs.declared.reply.Reply.TheVariants as reply;
@@ -8,10 +9,13 @@ ghost use Rattle.exec_journal.specs.Clean.{Clean};
 ghost use Rattle.exec_journal.specs.Legal.{after};
 ghost use Rattle.exec_journal.specs.Words.{halted};
 ghost use Rattle.journal_laws.specs.Finished.{Finished};
+ghost use Rattle.journal_laws.specs.Paid.{lane_owes};
 ghost use Rattle.spawn_core.specs.Answers.{Replies, answer};
 ghost use Rattle.spawn_core.specs.Orderly.{Complete, Orderly};
+ghost use Rattle.spawn_core.specs.Outlook.{has_news_by, SaysNews};
 ghost use Rattle.spawn_core.specs.Stands.{Stands};
 
+use crate::outlook::{has_news, owes};
 use crate::turn::step;
 use cancel_rules::Cancels;
 use core_state::State;
@@ -96,6 +100,7 @@ impl Core {
     /// Where a lane is told to stop, and none has halted, the run is finished; and every action has
     /// success, where every worker did its part.
     pub fn step(&mut self, lane: u32, call: &Call) -> Reply
+        ensures plan { self.new.state.plan ≡ self.old.state.plan }
         ensures reply { (p : Plan) (j : List Entry) → Stands p self.old j
             → Replies (answer p j lane call.now) result }
         ensures stands { (p : Plan) (j : List Entry) → Stands p self.old j
@@ -107,6 +112,37 @@ impl Core {
             → result ≡ reply.Stop → halted j ≡ false → Clean j → Complete p j }
     {
         step(&mut self.state, &mut self.files, lane, call)
+    }
+
+    /// The number of berths.
+    pub fn berths(&self) -> u32
+        ensures { result ≡ berths self.now.state.plan }
+    {
+        all_berths(self.state.plan.groups.as_slice())
+    }
+
+    /// How many paid entries the lane still owes: its Halt, and the Committed of what it was
+    /// granted. A lane that isn't the plan's owes none.
+    pub fn lane_owes(&self, lane: u32) -> u64
+        ensures owes { (p : Plan) (j : List Entry) → Stands p self.now j → lane < 2 * berths p
+            → result ≡ lane_owes j lane }
+        ensures none { 2 * berths self.now.state.plan ≤ lane → result ≡ 0 }
+    {
+        if lane / 2 < self.berths() {
+            owes(self.state.lanes.state(lane))
+        } else {
+            0
+        }
+    }
+
+    /// Whether there is more for the lane than Idle: whether an Ask of a proxy lane, or a Take of a
+    /// tap lane, would be answered otherwise, if the lane may make it.
+    pub fn has_news(&self, lane: u32) -> bool
+        ensures exact { result ≡ has_news_by self.now.state lane }
+        ensures news { (p : Plan) (j : List Entry) → Stands p self.now j
+            → SaysNews p j lane result }
+    {
+        lane / 2 < self.berths() && has_news(&self.state, lane)
     }
 }
 

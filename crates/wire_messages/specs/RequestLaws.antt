@@ -114,10 +114,10 @@ request_writable m v =
     let arguments = texts_fine request_refuses 1 argument_fine m.arguments
     (recursion_from_All _ m.arguments v.arguments) in
     let inputs = messages_fine request_refuses 2 IsInputValue input_spelling SpellsInput input_again
-        input_fine m.inputs (recursion_from_All _ m.inputs v.inputs) in
+    input_fine m.inputs (recursion_from_All _ m.inputs v.inputs) in
     AreWritable-append _ _
-        (AreWritable-append _ _
-        (AreWritable-append _ _ (AreWritable-append _ _ (AreWritable-append _ _
+    (AreWritable-append _ _
+    (AreWritable-append _ _ (AreWritable-append _ _ (AreWritable-append _ _
     (repeated_writable 1 m.arguments (omega arith) (omega arith) arguments.1)
     (repeated_writable 2 (map input_spelling m.inputs) (omega arith) (omega arith) inputs.1))
     (int32_writable 3 m.request_id (omega arith) (omega arith) v.request_id))
@@ -131,18 +131,18 @@ request_sound m v =
     let arguments = texts_fine request_refuses 1 argument_fine m.arguments
     (recursion_from_All _ m.arguments v.arguments) in
     let inputs = messages_fine request_refuses 2 IsInputValue input_spelling SpellsInput input_again
-        input_fine m.inputs (recursion_from_All _ m.inputs v.inputs) in
+    input_fine m.inputs (recursion_from_All _ m.inputs v.inputs) in
     IsSound-append request_refuses _ _
-        (IsSound-append request_refuses _ _
-        (IsSound-append request_refuses _ _
-        (IsSound-append request_refuses _ _ (IsSound-append request_refuses _ _
+    (IsSound-append request_refuses _ _
+    (IsSound-append request_refuses _ _
+    (IsSound-append request_refuses _ _ (IsSound-append request_refuses _ _
     (repeated_sound request_refuses 1 m.arguments arguments.0)
     (repeated_sound request_refuses 2 (map input_spelling m.inputs) inputs.0))
     (number_sound request_refuses 3 (cast_unsigned w64 m.request_id)
-        (number_fine 3 (cast_unsigned w64 m.request_id))))
+    (number_fine 3 (cast_unsigned w64 m.request_id))))
     (number_sound request_refuses 4 (cond m.cancel 1 0) (number_fine 4 (cond m.cancel 1 0))))
     (number_sound request_refuses 5 (cast_unsigned w64 m.verbosity)
-        (number_fine 5 (cast_unsigned w64 m.verbosity))))
+    (number_fine 5 (cast_unsigned w64 m.verbosity))))
     (bytes_sound request_refuses 6 m.sandbox_dir (sandbox_fine m.sandbox_dir v.sandbox_dir))
 
 request_means : (m : WorkRequest) → IsRequestValue m → IsRequest (request_fields m) m

@@ -36,8 +36,15 @@ new_facts p = record { lines = []; seats = empty_berths p.groups; room = room_of
 -- ---- a new line
 
 abbrev pub new_line : ℕ → LineRow
-new_line c = record { capacity = c; started = false; broken = false; ended = false; killed = false;
-    bound = true; pending = 0 }
+new_line c = record {
+  capacity = c;
+  started = false;
+  broken = false;
+  ended = false;
+  killed = false;
+  bound = true;
+  pending = 0;
+}
 
 abbrev pub set_last : ℕ → BerthRow → BerthRow
 set_last l x = record { capacity = x.capacity; last = Some l }

@@ -16,8 +16,16 @@ abbrev pub row_of : Plan → Option (ℕ × Attempt) → Bool → Bool → Bool 
     → Option LineRow
 row_of p None s b e d o n = None
 row_of p (Some x) s b e d o n =
-    Some (record { capacity = capacity
-    (kind_of p (x.0 / 2)); started = s; broken = b; ended = e; killed = d; bound = o; pending = n })
+    Some (record {
+      capacity = capacity
+          (kind_of p (x.0 / 2));
+      started = s;
+      broken = b;
+      ended = e;
+      killed = d;
+      bound = o;
+      pending = n;
+    })
 
 unfoldable pub line_in : Plan → List Entry → ℕ → Option LineRow
 line_in p j l = row_of p (launch_of j l) (started j l) (broke j l) (has_ended j l) (was_killed j l)

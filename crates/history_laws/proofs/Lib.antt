@@ -1,0 +1,13 @@
+pub mod Along
+pub mod Fitting
+pub mod Hearing
+pub mod Paying
+pub mod Steps
+pub mod Lying
+pub mod Bridging
+pub mod Ordering
+pub mod Places
+pub mod Granting
+pub mod Inputs
+pub mod Counting
+pub mod Growing

@@ -1,0 +1,120 @@
+use Rattle.std.proofs.Common.{◌≡◌, ℕ, nat_eq, List, length, set, Some, refl, ap, sym, subst, ◌∙◌}
+use Rattle.std.specs.Prelude.{slice_get}
+use Rattle.std.specs.Vec.{with_items}
+use Rattle.std.proofs.lemmas.List.{with_items_is}
+use Rattle.std.proofs.lemmas.Option.{slice_get_read, same_Some}
+use Rattle.ready_order.specs.declared.ActionState.{ActionState}
+use Rattle.ready_order.specs.Facts.{Facts}
+use Rattle.ready_order.specs.Queue.{has_success, is_ready}
+use Rattle.ready_order.specs.Board.{Fits, IsRight, SameOf, shapes, supplied_by}
+use Rattle.ready_order.proofs.Fronts.{all_by_front}
+use Rattle.ready_order.proofs.Noted.{refreshed, has_room, local_named, remote_named, posted_groups, posted_sizes, is_refreshed, refreshed_fits, refreshed_right, refreshed_others}
+use Rattle.ready_order.proofs.board.Board.note.Goals as goal
+
+pub post-requires : goal.post-requires
+post-requires c =
+    let states = c.args.actions.now in
+    let x = c.index-actions-number.result in
+    let here = slice_get_read states
+    (length states) c.args.number x refl c.requires.known c.index-actions-number.is in
+    let f : Facts = record {
+      supplied = c.self.inside.supplied.items;
+      waiting =
+          c.self.inside.waiting;
+      queues = c.self.inside.queues.items;
+    } in
+    let fits = subst (Fits (shapes states)) (sym c.self.view_is) c.requires.fits in
+    rw c.deref_mut.ensures.value
+    (has_room states f c.args.number x here fits f.queues fits.queues refl x.local.group
+    (local_named states f c.args.number x here fits))
+
+pub post-requires-2 : goal.post-requires-2
+post-requires-2 c =
+    let states = c.args.actions.now in
+    let x = c.index-actions-number.result in
+    let here = slice_get_read states
+    (length states) c.args.number x refl c.requires.known c.index-actions-number.is in
+    let f : Facts = record {
+      supplied = c.self.inside.supplied.items;
+      waiting =
+          c.self.inside.waiting;
+      queues = c.self.inside.queues.items;
+    } in
+    let fits = subst (Fits (shapes states)) (sym c.self.view_is) c.requires.fits in
+    let ready = nat_eq c.supplied_from-supplied.result (length c.as_slice-producers.result.now) in
+    let first = c.deref_mut.ensures.value in
+    let groups : length c.post.new.queues ≡ length f.queues = rw (c.post.ensures, first)
+    (posted_groups c.args.number x ready f.queues x.local.group) in
+    let sizes : (g : ℕ) (q : List ℕ) → slice_get c.post.new.queues g ≡ Some q → length q ≡ length
+    (shapes states) =
+    rw (c.post.ensures, first) (posted_sizes c.args.number x ready f.queues x.local.group (length
+    (shapes states)) fits.queues) in
+    let len : length c.post.new.queues ≡ c.self.inside.queues.len = groups ∙ sym (ap length first)
+    ∙ c.deref_mut.ensures.len in
+    let second : c.deref_mut-2.result.now ≡ c.post.new.queues = c.deref_mut-2.ensures.value
+    ∙ with_items_is c.self.inside.queues c.post.new.queues len in
+    rw second
+    (has_room states f c.args.number x here fits c.post.new.queues sizes groups x.remote.group
+    (remote_named states f c.args.number x here fits))
+
+pub returns : goal.returns
+returns c =
+    let states = c.args.actions.now in
+    let a = c.args.number in
+    let x = c.index-actions-number.result in
+    let here = slice_get_read states
+    (length states) a x refl c.requires.known c.index-actions-number.is in
+    let f : Facts = record {
+      supplied = c.self.inside.supplied.items;
+      waiting =
+          c.self.inside.waiting;
+      queues = c.self.inside.queues.items;
+    } in
+    let fits = subst (Fits (shapes states)) (sym c.self.view_is) c.requires.fits in
+    let ready = nat_eq c.supplied_from-supplied.result (length c.as_slice-producers.result.now) in
+    let is_front = c.supplied_from-supplied.ensures ∙ ap
+    (supplied_by states) c.as_slice-producers.ensures in
+    let is_ready : ready ≡ is_ready states x =
+    rw (is_front, c.as_slice-producers.ensures) (all_by_front (has_success states) x.producers) in
+    let first = c.deref_mut.ensures.value in
+    let once = c.post.new.queues in
+    let twice = c.post-2.new.queues in
+    let groups : length once ≡ length f.queues = rw (c.post.ensures, first)
+    (posted_groups a x ready f.queues x.local.group) in
+    let len : length once ≡ c.self.inside.queues.len = groups ∙ sym (ap length first)
+    ∙ c.deref_mut.ensures.len in
+    let second : c.deref_mut-2.result.now ≡ once = c.deref_mut-2.ensures.value
+    ∙ with_items_is c.self.inside.queues once len in
+    let more : length twice ≡ c.self.inside.queues.len =
+    rw (c.post-2.ensures, second) (posted_groups a x ready once x.remote.group ∙ len) in
+    let whole = with_items_is (with_items c.self.inside.queues once) twice more in
+    let is = is_refreshed states f a x c.supplied_from-supplied.result c.mark.result ready
+    c.waits.result c.put.new.self c.deref_mut.result.now once c.deref_mut-2.result.now twice
+    is_front is_ready c.waits.ensures c.mark.ensures c.put.ensures first c.post.ensures second
+    c.post-2.ensures in
+    let now : Facts = record {
+      supplied =
+          set f.supplied a c.supplied_from-supplied.result;
+      waiting = c.put.new.self;
+      queues =
+          (with_items (with_items c.self.inside.queues once) twice).items;
+    } in
+    let told : now ≡ refreshed states f a x = ap (λ (qs : List (List ℕ)). (let g : Facts =
+    record {
+      supplied = set f.supplied a c.supplied_from-supplied.result;
+      waiting =
+          c.put.new.self;
+      queues = qs;
+    } in g)) whole ∙ is in
+    record {
+      fits = subst (Fits (shapes states)) (sym told) (refreshed_fits states f a x here fits);
+      right = λ y k.
+          let same : x ≡ y = same_Some x y (sym here ∙ k) in
+          subst (λ (h : Facts). IsRight states h a y) (sym told)
+          (subst (λ (z : ActionState). IsRight states (refreshed states f a x) a z) same
+          (refreshed_right states f a x here fits));
+      others = λ n apart.
+          subst (λ (h : Facts). SameOf c.args.self.now h n) (sym told)
+          (subst (λ (h : Facts). SameOf h (refreshed states f a x) n) c.self.view_is
+          (refreshed_others states f a x here fits n apart));
+    }

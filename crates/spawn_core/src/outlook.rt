@@ -1,0 +1,46 @@
+// What is known of a lane before it calls.
+ghost use Rattle.std.specs.Prelude.{◌≡◌, ◌/◌, not, is_some};
+ghost use Rattle.journal_laws.specs.Paid.{count};
+ghost use Rattle.core_state.specs.Choices.{Reads};
+ghost use Rattle.core_state.specs.Machine.{takeable};
+ghost use Rattle.spawn_core.specs.Outlook.{owes_by, is_idle, told_by};
+
+use core_state::{Choice, State};
+use core_tables::{LaneState, Said};
+
+/// How many paid entries a lane owes that stands there: its Halt, and the Committed of what it was
+/// granted.
+pub fn owes(lane: LaneState) -> u64
+    ensures { result ≡ owes_by lane }
+{
+    count(!lane.stopped && !lane.halted) + count(matches!(lane.said, Said::Won { .. }))
+}
+
+fn count(is: bool) -> u64
+    ensures { result ≡ count is }
+{
+    if is { 1 } else { 0 }
+}
+
+/// Whether a lane that may ask would be told anything but Idle.
+pub fn has_news(state: &State, lane: u32) -> bool
+    requires { Reads state.now (lane / 2) }
+    ensures { result ≡ not (is_idle (told_by state.now lane)) }
+{
+    if lane % 2 == 0 {
+        !matches!(state.choose(lane / 2), Choice::Idle)
+    } else {
+        may_take(state, lane / 2) || state.is_over()
+    }
+}
+
+// The berth's last line was launched with success and not given to a tap lane yet.
+fn may_take(state: &State, berth: u32) -> bool
+    requires { Reads state.now berth }
+    ensures { result ≡ is_some (takeable state.now berth) }
+{
+    match state.pool.last_line(berth) {
+        Some(line) => state.pool.line(line).started && !state.last.of(berth).taken,
+        None => false,
+    }
+}

@@ -1,0 +1,5 @@
+pub mod Replies
+pub mod Entries
+mod Goings
+mod Listening
+mod Leaving

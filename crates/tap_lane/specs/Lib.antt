@@ -1,0 +1,4 @@
+-- What contracts cite of a tap lane.
+pub mod Heard
+pub mod Taking
+pub mod Lane

@@ -1,0 +1,2 @@
+mod Tellers
+mod Pipelines

@@ -1,0 +1,2 @@
+-- What contracts cite of the lines of tap lanes.
+pub mod Pipes
