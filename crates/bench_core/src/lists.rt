@@ -78,7 +78,7 @@ impl Work {
     /// `NoMemory` where its tables find none, and `Refused` where the list isn't one.
     pub fn core(&self, alloc: Global) -> Result<Core, Failure> {
         match read_list(alloc, self.text.as_bytes()) {
-            Ok(list) => Ok(Core::new(alloc, plan(alloc, &list, INSTANCES, 0, 1)?)?),
+            Ok(list) => Ok(Core::new(alloc, plan(alloc, &list, INSTANCES, 1, 1)?)?),
             Err(_) => Err(Failure::Refused),
         }
     }
@@ -119,7 +119,7 @@ fn write_made(
     let (first, past) = match shape {
         _ if number == 0 => (0, 0),
         Shape::Chain => (number - 1, number),
-        Shape::Wide if number < actions - 1 => (0, 1),
+        Shape::Wide if number.saturating_add(1) < actions => (0, 1),
         Shape::Wide => (0, number),
     };
     for maker in first..past {
