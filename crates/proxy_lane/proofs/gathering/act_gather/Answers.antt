@@ -1,0 +1,81 @@
+use Rattle.std.proofs.Common.{w32, to_z, of_z, ◌≡◌, ℕ, ℤ, Bool, true, false, List, Result, length, [], refl, ap, sym, subst, ◌∙◌}
+use Rattle.std.specs.Prelude.{IfOk}
+use Rattle.std.proofs.Math.Facts.{to_z-of_z}
+use Rattle.plain_values.specs.declared.no_memory.NoMemory.{NoMemory}
+use Rattle.exec_journal.specs.declared.call.Found.{Found}
+use Rattle.exec_journal.specs.declared.call.Found.TheVariants as found
+use Rattle.sandbox_rooms.specs.declared.room.Room.{Room}
+use Rattle.sandbox_rooms.specs.Calls.{Asked}
+use Rattle.sandbox_rooms.specs.Rooms.{gather_asks}
+use Rattle.sandbox_rooms.proofs.Runs.{made_none}
+use Rattle.order_acts.specs.Acts.{ReportsLooks}
+use Rattle.run_plan.specs.Groups.{is_remote}
+use Rattle.due_frames.specs.Requests.{room_for}
+use Rattle.seat_desk.specs.Passes.{rules, seen}
+use Rattle.lane_deeds.specs.Deeds.{FoundIn, look_asks}
+use Rattle.lane_steps.specs.Acts.{IsAnswered}
+use Rattle.lane_steps.proofs.Acting.{gather_none, gather_answered, gather_looked}
+use Rattle.proxy_lane.proofs.gathering.act_gather.Goals as goal
+
+exit_in : (r : Bool) (asks : List Asked) (outputs l : ℕ) (n x : ℤ)
+    → FoundIn r asks outputs l n (found.Exit x)
+    (record { line = 0; looks = []; calls = []; given = [] })
+exit_in true asks outputs l n x = (refl, refl, refl)
+exit_in false asks outputs l n x = (refl, refl, refl)
+
+refused_in : (r : Bool) (asks : List Asked) (outputs l : ℕ) (n : ℤ)
+    → FoundIn r asks outputs l n found.Refused
+    (record { line = 0; looks = []; calls = []; given = [] })
+refused_in true asks outputs l n = (refl, refl, refl)
+refused_in false asks outputs l n = (refl, refl, refl)
+
+pub returns-then-exit-ne0-clause-acts : goal.returns-then-exit-ne0-clause-acts
+returns-then-exit-ne0-clause-acts g c =
+    let p = c.args.caller.now.pass in
+    let post = c.args.post.now in
+    let work = c.args.work.now in
+    let b = g.B.Berth.told c.args.berth.now in
+    gather_none post (g.C.Rules.rule (rules p)) p.lane c.args.line c.args.number work (seen p)
+    (found.Exit (to_z w32 (of_z w32 c.args.exit))) b
+    (exit_in (is_remote post.kind) (look_asks post c.args.number work) (length work.outputs) c.args.line
+    c.args.number (to_z w32 (of_z w32 c.args.exit))) (made_none b)
+
+pub returns-then-refused-clause-acts : goal.returns-then-refused-clause-acts
+returns-then-refused-clause-acts g c =
+    let p = c.args.caller.now.pass in
+    let post = c.args.post.now in
+    let work = c.args.work.now in
+    let b = g.B.Berth.told c.args.berth.now in
+    gather_none post (g.C.Rules.rule (rules p)) p.lane c.args.line c.args.number work (seen p)
+    found.Refused b
+    (refused_in (is_remote post.kind) (look_asks post c.args.number work) (length work.outputs)
+    c.args.line c.args.number) (made_none b)
+
+pub returns-then-is_executor-clause-acts : goal.returns-then-is_executor-clause-acts
+returns-then-is_executor-clause-acts g c =
+    let p = c.args.caller.now.pass in
+    let post = c.args.post.now in
+    let work = c.args.work.now in
+    let later = seen c.answered.new.caller.pass in
+    let rule = g.C.Rules.rule (rules p) in
+    gather_answered post rule p.lane c.args.line c.args.number work later c.answered.result
+    (g.B.Berth.told c.args.berth.now) (sym c.is_executor.ensures ∙ c.if-is_executor.true)
+    (subst (λ xs. IfOk c.answered.result (λ f. IsAnswered rule p.lane c.args.line c.args.number
+    (length xs) f later)) c.as_slice-outputs.ensures
+    (subst (λ (m : ℤ). IfOk c.answered.result (λ f. IsAnswered rule p.lane c.args.line m
+    (length c.as_slice-outputs.result.now) f later)) (to_z-of_z c.ranges.number)
+    c.answered.ensures.answered))
+
+pub returns-clause-acts : goal.returns-clause-acts
+returns-clause-acts g c =
+    let p = c.args.caller.now.pass in
+    let post = c.args.post.now in
+    let work = c.args.work.now in
+    let old = g.B.Berth.told c.args.berth.now in
+    let new = g.B.Berth.told c.gather_line.new.berth in
+    let room = c.room_of-room.ensures ∙ ap (room_for post.kind) (to_z-of_z c.ranges.number) in
+    gather_looked post (g.C.Rules.rule (rules p)) p.lane c.args.line c.args.number work (seen p)
+    c.gather_line.result old new (sym c.is_executor.ensures ∙ c.if-is_executor.false)
+    (subst (λ (r : Room). ReportsLooks (gather_asks r work.outputs) c.gather_line.result old new) room
+    (subst (λ xs. ReportsLooks (gather_asks c.room_of-room.result xs) c.gather_line.result old new)
+    c.as_slice-outputs.ensures c.gather_line.ensures.looks))

@@ -1,0 +1,15 @@
+use Rattle.std.proofs.Common.{◌≡◌, length}
+use Rattle.seat_desk.specs.Passes.{IsSamePass, rules, seen}
+use Rattle.lane_deeds.specs.Deeds.{looks_from}
+use Rattle.lane_deeds.specs.Told.{AreTold}
+use Rattle.proxy_calls.specs.Calls.{MakesNone}
+use Rattle.proxy_lane.proofs.gathering.answered.Given as goal
+
+abbrev pub invariant-loop-output : goal.invariant-loop-output
+invariant-loop-output g l = record {
+  same : IsSamePass l.fn.caller.pass l.caller.pass;
+  none : MakesNone l.fn.caller.pass l.caller.pass;
+  files : length l.files.items ≡ l.output;
+  told : AreTold (g.C.Rules.rule (rules l.fn.caller.pass)) l.fn.caller.pass.lane (seen l.caller.pass)
+      (looks_from l.line l.number 0 l.files.items);
+}

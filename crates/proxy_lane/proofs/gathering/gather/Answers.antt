@@ -1,0 +1,115 @@
+use Rattle.std.proofs.Math.Facts.{to_z-of_z}
+use Rattle.std.proofs.Common.{◌≡◌, ℕ, ℤ, Option, Some, None, Result, List, [], ◌∷◌, refl, ap, sym, subst, ◌∙◌, arith, eq-eqb, append-nil, inl, inr}
+use Rattle.std.specs.Prelude.{option_map, map, slice_get, length, Bool, true, false}
+use Rattle.seat_desk.specs.Passes.{IsSamePass, mine, rules, seen}
+use Rattle.exec_journal.specs.declared.call.Call.{Call}
+use Rattle.exec_journal.specs.declared.call.Call.TheVariants as call
+use Rattle.exec_journal.specs.declared.reply.Reply.{Reply}
+use Rattle.exec_journal.specs.declared.reply.Reply.TheVariants as reply
+use Rattle.run_rules.specs.Shelf.{child_at}
+use Rattle.run_rules.specs.Duties.{Duty, Asks, Left, duty_of, proxy_lane, may_do}
+use Rattle.lane_deeds.specs.declared.cause.Cause.{Cause}
+use Rattle.lane_deeds.specs.declared.cause.Cause.TheVariants as cause
+use Rattle.proxy_calls.specs.Calls.{MakesNone, MakesOne}
+use Rattle.lane_steps.specs.Lanes.{Open, Held, open_of, back_of, open_line, held_of}
+use Rattle.lane_steps.specs.Work.{IsWork}
+use Rattle.lane_steps.specs.Acts.{GatherActs}
+use Rattle.exec_journal.specs.declared.call.Found.{Found}
+use Rattle.plain_values.specs.declared.no_memory.NoMemory.{NoMemory}
+use Rattle.lane_steps.specs.Steps.{Goes, Halts, ClaimsFound, IsCauseOfClaim}
+use Rattle.lane_steps.proofs.Acting.{on_ok, if_err}
+use Rattle.lane_steps.proofs.Shelving.{claim_shelved}
+use Rattle.lane_steps.proofs.Serving.{proxy_on, by_rules}
+use Rattle.lane_steps.proofs.Founds.{gather_goes, gather_cut, claim_halts}
+use Rattle.proxy_lane.proofs.gathering.gather.Goals as goal
+
+pub act_gather-requires-clause-work : goal.act_gather-requires-clause-work
+act_gather-requires-clause-work g c =
+    c.requires.work.each c.args.attempt.action c.action_at-work.result.now c.action_at-work.ensures
+
+pub claim_found-requires-clause-lane : goal.claim_found-requires-clause-lane
+claim_found-requires-clause-lane g c = proxy_on g.C.Rules.seats c.args.lane
+    c.args.caller.now.pass c.act_gather.new.caller.pass c.act_gather.ensures.same c.requires.lane
+
+pub claim_found-requires-clause-outputs : goal.claim_found-requires-clause-outputs
+claim_found-requires-clause-outputs g c =
+    by_rules (λ q. g.C.Rules.outputs q c.args.attempt.action ≡ c.action_at-work.result.now.outputs)
+    c.args.caller.now.pass c.act_gather.new.caller.pass c.act_gather.ensures.same
+    (sym (c.requires.work.each c.args.attempt.action c.action_at-work.result.now c.action_at-work.ensures).same_outputs)
+
+pub claim_found-requires-clause-few : goal.claim_found-requires-clause-few
+claim_found-requires-clause-few g c =
+    (c.requires.work.each c.args.attempt.action c.action_at-work.result.now c.action_at-work.ensures).few
+
+pub returns-in-Err-clause-shelf : goal.returns-in-Err-clause-shelf
+returns-in-Err-clause-shelf g c = (ap (child_at c.args.lane) c.act_gather.ensures.none.1, refl, refl)
+
+pub returns-in-Err-clause-halts : goal.returns-in-Err-clause-halts
+returns-in-Err-clause-halts g c =
+    let post = c.args.post.now in
+    let actions = c.args.actions.now in
+    let rule = g.C.Rules.rule in
+    let p = c.args.caller.now.pass in
+    let p1 = c.act_gather.new.caller.pass in
+    let p2 = c.act_gather.new.caller.pass in
+    let h = held_of g.B.Berth.told g.B.Feed.Feed.told g.B.Child.Child.told c.args.hands.now in
+    let t = c.args.attempt in
+    let none = c.act_gather.ensures.none in
+    let same = c.act_gather.ensures.same in
+    let work = c.action_at-work.result.now in
+    let of = c.action_at-work.ensures in
+    let new = g.B.Berth.told c.act_gather.new.berth in
+    let then = record h { berth = new } in
+    gather_cut post actions rule p p1 p1 h c.args.line c.args.number t c.args.exit c.args.refused
+    c.requires.owes work of none same.1 new c.in-Err.field-0
+    (subst (λ (m : ℤ). GatherActs post (rule (rules p)) p.lane c.args.line m work
+    (Result.Err c.in-Err.field-0) (seen p1) h.berth new) (to_z-of_z c.ranges.number) c.in-Err.ensures.acts) (([], sym (append-nil (seen p1))), refl)
+
+pub returns-in-Ok-clause-goes : goal.returns-in-Ok-clause-goes
+returns-in-Ok-clause-goes g c =
+    let post = c.args.post.now in
+    let actions = c.args.actions.now in
+    let rule = g.C.Rules.rule in
+    let p = c.args.caller.now.pass in
+    let p1 = c.act_gather.new.caller.pass in
+    let p2 = c.claim_found.new.caller.pass in
+    let h = held_of g.B.Berth.told g.B.Feed.Feed.told g.B.Child.Child.told c.args.hands.now in
+    let t = c.args.attempt in
+    let none = c.act_gather.ensures.none in
+    let same = c.act_gather.ensures.same in
+    let work = c.action_at-work.result.now in
+    let of = c.action_at-work.ensures in
+    let new = g.B.Berth.told c.act_gather.new.berth in
+    let then = record h { berth = new } in
+    on_ok c.claim_found.result ((duty_of (mine p2) ≡ Asks) × ClaimsFound t c.in-Ok.found p1 p2)
+    ((duty_of (mine p2) ≡ Asks) × Goes post actions rule p h p2 then)
+    (λ x. (
+      x.0,
+      gather_goes post actions rule p p1 p2 h c.args.line c.args.number t c.args.exit c.args.refused
+          c.requires.owes work of none same.1 new c.in-Ok.found (subst (λ (m : ℤ). GatherActs post (rule (rules p)) p.lane c.args.line m work (Result.Ok c.in-Ok.found)
+          (seen p1) h.berth new) (to_z-of_z c.ranges.number) c.in-Ok.ensures.acts) x.1,
+    ))
+    c.claim_found.ensures.claims
+
+pub returns-in-Ok-clause-halts : goal.returns-in-Ok-clause-halts
+returns-in-Ok-clause-halts g c =
+    let post = c.args.post.now in
+    let actions = c.args.actions.now in
+    let rule = g.C.Rules.rule in
+    let p = c.args.caller.now.pass in
+    let p1 = c.act_gather.new.caller.pass in
+    let p2 = c.claim_found.new.caller.pass in
+    let h = held_of g.B.Berth.told g.B.Feed.Feed.told g.B.Child.Child.told c.args.hands.now in
+    let t = c.args.attempt in
+    let none = c.act_gather.ensures.none in
+    let same = c.act_gather.ensures.same in
+    let work = c.action_at-work.result.now in
+    let of = c.action_at-work.ensures in
+    let new = g.B.Berth.told c.act_gather.new.berth in
+    let then = record h { berth = new } in
+    if_err c.claim_found.result (λ by. MakesNone p1 p2 × IsCauseOfClaim t c.in-Ok.found by)
+    (λ by. Halts post actions rule by p h p2 then)
+    (λ by x. claim_halts post actions rule p p1 p2 h c.args.line c.args.number t c.args.exit c.args.refused
+    c.requires.owes work of none same.1 new c.in-Ok.found by (subst (λ (m : ℤ). GatherActs post (rule (rules p)) p.lane c.args.line m work (Result.Ok c.in-Ok.found)
+    (seen p1) h.berth new) (to_z-of_z c.ranges.number) c.in-Ok.ensures.acts) x.0 x.1)
+    c.claim_found.ensures.refused
