@@ -47,6 +47,10 @@ pub enum ShopCall {
         bytes: Blob,
         end: Io,
     },
+    Folder {
+        path: Text,
+        end: Io,
+    },
     Get {
         path: Text,
         answer: Read,
@@ -59,7 +63,8 @@ pub enum ShopCall {
     },
 }
 
-/// Files in folders, and commands that run there. Paths are relative to the shop's own folder. What a
+/// Files in folders, and commands that run there. Paths are relative to the shop's own folder. What
+/// a
 /// command leaves in its folder is the outside's.
 pub trait Shop: Drop {
     /// How often it has failed, and the calls so far with their answers, where it tells them.
@@ -75,6 +80,12 @@ pub trait Shop: Drop {
         ensures log { Adds (call.Put path.now bytes.now result ∷ []) (told self.old).log
             (told self.new).log };
 
+    /// Makes a folder, with the folders above it. One that is there is `Done`.
+    fn folder(&mut self, path: &str) -> Io
+        ensures count { Counts (told self.old).faults (told self.new).faults (result ≡ io.Failed) }
+        ensures log { Adds (call.Folder path.now result ∷ []) (told self.old).log
+            (told self.new).log };
+
     /// Looks at a file.
     ///
     /// # Errors
@@ -87,7 +98,8 @@ pub trait Shop: Drop {
             (told self.old).log (told self.new).log) }
         ensures err { OnErr result ((told self.new).log ≡ (told self.old).log) };
 
-    /// Makes the folder, runs the words there with these variables alone as environment and an empty
+    /// Makes the folder, runs the words there with these variables alone as environment and an
+    /// empty
     /// standard input, and waits for the end.
     ///
     /// # Errors

@@ -9,7 +9,8 @@ use plain_values::{Blob, Items, NoMemory, Text, texts_again};
 use std::alloc::Global;
 use std::collections::VecDeque;
 
-/// A shop in memory. It finds what it was made with and what was put, the later one counting, and its runs end as it was
+/// A shop in memory. It finds what it was made with and what was put, the later one counting, and
+/// its runs end as it was
 /// told. It tells its calls, unless memory to note one was wanted.
 #[derive(Drop)]
 pub struct MemShop {
@@ -18,6 +19,7 @@ pub struct MemShop {
     ends: VecDeque<JobEnd>,
     fails: Vec<FailAt>,
     puts: Calls,
+    folders: Calls,
     gets: Calls,
     /// `None` once memory for a failed call's entry was wanted.
     log: Option<Vec<ShopCall>>,
@@ -25,7 +27,8 @@ pub struct MemShop {
 }
 
 impl MemShop {
-    /// A shop with these files, whose runs end so, one after another, and after the last with `Failed`.
+    /// A shop with these files, whose runs end so, one after another, and after the last with
+    /// `Failed`.
     ///
     /// # Errors
     ///
@@ -49,6 +52,7 @@ impl MemShop {
             ends: VecDeque::from_vec(ends),
             fails,
             puts: Calls::new(),
+            folders: Calls::new(),
             gets: Calls::new(),
             log: Some(Vec::new(alloc)),
             faults: 0,
@@ -74,6 +78,15 @@ fn put_call(alloc: Global, path: &str, bytes: &[u8], end: Io) -> Result<ShopCall
     })
 }
 
+fn folder_call(alloc: Global, path: &str, end: Io) -> Result<ShopCall, NoMemory>
+    ensures { IfOk result (λ c. c ≡ ShopCall.Folder path.now end) }
+{
+    Ok(ShopCall::Folder {
+        path: Text::copy_of(alloc, path)?,
+        end,
+    })
+}
+
 impl Shop for MemShop {
     ghost told = { λ s. record { faults = s.faults; log = option_map (λ v. v.items) s.log } };
 
@@ -86,6 +99,17 @@ impl Shop for MemShop {
             || put_file(self.alloc, &mut self.files, path, bytes).is_err();
         let end = if fails { Io::Failed } else { Io::Done };
         let noted = note_end(&mut self.log, put_call(self.alloc, path, bytes, end));
+        if fails || !noted {
+            self.faults = self.faults.saturating_add(1);
+            return Io::Failed;
+        }
+        Io::Done
+    }
+
+    fn folder(&mut self, path: &str) -> Io {
+        let fails = self.folders.fails_now(&self.fails, Object::ShopFolder);
+        let end = if fails { Io::Failed } else { Io::Done };
+        let noted = note_end(&mut self.log, folder_call(self.alloc, path, end));
         if fails || !noted {
             self.faults = self.faults.saturating_add(1);
             return Io::Failed;

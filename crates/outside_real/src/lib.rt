@@ -1,17 +1,23 @@
-//! The outside itself: files, folders and processes below the folder in which the program was started.
-//! These objects are the trusted edge. They keep the traits' counts, and tell nothing of what they hold.
+//! The outside itself: files, folders and processes below the folder in which the program was
+//! started.
+//! These objects are the trusted edge. They keep the traits' counts, and tell nothing of what they
+//! hold.
 #![tactic(auto)]
 
 mod disk;
 mod floor;
+mod input;
 mod line;
 mod place;
 mod room;
+mod shop;
 mod sink;
 mod spawn;
 
 pub use floor::RealFloor;
+pub use input::RealInput;
 pub use line::{RealChild, RealFeed, RealTap};
 pub use place::RealPlace;
 pub use room::RealBerth;
+pub use shop::RealShop;
 pub use sink::RealSink;

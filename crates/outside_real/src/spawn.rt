@@ -1,10 +1,12 @@
 // The bare calls on processes. What they do is trusted.
-use outside::Command;
+use outside::{Command, Variable};
+use plain_values::Text;
 use std::alloc::{AllocError, Global};
-use std::io;
-use std::process::{self, Processes, Stdio, SystemProcess};
+use std::io::{self, ErrorKind, Read};
+use std::process::{self, ExitStatus, Processes, Stdio, SystemProcess};
 
-/// Starts the command's program in a room, which lies two folders below that of the start, with pipes for its
+/// Starts the command's program in a room, which lies two folders below that of the start, with
+/// pipes for its
 /// standard input and output and with the command's environment alone. Its standard error is ours.
 pub fn start<R: Processes<Started = SystemProcess>>(
     rt: &R,
@@ -12,27 +14,82 @@ pub fn start<R: Processes<Started = SystemProcess>>(
     room: &str,
     command: &Command,
 ) -> io::Result<process::Child> {
-    let program = program_from_room(alloc, command.program.as_str())?;
+    let program = program_from(alloc, "../..", command.program.as_str())?;
     let mut start = process::Command::new(alloc, program.as_str())?;
-    for word in command.words.as_slice() {
-        start.arg(word.as_str())?;
-    }
-    start.env_clear();
-    for variable in command.env.as_slice() {
-        start.env(variable.name.as_str(), variable.value.as_str())?;
-    }
-    start.current_dir(room)?;
+    prepare(
+        &mut start,
+        room,
+        command.words.as_slice(),
+        command.env.as_slice(),
+    )?;
     start.stdin(Stdio::piped());
     start.stdout(Stdio::piped());
     start.spawn(rt)
 }
 
-// A program's path as it is found from a room.
-fn program_from_room(alloc: Global, program: &str) -> Result<String, AllocError> {
+/// Runs words in a folder to their end, with an empty standard input and with these variables alone
+/// as environment.
+/// Gives how they ended and what they wrote to standard output. Standard error is ours. The folder
+/// lies below a room,
+/// so that a program's path begins three folders above it.
+pub fn run_to_end<R: Processes<Started = SystemProcess>>(
+    rt: &R,
+    alloc: Global,
+    folder: &str,
+    words: &[Text],
+    env: &[Variable],
+) -> io::Result<(ExitStatus, Vec<u8>)> {
+    let [program, words @ ..] = words else {
+        return Err(io::Error::from(ErrorKind::InvalidInput));
+    };
+    let program = program_from(alloc, "../../..", program.as_str())?;
+    let mut start = process::Command::new(alloc, program.as_str())?;
+    prepare(&mut start, folder, words, env)?;
+    start.stdin(Stdio::null());
+    start.stdout(Stdio::piped());
+    let mut child = start.spawn(rt)?;
+    match written_by(alloc, &mut child) {
+        Ok(written) => Ok((child.wait()?, written)),
+        Err(error) => {
+            end(&mut child);
+            Err(error)
+        }
+    }
+}
+
+// All that a process writes to its standard output.
+fn written_by(alloc: Global, child: &mut process::Child) -> io::Result<Vec<u8>> {
+    let mut written = Vec::new(alloc);
+    if let Some(mut stdout) = child.stdout.take() {
+        stdout.read_to_end(&mut written)?;
+    }
+    Ok(written)
+}
+
+fn prepare(
+    start: &mut process::Command,
+    folder: &str,
+    words: &[Text],
+    env: &[Variable],
+) -> Result<(), AllocError> {
+    for word in words {
+        start.arg(word.as_str())?;
+    }
+    start.env_clear();
+    for variable in env {
+        start.env(variable.name.as_str(), variable.value.as_str())?;
+    }
+    start.current_dir(folder)?;
+    Ok(())
+}
+
+// A program's path as it is found from a folder that lies so far below the one by which it is
+// named.
+fn program_from(alloc: Global, up: &str, program: &str) -> Result<String, AllocError> {
     if program.starts_with('/') {
         String::from_str(alloc, program)
     } else {
-        format!(in alloc; "../../{program}")
+        format!(in alloc; "{up}/{program}")
     }
 }
 
