@@ -6,13 +6,6 @@ use Rattle.flag_files.specs.declared.expanding.FlagFault.{FlagFault}
 use Rattle.flag_files.specs.declared.expanding.FlagFault.TheVariants as flag
 use Rattle.build_report.specs.declared.fault.RunFault.{RunFault}
 use Rattle.build_report.specs.declared.fault.RunFault.TheVariants as fault
-use Rattle.build_report.specs.declared.fault.Unbuilt.{Unbuilt}
-use Rattle.build_report.specs.declared.fault.Unbuilt.TheVariants as unbuilt
-
-abbrev pub unbuilt_name : Unbuilt → List ℕ
-unbuilt_name unbuilt.Words = codes "words"
-unbuilt_name unbuilt.Plan = codes "plan"
-unbuilt_name unbuilt.Outside = codes "outside"
 
 abbrev pub list_name : ListFault → List ℕ
 list_name (list.TooMany w n) = codes "TooMany"
@@ -75,7 +68,6 @@ fault_text (fault.Flags a f) = flag_text (flag_name f) (flag_path f) a
 fault_text (fault.Absent path) = codes "worker_tool: not there: " ++ path
 fault_text (fault.FloorFailed path) = codes "worker_tool: not read: " ++ path
 fault_text fault.SinkFailed = codes "worker_tool: report not written"
-fault_text (fault.NotYetBuilt what) = codes "worker_tool: not yet built: " ++ unbuilt_name what
 
 abbrev pub fault_status : RunFault → ℕ
 fault_status fault.Words = 2
@@ -85,4 +77,3 @@ fault_status (fault.Flags a f) = 4
 fault_status (fault.Absent path) = 5
 fault_status (fault.FloorFailed path) = 5
 fault_status fault.SinkFailed = 6
-fault_status (fault.NotYetBuilt what) = 7

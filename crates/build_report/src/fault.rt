@@ -1,7 +1,7 @@
 ghost use Rattle.std.specs.Prelude.{◌≡◌, IfOk, string_bytes};
 ghost use Rattle.build_report.specs.declared.fault.RunFault.TheVariants.{NoMemory};
 ghost use Rattle.build_report.specs.declared.fault.Stage.TheVariants.{Before};
-ghost use Rattle.build_report.specs.Faults.{fault_text, fault_status, unbuilt_name, list_name, list_action, list_text, flag_name, flag_path, flag_text};
+ghost use Rattle.build_report.specs.Faults.{fault_text, fault_status, list_name, list_action, list_text, flag_name, flag_path, flag_text};
 
 use action_list::ListFault;
 use flag_files::FlagFault;
@@ -25,8 +25,6 @@ pub enum RunFault {
     FloorFailed { path: Text },
     /// The report wasn't written whole.
     SinkFailed,
-    /// The run needs what isn't built yet.
-    NotYetBuilt(Unbuilt),
 }
 
 /// When memory was wanted.
@@ -40,36 +38,12 @@ pub enum Stage {
     After,
 }
 
-/// What isn't built yet.
-#[derive(Clone, Copy, Debug, PartialEq, Eq)]
-pub enum Unbuilt {
-    /// A list that is generated.
-    Words,
-    /// More than one action, or one that isn't for a worker that is asked in protobuf, one request at a time,
-    /// without cancellation.
-    Plan,
-    /// An action whose worker, room or place failed or misbehaved.
-    Outside,
-}
-
 /// Memory that is wanted outside the lanes is wanted before them.
 impl From<NoMemory> for RunFault {
     ghost from_gives = { λ _ e. e ≡ NoMemory Before };
 
     fn from(_: NoMemory) -> Self {
         RunFault::NoMemory(Stage::Before)
-    }
-}
-
-impl Unbuilt {
-    fn name(self) -> &'static str
-        ensures { result.now ≡ unbuilt_name self }
-    {
-        match self {
-            Unbuilt::Words => "words",
-            Unbuilt::Plan => "plan",
-            Unbuilt::Outside => "outside",
-        }
     }
 }
 
@@ -84,7 +58,6 @@ impl RunFault {
             RunFault::List(_) | RunFault::Flags { .. } => 4,
             RunFault::Absent { .. } | RunFault::FloorFailed { .. } => 5,
             RunFault::SinkFailed => 6,
-            RunFault::NotYetBuilt(_) => 7,
         }
     }
 }
@@ -111,10 +84,6 @@ pub fn fault_line(alloc: Global, fault: &RunFault) -> Result<Text, NoMemory>
             format!(in alloc; "worker_tool: not read: {path}")?
         }
         RunFault::SinkFailed => String::from_str(alloc, "worker_tool: report not written")?,
-        RunFault::NotYetBuilt(what) => {
-            let name = what.name();
-            format!(in alloc; "worker_tool: not yet built: {name}")?
-        }
     };
     Ok(Text::of(line))
 }

@@ -5,5 +5,5 @@ mod fault;
 mod telling;
 mod words;
 
-pub use fault::{RunFault, Stage, Unbuilt, fault_line};
+pub use fault::{RunFault, Stage, fault_line};
 pub use telling::{report, status};

@@ -13,12 +13,13 @@ use Rattle.exec_journal.specs.declared.call.Wanted.TheVariants as wanted
 use Rattle.exec_journal.specs.declared.reply.Reply.TheVariants as reply
 use Rattle.exec_journal.specs.Entries.{is_kept}
 use Rattle.seat_desk.specs.History.{entry, calls_by}
-use Rattle.run_rules.specs.Duties.{Sends, Commits, Left, proxy_lane, duty_of, is_maker, may_do}
+use Rattle.run_rules.specs.Duties.{Sends, Commits, Left, proxy_lane, duty_of, is_maker, may_do, may_make}
 use Rattle.run_rules.specs.Laws.{InScript, Fits, tap_lane, hearing_of, may_hear, Hears, Over, tells_of, claimed, says_file, lines_in, is_taken, OrderHolds}
 use Rattle.run_rules.specs.Moves.{Past, History}
 use Rattle.run_rules.specs.Shelf.{child_at, tap_at, place_at, Fresh, Away}
 use Rattle.script_duties.specs.Owed.{journal_of, outputs_in, makers_in}
 use Rattle.script_duties.proofs.Doing.{duty_is_scripted}
+use Rattle.script_duties.proofs.Only.{script_is_duty}
 use Rattle.script_duties.proofs.Paying as paying
 use Rattle.script_duties.proofs.Staying as staying
 use Rattle.history_laws.specs.Ruled.{answer_after, IsPaidAfter, owes_after, CameAbout}
@@ -82,6 +83,12 @@ pub taps_hear : (q : Plan) (h : History) (w : ℕ) (c : Call) → w < berths q
 taps_hear q h w c lt may =
     in_script q h (tap_lane w) c (hearing.hearing_is_scripted q h w c lt may)
 
+pub taps_hear_only : (q : Plan) (h : History) (w : ℕ) (c : Call) → CameAbout q h
+    → InScript (answer_after q) h (tap_lane w) c
+    → may_hear (hearing_of (calls_by (tap_lane w) h)) c ≡ true
+taps_hear_only q h w c came fit =
+    hearing.script_is_hearing q h w c came.legal (scripted_so q h (tap_lane w) c fit)
+
 pub taps_may_halt : (q : Plan) (h : History) (w : ℕ) → w < berths q
     → (hearing_of (calls_by (tap_lane w) h) ≡ Over → ⊥)
     → IsPaidAfter q h (tap_lane w) call.Halt
@@ -97,6 +104,12 @@ pub proxies_do : (q : Plan) (h : History) (w : ℕ) (c : Call) → w < berths q
     (duty_of (calls_by (proxy_lane w) h)) c ≡ true
     → InScript (answer_after q) h (proxy_lane w) c
 proxies_do q h w c lt may = in_script q h (proxy_lane w) c (duty_is_scripted q h w c lt may)
+
+pub proxies_do_only : (q : Plan) (h : History) (w : ℕ) (c : Call)
+    → InScript (answer_after q) h (proxy_lane w) c
+    → may_make (outputs_in q) (makers_in q) (is_remote (kind_of q w))
+    (duty_of (calls_by (proxy_lane w) h)) c ≡ true
+proxies_do_only q h w c fit = script_is_duty q h w c (scripted_so q h (proxy_lane w) c fit)
 
 pub proxies_may_halt : (q : Plan) (h : History) (w : ℕ) → w < berths q
     → (duty_of (calls_by (proxy_lane w) h) ≡ Left → ⊥)

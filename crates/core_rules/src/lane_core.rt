@@ -125,9 +125,13 @@ impl Rules for LaneCore {
 
     ghost taps_hear = { laws.taps_hear };
 
+    ghost taps_hear_only = { laws.taps_hear_only };
+
     ghost taps_may_halt = { laws.taps_may_halt };
 
     ghost proxies_do = { laws.proxies_do };
+
+    ghost proxies_do_only = { laws.proxies_do_only };
 
     ghost proxies_may_halt = { laws.proxies_may_halt };
 

@@ -1,6 +1,7 @@
 -- Where a tap lane stands by its own entries is what the journal's script asks of it.
-use Rattle.std.proofs.Common.{◌≡◌, ℕ, ◌*◌, ◌/◌, ◌%◌, ◌==◌, ◌<◌, nat_lt, Bool, true, false, cond, ◌&&◌, ◌||◌, not, List, [], ◌∷◌, Option, Some, None, refl, ap, sym, ◌∙◌, arith, lt-ltb}
+use Rattle.std.proofs.Common.{◌≡◌, ℕ, ◌*◌, ◌/◌, ◌%◌, ◌==◌, ◌<◌, nat_lt, Bool, true, false, cond, ◌&&◌, ◌||◌, not, List, [], ◌∷◌, Option, Some, None, refl, ap, sym, ◌∙◌, subst, arith, lt-ltb, eq-eqb}
 use Rattle.std.proofs.lemmas.Bool.{eqb-true, ne_eqb, and_parts}
+use Rattle.run_plan.specs.declared.plan.Branch.{Branch}
 use Rattle.run_plan.specs.declared.plan.Kind.{Kind}
 use Rattle.run_plan.specs.declared.plan.Plan.{Plan}
 use Rattle.run_plan.specs.Groups.{berths, kind_of}
@@ -10,8 +11,9 @@ use Rattle.exec_journal.specs.declared.journal.Entry.{Entry}
 use Rattle.exec_journal.specs.declared.reply.Reply.{Reply}
 use Rattle.exec_journal.specs.declared.reply.Reply.TheVariants as reply
 use Rattle.exec_journal.specs.Entries.{is_stop, is_halt, is_look}
+use Rattle.exec_journal.specs.Legal.{LegalEntry, Legal}
 use Rattle.exec_journal.specs.Words.{last_work, stopped, has_halted}
-use Rattle.exec_journal.specs.Scripts.{script, allowed, hears, hears_after, may_take, is_owed_commit}
+use Rattle.exec_journal.specs.Scripts.{script, allowed, hears, hears_after, may_take, is_owed_commit, is_commit_of}
 use Rattle.exec_journal.proofs.Ruled.{by_bool, not_true}
 use Rattle.journal_laws.specs.Paid.{is_paid}
 use Rattle.run_rules.specs.Laws.{Hearing, Free, Hears, Over, leads_by_call, leads_by_line, hearing_from, hearing_by, hearing_then, hearing_of, may_hear, tells_of, tap_lane}
@@ -369,6 +371,117 @@ line_is : (o : Option Entry) (s : Hearing) (l : ℕ) → s ≡ heard_by o → is
     → hears o l ≡ true → s ≡ Hears l
 line_is None s l is on h = absurd (cc)
 line_is (Some e) s l is on h = is ∙ heard_line l e.call e.reply (ap is_over (sym is) ∙ on) h
+
+-- ---- and no other calls are
+
+-- this work of a tap lane is no Claim, so no Committed is owed for it
+abbrev Unowing : Option Entry → Type 0
+Unowing o = (c : Call) → is_owed_commit c o ≡ true → ⊥
+
+heard_unowing : (k : Kind) (p : Plan) (o : Option Entry) (e : Entry)
+    → allowed p k false o e.call ≡ true → Unowing (Some e)
+heard_unowing k p o e may c owed = by_call e.call e.reply may c owed
+  where
+    none_of : (x : Call) (r : Reply) → allowed p k false o x ≡ true → (a : ℕ) (b : Branch)
+        → is_commit_of a b x r ≡ true → ⊥
+    none_of (call.Claim d b t f) r h a c owed = cc
+    none_of x r h a b owed = cc
+
+    by_call : (x : Call) (r : Reply) → allowed p k false o x ≡ true → (c : Call)
+        → is_owed_commit c (Some (record { lane = e.lane; call = x; reply = r })) ≡ true → ⊥
+    by_call x r h (call.Committed a b how) owed = none_of x r h a b owed
+    by_call x r h c owed = cc
+
+unowing_next : (p : Plan) (lane : ℕ) → (lane % 2 == 0) ≡ false → (e : Entry) (j : List Entry)
+    → LegalEntry p j e → Unowing (last_work j lane) → Unowing (last_work (e ∷ j) lane)
+unowing_next p lane odd e j legal before =
+    by ((e.lane == lane) && (not (is_look e.call) && not (is_halt e.call))) refl
+  where
+    own : (e.lane == lane) ≡ true → Unowing (Some e)
+    own same =
+        let is : e.lane ≡ lane = eqb-true e.lane lane same in
+        let parts = and_parts (nat_lt e.lane (2 * berths p)) _ legal.scripted in
+        let runs = and_parts (not (stopped j e.lane)) _ parts.1 in
+        by_bool (has_halted j e.lane)
+        (λ b. cond b (is_owed_commit e.call (last_work j e.lane))
+        (allowed p (kind_of p (e.lane / 2)) (e.lane % 2 == 0) (last_work j e.lane) e.call) ≡ true
+        → Unowing (Some e))
+        (λ _ g. absurd (before e.call
+        (ap (λ (n : ℕ). is_owed_commit e.call (last_work j n)) (sym is) ∙ g)))
+        (λ _ g. heard_unowing (kind_of p (e.lane / 2)) p (last_work j e.lane) e
+        (ap (λ (b : Bool). allowed p (kind_of p (e.lane / 2)) b (last_work j e.lane) e.call)
+        (sym odd ∙ ap (λ (n : ℕ). n % 2 == 0) (sym is)) ∙ g))
+        runs.1
+
+    by : (b : Bool)
+        → ((e.lane == lane) && (not (is_look e.call) && not (is_halt e.call))) ≡ b
+        → Unowing (last_work (e ∷ j) lane)
+    by true is =
+        subst Unowing (sym ((then e j lane).work is)) (own (and_parts (e.lane == lane) _ is).0)
+    by false is = subst Unowing (sym ((then e j lane).other is)) before
+
+tap_unowing : (p : Plan) (lane : ℕ) → (lane % 2 == 0) ≡ false → (j : List Entry) → Legal p j
+    → Unowing (last_work j lane)
+unfolding last_work
+tap_unowing p lane odd [] legal = λ c. none_owed c
+  where
+    none_owed : (c : Call) → is_owed_commit c None ≡ true → ⊥
+    none_owed (call.Committed a b how) owed = cc
+    none_owed c owed = cc
+tap_unowing p lane odd (e ∷ j) legal =
+    unowing_next p lane odd e j legal.1 (tap_unowing p lane odd j legal.0)
+
+takes_only_free : (x : Call) (r : Reply) → is_over (heard_work x r) ≡ false
+    → may_take (Some (record { lane = 0; call = x; reply = r })) ≡ true
+    → may_hear (heard_work x r) call.Take ≡ true
+takes_only_free x (reply.Line l) on h = absurd (cc)
+takes_only_free x reply.Stop on h = absurd (cc)
+takes_only_free (call.Answer l y) r on h = absurd (cc)
+takes_only_free x r on h = refl
+
+halts_open : (s : Hearing) → is_over s ≡ false → may_hear s call.Halt ≡ true
+halts_open Free on = refl
+halts_open (Hears l) on = refl
+halts_open Over on = absurd (cc)
+
+open_may : (k : Kind) (p : Plan) (o : Option Entry) (c : Call) → is_over (heard_by o) ≡ false
+    → allowed p k false o c ≡ true → may_hear (heard_by o) c ≡ true
+open_may k p o call.Halt on h = halts_open (heard_by o) on
+open_may k p None call.Take on h = refl
+open_may k p (Some e) call.Take on h = takes_only_free e.call e.reply on h
+open_may k p o (call.Answer l x) on h =
+    ap (λ (s : Hearing). may_hear s (call.Answer l x)) (line_is o (heard_by o) l refl on h)
+    ∙ eq-eqb l l refl
+open_may k p o (call.Ended l how) on h =
+    ap (λ (s : Hearing). may_hear s (call.Ended l how)) (line_is o (heard_by o) l refl on h)
+    ∙ eq-eqb l l refl
+open_may k p o c on h = absurd (cc)
+
+-- what is in a tap lane's script, where it stands, it may do
+pub script_is_hearing : (p : Plan) (h : History) (w : ℕ) (c : Call) → Legal p (journal_of h)
+    → script p (journal_of h) (tap_lane w) c ≡ true
+    → may_hear (hearing_of (calls_by (tap_lane w) h)) c ≡ true
+script_is_hearing p h w c legal may =
+    let j = journal_of h in
+    let lane = tap_lane w in
+    let last = last_work j lane in
+    let k = kind_of p (lane / 2) in
+    let s = hearing_of (calls_by lane h) in
+    let is = heard_so h lane in
+    let odd = tap_odd w in
+    let parts = and_parts (nat_lt lane (2 * berths p)) _ may in
+    let runs = and_parts (not (stopped j lane)) _ parts.1 in
+    by_bool (has_halted j lane)
+    (λ b. has_halted j lane ≡ b
+    → cond b (is_owed_commit c last) (allowed p k (lane % 2 == 0) last c) ≡ true
+    → may_hear s c ≡ true)
+    (λ _ halts g. absurd (tap_unowing p lane odd j legal c g))
+    (λ _ on g. let here : is_over s ≡ false =
+    is.gone ∙ (λ i. not_true (stopped j lane) runs.0 i || on i) in
+    ap (λ (x : Hearing). may_hear x c) (is.owed here)
+    ∙ open_may k p last c (ap is_over (sym (is.owed here)) ∙ here)
+    (ap (λ (b : Bool). allowed p k b last c) (sym odd) ∙ g))
+    refl runs.1
 
 tells_heard : (p : Plan) (k : Kind) (proxy : Bool) (o : Option Entry) (l : ℕ) (c : Call)
     → tells_of l c ≡ true → allowed p k proxy o c ≡ true → hears o l ≡ true

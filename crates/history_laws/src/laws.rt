@@ -16,7 +16,7 @@ ghost use Rattle.run_plan.specs.declared.plan.Branch.{Branch};
 ghost use Rattle.run_plan.specs.Groups.{berths, kind_of, is_remote};
 ghost use Rattle.run_rules.specs.Laws.{InScript, Fits, tap_lane, hearing_of, may_hear, Hears, Over, tells_of, OrderHolds, claimed, lines_in, is_taken, says_file};
 ghost use Rattle.run_rules.specs.Shelf.{child_at, tap_at, place_at, Fresh, Away};
-ghost use Rattle.run_rules.specs.Duties.{proxy_lane, duty_of, is_maker, may_do, Sends, Commits, Left};
+ghost use Rattle.run_rules.specs.Duties.{proxy_lane, duty_of, is_maker, may_do, may_make, Sends, Commits, Left};
 ghost use Rattle.script_duties.specs.Owed.{outputs_in, makers_in};
 ghost use Rattle.history_laws.specs.Ruled.{answer_after, IsPaidAfter, owes_after, CameAbout};
 
@@ -35,13 +35,18 @@ pub fn scripts_are_lanes()
         → InScript (answer_after p) (h ++ more) lane c }
 {}
 
-/// Which calls are in a proxy lane's script, its own entries say alone. Its Halt is paid for until
-/// it was told to stop or has halted, and so is the Committed that it owes.
+/// Which calls are in a proxy lane's script, its own entries say alone: those that its duty asks
+/// for, and no others but a Halt where it owes a Committed, and a Committed where it has left. Its
+/// Halt is paid for until it was told to stop or has halted, and so is the Committed that it owes.
 pub fn proxies_do_their_duties()
     ensures does { (p : Plan) (h : List (Entry Call Reply)) (w : ℕ) (c : Call) → w < berths p
         → may_do (outputs_in p) (makers_in p) (is_remote (kind_of p w))
         (duty_of (calls_by (proxy_lane w) h)) c ≡ true
         → InScript (answer_after p) h (proxy_lane w) c }
+    ensures does_only { (p : Plan) (h : List (Entry Call Reply)) (w : ℕ) (c : Call)
+        → InScript (answer_after p) h (proxy_lane w) c
+        → may_make (outputs_in p) (makers_in p) (is_remote (kind_of p w))
+        (duty_of (calls_by (proxy_lane w) h)) c ≡ true }
     ensures halts { (p : Plan) (h : List (Entry Call Reply)) (w : ℕ) → w < berths p
         → (duty_of (calls_by (proxy_lane w) h) ≡ Left → ⊥)
         → IsPaidAfter p h (proxy_lane w) call.Halt }
@@ -51,13 +56,16 @@ pub fn proxies_do_their_duties()
         → IsPaidAfter p h (proxy_lane w) (call.Committed a b how) }
 {}
 
-/// Which calls are in a tap lane's script, its own entries say alone, and its Halt is paid for
-/// until it was told to stop or has halted. An Answer and an Ended come from the tap lane that
-/// hears the line.
+/// Which calls are in a tap lane's script, its own entries say alone: these, and after a history
+/// that came about no others. Its Halt is paid for until it was told to stop or has halted. An
+/// Answer and an Ended come from the tap lane that hears the line.
 pub fn taps_are_heard()
     ensures hears { (p : Plan) (h : List (Entry Call Reply)) (w : ℕ) (c : Call) → w < berths p
         → may_hear (hearing_of (calls_by (tap_lane w) h)) c ≡ true
         → InScript (answer_after p) h (tap_lane w) c }
+    ensures hears_only { (p : Plan) (h : List (Entry Call Reply)) (w : ℕ) (c : Call)
+        → CameAbout p h → InScript (answer_after p) h (tap_lane w) c
+        → may_hear (hearing_of (calls_by (tap_lane w) h)) c ≡ true }
     ensures halts { (p : Plan) (h : List (Entry Call Reply)) (w : ℕ) → w < berths p
         → (hearing_of (calls_by (tap_lane w) h) ≡ Over → ⊥)
         → IsPaidAfter p h (tap_lane w) call.Halt }

@@ -38,7 +38,9 @@ impl<B: Berth, P: Place, C: Rules> Bench<B, P, C> {
     pub fn new(alloc: Global, core: C, places: Vec<P>) -> Result<Bench<B, P, C>, NoMemory>
         requires core { C.stands core [] }
         requires places { AreFresh P.told (C.actions (C.plan core)) places.items }
-        ensures { IfOk result (λ b. ⟦<Bench<B, P, C> as Machine>⟧.stands b []) }
+        ensures stands { IfOk result (λ b. ⟦<Bench<B, P, C> as Machine>⟧.stands b []) }
+        ensures rules { IfOk result (λ b.
+            ⟦<Bench<B, P, C> as Machine>⟧.rules b ≡ C.plan core) }
     {
         let shelf = Shelf::new(alloc, core.berths() as usize, places)?;
         Ok(Bench { core, shelf })
@@ -47,8 +49,9 @@ impl<B: Berth, P: Place, C: Rules> Bench<B, P, C> {
     /// The core, for each berth the tap that no lane has taken, and for each action its place, if no
     /// lane has it. It takes no memory.
     pub fn into_parts(self) -> (C, Vec<Option<B::Tap>>, Vec<Option<P>>)
-        ensures { (h : List (Entry Call Reply)) → ⟦<Bench<B, P, C> as Machine>⟧.stands self h
-            → C.stands result.0 h
+        ensures rules { C.plan result.0 ≡ ⟦<Bench<B, P, C> as Machine>⟧.rules self }
+        ensures parts { (h : List (Entry Call Reply))
+            → ⟦<Bench<B, P, C> as Machine>⟧.stands self h → C.stands result.0 h
             × Remains B.Tap.told P.told (C.outputs (C.plan result.0)) (C.seats (C.plan result.0))
             (C.actions (C.plan result.0)) h result.1.items result.2.items }
     {

@@ -58,7 +58,6 @@ unless_weaker None P Q f h = f h
 unless_weaker (Some (fault.NoMemory when)) P Q f h = h
 unless_weaker (Some (fault.Absent at)) P Q f h = f h
 unless_weaker (Some (fault.FloorFailed at)) P Q f h = f h
-unless_weaker (Some (fault.NotYetBuilt what)) P Q f h = f h
 unless_weaker (Some fault.SinkFailed) P Q f h = f h
 unless_weaker (Some fault.Words) P Q f h = f h
 unless_weaker (Some (fault.List x)) P Q f h = f h
@@ -77,7 +76,6 @@ pub lost_weaker : (f : RunFault) (P Q : List ℕ → Read → Type 0) → ((path
 lost_weaker (fault.Absent at) P Q g h = g at _ h
 lost_weaker (fault.FloorFailed at) P Q g h = g at _ h
 lost_weaker (fault.NoMemory when) P Q g h = absurd h
-lost_weaker (fault.NotYetBuilt what) P Q g h = absurd h
 lost_weaker fault.SinkFailed P Q g h = absurd h
 lost_weaker fault.Words P Q g h = absurd h
 lost_weaker (fault.List x) P Q g h = absurd h

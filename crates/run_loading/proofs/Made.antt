@@ -120,7 +120,6 @@ works_stop makers files xs i number x done (fault.Flags a y) below is counted so
 works_stop makers files xs i number x done (fault.NoMemory when) below is counted so_far h = h
 works_stop makers files xs i number x done (fault.Absent at) below is counted so_far h = absurd h
 works_stop makers files xs i number x done (fault.FloorFailed at) below is counted so_far h = absurd h
-works_stop makers files xs i number x done (fault.NotYetBuilt what) below is counted so_far h = absurd h
 works_stop makers files xs i number x done fault.SinkFailed below is counted so_far h = absurd h
 works_stop makers files xs i number x done fault.Words below is counted so_far h = absurd h
 works_stop makers files xs i number x done (fault.List y) below is counted so_far h = absurd h
@@ -137,7 +136,6 @@ lost_work : (xs : List ListAction) (reads : List FloorRead) (f : RunFault) → O
 lost_work xs reads (fault.Absent at) h = h
 lost_work xs reads (fault.FloorFailed at) h = h
 lost_work xs reads (fault.NoMemory when) h = absurd h
-lost_work xs reads (fault.NotYetBuilt what) h = absurd h
 lost_work xs reads fault.SinkFailed h = absurd h
 lost_work xs reads fault.Words h = absurd h
 lost_work xs reads (fault.List y) h = absurd h
@@ -152,7 +150,6 @@ work_made old after xs sources (Err (fault.Flags a y)) l w = reads_weaker old af
 work_made old after xs sources (Err (fault.NoMemory when)) l w = w
 work_made old after xs sources (Err (fault.Absent at)) l w = absurd w
 work_made old after xs sources (Err (fault.FloorFailed at)) l w = absurd w
-work_made old after xs sources (Err (fault.NotYetBuilt what)) l w = absurd w
 work_made old after xs sources (Err fault.SinkFailed) l w = absurd w
 work_made old after xs sources (Err fault.Words) l w = absurd w
 work_made old after xs sources (Err (fault.List y)) l w = absurd w

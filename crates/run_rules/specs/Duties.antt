@@ -1,5 +1,5 @@
 -- What a proxy lane owes, by its own entries, and which calls it may make then.
-use Rattle.std.specs.Prelude.{ℕ, ◌*◌, ◌==◌, ℤ, pos, nat_lt, Bool, true, false, ◌&&◌, not, List, length}
+use Rattle.std.specs.Prelude.{ℕ, ◌*◌, ◌==◌, ℤ, pos, nat_lt, Bool, true, false, ◌&&◌, ◌||◌, not, List, length}
 use Rattle.std.specs.List.{fold, list_any}
 use Rattle.std.specs.Ordering.{int_eq}
 use Rattle.run_plan.specs.declared.plan.Branch.{Branch}
@@ -80,6 +80,13 @@ duty_of own = fold duty_then Asks own
 abbrev pub is_maker : List Maker → ℕ → ℕ → Bool
 is_maker makers c o = list_any (λ m. is_made m c o) makers
 
+-- A lane that owes a Committed may halt before it makes it, and so make it once it has left. No
+-- duty asks for that.
+abbrev pub may_besides : Duty → Call → Bool
+may_besides (Commits a b fs) call.Halt = true
+may_besides Left (call.Committed a b how) = true
+may_besides _ _ = false
+
 -- ---- which calls it may make, by the paths of each action's outputs, the made inputs of each
 -- action, and whether its process is an executor
 module _ (outputs : ℕ → List (List ℕ)) (makers : ℕ → List Maker) (remote : Bool) where
@@ -118,3 +125,7 @@ module _ (outputs : ℕ → List (List ℕ)) (makers : ℕ → List Maker) (remo
   may_do (Kills m) (call.Killed l) = m == l
   may_do (Kills m) call.Halt = true
   may_do _ _ = false
+
+  -- what its duty asks for, or what it may do besides
+  abbrev pub may_make : Duty → Call → Bool
+  may_make s c = may_do s c || may_besides s c

@@ -15,7 +15,7 @@ ghost use Rattle.exec_journal.specs.declared.reply.Reply.TheVariants as reply;
 ghost use Rattle.exec_journal.specs.Entries.{is_kept};
 ghost use Rattle.run_rules.specs.Shelf.{child_at, tap_at, place_at, Fresh, Away};
 ghost use Rattle.run_rules.specs.Laws.{InScript, Fits, tap_lane, hearing_of, may_hear, Hears, Over, tells_of, claimed, says_file, lines_in, is_taken, OrderHolds, StepReplies, StepStands};
-ghost use Rattle.run_rules.specs.Duties.{Sends, Commits, Left, proxy_lane, duty_of, is_maker, may_do};
+ghost use Rattle.run_rules.specs.Duties.{Sends, Commits, Left, proxy_lane, duty_of, is_maker, may_do, may_make};
 
 use exec_journal::{Call, Reply};
 
@@ -126,6 +126,11 @@ pub trait Rules: Sized + Drop {
         → w < seats q → may_hear (hearing_of (calls_by (tap_lane w) h)) c ≡ true
         → InScript (rule q) h (tap_lane w) c };
 
+    // After a history that came about no other call is.
+    ghost taps_hear_only: { (q : Self.Plan) (h : List (Entry Call Reply)) (w : ℕ) (c : Call)
+        → legal q h → InScript (rule q) h (tap_lane w) c
+        → may_hear (hearing_of (calls_by (tap_lane w) h)) c ≡ true };
+
     // Its Halt is paid for, until it was told to stop or has halted.
     ghost taps_may_halt: { (q : Self.Plan) (h : List (Entry Call Reply)) (w : ℕ)
         → w < seats q → (hearing_of (calls_by (tap_lane w) h) ≡ Over → ⊥)
@@ -137,6 +142,13 @@ pub trait Rules: Sized + Drop {
         → may_do (outputs q) (makers q) (remote q w)
         (duty_of (calls_by (proxy_lane w) h)) c ≡ true
         → InScript (rule q) h (proxy_lane w) c };
+
+    // No other call is, but a Halt of a lane that owes a Committed, and a Committed of one that has
+    // left.
+    ghost proxies_do_only: { (q : Self.Plan) (h : List (Entry Call Reply)) (w : ℕ) (c : Call)
+        → InScript (rule q) h (proxy_lane w) c
+        → may_make (outputs q) (makers q) (remote q w)
+        (duty_of (calls_by (proxy_lane w) h)) c ≡ true };
 
     // Its Halt is paid for, until it was told to stop or has halted.
     ghost proxies_may_halt: { (q : Self.Plan) (h : List (Entry Call Reply)) (w : ℕ)

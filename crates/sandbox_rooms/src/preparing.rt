@@ -9,8 +9,10 @@ use plain_values::{NoMemory, Text};
 use remote_messages::NamedFile;
 use std::alloc::Global;
 
-/// Makes the room ready for a request, up to the first call that fails: clears what the room says, makes the
-/// folders of the outputs, and puts the inputs, in order. Contents are put as they are, and not copied.
+/// Makes the room ready for a request, up to the first call that fails: clears what the room says,
+/// makes the
+/// folders of the outputs, and puts the inputs, in order. Contents are put as they are, and not
+/// copied.
 ///
 /// # Errors
 ///
@@ -140,7 +142,8 @@ fn make_folder<B: Berth>(
     }
 }
 
-fn folder_of(path: &str) -> Option<&str>
+/// The folder of a path: what stands before its last slash, where it has one.
+pub fn folder_of(path: &str) -> Option<&str>
     ensures { option_copied result ≡ folder_of path.now }
 {
     match path.rfind('/') {

@@ -30,13 +30,13 @@ use Rattle.std.specs.List.{list_any}
 
 -- ---- what a plan says of an action
 
-makes_so : (v : Option PlanAction) (test : Maker → Bool)
+pub makes_so : (v : Option PlanAction) (test : Maker → Bool)
     → list_any test (unwrap_or (option_map (λ (x : PlanAction). x.makers) v) [])
     ≡ unwrap_or (option_map (λ (x : PlanAction). list_any test x.makers) v) false
 makes_so None test = refl
 makes_so (Some x) test = refl
 
-outputs_so : (v : Option PlanAction)
+pub outputs_so : (v : Option PlanAction)
     → length (unwrap_or (option_map (λ (x : PlanAction). x.outputs) v) [])
     ≡ unwrap_or (option_map (λ (x : PlanAction). length x.outputs) v) 0
 outputs_so None = refl
@@ -159,7 +159,7 @@ module _ (p : Plan) (k : Kind) where
   commit_may n a b t fs (call.Ended k how) h = absurd (cc)
   commit_may n a b t fs call.Halt h = absurd (cc)
 
-  abbrev is_grant : Reply → Bool
+  abbrev pub is_grant : Reply → Bool
   is_grant reply.Granted = true
   is_grant _ = false
 
@@ -215,7 +215,7 @@ module _ (p : Plan) (k : Kind) where
   files_ungranted a b fs reply.Astray e = refl
   files_ungranted a b fs reply.NoMemory e = refl
 
-  ungranted : (x : Call) (r : Reply) → is_grant r ≡ false → duty_of_work x r ≡ ordered r
+  pub ungranted : (x : Call) (r : Reply) → is_grant r ≡ false → duty_of_work x r ≡ ordered r
   ungranted (call.Claim a b t (found.Files fs)) r e = files_ungranted a b fs r e
   ungranted (call.Claim a b t (found.Exit q)) r e = refl
   ungranted (call.Claim a b t (found.Missing q)) r e = refl
@@ -259,7 +259,7 @@ module _ (p : Plan) (k : Kind) where
       asks_only (May n (call.Ended k how) reply.Granted) c h refl refl
   grant_may n call.Halt c h = asks_only (May n call.Halt reply.Granted) c h refl refl
 
-  grant_is : (r : Reply) → is_grant r ≡ true → r ≡ reply.Granted
+  pub grant_is : (r : Reply) → is_grant r ≡ true → r ≡ reply.Granted
   grant_is (reply.Launch l a b t) e = absurd (cc)
   grant_is (reply.Send l n a b t) e = absurd (cc)
   grant_is (reply.Cancel l n) e = absurd (cc)

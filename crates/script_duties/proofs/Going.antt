@@ -16,7 +16,7 @@ use Rattle.run_rules.specs.Moves.{Past, History}
 use Rattle.run_rules.specs.Duties.{Duty, Asks, Launches, Sends, Cancels, Gathers, Commits, Kills, Left, ordered, duty_of_claim, duty_by_call, duty_from, duty_by, duty_then}
 use Rattle.script_duties.specs.Owed.{to_entry, journal_of, has_left, duty_of_work, owed_by, DutyIs}
 
-by_bool : (b : Bool) (P : Bool → Type 0) → P true → P false → P b
+pub by_bool : (b : Bool) (P : Bool → Type 0) → P true → P false → P b
 by_bool true P t f = t
 by_bool false P t f = f
 
@@ -166,7 +166,7 @@ goes_on (Commits a b fs) c r e = refl
 goes_on (Kills l) c r e = refl
 goes_on Left c r e = absurd (cc)
 
-left_is : (s : Duty) → has_left s ≡ true → s ≡ Left
+pub left_is : (s : Duty) → has_left s ≡ true → s ≡ Left
 left_is Asks e = absurd (cc)
 left_is (Launches l) e = absurd (cc)
 left_is (Sends l n a) e = absurd (cc)

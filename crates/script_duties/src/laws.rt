@@ -12,7 +12,7 @@ ghost use Rattle.run_plan.specs.declared.plan.Plan.{Plan};
 ghost use Rattle.run_plan.specs.Groups.{berths, kind_of, is_remote};
 ghost use Rattle.exec_journal.specs.Scripts.{script};
 ghost use Rattle.journal_laws.specs.Paid.{is_paid};
-ghost use Rattle.run_rules.specs.Duties.{duty_of, proxy_lane, may_do, Commits, Left};
+ghost use Rattle.run_rules.specs.Duties.{duty_of, proxy_lane, may_do, may_make, Commits, Left};
 ghost use Rattle.script_duties.specs.Owed.{DutyIs, journal_of, outputs_in, makers_in};
 
 /// By the journal of any history, a lane has left exactly if it was told to stop or has halted; and
@@ -28,6 +28,15 @@ pub fn duties_are_scripted()
         → may_do (outputs_in p) (makers_in p) (is_remote (kind_of p w))
         (duty_of (calls_by (proxy_lane w) h)) c ≡ true
         → script p (journal_of h) (proxy_lane w) c ≡ true }
+{}
+
+/// Nothing else is, but a Halt of a lane that owes a Committed, and a Committed of one that has
+/// left.
+pub fn scripts_are_duties()
+    ensures { (p : Plan) (h : List (Entry Call Reply)) (w : ℕ) (c : Call)
+        → script p (journal_of h) (proxy_lane w) c ≡ true
+        → may_make (outputs_in p) (makers_in p) (is_remote (kind_of p w))
+        (duty_of (calls_by (proxy_lane w) h)) c ≡ true }
 {}
 
 /// A proxy lane's Halt is paid for until it has left, and so is the Committed that it owes.

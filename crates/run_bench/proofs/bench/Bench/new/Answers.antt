@@ -2,8 +2,8 @@ use Rattle.std.proofs.Common.{◌≡◌, ℕ, None, replicate, subst}
 use Rattle.run_bench.proofs.Beginning.{begins}
 use Rattle.run_bench.proofs.bench.Bench.new.Goals as goal
 
-pub returns : goal.returns
-returns g c = (
+pub returns-clause-stands : goal.returns-clause-stands
+returns-clause-stands g c = (
   c.requires.core,
   begins g.B.Child.Child.told g.B.Tap.Tap.told g.P.Place.told
       (g.C.Rules.outputs (g.C.Rules.plan c.args.core)) (g.C.Rules.seats
