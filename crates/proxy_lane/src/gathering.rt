@@ -34,7 +34,7 @@ use std::sync::Wait;
 /// # Errors
 ///
 /// Why the lane is to halt.
-pub fn gather<B: Berth, P: Place, C: Rules, R: Wait>(
+pub(crate) fn gather<B: Berth, P: Place, C: Rules, R: Wait>(
     rt: &R,
     alloc: Global,
     post: &Post,

@@ -27,7 +27,7 @@ use std::sync::Wait;
 /// # Errors
 ///
 /// Why the lane is to halt.
-pub fn kill<B: Berth, P: Place, C: Rules, R: Wait>(
+pub(crate) fn kill<B: Berth, P: Place, C: Rules, R: Wait>(
     rt: &R,
     post: &Post,
     actions: &[WorkAction],
@@ -83,7 +83,7 @@ fn lay_by<B: Berth>(hands: &mut Hands<B, B::Feed, B::Child>, line: u32, child: B
 }
 
 /// Halts. If a line is open, its child comes off the shelf and is killed.
-pub fn give_up<B: Berth, P: Place, C: Rules, R: Wait>(
+pub(crate) fn give_up<B: Berth, P: Place, C: Rules, R: Wait>(
     rt: &R,
     caller: &mut Caller<'_, Bench<B, P, C>>,
     lane: u32,

@@ -27,7 +27,7 @@ use std::sync::Wait;
 /// # Errors
 ///
 /// Why the lane is to halt. A child that was started by then is killed.
-pub fn launch<B: Berth, P: Place, C: Rules, R: Wait>(
+pub(crate) fn launch<B: Berth, P: Place, C: Rules, R: Wait>(
     rt: &R,
     post: &Post,
     actions: &[WorkAction],

@@ -1,15 +1,16 @@
-//! The steps of a proxy lane: what it does for a Launch, a Send, a Cancel, a Gather and a Kill, with
-//! the report, and where it halts. Each says what it makes of what the lane has done so far.
+//! The lane that carries out what the scheduling core orders of one berth.
+//!
+//! It asks for an order, does what a Launch, a Send, a Cancel, a Gather or a Kill asks, and reports
+//! how that went, until it is told to stop. Where there is no memory it halts. Each step says what
+//! it makes of what the lane has done so far.
 #![tactic(auto)]
 
 mod gathering;
 mod hands;
 mod inputs;
 mod killing;
+mod lane;
 mod launching;
 mod sending;
 
-pub use gathering::gather;
-pub use killing::{give_up, kill};
-pub use launching::launch;
-pub use sending::{cancel, send};
+pub use lane::{LaneEnd, ProxyEnd, run};

@@ -143,7 +143,7 @@ pub(crate) fn act_cancel<D: Feed>(
 /// # Errors
 ///
 /// Why the lane is to halt.
-pub fn send<B: Berth, P: Place, C: Rules, R: Wait>(
+pub(crate) fn send<B: Berth, P: Place, C: Rules, R: Wait>(
     rt: &R,
     alloc: Global,
     post: &Post,
@@ -206,7 +206,7 @@ pub fn send<B: Berth, P: Place, C: Rules, R: Wait>(
 /// # Errors
 ///
 /// Why the lane is to halt.
-pub fn cancel<B: Berth, P: Place, C: Rules, R: Wait>(
+pub(crate) fn cancel<B: Berth, P: Place, C: Rules, R: Wait>(
     rt: &R,
     alloc: Global,
     post: &Post,

@@ -1,8 +1,6 @@
-use Rattle.std.proofs.Common.{w32, to_z, of_z, ◌≡◌, ℕ, ℤ, Bool, true, false, List, Result, length, [], refl, ap, sym, subst, ◌∙◌}
+use Rattle.std.proofs.Common.{w32, to_z, of_z, ℕ, ℤ, Bool, true, false, List, length, [], refl, ap, sym, subst, ◌∙◌}
 use Rattle.std.specs.Prelude.{IfOk}
 use Rattle.std.proofs.Math.Facts.{to_z-of_z}
-use Rattle.plain_values.specs.declared.no_memory.NoMemory.{NoMemory}
-use Rattle.exec_journal.specs.declared.call.Found.{Found}
 use Rattle.exec_journal.specs.declared.call.Found.TheVariants as found
 use Rattle.sandbox_rooms.specs.declared.room.Room.{Room}
 use Rattle.sandbox_rooms.specs.Calls.{Asked}

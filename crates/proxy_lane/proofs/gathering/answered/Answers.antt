@@ -1,6 +1,6 @@
-use Rattle.std.proofs.Common.{◌≡◌, ℕ, ℤ, ◌+◌, ◌<◌, Option, Some, None, List, [], ◌∷◌, ◌++◌, length, refl, ap, sym, subst, ◌∙◌, append-nil, arith}
+use Rattle.std.proofs.Common.{◌≡◌, ℕ, ℤ, ◌+◌, Option, Some, List, [], ◌∷◌, ◌++◌, length, refl, ap, sym, subst, ◌∙◌, append-nil, arith}
 use Rattle.std.proofs.Math.Facts.{to_z-of_z}
-use Rattle.seat_desk.specs.Passes.{mine, rules, seen}
+use Rattle.seat_desk.specs.Passes.{rules, seen}
 use Rattle.exec_journal.specs.declared.call.Wanted.TheVariants as wanted
 use Rattle.lane_deeds.specs.Deeds.{Looked, looks_from, lacks}
 use Rattle.lane_deeds.specs.Told.{IsTold, AreTold}

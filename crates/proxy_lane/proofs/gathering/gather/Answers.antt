@@ -1,24 +1,13 @@
 use Rattle.std.proofs.Math.Facts.{to_z-of_z}
-use Rattle.std.proofs.Common.{◌≡◌, ℕ, ℤ, Option, Some, None, Result, List, [], ◌∷◌, refl, ap, sym, subst, ◌∙◌, arith, eq-eqb, append-nil, inl, inr}
-use Rattle.std.specs.Prelude.{option_map, map, slice_get, length, Bool, true, false}
-use Rattle.seat_desk.specs.Passes.{IsSamePass, mine, rules, seen}
-use Rattle.exec_journal.specs.declared.call.Call.{Call}
-use Rattle.exec_journal.specs.declared.call.Call.TheVariants as call
-use Rattle.exec_journal.specs.declared.reply.Reply.{Reply}
-use Rattle.exec_journal.specs.declared.reply.Reply.TheVariants as reply
+use Rattle.std.proofs.Common.{◌≡◌, ℤ, Result, [], refl, ap, sym, subst, append-nil}
+use Rattle.seat_desk.specs.Passes.{mine, rules, seen}
 use Rattle.run_rules.specs.Shelf.{child_at}
-use Rattle.run_rules.specs.Duties.{Duty, Asks, Left, duty_of, proxy_lane, may_do}
-use Rattle.lane_deeds.specs.declared.cause.Cause.{Cause}
-use Rattle.lane_deeds.specs.declared.cause.Cause.TheVariants as cause
-use Rattle.proxy_calls.specs.Calls.{MakesNone, MakesOne}
-use Rattle.lane_steps.specs.Lanes.{Open, Held, open_of, back_of, open_line, held_of}
-use Rattle.lane_steps.specs.Work.{IsWork}
+use Rattle.run_rules.specs.Duties.{Asks, duty_of}
+use Rattle.proxy_calls.specs.Calls.{MakesNone}
+use Rattle.lane_steps.specs.Lanes.{held_of}
 use Rattle.lane_steps.specs.Acts.{GatherActs}
-use Rattle.exec_journal.specs.declared.call.Found.{Found}
-use Rattle.plain_values.specs.declared.no_memory.NoMemory.{NoMemory}
 use Rattle.lane_steps.specs.Steps.{Goes, Halts, ClaimsFound, IsCauseOfClaim}
 use Rattle.lane_steps.proofs.Acting.{on_ok, if_err}
-use Rattle.lane_steps.proofs.Shelving.{claim_shelved}
 use Rattle.lane_steps.proofs.Serving.{proxy_on, by_rules}
 use Rattle.lane_steps.proofs.Founds.{gather_goes, gather_cut, claim_halts}
 use Rattle.proxy_lane.proofs.gathering.gather.Goals as goal

@@ -1,6 +1,5 @@
-use Rattle.std.proofs.Common.{◌≡◌, ℕ, ◌+◌, ◌<◌, length, List, [], ◌∷◌, ◌++◌, refl, ap, sym, subst, ◌∙◌, append-nil, append_assoc, take}
-use Rattle.std.specs.Prelude.{All}
-use Rattle.seat_desk.specs.Passes.{IsSamePass, mine, rules, seen}
+use Rattle.std.proofs.Common.{ℕ, ◌+◌, ◌<◌, length, List, [], ◌∷◌, ◌++◌, refl, sym, subst, ◌∙◌, append-nil, take}
+use Rattle.seat_desk.specs.Passes.{rules, seen}
 use Rattle.remote_messages.specs.declared.file.NamedFile.{NamedFile}
 use Rattle.remote_messages.specs.declared.work.WorkInput.{WorkInput}
 use Rattle.lane_deeds.specs.Deeds.{AreInputs, look_at, looks_of}

@@ -1,17 +1,9 @@
-use Rattle.std.proofs.Common.{◌≡◌, ℕ, Option, Some, None, Result, List, [], ◌∷◌, refl, ap, sym, subst, ◌∙◌, arith, eq-eqb, append-nil}
-use Rattle.std.specs.Prelude.{option_map, map, slice_get}
-use Rattle.seat_desk.specs.Passes.{mine, rules, seen}
-use Rattle.exec_journal.specs.declared.call.Call.{Call}
-use Rattle.exec_journal.specs.declared.call.Call.TheVariants as call
-use Rattle.exec_journal.specs.declared.call.Started.TheVariants as start
-use Rattle.exec_journal.specs.declared.reply.Reply.{Reply}
-use Rattle.exec_journal.specs.declared.reply.Reply.TheVariants as reply
-use Rattle.run_rules.specs.Shelf.{child_at}
-use Rattle.run_rules.specs.Duties.{Duty, Asks, duty_of, proxy_lane, may_do}
-use Rattle.lane_deeds.specs.declared.cause.Cause.{Cause}
+use Rattle.std.proofs.Common.{◌≡◌, Some, None, List, [], refl, ap, sym, subst, ◌∙◌, arith, append-nil}
+use Rattle.std.specs.Prelude.{map}
+use Rattle.seat_desk.specs.Passes.{mine, seen}
+use Rattle.run_rules.specs.Duties.{Asks, duty_of}
 use Rattle.lane_deeds.specs.declared.cause.Cause.TheVariants as cause
-use Rattle.proxy_calls.specs.Calls.{MakesNone, MakesOne}
-use Rattle.lane_steps.specs.Lanes.{Open, Held, open_of, back_of, held_of}
+use Rattle.lane_steps.specs.Lanes.{back_of, held_of}
 use Rattle.std.proofs.Common.{inl}
 use Rattle.lane_deeds.specs.Lines.{Back}
 use Rattle.std.specs.Prelude.{OnOk, IfErr}

@@ -1,7 +1,6 @@
-use Rattle.std.proofs.Common.{◌≡◌, ap}
+use Rattle.std.proofs.Common.{ap}
 use Rattle.exec_journal.specs.declared.call.Call.{Call}
 use Rattle.run_rules.specs.Duties.{duty_of}
-use Rattle.lane_deeds.specs.declared.cause.Cause.{Cause}
 use Rattle.lane_deeds.specs.declared.cause.Cause.TheVariants.{Refused}
 use Rattle.proxy_calls.proofs.Reportings.{may_launch}
 use Rattle.lane_steps.proofs.Acting.{fault_report}

@@ -1,25 +1,21 @@
-use Rattle.std.proofs.Common.{◌≡◌, ℕ, Option, Some, None, Result, List, [], ◌∷◌, refl, ap, sym, subst, ◌∙◌, arith, eq-eqb, append-nil}
-use Rattle.std.specs.Prelude.{option_map, map, slice_get}
-use Rattle.seat_desk.specs.Passes.{mine, rules, seen}
-use Rattle.exec_journal.specs.declared.call.Call.{Call}
+use Rattle.std.proofs.Common.{◌≡◌, ℕ, Option, Some, None, Result, [], refl, ap, sym, subst, ◌∙◌, append-nil}
+use Rattle.seat_desk.specs.Passes.{mine, seen}
 use Rattle.exec_journal.specs.declared.call.Call.TheVariants as call
 use Rattle.exec_journal.specs.declared.call.Started.TheVariants as start
-use Rattle.exec_journal.specs.declared.reply.Reply.{Reply}
 use Rattle.exec_journal.specs.declared.reply.Reply.TheVariants as reply
 use Rattle.run_rules.specs.Shelf.{child_at}
-use Rattle.run_rules.specs.Duties.{Duty, Asks, duty_of, proxy_lane, may_do}
+use Rattle.run_rules.specs.Duties.{Asks, duty_of}
 use Rattle.lane_deeds.specs.declared.cause.Cause.{Cause}
 use Rattle.lane_deeds.specs.declared.cause.Cause.TheVariants as cause
 use Rattle.proxy_calls.specs.Calls.{MakesNone, MakesOne}
-use Rattle.lane_steps.specs.Lanes.{Open, Held, open_of, back_of, held_of}
+use Rattle.lane_steps.specs.Lanes.{held_of}
 use Rattle.run_rules.specs.Duties.{Launches}
-use Rattle.lane_deeds.specs.Deeds.{Deed}
-use Rattle.lane_deeds.specs.Lines.{Back, unsaid_by}
+use Rattle.lane_deeds.specs.Lines.{unsaid_by}
 use Rattle.lane_deeds.specs.Ends.{HaltsBy}
 use Rattle.lane_steps.specs.Steps.{Goes, Halts}
 use Rattle.lane_steps.proofs.Acting.{none_open, on_ok, if_err}
 use Rattle.lane_steps.proofs.Shelving.{child_more, not_started_shelved}
-use Rattle.std.proofs.Common.{inl, inr}
+use Rattle.std.proofs.Common.{inr}
 use Rattle.std.specs.Prelude.{IfSome}
 use Rattle.lane_steps.proofs.Starts.{calls_deed, launch_halts, unsaid_halts, fault_goes, started_goes}
 use Rattle.outside.specs.Launches.{IsNewFeed, IsNewTap, IsNewChild}

@@ -1,14 +1,12 @@
 use Rattle.lane_steps.specs.Acts.{Writes}
 use Rattle.std.proofs.Math.Facts.{to_z-of_z}
 use Rattle.std.specs.Prelude.{ℤ}
-use Rattle.std.proofs.Common.{◌≡◌, List, sym, subst, ◌∙◌}
-use Rattle.std.specs.Prelude.{All}
+use Rattle.std.proofs.Common.{List, sym, subst}
 use Rattle.seat_desk.specs.Passes.{seen}
 use Rattle.remote_messages.specs.declared.file.NamedFile.{NamedFile}
 use Rattle.remote_messages.specs.declared.work.WorkInput.{WorkInput}
-use Rattle.lane_deeds.specs.Deeds.{Looked, AreInputs, looks_of, send_asks, due_for}
+use Rattle.lane_deeds.specs.Deeds.{AreInputs, looks_of, send_asks, due_for}
 use Rattle.lane_deeds.specs.Told.{AreTold}
-use Rattle.lane_steps.specs.Work.{IsMadeBy}
 use Rattle.lane_steps.proofs.Acting.{send_acts, no_inputs}
 use Rattle.proxy_lane.proofs.sending.act_send.Goals as goal
 

@@ -1,22 +1,13 @@
 use Rattle.std.proofs.Math.Facts.{to_z-of_z}
 use Rattle.std.specs.Prelude.{ℤ}
-use Rattle.std.proofs.Common.{◌≡◌, ℕ, Option, Some, None, Result, refl, ap, sym, subst, ◌∙◌, arith}
-use Rattle.std.specs.Prelude.{option_map, slice_get, OnOk, IfErr}
-use Rattle.lane_steps.specs.Acts.{SendActs, CancelActs}
+use Rattle.std.proofs.Common.{◌≡◌, Some, refl, ap, sym, subst, ◌∙◌}
+use Rattle.std.specs.Prelude.{option_map, OnOk, IfErr}
+use Rattle.lane_steps.specs.Acts.{SendActs}
 use Rattle.seat_desk.specs.Passes.{mine, rules, seen}
-use Rattle.plain_values.specs.declared.no_memory.NoMemory.{NoMemory}
-use Rattle.exec_journal.specs.declared.call.Call.{Call}
-use Rattle.exec_journal.specs.declared.call.Call.TheVariants as call
-use Rattle.exec_journal.specs.declared.call.Written.{Written}
-use Rattle.exec_journal.specs.declared.reply.Reply.{Reply}
-use Rattle.exec_journal.specs.declared.reply.Reply.TheVariants as reply
-use Rattle.run_rules.specs.Shelf.{child_at}
-use Rattle.run_rules.specs.Duties.{Asks, duty_of, proxy_lane}
-use Rattle.lane_deeds.specs.declared.cause.Cause.{Cause}
-use Rattle.proxy_calls.specs.Calls.{MakesNone, MakesOne}
-use Rattle.lane_steps.specs.Lanes.{Open, Held, open_of, held_of}
-use Rattle.std.proofs.Common.{[], append-nil, ◌⊎◌, inl, inr}
-use Rattle.lane_steps.specs.Steps.{SameShelf, Goes, Halts, OwesWrote, TellsWrote, IsCauseOf}
+use Rattle.run_rules.specs.Duties.{Asks, duty_of}
+use Rattle.proxy_calls.specs.Calls.{MakesNone}
+use Rattle.lane_steps.specs.Lanes.{open_of, held_of}
+use Rattle.lane_steps.specs.Steps.{Goes, Halts, OwesWrote, TellsWrote, IsCauseOf}
 use Rattle.lane_steps.proofs.Acting.{on_ok, if_err, line_is, no_line, same_line, wrote_owed}
 use Rattle.lane_steps.proofs.Shelving.{wrote_shelved}
 use Rattle.lane_steps.proofs.Sends.{send_goes, send_halts}

@@ -4,7 +4,7 @@ use Rattle.due_frames.specs.Requests.{room_for, request_for}
 use Rattle.due_frames.specs.Frames.{send_due}
 use Rattle.std.proofs.Math.Facts.{to_z-of_z}
 use Rattle.std.specs.Prelude.{ℤ}
-use Rattle.std.proofs.Common.{◌≡◌, ap, sym, subst, ◌∙◌}
+use Rattle.std.proofs.Common.{ap, sym, subst, ◌∙◌}
 use Rattle.due_frames.specs.declared.frames.Due.TheVariants.{Frame, TooLarge}
 use Rattle.std.specs.Prelude.{ℕ, List}
 use Rattle.lane_deeds.specs.Deeds.{send_asks, due_for}

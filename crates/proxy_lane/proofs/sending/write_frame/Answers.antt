@@ -1,7 +1,7 @@
 use Rattle.due_frames.specs.Requests.{room_for}
 use Rattle.std.proofs.Math.Facts.{to_z-of_z}
 use Rattle.std.specs.Prelude.{ℤ}
-use Rattle.std.proofs.Common.{◌≡◌, ap, sym, ◌∙◌}
+use Rattle.std.proofs.Common.{ap, sym, ◌∙◌}
 use Rattle.sandbox_rooms.specs.Rooms.{prepare_asks}
 use Rattle.lane_deeds.specs.Deeds.{send_asks}
 use Rattle.lane_steps.proofs.Acting.{gives_writes, send_writes, executor_asks, local_asks}

@@ -1,0 +1,89 @@
+use Rattle.std.proofs.Common.{◌≡◌, Option, Some, None, option_map, refl, ◌∙◌}
+use Rattle.outside.specs.Told.{FeedTold}
+use Rattle.run_plan.specs.Groups.{is_remote}
+use Rattle.lane_steps.specs.declared.hands.OpenFeed.{OpenFeed}
+use Rattle.lane_steps.specs.Work.{IsWorkOf}
+use Rattle.lane_steps.specs.Lanes.{open_of, open_line, held_of}
+use Rattle.lane_steps.specs.Steps.{open_in}
+use Rattle.lane_steps.proofs.Serving.{proxy_on, by_rules, goes_on, halts_on, halts_may, ends_halted, ends_stopped}
+use Rattle.proxy_lane.proofs.lane.serve.Goals as goal
+
+-- which line is open, what is held tells too
+line_told : {D : Type 0} (feed : D → FeedTold) (o : Option (OpenFeed D))
+    → open_line (option_map (open_of feed) o) ≡ option_map (λ (x : OpenFeed D). x.line) o
+line_told feed None = refl
+line_told feed (Some x) = refl
+
+pub next-requires-in-loop-clause-lane : goal.next-requires-in-loop-clause-lane
+next-requires-in-loop-clause-lane g c =
+    proxy_on g.C.Rules.seats c.args.lane c.args.caller.now.pass c.loop.caller.pass
+    c.loop.invariant.same c.requires.lane
+
+pub next-requires-in-loop-clause-remote : goal.next-requires-in-loop-clause-remote
+next-requires-in-loop-clause-remote g c =
+    by_rules (λ q. g.C.Rules.remote q c.args.lane ≡ is_remote c.args.post.now.kind)
+    c.args.caller.now.pass c.loop.caller.pass c.loop.invariant.same c.requires.remote
+
+pub next-requires-in-loop-clause-work : goal.next-requires-in-loop-clause-work
+next-requires-in-loop-clause-work g c =
+    by_rules (λ q. IsWorkOf (g.C.Rules.actions q) (g.C.Rules.outputs q) (g.C.Rules.makers q)
+    c.args.actions.now) c.args.caller.now.pass c.loop.caller.pass c.loop.invariant.same
+    c.requires.work
+
+pub returns-in-Ok-false-clause-ends : goal.returns-in-Ok-false-clause-ends
+returns-in-Ok-false-clause-ends g c =
+    let post = c.args.post.now in
+    let actions = c.args.actions.now in
+    let rule = g.C.Rules.rule in
+    let p = c.args.caller.now.pass in
+    let p1 = c.loop.caller.pass in
+    let p2 = c.next-in-loop.new.caller.pass in
+    let held = held_of g.B.Berth.told g.B.Feed.Feed.told g.B.Child.Child.told in
+    let h = held c.args.hands.now in
+    let h1 = held c.loop.hands in
+    let h2 = held c.next-in-loop.new.hands in
+    let i = c.loop.invariant in
+    let more = c.next-in-loop.ensures.same in
+    let went = rw c.in-Ok-false.field-0-test at c.in-Ok-false.ensures.goes in
+    ends_stopped post actions rule p p2 p2 h h2 h2
+    (more.0 ∙ i.same.0, more.1 ∙ i.same.1, more.2 ∙ i.same.2)
+    (goes_on post actions rule p p1 p2 h h1 h2 i.same i.goes went.2) went.0 went.1
+
+pub give_up-requires-clause-may : goal.give_up-requires-clause-may
+give_up-requires-clause-may g c =
+    let post = c.args.post.now in
+    let actions = c.args.actions.now in
+    let rule = g.C.Rules.rule in
+    let p = c.args.caller.now.pass in
+    let p1 = c.loop.caller.pass in
+    let p2 = c.next-in-loop.new.caller.pass in
+    let held = held_of g.B.Berth.told g.B.Feed.Feed.told g.B.Child.Child.told in
+    let h = held c.args.hands.now in
+    let h1 = held c.loop.hands in
+    let h2 = held c.next-in-loop.new.hands in
+    let i = c.loop.invariant in
+    let more = c.next-in-loop.ensures.same in
+    halts_may post actions rule p1 p2 p2 h1 h2 h2 more c.in-Err.cause i.kept c.in-Err.ensures.halts
+
+pub returns-in-Err-clause-ends : goal.returns-in-Err-clause-ends
+returns-in-Err-clause-ends g c =
+    let post = c.args.post.now in
+    let actions = c.args.actions.now in
+    let rule = g.C.Rules.rule in
+    let p = c.args.caller.now.pass in
+    let p1 = c.loop.caller.pass in
+    let p2 = c.next-in-loop.new.caller.pass in
+    let held = held_of g.B.Berth.told g.B.Feed.Feed.told g.B.Child.Child.told in
+    let h = held c.args.hands.now in
+    let h1 = held c.loop.hands in
+    let h2 = held c.next-in-loop.new.hands in
+    let i = c.loop.invariant in
+    let more = c.next-in-loop.ensures.same in
+    let p3 = c.give_up.new.caller.pass in
+    let h3 = held c.give_up.new.hands in
+    ends_halted post actions rule p p2 p3 h h2 h3
+    (more.0 ∙ i.same.0, more.1 ∙ i.same.1, more.2 ∙ i.same.2)
+    c.in-Err.cause (open_in c.next-in-loop.new.hands)
+    (halts_on post actions rule p p1 p2 h h1 h2 i.same c.in-Err.cause i.goes c.in-Err.ensures.halts)
+    (line_told g.B.Feed.Feed.told c.next-in-loop.new.hands.open)
+    c.give_up.ensures.halted c.give_up.ensures.laid_by
