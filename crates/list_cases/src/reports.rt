@@ -2,7 +2,7 @@
 ghost use Rattle.std.specs.Prelude.{IfOk};
 ghost use Rattle.run_plan.specs.Sound.{Sound};
 
-use build_report::{RunFault, Stage, Unbuilt, fault_line, report, status};
+use build_report::{RunFault, Stage, fault_line, report, status};
 use exec_journal::{
     Answer, Branch, Call, CommitEnd, Entry, Found, Group, Journal, Kind, Plan, PlanAction, Reply,
     Started, Written,
@@ -43,9 +43,6 @@ fn other_faults(alloc: Global) -> Result<Vec<RunFault>, NoMemory> {
         path: Text::copy_of(alloc, "f")?,
     })?;
     faults.push(RunFault::SinkFailed)?;
-    faults.push(RunFault::NotYetBuilt(Unbuilt::Words))?;
-    faults.push(RunFault::NotYetBuilt(Unbuilt::Plan))?;
-    faults.push(RunFault::NotYetBuilt(Unbuilt::Outside))?;
     Ok(faults)
 }
 

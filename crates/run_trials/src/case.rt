@@ -11,6 +11,7 @@ pub struct Case {
     outputs: Vec<Text>,
     answer: Vec<u8>,
     fails: Vec<FailAt>,
+    children: Vec<Option<Vec<Beat>>>,
 }
 
 impl Case {
@@ -20,6 +21,7 @@ impl Case {
             outputs: Vec::new(alloc),
             answer: Vec::new(alloc),
             fails: Vec::new(alloc),
+            children: Vec::new(alloc),
         }
     }
 
@@ -30,8 +32,9 @@ impl Case {
             "new" => *self = Case::new(alloc),
             "file" => self.add_file(alloc, rest)?,
             "leave" => self.outputs.push(Text::copy_of(alloc, rest)?)?,
-            "give" => self.answer = hex::decode(alloc, rest).unwrap_or(Vec::new(alloc)),
+            "give" => self.answer = bytes_of(alloc, rest),
             "fail" => self.add_fault(rest)?,
+            "children" => self.children = children(alloc, rest)?,
             _ => return Ok(format!(in alloc; "{line}\n")?),
         }
         Ok(String::new(alloc))
@@ -56,12 +59,8 @@ impl Case {
         Ok(())
     }
 
-    /// The script of one run, after which no call is to fail.
-    pub fn script(&mut self, alloc: Global) -> Result<Script, NoMemory> {
-        let mut files = Vec::new(alloc);
-        for it in &self.files {
-            files.push(file(alloc, it.path.as_str(), it.bytes.bytes())?)?;
-        }
+    // Hears one request, leaves the outputs and gives the answer, and ends.
+    fn one_child(&self, alloc: Global) -> Result<Vec<Beat>, NoMemory> {
         let mut beats = Vec::new(alloc);
         beats.push(Beat::Hear(1))?;
         for output in &self.outputs {
@@ -70,8 +69,19 @@ impl Case {
         }
         beats.push(Beat::Give(Vec::from_slice(alloc, self.answer.as_slice())?))?;
         beats.push(Beat::Die)?;
-        let mut lines = Vec::new(alloc);
-        lines.push(Some(beats))?;
+        Ok(beats)
+    }
+
+    /// The script of one run, after which no call is to fail.
+    pub fn script(&mut self, alloc: Global) -> Result<Script, NoMemory> {
+        let mut files = Vec::new(alloc);
+        for it in &self.files {
+            files.push(file(alloc, it.path.as_str(), it.bytes.bytes())?)?;
+        }
+        let mut lines = std::mem::replace(&mut self.children, Vec::new(alloc));
+        if lines.is_empty() {
+            lines.push(Some(self.one_child(alloc)?))?;
+        }
         let fails = std::mem::replace(&mut self.fails, Vec::new(alloc));
         Ok(Script {
             files,
@@ -79,6 +89,50 @@ impl Case {
             fails,
         })
     }
+}
+
+// The children of the lines, from line 0 on, with a `/` between two of them. One without beats is
+// obliging.
+fn children(alloc: Global, words: &str) -> Result<Vec<Option<Vec<Beat>>>, NoMemory> {
+    let mut lines = Vec::new(alloc);
+    for child in words.split('/') {
+        let mut beats = Vec::new(alloc);
+        for word in child.split(' ') {
+            let (kind, rest) = word.split_once('=').unwrap_or((word, ""));
+            if let Some(beat) = beat_of(alloc, kind, rest)? {
+                beats.push(beat)?;
+            }
+        }
+        lines.push(if beats.is_empty() { None } else { Some(beats) })?;
+    }
+    Ok(lines)
+}
+
+fn beat_of(alloc: Global, kind: &str, rest: &str) -> Result<Option<Beat>, NoMemory> {
+    Ok(Some(match kind {
+        "hear" => Beat::Hear(number(rest)),
+        "leave" => {
+            let content = Blob::of(alloc, b"x".to_vec(alloc)?)?;
+            Beat::Leave(Text::copy_of(alloc, rest)?, content)
+        }
+        "give" => Beat::Give(bytes_of(alloc, rest)),
+        "choose" => {
+            let (first, second) = rest.split_once(',').unwrap_or((rest, ""));
+            Beat::Choose(bytes_of(alloc, first), bytes_of(alloc, second))
+        }
+        "raise" => Beat::Raise(number(rest)),
+        "await" => Beat::Await(number(rest)),
+        "die" => Beat::Die,
+        _ => return Ok(None),
+    }))
+}
+
+fn number(digits: &str) -> u32 {
+    digits.parse::<u32>().unwrap_or(0)
+}
+
+fn bytes_of(alloc: Global, digits: &str) -> Vec<u8> {
+    hex::decode(alloc, digits).unwrap_or(Vec::new(alloc))
 }
 
 fn file(alloc: Global, path: &str, bytes: &[u8]) -> Result<SourceFile, NoMemory> {

@@ -7,7 +7,9 @@
 //! | `new` | no source and no output from now on |
 //! | `give BYTES` | the child's answer from now on, in hexadecimal |
 //! | `fail OBJECT NTH` | the NTH call on this object fails in the next run |
-//! | `run WORD WORD ..` | a run with these words: its status, entries, writes, whether all children were killed, its report, and the line of its fault |
+//! | `children BEAT .. / BEAT ..` | in the next run the children of the lines do this, from line 0 on: `hear=N`, `leave=PATH`, `give=BYTES`, `choose=BYTES,BYTES`, `raise=N`, `await=N`, `die`; one without beats does what it is asked |
+//! | `play WORD WORD ..` | a run with these words: its status, writes, whether all children were killed, its report, and the line of its fault |
+//! | `race WORD WORD ..` | the status alone, and whether all children were killed, where either branch may win |
 //! | `reads`, `room`, `given` | what the floor, the first berth and the first line tell of the last run |
 //!
 //! Other lines are printed as they are. `tools/fail-alloc` plays the first run with each allocation refused in turn.
@@ -19,11 +21,12 @@ mod played;
 use case::Case;
 use outside_mem::MemFloor;
 use plain_values::NoMemory;
+use played::{Shown, Staged};
 use std::alloc::Global;
 use std::io::{ErrorKind, Read};
 use std::sync::Wait;
 use std::{io, str};
-use worker_run::Ended;
+use worker_run::{Ended, run_build};
 
 fn main(rt: HostRuntime) -> io::Result<()> {
     let alloc = rt.alloc();
@@ -37,8 +40,17 @@ fn main(rt: HostRuntime) -> io::Result<()> {
     for line in text.lines() {
         let (kind, rest) = line.split_once(' ').unwrap_or((line, ""));
         let told = match kind {
-            "run" => {
-                let (ended, told) = played::run(&rt, alloc, &mut case, rest).map_err(no_memory)?;
+            "play" | "race" => {
+                let staged = played::stage(alloc, &mut case, rest).map_err(no_memory)?;
+                let Staged {
+                    script,
+                    mut out,
+                    words,
+                } = staged;
+                let floor = MemFloor::new(rt, alloc, script).map_err(no_memory)?;
+                let ended = run_build(&rt, alloc, words.as_slice(), floor, &mut out);
+                let report = str::from_utf8(out.bytes()).unwrap_or("no text");
+                let told = played::tell(alloc, &ended, shown_by(kind), report).map_err(no_memory)?;
                 last = Some(ended);
                 told
             }
@@ -48,6 +60,13 @@ fn main(rt: HostRuntime) -> io::Result<()> {
         rt.print(told.as_str())?;
     }
     Ok(())
+}
+
+fn shown_by(kind: &str) -> Shown {
+    match kind {
+        "play" => Shown::Report,
+        _ => Shown::Status,
+    }
 }
 
 fn no_memory(_: NoMemory) -> io::Error {

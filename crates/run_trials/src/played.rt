@@ -1,34 +1,39 @@
 // One run, and what its objects tell.
 use crate::case::Case;
 use outside::BerthCall;
-use outside_mem::{MemFloor, MemSink};
+use outside_mem::{MemFloor, MemSink, Script};
 use plain_values::NoMemory;
 use std::alloc::Global;
 use std::sync::Wait;
-use std::thread::Threads;
-use worker_run::{Ended, fault_line, run_build};
+use worker_run::{Ended, fault_line};
 
-pub fn run<R: Threads + Wait + Sync + Clone + Drop>(
-    rt: &R,
-    alloc: Global,
-    case: &mut Case,
-    line: &str,
-) -> Result<(Ended<MemFloor<R>>, String), NoMemory> {
+/// How much of a run is printed. Of lanes that run beside each other some things differ from one run
+/// to the next.
+#[derive(Clone, Copy, PartialEq, Eq)]
+pub enum Shown {
+    /// All but how many entries its journal has.
+    Report,
+    /// Its status, and whether all children were killed.
+    Status,
+}
+
+/// What a run is given, beside its floor.
+pub struct Staged {
+    pub script: Script,
+    pub out: MemSink,
+    pub words: Vec<String>,
+}
+
+/// The script of the next run, its sink, and the words of this line.
+pub fn stage(alloc: Global, case: &mut Case, line: &str) -> Result<Staged, NoMemory> {
     let script = case.script(alloc)?;
     let mut sink = Vec::new(alloc);
     for fail in &script.fails {
         sink.push(*fail)?;
     }
-    let mut out = MemSink::new(alloc, sink);
-    let floor = MemFloor::new(rt.clone()?, alloc, script)?;
+    let out = MemSink::new(alloc, sink);
     let words = words(alloc, line)?;
-    let ended = run_build(rt, alloc, words.as_slice(), floor, &mut out);
-    let told = tell(
-        alloc,
-        &ended,
-        std::str::from_utf8(out.bytes()).unwrap_or("no text"),
-    )?;
-    Ok((ended, told))
+    Ok(Staged { script, out, words })
 }
 
 fn words(alloc: Global, line: &str) -> Result<Vec<String>, NoMemory> {
@@ -41,25 +46,28 @@ fn words(alloc: Global, line: &str) -> Result<Vec<String>, NoMemory> {
     Ok(words)
 }
 
-fn tell<R: Wait + Clone + Drop>(
+/// What the run came to.
+pub fn tell<R: Wait + Clone + Drop>(
     alloc: Global,
     ended: &Ended<MemFloor<R>>,
+    shown: Shown,
     report: &str,
 ) -> Result<String, NoMemory> {
-    let writes: &[_] = match ended.places.first() {
-        Some(place) => place.log(),
-        None => &[],
-    };
+    let mut writes = 0;
+    for place in &ended.places {
+        writes = usize::saturating_add(writes, place.log().len());
+    }
     let killed = ended.lines.iter().all(|line| line
         .halves
         .as_ref()
         .is_none_or(|halves| halves.child.is_killed()));
-    let mut told = format!(in alloc;
-        "status {} entries {} writes {} killed {killed}\n{report}",
-        ended.status,
-        ended.journal.entries().len(),
-        writes.len()
-    )?;
+    let mut told = match shown {
+        Shown::Report => format!(in alloc;
+            "status {} writes {writes} killed {killed}\n{report}",
+            ended.status
+        )?,
+        Shown::Status => format!(in alloc; "status {} killed {killed}\n", ended.status)?,
+    };
     if let Some(fault) = &ended.fault {
         told.push_str(fault_line(alloc, fault)?.as_str())?;
         told.push_str("\n")?;

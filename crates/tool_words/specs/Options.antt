@@ -1,6 +1,6 @@
 -- Which words are accepted, and the options that they give. Their order doesn't matter, but for
 -- that of the extra flags.
-use Rattle.std.specs.Prelude.{◌≡◌, ◌≤◌, ℕ, Bool, not, is_some, ◌&&◌, ◌==◌, ◌+◌, Option, Some, None, unwrap_or, if◌then◌else◌, List, [], ◌∷◌, nat_le, codes, count_by, filter_map}
+use Rattle.std.specs.Prelude.{◌≡◌, ◌≤◌, ℕ, Bool, not, is_some, ◌&&◌, ◌==◌, ◌+◌, Option, Some, None, unwrap_or, option_and_then, if◌then◌else◌, List, [], ◌∷◌, nat_le, codes, count_by, filter_map}
 use Rattle.std.specs.List.{list_all, list_any}
 use Rattle.tool_words.specs.declared.options.Options.{Options}
 use Rattle.tool_words.specs.declared.word.Kind.{Kind}
@@ -58,6 +58,10 @@ given words = record {
 -- the options that the words give, and none exactly where they aren't accepted
 abbrev pub options_of : List (List ℕ) → Option Options
 options_of words = if is_accepted words then Some (given words) else None
+
+-- how many actions are to be generated: none where the words aren't accepted or don't say so
+abbrev pub generated : List (List ℕ) → Option ℕ
+generated words = option_and_then (λ (o : Options). o.generate) (options_of words)
 
 -- what holds of all options that are given
 pub record AreInLimits (o : Options) : Type 0 where

@@ -4,4 +4,4 @@
 mod options;
 mod word;
 
-pub use options::{Options, read_words};
+pub use options::{Options, generated, read_words};

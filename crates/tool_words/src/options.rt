@@ -2,7 +2,7 @@
 ghost use Rattle.std.specs.Prelude.{◌≡◌, ◌==◌, ◌+◌, nat_le, IfOk, IfSome, map, string_bytes, filter_map};
 ghost use Rattle.std.specs.List.{list_all};
 ghost use Rattle.std.specs.Option.{option_copied};
-ghost use Rattle.tool_words.specs.Options.{options_of, AreInLimits, is_accepted, is_known, single_kinds, count, number_given, text_given, given};
+ghost use Rattle.tool_words.specs.Options.{options_of, AreInLimits, is_accepted, is_known, single_kinds, count, number_given, text_given, given, generated};
 ghost use Rattle.tool_words.specs.Words.{text_in};
 
 use crate::word::Kind;
@@ -72,6 +72,18 @@ pub fn read_words(alloc: Global, words: &[String]) -> Result<Option<Options>, No
         return Ok(None);
     }
     Ok(Some(given(alloc, words)?))
+}
+
+/// How many actions are to be generated in a list's place; `None` exactly where the words aren't
+/// accepted or have no `--generate`. It takes no memory.
+pub fn generated(words: &[String]) -> Option<u32>
+    ensures { result ≡ generated (map string_bytes words.now) }
+{
+    if is_accepted(words) {
+        number_given(Kind::Generate, words)
+    } else {
+        None
+    }
 }
 
 fn is_accepted(words: &[String]) -> bool

@@ -1,11 +1,5 @@
-pub mod Courses
-pub mod Endings
-pub mod Frames
-pub mod Judged
-pub mod Launched
-pub mod Limits
-pub mod Planned
-pub mod Runs
-pub mod Sole
-pub mod Stages
-pub mod Streams
+pub mod Fits
+pub mod Histories
+pub mod Numbered
+pub mod Reading
+pub mod Said

@@ -1,106 +1,109 @@
--- How a run ends.
-use Rattle.std.specs.Prelude.{◌≡◌, ℕ, List, [], ◌∷◌, Option, Some, None, Result, Ok, Err, false, reverse}
-use Rattle.exec_journal.specs.declared.journal.Entry.{Entry}
-use Rattle.run_plan.specs.declared.plan.Plan.{Plan}
-use Rattle.tool_words.specs.declared.options.Options.{Options}
-use Rattle.outside.specs.Lists.{Gives}
-use Rattle.outside.specs.Told.{FloorTold, BerthTold, PlaceTold, LineTold, SinkTold}
-use Rattle.outside.specs.declared.answers.Io.TheVariants as io
-use Rattle.outside.specs.declared.floor.FloorRead.{FloorRead}
-use Rattle.build_report.specs.Report.{report_of}
+-- How a run ends: what led to it, its fault, its report and its status.
+use Rattle.std.specs.Prelude.{◌≡◌, ℕ, List, [], Bool, true, false, Option, Some, None, Ok, Err, IfSome, reverse}
+use Rattle.build_report.specs.Faults.{fault_status}
+use Rattle.build_report.specs.Report.{report_of, status_of}
 use Rattle.build_report.specs.declared.fault.RunFault.{RunFault}
 use Rattle.build_report.specs.declared.fault.RunFault.TheVariants as fault
+use Rattle.build_report.specs.declared.fault.Stage.{Stage}
 use Rattle.build_report.specs.declared.fault.Stage.TheVariants as stage
-use Rattle.build_report.specs.declared.fault.Unbuilt.TheVariants as unbuilt
-use Rattle.worker_run.specs.declared.work.OneJob.{OneJob}
-use Rattle.worker_run.specs.declared.reading.Job.{Job}
-use Rattle.worker_run.specs.declared.reading.Job.TheVariants as job
-use Rattle.worker_run.specs.declared.line.Reached.{Reached}
-use Rattle.worker_run.specs.declared.line.Stopped.{Stopped}
-use Rattle.worker_run.specs.declared.line.Stopped.TheVariants as stopped
+use Rattle.exec_journal.specs.declared.journal.Entry.{Entry}
+use Rattle.outside.specs.Lists.{Gives}
+use Rattle.outside.specs.Told.{FloorTold, SinkTold}
+use Rattle.outside.specs.declared.answers.Io.TheVariants as io
+use Rattle.outside.specs.declared.floor.FloorRead.{FloorRead}
 use Rattle.run_loading.specs.Reads.{Reads}
-use Rattle.worker_run.specs.Course.{Course}
-use Rattle.worker_run.specs.OneJournal.{journal_of}
-use Rattle.worker_run.specs.Reached.{RoomStood, PlaceStood, LineStood, HasCause, IsStop, OnOutside}
-use Rattle.worker_run.specs.Seen.{end_told, Left, left, nothing_left, EndedTold}
+use Rattle.run_tasks.specs.Course.{Course, Made}
+use Rattle.run_tasks.specs.declared.task.Task.{Task}
+use Rattle.tool_words.specs.declared.options.Options.{Options}
+use Rattle.worker_run.specs.Seen.{EndedTold}
 
--- One berth, one line and one place, each with number 0. The journal says how far the line came, and what
--- the objects tell agrees with it; where it came no further for an object of the outside, that is its cause.
-pub record LeavesOne (work : OneJob) (came : Reached) (stop : Stopped) (run : Left) : Type 0 where
-  pub room : BerthTold
-  pub line : Option LineTold
-  pub place : PlaceTold
-  pub all : run ≡ left (journal_of came stop) (room ∷ []) (end_told 0 line ∷ []) (place ∷ [])
-  pub room_number : room.number ≡ 0
-  pub place_number : place.number ≡ 0
-  pub stopped : IsStop came stop
-  pub in_room : RoomStood work came room.log
-  pub of_line : LineStood work came line
-  pub in_place : PlaceStood work came place.log
-  pub cause : OnOutside stop (HasCause came room place line)
+-- ---- the fault
 
--- The fault says why the line came no further. After a whole line the report may find no memory or fail.
-abbrev pub EndsBy : Stopped → Option RunFault → Type 0
-EndsBy stopped.Whole None = Unit {0}
-EndsBy stopped.Whole (Some fault.SinkFailed) = Unit {0}
-EndsBy stopped.Whole (Some (fault.NoMemory when)) = when ≡ stage.After
-EndsBy stopped.Outside (Some f) = f ≡ fault.NotYetBuilt unbuilt.Outside
-EndsBy stopped.NoMemory (Some f) = f ≡ fault.NoMemory stage.During
-EndsBy stop end = ⊥
+-- with no lane started there is a fault of what was read, or memory was wanted; once all was read,
+-- memory was wanted while the lanes were at work or behind them, or the report wasn't put
+abbrev pub IsAfterReading : Option RunFault → Type 0
+IsAfterReading None = Unit {0}
+IsAfterReading (Some fault.SinkFailed) = Unit {0}
+IsAfterReading (Some (fault.NoMemory stage.During)) = Unit {0}
+IsAfterReading (Some (fault.NoMemory stage.After)) = Unit {0}
+IsAfterReading (Some f) = ⊥
 
--- The report is put whole, or a front of it where the sink failed; with any other fault nothing is put.
-abbrev pub Puts : Option RunFault → List ℕ → SinkTold → SinkTold → Type 0
-Puts None report old new = Gives io.Done report old.contents new.contents
-Puts (Some fault.SinkFailed) report old new = Gives io.Failed report old.contents new.contents
-Puts (Some f) report old new = new.contents ≡ old.contents
+-- A run is told where there was no fault, where a lane halted, and where the report wasn't put. It
+-- may be lost where memory was wanted behind the lanes. With any other fault there was none.
+abbrev pub TellsTask : Option RunFault → Option Task → Type 0
+TellsTask None task = (t : Task) × (task ≡ Some t)
+TellsTask (Some fault.SinkFailed) task = (t : Task) × (task ≡ Some t)
+TellsTask (Some (fault.NoMemory stage.During)) task = (t : Task) × (task ≡ Some t)
+TellsTask (Some (fault.NoMemory stage.After)) task = Unit {0}
+TellsTask (Some f) task = task ≡ None
 
 -- the end of a put
 abbrev pub IsPutEnd : Option RunFault → Type 0
 IsPutEnd None = Unit {0}
 IsPutEnd (Some f) = f ≡ fault.SinkFailed
 
--- the report of this plan by the journal
-abbrev pub report_by : Plan → List Entry → List ℕ
-report_by plan journal = report_of plan (reverse journal) false
+-- the report wasn't put, or memory was wanted for it
+abbrev pub IsLate : RunFault → Type 0
+IsLate fault.SinkFailed = Unit {0}
+IsLate (fault.NoMemory when) = when ≡ stage.After
+IsLate f = ⊥
 
--- What was read decides how the run ends.
-abbrev pub EndsAs : Result Job RunFault → Option RunFault → Left → SinkTold → SinkTold → Type 0
-EndsAs (Err f) end run old new = (end ≡ Some f) × (run ≡ nothing_left) × (new.contents ≡ old.contents)
-EndsAs (Ok (job.Nothing plan)) end run old new = EndsBy stopped.Whole end × (run ≡ nothing_left) × Puts end (report_by plan run.journal) old new
-EndsAs (Ok (job.One work)) end run old new =
-    (came : Reached) × (stop : Stopped) × EndsBy stop end × LeavesOne work came stop run × Puts end (report_by work.plan run.journal) old new
+-- the end of a report
+abbrev pub IsReportEnd : Option RunFault → Type 0
+IsReportEnd None = Unit {0}
+IsReportEnd (Some f) = IsLate f
 
--- Where memory was wanted before the lanes, no lane was started and nothing is put; nothing is said of the
--- reads then.
-abbrev pub LeavesNothing : Left → SinkTold → SinkTold → Type 0
-LeavesNothing run old new = (run ≡ nothing_left) × (new.contents ≡ old.contents)
+-- The end of a run of lanes of this task, by when they wanted memory.
+abbrev pub IsRunEnd : Option Stage → Task → Option RunFault → Option Task → Type 0
+IsRunEnd None t end task = IsReportEnd end × (task ≡ Some t)
+IsRunEnd (Some stage.During) t end task =
+    (end ≡ Some (fault.NoMemory stage.During)) × (task ≡ Some t)
+IsRunEnd (Some when) t end task = (end ≡ Some (fault.NoMemory when)) × (task ≡ None)
 
-abbrev pub AfterStart : Option RunFault → Type 0 → Type 0 → Type 0
-AfterStart (Some (fault.NoMemory stage.Before)) P Q = P
-AfterStart end P Q = Q
+-- memory was wanted while the lanes were at work
+abbrev pub is_halted : Option RunFault → Bool
+is_halted (Some (fault.NoMemory stage.During)) = true
+is_halted _ = false
 
--- The reads in the order of work led to a job, and the job to this end.
-abbrev pub Ran : Option Options → List FloorRead → Option RunFault → Left → SinkTold → SinkTold → Type 0
-Ran options reads end run old new = (job : Result Job RunFault) × Course options reads job × EndsAs job end run old new
+-- ---- what led to it
 
-abbrev pub RunLeaves : Option Options → FloorTold → FloorTold → Option RunFault → Left → SinkTold → SinkTold → Type 0
-RunLeaves options before after end run old new =
-    AfterStart end (LeavesNothing run old new) (Reads before after (λ reads. Ran options reads end run old new))
+-- What was read is a task, which was run; or the fault that ended the reading.
+abbrev pub LeadsTo : Made → Option RunFault → Option Task → Type 0
+LeadsTo (Err f) end task = (end ≡ Some f) × (task ≡ None)
+LeadsTo (Ok made) end task = IsAfterReading end × IfSome task (λ t. t ≡ made.0)
 
-abbrev pub RunEnds : Option Options → FloorTold → EndedTold → SinkTold → SinkTold → Type 0
-RunEnds options before run old new = RunLeaves options before run.floor run.fault run.left old new
+abbrev pub HasLed : Option Options → Option RunFault → Option Task → List FloorRead → Type 0
+HasLed options end task reads = (made : Made) × Course options reads made × LeadsTo made end task
 
--- The job is one action: what its run leaves, or nothing where memory was wanted before the lanes.
-abbrev pub OneEnds : OneJob → Option RunFault → Left → SinkTold → SinkTold → Type 0
-OneEnds work end run old new = AfterStart end (LeavesNothing run old new) (EndsAs (Ok (job.One work)) end run old new)
+-- Nothing is said where memory was wanted before the lanes.
+abbrev pub UnlessEarly : Option RunFault → Type 0 → Type 0
+UnlessEarly (Some (fault.NoMemory stage.Before)) P = Unit {0}
+UnlessEarly end P = P
 
--- a fault that comes once all is read, or none
-abbrev pub IsAfterReading : Option RunFault → Type 0
-IsAfterReading (Some (fault.Absent path)) = ⊥
-IsAfterReading (Some (fault.FloorFailed path)) = ⊥
-IsAfterReading end = Unit {0}
+-- The floor's reads, in the order of work, led to the task that was run, or to the fault.
+abbrev pub HasCourse : Option Options → FloorTold → EndedTold → Type 0
+HasCourse options before end = UnlessEarly end.fault
+    (Reads before end.floor (HasLed options end.fault end.task))
 
--- a fault that comes once the lanes were started, or none
-abbrev pub IsAfterStart : Option RunFault → Type 0
-IsAfterStart (Some (fault.NoMemory stage.Before)) = ⊥
-IsAfterStart end = Unit {0}
+-- ---- the report and the status
+
+-- the report of a task by its journal
+abbrev pub report_by : Option Task → List Entry → List ℕ
+report_by None journal = []
+report_by (Some t) journal = report_of t.plan (reverse journal) t.short
+
+-- These bytes are put whole with no fault, and a front of them where the sink failed; with any
+-- other fault nothing is put.
+abbrev pub Puts : Option RunFault → List ℕ → SinkTold → SinkTold → Type 0
+Puts None report old new = Gives io.Done report old.contents new.contents
+Puts (Some fault.SinkFailed) report old new = Gives io.Failed report old.contents new.contents
+Puts (Some f) report old new = new.contents ≡ old.contents
+
+abbrev pub Reports : EndedTold → SinkTold → SinkTold → Type 0
+Reports end old new = Puts end.fault (report_by end.task end.left.journal) old new
+
+-- With no fault 0 where every action has success, and else 1; with a fault that of the fault.
+abbrev pub status_by : Option RunFault → Option Task → List Entry → ℕ
+status_by None None journal = 0
+status_by None (Some t) journal = status_of t.plan (reverse journal)
+status_by (Some f) task journal = fault_status f

@@ -1,12 +1,6 @@
-pub mod Course
+-- What contracts cite of a run.
 pub mod Ends
-pub mod Faults
-pub mod Heard
-pub mod Hearing
-pub mod Lists
-pub mod OneJournal
-pub mod Prepared
-pub mod Reached
-pub mod Rooms
+pub mod Headline
+pub mod Histories
+pub mod Lanes
 pub mod Seen
-pub mod Steps

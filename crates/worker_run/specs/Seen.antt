@@ -1,43 +1,53 @@
 -- What a run leaves, as its objects tell it.
-use Rattle.std.specs.Prelude.{◌≡◌, ℕ, List, [], true, Option, IfSome}
-use Rattle.exec_journal.specs.declared.journal.Entry.{Entry}
+use Rattle.std.specs.Prelude.{ℕ, Bool, true, false, List, [], Option, Some, None}
 use Rattle.build_report.specs.declared.fault.RunFault.{RunFault}
-use Rattle.outside.specs.Told.{FloorTold, BerthTold, PlaceTold, LineTold}
+use Rattle.build_report.specs.declared.fault.Stage.{Stage}
+use Rattle.build_report.specs.declared.fault.Stage.TheVariants as stage
+use Rattle.exec_journal.specs.declared.journal.Entry.{Entry}
+use Rattle.lane_runs.specs.Runs.{EndTold, LaidTold}
+use Rattle.outside.specs.Told.{FloorTold, BerthTold, PlaceTold}
+use Rattle.run_tasks.specs.declared.task.Task.{Task}
 
--- a line by its number, and what it tells where it was launched
-pub record EndTold : Type 0 where
-  pub number : ℕ
-  pub line : Option LineTold
-
-abbrev pub end_told : ℕ → Option LineTold → EndTold
-end_told number line = record { number = number; line = line }
-
--- All three are of the line with this number, as far as they tell it, and the child has been killed.
-pub record IsKilledLine (number : ℕ) (line : LineTold) : Type 0 where
-  pub of_feed : IfSome line.feed.line (λ n. n ≡ number)
-  pub of_tap : IfSome line.tap.line (λ n. n ≡ number)
-  pub of_child : IfSome line.child.line (λ n. n ≡ number)
-  pub killed : IfSome line.child.killed (λ b. b ≡ true)
-
--- all that a run leaves but its floor
+-- what is left of a run's lanes: the journal, whose oldest entry stands first, and what its
+-- berths, its lines and its places tell
 pub record Left : Type 0 where
   pub journal : List Entry
-  pub rooms : List BerthTold
+  pub berths : List BerthTold
   pub lines : List EndTold
   pub places : List PlaceTold
 
 abbrev pub left : List Entry → List BerthTold → List EndTold → List PlaceTold → Left
-left journal rooms lines places = record { journal = journal; rooms = rooms; lines = lines; places = places }
+left journal berths lines places =
+    record { journal = journal; berths = berths; lines = lines; places = places }
 
 abbrev pub nothing_left : Left
 nothing_left = left [] [] [] []
+
+-- a run of lanes over a floor
+pub record RanTold : Type 0 where
+  pub fault : Option Stage
+  pub floor : FloorTold
+  pub left : Left
+
+abbrev pub ran_told : Option Stage → FloorTold → Left → RanTold
+ran_told fault floor left = record { fault = fault; floor = floor; left = left }
+
+abbrev pub stage_of : Bool → Option Stage
+stage_of true = Some stage.During
+stage_of false = None
+
+-- what lanes have left, with the floor
+abbrev pub ran_by : FloorTold → LaidTold → RanTold
+ran_by floor x = ran_told (stage_of x.halted) floor (left x.journal x.berths x.lines x.places)
 
 -- the whole result of a run
 pub record EndedTold : Type 0 where
   pub status : ℕ
   pub fault : Option RunFault
   pub floor : FloorTold
+  pub task : Option Task
   pub left : Left
 
-abbrev pub ended_told : ℕ → Option RunFault → FloorTold → Left → EndedTold
-ended_told status fault floor left = record { status = status; fault = fault; floor = floor; left = left }
+abbrev pub ended_told : ℕ → Option RunFault → FloorTold → Option Task → Left → EndedTold
+ended_told status fault floor task left =
+    record { status = status; fault = fault; floor = floor; task = task; left = left }

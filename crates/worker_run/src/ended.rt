@@ -1,19 +1,41 @@
-ghost use Rattle.std.specs.Prelude.{◌≡◌, []};
-ghost use Rattle.worker_run.specs.Faults.{end_status};
+// What a run leaves.
+ghost use Rattle.std.specs.Prelude.{◌≡◌, Some, None, IfSome};
+ghost use Rattle.build_report.specs.Faults.{fault_status};
+ghost use Rattle.run_plan.specs.Sound.{Sound};
+ghost use Rattle.worker_run.specs.Ends.{status_by};
 ghost use Rattle.worker_run.specs.Seen.{ended_told, nothing_left};
 
-use crate::RunFault;
+use crate::running::Ran;
+use build_report::{RunFault, status};
 use exec_journal::Journal;
 use outside::{Berth, Floor};
+use run_tasks::Task;
 use std::alloc::Global;
 use std::marker::Model;
+
+/// A line, with what it had where it was started.
+pub type EndedLine<F> = ended_lines::EndedLine<
+    <<F as Floor>::Berth as Berth>::Feed,
+    <<F as Floor>::Berth as Berth>::Tap,
+    <<F as Floor>::Berth as Berth>::Child,
+>;
+
+/// The feed, the tap and the child of a line.
+pub type Halves<F> = ended_lines::Halves<
+    <<F as Floor>::Berth as Berth>::Feed,
+    <<F as Floor>::Berth as Berth>::Tap,
+    <<F as Floor>::Berth as Berth>::Child,
+>;
 
 /// All that a run leaves.
 #[derive(Drop)]
 pub struct Ended<F: Floor> {
-    /// The exit status: 0 where all actions succeeded, and else by the fault.
+    /// The exit status: 0 where all actions succeeded, 1 where some didn't, and else by the fault.
     pub status: u8,
     pub fault: Option<RunFault>,
+    /// What was run. `None` where no lane was started, and where there was no memory for what the
+    /// lanes left: then the lists are empty.
+    pub task: Option<Task>,
     /// Every call that changed the state, with its reply, in order.
     pub journal: Journal,
     pub floor: F,
@@ -27,78 +49,44 @@ pub struct Ended<F: Floor> {
 
 impl<F: Floor> Model for Ended<F> {
     ghost use Rattle.std.specs.Prelude.{map};
+    ghost use Rattle.lane_runs.specs.Runs.{end_of};
     ghost use Rattle.worker_run.specs.Seen.{EndedTold, ended_told, left};
 
     ghost Value = { EndedTold };
 
-    ghost view = { λ e. ended_told e.status e.fault (F.told e.floor) (left e.journal
-        (map F.Berth.told e.berths.items) e.lines.items (map F.Place.told e.places.items)) };
-}
-
-/// A line, with what it had where it was launched.
-#[derive(Drop)]
-pub struct EndedLine<F: Floor> {
-    pub number: u32,
-    pub halves: Option<Halves<F>>,
-}
-
-impl<F: Floor> Model for EndedLine<F> {
-    ghost use Rattle.worker_run.specs.Seen.{EndTold, end_told};
-
-    ghost Value = { EndTold };
-
-    ghost view = { λ l. end_told l.number l.halves };
-}
-
-/// The feed, the tap and the child of a line.
-#[derive(Drop)]
-pub struct Halves<F: Floor> {
-    pub feed: <F::Berth as Berth>::Feed,
-    pub tap: <F::Berth as Berth>::Tap,
-    pub child: <F::Berth as Berth>::Child,
-}
-
-impl<F: Floor> Model for Halves<F> {
-    ghost use Rattle.outside.specs.Told.{LineTold, line_told};
-
-    ghost Value = { LineTold };
-
-    ghost view = { λ h. line_told (F.Berth.Feed.told h.feed) (F.Berth.Tap.told h.tap)
-        (F.Berth.Child.told h.child) };
+    ghost view = { λ e. ended_told e.status e.fault (F.told e.floor) e.task (left e.journal
+        (map F.Berth.told e.berths.items)
+        (map (end_of F.Berth.Feed.told F.Berth.Tap.told F.Berth.Child.told) e.lines.items)
+        (map F.Place.told e.places.items)) };
 }
 
 impl<F: Floor> Ended<F> {
-    /// A run whose lanes weren't started.
-    pub fn with_no_lane(alloc: Global, floor: F, fault: Option<RunFault>) -> Ended<F>
-        ensures { result ≡ ended_told (end_status fault) fault (F.told floor) nothing_left }
+    /// A run that this fault ended before its lanes were started.
+    pub fn with_no_lane(alloc: Global, floor: F, fault: RunFault) -> Ended<F>
+        ensures { result ≡ ended_told (fault_status fault) (Some fault) (F.told floor) None
+            nothing_left }
     {
-        Ended {
-            status: end_status(&fault),
-            fault,
-            journal: Journal::of(Vec::new(alloc)),
-            floor,
-            berths: Vec::new(alloc),
-            lines: Vec::new(alloc),
-            places: Vec::new(alloc),
-        }
+        Ended::of(Ran::with_nothing(alloc, floor, None), None, Some(fault))
     }
 
-    /// The same run, which ends with this fault.
-    pub fn with_fault(self, fault: Option<RunFault>) -> Ended<F>
-        ensures { result ≡ record self { status = end_status fault; fault = fault } }
+    /// What is left of a run of lanes, as one that ends with this fault.
+    pub fn of(ran: Ran<F>, task: Option<Task>, fault: Option<RunFault>) -> Ended<F>
+        requires { IfSome task (λ t. Sound t.plan) }
+        ensures { result ≡ ended_told (status_by fault task ran.left.journal) fault ran.floor
+            task ran.left }
     {
-        let Ended {
-            status: _,
+        let Ran {
             fault: _,
             journal,
             floor,
             berths,
             lines,
             places,
-        } = self;
+        } = ran;
         Ended {
-            status: end_status(&fault),
+            status: status_of(&fault, &task, &journal),
             fault,
+            task,
             journal,
             floor,
             berths,
@@ -108,12 +96,14 @@ impl<F: Floor> Ended<F> {
     }
 }
 
-/// The exit status of a run that ends so.
-pub fn end_status(fault: &Option<RunFault>) -> u8
-    ensures { result ≡ end_status fault.now }
+// The exit status of a run of this task, by its journal, that ends so.
+fn status_of(fault: &Option<RunFault>, task: &Option<Task>, journal: &Journal) -> u8
+    requires { IfSome task.now (λ t. Sound t.plan) }
+    ensures { result ≡ status_by fault.now task.now journal.now }
 {
-    match fault {
-        Some(fault) => fault.status(),
-        None => 0,
+    match (fault, task) {
+        (Some(fault), _) => fault.status(),
+        (None, Some(task)) => status(&task.plan, journal),
+        (None, None) => 0,
     }
 }

@@ -1,17 +1,13 @@
-//! The top call: it reads a list of actions, runs them, and reports.
+//! The top call: it reads a list of actions, runs the lanes of its workers on threads, and reports.
 #![tactic(auto)]
 
 mod ended;
-mod hearing;
-mod journal;
-mod line;
-mod preparing;
-mod reading;
-mod room;
 mod run;
+mod running;
 mod seats;
-mod work;
 
-pub use build_report::{RunFault, Stage, Unbuilt, fault_line};
-pub use ended::{Ended, EndedLine, Halves, end_status};
+pub use build_report::{RunFault, Stage, fault_line};
+pub use ended::{Ended, EndedLine, Halves};
 pub use run::run_build;
+pub use run_tasks::Task;
+pub use running::{Ran, run_plan};

@@ -1,124 +1,159 @@
-//! The top call.
-ghost use Rattle.std.specs.Prelude.{◌≡◌, ◌≤◌, Some, Ok, map, string_bytes};
-ghost use Rattle.std.specs.Option.{option_map};
-ghost use Rattle.run_plan.specs.Sound.{Sound};
+// The top call.
+ghost use Rattle.std.specs.Prelude.{◌≡◌, ◌≤◌, Some, None, map, string_bytes};
+ghost use Rattle.build_report.specs.Report.{report_of};
 ghost use Rattle.outside.specs.Causes.{Counts};
-ghost use Rattle.tool_words.specs.Options.{options_of};
-ghost use Rattle.run_loading.specs.Reads.{IsFloorFailed};
-ghost use Rattle.worker_run.specs.Ends.{report_by, RunEnds, OneEnds, EndsBy, Puts, IsPutEnd, IsAfterReading, IsAfterStart};
-ghost use Rattle.worker_run.specs.Faults.{end_status};
-ghost use Rattle.worker_run.specs.Prepared.{HasFewOutputs};
 ghost use Rattle.outside.specs.Told.{SameFloor};
+ghost use Rattle.run_loading.specs.Reads.{IsFloorFailed};
+ghost use Rattle.run_plan.specs.Sound.{Sound};
+ghost use Rattle.run_tasks.specs.Tasks.{HasPosts, HasWork};
+ghost use Rattle.tool_words.specs.Options.{options_of};
+ghost use Rattle.worker_run.specs.Ends.{HasCourse, IsPutEnd, IsReportEnd, IsRunEnd, Puts, Reports, TellsTask, report_by, status_by};
+ghost use Rattle.worker_run.specs.Headline.{HaltsAsSaid, HasOuts, HasPipes, HasRace, HasRooms, IsAccounted, IsComplete, IsKept, IsLegal, IsPaired, IsStopped, OnRun, UnlessRun};
+ghost use Rattle.worker_run.specs.Lanes.{TaskRan, WhereLost, WhereWhole};
+ghost use Rattle.worker_run.specs.Seen.{nothing_left};
 
-use crate::line::{Stopped, run_line};
-use crate::reading::{Job, read_job};
-use crate::seats::make_seats;
-use crate::work::OneJob;
-use crate::{Ended, RunFault, Stage, Unbuilt};
-use build_report::report;
+use crate::ended::Ended;
+use crate::running::{Ran, run_plan};
+use build_report::{RunFault, Stage, report};
+use core_rules::LaneCore;
 use exec_journal::{Journal, Plan};
-use outside::{Floor, Io, Sink};
+use outside::{Berth, Floor, Io, Sink};
 use plain_values::NoMemory;
+use run_tasks::{Task, read_task};
+use spawn_core::Core;
 use std::alloc::Global;
 use std::sync::Wait;
 use std::thread::Threads;
 
 /// Runs the actions of the list that the words name, on this floor, and puts the report.
 ///
-/// The words after the program's name are the path of a list, and options. The list is empty, or has one
-/// action for a worker that is asked in protobuf, one request at a time, without cancellation; anything else
-/// isn't built yet. The order of work: the words; the list; the action's tools and then its inputs, each path
-/// read once; the flag files; the places, berths and lists of the result; the lanes; the report, in one put.
-/// An earlier step's fault goes before a later one's.
+/// The words are those after the program's name. The order of work: the words; the list, which is
+/// read from the floor or generated; the tools and then the inputs of each action, each path read
+/// once; the flag files; the places and the berths; the two lanes of each berth, each on a thread
+/// of its own; the report, in one put. An earlier step's fault goes before a later one's.
+///
+/// Where a run is told (`task` is there), all that is left is what one history says, and that is
+/// the journal. Contents are meant where the objects tell them, and counts always.
 pub fn run_build<R: Threads + Wait + Sync, F: Floor, O: Sink>(
-    _rt: &R,
+    rt: &R,
     alloc: Global,
     words: &[String],
     floor: F,
     out: &mut O,
 ) -> Ended<F>
-    // The reads led to a job, and the job to all that is left: the journal, the rooms, the line and the place.
-    ensures run { RunEnds (options_of (map string_bytes words.now))
-        (F.told floor) result (O.told out.old) (O.told out.new) }
+where
+    F::Berth: Send,
+    F::Place: Send,
+    <F::Berth as Berth>::Feed: Send,
+    <F::Berth as Berth>::Tap: Send,
+    <F::Berth as Berth>::Child: Send,
+    // What was read led to the task that was run, or to the fault.
+    ensures course { HasCourse (options_of (map string_bytes words.now)) (F.told floor) result }
+    ensures told { TellsTask result.fault result.task }
+    ensures nothing { UnlessRun result.task (result.left ≡ nothing_left) }
+    // The one journal of the run.
+    ensures legal { OnRun result IsLegal }
+    ensures race { OnRun result HasRace }
+    ensures paired { OnRun result IsPaired }
+    ensures kept { OnRun result IsKept }
+    ensures halts { HaltsAsSaid result }
+    ensures stopped { OnRun result IsStopped }
+    ensures accounted { OnRun result IsAccounted }
+    ensures complete { OnRun result IsComplete }
+    // What each object tells is the journal's.
+    ensures pipes { OnRun result HasPipes }
+    ensures rooms { OnRun result HasRooms }
+    ensures outs { OnRun result HasOuts }
+    ensures report { Reports result (O.told out.old) (O.told out.new) }
+    // How it ended.
+    ensures status { result.status ≡ status_by result.fault result.task result.left.journal }
     ensures floor { Counts (F.told floor).faults result.floor.faults
         (IsFloorFailed result.fault) }
     ensures files { SameFloor (F.told floor) result.floor }
     ensures sink { Counts (O.told out.old).faults (O.told out.new).faults
         (result.fault ≡ Some RunFault.SinkFailed) }
-    ensures status { result.status ≡ end_status result.fault }
 {
     let mut floor = floor;
-    match read_job(alloc, words, &mut floor) {
-        Ok(Job::One(work)) => run_one(alloc, floor, &work, out),
-        Ok(Job::Nothing(plan)) => {
-            let ended = Ended::with_no_lane(alloc, floor, None);
-            let fault = put_report(alloc, &plan, &ended.journal, out);
-            ended.with_fault(fault)
+    match read_task(alloc, words, &mut floor) {
+        Ok(made) => {
+            let (task, twin) = made;
+            let ran = run_task(rt, alloc, &task, twin, floor);
+            conclude(alloc, task, ran, out)
         }
-        Err(fault) => Ended::with_no_lane(alloc, floor, Some(fault)),
+        Err(fault) => Ended::with_no_lane(alloc, floor, fault),
     }
 }
 
-fn run_one<F: Floor, O: Sink>(alloc: Global, floor: F, work: &OneJob, out: &mut O) -> Ended<F>
-    requires sound { Sound work.now.plan }
-    requires few { HasFewOutputs work.now }
-    ensures run { OneEnds work.now result.fault result.left (O.told out.old) (O.told out.new) }
-    ensures kind { IsAfterReading result.fault }
-    ensures log { result.floor.log ≡ (F.told floor).log }
+// Runs the lanes of the task, by the core of its plan.
+fn run_task<R: Threads + Wait + Sync, F: Floor>(
+    rt: &R,
+    alloc: Global,
+    task: &Task,
+    twin: Plan,
+    floor: F,
+) -> Ran<F>
+where
+    F::Berth: Send,
+    F::Place: Send,
+    <F::Berth as Berth>::Feed: Send,
+    <F::Berth as Berth>::Tap: Send,
+    <F::Berth as Berth>::Child: Send,
+    requires sound { Sound task.now.plan }
+    requires twin { twin ≡ task.now.plan }
+    requires work { HasWork task.now }
+    requires posts { HasPosts task.now }
+    ensures run { WhereWhole result.fault (TaskRan task.now result.fault result.left) }
+    ensures lost { WhereLost result.fault (result.left ≡ nothing_left) }
     ensures files { SameFloor (F.told floor) result.floor }
+    ensures log { result.floor.log ≡ (F.told floor).log }
     ensures count { (F.told floor).faults ≤ result.floor.faults }
-    ensures sink { Counts (O.told out.old).faults (O.told out.new).faults
-        (result.fault ≡ Some RunFault.SinkFailed) }
-    ensures status { result.status ≡ end_status result.fault }
 {
-    let mut floor = floor;
-    let Ok(seats) = make_seats(alloc, &mut floor) else {
-        return Ended::with_no_lane(alloc, floor, Some(RunFault::NoMemory(Stage::Before)));
+    let Ok(core) = Core::new(alloc, twin) else {
+        return Ran::with_nothing(alloc, floor, Some(Stage::Before));
     };
-    let mut seats = seats;
-    let run = run_line(alloc, &mut seats.berth, &mut seats.place, work);
-    let stopped = run.stopped;
-    let ended = seats.into_ended(alloc, floor, run);
-    let fault = conclude(alloc, &work.plan, &ended.journal, stopped, out);
-    ended.with_fault(fault)
+    let core = LaneCore::new(core);
+    run_plan(rt, alloc, core, task.posts.as_slice(), &task.work, floor)
 }
 
-// Puts the report where all was done, and says how the run ends.
-fn conclude<O: Sink>(
-    alloc: Global,
-    plan: &Plan,
-    journal: &Journal,
-    stopped: Stopped,
-    out: &mut O,
-) -> Option<RunFault>
-    requires { Sound plan.now }
-    ensures ends { EndsBy stopped result }
-    ensures put { Puts result (report_by plan.now journal.now) (O.told out.old) (O.told out.new) }
-    ensures kind { IsAfterReading result }
-    ensures started { IsAfterStart result }
+// Ends the run: with the report where memory was never wanted.
+fn conclude<F: Floor, O: Sink>(alloc: Global, task: Task, ran: Ran<F>, out: &mut O) -> Ended<F>
+    requires sound { Sound task.plan }
+    ensures kind { IsRunEnd ran.fault task result.fault result.task }
+    ensures report { Reports result (O.told out.old) (O.told out.new) }
+    ensures status { result.status ≡ status_by result.fault result.task result.left.journal }
+    ensures left { result.left ≡ ran.left }
+    ensures floor { result.floor ≡ ran.floor }
     ensures sink { Counts (O.told out.old).faults (O.told out.new).faults
-        (result ≡ Some RunFault.SinkFailed) }
+        (result.fault ≡ Some RunFault.SinkFailed) }
 {
-    match stopped {
-        Stopped::Outside => Some(RunFault::NotYetBuilt(Unbuilt::Outside)),
-        Stopped::NoMemory => Some(RunFault::NoMemory(Stage::During)),
-        Stopped::Whole => put_report(alloc, plan, journal, out),
+    match ran.fault {
+        None => {
+            let fault = put_report(alloc, &task, &ran.journal, out);
+            Ended::of(ran, Some(task), fault)
+        }
+        Some(Stage::During) => {
+            let fault = RunFault::NoMemory(Stage::During);
+            Ended::of(ran, Some(task), Some(fault))
+        }
+        Some(Stage::Before) => Ended::of(ran, None, Some(RunFault::NoMemory(Stage::Before))),
+        Some(Stage::After) => Ended::of(ran, None, Some(RunFault::NoMemory(Stage::After))),
     }
 }
 
 fn put_report<O: Sink>(
     alloc: Global,
-    plan: &Plan,
+    task: &Task,
     journal: &Journal,
     out: &mut O,
 ) -> Option<RunFault>
-    requires { Sound plan.now }
-    ensures ends { EndsBy Stopped.Whole result }
-    ensures put { Puts result (report_by plan.now journal.now) (O.told out.old) (O.told out.new) }
+    requires { Sound task.now.plan }
+    ensures put { Puts result (report_by (Some task.now) journal.now)
+        (O.told out.old) (O.told out.new) }
+    ensures kind { IsReportEnd result }
     ensures sink { Counts (O.told out.old).faults (O.told out.new).faults
         (result ≡ Some RunFault.SinkFailed) }
 {
-    match report(alloc, plan, journal, false) {
+    match report(alloc, &task.plan, journal, task.short) {
         Ok(text) => put(out, text.as_str().as_bytes()),
         Err(NoMemory) => Some(RunFault::NoMemory(Stage::After)),
     }

@@ -1,48 +1,147 @@
-use Rattle.std.proofs.Common.{arith, Ok, map, string_bytes, refl, ap, ◌∙◌}
+-- Where a task was read, what its lanes say is what is told; where a fault was, nothing is.
+use Rattle.std.proofs.Common.{map, string_bytes, ◌∙◌}
 use Rattle.tool_words.specs.Options.{options_of}
-use Rattle.worker_run.specs.Seen.{EndedTold}
-use Rattle.worker_run.specs.declared.reading.Job.TheVariants as job
-use Rattle.worker_run.proofs.Endings.{one_ends, none_ends, fault_ends, floor_counted, not_sink, put_after}
+use Rattle.worker_run.proofs.Reading.{fault_course, fault_puts, fault_sink, fault_told, task_course, task_floor, task_nothing, task_told}
+use Rattle.worker_run.proofs.Said.{halts_as_said, has_outs, has_pipes, has_race, has_rooms, is_accounted, is_complete, is_kept, is_legal, is_paired, is_stopped, on_run}
+use Rattle.worker_run.specs.Headline.{HasOuts, HasPipes, HasRace, HasRooms, IsAccounted, IsComplete, IsKept, IsLegal, IsPaired, IsStopped}
 use Rattle.worker_run.proofs.run.run_build.Goals as goal
 
-pub returns-in-Ok-One-clause-run : goal.returns-in-Ok-One-clause-run
-returns-in-Ok-One-clause-run g c =
-    one_ends (options_of (map string_bytes c.args.words.now)) (g.F.Floor.told c.args.floor) c.run_one.result.floor (Ok (job.One c.in-Ok-One.work)) c.run_one.result.fault c.run_one.result.left (g.O.Sink.told c.args.out.now) (g.O.Sink.told c.run_one.new.out)
-    (let course = rw (c.in-Ok-One.field-0-is) at c.in-Ok-One.ensures.course in rw (c.run_one.ensures.log) course) c.run_one.ensures.run
+pub returns-in-Ok-clause-course : goal.returns-in-Ok-clause-course
+returns-in-Ok-clause-course g c =
+    let e = c.conclude.ensures in
+    task_course (options_of (map string_bytes c.args.words.now)) (g.F.Floor.told c.args.floor)
+    (g.F.Floor.told c.read_task.new.floor) c.in-Ok.made c.conclude.result c.in-Ok.ensures.course
+    (rw (e.floor) c.run_task-ran.ensures.log) c.run_task-ran.result.fault e.kind
 
-pub returns-in-Ok-Nothing-clause-run : goal.returns-in-Ok-Nothing-clause-run
-returns-in-Ok-Nothing-clause-run g c =
-    let w = c.with_no_lane-ended.ensures in
-    let f = c.with_fault.ensures in
-    let journal = ap (λ (e : EndedTold). e.left.journal) (c.ended.view_is ∙ w) in
-    let course = rw (c.in-Ok-Nothing.field-0-is) at c.in-Ok-Nothing.ensures.course in
-    rw (f, w)
-    (none_ends (options_of (map string_bytes c.args.words.now)) (g.F.Floor.told c.args.floor) (g.F.Floor.told c.read_job.new.floor) c.in-Ok-Nothing.plan _ _ (g.O.Sink.told c.args.out.now) _ course refl c.put_report-fault.ensures.ends (rw (journal) at c.put_report-fault.ensures.put))
+pub returns-in-Ok-clause-told : goal.returns-in-Ok-clause-told
+returns-in-Ok-clause-told g c =
+    task_told c.run_task-ran.result.fault c.in-Ok.made.0 c.conclude.result.fault
+    c.conclude.result.task c.conclude.ensures.kind
 
-pub returns-in-Err-clause-run : goal.returns-in-Err-clause-run
-returns-in-Err-clause-run g c =
-    rw (c.with_no_lane.ensures)
-    (fault_ends (options_of (map string_bytes c.args.words.now)) (g.F.Floor.told c.args.floor) (g.F.Floor.told c.read_job.new.floor) c.in-Err.fault _ (g.O.Sink.told c.args.out.now) _ c.in-Err.ensures.course refl refl)
+pub returns-in-Ok-clause-nothing : goal.returns-in-Ok-clause-nothing
+returns-in-Ok-clause-nothing g c =
+    task_nothing c.run_task-ran.result.fault c.in-Ok.made.0 c.conclude.result.fault
+    c.conclude.result.task c.run_task-ran.result.left c.conclude.result.left
+    c.conclude.ensures.kind c.run_task-ran.ensures.lost c.conclude.ensures.left
+
+pub returns-in-Ok-clause-legal : goal.returns-in-Ok-clause-legal
+returns-in-Ok-clause-legal g c =
+    let t = c.in-Ok.made.0 in
+    let when = c.run_task-ran.result.fault in
+    let x = c.run_task-ran.result.left in
+    on_run when t x c.conclude.result IsLegal c.conclude.ensures.kind c.run_task-ran.ensures.run
+    c.conclude.ensures.left (λ ran. is_legal t when x ran)
+
+pub returns-in-Ok-clause-race : goal.returns-in-Ok-clause-race
+returns-in-Ok-clause-race g c =
+    let t = c.in-Ok.made.0 in
+    let when = c.run_task-ran.result.fault in
+    let x = c.run_task-ran.result.left in
+    on_run when t x c.conclude.result HasRace c.conclude.ensures.kind c.run_task-ran.ensures.run
+    c.conclude.ensures.left (λ ran. has_race t when x ran)
+
+pub returns-in-Ok-clause-paired : goal.returns-in-Ok-clause-paired
+returns-in-Ok-clause-paired g c =
+    let t = c.in-Ok.made.0 in
+    let when = c.run_task-ran.result.fault in
+    let x = c.run_task-ran.result.left in
+    on_run when t x c.conclude.result IsPaired c.conclude.ensures.kind c.run_task-ran.ensures.run
+    c.conclude.ensures.left (λ ran. is_paired t when x ran)
+
+pub returns-in-Ok-clause-kept : goal.returns-in-Ok-clause-kept
+returns-in-Ok-clause-kept g c =
+    let t = c.in-Ok.made.0 in
+    let when = c.run_task-ran.result.fault in
+    let x = c.run_task-ran.result.left in
+    on_run when t x c.conclude.result IsKept c.conclude.ensures.kind c.run_task-ran.ensures.run
+    c.conclude.ensures.left (λ ran. is_kept t when x ran)
+
+pub returns-in-Ok-clause-stopped : goal.returns-in-Ok-clause-stopped
+returns-in-Ok-clause-stopped g c =
+    let t = c.in-Ok.made.0 in
+    let when = c.run_task-ran.result.fault in
+    let x = c.run_task-ran.result.left in
+    on_run when t x c.conclude.result IsStopped c.conclude.ensures.kind c.run_task-ran.ensures.run
+    c.conclude.ensures.left (λ ran. is_stopped t when x ran c.in-Ok.ensures.posts)
+
+pub returns-in-Ok-clause-accounted : goal.returns-in-Ok-clause-accounted
+returns-in-Ok-clause-accounted g c =
+    let t = c.in-Ok.made.0 in
+    let when = c.run_task-ran.result.fault in
+    let x = c.run_task-ran.result.left in
+    on_run when t x c.conclude.result IsAccounted c.conclude.ensures.kind c.run_task-ran.ensures.run
+    c.conclude.ensures.left (λ ran. is_accounted t when x ran c.in-Ok.ensures.posts)
+
+pub returns-in-Ok-clause-complete : goal.returns-in-Ok-clause-complete
+returns-in-Ok-clause-complete g c =
+    let t = c.in-Ok.made.0 in
+    let when = c.run_task-ran.result.fault in
+    let x = c.run_task-ran.result.left in
+    on_run when t x c.conclude.result IsComplete c.conclude.ensures.kind c.run_task-ran.ensures.run
+    c.conclude.ensures.left (λ ran. is_complete t when x ran c.in-Ok.ensures.posts)
+
+pub returns-in-Ok-clause-pipes : goal.returns-in-Ok-clause-pipes
+returns-in-Ok-clause-pipes g c =
+    let t = c.in-Ok.made.0 in
+    let when = c.run_task-ran.result.fault in
+    let x = c.run_task-ran.result.left in
+    on_run when t x c.conclude.result HasPipes c.conclude.ensures.kind c.run_task-ran.ensures.run
+    c.conclude.ensures.left (λ ran. has_pipes t when x ran)
+
+pub returns-in-Ok-clause-rooms : goal.returns-in-Ok-clause-rooms
+returns-in-Ok-clause-rooms g c =
+    let t = c.in-Ok.made.0 in
+    let when = c.run_task-ran.result.fault in
+    let x = c.run_task-ran.result.left in
+    on_run when t x c.conclude.result HasRooms c.conclude.ensures.kind c.run_task-ran.ensures.run
+    c.conclude.ensures.left (λ ran. has_rooms t when x ran c.in-Ok.ensures.posts)
+
+pub returns-in-Ok-clause-outs : goal.returns-in-Ok-clause-outs
+returns-in-Ok-clause-outs g c =
+    let t = c.in-Ok.made.0 in
+    let when = c.run_task-ran.result.fault in
+    let x = c.run_task-ran.result.left in
+    on_run when t x c.conclude.result HasOuts c.conclude.ensures.kind c.run_task-ran.ensures.run
+    c.conclude.ensures.left (λ ran. has_outs t when x ran)
+
+pub returns-in-Ok-clause-halts : goal.returns-in-Ok-clause-halts
+returns-in-Ok-clause-halts g c =
+    halts_as_said c.run_task-ran.result.fault c.in-Ok.made.0 c.run_task-ran.result.left
+    c.conclude.result c.conclude.ensures.kind c.run_task-ran.ensures.run c.conclude.ensures.left
+
+pub returns-in-Ok-clause-floor : goal.returns-in-Ok-clause-floor
+returns-in-Ok-clause-floor g c =
+    let told = g.F.Floor.told in
+    let e = c.conclude.ensures in
+    task_floor c.run_task-ran.result.fault c.in-Ok.made.0 c.conclude.result.fault
+    c.conclude.result.task (told c.args.floor).faults (told c.read_task.new.floor).faults
+    c.conclude.result.floor.faults e.kind c.in-Ok.ensures.floor.later
+    (rw (e.floor) c.run_task-ran.ensures.count)
+
+pub returns-in-Ok-clause-files : goal.returns-in-Ok-clause-files
+returns-in-Ok-clause-files g c =
+    rw (c.conclude.ensures.floor) (c.run_task-ran.ensures.files ∙ c.in-Ok.ensures.files)
+
+pub returns-in-Err-clause-course : goal.returns-in-Err-clause-course
+returns-in-Err-clause-course g c =
+    rw (c.with_no_lane.ensures) (fault_course (options_of (map string_bytes c.args.words.now))
+    (g.F.Floor.told c.args.floor) (g.F.Floor.told c.read_task.new.floor) c.in-Err.fault
+    c.in-Err.ensures.course)
+
+pub returns-in-Err-clause-told : goal.returns-in-Err-clause-told
+returns-in-Err-clause-told g c =
+    rw (c.with_no_lane.ensures) (fault_told (options_of (map string_bytes c.args.words.now))
+    (g.F.Floor.told c.args.floor) (g.F.Floor.told c.read_task.new.floor) c.in-Err.fault
+    c.in-Err.ensures.course)
+
+pub returns-in-Err-clause-report : goal.returns-in-Err-clause-report
+returns-in-Err-clause-report g c =
+    rw (c.with_no_lane.ensures) (fault_puts (options_of (map string_bytes c.args.words.now))
+    (g.F.Floor.told c.args.floor) (g.F.Floor.told c.read_task.new.floor) c.in-Err.fault
+    (g.O.Sink.told c.args.out.now) c.in-Err.ensures.course)
 
 pub returns-in-Err-clause-sink : goal.returns-in-Err-clause-sink
 returns-in-Err-clause-sink g c =
-    rw (c.with_no_lane.ensures) (record {
-      later = omega arith;
-      rose = λ e. absurd (not_sink (options_of (map string_bytes c.args.words.now)) c.in-Err.fault (g.F.Floor.told c.args.floor) (g.F.Floor.told c.read_job.new.floor) c.in-Err.ensures.course e);
-    })
-
-pub returns-in-Ok-One-clause-floor : goal.returns-in-Ok-One-clause-floor
-returns-in-Ok-One-clause-floor g c =
-    let told = g.F.Floor.told in
-    floor_counted c.run_one.result.fault (told c.args.floor).faults (told c.read_job.new.floor).faults
-    c.run_one.result.floor.faults c.run_one.ensures.kind c.in-Ok-One.ensures.floor.later c.run_one.ensures.count
-
-pub returns-in-Ok-Nothing-clause-floor : goal.returns-in-Ok-Nothing-clause-floor
-returns-in-Ok-Nothing-clause-floor g c =
-    let told = g.F.Floor.told in
-    let w = c.with_no_lane-ended.ensures in
-    let f = c.with_fault.ensures in
-    let after = (told c.read_job.new.floor).faults in
-    let kind = put_after c.put_report-fault.result c.put_report-fault.ensures.ends in
-    rw (f, w)
-    (floor_counted c.put_report-fault.result (told c.args.floor).faults after after kind c.in-Ok-Nothing.ensures.floor.later (omega arith))
+    rw (c.with_no_lane.ensures) (fault_sink (options_of (map string_bytes c.args.words.now))
+    (g.F.Floor.told c.args.floor) (g.F.Floor.told c.read_task.new.floor) c.in-Err.fault
+    (g.O.Sink.told c.args.out.now).faults c.in-Err.ensures.course)

@@ -1,0 +1,28 @@
+use Rattle.std.proofs.Common.{refl, ◌∙◌, ap, append_assoc, List, [], ◌∷◌, ◌++◌}
+use Rattle.lane_crew.specs.declared.pair.OfTwo.{OfTwo}
+use Rattle.lane_crew.specs.declared.pair.OfTwo.TheVariants.{First, Second}
+use Rattle.berth_lanes.specs.declared.proxies.ProxySeat.{ProxySeat}
+use Rattle.berth_lanes.specs.declared.taps.TapSeat.{TapSeat}
+use Rattle.berth_lanes.proofs.Seating.{two_more}
+use Rattle.berth_lanes.proofs.lanes.push_seats.Goals as goal
+
+pub returns : goal.returns
+returns g c =
+    record {
+      proxy = record {
+        alloc = c.args.alloc;
+        berth = c.args.berth;
+        number = c.args.number;
+        post = c.args.post;
+        actions = c.args.actions;
+      };
+      heard = record {
+        alloc = c.args.alloc;
+        berth = c.args.number;
+        speech = c.args.post.now.speech;
+      };
+      is_proxy = (refl, refl, refl, refl);
+      is_tap = (refl, refl);
+      grown = two_more c.args.lanes.now.items c.push.new.self.items c.push-2.new.self.items _ _
+          c.in_ok-push.ensures.items c.in_ok-push-2.ensures.items;
+    }

@@ -1,0 +1,41 @@
+-- What the two lanes of each berth leave, by the one history.
+use Rattle.std.specs.Prelude.{◌≡◌, ℕ, ◌+◌, List, [], ◌∷◌, map, option_map}
+use Rattle.seat_desk.specs.History.{calls_by}
+use Rattle.exec_journal.specs.declared.call.Call.{Call}
+use Rattle.exec_journal.specs.declared.reply.Reply.{Reply}
+use Rattle.lane_crew.specs.declared.pair.OfTwo.{OfTwo}
+use Rattle.lane_crew.specs.declared.pair.OfTwo.TheVariants.{First, Second}
+use Rattle.outside.specs.Told.{BerthTold, FeedTold, TapTold, ChildTold}
+use Rattle.remote_messages.specs.declared.work.WorkAction.{WorkAction}
+use Rattle.run_rules.specs.Moves.{History}
+use Rattle.run_rules.specs.Duties.{proxy_lane}
+use Rattle.run_rules.specs.Laws.{tap_lane}
+use Rattle.lane_deeds.specs.declared.post.Post.{Post}
+use Rattle.lane_steps.specs.Lanes.{back_of}
+use Rattle.lane_steps.specs.Steps.{Ended}
+use Rattle.tap_lane.specs.Heard.{back_by}
+use Rattle.tap_lane.specs.Lane.{LaneEnds}
+use Rattle.berth_lanes.specs.declared.proxies.ProxyLeft.{ProxyLeft}
+use Rattle.berth_lanes.specs.declared.taps.TapLeft.{TapLeft}
+
+-- by what berths, feeds, taps and children tell, by the rule of a core
+module _ {B D T K : Type 0} (berth : B → BerthTold) (feed : D → FeedTold) (tap : T → TapTold)
+    (child : K → ChildTold) (rule : History → ℕ → Call → Reply) (actions : List WorkAction)
+    (h : History) where
+  -- all entries of the proxy lane of the berth w, and what it leaves, are those of a lane that
+  -- served this berth; and all entries of its tap lane are those of one that heard the taps
+  pub record BerthRan (w : ℕ) (post : Post) (before : B) (proxy : ProxyLeft B D K)
+      (heard : TapLeft T) : Type 0 where
+    pub served : Ended post actions rule (proxy_lane w) (calls_by (proxy_lane w) h) h
+        (berth before) (berth proxy.berth) (map (back_of feed child) proxy.feeds.items)
+        (option_map (back_of feed child) proxy.unsaid) proxy.halted
+    pub told : LaneEnds post.speech (tap_lane w) heard.halted
+        (map (back_by tap) heard.taps.items) (calls_by (tap_lane w) h)
+
+  -- so it is with these berths, from the number w on
+  abbrev pub EachBerthRan : ℕ → List B → List Post → List (OfTwo (ProxyLeft B D K) (TapLeft T))
+      → Type 0
+  EachBerthRan w [] [] ends = ends ≡ []
+  EachBerthRan w (b ∷ bs) (p ∷ ps) (First x ∷ Second y ∷ ends) =
+      BerthRan w p b x y × EachBerthRan (w + 1) bs ps ends
+  EachBerthRan w _ _ _ = ⊥

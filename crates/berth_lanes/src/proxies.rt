@@ -1,0 +1,94 @@
+//! The proxy lane of a berth.
+ghost use Rattle.std.specs.Prelude.{◌≡◌, ◌<◌, map};
+ghost use Rattle.std.specs.Option.{option_map};
+ghost use Rattle.seat_desk.specs.Passes.{IsPassOf, IsSamePass, rules};
+ghost use Rattle.lane_crew.specs.Lanes.{IsFresh};
+ghost use Rattle.run_plan.specs.Groups.{is_remote};
+ghost use Rattle.proxy_calls.specs.Calls.{IsProxyOf};
+ghost use Rattle.lane_steps.specs.Lanes.{back_of};
+ghost use Rattle.lane_steps.specs.Steps.{IsServedBy};
+ghost use Rattle.lane_steps.specs.Work.{IsWorkOf};
+
+use lane_bells::Bells;
+use lane_crew::Lane;
+use lane_deeds::{Cause, Post};
+use lane_steps::EndedFeed;
+use outside::{Berth, Place};
+use proxy_lane::LaneEnd;
+use remote_messages::WorkAction;
+use run_bench::Bench;
+use run_rules::Rules;
+use seat_desk::{Desk, Pass};
+use std::alloc::Global;
+use std::sync::Wait;
+use std::thread::Threads;
+
+/// What the proxy lane of a berth works with.
+#[derive(Drop)]
+pub struct ProxySeat<'a, B> {
+    pub alloc: Global,
+    pub berth: B,
+    /// The berth's number.
+    pub number: u32,
+    pub post: &'a Post,
+    /// The work of all actions, by their numbers.
+    pub actions: &'a [WorkAction],
+}
+
+/// What it leaves, beside its pass.
+#[derive(Drop)]
+pub struct ProxyLeft<B, D, K> {
+    pub berth: B,
+    /// The feeds of the lines that were started, in order, with their children, which were killed.
+    pub feeds: Vec<EndedFeed<D, K>>,
+    /// A line that was started, and there was no memory to report it.
+    pub unsaid: Option<EndedFeed<D, K>>,
+    /// Why it has halted, if it wasn't told to stop.
+    pub halted: Option<Cause>,
+}
+
+impl<'a, B: Berth, P: Place, C: Rules> Lane<Desk<Bench<B, P, C>>, Pass<Bench<B, P, C>>>
+    for ProxySeat<'a, B> {
+    type End = ProxyLeft<B, B::Feed, B::Child>;
+
+    ghost may_run = { λ self desk bells pass. IsPassOf desk pass × IsFresh pass
+        × IsProxyOf C.seats self.number pass × ((pass.lane < bells) × (self.number < 64))
+        × (C.remote (rules pass) self.number ≡ is_remote self.post.now.kind)
+        × IsWorkOf (C.actions (rules pass)) (C.outputs (rules pass)) (C.makers (rules pass))
+        self.actions.now };
+
+    ghost has_run = { λ self pass left after. IsSamePass pass after
+        × IsServedBy self.post.now self.actions.now C.rule (B.told self.berth) (B.told left.berth)
+        (map (back_of B.Feed.told B.Child.told) left.feeds.items)
+        (option_map (back_of B.Feed.told B.Child.told) left.unsaid) left.halted after };
+
+    fn run<R: Threads + Wait + Sync>(
+        self,
+        rt: &R,
+        desk: &Desk<Bench<B, P, C>>,
+        bells: &Bells,
+        pass: Pass<Bench<B, P, C>>,
+    ) -> (ProxyLeft<B, B::Feed, B::Child>, Pass<Bench<B, P, C>>) {
+        let ProxySeat {
+            alloc,
+            berth,
+            number,
+            post,
+            actions,
+        } = self;
+        let LaneEnd {
+            pass,
+            berth,
+            feeds,
+            unsaid,
+            halted,
+        } = proxy_lane::run(rt, alloc, desk, bells, pass, berth, number, post, actions);
+        let left = ProxyLeft {
+            berth,
+            feeds,
+            unsaid,
+            halted,
+        };
+        (left, pass)
+    }
+}

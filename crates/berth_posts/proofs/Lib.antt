@@ -1,0 +1,3 @@
+pub mod Posted
+mod Rows
+pub mod Spoken

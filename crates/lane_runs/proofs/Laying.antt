@@ -1,0 +1,85 @@
+-- The history and its journal, and slots in each of which something lies.
+use Rattle.std.proofs.Common.{◌≡◌, ℕ, suc, Bool, true, false, cond, List, [], ◌∷◌, ◌++◌, length, map, filter, take, get_or, ◌+◌, ◌<◌, count_by, is_some, Option, Some, None, refl, sym, ap, subst, ◌∙◌}
+use Rattle.std.specs.Prelude.{◌||◌}
+use Rattle.std.specs.List.{list_any}
+use Rattle.std.proofs.lemmas.List.Sums.{length-filter, count_by_more_yes, count_by_more_no}
+use Rattle.exec_journal.specs.declared.journal.Entry.{Entry}
+use Rattle.exec_journal.specs.Entries.{is_halt, launch_in}
+use Rattle.run_rules.specs.Moves.{Past, History}
+use Rattle.run_rules.specs.Laws.{lines_in}
+use Rattle.script_duties.specs.Owed.{to_entry}
+use Rattle.lane_runs.specs.Layout.{AllThere, has_halt, orders_line, tells_halt}
+
+one_more : {X Y : Type 0} (b : Bool) (x : X) (xs : List X) (y : Y) (ys : List Y)
+    → length xs ≡ length ys → length (cond b (x ∷ xs) xs) ≡ length (cond b (y ∷ ys) ys)
+one_more true x xs y ys e = ap suc e
+one_more false x xs y ys e = e
+
+as_many : (h : History)
+    → length (filter (λ (e : Entry). is_some (launch_in e.reply)) (map to_entry h)) ≡ lines_in h
+as_many [] = refl
+as_many (e ∷ h) =
+    one_more (is_some (launch_in e.reply)) (to_entry e)
+    (filter (λ (x : Entry). is_some (launch_in x.reply)) (map to_entry h)) e
+    (filter (λ (x : Past). is_some (launch_in x.reply)) h) (as_many h)
+
+pub lines_counted : (h : History) (j : List Entry) (n : ℕ) → j ≡ map to_entry h
+    → n ≡ count_by orders_line j → n ≡ lines_in h
+lines_counted h j n e f =
+    f ∙ (sym (length-filter (λ (x : Entry). is_some (launch_in x.reply)) j)
+    ∙ (ap (λ (l : List Entry). length (filter (λ (x : Entry). is_some (launch_in x.reply)) l)) e
+    ∙ as_many h))
+
+any_halt : (h : History) → list_any (λ (e : Entry). is_halt e.call) (map to_entry h) ≡ has_halt h
+any_halt [] = refl
+any_halt (e ∷ h) = ap (λ (b : Bool). is_halt e.call || b) (any_halt h)
+
+pub halts_told : (h : History) (j : List Entry) (b : Bool) → j ≡ map to_entry h
+    → b ≡ list_any tells_halt j → b ≡ has_halt h
+halts_told h j b e f =
+    f ∙ (ap (λ (l : List Entry). list_any (λ (x : Entry). is_halt x.call) l) e ∙ any_halt h)
+
+-- ---- slots
+
+module _ {P : Type 0} where
+  pub none_is_there : (slots rest : List (Option P)) (o : Option P) → slots ≡ o ∷ rest
+      → o ≡ None → AllThere slots → ⊥
+  none_is_there slots rest o e f all =
+      subst (λ (x : Option P). AllThere (x ∷ rest)) f
+      (subst (λ (l : List (Option P)). AllThere l) e all)
+
+  there_behind : (o : Option P) (rest : List (Option P)) → AllThere (o ∷ rest) → AllThere rest
+  there_behind (Some p) rest all = all
+  there_behind None rest all = absurd all
+
+  pub rest_is_there : (slots rest : List (Option P)) (o : Option P) → slots ≡ o ∷ rest
+      → AllThere slots → AllThere rest
+  rest_is_there slots rest o e all =
+      there_behind o rest (subst (λ (l : List (Option P)). AllThere l) e all)
+
+  split : (xs : List P) (x : P) (ys : List (Option P))
+      → map Some (xs ++ x ∷ []) ++ ys ≡ map Some xs ++ Some x ∷ ys
+  split [] x ys = refl
+  split (z ∷ xs) x ys = ap (λ (l : List (Option P)). Some z ∷ l) (split xs x ys)
+
+  pub one_there : (all slots rest : List (Option P)) (places places' : List P) (o : Option P) (p : P)
+      → map Some places ++ slots ≡ all → slots ≡ o ∷ rest → o ≡ Some p → places' ≡ places ++ p ∷ []
+      → map Some places' ++ rest ≡ all
+  one_there all slots rest places places' o p so e f g =
+      ap (λ (l : List P). map Some l ++ rest) g
+      ∙ (split places p rest
+      ∙ (ap (λ (l : List (Option P)). map Some places ++ l)
+      (sym (e ∙ ap (λ (x : Option P). x ∷ rest) f)) ∙ so))
+
+-- ---- entries counted one by one
+
+pub count_more : (xs : List Entry) (i : ℕ) (d : Entry) (n : ℕ) → i < length xs
+    → n ≡ count_by orders_line (take i xs) → orders_line (get_or xs i d) ≡ true
+    → n + 1 ≡ count_by orders_line (take (i + 1) xs)
+count_more xs i d n lt e so =
+    ap (λ (k : ℕ). k + 1) e ∙ sym (count_by_more_yes orders_line xs i d lt so)
+
+pub count_same : (xs : List Entry) (i : ℕ) (d : Entry) (n : ℕ) → i < length xs
+    → n ≡ count_by orders_line (take i xs) → orders_line (get_or xs i d) ≡ false
+    → n ≡ count_by orders_line (take (i + 1) xs)
+count_same xs i d n lt e so = e ∙ sym (count_by_more_no orders_line xs i d lt so)

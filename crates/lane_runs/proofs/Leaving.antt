@@ -1,0 +1,206 @@
+-- What the lanes of each berth leave, berth by berth.
+use Rattle.std.proofs.Common.{◌≡◌, ℕ, suc, ◌+◌, ◌<◌, List, [], ◌∷◌, ◌++◌, length, map, Option, Some, None, refl, sym, ap, subst, ◌∙◌, arith, All}
+use Rattle.std.specs.Prelude.{option_map, option_to_list, get_or}
+use Rattle.std.proofs.lemmas.List.Elements.{All-nil, All-cons}
+use Rattle.seat_desk.specs.History.{calls_by}
+use Rattle.exec_journal.specs.declared.call.Call.{Call}
+use Rattle.exec_journal.specs.declared.reply.Reply.{Reply}
+use Rattle.lane_crew.specs.declared.pair.OfTwo.{OfTwo}
+use Rattle.lane_crew.specs.declared.pair.OfTwo.TheVariants.{First, Second}
+use Rattle.outside.specs.Told.{BerthTold, FeedTold, TapTold, ChildTold}
+use Rattle.remote_messages.specs.declared.work.WorkAction.{WorkAction}
+use Rattle.line_order.specs.Berths.{concat}
+use Rattle.run_rules.specs.Moves.{History}
+use Rattle.run_rules.specs.Duties.{proxy_lane}
+use Rattle.run_rules.specs.Laws.{tap_lane}
+use Rattle.run_rules.specs.Shelf.{tap_at}
+use Rattle.run_bench.specs.Bench.{IsOf, IsTapOf}
+use Rattle.lane_deeds.specs.declared.post.Post.{Post}
+use Rattle.lane_deeds.specs.declared.cause.Cause.{Cause}
+use Rattle.lane_deeds.specs.Lines.{Back, lines_of, listed}
+use Rattle.lane_steps.specs.declared.hands.EndedFeed.{EndedFeed}
+use Rattle.lane_steps.specs.Lanes.{back_of}
+use Rattle.lane_steps.specs.Steps.{Ended}
+use Rattle.tap_lane.specs.declared.ends.EndedTap.{EndedTap}
+use Rattle.tap_lane.specs.declared.ends.Want.{Want}
+use Rattle.tap_lane.specs.Heard.{back_by}
+use Rattle.tap_lane.specs.Lane.{LaneEnds}
+use Rattle.berth_lanes.specs.declared.proxies.ProxyLeft.{ProxyLeft}
+use Rattle.berth_lanes.specs.declared.taps.TapLeft.{TapLeft}
+use Rattle.berth_lanes.specs.Ran.{BerthRan, EachBerthRan}
+use Rattle.ended_lines.specs.declared.halves.BerthLines.{BerthLines}
+use Rattle.ended_lines.specs.Berths.{IsMatched, feed_lines, all_feed_lines}
+use Rattle.ending_laws.specs.Taps.{started_at, taken_in}
+use Rattle.ending_laws.specs.Lines.{started_from}
+use Rattle.ending_laws.specs.Lanes.{TakenAreTapped}
+use Rattle.lane_runs.specs.Apart.{Alternate, Apart, lines_left}
+
+-- a berth by what it goes by, the berth before and after, and what is left of its lines
+pub record Seen (B D T K : Type 0) : Type 0 where
+  pub post : Post
+  pub old : B
+  pub new : B
+  pub left : BerthLines D T K
+
+module _ {B D T K : Type 0} (berth : B → BerthTold) (feed : D → FeedTold) (tap : T → TapTold)
+    (child : K → ChildTold) (rule : History → ℕ → Call → Reply) (actions : List WorkAction)
+    (h : History) where
+  pub record BerthLeft (w : ℕ) (s : Seen B D T K) : Type 0 where
+    pub unsaid : Option Back
+    pub halted : Option Cause
+    pub want : Option Want
+    pub served : Ended s.post actions rule (proxy_lane w) (calls_by (proxy_lane w) h) h
+        (berth s.old) (berth s.new) (map (back_of feed child) s.left.feeds.items) unsaid halted
+    pub told : LaneEnds s.post.speech (tap_lane w) want (map (back_by tap) s.left.taps.items)
+        (calls_by (tap_lane w) h)
+    pub slot : IsOf (IsTapOf tap) (tap_at w h) s.left.shelved
+
+  abbrev pub EachLeft : ℕ → List (Seen B D T K) → Type 0
+  EachLeft w [] = Unit {0}
+  EachLeft w (s ∷ ss) = BerthLeft w s × EachLeft (w + 1) ss
+
+  -- the slots of the shelf from the berth w on
+  abbrev pub SlotsFrom : ℕ → List (Option T) → Type 0
+  SlotsFrom w [] = Unit {0}
+  SlotsFrom w (s ∷ ss) = IsOf (IsTapOf tap) (tap_at w h) s × SlotsFrom (w + 1) ss
+
+  pub slots_from : (w : ℕ) (slots : List (Option T))
+      → ((i : ℕ) → i < length slots → IsOf (IsTapOf tap) (tap_at (w + i) h) (get_or slots i None))
+      → SlotsFrom w slots
+  slots_from w [] each = tt
+  slots_from w (s ∷ ss) each = (
+    subst (λ (v : ℕ). IsOf (IsTapOf tap) (tap_at v h) s) (let e : w + 0 ≡ w = omega arith in e) (each 0 (omega arith)),
+    slots_from (w + 1) ss (λ i lt.
+        subst (λ (v : ℕ). IsOf (IsTapOf tap) (tap_at v h) (get_or ss i None))
+        (let e : w + suc i ≡ w + 1 + i = omega arith in e) (each (suc i) (omega (arith, lt)))),
+  )
+
+  -- the berths that were seen, by these lists
+  pub record Gathered (w : ℕ) (posts : List Post) (olds news : List B)
+      (lines : List (BerthLines D T K)) : Type 0 where
+    pub seen : List (Seen B D T K)
+    pub each : EachLeft w seen
+    pub posts_are : posts ≡ map (λ (s : Seen B D T K). s.post) seen
+    pub olds_are : olds ≡ map (λ (s : Seen B D T K). s.old) seen
+    pub news_are : news ≡ map (λ (s : Seen B D T K). s.new) seen
+    pub lines_are : lines ≡ map (λ (s : Seen B D T K). s.left) seen
+
+  one_left : (w : ℕ) (b n : B) (p : Post) (x : ProxyLeft B D K) (y : TapLeft T) (s : Option T)
+      (l : BerthLines D T K) → BerthRan berth feed tap child rule actions h w p b x y
+      → IsOf (IsTapOf tap) (tap_at w h) s → n ≡ x.berth → l ≡ lines_left x y s
+      → BerthLeft w (record { post = p; old = b; new = n; left = l })
+  one_left w b n p x y s l ran slot e f =
+      subst (λ (m : B). BerthLeft w (record { post = p; old = b; new = m; left = l })) (sym e)
+      (subst (λ (k : BerthLines D T K). BerthLeft w (record { post = p; old = b; new = x.berth; left = k }))
+      (sym f) (record {
+        unsaid = option_map (back_of feed child) x.unsaid;
+        halted = x.halted;
+        want = y.halted;
+        served = ran.served;
+        told = ran.told;
+        slot = slot;
+      }))
+
+  pub gather : (w : ℕ) (olds : List B) (posts : List Post)
+      (ends : List (OfTwo (ProxyLeft B D K) (TapLeft T))) (slots : List (Option T)) (news : List B)
+      (lines : List (BerthLines D T K)) → EachBerthRan berth feed tap child rule actions h w olds posts ends
+      → SlotsFrom w slots → length slots ≡ length posts → Apart ends slots news lines
+      → Gathered w posts olds news lines
+  gather w [] [] ends [] news lines ran sl eq apart = record {
+    seen = [];
+    each = tt;
+    posts_are = refl;
+    olds_are = refl;
+    news_are = apart.0;
+    lines_are = apart.1;
+  }
+  gather w [] [] ends (s ∷ slots) news lines ran sl eq apart = absurd (omega (arith, eq))
+  gather w (b ∷ bs) (p ∷ ps) (First x ∷ Second y ∷ ends) (s ∷ slots) (n ∷ news) (l ∷ lines) ran sl eq apart =
+      let rest = gather (w + 1) bs ps ends slots news lines ran.1 sl.1 (omega (arith, eq)) apart.2 in
+      record {
+        seen = record { post = p; old = b; new = n; left = l } ∷ rest.seen;
+        each = (one_left w b n p x y s l ran.0 sl.0 apart.0 apart.1, rest.each);
+        posts_are = ap (λ (z : List Post). p ∷ z) rest.posts_are;
+        olds_are = ap (λ (z : List B). b ∷ z) rest.olds_are;
+        news_are = ap (λ (z : List B). n ∷ z) rest.news_are;
+        lines_are = ap (λ (z : List (BerthLines D T K)). l ∷ z) rest.lines_are;
+      }
+  gather w (b ∷ bs) (p ∷ ps) (First x ∷ Second y ∷ ends) [] news lines ran sl eq apart = absurd (omega (arith, eq))
+  gather w (b ∷ bs) (p ∷ ps) (First x ∷ Second y ∷ ends) (s ∷ slots) [] lines ran sl eq apart = absurd apart
+  gather w (b ∷ bs) (p ∷ ps) (First x ∷ Second y ∷ ends) (s ∷ slots) (n ∷ news) [] ran sl eq apart = absurd apart
+  gather w (b ∷ bs) (p ∷ ps) [] slots news lines ran sl eq apart = absurd ran
+  gather w (b ∷ bs) (p ∷ ps) (First x ∷ []) slots news lines ran sl eq apart = absurd ran
+  gather w (b ∷ bs) (p ∷ ps) (First x ∷ First y ∷ ends) slots news lines ran sl eq apart = absurd ran
+  gather w (b ∷ bs) (p ∷ ps) (Second x ∷ ends) slots news lines ran sl eq apart = absurd ran
+  gather w [] (p ∷ ps) ends slots news lines ran sl eq apart = absurd ran
+  gather w (b ∷ bs) [] ends slots news lines ran sl eq apart = absurd ran
+
+  pub alternate : (w : ℕ) (olds : List B) (posts : List Post)
+      (ends : List (OfTwo (ProxyLeft B D K) (TapLeft T))) (slots : List (Option T))
+      → EachBerthRan berth feed tap child rule actions h w olds posts ends
+      → length slots ≡ length posts → Alternate ends slots
+  alternate w [] [] ends [] ran eq = ran
+  alternate w [] [] ends (s ∷ slots) ran eq = absurd (omega (arith, eq))
+  alternate w (b ∷ bs) (p ∷ ps) (First x ∷ Second y ∷ ends) (s ∷ slots) ran eq =
+      alternate (w + 1) bs ps ends slots ran.1 (omega (arith, eq))
+  alternate w (b ∷ bs) (p ∷ ps) (First x ∷ Second y ∷ ends) [] ran eq = absurd (omega (arith, eq))
+  alternate w (b ∷ bs) (p ∷ ps) [] slots ran eq = absurd ran
+  alternate w (b ∷ bs) (p ∷ ps) (First x ∷ []) slots ran eq = absurd ran
+  alternate w (b ∷ bs) (p ∷ ps) (First x ∷ First y ∷ ends) slots ran eq = absurd ran
+  alternate w (b ∷ bs) (p ∷ ps) (Second x ∷ ends) slots ran eq = absurd ran
+  alternate w [] (p ∷ ps) ends slots ran eq = absurd ran
+  alternate w (b ∷ bs) [] ends slots ran eq = absurd ran
+
+  -- ---- the lines of a berth
+
+  feeds_of_backs : (feeds : List (EndedFeed D K))
+      → lines_of (map (back_of feed child) feeds) ≡ map (λ x. x.line) feeds
+  feeds_of_backs [] = refl
+  feeds_of_backs (x ∷ xs) = ap (λ (ls : List ℕ). x.line ∷ ls) (feeds_of_backs xs)
+
+  pub taps_of_backs : (taps : List (EndedTap T))
+      → map (λ (t : ℕ × TapTold). t.0) (map (back_by tap) taps) ≡ map (λ x. x.line) taps
+  taps_of_backs [] = refl
+  taps_of_backs (x ∷ xs) = ap (λ (ls : List ℕ). x.line ∷ ls) (taps_of_backs xs)
+
+  pub feeds_are_started : (w : ℕ) (s : Seen B D T K) → BerthLeft w s
+      → feed_lines s.left ≡ started_at w h
+  feeds_are_started w s x = sym (feeds_of_backs s.left.feeds.items) ∙ x.served.lines.lines
+
+  pub as_many_slots : (o : Option ℕ) (s : Option T) → IsOf (IsTapOf tap) o s
+      → length (listed o) ≡ length (option_to_list s)
+  as_many_slots None None is = refl
+  as_many_slots None (Some t) is = absurd (cc)
+  as_many_slots (Some l) None is = absurd is
+  as_many_slots (Some l) (Some t) is = refl
+
+  unfoldable pub matched : (w : ℕ) (s : Seen B D T K) → BerthLeft w s
+      → (started_at w h ≡ taken_in (calls_by (tap_lane w) h) ++ listed (tap_at w h))
+      → TakenAreTapped → IsMatched s.left
+  matched w s x tapped taken = record {
+    more = listed (tap_at w h);
+    lines = feeds_are_started w s x
+        ∙ (tapped
+        ∙ ap (λ (ls : List ℕ). ls ++ listed (tap_at w h))
+        (taken s.post.speech (tap_lane w) x.want (map (back_by tap) s.left.taps.items)
+        (calls_by (tap_lane w) h) x.told ∙ taps_of_backs s.left.taps.items));
+    as_many = as_many_slots (tap_at w h) s.left.shelved x.slot;
+  }
+
+  pub all_matched : (w : ℕ) (seen : List (Seen B D T K)) → EachLeft w seen
+      → ((v : ℕ) → started_at v h ≡ taken_in (calls_by (tap_lane v) h) ++ listed (tap_at v h))
+      → TakenAreTapped → All IsMatched (map (λ (s : Seen B D T K). s.left) seen)
+  all_matched w [] each tapped taken = All-nil IsMatched
+  all_matched w (s ∷ ss) each tapped taken =
+      All-cons IsMatched s.left (map (λ (x : Seen B D T K). x.left) ss)
+      (matched w s each.0 (tapped w) taken) (all_matched (w + 1) ss each.1 tapped taken)
+
+  pub all_started : (w : ℕ) (seen : List (Seen B D T K)) → EachLeft w seen
+      → all_feed_lines (map (λ (s : Seen B D T K). s.left) seen)
+      ≡ concat (started_from h w (length seen))
+  unfolding started_from
+  all_started w [] each = refl
+  all_started w (s ∷ ss) each =
+      ap (λ (ls : List ℕ). ls ++ all_feed_lines (map (λ (x : Seen B D T K). x.left) ss))
+      (feeds_are_started w s each.0)
+      ∙ ap (λ (ls : List ℕ). started_at w h ++ ls) (all_started (w + 1) ss each.1)

@@ -1,0 +1,6 @@
+mod Parting
+mod Laying
+mod Leaving
+mod Telling
+mod Whole
+mod Crewed

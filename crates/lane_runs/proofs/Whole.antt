@@ -1,0 +1,276 @@
+-- From what the lanes leave to the whole run.
+use Rattle.std.proofs.Common.{◌≡◌, ℕ, zero, suc, ◌+◌, ◌<◌, List, [], ◌∷◌, ◌++◌, length, map, Option, Some, None, refl, sym, ap, subst, ◌∙◌, arith, All}
+use Rattle.std.specs.Prelude.{option_map, get_or, slice_get, slice_index_or}
+use Rattle.std.proofs.lemmas.List.{length-map}
+use Rattle.std.proofs.lemmas.Option.{slice_get-map}
+use Rattle.seat_desk.specs.History.{calls_by}
+use Rattle.exec_journal.specs.declared.call.Call.{Call}
+use Rattle.exec_journal.specs.declared.reply.Reply.{Reply}
+use Rattle.outside.specs.Told.{BerthTold, FeedTold, TapTold, ChildTold, PlaceTold, LineTold}
+use Rattle.remote_messages.specs.declared.work.WorkAction.{WorkAction}
+use Rattle.lane_crew.specs.declared.pair.OfTwo.{OfTwo}
+use Rattle.lane_crew.specs.declared.pair.OfTwo.TheVariants.{First, Second}
+use Rattle.ending_laws.specs.Lanes.{EndedHaveLeft}
+use Rattle.line_order.specs.declared.places.Numbered.{Numbered}
+use Rattle.line_order.specs.Places.{In, Distinct}
+use Rattle.line_order.specs.Berths.{concat}
+use Rattle.run_rules.specs.Moves.{History}
+use Rattle.run_rules.specs.Shelf.{Spot, Fresh, Away, Back, tap_at, place_at}
+use Rattle.run_rules.specs.Duties.{proxy_lane}
+use Rattle.run_rules.specs.Laws.{tap_lane, lines_in}
+use Rattle.run_bench.specs.Bench.{IsOf, IsTapOf, IsInSpot, IsPlaceOf, TapsLie, PlacesLie}
+use Rattle.run_bench.specs.Objects.{IsPlaceAt}
+use Rattle.lane_deeds.specs.declared.post.Post.{Post}
+use Rattle.berth_lanes.specs.declared.proxies.ProxyLeft.{ProxyLeft}
+use Rattle.berth_lanes.specs.declared.taps.TapLeft.{TapLeft}
+use Rattle.berth_lanes.specs.Ran.{EachBerthRan}
+use Rattle.ended_lines.specs.declared.halves.BerthLines.{BerthLines}
+use Rattle.ended_lines.specs.declared.halves.EndedLine.{EndedLine}
+use Rattle.ended_lines.specs.declared.halves.Halves.{Halves}
+use Rattle.ended_lines.specs.Berths.{IsMatched, all_halves, all_feed_lines}
+use Rattle.ended_lines.specs.Lines as ended
+use Rattle.ended_lines.proofs.Facts.{facts_at}
+use Rattle.ending_laws.specs.Lines.{started_from}
+use Rattle.ending_laws.specs.Places.{HasLeft}
+use Rattle.ending_laws.specs.Taps.{started_at, taken_in}
+use Rattle.lane_deeds.specs.Lines.{listed}
+use Rattle.tap_laws.specs.Pipes.{PipeOf, Each, said_on, end_on}
+use Rattle.tap_lane.specs.declared.ends.Want.{Want}
+use Rattle.tap_lane.specs.Lane.{LaneEnds}
+use Rattle.run_plan.specs.declared.plan.Speech.{Speech}
+use Rattle.lane_runs.specs.declared.layout.Laid.{Laid}
+use Rattle.lane_runs.specs.Apart.{Alternate, Apart}
+use Rattle.lane_runs.specs.Laws.{HistoryLaws}
+use Rattle.lane_runs.specs.Layout.{AllThere, MayLay, IsLaid}
+use Rattle.lane_runs.specs.Runs.{EndTold, end_of, line_at, laid_told, Pipe, Outs, Rooms, AreStopped, HasRun}
+use Rattle.lane_runs.proofs.Leaving.{Seen, Gathered, SlotsFrom, slots_from, gather, alternate, all_matched, all_started}
+use Rattle.lane_runs.proofs.Telling as telling
+
+-- ---- places
+
+module _ {P : Type 0} (place : P → PlaceTold) (outputs : ℕ → List (List ℕ)) (h : History) where
+  -- an empty slot is that of a place that is away
+  none_is_away : (a : ℕ) (s : Spot) (o : Option P) → o ≡ None
+      → IsInSpot (IsPlaceOf place outputs a) s o → (fs : List (List ℕ)) × (s ≡ Away fs)
+  none_is_away a (Away fs) o e is = (fs, refl)
+  none_is_away a Fresh None e is = absurd is
+  none_is_away a Fresh (Some p) e is = absurd (cc)
+  none_is_away a (Back fs how) None e is = absurd is
+  none_is_away a (Back fs how) (Some p) e is = absurd (cc)
+
+  some_tells : (a : ℕ) (s : Spot) (p : P) → IsInSpot (IsPlaceOf place outputs a) s (Some p)
+      → IsPlaceAt a (outputs a) s (place p)
+  some_tells a (Away fs) p is = absurd (cc)
+  some_tells a Fresh p is = is
+  some_tells a (Back fs how) p is = is
+
+  all_there : (slots : List (Option P))
+      → ((i : ℕ) → i < length slots → get_or slots i None ≡ None → ⊥) → AllThere slots
+  all_there [] f = tt
+  all_there (Some p ∷ slots) f =
+      all_there slots (λ i lt e. f (suc i) (omega (arith, lt)) e)
+  all_there (None ∷ slots) f = absurd (f 0 (omega arith) refl)
+
+  pub places_there : (actions : ℕ) (slots : List (Option P))
+      → PlacesLie place outputs actions h slots
+      → ((a : ℕ) (fs : List (List ℕ)) → place_at a h ≡ Away fs → ⊥) → AllThere slots
+  places_there actions slots lie back = all_there slots (λ i lt e.
+      let x = none_is_away i (place_at i h) (get_or slots i None) e
+      (lie.each i (let many = lie.as_many in omega (arith, many, lt))) in
+      back i x.0 x.1)
+
+  got : (xs : List P) (i : ℕ) (x : P) → slice_get xs i ≡ Some x → get_or (map Some xs) i None ≡ Some x
+  got [] i x e = absurd (cc)
+  got (y ∷ ys) zero x e = e
+  got (y ∷ ys) (suc i) x e = got ys i x e
+
+  below : (xs : List P) (i : ℕ) (x : P) → slice_get xs i ≡ Some x → i < length xs
+  below [] i x e = absurd (cc)
+  below (y ∷ ys) zero x e = omega arith
+  below (y ∷ ys) (suc i) x e = let lt = below ys i x e in omega (arith, lt)
+
+  from_some : (o : Option P) (p : PlaceTold) → option_map place o ≡ Some p
+      → (x : P) × (o ≡ Some x) × (place x ≡ p)
+  from_some None p e = absurd (cc)
+  from_some (Some x) p e = (x, refl, let q : place x ≡ p = cc in q)
+
+  pub outs : (actions : ℕ) (slots : List (Option P)) (places : List P)
+      → PlacesLie place outputs actions h slots → slots ≡ map Some places
+      → Outs outputs actions h (map place places)
+  outs actions slots places lie are = record {
+    as_many = length-map places place ∙ (sym (length-map places Some) ∙ (sym (ap length are) ∙ lie.as_many));
+    each = λ a p e.
+        let x = from_some (slice_get places a) p (sym (slice_get-map place places a) ∙ e) in
+        let lt = below places a x.0 x.1 in
+        let many = lie.as_many in
+        let same : length slots ≡ length places = ap length are ∙ length-map places Some in
+        subst (λ (t : PlaceTold). IsPlaceAt a (outputs a) (place_at a h) t) x.2
+        (some_tells a (place_at a h) x.0
+        (subst (λ (o : Option P). IsInSpot (IsPlaceOf place outputs a) (place_at a h) o)
+        (ap (λ (l : List (Option P)). get_or l a None) are ∙ got places a x.0 x.1)
+        (lie.each a (omega (arith, lt, many, same)))));
+  }
+
+-- ---- lines
+
+module _ {D T K : Type 0} (feed : D → FeedTold) (tap : T → TapTold) (child : K → ChildTold) where
+  numbers_told : (lines : List (EndedLine D T K))
+      → map (λ (e : EndTold). e.number) (map (end_of feed tap child) lines)
+      ≡ map (λ (x : EndedLine D T K). x.number) lines
+  numbers_told [] = refl
+  numbers_told (x ∷ xs) = ap (λ (l : List ℕ). x.number ∷ l) (numbers_told xs)
+
+  some_halves : (o : Option (Halves D T K)) (t : LineTold)
+      → option_map (telling.tell feed tap child) o ≡ Some t
+      → (x : Halves D T K) × (o ≡ Some x) × (telling.tell feed tap child x ≡ t)
+  some_halves None t e = absurd (cc)
+  some_halves (Some x) t e = (x, refl, let q : telling.tell feed tap child x ≡ t = cc in q)
+
+-- ---- proxy lanes have left
+
+module _ {B D T K : Type 0} (berth : B → BerthTold) (feed : D → FeedTold) (tap : T → TapTold)
+    (child : K → ChildTold) (rule : History → ℕ → Call → Reply) (actions : List WorkAction)
+    (h : History) where
+  ran_left : (left : EndedHaveLeft) (w : ℕ) (olds : List B) (posts : List Post)
+      (ends : List (OfTwo (ProxyLeft B D K) (TapLeft T)))
+      → EachBerthRan berth feed tap child rule actions h w olds posts ends → (i : ℕ)
+      → i < length posts → HasLeft (calls_by (proxy_lane (w + i)) h)
+  ran_left left w [] [] ends ran i lt = absurd (omega (arith, lt))
+  ran_left left w (b ∷ bs) (p ∷ ps) (First x ∷ Second y ∷ ends) ran zero lt =
+      subst (λ (v : ℕ). HasLeft (calls_by (proxy_lane v) h)) (let e : w ≡ w + 0 = omega arith in e)
+      ((left p actions (proxy_lane w) (calls_by (proxy_lane w) h) ran.0.served.deeds).0
+      x.halted ran.0.served.ends)
+  ran_left left w (b ∷ bs) (p ∷ ps) (First x ∷ Second y ∷ ends) ran (suc i) lt =
+      subst (λ (v : ℕ). HasLeft (calls_by (proxy_lane v) h)) (let e : w + 1 + i ≡ w + suc i = omega arith in e)
+      (ran_left left (w + 1) bs ps ends ran.1 i (omega (arith, lt)))
+  ran_left left w (b ∷ bs) (p ∷ ps) [] ran i lt = absurd ran
+  ran_left left w (b ∷ bs) (p ∷ ps) (First x ∷ []) ran i lt = absurd ran
+  ran_left left w (b ∷ bs) (p ∷ ps) (First x ∷ First y ∷ ends) ran i lt = absurd ran
+  ran_left left w (b ∷ bs) (p ∷ ps) (Second x ∷ ends) ran i lt = absurd ran
+  ran_left left w [] (p ∷ ps) ends ran i lt = absurd ran
+  ran_left left w (b ∷ bs) [] ends ran i lt = absurd ran
+
+module _ {Q B D T K P : Type 0} (legal : Q → History → Type 0) (seats : Q → ℕ)
+    (rule : Q → History → ℕ → Call → Reply) (outputs : Q → ℕ → List (List ℕ)) (actions : Q → ℕ)
+    (berth : B → BerthTold) (feed : D → FeedTold) (tap : T → TapTold) (child : K → ChildTold)
+    (place : P → PlaceTold) (laws : HistoryLaws legal seats) (q : Q) (h : History)
+    (good : legal q h) (posts : List Post) (work : List WorkAction) (olds : List B)
+    (ends : List (OfTwo (ProxyLeft B D K) (TapLeft T))) (slots : List (Option T))
+    (many : length posts ≡ seats q)
+    (ran : EachBerthRan berth feed tap child (rule q) work h 0 olds posts ends)
+    (lie : TapsLie tap (seats q) h slots) where
+  in_slots : SlotsFrom berth feed tap child (rule q) work h 0 slots
+  in_slots = slots_from berth feed tap child (rule q) work h 0 slots (λ i lt.
+      subst (λ (v : ℕ). IsOf (IsTapOf tap) (tap_at v h) (get_or slots i None)) (let e : i ≡ 0 + i = omega arith in e)
+      (lie.each i (let all = lie.as_many in omega (arith, all, lt))))
+
+  as_many : length slots ≡ length posts
+  as_many = lie.as_many ∙ sym many
+
+  pub in_turn : Alternate ends slots
+  in_turn = alternate berth feed tap child (rule q) work h 0 olds posts ends slots ran as_many
+
+  gathered : (news : List B) (lines : List (BerthLines D T K)) → Apart ends slots news lines
+      → Gathered berth feed tap child (rule q) work h 0 posts olds news lines
+  gathered news lines apart =
+      gather berth feed tap child (rule q) work h 0 olds posts ends slots news lines ran in_slots
+      as_many apart
+
+  as_many_seen : (news : List B) (lines : List (BerthLines D T K))
+      (g : Gathered berth feed tap child (rule q) work h 0 posts olds news lines)
+      → length g.seen ≡ seats q
+  as_many_seen news lines g =
+      sym (length-map g.seen (λ (s : Seen B D T K). s.post)) ∙ (sym (ap length g.posts_are) ∙ many)
+
+  tapped : (v : ℕ) → started_at v h ≡ taken_in (calls_by (tap_lane v) h) ++ listed (tap_at v h)
+  tapped v = laws.tapped q h v good
+
+  said : (taps : List (ℕ × TapTold)) (want : Option Want) (sp : Speech) (lane : ℕ)
+      → LaneEnds sp lane want taps (calls_by lane h) → Each (PipeOf sp h) taps
+  said taps want sp lane end = (laws.says q h sp lane want taps good end).1
+
+  silent : (v l : ℕ) → tap_at v h ≡ Some l → (said_on l h ≡ []) × (end_on l h ≡ None)
+  silent v l at = laws.silent q h l good (laws.untaken q h v l good at)
+
+  pub may_lay : MayLay (lines_in h) ends slots
+  may_lay news lines apart =
+      let g = gathered news lines apart in
+      let apart_all = laws.apart q h good in
+      let started : all_feed_lines lines ≡ concat (started_from h 0 (seats q)) =
+      ap all_feed_lines g.lines_are
+      ∙ (all_started berth feed tap child (rule q) work h 0 g.seen g.each
+      ∙ ap (λ (n : ℕ). concat (started_from h 0 n)) (as_many_seen news lines g)) in
+      record {
+        matched = subst (λ (ls : List (BerthLines D T K)). All IsMatched ls) (sym g.lines_are)
+            (all_matched berth feed tap child (rule q) work h 0 g.seen g.each
+            tapped laws.taken);
+        distinct = subst (λ (ls : List ℕ). Distinct ls) (sym started) apart_all.all_once;
+        below = subst (λ (ls : List ℕ). All (λ l. l < lines_in h) ls) (sym started) apart_all.all_below;
+      }
+
+  -- all places lie there, as the proxy lanes have left
+  pub places_are_there : (places : List (Option P))
+      → PlacesLie place (outputs q) (actions q) h places → AllThere places
+  places_are_there places lying =
+      places_there place (outputs q) h (actions q) places lying
+      (laws.places q h good (λ w lt.
+      subst (λ (v : ℕ). HasLeft (calls_by (proxy_lane v) h)) (let z : 0 + w ≡ w = omega arith in z)
+      (ran_left berth feed tap child (rule q) work h laws.left 0 olds posts ends ran w
+      (omega (arith, lt, many)))))
+
+  pub has_run : (places : List (Option P)) (laid : Laid B D T K P)
+      → PlacesLie place (outputs q) (actions q) h places → IsLaid h ends slots places laid
+      → HasRun (legal q) (rule q) (outputs q) (actions q) posts work (map berth olds)
+      (laid_told berth feed tap child place laid)
+  has_run places laid lying is =
+      let g = gathered laid.berths.items is.left is.apart in
+      let fit = may_lay laid.berths.items is.left is.apart in
+      let seen = g.seen in
+      let lefts : List (BerthLines D T K) = map (λ (s : Seen B D T K). s.left) seen in
+      let toldl : List EndTold = map (end_of feed tap child) laid.lines.items in
+      let facts = telling.all_facts berth feed tap child (rule q) work h posts 0 seen g.each
+      (λ i p e. subst (λ (v : ℕ). slice_get posts v ≡ Some p) (let z : i ≡ 0 + i = omega arith in z)
+      (ap (λ (l : List Post). slice_get l i) g.posts_are ∙ e))
+      tapped laws.taken said silent in
+      let matched_all : All IsMatched lefts = subst (λ (ls : List (BerthLines D T K)). All IsMatched ls) g.lines_are fit.matched in
+      let are = subst (λ (ls : List (BerthLines D T K)). ended.AreLines (lines_in h) ls laid.lines.items) g.lines_are is.lines in
+      let at : (y : Numbered (Halves D T K)) → In y (all_halves lefts)
+      → line_at toldl y.line ≡ Some (telling.tell feed tap child y.thing) = λ y i. telling.line_tells berth feed tap child (rule q) work h laid.lines.items y.line
+      ∙ ap (option_map (telling.tell feed tap child)) (are.placed.all y i) in
+      record {
+        history = h;
+        in_journal = is.journal;
+        is_legal = good;
+        rooms = subst (λ (ps : List Post). Rooms (rule q) work h toldl 0 ps (map berth olds) (map berth laid.berths.items))
+            (sym g.posts_are)
+            (subst (λ (os : List B). Rooms (rule q) work h toldl 0 (map (λ (s : Seen B D T K). s.post) seen) (map berth os) (map berth laid.berths.items))
+            (sym g.olds_are)
+            (subst (λ (ns : List B). Rooms (rule q) work h toldl 0 (map (λ (s : Seen B D T K). s.post) seen)
+            (map berth (map (λ (s : Seen B D T K). s.old) seen)) (map berth ns))
+            (sym g.news_are)
+            (telling.rooms berth feed tap child (rule q) work h toldl 0 seen g.each tapped laws.taken at)));
+        pipes = record {
+          numbers = numbers_told feed tap child laid.lines.items ∙ is.lines.numbers;
+          each = λ l t e.
+              let x = some_halves feed tap child
+              (slice_index_or (map (λ (y : EndedLine D T K). y.halves) laid.lines.items) l None) t
+              (sym (telling.line_tells berth feed tap child (rule q) work h laid.lines.items l) ∙ e) in
+              let f = facts_at (telling.OfStarted berth feed tap child (rule q) work h)
+              (telling.Heard berth feed tap child (rule q) work h posts) (lines_in h) lefts
+              laid.lines.items facts matched_all are l x.0 x.1 in
+              subst (λ (told : LineTold). Pipe posts h l told) x.2 (record {
+                berth = f.0;
+                post = f.2.0;
+                of_berth = f.2.1;
+                started = f.1;
+                heard = f.2.2;
+              });
+        };
+        outs = outs place (outputs q) h (actions q) places laid.places.items lying is.places;
+        halts = is.halts;
+        stops = λ none w lt.
+            let seen_many = as_many_seen laid.berths.items is.left g in
+            subst (λ (v : ℕ). AreStopped h v) (let z : 0 + w ≡ w = omega arith in z)
+            (telling.all_stopped berth feed tap child (rule q) work h laws.halts laws.by_lanes laws.left 0
+            seen g.each none w (omega (arith, lt, many, seen_many)));
+      }

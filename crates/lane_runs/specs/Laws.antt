@@ -1,0 +1,28 @@
+-- What every history of a core says, in one record.
+use Rattle.std.specs.Prelude.{ℕ}
+use Rattle.run_rules.specs.Moves.{History}
+use Rattle.tap_laws.specs.Pipes.{SaysWhatTapsTell, SilentUnlessGiven}
+use Rattle.ending_laws.specs.Places.{PlacesAreBack}
+use Rattle.ending_laws.specs.Taps.{StartedAreTapped, ShelvedAreUntaken}
+use Rattle.ending_laws.specs.Lines.{StartedAreApart}
+use Rattle.ending_laws.specs.Lanes.{OnlyKnownLanesSpeak, TakenAreTapped, EndedHaveLeft}
+use Rattle.ending_laws.specs.Halts.{EndsTellHalts, HaltsAreByLanes}
+
+-- a history that a core stands for is legal
+abbrev pub StandLegal : {S Q : Type 0} → (S → History → Type 0) → (S → Q)
+    → (Q → History → Type 0) → Type 0
+StandLegal {S} {Q} stands plan legal = (m : S) (h : History) → stands m h → legal (plan m) h
+
+-- what the lanes' laws say of all of its histories
+pub record HistoryLaws {Q : Type 0} (legal : Q → History → Type 0) (seats : Q → ℕ) : Type 0 where
+  pub places : PlacesAreBack legal seats
+  pub tapped : StartedAreTapped legal
+  pub untaken : ShelvedAreUntaken legal
+  pub apart : StartedAreApart legal seats
+  pub known : OnlyKnownLanesSpeak legal seats
+  pub says : SaysWhatTapsTell legal
+  pub silent : SilentUnlessGiven legal
+  pub taken : TakenAreTapped
+  pub left : EndedHaveLeft
+  pub halts : EndsTellHalts
+  pub by_lanes : HaltsAreByLanes

@@ -1,0 +1,138 @@
+-- What a run of all lanes leaves, by its one history.
+use Rattle.std.specs.Prelude.{◌≡◌, ℕ, ◌+◌, ◌<◌, Bool, false, List, [], ◌∷◌, ◌++◌, length, map, slice_get, Option, Some, None, option_map, slice_index_or}
+use Rattle.std.specs.List.{range_with_len}
+use Rattle.seat_desk.specs.History.{calls_by}
+use Rattle.exec_journal.specs.declared.call.Call.{Call}
+use Rattle.exec_journal.specs.declared.reply.Reply.{Reply}
+use Rattle.exec_journal.specs.declared.reply.Reply.TheVariants as reply
+use Rattle.exec_journal.specs.declared.journal.Entry.{Entry}
+use Rattle.outside.specs.Told.{BerthTold, PlaceTold, FeedTold, TapTold, ChildTold, LineTold, line_told}
+use Rattle.remote_messages.specs.declared.work.WorkAction.{WorkAction}
+use Rattle.run_rules.specs.Moves.{Past, History}
+use Rattle.run_rules.specs.Shelf.{place_at}
+use Rattle.run_rules.specs.Duties.{proxy_lane}
+use Rattle.run_rules.specs.Laws.{tap_lane, lines_in}
+use Rattle.run_bench.specs.Objects.{IsPlaceAt}
+use Rattle.line_order.specs.Places.{In}
+use Rattle.tap_laws.specs.Pipes.{PipeOf}
+use Rattle.lane_deeds.specs.declared.post.Post.{Post}
+use Rattle.lane_deeds.specs.declared.cause.Cause.{Cause}
+use Rattle.lane_deeds.specs.Lines.{Back, started_in}
+use Rattle.lane_steps.specs.Steps.{Ended}
+use Rattle.script_duties.specs.Owed.{to_entry}
+use Rattle.ended_lines.specs.declared.halves.EndedLine.{EndedLine}
+use Rattle.lane_runs.specs.Layout.{has_halt}
+use Rattle.lane_runs.specs.declared.layout.Laid.{Laid}
+
+-- a line by its number, and what it tells where it was started
+pub record EndTold : Type 0 where
+  pub number : ℕ
+  pub line : Option LineTold
+
+abbrev pub end_of : {D T K : Type 0} → (D → FeedTold) → (T → TapTold) → (K → ChildTold)
+    → EndedLine D T K → EndTold
+end_of feed tap child x = record {
+  number = x.number;
+  line = option_map (λ h. line_told (feed h.feed) (tap h.tap) (child h.child)) x.halves;
+}
+
+-- what a run leaves, as its objects tell it
+pub record LaidTold : Type 0 where
+  pub journal : List Entry
+  pub berths : List BerthTold
+  pub lines : List EndTold
+  pub places : List PlaceTold
+  pub halted : Bool
+
+abbrev pub laid_told : {B D T K P : Type 0} → (B → BerthTold) → (D → FeedTold) → (T → TapTold)
+    → (K → ChildTold) → (P → PlaceTold) → Laid B D T K P → LaidTold
+laid_told berth feed tap child place x = record {
+  journal = x.journal;
+  berths = map berth x.berths.items;
+  lines = map (end_of feed tap child) x.lines.items;
+  places = map place x.places.items;
+  halted = x.halted;
+}
+
+-- ---- the feeds and the children of lines
+
+-- what the line l tells, if it was started
+abbrev pub line_at : List EndTold → ℕ → Option LineTold
+line_at lines l = slice_index_or (map (λ e. e.line) lines) l None
+
+abbrev pub back_in : ℕ → Option LineTold → List Back
+back_in l None = []
+back_in l (Some t) = record { line = l; feed = t.feed; child = t.child } ∷ []
+
+-- those of these lines, in order
+abbrev pub backs_at : List EndTold → List ℕ → List Back
+backs_at lines [] = []
+backs_at lines (l ∷ ls) = back_in l (line_at lines l) ++ backs_at lines ls
+
+-- ---- how lanes end
+
+-- the lane was told to stop, last of all
+abbrev pub IsStopped : History → ℕ → Type 0
+IsStopped h lane =
+    (own : History) × (e : Past) × (calls_by lane h ≡ own ++ e ∷ []) × (e.reply ≡ reply.Stop)
+
+-- so were both lanes of the berth
+abbrev pub AreStopped : History → ℕ → Type 0
+AreStopped h w = IsStopped h (proxy_lane w) × IsStopped h (tap_lane w)
+
+-- by the rule of a core, where this is the work of all actions
+module _ (rule : History → ℕ → Call → Reply) (work : List WorkAction) (h : History) where
+  -- The berth w, which told `old` at first, was served by its post: the calls on it, the bytes
+  -- given to its lines' feeds and the ends of their children are, entry by entry of its proxy lane,
+  -- what that lane does for its orders; and each line that it says was started is there.
+  pub record Room (lines : List EndTold) (w : ℕ) (post : Post) (old new : BerthTold) : Type 0 where
+    pub halted : Option Cause
+    pub unsaid : Option Back
+    pub lane : Ended post work rule (proxy_lane w) (calls_by (proxy_lane w) h) h old new
+        (backs_at lines (started_in (calls_by (proxy_lane w) h))) unsaid halted
+
+  -- so were the berths from w on
+  abbrev pub Rooms : List EndTold → ℕ → List Post → List BerthTold → List BerthTold → Type 0
+  Rooms lines w [] [] [] = Unit {0}
+  Rooms lines w (post ∷ posts) (old ∷ olds) (new ∷ news) =
+      Room lines w post old new × Rooms lines (w + 1) posts olds news
+  Rooms lines w _ _ _ = ⊥
+
+-- the proxy lane of some berth says that the line was started, and the history says of it what the
+-- bytes taken from its tap say, and how that has ended
+pub record Pipe (posts : List Post) (h : History) (l : ℕ) (line : LineTold) : Type 0 where
+  pub berth : ℕ
+  pub post : Post
+  pub of_berth : slice_get posts berth ≡ Some post
+  pub started : In l (started_in (calls_by (proxy_lane berth) h))
+  pub heard : PipeOf post.speech h (l, line.tap)
+
+-- the lines that were ordered, by their numbers; and there is one for each that was started
+pub record Pipes (posts : List Post) (h : History) (lines : List EndTold) : Type 0 where
+  pub numbers : map (λ e. e.number) lines ≡ range_with_len 0 (lines_in h)
+  pub each : (l : ℕ) (t : LineTold) → line_at lines l ≡ Some t → Pipe posts h l t
+
+-- each action's place, of so many, was written what the history says: nothing without a grant
+pub record Outs (outputs : ℕ → List (List ℕ)) (actions : ℕ) (h : History)
+    (places : List PlaceTold) : Type 0 where
+  pub as_many : length places ≡ actions
+  pub each : (a : ℕ) (p : PlaceTold) → slice_get places a ≡ Some p
+      → IsPlaceAt a (outputs a) (place_at a h) p
+
+-- where no lane has halted, all lanes of so many berths were told to stop
+abbrev pub Stops : ℕ → History → Type 0
+Stops berths h = has_halt h ≡ false → (w : ℕ) → w < berths → AreStopped h w
+
+-- The one history of the run, by the rule of a core, and what its objects tell: whatever the lanes
+-- did is in it, and what is in it they did.
+pub record HasRun (legal : History → Type 0) (rule : History → ℕ → Call → Reply)
+    (outputs : ℕ → List (List ℕ)) (actions : ℕ) (posts : List Post) (work : List WorkAction)
+    (before : List BerthTold) (laid : LaidTold) : Type 0 where
+  pub history : History
+  pub in_journal : laid.journal ≡ map to_entry history
+  pub is_legal : legal history
+  pub rooms : Rooms rule work history laid.lines 0 posts before laid.berths
+  pub pipes : Pipes posts history laid.lines
+  pub outs : Outs outputs actions history laid.places
+  pub halts : laid.halted ≡ has_halt history
+  pub stops : Stops (length posts) history

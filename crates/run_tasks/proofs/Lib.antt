@@ -1,0 +1,4 @@
+pub mod Courses
+pub mod Fits
+mod Rows
+pub mod Works

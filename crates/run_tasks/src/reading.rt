@@ -1,0 +1,157 @@
+// What is read before anything is started: the words, the list, and what its actions read.
+ghost use Rattle.std.specs.Prelude.{◌≡◌, IfOk, map, string_bytes};
+ghost use Rattle.action_list.specs.Lists.{list_of};
+ghost use Rattle.action_list.specs.Whole.{IsWhole};
+ghost use Rattle.generated_list.specs.Generated.{generated_text};
+ghost use Rattle.outside.specs.Causes.{Counts};
+ghost use Rattle.outside.specs.Told.{SameFloor};
+ghost use Rattle.run_loading.specs.Reads.{IsFloorFailed, Leads, end_of};
+ghost use Rattle.tool_words.specs.Options.{AreInLimits, options_of};
+ghost use Rattle.run_tasks.specs.Course.{Course, GeneratedRead, ListGives, ListRead, OptionsRead, TaskRead};
+ghost use Rattle.run_tasks.specs.Tasks.{HasPosts, HasSoundPlans, HasWork};
+
+use crate::task::{Task, task_of};
+use action_list::{ActionList, ListRefusal, read_list_with};
+use generated_list::generated_list;
+use outside::Floor;
+use run_loading::{RunFault, Stage, load_work, read_actions};
+use run_plan::Plan;
+use std::alloc::Global;
+use tool_words::{Options, read_words};
+
+/// The most worker keys that a list may have.
+const KEYS: u32 = 48;
+
+/// What the words of a command come to before its lanes are started, and the plan once more: who
+/// schedules takes one, and who reports the other.
+///
+/// In this order: the words are looked at; the list is read at its path, or generated; its actions'
+/// tools and source inputs are read; then the plan and the posts are made.
+///
+/// # Errors
+///
+/// The first of these: `Words` where the words aren't accepted, and then nothing is read; `Absent` or
+/// `FloorFailed` for the list, `List` with its first fault, `Absent` or `FloorFailed` for a tool or an
+/// input, `Flags` of the first action that has such a fault. `NoMemory` with `Before` at any time.
+pub fn read_task<F: Floor>(
+    alloc: Global,
+    words: &[String],
+    floor: &mut F,
+) -> Result<(Task, Plan), RunFault>
+    ensures course { Leads (F.told floor.old) (F.told floor.new) result
+        (Course (options_of (map string_bytes words.now))) }
+    ensures sound { IfOk result HasSoundPlans }
+    ensures work { IfOk result (λ made. HasWork made.0) }
+    ensures posts { IfOk result (λ made. HasPosts made.0) }
+    ensures floor { Counts (F.told floor.old).faults (F.told floor.new).faults
+        (IsFloorFailed (end_of result)) }
+    ensures files { SameFloor (F.told floor.old) (F.told floor.new) }
+{
+    match read_words(alloc, words)? {
+        Some(options) => read_by_options(alloc, floor, &options),
+        None => Err(RunFault::Words),
+    }
+}
+
+fn read_by_options<F: Floor>(
+    alloc: Global,
+    floor: &mut F,
+    options: &Options,
+) -> Result<(Task, Plan), RunFault>
+    requires { AreInLimits options.now }
+    ensures course { Leads (F.told floor.old) (F.told floor.new) result
+        (OptionsRead options.now options.now.list options.now.generate) }
+    ensures sound { IfOk result HasSoundPlans }
+    ensures work { IfOk result (λ made. HasWork made.0) }
+    ensures posts { IfOk result (λ made. HasPosts made.0) }
+    ensures floor { Counts (F.told floor.old).faults (F.told floor.new).faults
+        (IsFloorFailed (end_of result)) }
+    ensures files { SameFloor (F.told floor.old) (F.told floor.new) }
+{
+    if let Some(actions) = options.generate {
+        return read_generated(alloc, floor, options, actions);
+    }
+    match &options.list {
+        Some(path) => read_at(alloc, floor, options, path.as_str()),
+        // Either a list or a generator is there.
+        None => unreachable!(),
+    }
+}
+
+// Reads the list at this path, and goes on by it.
+fn read_at<F: Floor>(
+    alloc: Global,
+    floor: &mut F,
+    options: &Options,
+    path: &str,
+) -> Result<(Task, Plan), RunFault>
+    requires { AreInLimits options.now }
+    ensures course { Leads (F.told floor.old) (F.told floor.new) result
+        (ListRead options.now path.now) }
+    ensures sound { IfOk result HasSoundPlans }
+    ensures work { IfOk result (λ made. HasWork made.0) }
+    ensures posts { IfOk result (λ made. HasPosts made.0) }
+    ensures floor { Counts (F.told floor.old).faults (F.told floor.new).faults
+        (IsFloorFailed (end_of result)) }
+    ensures files { SameFloor (F.told floor.old) (F.told floor.new) }
+{
+    let list = read_actions(alloc, path, KEYS, floor)?;
+    read_by_list(alloc, floor, options, &list, false)
+}
+
+// Generates the list of so many actions, and goes on by it.
+fn read_generated<F: Floor>(
+    alloc: Global,
+    floor: &mut F,
+    options: &Options,
+    actions: u32,
+) -> Result<(Task, Plan), RunFault>
+    requires { AreInLimits options.now }
+    ensures course { Leads (F.told floor.old) (F.told floor.new) result
+        (GeneratedRead options.now actions) }
+    ensures sound { IfOk result HasSoundPlans }
+    ensures work { IfOk result (λ made. HasWork made.0) }
+    ensures posts { IfOk result (λ made. HasPosts made.0) }
+    ensures floor { Counts (F.told floor.old).faults (F.told floor.new).faults
+        (IsFloorFailed (end_of result)) }
+    ensures files { SameFloor (F.told floor.old) (F.told floor.new) }
+{
+    let list = list_generated(alloc, actions)?;
+    read_by_list(alloc, floor, options, &list, true)
+}
+
+// The list of so many actions that is generated, read as a list's bytes are.
+fn list_generated(alloc: Global, actions: u32) -> Result<ActionList, RunFault>
+    ensures list { ListGives (list_of 48 (generated_text actions)) result }
+    ensures whole { IfOk result (λ list. IsWhole list.actions) }
+{
+    let bytes = generated_list(alloc, actions)?;
+    match read_list_with(alloc, bytes.as_slice(), KEYS) {
+        Ok(list) => Ok(list),
+        Err(ListRefusal::Fault(fault)) => Err(RunFault::List(fault)),
+        Err(ListRefusal::NoMemory) => Err(RunFault::NoMemory(Stage::Before)),
+    }
+}
+
+// Reads what the list's actions read, and makes the task of both.
+fn read_by_list<F: Floor>(
+    alloc: Global,
+    floor: &mut F,
+    options: &Options,
+    list: &ActionList,
+    short: bool,
+) -> Result<(Task, Plan), RunFault>
+    requires options { AreInLimits options.now }
+    requires list { IsWhole list.now.actions }
+    ensures course { Leads (F.told floor.old) (F.told floor.new) result
+        (TaskRead options.now short list.now) }
+    ensures sound { IfOk result HasSoundPlans }
+    ensures work { IfOk result (λ made. HasWork made.0) }
+    ensures posts { IfOk result (λ made. HasPosts made.0) }
+    ensures floor { Counts (F.told floor.old).faults (F.told floor.new).faults
+        (IsFloorFailed (end_of result)) }
+    ensures files { SameFloor (F.told floor.old) (F.told floor.new) }
+{
+    let work = load_work(alloc, list, floor)?;
+    Ok(task_of(alloc, options, list, work, short)?)
+}

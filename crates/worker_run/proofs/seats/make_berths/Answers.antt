@@ -1,0 +1,18 @@
+-- One more berth is made.
+use Rattle.std.proofs.Common.{arith, ◌∙◌}
+use Rattle.worker_run.proofs.Numbered.{one_more_berth}
+use Rattle.worker_run.proofs.seats.make_berths.Goals as goal
+
+pub loop-number-preserved : goal.loop-number-preserved
+loop-number-preserved g c =
+    let made = c.in_ok-make_berth.ensures in
+    let were = c.loop-number.invariant in
+    record {
+      within = omega (arith, c.loop-number-test.true);
+      berths = rw (c.in_ok-push.ensures.items) (one_more_berth g.F.Berth.Berth.told
+          c.loop-number.number c.loop-number.berths.items c.in_ok-make_berth.field-0 were.berths
+          made.number made.log made.faults);
+      files = c.make_berth.ensures.files ∙ were.files;
+      log = c.make_berth.ensures.told ∙ were.log;
+      count = omega (arith, c.make_berth.ensures.count, were.count);
+    }

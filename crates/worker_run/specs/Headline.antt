@@ -1,0 +1,100 @@
+-- What is said of a run that is told. Each is said of the task that was run and of what is left of
+-- it, and all of them of the one history that its journal is.
+use Rattle.std.specs.Prelude.{◌≡◌, true, false, List, [], length, reverse, Option, Some, None, IfSome}
+use Rattle.std.specs.List.{list_all}
+use Rattle.build_report.specs.Report.{is_success}
+use Rattle.exec_journal.specs.Clean.{Clean}
+use Rattle.exec_journal.specs.Ends.{ends_of}
+use Rattle.exec_journal.specs.Kept.{Kept}
+use Rattle.exec_journal.specs.Legal.{Legal}
+use Rattle.exec_journal.specs.Paired.{Paired}
+use Rattle.exec_journal.specs.Race.{Race}
+use Rattle.exec_journal.specs.declared.journal.Entry.{Entry}
+use Rattle.history_laws.specs.Ruled.{answer_after}
+use Rattle.journal_laws.specs.Finished.{Finished}
+use Rattle.lane_runs.specs.Layout.{has_halt}
+use Rattle.lane_runs.specs.Runs.{Outs, Pipes, Rooms, Stops}
+use Rattle.outside.specs.Told.{BerthTold}
+use Rattle.run_plan.specs.Groups.{berths}
+use Rattle.run_plan.specs.declared.plan.Plan.{Plan}
+use Rattle.run_tasks.specs.declared.task.Task.{Task}
+use Rattle.script_duties.specs.Owed.{outputs_in}
+use Rattle.worker_run.specs.Ends.{is_halted}
+use Rattle.worker_run.specs.Histories.{history_of}
+use Rattle.worker_run.specs.Lanes.{AreNewBerths}
+use Rattle.worker_run.specs.Seen.{EndedTold, Left}
+
+-- the task that was run, and what is left
+abbrev pub OnRun : EndedTold → (Task → Left → Type 0) → Type 0
+OnRun end P = IfSome end.task (λ t. P t end.left)
+
+-- ---- the journal
+
+-- with its newest entry first, as its rules read it
+abbrev pub newest_first : Left → List Entry
+newest_first x = reverse x.journal
+
+-- each call was in its lane's script, and its reply is the rules'
+abbrev pub IsLegal : Task → Left → Type 0
+IsLegal t x = Legal t.plan (newest_first x)
+
+-- each action is granted once, and only what was granted is committed, once
+abbrev pub HasRace : Task → Left → Type 0
+HasRace t x = Race (newest_first x)
+
+-- each answer that was consumed is that of a request of its own
+abbrev pub IsPaired : Task → Left → Type 0
+IsPaired t x = Paired t.plan (newest_first x)
+
+-- each order was due when it was given, and at most one line of a berth is live
+abbrev pub IsKept : Task → Left → Type 0
+IsKept t x = Kept t.plan (newest_first x)
+
+-- a lane has halted exactly where the fault says so
+abbrev pub HaltsAsSaid : EndedTold → Type 0
+HaltsAsSaid end = OnRun end (λ t x. has_halt (history_of x.journal) ≡ is_halted end.fault)
+
+-- where no lane has halted, each lane of the plan was told to stop, last of all
+abbrev pub IsStopped : Task → Left → Type 0
+IsStopped t x = Stops (berths t.plan) (history_of x.journal)
+
+-- a plan without berths has no actions
+abbrev pub HasBerths : Plan → Type 0
+HasBerths p = berths p ≡ 0 → p.actions ≡ []
+
+-- no lane has halted, and there are berths for the actions
+abbrev pub WithoutHalt : Task → Left → Type 0 → Type 0
+WithoutHalt t x P = has_halt (history_of x.journal) ≡ false → HasBerths t.plan → P
+
+-- then every action is settled with an outcome, and each request and each attempt is accounted for
+abbrev pub IsAccounted : Task → Left → Type 0
+IsAccounted t x = WithoutHalt t x (Finished t.plan (newest_first x))
+
+-- and where every worker did its part, every outcome is a success
+abbrev pub IsComplete : Task → Left → Type 0
+IsComplete t x = WithoutHalt t x (Clean (newest_first x)
+    → list_all is_success (ends_of t.plan (newest_first x)) ≡ true)
+
+-- ---- the objects
+
+-- the bytes at each line's pipes are those that the journal says
+abbrev pub HasPipes : Task → Left → Type 0
+HasPipes t x = Pipes t.posts.items (history_of x.journal) x.lines
+
+-- each berth was new at first, and all that was asked of it is what its lane's orders ask
+pub record HasRooms (t : Task) (x : Left) : Type 0 where
+  pub before : List BerthTold
+  pub new : AreNewBerths (berths t.plan) before
+  pub rooms : Rooms (answer_after t.plan) t.work.actions (history_of x.journal) x.lines 0
+      t.posts.items before x.berths
+
+-- each action's place was written what was granted and committed, and nothing else
+abbrev pub HasOuts : Task → Left → Type 0
+HasOuts t x = Outs (outputs_in t.plan) (length t.plan.actions) (history_of x.journal) x.places
+
+-- ---- no run
+
+-- nothing is left where no run is told
+abbrev pub UnlessRun : Option Task → Type 0 → Type 0
+UnlessRun None P = P
+UnlessRun (Some t) P = Unit {0}

@@ -1,0 +1,71 @@
+-- A run of the lanes of new berths, by a core.
+use Rattle.std.specs.Prelude.{◌≡◌, ℕ, Bool, true, false, List, [], length, slice_get, Option, Some, None}
+use Rattle.build_report.specs.declared.fault.Stage.{Stage}
+use Rattle.build_report.specs.declared.fault.Stage.TheVariants as stage
+use Rattle.exec_journal.specs.declared.call.Call.{Call}
+use Rattle.exec_journal.specs.declared.reply.Reply.{Reply}
+use Rattle.history_laws.specs.Ruled.{CameAbout, answer_after}
+use Rattle.lane_deeds.specs.declared.post.Post.{Post}
+use Rattle.lane_runs.specs.Runs.{HasRun, LaidTold}
+use Rattle.outside.specs.Lists.{Tells}
+use Rattle.outside.specs.Told.{BerthTold}
+use Rattle.remote_messages.specs.declared.work.WorkAction.{WorkAction}
+use Rattle.run_rules.specs.Moves.{History}
+use Rattle.run_tasks.specs.declared.task.Task.{Task}
+use Rattle.script_duties.specs.Owed.{outputs_in}
+use Rattle.worker_run.specs.Seen.{Left}
+
+-- the berth with this number, of which nothing was asked yet, and which hasn't failed
+pub record IsNewBerth (number : ℕ) (berth : BerthTold) : Type 0 where
+  pub of_number : berth.number ≡ number
+  pub no_calls : Tells berth.log []
+  pub no_faults : berth.faults ≡ 0
+
+-- so many berths, numbered in their order from 0, each new
+pub record AreNewBerths (count : ℕ) (berths : List BerthTold) : Type 0 where
+  pub as_many : length berths ≡ count
+  pub each : (w : ℕ) (b : BerthTold) → slice_get berths w ≡ Some b → IsNewBerth w b
+
+-- Memory was wanted while the lanes were at work: then some lane has halted.
+abbrev pub is_during : Option Stage → Bool
+is_during (Some stage.During) = true
+is_during _ = false
+
+-- what is left, with whether a lane has halted, as the fault says it
+abbrev pub laid_by : Option Stage → Left → LaidTold
+laid_by fault x = record {
+  journal = x.journal;
+  berths = x.berths;
+  lines = x.lines;
+  places = x.places;
+  halted = is_during fault;
+}
+
+-- All lanes of new berths ran by the rule of a core, one berth for each post: they have one
+-- history, and what is left is what that history says. A lane has halted exactly where memory was
+-- wanted while they were at work.
+pub record LanesRan (legal : History → Type 0) (rule : History → ℕ → Call → Reply)
+    (outputs : ℕ → List (List ℕ)) (actions : ℕ) (posts : List Post) (work : List WorkAction)
+    (fault : Option Stage) (left : Left) : Type 0 where
+  pub before : List BerthTold
+  pub new : AreNewBerths (length posts) before
+  pub run : HasRun legal rule outputs actions posts work before (laid_by fault left)
+
+-- Lanes ran, and what they left is there: no memory was wanted, or only while they were at work.
+abbrev pub WhereWhole : Option Stage → Type 0 → Type 0
+WhereWhole None P = P
+WhereWhole (Some stage.During) P = P
+WhereWhole (Some stage.Before) P = Unit {0}
+WhereWhole (Some stage.After) P = Unit {0}
+
+-- No lane was started, or there was no memory for what they left.
+abbrev pub WhereLost : Option Stage → Type 0 → Type 0
+WhereLost None P = Unit {0}
+WhereLost (Some stage.During) P = Unit {0}
+WhereLost (Some stage.Before) P = P
+WhereLost (Some stage.After) P = P
+
+-- the lanes of this task ran by the rules of the journal of its plan
+abbrev pub TaskRan : Task → Option Stage → Left → Type 0
+TaskRan t fault left = LanesRan (CameAbout t.plan) (answer_after t.plan) (outputs_in t.plan)
+    (length t.plan.actions) t.posts.items t.work.actions fault left
