@@ -1,0 +1,2 @@
+-- What contracts cite of the small programs.
+pub mod Executes

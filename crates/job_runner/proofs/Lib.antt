@@ -1,0 +1,4 @@
+pub mod Does
+pub mod Looks
+pub mod Coming
+pub mod Answering

@@ -1,0 +1,12 @@
+//! The executor: runs jobs in a shop, each in a folder of its own, and answers each with a result.
+#![tactic(auto)]
+
+mod collecting;
+mod executor;
+mod fate;
+mod filling;
+mod paths;
+mod results;
+mod running;
+
+pub use executor::{Executor, GREETING};

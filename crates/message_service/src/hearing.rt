@@ -1,0 +1,68 @@
+// What has come of the input, as messages.
+ghost use Rattle.std.specs.Prelude.{◌≡◌, ◌++◌, List, ℕ, IfOk};
+ghost use Rattle.delimited_framing.specs.Splitter.{Held};
+ghost use Rattle.json_framing.specs.Cutter.{form_of, framing_of, held};
+ghost use Rattle.message_service.specs.Stream.{Heard, HeardAll};
+
+use crate::Service;
+use delimited_framing::Next;
+use json_framing::Cutter;
+use outside::Shop;
+use plain_values::NoMemory;
+use std::alloc::Global;
+use std::sync::Wait;
+
+/// The messages that have come whole, in order.
+#[derive(Drop)]
+pub struct Come<M> {
+    pub messages: Vec<M>,
+    /// Whether what stands behind them may still become a message.
+    pub goes_on: bool,
+}
+
+/// Gives all messages that have come whole, up to what spells none.
+///
+/// # Errors
+///
+/// `NoMemory`.
+pub fn hear_all<S: Shop, V: Service<S>, R: Wait>(
+    rt: &R,
+    alloc: Global,
+    service: &V,
+    cutter: &mut Cutter,
+) -> Result<Come<V::Message>, NoMemory>
+    requires { framing_of cutter.old ≡ V.framing }
+    ensures framing { framing_of cutter.new ≡ V.framing }
+    ensures ok { IfOk result (λ come. (fed : List ℕ) (heard : List V.Message)
+        → Heard (form_of V.framing) V.spells fed heard (held cutter.old)
+        → HeardAll (form_of V.framing) V.spells come.goes_on fed (heard ++ come.messages.items)
+        (held cutter.new)) }
+{
+    let mut messages = Vec::new(alloc);
+    for _ in rt.forever() {
+        match cutter.next()? {
+            Next::Frame(frame) => match service.read(alloc, &frame)? {
+                Some(message) => messages.push(message)?,
+                None => {
+                    return Ok(Come {
+                        messages,
+                        goes_on: false,
+                    });
+                }
+            },
+            Next::NotYet => {
+                return Ok(Come {
+                    messages,
+                    goes_on: true,
+                });
+            }
+            Next::Bad(_) => {
+                return Ok(Come {
+                    messages,
+                    goes_on: false,
+                });
+            }
+        }
+    }
+    unreachable!()
+}

@@ -1,0 +1,16 @@
+//! Programs that read messages from their input, and answer each by calls on a shop.
+//!
+//! What kind of messages they are, and how each is answered, is a [`Service`]. [`serve`] does the
+//! rest: it reads whatever has come, deals with these messages one after another, and reads on, up
+//! to the end of the input.
+#![tactic(auto)]
+
+mod answering;
+mod finish;
+mod hearing;
+mod service;
+mod serving;
+
+pub use finish::Finish;
+pub use service::Service;
+pub use serving::serve;

@@ -1,0 +1,93 @@
+// From the start of the input to its end.
+ghost use Rattle.std.specs.Prelude.{◌≡◌, ◌++◌, [], List, ℕ, IfErr};
+ghost use Rattle.json_framing.specs.Cutter.{form_of, framing_of, held};
+ghost use Rattle.message_service.specs.Stream.{Heard};
+ghost use Rattle.message_service.specs.Serves.{Serves};
+ghost use Rattle.message_service.specs.Steps.{Round, StopsReading};
+
+use crate::answering::answer_all;
+use crate::hearing::hear_all;
+use crate::{Finish, Service};
+use json_framing::Cutter;
+use outside::{Shop, Sink, Taken, Tap};
+use plain_values::NoMemory;
+use std::alloc::Global;
+use std::sync::Wait;
+
+/// The largest message, in bytes.
+const LARGEST: u64 = 67_108_864;
+
+/// The most bytes of one read.
+const PIECE: usize = 65_536;
+
+/// The most reads, each of which takes at least one byte.
+const READS: u64 = 1 << 40;
+
+/// Reads whatever has come of the input, answers these messages one after another, and reads on, up
+/// to the end of the input or to what spells no message.
+///
+/// It answers with the cause of its end. Until then each message is dealt with as its service says,
+/// in order, and nothing else is put and no other call is made.
+pub fn serve<T: Tap, O: Sink, S: Shop, V: Service<S>, R: Wait>(
+    rt: &R,
+    alloc: Global,
+    service: &V,
+    input: &mut T,
+    out: &mut O,
+    shop: &mut S,
+) -> Finish
+    ensures { Serves (form_of V.framing) V.spells V.answers result []
+        (record { input = T.told input.old; out = O.told out.old; shop = S.told shop.old })
+        (record { input = T.told input.new; out = O.told out.new; shop = S.told shop.new }) }
+{
+    let mut cutter = Cutter::new(alloc, service.framing(), LARGEST);
+    let mut piece = [0u8; PIECE];
+    for _ in 0..READS {
+        match input.read(&mut piece) {
+            Taken::Bytes(count) => {
+                let round = round(rt, alloc, service, &mut cutter, &piece[..count], out, shop);
+                if let Err(finish) = round {
+                    return finish;
+                }
+            }
+            Taken::End => return Finish::AtEnd,
+            Taken::Failed => return Finish::InputFault,
+        }
+    }
+    Finish::TooLong
+}
+
+// Hears one piece more, and answers what has come with it.
+fn round<O: Sink, S: Shop, V: Service<S>, R: Wait>(
+    rt: &R,
+    alloc: Global,
+    service: &V,
+    cutter: &mut Cutter,
+    piece: &[u8],
+    out: &mut O,
+    shop: &mut S,
+) -> Result<(), Finish>
+    requires { framing_of cutter.old ≡ V.framing }
+    ensures framing { framing_of cutter.new ≡ V.framing }
+    ensures round { (fed : List ℕ) (heard : List V.Message)
+        → Heard (form_of V.framing) V.spells fed heard (held cutter.old)
+        → Round (form_of V.framing) V.spells V.answers result (fed ++ piece.now) heard
+        (held cutter.new) (O.told out.old) (O.told out.new) (S.told shop.old)
+        (S.told shop.new) }
+    ensures err { IfErr result StopsReading }
+{
+    let Ok(()) = cutter.feed(piece) else {
+        return Err(Finish::NoMemory);
+    };
+    match hear_all(rt, alloc, service, cutter) {
+        Ok(come) => {
+            answer_all(alloc, service, &come.messages, out, shop)?;
+            if come.goes_on {
+                Ok(())
+            } else {
+                Err(Finish::BadInput)
+            }
+        }
+        Err(NoMemory) => Err(Finish::NoMemory),
+    }
+}
