@@ -11,6 +11,7 @@
 //! | `children BEAT .. / BEAT ..` | in the next run the children of the lines do this, from line 0 on: `hear=N`, `leave=PATH`, `leave=PATH,TEXT`, `give=BYTES`, `choose=BYTES,BYTES`, `raise=N`, `await=N`, `die`; one without beats does what it is asked |
 //! | `play WORD WORD ..` | a run with these words: its status, how many berths it had, whether all children were killed, how many lines it had and how many of them were started, its report, and the line of its fault |
 //! | `race WORD WORD ..` | the same without the run's lines, and of its report how many lines it has and the last one, where more isn't determined |
+//! | `meet WORD WORD ..` | its status and its report, where each of two actions writes only once the other does too |
 //! | `reads`, `writes` | what the floor and the places tell of the last run |
 //! | `room`, `given` | what its first berth and its first line tell |
 //!
@@ -19,9 +20,11 @@
 #![tactic(auto)]
 
 mod case;
+mod meeting;
 mod played;
 
 use case::Case;
+use meeting::MeetingFloor;
 use outside_mem::MemFloor;
 use plain_values::NoMemory;
 use played::{Shown, Staged};
@@ -44,18 +47,29 @@ fn main(rt: HostRuntime) -> io::Result<()> {
         let (kind, rest) = line.split_once(' ').unwrap_or((line, ""));
         let told = match kind {
             "play" | "race" => {
-                let staged = played::stage(alloc, &mut case, rest).map_err(no_memory)?;
                 let Staged {
                     script,
                     mut out,
                     words,
-                } = staged;
+                } = played::stage(alloc, &mut case, rest).map_err(no_memory)?;
                 let floor = MemFloor::new(rt, alloc, script).map_err(no_memory)?;
                 let ended = run_build(&rt, alloc, words.as_slice(), floor, &mut out);
                 let report = str::from_utf8(out.bytes()).unwrap_or("no text");
                 let told = played::tell(alloc, &ended, shown_by(kind), report).map_err(no_memory)?;
                 last = Some(ended);
                 told
+            }
+            "meet" => {
+                let Staged {
+                    script,
+                    mut out,
+                    words,
+                } = played::stage(alloc, &mut case, rest).map_err(no_memory)?;
+                let floor = MemFloor::new(rt, alloc, script).map_err(no_memory)?;
+                let floor = MeetingFloor::new(alloc, floor, 2).map_err(no_memory)?;
+                let ended = run_build(&rt, alloc, words.as_slice(), floor, &mut out);
+                let report = str::from_utf8(out.bytes()).unwrap_or("no text");
+                format!(in alloc; "status {}\n{report}", ended.status)?
             }
             "reads" | "writes" | "room" | "given" => tell_last(alloc, &last, kind).map_err(
                 no_memory,
