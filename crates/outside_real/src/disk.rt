@@ -1,7 +1,7 @@
 // The bare calls on files and folders. What they do is trusted; everything above them is counting.
 use std::alloc::{AllocError, Global};
-use std::fs;
-use std::io::{self, ErrorKind};
+use std::fs::{self, File};
+use std::io::{self, ErrorKind, Write};
 use std::path::Path;
 use std::rt::Files;
 
@@ -15,22 +15,53 @@ pub fn read_regular<R: Files + AllocGlobal>(rt: &R, path: &str) -> io::Result<Op
     }
 }
 
-/// Writes a file whole, with the folders above it. It is written beside, under the name `.worker_tool.part`, and
-/// renamed, so that nobody who has the old file open sees the new bytes, and a link at the path is replaced.
-pub fn write_beside<R: Files>(rt: &R, alloc: Global, path: &str, bytes: &[u8]) -> io::Result<()> {
-    if let Some(folder) = Path::new(path).parent() {
-        fs::create_dir_all(rt, folder)?;
+/// Writes a file whole, with the folders above it. It is written beside, under the given name, and renamed, so that
+/// nobody who has the old file open sees the new bytes, and a link at the path is replaced. Two writers into one folder
+/// at once need two names.
+pub fn write_beside<R: Files>(
+    rt: &R,
+    alloc: Global,
+    name: &str,
+    path: &str,
+    bytes: &[u8],
+) -> io::Result<()> {
+    let beside = path_beside(alloc, name, path)?;
+    let file = new_file(rt, beside.as_str())?;
+    let written = fill(file, bytes).and_then(|()| fs::rename(rt, beside.as_str(), path));
+    if written.is_err() {
+        // What was begun isn't left behind. That it couldn't be removed says less than why it was begun in vain.
+        let _ = fs::remove_file(rt, beside.as_str());
     }
-    let beside = name_beside(alloc, path)?;
-    fs::write(rt, beside.as_str(), bytes)?;
-    fs::rename(rt, beside.as_str(), path)
+    written
 }
 
-fn name_beside(alloc: Global, path: &str) -> Result<String, AllocError> {
+fn path_beside(alloc: Global, name: &str, path: &str) -> Result<String, AllocError> {
     match path.rsplit_once('/') {
-        Some((folder, _)) => format!(in alloc; "{folder}/.worker_tool.part"),
-        None => String::from_str(alloc, ".worker_tool.part"),
+        Some((folder, _)) => format!(in alloc; "{folder}/{name}"),
+        None => String::from_str(alloc, name),
     }
+}
+
+// A file that wasn't there before, so that no link is followed. What an earlier run left is removed, and the folders
+// are made if they aren't there.
+fn new_file<R: Files>(rt: &R, path: &str) -> io::Result<R::File> {
+    match File::create_new(rt, path) {
+        Err(error) if error.kind() == ErrorKind::AlreadyExists => fs::remove_file(rt, path)?,
+        Err(error) if error.kind() == ErrorKind::NotFound => make_folders(rt, path)?,
+        made => return made,
+    }
+    File::create_new(rt, path)
+}
+
+fn make_folders<R: Files>(rt: &R, path: &str) -> io::Result<()> {
+    match Path::new(path).parent() {
+        Some(folder) => fs::create_dir_all(rt, folder),
+        None => Ok(()),
+    }
+}
+
+fn fill<W: Write + Drop>(mut file: W, bytes: &[u8]) -> io::Result<()> {
+    file.write_all(bytes)
 }
 
 /// The bytes of a regular file at a path below a room. A link is no such file, nor is what lies behind one.
@@ -52,6 +83,9 @@ pub fn read_inside<R: Files + AllocGlobal>(
     }
 }
 
+// One lane alone writes into a room.
+const BESIDE: &str = ".worker_tool.part";
+
 /// Writes a file below a room. What isn't a folder on its way there makes room for one.
 pub fn write_inside<R: Files + AllocGlobal>(
     rt: &R,
@@ -61,12 +95,8 @@ pub fn write_inside<R: Files + AllocGlobal>(
     bytes: &[u8],
 ) -> io::Result<()> {
     clear_way(rt, alloc, room, path)?;
-    write_beside(
-        rt,
-        alloc,
-        format!(in alloc; "{room}/{path}")?.as_str(),
-        bytes,
-    )
+    let path = format!(in alloc; "{room}/{path}")?;
+    write_beside(rt, alloc, BESIDE, path.as_str(), bytes)
 }
 
 /// Makes a folder below a room, with those above it. What isn't a folder on its way there makes room for one.
@@ -95,10 +125,16 @@ pub fn remove_inside<R: Files + AllocGlobal>(
     }
 }
 
-/// Removes all that stands in a folder, which itself stays, since a process may be running in it.
-pub fn empty<R: Files + AllocGlobal + Clone + Drop>(rt: &R, folder: &str) -> io::Result<()> {
-    fs::create_dir_all(rt, folder)?;
-    for entry in fs::read_dir(rt, folder)? {
+/// Removes all that stands in a folder below a room. The folder itself stays, since a process may be running in it.
+pub fn empty_inside<R: Files + AllocGlobal + Clone + Drop>(
+    rt: &R,
+    alloc: Global,
+    room: &str,
+    path: &str,
+) -> io::Result<()> {
+    make_folder_inside(rt, alloc, room, path)?;
+    let folder = format!(in alloc; "{room}/{path}")?;
+    for entry in fs::read_dir(rt, folder.as_str())? {
         remove(rt, entry?.path().as_str())?;
     }
     Ok(())

@@ -1,13 +1,16 @@
-// A line: a shell that hears its feed, has the command's environment alone, and leaves links in its room.
+// A line: a shell that hears its feed, has the command's environment alone, leaves links and a fifo in its room, and puts a
+// link to the folder of the start in the place of the room itself. Beside the outputs it leaves a link at the name under
+// which they are written.
 use crate::{tell_io, tell_read};
 use outside::{Berth, Child, Command, Feed, Launch, Taken, Tap, Variable};
 use plain_values::{Items, NoMemory, Text};
 use std::alloc::Global;
 use std::io::{self, ErrorKind};
 
-const SCRIPT: &str =
-    "ln -s /etc/passwd out; ln -s /etc way; ln -s /etc/passwd ../../link; read line; \
-    echo \"heard $line, greeting $GREETING, home [$HOME]\"; exec cat";
+const SCRIPT: &str = "ln -s /etc/passwd out; ln -s /etc way; ln -s /etc/passwd ../../link; \
+    ln -s letter ../../.worker_tool.0.part; mkfifo fifo; read line; \
+    echo \"heard $line, greeting $GREETING, home [$HOME]\"; read line; \
+    mv ../3 ../moved; ln -s .. ../3; echo $line; exec cat";
 
 pub fn play<B: Berth>(rt: &impl Print, alloc: Global, berth: &mut B) -> io::Result<()> {
     let shell = command(alloc, "/bin/sh").map_err(no_memory)?;
@@ -69,6 +72,10 @@ fn talk<B: Berth>(
     )?;
     tell_io(rt, "put way/x", &berth.room_put("way/x", b"inside"))?;
     tell_read(rt, "way/x", berth.room_get("way/x"))?;
+    tell_read(rt, "fifo", berth.room_get("fifo"))?;
+    tell_io(rt, "feed", &feed.write(b"moved\n"))?;
+    tell_taken(rt, &mut tap)?;
+    tell_read(rt, "letter, not in the room", berth.room_get("letter"))?;
     tell_io(rt, "clear", &berth.room_clear(""))?;
     child.kill();
     tell_taken(rt, &mut tap)?;

@@ -5,10 +5,11 @@
 #![tactic(auto)]
 
 mod lines;
+mod places;
 mod rooms;
 mod runs;
 
-use outside::{Floor, Io, Place, Read};
+use outside::{Floor, Io, Read};
 use outside_real::{RealFloor, RealSink};
 use plain_values::NoMemory;
 use std::io::{self, ErrorKind};
@@ -28,15 +29,8 @@ fn main(rt: HostRuntime) -> io::Result<()> {
     rooms::play(&rt, &mut berth)?;
     println!(&rt; "a line")?;
     lines::play(&rt, alloc, &mut berth)?;
-    println!(&rt; "a place")?;
-    let Ok(mut place) = floor.make_place(0) else {
-        return Err(io::Error::from(ErrorKind::OutOfMemory));
-    };
-    for path in ["made/deep/first", "link", "made"] {
-        tell_io(&rt, path, &place.write(path, b"written"))?;
-        tell_read(&rt, path, floor.read(path))?;
-    }
-    println!(&rt; "faults of the place {}", place.faults())?;
+    tell_read(&rt, "letter", floor.read("letter"))?;
+    places::play(&rt, alloc, &mut floor)?;
     for path in runs::LISTS {
         println!(&rt; "{path}")?;
         let words = runs::words(alloc, path)?;

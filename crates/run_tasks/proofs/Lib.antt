@@ -1,3 +1,4 @@
+pub mod Berths
 pub mod Courses
 pub mod Fits
 mod Rows

@@ -68,11 +68,11 @@ same_maker before rest p none =
 
 -- ---- what the checks of a list say
 
-head_fine : (check : Check) (later : List Check) → first (check ∷ later) ≡ Ok tt → check ≡ Ok tt
+pub head_fine : (check : Check) (later : List Check) → first (check ∷ later) ≡ Ok tt → check ≡ Ok tt
 head_fine (Ok fine) later e = refl
 head_fine (Err f) later e = cc
 
-rest_fine : (check : Check) (later : List Check) → first (check ∷ later) ≡ Ok tt
+pub rest_fine : (check : Check) (later : List Check) → first (check ∷ later) ≡ Ok tt
     → first later ≡ Ok tt
 rest_fine (Ok fine) later e = e
 rest_fine (Err f) later e = cc

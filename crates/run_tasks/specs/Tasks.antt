@@ -33,6 +33,10 @@ pub record IsTaskOf (o : Options) (xs : List ListAction) (short : Bool)
 abbrev pub HasSoundPlans : Task × Plan → Type 0
 HasSoundPlans made = Sound made.0.plan × (made.1 ≡ made.0.plan)
 
+-- a plan without berths has no actions
+abbrev pub HasBerths : Plan → Type 0
+HasBerths p = berths p ≡ 0 → p.actions ≡ []
+
 -- The work of each of the plan's actions has its outputs, and its made inputs are among the plan's.
 abbrev pub HasWork : Task → Type 0
 HasWork task =

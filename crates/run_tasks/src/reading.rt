@@ -8,7 +8,7 @@ ghost use Rattle.outside.specs.Told.{SameFloor};
 ghost use Rattle.run_loading.specs.Reads.{IsFloorFailed, Leads, end_of};
 ghost use Rattle.tool_words.specs.Options.{AreInLimits, options_of};
 ghost use Rattle.run_tasks.specs.Course.{Course, GeneratedRead, ListGives, ListRead, OptionsRead, TaskRead};
-ghost use Rattle.run_tasks.specs.Tasks.{HasPosts, HasSoundPlans, HasWork};
+ghost use Rattle.run_tasks.specs.Tasks.{HasBerths, HasPosts, HasSoundPlans, HasWork};
 
 use crate::task::{Task, task_of};
 use action_list::{ActionList, ListRefusal, read_list_with};
@@ -41,6 +41,7 @@ pub fn read_task<F: Floor>(
     ensures course { Leads (F.told floor.old) (F.told floor.new) result
         (Course (options_of (map string_bytes words.now))) }
     ensures sound { IfOk result HasSoundPlans }
+    ensures berths { IfOk result (λ made. HasBerths made.0.plan) }
     ensures work { IfOk result (λ made. HasWork made.0) }
     ensures posts { IfOk result (λ made. HasPosts made.0) }
     ensures floor { Counts (F.told floor.old).faults (F.told floor.new).faults
@@ -62,6 +63,7 @@ fn read_by_options<F: Floor>(
     ensures course { Leads (F.told floor.old) (F.told floor.new) result
         (OptionsRead options.now options.now.list options.now.generate) }
     ensures sound { IfOk result HasSoundPlans }
+    ensures berths { IfOk result (λ made. HasBerths made.0.plan) }
     ensures work { IfOk result (λ made. HasWork made.0) }
     ensures posts { IfOk result (λ made. HasPosts made.0) }
     ensures floor { Counts (F.told floor.old).faults (F.told floor.new).faults

@@ -30,7 +30,8 @@ impl Case {
         let (kind, rest) = line.split_once(' ').unwrap_or((line, ""));
         match kind {
             "new" => *self = Case::new(alloc),
-            "file" => self.add_file(alloc, rest)?,
+            "file" => self.add_text(alloc, rest)?,
+            "big" => self.add_zeros(alloc, rest)?,
             "leave" => self.outputs.push(Text::copy_of(alloc, rest)?)?,
             "give" => self.answer = bytes_of(alloc, rest),
             "fail" => self.add_fault(rest)?,
@@ -40,21 +41,33 @@ impl Case {
         Ok(String::new(alloc))
     }
 
-    fn add_file(&mut self, alloc: Global, line: &str) -> Result<(), NoMemory> {
+    fn add_text(&mut self, alloc: Global, line: &str) -> Result<(), NoMemory> {
         let (path, text) = line.split_once(' ').unwrap_or((line, ""));
         let text = text.replace(alloc, "\u{240a}", "\n")?;
+        self.add_file(alloc, path, text.into_bytes())
+    }
+
+    fn add_zeros(&mut self, alloc: Global, line: &str) -> Result<(), NoMemory> {
+        let (path, count) = line.split_once(' ').unwrap_or((line, ""));
+        let count = count.parse::<usize>().unwrap_or(0);
+        self.add_file(alloc, path, vec![in alloc; 0; count]?)
+    }
+
+    fn add_file(&mut self, alloc: Global, path: &str, bytes: Vec<u8>) -> Result<(), NoMemory> {
         self.files.retain(|file| file.path.as_str() != path);
-        self.files
-            .push(file(alloc, path, text.as_str().as_bytes())?)?;
+        self.files.push(SourceFile {
+            path: Text::copy_of(alloc, path)?,
+            bytes: Blob::of(alloc, bytes)?,
+        })?;
         Ok(())
     }
 
     fn add_fault(&mut self, line: &str) -> Result<(), NoMemory> {
         let (object, nth) = line.split_once(' ').unwrap_or((line, "1"));
-        let nth = nth.parse::<u64>().unwrap_or(1);
+        let (kind, which) = object.split_once(':').unwrap_or((object, ""));
         self.fails.push(FailAt {
-            on: object_of(object),
-            nth,
+            on: object_of(kind, number(which)),
+            nth: nth.parse::<u64>().unwrap_or(1),
         })?;
         Ok(())
     }
@@ -75,8 +88,11 @@ impl Case {
     /// The script of one run, after which no call is to fail.
     pub fn script(&mut self, alloc: Global) -> Result<Script, NoMemory> {
         let mut files = Vec::new(alloc);
-        for it in &self.files {
-            files.push(file(alloc, it.path.as_str(), it.bytes.bytes())?)?;
+        for file in &self.files {
+            files.push(SourceFile {
+                path: Text::copy_of(alloc, file.path.as_str())?,
+                bytes: file.bytes.again()?,
+            })?;
         }
         let mut lines = std::mem::replace(&mut self.children, Vec::new(alloc));
         if lines.is_empty() {
@@ -91,11 +107,11 @@ impl Case {
     }
 }
 
-// The children of the lines, from line 0 on, with a `/` between two of them. One without beats is
+// The children of the lines, from line 0 on, with a lone `/` between two of them. One without beats is
 // obliging.
 fn children(alloc: Global, words: &str) -> Result<Vec<Option<Vec<Beat>>>, NoMemory> {
     let mut lines = Vec::new(alloc);
-    for child in words.split('/') {
+    for child in words.split(" / ") {
         let mut beats = Vec::new(alloc);
         for word in child.split(' ') {
             let (kind, rest) = word.split_once('=').unwrap_or((word, ""));
@@ -112,8 +128,9 @@ fn beat_of(alloc: Global, kind: &str, rest: &str) -> Result<Option<Beat>, NoMemo
     Ok(Some(match kind {
         "hear" => Beat::Hear(number(rest)),
         "leave" => {
-            let content = Blob::of(alloc, b"x".to_vec(alloc)?)?;
-            Beat::Leave(Text::copy_of(alloc, rest)?, content)
+            let (path, text) = rest.split_once(',').unwrap_or((rest, "x"));
+            let content = Blob::of(alloc, Vec::from_slice(alloc, text.as_bytes())?)?;
+            Beat::Leave(Text::copy_of(alloc, path)?, content)
         }
         "give" => Beat::Give(bytes_of(alloc, rest)),
         "choose" => {
@@ -135,25 +152,18 @@ fn bytes_of(alloc: Global, digits: &str) -> Vec<u8> {
     hex::decode(alloc, digits).unwrap_or(Vec::new(alloc))
 }
 
-fn file(alloc: Global, path: &str, bytes: &[u8]) -> Result<SourceFile, NoMemory> {
-    Ok(SourceFile {
-        path: Text::copy_of(alloc, path)?,
-        bytes: Blob::of(alloc, Vec::from_slice(alloc, bytes)?)?,
-    })
-}
-
-// The objects of the one line, berth and action that there are.
-fn object_of(name: &str) -> Object {
-    match name {
+// The objects of this number: a berth, a line or an action, by the kind of call.
+fn object_of(kind: &str, number: u32) -> Object {
+    match kind {
         "floor" => Object::FloorRead,
-        "launch" => Object::Launch(0),
-        "clear" => Object::Clear(0),
-        "folder" => Object::Folder(0),
-        "put" => Object::Put(0),
-        "get" => Object::Get(0),
-        "feed" => Object::Feed(0),
-        "tap" => Object::Tap(0),
-        "place" => Object::Place(0),
+        "launch" => Object::Launch(number),
+        "clear" => Object::Clear(number),
+        "folder" => Object::Folder(number),
+        "put" => Object::Put(number),
+        "get" => Object::Get(number),
+        "feed" => Object::Feed(number),
+        "tap" => Object::Tap(number),
+        "place" => Object::Place(number),
         _ => Object::Sink,
     }
 }

@@ -1,6 +1,6 @@
 // One run, and what its objects tell.
 use crate::case::Case;
-use outside::BerthCall;
+use outside::{BerthCall, PlaceWrite};
 use outside_mem::{MemFloor, MemSink, Script};
 use plain_values::NoMemory;
 use std::alloc::Global;
@@ -11,10 +11,10 @@ use worker_run::{Ended, fault_line};
 /// to the next.
 #[derive(Clone, Copy, PartialEq, Eq)]
 pub enum Shown {
-    /// All but how many entries its journal has.
-    Report,
-    /// Its status, and whether all children were killed.
-    Status,
+    /// How many lines and writes there were, and its report.
+    All,
+    /// How many lines its report has, and the last of them.
+    Totals,
 }
 
 /// What a run is given, beside its floor.
@@ -53,26 +53,61 @@ pub fn tell<R: Wait + Clone + Drop>(
     shown: Shown,
     report: &str,
 ) -> Result<String, NoMemory> {
-    let mut writes = 0;
-    for place in &ended.places {
-        writes = usize::saturating_add(writes, place.log().len());
-    }
+    let berths = ended.berths.len();
     let killed = ended.lines.iter().all(|line| line
         .halves
         .as_ref()
         .is_none_or(|halves| halves.child.is_killed()));
-    let mut told = match shown {
-        Shown::Report => format!(in alloc;
-            "status {} writes {writes} killed {killed}\n{report}",
-            ended.status
-        )?,
-        Shown::Status => format!(in alloc; "status {} killed {killed}\n", ended.status)?,
-    };
+    let mut told = format!(in alloc; "status {} berths {berths} killed {killed}", ended.status)?;
+    match shown {
+        Shown::All => {
+            let lines = ended.lines.len();
+            let started = ended.lines.iter().filter(|line| line.halves.is_some());
+            let counts = format!(in alloc; " lines {lines} started {}\n", started.count())?;
+            told.push_str(counts.as_str())?;
+            told.push_str(report)?;
+        }
+        Shown::Totals => {
+            let count = format!(in alloc; " report {}\n", report.lines().count())?;
+            told.push_str(count.as_str())?;
+            if let Some(totals) = report.lines().last() {
+                told.push_str(totals)?;
+                told.push_str("\n")?;
+            }
+        }
+    }
     if let Some(fault) = &ended.fault {
         told.push_str(fault_line(alloc, fault)?.as_str())?;
         told.push_str("\n")?;
     }
     Ok(told)
+}
+
+/// What was written to each action's place, one write a line: the action's number, the path, and the
+/// bytes in hexadecimal.
+pub fn writes<R: Wait + Clone + Drop>(
+    alloc: Global,
+    ended: &Ended<MemFloor<R>>,
+) -> Result<String, NoMemory> {
+    let mut told = String::new(alloc);
+    for (action, place) in ended.places.iter().enumerate() {
+        tell_writes(alloc, action, place.log(), &mut told)?;
+    }
+    Ok(told)
+}
+
+fn tell_writes(
+    alloc: Global,
+    action: usize,
+    writes: &[PlaceWrite],
+    told: &mut String,
+) -> Result<(), NoMemory> {
+    for PlaceWrite { path, bytes } in writes {
+        let digits = hex::encode(alloc, bytes.bytes())?;
+        let line = format!(in alloc; "write {action} {} {}\n", path.as_str(), digits.as_str())?;
+        told.push_str(line.as_str())?;
+    }
+    Ok(())
 }
 
 /// The paths that the floor was asked for, in order.

@@ -27,12 +27,12 @@ use Rattle.run_plan.specs.Sound.{Sound}
 use Rattle.run_plan.specs.declared.plan.Plan.{Plan}
 use Rattle.run_plan.specs.declared.plan.PlanAction.{PlanAction}
 use Rattle.run_rules.specs.Duties.{proxy_lane}
-use Rattle.run_tasks.specs.Tasks.{HasPosts}
+use Rattle.run_tasks.specs.Tasks.{HasBerths, HasPosts}
 use Rattle.run_tasks.specs.declared.task.Task.{Task}
 use Rattle.script_duties.specs.Owed.{journal_of, outputs_in}
 use Rattle.worker_run.proofs.Histories.{halted_is, history_again, newest_is, stopped_is}
 use Rattle.worker_run.specs.Ends.{IsReportEnd, IsRunEnd, is_halted}
-use Rattle.worker_run.specs.Headline.{HaltsAsSaid, HasBerths, HasOuts, HasPipes, HasRace, HasRooms, IsAccounted, IsComplete, IsKept, IsLegal, IsPaired, IsStopped, OnRun, newest_first}
+use Rattle.worker_run.specs.Headline.{HaltsAsSaid, HasOuts, HasPipes, HasRace, HasRooms, IsAccounted, IsComplete, IsKept, IsLegal, IsPaired, IsStopped, OnRun, newest_first}
 use Rattle.worker_run.specs.Histories.{history_of}
 use Rattle.worker_run.specs.Lanes.{AreNewBerths, TaskRan, WhereWhole, is_during}
 use Rattle.worker_run.specs.Seen.{EndedTold, Left}
@@ -125,21 +125,22 @@ module _ (t : Task) (when : Option Stage) (x : Left) (ran : TaskRan t when x) wh
     unhalted none = ap halted (sym newest)
         ∙ (halted_is ran.run.history ∙ (ap has_halt (sym same) ∙ none))
 
-    settles : (n : ℕ) → berths t.plan ≡ n → has_halt (history_of x.journal) ≡ false
-        → HasBerths t.plan → all_settled t.plan (newest_first x) ≡ true
-    settles zero is none has = none_to_settle t.plan (newest_first x) (has is)
-    settles (suc n) is none has = stopped_settled t.plan (newest_first x) (proxy_lane 0) is_legal
-        (stops_first (ap has_halt (sym same) ∙ none) (subst (λ m. 0 < m) (sym is) (omega arith)))
-        (unhalted none)
+    module _ (has : HasBerths t.plan) where
+      settles : (n : ℕ) → berths t.plan ≡ n → has_halt (history_of x.journal) ≡ false
+          → all_settled t.plan (newest_first x) ≡ true
+      settles zero is none = none_to_settle t.plan (newest_first x) (has is)
+      settles (suc n) is none = stopped_settled t.plan (newest_first x) (proxy_lane 0) is_legal
+          (stops_first (ap has_halt (sym same) ∙ none) (subst (λ m. 0 < m) (sym is) (omega arith)))
+          (unhalted none)
 
-    pub is_accounted : IsAccounted t x
-    is_accounted none has = finished t.plan (newest_first x) ran.run.is_legal.sound is_legal
-        (settles (berths t.plan) refl none has)
+      pub is_accounted : IsAccounted t x
+      is_accounted none = finished t.plan (newest_first x) ran.run.is_legal.sound is_legal
+          (settles (berths t.plan) refl none)
 
-    pub is_complete : IsComplete t x
-    is_complete none has clean = all_ok t.plan (newest_first x)
-        (all_succeed t.plan (newest_first x) ran.run.is_legal.sound is_legal clean (unhalted none)
-        (settles (berths t.plan) refl none has))
+      pub is_complete : IsComplete t x
+      is_complete none clean = all_ok t.plan (newest_first x)
+          (all_succeed t.plan (newest_first x) ran.run.is_legal.sound is_legal clean (unhalted none)
+          (settles (berths t.plan) refl none))
 
 -- What is so of each run of lanes is so of the run that is told.
 module _ (when : Option Stage) (t : Task) (x : Left) (end : EndedTold) where

@@ -16,7 +16,6 @@ use Rattle.lane_runs.specs.Layout.{has_halt}
 use Rattle.lane_runs.specs.Runs.{Outs, Pipes, Rooms, Stops}
 use Rattle.outside.specs.Told.{BerthTold}
 use Rattle.run_plan.specs.Groups.{berths}
-use Rattle.run_plan.specs.declared.plan.Plan.{Plan}
 use Rattle.run_tasks.specs.declared.task.Task.{Task}
 use Rattle.script_duties.specs.Owed.{outputs_in}
 use Rattle.worker_run.specs.Ends.{is_halted}
@@ -58,21 +57,17 @@ HaltsAsSaid end = OnRun end (λ t x. has_halt (history_of x.journal) ≡ is_halt
 abbrev pub IsStopped : Task → Left → Type 0
 IsStopped t x = Stops (berths t.plan) (history_of x.journal)
 
--- a plan without berths has no actions
-abbrev pub HasBerths : Plan → Type 0
-HasBerths p = berths p ≡ 0 → p.actions ≡ []
-
--- no lane has halted, and there are berths for the actions
-abbrev pub WithoutHalt : Task → Left → Type 0 → Type 0
-WithoutHalt t x P = has_halt (history_of x.journal) ≡ false → HasBerths t.plan → P
+-- where no lane has halted
+abbrev pub WithoutHalt : Left → Type 0 → Type 0
+WithoutHalt x P = has_halt (history_of x.journal) ≡ false → P
 
 -- then every action is settled with an outcome, and each request and each attempt is accounted for
 abbrev pub IsAccounted : Task → Left → Type 0
-IsAccounted t x = WithoutHalt t x (Finished t.plan (newest_first x))
+IsAccounted t x = WithoutHalt x (Finished t.plan (newest_first x))
 
 -- and where every worker did its part, every outcome is a success
 abbrev pub IsComplete : Task → Left → Type 0
-IsComplete t x = WithoutHalt t x (Clean (newest_first x)
+IsComplete t x = WithoutHalt x (Clean (newest_first x)
     → list_all is_success (ends_of t.plan (newest_first x)) ≡ true)
 
 -- ---- the objects

@@ -70,7 +70,8 @@ returns-in-Ok-clause-accounted g c =
     let when = c.run_task-ran.result.fault in
     let x = c.run_task-ran.result.left in
     on_run when t x c.conclude.result IsAccounted c.conclude.ensures.kind c.run_task-ran.ensures.run
-    c.conclude.ensures.left (λ ran. is_accounted t when x ran c.in-Ok.ensures.posts)
+    c.conclude.ensures.left (λ ran. is_accounted t when x ran c.in-Ok.ensures.posts
+    c.in-Ok.ensures.berths)
 
 pub returns-in-Ok-clause-complete : goal.returns-in-Ok-clause-complete
 returns-in-Ok-clause-complete g c =
@@ -78,7 +79,8 @@ returns-in-Ok-clause-complete g c =
     let when = c.run_task-ran.result.fault in
     let x = c.run_task-ran.result.left in
     on_run when t x c.conclude.result IsComplete c.conclude.ensures.kind c.run_task-ran.ensures.run
-    c.conclude.ensures.left (λ ran. is_complete t when x ran c.in-Ok.ensures.posts)
+    c.conclude.ensures.left (λ ran. is_complete t when x ran c.in-Ok.ensures.posts
+    c.in-Ok.ensures.berths)
 
 pub returns-in-Ok-clause-pipes : goal.returns-in-Ok-clause-pipes
 returns-in-Ok-clause-pipes g c =
