@@ -6,7 +6,6 @@ use Rattle.std.proofs.lemmas.List.{length-map}
 use Rattle.std.proofs.lemmas.List.Sums.{sum_by-append, sum_by-cons}
 use Rattle.std.proofs.lemmas.Slice.Eq.{bytes_eq-Decides}
 use Rattle.std.specs.Str.{bytes_eq}
-use Rattle.serde_json.specs.Data.{Data}
 use Rattle.action_list.specs.declared.faults.ListFault.{ListFault}
 use Rattle.action_list.specs.declared.faults.ListFault.TheVariants as fault
 use Rattle.action_list.specs.declared.faults.What.{What}
@@ -48,13 +47,16 @@ passed : {A B : Type 0} (r : Result A ListFault) (f : A → Result B ListFault) 
 passed (Ok x) f y e = (x, refl, e)
 passed (Err fault) f y e = absurd (cc)
 
+abbrev fine_if : Bool → ListFault → Check
+fine_if b f = cond b (Ok tt) (Err f)
+
+fine_or : (b : Bool) (f : ListFault) → fine_if b f ≡ Ok tt → b ≡ true
+fine_or true f e = refl
+fine_or false f e = absurd (cc)
+
 counted : (w : What) (limit count : ℕ) → count_check w limit count ≡ Ok tt → count ≤ limit
-counted w limit count =
-    elim (leb count limit)
-    as (λ b. leb count limit ≡ b → cond b (Ok tt) (Err (fault.TooMany w count)) ≡ Ok tt
-    → count ≤ limit)
-    [ true ↦ (λ is e. leb-true count limit is) | false ↦ (λ is e. absurd (cc)) ]
-    refl
+counted w limit count e =
+    leb-true count limit (fine_or (leb count limit) (fault.TooMany w count) e)
 
 pub few_keys : (bytes : List ℕ) (list : ActionList) → list_of 48 bytes ≡ Ok list
     → length (keys_of list.actions) ≤ 48
@@ -230,7 +232,7 @@ module _ (o : Options) (limits : AreInLimits o) (made : Task × Plan) where
 pub list_has_berths : (o : Options) (old new : FloorTold) (path : List ℕ) (result : Made)
     → AreInLimits o → Leads old new result (ListRead o path)
     → IfOk result (λ made. HasBerths made.0.plan)
-list_has_berths o old new path (Ok made) limits l = by_list o limits made path l.3.0 l.3.2
+list_has_berths o old new path (Ok made) limits l = by_list o limits made path l.0 l.3
 list_has_berths o old new path (Err f) limits l = tt
 
 -- and where it was generated
@@ -238,5 +240,5 @@ pub generated_has_berths : (o : Options) (old new : FloorTold) (actions : ℕ) (
     → AreInLimits o → Leads old new result (GeneratedRead o actions)
     → IfOk result (λ made. HasBerths made.0.plan)
 generated_has_berths o old new actions (Ok made) limits l =
-    by_bytes o limits made true (generated_text actions) _ l.3.0 refl l.3.2
+    by_bytes o limits made true (generated_text actions) _ l.0 refl l.3
 generated_has_berths o old new actions (Err f) limits l = tt
