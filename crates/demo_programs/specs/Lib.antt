@@ -1,2 +1,3 @@
 -- What contracts cite of the small programs.
 pub mod Executes
+pub mod Demo

@@ -1,0 +1,70 @@
+-- What the demonstration worker does from its start to its end.
+use Rattle.std.specs.Prelude.{◌≡◌, ℕ, Bool, true, false, List, [], codes, Option, Some, None}
+use Rattle.std.specs.Prelude.{Result, Ok, Err}
+use Rattle.std.specs.List.{list_any}
+use Rattle.std.specs.Str.{bytes_eq}
+use Rattle.outside.specs.Told.{SinkTold, ShopTold}
+use Rattle.outside.specs.declared.shop.ShopCall.{ShopCall}
+use Rattle.delimited_framing.specs.Frame.{delimited_form}
+use Rattle.json_framing.specs.Lines.{line_form}
+use Rattle.wire_messages.specs.Request.{SpellsRequest}
+use Rattle.message_service.specs.declared.finish.Finish.{Finish}
+use Rattle.message_service.specs.declared.finish.Finish.TheVariants as finish
+use Rattle.message_service.specs.Calls.{Made}
+use Rattle.message_service.specs.Ends.{status_of, PutAll, PutFront}
+use Rattle.message_service.specs.Serves.{Outside, Serves}
+use Rattle.demo_worker.specs.declared.running.Answer.{Answer}
+use Rattle.demo_worker.specs.Once as once
+use Rattle.demo_worker.specs.Answers.{Answers, framed, as_line, SpellsLine}
+use Rattle.demo_programs.specs.declared.demonstrating.DemoEnd.{DemoEnd}
+
+abbrev pub is_word : List ℕ → List (List ℕ) → Bool
+is_word wanted words = list_any (λ word. bytes_eq word wanted) words
+
+-- ---- as a worker
+
+-- The bytes taken are lines, or frames, that spell requests. What was put is, request by request
+-- in order, the responses that the shop's answers give, and its log is the calls for these requests.
+abbrev pub Works : Bool → Finish → Outside → Outside → Type 0
+Works true f old new = Serves line_form SpellsLine (Answers as_line) f [] old new
+Works false f old new = Serves delimited_form SpellsRequest (Answers framed) f [] old new
+
+-- ---- once
+
+-- The words were done, and the text was put whole; or a front of it, where the sink failed; or
+-- memory ran out, and nothing was put.
+abbrev pub DoesOnce : List (List ℕ) → Result ℕ Finish → SinkTold → SinkTold → ShopTold → ShopTold
+    → Type 0
+DoesOnce words (Ok exit) out out' shop shop' =
+    (calls : List ShopCall) × (a : Answer) × once.DoesOnce words a calls × (exit ≡ a.exit_code)
+    × PutAll a.text out out' × Made calls shop shop'
+DoesOnce words (Err finish.OutputFault) out out' shop shop' =
+    (calls : List ShopCall) × (a : Answer) × once.DoesOnce words a calls
+    × PutFront a.text out out' × Made calls shop shop'
+DoesOnce words (Err finish.NoMemory) out out' shop shop' =
+    (calls : List ShopCall) × once.BeginsOnce words calls × (out' ≡ out) × Made calls shop shop'
+DoesOnce words (Err finish.AtEnd) out out' shop shop' = ⊥
+DoesOnce words (Err finish.BadInput) out out' shop shop' = ⊥
+DoesOnce words (Err finish.InputFault) out out' shop shop' = ⊥
+DoesOnce words (Err finish.TooLong) out out' shop shop' = ⊥
+
+-- ---- either
+
+abbrev pub ended : Finish → DemoEnd
+ended f = record { status = status_of f; exit = None }
+
+abbrev pub exited : Result ℕ Finish → DemoEnd
+exited (Ok exit) = record { status = exit; exit = Some exit }
+exited (Err f) = ended f
+
+abbrev pub DemonstratesAs : Bool → List (List ℕ) → DemoEnd → Outside → Outside → Type 0
+DemonstratesAs true words end old new =
+    (f : Finish) × (end ≡ ended f) × Works (is_word (codes "--json") words) f old new
+DemonstratesAs false words end old new =
+    (r : Result ℕ Finish) × (end ≡ exited r) × (new.input ≡ old.input)
+    × DoesOnce words r old.out new.out old.shop new.shop
+
+-- It is a worker exactly where it is told so.
+abbrev pub Demonstrates : List (List ℕ) → DemoEnd → Outside → Outside → Type 0
+Demonstrates words end old new =
+    DemonstratesAs (is_word (codes "--persistent_worker") words) words end old new

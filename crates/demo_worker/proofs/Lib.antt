@@ -1,0 +1,4 @@
+pub mod Finding
+pub mod Doing
+pub mod Answering
+pub mod Texts

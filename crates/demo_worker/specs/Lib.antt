@@ -1,0 +1,7 @@
+-- What contracts cite of the demonstration worker.
+pub mod Words
+pub mod Looks
+pub mod Does
+pub mod Once
+pub mod Steps
+pub mod Answers

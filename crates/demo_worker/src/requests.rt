@@ -1,0 +1,139 @@
+// Requests that bring commands.
+ghost use Rattle.std.specs.Prelude.{◌≡◌, List, IfOk, Some};
+ghost use Rattle.outside.specs.declared.shop.ShopCall.{ShopCall};
+ghost use Rattle.json_framing.specs.declared.cutter.Framing.TheVariants as framing;
+ghost use Rattle.message_service.specs.Calls.{Made};
+ghost use Rattle.wire_messages.specs.Request.{SpellsRequest};
+ghost use Rattle.demo_worker.specs.Answers.{Answers, Responds, SpellsLine, as_line, framed, response_to};
+
+use crate::running::{Answer, run_words};
+use json_framing::Framing;
+use json_messages::{read_request_line, response_line};
+use message_service::Service;
+use outside::Shop;
+use plain_values::{Items, NoMemory};
+use std::alloc::Global;
+use wire_messages::{MessageFault, WorkRequest, WorkResponse, decode_request, encode_delimited};
+
+/// Answers requests in the binary form of Protocol Buffers, each behind its length.
+#[derive(Clone, Copy, Debug)]
+pub struct DelimitedRequests;
+
+/// Answers requests that are JSON lines.
+#[derive(Clone, Copy, Debug)]
+pub struct RequestLines;
+
+impl<S: Shop> Service<S> for DelimitedRequests {
+    type Message = WorkRequest;
+
+    ghost framing = { framing.Delimited };
+
+    ghost spells = { SpellsRequest };
+
+    ghost answers = { Answers framed };
+
+    fn framing(&self) -> Framing {
+        Framing::Delimited
+    }
+
+    fn read(&self, alloc: Global, frame: &[u8]) -> Result<Option<WorkRequest>, NoMemory> {
+        match decode_request(alloc, frame) {
+            Ok(request) => Ok(Some(request)),
+            Err(fault) => match fault {
+                MessageFault::NoMemory => Err(NoMemory),
+                _ => Ok(None),
+            },
+        }
+    }
+
+    fn answer(
+        &self,
+        alloc: Global,
+        shop: &mut S,
+        message: &WorkRequest,
+        _behind: &[WorkRequest],
+    ) -> Result<Option<Items<u8>>, NoMemory> {
+        match respond(alloc, shop, message)? {
+            Some(response) => framed(alloc, &response),
+            None => Ok(None),
+        }
+    }
+}
+
+impl<S: Shop> Service<S> for RequestLines {
+    type Message = WorkRequest;
+
+    ghost framing = { framing.Lines };
+
+    ghost spells = { SpellsLine };
+
+    ghost answers = { Answers as_line };
+
+    fn framing(&self) -> Framing {
+        Framing::Lines
+    }
+
+    fn read(&self, alloc: Global, frame: &[u8]) -> Result<Option<WorkRequest>, NoMemory> {
+        match read_request_line(alloc, frame) {
+            Ok(request) => Ok(Some(request)),
+            Err(fault) => match fault {
+                MessageFault::NoMemory => Err(NoMemory),
+                _ => Ok(None),
+            },
+        }
+    }
+
+    fn answer(
+        &self,
+        alloc: Global,
+        shop: &mut S,
+        message: &WorkRequest,
+        _behind: &[WorkRequest],
+    ) -> Result<Option<Items<u8>>, NoMemory> {
+        match respond(alloc, shop, message)? {
+            Some(response) => as_line(alloc, &response),
+            None => Ok(None),
+        }
+    }
+}
+
+// The response to a request; `None` where the request cancels another, and then nothing is done.
+fn respond<S: Shop>(
+    alloc: Global,
+    shop: &mut S,
+    request: &WorkRequest,
+) -> Result<Option<WorkResponse>, NoMemory>
+    ensures { (calls : List ShopCall) × Responds request.now result calls
+        × Made calls (S.told shop.old) (S.told shop.new) }
+{
+    if request.cancel {
+        return Ok(None);
+    }
+    let answer = run_words(alloc, shop, request.arguments.as_slice())?;
+    Ok(Some(response_to(request, answer)))
+}
+
+fn response_to(request: &WorkRequest, answer: Answer) -> WorkResponse
+    ensures { result ≡ response_to request.now answer }
+{
+    WorkResponse {
+        exit_code: i32::from(answer.exit_code),
+        output: answer.text,
+        request_id: request.request_id,
+        was_cancelled: false,
+    }
+}
+
+// The response behind its length.
+fn framed(alloc: Global, response: &WorkResponse) -> Result<Option<Items<u8>>, NoMemory>
+    ensures { IfOk result (λ reply. reply ≡ Some (framed response.now)) }
+{
+    Ok(Some(Items::of(encode_delimited(alloc, response)?)))
+}
+
+// The response as a line.
+fn as_line(alloc: Global, response: &WorkResponse) -> Result<Option<Items<u8>>, NoMemory>
+    ensures { IfOk result (λ reply. reply ≡ Some (as_line response.now)) }
+{
+    Ok(Some(Items::of(response_line(alloc, response)?)))
+}
