@@ -1,5 +1,5 @@
 -- The groups of a plan have at most 64 berths, and no executor has cancellation.
-use Rattle.std.proofs.Common.{◌≡◌, ℕ, zero, suc, ◌+◌, ◌≤◌, true, false, cond, nat_eq, List, [], ◌∷◌, ◌++◌, length, map, sum_by, min, leb, Option, Some, None, refl, sym, ap, ◌∙◌, arith, length-append}
+use Rattle.std.proofs.Common.{◌≡◌, ℕ, zero, suc, ◌+◌, ◌≤◌, Bool, true, false, cond, nat_eq, List, [], ◌∷◌, ◌++◌, length, map, sum_by, min, leb, Option, Some, None, refl, sym, ap, ◌∙◌, arith, length-append}
 use Rattle.std.proofs.lemmas.Bool.{and_from, leb-true}
 use Rattle.std.proofs.lemmas.List.{length-map}
 use Rattle.std.proofs.lemmas.List.Folds.{list_all-append}
@@ -8,11 +8,13 @@ use Rattle.std.specs.List.{list_all}
 use Rattle.run_plan.specs.declared.plan.Group.{Group}
 use Rattle.run_plan.specs.declared.plan.Kind.TheVariants as kind
 use Rattle.run_plan.specs.Sound.{is_sound_group}
+use Rattle.worker_key.specs.declared.key.Mode.{Mode}
+use Rattle.worker_key.specs.declared.key.Mode.TheVariants as mode
 use Rattle.action_list.specs.declared.types.ListAction.{ListAction}
 use Rattle.action_list.specs.Checks.{has_local}
-use Rattle.action_list.specs.Keys.{key_bytes, keys_from, keys_of, takes_several, with_bytes, with_key}
+use Rattle.action_list.specs.Keys.{key_bytes, keys_from, keys_of, mode_of, with_bytes, with_key}
 use Rattle.action_list.specs.Order.{is_among}
-use Rattle.action_list.specs.Plans.{berths_at, executor_groups, group_by, groups_of, key_group, remote_users, share, users}
+use Rattle.action_list.specs.Plans.{berths_at, executor_groups, group_by, groups_of, key_group, kind_by, remote_users, share, users}
 
 -- ---- how many keys there are
 
@@ -88,12 +90,15 @@ few_berths xs held keys instances remote few =
 
 -- ---- no executor with cancellation
 
+sound_kind : (m : Mode) (cancel : Bool) (n : ℕ)
+    → is_sound_group (record { kind = kind_by m; cancel = cancel; berths = n }) ≡ true
+sound_kind mode.Single cancel n = refl
+sound_kind mode.Multi cancel n = refl
+sound_kind mode.Boxed cancel n = refl
+
 sound_by : (o : Option ListAction) (n : ℕ) → is_sound_group (group_by o n) ≡ true
 sound_by None n = refl
-sound_by (Some x) n =
-    elim (takes_several x.strategy x.needs.multiplex)
-    as (λ b. is_sound_group (record { kind = cond b kind.Multi kind.Single; cancel = x.needs.cancel; berths = n }) ≡ true)
-    [ true ↦ refl | false ↦ refl ]
+sound_by (Some x) n = sound_kind (mode_of x) x.needs.cancel n
 
 sound_keys : (xs : List ListAction) (held : List (Option (List ℕ))) (n : ℕ) (keys : List (List ℕ)) → list_all is_sound_group (map (key_group xs held n) keys) ≡ true
 sound_keys xs held n [] = refl

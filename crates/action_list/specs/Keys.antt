@@ -1,5 +1,5 @@
 -- Which actions share a worker key, as far as the list says.
-use Rattle.std.specs.Prelude.{ℕ, ◌==◌, Bool, false, if◌then◌else◌, List, [], ◌∷◌, ◌++◌, length, map, unwrap_or}
+use Rattle.std.specs.Prelude.{ℕ, ◌==◌, ◌&&◌, not, if◌then◌else◌, List, [], ◌∷◌, ◌++◌, length, map, unwrap_or}
 use Rattle.worker_key.specs.Keys.{canonical}
 use Rattle.worker_key.specs.declared.key.Mode.{Mode}
 use Rattle.worker_key.specs.declared.key.Mode.TheVariants as mode
@@ -9,20 +9,18 @@ use Rattle.flag_files.specs.Split.{request_words, startup_words}
 use Rattle.outside.specs.declared.command.Variable.{Variable}
 use Rattle.action_list.specs.declared.faults.What.TheVariants as what
 use Rattle.action_list.specs.declared.types.ListAction.{ListAction}
-use Rattle.action_list.specs.declared.types.Strategy.{Strategy}
-use Rattle.action_list.specs.declared.types.Strategy.TheVariants as strategy
 use Rattle.action_list.specs.Answers.{Check}
-use Rattle.action_list.specs.Checks.{count_check, has_local}
+use Rattle.action_list.specs.Checks.{count_check, has_local, has_remote}
 use Rattle.action_list.specs.Order.{is_among}
 
--- several requests at once, where that is set and the action runs on a worker alone
-abbrev pub takes_several : Strategy → Bool → Bool
-takes_several strategy.Worker multiplex = multiplex
-takes_several strategy.Remote multiplex = false
-takes_several strategy.Dynamic multiplex = false
-
+-- How the requests of an action's worker run: several at once, each in a folder of its own, where
+-- the worker understands both; several in its room, where it understands no folders and no executor
+-- can win the action while the worker still writes there; else one at a time.
 abbrev pub mode_of : ListAction → Mode
-mode_of x = if takes_several x.strategy x.needs.multiplex then mode.Multi else mode.Single
+mode_of x =
+    if x.needs.multiplex && x.needs.sandboxing then mode.Boxed
+    else if x.needs.multiplex && not (has_remote x.strategy) then mode.Multi
+    else mode.Single
 
 abbrev pub named_variable : Variable → Named
 named_variable v = record { name = v.name; value = v.value }

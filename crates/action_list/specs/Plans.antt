@@ -8,9 +8,11 @@ use Rattle.run_plan.specs.declared.plan.Kind.TheVariants as kind
 use Rattle.run_plan.specs.declared.plan.Maker.{Maker}
 use Rattle.run_plan.specs.declared.plan.Plan.{Plan}
 use Rattle.run_plan.specs.declared.plan.PlanAction.{PlanAction}
+use Rattle.worker_key.specs.declared.key.Mode.{Mode}
+use Rattle.worker_key.specs.declared.key.Mode.TheVariants as mode
 use Rattle.action_list.specs.declared.types.ListAction.{ListAction}
 use Rattle.action_list.specs.Checks.{has_local, has_remote}
-use Rattle.action_list.specs.Keys.{key_bytes, keys_of, takes_several}
+use Rattle.action_list.specs.Keys.{key_bytes, keys_of, mode_of}
 
 -- ---- what an action's inputs are made by
 
@@ -57,8 +59,14 @@ abbrev pub share : List ℕ → ℕ → ℕ
 share counts zero = 0
 share counts (suc n) = if nat_le (berths_at counts (suc n)) 48 then suc n else share counts n
 
+-- The requests of a group run as the mode of its key says.
+abbrev pub kind_by : Mode → Kind
+kind_by mode.Single = kind.Single
+kind_by mode.Multi = kind.Multi
+kind_by mode.Boxed = kind.Boxed
+
 abbrev pub kind_of : ListAction → Kind
-kind_of x = if takes_several x.strategy x.needs.multiplex then kind.Multi else kind.Single
+kind_of x = kind_by (mode_of x)
 
 -- the group of a key, by the first action that has it
 abbrev pub group_by : Option ListAction → ℕ → Group

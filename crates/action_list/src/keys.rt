@@ -2,7 +2,7 @@
 ghost use Rattle.std.specs.Prelude.{◌≡◌, ◌≤◌, ◌+◌, length, IfOk, OnOk, map};
 ghost use Rattle.action_list.specs.Answers.{Settles};
 ghost use Rattle.action_list.specs.Checks.{has_local, has_remote};
-ghost use Rattle.action_list.specs.Keys.{key_bytes, keys_check, keys_of, list_key, mode_of, named_variable, takes_several, unread_tool, with_bytes, with_key, worker_words};
+ghost use Rattle.action_list.specs.Keys.{key_bytes, keys_check, keys_of, list_key, mode_of, named_variable, unread_tool, with_bytes, with_key, worker_words};
 ghost use Rattle.action_list.specs.Order.{is_among};
 
 use crate::checks::check_count;
@@ -105,20 +105,13 @@ fn list_key(alloc: Global, action: &ListAction) -> Result<WorkerKey, NoMemory>
 pub fn mode_of(action: &ListAction) -> Mode
     ensures { result ≡ mode_of action.now }
 {
-    if takes_several(action.strategy, action.needs.multiplex) {
+    let needs = &action.needs;
+    if needs.multiplex && needs.sandboxing {
+        Mode::Boxed
+    } else if needs.multiplex && !has_remote(action.strategy) {
         Mode::Multi
     } else {
         Mode::Single
-    }
-}
-
-/// Several requests may run at once on the worker.
-pub fn takes_several(strategy: Strategy, multiplex: bool) -> bool
-    ensures { result ≡ takes_several strategy multiplex }
-{
-    match strategy {
-        Strategy::Worker => multiplex,
-        Strategy::Remote | Strategy::Dynamic => false,
     }
 }
 

@@ -6,16 +6,17 @@ ghost use Rattle.std.specs.Str.{bytes_eq};
 ghost use Rattle.action_list.specs.declared.types.ListAction.{ListAction};
 ghost use Rattle.action_list.specs.Keys.{keys_of};
 ghost use Rattle.action_list.specs.Producers.{producer_of};
-ghost use Rattle.action_list.specs.Plans.{berths_at, executor_groups, first_user, groups_of, is_key, key_group, kind_of, local_key, local_of, number_of, plan_action, plan_actions, plan_of, remote_of, remote_users, share, users};
+ghost use Rattle.action_list.specs.Plans.{berths_at, executor_groups, first_user, groups_of, is_key, key_group, kind_by, kind_of, local_key, local_of, number_of, plan_action, plan_actions, plan_of, remote_of, remote_users, share, users};
 ghost use Rattle.action_list.specs.Whole.{IsWhole, KnowsProducers};
 ghost use Rattle.run_plan.specs.Sound.{Sound};
 
-use crate::keys::{has_local, has_remote, key_bytes, keys_of, takes_several};
+use crate::keys::{has_local, has_remote, key_bytes, keys_of, mode_of};
 use crate::producers::Producers;
 use crate::{ActionList, ListAction};
 use plain_values::{Blob, Items, NoMemory, Text, texts_again};
 use run_plan::{Group, Kind, Maker, Plan, PlanAction};
 use std::alloc::Global;
+use worker_key::Mode;
 
 const MAX_BERTHS: u32 = 48;
 
@@ -153,10 +154,16 @@ fn key_group(actions: &[ListAction], held: &[Option<Blob>], each: u32, key: &[u8
 fn kind_of(action: &ListAction) -> Kind
     ensures { result ≡ kind_of action.now }
 {
-    if takes_several(action.strategy, action.needs.multiplex) {
-        Kind::Multi
-    } else {
-        Kind::Single
+    kind_by(mode_of(action))
+}
+
+fn kind_by(mode: Mode) -> Kind
+    ensures { result ≡ kind_by mode }
+{
+    match mode {
+        Mode::Single => Kind::Single,
+        Mode::Multi => Kind::Multi,
+        Mode::Boxed => Kind::Boxed,
     }
 }
 
