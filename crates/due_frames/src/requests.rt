@@ -3,7 +3,7 @@ ghost use Rattle.worker_key.specs.Keys.{digest_text};
 ghost use Rattle.due_frames.specs.Requests.{input_of, request_for, cancelling, room_for, sandbox_for};
 
 use plain_values::{Items, NoMemory, Text, texts_again};
-use remote_messages::{NamedFile, WorkAction};
+use remote_messages::{NamedFile, Origin, WorkAction, WorkInput};
 use run_plan::Kind;
 use sandbox_rooms::Room;
 use std::alloc::Global;
@@ -42,7 +42,7 @@ pub fn request_of(
 {
     Ok(WorkRequest {
         arguments: texts_again(alloc, action.request_words.as_slice())?,
-        inputs: inputs_of(alloc, inputs)?,
+        inputs: inputs_of(alloc, action.inputs.as_slice(), inputs)?,
         request_id: number,
         cancel: false,
         verbosity: if verbose { VERBOSE } else { 0 },
@@ -76,17 +76,37 @@ fn sandbox_of(alloc: Global, room: Room) -> Result<Text, NoMemory>
     }
 }
 
-fn inputs_of(alloc: Global, files: &[NamedFile]) -> Result<Items<Input>, NoMemory>
+// The sources, in the order of the files, are asked for digests that they know.
+fn inputs_of(
+    alloc: Global,
+    sources: &[WorkInput],
+    files: &[NamedFile],
+) -> Result<Items<Input>, NoMemory>
     ensures { IfOk result (λ inputs. inputs ≡ map input_of files.now) }
 {
     let mut inputs = Vec::new(alloc);
-    for file in files {
+    for (at, file) in files.iter().enumerate() {
         inputs.push(Input {
             path: Text::copy_of(alloc, file.path.as_str())?,
-            digest: digest_text(alloc, file.content.bytes())?,
+            digest: digits_of(alloc, sources.get(at), file.content.bytes())?,
         })?;
     }
     Ok(Items::of(inputs))
+}
+
+// The digits of these bytes, which a source that has them needs to compute only once.
+fn digits_of(alloc: Global, input: Option<&WorkInput>, bytes: &[u8]) -> Result<Items<u8>, NoMemory>
+    ensures { IfOk result (λ digits. digits ≡ digest_text bytes.now) }
+{
+    match input {
+        Some(
+            WorkInput {
+                origin: Origin::Source(source),
+                ..
+            },
+        ) => source.digits_of(alloc, bytes),
+        _ => digest_text(alloc, bytes),
+    }
 }
 
 /// The 64 lower-case hexadecimal digits of the SHA-256 of the bytes, as an input of a request has them.

@@ -69,7 +69,7 @@ fn content_of<B: Berth, P: Place, C: Rules, R: Wait>(
         caller.old.pass.lane (seen caller.new.pass) (look_at origin.now bytes)) }
 {
     match origin {
-        Origin::Source(bytes) => bytes.again(),
+        Origin::Source(source) => source.content(),
         Origin::Made {
             action: made,
             output,

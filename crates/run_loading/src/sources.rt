@@ -16,12 +16,13 @@ use action_list::{ListAction, Producers};
 use indexmap::IndexMap;
 use outside::Floor;
 use plain_values::{Blob, NoMemory, Text};
+use source_digests::Source;
 use std::alloc::Global;
 
 /// The files that were found, by their paths, in the order of their reads.
 #[derive(Drop)]
 pub struct Sources {
-    files: IndexMap<String, Blob>,
+    files: IndexMap<String, Source>,
 }
 
 /// Reads what the actions want, up to the first path that isn't found.
@@ -54,14 +55,14 @@ impl Sources {
         }
     }
 
-    fn get(&self, path: &str) -> Option<&Blob>
+    fn get(&self, path: &str) -> Option<&Source>
         ensures { option_copied result ≡ file_at (held self.now) path.now }
     {
         self.files.get(path)
     }
 
     /// The bytes of a file that was found.
-    pub fn bytes_at(&self, path: &str) -> &Blob
+    pub fn bytes_at(&self, path: &str) -> &Source
         requires { IsSome (file_at (held self.now) path.now) }
         ensures { file_at (held self.now) path.now ≡ Some result.now }
     {
@@ -72,7 +73,8 @@ impl Sources {
         requires { file_at (held self.old) path.now ≡ None }
         ensures { OnOk result (held self.new ≡ held self.old ++ source_file path.now bytes ∷ []) }
     {
-        self.files.insert(String::from_str(alloc, path)?, bytes)?;
+        let source = Source::of(alloc, bytes)?;
+        self.files.insert(String::from_str(alloc, path)?, source)?;
         Ok(())
     }
 

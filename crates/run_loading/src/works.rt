@@ -113,10 +113,10 @@ fn push_source(
 ) -> Result<(), NoMemory>
     ensures { OnOk result (files.new.items ≡ files.old.items ++ source_files (input.now ∷ [])) }
 {
-    if let Origin::Source(bytes) = &input.origin {
+    if let Origin::Source(source) = &input.origin {
         files.push(SourceFile {
             path: Text::copy_of(alloc, input.path.as_str())?,
-            bytes: bytes.again()?,
+            bytes: source.content()?,
         })?;
     }
     Ok(())

@@ -2,5 +2,5 @@ use Rattle.std.proofs.Common.{◌≡◌, map, take}
 use Rattle.due_frames.specs.Requests.{input_of}
 use Rattle.due_frames.proofs.requests.inputs_of.Given as goal
 
-abbrev pub invariant-loop-file : goal.invariant-loop-file
-invariant-loop-file l = l.inputs.items ≡ map input_of (take l.file-index l.files)
+abbrev pub invariant-loop-at : goal.invariant-loop-at
+invariant-loop-at l = l.inputs.items ≡ map input_of (take l.at l.files)
