@@ -1,23 +1,50 @@
 // The bare calls on files and folders. What they do is trusted; everything above them is counting.
 use std::alloc::{AllocError, Global};
-use std::fs::{self, File};
-use std::io::{self, ErrorKind, Write};
+use std::fs::{self, File, Metadata};
+use std::io::{self, ErrorKind, Read, Write};
 use std::path::Path;
 use std::rt::Files;
 
 /// The bytes of a regular file, also behind a link; `None` where there is no such file.
 pub fn read_regular<R: Files + AllocGlobal>(rt: &R, path: &str) -> io::Result<Option<Vec<u8>>> {
-    match fs::metadata(rt, path) {
-        Ok(found) if found.is_file() => Ok(Some(fs::read(rt, path)?)),
+    read_found(rt, path, fs::metadata(rt, path))
+}
+
+// The bytes of what a look at the path found, if that is a regular file. What isn't one is never
+// opened: the opening of a fifo would wait for its other end.
+fn read_found<R: Files + AllocGlobal>(
+    rt: &R,
+    path: &str,
+    look: io::Result<Metadata>,
+) -> io::Result<Option<Vec<u8>>> {
+    match look {
+        Ok(found) if found.is_file() => Ok(Some(read_whole(rt, path, found.len())?)),
         Ok(_) => Ok(None),
         Err(error) if is_absent(&error) => Ok(None),
         Err(error) => Err(error),
     }
 }
 
-/// Writes a file whole, with the folders above it. It is written beside, under the given name, and renamed, so that
-/// nobody who has the old file open sees the new bytes, and a link at the path is replaced. Two writers into one folder
-/// at once need two names.
+// All bytes of a file. One read takes as many as a look found, and the next finds the end, for
+// which there is one byte of room more. A file that has changed since the look is read to its end
+// all the same.
+fn read_whole<R: Files + AllocGlobal>(rt: &R, path: &str, looked: u64) -> io::Result<Vec<u8>> {
+    let mut file = fs::open(rt, path)?;
+    let mut bytes = Vec::new(rt.alloc());
+    bytes.resize(usize::try_from(looked).unwrap_or(0).saturating_add(1), 0)?;
+    let count = match file.read(bytes.as_mut_slice()) {
+        // A signal came first, and nothing was read.
+        Err(error) if error.kind() == ErrorKind::Interrupted => 0,
+        taken => taken?,
+    };
+    bytes.truncate(count);
+    file.read_to_end(&mut bytes)?;
+    Ok(bytes)
+}
+
+/// Writes a file whole, with the folders above it. It is written beside, under the given name, and
+/// renamed, so that nobody who has the old file open sees the new bytes, and a link at the path is
+/// replaced. Two writers into one folder at once need two names.
 pub fn write_beside<R: Files>(
     rt: &R,
     alloc: Global,
@@ -29,7 +56,8 @@ pub fn write_beside<R: Files>(
     let file = new_file(rt, beside.as_str())?;
     let written = fill(file, bytes).and_then(|()| fs::rename(rt, beside.as_str(), path));
     if written.is_err() {
-        // What was begun isn't left behind. That it couldn't be removed says less than why it was begun in vain.
+        // What was begun isn't left behind. That it couldn't be removed says less than why it was
+        // begun in vain.
         let _ = fs::remove_file(rt, beside.as_str());
     }
     written
@@ -42,8 +70,8 @@ fn path_beside(alloc: Global, name: &str, path: &str) -> Result<String, AllocErr
     }
 }
 
-// A file that wasn't there before, so that no link is followed. What an earlier run left is removed, and the folders
-// are made if they aren't there.
+// A file that wasn't there before, so that no link is followed. What an earlier run left is
+// removed, and the folders are made if they aren't there.
 fn new_file<R: Files>(rt: &R, path: &str) -> io::Result<R::File> {
     match File::create_new(rt, path) {
         Err(error) if error.kind() == ErrorKind::AlreadyExists => fs::remove_file(rt, path)?,
@@ -64,7 +92,8 @@ fn fill<W: Write + Drop>(mut file: W, bytes: &[u8]) -> io::Result<()> {
     file.write_all(bytes)
 }
 
-/// The bytes of a regular file at a path below a room. A link is no such file, nor is what lies behind one.
+/// The bytes of a regular file at a path below a room. A link is no such file, nor is what lies
+/// behind one.
 pub fn read_inside<R: Files + AllocGlobal>(
     rt: &R,
     alloc: Global,
@@ -75,12 +104,7 @@ pub fn read_inside<R: Files + AllocGlobal>(
         return Ok(None);
     }
     let path = format!(in alloc; "{room}/{path}")?;
-    match fs::symlink_metadata(rt, path.as_str()) {
-        Ok(found) if found.is_file() => Ok(Some(fs::read(rt, path.as_str())?)),
-        Ok(_) => Ok(None),
-        Err(error) if is_absent(&error) => Ok(None),
-        Err(error) => Err(error),
-    }
+    read_found(rt, path.as_str(), fs::symlink_metadata(rt, path.as_str()))
 }
 
 // One lane alone writes into a room.
@@ -94,24 +118,25 @@ pub fn write_inside<R: Files + AllocGlobal>(
     path: &str,
     bytes: &[u8],
 ) -> io::Result<()> {
-    clear_way(rt, alloc, room, path)?;
+    make_way(rt, alloc, room, path)?;
     let path = format!(in alloc; "{room}/{path}")?;
     write_beside(rt, alloc, BESIDE, path.as_str(), bytes)
 }
 
-/// Makes a folder below a room, with those above it. What isn't a folder on its way there makes room for one.
+/// Makes a folder below a room, with those above it. What isn't a folder on its way there makes
+/// room for one.
 pub fn make_folder_inside<R: Files + AllocGlobal>(
     rt: &R,
     alloc: Global,
     room: &str,
     path: &str,
 ) -> io::Result<()> {
-    let folder = format!(in alloc; "{path}/")?;
-    clear_way(rt, alloc, room, folder.as_str())?;
-    fs::create_dir_all(rt, format!(in alloc; "{room}/{path}")?.as_str())
+    make_way(rt, alloc, room, path)?;
+    make_folder(rt, format!(in alloc; "{room}/{path}")?.as_str())
 }
 
-/// Removes what stands at a path below a room, if anything does. Behind a link nothing of the room stands.
+/// Removes what stands at a path below a room, if anything does. Behind a link nothing of the room
+/// stands.
 pub fn remove_inside<R: Files + AllocGlobal>(
     rt: &R,
     alloc: Global,
@@ -125,32 +150,76 @@ pub fn remove_inside<R: Files + AllocGlobal>(
     }
 }
 
-/// Removes all that stands in a folder below a room. The folder itself stays, since a process may be running in it.
-pub fn empty_inside<R: Files + AllocGlobal + Clone + Drop>(
+/// Removes all that stands in a folder below a room. The folder itself stays, since a process may
+/// be running in it.
+pub fn empty_inside<R: Files + AllocGlobal>(
     rt: &R,
     alloc: Global,
     room: &str,
     path: &str,
 ) -> io::Result<()> {
-    make_folder_inside(rt, alloc, room, path)?;
+    make_way(rt, alloc, room, path)?;
     let folder = format!(in alloc; "{room}/{path}")?;
-    for entry in fs::read_dir(rt, folder.as_str())? {
-        remove(rt, entry?.path().as_str())?;
+    // A link at the path isn't opened as a folder, and so nothing is looked at before.
+    match rt.open_dir(folder.as_str()) {
+        Ok(opened) => empty(rt, alloc, folder.as_str(), opened),
+        Err(error) if is_absent(&error) || error.kind() == ErrorKind::FilesystemLoop => {
+            make_folder(rt, folder.as_str())
+        }
+        Err(error) => Err(error),
+    }
+}
+
+// Removes all that stands in a folder which has been opened.
+fn empty<R: Files + AllocGlobal>(
+    rt: &R,
+    alloc: Global,
+    folder: &str,
+    mut opened: R::Dir,
+) -> io::Result<()> {
+    let mut names = [0u8; MOST_NAMES];
+    for _ in 0..u64::MAX {
+        let count = opened.read(&mut names)?;
+        if count == 0 {
+            break;
+        }
+        remove_named(rt, alloc, folder, &names[..count])?;
+    }
+    Ok(())
+}
+
+// How many bytes of names are read at once. Any one name finds room.
+const MOST_NAMES: usize = 4096;
+
+// Removes what these names say of a folder. Each name is ended by a NUL.
+fn remove_named<R: Files + AllocGlobal>(
+    rt: &R,
+    alloc: Global,
+    folder: &str,
+    names: &[u8],
+) -> io::Result<()> {
+    let Ok(names) = str::from_utf8(names) else {
+        return Err(io::Error::from(ErrorKind::InvalidFilename));
+    };
+    for name in names.split('\0') {
+        if !matches!(name, "" | "." | "..") {
+            remove(rt, format!(in alloc; "{folder}/{name}")?.as_str())?;
+        }
     }
     Ok(())
 }
 
 // Removes a file, a link (and not what it leads to) or a whole folder.
 fn remove<R: Files + AllocGlobal>(rt: &R, path: &str) -> io::Result<()> {
-    match fs::symlink_metadata(rt, path) {
-        Ok(found) if found.is_dir() => fs::remove_dir_all(rt, path),
-        Ok(_) => fs::remove_file(rt, path),
+    match fs::remove_file(rt, path) {
+        Err(error) if error.kind() == ErrorKind::IsADirectory => fs::remove_dir_all(rt, path),
         Err(error) if is_absent(&error) => Ok(()),
-        Err(error) => Err(error),
+        removed => removed,
     }
 }
 
-// Whether each folder on the way from the room to the path is one of the room's own, or isn't there.
+// Whether each folder on the way from the room to the path is one of the room's own, or isn't
+// there.
 fn is_way_plain<R: Files + AllocGlobal>(
     rt: &R,
     alloc: Global,
@@ -171,8 +240,9 @@ fn is_way_plain<R: Files + AllocGlobal>(
     Ok(true)
 }
 
-// Removes what isn't a folder on the way from the room to the path.
-fn clear_way<R: Files + AllocGlobal>(
+// Makes the folders on the way from the room to the path. Below one that was made here nothing
+// stands that has to be looked at.
+fn make_way<R: Files + AllocGlobal>(
     rt: &R,
     alloc: Global,
     room: &str,
@@ -182,14 +252,41 @@ fn clear_way<R: Files + AllocGlobal>(
         return Ok(());
     };
     let mut way = String::from_str(alloc, room)?;
+    let mut is_new = false;
     for folder in folders.split('/') {
         way.push_str("/")?;
         way.push_str(folder)?;
-        if !is_folder_or_absent(rt, way.as_str())? {
-            fs::remove_file(rt, way.as_str())?;
+        if is_new || !is_folder(rt, way.as_str())? {
+            make_folder(rt, way.as_str())?;
+            is_new = true;
         }
     }
     Ok(())
+}
+
+// Makes a folder where none stands. What stands there and isn't one makes room for it.
+fn make_folder<R: Files>(rt: &R, path: &str) -> io::Result<()> {
+    match fs::create_dir(rt, path) {
+        Err(error) if error.kind() == ErrorKind::AlreadyExists => {
+            if is_folder(rt, path)? {
+                return Ok(());
+            }
+            fs::remove_file(rt, path)?;
+            fs::create_dir(rt, path)
+        }
+        // Only the room itself can be missing.
+        Err(error) if error.kind() == ErrorKind::NotFound => fs::create_dir_all(rt, path),
+        made => made,
+    }
+}
+
+// Whether a folder stands at the path, and no link to one.
+fn is_folder<R: Files>(rt: &R, path: &str) -> io::Result<bool> {
+    match fs::symlink_metadata(rt, path) {
+        Ok(found) => Ok(found.is_dir()),
+        Err(error) if is_absent(&error) => Ok(false),
+        Err(error) => Err(error),
+    }
 }
 
 fn is_folder_or_absent<R: Files>(rt: &R, path: &str) -> io::Result<bool> {

@@ -1,6 +1,6 @@
-// A line: a shell that hears its feed, has the command's environment alone, leaves links and a fifo in its room, and puts a
-// link to the folder of the start in the place of the room itself. Beside the outputs it leaves a link at the name under
-// which they are written.
+// A line: a shell that hears its feed, has the command's environment alone, leaves links and a fifo
+// in its room, and puts a link to the folder of the start in the place of the room itself. Beside
+// the outputs it leaves a link at the name under which they are written.
 use crate::{tell_io, tell_read};
 use outside::{Berth, Child, Command, Feed, Launch, Taken, Tap, Variable};
 use plain_values::{Items, NoMemory, Text};

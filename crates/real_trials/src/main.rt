@@ -1,7 +1,7 @@
 //! Drives each real object once, and whole runs with real shell workers, and prints what it saw.
 //!
-//! No proof speaks of what files, folders, pipes and processes do, so this is their test. It runs in a folder of its
-//! own with the files of `data/`.
+//! No proof speaks of what files, folders, pipes and processes do, so this is their test. It runs
+//! in a folder of its own with the files of `data/`.
 #![tactic(auto)]
 
 mod lines;
@@ -26,7 +26,7 @@ fn main(rt: HostRuntime) -> io::Result<()> {
     let Ok(mut berth) = floor.make_berth(3) else {
         return Err(io::Error::from(ErrorKind::OutOfMemory));
     };
-    rooms::play(&rt, &mut berth)?;
+    rooms::play(&rt, alloc, &mut berth)?;
     println!(&rt; "a line")?;
     lines::play(&rt, alloc, &mut berth)?;
     tell_read(&rt, "letter", floor.read("letter"))?;

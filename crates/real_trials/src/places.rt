@@ -1,4 +1,5 @@
-// Places: outputs are written with their folders, over links, and each place beside under a name of its own.
+// Places: outputs are written with their folders, over links, and each place beside under a name of
+// its own.
 use crate::{tell_io, tell_read};
 use outside::{Floor, Place};
 use plain_values::NoMemory;
