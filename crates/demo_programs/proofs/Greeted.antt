@@ -13,7 +13,7 @@ use Rattle.message_service.specs.declared.finish.Finish.{Finish}
 use Rattle.message_service.specs.declared.finish.Finish.TheVariants as finish
 use Rattle.message_service.specs.Ends.{PutAll}
 use Rattle.message_service.specs.Serves.{Serves}
-use Rattle.message_service.specs.Turns.{put_by}
+use Rattle.message_service.specs.Turns.{put_by, turns_in}
 use Rattle.message_service.proofs.Made.{adds_nothing, made_nothing, puts_on}
 use Rattle.message_service.proofs.Streams.{whole_new}
 use Rattle.job_runner.specs.Results.{greeting}
@@ -44,12 +44,13 @@ greeted f input input' out mid out' shop shop' put s = record {
   reads = s.reads;
   caused = s.caused;
   answered = record {
-    turns = s.answered.turns;
+    spans = s.answered.spans;
     left = s.answered.left;
     begun = s.answered.begun;
-    follows = s.answered.follows;
+    came = s.answered.came;
+    runs = s.answered.runs;
     leaves = s.answered.leaves;
-    put = puts_on (Some f) (framed greeting) (put_by s.answered.turns) out mid out'
+    put = puts_on (Some f) (framed greeting) (put_by (turns_in s.answered.spans)) out mid out'
         (subst (λ (bytes : List ℕ). PutAll bytes out mid) greeting_is put) s.answered.put;
     made = s.answered.made;
   };
@@ -66,10 +67,11 @@ not_greeted input out out' shop front rose = record {
   reads = let w = whole_new framing.Delimited SpellsJob in (w.0, w.1);
   caused = tt;
   answered = record {
-    turns = [];
+    spans = [];
     left = [];
     begun = [];
-    follows = refl;
+    came = refl;
+    runs = refl;
     leaves = refl;
     put = record {
       given = subst (λ (bytes : List ℕ). AddsFront bytes out.contents out'.contents)

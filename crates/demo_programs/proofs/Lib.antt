@@ -1,1 +1,2 @@
 pub mod Greeted
+pub mod InOrder

@@ -1,5 +1,6 @@
 -- What is answered to a job, before these others.
-use Rattle.std.specs.Prelude.{◌≡◌, ℕ, List, [], if◌then◌else◌, Option, Some, None, Result, Ok, Err}
+use Rattle.std.specs.Prelude.{◌≡◌, ℕ, List, [], if◌then◌else◌, true, false}
+use Rattle.std.specs.Prelude.{Option, Some, None, Result, Ok, Err}
 use Rattle.plain_values.specs.declared.no_memory.NoMemory.{NoMemory}
 use Rattle.outside.specs.declared.shop.ShopCall.{ShopCall}
 use Rattle.wire_fields.specs.Spelling.{delimited}
@@ -42,3 +43,20 @@ Answers job behind calls (Ok None) = (fate_of job behind ≡ fate.Cancels) × (c
 Answers job behind calls (Ok (Some bytes)) =
     (r : JobResult) × ResultFor (fate_of job behind) job calls r × (bytes ≡ framed r)
 Answers job behind calls (Err e) = BegunFor (fate_of job behind) job calls
+
+-- A reply is one result with the job's number. It says that the job was given up exactly where a
+-- cancelling job with that number had been read behind it, and then no call was made for it.
+abbrev pub IsReplyTo : Job → List Job → List ShopCall → JobResult → Type 0
+IsReplyTo job behind calls r = (r.id ≡ job.id) × (r.cancelled ≡ is_given_up job.id behind)
+    × (r.cancelled ≡ true → calls ≡ [])
+
+-- a cancelling job has none
+abbrev pub FitsReply : Job → List Job → List ShopCall → Option (List ℕ) → Type 0
+FitsReply job behind calls None = job.cancel ≡ true
+FitsReply job behind calls (Some bytes) =
+    (job.cancel ≡ false) × (r : JobResult) × (bytes ≡ framed r) × IsReplyTo job behind calls r
+
+-- what is said of replies holds of all that are answers
+abbrev pub RepliesFit : Type 0
+RepliesFit = (job : Job) (behind : List Job) (calls : List ShopCall) (reply : Option (List ℕ))
+    → Answers job behind calls (Ok reply) → FitsReply job behind calls reply

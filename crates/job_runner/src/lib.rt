@@ -5,8 +5,10 @@ mod collecting;
 mod executor;
 mod fate;
 mod filling;
+mod laws;
 mod paths;
 mod results;
 mod running;
 
 pub use executor::{Executor, GREETING};
+pub use laws::replies_fit;

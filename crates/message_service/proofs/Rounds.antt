@@ -14,11 +14,11 @@ use Rattle.message_service.specs.declared.finish.Finish.{Finish}
 use Rattle.message_service.specs.declared.finish.Finish.TheVariants as finish
 use Rattle.message_service.specs.Stream.{Heard, HeardAll, Begins, IsWhole}
 use Rattle.message_service.specs.Ends.{CausedBy}
-use Rattle.message_service.specs.Serves.{Answered, ReadsBy, Outside, Serves}
+use Rattle.message_service.specs.Serves.{Answered, Handled, ReadsBy, Outside, Serves}
 use Rattle.message_service.specs.Steps.{CutsOff, StopsReading, Round}
 use Rattle.message_service.proofs.Made.{made_nothing, put_nothing}
 use Rattle.message_service.proofs.Streams.{heard_first}
-use Rattle.message_service.proofs.Turns.{answered_on}
+use Rattle.message_service.proofs.Turns.{Spanned, handled_more, handled_ends}
 
 module _ (f : Framing) {M : Type 0} (Spells : List ℕ → M → Type 0) where
   pub begins_all : (goes : Bool) (fed : List ℕ) (ms : List M) (s : Held)
@@ -54,73 +54,43 @@ caused_stop finish.TooLong bytes old new stop = absurd stop
 
 module _ {M : Type 0} (Answers : M → List M → List ShopCall → Result (Option (List ℕ)) NoMemory
     → Type 0) where
-  pub answered_nothing : (out : SinkTold) (shop : ShopTold) → Answered Answers (Some
-      finish.NoMemory) [] [] out out shop shop
+  -- nothing was read, for want of memory
+  pub answered_nothing : (out : SinkTold) (shop : ShopTold)
+      → Answered Answers (Some finish.NoMemory) [] [] out out shop shop
   answered_nothing out shop = record {
-    turns = [];
+    spans = [];
     left = [];
     begun = [];
-    follows = refl;
-    leaves =
-        inl refl;
+    came = refl;
+    runs = refl;
+    leaves = inl refl;
     put = put_nothing out;
     made = made_nothing shop;
   }
 
-  pub answered_end : (ms : List M) (out out' : SinkTold) (shop shop' : ShopTold)
-      → Answered Answers None [] ms out out' shop shop' → Answered Answers (Some finish.AtEnd) []
-      ms out out' shop shop'
-  answered_end ms out out' shop shop' a = record {
-    turns = a.turns;
-    left = a.left;
-    begun =
-        a.begun;
-    follows = a.follows;
-    leaves = a.leaves;
-    put = a.put;
-    made = a.made;
+  pub handled_nothing : (out : SinkTold) (shop : ShopTold)
+      → Handled Answers (Some finish.NoMemory) [] out out shop shop
+  handled_nothing out shop = record {
+    turns = [];
+    left = [];
+    begun = [];
+    follows = refl;
+    leaves = inl refl;
+    put = put_nothing out;
+    made = made_nothing shop;
   }
 
-  pub answered_bad : (ms : List M) (out out' : SinkTold) (shop shop' : ShopTold)
-      → Answered Answers None [] ms out out' shop shop' → Answered Answers (Some finish.BadInput)
-      [] ms out out' shop shop'
-  answered_bad ms out out' shop shop' a = record {
-    turns = a.turns;
-    left = a.left;
-    begun =
-        a.begun;
-    follows = a.follows;
-    leaves = a.leaves;
-    put = a.put;
-    made = a.made;
-  }
-
-  pub answered_fault : (ms : List M) (out out' : SinkTold) (shop shop' : ShopTold)
-      → Answered Answers None [] ms out out' shop shop' → Answered Answers (Some finish.InputFault)
-      [] ms out out' shop shop'
-  answered_fault ms out out' shop shop' a = record {
-    turns = a.turns;
-    left = a.left;
-    begun =
-        a.begun;
-    follows = a.follows;
-    leaves = a.leaves;
-    put = a.put;
-    made = a.made;
-  }
-
-  pub answered_long : (ms : List M) (out out' : SinkTold) (shop shop' : ShopTold)
-      → Answered Answers None [] ms out out' shop shop' → Answered Answers (Some finish.TooLong) []
-      ms out out' shop shop'
-  answered_long ms out out' shop shop' a = record {
-    turns = a.turns;
-    left = a.left;
-    begun =
-        a.begun;
-    follows = a.follows;
-    leaves = a.leaves;
-    put = a.put;
-    made = a.made;
+  pub handled_bad : (ms : List M) (out out' : SinkTold) (shop shop' : ShopTold)
+      → Handled Answers None ms out out' shop shop'
+      → Handled Answers (Some finish.BadInput) ms out out' shop shop'
+  handled_bad ms out out' shop shop' h = record {
+    turns = h.turns;
+    left = h.left;
+    begun = h.begun;
+    follows = h.follows;
+    leaves = h.leaves;
+    put = h.put;
+    made = h.made;
   }
 
 module _ (f : Framing) {M : Type 0} (Spells : List ℕ → M → Type 0) (Answers : M → List M
@@ -132,18 +102,18 @@ module _ (f : Framing) {M : Type 0} (Spells : List ℕ → M → Type 0) (Answer
   round_none fed ms s out shop b = record {
     more = [];
     stands = subst (λ (xs : List M). Begins (form_of f) Spells fed xs) (sym (append-nil ms)) b;
-    answered = answered_nothing Answers out shop;
+    handled = handled_nothing Answers out shop;
   }
 
   pub round_cut : (e : Finish) (goes : Bool) (fed : List ℕ) (ms more : List M) (s : Held) (out out'
       : SinkTold) (shop shop' : ShopTold) → CutsOff e → HeardAll (form_of f) Spells goes fed (ms ++
-      more) s → Answered Answers (Some e) [] more out out' shop shop'
+      more) s → Handled Answers (Some e) more out out' shop shop'
       → Round (form_of f) Spells Answers (Err e) fed ms s out out' shop shop'
   round_cut e goes fed ms more s out out' shop shop' cut h a = record {
     more = more;
     stands = reads_cut f Spells e fed (ms ++ more) cut (begins_all f Spells goes fed (ms ++ more) s
         h);
-    answered = a;
+    handled = a;
   }
 
   -- ---- the whole
@@ -163,7 +133,7 @@ module _ (f : Framing) {M : Type 0} (Spells : List ℕ → M → Type 0) (Answer
     pub later : old.input.faults ≤ new.input.faults
     pub heard : Heard (form_of f) Spells bytes ms s
     pub whole : IsWhole (form_of f) Spells bytes ms
-    pub answered : Answered Answers None [] ms old.out new.out old.shop new.shop
+    pub spanned : Spanned Answers ms [] old.out new.out old.shop new.shop
 
   pub going_on : (bytes piece : List ℕ) (ms : List M) (s s' : Held) (old mid new : Outside)
       → Going bytes ms s old mid → Adds piece mid.input.taken new.input.taken
@@ -175,8 +145,8 @@ module _ (f : Framing) {M : Type 0} (Spells : List ℕ → M → Type 0) (Answer
     later = omega (arith, g.later, later);
     heard = r.stands.0;
     whole = r.stands.1;
-    answered = answered_on Answers None ms r.more old.out mid.out new.out old.shop mid.shop
-        new.shop g.answered r.answered;
+    spanned = handled_more Answers ms r.more old.out mid.out new.out old.shop mid.shop new.shop
+        g.spanned r.handled;
   }
 
   pub going_stops : (e : Finish) (bytes piece : List ℕ) (ms : List M) (s s' : Held) (old mid new :
@@ -190,8 +160,8 @@ module _ (f : Framing) {M : Type 0} (Spells : List ℕ → M → Type 0) (Answer
     taken = taken_on bytes piece old.input.taken mid.input.taken new.input.taken g.taken taken;
     reads = r.stands;
     caused = caused_stop e (bytes ++ piece) old.input new.input stop;
-    answered = answered_on Answers (Some e) ms r.more old.out mid.out new.out old.shop mid.shop
-        new.shop g.answered r.answered;
+    answered = handled_ends Answers (Some e) ms r.more old.out mid.out new.out old.shop mid.shop
+        new.shop g.spanned r.handled;
   }
 
 -- one piece more, of one read more

@@ -11,107 +11,192 @@ use Rattle.outside.specs.declared.shop.ShopCall.{ShopCall}
 use Rattle.message_service.specs.declared.finish.Finish.{Finish}
 use Rattle.message_service.specs.declared.finish.Finish.TheVariants as finish
 use Rattle.message_service.specs.Calls.{Made}
-use Rattle.message_service.specs.Turns.{Turn, said, put_by, calls_by, IsFront, IsTurn, Follows}
+use Rattle.message_service.specs.Turns.{Turn, Span, said, put_by, calls_by, came_in, turns_in}
+use Rattle.message_service.specs.Turns.{Follows, Runs}
 use Rattle.message_service.specs.Ends.{PutAll, PutsBy}
-use Rattle.message_service.specs.Serves.{Answered}
+use Rattle.message_service.specs.Serves.{LeftBy, Handled, Answered}
 use Rattle.message_service.specs.Steps.{Puts, Deals, CutsOff}
 use Rattle.message_service.proofs.Made.{made_on, made_nothing, put_nothing, put_on, put_front}
 use Rattle.message_service.proofs.Made.{puts_on}
 
-pub calls_on : {M : Type 0} (ts us : List (Turn M)) → calls_by (ts ++ us) ≡ calls_by ts ++ calls_by
-    us
-calls_on {M = M} ts us = flat_map-append (λ (t : Turn M). t.calls) ts us
+pub calls_on : (ts us : List Turn) → calls_by (ts ++ us) ≡ calls_by ts ++ calls_by us
+calls_on ts us = flat_map-append (λ (t : Turn). t.calls) ts us
 
-pub said_on : {M : Type 0} (ts us : List (Turn M)) → put_by (ts ++ us) ≡ put_by ts ++ put_by us
-said_on {M = M} ts us = flat_map-append (λ (t : Turn M). said t.reply) ts us
+pub said_on : (ts us : List Turn) → put_by (ts ++ us) ≡ put_by ts ++ put_by us
+said_on ts us = flat_map-append (λ (t : Turn). said t.reply) ts us
 
-front_more : {A : Type 0} (front whole more : List A) → IsFront front whole
-    → IsFront front (whole ++ more)
-front_more {A = A} front whole more h = (
-  h.0 ++ more,
-  ap (λ (xs : List A). xs ++ more) h.1
-      ∙ append_assoc front h.0 more,
-)
+-- ---- one span more
 
-pub front_self : {A : Type 0} (xs : List A) → IsFront xs xs
-front_self xs = ([], sym (append-nil xs))
+module _ {M : Type 0} where
+  abbrev pub span_of : List M → List Turn → Span M
+  span_of more turns = record { came = more; turns = turns }
+
+  pub came_on : (ss : List (Span M)) (more : List M) (turns : List Turn)
+      → came_in (ss ++ span_of more turns ∷ []) ≡ came_in ss ++ more
+  came_on ss more turns =
+      flat_map-append (λ (s : Span M). s.came) ss (span_of more turns ∷ [])
+      ∙ ap (λ (ms : List M). came_in ss ++ ms) (append-nil more)
+
+  pub turns_on : (ss : List (Span M)) (more : List M) (turns : List Turn)
+      → turns_in (ss ++ span_of more turns ∷ []) ≡ turns_in ss ++ turns
+  turns_on ss more turns =
+      flat_map-append (λ (s : Span M). s.turns) ss (span_of more turns ∷ [])
+      ∙ ap (λ (ts : List Turn). turns_in ss ++ ts) (append-nil turns)
+
+  pub span_said : (ss : List (Span M)) (more : List M) (turns : List Turn)
+      → put_by (turns_in (ss ++ span_of more turns ∷ [])) ≡ put_by (turns_in ss) ++ put_by turns
+  span_said ss more turns = ap (λ (ts : List Turn). put_by ts) (turns_on ss more turns)
+      ∙ said_on (turns_in ss) turns
+
+  pub span_calls : (ss : List (Span M)) (more : List M) (turns : List Turn)
+      → calls_by (turns_in (ss ++ span_of more turns ∷ []))
+      ≡ calls_by (turns_in ss) ++ calls_by turns
+  span_calls ss more turns = ap (λ (ts : List Turn). calls_by ts) (turns_on ss more turns)
+      ∙ calls_on (turns_in ss) turns
 
 module _ {M : Type 0} (Answers : M → List M → List ShopCall → Result (Option (List ℕ)) NoMemory
     → Type 0) where
-  turn_more : (m : M) (later more : List M) (t : Turn M) → IsTurn Answers m later t
-      → IsTurn Answers m (later ++ more) t
-  turn_more m later more t h = record {
-    behind = front_more t.behind later more h.behind;
-    answers =
-        h.answers;
-  }
-
   -- one turn more
-  pub follows_step : (ms : List M) (ts : List (Turn M)) (m : M) (left : List M) (t : Turn M)
-      → Follows Answers ms ts (m ∷ left) → IsTurn Answers m left t
+  pub follows_step : (ms : List M) (ts : List Turn) (m : M) (left : List M) (t : Turn)
+      → Follows Answers ms ts (m ∷ left) → Answers m left t.calls (Result.Ok t.reply)
       → Follows Answers ms (ts ++ t ∷ []) left
-  follows_step ms [] m left t f h = subst (λ (xs : List M). Follows Answers xs (t ∷ []) left) (sym
-      f) (h, refl)
+  follows_step ms [] m left t f h =
+      subst (λ (xs : List M). Follows Answers xs (t ∷ []) left) (sym f) (h, refl)
   follows_step [] (u ∷ us) m left t f h = absurd f
   follows_step (n ∷ ns) (u ∷ us) m left t f h = (f.0, follows_step ns us m left t f.1 h)
 
-  -- more messages, and their turns
-  pub follows_both : (xs ys : List M) (ts us : List (Turn M)) (left : List M)
-      → Follows Answers xs ts [] → Follows Answers ys us left
-      → Follows Answers (xs ++ ys) (ts ++ us) left
-  follows_both xs ys [] us left f g = subst (λ (ms : List M). Follows Answers (ms ++ ys) us left)
-      (sym f) g
-  follows_both [] ys (t ∷ ts) us left f g = absurd f
-  follows_both (x ∷ xs) ys (t ∷ ts) us left f g = (
-    turn_more x xs ys t f.0,
-    follows_both xs ys ts
-        us left f.1 g,
-  )
+  pub runs_step : (waiting : List M) (ss : List (Span M)) (rest more : List M) (turns : List Turn)
+      (left : List M) → Runs Answers waiting ss rest → Follows Answers (rest ++ more) turns left
+      → Runs Answers waiting (ss ++ span_of more turns ∷ []) left
+  runs_step waiting [] rest more turns left r f =
+      (left, subst (λ (xs : List M). Follows Answers (xs ++ more) turns left) (sym r) f, refl)
+  runs_step waiting (s ∷ ss) rest more turns left r f =
+      (r.0, r.1, runs_step r.0 ss rest more turns left r.2 f)
 
-  -- ---- answers, one list of messages after another
+  -- ---- the spans so far
 
-  pub answered_on : (how : Option Finish) (xs ys : List M) (out mid out' : SinkTold) (shop shop''
-      shop' : ShopTold) → Answered Answers None [] xs out mid shop shop''
-      → Answered Answers how [] ys mid out' shop'' shop' → Answered Answers how [] (xs ++ ys) out
-      out' shop shop'
-  answered_on how xs ys out mid out' shop shop'' shop' a b =
-      let followed = subst (λ (l : List M). Follows Answers xs a.turns l) (a.leaves.0) a.follows in
-      let made = made_on (calls_by a.turns ++ a.begun) (calls_by b.turns ++ b.begun) shop shop''
-      shop' a.made b.made in
-      let begun : calls_by a.turns ++ a.begun ≡ calls_by a.turns =
-      ap (λ (cs : List ShopCall). calls_by a.turns ++ cs) a.leaves.1
-      ∙ append-nil (calls_by a.turns) in
-      record {
-        turns = a.turns ++ b.turns;
-        left = b.left;
-        begun = b.begun;
-        follows = follows_both xs ys a.turns b.turns b.left followed b.follows;
-        leaves = b.leaves;
-        put = subst (λ (bytes : List ℕ). PutsBy how bytes out out') (sym (said_on a.turns b.turns))
-            (puts_on how (put_by a.turns) (put_by b.turns) out mid out' a.put b.put);
-        made = subst (λ (cs : List ShopCall). Made cs shop shop') (ap (λ (cs : List ShopCall). cs
-            ++ (calls_by b.turns ++ b.begun)) begun ∙ sym (append_assoc (calls_by a.turns)
-            (calls_by b.turns) b.begun) ∙ ap (λ (cs : List ShopCall). cs ++ b.begun) (sym (calls_on
-            a.turns b.turns))) made;
-      }
+  -- these messages came, all but what is left was dealt with, and all went well
+  pub record Spanned (ms left : List M) (out out' : SinkTold) (shop shop' : ShopTold)
+      : Type 0 where
+    pub spans : List (Span M)
+    pub came : came_in spans ≡ ms
+    pub runs : Runs Answers [] spans left
+    pub put : PutAll (put_by (turns_in spans)) out out'
+    pub made : Made (calls_by (turns_in spans)) shop shop'
 
-  pub answered_none : (out : SinkTold) (shop : ShopTold) → Answered Answers None [] [] out out shop
-      shop
-  answered_none out shop = record {
-    turns = [];
-    left = [];
-    begun = [];
-    follows = refl;
-    leaves =
-        (refl, refl);
+  pub spanned_none : (out : SinkTold) (shop : ShopTold) → Spanned [] [] out out shop shop
+  spanned_none out shop = record {
+    spans = [];
+    came = refl;
+    runs = refl;
     put = put_nothing out;
     made = made_nothing shop;
+  }
+
+  pub spanned_more : (ms queue more left : List M) (turns : List Turn) (out mid out' : SinkTold)
+      (shop shop'' shop' : ShopTold) → Spanned ms queue out mid shop shop''
+      → Follows Answers (queue ++ more) turns left → PutAll (put_by turns) mid out'
+      → Made (calls_by turns) shop'' shop' → Spanned (ms ++ more) left out out' shop shop'
+  spanned_more ms queue more left turns out mid out' shop shop'' shop' s f put made = record {
+    spans = s.spans ++ span_of more turns ∷ [];
+    came = came_on s.spans more turns ∙ ap (λ (xs : List M). xs ++ more) s.came;
+    runs = runs_step [] s.spans queue more turns left s.runs f;
+    put = subst (λ (bytes : List ℕ). PutAll bytes out out') (sym (span_said s.spans more turns))
+        (put_on (put_by (turns_in s.spans)) (put_by turns) out mid out' s.put put);
+    made = subst (λ (cs : List ShopCall). Made cs shop shop') (sym (span_calls s.spans more turns))
+        (made_on (calls_by (turns_in s.spans)) (calls_by turns) shop shop'' shop' s.made made);
+  }
+
+  -- and these were the last turns
+  pub spanned_ends : (how : Option Finish) (ms queue more left : List M) (turns : List Turn)
+      (begun : List ShopCall) (out mid out' : SinkTold) (shop shop'' shop' : ShopTold)
+      → Spanned ms queue out mid shop shop'' → Follows Answers (queue ++ more) turns left
+      → LeftBy Answers how left begun → PutsBy how (put_by turns) mid out'
+      → Made (calls_by turns ++ begun) shop'' shop'
+      → Answered Answers how [] (ms ++ more) out out' shop shop'
+  spanned_ends how ms queue more left turns begun out mid out' shop shop'' shop' s f l put made =
+      record {
+        spans = s.spans ++ span_of more turns ∷ [];
+        left = left;
+        begun = begun;
+        came = came_on s.spans more turns ∙ ap (λ (xs : List M). xs ++ more) s.came;
+        runs = runs_step [] s.spans queue more turns left s.runs f;
+        leaves = l;
+        put = subst (λ (bytes : List ℕ). PutsBy how bytes out out')
+            (sym (span_said s.spans more turns))
+            (puts_on how (put_by (turns_in s.spans)) (put_by turns) out mid out' s.put put);
+        made = subst (λ (cs : List ShopCall). Made cs shop shop')
+            (sym (append_assoc (calls_by (turns_in s.spans)) (calls_by turns) begun)
+            ∙ ap (λ (cs : List ShopCall). cs ++ begun) (sym (span_calls s.spans more turns)))
+            (made_on (calls_by (turns_in s.spans)) (calls_by turns ++ begun) shop shop'' shop'
+            s.made made);
+      }
+
+  -- ---- lists of messages, each handled before the next is read
+
+  pub handled_more : (ms more : List M) (out mid out' : SinkTold) (shop shop'' shop' : ShopTold)
+      → Spanned ms [] out mid shop shop'' → Handled Answers None more mid out' shop'' shop'
+      → Spanned (ms ++ more) [] out out' shop shop'
+  handled_more ms more out mid out' shop shop'' shop' s h =
+      spanned_more ms [] more [] h.turns out mid out' shop shop'' shop' s
+      (subst (λ (l : List M). Follows Answers more h.turns l) h.leaves.0 h.follows) h.put
+      (subst (λ (cs : List ShopCall). Made cs shop'' shop')
+      (ap (λ (cs : List ShopCall). calls_by h.turns ++ cs) h.leaves.1
+      ∙ append-nil (calls_by h.turns)) h.made)
+
+  pub handled_ends : (how : Option Finish) (ms more : List M) (out mid out' : SinkTold)
+      (shop shop'' shop' : ShopTold) → Spanned ms [] out mid shop shop''
+      → Handled Answers how more mid out' shop'' shop'
+      → Answered Answers how [] (ms ++ more) out out' shop shop'
+  handled_ends how ms more out mid out' shop shop'' shop' s h =
+      spanned_ends how ms [] more h.left h.turns h.begun out mid out' shop shop'' shop' s h.follows
+      h.leaves h.put h.made
+
+  -- an end that leaves nothing
+  abbrev pub IsDone : Finish → Type 0
+  IsDone finish.AtEnd = Unit {0}
+  IsDone finish.BadInput = Unit {0}
+  IsDone finish.InputFault = Unit {0}
+  IsDone finish.TooLong = Unit {0}
+  IsDone finish.NoMemory = ⊥
+  IsDone finish.OutputFault = ⊥
+
+  leaves_none : (f : Finish) → IsDone f → LeftBy Answers (Some f) [] []
+  leaves_none finish.AtEnd d = (refl, refl)
+  leaves_none finish.BadInput d = (refl, refl)
+  leaves_none finish.InputFault d = (refl, refl)
+  leaves_none finish.TooLong d = (refl, refl)
+  leaves_none finish.NoMemory d = absurd d
+  leaves_none finish.OutputFault d = absurd d
+
+  puts_all : (f : Finish) (bytes : List ℕ) (out out' : SinkTold) → IsDone f
+      → PutAll bytes out out' → PutsBy (Some f) bytes out out'
+  puts_all finish.AtEnd bytes out out' d p = p
+  puts_all finish.BadInput bytes out out' d p = p
+  puts_all finish.InputFault bytes out out' d p = p
+  puts_all finish.TooLong bytes out out' d p = p
+  puts_all finish.NoMemory bytes out out' d p = absurd d
+  puts_all finish.OutputFault bytes out out' d p = absurd d
+
+  pub spanned_done : (f : Finish) (ms : List M) (out out' : SinkTold) (shop shop' : ShopTold)
+      → IsDone f → Spanned ms [] out out' shop shop'
+      → Answered Answers (Some f) [] ms out out' shop shop'
+  spanned_done f ms out out' shop shop' d s = record {
+    spans = s.spans;
+    left = [];
+    begun = [];
+    came = s.came;
+    runs = s.runs;
+    leaves = leaves_none f d;
+    put = puts_all f (put_by (turns_in s.spans)) out out' d s.put;
+    made = subst (λ (cs : List ShopCall). Made cs shop shop')
+        (sym (append-nil (calls_by (turns_in s.spans)))) s.made;
   }
 
   -- ---- from the turns so far
 
   pub record SoFar (ms left : List M) (out out' : SinkTold) (shop shop' : ShopTold) : Type 0 where
-    pub turns : List (Turn M)
+    pub turns : List Turn
     pub follows : Follows Answers ms turns left
     pub put : PutAll (put_by turns) out out'
     pub made : Made (calls_by turns) shop shop'
@@ -125,21 +210,21 @@ module _ {M : Type 0} (Answers : M → List M → List ShopCall → Result (Opti
         made_nothing shop;
   }
 
-  one_said : (t : Turn M) → put_by (t ∷ []) ≡ said t.reply
+  one_said : (t : Turn) → put_by (t ∷ []) ≡ said t.reply
   one_said t = append-nil (said t.reply)
 
-  one_call : (t : Turn M) → calls_by (t ∷ []) ≡ t.calls
+  one_call : (t : Turn) → calls_by (t ∷ []) ≡ t.calls
   one_call t = append-nil t.calls
 
-  said_more : (ts : List (Turn M)) (t : Turn M) → put_by ts ++ said t.reply ≡ put_by (ts ++ t ∷ [])
+  said_more : (ts : List Turn) (t : Turn) → put_by ts ++ said t.reply ≡ put_by (ts ++ t ∷ [])
   said_more ts t = sym (said_on ts (t ∷ []) ∙ ap (λ (xs : List ℕ). put_by ts ++ xs) (one_said t))
 
-  calls_more : (ts : List (Turn M)) (t : Turn M) → calls_by ts ++ t.calls ≡ calls_by (ts ++ t ∷ [])
+  calls_more : (ts : List Turn) (t : Turn) → calls_by ts ++ t.calls ≡ calls_by (ts ++ t ∷ [])
   calls_more ts t = sym (calls_on ts (t ∷ []) ∙ ap (λ (xs : List ShopCall). calls_by ts ++ xs)
       (one_call t))
 
   made_more : (ms left : List M) (m : M) (out mid out' : SinkTold) (shop shop'' shop' : ShopTold)
-      (s : SoFar ms (m ∷ left) out mid shop shop'') (t : Turn M) → Made t.calls shop'' shop'
+      (s : SoFar ms (m ∷ left) out mid shop shop'') (t : Turn) → Made t.calls shop'' shop'
       → Made (calls_by (s.turns ++ t ∷ [])) shop shop'
   made_more ms left m out mid out' shop shop'' shop' s t made =
       subst (λ (cs : List ShopCall). Made cs shop shop') (calls_more s.turns t) (made_on (calls_by
@@ -159,7 +244,7 @@ module _ {M : Type 0} (Answers : M → List M → List ShopCall → Result (Opti
 
   -- all went well
   pub so_far_all : (ms : List M) (out out' : SinkTold) (shop shop' : ShopTold)
-      → SoFar ms [] out out' shop shop' → Answered Answers None [] ms out out' shop shop'
+      → SoFar ms [] out out' shop shop' → Handled Answers None ms out out' shop shop'
   so_far_all ms out out' shop shop' s = record {
     turns = s.turns;
     left = [];
@@ -175,8 +260,8 @@ module _ {M : Type 0} (Answers : M → List M → List ShopCall → Result (Opti
   -- one ended it
   pub so_far_ends : (f : Finish) (ms left : List M) (m : M) (out mid out' : SinkTold) (shop shop''
       shop' : ShopTold) → SoFar ms (m ∷ left) out mid shop shop''
-      → Deals Answers (Some f) m left mid out' shop'' shop' → Answered Answers (Some f) [] ms out
-      out' shop shop'
+      → Deals Answers (Some f) m left mid out' shop'' shop'
+      → Handled Answers (Some f) ms out out' shop shop'
   so_far_ends finish.AtEnd ms left m out mid out' shop shop'' shop' s d = absurd d
   so_far_ends finish.BadInput ms left m out mid out' shop shop'' shop' s d = absurd d
   so_far_ends finish.InputFault ms left m out mid out' shop shop'' shop' s d = absurd d
@@ -220,24 +305,15 @@ pub dealt : {M : Type 0} (Answers : M → List M → List ShopCall
     → Answers m later calls (Result.Ok reply) → Made calls shop shop' → Puts how reply out out'
     → Deals Answers how m later out out' shop shop'
 dealt Answers None m later reply calls out out' shop shop' a made put = record {
-  turn =
-      record { behind = later; calls = calls; reply = reply };
-  is = record {
-    behind =
-        front_self later;
-    answers = a;
-  };
+  turn = record { calls = calls; reply = reply };
+  is = a;
   put = put;
   made = made;
 }
 dealt Answers (Some finish.OutputFault) m later reply calls out out' shop shop' a made put =
     record {
-      turn = record { behind = later; calls = calls; reply = reply };
-      is = record {
-        behind =
-            front_self later;
-        answers = a;
-      };
+      turn = record { calls = calls; reply = reply };
+      is = a;
       put = put;
       made = made;
     }
@@ -268,7 +344,7 @@ module _ {M : Type 0} (Answers : M → List M → List ShopCall → Result (Opti
 
   pub loop_ends : (f : Finish) (out mid out' : SinkTold) (shop shop'' shop' : ShopTold)
       → SoFar Answers ms (drop k ms) out mid shop shop'' → Deals Answers (Some f) x Behind mid out'
-      shop'' shop' → Answered Answers (Some f) [] ms out out' shop shop'
+      shop'' shop' → Handled Answers (Some f) ms out out' shop shop'
   loop_ends f out mid out' shop shop'' shop' s d =
       so_far_ends Answers f ms (drop (k + 1) ms) x out mid out' shop shop'' shop' (subst (λ (l :
       List M). SoFar Answers ms l out mid shop shop'') (drop_here ms k x below is) s)
@@ -278,7 +354,7 @@ module _ {M : Type 0} (Answers : M → List M → List ShopCall → Result (Opti
 pub loop_done : {M : Type 0} (Answers : M → List M → List ShopCall
     → Result (Option (List ℕ)) NoMemory → Type 0) (ms : List M) (k : ℕ) (out out' : SinkTold) (shop
     shop' : ShopTold) → length ms ≤ k → SoFar Answers ms (drop k ms) out out' shop shop'
-    → Answered Answers None [] ms out out' shop shop'
+    → Handled Answers None ms out out' shop shop'
 loop_done {M = M} Answers ms k out out' shop shop' past s = so_far_all Answers ms out out' shop
     shop' (subst (λ (l : List M). SoFar Answers ms l out out' shop shop') (drop_of_length-le ms
     past) s)

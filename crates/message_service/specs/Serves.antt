@@ -9,7 +9,8 @@ use Rattle.message_service.specs.declared.finish.Finish.{Finish}
 use Rattle.message_service.specs.declared.finish.Finish.TheVariants as finish
 use Rattle.message_service.specs.Calls.{Made}
 use Rattle.message_service.specs.Stream.{Begins, IsWhole, IsBroken}
-use Rattle.message_service.specs.Turns.{Turn, put_by, calls_by, Follows, IsBegun}
+use Rattle.message_service.specs.Turns.{Turn, Span, put_by, calls_by, came_in, turns_in}
+use Rattle.message_service.specs.Turns.{Follows, Runs, IsBegun}
 use Rattle.message_service.specs.Ends.{PutsBy, CausedBy}
 
 module _ {M : Type 0}
@@ -25,17 +26,32 @@ module _ {M : Type 0}
   LeftBy (Some finish.InputFault) left begun = (left ≡ []) × (begun ≡ [])
   LeftBy (Some finish.TooLong) left begun = (left ≡ []) × (begun ≡ [])
 
-  -- The messages were dealt with in order. The calls of all their turns are those that were made on
-  -- the shop, and what was said in their turns, behind what came before them, is what was put.
-  pub record Answered (how : Option Finish) (before : List ℕ) (messages : List M)
-      (out out' : SinkTold) (shop shop' : ShopTold) : Type 0 where
-    pub turns : List (Turn M)
+  -- These messages had all been read, and were dealt with in order, while no more were read. The
+  -- calls of all their turns are those that were made on the shop, and what was said in their turns
+  -- is what was put.
+  pub record Handled (how : Option Finish) (messages : List M) (out out' : SinkTold)
+      (shop shop' : ShopTold) : Type 0 where
+    pub turns : List Turn
     pub left : List M
     pub begun : List ShopCall
     pub follows : Follows Answers messages turns left
     pub leaves : LeftBy how left begun
-    pub put : PutsBy how (before ++ put_by turns) out out'
+    pub put : PutsBy how (put_by turns) out out'
     pub made : Made (calls_by turns ++ begun) shop shop'
+
+  -- The messages were read span by span, and were dealt with in order, each with exactly those in
+  -- sight that had been read behind it by its turn. What was said in the turns stands behind what
+  -- came before them.
+  pub record Answered (how : Option Finish) (before : List ℕ) (messages : List M)
+      (out out' : SinkTold) (shop shop' : ShopTold) : Type 0 where
+    pub spans : List (Span M)
+    pub left : List M
+    pub begun : List ShopCall
+    pub came : came_in spans ≡ messages
+    pub runs : Runs Answers [] spans left
+    pub leaves : LeftBy how left begun
+    pub put : PutsBy how (before ++ put_by (turns_in spans)) out out'
+    pub made : Made (calls_by (turns_in spans) ++ begun) shop shop'
 
 module _ (form : Form) {M : Type 0} (Spells : List ℕ → M → Type 0) where
   -- The messages are all that the bytes spell; or all before what spells none; or the first ones,

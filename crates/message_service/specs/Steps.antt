@@ -10,9 +10,9 @@ use Rattle.message_service.specs.declared.finish.Finish.{Finish}
 use Rattle.message_service.specs.declared.finish.Finish.TheVariants as finish
 use Rattle.message_service.specs.Calls.{Made}
 use Rattle.message_service.specs.Stream.{HeardAll}
-use Rattle.message_service.specs.Turns.{Turn, said, IsTurn, IsBrokenOff}
+use Rattle.message_service.specs.Turns.{Turn, said, IsBrokenOff}
 use Rattle.message_service.specs.Ends.{PutAll, PutFront, end_of}
-use Rattle.message_service.specs.Serves.{ReadsBy, Answered}
+use Rattle.message_service.specs.Serves.{ReadsBy, Handled}
 
 -- a reply was put, if there is one, or putting failed
 abbrev pub Puts : Option Finish → Option (List ℕ) → SinkTold → SinkTold → Type 0
@@ -44,32 +44,32 @@ StopsReading finish.TooLong = ⊥
 
 module _ {M : Type 0}
     (Answers : M → List M → List ShopCall → Result (Option (List ℕ)) NoMemory → Type 0) where
-  -- one message was dealt with so, and its reply was put, or putting failed
-  pub record OneTurn (how : Option Finish) (m : M) (later : List M) (out out' : SinkTold)
+  -- one message was dealt with so, before these others, and its reply was put, or putting failed
+  pub record OneTurn (how : Option Finish) (m : M) (behind : List M) (out out' : SinkTold)
       (shop shop' : ShopTold) : Type 0 where
-    pub turn : Turn M
-    pub is : IsTurn Answers m later turn
+    pub turn : Turn
+    pub is : Answers m behind turn.calls (Ok turn.reply)
     pub put : Puts how turn.reply out out'
     pub made : Made turn.calls shop shop'
 
   -- memory ran out for it, and nothing was put
-  pub record OneBegun (m : M) (later : List M) (out out' : SinkTold) (shop shop' : ShopTold)
+  pub record OneBegun (m : M) (behind : List M) (out out' : SinkTold) (shop shop' : ShopTold)
       : Type 0 where
     pub begun : List ShopCall
-    pub is : IsBrokenOff Answers (m ∷ later) begun
+    pub is : IsBrokenOff Answers (m ∷ behind) begun
     pub still : out' ≡ out
     pub made : Made begun shop shop'
 
   abbrev pub Deals : Option Finish → M → List M → SinkTold → SinkTold → ShopTold → ShopTold
       → Type 0
-  Deals None m later out out' shop shop' = OneTurn None m later out out' shop shop'
-  Deals (Some finish.OutputFault) m later out out' shop shop' =
-      OneTurn (Some finish.OutputFault) m later out out' shop shop'
-  Deals (Some finish.NoMemory) m later out out' shop shop' = OneBegun m later out out' shop shop'
-  Deals (Some finish.AtEnd) m later out out' shop shop' = ⊥
-  Deals (Some finish.BadInput) m later out out' shop shop' = ⊥
-  Deals (Some finish.InputFault) m later out out' shop shop' = ⊥
-  Deals (Some finish.TooLong) m later out out' shop shop' = ⊥
+  Deals None m behind out out' shop shop' = OneTurn None m behind out out' shop shop'
+  Deals (Some finish.OutputFault) m behind out out' shop shop' =
+      OneTurn (Some finish.OutputFault) m behind out out' shop shop'
+  Deals (Some finish.NoMemory) m behind out out' shop shop' = OneBegun m behind out out' shop shop'
+  Deals (Some finish.AtEnd) m behind out out' shop shop' = ⊥
+  Deals (Some finish.BadInput) m behind out out' shop shop' = ⊥
+  Deals (Some finish.InputFault) m behind out out' shop shop' = ⊥
+  Deals (Some finish.TooLong) m behind out out' shop shop' = ⊥
 
 module _ (form : Form) {M : Type 0} (Spells : List ℕ → M → Type 0) where
   -- after a step: it goes on, and all that was fed is heard, or it ends
@@ -79,9 +79,9 @@ module _ (form : Form) {M : Type 0} (Spells : List ℕ → M → Type 0) where
 
 module _ (form : Form) {M : Type 0} (Spells : List ℕ → M → Type 0)
     (Answers : M → List M → List ShopCall → Result (Option (List ℕ)) NoMemory → Type 0) where
-  -- more messages came, and were answered
+  -- more messages came, and these were answered before any more were read
   pub record Round (result : Result (Unit {0}) Finish) (fed : List ℕ) (messages : List M)
       (s : Held) (out out' : SinkTold) (shop shop' : ShopTold) : Type 0 where
     pub more : List M
     pub stands : StandsBy form Spells result fed (messages ++ more) s
-    pub answered : Answered Answers (end_of result) [] more out out' shop shop'
+    pub handled : Handled Answers (end_of result) more out out' shop shop'

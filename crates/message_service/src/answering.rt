@@ -1,7 +1,7 @@
 // Messages that have been read are dealt with, one after another.
 ghost use Rattle.std.specs.Prelude.{◌≡◌, ◌++◌, [], IfErr};
 ghost use Rattle.message_service.specs.Ends.{end_of};
-ghost use Rattle.message_service.specs.Serves.{Answered};
+ghost use Rattle.message_service.specs.Serves.{Handled};
 ghost use Rattle.message_service.specs.Steps.{Deals, Puts, CutsOff};
 
 use crate::{Finish, Service};
@@ -21,7 +21,7 @@ pub fn answer_all<O: Sink, S: Shop, V: Service<S>>(
     out: &mut O,
     shop: &mut S,
 ) -> Result<(), Finish>
-    ensures answered { Answered V.answers (end_of result) [] messages.now (O.told out.old)
+    ensures answered { Handled V.answers (end_of result) messages.now (O.told out.old)
         (O.told out.new) (S.told shop.old) (S.told shop.new) }
     ensures err { IfErr result CutsOff }
 {
@@ -31,8 +31,12 @@ pub fn answer_all<O: Sink, S: Shop, V: Service<S>>(
     Ok(())
 }
 
-// Deals with one message, before these others.
-fn answer_one<O: Sink, S: Shop, V: Service<S>>(
+/// Deals with one message, before these others.
+///
+/// # Errors
+///
+/// As of [`answer_all`].
+pub fn answer_one<O: Sink, S: Shop, V: Service<S>>(
     alloc: Global,
     service: &V,
     message: &V::Message,

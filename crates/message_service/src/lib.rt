@@ -2,7 +2,8 @@
 //!
 //! What kind of messages they are, and how each is answered, is a [`Service`]. [`serve`] does the
 //! rest: it reads whatever has come, deals with these messages one after another, and reads on, up
-//! to the end of the input.
+//! to the end of the input. [`hear_all`] and [`answer_one`] are for those who read while messages
+//! are dealt with.
 #![tactic(auto)]
 
 mod answering;
@@ -11,6 +12,8 @@ mod hearing;
 mod service;
 mod serving;
 
+pub use answering::answer_one;
 pub use finish::Finish;
+pub use hearing::{Come, hear_all};
 pub use service::Service;
 pub use serving::serve;

@@ -4,7 +4,7 @@ use Rattle.std.proofs.lemmas.Result.{err_from_is_err_and}
 use Rattle.json_framing.specs.Cutter.{held}
 use Rattle.json_framing.specs.declared.cutter.Framing.{Framing}
 use Rattle.message_service.proofs.Streams.{Fed, heard_first, heard_piece, first_more}
-use Rattle.message_service.proofs.Rounds.{answered_bad, round_none, round_cut}
+use Rattle.message_service.proofs.Rounds.{handled_bad, round_none, round_cut}
 use Rattle.message_service.proofs.serving.round.Goals as goal
 
 pub returns-in_default-clause-round : goal.returns-in_default-clause-round
@@ -61,7 +61,7 @@ returns-then-come-clause-round g c =
     record {
       more = come.messages.items;
       stands = rw (c.if-come.true) at all;
-      answered = rw (c.deref.ensures.value) at c.in_ok-answer_all-in-Ok-hear_all.ensures.answered;
+      handled = rw (c.deref.ensures.value) at c.in_ok-answer_all-in-Ok-hear_all.ensures.answered;
     }
 
 pub returns-in-Ok-hear_all-clause-round : goal.returns-in-Ok-hear_all-clause-round
@@ -80,6 +80,6 @@ returns-in-Ok-hear_all-clause-round g c =
     record {
       more = come.messages.items;
       stands = rw (c.if-come.false) at all;
-      answered = answered_bad g.V.Service.answers come.messages.items _ _ _ _
+      handled = handled_bad g.V.Service.answers come.messages.items _ _ _ _
           (rw (c.deref.ensures.value) at c.in_ok-answer_all-in-Ok-hear_all.ensures.answered);
     }

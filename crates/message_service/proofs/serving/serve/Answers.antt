@@ -5,7 +5,7 @@ use Rattle.delimited_framing.specs.Splitter.{StandsFor}
 use Rattle.message_service.specs.Serves.{Outside}
 use Rattle.message_service.proofs.Made.{adds_nothing}
 use Rattle.message_service.proofs.Streams.{heard_new, whole_new}
-use Rattle.message_service.proofs.Turns.{answered_none}
+use Rattle.message_service.proofs.Turns.{spanned_none}
 use Rattle.message_service.proofs.Rounds.{going_on, going_stops, one_more}
 use Rattle.message_service.proofs.serving.serve.Goals as goal
 
@@ -27,7 +27,7 @@ loop-init g c =
             e.stands)
             e.fresh.0 e.fresh.1;
         whole = whole_new f spells;
-        answered = answered_none g.V.Service.answers (g.O.Sink.told c.args.out.now)
+        spanned = spanned_none g.V.Service.answers (g.O.Sink.told c.args.out.now)
             (g.S.Shop.told c.args.shop.now);
       };
       reads = omega arith;

@@ -1,0 +1,4 @@
+-- What the contracts of this crate cite.
+pub mod States
+pub mod StateLaws
+pub mod Sides

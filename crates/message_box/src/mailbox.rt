@@ -1,0 +1,226 @@
+//! The machine.
+ghost use Rattle.std.specs.Prelude.{◌≡◌, ◌+◌, ◌==◌, ◌&&◌, ℕ, List, [], true, false, None};
+ghost use Rattle.std.specs.Prelude.{Option, IfSome};
+ghost use Rattle.seat_desk.specs.History.{entry};
+ghost use Rattle.message_box.specs.States.{state_of, answer_to, is_kept, is_short, owed_in};
+ghost use Rattle.message_box.specs.States.{Matches, GoesIn, ComesOut, IsPaid, MayBeShort};
+ghost use Rattle.message_box.specs.States.{TurnsSo, IsAdded, Gives, taken_from, not_stopped};
+ghost use Rattle.message_box.specs.States.{reader};
+ghost use Rattle.message_box.specs.StateLaws.{short_not_kept, paid_not_short, pays_one, owes_two};
+
+use seat_desk::Machine;
+use std::alloc::Global;
+use std::mem;
+use std::snapshot::Snapshot;
+
+/// The number of the lane that reads messages and puts them in.
+pub const READER: u32 = 0;
+
+/// The number of the lane that takes them out.
+pub const TAKER: u32 = 1;
+
+/// As long as fewer messages than this wait there is room for more.
+pub const AHEAD: usize = 4_096;
+
+/// How the reader has stopped.
+#[derive(Clone, Copy, Debug, PartialEq, Eq)]
+pub enum Stop {
+    /// The input has ended.
+    AtEnd,
+    /// Memory ran out.
+    NoMemory,
+    /// What stands next in the input spells no message.
+    BadInput,
+    /// The input can't be read.
+    InputFault,
+    /// So many pieces were read that no more are.
+    TooLong,
+}
+
+/// What a lane asks of a mailbox.
+#[derive(Drop)]
+pub enum Ask<X> {
+    /// To put these messages in, which go in with the call.
+    Put(Snapshot<Vec<X>>),
+    /// Whether there is room for more.
+    Room,
+    /// To say how the reader has stopped.
+    Stop(Stop),
+    /// Whether the taker has left.
+    Left,
+    /// To take out all messages that wait.
+    Take,
+    /// To leave, so that no more is to be put in.
+    Leave,
+}
+
+/// What it is answered.
+#[derive(Clone, Copy, Debug, PartialEq, Eq)]
+pub enum Answer {
+    /// It is done.
+    Done,
+    /// There is room.
+    Open,
+    /// There is nothing now.
+    Idle,
+    /// Nothing waits, and nothing more comes.
+    Stopped(Stop),
+    /// The taker has left, or the call isn't the lane's to make.
+    Gone,
+    /// There was no memory for the messages.
+    NoRoom,
+}
+
+/// The rules of a machine that goes by none.
+#[derive(Drop)]
+pub struct Nothing;
+
+/// The messages that wait, how the reader has stopped, and whether the taker has left.
+#[derive(Drop)]
+pub struct Mailbox<X> {
+    alloc: Global,
+    waiting: Vec<X>,
+    stop: Option<Stop>,
+    left: bool,
+}
+
+impl<X: Drop> Mailbox<X> {
+    /// A mailbox in which nothing waits.
+    pub fn new(alloc: Global) -> Mailbox<X>
+        ensures { Matches result (state_of []) }
+    {
+        Mailbox {
+            alloc,
+            waiting: Vec::new(alloc),
+            stop: None,
+            left: false,
+        }
+    }
+
+    // Whether this lane may still put in.
+    fn reads(&self, lane: u32) -> bool
+        ensures { result ≡ ((lane == reader) && not_stopped self.now.stop) }
+    {
+        lane == READER && self.stop.is_none()
+    }
+
+    // Puts messages behind those that wait.
+    fn add(&mut self, batch: Option<Vec<X>>) -> Answer
+        ensures rest { (self.new.stop ≡ self.old.stop) × (self.new.left ≡ self.old.left) }
+        ensures added { IfSome batch (λ b.
+            IsAdded self.old.waiting.items b.items result self.new.waiting.items) }
+    {
+        let Some(mut batch) = batch else {
+            return Answer::Gone;
+        };
+        match self.waiting.append(&mut batch) {
+            Ok(()) => Answer::Done,
+            Err(_) => Answer::NoRoom,
+        }
+    }
+
+    // Takes out all that wait.
+    fn take_out(&mut self) -> (Answer, Option<Vec<X>>)
+        ensures rest { (self.new.stop ≡ self.old.stop) × (self.new.left ≡ self.old.left) }
+        ensures taken { (result.0 ≡ taken_from self.old.waiting.items self.old.stop)
+            × (self.new.waiting.items ≡ []) }
+        ensures gives { Gives self.old.waiting.items result.0 result.1 }
+    {
+        if self.waiting.is_empty() {
+            return (self.stop.map_or(Answer::Idle, Answer::Stopped), None);
+        }
+        let messages = mem::replace(&mut self.waiting, Vec::new(self.alloc));
+        (Answer::Done, Some(messages))
+    }
+}
+
+impl<X: Drop> Machine for Mailbox<X> {
+    type Call = Ask<X>;
+
+    type Reply = Answer;
+
+    type Good = Vec<X>;
+
+    type Rules = Nothing;
+
+    ghost rules = { λ m. record {} };
+
+    ghost blank = { record {} };
+
+    ghost stands = { λ m h. Matches m (state_of h) };
+
+    ghost next = { λ q h lane c. answer_to (state_of h) lane c };
+
+    ghost keeps = { λ e. is_kept e.reply };
+
+    ghost paid = { λ q h lane c. IsPaid c };
+
+    ghost short = { is_short };
+
+    ghost may_be_short = { λ q h lane c. MayBeShort c };
+
+    ghost goes_in = { λ q h lane c g. GoesIn c g };
+
+    ghost comes_out = { λ q h lane c r g. ComesOut (state_of h) c r g };
+
+    ghost owes = { λ q h. owed_in (state_of h) };
+
+    ghost hints = { λ m lane r lanes. Unit {0} };
+
+    ghost short_is_not_kept = { λ e s. short_not_kept e.reply s };
+
+    ghost paid_is_not_short = { λ m h lane c s p. paid_not_short (state_of h) lane c p };
+
+    ghost paid_stays = { λ m h more lane c s e p. p };
+
+    ghost owes_less = { λ m h lane c s p k. pays_one h lane c p k };
+
+    ghost owes_more = { λ m h lane c s k. owes_two h lane c };
+
+    ghost suits_still = { λ m h more lane c g s e p. p };
+
+    fn is_kept(_lane: u32, _call: &Ask<X>, reply: &Answer) -> bool {
+        matches!(reply, Answer::Done)
+    }
+
+    fn copy(reply: &Answer) -> Answer {
+        *reply
+    }
+
+    fn turn(&mut self, lane: u32, call: &Ask<X>, put: Option<Vec<X>>) -> (Answer, Option<Vec<X>>)
+        ensures turns { TurnsSo self.old lane call.now put result.0 result.1 self.new }
+    {
+        if self.left {
+            return (Answer::Gone, None);
+        }
+        let reads = self.reads(lane);
+        match call {
+            Ask::Put(_) if reads => (self.add(put), None),
+            Ask::Stop(stop) if reads => {
+                self.stop = Some(*stop);
+                (Answer::Done, None)
+            }
+            Ask::Take if lane == TAKER => self.take_out(),
+            Ask::Leave if lane == TAKER => {
+                self.left = true;
+                (Answer::Done, None)
+            }
+            Ask::Room if self.waiting.len() < AHEAD => (Answer::Open, None),
+            Ask::Room | Ask::Left => (Answer::Idle, None),
+            Ask::Put(_) | Ask::Stop(_) | Ask::Take | Ask::Leave => (Answer::Gone, None),
+        }
+    }
+
+    /// What changes by a call of one lane may be news for the other.
+    fn stirs(&self, lane: u32, reply: &Answer) -> u128 {
+        match reply {
+            Answer::Done if lane == READER => 1 << TAKER,
+            Answer::Done => 1 << READER,
+            _ => 0,
+        }
+    }
+
+    fn owed(&self) -> u64 {
+        u64::from(self.stop.is_none()) + u64::from(!self.left)
+    }
+}

@@ -1,0 +1,137 @@
+//! The worker: deals with the messages that were read, one after another.
+ghost use Rattle.std.specs.Prelude.{◌≡◌, ◌<◌, [], false, Some, vec_len};
+ghost use Rattle.seat_desk.specs.Passes.{IsSamePass};
+ghost use Rattle.message_service.specs.Ends.{end_of};
+ghost use Rattle.message_service.specs.Serves.{Answered};
+ghost use Rattle.message_box.specs.States.{taker, first};
+ghost use Rattle.message_box.specs.Sides.{state_at};
+ghost use Rattle.read_ahead.specs.Reading.{finish_of};
+ghost use Rattle.read_ahead.specs.Working.{ToldBy, Refills, DealsFirst};
+
+use crate::backlog::Backlog;
+use lane_bells::Bells;
+use lane_crew::Caller;
+use message_box::{Mailbox, Stop, Took, take, take_waiting};
+use message_service::{Finish, Service, answer_one};
+use outside::{Shop, Sink};
+use plain_values::NoMemory;
+use std::alloc::Global;
+use std::sync::Wait;
+
+/// Deals with the messages that come out of the mailbox, in order, each with all those behind it in
+/// sight that had been put in by its turn. It answers with the cause of its end.
+pub(crate) fn work<O: Sink, S: Shop, V: Service<S>, R: Wait>(
+    rt: &R,
+    alloc: Global,
+    service: &V,
+    bells: &Bells,
+    backlog: &Backlog,
+    caller: &mut Caller<Mailbox<V::Message>>,
+    out: &mut O,
+    shop: &mut S,
+) -> Finish
+    requires lane { caller.old.pass.lane ≡ taker }
+    requires bell { taker < bells.now }
+    requires fresh { state_at caller.old.pass ≡ first }
+    ensures same { IsSamePass caller.old.pass caller.new.pass }
+    ensures here { (state_at caller.new.pass).left ≡ false }
+    ensures told { ToldBy result (state_at caller.new.pass) }
+    ensures answered { Answered V.answers (Some result) [] (state_at caller.new.pass).taken
+        (O.told out.old) (O.told out.new) (S.told shop.old) (S.told shop.new) }
+{
+    let mut queue = Vec::new(alloc);
+    for _ in rt.forever() {
+        if let Err(finish) = refill(rt, alloc, bells, caller, &mut queue) {
+            return finish;
+        }
+        backlog.note(bells, queue.len());
+        if queue.is_empty() {
+            continue;
+        }
+        if let Err(finish) = answer_first(alloc, service, &mut queue, out, shop) {
+            return finish;
+        }
+    }
+    unreachable!()
+}
+
+// Takes all that waits. Where nothing is to be done it waits for more.
+fn refill<X: Drop, R: Wait>(
+    rt: &R,
+    alloc: Global,
+    bells: &Bells,
+    caller: &mut Caller<Mailbox<X>>,
+    queue: &mut Vec<X>,
+) -> Result<(), Finish>
+    requires lane { caller.old.pass.lane ≡ taker }
+    requires bell { taker < bells.now }
+    requires here { (state_at caller.old.pass).left ≡ false }
+    ensures same { IsSamePass caller.old.pass caller.new.pass }
+    ensures refills { Refills result queue.old.items queue.new.items
+        (state_at caller.old.pass) (state_at caller.new.pass) }
+{
+    if queue.is_empty() {
+        return begin(rt, bells, caller, queue);
+    }
+    let Ok(mut messages) = take_waiting(rt, alloc, caller) else {
+        return Err(Finish::NoMemory);
+    };
+    match queue.append(&mut messages) {
+        Ok(()) => Ok(()),
+        Err(_) => Err(Finish::NoMemory),
+    }
+}
+
+// Waits for more messages, while none is to be done.
+fn begin<X: Drop, R: Wait>(
+    rt: &R,
+    bells: &Bells,
+    caller: &mut Caller<Mailbox<X>>,
+    queue: &mut Vec<X>,
+) -> Result<(), Finish>
+    requires lane { caller.old.pass.lane ≡ taker }
+    requires bell { taker < bells.now }
+    requires here { (state_at caller.old.pass).left ≡ false }
+    requires none { queue.old.items ≡ [] }
+    ensures same { IsSamePass caller.old.pass caller.new.pass }
+    ensures refills { Refills result queue.old.items queue.new.items
+        (state_at caller.old.pass) (state_at caller.new.pass) }
+{
+    match take(rt, bells, caller) {
+        Ok(Took::Messages(messages)) => {
+            *queue = messages;
+            Ok(())
+        }
+        Ok(Took::Stopped(stop)) => Err(finish(stop)),
+        Err(NoMemory) => Err(Finish::NoMemory),
+    }
+}
+
+// How the program ends whose reader has stopped so.
+fn finish(stop: Stop) -> Finish
+    ensures { result ≡ finish_of stop }
+{
+    match stop {
+        Stop::AtEnd => Finish::AtEnd,
+        Stop::NoMemory => Finish::NoMemory,
+        Stop::BadInput => Finish::BadInput,
+        Stop::InputFault => Finish::InputFault,
+        Stop::TooLong => Finish::TooLong,
+    }
+}
+
+// Deals with the first message, before the others.
+fn answer_first<O: Sink, S: Shop, V: Service<S>>(
+    alloc: Global,
+    service: &V,
+    queue: &mut Vec<V::Message>,
+    out: &mut O,
+    shop: &mut S,
+) -> Result<(), Finish>
+    requires { 0 < vec_len queue.old }
+    ensures { DealsFirst V.answers (end_of result) queue.old.items queue.new.items (O.told out.old)
+        (O.told out.new) (S.told shop.old) (S.told shop.new) }
+{
+    let message = queue.remove(0);
+    answer_one(alloc, service, &message, queue.as_slice(), out, shop)
+}

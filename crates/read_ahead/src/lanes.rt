@@ -1,0 +1,149 @@
+//! The two lanes.
+ghost use Rattle.std.specs.Prelude.{◌≡◌, ◌<◌, None};
+ghost use Rattle.seat_desk.specs.Passes.{IsSamePass};
+ghost use Rattle.json_framing.specs.Cutter.{form_of};
+ghost use Rattle.message_box.specs.States.{reader, taker, put_in, first};
+ghost use Rattle.message_box.specs.Sides.{state_at};
+ghost use Rattle.read_ahead.specs.Reading.{ReaderLeaves, SaidBy};
+ghost use Rattle.read_ahead.specs.Working.{WorkerLeaves};
+
+use crate::answering::work;
+use crate::backlog::Backlog;
+use crate::both::{Reads, Works};
+use crate::reading::{Pause, read_all};
+use lane_bells::Bells;
+use lane_crew::Caller;
+use message_box::{Mailbox, await_leave, leave, stop};
+use message_service::{Finish, Service};
+use outside::{Shop, Sink, Tap};
+use std::alloc::Global;
+use std::sync::Wait;
+
+/// What both lanes know.
+#[derive(Drop)]
+pub(crate) struct Hall<'a, V> {
+    pub(crate) alloc: Global,
+    pub(crate) service: &'a V,
+    pub(crate) bells: &'a Bells,
+    pub(crate) backlog: &'a Backlog,
+}
+
+impl<'a, T: Tap, S: Shop, V: Service<S>> Reads<T, S, Caller<'a, Mailbox<V::Message>>>
+    for Hall<'_, V> {
+    type Pause = Pause;
+
+    ghost can_read = { λ self caller. (caller.pass.lane ≡ reader) × (reader < self.bells.now)
+        × (state_at caller.pass ≡ first) };
+
+    ghost has_read = { λ caller input pause caller' input'. IsSamePass caller.pass caller'.pass
+        × ReaderLeaves (form_of V.framing) V.spells pause (state_at caller'.pass) (T.told input)
+        (T.told input') };
+
+    fn read<R: Wait>(
+        &self,
+        rt: &R,
+        caller: &mut Caller<'a, Mailbox<V::Message>>,
+        input: &mut T,
+    ) -> Pause {
+        read_lane(
+            rt,
+            self.alloc,
+            self.service,
+            self.bells,
+            self.backlog,
+            caller,
+            input,
+        )
+    }
+}
+
+impl<'a, O: Sink, S: Shop, V: Service<S>> Works<O, S, Caller<'a, Mailbox<V::Message>>>
+    for Hall<'_, V> {
+    type Finish = Finish;
+
+    ghost can_work = { λ self caller. (caller.pass.lane ≡ taker) × (taker < self.bells.now)
+        × (state_at caller.pass ≡ first) };
+
+    ghost has_worked = { λ caller out shop finish caller' out' shop'.
+        IsSamePass caller.pass caller'.pass
+        × WorkerLeaves V.answers finish (state_at caller'.pass) (O.told out) (O.told out')
+        (S.told shop) (S.told shop') };
+
+    fn work<R: Wait>(
+        &self,
+        rt: &R,
+        caller: &mut Caller<'a, Mailbox<V::Message>>,
+        out: &mut O,
+        shop: &mut S,
+    ) -> Finish {
+        work_lane(
+            rt,
+            self.alloc,
+            self.service,
+            self.bells,
+            self.backlog,
+            caller,
+            out,
+            shop,
+        )
+    }
+}
+
+// The reader's lane: it reads, says how it has stopped, and waits until the taker has left.
+fn read_lane<T: Tap, S: Shop, V: Service<S>, R: Wait>(
+    rt: &R,
+    alloc: Global,
+    service: &V,
+    bells: &Bells,
+    backlog: &Backlog,
+    caller: &mut Caller<Mailbox<V::Message>>,
+    input: &mut T,
+) -> Pause
+    requires lane { caller.old.pass.lane ≡ reader }
+    requires bell { reader < bells.now }
+    requires fresh { state_at caller.old.pass ≡ first }
+    ensures same { IsSamePass caller.old.pass caller.new.pass }
+    ensures leaves { ReaderLeaves (form_of V.framing) V.spells result (state_at caller.new.pass)
+        (T.told input.old) (T.told input.new) }
+{
+    let pause = read_all(rt, alloc, service, bells, backlog, caller, input);
+    say_end(rt, caller, pause);
+    await_leave(rt, bells, caller);
+    pause
+}
+
+// Says how the reader has stopped, where somebody still takes what it reads.
+fn say_end<X: Drop, R: Wait>(rt: &R, caller: &mut Caller<Mailbox<X>>, pause: Pause)
+    requires lane { caller.old.pass.lane ≡ reader }
+    requires reads { (state_at caller.old.pass).stop ≡ None }
+    ensures same { IsSamePass caller.old.pass caller.new.pass }
+    ensures stands { put_in (state_at caller.new.pass) ≡ put_in (state_at caller.old.pass) }
+    ensures said { SaidBy pause (state_at caller.new.pass) }
+{
+    if let Pause::Stopped(how) = pause {
+        stop(rt, caller, how);
+    }
+}
+
+// The worker's lane: it works, and leaves.
+fn work_lane<O: Sink, S: Shop, V: Service<S>, R: Wait>(
+    rt: &R,
+    alloc: Global,
+    service: &V,
+    bells: &Bells,
+    backlog: &Backlog,
+    caller: &mut Caller<Mailbox<V::Message>>,
+    out: &mut O,
+    shop: &mut S,
+) -> Finish
+    requires lane { caller.old.pass.lane ≡ taker }
+    requires bell { taker < bells.now }
+    requires fresh { state_at caller.old.pass ≡ first }
+    ensures same { IsSamePass caller.old.pass caller.new.pass }
+    ensures leaves { WorkerLeaves V.answers result (state_at caller.new.pass) (O.told out.old)
+        (O.told out.new) (S.told shop.old) (S.told shop.new) }
+{
+    let finish = work(rt, alloc, service, bells, backlog, caller, out, shop);
+    leave(rt, caller);
+    finish
+}

@@ -1,0 +1,135 @@
+//! The reader: from the start of the input to its end.
+ghost use Rattle.std.specs.Prelude.{◌≡◌, ◌<◌, ◌++◌, [], None, List, ℕ, IfErr};
+ghost use Rattle.seat_desk.specs.Passes.{IsSamePass};
+ghost use Rattle.json_framing.specs.Cutter.{form_of, framing_of, held};
+ghost use Rattle.message_service.specs.Stream.{Heard};
+ghost use Rattle.message_box.specs.States.{reader, put_in, first};
+ghost use Rattle.message_box.specs.Sides.{state_at, ReaderStands};
+ghost use Rattle.read_ahead.specs.Reading.{HasRead, HandsOn, BreaksOff};
+
+use crate::backlog::Backlog;
+use json_framing::Cutter;
+use lane_bells::Bells;
+use lane_crew::Caller;
+use message_box::{Mailbox, Offered, READER, Stop, await_room, put};
+use message_service::{Service, hear_all};
+use outside::{Shop, Taken, Tap};
+use plain_values::NoMemory;
+use std::alloc::Global;
+use std::sync::Wait;
+
+/// The largest message, in bytes.
+const LARGEST: u64 = 67_108_864;
+
+/// The most bytes of one read.
+const PIECE: usize = 65_536;
+
+/// The most reads, each of which takes at least one byte.
+const READS: u64 = 1 << 40;
+
+/// Why no more is read.
+#[derive(Clone, Copy, Debug, PartialEq, Eq)]
+pub(crate) enum Pause {
+    /// The reader has stopped so.
+    Stopped(Stop),
+    /// Nobody takes any more what is read.
+    Gone,
+}
+
+/// Reads whatever comes, and puts the messages that it spells into the mailbox, up to the end of
+/// the input or to what spells no message, or until nobody takes them any more.
+pub(crate) fn read_all<T: Tap, S: Shop, V: Service<S>, R: Wait>(
+    rt: &R,
+    alloc: Global,
+    service: &V,
+    bells: &Bells,
+    backlog: &Backlog,
+    caller: &mut Caller<Mailbox<V::Message>>,
+    input: &mut T,
+) -> Pause
+    requires lane { caller.old.pass.lane ≡ reader }
+    requires bell { reader < bells.now }
+    requires fresh { state_at caller.old.pass ≡ first }
+    ensures same { IsSamePass caller.old.pass caller.new.pass }
+    ensures open { (state_at caller.new.pass).stop ≡ None }
+    ensures read { HasRead (form_of V.framing) V.spells result
+        (put_in (state_at caller.new.pass)) (T.told input.old) (T.told input.new) }
+{
+    let mut cutter = Cutter::new(alloc, service.framing(), LARGEST);
+    let mut piece = [0u8; PIECE];
+    for _ in 0..READS {
+        if let Offered::Gone = await_ease(rt, bells, backlog, caller) {
+            return Pause::Gone;
+        }
+        match input.read(&mut piece) {
+            Taken::Bytes(count) => {
+                let handed = hand_on(rt, alloc, service, &mut cutter, caller, &piece[..count]);
+                if let Err(pause) = handed {
+                    return pause;
+                }
+            }
+            Taken::End => return Pause::Stopped(Stop::AtEnd),
+            Taken::Failed => return Pause::Stopped(Stop::InputFault),
+        }
+    }
+    Pause::Stopped(Stop::TooLong)
+}
+
+// Waits until there is room for more and not much is to be done, or nobody takes any more what is
+// read.
+fn await_ease<X: Drop, R: Wait>(
+    rt: &R,
+    bells: &Bells,
+    backlog: &Backlog,
+    caller: &mut Caller<Mailbox<X>>,
+) -> Offered
+    requires lane { caller.old.pass.lane ≡ reader }
+    requires bell { reader < bells.now }
+    ensures same { IsSamePass caller.old.pass caller.new.pass }
+    ensures stands { ReaderStands (state_at caller.old.pass) (state_at caller.new.pass) }
+{
+    for _ in rt.forever() {
+        match await_room(rt, bells, caller) {
+            Offered::Done if backlog.is_long() => bells.rest(rt, READER),
+            offered => return offered,
+        }
+    }
+    unreachable!()
+}
+
+// Hears one piece more, and puts in the messages that have come with it.
+fn hand_on<S: Shop, V: Service<S>, R: Wait>(
+    rt: &R,
+    alloc: Global,
+    service: &V,
+    cutter: &mut Cutter,
+    caller: &mut Caller<Mailbox<V::Message>>,
+    piece: &[u8],
+) -> Result<(), Pause>
+    requires lane { caller.old.pass.lane ≡ reader }
+    requires reads { (state_at caller.old.pass).stop ≡ None }
+    requires framing { framing_of cutter.old ≡ V.framing }
+    ensures framing { framing_of cutter.new ≡ V.framing }
+    ensures same { IsSamePass caller.old.pass caller.new.pass }
+    ensures open { (state_at caller.new.pass).stop ≡ None }
+    ensures hands { (fed : List ℕ)
+        → Heard (form_of V.framing) V.spells fed (put_in (state_at caller.old.pass))
+        (held cutter.old)
+        → HandsOn (form_of V.framing) V.spells result (fed ++ piece.now)
+        (put_in (state_at caller.new.pass)) (held cutter.new) }
+    ensures err { IfErr result BreaksOff }
+{
+    let Ok(()) = cutter.feed(piece) else {
+        return Err(Pause::Stopped(Stop::NoMemory));
+    };
+    let Ok(come) = hear_all(rt, alloc, service, cutter) else {
+        return Err(Pause::Stopped(Stop::NoMemory));
+    };
+    let goes_on = come.goes_on;
+    match put(rt, caller, come.messages) {
+        Ok(Offered::Done) if goes_on => Ok(()),
+        Ok(Offered::Done) => Err(Pause::Stopped(Stop::BadInput)),
+        Ok(Offered::Gone) => Err(Pause::Gone),
+        Err(NoMemory) => Err(Pause::Stopped(Stop::NoMemory)),
+    }
+}

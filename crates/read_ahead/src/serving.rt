@@ -1,0 +1,87 @@
+//! From the start of the input to its end.
+ghost use Rattle.std.specs.Prelude.{◌≡◌, [], IfOk};
+ghost use Rattle.seat_desk.specs.Passes.{IsRootOf, IsPassOf, joined};
+ghost use Rattle.message_box.specs.States.{reader, taker, first};
+ghost use Rattle.message_box.specs.Sides.{state_at};
+ghost use Rattle.json_framing.specs.Cutter.{form_of};
+ghost use Rattle.message_service.specs.Serves.{Serves};
+
+use crate::backlog::Backlog;
+use crate::both::run_both;
+use crate::lanes::Hall;
+use lane_bells::Bells;
+use lane_crew::Caller;
+use message_box::{Mailbox, READER, TAKER, settle};
+use message_service::{Finish, Service};
+use outside::{Shop, Sink, Tap};
+use plain_values::NoMemory;
+use seat_desk::{Desk, Pass, Root};
+use std::alloc::Global;
+use std::sync::Wait;
+use std::thread::Threads;
+
+/// How many lanes there are.
+const LANES: u32 = 2;
+
+/// Reads messages on a thread of its own, and meanwhile answers those that have come, one after
+/// another, up to the end of the input or to what spells no message.
+///
+/// It answers with the cause of its end. Until then each message is dealt with as its service says,
+/// in order, with all that had been read behind it by its turn in sight, and nothing else is put
+/// and no other call is made. It returns once the reader has ended too, which may wait for the
+/// input.
+pub fn serve_ahead<
+    T: Tap + Send,
+    O: Sink + Send,
+    S: Shop + Send,
+    V: Service<S> + Sync,
+    R: Threads + Wait + Sync,
+>(rt: &R, alloc: Global, service: &V, input: &mut T, out: &mut O, shop: &mut S) -> Finish
+where
+    V::Message: Send,
+    ensures { Serves (form_of V.framing) V.spells V.answers result []
+        (record { input = T.told input.old; out = O.told out.old; shop = S.told shop.old })
+        (record { input = T.told input.new; out = O.told out.new; shop = S.told shop.new }) }
+{
+    let Ok(bells) = Bells::new(alloc, LANES) else {
+        return Finish::NoMemory;
+    };
+    let Ok((desk, root, reading, taking)) = open(rt, alloc) else {
+        return Finish::NoMemory;
+    };
+    let backlog = Backlog::new();
+    let hall = Hall {
+        alloc,
+        service,
+        bells: &bells,
+        backlog: &backlog,
+    };
+    let mut reading = Caller::new(&desk, &bells, reading, READER);
+    let mut working = Caller::new(&desk, &bells, taking, TAKER);
+    let (_, finish) = run_both(rt, &hall, &mut reading, input, &mut working, out, shop);
+    let reading = reading.into_pass();
+    let working = working.into_pass();
+    settle(rt, desk, root, reading, working);
+    finish
+}
+
+/// A desk with its root and the passes of the reader and the taker.
+type Opened<X> = (
+    Desk<Mailbox<X>>,
+    Root<Mailbox<X>>,
+    Pass<Mailbox<X>>,
+    Pass<Mailbox<X>>,
+);
+
+// A mailbox behind a desk. Nothing was put in, and nothing taken.
+fn open<X: Drop, R>(rt: &R, alloc: Global) -> Result<Opened<X>, NoMemory>
+    ensures desk { IfOk result (λ d. IsRootOf d.0 d.1 × IsPassOf d.0 d.2 × IsPassOf d.0 d.3) }
+    ensures root { IfOk result (λ d. (d.1.made ≡ 2) × (joined d.1 ≡ [])) }
+    ensures lanes { IfOk result (λ d. (d.2.lane ≡ reader) × (d.3.lane ≡ taker)) }
+    ensures fresh { IfOk result (λ d. (state_at d.2 ≡ first) × (state_at d.3 ≡ first)) }
+{
+    let (desk, mut root) = Desk::new(alloc, Mailbox::new(alloc))?;
+    let reading = desk.split(rt, &mut root)?;
+    let taking = desk.split(rt, &mut root)?;
+    Ok((desk, root, reading, taking))
+}
