@@ -7,7 +7,7 @@ use Rattle.outside.specs.declared.shop.ShopCall.{ShopCall}
 use Rattle.wire_messages.specs.declared.request.WorkRequest.{WorkRequest}
 use Rattle.wire_messages.specs.declared.response.WorkResponse.{WorkResponse}
 use Rattle.message_service.specs.Calls.{Made}
-use Rattle.demo_worker.specs.Answers.{Responds, Answers}
+use Rattle.demo_worker.specs.Answers.{Responds, Answers, words_of}
 use Rattle.demo_worker.proofs.Doing.{begins_whole}
 
 pub answers_so : (form : WorkResponse → List ℕ) (m : WorkRequest) (behind : List WorkRequest)
@@ -21,4 +21,4 @@ answers_so form m behind r (Ok o) old new h says = (
   h.2,
 )
 answers_so form m behind r (Err e) old new h says =
-    (h.0, (h.1.0, begins_whole m.arguments h.1.1.0 h.0 h.1.1.1), h.2)
+    (h.0, (h.1.0, begins_whole (words_of m) h.1.1.0 h.0 h.1.1.1), h.2)

@@ -52,6 +52,18 @@ begins_finding words files (p ∷ ps) looks f = (
   ),
 )
 
+pub nothing_yet : (words : List (List ℕ)) → Begins words []
+nothing_yet words = begins_finding words [] (inputs_of words) [] (record {
+  first = refl;
+  had = λ k d below. absurd (omega (arith, below));
+  made = refl;
+})
+
+-- memory ran out before the first call
+pub not_begun : (words : List (List ℕ)) (e : NoMemory) (told : ShopTold)
+    → (calls : List ShopCall) × Comes words (Err e) calls × Made calls told told
+not_begun words e told = ([], nothing_yet words, made_nothing told)
+
 fails_so : (words : List (List ℕ)) (s : Stop) (looks : List ShopCall)
     → FailsIn file_fault (inputs_of words) s looks → CopiesSo words (Err s) looks
 fails_so words (stop.Says text) looks m = inl m
@@ -166,12 +178,7 @@ once_finding : (words : List (List ℕ)) (files : List SourceFile) (left : List 
     → BeginsOnce words looks
 once_finding words files [] looks f =
     subst (λ (cs : List ShopCall). BeginsOnce words cs) (append-nil looks)
-    (once_begins words files looks [] f (begins_finding (expanded words files) []
-    (inputs_of (expanded words files)) [] (record {
-      first = refl;
-      had = λ k d below. absurd (omega (arith, below));
-      made = refl;
-    })))
+    (once_begins words files looks [] f (nothing_yet (expanded words files)))
 once_finding words files (p ∷ ps) looks f = (
   stopped (missing p),
   call.Get p read.Absent ∷ [],

@@ -10,6 +10,7 @@ use Rattle.wire_messages.specs.Response.{response_spelling}
 use Rattle.json_messages.specs.Messages.{request_of}
 use Rattle.json_messages.specs.Writing.{response_text}
 use Rattle.demo_worker.specs.declared.running.Answer.{Answer}
+use Rattle.demo_worker.specs.Folders.{words_in}
 use Rattle.demo_worker.specs.Does.{Does, Begins}
 
 abbrev pub response_to : WorkRequest → Answer → WorkResponse
@@ -20,12 +21,16 @@ response_to m a = record {
   was_cancelled = false;
 }
 
+-- the words of a request, whose paths lie in its folder
+abbrev pub words_of : WorkRequest → List (List ℕ)
+words_of m = words_in m.sandbox_dir m.arguments
+
 -- A request's words are done, and a request that cancels another is passed over.
 abbrev pub Responds : WorkRequest → Result (Option WorkResponse) NoMemory → List ShopCall → Type 0
 Responds m (Ok None) calls = (m.cancel ≡ true) × (calls ≡ [])
 Responds m (Ok (Some r)) calls =
-    (m.cancel ≡ false) × ((a : Answer) × Does m.arguments a calls × (r ≡ response_to m a))
-Responds m (Err e) calls = (m.cancel ≡ false) × Begins m.arguments calls
+    (m.cancel ≡ false) × ((a : Answer) × Does (words_of m) a calls × (r ≡ response_to m a))
+Responds m (Err e) calls = (m.cancel ≡ false) × Begins (words_of m) calls
 
 -- the same, where the response is put in this form
 abbrev pub Answers : (WorkResponse → List ℕ) → WorkRequest → List WorkRequest → List ShopCall

@@ -1,5 +1,6 @@
 -- What contracts cite of the demonstration worker.
 pub mod Words
+pub mod Folders
 pub mod Looks
 pub mod Does
 pub mod Once

@@ -6,6 +6,7 @@
 #![tactic(auto)]
 
 mod flags;
+mod folders;
 mod looking;
 mod requests;
 mod running;

@@ -6,7 +6,8 @@ ghost use Rattle.message_service.specs.Calls.{Made};
 ghost use Rattle.wire_messages.specs.Request.{SpellsRequest};
 ghost use Rattle.demo_worker.specs.Answers.{Answers, Responds, SpellsLine, as_line, framed, response_to};
 
-use crate::running::{Answer, run_words};
+use crate::folders::run_in;
+use crate::running::Answer;
 use json_framing::Framing;
 use json_messages::{read_request_line, response_line};
 use message_service::Service;
@@ -109,7 +110,8 @@ fn respond<S: Shop>(
     if request.cancel {
         return Ok(None);
     }
-    let answer = run_words(alloc, shop, request.arguments.as_slice())?;
+    let folder = request.sandbox_dir.as_str();
+    let answer = run_in(alloc, shop, folder, request.arguments.as_slice())?;
     Ok(Some(response_to(request, answer)))
 }
 

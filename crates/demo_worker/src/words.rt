@@ -52,7 +52,8 @@ pub fn flag_file_in(word: &str) -> Option<&str>
     }
 }
 
-fn output_in(word: &str) -> Option<&str>
+/// The output that a word names.
+pub fn output_in(word: &str) -> Option<&str>
     ensures { option_copied result ≡ output_in word.now }
 {
     after_front("--out=", word)

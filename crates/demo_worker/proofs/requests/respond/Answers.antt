@@ -2,5 +2,5 @@ use Rattle.demo_worker.proofs.requests.respond.Goals as goal
 
 pub returns : goal.returns
 returns g c =
-    let h = rw c.as_slice.ensures at c.in_ok-answer.ensures in
+    let h = rw (c.as_str-folder.ensures, c.as_slice.ensures) at c.in_ok-answer.ensures in
     (h.0, (c.if-request.false, (c.in_ok-answer.answer, h.1, c.response_to.ensures)), h.2)
