@@ -11,7 +11,7 @@ const USAGE: &str = "  worker_tool LIST                  run the action list at 
   --executor=PROGRAM                the executor's program (remote_exec)
   --extra_flag=WORD                 a further start-up word of each worker; may stand several times
   --worker_verbose                  ask the workers to say more
-  --generate=N                      in place of LIST: a list of N actions, 1 to 1000
+  --generate=N                      in place of LIST: a list of N actions, 1 to 1000, in memory
 ";
 
 /// The lines of a fault, each with its line feed; no line where there is nothing to add.

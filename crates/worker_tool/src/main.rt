@@ -1,4 +1,7 @@
 //! Runs the actions of a list through their workers, and prints a line for each.
+//!
+//! A list that is generated is run in memory: its sources are there, and its workers do at once what
+//! they are asked.
 #![tactic(auto)]
 
 mod hints;
@@ -6,12 +9,14 @@ mod names;
 
 use action_list::ListFault;
 use outside::Floor;
+use outside_mem::MemFloor;
 use outside_real::{RealFloor, RealSink};
 use std::alloc::Global;
 use std::env::Env;
 use std::io::ErrorKind;
 use std::process::ExitCode;
 use std::{env, io};
+use tool_words::generated;
 use worker_run::{Ended, RunFault, Stage, fault_line, run_build};
 
 fn main(rt: HostRuntime) -> ExitCode {
@@ -20,8 +25,18 @@ fn main(rt: HostRuntime) -> ExitCode {
         Ok(words) => words,
         Err(error) => return end_unread(&rt, alloc, &error),
     };
-    let floor = RealFloor::new(rt, alloc);
     let mut out = RealSink::new(rt);
+    if let Some(actions) = generated(&words) {
+        let Ok(floor) = MemFloor::generated(rt, alloc, actions) else {
+            return end(&rt, alloc, &RunFault::NoMemory(Stage::Before));
+        };
+        let Ended { status, fault, .. } = run_build(&rt, alloc, &words, floor, &mut out);
+        if let Some(fault) = &fault {
+            tell(&rt, alloc, fault, None);
+        }
+        return ExitCode::from(status);
+    }
+    let floor = RealFloor::new(rt, alloc);
     let ended = run_build(&rt, alloc, &words, floor, &mut out);
     let Ended {
         status,
@@ -52,7 +67,12 @@ fn end_unread(rt: &impl Eprint, alloc: Global, error: &io::Error) -> ExitCode {
         ErrorKind::OutOfMemory => RunFault::NoMemory(Stage::Before),
         _ => RunFault::Words,
     };
-    tell(rt, alloc, &fault, None);
+    end(rt, alloc, &fault)
+}
+
+// The end of a run that was not begun.
+fn end(rt: &impl Eprint, alloc: Global, fault: &RunFault) -> ExitCode {
+    tell(rt, alloc, fault, None);
     ExitCode::from(fault.status())
 }
 
