@@ -1,0 +1,3 @@
+mod Standing
+pub mod Numbered
+mod Fits
