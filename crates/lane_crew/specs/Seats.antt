@@ -9,7 +9,7 @@ use Rattle.seat_desk.specs.declared.view.Joined.{Joined}
 use Rattle.seat_desk.specs.History.{StartsWith, calls_by}
 use Rattle.seat_desk.specs.Passes.{IsPassOf, IsRootOf, IsSamePass, mine, rules, seen, root_rules, root_seen, joined}
 use Rattle.lane_crew.specs.declared.job.Post.{Post}
-use Rattle.lane_crew.specs.declared.job.Post.TheVariants.{Ready, Ended, Empty}
+use Rattle.lane_crew.specs.declared.job.Post.TheVariants.{Ready, Ended}
 use Rattle.lane_crew.specs.declared.seat.Seated.{Seated}
 use Rattle.lane_crew.specs.declared.seat.Risen.{Risen}
 use Rattle.lane_crew.specs.Lanes.{IsFresh, FactBefore, FactOfRun}
@@ -48,7 +48,6 @@ module _ {M C R G Q : Type 0} {g : Ghosts M C R G Q} where
         (seat.lane ≡ lane) × IsPassOf desk seat.pass × IsFresh seat.pass × (seat.pass.lane ≡ k)
         × (rules seat.pass ≡ q)
     IsSeatOf desk q k lane (Ended risen) = ⊥
-    IsSeatOf desk q k lane Empty = ⊥
 
     -- the lanes are at these posts, in order from the number k on
     abbrev pub SeatedFrom : Desk M C R G Q → Q → ℕ → List L
@@ -64,7 +63,6 @@ module _ {M C R G Q : Type 0} {g : Ghosts M C R G Q} where
         → Type 0
     HasRisen desk (Ready seat) = ⊥
     HasRisen desk (Ended risen) = IsPassOf desk risen.pass
-    HasRisen desk Empty = ⊥
 
     -- the end was taken from this post, and its pass joined. The history h begins with what it has
     -- seen
@@ -74,7 +72,6 @@ module _ {M C R G Q : Type 0} {g : Ghosts M C R G Q} where
     IsHanded h (Ended risen) end j =
         (risen.end ≡ end) × (j ≡ record { lane = risen.pass.lane; calls = mine risen.pass })
         × StartsWith h (seen risen.pass)
-    IsHanded h Empty end j = ⊥
 
     -- so were those of all posts, in order
     abbrev pub HandedOver : List (Entry C R)

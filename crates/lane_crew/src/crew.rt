@@ -27,10 +27,10 @@ pub struct Crew<M: Machine, E> {
     pub ends: Vec<E>,
 }
 
-/// When memory was wanted.
+/// When memory was wanted, or a thread.
 #[derive(Debug, Drop, Clone, Copy, PartialEq, Eq)]
 pub enum CrewFault {
-    /// Before any lane ran: none was started.
+    /// Before any lane ran: none has begun.
     Before,
     /// After all lanes ran, as the desk was closed.
     After,
@@ -131,13 +131,13 @@ fn make_muster<M: Machine, L: Lane<Desk<M>, Pass<M>>, R>(
 /// Each lane's end is related to what the one history has of it, which is all calls that it made, in
 /// order, and no others. The machine stands for the history, and no lane but these has a call in it.
 ///
-/// All that needs memory is made first, so that between the first lane's start and the last one's end
-/// the crew itself takes none. That the lanes end is for them to see to: no clause speaks of waiting.
+/// All that needs memory is made first, and all threads are there before the first lane begins. So
+/// between the first lane's start and the last one's end the crew itself takes none. That the lanes end is for them to see to: no clause speaks of waiting.
 ///
 /// # Errors
 ///
-/// `Before` if there is no memory before the lanes, and then none was started. `After` if there is none
-/// as the desk is closed.
+/// `Before` if there is no memory before the lanes, or the system starts no thread for one of them, and
+/// then none has begun. `After` if there is no memory as the desk is closed.
 pub fn run_crew<M: Machine + Send, L: Lane<Desk<M>, Pass<M>> + Send, R: Threads + Wait + Sync>(
     rt: &R,
     alloc: Global,
@@ -165,10 +165,12 @@ where
     let Muster {
         hall,
         mut root,
-        mut posts,
+        posts,
         mut ends,
     } = muster;
-    run_list(rt, &hall, &mut posts);
+    let Ok(posts) = run_list(rt, alloc, &hall, posts) else {
+        return Err(CrewFault::Before);
+    };
     let Hall { desk, bells: _ } = hall;
     collect(rt, &desk, &mut root, posts, &mut ends);
     let Ok(closed) = desk.close(rt, root) else {

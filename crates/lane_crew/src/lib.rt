@@ -15,6 +15,6 @@ mod seat;
 
 pub use caller::{Caller, Question};
 pub use crew::{Crew, CrewFault, run_crew};
-pub use job::{Job, Post, run_jobs, run_list};
+pub use job::{Job, Post, run_list};
 pub use lane::Lane;
 pub use pair::OfTwo;

@@ -7,6 +7,7 @@ use std::sync::Wait;
 use std::thread::Threads;
 
 /// What the lanes share, which is the context of their jobs.
+#[derive(Drop)]
 pub struct Hall<M: Machine> {
     /// The desk at which all of them call.
     pub desk: Desk<M>,

@@ -1,0 +1,23 @@
+use Rattle.std.proofs.Common.{length, ap, arith, rules}
+use Rattle.lane_crew.proofs.Starts.{joins, joins_one, joined_all}
+use Rattle.lane_crew.proofs.job.join_all.Goals as goal
+
+pub loop-thread-init : goal.loop-thread-init
+loop-thread-init g c =
+    let same = ap length c.from_vec-rest.ensures.items in (
+      joins g.J.Job.ends c.args.threads.items c.from_vec-rest.result.items c.args.ends.now.items c.from_vec-rest.ensures.items c.requires.empty,
+      search rules,
+    )
+
+pub loop-thread-preserved : goal.loop-thread-preserved
+loop-thread-preserved g c =
+    let before = c.loop-thread.invariant in
+    let fewer = ap length c.in-Some.ensures.items in (
+      joins_one g.J.Job.ends c.args.threads.items c.loop-thread.rest.items c.pop_front.new.self.items c.loop-thread.ends.items c.push_reserved.new.self.items
+          c.in-Some.thread c.join.result before.0 c.in-Some.ensures.items c.push_reserved.ensures.items c.join.ensures,
+      omega (arith, fewer, before.1, c.push_reserved.ensures.len, c.push_reserved.ensures.capacity),
+    )
+
+pub returns : goal.returns
+returns g c = λ context all.
+    joined_all g.J.Job.ends c.args.threads.items c.loop-thread.rest.items c.loop-thread.ends.items context c.loop-thread.invariant.0 (search rules) all

@@ -1,0 +1,11 @@
+use Rattle.std.proofs.Common.{◌≤◌, ◌+◌, length, vec_len, vec_capacity}
+use Rattle.lane_crew.proofs.Starts.{Joining}
+use Rattle.lane_crew.proofs.job.join_all.Given as goal
+
+abbrev pub invariant-loop-thread : goal.invariant-loop-thread
+invariant-loop-thread g l =
+    Joining g.J.Job.ends l.fn.threads.items l.rest.items l.ends.items
+    × (vec_len l.ends + length l.rest.items ≤ vec_capacity l.ends)
+
+abbrev pub decreases-loop-thread : goal.decreases-loop-thread
+decreases-loop-thread g l = length l.rest.items
