@@ -1,9 +1,9 @@
 -- What was read and what was done, put together.
-use Rattle.std.proofs.Common.{◌≡◌, ◌⊎◌, ℕ, List, [], ◌++◌, Option, Some, None, refl, ap, sym, ◌∙◌}
-use Rattle.std.proofs.Common.{subst, append-nil, inl, inr, Result, ◌≤◌, arith}
+use Rattle.std.proofs.Common.{◌≡◌, ◌⊎◌, ℕ, List, [], ◌++◌, Option, Some, None, ap, sym, ◌∙◌}
+use Rattle.std.proofs.Common.{subst, append-nil, inl, inr, Result, true}
 use Rattle.plain_values.specs.declared.no_memory.NoMemory.{NoMemory}
 use Rattle.outside.specs.Lists.{Adds}
-use Rattle.outside.specs.Told.{TapTold}
+use Rattle.outside.specs.Told.{TapTold, SinkTold, ShopTold}
 use Rattle.outside.specs.declared.shop.ShopCall.{ShopCall}
 use Rattle.json_framing.specs.Cutter.{form_of}
 use Rattle.json_framing.specs.declared.cutter.Framing.{Framing}
@@ -17,7 +17,7 @@ use Rattle.message_service.proofs.Streams.{whole_new}
 use Rattle.message_service.proofs.Rounds.{answered_nothing, caused_stop}
 use Rattle.message_box.specs.declared.mailbox.Stop.{Stop}
 use Rattle.message_box.specs.declared.mailbox.Stop.TheVariants as stop
-use Rattle.message_box.specs.States.{State, put_in}
+use Rattle.message_box.specs.States.{State, put_in, first}
 use Rattle.message_box.specs.declared.reading.Offered.{Offered}
 use Rattle.message_box.specs.declared.reading.Offered.TheVariants as offered
 use Rattle.message_box.specs.Sides.{HasAll, HasLeft, HasPut, ReaderStands}
@@ -120,6 +120,22 @@ module _ (f : Framing) {M : Type 0} (Spells : List ℕ → M → Type 0) where
   all_taken : (s : State M) → s.waiting ≡ [] → put_in s ≡ s.taken
   all_taken s none = ap (λ (xs : List M). s.taken ++ xs) none ∙ append-nil s.taken
 
+  -- the reader stays out, as the run was called off before it began
+  pub stays_out : (s s' : State M) (input : TapTold) → s ≡ first → ReaderStands s s'
+      → s'.left ≡ true → ReaderLeaves (form_of f) Spells pause.Gone s' input input
+  stays_out s s' input fresh stands left = record {
+    left = left;
+    said = stands.1 ∙ ap (λ (x : State M). x.stop) fresh;
+    read = record {
+      bytes = [];
+      taken = adds_nothing input.taken;
+      spell = subst (λ (xs : List M). Begins (form_of f) Spells [] xs)
+          (sym (stands.0 ∙ ap (λ (x : State M). put_in x) fresh))
+          ((whole_new f Spells).0, (whole_new f Spells).1);
+      caused = tt;
+    };
+  }
+
   -- where the worker was told how the reader has stopped, all that was read was taken
   read_all_of : (why : Pause) (told : Stop) (s : State M) (bytes : List ℕ) (old new : TapTold)
       → SpellBy (form_of f) Spells why bytes (put_in s) → StoppedBy why bytes old new
@@ -162,6 +178,16 @@ module _ (f : Framing) {M : Type 0} (Spells : List ℕ → M → Type 0) where
 
 module _ (f : Framing) {M : Type 0} (Spells : List ℕ → M → Type 0) (Answers : M → List M
     → List ShopCall → Result (Option (List ℕ)) NoMemory → Type 0) where
+  -- the worker calls the run off before it has taken anything
+  pub called_off : (s s' : State M) (out : SinkTold) (shop : ShopTold) → s ≡ first → HasLeft s s'
+      → WorkerLeaves Answers finish.NoMemory s' out out shop shop
+  called_off s s' out shop fresh h = record {
+    left = h.1;
+    told = tt;
+    answered = subst (λ (xs : List M). Answered Answers (Some finish.NoMemory) [] xs out out shop
+        shop) (sym (h.0 ∙ ap (λ (x : State M). x.taken) fresh)) (answered_nothing Answers out shop);
+  }
+
   -- nothing was read
   pub serves_nothing : (o : Outside) → Serves (form_of f) Spells Answers finish.NoMemory [] o o
   serves_nothing o = record {

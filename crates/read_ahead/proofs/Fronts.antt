@@ -1,8 +1,7 @@
 -- From the messages that bytes spell to the first of them.
-use Rattle.std.proofs.Common.{◌≡◌, ℕ, List, [], ◌∷◌, ◌++◌, refl, ap, sym, ◌∙◌, subst, append_assoc}
+use Rattle.std.proofs.Common.{◌≡◌, ℕ, List, [], ◌∷◌, ◌++◌, refl, ap, sym, subst, append_assoc}
 use Rattle.std.proofs.Common.{append-nil}
 use Rattle.wire_fields.specs.Message.{AreSpelled}
-use Rattle.delimited_framing.specs.Front.{Whole}
 use Rattle.delimited_framing.specs.Frame.{Holds}
 use Rattle.json_framing.specs.Cutter.{form_of}
 use Rattle.json_framing.specs.declared.cutter.Framing.{Framing}

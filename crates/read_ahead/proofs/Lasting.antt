@@ -1,5 +1,5 @@
 -- What was done stays so while more is taken.
-use Rattle.std.proofs.Common.{◌≡◌, ℕ, List, [], ◌∷◌, ◌++◌, Option, Some, None, refl, sym, ◌∙◌, ap}
+use Rattle.std.proofs.Common.{◌≡◌, ℕ, List, [], ◌∷◌, ◌++◌, Option, Some, None, refl, sym}
 use Rattle.std.proofs.Common.{subst, append-nil, inl, inr, Result}
 use Rattle.std.specs.Prelude.{Ok, Err}
 use Rattle.plain_values.specs.declared.no_memory.NoMemory.{NoMemory}

@@ -1,5 +1,6 @@
 //! The two lanes.
 ghost use Rattle.std.specs.Prelude.{◌≡◌, ◌<◌, None};
+ghost use Rattle.outside.specs.Told.{TapTold, SinkTold, ShopTold};
 ghost use Rattle.seat_desk.specs.Passes.{IsSamePass};
 ghost use Rattle.json_framing.specs.Cutter.{form_of};
 ghost use Rattle.message_box.specs.States.{reader, taker, put_in, first};
@@ -11,6 +12,7 @@ use crate::answering::work;
 use crate::backlog::Backlog;
 use crate::both::{Reads, Works};
 use crate::reading::{Pause, read_all};
+use crate::start::Start;
 use lane_bells::Bells;
 use lane_crew::Caller;
 use message_box::{Mailbox, await_leave, leave, stop};
@@ -26,6 +28,7 @@ pub(crate) struct Hall<'a, V> {
     pub(crate) service: &'a V,
     pub(crate) bells: &'a Bells,
     pub(crate) backlog: &'a Backlog,
+    pub(crate) start: &'a Start,
 }
 
 impl<'a, T: Tap, S: Shop, V: Service<S>> Reads<T, S, Caller<'a, Mailbox<V::Message>>>
@@ -45,6 +48,9 @@ impl<'a, T: Tap, S: Shop, V: Service<S>> Reads<T, S, Caller<'a, Mailbox<V::Messa
         caller: &mut Caller<'a, Mailbox<V::Message>>,
         input: &mut T,
     ) -> Pause {
+        if !self.start.begin(rt, self.bells) {
+            return stay_out::<S, V, R>(rt, self.bells, caller);
+        }
         read_lane(
             rt,
             self.alloc,
@@ -76,6 +82,9 @@ impl<'a, O: Sink, S: Shop, V: Service<S>> Works<O, S, Caller<'a, Mailbox<V::Mess
         out: &mut O,
         shop: &mut S,
     ) -> Finish {
+        if !self.start.await_reader(rt, self.bells) {
+            return call_off::<S, V, R>(rt, caller);
+        }
         work_lane(
             rt,
             self.alloc,
@@ -87,6 +96,39 @@ impl<'a, O: Sink, S: Shop, V: Service<S>> Works<O, S, Caller<'a, Mailbox<V::Mess
             shop,
         )
     }
+}
+
+// The reader's lane where the run was called off before it began: it reads nothing, and waits until
+// the taker has left.
+fn stay_out<S: Shop, V: Service<S>, R: Wait>(
+    rt: &R,
+    bells: &Bells,
+    caller: &mut Caller<Mailbox<V::Message>>,
+) -> Pause
+    requires lane { caller.old.pass.lane ≡ reader }
+    requires bell { reader < bells.now }
+    requires fresh { state_at caller.old.pass ≡ first }
+    ensures same { IsSamePass caller.old.pass caller.new.pass }
+    ensures leaves { (input : TapTold) → ReaderLeaves (form_of V.framing) V.spells result
+        (state_at caller.new.pass) input input }
+{
+    await_leave(rt, bells, caller);
+    Pause::Gone
+}
+
+// The worker's lane where the run is called off: it answers nothing, and leaves.
+fn call_off<S: Shop, V: Service<S>, R: Wait>(
+    rt: &R,
+    caller: &mut Caller<Mailbox<V::Message>>,
+) -> Finish
+    requires lane { caller.old.pass.lane ≡ taker }
+    requires fresh { state_at caller.old.pass ≡ first }
+    ensures same { IsSamePass caller.old.pass caller.new.pass }
+    ensures leaves { (out : SinkTold) → (shop : ShopTold) → WorkerLeaves V.answers result
+        (state_at caller.new.pass) out out shop shop }
+{
+    leave(rt, caller);
+    Finish::NoMemory
 }
 
 // The reader's lane: it reads, says how it has stopped, and waits until the taker has left.

@@ -10,5 +10,6 @@ mod both;
 mod lanes;
 mod reading;
 mod serving;
+mod start;
 
 pub use serving::serve_ahead;

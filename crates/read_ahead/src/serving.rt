@@ -9,6 +9,7 @@ ghost use Rattle.message_service.specs.Serves.{Serves};
 use crate::backlog::Backlog;
 use crate::both::run_both;
 use crate::lanes::Hall;
+use crate::start::Start;
 use lane_bells::Bells;
 use lane_crew::Caller;
 use message_box::{Mailbox, READER, TAKER, settle};
@@ -30,6 +31,9 @@ const LANES: u32 = 2;
 /// in order, with all that had been read behind it by its turn in sight, and nothing else is put
 /// and no other call is made. It returns once the reader has ended too, which may wait for the
 /// input.
+///
+/// Where no thread can be started it ends with `NoMemory` after ten seconds, and has read nothing and
+/// answered nothing.
 pub fn serve_ahead<
     T: Tap + Send,
     O: Sink + Send,
@@ -50,11 +54,13 @@ where
         return Finish::NoMemory;
     };
     let backlog = Backlog::new();
+    let start = Start::new();
     let hall = Hall {
         alloc,
         service,
         bells: &bells,
         backlog: &backlog,
+        start: &start,
     };
     let mut reading = Caller::new(&desk, &bells, reading, READER);
     let mut working = Caller::new(&desk, &bells, taking, TAKER);

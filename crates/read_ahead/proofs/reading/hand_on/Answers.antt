@@ -1,4 +1,4 @@
-use Rattle.std.proofs.Common.{◌++◌, List, ap, subst, sym, true, false}
+use Rattle.std.proofs.Common.{◌++◌, List, subst, sym, true, false}
 use Rattle.json_framing.specs.Cutter.{form_of, held}
 use Rattle.json_framing.specs.declared.cutter.Framing.{Framing}
 use Rattle.message_service.specs.Stream.{HeardAll}

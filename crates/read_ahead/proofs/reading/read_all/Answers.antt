@@ -7,7 +7,6 @@ use Rattle.message_service.proofs.Made.{adds_nothing, adds_on}
 use Rattle.message_service.proofs.Streams.{heard_new, whole_new}
 use Rattle.message_service.proofs.Rounds.{one_more}
 use Rattle.message_box.specs.States.{State, put_in}
-use Rattle.message_box.specs.Sides.{state_at}
 use Rattle.read_ahead.proofs.Ahead.{breaks_so}
 use Rattle.read_ahead.proofs.reading.read_all.Goals as goal
 
