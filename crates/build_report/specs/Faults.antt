@@ -1,5 +1,5 @@
 -- The lines of faults, and their statuses.
-use Rattle.std.specs.Prelude.{ℕ, Option, Some, None, List, [], ◌∷◌, ◌++◌, codes, decimal}
+use Rattle.std.specs.Prelude.{ℕ, Option, Some, None, List, ◌++◌, codes, decimal}
 use Rattle.action_list.specs.declared.faults.ListFault.{ListFault}
 use Rattle.action_list.specs.declared.faults.ListFault.TheVariants as list
 use Rattle.flag_files.specs.declared.expanding.FlagFault.{FlagFault}

@@ -1,5 +1,5 @@
 -- The report of a run, and its status.
-use Rattle.std.specs.Prelude.{ℕ, suc, Bool, true, false, Option, Some, None, option_map, unwrap_or, if◌then◌else◌, List, [], ◌∷◌, ◌++◌, length, count_by, codes, decimal}
+use Rattle.std.specs.Prelude.{ℕ, suc, Bool, true, false, Option, option_map, unwrap_or, if◌then◌else◌, List, [], ◌∷◌, ◌++◌, length, count_by, codes, decimal}
 use Rattle.std.specs.List.{list_all}
 use Rattle.run_plan.specs.declared.plan.Plan.{Plan}
 use Rattle.exec_journal.specs.declared.ends.ActionEnd.{ActionEnd}

@@ -1,13 +1,11 @@
 ghost use Rattle.std.specs.Prelude.{◌≡◌, ◌++◌, [], ◌<◌, ◌^◌, length, reverse, string_bytes, IfOk, OnOk, map, option_copied, if◌then◌else◌};
-ghost use Rattle.std.specs.List.{list_all};
 ghost use Rattle.run_plan.specs.Sound.{Sound};
-ghost use Rattle.exec_journal.specs.Ends.{ends_of};
 ghost use Rattle.build_report.specs.Report.{report_of, report_by, status_of, is_success, has_failed, is_broken, is_skipped, count_of, lines_from, lines_told, end_line, answer_text, last_line, totals_line};
 ghost use Rattle.build_report.specs.Words.{marked};
 
 use crate::words::{action_name, fate_text, outcome_text, push_marked};
 use exec_journal::{ActionEnd, Answer, Journal, Outcome, Plan};
-use journal_ends::{action_ends, has_success, winning_answers};
+use journal_ends::{action_ends, is_all_success, winning_answers};
 use plain_values::{NoMemory, Text};
 use std::alloc::Global;
 
@@ -33,18 +31,6 @@ pub fn status(plan: &Plan, j: &Journal) -> u8
     ensures { result ≡ status_of plan.now (reverse j.now) }
 {
     if is_all_success(plan, j) { 0 } else { 1 }
-}
-
-fn is_all_success(plan: &Plan, j: &Journal) -> bool
-    requires { Sound plan.now }
-    ensures { result ≡ list_all is_success (ends_of plan.now (reverse j.now)) }
-{
-    for a in 0..plan.actions.as_slice().len() {
-        if !has_success(plan, j, a as u32) {
-            return false;
-        }
-    }
-    true
 }
 
 fn report_text(

@@ -62,7 +62,7 @@ some_of a x (e ∷ j) (inl h) = of_same a (granted_in e.call e.reply) x h
 some_of a x (e ∷ j) (inr h) = some_of a x j h
 some_of a x [] h = absurd h
 
-grant_action : (j : List Entry) (a : ℕ) (x : Attempt × Found) → grant_of j a ≡ Some x → x.0.action ≡ a
+pub grant_action : (j : List Entry) (a : ℕ) (x : Attempt × Found) → grant_of j a ≡ Some x → x.0.action ≡ a
 unfolding grant_of
 grant_action j a x h = some_of a x j (first_from (λ _ e. of_action a (granted_in e.call e.reply)) j x h)
 

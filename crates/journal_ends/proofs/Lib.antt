@@ -4,3 +4,4 @@ pub mod Judged
 pub mod Replayed
 pub mod Ended
 pub mod Answered
+pub mod Succeeded

@@ -46,12 +46,12 @@ get_other g (x ∷ xs) zero (suc l) h = refl
 get_other g (x ∷ xs) (suc k) zero h = refl
 get_other g (x ∷ xs) (suc k) (suc l) h = get_other g xs k l (λ e. h (ap suc e))
 
-at_cases : (a : ℕ) (o : Option ℕ) → (o ≡ Some a) ⊎ (o ≢ Some a)
+pub at_cases : (a : ℕ) (o : Option ℕ) → (o ≡ Some a) ⊎ (o ≢ Some a)
 at_cases a None = inr (λ h. absurd (cc))
 at_cases a (Some b) = by_bool (b == a) (λ _. (Some b ≡ Some a) ⊎ (Some b ≢ Some a)) (λ h. inl (ap Some (eqb-true b a h))) (λ h. inr (λ e. eqb-false b a h (cc)))
 
 -- what stands at the place after the change: changed there, and else what stood before
-hit : {X : Type 0} (g : ℕ → X → X) (xs : List X) (o : Option ℕ) (a : ℕ) (f : X) → o ≡ Some a → slice_get (update_if (g (unwrap_or o 0)) xs o) a ≡ Some f
+pub hit : {X : Type 0} (g : ℕ → X → X) (xs : List X) (o : Option ℕ) (a : ℕ) (f : X) → o ≡ Some a → slice_get (update_if (g (unwrap_or o 0)) xs o) a ≡ Some f
     → (x : X) × (slice_get xs a ≡ Some x) × (f ≡ g a x)
 hit {X} g xs o a f is h = from (slice_get xs a) refl (sym (get_same (g a) xs a) ∙ subst (λ (p : Option ℕ). slice_get (update_if (g (unwrap_or p 0)) xs p) a ≡ Some f) is h)
   where
@@ -59,7 +59,7 @@ hit {X} g xs o a f is h = from (slice_get xs a) refl (sym (get_same (g a) xs a) 
     from (Some x) e k = (x, e, cc)
     from None e k = absurd (cc)
 
-miss : {X : Type 0} (g : ℕ → X → X) (xs : List X) (o : Option ℕ) (a : ℕ) → o ≢ Some a → slice_get (update_if (g (unwrap_or o 0)) xs o) a ≡ slice_get xs a
+pub miss : {X : Type 0} (g : ℕ → X → X) (xs : List X) (o : Option ℕ) (a : ℕ) → o ≢ Some a → slice_get (update_if (g (unwrap_or o 0)) xs o) a ≡ slice_get xs a
 miss g xs None a h = refl
 miss g xs (Some b) a h = get_other (g b) xs b a (λ e. h (ap Some e))
 
@@ -81,7 +81,7 @@ line_entry j l e =
     ap (λ (o : Option Cause). record { cause = o; ended = ends l e.call || has_ended j l })
     (ap (option_or (line_cause j l)) (break_late j (order_of j e.lane) l e.call e.reply) ∙ unless_same (break_at l j e) (line_cause j l))
 
-not_this : (k l : ℕ) → Some k ≢ Some l → (k == l) ≡ false
+pub not_this : (k l : ℕ) → Some k ≢ Some l → (k == l) ≡ false
 not_this k l h = ne_eqb k l (λ e. h (ap Some e))
 
 no_break : (j : List Entry) (o : Option Request) (l : ℕ) (c : Call) (x : Reply) → broken_line c ≢ Some l → break_by j o l c x ≡ None

@@ -2,3 +2,4 @@ pub mod Lookback
 pub mod Replay
 pub mod Endings
 pub mod Winning
+pub mod Successes

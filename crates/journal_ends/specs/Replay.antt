@@ -1,5 +1,5 @@
 -- What is kept of all actions and lines while a journal is gone through once.
-use Rattle.std.specs.Prelude.{◌≡◌, ℕ, zero, suc, Bool, true, false, ◌||◌, Option, Some, None, option_map, option_and_then, is_some, List, [], ◌∷◌, slice_get, replicate}
+use Rattle.std.specs.Prelude.{◌≡◌, ℕ, Bool, true, false, ◌||◌, Option, Some, None, option_map, option_and_then, is_some, List, slice_get, replicate}
 use Rattle.std.specs.Option.{option_or}
 use Rattle.run_plan.specs.declared.plan.Branch.{Branch}
 use Rattle.run_plan.specs.declared.plan.Branch.TheVariants.{Local, Remote}

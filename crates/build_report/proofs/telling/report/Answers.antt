@@ -1,4 +1,4 @@
-use Rattle.std.proofs.Common.{◌≡◌, ◌<◌, ◌≤◌, List, length, reverse, subst, sym, ap, ◌∙◌, arith}
+use Rattle.std.proofs.Common.{length, reverse, ap, ◌∙◌, arith}
 use Rattle.exec_journal.specs.declared.ends.ActionEnd.{ActionEnd}
 use Rattle.build_report.proofs.Statuses.{length-ends}
 use Rattle.build_report.proofs.telling.report.Goals as goal

@@ -1,7 +1,7 @@
-use Rattle.std.proofs.Common.{◌≡◌, ◌++◌, List, ℕ, Bool, length, sym, ◌∙◌, arith}
+use Rattle.std.proofs.Common.{length, sym, ◌∙◌, arith}
 use Rattle.std.proofs.lemmas.Bool.{eqb-false}
 use Rattle.std.specs.Prelude.{string_bytes}
-use Rattle.build_report.proofs.Marks.{put_line, put_last, put_none, cut_some, cut_none, cut_shorter}
+use Rattle.build_report.proofs.Marks.{put_line, put_last, cut_some, cut_none, cut_shorter}
 use Rattle.build_report.proofs.words.push_marked.Goals as goal
 
 pub split_once-requires-text-self : goal.split_once-requires-text-self
