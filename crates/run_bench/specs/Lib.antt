@@ -4,3 +4,4 @@ pub mod Shifts
 pub mod Objects
 pub mod Bench
 pub mod BenchLaws
+pub mod Replies

@@ -1,6 +1,7 @@
 //! Replies that join the history.
 ghost use Rattle.std.specs.Prelude.{◌≡◌, true};
 ghost use Rattle.exec_journal.specs.Entries.{is_kept};
+ghost use Rattle.run_bench.specs.Replies.{is_start, is_order, is_of_tap};
 
 use exec_journal::Reply;
 
@@ -9,16 +10,42 @@ pub(crate) fn copy_of(reply: &Reply) -> Reply
     ensures { is_kept reply.now ≡ true → result ≡ reply.now }
 {
     match reply {
+        Reply::Launch { .. } | Reply::Send { .. } => copy_of_start(reply),
+        Reply::Cancel { .. } | Reply::Gather { .. } | Reply::Kill { .. } | Reply::Stop => {
+            copy_of_order(reply)
+        }
+        Reply::Line { .. }
+        | Reply::Matched { .. }
+        | Reply::Late { .. }
+        | Reply::Greeted
+        | Reply::Stray(_)
+        | Reply::Breach(_) => copy_of_tap_reply(reply),
+        Reply::Noted => Reply::Noted,
+        Reply::Granted => Reply::Granted,
+        Reply::Lost => Reply::Lost,
+        Reply::Dropped => Reply::Dropped,
+        Reply::AgainLater => Reply::AgainLater,
+        Reply::Idle | Reply::File(_) | Reply::NoFile | Reply::NoMemory | Reply::Astray => {
+            Reply::Idle
+        }
+    }
+}
+
+/// Of an order by which an attempt starts.
+fn copy_of_start(reply: &Reply) -> Reply
+    ensures { is_start reply.now ≡ true → result ≡ reply.now }
+{
+    match *reply {
         Reply::Launch {
             line,
             action,
             branch,
             attempt,
         } => Reply::Launch {
-            line: *line,
-            action: *action,
-            branch: *branch,
-            attempt: *attempt,
+            line,
+            action,
+            branch,
+            attempt,
         },
         Reply::Send {
             line,
@@ -27,16 +54,22 @@ pub(crate) fn copy_of(reply: &Reply) -> Reply
             branch,
             attempt,
         } => Reply::Send {
-            line: *line,
-            number: *number,
-            action: *action,
-            branch: *branch,
-            attempt: *attempt,
+            line,
+            number,
+            action,
+            branch,
+            attempt,
         },
-        Reply::Cancel { line, number } => Reply::Cancel {
-            line: *line,
-            number: *number,
-        },
+        _ => Reply::Idle,
+    }
+}
+
+/// Of any other order.
+fn copy_of_order(reply: &Reply) -> Reply
+    ensures { is_order reply.now ≡ true → result ≡ reply.now }
+{
+    match *reply {
+        Reply::Cancel { line, number } => Reply::Cancel { line, number },
         Reply::Gather {
             line,
             number,
@@ -46,48 +79,47 @@ pub(crate) fn copy_of(reply: &Reply) -> Reply
             exit,
             refused,
         } => Reply::Gather {
-            line: *line,
-            number: *number,
-            action: *action,
-            branch: *branch,
-            attempt: *attempt,
-            exit: *exit,
-            refused: *refused,
+            line,
+            number,
+            action,
+            branch,
+            attempt,
+            exit,
+            refused,
         },
-        Reply::Kill { line, why } => Reply::Kill {
-            line: *line,
-            why: *why,
-        },
+        Reply::Kill { line, why } => Reply::Kill { line, why },
         Reply::Stop => Reply::Stop,
-        Reply::Noted => Reply::Noted,
-        Reply::Granted => Reply::Granted,
-        Reply::Lost => Reply::Lost,
-        Reply::Dropped => Reply::Dropped,
-        Reply::AgainLater => Reply::AgainLater,
-        Reply::Line { line } => Reply::Line { line: *line },
+        _ => Reply::Idle,
+    }
+}
+
+/// Of a reply to a tap lane, which is given a line and says what comes out of it.
+fn copy_of_tap_reply(reply: &Reply) -> Reply
+    ensures { is_of_tap reply.now ≡ true → result ≡ reply.now }
+{
+    match *reply {
+        Reply::Line { line } => Reply::Line { line },
         Reply::Matched {
             action,
             branch,
             attempt,
         } => Reply::Matched {
-            action: *action,
-            branch: *branch,
-            attempt: *attempt,
+            action,
+            branch,
+            attempt,
         },
         Reply::Late {
             action,
             branch,
             attempt,
         } => Reply::Late {
-            action: *action,
-            branch: *branch,
-            attempt: *attempt,
+            action,
+            branch,
+            attempt,
         },
         Reply::Greeted => Reply::Greeted,
-        Reply::Stray(why) => Reply::Stray(*why),
-        Reply::Breach(why) => Reply::Breach(*why),
-        Reply::Idle | Reply::File(_) | Reply::NoFile | Reply::NoMemory | Reply::Astray => {
-            Reply::Idle
-        }
+        Reply::Stray(why) => Reply::Stray(why),
+        Reply::Breach(why) => Reply::Breach(why),
+        _ => Reply::Idle,
     }
 }
