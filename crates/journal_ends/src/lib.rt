@@ -14,6 +14,6 @@ mod successes;
 mod winning;
 
 pub use endings::action_ends;
-pub use outcomes::{fate, has_success, outcome};
+pub use outcomes::{fate, outcome};
 pub use successes::is_all_success;
 pub use winning::winning_answers;

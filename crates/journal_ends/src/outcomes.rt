@@ -6,7 +6,7 @@ ghost use Rattle.exec_journal.specs.Attempts.{dropped};
 ghost use Rattle.exec_journal.specs.Settled.{by_commit, by_grant, all_dropped, unused_or_dropped, is_success, is_unsuccessful, is_starved, standing_after, standings};
 ghost use Rattle.run_plan.specs.Groups.{group_of};
 ghost use Rattle.run_plan.specs.Sound.{Sound};
-ghost use Rattle.exec_journal.specs.Outcomes.{grant_outcome, commit_outcome, least_without, skipped, outcome_after, outcome_of, won_or_spoiled, lost_fate, fate_after, fate_of, is_ok, is_some_ok, is_winner, lesser};
+ghost use Rattle.exec_journal.specs.Outcomes.{grant_outcome, commit_outcome, least_without, skipped, outcome_after, outcome_of, won_or_spoiled, lost_fate, fate_after, fate_of, is_winner, lesser};
 
 use crate::grant::GrantKind;
 use crate::lookback::{commit, end, ever_sent, grant};
@@ -34,20 +34,6 @@ pub fn fate(plan: &Plan, j: &Journal, action: u32, branch: Branch) -> Fate
 {
     let work = &plan.actions.as_slice()[action as usize];
     fate_in(plan, j.entries(), action, branch, group(work, branch))
-}
-
-/// The action's outcome is a success. It takes no memory, and goes through the journal a few times.
-pub fn has_success(plan: &Plan, j: &Journal, action: u32) -> bool
-    requires { action < length plan.now.actions }
-    ensures { result ≡ is_ok (outcome_of plan.now (reverse j.now) action) }
-{
-    is_won(granted_outcome(j.entries(), action))
-}
-
-fn is_won(outcome: Option<Outcome>) -> bool
-    ensures { result ≡ is_some_ok outcome }
-{
-    matches!(outcome, Some(Outcome::Success(_)))
 }
 
 fn outcome_in(plan: &Plan, entries: &[Entry], action: u32, work: &PlanAction) -> Outcome
