@@ -1,0 +1,52 @@
+// Where progress is noted.
+use crate::Progress;
+use run_plan::Branch;
+use std::sync::Arc;
+
+/// Where the progress of a run is noted, if anywhere.
+#[derive(Drop)]
+pub struct Notes {
+    progress: Option<Arc<Progress>>,
+}
+
+impl Notes {
+    /// Nobody watches the run.
+    pub fn nowhere() -> Notes {
+        Notes { progress: None }
+    }
+
+    /// Whoever has this progress watches the run.
+    pub fn on(progress: Arc<Progress>) -> Notes {
+        Notes {
+            progress: Some(progress),
+        }
+    }
+
+    /// Notes how many actions the run has.
+    pub fn sized(&self, actions: usize) {
+        if let Some(progress) = &self.progress {
+            progress.sized(actions);
+        }
+    }
+
+    /// Notes that the branch has begun an attempt.
+    pub fn began(&self, action: u32, branch: Branch) {
+        if let Some(progress) = &self.progress {
+            progress.began(action, branch);
+        }
+    }
+
+    /// Notes that the branch's attempt has ended.
+    pub fn ended(&self, action: u32, branch: Branch) {
+        if let Some(progress) = &self.progress {
+            progress.ended(action, branch);
+        }
+    }
+
+    /// Notes that the action is settled.
+    pub fn settled(&self, action: u32, success: bool) {
+        if let Some(progress) = &self.progress {
+            progress.settled(action, success);
+        }
+    }
+}

@@ -1,0 +1,131 @@
+// What is noted of a run.
+use plain_values::NoMemory;
+use run_plan::Branch;
+use std::alloc::Global;
+use std::sync::atomic::{AtomicBool, AtomicU64, Ordering};
+
+/// The most actions that a list may have.
+pub const MOST_ACTIONS: u32 = 4096;
+
+/// How far a run is. It is shared with whoever watches the run, and waits for nobody.
+#[derive(Drop)]
+pub struct Progress {
+    all: AtomicU64,
+    settled: AtomicU64,
+    failed: AtomicU64,
+    // Of each action, by its number.
+    marks: Vec<Marks>,
+    over: AtomicBool,
+}
+
+// Which branches of an action have an attempt under way.
+#[derive(Drop)]
+struct Marks {
+    local: AtomicBool,
+    remote: AtomicBool,
+}
+
+impl Progress {
+    /// The progress of a run that hasn't begun.
+    ///
+    /// # Errors
+    ///
+    /// `NoMemory`. No other call takes any.
+    pub fn new(alloc: Global) -> Result<Progress, NoMemory> {
+        let mut marks = Vec::with_capacity(alloc, MOST_ACTIONS as usize)?;
+        for _ in 0..MOST_ACTIONS {
+            marks.push(Marks::none())?;
+        }
+        Ok(Progress {
+            all: AtomicU64::new(0),
+            settled: AtomicU64::new(0),
+            failed: AtomicU64::new(0),
+            marks,
+            over: AtomicBool::new(false),
+        })
+    }
+
+    /// Notes how many actions the run has.
+    pub fn sized(&self, actions: usize) {
+        self.all.store(actions as u64, Ordering::SeqCst);
+    }
+
+    /// Notes that the branch has begun an attempt.
+    pub fn began(&self, action: u32, branch: Branch) {
+        self.mark(action, branch, true);
+    }
+
+    /// Notes that the branch's attempt has ended.
+    pub fn ended(&self, action: u32, branch: Branch) {
+        self.mark(action, branch, false);
+    }
+
+    /// Notes that the action is settled, and so that nothing of it runs any longer.
+    pub fn settled(&self, action: u32, success: bool) {
+        self.ended(action, Branch::Local);
+        self.ended(action, Branch::Remote);
+        self.settled.fetch_add(1, Ordering::SeqCst);
+        if !success {
+            self.failed.fetch_add(1, Ordering::SeqCst);
+        }
+    }
+
+    /// Notes that the run is over.
+    pub fn finish(&self) {
+        self.over.store(true, Ordering::SeqCst);
+    }
+
+    /// Whether the run is over.
+    pub fn is_over(&self) -> bool {
+        self.over.load(Ordering::SeqCst)
+    }
+
+    /// How many actions the run has: none, before that is known.
+    pub fn all(&self) -> u64 {
+        self.all.load(Ordering::SeqCst)
+    }
+
+    /// How many actions are settled.
+    pub fn settled_so_far(&self) -> u64 {
+        self.settled.load(Ordering::SeqCst)
+    }
+
+    /// How many actions are settled without success.
+    pub fn failed_so_far(&self) -> u64 {
+        self.failed.load(Ordering::SeqCst)
+    }
+
+    /// Whether a branch of the action has an attempt under way.
+    pub fn is_running(&self, action: u32) -> bool {
+        match self.marks.get(action as usize) {
+            Some(marks) => marks.any(),
+            None => false,
+        }
+    }
+
+    fn mark(&self, action: u32, branch: Branch, runs: bool) {
+        if let Some(marks) = self.marks.get(action as usize) {
+            marks.of(branch).store(runs, Ordering::SeqCst);
+        }
+    }
+}
+
+impl Marks {
+    fn none() -> Marks {
+        Marks {
+            local: AtomicBool::new(false),
+            remote: AtomicBool::new(false),
+        }
+    }
+
+    fn of(&self, branch: Branch) -> &AtomicBool {
+        match branch {
+            Branch::Local => &self.local,
+            Branch::Remote => &self.remote,
+        }
+    }
+
+    fn any(&self) -> bool {
+        self.local.load(Ordering::SeqCst) || self.remote.load(Ordering::SeqCst)
+    }
+}
