@@ -11,6 +11,7 @@ ghost use Rattle.core_rules.specs.Waking.{stirred, waking};
 
 use crate::news::{News, bit_of, news_of, waiting_after};
 use exec_journal::{Call, Plan, Reply};
+use run_progress::Notes;
 use run_rules::Rules;
 use spawn_core::Core;
 
@@ -37,6 +38,15 @@ impl LaneCore {
             waiting: 0,
             news: News::Nobody,
         }
+    }
+
+    /// The core of such a run, which notes there how far the run is.
+    pub fn watched(core: Core, notes: Notes) -> LaneCore
+        ensures { (p : Plan) → Stands p core [] → StandsFor result [] × (plan_of result ≡ p) }
+    {
+        let mut core = core;
+        core.watch(notes);
+        LaneCore::new(core)
     }
 
     // Of the lanes that wait, those that would be told more than Idle.

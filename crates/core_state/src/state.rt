@@ -332,6 +332,7 @@ fn settle_spent(plan: &Plan, attempts: &Attempts, ready: &mut Ready, action: u32
     requires states { action < length ready.old }
     ensures { ready.new ≡ states_spent plan.now attempts.now ready.old action branch }
 {
+    ready.spent(action, branch);
     let rest = other(branch);
     if !uses(plan, action, rest) || attempts.ended(action, rest) >= plan.limit {
         ready.settle(action, false);

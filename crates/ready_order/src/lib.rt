@@ -15,6 +15,7 @@ use crate::board::Board;
 use crate::users::Users;
 use exec_journal::{Branch, Plan, PlanAction, Standing};
 use plain_values::{Items, NoMemory};
+use run_progress::Notes;
 use std::alloc::Global;
 use std::marker::Model;
 use winner_tree::ABSENT;
@@ -45,6 +46,8 @@ pub struct Ready {
     users: Users,
     // Follows the states at each call.
     board: Board,
+    // No contract speaks of what is noted here.
+    notes: Notes,
 }
 
 impl Model for Ready {
@@ -81,7 +84,16 @@ impl Ready {
             actions,
             users,
             board,
+            notes: Notes::nowhere(),
         })
+    }
+
+    /// From now on notes there what begins, what ends below the limit and what is settled.
+    pub fn watch(&mut self, notes: Notes)
+        ensures { self.new ≡ self.old }
+    {
+        notes.sized(self.actions.len());
+        self.notes = notes;
     }
 
     /// Notes that the action is settled by itself: it was committed whole (`success`), or not so; or it was granted an
@@ -101,6 +113,7 @@ impl Ready {
         let users = all_or_none(self.users.of_action(number), had_success != success);
         self.board.follow(self.actions.as_slice(), users, success);
         self.board.refresh(self.actions.as_slice(), number);
+        self.notes.settled(action, success);
     }
 
     /// The group's queued branch of the least action, with that action; `None` exactly where nothing of the group is
@@ -133,6 +146,7 @@ impl Ready {
         let state = &mut self.actions[number];
         state.set_free(branch, false);
         self.board.refresh(self.actions.as_slice(), number);
+        self.notes.began(action, branch);
     }
 
     /// Notes that the branch's latest attempt has ended below the limit.
@@ -144,6 +158,12 @@ impl Ready {
         let state = &mut self.actions[number];
         state.set_free(branch, true);
         self.board.refresh(self.actions.as_slice(), number);
+        self.notes.ended(action, branch);
+    }
+
+    /// The branch's latest attempt has ended at the limit. It changes no state by itself.
+    pub fn spent(&self, action: u32, branch: Branch) {
+        self.notes.ended(action, branch);
     }
 
     /// Notes that a branch of the action was granted, so that none is wanted any more.

@@ -27,6 +27,7 @@ use race_core::Race;
 use ready_order::Ready;
 use request_table::Requests;
 use retry_rules::Attempts;
+use run_progress::Notes;
 use std::alloc::Global;
 use std::marker::Model;
 use worker_pool::Pool;
@@ -112,6 +113,13 @@ impl Core {
             → result ≡ reply.Stop → halted j ≡ false → Clean j → Complete p j }
     {
         step(&mut self.state, &mut self.files, lane, call)
+    }
+
+    /// From now on notes there how far the run is. No reply knows of it.
+    pub fn watch(&mut self, notes: Notes)
+        ensures { self.new ≡ self.old }
+    {
+        self.state.ready.watch(notes);
     }
 
     /// The number of berths.
