@@ -8,6 +8,6 @@ mod seats;
 
 pub use build_report::{RunFault, Stage, fault_line};
 pub use ended::{Ended, EndedLine, Halves};
-pub use run::run_build;
+pub use run::{run_build, run_build_watched};
 pub use run_tasks::Task;
 pub use running::{Ran, run_plan};

@@ -19,6 +19,7 @@ use core_rules::LaneCore;
 use exec_journal::{Journal, Plan};
 use outside::{Berth, Floor, Io, Sink};
 use plain_values::NoMemory;
+use run_progress::Notes;
 use run_tasks::{Task, read_task};
 use spawn_core::Core;
 use std::alloc::Global;
@@ -73,11 +74,56 @@ where
     ensures sink { Counts (O.told out.old).faults (O.told out.new).faults
         (result.fault ≡ Some RunFault.SinkFailed) }
 {
+    run_build_watched(rt, alloc, words, floor, out, Notes::nowhere())
+}
+
+/// Does what `run_build` does, by the same contract, and notes meanwhile how far the run is. No
+/// clause speaks of what is noted.
+pub fn run_build_watched<R: Threads + Wait + Sync, F: Floor, O: Sink>(
+    rt: &R,
+    alloc: Global,
+    words: &[String],
+    floor: F,
+    out: &mut O,
+    notes: Notes,
+) -> Ended<F>
+where
+    F::Berth: Send,
+    F::Place: Send,
+    <F::Berth as Berth>::Feed: Send,
+    <F::Berth as Berth>::Tap: Send,
+    <F::Berth as Berth>::Child: Send,
+    // What was read led to the task that was run, or to the fault.
+    ensures course { HasCourse (options_of (map string_bytes words.now)) (F.told floor) result }
+    ensures told { TellsTask result.fault result.task }
+    ensures nothing { UnlessRun result.task (result.left ≡ nothing_left) }
+    // The one journal of the run.
+    ensures legal { OnRun result IsLegal }
+    ensures race { OnRun result HasRace }
+    ensures paired { OnRun result IsPaired }
+    ensures kept { OnRun result IsKept }
+    ensures halts { HaltsAsSaid result }
+    ensures stopped { OnRun result IsStopped }
+    ensures accounted { OnRun result IsAccounted }
+    ensures complete { OnRun result IsComplete }
+    // What each object tells is the journal's.
+    ensures pipes { OnRun result HasPipes }
+    ensures rooms { OnRun result HasRooms }
+    ensures outs { OnRun result HasOuts }
+    ensures report { Reports result (O.told out.old) (O.told out.new) }
+    // How it ended.
+    ensures status { result.status ≡ status_by result.fault result.task result.left.journal }
+    ensures floor { Counts (F.told floor).faults result.floor.faults
+        (IsFloorFailed result.fault) }
+    ensures files { SameFloor (F.told floor) result.floor }
+    ensures sink { Counts (O.told out.old).faults (O.told out.new).faults
+        (result.fault ≡ Some RunFault.SinkFailed) }
+{
     let mut floor = floor;
     match read_task(alloc, words, &mut floor) {
         Ok(made) => {
             let (task, twin) = made;
-            let ran = run_task(rt, alloc, &task, twin, floor);
+            let ran = run_task(rt, alloc, &task, twin, floor, notes);
             conclude(alloc, task, ran, out)
         }
         Err(fault) => Ended::with_no_lane(alloc, floor, fault),
@@ -91,6 +137,7 @@ fn run_task<R: Threads + Wait + Sync, F: Floor>(
     task: &Task,
     twin: Plan,
     floor: F,
+    notes: Notes,
 ) -> Ran<F>
 where
     F::Berth: Send,
@@ -111,7 +158,7 @@ where
     let Ok(core) = Core::new(alloc, twin) else {
         return Ran::with_nothing(alloc, floor, Some(Stage::Before));
     };
-    let core = LaneCore::new(core);
+    let core = LaneCore::watched(core, notes);
     run_plan(rt, alloc, core, task.posts.as_slice(), &task.work, floor)
 }
 

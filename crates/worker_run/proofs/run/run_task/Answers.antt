@@ -6,11 +6,11 @@ use Rattle.worker_run.proofs.run.run_task.Goals as goal
 
 pub run_plan-requires-clause-posts : goal.run_plan-requires-clause-posts
 run_plan-requires-clause-posts g c κs within =
-    let is = (c.new-core.ensures c.args.twin c.in-Ok.ensures).1 ∙ c.requires.twin in
+    let is = (c.watched-core.ensures c.args.twin c.in-Ok.ensures).1 ∙ c.requires.twin in
     rw (c.as_slice.ensures.value, is) (fits (λ w. is_remote (kind_of c.args.task.now.plan w)) 0
     c.args.task.now.posts.items c.requires.posts.1)
 
 pub run_plan-requires-clause-work : goal.run_plan-requires-clause-work
 run_plan-requires-clause-work g c κs within =
-    let is = (c.new-core.ensures c.args.twin c.in-Ok.ensures).1 ∙ c.requires.twin in
+    let is = (c.watched-core.ensures c.args.twin c.in-Ok.ensures).1 ∙ c.requires.twin in
     rw (is) c.requires.work

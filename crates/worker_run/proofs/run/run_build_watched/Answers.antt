@@ -4,7 +4,7 @@ use Rattle.tool_words.specs.Options.{options_of}
 use Rattle.worker_run.proofs.Reading.{fault_course, fault_puts, fault_sink, fault_told, task_course, task_floor, task_nothing, task_told}
 use Rattle.worker_run.proofs.Said.{halts_as_said, has_outs, has_pipes, has_race, has_rooms, is_accounted, is_complete, is_kept, is_legal, is_paired, is_stopped, on_run}
 use Rattle.worker_run.specs.Headline.{HasOuts, HasPipes, HasRace, HasRooms, IsAccounted, IsComplete, IsKept, IsLegal, IsPaired, IsStopped}
-use Rattle.worker_run.proofs.run.run_build.Goals as goal
+use Rattle.worker_run.proofs.run.run_build_watched.Goals as goal
 
 pub returns-in-Ok-clause-course : goal.returns-in-Ok-clause-course
 returns-in-Ok-clause-course g c =
