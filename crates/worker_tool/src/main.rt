@@ -6,18 +6,23 @@
 
 mod hints;
 mod names;
+mod screen;
 
+use crate::screen::{BehindLine, Screen};
 use action_list::ListFault;
-use outside::Floor;
+use outside::{Berth, Floor, Sink};
 use outside_mem::MemFloor;
 use outside_real::{RealFloor, RealSink};
 use std::alloc::Global;
 use std::env::Env;
-use std::io::ErrorKind;
+use std::io::{Eprint, ErrorKind, IsTerminal, Print};
 use std::process::ExitCode;
+use std::sync::Wait;
+use std::thread::Threads;
+use std::time::Clock;
 use std::{env, io};
 use tool_words::generated;
-use worker_run::{Ended, RunFault, Stage, fault_line, run_build};
+use worker_run::{Ended, RunFault, Stage, fault_line, run_build, run_build_watched};
 
 fn main(rt: HostRuntime) -> ExitCode {
     let alloc = rt.alloc();
@@ -25,19 +30,19 @@ fn main(rt: HostRuntime) -> ExitCode {
         Ok(words) => words,
         Err(error) => return end_unread(&rt, alloc, &error),
     };
-    let mut out = RealSink::new(rt);
+    let on_terminal = rt.stderr().is_terminal();
     if let Some(actions) = generated(&words) {
         let Ok(floor) = MemFloor::generated(rt, alloc, actions) else {
             return end(&rt, alloc, &RunFault::NoMemory(Stage::Before));
         };
-        let Ended { status, fault, .. } = run_build(&rt, alloc, &words, floor, &mut out);
+        let Ended { status, fault, .. } = run(rt, alloc, &words, floor, on_terminal);
         if let Some(fault) = &fault {
             tell(&rt, alloc, fault, None);
         }
         return ExitCode::from(status);
     }
     let floor = RealFloor::new(rt, alloc);
-    let ended = run_build(&rt, alloc, &words, floor, &mut out);
+    let ended = run(rt, alloc, &words, floor, on_terminal);
     let Ended {
         status,
         fault,
@@ -51,6 +56,63 @@ fn main(rt: HostRuntime) -> ExitCode {
         }
     }
     ExitCode::from(status)
+}
+
+// Makes the run, and shows meanwhile how far it is, if standard error is a terminal. The report goes to standard output.
+fn run<R: Threads + Wait + Clock + Print + Eprint + Copy + Drop + Send + Sync + 'static, F: Floor>(
+    rt: R,
+    alloc: Global,
+    words: &[String],
+    floor: F,
+    on_terminal: bool,
+) -> Ended<F>
+where
+    F::Berth: Send,
+    F::Place: Send,
+    <F::Berth as Berth>::Feed: Send,
+    <F::Berth as Berth>::Tap: Send,
+    <F::Berth as Berth>::Child: Send,
+{
+    let mut out = RealSink::new(rt);
+    match screen_if(rt, alloc, on_terminal) {
+        Some(screen) => run_shown(rt, alloc, words, floor, out, screen),
+        None => run_build(&rt, alloc, words, floor, &mut out),
+    }
+}
+
+fn screen_if<R: Threads + Wait + Clock + Eprint + Copy + Drop + Send + 'static>(
+    rt: R,
+    alloc: Global,
+    on_terminal: bool,
+) -> Option<Screen> {
+    if on_terminal {
+        Screen::open(rt, alloc)
+    } else {
+        None
+    }
+}
+
+fn run_shown<R: Threads + Wait + Eprint + Copy + Drop + Sync, F: Floor, O: Sink>(
+    rt: R,
+    alloc: Global,
+    words: &[String],
+    floor: F,
+    out: O,
+    screen: Screen,
+) -> Ended<F>
+where
+    F::Berth: Send,
+    F::Place: Send,
+    <F::Berth as Berth>::Feed: Send,
+    <F::Berth as Berth>::Tap: Send,
+    <F::Berth as Berth>::Child: Send,
+{
+    let line = screen.line();
+    let mut out = BehindLine { rt, line, out };
+    let ended = run_build_watched(&rt, alloc, words, floor, &mut out, screen.notes());
+    drop(out);
+    screen.close(&rt);
+    ended
 }
 
 fn words(rt: &(impl Env + AllocGlobal), alloc: Global) -> io::Result<Vec<String>> {

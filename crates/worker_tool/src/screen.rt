@@ -1,0 +1,143 @@
+// The line on the terminal that says how far a run is.
+use outside::{Io, Sink};
+use run_progress::{Notes, Progress, Watcher};
+use std::alloc::Global;
+use std::io::Eprint;
+use std::sync::{Arc, Mutex, Wait};
+use std::thread;
+use std::thread::{JoinHandle, Parker, Threads};
+use std::time::{Clock, Duration};
+
+/// How many milliseconds a line stands before it is written again.
+const PAUSE: u64 = 200;
+
+/// Goes to the start of the line and erases it.
+const ERASE: &str = "\r\x1b[K";
+
+/// A terminal whose last line says how far a run is, with the thread that writes it.
+#[derive(Drop)]
+pub struct Screen {
+    line: Arc<Line>,
+    watcher: JoinHandle<()>,
+}
+
+/// The line.
+#[derive(Drop)]
+pub struct Line {
+    progress: Arc<Progress>,
+    // Whoever has it may write. It says whether anything stands there.
+    pen: Mutex<bool>,
+    // Where the watcher rests.
+    rest: Parker,
+}
+
+/// A sink before whose bytes the line is erased, since they may go to the same terminal.
+#[derive(Drop)]
+pub struct BehindLine<'a, R, O> {
+    pub rt: R,
+    pub line: &'a Line,
+    pub out: O,
+}
+
+impl Screen {
+    /// Begins to show a line. `None` where there is no memory or no thread for that.
+    pub fn open<R: Threads + Wait + Clock + Eprint + Copy + Drop + Send + 'static>(
+        rt: R,
+        alloc: Global,
+    ) -> Option<Screen> {
+        let line = Arc::new(alloc, Line::new(alloc)?).ok()?;
+        let shown = Arc::try_clone(&line).ok()?;
+        let watcher = thread::spawn(&rt, move || shown.show(&rt, alloc)).ok()?;
+        Some(Screen { line, watcher })
+    }
+
+    /// Where the run is to note how far it is.
+    pub fn notes(&self) -> Notes {
+        self.line.notes()
+    }
+
+    /// The line, for a sink that may write to the same terminal.
+    pub fn line(&self) -> &Line {
+        &self.line
+    }
+
+    /// Erases the line, and ends the thread that writes it.
+    pub fn close<R: Threads + Wait + Eprint>(self, rt: &R) {
+        self.line.close(rt);
+        self.watcher.join(rt);
+    }
+}
+
+impl Line {
+    fn new(alloc: Global) -> Option<Line> {
+        let progress = Progress::new(alloc).ok()?;
+        Some(Line {
+            progress: Arc::new(alloc, progress).ok()?,
+            pen: Mutex::new(false),
+            rest: Parker::new(),
+        })
+    }
+
+    fn notes(&self) -> Notes {
+        match Arc::try_clone(&self.progress) {
+            Ok(progress) => Notes::on(progress),
+            Err(_) => Notes::nowhere(),
+        }
+    }
+
+    // Writes the line again and again, until it is closed.
+    fn show<R: Eprint + Clock + Wait>(&self, rt: &R, alloc: Global) {
+        let Ok(mut watcher) = Watcher::new(alloc) else {
+            return;
+        };
+        let pause = Duration::from_millis(PAUSE);
+        for _ in rt.forever() {
+            self.rest.park_timeout(rt, pause);
+            if self.progress.is_over() {
+                return;
+            }
+            self.write(rt, alloc, &mut watcher);
+        }
+    }
+
+    // Writes the line once, unless it is closed. Without memory or a clock it is left out.
+    fn write<R: Eprint + Clock + Wait>(&self, rt: &R, alloc: Global, watcher: &mut Watcher) {
+        let Ok(now) = rt.monotonic() else {
+            return;
+        };
+        let look = watcher.look(&self.progress, now);
+        let Ok(line) = format!(in alloc; "{ERASE}{look}") else {
+            return;
+        };
+        let mut stands = self.pen.lock(rt);
+        if !self.progress.is_over() {
+            let _ = rt.eprint(line.as_str());
+            *stands = true;
+        }
+    }
+
+    // The run is over, or about to put its report: the line is erased, and none is written any more.
+    fn close<R: Eprint + Wait>(&self, rt: &R) {
+        let mut stands = self.pen.lock(rt);
+        self.progress.finish();
+        if *stands {
+            let _ = rt.eprint(ERASE);
+            *stands = false;
+        }
+        drop(stands);
+        self.rest.unpark();
+    }
+}
+
+impl<'a, R: Eprint + Wait + Drop, O: Sink> Sink for BehindLine<'a, R, O> {
+    ghost told = { λ s. O.told s.out };
+
+    fn faults(&self) -> u64 {
+        self.out.faults()
+    }
+
+    fn put(&mut self, bytes: &[u8]) -> Io {
+        self.line.close(&self.rt);
+        self.out.put(bytes)
+    }
+}
