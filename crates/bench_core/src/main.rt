@@ -6,7 +6,7 @@
 //! ```
 //!
 //! A run is played once, and each call of a lane noted. What is timed is that these calls are made again on a new core,
-//! so that a figure has nothing in it but `Core::step`.
+//! so that a figure has nothing in it but `Core::step`, and that the calls are gone through.
 #![tactic(auto)]
 
 mod berth;
@@ -33,6 +33,16 @@ const WORKS: [(Shape, Answering); 4] = [
 
 // How many steps are timed of each work at least.
 const TIMED_STEPS: usize = 4_000_000;
+
+// How often the calls of a work are gone through.
+const PASSES: usize = 200;
+
+/// Passes through the calls, and how many actions one of them saw committed.
+#[derive(Drop, Clone, Copy)]
+struct Reading {
+    measure: Measure,
+    committed: usize,
+}
 
 fn main(rt: HostRuntime) -> Result<(), Failure> {
     let timed = env::args(&rt)?.nth(1).is_some();
@@ -66,6 +76,7 @@ fn time_works<R: Clock + CpuClock + Print>(
         let work = Work::new(alloc, shape, answering, actions)?;
         let calls = play(alloc, &work)?;
         let measure = time_replays(rt, alloc, &work, calls.as_slice())?;
+        let reading = time_reading(rt, calls.as_slice())?;
         let steps = calls.len();
         let name = work.name();
         println!(rt;
@@ -73,8 +84,30 @@ fn time_works<R: Clock + CpuClock + Print>(
             measure.a_second(),
             measure.nanos_each()
         )?;
+        println!(rt;
+            "    {} ns a step to go through them, {} committed",
+            reading.measure.nanos_each(),
+            reading.committed
+        )?;
     }
     Ok(())
+}
+
+// How long it takes to go through the calls, which isn't the core's: those of a long run are more than a cache holds.
+fn time_reading<R: CpuClock>(rt: &R, calls: &[Made]) -> Result<Reading, Failure> {
+    let mut reading = Reading {
+        measure: Measure::none(),
+        committed: 0,
+    };
+    for skipped in 0..PASSES.min(calls.len()) {
+        let (_, part) = calls.split_at(skipped);
+        let watch = Watch::start(rt)?;
+        let found = committed(part);
+        let measure = watch.stop(rt, part.len() as u64)?;
+        reading.measure = reading.measure.and(measure);
+        reading.committed = reading.committed.max(found);
+    }
+    Ok(reading)
 }
 
 fn time_replays<R: Clock + CpuClock>(
