@@ -14,7 +14,7 @@ fn a_line_says_how_far_the_run_is(rt: HostRuntime) -> Result<(), Fail> {
     let mut watcher = Watcher::new(alloc)?;
     progress.sized(1_000);
     let look = watcher.look(&progress, at(0));
-    assert!(rt; format!(in alloc; "{look}")? == "[0/1000] 0 running, 0 failed");
+    assert!(rt; format!(in alloc; "{look}")?.as_str() == "[0/1000] 0 running, 0 failed");
 
     progress.began(37, Branch::Remote);
     watcher.look(&progress, at(1));
@@ -24,12 +24,12 @@ fn a_line_says_how_far_the_run_is(rt: HostRuntime) -> Result<(), Fail> {
     progress.settled(6, false);
     let look = watcher.look(&progress, at(13));
     let line = "[2/1000] 2 running, 1 failed, oldest: actions[37] for 12 s";
-    assert!(rt; format!(in alloc; "{look}")? == line);
+    assert!(rt; format!(in alloc; "{look}")?.as_str() == line);
 
     progress.ended(37, Branch::Remote);
     let look = watcher.look(&progress, at(14));
     let line = "[2/1000] 1 running, 1 failed, oldest: actions[4] for 1 s";
-    assert!(rt; format!(in alloc; "{look}")? == line);
+    assert!(rt; format!(in alloc; "{look}")?.as_str() == line);
     Ok(())
 }
 
