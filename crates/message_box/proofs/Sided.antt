@@ -383,18 +383,37 @@ module _ {X : Type 0} where
     tt,
   )
 
-  stop_so : (b : Bool) (how : Stop) (s s' then : State X) → s.stop ≡ None → ReaderStands s then
+  stop_so : (b : Bool) (how : Stop) (s s' then : State X) → s.stop ≡ None
+      → (b ≡ false → then.left ≡ true) → ReaderStands s then
       → s' ≡ cond b (moved then (ask.Stop how)) then → HasStopped how s s'
-  stop_so true how s s' then none h e =
+  stop_so true how s s' then none not h e =
       (ap put_in e ∙ h.0, inl (ap (λ (x : State X). x.stop) e))
-  stop_so false how s s' then none h e =
-      (ap put_in e ∙ h.0, inr (ap (λ (x : State X). x.stop) e ∙ h.1 ∙ none))
+  stop_so false how s s' then none not h e = (
+    ap put_in e ∙ h.0,
+    inr (
+      ap (λ (x : State X). x.stop) e ∙ h.1 ∙ none,
+      ap (λ (x : State X). x.left) e ∙ not refl,
+    ),
+  )
+
+  stop_answer : (lane : ℕ) (s then : State X) (how : Stop) (reply : Answer) → lane ≡ reader
+      → s.stop ≡ None → ReaderStands s then
+      → (reply ≡ answer_to then lane (ask.Stop how))
+      ⊎ ((is_short reply ≡ true) × MayBeShort {X = X} (ask.Stop how))
+      → is_kept reply ≡ false → then.left ≡ true
+  stop_answer lane s then how reply is none h (inl a) k =
+      leave_done then.left (reads then lane)
+      (reads_yes (lane == reader) then.stop (eq-eqb lane reader is) (h.1 ∙ none))
+      (ap is_kept (sym a) ∙ k)
+  stop_answer lane s then how reply is none h (inr q) k = absurd q.1
 
   pub has_stopped : (lane : ℕ) (s : State X) (how : Stop) (reply : Answer) (good : Option (Vec X))
       (s' : State X) → lane ≡ reader → s.stop ≡ None
       → Called lane s (ask.Stop how) reply good s' → HasStopped how s s'
   has_stopped lane s how reply good s' is none c =
-      stop_so (is_kept reply) how s s' c.then none (c.by_reader is) c.moves
+      stop_so (is_kept reply) how s s' c.then none
+      (stop_answer lane s c.then how reply is none (c.by_reader is) c.answered)
+      (c.by_reader is) c.moves
 
   leave_so : (b : Bool) (s s' then : State X) → (b ≡ false → then.left ≡ true)
       → TakerKeeps s then → s' ≡ cond b (moved then ask.Leave) then → HasLeft s s'

@@ -37,10 +37,12 @@ module _ {X : Type 0} where
   HasPut more offered.Done s s' = (put_in s' ≡ put_in s ++ more) × (s'.stop ≡ s.stop)
   HasPut more offered.Gone s s' = ReaderStands s s' × (s'.left ≡ true)
 
-  -- It was said that the reader has stopped so, or nobody takes any more what it puts in.
+  -- it was said that the reader has stopped so, or nobody takes any more what it puts in
+  abbrev pub SaysStop : Stop → State X → Type 0
+  SaysStop stop s = (s.stop ≡ Some stop) ⊎ ((s.stop ≡ None) × (s.left ≡ true))
+
   abbrev pub HasStopped : Stop → State X → State X → Type 0
-  HasStopped stop s s' =
-      (put_in s' ≡ put_in s) × ((s'.stop ≡ Some stop) ⊎ (s'.stop ≡ None))
+  HasStopped stop s s' = (put_in s' ≡ put_in s) × SaysStop stop s'
 
   -- these messages were taken, which are all that had been put in by then
   abbrev pub HasTaken : List X → State X → State X → Type 0

@@ -1,5 +1,5 @@
 -- What was read and what was done, put together.
-use Rattle.std.proofs.Common.{◌≡◌, ◌⊎◌, ℕ, List, [], ◌++◌, Option, Some, None, ap, sym, ◌∙◌}
+use Rattle.std.proofs.Common.{◌≡◌, ℕ, List, [], ◌++◌, Option, Some, None, ap, sym, ◌∙◌}
 use Rattle.std.proofs.Common.{subst, append-nil, inl, inr, Result, true}
 use Rattle.plain_values.specs.declared.no_memory.NoMemory.{NoMemory}
 use Rattle.outside.specs.Lists.{Adds}
@@ -20,7 +20,7 @@ use Rattle.message_box.specs.declared.mailbox.Stop.TheVariants as stop
 use Rattle.message_box.specs.States.{State, put_in, first}
 use Rattle.message_box.specs.declared.reading.Offered.{Offered}
 use Rattle.message_box.specs.declared.reading.Offered.TheVariants as offered
-use Rattle.message_box.specs.Sides.{HasAll, HasLeft, HasPut, ReaderStands}
+use Rattle.message_box.specs.Sides.{HasAll, HasLeft, HasPut, ReaderStands, SaysStop}
 use Rattle.read_ahead.specs.declared.reading.Pause.{Pause}
 use Rattle.read_ahead.specs.declared.reading.Pause.TheVariants as pause
 use Rattle.read_ahead.specs.Reading.{finish_of, BreaksOff, SpellBy, StoppedBy, SaidBy, HasRead}
@@ -83,10 +83,11 @@ module _ {M : Type 0} where
   put_done more offered.Gone s s' is h = absurd (not_done is)
 
   -- what it said stays said
-  pub said_still : (why : Pause) (s s' : State M) → SaidBy why s → ReaderStands s s' → SaidBy why s'
-  said_still (pause.Stopped how) s s' (inl e) st = inl (st.1 ∙ e)
-  said_still (pause.Stopped how) s s' (inr e) st = inr (st.1 ∙ e)
-  said_still pause.Gone s s' e st = st.1 ∙ e
+  pub said_still : (why : Pause) (s s' : State M) → SaidBy why s → ReaderStands s s'
+      → s'.left ≡ true → SaidBy why s'
+  said_still (pause.Stopped how) s s' (inl e) st left = inl (st.1 ∙ e)
+  said_still (pause.Stopped how) s s' (inr e) st left = inr (st.1 ∙ e.0, left)
+  said_still pause.Gone s s' e st left = st.1 ∙ e
 
   -- ---- the worker
 
@@ -112,10 +113,9 @@ not_none how e = cc
 
 module _ (f : Framing) {M : Type 0} (Spells : List ℕ → M → Type 0) where
   -- how a reader has stopped whose stop is told
-  same_stop : (how told : Stop) (s : State M) → (s.stop ≡ Some how) ⊎ (s.stop ≡ None)
-      → s.stop ≡ Some told → how ≡ told
+  same_stop : (how told : Stop) (s : State M) → SaysStop how s → s.stop ≡ Some told → how ≡ told
   same_stop how told s (inl e) t = some_is how told (sym e ∙ t)
-  same_stop how told s (inr e) t = absurd (not_none told (sym e ∙ t))
+  same_stop how told s (inr e) t = absurd (not_none told (sym e.0 ∙ t))
 
   all_taken : (s : State M) → s.waiting ≡ [] → put_in s ≡ s.taken
   all_taken s none = ap (λ (xs : List M). s.taken ++ xs) none ∙ append-nil s.taken

@@ -1,5 +1,5 @@
 -- What a reader has read by its end.
-use Rattle.std.specs.Prelude.{◌≡◌, ◌⊎◌, ℕ, List, true, Some, None, Result, Ok, Err}
+use Rattle.std.specs.Prelude.{◌≡◌, ℕ, List, true, None, Result, Ok, Err}
 use Rattle.outside.specs.Lists.{Adds}
 use Rattle.outside.specs.Told.{TapTold}
 use Rattle.delimited_framing.specs.Front.{Form}
@@ -12,6 +12,7 @@ use Rattle.message_service.specs.Serves.{ReadsBy}
 use Rattle.message_service.specs.Steps.{StopsReading}
 use Rattle.message_box.specs.declared.mailbox.Stop.{Stop}
 use Rattle.message_box.specs.declared.mailbox.Stop.TheVariants as stop
+use Rattle.message_box.specs.Sides.{SaysStop}
 use Rattle.message_box.specs.States.{State, put_in}
 use Rattle.read_ahead.specs.declared.reading.Pause.{Pause}
 use Rattle.read_ahead.specs.declared.reading.Pause.TheVariants as pause
@@ -36,7 +37,7 @@ StoppedBy pause.Gone bytes old new = Unit {0}
 
 -- what the reader said of its end, if the taker was still there
 abbrev pub SaidBy : {M : Type 0} → Pause → State M → Type 0
-SaidBy (pause.Stopped how) s = (s.stop ≡ Some how) ⊎ (s.stop ≡ None)
+SaidBy (pause.Stopped how) s = SaysStop how s
 SaidBy pause.Gone s = s.stop ≡ None
 
 module _ (form : Form) {M : Type 0} (Spells : List ℕ → M → Type 0) where

@@ -9,7 +9,8 @@ pub returns-clause-leaves : goal.returns-clause-leaves
 returns-clause-leaves g c = record {
   left = c.await_leave.ensures.left;
   said = said_still c.read_all-pause.result (state_at c.say_end.new.caller.pass)
-      (state_at c.await_leave.new.caller.pass) c.say_end.ensures.said c.await_leave.ensures.stands;
+      (state_at c.await_leave.new.caller.pass) c.say_end.ensures.said c.await_leave.ensures.stands
+      c.await_leave.ensures.left;
   read = subst (λ (ms : List g.row.V-Message.Denot). HasRead (form_of g.V.Service.framing)
       g.V.Service.spells c.read_all-pause.result ms (g.T.Tap.told c.args.input.now)
       (g.T.Tap.told c.read_all-pause.new.input))
