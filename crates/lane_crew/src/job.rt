@@ -77,9 +77,22 @@ fn run_when_told<C, J: Job<C>, R: Threads + Wait + Sync>(
     requires { CanRun J.can_run context.now post }
     ensures { MayHaveEnded J.ends context.now post result }
 {
-    if !*all_there.wait(rt) {
-        return post;
+    if *all_there.wait(rt) {
+        run_one(rt, context, post)
+    } else {
+        post
     }
+}
+
+// Runs the job of this post.
+fn run_one<C, J: Job<C>, R: Threads + Wait + Sync>(
+    rt: &R,
+    context: &C,
+    post: Post<J, J::End>,
+) -> Post<J, J::End>
+    requires { CanRun J.can_run context.now post }
+    ensures { HasEnded J.ends context.now post result }
+{
     match post {
         Post::Ready(job) => Post::Ended(job.run(rt, context)),
         Post::Ended(end) => Post::Ended(end),
