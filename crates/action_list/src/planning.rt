@@ -248,7 +248,8 @@ fn note_outputs(
     action: &ListAction,
 ) -> Result<(), NoMemory>
     requires { length action.now.outputs ≤ 256 }
-    ensures { (before : List ListAction) → KnowsProducers producers.old before → number ≡ length before
+    ensures { (before : List ListAction)
+        → KnowsProducers producers.old before → number ≡ length before
         → OnOk result (KnowsProducers producers.new (before ++ action.now ∷ [])) }
 {
     producers.note_all(alloc, number, action.outputs.as_slice())

@@ -30,7 +30,8 @@ impl Producers {
     pub fn note_all(&mut self, alloc: Global, action: u32, outputs: &[Text]) -> Result<(), NoMemory>
         requires { length outputs.now ≤ 256 }
         ensures { OnOk result ((q : List ℕ)
-            → producer_of self.new q ≡ producer_in (producer_of self.old q) q action 0 outputs.now) }
+            → producer_of self.new q
+            ≡ producer_in (producer_of self.old q) q action 0 outputs.now) }
     {
         let mut output = 0;
         for path in outputs {

@@ -26,7 +26,8 @@ impl Model for Splitter {
 
     ghost Value = { Held };
 
-    ghost view = { λ s. record { limit = s.limit; rest = drop s.start s.held.items; fault = s.fault } };
+    ghost view = { λ s.
+        record { limit = s.limit; rest = drop s.start s.held.items; fault = s.fault } };
 
     // Of what was read no more is held than of what is to be read.
     ghost invariant = { λ s. s.start + s.start ≤ length s.held.items };
@@ -74,7 +75,8 @@ impl Splitter {
     /// `NoMemory` where the frame finds no memory; the splitter is then as it was.
     pub fn next(&mut self) -> Result<Next, NoMemory>
         ensures after_bad { IfSome self.old.fault (λ fault. result ≡ Ok (Next.Bad fault)) }
-        ensures ok { IfOk result (λ next. (fed : List ℕ) (given : List (List ℕ)) → Stands fed given self.old
+        ensures ok { IfOk result (λ next. (fed : List ℕ) (given : List (List ℕ))
+            → Stands fed given self.old
             → Gives delimited_form fed given self.old next self.new) }
         ensures err { OnErr result (self.new ≡ self.old) }
     {

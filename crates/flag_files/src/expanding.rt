@@ -116,7 +116,8 @@ impl Expanded {
     }
 
     fn push(&mut self, alloc: Global, word: &str) -> Result<(), FlagFault>
-        ensures { Answers result self.new.words.items (walk self.old.words.items (stays word.now ∷ [])) }
+        ensures { Answers result self.new.words.items
+            (walk self.old.words.items (stays word.now ∷ [])) }
     {
         if self.words.len() == MAX_WORDS || word.len() > MAX_BYTES - self.bytes {
             return Err(FlagFault::TooManyWords);

@@ -79,8 +79,8 @@ fn sort_words(
     startup: &mut Vec<Text>,
     request: &mut Vec<Text>,
 ) -> Result<(), NoMemory>
-    ensures startup { OnOk result
-        (startup.new.items ≡ startup.old.items ++ filter (λ w. not (is_flag_file_word w)) words.now) }
+    ensures startup { OnOk result (startup.new.items
+        ≡ startup.old.items ++ filter (λ w. not (is_flag_file_word w)) words.now) }
     ensures request { OnOk result
         (request.new.items ≡ request.old.items ++ filter is_flag_file_word words.now) }
 {

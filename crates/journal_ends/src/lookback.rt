@@ -252,7 +252,10 @@ fn has_send_of(entries: &[Entry], action: u32, branch: Branch) -> bool
 pub fn is_send_of(entry: &Entry, action: u32, branch: Branch) -> bool
     ensures { result ≡ is_of_branch action branch (send_in entry.now.reply) }
 {
-    matches!(&entry.reply, Reply::Send { action: sent, branch: of, .. } if *sent == action && *of == branch)
+    matches!(
+        &entry.reply,
+        Reply::Send { action: sent, branch: of, .. } if *sent == action && *of == branch
+    )
 }
 
 /// The answer that is matched with the attempt at this entry.

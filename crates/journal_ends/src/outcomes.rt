@@ -243,7 +243,8 @@ fn standing_next(
 }
 
 pub fn is_input_lost(makers: &[Maker], standings: &[Standing]) -> bool
-    ensures { result ≡ list_any (λ m. is_unsuccessful (slice_get standings.now m.action)) makers.now }
+    ensures { result
+        ≡ list_any (λ m. is_unsuccessful (slice_get standings.now m.action)) makers.now }
 {
     makers.iter().any(|m| is_lost(standings, m.action))
 }

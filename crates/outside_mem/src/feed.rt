@@ -50,7 +50,8 @@ impl<R> MemFeed<R> {
 }
 
 impl<R: Wait + Drop> Feed for MemFeed<R> {
-    ghost told = { λ f. record { line = Some f.line; faults = f.faults; given = Some f.given.items } };
+    ghost told = { λ f.
+        record { line = Some f.line; faults = f.faults; given = Some f.given.items } };
 
     fn faults(&self) -> u64 {
         self.faults

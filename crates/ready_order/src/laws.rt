@@ -63,8 +63,9 @@ pub fn others_change_nothing()
 /// The table's answers are the journal's: the action and the branch of the group's earliest queued branch; and, where the
 /// plan is sound, whether all actions are settled.
 pub fn answers_are_the_journals()
-    ensures earliest { (p : Plan) (states : List ActionState) (j : List Entry) (g : ℕ) (answer : Option (ℕ
-        × Branch)) → Stands p states j → IsEarliest states g answer
+    ensures earliest { (p : Plan) (states : List ActionState) (j : List Entry) (g : ℕ)
+        (answer : Option (ℕ × Branch))
+        → Stands p states j → IsEarliest states g answer
         → answer ≡ branch_of (earliest p j g) }
     ensures search { (p : Plan) (states : List ActionState) (j : List Entry) (g : ℕ)
         → Stands p states j → earliest_in states g ≡ branch_of (earliest p j g) }

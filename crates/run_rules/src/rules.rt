@@ -167,7 +167,8 @@ pub trait Rules: Sized + Drop {
         → hearing_of (calls_by lane h) ≡ Hears l };
 
     // A history for which a core stands is legal.
-    ghost stands_legal: { (m : Self) (h : List (Entry Call Reply)) → stands m h → legal (plan m) h };
+    ghost stands_legal: { (m : Self) (h : List (Entry Call Reply))
+        → stands m h → legal (plan m) h };
 
     // So is a legal history without its last entry, whose reply is the rule's, and is kept.
     ghost legal_before: { (q : Self.Plan) (h : List (Entry Call Reply)) (e : Entry Call Reply)
