@@ -127,11 +127,17 @@ fn all_variables(
     for (name, value) in members.iter() {
         match value.as_str() {
             None => return Ok(Slot::Other),
-            Some(text) => copies.push(Variable {
-                name: Text::copy_of(alloc, name.as_str())?,
-                value: Text::copy_of(alloc, text)?,
-            })?,
+            Some(text) => copies.push(variable_of(alloc, name.as_str(), text)?)?,
         }
     }
     Ok(Slot::Held(Items::of(copies)))
+}
+
+fn variable_of(alloc: Global, name: &str, value: &str) -> Result<Variable, NoMemory>
+    ensures { IfOk result (λ v. v ≡ record { name = name.now; value = value.now }) }
+{
+    Ok(Variable {
+        name: Text::copy_of(alloc, name)?,
+        value: Text::copy_of(alloc, value)?,
+    })
 }

@@ -117,37 +117,37 @@ impl<T: Drop> From<AllocFailed<T>> for ListRefusal {
 /// The place as a reader of the list finds it: a key's own name, with `.` before it as behind `actions[3]`.
 impl fmt::Display for Key {
     fn fmt<W: fmt::Write>(&self, f: &mut fmt::Formatter<W>) -> fmt::Result {
-        match self {
-            Key::Top => write!(f, "the whole text"),
-            Key::Actions => write!(f, "actions"),
-            Key::Action => Ok(()),
-            Key::Name => write!(f, ".name"),
-            Key::Mnemonic => write!(f, ".mnemonic"),
-            Key::Argv => write!(f, ".argv"),
-            Key::Env => write!(f, ".env"),
-            Key::Tools => write!(f, ".tools"),
-            Key::Inputs => write!(f, ".inputs"),
-            Key::Outputs => write!(f, ".outputs"),
-            Key::Requirements => write!(f, ".requirements"),
-            Key::Strategy => write!(f, ".strategy"),
-        }
+        f.write_str(match self {
+            Key::Top => "the whole text",
+            Key::Actions => "actions",
+            Key::Action => "",
+            Key::Name => ".name",
+            Key::Mnemonic => ".mnemonic",
+            Key::Argv => ".argv",
+            Key::Env => ".env",
+            Key::Tools => ".tools",
+            Key::Inputs => ".inputs",
+            Key::Outputs => ".outputs",
+            Key::Requirements => ".requirements",
+            Key::Strategy => ".strategy",
+        })
     }
 }
 
 /// What is counted, with the most that there may be.
 impl fmt::Display for What {
     fn fmt<W: fmt::Write>(&self, f: &mut fmt::Formatter<W>) -> fmt::Result {
-        match self {
-            What::Bytes => write!(f, "bytes, and at most 33554432 may be"),
-            What::Actions => write!(f, "actions, and at most 4096 may be"),
-            What::Argv => write!(f, "words in an action's argv, and at most 1024 may be"),
-            What::Env => write!(f, "variables in an action's env, and at most 256 may be"),
-            What::Tools => write!(f, "tools of an action, and at most 256 may be"),
-            What::Inputs => write!(f, "inputs of an action, and at most 4096 may be"),
-            What::Outputs => write!(f, "outputs of an action, and at most 256 may be"),
-            What::Requirements => write!(f, "requirements of an action, and at most 64 may be"),
-            What::Keys => write!(f, "worker keys, and at most 48 may be"),
-        }
+        f.write_str(match self {
+            What::Bytes => "bytes, and at most 33554432 may be",
+            What::Actions => "actions, and at most 4096 may be",
+            What::Argv => "words in an action's argv, and at most 1024 may be",
+            What::Env => "variables in an action's env, and at most 256 may be",
+            What::Tools => "tools of an action, and at most 256 may be",
+            What::Inputs => "inputs of an action, and at most 4096 may be",
+            What::Outputs => "outputs of an action, and at most 256 may be",
+            What::Requirements => "requirements of an action, and at most 64 may be",
+            What::Keys => "worker keys, and at most 48 may be",
+        })
     }
 }
 
@@ -156,56 +156,60 @@ impl fmt::Display for ListFault {
     fn fmt<W: fmt::Write>(&self, f: &mut fmt::Formatter<W>) -> fmt::Result {
         match self {
             ListFault::TooMany { what, count } => write!(f, "there are {count} {what}"),
-            ListFault::NotJson => write!(f, "the text isn't JSON"),
+            ListFault::NotJson => f.write_str("the text isn't JSON"),
             ListFault::WrongKind { action, key } => {
                 fmt_place(f, *action, *key)?;
-                write!(f, ": not a value that may stand there")
+                f.write_str(": not a value that may stand there")
             }
             ListFault::MissingKey { action, key } => {
                 fmt_place(f, *action, *key)?;
-                write!(f, ": isn't there")
+                f.write_str(": isn't there")
             }
-            ListFault::BadName { action } => write!(
-                f,
-                "actions[{action}].name: empty, above 256 bytes, or with a byte that a name can't have"
-            ),
             ListFault::BadPath {
                 action,
                 path,
                 fault,
-            } => {
-                let path = path.as_str();
-                write!(f, "actions[{action}]: {path:?}: {fault}")
-            }
-            ListFault::BadRequirement { action } => write!(
+            } => write!(f, "actions[{action}]: {:?}: {fault}", path.as_str()),
+            ListFault::TwiceMade { action, path } => write!(
                 f,
-                "actions[{action}].requirements: an empty worker-key-mnemonic, or a protocol other than proto and json"
+                "actions[{action}].outputs: {:?} is made before",
+                path.as_str()
             ),
-            ListFault::NoStrategy { action } => write!(
+            ListFault::MadeLater { action, path } => write!(
                 f,
-                "actions[{action}].strategy: not worker, remote or dynamic; or not remote, without supports-workers"
+                "actions[{action}].inputs: {:?} is made by this action or by a later one",
+                path.as_str()
             ),
-            ListFault::NoFlagFile { action } => write!(
+            ListFault::BadName { action } => fmt_action(
                 f,
-                "actions[{action}].argv: no word names a flag file, as @FILE or --flagfile=FILE does"
+                *action,
+                ".name: empty, above 256 bytes, or with a byte that a name can't have",
             ),
-            ListFault::TwiceNamed { action } => write!(
+            ListFault::BadRequirement { action } => fmt_action(
                 f,
-                "actions[{action}].name: an earlier action has this name"
+                *action,
+                ".requirements: an empty worker-key-mnemonic, or a protocol other than proto and json",
             ),
-            ListFault::TwiceMade { action, path } => {
-                let path = path.as_str();
-                write!(f, "actions[{action}].outputs: {path:?} is made before")
-            }
-            ListFault::MadeLater { action, path } => {
-                let path = path.as_str();
-                write!(
-                    f,
-                    "actions[{action}].inputs: {path:?} is made by this action or by a later one"
-                )
+            ListFault::NoStrategy { action } => fmt_action(
+                f,
+                *action,
+                ".strategy: not worker, remote or dynamic; or not remote, without supports-workers",
+            ),
+            ListFault::NoFlagFile { action } => fmt_action(
+                f,
+                *action,
+                ".argv: no word names a flag file, as @FILE or --flagfile=FILE does",
+            ),
+            ListFault::TwiceNamed { action } => {
+                fmt_action(f, *action, ".name: an earlier action has this name")
             }
         }
     }
+}
+
+// An action, and what is wrong with it.
+fn fmt_action<W: fmt::Write>(f: &mut fmt::Formatter<W>, action: u32, wrong: &str) -> fmt::Result {
+    write!(f, "actions[{action}]{wrong}")
 }
 
 fn fmt_place<W: fmt::Write>(
