@@ -4,6 +4,7 @@
 
 mod outlook;
 mod scheduler;
+mod tables;
 mod turn;
 
 pub use scheduler::Core;

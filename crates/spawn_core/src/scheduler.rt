@@ -16,21 +16,15 @@ ghost use Rattle.spawn_core.specs.Outlook.{has_news_by, SaysNews};
 ghost use Rattle.spawn_core.specs.Stands.{Stands};
 
 use crate::outlook::{has_news, owes};
+use crate::tables::{action_tables, lane_tables, line_tables};
 use crate::turn::step;
-use cancel_rules::Cancels;
 use core_state::State;
-use core_tables::{Greetings, Lanes, LastLines, Matches};
 use exec_journal::{Call, Group, Plan, Reply};
 use file_table::Files;
 use plain_values::NoMemory;
-use race_core::Race;
-use ready_order::Ready;
-use request_table::Requests;
-use retry_rules::Attempts;
 use run_progress::Notes;
 use std::alloc::Global;
 use std::marker::Model;
-use worker_pool::Pool;
 
 /// The scheduling core of a run. A contract sees what it keeps; it always stands for some journal.
 #[derive(Drop)]
@@ -67,17 +61,10 @@ impl Core {
         ensures { IfOk result (λ c. Stands plan c []) }
     {
         let berths = all_berths(plan.groups.as_slice()) as usize;
-        let pool = Pool::new(alloc, &plan)?;
-        let requests = Requests::new(alloc, &plan)?;
-        let cancels = Cancels::new(alloc, &plan)?;
-        let ready = Ready::new(alloc, &plan)?;
-        let race = Race::new(alloc, &plan)?;
-        let attempts = Attempts::new(alloc, &plan)?;
-        let lanes = Lanes::new(alloc, 2 * berths)?;
-        let last = LastLines::new(alloc, berths)?;
-        let greetings = Greetings::new(alloc, berths)?;
-        let matches = Matches::new(alloc, berths)?;
         let files = Files::new(alloc, &plan)?;
+        let (pool, requests, cancels) = line_tables(alloc, &plan)?;
+        let (ready, race, attempts) = action_tables(alloc, &plan)?;
+        let (lanes, last, greetings, matches) = lane_tables(alloc, berths)?;
         let state = State {
             plan,
             pool,

@@ -11,9 +11,9 @@ invariant_of-result c =
     (ap (λ n. 2 * n) (c.all_berths-berths.ensures ∙ ap
     (sum_by (λ (g : Group). g.berths)) c.as_slice.ensures))
     (c.all_berths-berths.ensures ∙ ap (sum_by (λ (g : Group). g.berths)) c.as_slice.ensures)
-    c.in_ok-pool.ensures.stands c.in_ok-requests.ensures.stands c.in_ok-cancels.ensures.stands
-    c.in_ok-ready.ensures.stands c.in_ok-race.ensures.stands c.in_ok-attempts.ensures.stands
-    c.in_ok-lanes.ensures c.in_ok-last.ensures c.in_ok-greetings.ensures c.in_ok-matches.ensures
+    c.in_ok-pool.ensures.0 c.in_ok-pool.ensures.1 c.in_ok-pool.ensures.2
+    c.in_ok-ready.ensures.0 c.in_ok-ready.ensures.1 c.in_ok-ready.ensures.2
+    c.in_ok-lanes.ensures.0 c.in_ok-lanes.ensures.1 c.in_ok-lanes.ensures.2 c.in_ok-lanes.ensures.3
     refl _ c.in_ok-files.ensures
 
 pub returns : goal.returns
@@ -23,7 +23,7 @@ returns c =
     (ap (λ n. 2 * n) (c.all_berths-berths.ensures ∙ ap
     (sum_by (λ (g : Group). g.berths)) c.as_slice.ensures))
     (c.all_berths-berths.ensures ∙ ap (sum_by (λ (g : Group). g.berths)) c.as_slice.ensures)
-    c.in_ok-pool.ensures.stands c.in_ok-requests.ensures.stands c.in_ok-cancels.ensures.stands
-    c.in_ok-ready.ensures.stands c.in_ok-race.ensures.stands c.in_ok-attempts.ensures.stands
-    c.in_ok-lanes.ensures c.in_ok-last.ensures c.in_ok-greetings.ensures c.in_ok-matches.ensures
+    c.in_ok-pool.ensures.0 c.in_ok-pool.ensures.1 c.in_ok-pool.ensures.2
+    c.in_ok-ready.ensures.0 c.in_ok-ready.ensures.1 c.in_ok-ready.ensures.2
+    c.in_ok-lanes.ensures.0 c.in_ok-lanes.ensures.1 c.in_ok-lanes.ensures.2 c.in_ok-lanes.ensures.3
     refl _ c.in_ok-files.ensures
