@@ -159,3 +159,10 @@ module _ {H C R Q : Type 0} (log_of : H → List (Entry C R)) (good : Q → H �
     (rest.0, ap (λ (x : SeatState H C R Q). x.0.seen) last ∙ (is ∙ rest.1), rest.2),
     ap (λ (x : SeatState H C R Q). x.0.mine) last ∙ (ap (calls_by lane) is ∙ s.2 lane idle.0),
   )
+
+-- The pass after a turn that began and ended in these states
+module _ {H C R Q : Type 0} where
+  -- its seat's rules are those that it had
+  pub same_rules : (lane : ℕ) (m m1 m2 : SeatState H C R Q) (h h' : List (Entry C R)) → IsIdle lane m → ((t : ℕ) × (m1.0 ≡ view_in_turn m.0 t h)) → HasEnded m1 h' m2 → m2.0.rules ≡ m.0.rules
+  same_rules lane m m1 m2 h h' idle s has_ended =
+      ap (λ (x : SeatState H C R Q). x.0.rules) (after_turn lane m m1 m2 h h' idle s has_ended) ∙ ap (λ (v : View C R Q). v.rules) s.1

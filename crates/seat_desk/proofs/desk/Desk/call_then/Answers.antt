@@ -1,23 +1,32 @@
-use Rattle.std.proofs.Common.{◌≡◌, ◌∙◌, refl, ◌++◌, [], ap, sym, subst, List, append-nil, append_assoc, ◌+◌, ◌≤◌, vec_len, None, arith}
-use Rattle.std.specs.Vec.{vec_capacity}
+use Rattle.std.proofs.Common.{◌≡◌, not, ◌∙◌, refl, ◌++◌, [], ap, sym, subst, List, append-nil, append_assoc, ◌+◌, None}
 use Rattle.seat_desk.specs.declared.entry.Entry.{Entry}
 use Rattle.seat_desk.specs.declared.held.Held.{Held}
 use Rattle.seat_desk.specs.History.{entry, IsReply}
 use Rattle.seat_desk.specs.Helds.{log_of}
-use Rattle.seat_desk.proofs.Goods.{good_of}
+use Rattle.seat_desk.proofs.Goods.{good_of, good_by_own, good_with_room, room_of_call}
 use Rattle.seat_desk.specs.Desks.{MayFollow, Follows}
-use Rattle.seat_desk.proofs.Calls.{may_end, made_none, between, grew_by, added, after_is, only_added, only_both, followed, after_turn, idle_again}
+use Rattle.seat_desk.proofs.Calls.{may_end, made_none, between, grew_by, added, after_is, only_added, only_both, followed, after_turn, idle_again, same_rules}
 use Rattle.seat_desk.proofs.desk.Desk.call_then.Goals as goal
 
 pub leave-requires : goal.leave-requires
 leave-requires g c = let y' : Held g.row.M.Denot g.row.M-Call.Denot g.row.M-Reply.Denot = record { machine = c.enter-held.result.machine; history = c.reserve.new.self } in
-    let s = c.enter-held.ensures.1 in let same : c.reserve.new.self.items ≡ c.enter-held.result.history.items = c.reserve.ensures.items in
-    let room : vec_len c.reserve.new.self + g.M.Machine.owes c.args.pass.now.seat.me.0.rules c.reserve.new.self.items ≤ vec_capacity c.reserve.new.self =
-    (let o = ap (g.M.Machine.owes c.args.pass.now.seat.me.0.rules) same in let l = c.reserve.ensures.len in let k = c.reserve.ensures.capacity in let r = s.0.0.1 in omega arith) in (
+    let s = c.enter-held.ensures.1 in (
       c.enter-held.ensures.0 ∙ c.requires.desk,
       may_end log_of (good_of g.M.Machine) c.args.pass.now.lane c.args.pass.now.seat.me c.enter-held.new.seat.me c.enter-held.result y' [] c.args.pass.now.idle s
-          (subst (g.M.Machine.stands c.enter-held.result.machine) (sym same) s.0.0.0, room, s.0.0.2) (same ∙ sym (append-nil c.enter-held.result.history.items)) tt,
+          (good_with_room g.M.Machine c.args.pass.now.seat.me.0.rules c.enter-held.result c.reserve.new.self s.0.0 c.reserve.ensures.items c.reserve.ensures.len c.reserve.ensures.capacity)
+          (c.reserve.ensures.items ∙ sym (append-nil c.enter-held.result.history.items)) tt,
     )
+
+pub step-reply-requires-clause-good : goal.step-reply-requires-clause-good
+step-reply-requires-clause-good g c =
+    good_with_room g.M.Machine (g.M.Machine.rules c.enter-held.result.machine) c.enter-held.result c.reserve.new.self
+    (good_by_own g.M.Machine c.args.pass.now.seat.me.0.rules c.enter-held.result c.enter-held.ensures.1.0.0) c.reserve.ensures.items c.reserve.ensures.len c.reserve.ensures.capacity
+
+pub step-reply-requires-clause-room : goal.step-reply-requires-clause-room
+step-reply-requires-clause-room g c = let good = c.enter-held.ensures.1.0.0 in
+    room_of_call g.M.Machine c.enter-held.result c.reserve.new.self c.args.pass.now.lane c.args.call c.owed.result c.saturating_add-room.result c.reserve.result
+    (good_by_own g.M.Machine c.args.pass.now.seat.me.0.rules c.enter-held.result good) c.reserve.ensures.items (c.owed.ensures c.enter-held.result.history.items good.0)
+    c.saturating_add-room.ensures (c.is_err.ensures.negation ∙ ap not c.if-is_err.false) c.reserve.ensures.ok
 
 pub step-reply-requires-clause-suits : goal.step-reply-requires-clause-suits
 step-reply-requires-clause-suits g c = let law = g.met.M.Machine in let same : c.reserve.new.self.items ≡ c.enter-held.result.history.items = c.reserve.ensures.items in
@@ -96,3 +105,20 @@ invariant_of-pass g c = record { idle = idle_again c.args.pass.now.lane c.args.p
 
 pub invariant_of-pass-2 : goal.invariant_of-pass-2
 invariant_of-pass-2 g c = record { idle = idle_again c.args.pass.now.lane c.args.pass.now.seat.me c.enter-held.new.seat.me c.leave-2.new.seat.me c.enter-held.result.history.items _ c.args.pass.now.idle c.enter-held.ensures.1.1 c.leave-2.ensures.1 }
+
+pub returns-then-is_err-clause-same : goal.returns-then-is_err-clause-same
+returns-then-is_err-clause-same g c = (
+  (c.leave.ensures.0 ∙ c.enter-held.ensures.0),
+  refl,
+  same_rules c.args.pass.now.lane c.args.pass.now.seat.me c.enter-held.new.seat.me c.leave.new.seat.me c.enter-held.result.history.items _ c.args.pass.now.idle c.enter-held.ensures.1.1 c.leave.ensures.1,
+)
+
+pub returns-clause-same : goal.returns-clause-same
+returns-clause-same g c = (
+  (c.leave-2.ensures.0 ∙ c.enter-held.ensures.0),
+  refl,
+  same_rules c.args.pass.now.lane c.args.pass.now.seat.me c.enter-held.new.seat.me c.leave-2.new.seat.me c.enter-held.result.history.items _ c.args.pass.now.idle c.enter-held.ensures.1.1 c.leave-2.ensures.1,
+)
+
+pub follow-reply-requires-clause-good : goal.follow-reply-requires-clause-good
+follow-reply-requires-clause-good g c = good_by_own g.M.Machine (g.M.Machine.rules c.enter-held.result.machine) c.step-reply.new.held c.step-reply.ensures.good
