@@ -114,3 +114,33 @@ loop-output-preserved g c =
           (output_told (rule (rules p)) p.lane (seen p1) (seen p2) c.look.ensures.none.0 l n items out x
           inv.files told one)));
     }
+
+pub returns-in_err-files-clause-same : goal.returns-in_err-files-clause-same
+returns-in_err-files-clause-same g c = (refl, refl, refl)
+
+pub returns-in_err-files-clause-none : goal.returns-in_err-files-clause-none
+returns-in_err-files-clause-none g c = (([], sym (append-nil (seen c.args.caller.now.pass))), refl)
+
+pub returns-clause-same : goal.returns-clause-same
+returns-clause-same g c = c.loop-output.invariant.same
+
+pub returns-clause-none : goal.returns-clause-none
+returns-clause-none g c = c.loop-output.invariant.none
+
+pub returns-in_err-bytes-clause-same : goal.returns-in_err-bytes-clause-same
+returns-in_err-bytes-clause-same g c =
+    let inv = c.loop-output.invariant.same in
+    let one = c.look.ensures.same in
+    (one.0 ∙ inv.0, one.1 ∙ inv.1, one.2 ∙ inv.2)
+
+pub returns-in_err-push-in-Some-clause-same : goal.returns-in_err-push-in-Some-clause-same
+returns-in_err-push-in-Some-clause-same g c =
+    let inv = c.loop-output.invariant.same in
+    let one = c.look.ensures.same in
+    (one.0 ∙ inv.0, one.1 ∙ inv.1, one.2 ∙ inv.2)
+
+pub returns-in-None-clause-same : goal.returns-in-None-clause-same
+returns-in-None-clause-same g c =
+    let inv = c.loop-output.invariant.same in
+    let one = c.look.ensures.same in
+    (one.0 ∙ inv.0, one.1 ∙ inv.1, one.2 ∙ inv.2)

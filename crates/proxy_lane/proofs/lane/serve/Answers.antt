@@ -5,7 +5,7 @@ use Rattle.lane_steps.specs.declared.hands.OpenFeed.{OpenFeed}
 use Rattle.lane_steps.specs.Work.{IsWorkOf}
 use Rattle.lane_steps.specs.Lanes.{open_of, open_line, held_of}
 use Rattle.lane_steps.specs.Steps.{open_in}
-use Rattle.lane_steps.proofs.Serving.{proxy_on, by_rules, goes_on, halts_on, halts_may, ends_halted, ends_stopped}
+use Rattle.lane_steps.proofs.Serving.{proxy_on, by_rules, goes_on, some_on, halts_on, halts_may, ends_halted, ends_stopped}
 use Rattle.proxy_lane.proofs.lane.serve.Goals as goal
 
 -- which line is open, what is held tells too
@@ -87,3 +87,75 @@ returns-in-Err-clause-ends g c =
     (halts_on post actions rule p p1 p2 h h1 h2 i.same c.in-Err.cause i.goes c.in-Err.ensures.halts)
     (line_told g.B.Feed.Feed.told c.next-in-loop.new.hands.open)
     c.give_up.ensures.halted c.give_up.ensures.laid_by
+
+pub loop-init : goal.loop-init
+loop-init g c = record {
+  same = (refl, refl, refl);
+  asks = c.requires.asks;
+  shelved = c.requires.shelved;
+  room = c.requires.room;
+  goes = λ first k. k;
+  kept = c.requires.kept;
+}
+
+pub next-requires-in-loop-clause-asks : goal.next-requires-in-loop-clause-asks
+next-requires-in-loop-clause-asks g c = c.loop.invariant.asks
+
+pub next-requires-in-loop-clause-shelved : goal.next-requires-in-loop-clause-shelved
+next-requires-in-loop-clause-shelved g c = c.loop.invariant.shelved
+
+pub next-requires-in-loop-clause-room : goal.next-requires-in-loop-clause-room
+next-requires-in-loop-clause-room g c = c.loop.invariant.room
+
+pub next-requires-in-loop-clause-kept : goal.next-requires-in-loop-clause-kept
+next-requires-in-loop-clause-kept g c = c.loop.invariant.kept
+
+pub returns-in-Ok-false-clause-same : goal.returns-in-Ok-false-clause-same
+returns-in-Ok-false-clause-same g c =
+    let i = c.loop.invariant.same in
+    let more = c.next-in-loop.ensures.same in
+    (more.0 ∙ i.0, more.1 ∙ i.1, more.2 ∙ i.2)
+
+pub give_up-requires-clause-lane : goal.give_up-requires-clause-lane
+give_up-requires-clause-lane g c =
+    let i = c.loop.invariant.same in
+    let more = c.next-in-loop.ensures.same in
+    proxy_on g.C.Rules.seats c.args.lane c.args.caller.now.pass c.next-in-loop.new.caller.pass
+    (more.0 ∙ i.0, more.1 ∙ i.1, more.2 ∙ i.2) c.requires.lane
+
+pub give_up-requires-clause-shelved : goal.give_up-requires-clause-shelved
+give_up-requires-clause-shelved g c = c.next-in-loop.ensures.shelved
+
+pub give_up-requires-clause-room : goal.give_up-requires-clause-room
+give_up-requires-clause-room g c = c.next-in-loop.ensures.room
+
+pub returns-in-Err-clause-same : goal.returns-in-Err-clause-same
+returns-in-Err-clause-same g c =
+    let i = c.loop.invariant.same in
+    let more = c.next-in-loop.ensures.same in
+    let last = c.give_up.ensures.same in
+    (last.0 ∙ (more.0 ∙ i.0), last.1 ∙ (more.1 ∙ i.1), last.2 ∙ (more.2 ∙ i.2))
+
+pub loop-preserved : goal.loop-preserved
+loop-preserved g c =
+    let post = c.args.post.now in
+    let actions = c.args.actions.now in
+    let rule = g.C.Rules.rule in
+    let p = c.args.caller.now.pass in
+    let p1 = c.loop.caller.pass in
+    let p2 = c.next-in-loop.new.caller.pass in
+    let held = held_of g.B.Berth.told g.B.Feed.Feed.told g.B.Child.Child.told in
+    let h = held c.args.hands.now in
+    let h1 = held c.loop.hands in
+    let h2 = held c.next-in-loop.new.hands in
+    let i = c.loop.invariant in
+    let more = c.next-in-loop.ensures.same in
+    let went = rw c.in-Ok-true.field-0-test at c.in-Ok-true.ensures.goes in
+    record {
+      same = (more.0 ∙ i.same.0, more.1 ∙ i.same.1, more.2 ∙ i.same.2);
+      asks = went.0;
+      shelved = c.next-in-loop.ensures.shelved;
+      room = c.next-in-loop.ensures.room;
+      goes = goes_on post actions rule p p1 p2 h h1 h2 i.same i.goes went.1;
+      kept = some_on post actions rule p1 p2 p2 h1 h2 h2 more i.kept went.1;
+    }
