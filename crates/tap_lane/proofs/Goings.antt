@@ -1,6 +1,8 @@
 -- How what was told of a line grows.
-use Rattle.std.specs.Prelude.{OnErr}
+use Rattle.std.specs.Prelude.{IfOk, OnOk, IfErr, OnErr}
+use Rattle.std.specs.Result.{IsErr, IsErrAnd}
 use Rattle.std.proofs.Common.{◌≡◌, ℕ, Result, List, [], ◌∷◌, ◌++◌, ap, sym, ◌∙◌, subst, append_assoc, append-nil}
+use Rattle.std.proofs.lemmas.Bool.{false≢true}
 use Rattle.exec_journal.specs.declared.call.Answer.{Answer}
 use Rattle.run_rules.specs.Moves.{Past, History}
 use Rattle.tap_lane.specs.Heard.{IsAnswer, AreAnswers, Went}
@@ -48,3 +50,17 @@ went_one l answers own own' own'' A B e x grown is f w = record {
 pub always_err : {A E : Type 0} (r : Result A E) (P : Type 0) → P → OnErr r P
 always_err (Result.Ok a) P p = tt
 always_err (Result.Err e) P p = p
+
+pub never_ok : {A E : Type 0} (r : Result A E) (P : Type 0) → IsErr r → OnOk r P
+never_ok (Result.Ok a) P is = absurd (false≢true is)
+never_ok (Result.Err e) P is = tt
+
+pub not_ok : {A E : Type 0} (r : Result A E) (P : A → Type 0) → IsErr r → IfOk r P
+not_ok (Result.Ok a) P is = absurd (false≢true is)
+not_ok (Result.Err e) P is = tt
+
+-- what holds of the error holds where it is given on
+pub given_on : {A E : Type 0} (r : Result A E) (e : E) (P : E → Type 0)
+    → IsErrAnd r (λ x. x ≡ e) → P e → IfErr r P
+given_on (Result.Ok a) e P is p = absurd is
+given_on (Result.Err x) e P is p = subst P (sym is) p

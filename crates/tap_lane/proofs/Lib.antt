@@ -3,3 +3,4 @@ pub mod Entries
 mod Goings
 mod Listening
 mod Leaving
+mod Passing
