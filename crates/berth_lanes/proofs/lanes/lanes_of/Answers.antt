@@ -1,5 +1,5 @@
 use Rattle.std.proofs.Common.{arith}
-use Rattle.berth_lanes.proofs.Seating.{all_seated}
+use Rattle.berth_lanes.proofs.Seating.{next_post, as_many_still, seated_more, all_seated}
 use Rattle.berth_lanes.proofs.lanes.lanes_of.Goals as goal
 
 pub returns : goal.returns
@@ -7,3 +7,19 @@ returns g c =
     all_seated c.args.actions.now c.loop-post.post-index c.args.berths.items c.loop-post.rest.items
     c.args.posts.now c.loop-post.lanes.items (omega (arith, c.loop-post-test.false))
     c.loop-post.invariant.as_many c.loop-post.invariant.so_far
+
+pub loop-post-preserved : goal.loop-post-preserved
+loop-post-preserved g c =
+    let i = c.loop-post.invariant in
+    let here = c.loop-post.post-index in
+    let posts = next_post here c.args.posts.now c.post-item.result c.loop-post-test.true
+    c.post-item.is in
+    record {
+      numbered = omega arith;
+      as_many = as_many_still c.loop-post.rest.items c.pop_front.new.self.items c.in-Some.berth _ _
+          c.post-item.result i.as_many c.in-Some.ensures.items posts;
+      so_far = seated_more c.args.actions.now here c.loop-post.number c.in-Some.berth
+          c.post-item.result c.args.berths.items c.loop-post.rest.items c.pop_front.new.self.items
+          c.args.posts.now c.loop-post.lanes.items c.push_seats.new.lanes.items
+          c.in_ok-push_seats.ensures i.numbered c.in-Some.ensures.items posts i.so_far;
+    }
