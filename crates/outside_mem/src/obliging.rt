@@ -45,7 +45,7 @@ impl Obliging {
     ) -> Result<Acted, NoMemory> {
         if line.serves && !self.greeted {
             self.greeted = true;
-            add(self.alloc, &greeting(self.alloc), ready)?;
+            add_greeting(self.alloc, ready)?;
             return Ok(Acted::On);
         }
         let mut patience = Patience::new();
@@ -53,8 +53,7 @@ impl Obliging {
             let rings = line.bell.rings();
             let killed = line.is_killed(rt);
             self.ears.listen(rt, line)?;
-            if let Some((framing, frame)) = self.ears.next()? {
-                self.answer(rt, line, framing, frame.as_slice(), ready)?;
+            if self.answer_next(rt, line, ready)? {
                 if !ready.is_empty() {
                     return Ok(Acted::On);
                 }
@@ -67,6 +66,22 @@ impl Obliging {
         unreachable!()
     }
 
+    // Answers the next frame, and says whether there was one.
+    fn answer_next<R: Wait>(
+        &mut self,
+        rt: &R,
+        line: &Line,
+        ready: &mut Ready,
+    ) -> Result<bool, NoMemory> {
+        match self.ears.next()? {
+            Some((framing, frame)) => {
+                self.answer(rt, line, framing, frame.as_slice(), ready)?;
+                Ok(true)
+            }
+            None => Ok(false),
+        }
+    }
+
     // Answers one frame. One that spells no message gets no answer.
     fn answer<R: Wait>(
         &self,
@@ -76,31 +91,67 @@ impl Obliging {
         frame: &[u8],
         ready: &mut Ready,
     ) -> Result<(), NoMemory> {
-        let alloc = self.alloc;
         if line.serves {
-            let Some(job) = read(decode_job(alloc, frame))? else {
-                return Ok(());
-            };
-            if let Some(result) = result_of(alloc, &job)? {
-                add(alloc, &result, ready)?;
-            }
-            return Ok(());
+            return answer_job(self.alloc, frame, ready);
         }
-        let Some(request) = read(match framing {
-            Framing::Delimited => decode_request(alloc, frame),
-            Framing::Lines => read_request_line(alloc, frame),
-        })?
-        else {
-            return Ok(());
-        };
-        if let Some(response) = response_of(alloc, &request) {
-            leave_outputs(alloc, rt, line, &request)?;
-            match framing {
-                Framing::Delimited => add(alloc, &response, ready)?,
-                Framing::Lines => ready.add(response_line(alloc, &response)?.as_slice())?,
-            }
+        match read(decode_framed(self.alloc, framing, frame))? {
+            Some(request) => answer_request(self.alloc, rt, line, framing, &request, ready),
+            None => Ok(()),
         }
-        Ok(())
+    }
+}
+
+fn answer_job(alloc: Global, frame: &[u8], ready: &mut Ready) -> Result<(), NoMemory> {
+    match read(decode_job(alloc, frame))? {
+        Some(job) => add_result(alloc, &job, ready),
+        None => Ok(()),
+    }
+}
+
+fn add_result(alloc: Global, job: &Job, ready: &mut Ready) -> Result<(), NoMemory> {
+    match result_of(alloc, job)? {
+        Some(result) => add(alloc, &result, ready),
+        None => Ok(()),
+    }
+}
+
+fn decode_framed(
+    alloc: Global,
+    framing: Framing,
+    frame: &[u8],
+) -> Result<WorkRequest, MessageFault> {
+    match framing {
+        Framing::Delimited => decode_request(alloc, frame),
+        Framing::Lines => read_request_line(alloc, frame),
+    }
+}
+
+fn answer_request<R: Wait>(
+    alloc: Global,
+    rt: &R,
+    line: &Line,
+    framing: Framing,
+    request: &WorkRequest,
+    ready: &mut Ready,
+) -> Result<(), NoMemory> {
+    match response_of(alloc, request) {
+        Some(response) => {
+            leave_outputs(alloc, rt, line, request)?;
+            add_response(alloc, framing, &response, ready)
+        }
+        None => Ok(()),
+    }
+}
+
+fn add_response(
+    alloc: Global,
+    framing: Framing,
+    response: &WorkResponse,
+    ready: &mut Ready,
+) -> Result<(), NoMemory> {
+    match framing {
+        Framing::Delimited => add(alloc, response, ready),
+        Framing::Lines => ready.add(response_line(alloc, response)?.as_slice()),
     }
 }
 
@@ -115,6 +166,10 @@ fn read<M>(message: Result<M, MessageFault>) -> Result<Option<M>, NoMemory> {
 
 fn add<M: Message>(alloc: Global, message: &M, ready: &mut Ready) -> Result<(), NoMemory> {
     ready.add(encode_delimited(alloc, message)?.as_slice())
+}
+
+fn add_greeting(alloc: Global, ready: &mut Ready) -> Result<(), NoMemory> {
+    add(alloc, &greeting(alloc), ready)
 }
 
 fn empty(alloc: Global) -> Text
