@@ -65,9 +65,14 @@ pub fn write_beside<R: Files>(
 
 fn path_beside(alloc: Global, name: &str, path: &str) -> Result<String, AllocError> {
     match path.rsplit_once('/') {
-        Some((folder, _)) => format!(in alloc; "{folder}/{name}"),
+        Some((folder, _)) => path_in(alloc, folder, name),
         None => String::from_str(alloc, name),
     }
+}
+
+// The path of what has this name, or this path, in a folder.
+fn path_in(alloc: Global, folder: &str, name: &str) -> Result<String, AllocError> {
+    format!(in alloc; "{folder}/{name}")
 }
 
 // A file that wasn't there before, so that no link is followed. What an earlier run left is
@@ -103,7 +108,7 @@ pub fn read_inside<R: Files + AllocGlobal>(
     if !is_way_plain(rt, alloc, room, path)? {
         return Ok(None);
     }
-    let path = format!(in alloc; "{room}/{path}")?;
+    let path = path_in(alloc, room, path)?;
     read_found(rt, path.as_str(), fs::symlink_metadata(rt, path.as_str()))
 }
 
@@ -119,7 +124,7 @@ pub fn write_inside<R: Files + AllocGlobal>(
     bytes: &[u8],
 ) -> io::Result<()> {
     make_way(rt, alloc, room, path)?;
-    let path = format!(in alloc; "{room}/{path}")?;
+    let path = path_in(alloc, room, path)?;
     write_beside(rt, alloc, BESIDE, path.as_str(), bytes)
 }
 
@@ -132,7 +137,7 @@ pub fn make_folder_inside<R: Files + AllocGlobal>(
     path: &str,
 ) -> io::Result<()> {
     make_way(rt, alloc, room, path)?;
-    make_folder(rt, format!(in alloc; "{room}/{path}")?.as_str())
+    make_folder(rt, path_in(alloc, room, path)?.as_str())
 }
 
 /// Removes what stands at a path below a room, if anything does. Behind a link nothing of the room
@@ -144,7 +149,7 @@ pub fn remove_inside<R: Files + AllocGlobal>(
     path: &str,
 ) -> io::Result<()> {
     if is_way_plain(rt, alloc, room, path)? {
-        remove(rt, format!(in alloc; "{room}/{path}")?.as_str())
+        remove(rt, path_in(alloc, room, path)?.as_str())
     } else {
         Ok(())
     }
@@ -159,12 +164,16 @@ pub fn empty_inside<R: Files + AllocGlobal>(
     path: &str,
 ) -> io::Result<()> {
     make_way(rt, alloc, room, path)?;
-    let folder = format!(in alloc; "{room}/{path}")?;
-    // A link at the path isn't opened as a folder, and so nothing is looked at before.
-    match rt.open_dir(folder.as_str()) {
-        Ok(opened) => empty(rt, alloc, folder.as_str(), opened),
+    empty_or_make(rt, alloc, path_in(alloc, room, path)?.as_str())
+}
+
+// Removes all that stands in a folder, which is made if it isn't there. A link at the path isn't
+// opened as a folder, and so nothing is looked at before.
+fn empty_or_make<R: Files + AllocGlobal>(rt: &R, alloc: Global, folder: &str) -> io::Result<()> {
+    match rt.open_dir(folder) {
+        Ok(opened) => empty(rt, alloc, folder, opened),
         Err(error) if is_absent(&error) || error.kind() == ErrorKind::FilesystemLoop => {
-            make_folder(rt, folder.as_str())
+            make_folder(rt, folder)
         }
         Err(error) => Err(error),
     }
@@ -198,15 +207,30 @@ fn remove_named<R: Files + AllocGlobal>(
     folder: &str,
     names: &[u8],
 ) -> io::Result<()> {
-    let Ok(names) = str::from_utf8(names) else {
-        return Err(io::Error::from(ErrorKind::InvalidFilename));
-    };
+    match str::from_utf8(names) {
+        Ok(names) => remove_each(rt, alloc, folder, names),
+        Err(_) => Err(io::Error::from(ErrorKind::InvalidFilename)),
+    }
+}
+
+fn remove_each<R: Files + AllocGlobal>(
+    rt: &R,
+    alloc: Global,
+    folder: &str,
+    names: &str,
+) -> io::Result<()> {
     for name in names.split('\0') {
-        if !matches!(name, "" | "." | "..") {
-            remove(rt, format!(in alloc; "{folder}/{name}")?.as_str())?;
+        if is_entry(name) {
+            remove(rt, path_in(alloc, folder, name)?.as_str())?;
         }
     }
     Ok(())
+}
+
+// Whether a name is that of an entry, and neither empty nor that of the folder itself or of the one
+// above it.
+fn is_entry(name: &str) -> bool {
+    !matches!(name, "" | "." | "..")
 }
 
 // Removes a file, a link (and not what it leads to) or a whole folder.
@@ -226,13 +250,21 @@ fn is_way_plain<R: Files + AllocGlobal>(
     room: &str,
     path: &str,
 ) -> io::Result<bool> {
-    let Some((folders, _)) = path.rsplit_once('/') else {
-        return Ok(true);
-    };
+    match path.rsplit_once('/') {
+        Some((folders, _)) => are_plain(rt, alloc, room, folders),
+        None => Ok(true),
+    }
+}
+
+fn are_plain<R: Files + AllocGlobal>(
+    rt: &R,
+    alloc: Global,
+    room: &str,
+    folders: &str,
+) -> io::Result<bool> {
     let mut way = String::from_str(alloc, room)?;
     for folder in folders.split('/') {
-        way.push_str("/")?;
-        way.push_str(folder)?;
+        push_folder(&mut way, folder)?;
         if !is_folder_or_absent(rt, way.as_str())? {
             return Ok(false);
         }
@@ -240,28 +272,48 @@ fn is_way_plain<R: Files + AllocGlobal>(
     Ok(true)
 }
 
-// Makes the folders on the way from the room to the path. Below one that was made here nothing
-// stands that has to be looked at.
+// Makes the way longer by a folder.
+fn push_folder(way: &mut String, folder: &str) -> Result<(), AllocError> {
+    way.push_str("/")?;
+    way.push_str(folder)
+}
+
+// Makes the folders on the way from the room to the path.
 fn make_way<R: Files + AllocGlobal>(
     rt: &R,
     alloc: Global,
     room: &str,
     path: &str,
 ) -> io::Result<()> {
-    let Some((folders, _)) = path.rsplit_once('/') else {
-        return Ok(());
-    };
+    match path.rsplit_once('/') {
+        Some((folders, _)) => make_each(rt, alloc, room, folders),
+        None => Ok(()),
+    }
+}
+
+fn make_each<R: Files + AllocGlobal>(
+    rt: &R,
+    alloc: Global,
+    room: &str,
+    folders: &str,
+) -> io::Result<()> {
     let mut way = String::from_str(alloc, room)?;
     let mut is_new = false;
     for folder in folders.split('/') {
-        way.push_str("/")?;
-        way.push_str(folder)?;
-        if is_new || !is_folder(rt, way.as_str())? {
-            make_folder(rt, way.as_str())?;
-            is_new = true;
-        }
+        push_folder(&mut way, folder)?;
+        is_new = make_missing(rt, way.as_str(), is_new)?;
     }
     Ok(())
+}
+
+// Makes a folder unless it stands already, and says whether it was made. In a new folder nothing
+// stands that has to be looked at.
+fn make_missing<R: Files>(rt: &R, path: &str, is_in_new: bool) -> io::Result<bool> {
+    if !is_in_new && is_folder(rt, path)? {
+        return Ok(false);
+    }
+    make_folder(rt, path)?;
+    Ok(true)
 }
 
 // Makes a folder where none stands. What stands there and isn't one makes room for it.

@@ -14,11 +14,11 @@ pub fn start<R: Processes<Started = SystemProcess>>(
     room: &str,
     command: &Command,
 ) -> io::Result<process::Child> {
-    let program = program_from(alloc, "../..", command.program.as_str())?;
-    let mut start = process::Command::new(alloc, program.as_str())?;
-    prepare(
-        &mut start,
+    let mut start = command_in(
+        alloc,
         room,
+        "../..",
+        command.program.as_str(),
         command.words.as_slice(),
         command.env.as_slice(),
     )?;
@@ -42,12 +42,14 @@ pub fn run_to_end<R: Processes<Started = SystemProcess>>(
     let [program, words @ ..] = words else {
         return Err(io::Error::from(ErrorKind::InvalidInput));
     };
-    let program = program_from(alloc, "../../..", program.as_str())?;
-    let mut start = process::Command::new(alloc, program.as_str())?;
-    prepare(&mut start, folder, words, env)?;
+    let mut start = command_in(alloc, folder, "../../..", program.as_str(), words, env)?;
     start.stdin(Stdio::null());
     start.stdout(Stdio::piped());
-    let mut child = start.spawn(rt)?;
+    ended(alloc, start.spawn(rt)?)
+}
+
+// How a process ended and what it wrote. One whose output can't be read is killed.
+fn ended(alloc: Global, mut child: process::Child) -> io::Result<(ExitStatus, Vec<u8>)> {
     match written_by(alloc, &mut child) {
         Ok(written) => Ok((child.wait()?, written)),
         Err(error) => {
@@ -64,6 +66,21 @@ fn written_by(alloc: Global, child: &mut process::Child) -> io::Result<Vec<u8>> 
         stdout.read_to_end(&mut written)?;
     }
     Ok(written)
+}
+
+// A program in a folder, with these words and with these variables alone as environment.
+fn command_in(
+    alloc: Global,
+    folder: &str,
+    up: &str,
+    program: &str,
+    words: &[Text],
+    env: &[Variable],
+) -> Result<process::Command, AllocError> {
+    let program = program_from(alloc, up, program)?;
+    let mut start = process::Command::new(alloc, program.as_str())?;
+    prepare(&mut start, folder, words, env)?;
+    Ok(start)
 }
 
 fn prepare(
