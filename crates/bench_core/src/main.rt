@@ -18,6 +18,7 @@ mod watch;
 use failure::Failure;
 use lists::{Answering, Shape, Work};
 use record::{Made, committed, play, replay};
+use spawn_core::Core;
 use std::alloc::Global;
 use std::env;
 use std::env::Env;
@@ -120,9 +121,19 @@ fn time_replays<R: Clock + CpuClock>(
     let mut measure = Measure::none();
     for _ in 0..times.max(3) {
         let mut core = work.core(alloc)?;
-        let watch = Watch::start(rt)?;
-        replay(&mut core, calls);
-        measure = measure.and(watch.stop(rt, calls.len() as u64)?);
+        let one = time_replay(rt, &mut core, calls);
+        drop(core);
+        measure = measure.and(one?);
     }
     Ok(measure)
+}
+
+fn time_replay<R: Clock + CpuClock>(
+    rt: &R,
+    core: &mut Core,
+    calls: &[Made],
+) -> Result<Measure, Failure> {
+    let watch = Watch::start(rt)?;
+    replay(core, calls);
+    Ok(watch.stop(rt, calls.len() as u64)?)
 }

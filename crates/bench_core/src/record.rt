@@ -50,17 +50,24 @@ pub fn play(alloc: Global, work: &Work) -> Result<Vec<Made>, Failure> {
         core: work.core(alloc)?,
         calls: Vec::new(alloc),
     };
+    let played = play_to_end(alloc, &mut record);
+    let Record { core, calls } = record;
+    drop(core);
+    played?;
+    Ok(calls)
+}
+
+fn play_to_end(alloc: Global, record: &mut Record) -> Result<(), NoMemory> {
     let mut berths = Vec::new(alloc);
     for number in 0..BERTHS {
         berths.push(Berth::new(alloc, number))?;
     }
     for _ in 0..MOST_TURNS {
-        if !take_turns(alloc, berths.as_mut_slice(), &mut record)? {
+        if !take_turns(alloc, berths.as_mut_slice(), record)? {
             break;
         }
     }
-    let Record { core: _core, calls } = record;
-    Ok(calls)
+    Ok(())
 }
 
 // A turn of each berth; whether some lane goes on.

@@ -5,6 +5,7 @@
 //! | `list JSON` | itself: a new run begins, with one berth of each worker key, one of the executor, and two attempts |
 //! | `P0 CALL ..`, `T0 CALL ..` | itself and the reply: a call of the proxy lane or of the tap lane of berth 0 |
 //! | `report` | the report of the run so far |
+//! | `tables` | what each table that the core stands on answers at first, for the largest plan |
 //!
 //! Other lines are printed as they are.
 #![tactic(auto)]
@@ -12,6 +13,7 @@
 mod calls;
 mod replies;
 mod run;
+mod tables;
 mod words;
 
 use run::Run;
@@ -39,6 +41,9 @@ fn play(alloc: Global, run: &mut Option<Run>, line: &str) -> io::Result<String> 
     if let Some(list) = line.strip_prefix("list ") {
         *run = Some(Run::new(alloc, list)?);
         return Ok(String::from_str(alloc, line)?);
+    }
+    if line == "tables" {
+        return tables::largest(alloc);
     }
     match run {
         Some(run) if line == "report" => run.report(alloc),

@@ -38,12 +38,11 @@ impl Run {
     /// A new core for this list.
     pub fn new(alloc: Global, list: &str) -> io::Result<Run> {
         let plan = planned(alloc, list)?;
-        let core = Core::new(alloc, plan).map_err(failed)?;
-        let entries = Vec::new(alloc);
         let list = String::from_str(alloc, list)?;
+        let core = Core::new(alloc, plan).map_err(failed)?;
         Ok(Run {
             core,
-            entries,
+            entries: Vec::new(alloc),
             list,
         })
     }

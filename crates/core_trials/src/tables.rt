@@ -1,10 +1,8 @@
-//! Makes each table of the scheduling core for the largest plan there may be, 4,096 actions with ten attempts each,
-//! and prints what it answers at first. It shows that with memory to spare no table says that memory is wanted.
-#![tactic(auto)]
-
+// The tables that the core stands on, each made by itself.
 ghost use Rattle.std.specs.Prelude.{◌<◌, length};
 ghost use Rattle.run_plan.specs.Sound.{Sound};
 
+use crate::run::failed;
 use action_list::{plan, read_list};
 use cancel_rules::Cancels;
 use exec_journal::{Branch, Plan};
@@ -21,27 +19,24 @@ const ACTIONS: u32 = 4096;
 
 const RETRIES: u32 = 9;
 
-fn main(rt: HostRuntime) -> io::Result<()> {
-    let alloc = rt.alloc();
-    let text = list_text(alloc).map_err(no_memory)?;
+/// What each table answers at first for the largest plan there may be, 4,096 actions with ten attempts each. With
+/// memory to spare none says that memory is wanted.
+pub fn largest(alloc: Global) -> io::Result<String> {
+    let text = list_text(alloc).map_err(failed)?;
     let Ok(list) = read_list(alloc, text.as_str().as_bytes()) else {
         return Err(io::Error::from(ErrorKind::InvalidData));
     };
-    let plan = plan(alloc, &list, 48, 16, RETRIES).map_err(no_memory)?;
-    println!(&rt;
-        "{} actions, {} attempts",
-        plan.actions.as_slice().len(),
-        plan.limit
-    )?;
-    if plan.actions.as_slice().is_empty() {
-        return Ok(());
+    let plan = plan(alloc, &list, 48, 16, RETRIES).map_err(failed)?;
+    let actions = plan.actions.as_slice().len();
+    if actions == 0 {
+        return Err(io::Error::from(ErrorKind::InvalidData));
     }
-    let told = tables(alloc, &plan).map_err(no_memory)?;
-    println!(&rt; "{}", told.as_str())
-}
-
-fn no_memory(_: NoMemory) -> io::Error {
-    io::Error::from(ErrorKind::OutOfMemory)
+    let answers = first_answers(alloc, &plan).map_err(failed)?;
+    let attempts = plan.limit;
+    Ok(format!(in alloc;
+        "{actions} actions, {attempts} attempts\n{}",
+        answers.as_str()
+    )?)
 }
 
 // A list whose actions all use one worker key, and the executor too.
@@ -59,21 +54,18 @@ fn list_text(alloc: Global) -> Result<String, NoMemory> {
     Ok(text)
 }
 
-fn tables(alloc: Global, plan: &Plan) -> Result<String, NoMemory>
+fn first_answers(alloc: Global, plan: &Plan) -> Result<String, NoMemory>
     requires sound { Sound plan.now }
     requires some { 0 < length plan.now.actions }
 {
-    let race = Race::new(alloc, plan)?;
-    let mut attempts = Attempts::new(alloc, plan)?;
-    let ready = Ready::new(alloc, plan)?;
-    let pool = Pool::new(alloc, plan)?;
-    let requests = Requests::new(alloc, plan)?;
-    let cancels = Cancels::new(alloc, plan)?;
-    let _ = (pool, requests, cancels);
+    let winner = Race::new(alloc, plan)?.winner(0);
+    let after = Attempts::new(alloc, plan)?.after_end(0, Branch::Local);
+    let earliest = Ready::new(alloc, plan)?.earliest(0);
+    // Of these nothing is asked.
+    drop(Pool::new(alloc, plan)?);
+    drop(Requests::new(alloc, plan)?);
+    drop(Cancels::new(alloc, plan)?);
     Ok(format!(in alloc;
-        "winner {:?}\nafter the first attempt {:?}\nearliest {:?}",
-        race.winner(0),
-        attempts.after_end(0, Branch::Local),
-        ready.earliest(0)
+        "winner {winner:?}\nafter the first attempt {after:?}\nearliest {earliest:?}"
     )?)
 }
