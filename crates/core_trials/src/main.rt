@@ -29,9 +29,13 @@ fn main(rt: HostRuntime) -> io::Result<()> {
         return Err(io::Error::from(ErrorKind::InvalidData));
     };
     let mut run = None;
+    play_lines(&rt, alloc, text, &mut run)
+}
+
+fn play_lines(rt: &impl Print, alloc: Global, text: &str, run: &mut Option<Run>) -> io::Result<()> {
     for line in text.lines() {
-        let told = play(alloc, &mut run, line)?;
-        println!(&rt; "{}", told.as_str())?;
+        let told = play(alloc, run, line)?;
+        println!(rt; "{}", told.as_str())?;
     }
     Ok(())
 }
