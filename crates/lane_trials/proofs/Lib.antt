@@ -1,3 +1,0 @@
-mod Standing
-pub mod Numbered
-mod Fits
