@@ -13,6 +13,58 @@ use std::sync::{Barrier, Mutex, Wait};
 use std::thread;
 use std::thread::Threads;
 
+/// How the lanes of a crowd call their adder.
+#[derive(Drop, Clone, Copy)]
+pub enum Crowd {
+    /// At a desk.
+    Desk,
+    /// At a desk, through callers.
+    Callers,
+    /// Behind a bare `Mutex`.
+    Mutex,
+}
+
+impl Crowd {
+    /// Its name in a line of figures.
+    pub fn name(self) -> &'static str {
+        match self {
+            Crowd::Desk => "desk",
+            Crowd::Callers => "callers",
+            Crowd::Mutex => "mutex",
+        }
+    }
+
+    /// Who stands where, in a line of counts.
+    pub fn words(self) -> &'static str {
+        match self {
+            Crowd::Desk => "lanes at the desk",
+            Crowd::Callers => "callers at the desk",
+            Crowd::Mutex => "lanes behind a mutex",
+        }
+    }
+
+    /// So many lanes make so many turns each, all at once. Answers how many turns there were.
+    ///
+    /// # Errors
+    ///
+    /// `NoMemory` where there is none for the lanes and what they call. A lane that finds none makes fewer turns.
+    pub fn run<R: Threads + Wait + Sync>(
+        self,
+        rt: &R,
+        alloc: Global,
+        lanes: u32,
+        turns: usize,
+    ) -> Result<usize, NoMemory>
+        requires { lanes < 1000 }
+    {
+        match self {
+            Crowd::Desk => at_desk(rt, alloc, lanes, turns),
+            Crowd::Callers => by_callers(rt, alloc, lanes, turns),
+            Crowd::Mutex => behind_mutex(rt, alloc, lanes, turns),
+        }
+    }
+}
+
 /// An adder with its history, and nothing round it.
 #[derive(Drop)]
 struct Bare {
@@ -63,7 +115,7 @@ fn passes<R>(
 /// # Errors
 ///
 /// `NoMemory` where there is none for the desk or the lanes. A lane that finds none makes fewer turns.
-pub fn at_desk<R: Threads + Wait + Sync>(
+fn at_desk<R: Threads + Wait + Sync>(
     rt: &R,
     alloc: Global,
     lanes: u32,
@@ -93,7 +145,7 @@ pub fn at_desk<R: Threads + Wait + Sync>(
 /// # Errors
 ///
 /// As of [`at_desk`].
-pub fn by_callers<R: Threads + Wait + Sync>(
+fn by_callers<R: Threads + Wait + Sync>(
     rt: &R,
     alloc: Global,
     lanes: u32,
@@ -146,7 +198,7 @@ fn adds_by_caller<R: Wait>(
 /// # Errors
 ///
 /// As of [`at_desk`].
-pub fn behind_mutex<R: Threads + Wait + Sync>(
+fn behind_mutex<R: Threads + Wait + Sync>(
     rt: &R,
     alloc: Global,
     lanes: u32,

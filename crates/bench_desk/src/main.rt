@@ -17,7 +17,7 @@ mod seats;
 mod traffic;
 mod watch;
 
-use crowd::{alone, at_desk, behind_mutex, by_callers};
+use crowd::{Crowd, alone};
 use failure::Failure;
 use seats::{Behind, Limit, rest, traffic};
 use std::alloc::Global;
@@ -44,12 +44,10 @@ fn small_run<R: Threads + Wait + Clock + CpuClock + Files + Print + Sync>(
     rt: &R,
     alloc: Global,
 ) -> Result<(), Failure> {
-    let turns = at_desk(rt, alloc, 4, 100)?;
-    println!(rt; "a crowd of 4 lanes at the desk: {turns} turns")?;
-    let turns = by_callers(rt, alloc, 4, 100)?;
-    println!(rt; "a crowd of 4 callers at the desk: {turns} turns")?;
-    let turns = behind_mutex(rt, alloc, 4, 100)?;
-    println!(rt; "a crowd of 4 lanes behind a mutex: {turns} turns")?;
+    for crowd in [Crowd::Desk, Crowd::Callers, Crowd::Mutex] {
+        let turns = crowd.run(rt, alloc, 4, 100)?;
+        println!(rt; "a crowd of 4 {}: {turns} turns", crowd.words())?;
+    }
     let turns = alone(alloc, 400);
     println!(rt; "an adder alone: {turns} turns")?;
     let actions = traffic(rt, alloc, 4, 5, Behind::Desk, Limit::Second)?;
@@ -79,37 +77,32 @@ fn time_crowd<R: Threads + Wait + Clock + CpuClock + Print + Sync>(
 ) -> Result<(), Failure> {
     let lanes = lanes.min(MOST_LANES);
     let each = turns as usize;
+    for crowd in [Crowd::Desk, Crowd::Callers, Crowd::Mutex] {
+        let watch = Watch::start(rt)?;
+        let made = crowd.run(rt, alloc, lanes, each)? as u64;
+        let measure = watch.stop(rt)?;
+        println!(rt;
+            "crowd {lanes} {}: {} turns a second, {} ns a turn",
+            crowd.name(),
+            measure.a_second(made),
+            measure.nanos_each(made)
+        )?;
+    }
+    time_alone(rt, alloc, each)
+}
+
+fn time_alone<R: Clock + CpuClock + Print>(
+    rt: &R,
+    alloc: Global,
+    turns: usize,
+) -> Result<(), Failure> {
     let watch = Watch::start(rt)?;
-    let made = at_desk(rt, alloc, lanes, each)? as u64;
-    let desk = watch.stop(rt)?;
-    println!(rt;
-        "crowd {lanes} desk: {} turns a second, {} ns a turn",
-        desk.a_second(made),
-        desk.nanos_each(made)
-    )?;
-    let watch = Watch::start(rt)?;
-    let made = by_callers(rt, alloc, lanes, each)? as u64;
-    let callers = watch.stop(rt)?;
-    println!(rt;
-        "crowd {lanes} callers: {} turns a second, {} ns a turn",
-        callers.a_second(made),
-        callers.nanos_each(made)
-    )?;
-    let watch = Watch::start(rt)?;
-    let made = behind_mutex(rt, alloc, lanes, each)? as u64;
-    let mutex = watch.stop(rt)?;
-    println!(rt;
-        "crowd {lanes} mutex: {} turns a second, {} ns a turn",
-        mutex.a_second(made),
-        mutex.nanos_each(made)
-    )?;
-    let watch = Watch::start(rt)?;
-    let made = alone(alloc, each) as u64;
-    let bare = watch.stop(rt)?;
+    let made = alone(alloc, turns) as u64;
+    let measure = watch.stop(rt)?;
     println!(rt;
         "one thread alone: {} turns a second, {} ns a turn",
-        bare.a_second(made),
-        bare.nanos_each(made)
+        measure.a_second(made),
+        measure.nanos_each(made)
     )?;
     Ok(())
 }

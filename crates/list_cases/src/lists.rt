@@ -1,9 +1,10 @@
 // Lists: their faults, and the groups of their plans.
 ghost use Rattle.action_list.specs.Whole.{IsWhole};
 
-use action_list::{ActionList, ListRefusal, group_parts, plan, read_list};
+use action_list::{ActionList, GroupPart, ListRefusal, group_parts, plan, read_list};
 use build_report::{RunFault, fault_line};
 use plain_values::NoMemory;
+use run_plan::Group;
 use std::alloc::Global;
 
 const INSTANCES: u32 = 4;
@@ -35,11 +36,15 @@ fn refused(alloc: Global, refusal: ListRefusal) -> Result<String, NoMemory> {
     match refusal {
         ListRefusal::Fault(fault) => {
             let hint = format!(in alloc; "{fault}")?;
-            let line = fault_line(alloc, &RunFault::List(fault))?;
-            Ok(format!(in alloc; "{}\n  {}", line.as_str(), hint.as_str())?)
+            with_hint(alloc, &RunFault::List(fault), hint.as_str())
         }
         ListRefusal::NoMemory => Err(NoMemory),
     }
+}
+
+fn with_hint(alloc: Global, fault: &RunFault, hint: &str) -> Result<String, NoMemory> {
+    let line = fault_line(alloc, fault)?;
+    Ok(format!(in alloc; "{}\n  {hint}", line.as_str())?)
 }
 
 pub fn groups(alloc: Global, json: &str) -> Result<String, NoMemory> {
@@ -53,14 +58,28 @@ fn groups_of(alloc: Global, list: &ActionList) -> Result<String, NoMemory>
     requires { IsWhole list.now.actions }
 {
     let plan = plan(alloc, list, INSTANCES, 1, 1)?;
+    let parts = group_parts(alloc, list, &plan, &[], "x");
+    told(alloc, plan.groups.as_slice(), parts)
+}
+
+fn told(
+    alloc: Global,
+    groups: &[Group],
+    parts: Result<Vec<GroupPart>, NoMemory>,
+) -> Result<String, NoMemory> {
     let mut told = String::new(alloc);
-    for group in plan.groups.as_slice() {
+    for group in groups {
         let part = format!(in alloc; "{:?}*{} ", group.kind, group.berths)?;
         told.push_str(part.as_str())?;
     }
-    for part in group_parts(alloc, list, &plan, &[], "x")?.as_slice() {
+    add_parts(alloc, parts?.as_slice(), &mut told)?;
+    Ok(told)
+}
+
+fn add_parts(alloc: Global, parts: &[GroupPart], told: &mut String) -> Result<(), NoMemory> {
+    for part in parts {
         let speech = format!(in alloc; "{:?}:{} ", part.speech, part.command.program.as_str())?;
         told.push_str(speech.as_str())?;
     }
-    Ok(told)
+    Ok(())
 }

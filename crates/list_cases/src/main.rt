@@ -17,25 +17,34 @@
 //! | `report HOW`, `short HOW` | the report of an action that was `won`, or `failed`, and its status |
 //! | `faults` | the line and the status of each other fault |
 //!
+//! With the word `times` it measures instead: standard input is one list, of which it prints how long it takes to be
+//! read, planned and reported on. `tools/make-action-list` writes lists to measure with.
+//!
 //! In the text of a file `␊` stands for a line feed and `␍` for a carriage return. Other lines are printed as they are.
 #![tactic(auto)]
 
 mod files;
+mod history;
 mod keys;
 mod lists;
 mod reports;
+mod times;
 mod words;
 
 use files::CaseFiles;
 use plain_values::NoMemory;
 use std::alloc::Global;
 use std::io::{ErrorKind, Read};
-use std::{io, str};
+use std::{env, io, str};
 
 fn main(rt: HostRuntime) -> io::Result<()> {
     let alloc = rt.alloc();
+    let is_timed = env::args(&rt)?.nth(1).is_some();
     let mut bytes = Vec::new(alloc);
     rt.reader().read_to_end(&mut bytes)?;
+    if is_timed {
+        return times::tell_times(&rt, alloc, &bytes);
+    }
     let Ok(text) = str::from_utf8(&bytes) else {
         return Err(io::Error::from(ErrorKind::InvalidData));
     };
@@ -49,7 +58,7 @@ fn main(rt: HostRuntime) -> io::Result<()> {
     Ok(())
 }
 
-fn no_memory(_: NoMemory) -> io::Error {
+pub fn no_memory(_: NoMemory) -> io::Error {
     io::Error::from(ErrorKind::OutOfMemory)
 }
 
@@ -57,20 +66,6 @@ fn no_memory(_: NoMemory) -> io::Error {
 fn play(alloc: Global, files: &mut CaseFiles, line: &str) -> Result<Option<String>, NoMemory> {
     let (kind, rest) = line.split_once(' ').unwrap_or((line, ""));
     match kind {
-        "path" => Ok(Some(words::path(alloc, rest)?)),
-        "words" => Ok(Some(words::options(alloc, rest)?)),
-        "empty_word" => Ok(Some(words::options_of_an_empty_word(alloc)?)),
-        "split" => Ok(Some(words::split(alloc, rest, "-x @y")?)),
-        "split_alone" => Ok(Some(words::split(alloc, rest, "")?)),
-        "expand" => Ok(Some(files.expand(alloc, rest)?)),
-        "list" => Ok(Some(lists::list(alloc, rest.as_bytes())?)),
-        "no_text" => Ok(Some(lists::list_that_is_no_text(alloc)?)),
-        "spaces" => Ok(Some(lists::list_of_spaces(alloc, rest)?)),
-        "plan" => Ok(Some(lists::groups(alloc, rest)?)),
-        "key" => Ok(Some(keys::key(alloc)?)),
-        "report" => Ok(Some(reports::reported(alloc, rest, false)?)),
-        "short" => Ok(Some(reports::reported(alloc, rest, true)?)),
-        "faults" => Ok(Some(reports::faults(alloc)?)),
         "file" => {
             let (path, text) = rest.split_once(' ').unwrap_or((rest, ""));
             files.add(alloc, path, text)?;
@@ -80,6 +75,26 @@ fn play(alloc: Global, files: &mut CaseFiles, line: &str) -> Result<Option<Strin
             files.add_bad(alloc, rest)?;
             Ok(None)
         }
-        _ => Ok(Some(String::from_str(alloc, line)?)),
+        "expand" => Ok(Some(files.expand(alloc, rest)?)),
+        _ => Ok(Some(told(alloc, kind, rest, line)?)),
+    }
+}
+
+fn told(alloc: Global, kind: &str, rest: &str, line: &str) -> Result<String, NoMemory> {
+    match kind {
+        "path" => words::path(alloc, rest),
+        "words" => words::options(alloc, rest),
+        "empty_word" => words::options_of_an_empty_word(alloc),
+        "split" => words::split(alloc, rest, "-x @y"),
+        "split_alone" => words::split(alloc, rest, ""),
+        "list" => lists::list(alloc, rest.as_bytes()),
+        "no_text" => lists::list_that_is_no_text(alloc),
+        "spaces" => lists::list_of_spaces(alloc, rest),
+        "plan" => lists::groups(alloc, rest),
+        "key" => keys::key(alloc),
+        "report" => reports::reported(alloc, rest, false),
+        "short" => reports::reported(alloc, rest, true),
+        "faults" => reports::faults(alloc),
+        _ => Ok(String::from_str(alloc, line)?),
     }
 }

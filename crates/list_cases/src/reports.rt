@@ -13,12 +13,24 @@ use std::alloc::Global;
 /// The report of an action that was committed, or that failed with exit code 3, and its status.
 pub fn reported(alloc: Global, how: &str, short: bool) -> Result<String, NoMemory> {
     let plan = one_action(alloc)?;
+    reported_of(alloc, &plan, how, short)
+}
+
+fn reported_of(alloc: Global, plan: &Plan, how: &str, short: bool) -> Result<String, NoMemory>
+    requires { Sound plan.now }
+{
     let journal = match how {
         "won" => journal(alloc, 0, files(alloc)?, Some(CommitEnd::Done))?,
         _ => journal(alloc, 3, Found::Exit(3), None)?,
     };
-    let text = report(alloc, &plan, &journal, short)?;
-    Ok(format!(in alloc; "{}status {}", text.as_str(), status(&plan, &journal))?)
+    told(alloc, plan, &journal, short)
+}
+
+fn told(alloc: Global, plan: &Plan, journal: &Journal, short: bool) -> Result<String, NoMemory>
+    requires { Sound plan.now }
+{
+    let text = report(alloc, plan, journal, short)?;
+    Ok(format!(in alloc; "{}status {}", text.as_str(), status(plan, journal))?)
 }
 
 /// The line of each fault that is neither a list's nor a flag file's, with its status.

@@ -7,36 +7,61 @@ use std::alloc::Global;
 
 /// The script of these words.
 pub fn script(alloc: Global, words: &str) -> Result<Script, NoMemory> {
+    Ok(Script {
+        files: files(alloc, words)?,
+        lines: children(alloc, words)?,
+        fails: fails(alloc, words)?,
+    })
+}
+
+/// The sources.
+pub fn files(alloc: Global, words: &str) -> Result<Vec<SourceFile>, NoMemory> {
     let mut files = Vec::new(alloc);
-    let mut lines = Vec::new(alloc);
-    let mut fails = Vec::new(alloc);
-    let mut beats = Some(Vec::new(alloc));
     for word in words.split(' ') {
-        let (kind, rest) = word.split_once('=').unwrap_or((word, ""));
-        match kind {
-            "/" => {
-                let done = std::mem::replace(&mut beats, Some(Vec::new(alloc)));
-                lines.push(done)?;
-            }
-            "obliging" => beats = None,
-            "file" => {
-                let (path, bytes) = path_and_bytes(alloc, rest)?;
-                files.push(SourceFile { path, bytes })?;
-            }
-            "fail" => fails.push(failing(rest))?,
-            _ => {
-                if let (Some(beats), Some(beat)) = (&mut beats, beat_of(alloc, kind, rest)?) {
-                    beats.push(beat)?;
-                }
-            }
+        if let Some(rest) = word.strip_prefix("file=") {
+            files.push(source(alloc, rest)?)?;
         }
     }
-    lines.push(beats)?;
-    Ok(Script {
-        files,
-        lines,
-        fails,
-    })
+    Ok(files)
+}
+
+fn source(alloc: Global, word: &str) -> Result<SourceFile, NoMemory> {
+    let (path, bytes) = path_and_bytes(alloc, word)?;
+    Ok(SourceFile { path, bytes })
+}
+
+/// The calls that fail.
+pub fn fails(alloc: Global, words: &str) -> Result<Vec<FailAt>, NoMemory> {
+    let mut fails = Vec::new(alloc);
+    for word in words.split(' ') {
+        if let Some(rest) = word.strip_prefix("fail=") {
+            fails.push(failing(rest))?;
+        }
+    }
+    Ok(fails)
+}
+
+fn children(alloc: Global, words: &str) -> Result<Vec<Option<Vec<Beat>>>, NoMemory> {
+    let mut lines = Vec::new(alloc);
+    for child in words.split(" / ") {
+        lines.push(beats(alloc, child)?)?;
+    }
+    Ok(lines)
+}
+
+// The beats of one child, or `None` where it is obliging.
+fn beats(alloc: Global, words: &str) -> Result<Option<Vec<Beat>>, NoMemory> {
+    let mut beats = Vec::new(alloc);
+    for word in words.split(' ') {
+        let (kind, rest) = word.split_once('=').unwrap_or((word, ""));
+        if kind == "obliging" {
+            return Ok(None);
+        }
+        if let Some(beat) = beat_of(alloc, kind, rest)? {
+            beats.push(beat)?;
+        }
+    }
+    Ok(Some(beats))
 }
 
 /// How the runs of the shop end, one after another.

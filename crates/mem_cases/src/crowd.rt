@@ -21,15 +21,50 @@ pub fn late<R: Threads + Wait + Sync + Clone + Drop + Send>(
     rt: &R,
     alloc: Global,
 ) -> Result<String, NoMemory> {
-    let mut stage = Stage::new(rt.clone()?, alloc, "hear=1 / await=1")?;
-    stage.launch(alloc, "")?;
-    stage.launch(alloc, "")?;
-    let Stage { mut lines, .. } = stage;
-    let (Some(second), Some(first)) = (lines.pop(), lines.pop()) else {
-        return Ok(String::from_str(alloc, "not launched")?);
-    };
-    let (heard, awaited) = join(rt, move || reads_once(first), move || reads_once(second));
+    let mut lines = launched(rt.clone()?, alloc, "hear=1 / await=1", 2)?;
+    let second = lines.pop();
+    match (lines.pop(), second) {
+        (Some(first), Some(second)) => {
+            let (heard, awaited) = join(rt, move || reads_once(first), move || reads_once(second));
+            told_late(alloc, heard, awaited)
+        }
+        _ => not_launched(alloc),
+    }
+}
+
+fn told_late(alloc: Global, heard: Taken, awaited: Taken) -> Result<String, NoMemory> {
     Ok(format!(in alloc; "{heard:?} {awaited:?}")?)
+}
+
+fn not_launched(alloc: Global) -> Result<String, NoMemory> {
+    Ok(String::from_str(alloc, "not launched")?)
+}
+
+// So many lines of a stage of these words.
+fn launched<R: Wait + Clone + Drop>(
+    rt: R,
+    alloc: Global,
+    words: &str,
+    count: u32,
+) -> Result<Vec<Line<R>>, NoMemory> {
+    let mut stage = Stage::new(rt, alloc, words)?;
+    let launched = launch_all(alloc, &mut stage, count);
+    let Stage { lines, .. } = stage;
+    match launched {
+        Ok(()) => Ok(lines),
+        Err(NoMemory) => Err(NoMemory),
+    }
+}
+
+fn launch_all<R: Wait + Clone + Drop>(
+    alloc: Global,
+    stage: &mut Stage<R>,
+    count: u32,
+) -> Result<(), NoMemory> {
+    for _ in 0..count {
+        stage.launch(alloc, "")?;
+    }
+    Ok(())
 }
 
 fn reads_once<R: Wait + Drop>(mut line: Line<R>) -> Taken {
@@ -41,7 +76,8 @@ fn reads_once<R: Wait + Drop>(mut line: Line<R>) -> Taken {
 struct Seat<R> {
     feed: MemFeed<R>,
     tap: MemTap<R>,
-    kills: Vec<MemChild<R>>,
+    before: MemChild<R>,
+    own: Option<MemChild<R>>,
 }
 
 impl<R: Wait + Drop> Seat<R> {
@@ -50,8 +86,9 @@ impl<R: Wait + Drop> Seat<R> {
         let mut piece = [0u8; 4];
         let heard = self.feed.write(&[0]);
         let byte = self.tap.read(&mut piece);
-        for child in &mut self.kills {
-            child.kill();
+        self.before.kill();
+        if let Some(own) = &mut self.own {
+            own.kill();
         }
         let end = self.tap.read(&mut piece);
         heard == Io::Done && byte == Taken::Bytes(1) && end == Taken::End
@@ -64,30 +101,42 @@ pub fn crowd<R: Threads + Wait + Clock + CpuClock + Sync + Clone + Drop + Send>(
     alloc: Global,
     count: u32,
 ) -> io::Result<String> {
-    let mut stage = Stage::new(rt.clone()?, alloc, beats(alloc, count)?.as_str()).map_err(
-        no_memory,
-    )?;
-    for _ in 0..=count {
-        stage.launch(alloc, "").map_err(no_memory)?;
+    let words = beats(alloc, count)?;
+    let launches = count.saturating_add(1);
+    let lines = launched(rt.clone()?, alloc, words.as_str(), launches).map_err(no_memory)?;
+    match crowd_of(alloc, lines).map_err(no_memory)? {
+        Some((tap, seats)) => wait_all(rt, alloc, tap, seats),
+        None => not_launched(alloc).map_err(no_memory),
     }
-    let mut lines = stage.lines;
-    let Some(
-        Line {
-            feed: _,
-            tap,
-            child,
-        },
-    ) = lines.pop()
-    else {
-        return Ok(String::from_str(alloc, "not launched")?);
-    };
-    let seats = seats(alloc, child, lines).map_err(no_memory)?;
-    let begun = rt.process_cpu_time()?;
+}
+
+// The tap of the last line, and a seat for each of the others.
+fn crowd_of<R: Wait + Drop>(
+    alloc: Global,
+    mut lines: Vec<Line<R>>,
+) -> Result<Option<(MemTap<R>, Vec<Seat<R>>)>, NoMemory> {
+    match lines.pop() {
+        Some(Line { feed, tap, child }) => {
+            drop(feed);
+            Ok(Some((tap, seats(alloc, child, lines)?)))
+        }
+        None => Ok(None),
+    }
+}
+
+fn wait_all<R: Threads + Wait + Clock + CpuClock + Sync + Clone + Drop + Send>(
+    rt: &R,
+    alloc: Global,
+    tap: MemTap<R>,
+    seats: Vec<Seat<R>>,
+) -> io::Result<String> {
+    let begun = rt.process_cpu_time();
     let (served, waited) = join(
         rt,
         move || thread::map_vec(rt, seats, &|seat: Seat<R>| seat.serve()),
         move || starts_late(rt, tap),
     );
+    let begun = begun?;
     let served = served?.iter().filter(|served| **served).count();
     let is_idle = waited.is_some_and(|waited| waited.saturating_sub(begun).as_millis() < FIFTH);
     Ok(format!(in alloc; "served {served} idle {is_idle}")?)
@@ -111,15 +160,19 @@ fn seats<R: Wait + Drop>(
     lines: Vec<Line<R>>,
 ) -> Result<Vec<Seat<R>>, NoMemory> {
     let mut seats = Vec::new(alloc);
-    let mut before = first;
+    let mut last = first;
     for line in lines {
         let Line { feed, tap, child } = line;
-        let mut kills = Vec::new(alloc);
-        kills.push(std::mem::replace(&mut before, child))?;
-        seats.push(Seat { feed, tap, kills })?;
+        let before = std::mem::replace(&mut last, child);
+        seats.push(Seat {
+            feed,
+            tap,
+            before,
+            own: None,
+        })?;
     }
     if let Some(seat) = seats.last_mut() {
-        seat.kills.push(before)?;
+        seat.own = Some(last);
     }
     Ok(seats)
 }

@@ -82,16 +82,20 @@ fn generated<R: Wait + Clone + Drop>(
     actions: u32,
 ) -> Result<String, NoMemory> {
     let mut floor = MemFloor::generated(rt, alloc, actions)?;
+    sources(alloc, &mut floor, actions)
+}
+
+fn sources<F: Floor>(alloc: Global, floor: &mut F, actions: u32) -> Result<String, NoMemory> {
     let mut told = String::new(alloc);
     for action in 0..=actions {
-        let path = format!(in alloc; "flags/{action}")?;
-        let answer = floor.read(path.as_str())?;
-        if action > 0 {
-            told.push_str(" ")?;
-        }
-        told.push_str(steps::found(alloc, &answer)?.as_str())?;
+        steps::add(&mut told, source(alloc, floor, action)?.as_str())?;
     }
     Ok(told)
+}
+
+fn source<F: Floor>(alloc: Global, floor: &mut F, action: u32) -> Result<String, NoMemory> {
+    let path = format!(in alloc; "flags/{action}")?;
+    steps::found(alloc, &floor.read(path.as_str())?)
 }
 
 // The text of a generated list.

@@ -1,12 +1,12 @@
 // The objects of one case.
-use crate::case::{ends, script};
-use outside::{Berth, Command, Floor, Launch, SourceFile};
-use outside_mem::{
-    FailAt, MemBerth, MemChild, MemFeed, MemFloor, MemPlace, MemShop, MemSink, MemTap,
-};
+use crate::case::{ends, fails, files, script};
+use outside::{Berth, Command, Floor, Launch};
+use outside_mem::{MemBerth, MemChild, MemFeed, MemFloor, MemPlace, MemShop, MemSink, MemTap};
 use plain_values::{Items, NoMemory, Text};
 use std::alloc::Global;
 use std::sync::Wait;
+
+type Launched<R> = Launch<MemFeed<R>, MemTap<R>, MemChild<R>>;
 
 /// The objects of a line.
 #[derive(Drop)]
@@ -16,7 +16,7 @@ pub struct Line<R> {
     pub child: MemChild<R>,
 }
 
-/// A floor, one berth, one place, a sink, a shop that has the floor's files, and the lines that were launched.
+/// A floor, one berth, one place, a sink, a shop that has the floor's files, the lines that were launched, and one's number.
 #[derive(Drop)]
 pub struct Stage<R> {
     pub floor: MemFloor<R>,
@@ -25,64 +25,40 @@ pub struct Stage<R> {
     pub sink: MemSink,
     pub shop: MemShop,
     pub lines: Vec<Line<R>>,
-}
-
-fn fails_again(alloc: Global, fails: &[FailAt]) -> Result<Vec<FailAt>, NoMemory> {
-    let mut copies = Vec::new(alloc);
-    for fail in fails {
-        copies.push(*fail)?;
-    }
-    Ok(copies)
-}
-
-fn files_again(alloc: Global, files: &[SourceFile]) -> Result<Vec<SourceFile>, NoMemory> {
-    let mut copies = Vec::new(alloc);
-    for file in files {
-        copies.push(SourceFile {
-            path: Text::copy_of(alloc, file.path.as_str())?,
-            bytes: file.bytes.again()?,
-        })?;
-    }
-    Ok(copies)
+    /// The line that the next step is of.
+    pub line: usize,
 }
 
 impl<R: Wait + Clone + Drop> Stage<R> {
     /// The stage of these words.
     pub fn new(rt: R, alloc: Global, words: &str) -> Result<Stage<R>, NoMemory> {
-        let script = script(alloc, words)?;
-        let sink = MemSink::new(alloc, fails_again(alloc, &script.fails)?);
-        let shop = MemShop::new(
-            alloc,
-            files_again(alloc, &script.files)?,
-            ends(alloc, words)?,
-            fails_again(alloc, &script.fails)?,
-        )?;
-        let mut floor = MemFloor::new(rt, alloc, script)?;
+        let floor = MemFloor::new(rt, alloc, script(alloc, words)?)?;
+        Stage::over(alloc, floor, words)
+    }
+
+    fn over(alloc: Global, mut floor: MemFloor<R>, words: &str) -> Result<Stage<R>, NoMemory> {
         let berth = floor.make_berth(0)?;
         let place = floor.make_place(0)?;
         Ok(Stage {
             floor,
             berth,
             place,
-            sink,
-            shop,
+            sink: MemSink::new(alloc, fails(alloc, words)?),
+            shop: shop(alloc, words)?,
             lines: Vec::new(alloc),
+            line: 0,
         })
     }
 
     /// Launches the next line, with this word in its command where that isn't empty. `false` where that failed.
     pub fn launch(&mut self, alloc: Global, word: &str) -> Result<bool, NoMemory> {
-        let mut words = Vec::new(alloc);
-        if !word.is_empty() {
-            words.push(Text::copy_of(alloc, word)?)?;
-        }
-        let command = Command {
-            program: Text::copy_of(alloc, "t")?,
-            words: Items::of(words),
-            env: Items::of(Vec::new(alloc)),
-        };
-        let number = self.lines.len().min(u32::MAX as usize) as u32;
-        match self.berth.launch(number, &command)? {
+        self.line = self.lines.len();
+        let launched = launch_on(alloc, &mut self.berth, self.line, word)?;
+        self.keep(launched)
+    }
+
+    fn keep(&mut self, launched: Launched<R>) -> Result<bool, NoMemory> {
+        match launched {
             Launch::Started(feed, tap, child) => {
                 self.lines.push(Line { feed, tap, child })?;
                 Ok(true)
@@ -90,4 +66,37 @@ impl<R: Wait + Clone + Drop> Stage<R> {
             Launch::Failed => Ok(false),
         }
     }
+}
+
+fn launch_on<R: Wait + Clone + Drop>(
+    alloc: Global,
+    berth: &mut MemBerth<R>,
+    line: usize,
+    word: &str,
+) -> Result<Launched<R>, NoMemory> {
+    let command = command(alloc, word)?;
+    berth.launch(line.min(u32::MAX as usize) as u32, &command)
+}
+
+fn command(alloc: Global, word: &str) -> Result<Command, NoMemory> {
+    Ok(Command {
+        program: Text::copy_of(alloc, "t")?,
+        words: Items::of(words_of(alloc, word)?),
+        env: Items::of(Vec::new(alloc)),
+    })
+}
+
+fn words_of(alloc: Global, word: &str) -> Result<Vec<Text>, NoMemory> {
+    let mut words = Vec::new(alloc);
+    if !word.is_empty() {
+        words.push(Text::copy_of(alloc, word)?)?;
+    }
+    Ok(words)
+}
+
+fn shop(alloc: Global, words: &str) -> Result<MemShop, NoMemory> {
+    let files = files(alloc, words)?;
+    let ends = ends(alloc, words)?;
+    let fails = fails(alloc, words)?;
+    MemShop::new(alloc, files, ends, fails)
 }

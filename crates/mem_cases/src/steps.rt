@@ -12,33 +12,54 @@ use std::sync::Wait;
 pub fn play<R: Wait + Clone + Drop>(rt: R, alloc: Global, case: &str) -> Result<String, NoMemory> {
     let (words, steps) = case.split_once(": ").unwrap_or((case, ""));
     let mut stage = Stage::new(rt, alloc, words)?;
-    let mut line = 0;
+    play_on(alloc, &mut stage, steps)
+}
+
+fn play_on<R: Wait + Clone + Drop>(
+    alloc: Global,
+    stage: &mut Stage<R>,
+    steps: &str,
+) -> Result<String, NoMemory> {
     let mut told = String::new(alloc);
     for step in steps.split(' ') {
         let (kind, rest) = step.split_once('=').unwrap_or((step, ""));
-        let answer = match kind {
-            "line" => {
-                line = number(rest) as usize;
-                continue;
-            }
-            "launch" => {
-                line = stage.lines.len();
-                let started = stage.launch(alloc, rest)?;
-                text(alloc, if started { "started" } else { "failed" })?
-            }
-            "write" | "read" | "kill" => match stage.lines.get_mut(line) {
-                Some(line) => on_line(alloc, line, kind, rest)?,
-                None => text(alloc, "no line")?,
-            },
-            "shop-put" | "shop-get" | "shop-run" => on_shop(alloc, &mut stage.shop, kind, rest)?,
-            _ => on_stage(alloc, &mut stage, kind, rest)?,
-        };
-        if !told.is_empty() {
-            told.push_str(" ")?;
+        if kind == "line" {
+            stage.line = number(rest) as usize;
+        } else {
+            add(&mut told, step_on(alloc, stage, kind, rest)?.as_str())?;
         }
-        told.push_str(answer.as_str())?;
     }
     Ok(told)
+}
+
+/// Adds an answer, behind a space where there is one before.
+pub fn add(told: &mut String, answer: &str) -> Result<(), NoMemory> {
+    if !told.is_empty() {
+        told.push_str(" ")?;
+    }
+    told.push_str(answer)?;
+    Ok(())
+}
+
+fn step_on<R: Wait + Clone + Drop>(
+    alloc: Global,
+    stage: &mut Stage<R>,
+    kind: &str,
+    rest: &str,
+) -> Result<String, NoMemory> {
+    let line = stage.line;
+    match kind {
+        "launch" => {
+            let started = stage.launch(alloc, rest)?;
+            text(alloc, if started { "started" } else { "failed" })
+        }
+        "write" | "read" | "kill" => match stage.lines.get_mut(line) {
+            Some(line) => on_line(alloc, line, kind, rest),
+            None => text(alloc, "no line"),
+        },
+        "shop-put" | "shop-get" | "shop-run" => on_shop(alloc, &mut stage.shop, kind, rest),
+        _ => on_stage(alloc, stage, kind, rest),
+    }
 }
 
 fn text(alloc: Global, text: &str) -> Result<String, NoMemory> {

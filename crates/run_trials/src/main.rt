@@ -1,4 +1,4 @@
-//! Plays whole runs in memory, and prints what each came to.
+//! Plays whole runs, in memory and with real objects, and prints what each came to.
 //!
 //! | A line of standard input | Does |
 //! |---|---|
@@ -14,23 +14,33 @@
 //! | `meet WORD WORD ..` | its status and its report, where each of two actions writes only once the other does too |
 //! | `reads`, `writes` | what the floor and the places tell of the last run |
 //! | `room`, `given` | what its first berth and its first line tell |
+//! | `objects` | each real object is driven once; the program runs in a folder of its own with the files of `data/` |
+//! | `real LIST` | a run of this list with real objects and shell workers: its report, its status and the line of its fault |
 //!
 //! Other lines are printed as they are. `tools/run-vectors` writes `stdin` and `stdout`, and `tools/fail-alloc` plays two
 //! runs with each allocation refused in turn.
 #![tactic(auto)]
 
 mod case;
+mod lines;
 mod meeting;
+mod places;
 mod played;
+mod real;
+mod rooms;
 
 use case::Case;
 use meeting::MeetingFloor;
-use outside_mem::MemFloor;
+use outside_mem::{MemFloor, MemSink};
+use outside_real::{RealFloor, RealSink};
 use plain_values::NoMemory;
-use played::{Shown, Staged};
+use played::Shown;
 use std::alloc::Global;
-use std::io::{ErrorKind, Read};
+use std::fs::Files;
+use std::io::{ErrorKind, Print, Read};
+use std::process::{Processes, SystemProcess};
 use std::sync::Wait;
+use std::thread::Threads;
 use std::{io, str};
 use worker_run::{Ended, run_build};
 
@@ -38,57 +48,100 @@ fn main(rt: HostRuntime) -> io::Result<()> {
     let alloc = rt.alloc();
     let mut bytes = Vec::new(alloc);
     rt.reader().read_to_end(&mut bytes)?;
-    let Ok(text) = str::from_utf8(&bytes) else {
+    let mut case = Case::new(alloc);
+    let mut last = None;
+    play_all(&rt, alloc, &bytes, &mut case, &mut last)
+}
+
+// What the next run has, and what became of the last one, is lent to what may end early.
+fn play_all<
+    R: Threads
+        + Wait
+        + Print
+        + Files
+        + AllocGlobal
+        + Processes<Started = SystemProcess>
+        + Copy
+        + Drop
+        + Send
+        + Sync,
+>(
+    rt: &R,
+    alloc: Global,
+    bytes: &[u8],
+    case: &mut Case,
+    last: &mut Option<Ended<MemFloor<R>>>,
+) -> io::Result<()> {
+    let Ok(text) = str::from_utf8(bytes) else {
         return Err(io::Error::from(ErrorKind::InvalidData));
     };
-    let mut case = Case::new(alloc);
-    let mut last: Option<Ended<MemFloor<HostRuntime>>> = None;
     for line in text.lines() {
-        let (kind, rest) = line.split_once(' ').unwrap_or((line, ""));
-        let told = match kind {
-            "play" | "race" => {
-                let Staged {
-                    script,
-                    mut out,
-                    words,
-                } = played::stage(alloc, &mut case, rest).map_err(no_memory)?;
-                let floor = MemFloor::new(rt, alloc, script).map_err(no_memory)?;
-                let ended = run_build(&rt, alloc, words.as_slice(), floor, &mut out);
-                let report = str::from_utf8(out.bytes()).unwrap_or("no text");
-                let told = played::tell(alloc, &ended, shown_by(kind), report).map_err(no_memory)?;
-                last = Some(ended);
-                told
+        match line.split_once(' ').unwrap_or((line, "")) {
+            ("objects", _) => real::drive(rt, alloc, RealFloor::new(*rt, alloc))?,
+            ("real", path) => {
+                let floor = RealFloor::new(*rt, alloc);
+                real::run(rt, alloc, path, floor, RealSink::new(*rt))?;
             }
-            "meet" => {
-                let Staged {
-                    script,
-                    mut out,
-                    words,
-                } = played::stage(alloc, &mut case, rest).map_err(no_memory)?;
-                let floor = MemFloor::new(rt, alloc, script).map_err(no_memory)?;
-                let floor = MeetingFloor::new(alloc, floor, 2).map_err(no_memory)?;
-                let ended = run_build(&rt, alloc, words.as_slice(), floor, &mut out);
-                let report = str::from_utf8(out.bytes()).unwrap_or("no text");
-                format!(in alloc; "status {}\n{report}", ended.status)?
+            _ => {
+                let told = play(rt, alloc, line, case, last).map_err(no_memory)?;
+                rt.print(told.as_str())?;
             }
-            "reads" | "writes" | "room" | "given" => tell_last(alloc, &last, kind).map_err(
-                no_memory,
-            )?,
-            _ => case.note(alloc, line).map_err(no_memory)?,
-        };
-        rt.print(told.as_str())?;
+        }
     }
     Ok(())
 }
 
-fn shown_by(kind: &str) -> Shown {
+// What is printed for the line.
+fn play<R: Threads + Wait + Copy + Drop + Send + Sync>(
+    rt: &R,
+    alloc: Global,
+    line: &str,
+    case: &mut Case,
+    last: &mut Option<Ended<MemFloor<R>>>,
+) -> Result<String, NoMemory> {
+    let (kind, rest) = line.split_once(' ').unwrap_or((line, ""));
     match kind {
-        "play" => Shown::All,
-        _ => Shown::Totals,
+        "play" => run(rt, alloc, rest, case, last, Shown::All),
+        "race" => run(rt, alloc, rest, case, last, Shown::Totals),
+        "meet" => meet(rt, alloc, rest, case),
+        "reads" | "writes" | "room" | "given" => tell_last(alloc, last, kind),
+        _ => case.note(alloc, line),
     }
 }
 
-fn no_memory(_: NoMemory) -> io::Error {
+fn run<R: Threads + Wait + Copy + Drop + Send + Sync>(
+    rt: &R,
+    alloc: Global,
+    line: &str,
+    case: &mut Case,
+    last: &mut Option<Ended<MemFloor<R>>>,
+    shown: Shown,
+) -> Result<String, NoMemory> {
+    let (script, mut out, words) = played::stage(alloc, case, line)?;
+    let floor = MemFloor::new(*rt, alloc, script)?;
+    let ended = run_build(rt, alloc, words.as_slice(), floor, &mut out);
+    let told = played::tell(alloc, &ended, shown, report_in(&out));
+    *last = Some(ended);
+    told
+}
+
+fn meet<R: Threads + Wait + Copy + Drop + Send + Sync>(
+    rt: &R,
+    alloc: Global,
+    line: &str,
+    case: &mut Case,
+) -> Result<String, NoMemory> {
+    let (script, mut out, words) = played::stage(alloc, case, line)?;
+    let floor = MeetingFloor::new(alloc, MemFloor::new(*rt, alloc, script)?, 2)?;
+    let Ended { status, .. } = run_build(rt, alloc, words.as_slice(), floor, &mut out);
+    Ok(format!(in alloc; "status {status}\n{}", report_in(&out))?)
+}
+
+fn report_in(out: &MemSink) -> &str {
+    str::from_utf8(out.bytes()).unwrap_or("no text")
+}
+
+pub fn no_memory(_: NoMemory) -> io::Error {
     io::Error::from(ErrorKind::OutOfMemory)
 }
 

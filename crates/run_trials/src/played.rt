@@ -1,8 +1,8 @@
 // One run, and what its objects tell.
 use crate::case::Case;
-use outside::{BerthCall, PlaceWrite};
-use outside_mem::{MemFloor, MemSink, Script};
-use plain_values::NoMemory;
+use outside::{BerthCall, Command, PlaceWrite};
+use outside_mem::{FailAt, MemFloor, MemSink, Script};
+use plain_values::{NoMemory, Text};
 use std::alloc::Global;
 use std::sync::Wait;
 use worker_run::{Ended, fault_line};
@@ -17,23 +17,24 @@ pub enum Shown {
     Totals,
 }
 
-/// What a run is given, beside its floor.
-pub struct Staged {
-    pub script: Script,
-    pub out: MemSink,
-    pub words: Vec<String>,
+/// The script of the next run, its sink, and the words of this line.
+pub fn stage(
+    alloc: Global,
+    case: &mut Case,
+    line: &str,
+) -> Result<(Script, MemSink, Vec<String>), NoMemory> {
+    let words = words(alloc, line)?;
+    let script = case.script(alloc)?;
+    let fails = fails_again(alloc, script.fails.as_slice())?;
+    Ok((script, MemSink::new(alloc, fails), words))
 }
 
-/// The script of the next run, its sink, and the words of this line.
-pub fn stage(alloc: Global, case: &mut Case, line: &str) -> Result<Staged, NoMemory> {
-    let script = case.script(alloc)?;
-    let mut sink = Vec::new(alloc);
-    for fail in &script.fails {
-        sink.push(*fail)?;
+fn fails_again(alloc: Global, fails: &[FailAt]) -> Result<Vec<FailAt>, NoMemory> {
+    let mut copies = Vec::new(alloc);
+    for fail in fails {
+        copies.push(*fail)?;
     }
-    let out = MemSink::new(alloc, sink);
-    let words = words(alloc, line)?;
-    Ok(Staged { script, out, words })
+    Ok(copies)
 }
 
 fn words(alloc: Global, line: &str) -> Result<Vec<String>, NoMemory> {
@@ -53,34 +54,56 @@ pub fn tell<R: Wait + Clone + Drop>(
     shown: Shown,
     report: &str,
 ) -> Result<String, NoMemory> {
+    let mut told = first_words(alloc, ended)?;
+    match shown {
+        Shown::All => push_all(alloc, ended, report, &mut told)?,
+        Shown::Totals => push_totals(alloc, report, &mut told)?,
+    }
+    if let Some(fault) = &ended.fault {
+        push_line(fault_line(alloc, fault)?.as_str(), &mut told)?;
+    }
+    Ok(told)
+}
+
+fn first_words<R: Wait + Clone + Drop>(
+    alloc: Global,
+    ended: &Ended<MemFloor<R>>,
+) -> Result<String, NoMemory> {
     let berths = ended.berths.len();
     let killed = ended.lines.iter().all(|line| line
         .halves
         .as_ref()
         .is_none_or(|halves| halves.child.is_killed()));
-    let mut told = format!(in alloc; "status {} berths {berths} killed {killed}", ended.status)?;
-    match shown {
-        Shown::All => {
-            let lines = ended.lines.len();
-            let started = ended.lines.iter().filter(|line| line.halves.is_some());
-            let counts = format!(in alloc; " lines {lines} started {}\n", started.count())?;
-            told.push_str(counts.as_str())?;
-            told.push_str(report)?;
-        }
-        Shown::Totals => {
-            let count = format!(in alloc; " report {}\n", report.lines().count())?;
-            told.push_str(count.as_str())?;
-            if let Some(totals) = report.lines().last() {
-                told.push_str(totals)?;
-                told.push_str("\n")?;
-            }
-        }
+    Ok(format!(in alloc; "status {} berths {berths} killed {killed}", ended.status)?)
+}
+
+fn push_all<R: Wait + Clone + Drop>(
+    alloc: Global,
+    ended: &Ended<MemFloor<R>>,
+    report: &str,
+    told: &mut String,
+) -> Result<(), NoMemory> {
+    let lines = ended.lines.len();
+    let started = ended.lines.iter().filter(|line| line.halves.is_some());
+    let counts = format!(in alloc; " lines {lines} started {}", started.count())?;
+    push_line(counts.as_str(), told)?;
+    told.push_str(report)?;
+    Ok(())
+}
+
+fn push_totals(alloc: Global, report: &str, told: &mut String) -> Result<(), NoMemory> {
+    let count = format!(in alloc; " report {}", report.lines().count())?;
+    push_line(count.as_str(), told)?;
+    match report.lines().last() {
+        Some(totals) => push_line(totals, told),
+        None => Ok(()),
     }
-    if let Some(fault) = &ended.fault {
-        told.push_str(fault_line(alloc, fault)?.as_str())?;
-        told.push_str("\n")?;
-    }
-    Ok(told)
+}
+
+fn push_line(line: &str, told: &mut String) -> Result<(), NoMemory> {
+    told.push_str(line)?;
+    told.push_str("\n")?;
+    Ok(())
 }
 
 /// What was written to each action's place, one write a line: the action's number, the path, and the
@@ -135,30 +158,42 @@ pub fn room<R: Wait + Clone + Drop>(
         None => &[],
     };
     for call in calls {
-        let line = match call {
-            BerthCall::Launch { command, .. } => launch(alloc, command)?,
-            BerthCall::Clear { part, .. } => format!(in alloc; "clear {}\n", part.as_str())?,
-            BerthCall::Folder { path, .. } => format!(in alloc; "folder {}\n", path.as_str())?,
-            BerthCall::Put { path, .. } => format!(in alloc; "put {}\n", path.as_str())?,
-            BerthCall::Get { path, .. } => format!(in alloc; "get {}\n", path.as_str())?,
-        };
-        told.push_str(line.as_str())?;
+        push_line(called(alloc, call)?.as_str(), &mut told)?;
     }
     Ok(told)
 }
 
-fn launch(alloc: Global, command: &outside::Command) -> Result<String, NoMemory> {
+fn called(alloc: Global, call: &BerthCall) -> Result<String, NoMemory> {
+    match call {
+        BerthCall::Launch { command, .. } => launch(alloc, command),
+        BerthCall::Clear { part, .. } => called_on(alloc, "clear", part),
+        BerthCall::Folder { path, .. } => called_on(alloc, "folder", path),
+        BerthCall::Put { path, .. } => called_on(alloc, "put", path),
+        BerthCall::Get { path, .. } => called_on(alloc, "get", path),
+    }
+}
+
+fn called_on(alloc: Global, call: &str, path: &Text) -> Result<String, NoMemory> {
+    Ok(format!(in alloc; "{call} {}", path.as_str())?)
+}
+
+fn launch(alloc: Global, command: &Command) -> Result<String, NoMemory> {
     let mut line = format!(in alloc; "launch {}", command.program.as_str())?;
     for word in command.words.as_slice() {
-        line.push_str(" ")?;
-        line.push_str(word.as_str())?;
+        push_word(word, &mut line)?;
     }
     for variable in command.env.as_slice() {
-        let set = format!(in alloc; " {}={}", variable.name.as_str(), variable.value.as_str())?;
-        line.push_str(set.as_str())?;
+        push_word(&variable.name, &mut line)?;
+        line.push_str("=")?;
+        line.push_str(variable.value.as_str())?;
     }
-    line.push_str("\n")?;
     Ok(line)
+}
+
+fn push_word(word: &Text, line: &mut String) -> Result<(), NoMemory> {
+    line.push_str(" ")?;
+    line.push_str(word.as_str())?;
+    Ok(())
 }
 
 /// The bytes that the first line was given, in hexadecimal.

@@ -1,6 +1,7 @@
 // A room: what is put is found, and what is cleared is gone.
-use crate::{tell_io, tell_read};
+use crate::real::{tell_io, tell_read};
 use outside::{Berth, Io, Read};
+use plain_values::NoMemory;
 use std::alloc::Global;
 use std::io;
 
@@ -34,25 +35,46 @@ fn play_way<B: Berth>(rt: &impl Print, berth: &mut B) -> io::Result<()> {
 
 // A large file and an empty one, and more names than one read of a folder gives.
 fn play_much<B: Berth>(rt: &impl Print, alloc: Global, berth: &mut B) -> io::Result<()> {
-    let mut bytes = Vec::new(alloc);
-    bytes.resize(100_000, b'x')?;
-    tell_io(rt, "put large", &berth.room_put("large", bytes.as_slice()))?;
-    if let Ok(Read::Found(found)) = berth.room_get("large") {
-        println!(rt; "  large: {} bytes", found.bytes().len())?;
-    }
+    play_large(rt, alloc, berth)?;
     tell_io(rt, "put empty", &berth.room_put("empty", b""))?;
     tell_read(rt, "empty", berth.room_get("empty"))?;
-    bytes.truncate(200);
-    let tail = std::str::from_utf8(bytes.as_slice()).unwrap_or("");
     for number in 10u32..50 {
-        let name = format!(in alloc; "{number}{tail}")?;
-        if let Io::Failed = berth.room_put(name.as_str(), b"y") {
+        if let Io::Failed = put_long(alloc, berth, number)? {
             println!(rt; "  {number}: failed")?;
         }
     }
-    let last = format!(in alloc; "49{tail}")?;
-    tell_read(rt, "the last", berth.room_get(last.as_str()))?;
+    tell_read(rt, "the last", get_last(alloc, berth)?)?;
     tell_io(rt, "clear", &berth.room_clear(""))?;
-    tell_read(rt, "the last", berth.room_get(last.as_str()))?;
+    tell_read(rt, "the last", get_last(alloc, berth)?)?;
     tell_read(rt, "e/f/g/h", berth.room_get("e/f/g/h"))
+}
+
+fn play_large<B: Berth>(rt: &impl Print, alloc: Global, berth: &mut B) -> io::Result<()> {
+    let put = put_large(alloc, berth)?;
+    tell_io(rt, "put large", &put)?;
+    if let Ok(Read::Found(found)) = berth.room_get("large") {
+        println!(rt; "  large: {} bytes", found.bytes().len())?;
+    }
+    Ok(())
+}
+
+fn put_large<B: Berth>(alloc: Global, berth: &mut B) -> io::Result<Io> {
+    let mut bytes = Vec::new(alloc);
+    bytes.resize(100_000, b'x')?;
+    Ok(berth.room_put("large", bytes.as_slice()))
+}
+
+// A name of 202 bytes.
+fn long_name(alloc: Global, number: u32) -> io::Result<String> {
+    Ok(format!(in alloc; "{number}{:x<200}", "")?)
+}
+
+fn put_long<B: Berth>(alloc: Global, berth: &mut B, number: u32) -> io::Result<Io> {
+    let name = long_name(alloc, number)?;
+    Ok(berth.room_put(name.as_str(), b"y"))
+}
+
+fn get_last<B: Berth>(alloc: Global, berth: &mut B) -> io::Result<Result<Read, NoMemory>> {
+    let name = long_name(alloc, 49)?;
+    Ok(berth.room_get(name.as_str()))
 }
