@@ -14,11 +14,10 @@
 //! | `meet WORD WORD ..` | its status and its report, where each of two actions writes only once the other does too |
 //! | `reads`, `writes` | what the floor and the places tell of the last run |
 //! | `room`, `given` | what its first berth and its first line tell |
-//! | `objects` | each real object is driven once; the program runs in a folder of its own with the files of `data/` |
-//! | `real LIST` | a run of this list with real objects and shell workers: its report, its status and the line of its fault |
+//! | `real` | each real object is driven once; behind this line each line is a list, which is run with real objects and shell workers: its report, its status and the line of its fault |
 //!
-//! Other lines are printed as they are. `tools/run-vectors` writes `stdin` and `stdout`, and `tools/fail-alloc` plays two
-//! runs with each allocation refused in turn.
+//! Other lines before `real` are printed as they are. The program runs in a folder of its own with the files of `data/`.
+//! `tools/run-vectors` writes `stdin` and `stdout`, and `tools/fail-alloc` plays two runs with each allocation refused in turn.
 #![tactic(auto)]
 
 mod case;
@@ -36,9 +35,7 @@ use outside_real::{RealFloor, RealSink};
 use plain_values::NoMemory;
 use played::Shown;
 use std::alloc::Global;
-use std::fs::Files;
 use std::io::{ErrorKind, Print, Read};
-use std::process::{Processes, SystemProcess};
 use std::sync::Wait;
 use std::thread::Threads;
 use std::{io, str};
@@ -48,45 +45,43 @@ fn main(rt: HostRuntime) -> io::Result<()> {
     let alloc = rt.alloc();
     let mut bytes = Vec::new(alloc);
     rt.reader().read_to_end(&mut bytes)?;
+    let Ok(text) = str::from_utf8(&bytes) else {
+        return Err(io::Error::from(ErrorKind::InvalidData));
+    };
+    let Some((memory, lists)) = text.split_once("\nreal\n") else {
+        return play_all(&rt, alloc, text);
+    };
+    play_all(&rt, alloc, memory)?;
+    real::drive(&rt, alloc, RealFloor::new(rt, alloc))?;
+    for path in lists.lines() {
+        println!(&rt; "{path}")?;
+        let floor = RealFloor::new(rt, alloc);
+        real::run(&rt, alloc, path, floor, RealSink::new(rt))?;
+    }
+    Ok(())
+}
+
+fn play_all<R: Threads + Wait + Print + Copy + Drop + Send + Sync>(
+    rt: &R,
+    alloc: Global,
+    text: &str,
+) -> io::Result<()> {
     let mut case = Case::new(alloc);
     let mut last = None;
-    play_all(&rt, alloc, &bytes, &mut case, &mut last)
+    play_lines(rt, alloc, text, &mut case, &mut last)
 }
 
 // What the next run has, and what became of the last one, is lent to what may end early.
-fn play_all<
-    R: Threads
-        + Wait
-        + Print
-        + Files
-        + AllocGlobal
-        + Processes<Started = SystemProcess>
-        + Copy
-        + Drop
-        + Send
-        + Sync,
->(
+fn play_lines<R: Threads + Wait + Print + Copy + Drop + Send + Sync>(
     rt: &R,
     alloc: Global,
-    bytes: &[u8],
+    text: &str,
     case: &mut Case,
     last: &mut Option<Ended<MemFloor<R>>>,
 ) -> io::Result<()> {
-    let Ok(text) = str::from_utf8(bytes) else {
-        return Err(io::Error::from(ErrorKind::InvalidData));
-    };
     for line in text.lines() {
-        match line.split_once(' ').unwrap_or((line, "")) {
-            ("objects", _) => real::drive(rt, alloc, RealFloor::new(*rt, alloc))?,
-            ("real", path) => {
-                let floor = RealFloor::new(*rt, alloc);
-                real::run(rt, alloc, path, floor, RealSink::new(*rt))?;
-            }
-            _ => {
-                let told = play(rt, alloc, line, case, last).map_err(no_memory)?;
-                rt.print(told.as_str())?;
-            }
-        }
+        let told = play(rt, alloc, line, case, last).map_err(no_memory)?;
+        rt.print(told.as_str())?;
     }
     Ok(())
 }
