@@ -28,30 +28,33 @@ fn main(rt: HostRuntime) -> io::Result<()> {
     let Ok(text) = str::from_utf8(&bytes) else {
         return Err(io::Error::from(ErrorKind::InvalidData));
     };
-    let mut run = None;
-    play_lines(&rt, alloc, text, &mut run)
-}
-
-fn play_lines(rt: &impl Print, alloc: Global, text: &str, run: &mut Option<Run>) -> io::Result<()> {
-    for line in text.lines() {
-        let told = play(alloc, run, line)?;
-        println!(rt; "{}", told.as_str())?;
+    let mut parts = text.split("\nlist ");
+    for line in parts.next().unwrap_or("").lines() {
+        println!(&rt; "{line}")?;
+    }
+    for part in parts {
+        play(&rt, alloc, part)?;
     }
     Ok(())
 }
 
-// What the line comes to.
-fn play(alloc: Global, run: &mut Option<Run>, line: &str) -> io::Result<String> {
-    if let Some(list) = line.strip_prefix("list ") {
-        *run = Some(Run::new(alloc, list)?);
-        return Ok(String::from_str(alloc, line)?);
+// A run of the list that the first line has, by the lines behind it.
+fn play(rt: &impl Print, alloc: Global, part: &str) -> io::Result<()> {
+    let (list, lines) = part.split_once('\n').unwrap_or((part, ""));
+    println!(rt; "list {list}")?;
+    let mut run = Run::new(alloc, list)?;
+    play_lines(rt, alloc, lines, &mut run)
+}
+
+// The run is lent to what may end early.
+fn play_lines(rt: &impl Print, alloc: Global, lines: &str, run: &mut Run) -> io::Result<()> {
+    for line in lines.lines() {
+        let told = match line {
+            "report" => run.report(alloc)?,
+            "tables" => tables::largest(alloc)?,
+            _ => run.play(alloc, line)?,
+        };
+        println!(rt; "{}", told.as_str())?;
     }
-    if line == "tables" {
-        return tables::largest(alloc);
-    }
-    match run {
-        Some(run) if line == "report" => run.report(alloc),
-        Some(run) => run.play(alloc, line),
-        None => Ok(String::from_str(alloc, line)?),
-    }
+    Ok(())
 }
