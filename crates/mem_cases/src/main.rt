@@ -43,8 +43,6 @@ use plain_values::NoMemory;
 use std::alloc::Global;
 use std::io::{ErrorKind, Read};
 use std::sync::Wait;
-use std::thread::Threads;
-use std::time::{Clock, CpuClock};
 use std::{io, str};
 
 fn main(rt: HostRuntime) -> io::Result<()> {
@@ -55,27 +53,18 @@ fn main(rt: HostRuntime) -> io::Result<()> {
         return Err(io::Error::from(ErrorKind::InvalidData));
     };
     for line in text.lines() {
-        let told = told(&rt, alloc, line)?;
+        let (kind, rest) = line.split_once(' ').unwrap_or((line, ""));
+        let told = match kind {
+            "case" => steps::play(rt, alloc, rest).map_err(no_memory)?,
+            "generated" => generated(rt, alloc, number(rest)).map_err(no_memory)?,
+            "list" => list(alloc, number(rest)).map_err(no_memory)?,
+            "late" => crowd::late(&rt, alloc).map_err(no_memory)?,
+            "crowd" => crowd::crowd(&rt, alloc, number(rest))?,
+            _ => String::from_str(alloc, line)?,
+        };
         println!(&rt; "{}", told.as_str())?;
     }
     Ok(())
-}
-
-// What is printed for the line.
-fn told<R: Threads + Wait + Clock + CpuClock + Sync + Clone + Drop + Send>(
-    rt: &R,
-    alloc: Global,
-    line: &str,
-) -> io::Result<String> {
-    let (kind, rest) = line.split_once(' ').unwrap_or((line, ""));
-    match kind {
-        "case" => steps::play(rt.clone()?, alloc, rest).map_err(no_memory),
-        "generated" => generated(rt.clone()?, alloc, number(rest)).map_err(no_memory),
-        "list" => list(alloc, number(rest)).map_err(no_memory),
-        "late" => crowd::late(rt, alloc).map_err(no_memory),
-        "crowd" => crowd::crowd(rt, alloc, number(rest)),
-        _ => Ok(String::from_str(alloc, line)?),
-    }
 }
 
 pub fn no_memory(_: NoMemory) -> io::Error {

@@ -90,34 +90,24 @@ fn on_stage<R: Wait + Clone + Drop>(
 ) -> Result<String, NoMemory> {
     let (path, digits) = rest.split_once(',').unwrap_or((rest, ""));
     match kind {
-        "put" | "store" | "sink" => {
-            let bytes = bytes_of(alloc, if kind == "sink" { rest } else { digits });
-            done(alloc, write_on(stage, kind, path, &bytes))
-        }
         "clear" => done(alloc, stage.berth.room_clear(path)),
         "folder" => done(alloc, stage.berth.room_folder(path)),
-        "get" => read_as(alloc, stage.berth.room_get(path)),
-        "source" => read_as(alloc, stage.floor.read(path)),
+        "put" => done(
+            alloc,
+            stage
+                .berth
+                .room_put(path, bytes_of(alloc, digits).as_slice()),
+        ),
+        "get" => found(alloc, &stage.berth.room_get(path)?),
+        "source" => found(alloc, &stage.floor.read(path)?),
+        "store" => done(
+            alloc,
+            stage.place.write(path, bytes_of(alloc, digits).as_slice()),
+        ),
+        "sink" => done(alloc, stage.sink.put(bytes_of(alloc, rest).as_slice())),
         "faults" => faults(alloc, stage),
         _ => text(alloc, "no step"),
     }
-}
-
-fn write_on<R: Wait + Clone + Drop>(
-    stage: &mut Stage<R>,
-    kind: &str,
-    path: &str,
-    bytes: &[u8],
-) -> Io {
-    match kind {
-        "put" => stage.berth.room_put(path, bytes),
-        "store" => stage.place.write(path, bytes),
-        _ => stage.sink.put(bytes),
-    }
-}
-
-fn read_as(alloc: Global, read: Result<Read, NoMemory>) -> Result<String, NoMemory> {
-    found(alloc, &read?)
 }
 
 fn on_shop(alloc: Global, shop: &mut MemShop, kind: &str, rest: &str) -> Result<String, NoMemory> {

@@ -2,8 +2,7 @@
 // in its room, and puts a link to the folder of the start in the place of the room itself. Beside
 // the outputs it leaves a link at the name under which they are written.
 use crate::no_memory;
-use crate::real::tell_io;
-use crate::rooms::{Step, make};
+use crate::real::{tell_io, tell_read};
 use outside::{Berth, Child, Command, Feed, Launch, Taken, Tap, Variable};
 use plain_values::{Items, NoMemory, Text};
 use std::alloc::Global;
@@ -94,21 +93,6 @@ fn variable(alloc: Global, name: &str, value: &str) -> Result<Variable, NoMemory
     })
 }
 
-// While the line lives. What the shell has put in the way is no part of the room.
-const ALIVE: [(&str, Step); 5] = [
-    ("out, a link", Step::Get("out")),
-    ("way/passwd, behind a link", Step::Get("way/passwd")),
-    ("put way/x", Step::Put("way/x", b"inside")),
-    ("way/x", Step::Get("way/x")),
-    ("fifo", Step::Get("fifo")),
-];
-
-// Where a link stands in the place of the room.
-const MOVED: [(&str, Step); 2] = [
-    ("letter, not in the room", Step::Get("letter")),
-    ("clear", Step::Clear("")),
-];
-
 fn talk<B: Berth>(
     rt: &impl Print,
     berth: &mut B,
@@ -116,10 +100,21 @@ fn talk<B: Berth>(
     tap: &mut B::Tap,
     child: &mut B::Child,
 ) -> io::Result<()> {
-    say(rt, feed, tap, b"abc\n")?;
-    make(rt, berth, &ALIVE)?;
-    say(rt, feed, tap, b"moved\n")?;
-    make(rt, berth, &MOVED)?;
+    tell_io(rt, "feed", &feed.write(b"abc\n"))?;
+    tell_taken(rt, tap)?;
+    tell_read(rt, "out, a link", berth.room_get("out"))?;
+    tell_read(
+        rt,
+        "way/passwd, behind a link",
+        berth.room_get("way/passwd"),
+    )?;
+    tell_io(rt, "put way/x", &berth.room_put("way/x", b"inside"))?;
+    tell_read(rt, "way/x", berth.room_get("way/x"))?;
+    tell_read(rt, "fifo", berth.room_get("fifo"))?;
+    tell_io(rt, "feed", &feed.write(b"moved\n"))?;
+    tell_taken(rt, tap)?;
+    tell_read(rt, "letter, not in the room", berth.room_get("letter"))?;
+    tell_io(rt, "clear", &berth.room_clear(""))?;
     child.kill();
     tell_taken(rt, tap)?;
     tell_io(rt, "feed of a dead process", &feed.write(b"abc\n"))?;
@@ -128,17 +123,6 @@ fn talk<B: Berth>(
         feed.faults(),
         tap.faults()
     )
-}
-
-// Gives the line these bytes, and reads what it says to them.
-fn say<F: Feed, T: Tap>(
-    rt: &impl Print,
-    feed: &mut F,
-    tap: &mut T,
-    bytes: &[u8],
-) -> io::Result<()> {
-    tell_io(rt, "feed", &feed.write(bytes))?;
-    tell_taken(rt, tap)
 }
 
 fn tell_taken<T: Tap>(rt: &impl Print, tap: &mut T) -> io::Result<()> {

@@ -5,66 +5,32 @@ use plain_values::NoMemory;
 use std::alloc::Global;
 use std::io;
 
-/// A call on a room.
-#[derive(Drop, Clone, Copy)]
-pub enum Step {
-    Clear(&'static str),
-    Folder(&'static str),
-    Put(&'static str, &'static [u8]),
-    Get(&'static str),
-}
-
-const ROOM: [(&str, Step); 11] = [
-    ("clear", Step::Clear("")),
-    ("put a/b", Step::Put("a/b", b"x")),
-    ("put a/b again", Step::Put("a/b", b"y")),
-    ("a/b", Step::Get("a/b")),
-    ("a", Step::Get("a")),
-    ("a/b/c", Step::Get("a/b/c")),
-    ("folder c/d", Step::Folder("c/d")),
-    ("put c/d", Step::Put("c/d", b"z")),
-    ("clear a", Step::Clear("a")),
-    ("a/b", Step::Get("a/b")),
-    ("clear a again", Step::Clear("a")),
-];
-
-// Files on the way to what is put and to a folder, which make room.
-const WAY: [(&str, Step); 7] = [
-    ("put e", Step::Put("e", b"x")),
-    ("put e/f/g", Step::Put("e/f/g", b"y")),
-    ("e/f/g", Step::Get("e/f/g")),
-    ("folder e/f/g", Step::Folder("e/f/g")),
-    ("e/f/g", Step::Get("e/f/g")),
-    ("put e/f/g/h", Step::Put("e/f/g/h", b"z")),
-    ("e/f/g/h", Step::Get("e/f/g/h")),
-];
-
 pub fn play<B: Berth>(rt: &impl Print, alloc: Global, berth: &mut B) -> io::Result<()> {
-    make(rt, berth, &ROOM)?;
-    make(rt, berth, &WAY)?;
+    tell_io(rt, "clear", &berth.room_clear(""))?;
+    tell_io(rt, "put a/b", &berth.room_put("a/b", b"x"))?;
+    tell_io(rt, "put a/b again", &berth.room_put("a/b", b"y"))?;
+    tell_read(rt, "a/b", berth.room_get("a/b"))?;
+    tell_read(rt, "a", berth.room_get("a"))?;
+    tell_read(rt, "a/b/c", berth.room_get("a/b/c"))?;
+    tell_io(rt, "folder c/d", &berth.room_folder("c/d"))?;
+    tell_io(rt, "put c/d", &berth.room_put("c/d", b"z"))?;
+    tell_io(rt, "clear a", &berth.room_clear("a"))?;
+    tell_read(rt, "a/b", berth.room_get("a/b"))?;
+    tell_io(rt, "clear a again", &berth.room_clear("a"))?;
+    play_way(rt, berth)?;
     play_much(rt, alloc, berth)?;
     println!(rt; "  faults of the berth {}", berth.faults())
 }
 
-/// Makes these calls, and prints what each comes to.
-pub fn make<B: Berth>(
-    rt: &impl Print,
-    berth: &mut B,
-    steps: &[(&'static str, Step)],
-) -> io::Result<()> {
-    for (what, step) in steps {
-        make_one(rt, berth, what, *step)?;
-    }
-    Ok(())
-}
-
-fn make_one<B: Berth>(rt: &impl Print, berth: &mut B, what: &str, step: Step) -> io::Result<()> {
-    match step {
-        Step::Clear(part) => tell_io(rt, what, &berth.room_clear(part)),
-        Step::Folder(path) => tell_io(rt, what, &berth.room_folder(path)),
-        Step::Put(path, bytes) => tell_io(rt, what, &berth.room_put(path, bytes)),
-        Step::Get(path) => tell_read(rt, what, berth.room_get(path)),
-    }
+// Files on the way to what is put and to a folder, which make room.
+fn play_way<B: Berth>(rt: &impl Print, berth: &mut B) -> io::Result<()> {
+    tell_io(rt, "put e", &berth.room_put("e", b"x"))?;
+    tell_io(rt, "put e/f/g", &berth.room_put("e/f/g", b"y"))?;
+    tell_read(rt, "e/f/g", berth.room_get("e/f/g"))?;
+    tell_io(rt, "folder e/f/g", &berth.room_folder("e/f/g"))?;
+    tell_read(rt, "e/f/g", berth.room_get("e/f/g"))?;
+    tell_io(rt, "put e/f/g/h", &berth.room_put("e/f/g/h", b"z"))?;
+    tell_read(rt, "e/f/g/h", berth.room_get("e/f/g/h"))
 }
 
 // A large file and an empty one, and more names than one read of a folder gives.
