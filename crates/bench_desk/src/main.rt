@@ -1,7 +1,7 @@
 //! Measures the desk beside a bare `Mutex`, and lanes that call it through callers.
 //!
 //! ```text
-//! bench_desk                          a small run, which prints counts and no times
+//! bench_desk                          the trials and a small run, which print counts and no times
 //! bench_desk crowd LANES TURNS        lanes that call an adder without a pause, TURNS each
 //! bench_desk traffic SEATS ROUNDS     64 seats, of which SEATS make ROUNDS actions each
 //! bench_desk rest MILLISECONDS        the lanes of 64 idle seats
@@ -15,6 +15,7 @@ mod lane;
 mod rounds;
 mod seats;
 mod traffic;
+mod trials;
 mod watch;
 
 use crowd::{Crowd, alone};
@@ -27,6 +28,7 @@ use std::fs::Files;
 use std::sync::Wait;
 use std::thread::Threads;
 use std::time::{Clock, CpuClock};
+use trials::tell_trials;
 use watch::Watch;
 
 // The lanes of a crowd at most.
@@ -44,6 +46,7 @@ fn small_run<R: Threads + Wait + Clock + CpuClock + Files + Print + Sync>(
     rt: &R,
     alloc: Global,
 ) -> Result<(), Failure> {
+    tell_trials(rt, alloc)?;
     for crowd in [Crowd::Desk, Crowd::Callers, Crowd::Mutex] {
         let turns = crowd.run(rt, alloc, 4, 100)?;
         println!(rt; "a crowd of 4 {}: {turns} turns", crowd.words())?;

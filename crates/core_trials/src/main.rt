@@ -6,23 +6,28 @@
 //! | `P0 CALL ..`, `T0 CALL ..` | itself and the reply: a call of the proxy lane or of the tap lane of berth 0 |
 //! | `report` | the report of the run so far |
 //! | `tables` | what each table that the core stands on answers at first, for the largest plan |
+//! | `whole runs` | itself, and the steps of whole runs with 64 actions |
 //!
-//! Other lines are printed as they are.
+//! Other lines are printed as they are. With the word `times` it measures instead, in steps a second over whole runs.
 #![tactic(auto)]
 
 mod calls;
 mod replies;
 mod run;
 mod tables;
+mod times;
 mod words;
 
 use run::Run;
 use std::alloc::Global;
 use std::io::{ErrorKind, Read};
-use std::{io, str};
+use std::{env, io, str};
 
 fn main(rt: HostRuntime) -> io::Result<()> {
     let alloc = rt.alloc();
+    if env::args(&rt)?.nth(1).is_some() {
+        return times::tell_times(&rt, alloc);
+    }
     let mut bytes = Vec::new(alloc);
     rt.reader().read_to_end(&mut bytes)?;
     let Ok(text) = str::from_utf8(&bytes) else {
@@ -52,6 +57,7 @@ fn play_lines(rt: &impl Print, alloc: Global, lines: &str, run: &mut Run) -> io:
         let told = match line {
             "report" => run.report(alloc)?,
             "tables" => tables::largest(alloc)?,
+            "whole runs" => times::small_runs(alloc)?,
             _ => run.play(alloc, line)?,
         };
         println!(rt; "{}", told.as_str())?;

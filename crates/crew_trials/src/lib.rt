@@ -4,8 +4,6 @@
 
 mod exchanging;
 mod slot;
-#[cfg(test)]
-mod tests;
 
 pub use exchanging::{Emptier, Filler, SlotEnd, SlotLane, Until, exchange};
 pub use slot::{Answer, Ask, Nothing, Slot};

@@ -10,7 +10,5 @@ pub mod counting;
 pub mod lending;
 pub mod locker;
 mod nothing;
-#[cfg(test)]
-mod tests;
 
 pub use nothing::Nothing;

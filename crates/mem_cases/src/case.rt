@@ -64,6 +64,15 @@ fn beats(alloc: Global, words: &str) -> Result<Option<Vec<Beat>>, NoMemory> {
     Ok(Some(beats))
 }
 
+/// The look at which the shop finds no memory, from 1 on; 0 where it's to find some at each.
+pub fn short(words: &str) -> u64 {
+    let nth = words
+        .split(' ')
+        .filter_map(|word| word.strip_prefix("short="))
+        .next();
+    u64::from(number(nth.unwrap_or("")))
+}
+
 /// How the runs of the shop end, one after another.
 pub fn ends(alloc: Global, words: &str) -> Result<Vec<JobEnd>, NoMemory> {
     let mut ends = Vec::new(alloc);
@@ -129,6 +138,7 @@ fn failing(word: &str) -> FailAt {
         "tap" => Object::Tap(0),
         "place" => Object::Place(0),
         "shop-put" => Object::ShopPut,
+        "shop-folder" => Object::ShopFolder,
         "shop-get" => Object::ShopGet,
         _ => Object::Sink,
     };

@@ -1,5 +1,5 @@
-//! Plays cases of the objects in memory, one a line of standard input, and prints what each comes to. Bytes are
-//! hexadecimal.
+//! Plays cases of the objects in memory, and of the programs that answer messages over them, one a line of standard
+//! input, and prints what each comes to. Bytes are hexadecimal.
 //!
 //! A line `case WORD WORD .. : STEP STEP ..` says what a floor has and what is done with its objects, and the answers
 //! of the steps are printed. The words:
@@ -12,6 +12,7 @@
 //! | `file=PATH,BYTES` | a source, which the shop has too |
 //! | `end=CODE,BYTES`, `end=signal`, `end=failed` | how the next run of the shop ends |
 //! | `fail=OBJECT,NTH` | the NTH call on this object of berth, line or action 0 fails |
+//! | `short=NTH` | at its NTH look the shop finds no memory |
 //!
 //! | Step | Does |
 //! |---|---|
@@ -22,17 +23,26 @@
 //! | `source=PATH`, `store=PATH,BYTES`, `sink=BYTES` | a read of the floor, a write to the place of action 0, a put |
 //! | `shop-put=PATH,BYTES`, `shop-get=PATH`, `shop-run=FOLDER,WORD` | a call on the shop |
 //! | `faults` | the count of faults of all objects |
+//! | `execute` | the executor takes the jobs that the line gives; its status, and what it has put |
+//!
+//! A line `demo WORD WORD .. : WORD WORD ..` plays the demonstration worker with the words behind the colon, whose input
+//! is the line. Printed are its status, with the exit code where it is told, the bytes put, each call on the shop with
+//! its answer, and what stands in the end at each path that a word `see=PATH` names. `meanwhile` plays the executor over
+//! jobs that come while the first one is run.
 //!
 //! `generated COUNT` prints the sources of a generated list, and `list COUNT` the list. `late` has two lines wait at
 //! once for what never comes. `crowd COUNT` has so many children wait on threads of their own, each for the one before,
 //! and says how many of them gave their byte and then ended, and whether the wait took less than a fifth of a processor.
 //! Other lines are printed as they are.
 //!
-//! `tools/mem-vectors` writes `stdin` and `stdout`.
+//! `tools/mem-vectors`, `tools/shop-vectors` and `tools/demo-vectors` write `stdin` and `stdout`, each its own part.
 #![tactic(auto)]
 
 mod case;
 mod crowd;
+mod demo;
+mod meanwhile;
+mod short;
 mod stage;
 mod steps;
 
@@ -55,9 +65,11 @@ fn main(rt: HostRuntime) -> io::Result<()> {
     for line in text.lines() {
         let (kind, rest) = line.split_once(' ').unwrap_or((line, ""));
         let told = match kind {
-            "case" => steps::play(rt, alloc, rest).map_err(no_memory)?,
+            "case" => steps::play(&rt, alloc, rest).map_err(no_memory)?,
             "generated" => generated(rt, alloc, number(rest)).map_err(no_memory)?,
             "list" => list(alloc, number(rest)).map_err(no_memory)?,
+            "demo" => demo::play(&rt, alloc, rest).map_err(no_memory)?,
+            "meanwhile" => meanwhile::meanwhile(&rt, alloc).map_err(no_memory)?,
             "late" => crowd::late(&rt, alloc).map_err(no_memory)?,
             "crowd" => crowd::crowd(&rt, alloc, number(rest))?,
             _ => String::from_str(alloc, line)?,

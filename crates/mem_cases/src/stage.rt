@@ -1,10 +1,14 @@
 // The objects of one case.
-use crate::case::{ends, fails, files, script};
+use crate::case::{ends, fails, files, script, short};
+use crate::short::ShortShop;
 use outside::{Berth, Command, Floor, Launch};
 use outside_mem::{MemBerth, MemChild, MemFeed, MemFloor, MemPlace, MemShop, MemSink, MemTap};
 use plain_values::{Items, NoMemory, Text};
 use std::alloc::Global;
 use std::sync::Wait;
+
+/// A shop in memory, which may find no memory itself.
+pub type Shelf = ShortShop<MemShop>;
 
 type Launched<R> = Launch<MemFeed<R>, MemTap<R>, MemChild<R>>;
 
@@ -23,7 +27,7 @@ pub struct Stage<R> {
     pub berth: MemBerth<R>,
     pub place: MemPlace,
     pub sink: MemSink,
-    pub shop: MemShop,
+    pub shop: Shelf,
     pub lines: Vec<Line<R>>,
     /// The line that the next step is of.
     pub line: usize,
@@ -94,9 +98,10 @@ fn words_of(alloc: Global, word: &str) -> Result<Vec<Text>, NoMemory> {
     Ok(words)
 }
 
-fn shop(alloc: Global, words: &str) -> Result<MemShop, NoMemory> {
+fn shop(alloc: Global, words: &str) -> Result<Shelf, NoMemory> {
     let files = files(alloc, words)?;
     let ends = ends(alloc, words)?;
     let fails = fails(alloc, words)?;
-    MemShop::new(alloc, files, ends, fails)
+    let shop = MemShop::new(alloc, files, ends, fails)?;
+    Ok(ShortShop::new(shop, short(words)))
 }

@@ -1,21 +1,28 @@
 // What is done with the objects of a case, and what they answer.
 use crate::case::bytes_of;
+use crate::demo::digits;
 use crate::number;
-use crate::stage::{Line, Stage};
+use crate::stage::{Line, Shelf, Stage};
+use demo_programs::execute;
 use outside::{Berth, Child, Feed, Floor, Io, JobEnd, Place, Read, Shop, Sink, Taken, Tap};
-use outside_mem::MemShop;
 use plain_values::{NoMemory, Text};
 use std::alloc::Global;
 use std::sync::Wait;
+use std::thread::Threads;
 
 /// Plays a case, and says what its steps answered.
-pub fn play<R: Wait + Clone + Drop>(rt: R, alloc: Global, case: &str) -> Result<String, NoMemory> {
+pub fn play<R: Threads + Wait + Sync + Clone + Drop + Send>(
+    rt: &R,
+    alloc: Global,
+    case: &str,
+) -> Result<String, NoMemory> {
     let (words, steps) = case.split_once(": ").unwrap_or((case, ""));
-    let mut stage = Stage::new(rt, alloc, words)?;
-    play_on(alloc, &mut stage, steps)
+    let mut stage = Stage::new(rt.clone()?, alloc, words)?;
+    play_on(rt, alloc, &mut stage, steps)
 }
 
-fn play_on<R: Wait + Clone + Drop>(
+fn play_on<R: Threads + Wait + Sync + Clone + Drop + Send>(
+    rt: &R,
     alloc: Global,
     stage: &mut Stage<R>,
     steps: &str,
@@ -26,7 +33,7 @@ fn play_on<R: Wait + Clone + Drop>(
         if kind == "line" {
             stage.line = number(rest) as usize;
         } else {
-            add(&mut told, step_on(alloc, stage, kind, rest)?.as_str())?;
+            add(&mut told, step_on(rt, alloc, stage, kind, rest)?.as_str())?;
         }
     }
     Ok(told)
@@ -41,7 +48,8 @@ pub fn add(told: &mut String, answer: &str) -> Result<(), NoMemory> {
     Ok(())
 }
 
-fn step_on<R: Wait + Clone + Drop>(
+fn step_on<R: Threads + Wait + Sync + Clone + Drop + Send>(
+    rt: &R,
     alloc: Global,
     stage: &mut Stage<R>,
     kind: &str,
@@ -58,11 +66,27 @@ fn step_on<R: Wait + Clone + Drop>(
             None => text(alloc, "no line"),
         },
         "shop-put" | "shop-get" | "shop-run" => on_shop(alloc, &mut stage.shop, kind, rest),
+        "execute" => executed(rt, alloc, stage),
         _ => on_stage(alloc, stage, kind, rest),
     }
 }
 
-fn text(alloc: Global, text: &str) -> Result<String, NoMemory> {
+// The executor takes the jobs that come by the line's tap, and does them in the shop.
+fn executed<R: Threads + Wait + Sync + Clone + Drop + Send>(
+    rt: &R,
+    alloc: Global,
+    stage: &mut Stage<R>,
+) -> Result<String, NoMemory> {
+    let Some(line) = stage.lines.get_mut(stage.line) else {
+        return text(alloc, "no line");
+    };
+    let finish = execute(rt, alloc, &mut line.tap, &mut stage.sink, &mut stage.shop);
+    let put = digits(alloc, stage.sink.bytes())?;
+    Ok(format!(in alloc; "{} {}", finish.status(), put.as_str())?)
+}
+
+/// The text.
+pub fn text(alloc: Global, text: &str) -> Result<String, NoMemory> {
     Ok(String::from_str(alloc, text)?)
 }
 
@@ -110,7 +134,7 @@ fn on_stage<R: Wait + Clone + Drop>(
     }
 }
 
-fn on_shop(alloc: Global, shop: &mut MemShop, kind: &str, rest: &str) -> Result<String, NoMemory> {
+fn on_shop(alloc: Global, shop: &mut Shelf, kind: &str, rest: &str) -> Result<String, NoMemory> {
     let (path, other) = rest.split_once(',').unwrap_or((rest, ""));
     match kind {
         "shop-put" => done(alloc, shop.put(path, bytes_of(alloc, other).as_slice())),

@@ -1,12 +1,16 @@
-//! An input that comes byte by byte, and a shop whose runs wait for its end.
+// Jobs that come byte by byte while the first of them is run: an input, and a shop whose runs wait for its end.
 ghost use Rattle.std.specs.Prelude.{◌≡◌, None};
 
+use crate::demo::digits;
+use demo_programs::execute;
 use outside::{Io, JobEnd, Read, Shop, Taken, Tap, Variable};
+use outside_mem::MemSink;
 use plain_values::{Blob, NoMemory, Text};
 use std::alloc::Global;
+use std::sync::Wait;
 use std::sync::atomic::AtomicBool;
 use std::sync::atomic::Ordering::SeqCst;
-use std::thread::yield_now;
+use std::thread::{Threads, yield_now};
 
 /// The jobs 1 and 2, and then the cancelling job 2, each behind its length.
 const JOBS: [u8; 17] = [5, 8, 1, 18, 1, 116, 5, 8, 2, 18, 1, 116, 4, 8, 2, 48, 1];
@@ -14,16 +18,27 @@ const JOBS: [u8; 17] = [5, 8, 1, 18, 1, 116, 5, 8, 2, 18, 1, 116, 4, 8, 2, 48, 1
 /// For how many turns a run waits.
 const MOST_TURNS: u64 = 10_000_000;
 
+/// The executor takes these jobs, and the first one's run waits until all have come.
+pub fn meanwhile<R: Threads + Wait + Sync>(rt: &R, alloc: Global) -> Result<String, NoMemory> {
+    let has_ended = AtomicBool::new(false);
+    let mut input = SlowInput::new(&has_ended);
+    let mut shop = PatientShop::new(alloc, &has_ended);
+    let mut sink = MemSink::new(alloc, Vec::new(alloc));
+    let finish = execute(rt, alloc, &mut input, &mut sink, &mut shop);
+    let put = digits(alloc, sink.bytes())?;
+    Ok(format!(in alloc; "{} {}", finish.status(), put.as_str())?)
+}
+
 /// An input that gives a byte a read, and says when it has answered `End`.
 #[derive(Drop)]
-pub struct SlowInput<'a> {
+struct SlowInput<'a> {
     given: usize,
     has_ended: &'a AtomicBool,
 }
 
 impl<'a> SlowInput<'a> {
     /// An input with the jobs 1 and 2 and a cancelling job 2.
-    pub fn new(has_ended: &'a AtomicBool) -> SlowInput<'a> {
+    fn new(has_ended: &'a AtomicBool) -> SlowInput<'a> {
         SlowInput {
             given: 0,
             has_ended,
@@ -56,7 +71,7 @@ impl Tap for SlowInput<'_> {
 /// A shop without files, in which every put is done. Each run waits until the input has ended, and
 /// fails if that doesn't come.
 #[derive(Drop)]
-pub struct PatientShop<'a> {
+struct PatientShop<'a> {
     alloc: Global,
     has_ended: &'a AtomicBool,
     faults: u64,
@@ -64,7 +79,7 @@ pub struct PatientShop<'a> {
 
 impl<'a> PatientShop<'a> {
     /// A shop whose runs wait for this.
-    pub fn new(alloc: Global, has_ended: &'a AtomicBool) -> PatientShop<'a> {
+    fn new(alloc: Global, has_ended: &'a AtomicBool) -> PatientShop<'a> {
         PatientShop {
             alloc,
             has_ended,

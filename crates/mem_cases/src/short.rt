@@ -1,21 +1,29 @@
-use outside::{Io, JobEnd, Read, Shop, Variable};
+use outside::{Io, JobEnd, Read, Shop, ShopCall, Variable};
+use outside_mem::MemShop;
 use plain_values::{NoMemory, Text};
 
 /// A shop that finds no memory at one of its looks.
 #[derive(Drop)]
 pub struct ShortShop<S> {
-    pub shop: S,
+    shop: S,
     /// How many looks it has yet to answer until then; none, where it's to find some at each.
-    pub left: Option<u64>,
+    left: Option<u64>,
 }
 
 impl<S> ShortShop<S> {
-    /// A shop that finds none at this look, from 1 on; 0 where it finds some at each.
+    /// A shop that finds none at this look, from 1 on; 0 where it's to find some at each.
     pub fn new(shop: S, nth: u64) -> ShortShop<S> {
         ShortShop {
             shop,
             left: nth.checked_sub(1),
         }
+    }
+}
+
+impl ShortShop<MemShop> {
+    /// The calls on the shop.
+    pub fn log(&self) -> &[ShopCall] {
+        self.shop.log().unwrap_or(&[])
     }
 }
 

@@ -2,17 +2,17 @@
 ghost use Rattle.std.specs.Prelude.{IfOk};
 ghost use Rattle.action_list.specs.Whole.{IsWhole};
 
-use crate::failure::Failure;
+use crate::run::failed;
 use action_list::{ActionList, plan, read_list};
-use plain_values::NoMemory;
 use spawn_core::Core;
 use std::alloc::Global;
+use std::io::{self, ErrorKind};
 
 // How many workers a key has.
 const INSTANCES: u32 = 4;
 
 /// How the actions hang together.
-#[derive(Clone, Copy, Debug, PartialEq, Eq)]
+#[derive(Clone, Copy)]
 pub enum Shape {
     /// Each takes the output of the one before.
     Chain,
@@ -21,7 +21,7 @@ pub enum Shape {
 }
 
 /// How many requests a worker takes at once.
-#[derive(Clone, Copy, Debug, PartialEq, Eq)]
+#[derive(Clone, Copy)]
 pub enum Answering {
     OneByOne,
     Several,
@@ -40,13 +40,13 @@ impl Work {
     ///
     /// # Errors
     ///
-    /// `NoMemory` where its text finds none.
+    /// Where its text finds no memory.
     pub fn new(
         alloc: Global,
         shape: Shape,
         answering: Answering,
         actions: u32,
-    ) -> Result<Work, Failure> {
+    ) -> io::Result<Work> {
         let mut text = String::from_str(alloc, "{\"actions\":[")?;
         for number in 0..actions {
             if number > 0 {
@@ -75,12 +75,13 @@ impl Work {
     ///
     /// # Errors
     ///
-    /// `NoMemory` where its tables find none, and `Refused` where the list isn't one.
-    pub fn core(&self, alloc: Global) -> Result<Core, Failure> {
-        match read_list(alloc, self.text.as_bytes()) {
-            Ok(list) => Ok(Core::new(alloc, plan(alloc, &list, INSTANCES, 1, 1)?)?),
-            Err(_) => Err(Failure::Refused),
-        }
+    /// `InvalidData` where the list isn't one, and where its tables find no memory.
+    pub fn core(&self, alloc: Global) -> io::Result<Core> {
+        let Ok(list) = read_list(alloc, self.text.as_bytes()) else {
+            return Err(io::Error::from(ErrorKind::InvalidData));
+        };
+        let plan = plan(alloc, &list, INSTANCES, 1, 1).map_err(failed)?;
+        Core::new(alloc, plan).map_err(failed)
     }
 }
 
@@ -91,7 +92,7 @@ fn write_action(
     answering: Answering,
     number: u32,
     actions: u32,
-) -> Result<(), Failure> {
+) -> io::Result<()> {
     let several = match answering {
         Answering::OneByOne => "",
         Answering::Several => ",\"supports-multiplex-workers\":\"1\"",
@@ -115,7 +116,7 @@ fn write_made(
     shape: Shape,
     number: u32,
     actions: u32,
-) -> Result<(), Failure> {
+) -> io::Result<()> {
     let (first, past) = match shape {
         _ if number == 0 => (0, 0),
         Shape::Chain => (number - 1, number),

@@ -1,27 +1,17 @@
-//! Measures the scheduling core: steps a second over whole runs, which one thread plays for all lanes.
-//!
-//! ```text
-//! bench_core          small runs, which print counts and no times
-//! bench_core times    runs of 64 to 4,096 actions, with times
-//! ```
-//!
-//! A run is played once, and each call of a lane noted. What is timed is that these calls are made again on a new core,
-//! so that a figure has nothing in it but `Core::step`, and that the calls are gone through.
-#![tactic(auto)]
-
+// Whole runs, which one thread plays for all lanes: how many steps they are, and how many a second.
+//
+// A run is played once, and each call of a lane noted. What is timed is that these calls are made again on a new core,
+// so that a figure has nothing in it but `Core::step`, and that the calls are gone through.
 mod berth;
-mod failure;
 mod lists;
 mod record;
 mod watch;
 
-use failure::Failure;
 use lists::{Answering, Shape, Work};
 use record::{Made, committed, play, replay};
 use spawn_core::Core;
 use std::alloc::Global;
-use std::env;
-use std::env::Env;
+use std::io;
 use std::time::{Clock, CpuClock};
 use watch::{Measure, Watch};
 
@@ -45,34 +35,30 @@ struct Reading {
     committed: usize,
 }
 
-fn main(rt: HostRuntime) -> Result<(), Failure> {
-    let timed = env::args(&rt)?.nth(1).is_some();
-    if timed {
-        for actions in [64u32, 256, 512, 1024, 2048, 4096] {
-            time_works(&rt, rt.alloc(), actions)?;
-        }
-        return Ok(());
-    }
-    small_runs(&rt, rt.alloc())
-}
-
-fn small_runs<R: Print>(rt: &R, alloc: Global) -> Result<(), Failure> {
+/// How many steps each work of 64 actions takes, behind a line that says so.
+pub fn small_runs(alloc: Global) -> io::Result<String> {
+    let mut told = String::from_str(alloc, "whole runs")?;
     for (shape, answering) in WORKS {
         let work = Work::new(alloc, shape, answering, 64)?;
         let calls = play(alloc, &work)?;
         let done = committed(calls.as_slice());
         let steps = calls.len();
         let name = work.name();
-        println!(rt; "{name}: 64 actions, {done} committed, {steps} steps")?;
+        let line = format!(in alloc; "\n{name}: 64 actions, {done} committed, {steps} steps")?;
+        told.push_str(line.as_str())?;
+    }
+    Ok(told)
+}
+
+/// Prints how long the steps of each work of 64 to 4,096 actions take.
+pub fn tell_times<R: Clock + CpuClock + Print>(rt: &R, alloc: Global) -> io::Result<()> {
+    for actions in [64u32, 256, 512, 1024, 2048, 4096] {
+        time_works(rt, alloc, actions)?;
     }
     Ok(())
 }
 
-fn time_works<R: Clock + CpuClock + Print>(
-    rt: &R,
-    alloc: Global,
-    actions: u32,
-) -> Result<(), Failure> {
+fn time_works<R: Clock + CpuClock + Print>(rt: &R, alloc: Global, actions: u32) -> io::Result<()> {
     for (shape, answering) in WORKS {
         let work = Work::new(alloc, shape, answering, actions)?;
         let calls = play(alloc, &work)?;
@@ -95,7 +81,7 @@ fn time_works<R: Clock + CpuClock + Print>(
 }
 
 // How long it takes to go through the calls, which isn't the core's: those of a long run are more than a cache holds.
-fn time_reading<R: CpuClock>(rt: &R, calls: &[Made]) -> Result<Reading, Failure> {
+fn time_reading<R: CpuClock>(rt: &R, calls: &[Made]) -> io::Result<Reading> {
     let mut reading = Reading {
         measure: Measure::none(),
         committed: 0,
@@ -116,7 +102,7 @@ fn time_replays<R: Clock + CpuClock>(
     alloc: Global,
     work: &Work,
     calls: &[Made],
-) -> Result<Measure, Failure> {
+) -> io::Result<Measure> {
     let times = TIMED_STEPS / calls.len().max(1);
     let mut measure = Measure::none();
     for _ in 0..times.max(3) {
@@ -132,8 +118,8 @@ fn time_replay<R: Clock + CpuClock>(
     rt: &R,
     core: &mut Core,
     calls: &[Made],
-) -> Result<Measure, Failure> {
+) -> io::Result<Measure> {
     let watch = Watch::start(rt)?;
     replay(core, calls);
-    Ok(watch.stop(rt, calls.len() as u64)?)
+    watch.stop(rt, calls.len() as u64)
 }

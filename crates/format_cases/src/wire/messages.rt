@@ -1,5 +1,5 @@
 // Messages: what is read is written again.
-use crate::numbers::bytes_of;
+use super::numbers::bytes_of;
 use plain_values::NoMemory;
 use remote_messages::{decode_job, decode_result, encode_job, encode_result, job_length};
 use std::alloc::Global;

@@ -1,11 +1,11 @@
 // The two lanes of a berth, with a worker that answers each request.
-use crate::record::Record;
+use super::record::Record;
 use exec_journal::{Answer, Branch, Call, CommitEnd, Found, HowEnded, Reply, Started, Written};
 use plain_values::{Blob, Items, NoMemory, Text};
 use std::alloc::Global;
 
 // What the tap lane does.
-#[derive(Clone, Copy, Debug, PartialEq, Eq)]
+#[derive(Clone, Copy, PartialEq, Eq)]
 enum Tap {
     Waits,
     Reads(u32),

@@ -1,5 +1,5 @@
 // Messages as JSON lines, and lines of a stream that comes in pieces.
-use crate::numbers::bytes_of;
+use super::numbers::bytes_of;
 use delimited_framing::Next;
 use json_framing::LineSplitter;
 use json_messages::{read_request_line, read_response_line, request_line, response_line};

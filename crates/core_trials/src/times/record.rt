@@ -1,11 +1,12 @@
 // A run that is played, and played again.
-use crate::berth::Berth;
-use crate::failure::Failure;
-use crate::lists::Work;
+use super::berth::Berth;
+use super::lists::Work;
+use crate::run::failed;
 use exec_journal::{Call, Reply};
 use plain_values::NoMemory;
 use spawn_core::Core;
 use std::alloc::Global;
+use std::io;
 
 // The berths of a work.
 const BERTHS: u32 = 4;
@@ -44,8 +45,8 @@ impl Record {
 ///
 /// # Errors
 ///
-/// `NoMemory` where the core or its calls find none.
-pub fn play(alloc: Global, work: &Work) -> Result<Vec<Made>, Failure> {
+/// Where the core or its calls find no memory.
+pub fn play(alloc: Global, work: &Work) -> io::Result<Vec<Made>> {
     let mut record = Record {
         core: work.core(alloc)?,
         calls: Vec::new(alloc),
@@ -53,7 +54,7 @@ pub fn play(alloc: Global, work: &Work) -> Result<Vec<Made>, Failure> {
     let played = play_to_end(alloc, &mut record);
     let Record { core, calls } = record;
     drop(core);
-    played?;
+    played.map_err(failed)?;
     Ok(calls)
 }
 

@@ -1,7 +1,17 @@
-//! Plays cases of paths, words, flag files and lists, one a line of standard input, and prints what each comes to.
+//! Plays cases of what is read and what is written, one a line of standard input, and prints what each comes to:
+//! numbers, messages and frames, whose bytes are hexadecimal; paths, words, flag files and lists; plans, reports and faults.
 //!
 //! | A line | Prints |
 //! |---|---|
+//! | `number N` | its bytes, and their count by `varint_length` |
+//! | `varint BYTES`, `field BYTES` | what stands at the front |
+//! | `request BYTES`, `response BYTES`, `job BYTES`, `result BYTES` | the written form of the message, or its fault |
+//! | `request_length BYTES`, `parts BYTES` | a request's length before it is written; a response's parts |
+//! | `frames PIECE PIECE ..` | what comes of each piece that is fed: frames, `-` where none is whole, the fault |
+//! | `many COUNT` | how many frames come of one piece with that many |
+//! | `response_line TEXT`, `response_bytes BYTES`, `request_line TEXT` | the written line of the message, or its fault |
+//! | `lines PIECE PIECE ..` | as `frames`, of lines of at most 8 bytes |
+//! | `many_lines COUNT` | how many lines come of one piece with that many |
 //! | `path PATH` | the path's fault, or `ok` |
 //! | `words WORD WORD ..` | the options that the command's words give, or `refused` |
 //! | `empty_word` | the same of one empty word |
@@ -17,10 +27,12 @@
 //! | `report HOW`, `short HOW` | the report of an action that was `won`, or `failed`, and its status |
 //! | `faults` | the line and the status of each other fault |
 //!
+//! In the text of a file `␊` stands for a line feed and `␍` for a carriage return. Other lines are printed as they are.
+//! `tools/wire-vectors` writes the cases of requests and responses, with the written forms that protoc gives, and
+//! `tools/line-vectors` those of lines, by Python, into `stdin` and `stdout`.
+//!
 //! With the word `times` it measures instead: standard input is one list, of which it prints how long it takes to be
 //! read, planned and reported on. `tools/make-action-list` writes lists to measure with.
-//!
-//! In the text of a file `␊` stands for a line feed and `␍` for a carriage return. Other lines are printed as they are.
 #![tactic(auto)]
 
 mod files;
@@ -29,6 +41,7 @@ mod keys;
 mod lists;
 mod reports;
 mod times;
+mod wire;
 mod words;
 
 use files::CaseFiles;
@@ -95,6 +108,6 @@ fn told(alloc: Global, kind: &str, rest: &str, line: &str) -> Result<String, NoM
         "report" => reports::reported(alloc, rest, false),
         "short" => reports::reported(alloc, rest, true),
         "faults" => reports::faults(alloc),
-        _ => Ok(String::from_str(alloc, line)?),
+        _ => wire::told(alloc, kind, rest, line),
     }
 }

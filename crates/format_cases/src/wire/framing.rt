@@ -1,5 +1,5 @@
 // Frames of a stream that comes in pieces.
-use crate::numbers::bytes_of;
+use super::numbers::bytes_of;
 use delimited_framing::{Next, Splitter};
 use plain_values::NoMemory;
 use std::alloc::Global;

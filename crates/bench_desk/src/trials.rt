@@ -1,0 +1,129 @@
+//! The machines and the crew on which the desk and its threads are tried: each is run, and what it comes to printed.
+ghost use Rattle.std.specs.Prelude.{◌≡◌};
+ghost use Rattle.seat_desk.specs.Passes.{IsPassOf};
+
+use crate::failure::Failure;
+use crew_trials::{Ask as SlotAsk, Slot, SlotEnd, exchange};
+use desk_trials::adding::count_by_four;
+use desk_trials::counter::Counter;
+use desk_trials::counting::{add, look, run};
+use desk_trials::lending::stamp_token;
+use desk_trials::locker::{Answer, Ask, Locker, Token};
+use seat_desk::{Desk, HistoryEntry};
+use std::alloc::Global;
+use std::sync::Wait;
+use std::thread::Threads;
+
+// How often the crew is run. A ring that is lost would show as a second's delay, and lanes that never end as a program
+// that doesn't.
+const CREWS: u32 = 200;
+
+/// Prints what each of them comes to, which is the same whatever the schedule.
+///
+/// # Errors
+///
+/// `Failure` where there is no memory for them, or standard output fails.
+pub fn tell_trials<R: Threads + Wait + Print + Sync>(rt: &R, alloc: Global) -> Result<(), Failure> {
+    tell_four(rt, alloc)?;
+    tell_two(rt, alloc, 7)?;
+    tell_two(rt, alloc, 4)?;
+    tell_looks(rt, alloc)?;
+    tell_token(rt, alloc)?;
+    tell_slots(rt, alloc)
+}
+
+// Four lanes that add ones.
+fn tell_four<R: Threads + Wait + Print + Sync>(rt: &R, alloc: Global) -> Result<(), Failure> {
+    let tally = count_by_four(rt, alloc, 250)?;
+    let (first, second, third, fourth) = tally.made;
+    let sum = tally.closed.machine.sum;
+    let history = tally.closed.history.len();
+    println!(rt;
+        "four lanes add {first}, {second}, {third}, {fourth} ones: {sum} in {history} calls"
+    )?;
+    Ok(())
+}
+
+// Two lanes that add 5 at a counter of this modulus. Which of them comes first differs.
+fn tell_two<R: Threads + Wait + Print + Sync>(
+    rt: &R,
+    alloc: Global,
+    modulus: u64,
+) -> Result<(), Failure>
+    requires { 0 < modulus }
+{
+    let (_, first, second) = run(rt, alloc, modulus, 5)?;
+    let least = first.min(second);
+    let greatest = first.max(second);
+    println!(rt; "two lanes add 5 modulo {modulus}: {least} and {greatest}")?;
+    Ok(())
+}
+
+// A counter that has room for one look.
+fn tell_looks<R: Wait + Print>(rt: &R, alloc: Global) -> Result<(), Failure> {
+    let (desk, mut root) = Desk::new(alloc, Counter::new(10, 1))?;
+    let pass = desk.split(rt, &mut root)?;
+    let (mut pass, sum) = add(rt, &desk, pass, 13);
+    let seen = look(rt, &desk, &mut pass);
+    let again = look(rt, &desk, &mut pass);
+    println!(rt;
+        "13 modulo 10, and two looks where there is room for one: {sum:?} {seen:?} {again:?}"
+    )?;
+    Ok(())
+}
+
+// A lane that leaves a token, stamps it and takes it.
+fn tell_token<R: Wait + Print>(rt: &R, alloc: Global) -> Result<(), Failure> {
+    let (desk, mut root) = Desk::new(alloc, Locker::new())?;
+    let mut pass = desk.split(rt, &mut root)?;
+    let token = Token { number: 4 };
+    let Ok((Answer::Left, None)) = desk.call(rt, &mut pass, Ask::Leave, Some(token)) else {
+        return Err(Failure::NoMemory);
+    };
+    let left = pass.stirs();
+    stamp_token(rt, &desk, &mut pass)?;
+    let (Answer::Taken, Some(token)) = desk.call_paid(rt, &mut pass, Ask::Take, None) else {
+        return Err(Failure::NoMemory);
+    };
+    let taken = pass.stirs();
+    desk.join_pass(rt, &mut root, pass);
+    let history = desk.close(rt, root)?.history.len();
+    let number = token.number;
+    println!(rt;
+        "token 4 is left, stamped and taken: {number} in {history} calls, stirs {left:x} and {taken:x}"
+    )?;
+    Ok(())
+}
+
+// Three pairs of lanes that fill and empty a slot, again and again.
+fn tell_slots<R: Threads + Wait + Print + Sync>(rt: &R, alloc: Global) -> Result<(), Failure> {
+    let mut in_turn = 0u32;
+    let mut made = 0usize;
+    for _ in 0..CREWS {
+        let Ok(crew) = exchange(rt, alloc, 3, 20) else {
+            return Err(Failure::NoMemory);
+        };
+        in_turn += u32::from(are_in_turn(crew.history.as_slice()));
+        made = made.saturating_add(made_by_all(crew.ends.as_slice()));
+    }
+    println!(rt; "six lanes at one slot: {in_turn} times in turn, {made} calls in all")?;
+    Ok(())
+}
+
+// Whether every other call fills the slot, the first one too.
+fn are_in_turn(history: &[HistoryEntry<Slot>]) -> bool {
+    history.iter().enumerate().all(|(at, entry)| match entry.call {
+        SlotAsk::Fill => at % 2 == 0,
+        SlotAsk::Empty => at % 2 == 1,
+    })
+}
+
+// How many calls those lanes made that fill where they should, and those that empty.
+fn made_by_all(ends: &[SlotEnd]) -> usize {
+    let mut made = 0usize;
+    for end in ends {
+        let (SlotEnd::Filled(own) | SlotEnd::Emptied(own)) = end;
+        made = made.saturating_add(*own);
+    }
+    made
+}
