@@ -1,7 +1,6 @@
 ghost use Rattle.std.specs.Prelude.{◌≡◌, ◌+◌, ◌-◌, ◌^◌, min};
 
-use crate::script::is_to_fail;
-use crate::{FailAt, Object};
+use mem_children::{FailAt, Object, is_to_fail};
 
 /// How many calls of one kind came.
 #[derive(Clone, Copy, Debug, PartialEq, Eq)]

@@ -1,6 +1,6 @@
 ghost use Rattle.std.specs.Prelude.{◌≡◌, Some, false};
 
-use crate::line::Line;
+use mem_children::Line;
 use outside::Child;
 use std::sync::{Arc, Wait};
 

@@ -1,8 +1,7 @@
 ghost use Rattle.std.specs.Prelude.{◌≡◌, [], Some};
 
 use crate::calls::Calls;
-use crate::line::Line;
-use crate::{Object, Script};
+use mem_children::{Line, Object, Script};
 use outside::{Feed, Io};
 use std::alloc::Global;
 use std::sync::{Arc, Wait};

@@ -1,10 +1,7 @@
 ghost use Rattle.std.specs.Prelude.{◌≡◌, [], Some, false};
 
-use crate::actor::{Acted, Actor};
 use crate::calls::Calls;
-use crate::line::Line;
-use crate::ready::Ready;
-use crate::{Object, Script};
+use mem_children::{Acted, Actor, Line, Object, Ready, Script};
 use outside::{Taken, Tap};
 use std::alloc::Global;
 use std::sync::{Arc, Wait};

@@ -1,10 +1,7 @@
-//! The outside itself: files, folders and processes below the folder in which the program was
-//! started.
-//! These objects are the trusted edge. They keep the traits' counts, and tell nothing of what they
-//! hold.
+//! The outside itself: files, folders and processes below the folder in which the program was started. These objects keep
+//! the traits' counts, and tell nothing of what they hold. What they do they do by `bare_calls`, which is trusted.
 #![tactic(auto)]
 
-mod disk;
 mod floor;
 mod input;
 mod line;
@@ -12,7 +9,6 @@ mod place;
 mod room;
 mod shop;
 mod sink;
-mod spawn;
 
 pub use floor::RealFloor;
 pub use input::RealInput;

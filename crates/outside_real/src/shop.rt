@@ -1,8 +1,7 @@
 ghost use Rattle.std.specs.Prelude.{◌≡◌, None};
 ghost use Rattle.outside.specs.Causes.{Counts};
 
-use crate::disk::{make_folder_inside, read_inside, write_inside};
-use crate::spawn::run_to_end;
+use bare_calls::{make_folder_inside, read_inside, run_to_end, write_inside};
 use outside::{Io, JobEnd, Read, Shop, Variable};
 use plain_values::{Blob, NoMemory, Text};
 use std::alloc::Global;

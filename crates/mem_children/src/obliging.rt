@@ -1,6 +1,6 @@
 //! A child that does at once what it is asked.
 ghost use Rattle.std.specs.Prelude.{◌≡◌, [], map, IfOk};
-ghost use Rattle.outside_mem.specs.Obliging.{response_to, result_to, made_file, made_content, under};
+ghost use Rattle.mem_children.specs.Obliging.{response_to, result_to, made_file, made_content, under};
 
 use crate::actor::Acted;
 use crate::ears::Ears;

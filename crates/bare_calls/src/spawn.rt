@@ -5,9 +5,9 @@ use std::alloc::{AllocError, Global};
 use std::io::{self, ErrorKind, Read};
 use std::process::{self, ExitStatus, Processes, Stdio, SystemProcess};
 
-/// Starts the command's program in a room, which lies two folders below that of the start, with
-/// pipes for its
-/// standard input and output and with the command's environment alone. Its standard error is ours.
+/// Starts the command's program in a room, which lies two folders below that of the start, with pipes
+/// for its standard input and output and with the command's environment alone. Its standard error is
+/// ours.
 pub fn start<R: Processes<Started = SystemProcess>>(
     rt: &R,
     alloc: Global,
@@ -28,10 +28,8 @@ pub fn start<R: Processes<Started = SystemProcess>>(
 }
 
 /// Runs words in a folder to their end, with an empty standard input and with these variables alone
-/// as environment.
-/// Gives how they ended and what they wrote to standard output. Standard error is ours. The folder
-/// lies below a room,
-/// so that a program's path begins three folders above it.
+/// as environment. Gives how they ended and what they wrote to standard output. Standard error is
+/// ours. The folder lies below a room, so that a program's path begins three folders above it.
 pub fn run_to_end<R: Processes<Started = SystemProcess>>(
     rt: &R,
     alloc: Global,

@@ -1,0 +1,26 @@
+//! Children in memory: what a process would do with what it is given, played from a script.
+//!
+//! The feed, the tap and the child of a line, and its berth, share what a process and its folder would: the bytes that
+//! were given and not yet heard, the files of the room, whether the child was killed ([`Line`]).
+//!
+//! A child has no thread of its own. Its [`Actor`] is played where its tap is read, up to the next bytes, and waits
+//! there. A wait looks again for some hundred turns and then rests until it is rung, so that no object that waits burns
+//! a processor.
+#![tactic(auto)]
+
+mod actor;
+mod bell;
+mod ears;
+mod line;
+mod obliging;
+mod patience;
+mod ready;
+mod room;
+mod script;
+mod scripted;
+
+pub use actor::{Acted, Actor};
+pub use line::{Gates, Line};
+pub use ready::Ready;
+pub use room::Files;
+pub use script::{Beat, FailAt, Object, Script, is_to_fail};
