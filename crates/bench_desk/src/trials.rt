@@ -1,6 +1,5 @@
 //! The machines and the crew on which the desk and its threads are tried: each is run, and what it comes to printed.
-ghost use Rattle.std.specs.Prelude.{◌≡◌};
-ghost use Rattle.seat_desk.specs.Passes.{IsPassOf};
+ghost use Rattle.std.specs.Prelude.{◌<◌};
 
 use crate::failure::Failure;
 use crew_trials::{Ask as SlotAsk, Slot, SlotEnd, exchange};
@@ -97,13 +96,13 @@ fn tell_token<R: Wait + Print>(rt: &R, alloc: Global) -> Result<(), Failure> {
 
 // Three pairs of lanes that fill and empty a slot, again and again.
 fn tell_slots<R: Threads + Wait + Print + Sync>(rt: &R, alloc: Global) -> Result<(), Failure> {
-    let mut in_turn = 0u32;
+    let mut in_turn = 0usize;
     let mut made = 0usize;
     for _ in 0..CREWS {
         let Ok(crew) = exchange(rt, alloc, 3, 20) else {
             return Err(Failure::NoMemory);
         };
-        in_turn += u32::from(are_in_turn(crew.history.as_slice()));
+        in_turn = in_turn.saturating_add(usize::from(are_in_turn(crew.history.as_slice())));
         made = made.saturating_add(made_by_all(crew.ends.as_slice()));
     }
     println!(rt; "six lanes at one slot: {in_turn} times in turn, {made} calls in all")?;
@@ -118,7 +117,7 @@ fn are_in_turn(history: &[HistoryEntry<Slot>]) -> bool {
     })
 }
 
-// How many calls those lanes made that fill where they should, and those that empty.
+// How many calls the lanes made in all.
 fn made_by_all(ends: &[SlotEnd]) -> usize {
     let mut made = 0usize;
     for end in ends {
