@@ -3,6 +3,7 @@ ghost use Rattle.std.specs.Prelude.{◌<◌};
 
 use crate::failure::Failure;
 use crew_trials::{Ask as SlotAsk, Slot, SlotEnd, exchange};
+use desk_trials::adder::Adder;
 use desk_trials::adding::count_by_four;
 use desk_trials::counter::Counter;
 use desk_trials::counting::{add, look, run};
@@ -31,16 +32,37 @@ pub fn tell_trials<R: Threads + Wait + Print + Sync>(rt: &R, alloc: Global) -> R
     tell_slots(rt, alloc)
 }
 
-// Four lanes that add ones.
+// Four lanes that add ones: how many calls each made, by its own count and by the history, and how many of the replies are
+// the sum so far.
 fn tell_four<R: Threads + Wait + Print + Sync>(rt: &R, alloc: Global) -> Result<(), Failure> {
     let tally = count_by_four(rt, alloc, 250)?;
     let (first, second, third, fourth) = tally.made;
+    println!(rt; "four lanes add {first}, {second}, {third}, {fourth} ones")?;
+    for lane in 0..4u32 {
+        let calls = calls_of(tally.closed.history.as_slice(), lane);
+        println!(rt; "    {calls} calls of lane {lane}")?;
+    }
+    let sums = sums_so_far(tally.closed.history.as_slice());
     let sum = tally.closed.machine.sum;
     let history = tally.closed.history.len();
-    println!(rt;
-        "four lanes add {first}, {second}, {third}, {fourth} ones: {sum} in {history} calls"
-    )?;
+    println!(rt; "    {sums} sums so far in {history} calls, and {sum} in the end")?;
     Ok(())
+}
+
+fn calls_of(history: &[HistoryEntry<Adder>], lane: u32) -> usize {
+    history.iter().filter(|entry| entry.lane == lane).count()
+}
+
+fn sums_so_far(history: &[HistoryEntry<Adder>]) -> usize {
+    let mut sum = 0u64;
+    let mut sums = 0usize;
+    for entry in history {
+        sum = sum.wrapping_add(1);
+        if entry.call.number == 1 && entry.reply == sum {
+            sums = sums.saturating_add(1);
+        }
+    }
+    sums
 }
 
 // Two lanes that add 5 at a counter of this modulus. Which of them comes first differs.
@@ -51,10 +73,11 @@ fn tell_two<R: Threads + Wait + Print + Sync>(
 ) -> Result<(), Failure>
     requires { 0 < modulus }
 {
-    let (_, first, second) = run(rt, alloc, modulus, 5)?;
+    let (closed, first, second) = run(rt, alloc, modulus, 5)?;
     let least = first.min(second);
     let greatest = first.max(second);
-    println!(rt; "two lanes add 5 modulo {modulus}: {least} and {greatest}")?;
+    let history = closed.history.len();
+    println!(rt; "two lanes add 5 modulo {modulus}: {least} and {greatest} in {history} calls")?;
     Ok(())
 }
 
@@ -97,15 +120,18 @@ fn tell_token<R: Wait + Print>(rt: &R, alloc: Global) -> Result<(), Failure> {
 // Three pairs of lanes that fill and empty a slot, again and again.
 fn tell_slots<R: Threads + Wait + Print + Sync>(rt: &R, alloc: Global) -> Result<(), Failure> {
     let mut in_turn = 0usize;
-    let mut made = 0usize;
+    let mut right = 0usize;
     for _ in 0..CREWS {
         let Ok(crew) = exchange(rt, alloc, 3, 20) else {
             return Err(Failure::NoMemory);
         };
-        in_turn = in_turn.saturating_add(usize::from(are_in_turn(crew.history.as_slice())));
-        made = made.saturating_add(made_by_all(crew.ends.as_slice()));
+        let is_right = crew.history.len() == 120 && are_in_turn(crew.history.as_slice());
+        in_turn = in_turn.saturating_add(usize::from(is_right));
+        right = right.saturating_add(right_ends(crew.ends.as_slice()));
     }
-    println!(rt; "six lanes at one slot: {in_turn} times in turn, {made} calls in all")?;
+    println!(rt;
+        "six lanes at one slot: {in_turn} times 120 calls in turn, {right} ends as they should be"
+    )?;
     Ok(())
 }
 
@@ -117,12 +143,13 @@ fn are_in_turn(history: &[HistoryEntry<Slot>]) -> bool {
     })
 }
 
-// How many calls the lanes made in all.
-fn made_by_all(ends: &[SlotEnd]) -> usize {
-    let mut made = 0usize;
-    for end in ends {
-        let (SlotEnd::Filled(own) | SlotEnd::Emptied(own)) = end;
-        made = made.saturating_add(*own);
-    }
-    made
+// How many lanes end so: those with even numbers have filled the slot 20 times, the others have emptied it as often.
+fn right_ends(ends: &[SlotEnd]) -> usize {
+    ends.iter()
+        .enumerate()
+        .filter(|(at, end)| match end {
+            SlotEnd::Filled(made) => *at % 2 == 0 && *made == 20,
+            SlotEnd::Emptied(made) => *at % 2 == 1 && *made == 20,
+        })
+        .count()
 }
