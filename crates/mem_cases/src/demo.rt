@@ -1,5 +1,5 @@
 // The demonstration worker over the objects of a case, from its line to what is printed of it.
-use crate::stage::{Shelf, Stage};
+use crate::stage::{CaseShop, Stage};
 use crate::steps::text;
 use demo_programs::{DemoEnd, demo};
 use outside::{Io, Read, Shop, ShopCall};
@@ -58,7 +58,7 @@ fn words_of(alloc: Global, line: &str) -> Result<Vec<String>, NoMemory> {
 }
 
 // What stands at a path in the end.
-fn seen(alloc: Global, shop: &mut Shelf, path: &str) -> Result<String, NoMemory> {
+fn seen(alloc: Global, shop: &mut CaseShop, path: &str) -> Result<String, NoMemory> {
     let found = found(alloc, &shop.get(path)?)?;
     Ok(format!(in alloc; "\n  there {path} {}", found.as_str())?)
 }

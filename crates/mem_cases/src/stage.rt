@@ -8,7 +8,7 @@ use std::alloc::Global;
 use std::sync::Wait;
 
 /// A shop in memory, which may find no memory itself.
-pub type Shelf = ShortShop<MemShop>;
+pub type CaseShop = ShortShop<MemShop>;
 
 type Launched<R> = Launch<MemFeed<R>, MemTap<R>, MemChild<R>>;
 
@@ -27,7 +27,7 @@ pub struct Stage<R> {
     pub berth: MemBerth<R>,
     pub place: MemPlace,
     pub sink: MemSink,
-    pub shop: Shelf,
+    pub shop: CaseShop,
     pub lines: Vec<Line<R>>,
     /// The line that the next step is of.
     pub line: usize,
@@ -98,7 +98,7 @@ fn words_of(alloc: Global, word: &str) -> Result<Vec<Text>, NoMemory> {
     Ok(words)
 }
 
-fn shop(alloc: Global, words: &str) -> Result<Shelf, NoMemory> {
+fn shop(alloc: Global, words: &str) -> Result<CaseShop, NoMemory> {
     let files = files(alloc, words)?;
     let ends = ends(alloc, words)?;
     let fails = fails(alloc, words)?;

@@ -2,7 +2,7 @@
 use crate::case::bytes_of;
 use crate::demo::digits;
 use crate::number;
-use crate::stage::{Line, Shelf, Stage};
+use crate::stage::{CaseShop, Line, Stage};
 use demo_programs::execute;
 use outside::{Berth, Child, Feed, Floor, Io, JobEnd, Place, Read, Shop, Sink, Taken, Tap};
 use plain_values::{NoMemory, Text};
@@ -134,7 +134,7 @@ fn on_stage<R: Wait + Clone + Drop>(
     }
 }
 
-fn on_shop(alloc: Global, shop: &mut Shelf, kind: &str, rest: &str) -> Result<String, NoMemory> {
+fn on_shop(alloc: Global, shop: &mut CaseShop, kind: &str, rest: &str) -> Result<String, NoMemory> {
     let (path, other) = rest.split_once(',').unwrap_or((rest, ""));
     match kind {
         "shop-put" => done(alloc, shop.put(path, bytes_of(alloc, other).as_slice())),
