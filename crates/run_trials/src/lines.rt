@@ -1,33 +1,34 @@
 // A line: a shell that hears its feed, has the command's environment alone, leaves links and a fifo
 // in its room, and puts a link to the folder of the start in the place of the room itself. Beside
 // the outputs it leaves a link at the name under which they are written.
-use crate::no_memory;
-use crate::real::{tell_io, tell_read};
+use crate::page::Page;
 use outside::{Berth, Child, Command, Feed, Launch, Taken, Tap, Variable};
 use plain_values::{Items, NoMemory, Text};
 use std::alloc::Global;
-use std::io;
+use std::io::Print;
 
 const SCRIPT: &str = "ln -s /etc/passwd out; ln -s /etc way; ln -s /etc/passwd ../../link; \
     ln -s letter ../../.worker_tool.0.part; mkfifo fifo; read line; \
     echo \"heard $line, greeting $GREETING, home [$HOME]\"; read line; \
     mv ../3 ../moved; ln -s .. ../3; echo $line; exec cat";
 
-pub fn play<B: Berth>(rt: &impl Print, alloc: Global, berth: &mut B) -> io::Result<()> {
-    match launch(alloc, berth, 0, "/bin/sh").map_err(no_memory)? {
-        Launch::Started(feed, tap, child) => talk_once(rt, berth, feed, tap, child)?,
-        Launch::Failed => println!(rt; "  no shell")?,
-    }
-    let is_started = starts(alloc, berth, "no/such/program").map_err(no_memory)?;
-    println!(rt;
-        "  {}",
-        if is_started {
-            "started what isn't there"
-        } else {
-            "not started"
+pub fn play<P: Print, B: Berth>(page: &mut Page<'_, P>, alloc: Global, berth: &mut B) {
+    match launch(alloc, berth, 0, "/bin/sh") {
+        Ok(Launch::Started(mut feed, mut tap, mut child)) => {
+            talk(page, berth, &mut feed, &mut tap, &mut child);
         }
-    )?;
-    println!(rt; "  faults of the berth {}", berth.faults())
+        Ok(Launch::Failed) => page.line("  no shell"),
+        Err(NoMemory) => page.no_memory(),
+    }
+    match launch(alloc, berth, 1, "no/such/program") {
+        Ok(Launch::Started(_feed, _tap, mut child)) => {
+            child.kill();
+            page.line("  started what isn't there");
+        }
+        Ok(Launch::Failed) => page.line("  not started"),
+        Err(NoMemory) => page.no_memory(),
+    }
+    page.counts("faults of the berth", &[berth.faults()]);
 }
 
 fn launch<B: Berth>(
@@ -38,28 +39,6 @@ fn launch<B: Berth>(
 ) -> Result<Launch<B::Feed, B::Tap, B::Child>, NoMemory> {
     let command = command(alloc, program)?;
     berth.launch(line, &command)
-}
-
-// Whether line 1 starts with this program; then it is killed.
-fn starts<B: Berth>(alloc: Global, berth: &mut B, program: &str) -> Result<bool, NoMemory> {
-    Ok(match launch(alloc, berth, 1, program)? {
-        Launch::Started(_feed, _tap, mut child) => {
-            child.kill();
-            true
-        }
-        Launch::Failed => false,
-    })
-}
-
-// The line is lent to what may end early, and dropped here.
-fn talk_once<B: Berth>(
-    rt: &impl Print,
-    berth: &mut B,
-    mut feed: B::Feed,
-    mut tap: B::Tap,
-    mut child: B::Child,
-) -> io::Result<()> {
-    talk(rt, berth, &mut feed, &mut tap, &mut child)
 }
 
 fn command(alloc: Global, program: &str) -> Result<Command, NoMemory> {
@@ -93,46 +72,38 @@ fn variable(alloc: Global, name: &str, value: &str) -> Result<Variable, NoMemory
     })
 }
 
-fn talk<B: Berth>(
-    rt: &impl Print,
+fn talk<P: Print, B: Berth>(
+    page: &mut Page<'_, P>,
     berth: &mut B,
     feed: &mut B::Feed,
     tap: &mut B::Tap,
     child: &mut B::Child,
-) -> io::Result<()> {
-    tell_io(rt, "feed", &feed.write(b"abc\n"))?;
-    tell_taken(rt, tap)?;
-    tell_read(rt, "out, a link", berth.room_get("out"))?;
-    tell_read(
-        rt,
-        "way/passwd, behind a link",
-        berth.room_get("way/passwd"),
-    )?;
-    tell_io(rt, "put way/x", &berth.room_put("way/x", b"inside"))?;
-    tell_read(rt, "way/x", berth.room_get("way/x"))?;
-    tell_read(rt, "fifo", berth.room_get("fifo"))?;
-    tell_io(rt, "feed", &feed.write(b"moved\n"))?;
-    tell_taken(rt, tap)?;
-    tell_read(rt, "letter, not in the room", berth.room_get("letter"))?;
-    tell_io(rt, "clear", &berth.room_clear(""))?;
+) {
+    page.io("feed", &feed.write(b"abc\n"));
+    take(page, tap);
+    page.read("out, a link", berth.room_get("out"));
+    page.read("way/passwd, behind a link", berth.room_get("way/passwd"));
+    page.io("put way/x", &berth.room_put("way/x", b"inside"));
+    page.read("way/x", berth.room_get("way/x"));
+    page.read("fifo", berth.room_get("fifo"));
+    page.io("feed", &feed.write(b"moved\n"));
+    take(page, tap);
+    page.read("letter, not in the room", berth.room_get("letter"));
+    page.io("clear", &berth.room_clear(""));
     child.kill();
-    tell_taken(rt, tap)?;
-    tell_io(rt, "feed of a dead process", &feed.write(b"abc\n"))?;
-    println!(rt;
-        "  faults of the feed {}, of the tap {}",
-        feed.faults(),
-        tap.faults()
-    )
+    take(page, tap);
+    page.io("feed of a dead process", &feed.write(b"abc\n"));
+    page.counts(
+        "faults of the feed and of the tap",
+        &[feed.faults(), tap.faults()],
+    );
 }
 
-fn tell_taken<T: Tap>(rt: &impl Print, tap: &mut T) -> io::Result<()> {
+fn take<P: Print, T: Tap>(page: &mut Page<'_, P>, tap: &mut T) {
     let mut into = [0u8; 256];
     match tap.read(&mut into) {
-        Taken::Bytes(count) => println!(rt;
-            "  taken {:?}",
-            std::str::from_utf8(&into[..count]).unwrap_or("no text")
-        ),
-        Taken::End => println!(rt; "  the end"),
-        Taken::Failed => println!(rt; "  tap failed"),
+        Taken::Bytes(count) => page.taken(&into[..count]),
+        Taken::End => page.line("  the end"),
+        Taken::Failed => page.line("  tap failed"),
     }
 }

@@ -23,6 +23,7 @@
 mod case;
 mod lines;
 mod meeting;
+mod page;
 mod places;
 mod played;
 mod real;

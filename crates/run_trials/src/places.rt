@@ -1,69 +1,89 @@
 // Places: outputs are written with their folders, over links, and each place beside under a name of
 // its own.
-use crate::no_memory;
-use crate::real::{tell_io, tell_read};
-use outside::{Floor, Io, Place};
-use std::alloc::{AllocError, Global};
-use std::io;
+use crate::page::Page;
+use outside::{Floor, Place};
+use plain_values::NoMemory;
+use std::alloc::Global;
+use std::io::Print;
 
-pub fn play<F: Floor>(rt: &impl Print, alloc: Global, floor: &mut F) -> io::Result<()> {
-    println!(rt; "a place")?;
-    let alone = floor.make_place(0).map_err(no_memory)?;
-    let faults = at_one(rt, alloc, floor, alone)?;
-    let first = floor.make_place(1).map_err(no_memory)?;
-    let first = write_one(rt, first, "made/first", b"one")?;
-    let second = floor.make_place(2).map_err(no_memory)?;
-    let second = write_one(rt, second, "made/second", b"two")?;
-    tell_read(rt, "made/first", floor.read("made/first"))?;
-    tell_read(rt, "made/second", floor.read("made/second"))?;
-    println!(rt; "  faults of the places {faults}, {first}, {second}")
+pub fn play<P: Print, F: Floor>(page: &mut Page<'_, P>, alloc: Global, floor: &mut F) {
+    page.line("a place");
+    let alone = write_many(page, alloc, floor);
+    let first = write_one(page, floor, 1, "made/first", b"one");
+    let second = write_one(page, floor, 2, "made/second", b"two");
+    page.read("made/first", floor.read("made/first"));
+    page.read("made/second", floor.read("made/second"));
+    page.counts("faults of the places", &[alone, first, second]);
 }
 
-// The place is lent to what may end early, and dropped here.
-fn at_one<F: Floor>(
-    rt: &impl Print,
-    alloc: Global,
-    floor: &mut F,
-    mut place: F::Place,
-) -> io::Result<u64> {
-    write_all(rt, alloc, floor, &mut place)
+// Writes through a place of its own, and gives that one's faults.
+fn write_many<P: Print, F: Floor>(page: &mut Page<'_, P>, alloc: Global, floor: &mut F) -> u64 {
+    match floor.make_place(0) {
+        Ok(mut place) => {
+            write_all(page, alloc, floor, &mut place);
+            place.faults()
+        }
+        Err(NoMemory) => {
+            page.no_memory();
+            0
+        }
+    }
 }
 
-// Writes through the place, and gives its faults.
-fn write_all<F: Floor>(
-    rt: &impl Print,
+fn write_all<P: Print, F: Floor>(
+    page: &mut Page<'_, P>,
     alloc: Global,
     floor: &mut F,
     place: &mut F::Place,
-) -> io::Result<u64> {
+) {
     for path in ["made/deep/first", "link", "made"] {
-        tell_io(rt, path, &place.write(path, b"written"))?;
-        tell_read(rt, path, floor.read(path))?;
+        page.io(path, &place.write(path, b"written"));
+        page.read(path, floor.read(path));
     }
-    tell_read(rt, "letter", floor.read("letter"))?;
-    tell_io(rt, "a name of 255 bytes", &write_long(alloc, place, 255)?)?;
-    tell_io(rt, "a name of 256 bytes", &write_long(alloc, place, 256)?)?;
+    page.read("letter", floor.read("letter"));
+    write_long(page, alloc, place, "a name of 255 bytes", 255);
+    write_long(page, alloc, place, "a name of 256 bytes", 256);
     // What stands in the way of one place's name stands in the way of no other.
-    let way = place.write("made/.worker_tool.1.part/x", b"");
-    tell_io(rt, "in the way", &way)?;
-    Ok(place.faults())
+    page.io(
+        "in the way",
+        &place.write("made/.worker_tool.1.part/x", b""),
+    );
 }
 
-fn write_long<P: Place>(alloc: Global, place: &mut P, length: usize) -> io::Result<Io> {
-    let name = name(alloc, length)?;
-    Ok(place.write(name.as_str(), b"x"))
+fn write_long<O: Print, P: Place>(
+    page: &mut Page<'_, O>,
+    alloc: Global,
+    place: &mut P,
+    what: &str,
+    length: usize,
+) {
+    match name(alloc, length) {
+        Ok(name) => page.io(what, &place.write(name.as_str(), b"x")),
+        Err(NoMemory) => page.no_memory(),
+    }
 }
 
-// Writes once through the place, and gives its faults.
-fn write_one<P: Place>(rt: &impl Print, mut place: P, path: &str, bytes: &[u8]) -> io::Result<u64> {
-    let written = place.write(path, bytes);
-    let faults = place.faults();
-    drop(place);
-    tell_io(rt, path, &written)?;
-    Ok(faults)
+// Writes once through a place of its own, and gives that one's faults.
+fn write_one<P: Print, F: Floor>(
+    page: &mut Page<'_, P>,
+    floor: &mut F,
+    number: u32,
+    path: &str,
+    bytes: &[u8],
+) -> u64 {
+    match floor.make_place(number) {
+        Ok(mut place) => {
+            page.io(path, &place.write(path, bytes));
+            place.faults()
+        }
+        Err(NoMemory) => {
+            page.no_memory();
+            0
+        }
+    }
 }
 
-fn name(alloc: Global, length: usize) -> Result<String, AllocError> {
+fn name(alloc: Global, length: usize) -> Result<String, NoMemory> {
     let mut name = String::new(alloc);
     for _ in 0..length {
         name.push('n')?;

@@ -1,41 +1,38 @@
 // Each real object, driven once, and whole runs with real shell workers. No proof speaks of what files, folders, pipes and
 // processes do, so this is their test.
+use crate::page::Page;
 use crate::{lines, no_memory, places, rooms};
-use outside::{Berth, Floor, Io, Read, Sink};
+use outside::{Berth, Floor, Sink};
 use plain_values::NoMemory;
 use std::alloc::Global;
-use std::io::{self, ErrorKind};
+use std::io::{self, Print};
 use std::sync::Wait;
 use std::thread::Threads;
 use worker_run::{RunFault, fault_line, run_build};
 
-/// Drives each object of this floor once. The floor is lent to what may end early, and dropped here.
-pub fn drive<F: Floor>(rt: &impl Print, alloc: Global, mut floor: F) -> io::Result<()> {
-    each_object(rt, alloc, &mut floor)
+/// Drives each object of this floor once.
+pub fn drive<P: Print, F: Floor>(rt: &P, alloc: Global, mut floor: F) -> io::Result<()> {
+    let mut page = Page::of(rt);
+    each_object(&mut page, alloc, &mut floor);
+    page.end()
 }
 
-fn each_object<F: Floor>(rt: &impl Print, alloc: Global, floor: &mut F) -> io::Result<()> {
-    println!(rt; "sources")?;
+fn each_object<P: Print, F: Floor>(page: &mut Page<'_, P>, alloc: Global, floor: &mut F) {
+    page.line("sources");
     for path in ["letter", "gone", "."] {
-        tell_read(rt, path, floor.read(path))?;
+        page.read(path, floor.read(path));
     }
-    println!(rt; "a room")?;
+    page.line("a room");
     match floor.make_berth(3) {
-        Ok(berth) => on_berth(rt, alloc, berth)?,
-        Err(NoMemory) => return Err(io::Error::from(ErrorKind::OutOfMemory)),
+        Ok(mut berth) => {
+            rooms::play(page, alloc, &mut berth);
+            page.line("a line");
+            lines::play(page, alloc, &mut berth);
+        }
+        Err(NoMemory) => page.no_memory(),
     }
-    tell_read(rt, "letter", floor.read("letter"))?;
-    places::play(rt, alloc, floor)
-}
-
-fn on_berth<B: Berth>(rt: &impl Print, alloc: Global, mut berth: B) -> io::Result<()> {
-    room_and_line(rt, alloc, &mut berth)
-}
-
-fn room_and_line<B: Berth>(rt: &impl Print, alloc: Global, berth: &mut B) -> io::Result<()> {
-    rooms::play(rt, alloc, berth)?;
-    println!(rt; "a line")?;
-    lines::play(rt, alloc, berth)
+    page.read("letter", floor.read("letter"));
+    places::play(page, alloc, floor);
 }
 
 /// Makes the run of this list, and prints its status and its fault's line.
@@ -74,23 +71,4 @@ fn tell_end(
         println!(rt; "{}", line.as_str())?;
     }
     Ok(())
-}
-
-pub fn tell_io(rt: &impl Print, what: &str, io: &Io) -> io::Result<()> {
-    match io {
-        Io::Done => println!(rt; "  {what}: done"),
-        Io::Failed => println!(rt; "  {what}: failed"),
-    }
-}
-
-pub fn tell_read(rt: &impl Print, path: &str, read: Result<Read, NoMemory>) -> io::Result<()> {
-    match read {
-        Ok(Read::Found(bytes)) => println!(rt;
-            "  {path}: {:?}",
-            std::str::from_utf8(bytes.bytes()).unwrap_or("no text")
-        ),
-        Ok(Read::Absent) => println!(rt; "  {path}: absent"),
-        Ok(Read::Failed) => println!(rt; "  {path}: failed"),
-        Err(NoMemory) => Err(io::Error::from(ErrorKind::OutOfMemory)),
-    }
 }

@@ -26,23 +26,47 @@ use worker_run::{Ended, RunFault, Stage, fault_line, run_build, run_build_watche
 
 fn main(rt: HostRuntime) -> ExitCode {
     let alloc = rt.alloc();
+    let on_terminal = rt.stderr().is_terminal();
     let words = match words(&rt, alloc) {
         Ok(words) => words,
         Err(error) => return end_unread(&rt, alloc, &error),
     };
-    let on_terminal = rt.stderr().is_terminal();
     if let Some(actions) = generated(&words) {
-        let Ok(floor) = MemFloor::generated(rt, alloc, actions) else {
-            return end(&rt, alloc, &RunFault::NoMemory(Stage::Before));
-        };
-        let Ended { status, fault, .. } = run(rt, alloc, &words, floor, on_terminal);
-        if let Some(fault) = &fault {
-            tell(&rt, alloc, fault, None);
-        }
-        return ExitCode::from(status);
+        return run_generated(rt, alloc, &words, actions, on_terminal);
     }
     let floor = RealFloor::new(rt, alloc);
     let ended = run(rt, alloc, &words, floor, on_terminal);
+    end_real(&rt, alloc, &words, ended)
+}
+
+// Runs a list of so many actions that is generated, in memory.
+fn run_generated<R: Threads + Wait + Clock + Print + Eprint + Copy + Drop + Send + Sync + 'static>(
+    rt: R,
+    alloc: Global,
+    words: &[String],
+    actions: u32,
+    on_terminal: bool,
+) -> ExitCode {
+    let Ok(floor) = MemFloor::generated(rt, alloc, actions) else {
+        return end(&rt, alloc, &RunFault::NoMemory(Stage::Before));
+    };
+    let Ended { status, fault, .. } = run(rt, alloc, words, floor, on_terminal);
+    if let Some(fault) = &fault {
+        tell(&rt, alloc, fault, None);
+    }
+    ExitCode::from(status)
+}
+
+// The end of a run with real objects: its fault is told with the last error of the floor, and the list is looked at once more.
+fn end_real<R: Drop>(
+    rt: &impl Eprint,
+    alloc: Global,
+    words: &[String],
+    ended: Ended<RealFloor<R>>,
+) -> ExitCode
+where
+    RealFloor<R>: Floor,
+{
     let Ended {
         status,
         fault,
@@ -50,9 +74,9 @@ fn main(rt: HostRuntime) -> ExitCode {
         ..
     } = ended;
     if let Some(fault) = &fault {
-        tell(&rt, alloc, fault, floor.last_error());
+        tell(rt, alloc, fault, floor.last_error());
         if let RunFault::List(fault) = fault {
-            name_action(&rt, alloc, &words, &mut floor, fault);
+            name_action(rt, alloc, words, &mut floor, fault);
         }
     }
     ExitCode::from(status)
