@@ -1,8 +1,4 @@
 pub mod Views
-pub mod Firsts
-pub mod Late
-pub mod Orders
-pub mod ProducerLemmas
 pub mod Maps
 pub mod PlanLemmas
 pub mod SoundGroups

@@ -10,10 +10,10 @@ use Rattle.run_plan.specs.declared.plan.Kind.TheVariants as kind
 use Rattle.run_plan.specs.Sound.{is_sound_group}
 use Rattle.worker_key.specs.declared.key.Mode.{Mode}
 use Rattle.worker_key.specs.declared.key.Mode.TheVariants as mode
-use Rattle.action_list.specs.declared.types.ListAction.{ListAction}
+use Rattle.list_order.specs.declared.types.ListAction.{ListAction}
 use Rattle.action_list.specs.Checks.{has_local}
 use Rattle.action_list.specs.Keys.{key_bytes, keys_from, keys_of, mode_of, with_bytes, with_key}
-use Rattle.action_list.specs.Order.{is_among}
+use Rattle.list_order.specs.Order.{is_among}
 use Rattle.action_list.specs.Plans.{berths_at, executor_groups, group_by, groups_of, key_group, kind_by, remote_users, share, users}
 
 -- ---- how many keys there are

@@ -5,10 +5,10 @@ use Rattle.outside.specs.declared.command.Variable.{Variable}
 use Rattle.action_list.specs.declared.draft.Draft.{Draft}
 use Rattle.action_list.specs.declared.draft.Slot.{Slot}
 use Rattle.action_list.specs.declared.draft.Slot.TheVariants.{Missing, Other, Held}
-use Rattle.action_list.specs.declared.types.ListAction.{ListAction}
-use Rattle.action_list.specs.declared.types.Needs.{Needs}
-use Rattle.action_list.specs.declared.types.Strategy.{Strategy}
-use Rattle.action_list.specs.declared.types.Strategy.TheVariants as strategy
+use Rattle.list_order.specs.declared.types.ListAction.{ListAction}
+use Rattle.list_order.specs.declared.types.Needs.{Needs}
+use Rattle.list_order.specs.declared.types.Strategy.{Strategy}
+use Rattle.list_order.specs.declared.types.Strategy.TheVariants as strategy
 use Rattle.action_list.specs.Checks.{is_set, list_in, says, strategy_named, value_of}
 use Rattle.action_list.specs.Format.{draft_of}
 

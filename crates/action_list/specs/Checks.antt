@@ -10,14 +10,14 @@ use Rattle.outside.specs.declared.command.Variable.{Variable}
 use Rattle.action_list.specs.declared.draft.Draft.{Draft}
 use Rattle.action_list.specs.declared.draft.Slot.{Slot}
 use Rattle.action_list.specs.declared.draft.Slot.TheVariants.{Missing, Other, Held}
-use Rattle.action_list.specs.declared.faults.ListFault.TheVariants as fault
-use Rattle.action_list.specs.declared.faults.Key.{Key}
-use Rattle.action_list.specs.declared.faults.Key.TheVariants as key
-use Rattle.action_list.specs.declared.faults.What.{What}
-use Rattle.action_list.specs.declared.faults.What.TheVariants as what
-use Rattle.action_list.specs.declared.types.Strategy.{Strategy}
-use Rattle.action_list.specs.declared.types.Strategy.TheVariants as strategy
-use Rattle.action_list.specs.Answers.{Check, first}
+use Rattle.list_order.specs.declared.faults.ListFault.TheVariants as fault
+use Rattle.list_order.specs.declared.faults.Key.{Key}
+use Rattle.list_order.specs.declared.faults.Key.TheVariants as key
+use Rattle.list_order.specs.declared.faults.What.{What}
+use Rattle.list_order.specs.declared.faults.What.TheVariants as what
+use Rattle.list_order.specs.declared.types.Strategy.{Strategy}
+use Rattle.list_order.specs.declared.types.Strategy.TheVariants as strategy
+use Rattle.list_order.specs.Answers.{Check, first}
 use Rattle.action_list.specs.Format.{draft_of}
 
 -- ---- a value of its kind

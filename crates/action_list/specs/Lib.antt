@@ -1,15 +1,8 @@
 pub mod Actions
-pub mod Answers
 pub mod Checks
 pub mod Format
 pub mod Keys
 pub mod Lists
-pub mod Makers
-pub mod Order
 pub mod Parts
-pub mod Producers
 pub mod Plans
-pub mod Seen
-pub mod Tables
 pub mod Top
-pub mod Whole

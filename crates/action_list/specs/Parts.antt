@@ -8,7 +8,7 @@ use Rattle.run_plan.specs.Groups.{is_remote}
 use Rattle.outside.specs.declared.command.Command.{Command}
 use Rattle.outside.specs.declared.command.Variable.{Variable}
 use Rattle.action_list.specs.declared.parts.GroupPart.{GroupPart}
-use Rattle.action_list.specs.declared.types.ListAction.{ListAction}
+use Rattle.list_order.specs.declared.types.ListAction.{ListAction}
 use Rattle.action_list.specs.Keys.{worker_words}
 
 -- the branch is this group's

@@ -4,10 +4,10 @@ use Rattle.std.specs.Str.{is_utf8}
 use Rattle.serde_json.specs.Data.{Data, Items}
 use Rattle.serde_json.specs.Find.{as_array, as_object, get}
 use Rattle.serde_json.specs.Read.{read}
-use Rattle.action_list.specs.declared.faults.ListFault.{ListFault}
-use Rattle.action_list.specs.declared.faults.ListFault.TheVariants as fault
-use Rattle.action_list.specs.declared.faults.Key.TheVariants as key
-use Rattle.action_list.specs.declared.faults.What.TheVariants as what
+use Rattle.list_order.specs.declared.faults.ListFault.{ListFault}
+use Rattle.list_order.specs.declared.faults.ListFault.TheVariants as fault
+use Rattle.list_order.specs.declared.faults.Key.TheVariants as key
+use Rattle.list_order.specs.declared.faults.What.TheVariants as what
 use Rattle.action_list.specs.Format.{datas}
 
 abbrev pub if_read : Option Data → Result Data ListFault

@@ -1,9 +1,9 @@
 // Which actions share a worker key, as far as the list says.
 ghost use Rattle.std.specs.Prelude.{◌≡◌, ◌≤◌, ◌+◌, length, IfOk, OnOk, map};
-ghost use Rattle.action_list.specs.Answers.{Settles};
+ghost use Rattle.list_order.specs.Answers.{Settles};
 ghost use Rattle.action_list.specs.Checks.{has_local, has_remote};
 ghost use Rattle.action_list.specs.Keys.{key_bytes, keys_check, keys_of, list_key, mode_of, named_variable, unread_tool, with_bytes, with_key, worker_words};
-ghost use Rattle.action_list.specs.Order.{is_among};
+ghost use Rattle.list_order.specs.Order.{is_among};
 
 use crate::checks::check_count;
 use crate::{ListAction, ListRefusal, Strategy, What};

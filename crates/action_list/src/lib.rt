@@ -3,32 +3,26 @@
 
 mod checks;
 mod draft;
-mod faults;
 mod keys;
 mod listed;
 mod made;
-mod makers;
 mod needs;
-mod order;
 mod parts;
 mod planning;
-mod producers;
-mod seen;
 mod top;
-mod types;
 
-ghost use Rattle.action_list.specs.Answers.{Answers};
+ghost use Rattle.list_order.specs.Answers.{Answers};
 ghost use Rattle.action_list.specs.Lists.{list_of};
-ghost use Rattle.action_list.specs.Whole.{IsWhole};
+ghost use Rattle.list_order.specs.Whole.{IsWhole};
 ghost use Rattle.std.specs.Prelude.{IfOk};
 
-pub use faults::{Key, ListFault, ListRefusal, What};
 pub use keys::has_local;
+pub use list_order::{
+    ActionList, Key, ListAction, ListFault, ListRefusal, Needs, Producers, Strategy, What,
+};
 pub use parts::{GroupPart, group_parts};
 pub use planning::plan;
-pub use producers::Producers;
 use std::alloc::Global;
-pub use types::{ActionList, ListAction, Needs, Strategy};
 
 /// The most worker keys that a list may have.
 const MAX_KEYS: usize = 48;

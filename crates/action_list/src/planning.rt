@@ -3,18 +3,17 @@ ghost use Rattle.std.specs.Prelude.{◌≡◌, ◌≤◌, ◌++◌, ◌∷◌, [
 ghost use Rattle.std.specs.List.{filter_map, list_all};
 ghost use Rattle.std.specs.Option.{option_copied};
 ghost use Rattle.std.specs.Str.{bytes_eq};
-ghost use Rattle.action_list.specs.declared.types.ListAction.{ListAction};
+ghost use Rattle.list_order.specs.declared.types.ListAction.{ListAction};
 ghost use Rattle.action_list.specs.Keys.{keys_of};
-ghost use Rattle.action_list.specs.Producers.{producer_of};
+ghost use Rattle.list_order.specs.Producers.{producer_of};
 ghost use Rattle.action_list.specs.Plans.{berths_at, executor_groups, first_user, groups_of, is_key, key_group, kind_by, kind_of, local_key, local_of, number_of, plan_action, plan_actions, plan_of, remote_of, remote_users, share, users};
-ghost use Rattle.action_list.specs.Whole.{IsWhole, KnowsProducers};
+ghost use Rattle.list_order.specs.Whole.{IsWhole, KnowsProducers};
 ghost use Rattle.run_plan.specs.Sound.{Sound};
 
 use crate::keys::{has_local, has_remote, key_bytes, keys_of, mode_of};
-use crate::producers::Producers;
-use crate::{ActionList, ListAction};
+use crate::{ActionList, ListAction, Producers};
 use plain_values::{Blob, Items, NoMemory, Text, texts_again};
-use run_plan::{Group, Kind, Maker, Plan, PlanAction};
+use run_plan::{Group, Kind, Plan, PlanAction};
 use std::alloc::Global;
 use worker_key::Mode;
 
@@ -268,26 +267,10 @@ fn plan_action(
     Ok(PlanAction {
         name: Text::copy_of(alloc, action.name.as_str())?,
         outputs: texts_again(alloc, action.outputs.as_slice())?,
-        makers: makers_of(alloc, producers, action.inputs.as_slice())?,
+        makers: producers.makers_of(alloc, action.inputs.as_slice())?,
         local: local_of(alloc, keys, action)?,
         remote: remote_of(keys, action),
     })
-}
-
-fn makers_of(
-    alloc: Global,
-    producers: &Producers,
-    inputs: &[Text],
-) -> Result<Items<Maker>, NoMemory>
-    ensures { IfOk result (λ m. m ≡ filter_map (producer_of producers.now) inputs.now) }
-{
-    let mut makers = Vec::new(alloc);
-    for path in inputs {
-        if let Some(maker) = producers.get(path.as_str()) {
-            makers.push(maker)?;
-        }
-    }
-    Ok(Items::of(makers))
 }
 
 fn local_of(alloc: Global, keys: &[Blob], action: &ListAction) -> Result<Option<u32>, NoMemory>

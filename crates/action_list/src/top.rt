@@ -4,7 +4,7 @@ ghost use Rattle.std.specs.Str.{is_utf8};
 ghost use Rattle.serde_json.specs.Find.{as_array};
 ghost use Rattle.serde_json.specs.Read.{read};
 ghost use Rattle.serde_json.specs.View.{view};
-ghost use Rattle.action_list.specs.Answers.{Refuses};
+ghost use Rattle.list_order.specs.Answers.{Refuses};
 ghost use Rattle.action_list.specs.Top.{actions_in, if_array, if_read, json_in};
 
 use crate::{Key, ListFault, ListRefusal, What};

@@ -5,7 +5,7 @@ use Rattle.run_plan.specs.declared.plan.PlanAction.{PlanAction}
 use Rattle.exec_journal.specs.declared.ends.ActionEnd.{ActionEnd}
 use Rattle.exec_journal.specs.declared.journal.Entry.{Entry}
 use Rattle.exec_journal.specs.Ends.{ends_from, ends_of}
-use Rattle.journal_ends.proofs.Judged.{ends_start}
+use Rattle.journal_lookback.proofs.Judged.{ends_start}
 
 length_from : (p : Plan) (j : List Entry) (a : ℕ) (xs : List PlanAction) → length (ends_from p j a xs) ≡ length xs
 length_from p j a [] = refl

@@ -28,7 +28,7 @@ pub enum RunFault {
 }
 
 /// When memory was wanted.
-#[derive(Clone, Copy, Debug, PartialEq, Eq)]
+#[derive(Clone, Copy, PartialEq, Eq)]
 pub enum Stage {
     /// Before a lane was started.
     Before,

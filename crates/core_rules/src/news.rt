@@ -5,7 +5,7 @@ ghost use Rattle.core_rules.specs.Waking.{bit_of};
 use exec_journal::{Call, Reply, Started, Written};
 
 /// Who may have news after a call.
-#[derive(Clone, Copy, Debug, PartialEq, Eq)]
+#[derive(Clone, Copy, PartialEq, Eq)]
 pub enum News {
     Nobody,
     /// The other lane of the berth.

@@ -11,7 +11,7 @@ use exec_journal::{Attempt, Cause, Kind, Why};
 use worker_pool::LineRow;
 
 /// What an Ask is to do.
-#[derive(Clone, Copy, Debug, PartialEq, Eq)]
+#[derive(Clone, Copy)]
 pub enum Choice {
     Stop,
     Kill {

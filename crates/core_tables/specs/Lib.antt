@@ -3,3 +3,5 @@ pub mod Last
 pub mod Matches
 pub mod Seats
 pub mod Greetings
+pub mod Slots
+pub mod Stands

@@ -8,7 +8,7 @@ use std::alloc::Global;
 use std::marker::Model;
 
 /// Of a berth's last line: whether an answer of it came, and whether one was a greeting.
-#[derive(Clone, Copy, Debug, PartialEq, Eq)]
+#[derive(Clone, Copy)]
 pub struct Greeting {
     pub spoken: bool,
     pub greeted: bool,

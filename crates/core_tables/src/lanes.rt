@@ -12,7 +12,7 @@ use std::alloc::Global;
 use std::marker::Model;
 
 /// What the reply of a lane's newest work orders.
-#[derive(Clone, Copy, Debug, PartialEq, Eq)]
+#[derive(Clone, Copy)]
 pub enum Order {
     Nothing,
     Launch {
@@ -45,7 +45,7 @@ pub enum Order {
 }
 
 /// What the call of a lane's newest work leaves to do.
-#[derive(Clone, Copy, Debug, PartialEq, Eq)]
+#[derive(Clone, Copy)]
 pub enum Said {
     Nothing,
     /// An answer of this line, which the lane still hears.
@@ -55,7 +55,7 @@ pub enum Said {
 }
 
 /// Of a lane: its newest work, and whether it was told to stop or has halted.
-#[derive(Clone, Copy, Debug, PartialEq, Eq)]
+#[derive(Clone, Copy)]
 pub struct LaneState {
     pub order: Order,
     pub said: Said,

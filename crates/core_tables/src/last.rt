@@ -11,7 +11,7 @@ use std::marker::Model;
 /// Of a berth's last line: the attempt for which it was launched, whether a tap lane was given it,
 /// the cause of its first break, and the attempt whose request could not be written for a fault of
 /// its feed.
-#[derive(Clone, Copy, Debug, PartialEq, Eq)]
+#[derive(Clone, Copy)]
 pub struct LastLine {
     pub attempt: Option<Attempt>,
     pub taken: bool,

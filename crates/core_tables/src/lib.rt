@@ -1,13 +1,18 @@
 //! What the scheduling core keeps beside the six tables: what each lane owes, what is known of each
-//! berth's last line and of its greeting, and the matches that wait there.
+//! berth's last line and of its greeting, the matches that wait there, and the files that were granted
+//! or that matched answers have.
 #![tactic(auto)]
 
+pub mod file_laws;
+mod file_rows;
+mod files;
 mod greetings;
 mod lanes;
 mod last;
 mod matches;
 mod seat;
 
+pub use files::{Files, Slot};
 pub use greetings::{Greeting, Greetings};
 pub use lanes::{LaneState, Lanes, Order, Said};
 pub use last::{LastLine, LastLines};

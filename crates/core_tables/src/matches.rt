@@ -11,7 +11,7 @@ use std::marker::Model;
 
 /// A match, and whether it waits no longer: a Gather of it was ordered, its request wasn't written
 /// whole, or its action has a grant.
-#[derive(Clone, Copy, Debug, PartialEq, Eq)]
+#[derive(Clone, Copy)]
 pub struct Match {
     pub line: u32,
     pub number: i32,

@@ -6,7 +6,7 @@ use exec_journal::{Group, Kind, Plan};
 
 /// A berth's group: its number, its first berth and how many it has, its kind, and whether it has
 /// cancellation.
-#[derive(Clone, Copy, Debug, PartialEq, Eq)]
+#[derive(Clone, Copy)]
 pub struct Seat {
     pub group: u32,
     pub first: u32,

@@ -17,11 +17,11 @@ use std::alloc::Global;
 use wire_messages::{MessageFault, WorkRequest, WorkResponse, decode_request, encode_delimited};
 
 /// Answers requests in the binary form of Protocol Buffers, each behind its length.
-#[derive(Clone, Copy, Debug)]
+#[derive(Clone, Copy)]
 pub struct DelimitedRequests;
 
 /// Answers requests that are JSON lines.
-#[derive(Clone, Copy, Debug)]
+#[derive(Clone, Copy)]
 pub struct RequestLines;
 
 impl<S: Shop> Service<S> for DelimitedRequests {

@@ -1,5 +1,5 @@
 // Lists: their faults, and the groups of their plans.
-ghost use Rattle.action_list.specs.Whole.{IsWhole};
+ghost use Rattle.list_order.specs.Whole.{IsWhole};
 
 use action_list::{ActionList, GroupPart, ListRefusal, group_parts, plan, read_list};
 use build_report::{RunFault, fault_line};

@@ -1,5 +1,5 @@
 // How long a list takes to be read, planned and reported on.
-ghost use Rattle.action_list.specs.Whole.{IsWhole};
+ghost use Rattle.list_order.specs.Whole.{IsWhole};
 ghost use Rattle.run_plan.specs.Sound.{Sound};
 
 use crate::history::busy_history;

@@ -19,7 +19,7 @@ use wire_messages::{MessageFault, encode_delimited};
 pub const GREETING: [u8; 3] = [2, 64, 2];
 
 /// Answers jobs.
-#[derive(Clone, Copy, Debug)]
+#[derive(Clone, Copy)]
 pub struct Executor;
 
 impl<S: Shop> Service<S> for Executor {

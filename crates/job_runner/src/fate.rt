@@ -9,7 +9,7 @@ use plain_values::Text;
 use remote_messages::{Job, NamedFile};
 
 /// What is done with a job.
-#[derive(Clone, Copy, Debug, PartialEq, Eq)]
+#[derive(Clone, Copy, PartialEq, Eq)]
 pub enum Fate {
     /// Nothing: it says that another one is to be given up.
     Cancels,

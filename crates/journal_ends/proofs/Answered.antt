@@ -19,8 +19,8 @@ use Rattle.exec_journal.specs.Outcomes.{winning_answer}
 use Rattle.journal_ends.specs.Replay.{AllNew}
 use Rattle.journal_ends.specs.Winning.{granted_at, winner_in, AreWinners, winners_after, answer_at, answer_in, AreAnswers, AreWinning, NotesAnswer, matched_action, is_at}
 use Rattle.exec_journal.proofs.Ruled.{by_bool}
-use Rattle.journal_ends.specs.Lookback.{front}
-use Rattle.journal_ends.proofs.LookedBack.{front_more}
+use Rattle.journal_lookback.specs.Lookback.{front}
+use Rattle.journal_lookback.proofs.LookedBack.{front_more}
 use Rattle.list_lemmas.proofs.Updates.{set-update}
 use Rattle.list_lemmas.proofs.Updates.{get_update}
 

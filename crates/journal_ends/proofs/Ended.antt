@@ -17,7 +17,7 @@ use Rattle.exec_journal.specs.declared.ends.ActionEnd.{ActionEnd}
 use Rattle.exec_journal.specs.declared.ends.Cause.{Cause}
 use Rattle.exec_journal.specs.declared.ends.Standing.{Standing}
 use Rattle.exec_journal.specs.declared.ends.Standing.TheVariants.{Open, Unsuccessful}
-use Rattle.journal_ends.specs.declared.grant.Grant.{Grant}
+use Rattle.journal_lookback.specs.declared.grant.Grant.{Grant}
 use Rattle.exec_journal.specs.declared.journal.Entry.{Entry}
 use Rattle.journal_ends.specs.declared.replay.ActionFact.{ActionFact}
 use Rattle.journal_ends.specs.declared.replay.BranchFact.{BranchFact}
@@ -28,11 +28,11 @@ use Rattle.exec_journal.specs.Attempts.{end_of, ended, dropped}
 use Rattle.exec_journal.specs.Settled.{by_commit, by_grant, unused_or_dropped, all_dropped, is_starved, standing_after, standings_from, standings}
 use Rattle.exec_journal.specs.Ends.{action_end, ends_from, ends_of}
 use Rattle.exec_journal.specs.Outcomes.{grant_outcome, commit_outcome, is_winner, won_or_spoiled, lost_fate, fate_after}
-use Rattle.journal_ends.specs.Lookback.{grant_fact, ended_line, end_now}
+use Rattle.journal_lookback.specs.Lookback.{grant_fact, ended_line, end_now}
 use Rattle.journal_ends.specs.Replay.{AllNew, AreActions, IsActionFact, IsBranchFact}
 use Rattle.journal_ends.specs.Endings.{verdict_of, verdicts_from, verdict_by, own_by, commit_for, is_gone, is_won_by, fate_by, standing_own, standing_by, standings_through, end_by, ends_through}
 use Rattle.exec_journal.proofs.Histories.{AtSome, first_from}
-use Rattle.journal_ends.proofs.Judged.{fate_read, outcome_read}
+use Rattle.journal_lookback.proofs.Judged.{fate_read, outcome_read}
 use Rattle.exec_journal.proofs.Ruled.{by_bool}
 
 -- ---- new facts

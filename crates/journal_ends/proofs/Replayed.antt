@@ -13,7 +13,7 @@ use Rattle.exec_journal.specs.declared.call.Call.{Call}
 use Rattle.exec_journal.specs.declared.call.Call.TheVariants as call
 use Rattle.exec_journal.specs.declared.call.CommitEnd.{CommitEnd}
 use Rattle.exec_journal.specs.declared.call.Found.{Found}
-use Rattle.journal_ends.specs.declared.grant.Grant.{Grant}
+use Rattle.journal_lookback.specs.declared.grant.Grant.{Grant}
 use Rattle.exec_journal.specs.declared.reply.Reply.{Reply}
 use Rattle.exec_journal.specs.declared.reply.Reply.TheVariants as reply
 use Rattle.journal_ends.specs.declared.replay.LineFact.{LineFact}
@@ -23,12 +23,12 @@ use Rattle.list_lemmas.specs.Options.{or_else, unless_before}
 use Rattle.exec_journal.specs.Entries.{Request, attempt_of, same_attempt, same_branch, is_branch_of, is_look, is_halt, is_for, consumed_in, send_in, send_of_entry, launch_of_entry, ends, committed_in, refused_in, granted_in}
 use Rattle.exec_journal.specs.Words.{last_work, has_ended, line_cause, break_at, break_by, order_of, wrote_if, answered, ever_sent, is_of_branch, granted, grant_of, commit_of, of_action}
 use Rattle.exec_journal.specs.Attempts.{carrier_in, fault_by, refused_cause}
-use Rattle.journal_ends.specs.Lookback.{is_work, grants, grant_fact, ended_line, is_late, track_after, IsTrack}
+use Rattle.journal_lookback.specs.Lookback.{is_work, grants, grant_fact, ended_line, is_late, track_after, IsTrack}
 use Rattle.journal_ends.specs.Replay.{AllNew, new_action, new_branch, new_line, reply_action, call_action, broken_line, branch_of, answer_flag, answers_after, branch_after, action_after, line_after, line_fact, AreAnswers, IsBranchFact, IsActionFact, AreActions, AreLines, AreOrders}
 use Rattle.list_lemmas.specs.Places.{update, update_if}
 use Rattle.exec_journal.proofs.Ruled.{by_bool}
-use Rattle.journal_ends.proofs.LookedBack.{break_late}
-use Rattle.journal_ends.proofs.States.{track_new, track_entry, track_aside, IsAside}
+use Rattle.journal_lookback.proofs.LookedBack.{break_late}
+use Rattle.journal_lookback.proofs.States.{track_new, track_entry, track_aside, IsAside}
 use Rattle.list_lemmas.proofs.Updates.{get_update, get_replicate}
 use Rattle.list_lemmas.proofs.Updates.{set-update}
 

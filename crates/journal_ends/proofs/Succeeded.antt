@@ -26,11 +26,11 @@ use Rattle.exec_journal.specs.Ends.{ends_from, ends_of}
 use Rattle.exec_journal.specs.Outcomes.{grant_outcome, commit_outcome, outcome_of, is_ok, is_some_ok}
 use Rattle.journal_ends.specs.declared.successes.Award.{Award}
 use Rattle.journal_ends.specs.declared.successes.Chance.{Chance}
-use Rattle.journal_ends.specs.Lookback.{grants, grant_fact}
+use Rattle.journal_lookback.specs.Lookback.{grants, grant_fact}
 use Rattle.journal_ends.specs.Replay.{AllNew}
 use Rattle.journal_ends.specs.Successes.{has_succeeded, award_of, is_done, done_for, succeeds, succeeds_by, new_chance, chance_after, chance_of, claimed_action, AreChances}
 use Rattle.journal_ends.proofs.Ended.{grant_action}
-use Rattle.journal_ends.proofs.Judged.{ends_start, success_at}
+use Rattle.journal_lookback.proofs.Judged.{ends_start, success_at}
 use Rattle.journal_ends.proofs.Replayed.{hit, miss, at_cases, not_this}
 
 pub new_table : (n : ℕ) → AllNew new_chance (replicate n new_chance)

@@ -7,13 +7,13 @@ use Rattle.exec_journal.specs.declared.ends.ActionEnd.{ActionEnd}
 use Rattle.exec_journal.specs.declared.ends.Cause.{Cause}
 use Rattle.exec_journal.specs.declared.ends.Fate.{Fate}
 use Rattle.exec_journal.specs.declared.ends.Fate.TheVariants as fate
-use Rattle.journal_ends.specs.declared.grant.Grant.{Grant}
-use Rattle.journal_ends.specs.declared.grant.GrantKind.{GrantKind}
-use Rattle.journal_ends.specs.declared.grant.GrantKind.TheVariants as prize
+use Rattle.journal_lookback.specs.declared.grant.Grant.{Grant}
+use Rattle.journal_lookback.specs.declared.grant.GrantKind.{GrantKind}
+use Rattle.journal_lookback.specs.declared.grant.GrantKind.TheVariants as prize
 use Rattle.journal_ends.specs.declared.replay.ActionFact.{ActionFact}
 use Rattle.journal_ends.specs.declared.replay.BranchFact.{BranchFact}
 use Rattle.exec_journal.specs.Entries.{same_branch}
-use Rattle.journal_ends.specs.Lookback.{end_now}
+use Rattle.journal_lookback.specs.Lookback.{end_now}
 use Rattle.run_plan.specs.declared.plan.Plan.{Plan}
 use Rattle.run_plan.specs.declared.plan.PlanAction.{PlanAction}
 use Rattle.exec_journal.specs.declared.ends.Outcome.{Outcome}

@@ -1,4 +1,3 @@
-pub mod Lookback
 pub mod Replay
 pub mod Endings
 pub mod Winning

@@ -16,7 +16,7 @@ use Rattle.journal_ends.specs.declared.replay.ActionFact.{ActionFact}
 use Rattle.exec_journal.specs.Entries.{attempt_of, send_in, send_of_entry, launch_of_entry, consumed_in, ends, committed_in}
 use Rattle.exec_journal.specs.Words.{last_work, has_ended, line_cause, answered, ever_sent, is_of_branch, grant_of, commit_of}
 use Rattle.exec_journal.specs.Attempts.{number_if}
-use Rattle.journal_ends.specs.Lookback.{grants, grant_fact, ended_line, break_when, track_after, IsTrack}
+use Rattle.journal_lookback.specs.Lookback.{grants, grant_fact, ended_line, break_when, track_after, IsTrack}
 use Rattle.list_lemmas.specs.Places.{update_if}
 
 -- ---- which action and line an entry is about

@@ -12,13 +12,13 @@ use Rattle.exec_journal.specs.declared.call.CommitEnd.TheVariants as commit
 use Rattle.exec_journal.specs.Entries.{committed_in}
 use Rattle.exec_journal.specs.Words.{grant_of, commit_of}
 use Rattle.exec_journal.specs.Outcomes.{is_ok}
-use Rattle.journal_ends.specs.declared.grant.Grant.{Grant}
-use Rattle.journal_ends.specs.declared.grant.GrantKind.{GrantKind}
-use Rattle.journal_ends.specs.declared.grant.GrantKind.TheVariants as prize
+use Rattle.journal_lookback.specs.declared.grant.Grant.{Grant}
+use Rattle.journal_lookback.specs.declared.grant.GrantKind.{GrantKind}
+use Rattle.journal_lookback.specs.declared.grant.GrantKind.TheVariants as prize
 use Rattle.journal_ends.specs.declared.successes.Award.{Award}
 use Rattle.journal_ends.specs.declared.successes.Award.TheVariants as award
 use Rattle.journal_ends.specs.declared.successes.Chance.{Chance}
-use Rattle.journal_ends.specs.Lookback.{grants, grant_fact}
+use Rattle.journal_lookback.specs.Lookback.{grants, grant_fact}
 
 abbrev pub has_succeeded : ActionEnd → Bool
 has_succeeded e = is_ok e.outcome

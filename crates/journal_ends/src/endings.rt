@@ -2,15 +2,16 @@
 ghost use Rattle.std.specs.Prelude.{◌≡◌, ◌≤◌, ◌<◌, [], length, reverse, IfOk, is_some};
 ghost use Rattle.run_plan.specs.Sound.{Sound};
 ghost use Rattle.exec_journal.specs.Ends.{ends_of};
-ghost use Rattle.journal_ends.specs.Lookback.{ended_line};
+ghost use Rattle.journal_lookback.specs.Lookback.{ended_line};
 ghost use Rattle.journal_ends.specs.Replay.{AllNew, new_action, new_line, AreActions, AreLines, IsActionFact};
 ghost use Rattle.journal_ends.specs.Endings.{verdict_of, verdicts_from, verdict_by, own_by, commit_for, prize_outcome, is_gone, is_won_by, fate_by, standing_by, standing_of, outcome_by, standings_through, end_by, ends_through};
 
-use crate::grant::{Grant, GrantKind};
-use crate::outcomes::{committed_outcome, is_input_lost, loser_fate, starved_outcome, winner_fate};
 use crate::replay::{ActionFact, BranchFact, LineFact, ended_at, gather};
 use exec_journal::{
     ActionEnd, Branch, Cause, CommitEnd, Entry, Fate, Journal, Outcome, Plan, PlanAction, Standing,
+};
+use journal_lookback::{
+    Grant, GrantKind, committed_outcome, is_input_lost, loser_fate, starved_outcome, winner_fate,
 };
 use plain_values::NoMemory;
 use std::alloc::Global;
@@ -33,7 +34,7 @@ pub fn action_ends(alloc: Global, plan: &Plan, j: &Journal) -> Result<Vec<Action
 }
 
 /// How an action ends but for its producers.
-#[derive(Clone, Copy, Debug, PartialEq, Eq)]
+#[derive(Clone, Copy)]
 pub struct Verdict {
     pub own: Option<Outcome>,
     pub dropped: bool,

@@ -4,17 +4,15 @@ ghost use Rattle.exec_journal.specs.declared.journal.Entry.{Entry};
 ghost use Rattle.exec_journal.specs.Entries.{attempt_of, send_of_entry, launch_of_entry, consumed_in};
 ghost use Rattle.exec_journal.specs.Words.{last_work, answered};
 ghost use Rattle.exec_journal.specs.Attempts.{number_if};
-ghost use Rattle.journal_ends.specs.Lookback.{ended_line, was_answered, is_late};
+ghost use Rattle.journal_lookback.specs.Lookback.{ended_line, was_answered, is_late};
 ghost use Rattle.journal_ends.specs.Replay.{AllNew, new_action, new_line, AreActions, AreLines, AreOrders, branch_of, answer_flag, answers_after, action_after, branch_after, line_after, reply_action, call_action, broken_line};
 ghost use Rattle.list_lemmas.specs.Places.{update_if};
 
-use crate::attempt_state::Track;
-use crate::grant::{Grant, grant_in};
-use crate::lookback::{
-    break_by, commit_in, ended_line, is_answered, is_end, is_send_of, is_unwritten, is_work_of,
-    last_work, sent_by,
-};
 use exec_journal::{Attempt, Branch, Call, Cause, CommitEnd, Entry, Reply};
+use journal_lookback::{
+    Grant, Track, break_by, commit_in, ended_line, grant_in, is_answered, is_end, is_send_of,
+    is_unwritten, is_work_of, last_work, sent_by,
+};
 
 /// The most lanes that a run can have: two for each of 64 berths.
 const LANES: usize = 128;
@@ -23,7 +21,7 @@ const LANES: usize = 128;
 const NUMBERS: usize = 11;
 
 /// Of a line: the cause for which it broke, and whether it has ended.
-#[derive(Clone, Copy, Debug, PartialEq, Eq)]
+#[derive(Clone, Copy)]
 pub struct LineFact {
     pub cause: Option<Cause>,
     pub ended: bool,
@@ -31,7 +29,7 @@ pub struct LineFact {
 
 /// Of a branch: how it was committed, whether it was ever sent, which of its attempts were answered, by their
 /// numbers, and its last attempt.
-#[derive(Clone, Copy, Debug, PartialEq, Eq)]
+#[derive(Clone, Copy)]
 pub struct BranchFact {
     pub commit: Option<CommitEnd>,
     pub sent: bool,
@@ -40,7 +38,7 @@ pub struct BranchFact {
 }
 
 /// Of an action: its grant and its branches.
-#[derive(Clone, Copy, Debug, PartialEq, Eq)]
+#[derive(Clone, Copy)]
 pub struct ActionFact {
     pub grant: Option<Grant>,
     pub local: BranchFact,

@@ -4,20 +4,19 @@ ghost use Rattle.std.specs.List.{list_all};
 ghost use Rattle.run_plan.specs.Sound.{Sound};
 ghost use Rattle.exec_journal.specs.Entries.{committed_in};
 ghost use Rattle.exec_journal.specs.Ends.{ends_of};
-ghost use Rattle.journal_ends.specs.Lookback.{grants, grant_fact};
+ghost use Rattle.journal_lookback.specs.Lookback.{grants, grant_fact};
 ghost use Rattle.journal_ends.specs.Replay.{AllNew};
 ghost use Rattle.journal_ends.specs.Successes.{has_succeeded, award_of, is_done, done_for, succeeds, new_chance, chance_after, claimed_action, AreChances};
 ghost use Rattle.list_lemmas.specs.Places.{update_if};
 
-use crate::grant::{Grant, GrantKind, grant_in};
-use crate::lookback::commit_in;
 use exec_journal::{Branch, Call, CommitEnd, Entry, Journal, Plan};
+use journal_lookback::{Grant, GrantKind, commit_in, grant_in};
 
 /// The most actions that a plan has.
 const ACTIONS: usize = 4096;
 
 /// What an action was granted for.
-#[derive(Clone, Copy, Debug, PartialEq, Eq)]
+#[derive(Clone, Copy)]
 pub enum Award {
     FilesOf(Branch),
     NoFiles,
@@ -25,7 +24,7 @@ pub enum Award {
 
 /// Of an action: what it was first granted for, and of each branch whether the first commit was done. A table of all
 /// actions lies on the stack, so it is kept small.
-#[derive(Clone, Copy, Debug, PartialEq, Eq)]
+#[derive(Clone, Copy)]
 pub struct Chance {
     pub award: Option<Award>,
     pub local: Option<bool>,

@@ -4,8 +4,8 @@ ghost use Rattle.journal_ends.specs.Replay.{AllNew};
 ghost use Rattle.list_lemmas.specs.Places.{update_if};
 ghost use Rattle.journal_ends.specs.Winning.{granted_at, AreWinners, winners_after, answer_at, AreWinning, NotesAnswer, matched_action};
 
-use crate::lookback::match_in;
 use exec_journal::{Answer, Attempt, Call, Entry, Journal, Plan, Reply};
+use journal_lookback::match_in;
 use plain_values::NoMemory;
 use std::alloc::Global;
 

@@ -9,7 +9,7 @@ use plain_values::NoMemory;
 use std::alloc::Global;
 
 /// How the frames of a stream are marked.
-#[derive(Clone, Copy, Debug, PartialEq, Eq)]
+#[derive(Clone, Copy, PartialEq, Eq)]
 pub enum Framing {
     /// Each frame stands behind its length.
     Delimited,

@@ -28,8 +28,8 @@ use Rattle.tap_lane.specs.Lane.{LaneEnds}
 use Rattle.berth_lanes.specs.declared.proxies.ProxyLeft.{ProxyLeft}
 use Rattle.berth_lanes.specs.declared.taps.TapLeft.{TapLeft}
 use Rattle.berth_lanes.specs.Ran.{BerthRan, EachBerthRan}
-use Rattle.ended_lines.specs.declared.halves.BerthLines.{BerthLines}
-use Rattle.ended_lines.specs.Berths.{IsMatched, feed_lines, all_feed_lines}
+use Rattle.lane_runs.specs.declared.halves.BerthLines.{BerthLines}
+use Rattle.lane_runs.specs.BerthHalves.{IsMatched, feed_lines, all_feed_lines}
 use Rattle.ending_laws.specs.Taps.{started_at, taken_in}
 use Rattle.ending_laws.specs.Lines.{started_from}
 use Rattle.ending_laws.specs.Lanes.{TakenAreTapped}

@@ -4,3 +4,5 @@ mod Leaving
 mod Telling
 mod Whole
 mod Crewed
+mod FactsAt
+mod Matching

@@ -4,7 +4,7 @@ use Rattle.lane_crew.specs.declared.pair.OfTwo.{OfTwo}
 use Rattle.lane_crew.specs.declared.pair.OfTwo.TheVariants.{First, Second}
 use Rattle.berth_lanes.specs.declared.proxies.ProxyLeft.{ProxyLeft}
 use Rattle.berth_lanes.specs.declared.taps.TapLeft.{TapLeft}
-use Rattle.ended_lines.specs.declared.halves.BerthLines.{BerthLines}
+use Rattle.lane_runs.specs.declared.halves.BerthLines.{BerthLines}
 use Rattle.lane_runs.specs.Apart.{Alternate, Apart, BeginsWithTwo, NextBerth}
 
 -- where nothing came out, nothing was there

@@ -36,12 +36,12 @@ use Rattle.lane_deeds.specs.Lines.{started_in, listed}
 use Rattle.lane_steps.specs.declared.hands.EndedFeed.{EndedFeed}
 use Rattle.lane_steps.specs.Lanes.{back_of}
 use Rattle.lane_steps.specs.Steps.{Ended}
-use Rattle.ended_lines.specs.declared.halves.EndedLine.{EndedLine}
-use Rattle.ended_lines.specs.declared.halves.Halves.{Halves}
-use Rattle.ended_lines.specs.Berths.{IsMatched, taps_left, halves_with, halves_of, all_halves}
-use Rattle.ended_lines.specs.Facts.{HasFacts, EachHasFacts}
-use Rattle.ended_lines.proofs.Facts.{of_more}
-use Rattle.ended_lines.proofs.Matching.{as_many_taps}
+use Rattle.lane_runs.specs.declared.halves.EndedLine.{EndedLine}
+use Rattle.lane_runs.specs.declared.halves.Halves.{Halves}
+use Rattle.lane_runs.specs.BerthHalves.{IsMatched, taps_left, halves_with, halves_of, all_halves}
+use Rattle.lane_runs.specs.LineFacts.{HasFacts, EachHasFacts}
+use Rattle.lane_runs.proofs.FactsAt.{of_more}
+use Rattle.lane_runs.proofs.Matching.{as_many_taps}
 use Rattle.ending_laws.specs.Taps.{started_at, taken_in}
 use Rattle.ending_laws.specs.Lanes.{TakenAreTapped, EndedHaveLeft, WasStopped}
 use Rattle.ending_laws.specs.Halts.{EndsTellHalts, HaltsAreByLanes, has_halt}

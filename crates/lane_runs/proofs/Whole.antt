@@ -24,12 +24,12 @@ use Rattle.lane_deeds.specs.declared.post.Post.{Post}
 use Rattle.berth_lanes.specs.declared.proxies.ProxyLeft.{ProxyLeft}
 use Rattle.berth_lanes.specs.declared.taps.TapLeft.{TapLeft}
 use Rattle.berth_lanes.specs.Ran.{EachBerthRan}
-use Rattle.ended_lines.specs.declared.halves.BerthLines.{BerthLines}
-use Rattle.ended_lines.specs.declared.halves.EndedLine.{EndedLine}
-use Rattle.ended_lines.specs.declared.halves.Halves.{Halves}
-use Rattle.ended_lines.specs.Berths.{IsMatched, all_halves, all_feed_lines}
-use Rattle.ended_lines.specs.Lines as ended
-use Rattle.ended_lines.proofs.Facts.{facts_at}
+use Rattle.lane_runs.specs.declared.halves.BerthLines.{BerthLines}
+use Rattle.lane_runs.specs.declared.halves.EndedLine.{EndedLine}
+use Rattle.lane_runs.specs.declared.halves.Halves.{Halves}
+use Rattle.lane_runs.specs.BerthHalves.{IsMatched, all_halves, all_feed_lines}
+use Rattle.lane_runs.specs.EndedLines as ended
+use Rattle.lane_runs.proofs.FactsAt.{facts_at}
 use Rattle.ending_laws.specs.Lines.{started_from}
 use Rattle.ending_laws.specs.Places.{HasLeft}
 use Rattle.ending_laws.specs.Taps.{started_at, taken_in}

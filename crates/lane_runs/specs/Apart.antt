@@ -4,7 +4,7 @@ use Rattle.lane_crew.specs.declared.pair.OfTwo.{OfTwo}
 use Rattle.lane_crew.specs.declared.pair.OfTwo.TheVariants.{First, Second}
 use Rattle.berth_lanes.specs.declared.proxies.ProxyLeft.{ProxyLeft}
 use Rattle.berth_lanes.specs.declared.taps.TapLeft.{TapLeft}
-use Rattle.ended_lines.specs.declared.halves.BerthLines.{BerthLines}
+use Rattle.lane_runs.specs.declared.halves.BerthLines.{BerthLines}
 
 module _ {B D T K : Type 0} where
   -- for each slot of the shelf the end of a proxy lane, and then that of a tap lane

@@ -10,9 +10,9 @@ use Rattle.run_rules.specs.Laws.{lines_in}
 use Rattle.script_duties.specs.Owed.{to_entry}
 use Rattle.berth_lanes.specs.declared.proxies.ProxyLeft.{ProxyLeft}
 use Rattle.berth_lanes.specs.declared.taps.TapLeft.{TapLeft}
-use Rattle.ended_lines.specs.Berths.{IsMatched, all_feed_lines}
-use Rattle.ended_lines.specs.Lines.{AreLines}
-use Rattle.ended_lines.specs.declared.halves.BerthLines.{BerthLines}
+use Rattle.lane_runs.specs.BerthHalves.{IsMatched, all_feed_lines}
+use Rattle.lane_runs.specs.EndedLines.{AreLines}
+use Rattle.lane_runs.specs.declared.halves.BerthLines.{BerthLines}
 use Rattle.lane_runs.specs.Apart.{Apart}
 use Rattle.lane_runs.specs.declared.layout.Laid.{Laid}
 

@@ -3,3 +3,6 @@ pub mod Apart
 pub mod Layout
 pub mod Laws
 pub mod Runs
+pub mod BerthHalves
+pub mod EndedLines
+pub mod LineFacts

@@ -20,7 +20,7 @@ use Rattle.lane_deeds.specs.declared.cause.Cause.{Cause}
 use Rattle.lane_deeds.specs.Lines.{Back, started_in}
 use Rattle.lane_steps.specs.Steps.{Ended}
 use Rattle.script_duties.specs.Owed.{to_entry}
-use Rattle.ended_lines.specs.declared.halves.EndedLine.{EndedLine}
+use Rattle.lane_runs.specs.declared.halves.EndedLine.{EndedLine}
 use Rattle.lane_runs.specs.Layout.{has_halt}
 use Rattle.lane_runs.specs.declared.layout.Laid.{Laid}
 

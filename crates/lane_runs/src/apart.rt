@@ -2,8 +2,8 @@
 ghost use Rattle.std.specs.Prelude.{◌≡◌, IfOk};
 ghost use Rattle.lane_runs.specs.Apart.{Alternate, Apart, BeginsWithTwo, NextBerth, lines_left};
 
+use crate::halves::BerthLines;
 use berth_lanes::{ProxyLeft, TapLeft};
-use ended_lines::BerthLines;
 use lane_crew::OfTwo;
 use plain_values::NoMemory;
 use std::alloc::Global;

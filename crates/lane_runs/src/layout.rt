@@ -5,9 +5,10 @@ ghost use Rattle.lane_runs.specs.Apart.{Alternate};
 ghost use Rattle.lane_runs.specs.Layout.{AllThere, IsLaid, MayLay};
 
 use crate::apart::{Berths, berth_by_berth};
+use crate::halves::EndedLine;
 use crate::history::{has_halt, journal_of, lines_ordered};
+use crate::lines::lines_of;
 use berth_lanes::{ProxyLeft, TapLeft};
-use ended_lines::{EndedLine, lines_of};
 use exec_journal::{Call, Journal, Reply};
 use lane_crew::OfTwo;
 use outside::Berth;

@@ -9,7 +9,7 @@ use std::alloc::Global;
 use std::sync::Wait;
 
 /// How far a child was played.
-#[derive(Clone, Copy, Debug, PartialEq, Eq)]
+#[derive(Clone, Copy, PartialEq, Eq)]
 pub enum Acted {
     /// It has done what it had to do next.
     On,

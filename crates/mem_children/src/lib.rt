@@ -10,17 +10,27 @@
 
 mod actor;
 mod bell;
+mod berth;
+mod calls;
+mod child;
 mod ears;
+mod feed;
 mod line;
+mod notes;
 mod obliging;
 mod patience;
 mod ready;
 mod room;
 mod script;
 mod scripted;
+mod tap;
 
-pub use actor::{Acted, Actor};
-pub use line::{Gates, Line};
-pub use ready::Ready;
+pub use berth::MemBerth;
+pub use calls::Calls;
+pub use child::MemChild;
+pub use feed::MemFeed;
+pub use line::Gates;
+pub use notes::{note, note_end};
 pub use room::Files;
-pub use script::{Beat, FailAt, Object, Script, is_to_fail};
+pub use script::{Beat, FailAt, Object, Script};
+pub use tap::MemTap;

@@ -23,7 +23,7 @@ pub const TAKER: u32 = 1;
 pub const AHEAD: usize = 4_096;
 
 /// How the reader has stopped.
-#[derive(Clone, Copy, Debug, PartialEq, Eq)]
+#[derive(Clone, Copy, PartialEq, Eq)]
 pub enum Stop {
     /// The input has ended.
     AtEnd,
@@ -55,7 +55,7 @@ pub enum Ask<X> {
 }
 
 /// What it is answered.
-#[derive(Clone, Copy, Debug, PartialEq, Eq)]
+#[derive(Clone, Copy, PartialEq, Eq)]
 pub enum Answer {
     /// It is done.
     Done,

@@ -14,7 +14,7 @@ use std::snapshot::Snapshot;
 use std::sync::Wait;
 
 /// Whether what is read finds a taker.
-#[derive(Clone, Copy, Debug, PartialEq, Eq)]
+#[derive(Clone, Copy, PartialEq, Eq)]
 pub enum Offered {
     /// It was put in, or there is room.
     Done,

@@ -5,7 +5,7 @@ use outside::{Io, Place};
 use plain_values::{Blob, Text};
 
 /// How the writes ended.
-#[derive(Clone, Copy, Debug, PartialEq, Eq)]
+#[derive(Clone, Copy, PartialEq, Eq)]
 pub enum Committed {
     Done,
     /// This many files were written before a write failed.

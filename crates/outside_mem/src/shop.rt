@@ -1,8 +1,6 @@
 ghost use Rattle.std.specs.Prelude.{◌≡◌, [], Some, IfOk, option_map};
 
-use crate::calls::Calls;
-use crate::notes::{note, note_end};
-use mem_children::{FailAt, Files, Object};
+use mem_children::{Calls, FailAt, Files, Object, note, note_end};
 use outside::{Io, JobEnd, Read, Shop, ShopCall, SourceFile, Variable, variables_again};
 use plain_values::{Blob, Items, NoMemory, Text, texts_again};
 use std::alloc::Global;

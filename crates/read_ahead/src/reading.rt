@@ -28,7 +28,7 @@ const PIECE: usize = 65_536;
 const READS: u64 = 1 << 40;
 
 /// Why no more is read.
-#[derive(Clone, Copy, Debug, PartialEq, Eq)]
+#[derive(Clone, Copy, PartialEq, Eq)]
 pub(crate) enum Pause {
     /// The reader has stopped so.
     Stopped(Stop),

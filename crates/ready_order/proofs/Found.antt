@@ -10,8 +10,8 @@ use Rattle.std.proofs.lemmas.Option.{slice_get-get_or, slice_get-map, slice_get_
 use Rattle.exec_journal.proofs.Ruled.{by_bool}
 use Rattle.run_plan.specs.declared.plan.Branch.{Branch}
 use Rattle.run_plan.specs.declared.plan.Branch.TheVariants.{Local, Remote}
-use Rattle.winner_tree.specs.Matches.{IsLeast}
-use Rattle.winner_tree.specs.declared.TheConstants.{ABSENT}
+use Rattle.ready_order.specs.Matches.{IsLeast}
+use Rattle.ready_order.specs.declared.winner_tree.TheConstants.{ABSENT}
 use Rattle.ready_order.specs.declared.ActionState.{ActionState}
 use Rattle.ready_order.specs.Facts.{Facts}
 use Rattle.ready_order.specs.Queue.{IsEarliest, IsFirst, is_of, is_open, is_queued, is_ready, may_begin, none_waits, seat_of, waits}

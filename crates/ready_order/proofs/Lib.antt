@@ -12,3 +12,4 @@ pub mod States
 pub mod Settled
 pub mod Found
 pub mod UsersAdded
+pub mod Winners

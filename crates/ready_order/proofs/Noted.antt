@@ -5,7 +5,7 @@ use Rattle.std.proofs.lemmas.Bool.{eqb-true, or_parts, or_left, or_right, or_fro
 use Rattle.std.proofs.lemmas.Option.{slice_get-get_or, slice_get-map, slice_get_within}
 use Rattle.exec_journal.specs.Settled.{is_settled}
 use Rattle.exec_journal.proofs.Ruled.{by_bool}
-use Rattle.winner_tree.specs.declared.TheConstants.{ABSENT}
+use Rattle.ready_order.specs.declared.winner_tree.TheConstants.{ABSENT}
 use Rattle.ready_order.specs.declared.ActionState.{ActionState}
 use Rattle.ready_order.specs.Facts.{Facts}
 use Rattle.ready_order.specs.Queue.{is_of, is_ready}

@@ -7,7 +7,7 @@ use Rattle.std.proofs.lemmas.Option.{slice_get_within, get_or_from_slice_get, un
 use Rattle.std.proofs.lemmas.List.Folds.{list_any_more}
 use Rattle.exec_journal.proofs.Ruled.{by_bool}
 use Rattle.list_lemmas.proofs.Updates.{get_replicate}
-use Rattle.winner_tree.specs.declared.TheConstants.{ABSENT}
+use Rattle.ready_order.specs.declared.winner_tree.TheConstants.{ABSENT}
 use Rattle.ready_order.specs.declared.ActionState.{ActionState}
 use Rattle.ready_order.specs.Facts.{Facts}
 use Rattle.ready_order.specs.Board.{AreKnown, Fits, RightAt, SameOf, Shape, is_in, names, supplied_by}

@@ -3,7 +3,7 @@ use Rattle.std.specs.Prelude.{◌≡◌, ℕ, ◌==◌, ◌<◌, ◌≤◌, ◌^
 use Rattle.std.specs.List.{list_any, prefix_len}
 use Rattle.run_plan.specs.declared.plan.Branch.{Branch}
 use Rattle.run_plan.specs.declared.plan.Branch.TheVariants.{Local, Remote}
-use Rattle.winner_tree.specs.declared.TheConstants.{ABSENT}
+use Rattle.ready_order.specs.declared.winner_tree.TheConstants.{ABSENT}
 use Rattle.ready_order.specs.declared.ActionState.{ActionState}
 use Rattle.ready_order.specs.Facts.{Facts}
 use Rattle.ready_order.specs.Queue.{has_success, is_of, is_open, waits, queued_branch}

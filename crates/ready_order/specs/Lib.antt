@@ -1,3 +1,4 @@
+pub mod Matches
 pub mod Queue
 pub mod Facts
 pub mod Board

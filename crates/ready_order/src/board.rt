@@ -1,15 +1,15 @@
 // What is noted beside the states, so that no search goes through them all.
 ghost use Rattle.std.specs.Prelude.{◌≡◌, ◌≢◌, ◌<◌, ◌≤◌, ◌^◌, ℕ, Bool, true, false, Some, IfOk, IfSome, if◌then◌else◌, length, map, replicate, slice_get, slice_index_or, []};
-ghost use Rattle.winner_tree.specs.Matches.{IsLeast};
+ghost use Rattle.ready_order.specs.Matches.{IsLeast};
 ghost use Rattle.ready_order.specs.Queue.{has_success, is_ready};
 ghost use Rattle.ready_order.specs.Board.{AreKnown, Fits, RightAt, SameOf, Shape, is_in, is_named, mark, names, posted, queued_if, shape_of, shapes, supplied_by};
 
+use crate::winner_tree::{ABSENT, Tournament};
 use crate::{ActionState, has_success};
 use exec_journal::Standing;
 use plain_values::NoMemory;
 use std::alloc::Global;
 use std::marker::Model;
-use winner_tree::{ABSENT, Tournament};
 
 #[derive(Drop)]
 pub struct Board {

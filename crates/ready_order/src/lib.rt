@@ -10,19 +10,20 @@ ghost use Rattle.ready_order.specs.Stands.{Stands};
 mod board;
 pub mod laws;
 mod users;
+mod winner_tree;
 
 use crate::board::Board;
 use crate::users::Users;
+use crate::winner_tree::ABSENT;
 use exec_journal::{Branch, Plan, PlanAction, Standing};
 use plain_values::{Items, NoMemory};
 use run_progress::Notes;
 use std::alloc::Global;
 use std::marker::Model;
-use winner_tree::ABSENT;
 
 /// Of a branch of an action: the group that runs it, where the action uses the branch, and whether it may begin an
 /// attempt: none of its attempts is under way, and there may be one more.
-#[derive(Clone, Copy, Debug, PartialEq, Eq)]
+#[derive(Clone, Copy, PartialEq, Eq)]
 pub struct BranchState {
     pub group: Option<u32>,
     pub free: bool,

@@ -14,7 +14,7 @@ use std::alloc::Global;
 use std::marker::Model;
 
 /// What an answer finds. The two numbers are action and attempt.
-#[derive(Clone, Copy, Debug, PartialEq, Eq)]
+#[derive(Clone, Copy, PartialEq, Eq)]
 pub enum Matching {
     /// A pending request without a Cancel.
     Pending(u32, u32),
@@ -27,7 +27,7 @@ pub enum Matching {
 }
 
 /// A request that was sent.
-#[derive(Clone, Copy, Debug, Default, PartialEq, Eq)]
+#[derive(Clone, Copy, Default, PartialEq, Eq)]
 pub struct RequestRow {
     pub number: u32,
     pub action: u32,
@@ -45,7 +45,7 @@ pub struct LineRow {
 }
 
 /// Of an action: whether the groups that run its branches send one request at a time.
-#[derive(Clone, Copy, Debug, PartialEq, Eq)]
+#[derive(Clone, Copy, PartialEq, Eq)]
 pub struct Singles {
     pub local: bool,
     pub remote: bool,

@@ -2,7 +2,7 @@
 use Rattle.std.specs.Prelude.{◌≡◌, ℕ, List, [], ◌∷◌, ◌++◌, length, map, filter_map, if◌then◌else◌, unwrap_or, Option, Some, None, Result, Ok, Err}
 use Rattle.run_plan.specs.declared.plan.Maker.{Maker}
 use Rattle.action_list.specs.Checks.{has_local}
-use Rattle.action_list.specs.declared.types.ListAction.{ListAction}
+use Rattle.list_order.specs.declared.types.ListAction.{ListAction}
 use Rattle.build_report.specs.declared.fault.RunFault.{RunFault}
 use Rattle.build_report.specs.declared.fault.RunFault.TheVariants as fault
 use Rattle.build_report.specs.declared.fault.Stage.TheVariants as stage

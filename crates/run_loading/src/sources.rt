@@ -1,8 +1,8 @@
 // The source files of a list, each path read once.
 ghost use Rattle.std.specs.Prelude.{◌≡◌, ◌∷◌, ◌++◌, [], None, OnOk, filter, Some};
 ghost use Rattle.std.specs.Option.{option_copied, IsSome};
-ghost use Rattle.action_list.specs.Producers.{producer_of};
-ghost use Rattle.action_list.specs.Plans.{maker_of};
+ghost use Rattle.list_order.specs.Producers.{producer_of};
+ghost use Rattle.list_order.specs.Made.{maker_of};
 ghost use Rattle.outside.specs.Causes.{Counts};
 ghost use Rattle.outside.specs.Told.{SameFloor};
 ghost use Rattle.outside.specs.Floor.{file_at};

@@ -1,7 +1,7 @@
 // The work of each action, made of the list and of the files that were found.
 ghost use Rattle.std.specs.Prelude.{◌≡◌, ◌≤◌, ◌++◌, ◌∷◌, [], IfOk, OnOk, None, length, map};
 ghost use Rattle.std.specs.Option.{IsSome};
-ghost use Rattle.action_list.specs.Producers.{producer_of};
+ghost use Rattle.list_order.specs.Producers.{producer_of};
 ghost use Rattle.outside.specs.Floor.{file_at};
 ghost use Rattle.run_loading.specs.Sources.{HasAll, held};
 ghost use Rattle.run_loading.specs.Wanted.{paths_of_action, paths_of_actions};

@@ -14,7 +14,7 @@ pub struct Watcher {
 }
 
 /// How far a run was at a look.
-#[derive(Clone, Copy, Debug, Drop, PartialEq, Eq)]
+#[derive(Clone, Copy, Drop, PartialEq, Eq)]
 pub struct Look {
     pub all: u64,
     pub settled: u64,
@@ -24,7 +24,7 @@ pub struct Look {
 }
 
 /// Of the actions that run, the one that was first seen to.
-#[derive(Clone, Copy, Debug, Drop, PartialEq, Eq)]
+#[derive(Clone, Copy, Drop, PartialEq, Eq)]
 pub struct Oldest {
     pub action: u32,
     pub since: Duration,

@@ -6,20 +6,20 @@ use Rattle.std.proofs.lemmas.List.{length-map}
 use Rattle.std.proofs.lemmas.List.Sums.{sum_by-append, sum_by-cons}
 use Rattle.std.proofs.lemmas.Slice.Eq.{bytes_eq-Decides}
 use Rattle.std.specs.Str.{bytes_eq}
-use Rattle.action_list.specs.declared.faults.ListFault.{ListFault}
-use Rattle.action_list.specs.declared.faults.ListFault.TheVariants as fault
-use Rattle.action_list.specs.declared.faults.What.{What}
-use Rattle.action_list.specs.declared.faults.What.TheVariants as what
-use Rattle.action_list.specs.declared.types.ActionList.{ActionList}
-use Rattle.action_list.specs.declared.types.ListAction.{ListAction}
-use Rattle.action_list.specs.declared.types.Strategy.{Strategy}
-use Rattle.action_list.specs.declared.types.Strategy.TheVariants as strategy
+use Rattle.list_order.specs.declared.faults.ListFault.{ListFault}
+use Rattle.list_order.specs.declared.faults.ListFault.TheVariants as fault
+use Rattle.list_order.specs.declared.faults.What.{What}
+use Rattle.list_order.specs.declared.faults.What.TheVariants as what
+use Rattle.list_order.specs.declared.types.ActionList.{ActionList}
+use Rattle.list_order.specs.declared.types.ListAction.{ListAction}
+use Rattle.list_order.specs.declared.types.Strategy.{Strategy}
+use Rattle.list_order.specs.declared.types.Strategy.TheVariants as strategy
 use Rattle.action_list.specs.Actions.{action_in}
-use Rattle.action_list.specs.Answers.{Check, and_then, first}
+use Rattle.list_order.specs.Answers.{Check, and_then, first}
 use Rattle.action_list.specs.Checks.{actions_check, count_check, has_local, has_remote}
 use Rattle.action_list.specs.Keys.{key_bytes, keys_check, keys_from, keys_of, with_bytes, with_key}
 use Rattle.action_list.specs.Lists.{list_check, list_of, list_of_datas, list_of_top}
-use Rattle.action_list.specs.Order.{is_among, orders_check}
+use Rattle.list_order.specs.Order.{is_among, orders_check}
 use Rattle.action_list.specs.Plans.{berths_at, executor_groups, first_user, group_by, groups_of, is_key, key_group, local_key, plan_of, remote_users, share, users}
 use Rattle.action_list.specs.Top.{actions_in, json_in}
 use Rattle.generated_list.specs.Generated.{generated_text}

@@ -3,12 +3,12 @@ use Rattle.std.proofs.Common.{◌≡◌, ℕ, suc, ◌+◌, ◌<◌, Bool, List,
 use Rattle.action_list.specs.Keys.{keys_of}
 use Rattle.action_list.specs.Parts.{parts_of}
 use Rattle.action_list.specs.Plans.{plan_of}
-use Rattle.action_list.specs.Whole.{IsWhole}
+use Rattle.list_order.specs.Whole.{IsWhole}
 use Rattle.action_list.specs.declared.parts.GroupPart.{GroupPart}
-use Rattle.action_list.specs.declared.types.ListAction.{ListAction}
-use Rattle.berth_posts.proofs.Posted.{posts_law}
-use Rattle.berth_posts.proofs.Spoken.{parts_law}
-use Rattle.berth_posts.specs.Posts.{posts_for}
+use Rattle.list_order.specs.declared.types.ListAction.{ListAction}
+use Rattle.run_tasks.proofs.Posted.{posts_law}
+use Rattle.run_tasks.proofs.Spoken.{parts_law}
+use Rattle.run_tasks.specs.Posts.{posts_for}
 use Rattle.lane_deeds.specs.declared.post.Post.{Post}
 use Rattle.lane_steps.specs.Work.{IsWorkOf}
 use Rattle.outside.specs.Told.{FloorTold}

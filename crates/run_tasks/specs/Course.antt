@@ -1,8 +1,8 @@
 -- In which order words, a list and its actions' files are read, and what that leads to.
 use Rattle.std.specs.Prelude.{◌≡◌, ℕ, Bool, true, false, List, Option, Some, None, Result, Ok, Err}
 use Rattle.action_list.specs.Lists.{list_of}
-use Rattle.action_list.specs.declared.faults.ListFault.{ListFault}
-use Rattle.action_list.specs.declared.types.ActionList.{ActionList}
+use Rattle.list_order.specs.declared.faults.ListFault.{ListFault}
+use Rattle.list_order.specs.declared.types.ActionList.{ActionList}
 use Rattle.build_report.specs.declared.fault.RunFault.{RunFault}
 use Rattle.build_report.specs.declared.fault.RunFault.TheVariants as fault
 use Rattle.build_report.specs.declared.fault.Stage.TheVariants as stage

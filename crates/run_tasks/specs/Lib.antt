@@ -1,2 +1,4 @@
 pub mod Course
 pub mod Tasks
+pub mod Laws
+pub mod Posts

@@ -1,7 +1,7 @@
 // What is read before anything is started: the words, the list, and what its actions read.
 ghost use Rattle.std.specs.Prelude.{◌≡◌, IfOk, map, string_bytes};
 ghost use Rattle.action_list.specs.Lists.{list_of};
-ghost use Rattle.action_list.specs.Whole.{IsWhole};
+ghost use Rattle.list_order.specs.Whole.{IsWhole};
 ghost use Rattle.generated_list.specs.Generated.{generated_text};
 ghost use Rattle.outside.specs.Causes.{Counts};
 ghost use Rattle.outside.specs.Told.{SameFloor};

@@ -1,12 +1,12 @@
 // What a list comes to, made of the list, its work and the options.
 ghost use Rattle.std.specs.Prelude.{◌≡◌, IfOk};
 ghost use Rattle.run_plan.specs.Sound.{Sound};
-ghost use Rattle.action_list.specs.Whole.{IsWhole};
+ghost use Rattle.list_order.specs.Whole.{IsWhole};
 ghost use Rattle.tool_words.specs.Options.{AreInLimits};
 ghost use Rattle.run_tasks.specs.Tasks.{HasPosts, HasSoundPlans, IsTaskOf, plan_by};
 
+use crate::posts::posts_of;
 use action_list::{ActionList, group_parts, plan};
-use berth_posts::posts_of;
 use lane_deeds::Post;
 use plain_values::NoMemory;
 use remote_messages::Work;

@@ -5,7 +5,7 @@ use plain_values::{NoMemory, Text};
 use std::alloc::Global;
 
 /// Which part of its berth's room a request has.
-#[derive(Clone, Copy, Debug, PartialEq, Eq)]
+#[derive(Clone, Copy, PartialEq, Eq)]
 pub enum Room {
     /// All of it, emptied before: for a worker that has one request at a time.
     Whole,

@@ -31,13 +31,13 @@ use Rattle.core_tables.specs.Lanes.{lane_in, may_look_by, may_some, order_after,
 use Rattle.core_state.specs.declared.state.State.{State}
 use Rattle.core_state.specs.Machine.{order_at, order_on}
 use Rattle.core_laws.proofs.Rowed.{lane_inside}
-use Rattle.file_table.specs.Stands as files
+use Rattle.core_tables.specs.Stands as files
 use Rattle.ready_order.proofs.AllSettled.{sound_at}
-use Rattle.file_table.specs.declared.Slot.{Slot}
-use Rattle.file_table.specs.declared.Slot.TheVariants.{Absent, Here, Short}
-use Rattle.file_table.specs.Slots as slots
-use Rattle.file_table.specs.Slots.{Filled, Tells, Told, outputs_at, outputs_on, rows_of, slot_at, slot_in}
-use Rattle.file_table.specs.Stands.{RowsStand, answer_file}
+use Rattle.core_tables.specs.declared.files.Slot.{Slot}
+use Rattle.core_tables.specs.declared.files.Slot.TheVariants.{Absent, Here, Short}
+use Rattle.core_tables.specs.Slots as slots
+use Rattle.core_tables.specs.Slots.{Filled, Tells, Told, outputs_at, outputs_on, rows_of, slot_at, slot_in}
+use Rattle.core_tables.specs.Stands.{RowsStand, answer_file}
 use Rattle.spawn_core.specs.Answers.{Replies, answer, is_file}
 use Rattle.spawn_core.specs.Looks.{ToldGather, ToldLook}
 use Rattle.spawn_core.specs.Stands.{Stands}

@@ -19,8 +19,8 @@ use Rattle.core_tables.specs.Last.{no_line, last_in}
 use Rattle.core_tables.specs.Matches.{no_matches, matches_in}
 use Rattle.journal_calls.specs.Matches.{recent}
 use Rattle.core_laws.specs.Stands as tables
-use Rattle.file_table.specs.Slots.{Facts, IsNewFiles}
-use Rattle.file_table.proofs.Kept as kept
+use Rattle.core_tables.specs.Slots.{Facts, IsNewFiles}
+use Rattle.core_tables.proofs.Kept as kept
 use Rattle.spawn_core.specs.Stands.{HasHistory, Stands}
 
 module _ (p : Plan) (s : State) (sound : Sound p) (plan : s.plan ≡ p) (m n : ℕ)

@@ -32,7 +32,7 @@ use Rattle.journal_laws.proofs.Owed.{is_gather}
 use Rattle.journal_laws.proofs.Over as v
 use Rattle.journal_laws.proofs.Places as pl
 use Rattle.journal_laws.proofs.Requests as rq
-use Rattle.file_table.specs.Stands.{match_for, newest_match}
+use Rattle.core_tables.specs.Stands.{match_for, newest_match}
 
 or_left : (a b : Bool) → a ≡ true → (a || b) ≡ true
 or_left true b h = refl

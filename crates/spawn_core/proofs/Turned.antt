@@ -21,10 +21,10 @@ use Rattle.core_state.specs.Noted.{noted_if_kept}
 use Rattle.core_state.specs.Steps.{CanMake, made, made_reply}
 use Rattle.core_laws.specs.Moments.{LegalMore}
 use Rattle.core_laws.proofs.Calls.{reply_is}
-use Rattle.file_table.specs.Slots as slots
-use Rattle.file_table.specs.Slots.{Follows, FoundFiles}
-use Rattle.file_table.specs.Stands as files
-use Rattle.file_table.proofs.Kept.{follows}
+use Rattle.core_tables.specs.Slots as slots
+use Rattle.core_tables.specs.Slots.{Follows, FoundFiles}
+use Rattle.core_tables.specs.Stands as files
+use Rattle.core_tables.proofs.Kept.{follows}
 use Rattle.spawn_core.specs.Answers.{Replies, answer}
 use Rattle.spawn_core.specs.Looks.{ToldLook}
 use Rattle.spawn_core.specs.Stands.{Stands}

@@ -8,7 +8,7 @@ use Rattle.core_tables.specs.declared.lanes.Order.{Order}
 use Rattle.core_tables.specs.declared.lanes.Order.TheVariants as order
 use Rattle.core_state.specs.declared.state.State.{State}
 use Rattle.core_state.specs.Machine.{order_at}
-use Rattle.file_table.specs.Slots.{Facts, Told, rows_of, slot_at}
+use Rattle.core_tables.specs.Slots.{Facts, Told, rows_of, slot_at}
 
 -- of the answer that is to be gathered
 abbrev pub ToldGather : Facts → Order → ℕ → Reply → Type 0

@@ -4,8 +4,8 @@ use Rattle.run_plan.specs.declared.plan.Plan.{Plan}
 use Rattle.exec_journal.specs.declared.journal.Entry.{Entry}
 use Rattle.core_state.specs.declared.state.State.{State}
 use Rattle.core_laws.specs.Stands as tables
-use Rattle.file_table.specs.Slots as slots
-use Rattle.file_table.specs.Stands as files
+use Rattle.core_tables.specs.Slots as slots
+use Rattle.core_tables.specs.Stands as files
 
 -- what a core keeps
 pub record Kept : Type 0 where

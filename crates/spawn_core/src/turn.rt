@@ -10,9 +10,8 @@ ghost use Rattle.spawn_core.specs.Looks.{ToldLook};
 ghost use Rattle.spawn_core.specs.Stands.{Stands, HasHistory};
 
 use core_state::State;
-use core_tables::{Order, Seat, seat_of};
+use core_tables::{Files, Order, Seat, seat_of};
 use exec_journal::{Call, Reply, Wanted};
-use file_table::Files;
 
 /// The reply to a lane's call, and what it makes of what is kept.
 pub fn step(state: &mut State, files: &mut Files, lane: u32, call: &Call) -> Reply

@@ -14,7 +14,7 @@ pub struct EndedTap<T> {
 }
 
 /// What there was no memory for when a lane halted. Nothing else makes a lane halt.
-#[derive(Clone, Copy, Debug, PartialEq, Eq)]
+#[derive(Clone, Copy, PartialEq, Eq)]
 pub enum Want {
     /// To take a line, between two of them.
     Line,

@@ -15,7 +15,7 @@ use std::alloc::Global;
 use std::marker::Model;
 
 /// What is known of a line.
-#[derive(Clone, Copy, Debug, PartialEq, Eq)]
+#[derive(Clone, Copy, PartialEq, Eq)]
 pub struct LineRow {
     /// How many requests it has room for.
     pub capacity: u32,
@@ -32,7 +32,7 @@ pub struct LineRow {
 }
 
 /// What is known of a berth.
-#[derive(Clone, Copy, Debug, PartialEq, Eq)]
+#[derive(Clone, Copy, PartialEq, Eq)]
 pub struct BerthRow {
     /// How many requests a line of it has room for.
     pub capacity: u32,

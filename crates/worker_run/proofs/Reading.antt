@@ -1,8 +1,8 @@
 -- From what was read to how the run ends.
 use Rattle.std.proofs.Common.{◌≡◌, ◌≤◌, arith, ℕ, Bool, true, false, List, [], ◌∷◌, Option, Some, None, Result, Ok, Err, IfSome, refl, subst, sym, ◌∙◌}
 use Rattle.action_list.specs.Lists.{list_of}
-use Rattle.action_list.specs.declared.faults.ListFault.{ListFault}
-use Rattle.action_list.specs.declared.types.ActionList.{ActionList}
+use Rattle.list_order.specs.declared.faults.ListFault.{ListFault}
+use Rattle.list_order.specs.declared.types.ActionList.{ActionList}
 use Rattle.build_report.specs.declared.fault.RunFault.{RunFault}
 use Rattle.build_report.specs.declared.fault.RunFault.TheVariants as fault
 use Rattle.build_report.specs.declared.fault.Stage.{Stage}

@@ -14,14 +14,14 @@ use std::alloc::Global;
 use std::marker::Model;
 
 /// A line, with what it had where it was started.
-pub type EndedLine<F> = ended_lines::EndedLine<
+pub type EndedLine<F> = lane_runs::EndedLine<
     <<F as Floor>::Berth as Berth>::Feed,
     <<F as Floor>::Berth as Berth>::Tap,
     <<F as Floor>::Berth as Berth>::Child,
 >;
 
 /// The feed, the tap and the child of a line.
-pub type Halves<F> = ended_lines::Halves<
+pub type Halves<F> = lane_runs::Halves<
     <<F as Floor>::Berth as Berth>::Feed,
     <<F as Floor>::Berth as Berth>::Tap,
     <<F as Floor>::Berth as Berth>::Child,

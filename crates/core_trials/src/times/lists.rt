@@ -1,6 +1,6 @@
 // The works that are measured, as action lists.
 ghost use Rattle.std.specs.Prelude.{IfOk};
-ghost use Rattle.action_list.specs.Whole.{IsWhole};
+ghost use Rattle.list_order.specs.Whole.{IsWhole};
 
 use crate::run::failed;
 use action_list::{ActionList, plan, read_list};

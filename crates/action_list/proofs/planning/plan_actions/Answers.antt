@@ -1,8 +1,8 @@
 use Rattle.std.proofs.Common.{◌≡◌, ◌++◌, ◌∷◌, [], ◌+◌, take, drop, length, sym, ap, subst, ◌∙◌, append_assoc, arith}
 use Rattle.std.proofs.lemmas.List.{length-take-le}
 use Rattle.action_list.specs.Plans.{plan_action, plan_actions}
-use Rattle.action_list.specs.Whole.{KnowsProducers}
-use Rattle.action_list.proofs.Orders.{take_this, drop_this}
+use Rattle.list_order.specs.Whole.{KnowsProducers}
+use Rattle.list_order.proofs.Orders.{take_this, drop_this}
 use Rattle.action_list.proofs.planning.plan_actions.Goals as goal
 
 pub loop-action-preserved : goal.loop-action-preserved

@@ -1,5 +1,5 @@
 use Rattle.std.proofs.Common.{option_copied}
-use Rattle.journal_ends.specs.Lookback.{front}
+use Rattle.journal_lookback.specs.Lookback.{front}
 use Rattle.journal_ends.specs.Replay.{AreActions, AreLines, AreOrders}
 use Rattle.journal_ends.proofs.replay.gather.Given as goal
 

@@ -1,5 +1,5 @@
 use Rattle.std.proofs.Common.{sym, subst}
-use Rattle.journal_ends.specs.Lookback.{front}
+use Rattle.journal_lookback.specs.Lookback.{front}
 use Rattle.journal_ends.specs.Successes.{AreChances}
 use Rattle.journal_ends.proofs.Answered.{next_front, whole_front}
 use Rattle.journal_ends.proofs.Succeeded.{chances_start, chances_more}

@@ -1,4 +1,4 @@
-use Rattle.journal_ends.specs.Lookback.{front}
+use Rattle.journal_lookback.specs.Lookback.{front}
 use Rattle.journal_ends.specs.Successes.{AreChances}
 use Rattle.journal_ends.proofs.successes.find_chances.Given as goal
 

@@ -1,5 +1,5 @@
 use Rattle.std.proofs.Common.{option_copied, None, refl, reverse, sym, subst, ◌∙◌}
-use Rattle.journal_ends.specs.Lookback.{front}
+use Rattle.journal_lookback.specs.Lookback.{front}
 use Rattle.journal_ends.specs.Winning.{AreAnswers}
 use Rattle.journal_ends.proofs.Answered.{answers_start, answers_more, all_winning, next_front, whole_front}
 use Rattle.journal_ends.proofs.winning.find_answers.Goals as goal

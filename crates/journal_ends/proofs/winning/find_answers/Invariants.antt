@@ -1,5 +1,5 @@
 use Rattle.std.proofs.Common.{option_copied}
-use Rattle.journal_ends.specs.Lookback.{front}
+use Rattle.journal_lookback.specs.Lookback.{front}
 use Rattle.journal_ends.specs.Winning.{AreAnswers}
 use Rattle.journal_ends.proofs.winning.find_answers.Given as goal
 

@@ -1,5 +1,5 @@
 use Rattle.std.proofs.Common.{◌∷◌, sym, subst, ◌∙◌}
-use Rattle.journal_ends.specs.Lookback.{front}
+use Rattle.journal_lookback.specs.Lookback.{front}
 use Rattle.journal_ends.specs.Winning.{AreWinners}
 use Rattle.journal_ends.proofs.Answered.{winners_start, winners_stay, winners_more, next_front}
 use Rattle.journal_ends.proofs.winning.find_winners.Goals as goal

@@ -1,4 +1,4 @@
-use Rattle.journal_ends.specs.Lookback.{front}
+use Rattle.journal_lookback.specs.Lookback.{front}
 use Rattle.journal_ends.specs.Winning.{AreWinners}
 use Rattle.journal_ends.proofs.winning.find_winners.Given as goal
 

@@ -1,5 +1,5 @@
 use Rattle.std.proofs.Common.{List, ◌++◌, length}
-use Rattle.ended_lines.specs.declared.halves.BerthLines.{BerthLines}
+use Rattle.lane_runs.specs.declared.halves.BerthLines.{BerthLines}
 use Rattle.lane_runs.specs.Apart.{Alternate, Apart}
 use Rattle.lane_runs.proofs.apart.berth_by_berth.Given as goal
 

@@ -1,7 +1,7 @@
 use Rattle.std.proofs.Common.{ℕ, ◌<◌, All, count_by, sym, ap, subst, ◌∙◌}
 use Rattle.std.specs.List.{list_any}
-use Rattle.ended_lines.specs.Berths.{all_feed_lines}
-use Rattle.ended_lines.specs.Lines.{AreLines}
+use Rattle.lane_runs.specs.BerthHalves.{all_feed_lines}
+use Rattle.lane_runs.specs.EndedLines.{AreLines}
 use Rattle.lane_runs.specs.Layout.{orders_line, tells_halt}
 use Rattle.lane_runs.proofs.Laying.{lines_counted, halts_told}
 use Rattle.lane_runs.proofs.layout.lay_out.Goals as goal

@@ -1,5 +1,5 @@
 use Rattle.std.proofs.Common.{◌≡◌, List, nat_eq, subst}
-use Rattle.winner_tree.specs.declared.TheConstants.{ABSENT}
+use Rattle.ready_order.specs.declared.winner_tree.TheConstants.{ABSENT}
 use Rattle.ready_order.specs.declared.ActionState.{ActionState}
 use Rattle.ready_order.specs.Queue.{none_waits}
 use Rattle.ready_order.proofs.Found.{waiting_is}

@@ -4,7 +4,7 @@ use Rattle.exec_journal.specs.Legal.{after}
 use Rattle.core_state.specs.declared.state.State.{State}
 use Rattle.core_state.specs.Noted.{noted_if_kept}
 use Rattle.core_state.specs.Steps.{made, made_reply}
-use Rattle.file_table.specs.Slots.{Follows}
+use Rattle.core_tables.specs.Slots.{Follows}
 use Rattle.spawn_core.specs.Answers.{Replies, answer}
 use Rattle.spawn_core.specs.Stands.{Stands}
 use Rattle.spawn_core.proofs.Turned.{can_turn, lane_turn, berth_turn, reply_turn, stands_turn, unlook, look_reply, look_stands}

@@ -1,3 +1,0 @@
-pub mod Posted
-mod Rows
-pub mod Spoken

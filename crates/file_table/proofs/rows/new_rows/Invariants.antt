@@ -1,7 +1,0 @@
-use Rattle.std.proofs.Common.{take}
-use Rattle.file_table.specs.Slots.{AreNew}
-use Rattle.file_table.proofs.rows.new_rows.Given as goal
-
--- those of the actions so far
-abbrev pub invariant-loop-work : goal.invariant-loop-work
-invariant-loop-work l = AreNew (take l.work-index l.works) l.rows.items

@@ -1,6 +1,0 @@
-use Rattle.journal_ends.specs.Lookback.{front}
-use Rattle.journal_ends.proofs.States.{Follows}
-use Rattle.journal_ends.proofs.lookback.end.Given as goal
-
-abbrev pub invariant-loop-i : goal.invariant-loop-i
-invariant-loop-i l = Follows l.track l.won (front l.entries l.i) l.attempt

@@ -1,6 +1,0 @@
-use Rattle.std.proofs.Common.{◌∙◌}
-use Rattle.journal_ends.proofs.LookedBack.{answered_any}
-use Rattle.journal_ends.proofs.lookback.is_answered.Goals as goal
-
-pub returns : goal.returns
-returns c = c.has_consumed.ensures ∙ answered_any c.args.front.now c.args.attempt

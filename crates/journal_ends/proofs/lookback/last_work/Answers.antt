@@ -1,6 +1,0 @@
-use Rattle.std.proofs.Common.{◌∙◌}
-use Rattle.journal_ends.proofs.LookedBack.{last_work_find}
-use Rattle.journal_ends.proofs.lookback.last_work.Goals as goal
-
-pub returns : goal.returns
-returns c = c.newest_work.ensures ∙ last_work_find c.args.front.now c.args.lane

@@ -1,0 +1,12 @@
+use Rattle.std.proofs.Common.{◌++◌, length}
+use Rattle.lane_runs.specs.BerthHalves.{halves_of, taps_left}
+use Rattle.lane_runs.proofs.Matching.{Pairing}
+use Rattle.lane_runs.proofs.lines.add_halves.Given as goal
+
+abbrev pub invariant-loop-ended : goal.invariant-loop-ended
+invariant-loop-ended g l =
+    Pairing l.feeds.items (taps_left l.taps.items l.shelved) l.halves.items
+    (l.initial.halves.items ++ halves_of l.fn.berth)
+
+abbrev pub decreases-loop-ended : goal.decreases-loop-ended
+decreases-loop-ended g l = length l.feeds.items

@@ -1,0 +1,4 @@
+pub mod Firsts
+pub mod Late
+pub mod Orders
+pub mod ProducerLemmas
