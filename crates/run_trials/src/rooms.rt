@@ -37,6 +37,7 @@ fn play_way<P: Print, B: Berth>(page: &mut Page<'_, P>, berth: &mut B) {
 fn play_much<P: Print, B: Berth>(page: &mut Page<'_, P>, alloc: Global, berth: &mut B) {
     play_large(page, alloc, berth);
     page.io("put empty", &berth.room_put("empty", b""));
+    page.read("empty", berth.room_get("empty"));
     for number in 10u32..50 {
         put_long(page, alloc, berth, number);
     }

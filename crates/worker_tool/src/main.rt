@@ -9,7 +9,6 @@ mod names;
 mod screen;
 
 use crate::screen::{BehindLine, Screen};
-use action_list::ListFault;
 use outside::{Berth, Floor, Sink};
 use outside_mem::MemFloor;
 use outside_real::{RealFloor, RealSink};
@@ -36,7 +35,17 @@ fn main(rt: HostRuntime) -> ExitCode {
     }
     let floor = RealFloor::new(rt, alloc);
     let ended = run(rt, alloc, &words, floor, on_terminal);
-    end_real(&rt, alloc, &words, ended)
+    let Ended {
+        status,
+        fault,
+        mut floor,
+        ..
+    } = ended;
+    if let Some(fault) = &fault {
+        tell(&rt, alloc, fault, floor.last_error());
+        name_action(&rt, alloc, &words, &mut floor, fault);
+    }
+    ExitCode::from(status)
 }
 
 // Runs a list of so many actions that is generated, in memory.
@@ -53,31 +62,6 @@ fn run_generated<R: Threads + Wait + Clock + Print + Eprint + Copy + Drop + Send
     let Ended { status, fault, .. } = run(rt, alloc, words, floor, on_terminal);
     if let Some(fault) = &fault {
         tell(&rt, alloc, fault, None);
-    }
-    ExitCode::from(status)
-}
-
-// The end of a run with real objects: its fault is told with the last error of the floor, and the list is looked at once more.
-fn end_real<R: Drop>(
-    rt: &impl Eprint,
-    alloc: Global,
-    words: &[String],
-    ended: Ended<RealFloor<R>>,
-) -> ExitCode
-where
-    RealFloor<R>: Floor,
-{
-    let Ended {
-        status,
-        fault,
-        mut floor,
-        ..
-    } = ended;
-    if let Some(fault) = &fault {
-        tell(rt, alloc, fault, floor.last_error());
-        if let RunFault::List(fault) = fault {
-            name_action(rt, alloc, words, &mut floor, fault);
-        }
     }
     ExitCode::from(status)
 }
@@ -173,15 +157,17 @@ fn tell(rt: &impl Eprint, alloc: Global, fault: &RunFault, last_error: Option<&i
     }
 }
 
-// Prints which action of the list is meant, if it can be read again.
+// Prints which action of the list is meant, where the fault is the list's and it can be read again.
 fn name_action(
     rt: &impl Eprint,
     alloc: Global,
     words: &[String],
     floor: &mut impl Floor,
-    fault: &ListFault,
+    fault: &RunFault,
 ) {
-    if let Ok(line) = names::line(alloc, words, floor, fault) {
+    if let RunFault::List(fault) = fault
+        && let Ok(line) = names::line(alloc, words, floor, fault)
+    {
         let _ = rt.eprint(line.as_str());
     }
 }
