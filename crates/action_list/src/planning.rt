@@ -1,11 +1,9 @@
 // The plan of a list.
 ghost use Rattle.std.specs.Prelude.{◌≡◌, ◌≤◌, ◌++◌, ◌∷◌, [], List, length, map, position, IfOk, IfSome, OnOk, ◌<◌};
-ghost use Rattle.std.specs.List.{filter_map, list_all};
 ghost use Rattle.std.specs.Option.{option_copied};
 ghost use Rattle.std.specs.Str.{bytes_eq};
 ghost use Rattle.list_order.specs.declared.types.ListAction.{ListAction};
 ghost use Rattle.action_list.specs.Keys.{keys_of};
-ghost use Rattle.list_order.specs.Producers.{producer_of};
 ghost use Rattle.action_list.specs.Plans.{berths_at, executor_groups, first_user, groups_of, is_key, key_group, kind_by, kind_of, local_key, local_of, number_of, plan_action, plan_actions, plan_of, remote_of, remote_users, share, users};
 ghost use Rattle.list_order.specs.Whole.{IsWhole, KnowsProducers};
 ghost use Rattle.run_plan.specs.Sound.{Sound};

@@ -57,6 +57,7 @@ impl Producers {
     {
         self.makers.get(path).copied()
     }
+
     /// The places of those of the paths that are made, in order.
     ///
     /// # Errors
