@@ -20,6 +20,7 @@ use Rattle.exec_journal.specs.Scripts.{script}
 use Rattle.run_plan.specs.Groups.{berth_group, berths, group_of, kind_of}
 use Rattle.exec_journal.specs.Settled.{bound, earliest, free_places}
 use Rattle.exec_journal.specs.Words.{last_line, line_count, live, started, broke, has_ended, was_killed, pending, why_of}
+use Rattle.journal_laws.proofs.Ours.{lawful}
 use Rattle.exec_journal.proofs.Begins.{attempts_in_order, begin_in_order, bound_is, launched_begun, earliest_next}
 use Rattle.exec_journal.proofs.Ruled.{Ruled, group_at, ruled, by_bool, KillsBroken, Launches, Sends, Notes}
 use Rattle.cancel_rules.specs.Marks.{cancel_of}
@@ -260,7 +261,7 @@ module _ (p : Plan) (s : State) (j : List Entry) (lane : ℕ) (st : Stands p s j
     latest : (u : Attempt) → begun j u ≡ true → ended j u ≡ false
         → u.number ≡ attempt j u.action u.branch
     latest u start going =
-        let order = attempts_in_order p j st.legal in
+        let order = attempts_in_order p j (lawful p j st.legal) in
         by_bool (nat_lt u.number (attempt j u.action u.branch))
         (λ _. u.number ≡ attempt j u.action u.branch)
         (λ yes. absurd (let o = order.older u (order.numbered u start).0
@@ -297,7 +298,11 @@ module _ (p : Plan) (s : State) (j : List Entry) (lane : ℕ) (st : Stands p s j
           call = call.Ask;
           reply = reply.Send l (r.number_on p j w l) t.action t.branch t.number;
         } ∷ j)
-        (st.legal, record { scripted = may; replied = is_too; kept = refl })).1 it.number in
+        (lawful p (record {
+          lane = lane;
+          call = call.Ask;
+          reply = reply.Send l (r.number_on p j w l) t.action t.branch t.number;
+        } ∷ j) (st.legal, record { scripted = may; replied = is_too; kept = refl }))).1 it.number in
         new_stands p s j lane l t st facts may reasons.here reasons.alive is_too
         (never_sent j t begins.unbegun) own none begins
       where

@@ -29,6 +29,7 @@ use Rattle.exec_journal.specs.Scripts.{script, is_owed, is_owed_after, is_whole_
 use Rattle.run_plan.specs.Groups.{berths, kind_of}
 use Rattle.exec_journal.specs.Settled.{bound}
 use Rattle.exec_journal.specs.Words.{last_line, last_work, launch_of, order_of, stopped, has_halted, halted, wrote, granted, grant_of, commit_of}
+use Rattle.journal_laws.proofs.Ours.{lawful, no_tick}
 use Rattle.exec_journal.proofs.Begins.{attempts_in_order, attempt_other, begin_in_order, bound_is, launched_begun, same_attempt_eq, same_attempt_refl}
 use Rattle.exec_journal.proofs.Ruled.{by_bool}
 use Rattle.worker_pool.specs.Entries.{AreFaulted}
@@ -174,7 +175,7 @@ module _ (p : Plan) (s : State) (j : List Entry) (lane l : ℕ) (how : Started) 
             sym (ap (same_attempt t) (sym one) ∙ same_attempt_refl t))
             (λ _ h. by_bool (same_attempt t u) (λ c. same_attempt t u ≡ c → false ≡ c)
             (λ _ g. absurd (let one = same_attempt_eq t u g in
-            let line = launched_once j (begin_in_order p j st.legal) l k m b.lane t at
+            let line = launched_once j (begin_in_order p j (lawful p j st.legal)) l k m b.lane t at
             (b.launched ∙ ap (λ x. Some (b.lane, x)) (sym one)) in let z = eq-eqb l k line in
             cc)) (λ _ g. refl) refl) refl
 
@@ -198,7 +199,7 @@ module _ (p : Plan) (s : State) (j : List Entry) (lane l : ℕ) (how : Started) 
           (states_after q s.race s.attempts s.ready t) (fault_entry ∷ j)) (sym st.plan)
           (several_states p st.sound.least s.race j fault_entry (t ∷ [])
           (record {
-            order = attempts_in_order p j st.legal;
+            order = attempts_in_order p j (lawful p j st.legal);
             unbegun = all.facts.unbegun_goes;
             won = st.race;
           }) ((started_at, all.more.used t started_at), tt) together s.attempts
@@ -207,7 +208,7 @@ module _ (p : Plan) (s : State) (j : List Entry) (lane l : ℕ) (how : Started) 
           (record { grant = same_grant; commit = same_commit });
       attempts = several_counts p st.sound.least s.race j fault_entry (t ∷ [])
           (record {
-            order = attempts_in_order p j st.legal;
+            order = attempts_in_order p j (lawful p j st.legal);
             unbegun = all.facts.unbegun_goes;
             won = st.race;
           }) ((started_at, all.more.used t started_at), tt) together s.attempts
@@ -506,6 +507,7 @@ module _ (p : Plan) (s : State) (j : List Entry) (lane : ℕ) (st : Stands p s j
         (all.more.grouped (lane / 2) l here) (all.more.alone (lane / 2) l here)
     call_reply (call.Ended l how) h may = refl
     call_reply call.Halt h may = refl
+    call_reply call.Tick h may = refl
 
     call_keeps : (c : Call) → is_look c ≡ false → script p j lane c ≡ true
         → is_kept (made_reply s lane seat c) ≡ true → Keeps c (made s lane seat c)
@@ -534,6 +536,8 @@ module _ (p : Plan) (s : State) (j : List Entry) (lane : ℕ) (st : Stands p s j
         (all.more.grouped (lane / 2) l here) (calls.lost l how refl) all.more.carries
         entry.stays (entry.finished l how refl)
     call_keeps call.Halt h may kept = halt_stands p s j lane st may
+    call_keeps call.Tick h may kept = absurd (no_tick p (kind_of p (lane / 2)) j lane
+        (and_parts (nat_lt lane (2 * berths p)) _ may).1)
 
 pub reply_is : (p : Plan) (s : State) (j : List Entry) (lane : ℕ) (seat : Seat) (c : Call)
     → Stands p s j → LegalMore p j → seat_at p (lane / 2) ≡ Some seat → is_look c ≡ false

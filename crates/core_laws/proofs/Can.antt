@@ -26,6 +26,7 @@ use Rattle.exec_journal.specs.Scripts.{script}
 use Rattle.run_plan.specs.Groups.{berths, berth_group, capacity, group_of, kind_of, is_single}
 use Rattle.exec_journal.specs.Settled.{bound, earliest, free_places}
 use Rattle.exec_journal.specs.Words.{launch_of, last_line, last_work, order_of, sends, sent_on, pending, is_pending, stopped, has_halted, granted, grant_of, wrote, says_feed_fault, has_cancel}
+use Rattle.journal_laws.proofs.Ours.{lawful}
 use Rattle.exec_journal.proofs.Begins.{attempts_in_order, bound_is, launched_begun, earliest_next, same_branch_refl}
 use Rattle.exec_journal.proofs.Ruled.{Ruled, group_at, ruled, by_bool, KillsBroken, Cancels, Notes}
 use Rattle.worker_pool.specs.Rows as rows
@@ -110,7 +111,7 @@ module _ (p : Plan) (s : State) (j : List Entry) (st : Stands p s j) (all : Lega
 
   limited : (t : Attempt) → begun j t ≡ true → t.number ≤ p.limit
   limited t h =
-      let order = attempts_in_order p j st.legal in
+      let order = attempts_in_order p j (lawful p j st.legal) in
       let a = (order.numbered t h).1 in
       let b = order.limited t.action t.branch st.sound.least in
       omega arith
@@ -721,8 +722,7 @@ module _ (p : Plan) (s : State) (j : List Entry) (st : Stands p s j) (all : Lega
             planned = omega arith;
             free = subst (λ n. n < asks.capacity_of (asks.single_of s.requests t.action t.branch))
                 (sym (ask-laws.places_are p s.requests j l st.requests at.table))
-                (subst (λ n. length (pending j l) < n) (sym (ask-laws.capacity_is p s.requests j
-                lane t.action t.branch st.requests next.group)) place);
+                (subst (λ n. length (pending j l) < n) (sym (ask-laws.capacity_is p s.requests j (berth_group p (lane / 2)) t.action t.branch st.requests next.group)) place);
             fewer = ask-laws.fewer_is p s.requests j l st.requests at.table (omega arith);
             cancels = at.cancels;
             row = subst (λ n. n < 8) (sym waits) (omega arith);
@@ -736,7 +736,7 @@ module _ (p : Plan) (s : State) (j : List Entry) (st : Stands p s j) (all : Lega
               (sends j m) < 2 * length p.actions * p.limit → asks.next_number s.requests m u.action
               u.branch ≤ 2 * length p.actions * p.limit + 1
           number_few m u here table group left =
-              let e = ap natural (ask-laws.next_number_is p s.requests j lane m u.action u.branch
+              let e = ap natural (ask-laws.next_number_is p s.requests j (berth_group p (lane / 2)) m u.action u.branch
               st.requests table group (all.facts.numbered (lane / 2) m here)) in
               let c = number_most (is_single (kind_of p (lane / 2))) (length (sends j m)) in
               omega arith
@@ -829,6 +829,7 @@ module _ (p : Plan) (s : State) (j : List Entry) (st : Stands p s j) (all : Lega
     make_can seat (call.Ended l how) may = ended_can (call.Ended l how) seat l may
         ((all.calls lane (call.Ended l how) may).names l refl)
     make_can seat call.Halt may = tt
+    make_can seat call.Tick may = tt
 
 pub can_make : (p : Plan) (s : State) (j : List Entry) (lane : ℕ) (seat : Seat) (c : Call)
     → Stands p s j → LegalMore p j → script p j lane c ≡ true → CanMake s lane seat c

@@ -21,6 +21,7 @@ use Rattle.run_plan.specs.Groups.{berth_group, berths, kind_of, capacity, first_
 use Rattle.exec_journal.specs.Settled.{all_settled, bound, earliest, free_places, some_free}
 use Rattle.exec_journal.specs.Words.{last_line, launch_of, started, failed, broke, has_ended, was_killed, live, pending, has_cancel, has_greeted, line_cause, why_of, line_count}
 use Rattle.exec_journal.specs.Kept.{group_at}
+use Rattle.journal_laws.proofs.Ours.{lawful}
 use Rattle.exec_journal.proofs.Histories.{AllOf}
 use Rattle.exec_journal.proofs.Lines.{last_line_own, lines_named, pending_line}
 use Rattle.exec_journal.proofs.Begins.{earliest_next, bound_is}
@@ -151,7 +152,7 @@ module _ (p : Plan) (s : State) (j : List Entry) (lane : ℕ) (st : Stands p s j
   f = carried_reply s w
 
   names : NameTheirLines j
-  names = lines_named p j st.legal
+  names = lines_named p j (lawful p j st.legal)
 
   inside : nat_lt w (berths p) ≡ true
   inside = lt-ltb w (berths p) lt
@@ -379,7 +380,7 @@ module _ (p : Plan) (s : State) (j : List Entry) (lane : ℕ) (st : Stands p s j
     number_eq : (t : Attempt) → BranchOf p t (berth_group p w)
         → sent_reply s l t ≡ r.send_order p j w l t
     number_eq t g = ap (λ n. reply.Send l n t.action t.branch t.number)
-        (next_number_is p s.requests j lane l t.action t.branch st.requests in_room g
+        (next_number_is p s.requests j (berth_group p (lane / 2)) l t.action t.branch st.requests in_room g
         (facts.numbered w l here))
 
     own_branch : (t : Attempt) → earliest p j seat.group ≡ Some t → BranchOf p t (berth_group p w)

@@ -20,6 +20,7 @@ use Rattle.exec_journal.specs.Rules as r
 use Rattle.exec_journal.specs.Rules.{gathered}
 use Rattle.exec_journal.specs.Scripts.{script}
 use Rattle.exec_journal.specs.Words.{halted, was_sent, has_ended, answered, line_cause, wrote, granted, grant_of, commit_of}
+use Rattle.journal_laws.proofs.Ours.{lawful}
 use Rattle.exec_journal.proofs.Begins.{attempts_in_order, attempt_other, bound_is, same_attempt_eq}
 use Rattle.exec_journal.proofs.Quiet.{ended_same}
 use Rattle.exec_journal.proofs.Ruled.{by_bool}
@@ -192,7 +193,7 @@ module _ (p : Plan) (s : State) (j : List Entry) (lane a n : ℕ) (b : Branch) (
           (entry again ∷ j)) (sym st.plan)
           (several_states p st.sound.least s.race j (entry again) (t ∷ [])
           (record {
-            order = attempts_in_order p j st.legal;
+            order = attempts_in_order p j (lawful p j st.legal);
             unbegun = facts.unbegun_goes;
             won = st.race;
           }) ((start, uses), tt) (together again ends) s.attempts st.attempts
@@ -221,7 +222,7 @@ module _ (p : Plan) (s : State) (j : List Entry) (lane a n : ℕ) (b : Branch) (
       race = (refused true (record { scripted = may; replied = is; kept = refl }) stays ends).1;
       attempts = several_counts p st.sound.least s.race j (entry true) (t ∷ [])
           (record {
-            order = attempts_in_order p j st.legal;
+            order = attempts_in_order p j (lawful p j st.legal);
             unbegun = facts.unbegun_goes;
             won = st.race;
           }) ((start, uses), tt) (together true ends) s.attempts st.attempts s.ready
@@ -251,7 +252,7 @@ module _ (p : Plan) (s : State) (j : List Entry) (lane a n : ℕ) (b : Branch) (
       race = (refused false (record { scripted = may; replied = is; kept = refl }) stays ends).1;
       attempts = several_counts p st.sound.least s.race j (entry false) (t ∷ [])
           (record {
-            order = attempts_in_order p j st.legal;
+            order = attempts_in_order p j (lawful p j st.legal);
             unbegun = facts.unbegun_goes;
             won = st.race;
           }) ((start, uses), tt) (together false ends) s.attempts st.attempts s.ready

@@ -22,6 +22,7 @@ use Rattle.exec_journal.specs.Scripts.{script}
 use Rattle.exec_journal.specs.Settled.{bound}
 use Rattle.list_lemmas.specs.Places.{update}
 use Rattle.exec_journal.specs.Words.{halted, last_line, launch_of, line_cause, was_taken, sends, pending, wrote, wrote_if, granted, grant_of, commit_of, answered, has_ended, order_of, says_feed_fault, started, was_killed, broke}
+use Rattle.journal_laws.proofs.Ours.{lawful}
 use Rattle.exec_journal.proofs.Begins.{attempts_in_order, attempt_other, begin_in_order, same_attempt_eq, same_attempt_refl}
 use Rattle.exec_journal.proofs.Quiet.{ended_same}
 use Rattle.exec_journal.proofs.Ruled.{by_bool}
@@ -273,7 +274,7 @@ module _ (p : Plan) (s : State) (j : List Entry) (lane l : ℕ) (n : ℤ) (st : 
         (λ r. says_feed_fault (wrote (e ∷ j) r.attempt)) (λ r. says_feed_fault (wrote j r.attempt))
         (is_of t) (sends j k)
         (λ r g. now_fed r.attempt ∙ ap (λ b. b || says_feed_fault (wrote j r.attempt)) g)
-        (sent_alone j (begin_in_order p j st.legal) l i q place k
+        (sent_alone j (begin_in_order p j (lawful p j st.legal)) l i q place k
         ∙ ap (λ b. cond b (q ∷ []) []) h))
 
     fed_row : row_of (e ∷ j) (Some l) ≡ set_fed t (set_cause cause.Feed (row_of j (Some l)))
@@ -343,7 +344,7 @@ module _ (p : Plan) (s : State) (j : List Entry) (lane l : ℕ) (n : ℤ) (st : 
           (states_after x s.race s.attempts s.ready t) (e ∷ j)) (sym st.plan)
           (several_states p st.sound.least s.race j e (t ∷ [])
           (record {
-            order = attempts_in_order p j st.legal;
+            order = attempts_in_order p j (lawful p j st.legal);
             unbegun = facts.unbegun_goes;
             won = st.race;
           }) ((start, used t start), tt) (together over) s.attempts st.attempts
@@ -354,7 +355,7 @@ module _ (p : Plan) (s : State) (j : List Entry) (lane l : ℕ) (n : ℤ) (st : 
       });
       attempts = several_counts p st.sound.least s.race j e (t ∷ [])
           (record {
-            order = attempts_in_order p j st.legal;
+            order = attempts_in_order p j (lawful p j st.legal);
             unbegun = facts.unbegun_goes;
             won = st.race;
           }) ((start, used t start), tt) (together over) s.attempts st.attempts

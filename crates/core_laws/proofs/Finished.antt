@@ -22,6 +22,7 @@ use Rattle.run_plan.specs.Groups.{berths, berth_group}
 use Rattle.exec_journal.specs.Settled.{bound}
 use Rattle.list_lemmas.specs.Places.{update}
 use Rattle.exec_journal.specs.Words.{halted, last_line, launch_of, line_cause, was_taken, sends, pending, is_pending, wrote, granted, grant_of, commit_of, has_ended, says_feed_fault, end_cause, started, was_killed, broke}
+use Rattle.journal_laws.proofs.Ours.{lawful}
 use Rattle.exec_journal.proofs.Begins.{attempts_in_order, attempt_other, bound_is, launched_begun}
 use Rattle.exec_journal.proofs.Ruled.{by_bool}
 use Rattle.list_lemmas.proofs.Updates.{get_update}
@@ -339,7 +340,7 @@ module _ (p : Plan) (s : State) (j : List Entry) (lane l : ℕ) (seat : Seat) (h
         (e ∷ j)) (sym st.plan)
         (several_states p st.sound.least s.race j e ts (record {
           order =
-              attempts_in_order p j st.legal;
+              attempts_in_order p j (lawful p j st.legal);
           unbegun = facts.unbegun_goes;
           won = st.race;
         }) all
@@ -350,7 +351,7 @@ module _ (p : Plan) (s : State) (j : List Entry) (lane l : ℕ) (seat : Seat) (h
     });
     attempts = several_counts p st.sound.least s.race j e ts
         (record {
-          order = attempts_in_order p j st.legal;
+          order = attempts_in_order p j (lawful p j st.legal);
           unbegun = facts.unbegun_goes;
           won = st.race;
         }) all together s.attempts st.attempts s.ready st.ready;

@@ -25,6 +25,7 @@ use Rattle.exec_journal.specs.Settled.{earliest}
 use Rattle.list_lemmas.specs.Places.{update}
 use Rattle.exec_journal.specs.Words.{halted, last_line, launch_of, line_count, line_cause, was_taken, sends, wrote, granted, grant_of}
 use Rattle.exec_journal.specs.Kept.{group_at}
+use Rattle.journal_laws.proofs.Ours.{lawful}
 use Rattle.exec_journal.proofs.Begins.{earliest_next, queued_is, begin_in_order}
 use Rattle.journal_laws.proofs.Fresh.{fresh}
 use Rattle.exec_journal.proofs.Lines.{last_line_own, lines_named, launch_stays}
@@ -279,14 +280,14 @@ module _ (p : Plan) (s : State) (j : List Entry) (lane : ℕ) (st : Stands p s j
     launch_entry = asked lane launch_reply
 
     free : IsFresh j (line_count j)
-    free = fresh p j (line_count j) st.legal (omega arith)
+    free = fresh p j (line_count j) (lawful p j st.legal) (omega arith)
 
     module _ (is : launch_reply ≡ r.rule p j lane call.Ask) where
       legal : LegalEntry p j launch_entry
       legal = record { scripted = may; replied = is; kept = refl }
 
       begins : BeginsNext j t
-      begins = (begin_in_order p (launch_entry ∷ j) (st.legal, legal)).1
+      begins = (begin_in_order p (launch_entry ∷ j) (lawful p (launch_entry ∷ j) (st.legal, legal))).1
 
       going : ended j t ≡ false
       going = facts.unbegun_goes t begins.unbegun
@@ -339,7 +340,7 @@ module _ (p : Plan) (s : State) (j : List Entry) (lane : ℕ) (st : Stands p s j
           ∙ ap (λ (o : Option LastLine). cond (lane / 2 == v) (option_map (set_launched t) o) o)
           (st.last v)
           ∙ last_by v (lane / 2 == v) (nat_lt v (berths p)) (last_line_own v j
-          (lines_named p j st.legal))
+          (lines_named p j (lawful p j st.legal)))
 
       pub launch_stands : Stands p (noted_after (launched_for s (lane / 2) t) lane call.Ask
           launch_reply) (launch_entry ∷ j)

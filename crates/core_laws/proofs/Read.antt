@@ -10,6 +10,7 @@ use Rattle.exec_journal.specs.Facts.{OfBerth}
 use Rattle.exec_journal.specs.Attempts.{attempt, ended}
 use Rattle.run_plan.specs.Groups.{berths, kind_of, capacity}
 use Rattle.exec_journal.specs.Words.{last_line}
+use Rattle.journal_laws.proofs.Ours.{lawful}
 use Rattle.exec_journal.proofs.Begins.{attempts_in_order}
 use Rattle.exec_journal.proofs.Lines.{last_line_own, lines_named}
 use Rattle.exec_journal.proofs.Ruled.{by_bool}
@@ -78,7 +79,7 @@ module _ (p : Plan) (s : State) (j : List Entry) (st : Stands p s j)
       (λ yes. let lt = ltb-true v (berths p) yes in
       let here = sym (last_is p s.pool j st.pool v lt) ∙ h in
       let own = subst (λ (o : Option ℕ). OfBerth j o v) here
-      (last_line_own v j (lines_named p j st.legal)) in
+      (last_line_own v j (lines_named p j (lawful p j st.legal))) in
       let below = own.below in let count = st.pool.count in omega arith)
       (λ ne. absurd (let none = seat_none v ne in let k =
       sym (ap (λ (o : Option BerthRow). option_and_then (λ x. x.last) o) none) ∙ h in cc))
@@ -93,7 +94,7 @@ module _ (p : Plan) (s : State) (j : List Entry) (st : Stands p s j)
       by_bool (nat_lt a (length p.actions)) (λ _. ended_of s.attempts a b ≤ 10)
       (λ yes. let e = ended_at p j s.attempts a b st.attempts (ltb-true a (length p.actions) yes) in
       let c = count_below (ended j (attempt_of a b (attempt j a b))) (attempt j a b) in
-      let limit = (attempts_in_order p j st.legal).limited a b st.sound.least in
+      let limit = (attempts_in_order p j (lawful p j st.legal)).limited a b st.sound.least in
       let most = st.sound.most in omega arith)
       (λ ne. let none = st.attempts.each a ∙ ap (λ x. cond x (Some (ended_in j a)) None) ne in
       let e = ap (λ (o : Option EndedCounts). unwrap_or (option_map (count_of b) o) 0) none in

@@ -16,6 +16,7 @@ use Rattle.exec_journal.specs.Scripts.{script}
 use Rattle.run_plan.specs.Groups.{berths}
 use Rattle.list_lemmas.specs.Places.{update}
 use Rattle.exec_journal.specs.Words.{halted, last_line, launch_of, line_cause, was_taken, sends, wrote, granted, grant_of}
+use Rattle.journal_laws.proofs.Ours.{lawful}
 use Rattle.exec_journal.proofs.Lines.{last_line_own, lines_named}
 use Rattle.exec_journal.proofs.Ruled.{by_bool}
 use Rattle.list_lemmas.proofs.Updates.{get_update}
@@ -160,7 +161,7 @@ module _ (p : Plan) (s : State) (j : List Entry) (lane : ℕ) (st : Stands p s j
 
     owned : (v : ℕ) (k : ℕ) → last_line j v ≡ Some k → IsOfBerth j k v
     owned v k h = subst (λ (o : Option ℕ). OfBerth j o v) h
-        (last_line_own v j (lines_named p j st.legal))
+        (last_line_own v j (lines_named p j (lawful p j st.legal)))
 
     abbrev lane_in : Option (ℕ × Attempt) → ℕ
     lane_in (Some x) = x.0

@@ -14,6 +14,7 @@ use Rattle.exec_journal.specs.Facts.{OfBerth, IsOfBerth}
 use Rattle.exec_journal.specs.Scripts.{script}
 use Rattle.run_plan.specs.Groups.{berths}
 use Rattle.exec_journal.specs.Words.{last_line, order_of, last_work, stopped, has_halted}
+use Rattle.journal_laws.proofs.Ours.{lawful}
 use Rattle.exec_journal.proofs.Lines.{last_line_own, lines_named}
 use Rattle.exec_journal.proofs.Ruled.{by_bool}
 use Rattle.worker_pool.proofs.Words.{last_same}
@@ -30,7 +31,7 @@ use Rattle.core_laws.specs.Stands.{Stands}
 pub berth_of : (p : Plan) (s : State) (j : List Entry) (w l : ℕ) → Stands p s j
     → last_line j w ≡ Some l → IsOfBerth j l w
 berth_of p s j w l st h = subst (λ (o : Option ℕ). OfBerth j o w) h
-    (last_line_own w j (lines_named p j st.legal))
+    (last_line_own w j (lines_named p j (lawful p j st.legal)))
 
 -- rows by berth that are said of its last line, as `row` says it of any line
 module _ (p : Plan) (s : State) (j : List Entry) (e : Entry) (l : ℕ) (st : Stands p s j)

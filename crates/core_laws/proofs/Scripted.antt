@@ -165,6 +165,7 @@ module _ (p : Plan) (k : Kind) (proxy : Bool) where
   allowed_is (call.Answer l x) last = ap (λ b. not proxy && b) (hear_work last l)
   allowed_is (call.Ended l how) last = ap (λ b. not proxy && b) (hear_work last l)
   allowed_is call.Halt last = refl
+  allowed_is call.Tick last = ap (λ b. proxy && b) (owed_after call.Tick last)
   allowed_is (call.Launched l how) last = ap (λ b. proxy && b)
       (owed_after (call.Launched l how) last)
   allowed_is (call.Wrote l n how) last = ap (λ b. proxy && b) (owed_after (call.Wrote l n how) last)

@@ -26,6 +26,7 @@ use Rattle.exec_journal.specs.Scripts.{script}
 use Rattle.run_plan.specs.Groups.{berths, berth_group}
 use Rattle.exec_journal.specs.Settled.{bound}
 use Rattle.exec_journal.specs.Words.{live, started, has_ended, was_sent, halted, last_line, launch_of, line_cause, was_taken, sends, wrote, granted, grant_of, says_feed_fault}
+use Rattle.journal_laws.proofs.Ours.{lawful}
 use Rattle.exec_journal.proofs.Begins.{attempt_begun, attempt_other, same_branch_eq, begin_in_order}
 use Rattle.exec_journal.proofs.Lines.{last_line_own, lines_named}
 use Rattle.list_lemmas.proofs.Updates.{get_update}
@@ -89,7 +90,7 @@ module _ (p : Plan) (s : State) (j : List Entry) (lane l : ℕ) (t : Attempt) (s
 
   own : IsOfBerth j l (lane / 2)
   own = subst (λ (o : Option ℕ). OfBerth j o (lane / 2)) here
-      (last_line_own (lane / 2) j (lines_named p j st.legal))
+      (last_line_own (lane / 2) j (lines_named p j (lawful p j st.legal)))
 
   in_room : l < line_room p
   in_room = let below = own.below in let fit = facts.lines_fit in omega arith
@@ -100,11 +101,11 @@ module _ (p : Plan) (s : State) (j : List Entry) (lane l : ℕ) (t : Attempt) (s
     legal = record { scripted = may; replied = is; kept = refl }
 
     begins : Begins j None (Some (record { line = l; number = number; attempt = t }))
-    begins = (begin_in_order p (e ∷ j) (st.legal, legal)).1
+    begins = (begin_in_order p (e ∷ j) (lawful p (e ∷ j) (st.legal, legal))).1
 
     to : IsSentTo j t l
     to = sent_to j (record { line = l; number = number; attempt = t })
-        (begin_in_order p j st.legal) begins running (facts.unsent_unanswered t unsent)
+        (begin_in_order p j (lawful p j st.legal)) begins running (facts.unsent_unanswered t unsent)
 
     new : IsNewRequest j l t
     new = record {
@@ -172,7 +173,7 @@ module _ (p : Plan) (s : State) (j : List Entry) (lane l : ℕ) (t : Attempt) (s
         (option_map (on_row (λ ms. [])) o) o) (st.matches w)
         ∙ cleared w (lane / 2 == w) (nat_lt w (berths p))
 
-    next : IsNextSend p j lane l number t.action t.branch t.number
+    next : IsNextSend p j (berth_group p (lane / 2)) l number t.action t.branch t.number
     next = record {
       number = refl;
       group = group;
@@ -181,7 +182,7 @@ module _ (p : Plan) (s : State) (j : List Entry) (lane l : ℕ) (t : Attempt) (s
     }
 
     number_is : pos (next_number s.requests l t.action t.branch) ≡ number
-    number_is = asks-sent.next_number_is p s.requests j lane l t.action t.branch st.requests in_room
+    number_is = asks-sent.next_number_is p s.requests j (berth_group p (lane / 2)) l t.action t.branch st.requests in_room
         group (facts.numbered (lane / 2) l here)
 
     -- ---- what was bound to the line
@@ -207,7 +208,7 @@ module _ (p : Plan) (s : State) (j : List Entry) (lane l : ℕ) (t : Attempt) (s
         sound = st.sound;
         legal = (st.legal, legal);
         pool = bound_sends_kept p s.pool j lane l number t st.pool to was;
-        requests = asks-sent.sends_kept p s.requests j lane l number t.action t.branch t.number
+        requests = asks-sent.sends_kept p s.requests j lane (berth_group p (lane / 2)) l number t.action t.branch t.number
             st.requests in_room next;
         cancels = subst (λ n. mark-stands.Stands p (mark-rows.with_sent s.cancels l n t.action)
             (e ∷ j)) (sym number_is) (marks.sends_kept p s.cancels j lane l number t.action t.branch
@@ -240,7 +241,7 @@ module _ (p : Plan) (s : State) (j : List Entry) (lane l : ℕ) (t : Attempt) (s
         sound = st.sound;
         legal = (st.legal, legal);
         pool = sends_kept p s.pool j lane l number t st.pool to none;
-        requests = asks-sent.sends_kept p s.requests j lane l number t.action t.branch t.number
+        requests = asks-sent.sends_kept p s.requests j lane (berth_group p (lane / 2)) l number t.action t.branch t.number
             st.requests in_room next;
         cancels = subst (λ n. mark-stands.Stands p (mark-rows.with_sent s.cancels l n t.action)
             (e ∷ j)) (sym number_is) (marks.sends_kept p s.cancels j lane l number t.action t.branch

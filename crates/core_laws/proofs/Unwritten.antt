@@ -25,6 +25,7 @@ use Rattle.run_plan.specs.Groups.{berths, berth_group}
 use Rattle.exec_journal.specs.Settled.{bound}
 use Rattle.list_lemmas.specs.Places.{update}
 use Rattle.exec_journal.specs.Words.{halted, last_line, launch_of, line_cause, was_taken, sends, pending, is_pending, wrote, wrote_if, write_cause, if_line, granted, grant_of, commit_of, answered, has_ended, order_of, says_feed_fault, started, was_killed, broke}
+use Rattle.journal_laws.proofs.Ours.{lawful}
 use Rattle.exec_journal.proofs.Begins.{attempts_in_order, attempt_other, begin_in_order, same_attempt_eq}
 use Rattle.exec_journal.proofs.Ruled.{by_bool}
 use Rattle.list_lemmas.proofs.Updates.{get_update}
@@ -236,7 +237,7 @@ module _ (p : Plan) (s : State) (j : List Entry) (lane l : ℕ) (n : ℤ) (how :
       (e ∷ j)) (sym st.plan)
       (several_states p st.sound.least s.race j e (t ∷ [])
       (record {
-        order = attempts_in_order p j st.legal;
+        order = attempts_in_order p j (lawful p j st.legal);
         unbegun = facts.unbegun_goes;
         won = st.race;
       }) ((start, used t start), tt) together s.attempts st.attempts s.ready
@@ -279,7 +280,7 @@ module _ (p : Plan) (s : State) (j : List Entry) (lane l : ℕ) (n : ℤ) (how :
     });
     attempts = several_counts p st.sound.least s.race j e (t ∷ [])
         (record {
-          order = attempts_in_order p j st.legal;
+          order = attempts_in_order p j (lawful p j st.legal);
           unbegun = facts.unbegun_goes;
           won = st.race;
         }) ((start, used t start), tt) together s.attempts st.attempts s.ready
@@ -398,7 +399,7 @@ module _ (p : Plan) (s : State) (j : List Entry) (lane l : ℕ) (n : ℤ) (how :
     });
     attempts = several_counts p st.sound.least s.race j e (t ∷ [])
         (record {
-          order = attempts_in_order p j st.legal;
+          order = attempts_in_order p j (lawful p j st.legal);
           unbegun = facts.unbegun_goes;
           won = st.race;
         }) ((start, used t start), tt) together s.attempts st.attempts s.ready
@@ -427,10 +428,10 @@ module _ (p : Plan) (s : State) (j : List Entry) (lane l : ℕ) (n : ℤ) (how :
       (lane / 2) seat.0.group seat.1.group grouped t (own ∙ seat.1.group) ∙ by b h
     where
       by : (c : Bool) → is_pending j q ≡ c → nat_lt 0 (length (filter (is_of t) (pending j l))) ≡ c
-      by true k = ap (λ m. nat_lt 0 m) ((pending_on j (begin_in_order p j st.legal) l i q place
+      by true k = ap (λ m. nat_lt 0 m) ((pending_on j (begin_in_order p j (lawful p j st.legal)) l i q place
           k).each l ∙ ap (λ c. cond c 1 0) (eq-eqb l l refl))
       by false k = ap (λ m. nat_lt 0 m) ((pending_nowhere j
-          (begin_in_order p j st.legal) l i q place k).each l)
+          (begin_in_order p j (lawful p j st.legal)) l i q place k).each l)
 
   or_over : is_pending j q ≡ false → answered j t ≡ false → has_ended j l ≡ true
   unfolding is_pending
@@ -451,12 +452,12 @@ module _ (p : Plan) (s : State) (j : List Entry) (lane l : ℕ) (n : ℤ) (how :
       (λ _ h. subst (λ b. Stands p (noted_after (with_end
       (spent_for (cond b (dropped_from s l n) (breached s (lane / 2) l)) t) t) lane
       (call.Wrote l n how) reply.Noted) (e ∷ j)) (sym (is_pending_is true h))
-      (pending_stands (was_unanswered h) (pending_on j (begin_in_order p j st.legal) l i q place
+      (pending_stands (was_unanswered h) (pending_on j (begin_in_order p j (lawful p j st.legal)) l i q place
       h)))
       (λ _ h. subst (λ b. Stands p (noted_after (with_end
       (spent_for (cond b (dropped_from s l n) (breached s (lane / 2) l)) t) t) lane
       (call.Wrote l n how) reply.Noted) (e ∷ j)) (sym (is_pending_is false h))
-      (past_stands (pending_nowhere j (begin_in_order p j st.legal) l i q place h) (or_over h)))
+      (past_stands (pending_nowhere j (begin_in_order p j (lawful p j st.legal)) l i q place h) (or_over h)))
       refl
 
   pub write_fault_stands : Stands p (noted_after (wrote_with s lane (lane / 2) l n how) lane

@@ -4,6 +4,7 @@ ghost use Rattle.run_plan.specs.declared.plan.Plan.{Plan};
 ghost use Rattle.run_plan.specs.Groups.{berths, kind_of, is_remote};
 ghost use Rattle.script_duties.specs.Owed.{outputs_in, makers_in};
 ghost use Rattle.spawn_core.specs.Stands.{Stands};
+ghost use Rattle.history_laws.specs.Disciplines.{own_discipline};
 ghost use Rattle.history_laws.specs.Ruled.{answer_after, IsPaidAfter, owes_after, CameAbout};
 ghost use Rattle.core_rules.specs.LaneCores.{no_plan, plan_of, StandsFor};
 ghost use Rattle.core_rules.specs.Laws as laws;
@@ -73,13 +74,13 @@ impl Rules for LaneCore {
 
     ghost stands = { StandsFor };
 
-    ghost legal = { CameAbout };
+    ghost legal = { λ q. CameAbout (own_discipline q) };
 
-    ghost rule = { answer_after };
+    ghost rule = { λ q. answer_after (own_discipline q) };
 
-    ghost paid = { IsPaidAfter };
+    ghost paid = { λ q. IsPaidAfter (own_discipline q) };
 
-    ghost owes = { owes_after };
+    ghost owes = { λ q. owes_after (own_discipline q) };
 
     ghost seats = { berths };
 

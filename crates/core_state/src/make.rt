@@ -41,7 +41,7 @@ impl State {
             Call::Take => self.take(berth),
             Call::Answer { line, answer } => self.answer(berth, seat, *line, answer),
             Call::Ended { line, how } => self.ended(berth, seat, *line, *how),
-            Call::Halt => Reply::Noted,
+            Call::Tick | Call::Halt => Reply::Noted,
         }
     }
 

@@ -110,6 +110,10 @@ plain_orders_none s (call.Killed l) reply.Noted n p f = refl
 plain_orders_none s (call.Killed l) _ n p f = absurd (cc)
 plain_orders_none s (call.Ended l how) reply.Noted n p f = refl
 plain_orders_none s (call.Ended l how) _ n p f = absurd (cc)
+plain_orders_none s call.Tick reply.Noted n p f = refl
+plain_orders_none s call.Tick reply.Stop n p f = refl
+plain_orders_none s call.Tick reply.Idle n p f = refl
+plain_orders_none s call.Tick _ n p f = absurd (cc)
 plain_orders_none s call.Halt reply.Noted n p f = refl
 plain_orders_none s call.Halt _ n p f = absurd (cc)
 plain_orders_none s call.Ask r n p f = absurd (cc)
@@ -155,6 +159,7 @@ module _ (legal : History → Type 0) (rule : History → ℕ → Call → Reply
     course Asks call.Ask (reply.Launch l a b t) may f = Orders l a b t refl refl refl refl
     course Asks call.Ask _ may f = Drops [] refl
     course Asks call.Halt r may f = plain_course Asks call.Halt r refl refl refl f
+    course Asks call.Tick r may f = plain_course Asks call.Tick r refl refl refl f
     course Asks _ r may f = absurd (cc)
     course (Launches m) (call.Launched l start.Done) reply.Noted may f =
         Drops [] (ap (λ (n : ℕ). n ∷ []) (launched m l may))

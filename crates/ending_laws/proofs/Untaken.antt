@@ -13,7 +13,7 @@ use Rattle.exec_journal.specs.declared.reply.Reply.TheVariants as reply
 use Rattle.exec_journal.specs.Entries.{is_kept, takes}
 use Rattle.run_rules.specs.Moves.{Past, History}
 use Rattle.run_rules.specs.Laws.{fits, Fits, InScript, tap_lane, is_taken}
-use Rattle.run_rules.specs.Duties.{Duty, Commits, Left, duty_of, proxy_lane, may_make}
+use Rattle.run_rules.specs.Duties.{Duty, Commits, Asks, Left, duty_of, proxy_lane, may_make}
 use Rattle.run_rules.specs.Shelf.{tap_at}
 use Rattle.lane_deeds.specs.Lines.{listed}
 use Rattle.line_order.specs.Places.{In, Distinct}
@@ -73,6 +73,7 @@ module _ (legal : History → Type 0) (rule : History → ℕ → Call → Reply
   no_proxy_takes : (w : ℕ) (s : Duty) → may_make outputs makers (remote w) s call.Take ≡ true → ⊥
   no_proxy_takes w (Commits a b fs) may = absurd (cc)
   no_proxy_takes w Left may = absurd (cc)
+  no_proxy_takes w Asks may = absurd (cc)
   no_proxy_takes w _ may = absurd (cc)
 
   module _ (h : History) (e : Past) (s : steps.Step legal rule before fitting h e) where

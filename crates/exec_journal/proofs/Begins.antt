@@ -19,10 +19,11 @@ use Rattle.exec_journal.specs.Attempts.{attempt, begun_in, number_if, ended, dro
 use Rattle.exec_journal.specs.Settled.{settled, ready, wanted, still_bound, if_bound, bound, is_under_way, uses, queued, queued_in, earliest_from, earliest, free_places}
 use Rattle.run_plan.specs.Groups.{kind_of}
 use Rattle.exec_journal.specs.Rules as r
-use Rattle.exec_journal.specs.Legal.{Legal}
+use Rattle.exec_journal.specs.Lawful.{IsNextOf, NextOn, FromBound, FromQueue, LawfulEntry, Lawful}
 use Rattle.exec_journal.specs.Facts.{begun, AttemptsInOrder, BeginsNext, ContinuesOn, Begins, BeginInOrder}
 use Rattle.exec_journal.proofs.Histories.{latest_from, some_later}
-use Rattle.exec_journal.proofs.Ruled as u
+use Rattle.exec_journal.proofs.Reasons as u
+use Rattle.exec_journal.proofs.Ruled.{by_bool, not_true}
 use Rattle.exec_journal.proofs.Quiet.{ended_stays}
 
 -- ---- equal attempts
@@ -55,14 +56,6 @@ is_for_eq t None h = absurd (cc)
 
 -- ---- the branch that is queued first
 
--- its action uses the group for it, it is queued, and its number is the next
-pub record IsNextOf (p : Plan) (j : List Entry) (g : ℕ) (t : Attempt) : Type 0 where
-  pub action : PlanAction
-  pub place : slice_get p.actions t.action ≡ Some action
-  pub group : uses action t.branch g ≡ true
-  pub waiting : queued p j t.action t.branch action ≡ true
-  pub number : t.number ≡ attempt j t.action t.branch + 1
-
 record NextAmong (p : Plan) (j : List Entry) (g a : ℕ) (xs : List PlanAction) (t : Attempt) : Type 0 where
   pub index : ℕ
   pub action : PlanAction
@@ -80,10 +73,10 @@ module _ (p : Plan) (j : List Entry) (g : ℕ) where
 
   queued_in_next : (a : ℕ) (x : PlanAction) (xs : List PlanAction) (t : Attempt) → queued_in p j g a x ≡ Some t → NextAmong p j g a (x ∷ xs) t
   queued_in_next a x xs t h =
-      u.by_bool (uses x Local g && queued p j a Local x)
+      by_bool (uses x Local g && queued p j a Local x)
       (λ b. cond b (Some (attempt_of a Local (attempt j a Local + 1))) (cond (uses x Remote g && queued p j a Remote x) (Some (attempt_of a Remote (attempt j a Remote + 1))) None) ≡ Some t → NextAmong p j g a (x ∷ xs) t)
       (λ yes k. next_here a Local x xs t yes (cc))
-      (λ _ k. u.by_bool (uses x Remote g && queued p j a Remote x)
+      (λ _ k. by_bool (uses x Remote g && queued p j a Remote x)
       (λ b. cond b (Some (attempt_of a Remote (attempt j a Remote + 1))) None ≡ Some t → NextAmong p j g a (x ∷ xs) t)
       (λ yes k. next_here a Remote x xs t yes (cc)) (λ _ k. absurd (cc)) k) h
 
@@ -117,7 +110,7 @@ pub wanted_is : (p : Plan) (j : List Entry) (a : ℕ) (b : Branch) → wanted p 
 unfolding wanted
 wanted_is p j a b h =
     let parts = and_parts (not (settled p j a)) _ h in let more = and_parts (not (granted j a)) _ parts.1 in
-    record { unsettled = u.not_true _ parts.0; ungranted = u.not_true _ more.0; undropped = u.not_true _ more.1 }
+    record { unsettled = not_true _ parts.0; ungranted = not_true _ more.0; undropped = not_true _ more.1 }
 
 pub record IsQueued (p : Plan) (j : List Entry) (a : ℕ) (b : Branch) (x : PlanAction) : Type 0 where
   pub wish : wanted p j a b ≡ true
@@ -128,7 +121,7 @@ pub queued_is : (p : Plan) (j : List Entry) (a : ℕ) (b : Branch) (x : PlanActi
 unfolding queued
 queued_is p j a b x h =
     let parts = and_parts (wanted p j a b) _ h in let more = and_parts (ready p j x) _ parts.1 in
-    record { wish = parts.0; inputs = more.0; idle = u.not_true _ more.1 }
+    record { wish = parts.0; inputs = more.0; idle = not_true _ more.1 }
 
 not_false : (b : Bool) → not b ≡ false → b ≡ true
 not_false true h = refl
@@ -137,7 +130,7 @@ not_false false h = absurd (cc)
 -- no attempt yet, or the latest has ended
 idle_is : (n : ℕ) (over : Bool) → (nat_lt 0 n && not over) ≡ false → (n ≡ 0) ⊎ (over ≡ true)
 idle_is n over h =
-    u.by_bool (nat_lt 0 n) (λ b. (b && not over) ≡ false → (n ≡ 0) ⊎ (over ≡ true)) (λ _ k. inr (not_false over k))
+    by_bool (nat_lt 0 n) (λ b. (b && not over) ≡ false → (n ≡ 0) ⊎ (over ≡ true)) (λ _ k. inr (not_false over k))
     (λ none k. let le = ltb-false 0 n none in inl (omega arith)) h
 
 pub record IsBound (p : Plan) (j : List Entry) (l : ℕ) (t : Attempt) : Type 0 where
@@ -150,10 +143,10 @@ pub record IsBound (p : Plan) (j : List Entry) (l : ℕ) (t : Attempt) : Type 0 
 bound_by : (p : Plan) (j : List Entry) (l : ℕ) (t : Attempt) (o : Option (ℕ × Attempt)) → launch_of j l ≡ o → if_bound p j o ≡ Some t → IsBound p j l t
 bound_by p j l t None is h = absurd (cc)
 bound_by p j l t (Some (lane, s)) is h =
-    u.by_bool (still_bound p j s) (λ b. cond b (Some s) None ≡ Some t → IsBound p j l t)
+    by_bool (still_bound p j s) (λ b. cond b (Some s) None ≡ Some t → IsBound p j l t)
     (λ yes k. let e : s ≡ t = cc in
     let parts = and_parts (wanted p j s.action s.branch) _ yes in let more = and_parts (not (was_sent j s)) _ parts.1 in
-    subst (IsBound p j l) e (record { lane = lane; launched = is; wish = parts.0; unsent = u.not_true _ more.0; going = u.not_true _ more.1 }))
+    subst (IsBound p j l) e (record { lane = lane; launched = is; wish = parts.0; unsent = not_true _ more.0; going = not_true _ more.1 }))
     (λ _ k. absurd (cc)) h
 
 pub bound_is : (p : Plan) (j : List Entry) (l : ℕ) (t : Attempt) → bound p j l ≡ Some t → IsBound p j l t
@@ -163,7 +156,7 @@ bound_is p j l t h = bound_by p j l t (launch_of j l) refl h
 -- an attempt that was launched was begun
 launch_begins : (x : Reply) (l lane : ℕ) (y : ℕ × Attempt) → launch_on l lane (launch_in x) ≡ Some y → begun_in x ≡ Some y.1
 launch_begins (reply.Launch k a b t) l lane y h =
-    u.by_bool (k == l) (λ c. cond c (Some (lane, attempt_of a b t)) None ≡ Some y → Some (attempt_of a b t) ≡ Some y.1)
+    by_bool (k == l) (λ c. cond c (Some (lane, attempt_of a b t)) None ≡ Some y → Some (attempt_of a b t) ≡ Some y.1)
     (λ _ g. let e : (lane, attempt_of a b t) ≡ y = cc in ap (λ (z : ℕ × Attempt). Some z.1) e) (λ _ g. absurd (cc)) h
 launch_begins _ l lane y h = absurd (cc)
 
@@ -186,9 +179,8 @@ Opens p j (Some x) _ = Starts p j x.1
 Opens p j None (Some q) = Starts p j q.attempt ⊎ ContinuesOn j q.line q.attempt
 Opens p j None None = Unit {0}
 
-next_starts : (p : Plan) (j : List Entry) (g : ℕ) (t : Attempt) → AttemptsInOrder p j → earliest p j g ≡ Some t → Starts p j t
-next_starts p j g t order h =
-    let n = earliest_next p j g t h in
+next_starts : (p : Plan) (j : List Entry) (g : ℕ) (t : Attempt) → AttemptsInOrder p j → IsNextOf p j g t → Starts p j t
+next_starts p j g t order n =
     let q = queued_is p j t.action t.branch n.action n.waiting in
     record {
       begins = record { next = n.number; after = idle_is (attempt j t.action t.branch) _ q.idle; unbegun = fresh_number (begun j t) refl };
@@ -196,7 +188,7 @@ next_starts p j g t order h =
     }
   where
     number : t.number ≡ attempt j t.action t.branch + 1
-    number = (earliest_next p j g t h).number
+    number = n.number
 
     fresh_number : (b : Bool) → begun j t ≡ b → begun j t ≡ false
     fresh_number false is = is
@@ -215,17 +207,13 @@ bound_continues p j l t order h =
     latest_of range true below = absurd (let e : true ≡ false = sym (order.older t range.0 (ltb-true t.number (attempt j t.action t.branch) below)) ∙ going in cc)
     latest_of range false above = let le = ltb-false t.number (attempt j t.action t.branch) above in let up = range.1 in omega arith
 
-next_or_bound : (p : Plan) (j : List Entry) (w g l : ℕ) (t : Attempt) → AttemptsInOrder p j → r.next_for p j w g l ≡ Some t → Starts p j t ⊎ ContinuesOn j l t
-next_or_bound p j w g l t order h = by (bound p j l) refl h
-  where
-    by : (o : Option Attempt) → bound p j l ≡ o → or_else o (cond (nat_lt 0 (free_places p j (kind_of p w) l)) (earliest p j g) None) ≡ Some t → Starts p j t ⊎ ContinuesOn j l t
-    by (Some s) is k = inr (bound_continues p j l t order (is ∙ k))
-    by None is k =
-        inl (u.by_bool (nat_lt 0 (free_places p j (kind_of p w) l)) (λ b. cond b (earliest p j g) None ≡ Some t → Starts p j t) (λ _ m. next_starts p j g t order m) (λ _ m. absurd (cc)) k)
+next_or_bound : (p : Plan) (j : List Entry) (l : ℕ) (t : Attempt) → AttemptsInOrder p j → NextOn p j l t → Starts p j t ⊎ ContinuesOn j l t
+next_or_bound p j l t order (FromBound h) = inr (bound_continues p j l t order h)
+next_or_bound p j l t order (FromQueue none room next) = inl (next_starts p j _ t order next)
 
 ruled_opens : (p : Plan) (j : List Entry) (lane : ℕ) (c : Call) (x : Reply) → AttemptsInOrder p j → u.Ruled p j lane c x → Opens p j (launch_in x) (send_in x)
-ruled_opens p j lane c x order (u.Launches t vacant full next none) = next_starts p j (u.group_at p (lane / 2)) t order next
-ruled_opens p j lane c x order (u.Sends l t here alive next none) = next_or_bound p j (lane / 2) (u.group_at p (lane / 2)) l t order next
+ruled_opens p j lane c x order (u.Launches g t vacant next none) = next_starts p j g t order next
+ruled_opens p j lane c x order (u.Sends l t here alive next none) = next_or_bound p j l t order next
 ruled_opens p j lane c x order (u.Gathers l n a b t e v next over) = tt
 ruled_opens p j lane c x order _ = tt
 
@@ -294,7 +282,7 @@ module _ (p : Plan) (e : Entry) (j : List Entry) (order : AttemptsInOrder p j) w
 
     grows : (a : ℕ) (b : Branch) → attempt j a b ≤ attempt (e ∷ j) a b
     grows a b =
-        u.by_bool (is_branch_of a b s) (λ _. attempt j a b ≤ attempt (e ∷ j) a b)
+        by_bool (is_branch_of a b s) (λ _. attempt j a b ≤ attempt (e ∷ j) a b)
         (λ h. let parts = same_parts a b h in
         rw (mine a b h) (subst (λ n. attempt j n b ≤ s.number) parts.0 (subst (λ (d : Branch). attempt j s.action d ≤ s.number) parts.1 (bounds new).1)))
         (λ h. rw (other a b h) (omega arith))
@@ -312,7 +300,7 @@ module _ (p : Plan) (e : Entry) (j : List Entry) (order : AttemptsInOrder p j) w
     ended_before : Advances p j s → (n : ℕ) → 1 ≤ n → n < s.number → ended j (attempt_of s.action s.branch n) ≡ true
     ended_before (inr again) n low high = order.older (attempt_of s.action s.branch n) low (let m = again.1 in omega arith)
     ended_before (inl starts) n low high =
-        u.by_bool (nat_lt n (attempt j s.action s.branch)) (λ _. ended j (attempt_of s.action s.branch n) ≡ true)
+        by_bool (nat_lt n (attempt j s.action s.branch)) (λ _. ended j (attempt_of s.action s.branch n) ≡ true)
         (λ below. order.older (attempt_of s.action s.branch n) low (ltb-true n (attempt j s.action s.branch) below))
         (λ above. let le = ltb-false n (attempt j s.action s.branch) above in let m = starts.begins.next in
         let at : attempt j s.action s.branch ≡ n = omega arith in
@@ -324,7 +312,7 @@ module _ (p : Plan) (e : Entry) (j : List Entry) (order : AttemptsInOrder p j) w
 
     older : (t : Attempt) → 1 ≤ t.number → t.number < attempt (e ∷ j) t.action t.branch → ended (e ∷ j) t ≡ true
     older t low high =
-        ended_stays e j t (u.by_bool (is_branch_of t.action t.branch s) (λ _. ended j t ≡ true)
+        ended_stays e j t (by_bool (is_branch_of t.action t.branch s) (λ _. ended j t ≡ true)
         (λ h. let parts = same_parts t.action t.branch h in
         let below : t.number < s.number = subst (λ n. t.number < n) (mine t.action t.branch h) high in
         subst (λ (d : Branch). ended j (attempt_of t.action d t.number) ≡ true) parts.1 (subst (λ a. ended j (attempt_of a s.branch t.number) ≡ true) parts.0 (ended_before new t.number low below)))
@@ -334,7 +322,7 @@ module _ (p : Plan) (e : Entry) (j : List Entry) (order : AttemptsInOrder p j) w
     unfolding dropped
     within (inr again) least = let m = again.1 in let old = order.limited s.action s.branch least in omega arith
     within (inl starts) least =
-        u.by_bool (nat_lt (attempt j s.action s.branch) p.limit) (λ _. s.number ≤ p.limit)
+        by_bool (nat_lt (attempt j s.action s.branch) p.limit) (λ _. s.number ≤ p.limit)
         (λ below. let lt = ltb-true (attempt j s.action s.branch) p.limit below in let m = starts.begins.next in omega arith)
         (λ above. let le = ltb-false (attempt j s.action s.branch) p.limit above in let old = order.limited s.action s.branch least in
         let at : attempt j s.action s.branch ≡ p.limit = omega arith in absurd (spent starts.begins.after at))
@@ -346,7 +334,7 @@ module _ (p : Plan) (e : Entry) (j : List Entry) (order : AttemptsInOrder p j) w
 
     limited : (a : ℕ) (b : Branch) → 1 ≤ p.limit → attempt (e ∷ j) a b ≤ p.limit
     limited a b least =
-        u.by_bool (is_branch_of a b s) (λ _. attempt (e ∷ j) a b ≤ p.limit)
+        by_bool (is_branch_of a b s) (λ _. attempt (e ∷ j) a b ≤ p.limit)
         (λ h. rw (mine a b h) (within new least)) (λ h. rw (other a b h) (order.limited a b least))
 
     new_order : AttemptsInOrder p (e ∷ j)
@@ -359,14 +347,14 @@ module _ (p : Plan) (e : Entry) (j : List Entry) (order : AttemptsInOrder p j) w
       by None h = quiet_order h
       by (Some s) h = new_order s h (opens_advances p j e.reply s h opens)
 
-entry_opens : (p : Plan) (e : Entry) (j : List Entry) → AttemptsInOrder p j → e.reply ≡ r.rule p j e.lane e.call → Opens p j (launch_in e.reply) (send_in e.reply)
-entry_opens p e j order h = ruled_opens p j e.lane e.call e.reply order (subst (λ (x : Reply). u.Ruled p j e.lane e.call x) (sym h) (u.ruled p j e.lane e.call))
+entry_opens : (p : Plan) (e : Entry) (j : List Entry) → AttemptsInOrder p j → LawfulEntry p j e → Opens p j (launch_in e.reply) (send_in e.reply)
+entry_opens p e j order entry = ruled_opens p j e.lane e.call e.reply order (u.ruled p j e entry)
 
-pub attempts_in_order : (p : Plan) (j : List Entry) → Legal p j → AttemptsInOrder p j
+pub attempts_in_order : (p : Plan) (j : List Entry) → Lawful p j → AttemptsInOrder p j
 unfolding begun attempt
 attempts_in_order p [] legal = record { numbered = λ t h. absurd (cc); older = λ t low high. absurd (omega arith); limited = λ a b least. omega arith }
 attempts_in_order p (e ∷ j) legal =
-    let order = attempts_in_order p j legal.0 in step_order p e j order (entry_opens p e j order legal.1.replied)
+    let order = attempts_in_order p j legal.0 in step_order p e j order (entry_opens p e j order legal.1)
 
 opens_begins : (p : Plan) (j : List Entry) (o : Option (ℕ × Attempt)) (q : Option Request) → Opens p j o q → Begins j o q
 opens_begins p j (Some x) q starts = starts.begins
@@ -374,7 +362,7 @@ opens_begins p j None (Some q) (inl starts) = inl starts.begins
 opens_begins p j None (Some q) (inr on) = inr on
 opens_begins p j None None opens = tt
 
-pub begin_in_order : (p : Plan) (j : List Entry) → Legal p j → BeginInOrder j
+pub begin_in_order : (p : Plan) (j : List Entry) → Lawful p j → BeginInOrder j
 begin_in_order p [] legal = tt
 begin_in_order p (e ∷ j) legal =
-    (begin_in_order p j legal.0, opens_begins p j (launch_in e.reply) (send_in e.reply) (entry_opens p e j (attempts_in_order p j legal.0) legal.1.replied))
+    (begin_in_order p j legal.0, opens_begins p j (launch_in e.reply) (send_in e.reply) (entry_opens p e j (attempts_in_order p j legal.0) legal.1))

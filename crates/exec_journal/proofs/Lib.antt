@@ -1,5 +1,6 @@
 pub mod Histories
 pub mod Ruled
+pub mod Reasons
 pub mod Lines
 pub mod Quiet
 pub mod Begins

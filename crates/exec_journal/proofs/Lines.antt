@@ -1,5 +1,5 @@
 -- Lines of a legal journal are numbered in order, and each line that an entry names was launched by its own berth's lane.
-use Rattle.std.proofs.Common.{◌≡◌, ℕ, ◌*◌, ◌/◌, ◌%◌, ◌<◌, ◌≤◌, ◌==◌, nat_lt, Bool, true, ◌&&◌, not, cond, List, [], ◌∷◌, length, Option, Some, None, option_map, ℤ, inl, inr, refl, sym, subst, ◌∙◌, arith}
+use Rattle.std.proofs.Common.{◌≡◌, ℕ, ◌*◌, ◌/◌, ◌%◌, ◌<◌, ◌≤◌, ◌==◌, nat_lt, Bool, true, ◌&&◌, ◌||◌, not, cond, List, [], ◌∷◌, length, Option, Some, None, option_map, ℤ, inl, inr, refl, sym, subst, ◌∙◌, arith}
 use Rattle.std.proofs.lemmas.Bool.{eqb-true, eq-eqb, ne_eqb, and_parts, or_cases}
 use Rattle.run_plan.specs.declared.plan.Plan.{Plan}
 use Rattle.exec_journal.specs.declared.attempt.Attempt.{Attempt}
@@ -15,13 +15,14 @@ use Rattle.list_lemmas.specs.Options.{or_else, and_more}
 use Rattle.exec_journal.specs.Entries.{Request, launch_in, send_in, is_look, is_halt}
 use Rattle.exec_journal.specs.Words.{line_count, last_work, work_at, last_line, line_at, launch_of, launch_on, sends, sent_on, pending, is_pending, stopped, has_halted}
 use Rattle.run_plan.specs.declared.plan.Kind.{Kind}
-use Rattle.run_plan.specs.Groups.{kind_of, berths}
+use Rattle.run_plan.specs.declared.plan.Kind.TheVariants as kind
 use Rattle.exec_journal.specs.Rules as r
 use Rattle.exec_journal.specs.Scripts as s
-use Rattle.exec_journal.specs.Legal.{Legal}
+use Rattle.exec_journal.specs.Lawful.{in_script, may_tick, Lawful}
 use Rattle.exec_journal.specs.Facts.{call_line, reply_line, IsOfBerth, OfBerth, IsNext, NamesItsLine, NameTheirLines}
 use Rattle.exec_journal.proofs.Histories.{AtSome, some_each, some_map, AllOf, all_each, all_filter, all_oldest}
-use Rattle.exec_journal.proofs.Ruled as u
+use Rattle.exec_journal.proofs.Reasons as u
+use Rattle.exec_journal.proofs.Ruled.{by_bool, GatherFor, For, gathers_from}
 
 more_than : {X : Type 0} (o : Option X) (xs : List X) → length xs ≤ length (and_more o xs)
 more_than None xs = omega arith
@@ -63,7 +64,7 @@ launched_line _ j w h = tt
 
 line_here : (w : ℕ) (e : Entry) (j : List Entry) → OfBerth j (reply_line e.reply) (e.lane / 2) → OfBerth j (line_at w e) w
 line_here w e j h =
-    u.by_bool (e.lane / 2 == w) (λ b. OfBerth j (cond b (option_map (λ y. y.0) (launch_in e.reply)) None) w)
+    by_bool (e.lane / 2 == w) (λ b. OfBerth j (cond b (option_map (λ y. y.0) (launch_in e.reply)) None) w)
     (λ same. subst (OfBerth j (option_map (λ y. y.0) (launch_in e.reply))) (eqb-true (e.lane / 2) w same) (launched_line e.reply j (e.lane / 2) h)) (λ _. tt)
 
 either : (j : List Entry) (o q : Option ℕ) (w : ℕ) → OfBerth j o w → OfBerth j q w → OfBerth j (or_else o q) w
@@ -93,7 +94,7 @@ pub last_work_own : (lane : ℕ) (j : List Entry) → NameTheirLines j → WorkO
 unfolding last_work
 last_work_own lane [] all = tt
 last_work_own lane (e ∷ j) all =
-    u.by_bool ((e.lane == lane) && (not (is_look e.call) && not (is_halt e.call)))
+    by_bool ((e.lane == lane) && (not (is_look e.call) && not (is_halt e.call)))
     (λ b. WorkOwn (e ∷ j) (or_else (cond b (Some e) None) (latest (λ _ d. work_at lane d) j)) (lane / 2))
     (λ h. let same = eqb-true e.lane lane (and_parts (e.lane == lane) _ h).0 in
     subst (λ (n : ℕ). WorkOwn (e ∷ j) (Some e) (n / 2)) same (of_berth_option e j (call_line e.call) (e.lane / 2) all.1.numbered all.1.called, all.1.replied))
@@ -103,7 +104,7 @@ last_work_own lane (e ∷ j) all =
 
 sent_line : (l : ℕ) (x : Reply) (q : Request) → sent_on l x ≡ Some q → q.line ≡ l
 sent_line l (reply.Send k n a b t) q h =
-    u.by_bool (k == l) (λ c. cond c (send_in (reply.Send k n a b t)) None ≡ Some q → q.line ≡ l)
+    by_bool (k == l) (λ c. cond c (send_in (reply.Send k n a b t)) None ≡ Some q → q.line ≡ l)
     (λ same g. let e : record { line = k; number = n; attempt = record { action = a; branch = b; number = t } } ≡ q = cc in subst (λ (y : Request). y.line ≡ l) e (eqb-true k l same))
     (λ _ g. absurd (cc)) h
 sent_line l _ q h = absurd (cc)
@@ -119,12 +120,12 @@ pending_line j l = all_filter (λ (q : Request). q.line ≡ l) (is_pending j) (s
 
 -- the line of a match that waits
 gathered_line : (w : ℕ) (j : List Entry) (k : List Entry) (e : Entry) (x : Reply)
-    → (((e.lane / 2 == w) ≡ true) × u.GatherFor j e.call e.reply x) × NamesItsLine k e → OfBerth k (reply_line x) w
+    → (((e.lane / 2 == w) ≡ true) × GatherFor j e.call e.reply x) × NamesItsLine k e → OfBerth k (reply_line x) w
 gathered_line w j k e x h =
     subst (λ (v : ℕ). OfBerth k (reply_line x) v) (eqb-true (e.lane / 2) w h.0.0) (of_form e.call e.reply x h.0.1 h.1.called)
   where
-    of_form : (c : Call) (y z : Reply) → u.GatherFor j c y z → OfBerth k (call_line c) (e.lane / 2) → OfBerth k (reply_line z) (e.lane / 2)
-    of_form c y z (u.For l m a b t waiting) known = known
+    of_form : (c : Call) (y z : Reply) → GatherFor j c y z → OfBerth k (call_line c) (e.lane / 2) → OfBerth k (reply_line z) (e.lane / 2)
+    of_form c y z (For l m a b t waiting) known = known
 
 later_own : (w : ℕ) (o : Option ℕ) (j : List Entry) → NameTheirLines j → AtSome (λ k e. OfBerth k o w) j → OfBerth j o w
 later_own w o (e ∷ j) all (inl h) = of_berth_option e j o w all.1.numbered h
@@ -134,7 +135,7 @@ later_own w o [] all h = absurd h
 gather_own : (w : ℕ) (j : List Entry) (x : Reply) → NameTheirLines j → r.gathers_next j w ≡ Some x → OfBerth j (reply_line x) w
 gather_own w j x all h =
     later_own w (reply_line x) j all
-    (some_map _ (λ k e. OfBerth k (reply_line x) w) (λ k e g. gathered_line w j k e x g) j (some_each _ NamesItsLine j (u.gathers_from j w x h) all))
+    (some_map _ (λ k e. OfBerth k (reply_line x) w) (λ k e g. gathered_line w j k e x g) j (some_each _ NamesItsLine j (gathers_from j w x h) all))
 
 -- a reply that launches nothing names a line of the berth before its entry
 ruled_own : (p : Plan) (j : List Entry) (lane : ℕ) (c : Call) (x : Reply) → NameTheirLines j → u.Ruled p j lane c x
@@ -148,7 +149,8 @@ ruled_own p j lane c x all (u.Cancels l q here alive may which none) =
     let on = all_oldest (λ (y : Request). y.line ≡ l) _ q (all_filter (λ (y : Request). y.line ≡ l) _ (pending j l) (pending_line j l)) which in
     (λ _. subst (λ (m : ℕ). IsOfBerth j m (lane / 2)) (sym on) own, tt)
 ruled_own p j lane c x all (u.Sends l t here alive next none) = (λ _. here_own j (lane / 2) l all here, tt)
-ruled_own p j lane c x all (u.Launches t vacant full next none) = (λ h. absurd (cc), refl)
+ruled_own p j lane c x all (u.Launches g t vacant next none) = (λ h. absurd (cc), refl)
+ruled_own p j lane c x all (u.Evicts l here alive empty free none) = (λ _. here_own j (lane / 2) l all here, tt)
 ruled_own p j lane c x all (u.Takes l here up untaken) = (λ _. here_own j (lane / 2) l all here, tt)
 ruled_own p j lane c x all _ = (λ _. tt, tt)
 
@@ -199,6 +201,7 @@ no_commit call.Take o h = absurd (cc)
 no_commit (call.Answer l x) o h = absurd (cc)
 no_commit (call.Ended l how) o h = absurd (cc)
 no_commit call.Halt o h = absurd (cc)
+no_commit call.Tick o h = absurd (cc)
 
 -- what is owed is what the newest reply orders, but for a Committed
 owed_order : (p : Plan) (k : Kind) (c : Call) (o : Option Entry) (l : ℕ) → call_line c ≡ Some l → s.is_owed_after p k c o ≡ true → s.is_owed p k c (reply_of o) ≡ true
@@ -218,14 +221,26 @@ none_own : (j : List Entry) (o : Option ℕ) (w : ℕ) → o ≡ None → OfBert
 none_own j None w h = tt
 none_own j (Some l) w h = absurd (cc)
 
+tick_own : (j : List Entry) (w : ℕ) (proxy : Bool) (o : Option Entry) (c : Call) → may_tick proxy o c ≡ true → OfBerth j (call_line c) w
+tick_own j w proxy o call.Tick h = tt
+tick_own j w proxy o (call.Launched l how) h = absurd (cc)
+tick_own j w proxy o (call.Wrote l n how) h = absurd (cc)
+tick_own j w proxy o (call.Killed l) h = absurd (cc)
+tick_own j w proxy o (call.Answer l x) h = absurd (cc)
+tick_own j w proxy o (call.Ended l how) h = absurd (cc)
+tick_own j w proxy o _ h = tt
+
 -- a call in a lane's script names a line of its berth
-pub script_own : (p : Plan) (j : List Entry) (lane : ℕ) (c : Call) → s.script p j lane c ≡ true → NameTheirLines j → OfBerth j (call_line c) (lane / 2)
+pub script_own : (p : Plan) (j : List Entry) (lane : ℕ) (c : Call) → in_script p j lane c ≡ true → NameTheirLines j → OfBerth j (call_line c) (lane / 2)
 script_own p j lane c h all =
-    let running = (and_parts (not (stopped j lane)) _ (and_parts (nat_lt lane (2 * berths p)) _ h).1).1 in
-    u.by_bool (has_halted j lane)
-    (λ b. cond b (s.is_owed_commit c (last_work j lane)) (s.allowed p (kind_of p (lane / 2)) (lane % 2 == 0) (last_work j lane) c) ≡ true → OfBerth j (call_line c) (lane / 2))
+    let running = (and_parts (not (stopped j lane)) _ h).1 in
+    by_bool (has_halted j lane)
+    (λ b. cond b (s.is_owed_commit c (last_work j lane)) (may_tick (lane % 2 == 0) (last_work j lane) c || s.allowed p kind.Single (lane % 2 == 0) (last_work j lane) c) ≡ true → OfBerth j (call_line c) (lane / 2))
     (λ _ g. none_own j (call_line c) (lane / 2) (no_commit c (last_work j lane) g))
-    (λ _ g. call_own p j (kind_of p (lane / 2)) (lane / 2) (lane % 2 == 0) (last_work j lane) c g (last_work_own lane j all)) running
+    (λ _ g. elim (or_cases (may_tick (lane % 2 == 0) (last_work j lane) c) _ g) [
+      | inl tick ↦ tick_own j (lane / 2) (lane % 2 == 0) (last_work j lane) c tick
+      | inr may ↦ call_own p j kind.Single (lane / 2) (lane % 2 == 0) (last_work j lane) c may (last_work_own lane j all)
+    ]) running
 
 -- ---- the entry's own launch
 
@@ -251,11 +266,11 @@ reply_own e j old next = by (launch_in e.reply) refl
     by None h = of_berth_option e j (reply_line e.reply) (e.lane / 2) next (old h)
     by (Some x) h = subst (λ (o : Option ℕ). OfBerth (e ∷ j) o (e.lane / 2)) (sym (names_launch e.reply x h)) (launch_here e j (launch_in e.reply) x refl h (is_next j (launch_in e.reply) next x h))
 
-pub lines_named : (p : Plan) (j : List Entry) → Legal p j → NameTheirLines j
+pub lines_named : (p : Plan) (j : List Entry) → Lawful p j → NameTheirLines j
 lines_named p [] legal = tt
 lines_named p (e ∷ j) legal =
     let all = lines_named p j legal.0 in
-    let ruled = ruled_own p j e.lane e.call e.reply all (subst (λ (x : Reply). u.Ruled p j e.lane e.call x) (sym legal.1.replied) (u.ruled p j e.lane e.call)) in (
+    let ruled = ruled_own p j e.lane e.call e.reply all (u.ruled p j e legal.1) in (
       all,
       record {
         called = script_own p j e.lane e.call legal.1.scripted all;

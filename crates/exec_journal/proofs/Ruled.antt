@@ -41,6 +41,7 @@ is_noted (call.Committed a b how) = true
 is_noted (call.Killed l) = true
 is_noted (call.Ended l how) = true
 is_noted call.Halt = true
+is_noted call.Tick = true
 is_noted _ = false
 
 -- a Claim that may be granted
@@ -327,3 +328,4 @@ module _ (p : Plan) (j : List Entry) (lane : ℕ) where
   ruled (call.Killed l) = Notes (call.Killed l) refl
   ruled (call.Ended l how) = Notes (call.Ended l how) refl
   ruled call.Halt = Notes call.Halt refl
+  ruled call.Tick = Notes call.Tick refl

@@ -3,9 +3,11 @@ pub mod Entries
 pub mod Words
 pub mod Attempts
 pub mod Settled
+pub mod Seated
 pub mod Rules
 pub mod Scripts
 pub mod Legal
+pub mod Lawful
 pub mod Race
 pub mod Paired
 pub mod Kept

@@ -1,5 +1,5 @@
 -- Each consumed answer has a request of its own.
-use Rattle.std.specs.Prelude.{◌≡◌, ℕ, ◌/◌, ◌==◌, Bool, true, false, ◌&&◌, ◌||◌, not, option_map, if◌then◌else◌, List, length, filter, ℤ}
+use Rattle.std.specs.Prelude.{◌≡◌, ℕ, ◌==◌, Bool, true, false, ◌&&◌, ◌||◌, not, option_map, if◌then◌else◌, List, length, filter, ℤ}
 use Rattle.std.specs.List.{list_any, list_all}
 use Rattle.std.specs.Ordering.{int_eq}
 use Rattle.run_plan.specs.declared.plan.Plan.{Plan}
@@ -12,7 +12,8 @@ use Rattle.exec_journal.specs.declared.reply.Reply.TheVariants as reply
 use Rattle.exec_journal.specs.History.{AtEach}
 use Rattle.exec_journal.specs.Entries.{attempt_of, same_attempt, is_for}
 use Rattle.exec_journal.specs.Words.{sends, answered, wrote, says_done}
-use Rattle.run_plan.specs.Groups.{is_single, kind_of}
+use Rattle.run_plan.specs.Groups.{is_single}
+use Rattle.exec_journal.specs.Seated.{line_kind}
 use Rattle.exec_journal.specs.Rules.{head}
 
 -- a request for the attempt was sent on the line with this number
@@ -48,13 +49,13 @@ is_new_number j l n = not (list_any (λ r. int_eq r.number n) (sends j l))
 -- the only one with its number
 abbrev pub pair_at : Plan → List Entry → ℕ → Call → Reply → Bool
 pair_at p j lane (call.Answer l x) (reply.Matched a b t) =
-    has_request (is_single (kind_of p (lane / 2))) j l x.number (attempt_of a b t)
+    has_request (is_single (line_kind p j l)) j l x.number (attempt_of a b t)
 pair_at p j lane (call.Answer l x) (reply.Late a b t) =
-    has_request (is_single (kind_of p (lane / 2))) j l x.number (attempt_of a b t)
+    has_request (is_single (line_kind p j l)) j l x.number (attempt_of a b t)
 pair_at p j lane _ (reply.Matched a b t) = false
 pair_at p j lane _ (reply.Late a b t) = false
 pair_at p j lane _ (reply.Send l n a b t) =
-    if is_single (kind_of p (lane / 2)) then all_answered j l else is_new_number j l n
+    if is_single (line_kind p j l) then all_answered j l else is_new_number j l n
 pair_at p j lane _ _ = true
 
 abbrev pub Paired : Plan → List Entry → Type 0

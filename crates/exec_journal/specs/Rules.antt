@@ -3,6 +3,7 @@ use Rattle.std.specs.Prelude.{ℕ, ◌+◌, ◌/◌, ◌==◌, nat_lt, bytes_eq,
 use Rattle.std.specs.List.{list_any, find}
 use Rattle.std.specs.Ordering.{int_eq}
 use Rattle.run_plan.specs.declared.plan.Branch.{Branch}
+use Rattle.run_plan.specs.declared.plan.Kind.{Kind}
 use Rattle.run_plan.specs.declared.plan.Plan.{Plan}
 use Rattle.exec_journal.specs.declared.attempt.Attempt.{Attempt}
 use Rattle.exec_journal.specs.declared.journal.Entry.{Entry}
@@ -74,12 +75,14 @@ has_unwanted p j l = list_any (is_unwanted p j) (pending j l)
 
 -- kill an unwanted request's line: a Single line without cancellation, with a pending request that
 -- isn't wanted
-abbrev pub kills_unwanted : Plan → List Entry → ℕ → ℕ → Option ℕ → Option Reply
-kills_unwanted p j w g None = None
-kills_unwanted p j w g (Some l) =
-    when (runs j l
-    && ((is_single (kind_of p w) && not (has_cancellation p g)) && has_unwanted p j l))
+abbrev pub kills_unwanted_of : Plan → List Entry → Kind → ℕ → Option ℕ → Option Reply
+kills_unwanted_of p j k g None = None
+kills_unwanted_of p j k g (Some l) =
+    when (runs j l && ((is_single k && not (has_cancellation p g)) && has_unwanted p j l))
     (reply.Kill l why.Unwanted)
+
+abbrev pub kills_unwanted : Plan → List Entry → ℕ → ℕ → Option ℕ → Option Reply
+kills_unwanted p j w g last = kills_unwanted_of p j (kind_of p w) g last
 
 -- a Gather of the attempt was ordered
 unfoldable pub gathered : List Entry → Attempt → Bool
@@ -104,36 +107,54 @@ abbrev pub cancel_for : Request → Reply
 cancel_for r = reply.Cancel r.line r.number
 
 -- the line's group has cancellation, or it is an executor's line and has greeted
+abbrev pub may_cancel_of : Plan → List Entry → Kind → ℕ → ℕ → Bool
+may_cancel_of p j k g l = has_cancellation p g || (is_remote k && has_greeted j l)
+
 abbrev pub may_cancel : Plan → List Entry → ℕ → ℕ → ℕ → Bool
-may_cancel p j w g l = has_cancellation p g || (is_remote (kind_of p w) && has_greeted j l)
+may_cancel p j w g l = may_cancel_of p j (kind_of p w) g l
 
 -- cancel: a live line that can be asked to; the earliest sent of its pending requests that aren't
 -- wanted and have no Cancel
-abbrev pub cancels_next : Plan → List Entry → ℕ → ℕ → Option ℕ → Option Reply
-cancels_next p j w g None = None
-cancels_next p j w g (Some l) =
-    if live j l && may_cancel p j w g l
+abbrev pub cancels_next_of : Plan → List Entry → Kind → ℕ → Option ℕ → Option Reply
+cancels_next_of p j k g None = None
+cancels_next_of p j k g (Some l) =
+    if live j l && may_cancel_of p j k g l
     then option_map cancel_for
     (oldest (filter (λ r. is_unwanted p j r && not (has_cancel j r)) (pending j l)))
     else None
 
--- the bound branch, or else, where there is a free place, the group's earliest
+abbrev pub cancels_next : Plan → List Entry → ℕ → ℕ → Option ℕ → Option Reply
+cancels_next p j w g last = cancels_next_of p j (kind_of p w) g last
+
+-- the bound branch, or else, where there is a free place, the one that is next in the group
+abbrev pub next_of : Plan → List Entry → Kind → Option Attempt → ℕ → Option Attempt
+next_of p j k next l = or_else (bound p j l)
+    (if nat_lt 0 (free_places p j k l) then next else None)
+
 abbrev pub next_for : Plan → List Entry → ℕ → ℕ → ℕ → Option Attempt
-next_for p j w g l = or_else (bound p j l)
-    (if nat_lt 0 (free_places p j (kind_of p w) l) then earliest p j g else None)
+next_for p j w g l = next_of p j (kind_of p w) (earliest p j g) l
 
 -- 0 on a Single line, else one more than the number of earlier Sends on that line
+abbrev pub number_of : List Entry → Kind → ℕ → ℤ
+number_of j k l = if is_single k then pos 0 else pos (length (sends j l) + 1)
+
 abbrev pub number_on : Plan → List Entry → ℕ → ℕ → ℤ
-number_on p j w l = if is_single (kind_of p w) then pos 0 else pos (length (sends j l) + 1)
+number_on p j w l = number_of j (kind_of p w) l
+
+abbrev pub send_order_of : List Entry → Kind → ℕ → Attempt → Reply
+send_order_of j k l t = reply.Send l (number_of j k l) t.action t.branch t.number
 
 abbrev pub send_order : Plan → List Entry → ℕ → ℕ → Attempt → Reply
-send_order p j w l t = reply.Send l (number_on p j w l) t.action t.branch t.number
+send_order p j w l t = send_order_of j (kind_of p w) l t
 
 -- send: to a live line
+abbrev pub sends_next_of : Plan → List Entry → Kind → Option Attempt → Option ℕ → Option Reply
+sends_next_of p j k next None = None
+sends_next_of p j k next (Some l) =
+    if live j l then option_map (send_order_of j k l) (next_of p j k next l) else None
+
 abbrev pub sends_next : Plan → List Entry → ℕ → ℕ → Option ℕ → Option Reply
-sends_next p j w g None = None
-sends_next p j w g (Some l) =
-    if live j l then option_map (send_order p j w l) (next_for p j w g l) else None
+sends_next p j w g last = sends_next_of p j (kind_of p w) (earliest p j g) last
 
 -- the berth has no line, or its last failed to launch, or has Ended and was killed
 abbrev pub is_vacant : List Entry → Option ℕ → Bool
@@ -141,24 +162,34 @@ is_vacant j None = true
 is_vacant j (Some l) = failed j l || (has_ended j l && was_killed j l)
 
 -- launch: a new line for the group's earliest, where no live line of the group has a free place
-abbrev pub launches : Plan → List Entry → ℕ → ℕ → Option ℕ → Option Reply
-launches p j w g last =
+abbrev pub launch_order : List Entry → Attempt → Reply
+launch_order j t = reply.Launch (line_count j) t.action t.branch t.number
+
+abbrev pub launches_of : Plan → List Entry → ℕ → ℕ → Option Attempt → Option ℕ → Option Reply
+launches_of p j w g next last =
     if is_vacant j last && not (some_free p j (kind_of p w) (first_berth p g) (berths_of p g))
-    then option_map (λ t. reply.Launch (line_count j) t.action t.branch t.number) (earliest p j g)
+    then option_map (launch_order j) next
     else None
 
--- the first of these rules that fits, else Idle
-abbrev pub ask : Plan → List Entry → ℕ → ℕ → Option ℕ → Reply
-ask p j w g last =
+abbrev pub launches : Plan → List Entry → ℕ → ℕ → Option ℕ → Option Reply
+launches p j w g last = launches_of p j w g (earliest p j g) last
+
+-- the first of these rules that fits, else Idle: of each scheduling discipline, which says what is next in the line's group
+-- and what more is ordered where nothing is sent
+abbrev pub ask_of : Plan → List Entry → ℕ → Kind → ℕ → Option ℕ → Option Attempt → Option Reply → Reply
+ask_of p j w k g last next more =
     unwrap_or
     (or_else (quits p j last)
     (or_else (kills_broken j last)
-    (or_else (kills_unwanted p j w g last)
+    (or_else (kills_unwanted_of p j k g last)
     (or_else (gathers_next j w)
-    (or_else (cancels_next p j w g last)
-    (or_else (sends_next p j w g last)
-    (launches p j w g last)))))))
+    (or_else (cancels_next_of p j k g last)
+    (or_else (sends_next_of p j k next last)
+    more))))))
     reply.Idle
+
+abbrev pub ask : Plan → List Entry → ℕ → ℕ → Option ℕ → Reply
+ask p j w g last = ask_of p j w (kind_of p w) g last (earliest p j g) (launches p j w g last)
 
 -- ---- Take, Answer, Claim, Look
 
@@ -187,18 +218,24 @@ answer_multi j x None = reply.Stray stray.Never
 answer_multi j x (Some r) = if is_pending j r then consume j x r else reply.Stray stray.Closed
 
 -- an executor's first answer, with the number 0 and the version 2 or more
-abbrev pub is_greeting : Plan → List Entry → ℕ → ℕ → Answer → Bool
-is_greeting p j w l x = is_remote (kind_of p w)
+abbrev pub is_greeting_of : List Entry → Kind → ℕ → Answer → Bool
+is_greeting_of j k l x = is_remote k
     && (int_eq x.number (pos 0) && (int_le (pos 2) x.version && not (has_spoken j l)))
 
-abbrev pub answer_reply : Plan → List Entry → ℕ → ℕ → Answer → Reply
-answer_reply p j w l x =
+abbrev pub is_greeting : Plan → List Entry → ℕ → ℕ → Answer → Bool
+is_greeting p j w l x = is_greeting_of j (kind_of p w) l x
+
+abbrev pub answer_reply_of : List Entry → Kind → ℕ → Answer → Reply
+answer_reply_of j k l x =
     if broke j l then reply.Breach breach.Broken
-    else if is_greeting p j w l x then reply.Greeted
-    else if is_single (kind_of p w) then
+    else if is_greeting_of j k l x then reply.Greeted
+    else if is_single k then
     (if int_eq x.number (pos 0) then answer_single j x (head (pending j l))
     else reply.Breach breach.WrongNumber)
     else answer_multi j x (find (λ r. int_eq r.number x.number) (sends j l))
+
+abbrev pub answer_reply : Plan → List Entry → ℕ → ℕ → Answer → Reply
+answer_reply p j w l x = answer_reply_of j (kind_of p w) l x
 
 abbrev pub is_other : Branch → Option (Attempt × Found) → Bool
 is_other b (Some g) = not (same_branch g.0.branch b)

@@ -150,10 +150,14 @@ allowed p k proxy last (call.Ended l how) = not proxy && hears last l
 allowed p k proxy last call.Halt = true
 allowed p k proxy last c = proxy && is_owed_after p k c last
 
--- a lane of the plan; nothing after Stop; after a Halt nothing but an owed Committed; else as its
+-- a lane of so many berths, each with its kind of line; nothing after Stop; after a Halt nothing but an owed Committed; else as its
 -- newest work says
-abbrev pub script : Plan → List Entry → ℕ → Call → Bool
-script p j lane c =
-    nat_lt lane (2 * berths p) && (not (stopped j lane) &&
+abbrev pub seat_script : ℕ → (ℕ → Kind) → Plan → List Entry → ℕ → Call → Bool
+seat_script seats kinds p j lane c =
+    nat_lt lane (2 * seats) && (not (stopped j lane) &&
     (if has_halted j lane then is_owed_commit c (last_work j lane)
-    else allowed p (kind_of p (lane / 2)) (lane % 2 == 0) (last_work j lane) c))
+    else allowed p (kinds (lane / 2)) (lane % 2 == 0) (last_work j lane) c))
+
+-- of the plan's own berths
+abbrev pub script : Plan → List Entry → ℕ → Call → Bool
+script p j lane c = seat_script (berths p) (kind_of p) p j lane c

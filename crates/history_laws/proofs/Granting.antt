@@ -4,6 +4,8 @@ use Rattle.std.proofs.Common.{◌≡◌, ℕ, ◌%◌, ◌==◌, ◌<◌, Bool, 
 use Rattle.std.proofs.lemmas.Bool.{and_parts, eqb-true, eq-eqb}
 use Rattle.run_plan.specs.declared.plan.Branch.{Branch}
 use Rattle.run_plan.specs.declared.plan.Plan.{Plan}
+use Rattle.history_laws.specs.Disciplines.{Discipline, IsDiscipline, script_of}
+use Rattle.exec_journal.specs.Lawful as lw
 use Rattle.exec_journal.specs.declared.attempt.Attempt.{Attempt}
 use Rattle.exec_journal.specs.declared.call.Call.{Call}
 use Rattle.exec_journal.specs.declared.call.Call.TheVariants as call
@@ -14,10 +16,9 @@ use Rattle.exec_journal.specs.declared.journal.Entry.{Entry}
 use Rattle.exec_journal.specs.declared.reply.Reply.{Reply}
 use Rattle.exec_journal.specs.declared.reply.Reply.TheVariants as reply
 use Rattle.exec_journal.specs.Entries.{attempt_of, granted_in}
-use Rattle.exec_journal.specs.Legal.{Legal}
+use Rattle.exec_journal.specs.Lawful.{Lawful}
 use Rattle.exec_journal.specs.Rules as r
-use Rattle.exec_journal.specs.Rules.{rule}
-use Rattle.exec_journal.specs.Scripts.{script, is_commit_of}
+use Rattle.exec_journal.specs.Scripts.{is_commit_of}
 use Rattle.exec_journal.specs.Words.{last_work, grant_of}
 use Rattle.exec_journal.proofs.Begins.{same_branch_eq}
 use Rattle.exec_journal.proofs.Ruled.{by_bool}
@@ -34,7 +35,7 @@ use Rattle.script_duties.specs.Owed.{journal_of}
 use Rattle.script_duties.proofs.Going.{flip}
 use Rattle.history_laws.specs.Ruled.{answer_after, CameAbout}
 use Rattle.history_laws.proofs.Along.{after_all, own_then, along, along_own}
-use Rattle.history_laws.proofs.Fitting.{scripted_so}
+use Rattle.history_laws.proofs.Fitting.{anywhere, lawful, scripted_so}
 use Rattle.history_laws.proofs.Ordering.{ruled_so}
 use Rattle.history_laws.proofs.Places.{place_entry, place_in, place_fresh, place_away, grant_new}
 use Rattle.history_laws.proofs.Steps.{claim_even}
@@ -51,18 +52,22 @@ unlost p j a b t f h = by_bool (r.is_other b (grant_of j a))
     (λ _ k. absurd (cc)) (λ _ k. refl) h
 
 -- files are granted once at most for each action, and only for one of the plan
-pub grants_once : (p : Plan) (h : History) (lane a : ℕ) (b : Branch) (t : ℕ)
-    (fs : List (List ℕ)) → CameAbout p h
-    → answer_after p h lane (call.Claim a b t (found.Files fs)) ≡ reply.Granted
-    → (a < length p.actions) × (place_at a h ≡ Fresh)
-grants_once p h lane a b t fs came is =
+pub grants_once : (q : Discipline) → IsDiscipline q → (h : History) (lane a : ℕ) (b : Branch) (t : ℕ)
+    (fs : List (List ℕ)) → CameAbout q h
+    → answer_after q h lane (call.Claim a b t (found.Files fs)) ≡ reply.Granted
+    → (a < length q.plan.actions) × (place_at a h ≡ Fresh)
+grants_once q is h lane a b t fs came so =
+    let p = q.plan in
     let j = journal_of h in
-    let ruled = ruled_so p h lane (call.Claim a b t (found.Files fs)) reply.Granted is
+    let good = lawful q is j came.legal in
+    let ruled = ruled_so q h lane (call.Claim a b t (found.Files fs)) reply.Granted so
     (λ astray. cc) in
-    let open_yet = calls.grants_open p j lane a b t (found.Files fs) came.legal ruled.0
-    (unlost p j a b t (found.Files fs) ruled.1) in (
-      calls.claim_within p j lane a b t (found.Files fs) came.legal ruled.0,
-      place_is a h ∙ place_fresh p a j came.legal open_yet.ungranted,
+    let may = anywhere q j lane (call.Claim a b t (found.Files fs)) ruled.0 in
+    let won = sym (is.plain j lane (call.Claim a b t (found.Files fs)) refl) ∙ ruled.1 in
+    let open_yet = calls.grants_open p j lane a b t (found.Files fs) good may
+    (unlost p j a b t (found.Files fs) won) in (
+      calls.claim_within p j lane a b t (found.Files fs) good may,
+      place_is a h ∙ place_fresh p a j good open_yet.ungranted,
     )
 
 -- ---- a lane's last grant
@@ -123,12 +128,12 @@ granted_files (call.Claim a b n f) _ t fs h = absurd (cc)
 granted_files _ _ t fs h = absurd (cc)
 
 granted_claims : (p : Plan) (e : Entry) (j : List Entry) (t : Attempt) (fs gs : List (List ℕ))
-    → Legal p (e ∷ j) → granted_in e.call e.reply ≡ Some (t, found.Files fs)
+    → Lawful p (e ∷ j) → granted_in e.call e.reply ≡ Some (t, found.Files fs)
     → claimed_by gs (move_in e.lane e.call e.reply) ≡ fs
 granted_claims p e j t fs gs legal h =
     let g = granted_files e.call e.reply t fs h in
     let even = claim_even p j e.lane g.action g.branch g.number (found.Files fs)
-    (subst (λ (d : Call). script p j e.lane d ≡ true) g.is legal.1.scripted) in
+    (subst (λ (d : Call). lw.in_script p j e.lane d ≡ true) g.is legal.1.scripted) in
     (λ i. claimed_by gs
     (cond (even i) (proxy_move (g.is i) (g.so i)) (tap_move (g.is i) (g.so i))))
 
@@ -139,7 +144,7 @@ record WinsFiles (p : Plan) (j : List Entry) (lane : ℕ) (t : Attempt) (fs : Li
   claimed_it : claimed_in lane j ≡ fs
 
 newest_files : (p : Plan) (j : List Entry) (lane : ℕ) (d : Entry) (t : Attempt)
-    (fs : List (List ℕ)) → Legal p j → last_work j lane ≡ Some d
+    (fs : List (List ℕ)) → Lawful p j → last_work j lane ≡ Some d
     → granted_in d.call d.reply ≡ Some (t, found.Files fs) → WinsFiles p j lane t fs
 unfolding last_work
 newest_files p [] lane d t fs legal h is = absurd (cc)
@@ -179,17 +184,19 @@ files_of a b (call.Claim m n t (found.Files fs)) reply.Granted h =
 files_of a b _ _ h = absurd (cc)
 
 -- a Committed comes from the lane that was granted the action's files, and these are its last
-pub commits_own : (p : Plan) (h : History) (lane a : ℕ) (b : Branch) (how : CommitEnd)
-    → CameAbout p h → InScript (answer_after p) h lane (call.Committed a b how)
+pub commits_own : (q : Discipline) → IsDiscipline q → (h : History) (lane a : ℕ) (b : Branch) (how : CommitEnd)
+    → CameAbout q h → InScript (answer_after q) h lane (call.Committed a b how)
     → place_at a h ≡ Away (claimed (calls_by lane h))
-commits_own p h lane a b how came fit =
+commits_own q is h lane a b how came fit =
+    let p = q.plan in
     let j = journal_of h in
-    let may = scripted_so p h lane (call.Committed a b how) fit in
+    let good = lawful q is j came.legal in
+    let may = anywhere q j lane (call.Committed a b how) (scripted_so q h lane (call.Committed a b how) fit) in
     let answer = owed.commit_answers p j lane a b how may in
     let won = files_of a b answer.order.call answer.order.reply answer.fits in
-    let wins = newest_files p j lane answer.order (attempt_of a b won.0) won.1 came.legal
+    let wins = newest_files p j lane answer.order (attempt_of a b won.0) won.1 good
     answer.newest won.2 in
     let due = offered.is_granted_files p (calls.next_entry p j lane (call.Committed a b how)) j
-    a b how (calls.next_legal p j lane (call.Committed a b how) came.legal may refl) refl in
-    place_is a h ∙ (place_away p j a b won.0 won.1 came.legal wins.granted_it due.uncommitted
+    a b how (calls.next_legal p j lane (call.Committed a b how) good may refl refl) refl in
+    place_is a h ∙ (place_away p j a b won.0 won.1 good wins.granted_it due.uncommitted
     ∙ ap Away (sym (claimed_is lane h ∙ wins.claimed_it)))

@@ -1,6 +1,7 @@
 -- A legal history is one entry longer than another, by an entry as the rules make it.
 use Rattle.std.proofs.Common.{◌≡◌, ℕ, Bool, true, false, cond, [], ◌∷◌, ◌++◌, refl, sym, subst, ◌∙◌}
 use Rattle.run_plan.specs.declared.plan.Plan.{Plan}
+use Rattle.history_laws.specs.Disciplines.{Discipline, LegalBy}
 use Rattle.exec_journal.specs.declared.call.Call.{Call}
 use Rattle.exec_journal.specs.declared.reply.Reply.{Reply}
 use Rattle.exec_journal.specs.Entries.{is_kept}
@@ -13,12 +14,12 @@ use Rattle.history_laws.specs.Ruled.{answer_after, CameAbout}
 use Rattle.history_laws.proofs.Along.{journal_next}
 use Rattle.history_laws.proofs.Fitting.{answer_is}
 
-pub legal_before : (p : Plan) (h : History) (e : Past) → CameAbout p (h ++ e ∷ [])
-    → CameAbout p h × (e.reply ≡ answer_after p h e.lane e.call) × (is_kept e.reply ≡ true)
-legal_before p h e came =
-    let both = subst (legal.Legal p) (journal_next h e) came.legal in (
+pub legal_before : (q : Discipline) (h : History) (e : Past) → CameAbout q (h ++ e ∷ [])
+    → CameAbout q h × (e.reply ≡ answer_after q h e.lane e.call) × (is_kept e.reply ≡ true)
+legal_before q h e came =
+    let both = subst (LegalBy q) (journal_next h e) came.legal in (
       record { sound = came.sound; legal = both.0 },
-      both.1.replied ∙ sym (answer_is p h e.lane e.call both.1.scripted),
+      both.1.replied ∙ sym (answer_is q h e.lane e.call both.1.scripted),
       both.1.kept,
     )
 

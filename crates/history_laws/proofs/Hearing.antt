@@ -4,18 +4,19 @@ use Rattle.std.proofs.lemmas.Bool.{eqb-true, ne_eqb, and_parts}
 use Rattle.run_plan.specs.declared.plan.Branch.{Branch}
 use Rattle.run_plan.specs.declared.plan.Kind.{Kind}
 use Rattle.run_plan.specs.declared.plan.Plan.{Plan}
-use Rattle.run_plan.specs.Groups.{berths, kind_of}
+use Rattle.run_plan.specs.declared.plan.Kind.TheVariants as kind
 use Rattle.exec_journal.specs.declared.call.Call.{Call}
 use Rattle.exec_journal.specs.declared.call.Call.TheVariants as call
 use Rattle.exec_journal.specs.declared.journal.Entry.{Entry}
 use Rattle.exec_journal.specs.declared.reply.Reply.{Reply}
 use Rattle.exec_journal.specs.declared.reply.Reply.TheVariants as reply
 use Rattle.exec_journal.specs.Entries.{is_stop, is_halt, is_look}
-use Rattle.exec_journal.specs.Legal.{LegalEntry, Legal}
+use Rattle.exec_journal.specs.Lawful.{LawfulEntry, Lawful}
+use Rattle.journal_laws.proofs.Owed as ow
 use Rattle.exec_journal.specs.Words.{last_work, stopped, has_halted}
-use Rattle.exec_journal.specs.Scripts.{script, allowed, hears, hears_after, may_take, is_owed_commit, is_commit_of}
+use Rattle.exec_journal.specs.Scripts.{seat_script, allowed, hears, hears_after, may_take, is_owed_commit, is_commit_of}
 use Rattle.exec_journal.proofs.Ruled.{by_bool, not_true}
-use Rattle.journal_laws.specs.Paid.{is_paid}
+use Rattle.journal_laws.specs.Paid.{seat_paid}
 use Rattle.run_rules.specs.Laws.{Hearing, Free, Hears, Over, leads_by_call, leads_by_line, hearing_from, hearing_by, hearing_then, hearing_of, may_hear, tells_of, tap_lane}
 use Rattle.run_rules.specs.Moves.{History}
 use Rattle.seat_desk.specs.History.{calls_by}
@@ -316,8 +317,8 @@ not_over Free c h = refl
 not_over (Hears l) c h = refl
 not_over Over c h = absurd (cc)
 
-tap_within : (p : Plan) (w : ℕ) → w < berths p → nat_lt (tap_lane w) (2 * berths p) ≡ true
-tap_within p w lt = lt-ltb (tap_lane w) (2 * berths p) (omega (arith, lt))
+tap_within : (n w : ℕ) → w < n → nat_lt (tap_lane w) (2 * n) ≡ true
+tap_within n w lt = lt-ltb (tap_lane w) (2 * n) (omega (arith, lt))
 
 tap_odd : (w : ℕ) → (tap_lane w % 2 == 0) ≡ false
 tap_odd w = ne_eqb (tap_lane w % 2) 0 (λ e. omega (arith, e))
@@ -326,10 +327,10 @@ tap_berth : (w : ℕ) → tap_lane w / 2 ≡ w
 tap_berth w = omega arith
 
 -- what a tap lane may do, where it stands, is in its script
-pub hearing_is_scripted : (p : Plan) (h : History) (w : ℕ) (c : Call) → w < berths p
+pub hearing_is_scripted : (n : ℕ) (kinds : ℕ → Kind) (p : Plan) (h : History) (w : ℕ) (c : Call) → w < n
     → may_hear (hearing_of (calls_by (tap_lane w) h)) c ≡ true
-    → script p (journal_of h) (tap_lane w) c ≡ true
-hearing_is_scripted p h w c lt may =
+    → seat_script n kinds p (journal_of h) (tap_lane w) c ≡ true
+hearing_is_scripted n kinds p h w c lt may =
     let j = journal_of h in
     let lane = tap_lane w in
     let s = hearing_of (calls_by lane h) in
@@ -337,10 +338,10 @@ hearing_is_scripted p h w c lt may =
     let here : is_over s ≡ false = not_over s c may in
     let on = neither_left (stopped j lane) (has_halted j lane) (sym is.gone ∙ here) in
     let odd = tap_odd w in
-    (λ i. tap_within p w lt i && (not (on.0 i)
+    (λ i. tap_within n w lt i && (not (on.0 i)
     && cond (on.1 i) (is_owed_commit c (last_work j lane))
-    (allowed p (kind_of p (tap_berth w i)) (odd i) (last_work j lane) c)))
-    ∙ heard_may (kind_of p w) p s (last_work j lane) c (sym (is.owed here)) may
+    (allowed p (kinds (tap_berth w i)) (odd i) (last_work j lane) c)))
+    ∙ heard_may (kinds w) p s (last_work j lane) c (sym (is.owed here)) may
 
 is_not_over : (s : Hearing) → (s ≡ Over → ⊥) → is_over s ≡ false
 is_not_over Free n = refl
@@ -348,15 +349,15 @@ is_not_over (Hears l) n = refl
 is_not_over Over n = absurd (n refl)
 
 -- its Halt is paid for until it is over
-pub tap_halt_is_paid : (p : Plan) (h : History) (w : ℕ) → w < berths p
+pub tap_halt_is_paid : (m : ℕ) (h : History) (w : ℕ) → w < m
     → (hearing_of (calls_by (tap_lane w) h) ≡ Over → ⊥)
-    → is_paid p (journal_of h) (tap_lane w) call.Halt ≡ true
-tap_halt_is_paid p h w lt n =
+    → seat_paid m (journal_of h) (tap_lane w) call.Halt ≡ true
+tap_halt_is_paid m h w lt n =
     let is = heard_so h (tap_lane w) in
     let here = neither_left (stopped (journal_of h) (tap_lane w))
     (has_halted (journal_of h) (tap_lane w))
     (sym is.gone ∙ is_not_over (hearing_of (calls_by (tap_lane w) h)) n) in
-    (λ i. tap_within p w lt i && (not (here.0 i) && not (here.1 i)))
+    (λ i. tap_within m w lt i && (not (here.0 i) && not (here.1 i)))
 
 -- ---- who tells of a line
 
@@ -393,25 +394,21 @@ heard_unowing k p o e may c owed = by_call e.call e.reply may c owed
     by_call x r h c owed = cc
 
 unowing_next : (p : Plan) (lane : ℕ) → (lane % 2 == 0) ≡ false → (e : Entry) (j : List Entry)
-    → LegalEntry p j e → Unowing (last_work j lane) → Unowing (last_work (e ∷ j) lane)
+    → LawfulEntry p j e → Unowing (last_work j lane) → Unowing (last_work (e ∷ j) lane)
 unowing_next p lane odd e j legal before =
     by ((e.lane == lane) && (not (is_look e.call) && not (is_halt e.call))) refl
   where
     own : (e.lane == lane) ≡ true → Unowing (Some e)
     own same =
         let is : e.lane ≡ lane = eqb-true e.lane lane same in
-        let parts = and_parts (nat_lt e.lane (2 * berths p)) _ legal.scripted in
-        let runs = and_parts (not (stopped j e.lane)) _ parts.1 in
-        by_bool (has_halted j e.lane)
-        (λ b. cond b (is_owed_commit e.call (last_work j e.lane))
-        (allowed p (kind_of p (e.lane / 2)) (e.lane % 2 == 0) (last_work j e.lane) e.call) ≡ true
-        → Unowing (Some e))
-        (λ _ g. absurd (before e.call
-        (ap (λ (n : ℕ). is_owed_commit e.call (last_work j n)) (sym is) ∙ g)))
-        (λ _ g. heard_unowing (kind_of p (e.lane / 2)) p (last_work j e.lane) e
-        (ap (λ (b : Bool). allowed p (kind_of p (e.lane / 2)) b (last_work j e.lane) e.call)
-        (sym odd ∙ ap (λ (n : ℕ). n % 2 == 0) (sym is)) ∙ g))
-        runs.1
+        let there : (e.lane % 2 == 0) ≡ false = ap (λ (n : ℕ). n % 2 == 0) is ∙ odd in
+        elim (ow.scripts p j e.lane e.call legal.scripted) [
+          | ow.Owes g ↦ absurd (before e.call
+              (ap (λ (n : ℕ). is_owed_commit e.call (last_work j n)) (sym is) ∙ g))
+          | ow.Ticks tick proxy ask ↦ absurd (let both : true ≡ false = sym proxy ∙ there in cc)
+          | ow.May g ↦ heard_unowing kind.Single p (last_work j e.lane) e
+              (ap (λ (b : Bool). allowed p kind.Single b (last_work j e.lane) e.call) (sym there) ∙ g)
+        ]
 
     by : (b : Bool)
         → ((e.lane == lane) && (not (is_look e.call) && not (is_halt e.call))) ≡ b
@@ -420,7 +417,7 @@ unowing_next p lane odd e j legal before =
         subst Unowing (sym ((then e j lane).work is)) (own (and_parts (e.lane == lane) _ is).0)
     by false is = subst Unowing (sym ((then e j lane).other is)) before
 
-tap_unowing : (p : Plan) (lane : ℕ) → (lane % 2 == 0) ≡ false → (j : List Entry) → Legal p j
+tap_unowing : (p : Plan) (lane : ℕ) → (lane % 2 == 0) ≡ false → (j : List Entry) → Lawful p j
     → Unowing (last_work j lane)
 unfolding last_work
 tap_unowing p lane odd [] legal = λ c. none_owed c
@@ -458,18 +455,18 @@ open_may k p o (call.Ended l how) on h =
 open_may k p o c on h = absurd (cc)
 
 -- what is in a tap lane's script, where it stands, it may do
-pub script_is_hearing : (p : Plan) (h : History) (w : ℕ) (c : Call) → Legal p (journal_of h)
-    → script p (journal_of h) (tap_lane w) c ≡ true
+pub script_is_hearing : (n : ℕ) (kinds : ℕ → Kind) (p : Plan) (h : History) (w : ℕ) (c : Call) → Lawful p (journal_of h)
+    → seat_script n kinds p (journal_of h) (tap_lane w) c ≡ true
     → may_hear (hearing_of (calls_by (tap_lane w) h)) c ≡ true
-script_is_hearing p h w c legal may =
+script_is_hearing n kinds p h w c legal may =
     let j = journal_of h in
     let lane = tap_lane w in
     let last = last_work j lane in
-    let k = kind_of p (lane / 2) in
+    let k = kinds (lane / 2) in
     let s = hearing_of (calls_by lane h) in
     let is = heard_so h lane in
     let odd = tap_odd w in
-    let parts = and_parts (nat_lt lane (2 * berths p)) _ may in
+    let parts = and_parts (nat_lt lane (2 * n)) _ may in
     let runs = and_parts (not (stopped j lane)) _ parts.1 in
     by_bool (has_halted j lane)
     (λ b. has_halted j lane ≡ b
@@ -498,16 +495,16 @@ tells_uncommitted o l (call.Ended m how) is h = cc
 tells_uncommitted o l _ is h = cc
 
 -- an Answer and an Ended in its script come from the lane that hears the line
-pub tells_hears : (p : Plan) (h : History) (lane : ℕ) (c : Call) (l : ℕ) → tells_of l c ≡ true
-    → script p (journal_of h) lane c ≡ true → hearing_of (calls_by lane h) ≡ Hears l
-tells_hears p h lane c l tells may =
+pub tells_hears : (n : ℕ) (kinds : ℕ → Kind) (p : Plan) (h : History) (lane : ℕ) (c : Call) (l : ℕ) → tells_of l c ≡ true
+    → seat_script n kinds p (journal_of h) lane c ≡ true → hearing_of (calls_by lane h) ≡ Hears l
+tells_hears n kinds p h lane c l tells may =
     let j = journal_of h in
     let last = last_work j lane in
-    let k = kind_of p (lane / 2) in
+    let k = kinds (lane / 2) in
     let proxy = lane % 2 == 0 in
     let s = hearing_of (calls_by lane h) in
     let is = heard_so h lane in
-    let parts = and_parts (nat_lt lane (2 * berths p)) _ may in
+    let parts = and_parts (nat_lt lane (2 * n)) _ may in
     let runs = and_parts (not (stopped j lane)) _ parts.1 in
     by_bool (has_halted j lane)
     (λ b. has_halted j lane ≡ b

@@ -11,7 +11,8 @@ use Rattle.run_plan.specs.declared.plan.Kind.{Kind}
 use Rattle.run_plan.specs.declared.plan.Maker.{Maker}
 use Rattle.run_plan.specs.declared.plan.Plan.{Plan}
 use Rattle.run_plan.specs.declared.plan.PlanAction.{PlanAction}
-use Rattle.run_plan.specs.Groups.{berths, kind_of, is_remote}
+use Rattle.run_plan.specs.Groups.{is_remote}
+use Rattle.run_plan.specs.declared.plan.Kind.TheVariants as kind
 use Rattle.run_plan.specs.Sound.{Sound, are_sound_from, has_branches, is_earlier, is_sound_action}
 use Rattle.exec_journal.specs.declared.attempt.Attempt.{Attempt}
 use Rattle.exec_journal.specs.declared.call.Call.{Call}
@@ -24,10 +25,11 @@ use Rattle.exec_journal.specs.declared.journal.Entry.{Entry}
 use Rattle.exec_journal.specs.declared.reply.Reply.{Reply}
 use Rattle.exec_journal.specs.declared.reply.Reply.TheVariants as reply
 use Rattle.exec_journal.specs.Entries.{attempt_of, granted_in, same_attempt}
-use Rattle.exec_journal.specs.Legal.{Legal}
+use Rattle.exec_journal.specs.Lawful.{Lawful}
 use Rattle.exec_journal.specs.Rules as r
-use Rattle.exec_journal.specs.Rules.{rule}
-use Rattle.exec_journal.specs.Scripts.{script, is_made, is_owed, is_owed_after, may_find, outputs_of}
+use Rattle.exec_journal.specs.Lawful as lw
+use Rattle.history_laws.specs.Disciplines.{Discipline, IsDiscipline, LegalBy}
+use Rattle.exec_journal.specs.Scripts.{is_made, is_owed, is_owed_after, may_find, outputs_of}
 use Rattle.exec_journal.specs.Settled.{all_dropped, by_grant, is_starved, is_success, ready, standings}
 use Rattle.exec_journal.specs.Words.{last_work, grant_of}
 use Rattle.exec_journal.proofs.Begins.{same_attempt_refl}
@@ -46,7 +48,7 @@ use Rattle.script_duties.specs.Owed.{journal_of, has_left, duty_of_work, owed_by
 use Rattle.script_duties.proofs.Doing.{duty_is_scripted}
 use Rattle.script_duties.proofs.Going.{duty_is}
 use Rattle.history_laws.specs.Ruled.{answer_after, CameAbout}
-use Rattle.history_laws.proofs.Fitting.{answer_is}
+use Rattle.history_laws.proofs.Fitting.{answer_is, lawful, in_seats, seated_so}
 use Rattle.history_laws.proofs.Granting.{granted_files}
 
 -- ---- the order of a lane that owes a Wrote for a request
@@ -99,19 +101,19 @@ owes_wrote h lane l n a is =
     (sym (d.owed (ap has_left is)) ∙ is)
 
 -- a lane that has made a work is one of the plan
-worker_within : (p : Plan) (j : List Entry) (lane : ℕ) (d : Entry) → Legal p j
-    → last_work j lane ≡ Some d → lane < 2 * berths p
+worker_within : (q : Discipline) (j : List Entry) (lane : ℕ) (d : Entry) → LegalBy q j
+    → last_work j lane ≡ Some d → lane < 2 * q.seats
 unfolding last_work
-worker_within p [] lane d legal h = absurd (cc)
-worker_within p (e ∷ j) lane d legal h = by (owed.newest_cases e j lane d h)
-    (λ m. worker_within p j lane d legal.0 m)
+worker_within q [] lane d legal h = absurd (cc)
+worker_within q (e ∷ j) lane d legal h = by (owed.newest_cases e j lane d h)
+    (λ m. worker_within q j lane d legal.0 m)
   where
     by : ((e ≡ d) × (e.lane ≡ lane) × (is_work e.call ≡ true))
         ⊎ ((((e.lane == lane) && is_work e.call) ≡ false) × (last_work j lane ≡ Some d))
-        → (last_work j lane ≡ Some d → lane < 2 * berths p) → lane < 2 * berths p
-    by (inl own) ih = subst (λ (n : ℕ). n < 2 * berths p) own.1
-        (ltb-true e.lane (2 * berths p)
-        (and_parts (nat_lt e.lane (2 * berths p)) _ legal.1.scripted).0)
+        → (last_work j lane ≡ Some d → lane < 2 * q.seats) → lane < 2 * q.seats
+    by (inl own) ih = subst (λ (n : ℕ). n < 2 * q.seats) own.1
+        (ltb-true e.lane (2 * q.seats)
+        (in_seats q j e.lane e.call legal.1.scripted))
     by (inr before) ih = ih before.1
 
 -- ---- a producer with success was granted files
@@ -175,21 +177,21 @@ claim_finds p k a b t fs (reply.Gather l n c d u exit refused) h = elim (or_case
 claim_finds p k a b t fs _ h = absurd (cc)
 
 claim_files : (p : Plan) (j : List Entry) (lane a : ℕ) (b : Branch) (t : ℕ)
-    (fs : List (List ℕ)) → script p j lane (call.Claim a b t (found.Files fs)) ≡ true
+    (fs : List (List ℕ)) → lw.in_script p j lane (call.Claim a b t (found.Files fs)) ≡ true
     → length fs ≡ outputs_of p a
 claim_files p j lane a b t fs may =
-    elim (owed.scripted p j lane (call.Claim a b t (found.Files fs)) may) [
+    elim (owed.scripted p j lane (call.Claim a b t (found.Files fs)) refl may) [
       | inl owes ↦ absurd (cc)
       | inr allows ↦ by (last_work j lane) (and_parts (lane % 2 == 0) _ allows).1
     ]
   where
     by : (o : Option Entry)
-        → is_owed_after p (kind_of p (lane / 2)) (call.Claim a b t (found.Files fs)) o ≡ true
+        → is_owed_after p kind.Single (call.Claim a b t (found.Files fs)) o ≡ true
         → length fs ≡ outputs_of p a
     by None h = absurd (cc)
-    by (Some e) h = claim_finds p (kind_of p (lane / 2)) a b t fs e.reply h
+    by (Some e) h = claim_finds p kind.Single a b t fs e.reply h
 
-grant_files : (p : Plan) (j : List Entry) (a : ℕ) (t : Attempt) (fs : List (List ℕ)) → Legal p j
+grant_files : (p : Plan) (j : List Entry) (a : ℕ) (t : Attempt) (fs : List (List ℕ)) → Lawful p j
     → grant_of j a ≡ Some (t, found.Files fs) → length fs ≡ outputs_of p a
 unfolding grant_of
 grant_files p [] a t fs legal h = absurd (cc)
@@ -204,7 +206,7 @@ grant_files p (e ∷ j) a t fs legal h = by (granted.grant_cases e j a (t, found
     by (inr new) ih =
         let g = granted_files e.call e.reply t fs new.0 in
         claim_files p j e.lane g.action g.branch g.number fs
-        (subst (λ (c : Call). script p j e.lane c ≡ true) g.is legal.1.scripted)
+        (subst (λ (c : Call). lw.in_script p j e.lane c ≡ true) g.is legal.1.scripted)
         ∙ ap (outputs_of p) (g.of ∙ new.1)
 
 -- ---- a maker that is among an action's made inputs
@@ -269,8 +271,8 @@ input_made p j a c o x sound at all h =
       success = ap (λ (n : ℕ). is_success (slice_get (standings p j) n)) (sym action) ∙ m.2;
     }
 
-made_look : (p : Plan) (j : List Entry) (lane c o : ℕ) → Legal p j → IsMade p j c o
-    → says_file (rule p j lane (call.Look (wanted.Made c o))) ≡ true
+made_look : (p : Plan) (j : List Entry) (lane c o : ℕ) → Lawful p j → IsMade p j c o
+    → says_file (lw.plain_reply p j lane (call.Look (wanted.Made c o))) ≡ true
 made_look p j lane c o legal made =
     let files = made_files p j c made.output.action made.output.place made.success in
     let few = grant_files p j c files.winner files.files legal files.won in
@@ -284,26 +286,28 @@ made_look p j lane c o legal made =
     ∙ ap (λ (f : Option (List ℕ)). says_file (r.file_reply f)) at
 
 -- the made inputs of a request that was ordered are there
-pub inputs_are_there : (p : Plan) (h : History) (w l : ℕ) (n : ℤ) (a c o : ℕ) → CameAbout p h
+pub inputs_are_there : (q : Discipline) → IsDiscipline q → (h : History) (w l : ℕ) (n : ℤ) (a c o : ℕ) → CameAbout q h
     → duty_of (calls_by (proxy_lane w) h) ≡ Sends l n a
-    → is_maker (makers_in p a) c o ≡ true
-    → says_file (answer_after p h (proxy_lane w) (call.Look (wanted.Made c o))) ≡ true
-inputs_are_there p h w l n a c o came owes maker =
+    → is_maker (makers_in q.plan a) c o ≡ true
+    → says_file (answer_after q h (proxy_lane w) (call.Look (wanted.Made c o))) ≡ true
+inputs_are_there q is h w l n a c o came owes maker =
+    let p = q.plan in
     let j = journal_of h in
+    let good = lawful q is j came.legal in
     let lane = proxy_lane w in
     let order = owes_wrote h lane l n a owes in
-    let inside = worker_within p j lane order.order came.legal order.newest in
-    let may = duty_is_scripted p h w (call.Look (wanted.Made c o)) (omega (arith, inside))
-    (ap (λ (s : Duty). may_do (outputs_in p) (makers_in p) (is_remote (kind_of p w)) s
+    let inside = worker_within q j lane order.order came.legal order.newest in
+    let may = duty_is_scripted q.seats q.kinds p h w (call.Look (wanted.Made c o)) (omega (arith, inside))
+    (ap (λ (s : Duty). may_do (outputs_in p) (makers_in p) (is_remote (q.kinds w)) s
     (call.Look (wanted.Made c o))) owes ∙ maker) in
     let t = attempt_of a order.sends.branch order.sends.number in
     let fits : owed.is_send t order.order ≡ true =
     ap (λ (x : Reply). owed.is_send t (record { lane = 0; call = call.Ask; reply = x }))
     order.sends.is ∙ same_attempt_refl t in
     let sent = claims.sent_newest j t lane order.order order.newest fits in
-    let has = firm.going_ready_at p j t came.legal (carried.sent_begun j t sent) in
+    let has = firm.going_ready_at p j t good (carried.sent_begun j t sent) in
     let among = ap (λ (q : Option PlanAction). is_maker (unwrap_or
     (option_map (λ x. x.makers) q) []) c o) (sym has.place) ∙ maker in
-    ap says_file (answer_is p h lane (call.Look (wanted.Made c o)) may)
-    ∙ made_look p j lane c o came.legal
+    ap says_file (answer_is q h lane (call.Look (wanted.Made c o)) (seated_so q j lane (call.Look (wanted.Made c o)) may) ∙ is.plain j lane (call.Look (wanted.Made c o)) refl)
+    ∙ made_look p j lane c o good
     (input_made p j a c o has.action came.sound has.place has.inputs among)

@@ -2,6 +2,7 @@ pub mod Along
 pub mod Fitting
 pub mod Hearing
 pub mod Paying
+pub mod Ticking
 pub mod Steps
 pub mod Lying
 pub mod Bridging
@@ -11,3 +12,4 @@ pub mod Granting
 pub mod Inputs
 pub mod Counting
 pub mod Growing
+pub mod OwnDiscipline

@@ -4,6 +4,8 @@ use Rattle.std.proofs.Common.{◌≡◌, ℕ, ◌/◌, ◌%◌, ◌==◌, Bool, 
 use Rattle.std.proofs.lemmas.Bool.{and_parts, and_from, eqb-true, eq-eqb, or_cases, or_left, or_right}
 use Rattle.std.proofs.Math.Nat.{div-add-mod}
 use Rattle.run_plan.specs.declared.plan.Plan.{Plan}
+use Rattle.exec_journal.proofs.Ruled as ru
+use Rattle.exec_journal.specs.Lawful as lw
 use Rattle.exec_journal.specs.declared.attempt.Attempt.{Attempt}
 use Rattle.exec_journal.specs.declared.call.Call.{Call}
 use Rattle.exec_journal.specs.declared.call.Call.TheVariants as call
@@ -15,9 +17,8 @@ use Rattle.exec_journal.specs.declared.reply.Reply.TheVariants as reply
 use Rattle.exec_journal.specs.declared.reply.Why.{Why}
 use Rattle.exec_journal.specs.Entries.{launch_in, takes, orders_kill, starts, is_halt}
 use Rattle.exec_journal.specs.Facts.{IsOfBerth, OfBerth, reply_line}
-use Rattle.exec_journal.specs.Legal.{Legal}
+use Rattle.exec_journal.specs.Lawful.{Lawful}
 use Rattle.exec_journal.specs.Rules.{is_vacant}
-use Rattle.exec_journal.specs.Scripts.{script}
 use Rattle.exec_journal.specs.Words.{last_line, started, failed, has_ended, was_taken, kill_ordered, has_halted, line_count}
 use Rattle.exec_journal.proofs.Begins.{same_attempt_refl}
 use Rattle.exec_journal.proofs.Lines.{lines_named, script_own, of_berth_more}
@@ -116,7 +117,7 @@ unfolding was_taken
 taken_here e j l is = or_left (takes l e.reply) _ (rw is (eq-eqb l l refl))
 
 -- a line that was ordered to be killed was started
-kill_started : (p : Plan) (j : List Entry) (l : ℕ) → Legal p j → kill_ordered j l ≡ true
+kill_started : (p : Plan) (j : List Entry) (l : ℕ) → Lawful p j → kill_ordered j l ≡ true
     → started j l ≡ true
 unfolding kill_ordered
 kill_started p [] l legal h = absurd (cc)
@@ -127,8 +128,8 @@ kill_started p (e ∷ j) l legal h = vacant.started_later e j l
     ])
 
 -- a line whose Launched is due isn't started
-pub launched_unstarted : (p : Plan) (j : List Entry) (lane l : ℕ) (how : Started) → Legal p j
-    → script p j lane (call.Launched l how) ≡ true → started j l ≡ false
+pub launched_unstarted : (p : Plan) (j : List Entry) (lane l : ℕ) (how : Started) → Lawful p j
+    → lw.in_script p j lane (call.Launched l how) ≡ true → started j l ≡ false
 launched_unstarted p j lane l how legal may =
     let order = owed.launched_answers p j lane l how may in
     let is = claims.launches_line_is l order.order.reply order.fits in
@@ -143,16 +144,16 @@ not_his : (j : List Entry) (l w z : ℕ) → (w == z) ≡ false → IsOfBerth j 
 not_his j l w z apart a b =
     clash (w == z) (eq-eqb w z (lanes.berths_same j l w z a b)) apart
 
-other_starts : (p : Plan) (e : Entry) (j : List Entry) (w l : ℕ) → Legal p (e ∷ j)
+other_starts : (p : Plan) (e : Entry) (j : List Entry) (w l : ℕ) → Lawful p (e ∷ j)
     → (e.lane / 2 == w) ≡ false → IsOfBerth j l w → starts l e.call ≡ false
 other_starts p e j w l legal apart own = false_by _ (λ h.
     let is = claims.starts_is l e.call h in
     not_his j l (e.lane / 2) w apart
     (script_own p j e.lane (call.Launched l is.0)
-    (subst (λ (c : Call). script p j e.lane c ≡ true) is.1 legal.1.scripted)
+    (subst (λ (c : Call). lw.in_script p j e.lane c ≡ true) is.1 legal.1.scripted)
     (lines_named p j legal.0)) own)
 
-other_kills : (p : Plan) (e : Entry) (j : List Entry) (w l : ℕ) → Legal p (e ∷ j)
+other_kills : (p : Plan) (e : Entry) (j : List Entry) (w l : ℕ) → Lawful p (e ∷ j)
     → (e.lane / 2 == w) ≡ false → IsOfBerth j l w → orders_kill l e.reply ≡ false
 other_kills p e j w l legal apart own = false_by _ (λ h.
     not_his j l (e.lane / 2) w apart (lanes.here_own p j (e.lane / 2) l legal.0
@@ -162,7 +163,7 @@ takes_line : (l : ℕ) (x : Reply) → takes l x ≡ true → reply_line x ≡ S
 takes_line l (reply.Line m) h = ap Some (eqb-true m l h)
 takes_line l _ h = absurd (cc)
 
-other_takes : (p : Plan) (e : Entry) (j : List Entry) (w l : ℕ) → Legal p (e ∷ j)
+other_takes : (p : Plan) (e : Entry) (j : List Entry) (w l : ℕ) → Lawful p (e ∷ j)
     → (e.lane / 2 == w) ≡ false → IsOfBerth (e ∷ j) l w → takes l e.reply ≡ false
 other_takes p e j w l legal apart own = false_by _ (λ h.
     not_his (e ∷ j) l (e.lane / 2) w apart (subst (λ (o : Option ℕ). OfBerth (e ∷ j) o (e.lane / 2))
@@ -170,7 +171,7 @@ other_takes p e j w l legal apart own = false_by _ (λ h.
 
 -- ---- a vacant berth has neither
 
-pub vacant_child : (p : Plan) (j : List Entry) (o : Option ℕ) → Legal p j → is_vacant j o ≡ true
+pub vacant_child : (p : Plan) (j : List Entry) (o : Option ℕ) → Lawful p j → is_vacant j o ≡ true
     → child_of j o ≡ None
 vacant_child p j None legal free = refl
 vacant_child p j (Some l) legal free = elim (or_cases (failed j l) _ free) [
@@ -180,7 +181,7 @@ vacant_child p j (Some l) legal free = elim (or_cases (failed j l) _ free) [
       (given.killed_ordered p j l legal (and_parts (has_ended j l) _ done).1)
 ]
 
-vacant_tap : (p : Plan) (j : List Entry) (o : Option ℕ) → Legal p j → is_vacant j o ≡ true
+vacant_tap : (p : Plan) (j : List Entry) (o : Option ℕ) → Lawful p j → is_vacant j o ≡ true
     → tap_of j o ≡ None
 vacant_tap p j None legal free = refl
 vacant_tap p j (Some l) legal free = elim (or_cases (failed j l) _ free) [
@@ -191,7 +192,7 @@ vacant_tap p j (Some l) legal free = elim (or_cases (failed j l) _ free) [
 ]
 
 -- a new line isn't started
-new_unstarted : (p : Plan) (e : Entry) (j : List Entry) → Legal p (e ∷ j) → e.call ≡ call.Ask
+new_unstarted : (p : Plan) (e : Entry) (j : List Entry) → Lawful p (e ∷ j) → e.call ≡ call.Ask
     → started (e ∷ j) (line_count j) ≡ false
 new_unstarted p e j legal ask =
     let calm : starts (line_count j) e.call ≡ false = rw ask refl in
@@ -233,12 +234,12 @@ tap_moves e c x odd is so =
 no_launch : (x y : Reply) → x ≡ y → launch_in y ≡ None → launch_in x ≡ None
 no_launch x y is none = ap launch_in is ∙ none
 
-module _ (p : Plan) (e : Entry) (j : List Entry) (legal : Legal p (e ∷ j)) where
+module _ (p : Plan) (e : Entry) (j : List Entry) (legal : Lawful p (e ∷ j)) where
   abbrev here : ℕ
   here = e.lane / 2
 
-  abbrev scripts_it : (c : Call) → e.call ≡ c → script p j e.lane c ≡ true
-  scripts_it c is = subst (λ (d : Call). script p j e.lane d ≡ true) is legal.1.scripted
+  abbrev scripts_it : (c : Call) → e.call ≡ c → lw.in_script p j e.lane c ≡ true
+  scripts_it c is = subst (λ (d : Call). lw.in_script p j e.lane d ≡ true) is legal.1.scripted
 
   child_now : child_in here (e ∷ j) ≡ child_by (child_in here j) (move_in e.lane e.call e.reply)
   child_now = ap (λ (b : Bool). cond b (child_by (child_in here j)
@@ -430,7 +431,7 @@ module _ (p : Plan) (e : Entry) (j : List Entry) (legal : Legal p (e ∷ j)) whe
 
 -- until its proxy lane halts, the child of the berth's last line lies there from the line's start
 -- until its Kill
-pub child_lies : (p : Plan) (w : ℕ) (j : List Entry) → Legal p j
+pub child_lies : (p : Plan) (w : ℕ) (j : List Entry) → Lawful p j
     → has_halted j (proxy_lane w) ≡ false → child_in w j ≡ child_of j (last_line j w)
 unfolding last_line
 child_lies p w [] legal running = refl
@@ -447,7 +448,7 @@ child_lies p w (e ∷ j) legal running = by_bool (e.lane / 2 == w)
     (child_lies p w j legal.0 (halted_before e j (proxy_lane w) running))
 
 -- the tap of the berth's last line lies there from the line's start until it is given
-pub tap_lies : (p : Plan) (w : ℕ) (j : List Entry) → Legal p j
+pub tap_lies : (p : Plan) (w : ℕ) (j : List Entry) → Lawful p j
     → tap_in w j ≡ tap_of j (last_line j w)
 unfolding last_line
 tap_lies p w [] legal = refl

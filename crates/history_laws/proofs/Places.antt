@@ -4,6 +4,8 @@ use Rattle.std.proofs.Common.{◌≡◌, ℕ, ◌%◌, ◌==◌, Bool, true, fal
 use Rattle.std.proofs.lemmas.Bool.{eqb-true, eq-eqb}
 use Rattle.run_plan.specs.declared.plan.Branch.{Branch}
 use Rattle.run_plan.specs.declared.plan.Plan.{Plan}
+use Rattle.exec_journal.proofs.Ruled as ru
+use Rattle.exec_journal.specs.Lawful as lw
 use Rattle.exec_journal.specs.declared.attempt.Attempt.{Attempt}
 use Rattle.exec_journal.specs.declared.call.Call.{Call}
 use Rattle.exec_journal.specs.declared.call.Call.TheVariants as call
@@ -15,11 +17,10 @@ use Rattle.exec_journal.specs.declared.journal.Entry.{Entry}
 use Rattle.exec_journal.specs.declared.reply.Reply.{Reply}
 use Rattle.exec_journal.specs.declared.reply.Reply.TheVariants as reply
 use Rattle.exec_journal.specs.Entries.{attempt_of, granted_in, committed_in, same_branch}
-use Rattle.exec_journal.specs.Legal.{Legal}
-use Rattle.exec_journal.specs.Scripts.{script}
+use Rattle.exec_journal.specs.Lawful.{Lawful}
 use Rattle.exec_journal.specs.Words.{grant_of, of_action, commit_of}
 use Rattle.exec_journal.proofs.Begins.{same_branch_refl}
-use Rattle.exec_journal.proofs.Ruled as u
+use Rattle.exec_journal.proofs.Reasons as u
 use Rattle.exec_journal.proofs.Ruled.{by_bool}
 use Rattle.journal_laws.proofs.Allowed.{may_commit}
 use Rattle.journal_laws.proofs.Debts.{wins_by}
@@ -86,7 +87,7 @@ claim_leaves a d (found.Missing k) x other s = refl
 claim_leaves a d found.RoomFault x other s = refl
 claim_leaves a d found.Refused x other s = refl
 
-noted_place : (a : ℕ) (lane : ℕ) (c : Call) → u.is_noted c ≡ true
+noted_place : (a : ℕ) (lane : ℕ) (c : Call) → ru.is_noted c ≡ true
     → PlaceStep a lane c reply.Noted
 noted_place a lane (call.Launched l start.Done) h = leaves a lane (call.Launched l start.Done)
     reply.Noted refl (λ d b. refl) (λ s. refl) (λ s. refl)
@@ -102,6 +103,8 @@ noted_place a lane (call.Killed l) h = leaves a lane (call.Killed l) reply.Noted
 noted_place a lane (call.Ended l how) h = leaves a lane (call.Ended l how) reply.Noted refl
     (λ d b. refl) (λ s. refl) (λ s. refl)
 noted_place a lane call.Halt h = leaves a lane call.Halt reply.Noted refl
+    (λ d b. refl) (λ s. refl) (λ s. refl)
+noted_place a lane call.Tick h = leaves a lane call.Tick reply.Noted refl
     (λ d b. refl) (λ s. refl) (λ s. refl)
 noted_place a lane _ h = absurd (cc)
 
@@ -181,12 +184,12 @@ no_place a d (found.Missing k) x none s = refl
 no_place a d found.RoomFault x none s = refl
 no_place a d found.Refused x none s = refl
 
-module _ (p : Plan) (e : Entry) (j : List Entry) (legal : Legal p (e ∷ j)) where
+module _ (p : Plan) (e : Entry) (j : List Entry) (legal : Lawful p (e ∷ j)) where
   abbrev moves : Move
   moves = move_in e.lane e.call e.reply
 
-  abbrev scripts_it : (c : Call) → e.call ≡ c → script p j e.lane c ≡ true
-  scripts_it c is = subst (λ (d : Call). script p j e.lane d ≡ true) is legal.1.scripted
+  abbrev scripts_it : (c : Call) → e.call ≡ c → lw.in_script p j e.lane c ≡ true
+  scripts_it c is = subst (λ (d : Call). lw.in_script p j e.lane d ≡ true) is legal.1.scripted
 
   claim_move : (d : ℕ) (b : Branch) (t : ℕ) (f : Found) → e.call ≡ call.Claim d b t f
       → e.reply ≡ reply.Granted → moves ≡ claim_moves d f reply.Granted
@@ -300,7 +303,7 @@ module _ (p : Plan) (e : Entry) (j : List Entry) (legal : Legal p (e ∷ j)) whe
         ∙ same_spot (ap (of_action a) n.ungranted)
         (λ y h. n.uncommitted y.0.action y.0.branch))
 
-pub place_lies : (p : Plan) (a : ℕ) (j : List Entry) → Legal p j
+pub place_lies : (p : Plan) (a : ℕ) (j : List Entry) → Lawful p j
     → place_in a j ≡ spot_by j (grant_of j a)
 unfolding grant_of
 place_lies p a [] legal = refl
@@ -308,13 +311,13 @@ place_lies p a (e ∷ j) legal = place_step p e j legal a (place_lies p a j lega
     (place_ruled p j a e.lane e.call e.reply (entry_ruled p e j legal))
 
 -- without a grant nobody took it
-pub place_fresh : (p : Plan) (a : ℕ) (j : List Entry) → Legal p j → grant_of j a ≡ None
+pub place_fresh : (p : Plan) (a : ℕ) (j : List Entry) → Lawful p j → grant_of j a ≡ None
     → place_in a j ≡ Fresh
 place_fresh p a j legal none = place_lies p a j legal ∙ ap (spot_by j) none
 
 -- with files that aren't committed yet it is away
 pub place_away : (p : Plan) (j : List Entry) (a : ℕ) (b : Branch) (n : ℕ) (fs : List (List ℕ))
-    → Legal p j → grant_of j a ≡ Some (attempt_of a b n, found.Files fs)
+    → Lawful p j → grant_of j a ≡ Some (attempt_of a b n, found.Files fs)
     → commit_of j a b ≡ None → place_in a j ≡ Away fs
 place_away p j a b n fs legal won none =
     place_lies p a j legal ∙ (ap (spot_by j) won ∙ ap (spot_of fs) none)

@@ -2,6 +2,8 @@
 use Rattle.std.proofs.Common.{◌≡◌, ℕ, ◌/◌, ◌%◌, ◌==◌, Bool, true, false, cond, not, List, ◌∷◌, Option, Some, None, inl, inr, refl, sym, subst}
 use Rattle.std.proofs.lemmas.Bool.{and_parts}
 use Rattle.run_plan.specs.declared.plan.Plan.{Plan}
+use Rattle.exec_journal.proofs.Ruled as ru
+use Rattle.exec_journal.specs.Lawful as lw
 use Rattle.exec_journal.specs.declared.attempt.Attempt.{Attempt}
 use Rattle.exec_journal.specs.declared.call.Call.{Call}
 use Rattle.exec_journal.specs.declared.call.Call.TheVariants as call
@@ -15,11 +17,10 @@ use Rattle.exec_journal.specs.declared.reply.Reply.TheVariants as reply
 use Rattle.exec_journal.specs.declared.reply.Why.{Why}
 use Rattle.exec_journal.specs.declared.reply.Why.TheVariants as why
 use Rattle.exec_journal.specs.Entries.{attempt_of, launch_in, takes, orders_kill, starts}
-use Rattle.exec_journal.specs.Legal.{Legal}
+use Rattle.exec_journal.specs.Lawful.{Lawful}
 use Rattle.exec_journal.specs.Rules.{is_vacant}
-use Rattle.exec_journal.specs.Scripts.{script}
 use Rattle.exec_journal.specs.Words.{last_line, line_count, why_of}
-use Rattle.exec_journal.proofs.Ruled as u
+use Rattle.exec_journal.proofs.Reasons as u
 use Rattle.exec_journal.proofs.Ruled.{by_bool, not_true}
 use Rattle.journal_laws.proofs.Over.{entry_ruled}
 use Rattle.journal_laws.proofs.Owed.{scripted}
@@ -91,7 +92,7 @@ claim_quiet p j lane a x f c none unstarted unkilled ungiven proxy tap =
     quiet p j lane c x none unstarted unkilled ungiven
     (subst IsStill (sym proxy) (claim_still a f x)) (subst IsStill (sym tap) still_nothing)
 
-noted_step : (p : Plan) (j : List Entry) (lane : ℕ) (c : Call) → u.is_noted c ≡ true
+noted_step : (p : Plan) (j : List Entry) (lane : ℕ) (c : Call) → ru.is_noted c ≡ true
     → StepOf p j lane c reply.Noted
 noted_step p j lane (call.Launched l start.Done) h = Starts l refl refl
 noted_step p j lane (call.Launched l start.RoomFault) h =
@@ -110,6 +111,8 @@ noted_step p j lane (call.Killed l) h = quiet p j lane (call.Killed l) reply.Not
 noted_step p j lane (call.Ended l how) h = quiet p j lane (call.Ended l how) reply.Noted refl
     (λ k. refl) (λ k. refl) (λ k. refl) still_nothing still_nothing
 noted_step p j lane call.Halt h = Halts refl refl
+noted_step p j lane call.Tick h = quiet p j lane call.Tick reply.Noted refl
+    (λ k. refl) (λ k. refl) (λ k. refl) still_nothing still_nothing
 noted_step p j lane _ h = absurd (cc)
 
 step_ruled : (p : Plan) (j : List Entry) (lane : ℕ) (c : Call) (x : Reply)
@@ -118,7 +121,8 @@ step_ruled p j lane c x (u.Quits l here run over) = Kills l why.Quit refl refl
 step_ruled p j lane c x (u.KillsBroken l y here run broken over) = Kills l (why_of y) refl refl
 step_ruled p j lane c x (u.KillsUnwanted l here run one none unwanted over) =
     Kills l why.Unwanted refl refl
-step_ruled p j lane c x (u.Launches t vacant full next none) =
+step_ruled p j lane c x (u.Evicts l here alive empty free none) = Kills l why.Evicted refl refl
+step_ruled p j lane c x (u.Launches gr t vacant next none) =
     Launches (attempt_of t.action t.branch t.number) refl refl vacant
 step_ruled p j lane c x (u.Takes l here up new) = Takes l refl refl here
 step_ruled p j lane c x (u.Notes d n) = noted_step p j lane d n
@@ -134,36 +138,36 @@ step_ruled p j lane c x _ = quiet p j lane c x refl (λ l. refl) (λ l. refl) (�
     (record { child = λ o. refl; tap = λ o. refl })
     (record { child = λ o. refl; tap = λ o. refl })
 
-pub step : (p : Plan) (e : Entry) (j : List Entry) → Legal p (e ∷ j)
+pub step : (p : Plan) (e : Entry) (j : List Entry) → Lawful p (e ∷ j)
     → StepOf p j e.lane e.call e.reply
 step p e j legal = step_ruled p j e.lane e.call e.reply (entry_ruled p e j legal)
 
 -- ---- which lane makes a call
 
-pub ask_even : (p : Plan) (j : List Entry) (lane : ℕ) → script p j lane call.Ask ≡ true
+pub ask_even : (p : Plan) (j : List Entry) (lane : ℕ) → lw.in_script p j lane call.Ask ≡ true
     → (lane % 2 == 0) ≡ true
-ask_even p j lane may = elim (scripted p j lane call.Ask may) [
+ask_even p j lane may = elim (scripted p j lane call.Ask refl may) [
   | inl owes ↦ absurd (cc)
   | inr allows ↦ (and_parts (lane % 2 == 0) _ allows).0
 ]
 
 pub launched_even : (p : Plan) (j : List Entry) (lane l : ℕ) (how : Started)
-    → script p j lane (call.Launched l how) ≡ true → (lane % 2 == 0) ≡ true
-launched_even p j lane l how may = elim (scripted p j lane (call.Launched l how) may) [
+    → lw.in_script p j lane (call.Launched l how) ≡ true → (lane % 2 == 0) ≡ true
+launched_even p j lane l how may = elim (scripted p j lane (call.Launched l how) refl may) [
   | inl owes ↦ absurd (cc)
   | inr allows ↦ (and_parts (lane % 2 == 0) _ allows).0
 ]
 
 pub claim_even : (p : Plan) (j : List Entry) (lane a : ℕ) (b : _) (t : ℕ) (f : Found)
-    → script p j lane (call.Claim a b t f) ≡ true → (lane % 2 == 0) ≡ true
-claim_even p j lane a b t f may = elim (scripted p j lane (call.Claim a b t f) may) [
+    → lw.in_script p j lane (call.Claim a b t f) ≡ true → (lane % 2 == 0) ≡ true
+claim_even p j lane a b t f may = elim (scripted p j lane (call.Claim a b t f) refl may) [
   | inl owes ↦ absurd (cc)
   | inr allows ↦ (and_parts (lane % 2 == 0) _ allows).0
 ]
 
-pub take_odd : (p : Plan) (j : List Entry) (lane : ℕ) → script p j lane call.Take ≡ true
+pub take_odd : (p : Plan) (j : List Entry) (lane : ℕ) → lw.in_script p j lane call.Take ≡ true
     → (lane % 2 == 0) ≡ false
-take_odd p j lane may = elim (scripted p j lane call.Take may) [
+take_odd p j lane may = elim (scripted p j lane call.Take refl may) [
   | inl owes ↦ absurd (cc)
   | inr allows ↦ not_true _ (and_parts (not (lane % 2 == 0)) _ allows).0
 ]

@@ -11,133 +11,156 @@ ghost use Rattle.exec_journal.specs.declared.call.Wanted.TheVariants as wanted;
 ghost use Rattle.exec_journal.specs.declared.reply.Reply.{Reply};
 ghost use Rattle.exec_journal.specs.declared.reply.Reply.TheVariants as reply;
 ghost use Rattle.exec_journal.specs.Entries.{is_kept};
-ghost use Rattle.run_plan.specs.declared.plan.Plan.{Plan};
 ghost use Rattle.run_plan.specs.declared.plan.Branch.{Branch};
-ghost use Rattle.run_plan.specs.Groups.{berths, kind_of, is_remote};
+ghost use Rattle.run_plan.specs.Groups.{is_remote};
 ghost use Rattle.run_rules.specs.Laws.{InScript, Fits, tap_lane, hearing_of, may_hear, Hears, Over, tells_of, OrderHolds, claimed, lines_in, is_taken, says_file};
 ghost use Rattle.run_rules.specs.Shelf.{child_at, tap_at, place_at, Fresh, Away};
 ghost use Rattle.run_rules.specs.Duties.{proxy_lane, duty_of, is_maker, may_do, may_make, Sends, Commits, Left};
 ghost use Rattle.script_duties.specs.Owed.{outputs_in, makers_in};
+ghost use Rattle.history_laws.specs.Disciplines.{Discipline, IsDiscipline};
 ghost use Rattle.history_laws.specs.Ruled.{answer_after, IsPaidAfter, owes_after, CameAbout};
 
 /// A call in its lane's script is answered by a reply of its kind.
 pub fn replies_fit()
-    ensures { (p : Plan) (h : List (Entry Call Reply)) (lane : ℕ) (c : Call)
-        → Fits c (answer_after p h lane c) }
+    ensures { (q : Discipline) → IsDiscipline q
+        → (h : List (Entry Call Reply)) (lane : ℕ) (c : Call)
+        → Fits c (answer_after q h lane c) }
 {}
 
 /// A call in a script is one of a lane of the plan, and entries of other lanes leave it there.
 pub fn scripts_are_lanes()
-    ensures known { (p : Plan) (h : List (Entry Call Reply)) (lane : ℕ) (c : Call)
-        → InScript (answer_after p) h lane c → lane / 2 < berths p }
-    ensures stays { (p : Plan) (h more : List (Entry Call Reply)) (lane : ℕ) (c : Call)
-        → calls_by lane more ≡ [] → InScript (answer_after p) h lane c
-        → InScript (answer_after p) (h ++ more) lane c }
+    ensures known { (q : Discipline) → IsDiscipline q
+        → (h : List (Entry Call Reply)) (lane : ℕ) (c : Call)
+        → InScript (answer_after q) h lane c → lane / 2 < q.seats }
+    ensures stays { (q : Discipline) → IsDiscipline q
+        → (h more : List (Entry Call Reply)) (lane : ℕ) (c : Call)
+        → calls_by lane more ≡ [] → InScript (answer_after q) h lane c
+        → InScript (answer_after q) (h ++ more) lane c }
 {}
 
 /// Which calls are in a proxy lane's script, its own entries say alone: those that its duty asks
 /// for, and no others but a Halt where it owes a Committed, and a Committed where it has left. Its
 /// Halt is paid for until it was told to stop or has halted, and so is the Committed that it owes.
 pub fn proxies_do_their_duties()
-    ensures does { (p : Plan) (h : List (Entry Call Reply)) (w : ℕ) (c : Call) → w < berths p
-        → may_do (outputs_in p) (makers_in p) (is_remote (kind_of p w))
+    ensures does { (q : Discipline) → IsDiscipline q
+        → (h : List (Entry Call Reply)) (w : ℕ) (c : Call) → w < q.seats
+        → may_do (outputs_in q.plan) (makers_in q.plan) (is_remote (q.kinds w))
         (duty_of (calls_by (proxy_lane w) h)) c ≡ true
-        → InScript (answer_after p) h (proxy_lane w) c }
-    ensures does_only { (p : Plan) (h : List (Entry Call Reply)) (w : ℕ) (c : Call)
-        → InScript (answer_after p) h (proxy_lane w) c
-        → may_make (outputs_in p) (makers_in p) (is_remote (kind_of p w))
+        → InScript (answer_after q) h (proxy_lane w) c }
+    ensures does_only { (q : Discipline) → IsDiscipline q
+        → (h : List (Entry Call Reply)) (w : ℕ) (c : Call)
+        → InScript (answer_after q) h (proxy_lane w) c
+        → may_make (outputs_in q.plan) (makers_in q.plan) (is_remote (q.kinds w))
         (duty_of (calls_by (proxy_lane w) h)) c ≡ true }
-    ensures halts { (p : Plan) (h : List (Entry Call Reply)) (w : ℕ) → w < berths p
+    ensures halts { (q : Discipline) → IsDiscipline q
+        → (h : List (Entry Call Reply)) (w : ℕ) → w < q.seats
         → (duty_of (calls_by (proxy_lane w) h) ≡ Left → ⊥)
-        → IsPaidAfter p h (proxy_lane w) call.Halt }
-    ensures commits { (p : Plan) (h : List (Entry Call Reply)) (w a : ℕ) (b : Branch)
-        (fs : List (List ℕ)) (how : CommitEnd) → w < berths p
+        → IsPaidAfter q h (proxy_lane w) call.Halt }
+    ensures commits { (q : Discipline) → IsDiscipline q
+        → (h : List (Entry Call Reply)) (w a : ℕ) (b : Branch)
+        (fs : List (List ℕ)) (how : CommitEnd) → w < q.seats
         → duty_of (calls_by (proxy_lane w) h) ≡ Commits a b fs
-        → IsPaidAfter p h (proxy_lane w) (call.Committed a b how) }
+        → IsPaidAfter q h (proxy_lane w) (call.Committed a b how) }
 {}
 
 /// Which calls are in a tap lane's script, its own entries say alone: these, and after a history
 /// that came about no others. Its Halt is paid for until it was told to stop or has halted. An
 /// Answer and an Ended come from the tap lane that hears the line.
 pub fn taps_are_heard()
-    ensures hears { (p : Plan) (h : List (Entry Call Reply)) (w : ℕ) (c : Call) → w < berths p
+    ensures hears { (q : Discipline) → IsDiscipline q
+        → (h : List (Entry Call Reply)) (w : ℕ) (c : Call) → w < q.seats
         → may_hear (hearing_of (calls_by (tap_lane w) h)) c ≡ true
-        → InScript (answer_after p) h (tap_lane w) c }
-    ensures hears_only { (p : Plan) (h : List (Entry Call Reply)) (w : ℕ) (c : Call)
-        → CameAbout p h → InScript (answer_after p) h (tap_lane w) c
+        → InScript (answer_after q) h (tap_lane w) c }
+    ensures hears_only { (q : Discipline) → IsDiscipline q
+        → (h : List (Entry Call Reply)) (w : ℕ) (c : Call)
+        → CameAbout q h → InScript (answer_after q) h (tap_lane w) c
         → may_hear (hearing_of (calls_by (tap_lane w) h)) c ≡ true }
-    ensures halts { (p : Plan) (h : List (Entry Call Reply)) (w : ℕ) → w < berths p
+    ensures halts { (q : Discipline) → IsDiscipline q
+        → (h : List (Entry Call Reply)) (w : ℕ) → w < q.seats
         → (hearing_of (calls_by (tap_lane w) h) ≡ Over → ⊥)
-        → IsPaidAfter p h (tap_lane w) call.Halt }
-    ensures only { (p : Plan) (h : List (Entry Call Reply)) (lane : ℕ) (c : Call) (l : ℕ)
-        → tells_of l c ≡ true → InScript (answer_after p) h lane c
+        → IsPaidAfter q h (tap_lane w) call.Halt }
+    ensures only { (q : Discipline) → IsDiscipline q
+        → (h : List (Entry Call Reply)) (lane : ℕ) (c : Call) (l : ℕ)
+        → tells_of l c ≡ true → InScript (answer_after q) h lane c
         → hearing_of (calls_by lane h) ≡ Hears l }
 {}
 
 /// A paid call is answered Noted, stays paid for after entries of other lanes, and pays one of what
 /// is owed; and any call raises that by two at most.
 pub fn paid_calls_are_counted()
-    ensures noted { (p : Plan) (h : List (Entry Call Reply)) (lane : ℕ) (c : Call)
-        → CameAbout p h → IsPaidAfter p h lane c → answer_after p h lane c ≡ reply.Noted }
-    ensures stays { (p : Plan) (h more : List (Entry Call Reply)) (lane : ℕ) (c : Call)
-        → calls_by lane more ≡ [] → IsPaidAfter p h lane c → IsPaidAfter p (h ++ more) lane c }
-    ensures less { (p : Plan) (h : List (Entry Call Reply)) (lane : ℕ) (c : Call)
-        → IsPaidAfter p h lane c
-        → owes_after p (h ++ entry lane c reply.Noted ∷ []) + 1 ≡ owes_after p h }
-    ensures more { (p : Plan) (h : List (Entry Call Reply)) (lane : ℕ) (c : Call)
-        → is_kept (answer_after p h lane c) ≡ true
-        → owes_after p (h ++ entry lane c (answer_after p h lane c) ∷ []) ≤ owes_after p h + 2 }
+    ensures noted { (q : Discipline) → IsDiscipline q
+        → (h : List (Entry Call Reply)) (lane : ℕ) (c : Call)
+        → CameAbout q h → IsPaidAfter q h lane c → answer_after q h lane c ≡ reply.Noted }
+    ensures stays { (q : Discipline) → IsDiscipline q
+        → (h more : List (Entry Call Reply)) (lane : ℕ) (c : Call)
+        → calls_by lane more ≡ [] → IsPaidAfter q h lane c → IsPaidAfter q (h ++ more) lane c }
+    ensures less { (q : Discipline) → IsDiscipline q
+        → (h : List (Entry Call Reply)) (lane : ℕ) (c : Call)
+        → IsPaidAfter q h lane c
+        → owes_after q (h ++ entry lane c reply.Noted ∷ []) + 1 ≡ owes_after q h }
+    ensures more { (q : Discipline) → IsDiscipline q
+        → (h : List (Entry Call Reply)) (lane : ℕ) (c : Call)
+        → is_kept (answer_after q h lane c) ≡ true
+        → owes_after q (h ++ entry lane c (answer_after q h lane c) ∷ []) ≤ owes_after q h + 2 }
 {}
 
 /// Where a lane is ordered to launch or to stop, no child lies on the shelf for its berth; where it
 /// is to send, cancel or kill, the child of that line does. A new line has the next number, and
 /// what is sent or gathered is of an action of the plan.
 pub fn orders_hold()
-    ensures { (p : Plan) (h : List (Entry Call Reply)) (lane : ℕ) → CameAbout p h
-        → OrderHolds (length p.actions) (child_at (lane / 2) h) (lines_in h)
-        (answer_after p h lane call.Ask) }
+    ensures { (q : Discipline) → IsDiscipline q
+        → (h : List (Entry Call Reply)) (lane : ℕ) → CameAbout q h
+        → OrderHolds (length q.plan.actions) (child_at (lane / 2) h) (lines_in h)
+        (answer_after q h lane call.Ask) }
 {}
 
 /// Nothing lies on the shelf for the berth where a line is put there.
 pub fn lines_find_room()
-    ensures { (p : Plan) (h : List (Entry Call Reply)) (lane l : ℕ) → CameAbout p h
-        → InScript (answer_after p) h lane (call.Launched l start.Done)
+    ensures { (q : Discipline) → IsDiscipline q
+        → (h : List (Entry Call Reply)) (lane l : ℕ) → CameAbout q h
+        → InScript (answer_after q) h lane (call.Launched l start.Done)
         → (child_at (lane / 2) h ≡ None) × (tap_at (lane / 2) h ≡ None) }
 {}
 
 /// A line is given to a tap lane while its tap lies on the shelf for its berth, and never twice.
 pub fn taps_are_given_once()
-    ensures there { (p : Plan) (h : List (Entry Call Reply)) (lane l : ℕ) → CameAbout p h
-        → answer_after p h lane call.Take ≡ reply.Line l → tap_at (lane / 2) h ≡ Some l }
-    ensures once { (p : Plan) (h : List (Entry Call Reply)) (lane l : ℕ)
-        → answer_after p h lane call.Take ≡ reply.Line l → is_taken l h ≡ false }
+    ensures there { (q : Discipline) → IsDiscipline q
+        → (h : List (Entry Call Reply)) (lane l : ℕ) → CameAbout q h
+        → answer_after q h lane call.Take ≡ reply.Line l → tap_at (lane / 2) h ≡ Some l }
+    ensures once { (q : Discipline) → IsDiscipline q
+        → (h : List (Entry Call Reply)) (lane l : ℕ)
+        → answer_after q h lane call.Take ≡ reply.Line l → is_taken l h ≡ false }
 {}
 
 /// Files are granted once at most for each action, and only for one of the plan. A Committed comes
 /// from the lane that was granted the action's files, and the files are those of its last grant.
 pub fn files_are_granted_once()
-    ensures grants { (p : Plan) (h : List (Entry Call Reply)) (lane a : ℕ) (b : Branch) (t : ℕ)
-        (fs : List (List ℕ)) → CameAbout p h
-        → answer_after p h lane (call.Claim a b t (found.Files fs)) ≡ reply.Granted
-        → (a < length p.actions) × (place_at a h ≡ Fresh) }
-    ensures commits { (p : Plan) (h : List (Entry Call Reply)) (lane a : ℕ) (b : Branch)
-        (how : CommitEnd) → CameAbout p h
-        → InScript (answer_after p) h lane (call.Committed a b how)
+    ensures grants { (q : Discipline) → IsDiscipline q
+        → (h : List (Entry Call Reply)) (lane a : ℕ) (b : Branch) (t : ℕ)
+        (fs : List (List ℕ)) → CameAbout q h
+        → answer_after q h lane (call.Claim a b t (found.Files fs)) ≡ reply.Granted
+        → (a < length q.plan.actions) × (place_at a h ≡ Fresh) }
+    ensures commits { (q : Discipline) → IsDiscipline q
+        → (h : List (Entry Call Reply)) (lane a : ℕ) (b : Branch)
+        (how : CommitEnd) → CameAbout q h
+        → InScript (answer_after q) h lane (call.Committed a b how)
         → place_at a h ≡ Away (claimed (calls_by lane h)) }
 {}
 
 /// The made inputs of a request that was ordered are there when its lane looks at them.
 pub fn inputs_are_there()
-    ensures { (p : Plan) (h : List (Entry Call Reply)) (w l : ℕ) (n : ℤ) (a c o : ℕ)
-        → CameAbout p h → duty_of (calls_by (proxy_lane w) h) ≡ Sends l n a
-        → is_maker (makers_in p a) c o ≡ true
-        → says_file (answer_after p h (proxy_lane w) (call.Look (wanted.Made c o))) ≡ true }
+    ensures { (q : Discipline) → IsDiscipline q
+        → (h : List (Entry Call Reply)) (w l : ℕ) (n : ℤ) (a c o : ℕ)
+        → CameAbout q h → duty_of (calls_by (proxy_lane w) h) ≡ Sends l n a
+        → is_maker (makers_in q.plan a) c o ≡ true
+        → says_file (answer_after q h (proxy_lane w) (call.Look (wanted.Made c o))) ≡ true }
 {}
 
 /// A legal history without its last entry is legal; and that entry's reply is the rule's, and is
 /// kept.
 pub fn histories_grow_by_rule()
-    ensures { (p : Plan) (h : List (Entry Call Reply)) (e : Entry Call Reply)
-        → CameAbout p (h ++ e ∷ []) → CameAbout p h
-        × (e.reply ≡ answer_after p h e.lane e.call) × (is_kept e.reply ≡ true) }
+    ensures { (q : Discipline) → IsDiscipline q
+        → (h : List (Entry Call Reply)) (e : Entry Call Reply)
+        → CameAbout q (h ++ e ∷ []) → CameAbout q h
+        × (e.reply ≡ answer_after q h e.lane e.call) × (is_kept e.reply ≡ true) }
 {}

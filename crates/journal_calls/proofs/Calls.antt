@@ -5,6 +5,7 @@ use Rattle.std.proofs.lemmas.Bool.{and_parts, or_parts}
 use Rattle.std.proofs.lemmas.Option.{slice_get_within}
 use Rattle.run_plan.specs.declared.plan.Branch.{Branch}
 use Rattle.run_plan.specs.declared.plan.Plan.{Plan}
+use Rattle.exec_journal.specs.Lawful as lw
 use Rattle.exec_journal.specs.declared.attempt.Attempt.{Attempt}
 use Rattle.exec_journal.specs.declared.journal.Entry.{Entry}
 use Rattle.exec_journal.specs.declared.call.Answer.{Answer}
@@ -24,12 +25,12 @@ use Rattle.exec_journal.specs.Settled.{bound}
 use Rattle.exec_journal.specs.Rules as r
 use Rattle.exec_journal.specs.Rules.{gathered}
 use Rattle.exec_journal.specs.Scripts as sc
-use Rattle.exec_journal.specs.Legal.{Legal}
+use Rattle.exec_journal.specs.Lawful.{Lawful}
 use Rattle.exec_journal.specs.Facts.{begun}
 use Rattle.exec_journal.specs.Race.{committed, commits}
 use Rattle.journal_laws.specs.Steps.{IsUngranted}
 use Rattle.journal_calls.specs.Moments.{is_clean, IsClean, IsSeated}
-use Rattle.exec_journal.proofs.Ruled as u
+use Rattle.exec_journal.proofs.Reasons as u
 use Rattle.exec_journal.proofs.Ruled.{by_bool}
 use Rattle.exec_journal.proofs.Begins.{begin_in_order, same_attempt_refl, bound_is}
 use Rattle.journal_laws.proofs.Carried as k
@@ -49,17 +50,18 @@ use Rattle.journal_calls.proofs.LastLines as ll
 -- ---- the entry of a call
 
 abbrev pub next_entry : Plan → List Entry → ℕ → Call → Entry
-next_entry p j lane d = record { lane = lane; call = d; reply = r.rule p j lane d }
+next_entry p j lane d = record { lane = lane; call = d; reply = lw.plain_reply p j lane d }
 
 -- with it the journal is legal, where its reply is kept
-pub next_legal : (p : Plan) (j : List Entry) (lane : ℕ) (d : Call) → Legal p j
-    → sc.script p j lane d ≡ true → is_kept (r.rule p j lane d) ≡ true
-    → Legal p (next_entry p j lane d ∷ j)
-next_legal p j lane d legal may kept = (
+pub next_legal : (p : Plan) (j : List Entry) (lane : ℕ) (d : Call) → Lawful p j
+    → lw.in_script p j lane d ≡ true → lw.Told p j lane d (lw.plain_reply p j lane d)
+    → is_kept (lw.plain_reply p j lane d) ≡ true
+    → Lawful p (next_entry p j lane d ∷ j)
+next_legal p j lane d legal may told kept = (
   legal,
   record {
     scripted = may;
-    replied = refl;
+    told = told;
     kept = kept;
   },
 )
@@ -76,10 +78,10 @@ claim_kept p j a b t x = by_bool (r.is_other b (grant_of j a))
     (λ z. is_kept (cond z reply.Lost (r.by_found p t x)) ≡ true) (λ _. refl) (λ _. found_kept p t x)
 
 pub claim_legal : (p : Plan) (j : List Entry) (lane a : ℕ) (b : Branch) (t : ℕ) (x : Found)
-    → Legal p j → sc.script p j lane (call.Claim a b t x) ≡ true
-    → Legal p (next_entry p j lane (call.Claim a b t x) ∷ j)
+    → Lawful p j → lw.in_script p j lane (call.Claim a b t x) ≡ true
+    → Lawful p (next_entry p j lane (call.Claim a b t x) ∷ j)
 claim_legal p j lane a b t x legal may = next_legal p j lane (call.Claim a b t x) legal may
-    (claim_kept p j a b t x)
+    refl (claim_kept p j a b t x)
 
 -- ---- a Claim whose other branch has no grant finds neither grant nor Committed of its action
 
@@ -105,7 +107,7 @@ uncommitted_of (e ∷ j) a b h = by (committed_in a b e.call) refl
         (or_parts (commits a e.call) _ h).0)
 
 pub grants_open : (p : Plan) (j : List Entry) (lane a : ℕ) (b : Branch) (t : ℕ) (x : Found)
-    → Legal p j → sc.script p j lane (call.Claim a b t x) ≡ true
+    → Lawful p j → lw.in_script p j lane (call.Claim a b t x) ≡ true
     → r.is_other b (grant_of j a) ≡ false → IsUngranted j a
 unfolding granted
 grants_open p j lane a b t x legal may free = record {
@@ -114,7 +116,7 @@ grants_open p j lane a b t x legal may free = record {
       (λ old. clash (granted j a) (ra.committed_granted p j a legal old) (ap is_some none)));
 }
   where
-    next : Legal p (next_entry p j lane (call.Claim a b t x) ∷ j)
+    next : Lawful p (next_entry p j lane (call.Claim a b t x) ∷ j)
     next = claim_legal p j lane a b t x legal may
 
     by : (y : Option (Attempt × Found)) → grant_of j a ≡ y → r.is_other b y ≡ false → y ≡ None
@@ -128,30 +130,30 @@ grants_open p j lane a b t x legal may free = record {
 
 -- ---- the actions that are named
 
-pub begun_within : (p : Plan) (j : List Entry) (t : Attempt) → Legal p j → begun j t ≡ true
+pub begun_within : (p : Plan) (j : List Entry) (t : Attempt) → Lawful p j → begun j t ≡ true
     → t.action < length p.actions
 begun_within p j t legal h = let has = f.going_ready_at p j t legal h in
     slice_get_within p.actions t.action has.action has.place
 
 -- the attempt that an order or a Claim names was begun
-pub launch_within : (p : Plan) (e : Entry) (j : List Entry) (l : ℕ) (t : Attempt) → Legal p (e ∷ j)
+pub launch_within : (p : Plan) (e : Entry) (j : List Entry) (l : ℕ) (t : Attempt) → Lawful p (e ∷ j)
     → launch_in e.reply ≡ Some (l, t) → t.action < length p.actions
 launch_within p e j l t legal h = begun_within p (e ∷ j) t legal
     (st.begun_here e j t (c.launch_begins e.reply (l, t) h))
 
-pub send_within : (p : Plan) (e : Entry) (j : List Entry) (x : Request) → Legal p (e ∷ j)
+pub send_within : (p : Plan) (e : Entry) (j : List Entry) (x : Request) → Lawful p (e ∷ j)
     → send_in e.reply ≡ Some x → x.attempt.action < length p.actions
 send_within p e j x legal h = begun_within p (e ∷ j) x.attempt legal
     (k.sent_begun (e ∷ j) x.attempt (q.sent_now e j x h))
 
-pub gather_within : (p : Plan) (e : Entry) (j : List Entry) (t : Attempt) → Legal p (e ∷ j)
+pub gather_within : (p : Plan) (e : Entry) (j : List Entry) (t : Attempt) → Lawful p (e ∷ j)
     → gather_in e.reply ≡ Some t → t.action < length p.actions
 gather_within p e j t legal h =
     let is = c.gather_is p j e.lane e.call e.reply t (v.entry_ruled p e j legal) h in
     begun_within p j t legal.0 (k.sent_begun j t (c.answered_sent p j t legal.0 is.consumed))
 
 pub claim_within : (p : Plan) (j : List Entry) (lane a : ℕ) (b : Branch) (t : ℕ) (x : Found)
-    → Legal p j → sc.script p j lane (call.Claim a b t x) ≡ true → a < length p.actions
+    → Lawful p j → lw.in_script p j lane (call.Claim a b t x) ≡ true → a < length p.actions
 claim_within p j lane a b t x legal may =
     let next = claim_legal p j lane a b t x legal may in
     begun_within p j (attempt_of a b t) legal (g.claimable p
@@ -159,30 +161,30 @@ claim_within p j lane a b t x legal may =
     (same_attempt_refl (attempt_of a b t))).under_way.begun_yet
 
 pub commit_within : (p : Plan) (j : List Entry) (lane a : ℕ) (b : Branch) (how : CommitEnd)
-    → Legal p j → sc.script p j lane (call.Committed a b how) ≡ true → a < length p.actions
+    → Lawful p j → lw.in_script p j lane (call.Committed a b how) ≡ true → a < length p.actions
 commit_within p j lane a b how legal may =
     let is = of.is_granted_files p (next_entry p j lane (call.Committed a b how)) j a b how
-    (next_legal p j lane (call.Committed a b how) legal may refl) refl in
+    (next_legal p j lane (call.Committed a b how) legal may refl refl) refl in
     begun_within p j (attempt_of a b is.number) legal (g.winner p j a
     (attempt_of a b is.number, found.Files is.files) legal is.winner).under_way.begun_yet
 
 -- ---- what is bound stands on the last line of a berth of the plan
 
-pub bound_seat : (p : Plan) (j : List Entry) (l : ℕ) (t : Attempt) → Legal p j
+pub bound_seat : (p : Plan) (j : List Entry) (l : ℕ) (t : Attempt) → Lawful p j
     → bound p j l ≡ Some t → IsSeated p j l
 bound_seat p j l t legal h =
     let b = bound_is p j l t h in
     record {
       berth = b.lane / 2;
-      within = re.seated p j l b.lane t legal b.launched;
+      own = record { below = q.launched_below p j l b.lane t legal b.launched; owner = (b.lane, t, b.launched, refl) };
       last = ll.bound_is_last p j l b.lane t legal h b.launched;
     }
 
 -- ---- the request of an answer
 
 pub consumed_request : (p : Plan) (e : Entry) (j : List Entry) (l : ℕ) (x : Answer) (s : Attempt)
-    → Legal p (e ∷ j) → e.call ≡ call.Answer l x → consumed_in e.reply ≡ Some s
-    → (y : Request) × (y.attempt ≡ s) × u.IsRequest p j (e.lane / 2) l x y
+    → Lawful p (e ∷ j) → e.call ≡ call.Answer l x → consumed_in e.reply ≡ Some s
+    → (y : Request) × (y.attempt ≡ s) × u.IsRequest p j l x y
 consumed_request p e j l x s legal ic is =
     let one = v.consumes p j e.lane e.call e.reply s (v.entry_ruled p e j legal) is in
     let same_call : call.Answer one.line one.answer ≡ call.Answer l x = sym one.is ∙ ic in
@@ -190,8 +192,8 @@ consumed_request p e j l x s legal ic is =
     let x_is : one.answer ≡ x = cc in (
       one.request,
       one.of,
-      subst (λ (y : Answer). u.IsRequest p j (e.lane / 2) l y one.request) x_is
-          (subst (λ n. u.IsRequest p j (e.lane / 2) n one.answer one.request) l_is one.asked),
+      subst (λ (y : Answer). u.IsRequest p j l y one.request) x_is
+          (subst (λ n. u.IsRequest p j n one.answer one.request) l_is one.asked),
     )
 
 matched_consumed : (x : Reply) (t : Attempt) → matched_in x ≡ Some t → consumed_in x ≡ Some t
@@ -213,11 +215,11 @@ clean_unfaulty (Some _) h = absurd (cc)
 
 -- a match waits for its Gather when it comes
 pub match_unspent : (p : Plan) (e : Entry) (j : List Entry) (l : ℕ) (x : Answer) (t : Attempt)
-    → Legal p (e ∷ j) → e.call ≡ call.Answer l x → matched_in e.reply ≡ Some t
+    → Lawful p (e ∷ j) → e.call ≡ call.Answer l x → matched_in e.reply ≡ Some t
     → is_spent j t ≡ false
 match_unspent p e j l x t legal ic is =
     let y = consumed_request p e j l x t legal ic (matched_consumed e.reply t is) in
-    let on = v.of_request p j (e.lane / 2) l x y.0 (k.IsSentOn j l) y.2
+    let on = v.of_request p j l x y.0 (k.IsSentOn j l) y.2
     (k.sends_on j l (begin_in_order p j legal.0)) in
     let clean = re.clean_request p j l y.0 legal.0 y.2.unbroken on y.2.is_open in
     let free = matched_free p j e.lane e.call e.reply t (v.entry_ruled p e j legal) is in

@@ -3,8 +3,10 @@
 use Rattle.std.proofs.Common.{◌≡◌, ℕ, ◌/◌, ◌%◌, ◌≤◌, ◌==◌, Bool, true, false, ◌&&◌, ◌||◌, not, cond, List, [], ◌∷◌, Option, Some, None, is_some, option_map, inl, inr, refl, sym, ap, subst, ◌∙◌, ℤ, arith}
 use Rattle.std.proofs.lemmas.Bool.{eqb-true, eq-eqb, and_parts}
 use Rattle.std.specs.Ordering.{int_eq}
+use Rattle.run_plan.specs.declared.plan.Kind.TheVariants as kind
 use Rattle.run_plan.specs.declared.plan.Branch.{Branch}
 use Rattle.run_plan.specs.declared.plan.Plan.{Plan}
+use Rattle.exec_journal.specs.Lawful as lw
 use Rattle.exec_journal.specs.declared.attempt.Attempt.{Attempt}
 use Rattle.exec_journal.specs.declared.journal.Entry.{Entry}
 use Rattle.exec_journal.specs.declared.call.Call.{Call}
@@ -25,7 +27,7 @@ use Rattle.exec_journal.specs.Settled.{bound}
 use Rattle.run_plan.specs.Groups.{kind_of}
 use Rattle.exec_journal.specs.Rules as r
 use Rattle.exec_journal.specs.Scripts as sc
-use Rattle.exec_journal.specs.Legal.{Legal}
+use Rattle.exec_journal.specs.Lawful.{Lawful}
 use Rattle.exec_journal.specs.Facts.{begun, reply_line}
 use Rattle.exec_journal.proofs.Ruled.{by_bool}
 use Rattle.exec_journal.proofs.Begins.{begin_in_order, attempts_in_order, same_attempt_refl, same_attempt_eq, launched_begun, bound_is}
@@ -47,7 +49,7 @@ use Rattle.journal_calls.specs.Moments.{IsBegun, EndsJust}
 
 -- ---- what was begun
 
-pub begun_is : (p : Plan) (j : List Entry) (t : Attempt) → Legal p j → 1 ≤ p.limit
+pub begun_is : (p : Plan) (j : List Entry) (t : Attempt) → Lawful p j → 1 ≤ p.limit
     → begun j t ≡ true → IsBegun p j t
 begun_is p j t legal least h =
     let order = attempts_in_order p j legal in
@@ -74,7 +76,7 @@ same_sym s t =
     (same_attempt_eq t s on) (same_attempt_refl t)) off))) refl
 
 -- the entry is answered Noted, or refuses: it begins, grants and commits nothing
-ends_just : (p : Plan) (e : Entry) (j : List Entry) (t : Attempt) → Legal p (e ∷ j) → 1 ≤ p.limit
+ends_just : (p : Plan) (e : Entry) (j : List Entry) (t : Attempt) → Lawful p (e ∷ j) → 1 ≤ p.limit
     → begun j t ≡ true → begun_in e.reply ≡ None → granted_in e.call e.reply ≡ None
     → ((a : ℕ) (b : Branch) (how : CommitEnd) → committed_in a b e.call ≡ Some how → ⊥)
     → ((u : Attempt) → ended (e ∷ j) u ≡ (ended j u ||
@@ -89,12 +91,12 @@ ends_just p e j t legal least h quiet free uncommitted this = record {
 
 -- ---- a Launched with a fault
 
-launched_noted : (p : Plan) (e : Entry) (j : List Entry) (l : ℕ) (how : Started) → Legal p (e ∷ j)
+launched_noted : (p : Plan) (e : Entry) (j : List Entry) (l : ℕ) (how : Started) → Lawful p (e ∷ j)
     → e.call ≡ call.Launched l how → e.reply ≡ reply.Noted
-launched_noted p e j l how legal is = legal.1.replied ∙ ap (r.rule p j e.lane) is
+launched_noted p e j l how legal is = subst (λ (d : Call). lw.Told p j e.lane d e.reply) is legal.1.told
 
 pub launched_just : (p : Plan) (e : Entry) (j : List Entry) (l m : ℕ) (how : Started) (t : Attempt)
-    → Legal p (e ∷ j) → 1 ≤ p.limit → e.call ≡ call.Launched l how → is_done how ≡ false
+    → Lawful p (e ∷ j) → 1 ≤ p.limit → e.call ≡ call.Launched l how → is_done how ≡ false
     → launch_of j l ≡ Some (m, t) → EndsJust p j e t
 launched_just p e j l m how t legal least is fault at =
     let noted = launched_noted p e j l how legal is in
@@ -107,7 +109,7 @@ launched_just p e j l m how t legal least is fault at =
     uncommitted a b z h = cc
 
 -- a line is launched by a proxy lane
-pub launch_even : (p : Plan) (j : List Entry) (l m : ℕ) (t : Attempt) → Legal p j
+pub launch_even : (p : Plan) (j : List Entry) (l m : ℕ) (t : Attempt) → Lawful p j
     → launch_of j l ≡ Some (m, t) → (m % 2 == 0) ≡ true
 unfolding launch_of
 launch_even p [] l m t legal h = absurd (cc)
@@ -138,7 +140,7 @@ launch_pair j l n m s t a b =
     ap (λ (x : ℕ × Attempt). x.0) pair
 
 -- the attempt that the Launch of a lane's newest work ordered is that of the line
-pub newest_launched : (p : Plan) (j : List Entry) (lane l : ℕ) (t : Attempt) (d : Entry) → Legal p j
+pub newest_launched : (p : Plan) (j : List Entry) (lane l : ℕ) (t : Attempt) (d : Entry) → Lawful p j
     → last_work j lane ≡ Some d → launch_in d.reply ≡ Some (l, t) → launch_of j l ≡ Some (lane, t)
 newest_launched p j lane l t d legal newest is =
     let on = c.newest_launch p j lane l t d legal newest is in
@@ -157,8 +159,8 @@ pub record IsLaunchOrder (j : List Entry) (lane l : ℕ) : Type 0 where
   pub launched : launch_of j l ≡ Some (lane, attempt)
 
 -- a Launched answers that
-pub launched_order : (p : Plan) (j : List Entry) (lane l : ℕ) (how : Started) → Legal p j
-    → sc.script p j lane (call.Launched l how) ≡ true → IsLaunchOrder j lane l
+pub launched_order : (p : Plan) (j : List Entry) (lane l : ℕ) (how : Started) → Lawful p j
+    → lw.in_script p j lane (call.Launched l how) ≡ true → IsLaunchOrder j lane l
 launched_order p j lane l how legal may =
     let answer = o.launched_answers p j lane l how may in
     let launch = c.launches_line_is l answer.order.reply answer.fits in
@@ -176,14 +178,14 @@ pub launch_fault : (e : Entry) (j : List Entry) (l : ℕ) (how : Started) (d : E
 launch_fault e j l how d s t is newest launch = rw (is, newest, launch) refl
 
 -- of what is bound, it names a fault of what is bound to its own line
-pub are_faulted : (p : Plan) (e : Entry) (j : List Entry) (l : ℕ) (how : Started) → Legal p (e ∷ j)
+pub are_faulted : (p : Plan) (e : Entry) (j : List Entry) (l : ℕ) (how : Started) → Lawful p (e ∷ j)
     → e.call ≡ call.Launched l how → is_done how ≡ false
     → (m : ℕ) (t : Attempt) → bound p j m ≡ Some t → (l == m) ≡ is_some (fault_at t j e)
 are_faulted p e j l how legal is fault = λ m t at. by m t at
   where
     order : IsLaunchOrder j e.lane l
     order = launched_order p j e.lane l how legal.0 (subst
-        (λ (d : Call). sc.script p j e.lane d ≡ true) is legal.1.scripted)
+        (λ (d : Call). lw.in_script p j e.lane d ≡ true) is legal.1.scripted)
 
     causes : (z : Started) → is_done z ≡ false → is_some (start_cause z) ≡ true
     causes start.Done h = absurd (cc)
@@ -226,8 +228,8 @@ are_faulted p e j l how legal is fault = λ m t at. by m t at
 -- ---- a Wrote that says its request wasn't written
 
 written_noted : (p : Plan) (e : Entry) (j : List Entry) (l : ℕ) (n : ℤ) (how : Written)
-    → Legal p (e ∷ j) → e.call ≡ call.Wrote l n how → e.reply ≡ reply.Noted
-written_noted p e j l n how legal is = legal.1.replied ∙ ap (r.rule p j e.lane) is
+    → Lawful p (e ∷ j) → e.call ≡ call.Wrote l n how → e.reply ≡ reply.Noted
+written_noted p e j l n how legal is = subst (λ (d : Call). lw.Told p j e.lane d e.reply) is legal.1.told
 
 order_sent : (j : List Entry) (lane : ℕ) (x : Request) → order_of j lane ≡ Some x
     → was_sent j x.attempt ≡ true
@@ -241,7 +243,7 @@ order_sent j lane x h = by (last_work j lane) refl h
         (rw g (same_attempt_refl x.attempt))
 
 wrote_just : (p : Plan) (e : Entry) (j : List Entry) (l : ℕ) (n : ℤ) (how : Written) (x : Request)
-    → Legal p (e ∷ j) → 1 ≤ p.limit → e.call ≡ call.Wrote l n how → order_of j e.lane ≡ Some x
+    → Lawful p (e ∷ j) → 1 ≤ p.limit → e.call ≡ call.Wrote l n how → order_of j e.lane ≡ Some x
     → ((u : Attempt) → ended (e ∷ j) u ≡ (ended j u ||
     (same_attempt x.attempt u && not (granted j x.attempt.action)))) → EndsJust p j e x.attempt
 wrote_just p e j l n how x legal least is order this =
@@ -255,13 +257,13 @@ wrote_just p e j l n how x legal least is order this =
     uncommitted a b z h = cc
 
 pub unwritten_just : (p : Plan) (e : Entry) (j : List Entry) (l : ℕ) (n : ℤ) (how : Written)
-    (x : Request) → Legal p (e ∷ j) → 1 ≤ p.limit → e.call ≡ call.Wrote l n how
+    (x : Request) → Lawful p (e ∷ j) → 1 ≤ p.limit → e.call ≡ call.Wrote l n how
     → is_unwritten how ≡ true → order_of j e.lane ≡ Some x → EndsJust p j e x.attempt
 unwritten_just p e j l n how x legal least is un order =
     wrote_just p e j l n how x legal least is order (λ u.
     ex.unwritten_ends p e j l n how x legal is un order u)
 
-pub order_carrier : (p : Plan) (j : List Entry) (lane : ℕ) (x : Request) → Legal p j
+pub order_carrier : (p : Plan) (j : List Entry) (lane : ℕ) (x : Request) → Lawful p j
     → order_of j lane ≡ Some x → line_of j x.attempt ≡ Some x.line
 order_carrier p j lane x legal h = by (last_work j lane) refl h
   where
@@ -274,7 +276,7 @@ order_carrier p j lane x legal h = by (last_work j lane) refl h
 
 -- a FeedFault after its line has Ended
 pub fed_just : (p : Plan) (e : Entry) (j : List Entry) (l : ℕ) (n : ℤ) (x : Request)
-    → Legal p (e ∷ j) → 1 ≤ p.limit → e.call ≡ call.Wrote l n write.FeedFault
+    → Lawful p (e ∷ j) → 1 ≤ p.limit → e.call ≡ call.Wrote l n write.FeedFault
     → order_of j e.lane ≡ Some x → has_ended j x.line ≡ true → EndsJust p j e x.attempt
 fed_just p e j l n x legal least is order over =
     wrote_just p e j l n write.FeedFault x legal least is order (λ u.
@@ -284,7 +286,7 @@ fed_just p e j l n x legal least is order over =
 
 -- one before that ends none, nor does a Wrote with Done or of a Cancel
 pub fed_ends_none : (p : Plan) (e : Entry) (j : List Entry) (l : ℕ) (n : ℤ) (x : Request)
-    → Legal p (e ∷ j) → e.call ≡ call.Wrote l n write.FeedFault → order_of j e.lane ≡ Some x
+    → Lawful p (e ∷ j) → e.call ≡ call.Wrote l n write.FeedFault → order_of j e.lane ≡ Some x
     → has_ended j x.line ≡ false → (u : Attempt) → ended (e ∷ j) u ≡ ended j u
 fed_ends_none p e j l n x legal is order running u =
     ex.feed_ends p e j l n x legal is order (order_carrier p j e.lane x legal.0 order) u
@@ -299,9 +301,9 @@ fed_ends_none p e j l n x legal is order running u =
 
 -- a faulty Wrote answers a Send
 pub unwritten_order : (p : Plan) (j : List Entry) (lane l : ℕ) (n : ℤ) (how : Written)
-    → sc.script p j lane (call.Wrote l n how) ≡ true → is_unwritten how ≡ true
+    → lw.in_script p j lane (call.Wrote l n how) ≡ true → is_unwritten how ≡ true
     → (x : Request) × (order_of j lane ≡ Some x) × (x.line ≡ l) × (int_eq x.number n ≡ true)
-unwritten_order p j lane l n how may un = elim (o.scripted p j lane (call.Wrote l n how) may) [
+unwritten_order p j lane l n how may un = elim (o.scripted p j lane (call.Wrote l n how) refl may) [
   | inl owes ↦ absurd (cc)
   | inr h ↦ by (last_work j lane) refl (and_parts (lane % 2 == 0) _ h).1
 ]
@@ -313,7 +315,7 @@ unwritten_order p j lane l n how may un = elim (o.scripted p j lane (call.Wrote 
     whole write.FeedFault a b = cc
 
     of_reply : (d : Entry) (y : Reply) → last_work j lane ≡ Some d → d.reply ≡ y
-        → (sc.is_owed p (kind_of p (lane / 2)) (call.Wrote l n how) y || false) ≡ true
+        → (sc.is_owed p kind.Single (call.Wrote l n how) y || false) ≡ true
         → (x : Request) × (order_of j lane ≡ Some x) × (x.line ≡ l) × (int_eq x.number n ≡ true)
     of_reply d (reply.Send m i a b t) at is g =
         let parts = and_parts (m == l) _ (first _ g) in (
@@ -335,7 +337,7 @@ unwritten_order p j lane l n how may un = elim (o.scripted p j lane (call.Wrote 
         first false h = absurd (cc)
     of_reply d _ at is g = absurd (cc)
 
-    by : (z : Option Entry) → last_work j lane ≡ z → sc.is_owed_after p (kind_of p (lane / 2))
+    by : (z : Option Entry) → last_work j lane ≡ z → sc.is_owed_after p kind.Single
         (call.Wrote l n how) z ≡ true → (x : Request) × (order_of j lane ≡ Some x) × (x.line ≡ l)
         × (int_eq x.number n ≡ true)
     by None at g = absurd (cc)
@@ -355,7 +357,7 @@ refused_commits_none : (d : Call) (x : Reply) (y : Attempt × Found) → refused
 refused_commits_none (call.Claim m n t f) x y h a b how k = cc
 refused_commits_none _ x y h a b how k = absurd (cc)
 
-pub refused_just : (p : Plan) (e : Entry) (j : List Entry) (y : Attempt × Found) → Legal p (e ∷ j)
+pub refused_just : (p : Plan) (e : Entry) (j : List Entry) (y : Attempt × Found) → Lawful p (e ∷ j)
     → 1 ≤ p.limit → refused_in e.call e.reply ≡ Some y → EndsJust p j e y.0
 refused_just p e j y legal least h =
     let going = (g.claimable p e j y.0 legal (ex.refused_claims e.call e.reply y h)).under_way in

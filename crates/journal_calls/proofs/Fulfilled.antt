@@ -2,6 +2,7 @@
 -- by its Ended.
 use Rattle.std.proofs.Common.{◌≡◌, ℕ, ◌/◌, ◌%◌, ◌==◌, Bool, true, false, ◌&&◌, ◌||◌, cond, List, [], ◌∷◌, Option, Some, None, is_some, option_map, ◌⊎◌, inl, inr, refl, sym, ap, subst, ◌∙◌}
 use Rattle.std.proofs.lemmas.Bool.{eqb-true, eq-eqb, and_parts, and_from, or_cases, or_left, or_right}
+use Rattle.run_plan.specs.declared.plan.Kind.TheVariants as kind
 use Rattle.run_plan.specs.declared.plan.Branch.{Branch}
 use Rattle.run_plan.specs.declared.plan.Kind.{Kind}
 use Rattle.run_plan.specs.declared.plan.Plan.{Plan}
@@ -21,7 +22,7 @@ use Rattle.exec_journal.specs.Entries.{attempt_of, same_branch, launch_in, grant
 use Rattle.exec_journal.specs.Words.{last_work, has_ended, was_taken, was_killed, kill_ordered, was_sent, launch_of, started, failed, wrote, of_action, grant_of, commit_of}
 use Rattle.exec_journal.specs.Rules.{gathered}
 use Rattle.exec_journal.specs.Scripts as sc
-use Rattle.exec_journal.specs.Legal.{Legal}
+use Rattle.exec_journal.specs.Lawful.{Lawful}
 use Rattle.exec_journal.proofs.Ruled.{by_bool}
 use Rattle.exec_journal.proofs.Begins.{same_branch_eq, same_branch_refl}
 use Rattle.journal_laws.specs.Invariant.{claimed}
@@ -69,7 +70,7 @@ same_win a i b m (call.Claim y n t (found.Files f)) reply.Granted h g =
 same_win a i b m _ _ h g = absurd (cc)
 
 module _ (p : Plan) (a : ℕ) (b : Branch) (e : Entry) (j : List Entry) (d : Entry)
-    (legal : Legal p (e ∷ j)) (at : last_work j e.lane ≡ Some d) (h : wins a b d ≡ true) where
+    (legal : Lawful p (e ∷ j)) (at : last_work j e.lane ≡ Some d) (h : wins a b d ≡ true) where
   commits_here : (c : Call) → sc.is_owed_commit c (Some d) ≡ true
       → is_some (committed_in a b c) ≡ true
   commits_here (call.Committed i m how) y = rw (same_win a i b m d.call d.reply h y) refl
@@ -84,6 +85,7 @@ module _ (p : Plan) (a : ℕ) (b : Branch) (e : Entry) (j : List Entry) (d : Ent
       by call.Ask w g = cc
       by call.Take w g = cc
       by call.Halt w g = cc
+      by call.Tick w g = cc
       by (call.Launched i how) w g = cc
       by (call.Wrote i m how) w g = cc
       by (call.Claim i m t f) w g = cc
@@ -92,18 +94,19 @@ module _ (p : Plan) (a : ℕ) (b : Branch) (e : Entry) (j : List Entry) (d : Ent
       by (call.Answer i x) w g = cc
       by (call.Ended i how) w g = cc
 
-  after : (c : Call) → is_work c ≡ true → sc.is_owed_after p (kind_of p (e.lane / 2)) c (Some d)
+  after : (c : Call) → is_work c ≡ true → sc.is_owed_after p kind.Single c (Some d)
       ≡ true → is_some (committed_in a b c) ≡ true
-  after c w y = elim (or_cases (sc.is_owed p (kind_of p (e.lane / 2)) c d.reply) _ y) [
-    | inl order ↦ absurd (owed_none (kind_of p (e.lane / 2)) c w order)
+  after c w y = elim (or_cases (sc.is_owed p kind.Single c d.reply) _ y) [
+    | inl order ↦ absurd (owed_none kind.Single c w order)
     | inr commit ↦ commits_here c commit
   ]
 
-  allowed_next : (c : Call) → is_work c ≡ true → sc.allowed p (kind_of p (e.lane / 2)) true
+  allowed_next : (c : Call) → is_work c ≡ true → sc.allowed p kind.Single true
       (Some d) c ≡ true → is_some (committed_in a b c) ≡ true
   allowed_next call.Ask w y = absurd (win_asks_none a b d.call d.reply h y)
   allowed_next call.Take w y = absurd (cc)
   allowed_next call.Halt w y = absurd (cc)
+  allowed_next call.Tick w y = after call.Tick w y
   allowed_next (call.Look l) w y = absurd (cc)
   allowed_next (call.Answer l x) w y = absurd (cc)
   allowed_next (call.Ended l how) w y = absurd (cc)
@@ -116,12 +119,14 @@ module _ (p : Plan) (a : ℕ) (b : Branch) (e : Entry) (j : List Entry) (d : Ent
   commit_next : is_work e.call ≡ true → is_some (committed_in a b e.call) ≡ true
   commit_next w =
       let even = (al.may_commit p j e.lane d legal.0 at (wins_by a b d.call d.reply h)).even in
-      elim (o.scripted p j e.lane e.call legal.1.scripted) [
-        | inl owes ↦ commits_here e.call (subst (λ (x : Option Entry). sc.is_owed_commit e.call x
+      elim (o.scripts p j e.lane e.call legal.1.scripted) [
+        | o.Ticks is proxy ask ↦ absurd (win_asks_none a b d.call d.reply h (subst
+            (λ (x : Option Entry). sc.may_ask x ≡ true) at ask))
+        | o.Owes owes ↦ commits_here e.call (subst (λ (x : Option Entry). sc.is_owed_commit e.call x
             ≡ true) at owes)
-        | inr may ↦ allowed_next e.call w (subst (λ z. sc.allowed p (kind_of p (e.lane / 2)) z
+        | o.May may ↦ allowed_next e.call w (subst (λ z. sc.allowed p kind.Single z
             (Some d) e.call ≡ true) even (subst (λ (x : Option Entry). sc.allowed p
-            (kind_of p (e.lane / 2)) (e.lane % 2 == 0) x e.call ≡ true) at may))
+            kind.Single (e.lane % 2 == 0) x e.call ≡ true) at may))
       ]
 
 abbrev is_committed : ℕ → Branch → List Entry → Bool
@@ -137,7 +142,7 @@ committed_here : (a : ℕ) (b : Branch) (e : Entry) (j : List Entry)
 unfolding commit_of
 committed_here a b e j h = k.some_new_cause (committed_in a b e.call) (commit_of j a b) h
 
-commit_meets : (p : Plan) (a : ℕ) (b : Branch) (e : Entry) (j : List Entry) → Legal p (e ∷ j)
+commit_meets : (p : Plan) (a : ℕ) (b : Branch) (e : Entry) (j : List Entry) → Lawful p (e ∷ j)
     → ow.Meets (wins a b) (is_committed a b) j e
 commit_meets p a b e j legal = record {
   works = λ h. win_works a b e.call e.reply h;
@@ -189,7 +194,7 @@ launches_is : (l : ℕ) (x : Reply) → o.launches_line l x ≡ true
 launches_is l (reply.Launch m a b t) h = h
 launches_is l _ h = absurd (cc)
 
-pub launch_met : (p : Plan) (j : List Entry) (l m : ℕ) (t : Attempt) → Legal p j
+pub launch_met : (p : Plan) (j : List Entry) (l m : ℕ) (t : Attempt) → Lawful p j
     → launch_of j l ≡ Some (m, t) → ((started j l || failed j l) ≡ true)
     ⊎ IsOwed j (launches_line l)
 launch_met p j l m t legal h = by (ow.launch_met p j l m t legal h)
@@ -204,15 +209,15 @@ launch_met p j l m t legal h = by (ow.launch_met p j l m t legal h)
       asks = launches_is l d.reply y;
     })
 
-pub send_met : (p : Plan) (j : List Entry) (t : Attempt) → Legal p j → was_sent j t ≡ true
+pub send_met : (p : Plan) (j : List Entry) (t : Attempt) → Lawful p j → was_sent j t ≡ true
     → (is_some (wrote j t) ≡ true) ⊎ IsOwed j (o.is_send t)
 send_met p j t legal h = owed_is _ _ j (ow.send_met p j t legal h)
 
-pub gather_met : (p : Plan) (j : List Entry) (t : Attempt) → Legal p j → gathered j t ≡ true
+pub gather_met : (p : Plan) (j : List Entry) (t : Attempt) → Lawful p j → gathered j t ≡ true
     → (claimed j t ≡ true) ⊎ IsOwed j (o.is_gather t)
 gather_met p j t legal h = owed_is _ _ j (ow.gather_met p j t legal h)
 
-pub kill_met : (p : Plan) (j : List Entry) (l : ℕ) → Legal p j → kill_ordered j l ≡ true
+pub kill_met : (p : Plan) (j : List Entry) (l : ℕ) → Lawful p j → kill_ordered j l ≡ true
     → (was_killed j l ≡ true) ⊎ IsOwed j (o.is_kill l)
 kill_met p j l legal h = by (la.kill_is p j l legal h)
   where
@@ -220,7 +225,7 @@ kill_met p j l legal h = by (la.kill_is p j l legal h)
     by (la.Made y) = inl y
     by (la.Owes lane d at y) = inr (record { lane = lane; order = d; newest = at; asks = y })
 
-pub grant_met : (p : Plan) (j : List Entry) (a : ℕ) (t : Attempt) (f : List (List ℕ)) → Legal p j
+pub grant_met : (p : Plan) (j : List Entry) (a : ℕ) (t : Attempt) (f : List (List ℕ)) → Lawful p j
     → grant_of j a ≡ Some (t, found.Files f)
     → (is_some (commit_of j a t.branch) ≡ true) ⊎ IsOwed j
     (λ e. sc.is_commit_of a t.branch e.call e.reply)
@@ -270,7 +275,7 @@ answer_heard l z (reply.Line i) none = absurd (none i refl)
 answer_heard l z _ none = eq-eqb l l refl
 
 -- the lane that reads the line makes no other work than Answers and then its Ended
-module _ (p : Plan) (e : Entry) (j : List Entry) (l : ℕ) (d : Entry) (legal : Legal p (e ∷ j))
+module _ (p : Plan) (e : Entry) (j : List Entry) (l : ℕ) (d : Entry) (legal : Lawful p (e ∷ j))
     (at : last_work j e.lane ≡ Some d) (h : sc.hears_after l d.call d.reply ≡ true) where
   owes_none : (c : Call) → sc.is_owed_commit c (Some d) ≡ true → ⊥
   owes_none (call.Committed i m how) y = no_commit l i m d.call d.reply h y
@@ -283,11 +288,12 @@ module _ (p : Plan) (e : Entry) (j : List Entry) (l : ℕ) (d : Entry) (legal : 
       let both : call.Answer l z ≡ call.Take = sym is ∙ take in cc))
 
   next_by : (c : Call) → e.call ≡ c → is_work c ≡ true
-      → sc.allowed p (kind_of p (e.lane / 2)) false (Some d) c ≡ true
+      → sc.allowed p kind.Single false (Some d) c ≡ true
       → (ends l e.call ≡ true) ⊎ (sc.hears_after l e.call e.reply ≡ true)
   next_by call.Ask is w y = absurd (cc)
   next_by call.Take is w y = absurd (no_take l d.call d.reply h y)
   next_by call.Halt is w y = absurd (cc)
+  next_by call.Tick is w y = absurd (cc)
   next_by (call.Look z) is w y = absurd (cc)
   next_by (call.Answer m z) is w y = (let same = same_heard l m d.call d.reply h y in
       inr (answers z (is ∙ ap (λ i. call.Answer i z) same)))
@@ -303,15 +309,16 @@ module _ (p : Plan) (e : Entry) (j : List Entry) (l : ℕ) (d : Entry) (legal : 
       ⊎ (sc.hears_after l e.call e.reply ≡ true)
   reads_next w =
       let odd = ta.hearing_odd p j e.lane l d legal.0 at h in
-      elim (o.scripted p j e.lane e.call legal.1.scripted) [
-        | inl owes ↦ absurd (owes_none e.call (subst (λ (x : Option Entry).
+      elim (o.scripts p j e.lane e.call legal.1.scripted) [
+        | o.Ticks is proxy ask ↦ absurd (let both : true ≡ false = sym proxy ∙ odd in cc)
+        | o.Owes owes ↦ absurd (owes_none e.call (subst (λ (x : Option Entry).
             sc.is_owed_commit e.call x ≡ true) at owes))
-        | inr may ↦ next_by e.call refl w (subst (λ z. sc.allowed p (kind_of p (e.lane / 2)) z
+        | o.May may ↦ next_by e.call refl w (subst (λ z. sc.allowed p kind.Single z
             (Some d) e.call ≡ true) odd (subst (λ (x : Option Entry). sc.allowed p
-            (kind_of p (e.lane / 2)) (e.lane % 2 == 0) x e.call ≡ true) at may))
+            kind.Single (e.lane % 2 == 0) x e.call ≡ true) at may))
       ]
 
-pub read_met : (p : Plan) (j : List Entry) (l : ℕ) → Legal p j → was_taken j l ≡ true
+pub read_met : (p : Plan) (j : List Entry) (l : ℕ) → Lawful p j → was_taken j l ≡ true
     → (has_ended j l ≡ true) ⊎ IsRead j l
 unfolding was_taken
 read_met p [] l legal h = absurd (cc)

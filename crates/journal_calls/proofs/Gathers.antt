@@ -3,6 +3,7 @@ use Rattle.std.proofs.Common.{◌≡◌, ℕ, ◌/◌, ◌==◌, Bool, true, fal
 use Rattle.std.specs.List.{filter}
 use Rattle.std.proofs.lemmas.Bool.{eqb-true, and_parts}
 use Rattle.run_plan.specs.declared.plan.Plan.{Plan}
+use Rattle.exec_journal.specs.Lawful as lw
 use Rattle.exec_journal.specs.declared.journal.Entry.{Entry}
 use Rattle.exec_journal.specs.declared.call.Call.{Call}
 use Rattle.exec_journal.specs.declared.call.Call.TheVariants as call
@@ -14,7 +15,7 @@ use Rattle.exec_journal.specs.Entries.{Request, send_in, matched_in}
 use Rattle.exec_journal.specs.Rules as r
 use Rattle.exec_journal.specs.Rules.{oldest, gathers_next}
 use Rattle.exec_journal.specs.Scripts as sc
-use Rattle.exec_journal.specs.Legal.{Legal}
+use Rattle.exec_journal.specs.Lawful.{Lawful}
 use Rattle.exec_journal.proofs.Histories.{AllOf}
 use Rattle.exec_journal.proofs.Ruled.{by_bool}
 use Rattle.journal_laws.proofs.Carried as k
@@ -51,7 +52,7 @@ matched_is w e m h =
         ap (λ (z : Option Matched). option_map (λ y. y.attempt) z) g
     of_entry _ _ g = absurd (cc)
 
-are_matches : (p : Plan) (j : List Entry) (w : ℕ) → Legal p j
+are_matches : (p : Plan) (j : List Entry) (w : ℕ) → Lawful p j
     → AllOf (λ m. IsMatchOf j w m.attempt) (all_matches j w)
 are_matches p [] w legal = tt
 are_matches p (e ∷ j) w legal =
@@ -63,7 +64,7 @@ are_matches p (e ∷ j) w legal =
     (are_matches p j w legal.0))
 
 -- where a lane may Ask, a match waits for its Gather exactly where it isn't spent
-waiting_is : (p : Plan) (j : List Entry) (lane : ℕ) → Legal p j → sc.script p j lane call.Ask ≡ true
+waiting_is : (p : Plan) (j : List Entry) (lane : ℕ) → Lawful p j → lw.in_script p j lane call.Ask ≡ true
     → AllOf (λ m. r.waits j m.attempt ≡ waits_yet j m) (all_matches j (lane / 2))
 waiting_is p j lane legal asks =
     k.all_map (λ m. IsMatchOf j (lane / 2) m.attempt) (λ m. r.waits j m.attempt ≡ waits_yet j m)
@@ -151,7 +152,7 @@ send_at w e h =
     let x = v.some_is (send_in e.reply) parts.1 in
     (eqb-true (e.lane / 2) w parts.0, x.0, x.1)
 
-pub earlier_spent : (p : Plan) (j : List Entry) (w : ℕ) → Legal p j
+pub earlier_spent : (p : Plan) (j : List Entry) (w : ℕ) → Lawful p j
     → AllOf (λ m. is_spent j m.attempt ≡ true) (earlier j w)
 earlier_spent p [] w legal = tt
 earlier_spent p (e ∷ j) w legal =
@@ -174,8 +175,8 @@ earlier_spent p (e ∷ j) w legal =
         let ruled = v.entry_ruled p e j legal in
         let to = q.sends_to p j e.lane x.line e.call e.reply x ruled is refl in
         let ask = c.asks p j e.lane e.call e.reply x ruled is in
-        let asks : sc.script p j e.lane call.Ask ≡ true = subst
-        (λ (d : Call). sc.script p j e.lane d ≡ true) ask legal.1.scripted in
+        let asks : lw.in_script p j e.lane call.Ask ≡ true = subst
+        (λ (d : Call). lw.in_script p j e.lane d ≡ true) ask legal.1.scripted in
         let none = sym (next_is j j (e.lane / 2) (waiting_is p j e.lane legal.0 asks))
         ∙ to.none.no_gather in
         k.all_map (λ m. waits_yet j m ≡ false) (λ m. is_spent j m.attempt ≡ true)
@@ -225,8 +226,8 @@ enough i (e ∷ j) w all =
         (cond b (m ∷ filter (waits_yet i) (recent j w)) (filter (waits_yet i) (recent j w))))
         (λ _. ap (λ o. or_else o (Some m)) ih) (λ _. ih)
 
-pub gathers : (p : Plan) (j : List Entry) (lane : ℕ) → Legal p j
-    → sc.script p j lane call.Ask ≡ true → gathers_next j (lane / 2) ≡ option_map gather_of
+pub gathers : (p : Plan) (j : List Entry) (lane : ℕ) → Lawful p j
+    → lw.in_script p j lane call.Ask ≡ true → gathers_next j (lane / 2) ≡ option_map gather_of
     (oldest (filter (waits_yet j) (recent j (lane / 2))))
 gathers p j lane legal asks =
     next_is j j (lane / 2) (waiting_is p j lane legal asks)

@@ -1,8 +1,10 @@
 -- The last line of each berth: which lines a lane's calls name, and what is so of them.
 use Rattle.std.proofs.Common.{◌≡◌, ℕ, ◌/◌, ◌%◌, ◌<◌, ◌≤◌, ◌==◌, nat_lt, true, false, ◌&&◌, not, cond, List, [], ◌∷◌, Option, Some, None, option_map, ◌⊎◌, inl, inr, refl, sym, ap, subst, ◌∙◌, arith}
 use Rattle.std.proofs.lemmas.Bool.{eqb-true, eq-eqb, ltb-true, ltb-false, and_parts, and_from, or_cases, or_left, or_right}
+use Rattle.run_plan.specs.declared.plan.Kind.TheVariants as kind
 use Rattle.run_plan.specs.declared.plan.Kind.{Kind}
 use Rattle.run_plan.specs.declared.plan.Plan.{Plan}
+use Rattle.exec_journal.specs.Lawful as lw
 use Rattle.exec_journal.specs.declared.attempt.Attempt.{Attempt}
 use Rattle.exec_journal.specs.declared.journal.Entry.{Entry}
 use Rattle.exec_journal.specs.declared.call.Call.{Call}
@@ -20,10 +22,11 @@ use Rattle.exec_journal.specs.Attempts.{ended}
 use Rattle.run_plan.specs.Groups.{kind_of}
 use Rattle.exec_journal.specs.Settled.{bound}
 use Rattle.exec_journal.specs.Scripts as sc
-use Rattle.exec_journal.specs.Legal.{Legal}
+use Rattle.exec_journal.specs.Lawful.{Lawful}
 use Rattle.exec_journal.specs.Facts.{call_line, reply_line, IsOfBerth, OfBerth}
 use Rattle.exec_journal.proofs.Histories.{AllOf, all_filter, all_oldest}
-use Rattle.exec_journal.proofs.Ruled as u
+use Rattle.exec_journal.proofs.Ruled as ru
+use Rattle.exec_journal.proofs.Reasons as u
 use Rattle.exec_journal.proofs.Ruled.{by_bool}
 use Rattle.exec_journal.proofs.Lines.{pending_line, lines_named, of_berth_more, script_own}
 use Rattle.journal_laws.proofs.Fresh.{fresh}
@@ -48,7 +51,7 @@ use Rattle.journal_calls.proofs.Owing as ow
 -- ---- the lines of a berth
 
 -- each was launched by its lane
-pub lines_own : (p : Plan) (j : List Entry) (w : ℕ) → Legal p j
+pub lines_own : (p : Plan) (j : List Entry) (w : ℕ) → Lawful p j
     → AllOf (λ l. IsOfBerth j l w) (lines_of j w)
 unfolding lines_of
 lines_own p [] w legal = tt
@@ -75,7 +78,7 @@ lines_own p (e ∷ j) w legal =
         (λ _ _ m. absurd (cc)) refl h
 
 -- a live one is its last
-pub live_is_last : (p : Plan) (j : List Entry) (l w : ℕ) → Legal p j → IsOfBerth j l w
+pub live_is_last : (p : Plan) (j : List Entry) (l w : ℕ) → Lawful p j → IsOfBerth j l w
     → live j l ≡ true → last_line j w ≡ Some l
 live_is_last p j l w legal own up = elim (va.last_or_done p j l own.owner.0 own.owner.1 legal
     own.owner.2) [
@@ -84,7 +87,7 @@ live_is_last p j l w legal own up = elim (va.last_or_done p j l own.owner.0 own.
     ]
 
 -- so among the lines of a berth
-pub live_last : (p : Plan) (j : List Entry) (w l : ℕ) → Legal p j → last_line j w ≡ Some l
+pub live_last : (p : Plan) (j : List Entry) (w l : ℕ) → Lawful p j → last_line j w ≡ Some l
     → AllOf (λ i. live j i ≡ true → i ≡ l) (lines_of j w)
 live_last p j w l legal here = k.all_map (λ i. IsOfBerth j i w)
     (λ i. live j i ≡ true → i ≡ l) one (lines_of j w) (lines_own p j w legal)
@@ -95,8 +98,8 @@ live_last p j w l legal here = k.all_map (λ i. IsOfBerth j i w)
 -- ---- where a lane may Ask
 
 -- its berth's last line failed to launch exactly where it wasn't started
-pub launched_yet : (p : Plan) (j : List Entry) (lane l : ℕ) → Legal p j
-    → sc.script p j lane call.Ask ≡ true → last_line j (lane / 2) ≡ Some l
+pub launched_yet : (p : Plan) (j : List Entry) (lane l : ℕ) → Lawful p j
+    → lw.in_script p j lane call.Ask ≡ true → last_line j (lane / 2) ≡ Some l
     → failed j l ≡ not (started j l)
 launched_yet p j lane l legal asks here =
     by_bool (started j l) (λ b. started j l ≡ b → failed j l ≡ not b)
@@ -165,12 +168,14 @@ order_names p j lane l d x (u.Cancels m y here up may which none) h =
     (all_filter (λ (z : Request). z.line ≡ m) _ (pending j m) (pending_line j m)) which in
     Last refl (same_last j _ m l here (ap Some (sym line) ∙ h))
 order_names p j lane l d x (u.Sends m t here up next none) h = Last refl (same_last j _ m l here h)
-order_names p j lane l d x (u.Launches t vacant full next none) h =
+order_names p j lane l d x (u.Launches gr t vacant next none) h =
     (let n : line_count j ≡ l = cc in New t (ap (λ i. Some (i, t)) n))
+order_names p j lane l d x (u.Evicts m here alive empty free none) h =
+    Last refl (same_last j _ m l here h)
 order_names p j lane l d x (u.Notes z n) h = absurd (cc)
 order_names p j lane l d x _ h = absurd (cc)
 
-last_now : (p : Plan) (e : Entry) (j : List Entry) (l : ℕ) → Legal p (e ∷ j)
+last_now : (p : Plan) (e : Entry) (j : List Entry) (l : ℕ) → Lawful p (e ∷ j)
     → order_line e.reply ≡ Some l → last_line (e ∷ j) (e.lane / 2) ≡ Some l
 last_now p e j l legal h = by (order_names p j e.lane l e.call e.reply
     (v.entry_ruled p e j legal) h)
@@ -183,7 +188,7 @@ launch_is_order : (x : Reply) (y : ℕ × Attempt) → launch_in x ≡ Some y �
 launch_is_order (reply.Launch l a b t) y h = refl
 launch_is_order _ y h = absurd (cc)
 
-pub order_last : (p : Plan) (j : List Entry) (lane l : ℕ) (d : Entry) → Legal p j
+pub order_last : (p : Plan) (j : List Entry) (lane l : ℕ) (d : Entry) → Lawful p j
     → last_work j lane ≡ Some d → order_line d.reply ≡ Some l → last_line j (lane / 2) ≡ Some l
 unfolding last_work
 order_last p [] lane l d legal h is = absurd (cc)
@@ -221,18 +226,18 @@ pub record IsHeard (j : List Entry) (l : ℕ) : Type 0 where
   pub up : started j l ≡ true
   pub running : has_ended j l ≡ false
 
-pub heard : (p : Plan) (j : List Entry) (lane l : ℕ) (how : HowEnded) → Legal p j
-    → sc.script p j lane (call.Ended l how) ≡ true → IsHeard j l
+pub heard : (p : Plan) (j : List Entry) (lane l : ℕ) (how : HowEnded) → Lawful p j
+    → lw.in_script p j lane (call.Ended l how) ≡ true → IsHeard j l
 unfolding has_ended started
 heard p j lane l how legal may =
     let e : Entry = record { lane = lane; call = call.Ended l how; reply = reply.Noted } in
-    let next : Legal p (e ∷ j) = (legal, record { scripted = may; replied = refl; kept = refl }) in
+    let next : Lawful p (e ∷ j) = (legal, record { scripted = may; told = refl; kept = refl }) in
     record {
       up = gi.ended_started p (e ∷ j) l next (or_left (l == l) _ (eq-eqb l l refl));
       running = ta.reported_running p e j l next (eq-eqb l l refl);
     }
 
-heard_last : (p : Plan) (j : List Entry) (l w : ℕ) → Legal p j → IsOfBerth j l w → IsHeard j l
+heard_last : (p : Plan) (j : List Entry) (l w : ℕ) → Lawful p j → IsOfBerth j l w → IsHeard j l
     → last_line j w ≡ Some l
 heard_last p j l w legal own h = elim (va.last_or_done p j l own.owner.0 own.owner.1 legal
     own.owner.2) [
@@ -258,30 +263,34 @@ owed_line p n (call.Claim a b t f) x l h is = absurd (cc)
 owed_line p n (call.Look w) x l h is = absurd (cc)
 owed_line p n _ x l h is = absurd (cc)
 
-owed_last : (p : Plan) (j : List Entry) (lane l : ℕ) (d : Call) → Legal p j → call_line d ≡ Some l
+owed_last : (p : Plan) (j : List Entry) (lane l : ℕ) (d : Call) → Lawful p j → call_line d ≡ Some l
     → (z : Option Entry) → last_work j lane ≡ z → sc.is_owed_commit d z ≡ false
-    → sc.is_owed_after p (kind_of p (lane / 2)) d z ≡ true → last_line j (lane / 2) ≡ Some l
+    → sc.is_owed_after p kind.Single d z ≡ true → last_line j (lane / 2) ≡ Some l
 owed_last p j lane l d legal is None at none h = absurd (cc)
 owed_last p j lane l d legal is (Some e) at none h =
-    order_last p j lane l e legal at (owed_line p (kind_of p (lane / 2)) d e.reply l
+    order_last p j lane l e legal at (owed_line p kind.Single d e.reply l
     (ow.either _ _ (λ y. clash _ y none) h) is)
 
-owed_names : (p : Plan) (j : List Entry) (lane l : ℕ) (d : Call) → Legal p j → call_line d ≡ Some l
+owed_names : (p : Plan) (j : List Entry) (lane l : ℕ) (d : Call) → Lawful p j → call_line d ≡ Some l
     → ((z : Option Entry) → sc.is_owed_commit d z ≡ false)
-    → ((lane % 2 == 0) && sc.is_owed_after p (kind_of p (lane / 2)) d (last_work j lane)) ≡ true
+    → ((lane % 2 == 0) && sc.is_owed_after p kind.Single d (last_work j lane)) ≡ true
     → last_line j (lane / 2) ≡ Some l
 owed_names p j lane l d legal is none h = owed_last p j lane l d legal is (last_work j lane) refl
     (none (last_work j lane)) (and_parts (lane % 2 == 0) _ h).1
 
-pub names_last : (p : Plan) (j : List Entry) (lane l : ℕ) (d : Call) → Legal p j
-    → sc.script p j lane d ≡ true → call_line d ≡ Some l → last_line j (lane / 2) ≡ Some l
+no_tick : (d : Call) {l : ℕ} → call_line d ≡ Some l → o.is_tick d ≡ false
+no_tick call.Tick is = absurd (cc)
+no_tick _ is = refl
+
+pub names_last : (p : Plan) (j : List Entry) (lane l : ℕ) (d : Call) → Lawful p j
+    → lw.in_script p j lane d ≡ true → call_line d ≡ Some l → last_line j (lane / 2) ≡ Some l
 names_last p j lane l d legal may is = by d is may
-    (script_own p j lane d may (lines_named p j legal)) (o.scripted p j lane d may)
+    (script_own p j lane d may (lines_named p j legal)) (o.scripted p j lane d (no_tick d is) may)
   where
-    by : (d : Call) → call_line d ≡ Some l → sc.script p j lane d ≡ true
+    by : (d : Call) → call_line d ≡ Some l → lw.in_script p j lane d ≡ true
         → OfBerth j (call_line d) (lane / 2)
         → (sc.is_owed_commit d (last_work j lane) ≡ true) ⊎
-        (sc.allowed p (kind_of p (lane / 2)) (lane % 2 == 0) (last_work j lane) d ≡ true)
+        (sc.allowed p kind.Single (lane % 2 == 0) (last_work j lane) d ≡ true)
         → last_line j (lane / 2) ≡ Some l
     by (call.Launched i how) is may own (inr h) = owed_names p j lane l
         (call.Launched i how) legal is (λ _. refl) h
@@ -301,7 +310,7 @@ names_last p j lane l d legal may is = by d is may
 -- ---- what is bound
 
 -- where a line failed to launch, its attempt has ended, unless its action has a grant
-pub failed_ends : (p : Plan) (j : List Entry) (l m : ℕ) (s : Attempt) → Legal p j
+pub failed_ends : (p : Plan) (j : List Entry) (l m : ℕ) (s : Attempt) → Lawful p j
     → launch_of j l ≡ Some (m, s) → failed j l ≡ true → (ended j s ≡ true)
     ⊎ (granted j s.action ≡ true)
 unfolding failed
@@ -310,7 +319,7 @@ failed_ends p (e ∷ j) l m s legal at h = by (or_cases (fails l e.call) (failed
     (q.launch_cases p e j l m s at) (λ a y. failed_ends p j l m s legal.0 a y)
   where
     undone : (how : Started) → (not (is_done how) && (l == l)) ≡ true → is_done how ≡ false
-    undone how y = u.not_true (is_done how) (and_parts (not (is_done how)) _ y).0
+    undone how y = ru.not_true (is_done how) (and_parts (not (is_done how)) _ y).0
 
     ends_now : launch_of j l ≡ Some (m, s) → fails l e.call ≡ true
         → (ended (e ∷ j) s ≡ true) ⊎ (granted (e ∷ j) s.action ≡ true)
@@ -346,7 +355,7 @@ failed_ends p (e ∷ j) l m s legal at h = by (or_cases (fails l e.call) (failed
       | inr won ↦ inr (granted_stays e j s.action won)
     ]
 
-below_count : (p : Plan) (j : List Entry) (l m : ℕ) (t : Attempt) → Legal p j
+below_count : (p : Plan) (j : List Entry) (l m : ℕ) (t : Attempt) → Lawful p j
     → launch_of j l ≡ Some (m, t) → l < line_count j
 below_count p j l m t legal at =
     by_bool (nat_lt l (line_count j)) (λ b. nat_lt l (line_count j) ≡ b → l < line_count j)
@@ -356,7 +365,7 @@ below_count p j l m t legal at =
     cc)) refl
 
 -- a line with a bound branch is its berth's last
-pub bound_last : (p : Plan) (j : List Entry) (l w : ℕ) (t : Attempt) → Legal p j → IsOfBerth j l w
+pub bound_last : (p : Plan) (j : List Entry) (l w : ℕ) (t : Attempt) → Lawful p j → IsOfBerth j l w
     → bound p j l ≡ Some t → last_line j w ≡ Some l
 bound_last p j l w t legal own at = by (va.last_or_done p j l own.owner.0 own.owner.1 legal
     own.owner.2)
@@ -385,7 +394,7 @@ bound_last p j l w t legal own at = by (va.last_or_done p j l own.owner.0 own.ow
       | inr y ↦ absurd (clash (ended j t) (over (and_parts (has_ended j l) _ y).0) is.going)
     ]
 
-pub bound_is_last : (p : Plan) (j : List Entry) (l m : ℕ) (t : Attempt) → Legal p j
+pub bound_is_last : (p : Plan) (j : List Entry) (l m : ℕ) (t : Attempt) → Lawful p j
     → bound p j l ≡ Some t → launch_of j l ≡ Some (m, t) → last_line j (m / 2) ≡ Some l
 bound_is_last p j l m t legal h at = bound_last p j l (m / 2) t legal
     (record { below = below_count p j l m t legal at; owner = (m, t, at, refl) }) h

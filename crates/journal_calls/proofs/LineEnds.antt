@@ -13,7 +13,7 @@ use Rattle.exec_journal.specs.Entries.{Request, same_attempt, is_for, is_unwritt
 use Rattle.exec_journal.specs.Words.{launch_of, sends, pending, is_pending, was_sent, answered, wrote, says_unwritten, says_feed_fault, has_ended, granted}
 use Rattle.exec_journal.specs.Attempts.{line_of, ended}
 use Rattle.exec_journal.specs.Settled.{bound, wanted}
-use Rattle.exec_journal.specs.Legal.{Legal}
+use Rattle.exec_journal.specs.Lawful.{Lawful}
 use Rattle.exec_journal.specs.Facts.{begun}
 use Rattle.journal_laws.specs.Invariant.{EachRequest, is_left, older}
 use Rattle.journal_laws.specs.Steps.{is_line}
@@ -43,7 +43,7 @@ unwritten_by : (w : Option Written) → says_unwritten w ≡ true
 unwritten_by (Some y) h = (y, refl, h)
 unwritten_by None h = absurd (cc)
 
-pub unwritten_over : (p : Plan) (j : List Entry) (t : Attempt) → Legal p j
+pub unwritten_over : (p : Plan) (j : List Entry) (t : Attempt) → Lawful p j
     → says_unwritten (wrote j t) ≡ true → (ended j t ≡ true) ⊎ (granted j t.action ≡ true)
 unfolding wrote
 unwritten_over p [] t legal h = absurd (cc)
@@ -86,7 +86,7 @@ pub record IsSent (j : List Entry) (t : Attempt) : Type 0 where
   pub carrier : line_of j t ≡ Some request.line
   pub among : va.IsAmong j request
 
-pub sent_request : (p : Plan) (j : List Entry) (t : Attempt) → Legal p j → was_sent j t ≡ true
+pub sent_request : (p : Plan) (j : List Entry) (t : Attempt) → Lawful p j → was_sent j t ≡ true
     → IsSent j t
 unfolding was_sent
 sent_request p [] t legal h = absurd (cc)
@@ -154,7 +154,7 @@ pub bound_to : (p : Plan) (j : List Entry) (l m : ℕ) (t : Attempt) → launch_
 unfolding bound
 bound_to p j l m t at wish un going = rw (at, wish, un, going) refl
 
-module _ (p : Plan) (j : List Entry) (l : ℕ) (t : Attempt) (legal : Legal p j) where
+module _ (p : Plan) (j : List Entry) (l : ℕ) (t : Attempt) (legal : Lawful p j) where
   -- what is left on the line stands there
   module _ (running : has_ended j l ≡ false) (at : line_of j t ≡ Some l) (left : is_left j t ≡ true)
       (free : granted j t.action ≡ false) (going : ended j t ≡ false) where
@@ -291,7 +291,7 @@ module _ (p : Plan) (j : List Entry) (l : ℕ) (t : Attempt) (legal : Legal p j)
 
 -- an Ended ends exactly what stands on its line and has no grant of its action
 pub ends_standing : (p : Plan) (e : Entry) (j : List Entry) (l : ℕ) (how : HowEnded)
-    → Legal p (e ∷ j) → e.call ≡ call.Ended l how → (t : Attempt)
+    → Lawful p (e ∷ j) → e.call ≡ call.Ended l how → (t : Attempt)
     → ended (e ∷ j) t ≡ (ended j t || (stands_on p j l t && not (granted j t.action)))
 ends_standing p e j l how legal is t = ex.line_ends p e j l how legal is t
     ∙ by (ended j t) (granted j t.action) refl refl
@@ -337,6 +337,6 @@ ends_standing p e j l how legal is t = ex.line_ends p e j l how legal is t
     by false false a b = same b a
 
 -- each of those was begun
-pub standing_begun : (p : Plan) (j : List Entry) (l : ℕ) (t : Attempt) → Legal p j
+pub standing_begun : (p : Plan) (j : List Entry) (l : ℕ) (t : Attempt) → Lawful p j
     → stands_on p j l t ≡ true → begun j t ≡ true
 standing_begun p j l t legal h = k.carried_begun j t l (stands_left p j l t legal h).carrier

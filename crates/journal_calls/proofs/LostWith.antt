@@ -4,6 +4,7 @@ use Rattle.std.specs.List.{filter, find, list_any}
 use Rattle.std.proofs.lemmas.Bool.{and_parts, or_left, or_right, or_parts, or_from}
 use Rattle.std.proofs.lemmas.List.Folds.{list_any-append}
 use Rattle.run_plan.specs.declared.plan.Plan.{Plan}
+use Rattle.exec_journal.specs.Lawful as lw
 use Rattle.exec_journal.specs.declared.attempt.Attempt.{Attempt}
 use Rattle.exec_journal.specs.declared.journal.Entry.{Entry}
 use Rattle.exec_journal.specs.declared.call.Call.{Call}
@@ -17,7 +18,7 @@ use Rattle.exec_journal.specs.Words.{sends, sent_on, pending, is_pending, was_se
 use Rattle.exec_journal.specs.Attempts.{ended}
 use Rattle.exec_journal.specs.Settled.{bound}
 use Rattle.exec_journal.specs.Scripts as sc
-use Rattle.exec_journal.specs.Legal.{Legal}
+use Rattle.exec_journal.specs.Lawful.{Lawful}
 use Rattle.journal_laws.specs.Invariant.{EachRequest, IsGoing}
 use Rattle.journal_laws.specs.Steps.{EndExactly}
 use Rattle.journal_calls.specs.Moments.{fed_on, stands_on, standing_on, lost_with, is_open_yet, AreApart}
@@ -119,7 +120,7 @@ feed_written (Some write.RoomFault) h = absurd (cc)
 feed_written (Some write.TooLarge) h = absurd (cc)
 feed_written None h = absurd (cc)
 
-module _ (p : Plan) (j : List Entry) (l : ℕ) (t : Attempt) (legal : Legal p j)
+module _ (p : Plan) (j : List Entry) (l : ℕ) (t : Attempt) (legal : Lawful p j)
     (running : has_ended j l ≡ false) where
   -- without an answer, what the feed failed for is pending
   fed_pending : is_for t (fed_on j l) ≡ true → answered j t ≡ false
@@ -187,7 +188,7 @@ module _ (p : Plan) (j : List Entry) (l : ℕ) (t : Attempt) (legal : Legal p j)
 -- ---- so with the line end exactly those of the list, each once
 
 pub lost_exactly : (p : Plan) (e : Entry) (j : List Entry) (l : ℕ) (how : HowEnded)
-    → Legal p (e ∷ j) → e.call ≡ call.Ended l how → EndExactly j e
+    → Lawful p (e ∷ j) → e.call ≡ call.Ended l how → EndExactly j e
     (λ t. list_any (same_attempt t) (lost_with p j l))
 lost_exactly p e j l how legal is t =
     le.ends_standing p e j l how legal is t
@@ -196,14 +197,14 @@ lost_exactly p e j l how legal is t =
     ∙ ap (λ b. b && is_open_yet j t) (among_standing p j l t legal.0 heard.running)))
   where
     heard : ll.IsHeard j l
-    heard = ll.heard p j e.lane l how legal.0 (subst (λ (d : Call). sc.script p j e.lane d ≡ true)
+    heard = ll.heard p j e.lane l how legal.0 (subst (λ (d : Call). lw.in_script p j e.lane d ≡ true)
         is legal.1.scripted)
 
     by : (x w s : Bool) → (x || (s && not w)) ≡ (x || (s && (not x && not w)))
     by true w s = refl
     by false w s = refl
 
-pub lost_going : (p : Plan) (j : List Entry) (l : ℕ) (t : Attempt) → Legal p j
+pub lost_going : (p : Plan) (j : List Entry) (l : ℕ) (t : Attempt) → Lawful p j
     → has_ended j l ≡ false → list_any (same_attempt t) (lost_with p j l) ≡ true → IsGoing j t
 lost_going p j l t legal running h =
     let parts = and_parts (list_any (same_attempt t) (standing_on p j l)) _
@@ -215,7 +216,7 @@ lost_going p j l t legal running h =
 -- ---- no attempt stands twice in the list
 
 -- of the requests of a line each is of an attempt of its own
-sends_apart : (p : Plan) (j : List Entry) (l : ℕ) → Legal p j
+sends_apart : (p : Plan) (j : List Entry) (l : ℕ) → Lawful p j
     → AreApart (map (λ (x : Request). x.attempt) (sends j l))
 unfolding sends
 sends_apart p [] l legal = tt
@@ -259,7 +260,7 @@ passed_apart pass (x ∷ xs) all =
         (λ _. still ys parts.1)
 
 -- where a branch is bound the line has no request
-pub standing_apart : (p : Plan) (j : List Entry) (l : ℕ) → Legal p j → AreApart (standing_on p j l)
+pub standing_apart : (p : Plan) (j : List Entry) (l : ℕ) → Lawful p j → AreApart (standing_on p j l)
 unfolding pending
 standing_apart p j l legal = by_bound (bound p j l) refl
   where
@@ -292,6 +293,6 @@ standing_apart p j l legal = by_bound (bound p j l) refl
     by_bound None is = with_fed (fed_on j l)
     by_bound (Some t) is = of_bound t (sends j l) (q.bound_unsent p j l t legal is)
 
-pub lost_apart : (p : Plan) (j : List Entry) (l : ℕ) → Legal p j → AreApart (lost_with p j l)
+pub lost_apart : (p : Plan) (j : List Entry) (l : ℕ) → Lawful p j → AreApart (lost_with p j l)
 lost_apart p j l legal = apart_filter (is_open_yet j) (standing_on p j l)
     (standing_apart p j l legal)

@@ -1,6 +1,7 @@
 -- What an order that is answered to an Ask asks of the journal before it.
 use Rattle.std.proofs.Common.{◌≡◌, ℕ, ◌/◌, true, false, List, ◌∷◌, Some, None, ◌⊎◌, inl, inr, refl, sym, ◌∙◌, ℤ}
 use Rattle.run_plan.specs.declared.plan.Plan.{Plan}
+use Rattle.exec_journal.specs.Lawful as lw
 use Rattle.exec_journal.specs.declared.attempt.Attempt.{Attempt}
 use Rattle.exec_journal.specs.declared.journal.Entry.{Entry}
 use Rattle.exec_journal.specs.declared.call.Call.TheVariants as call
@@ -11,7 +12,7 @@ use Rattle.exec_journal.specs.Attempts.{ended}
 use Rattle.exec_journal.specs.Settled.{bound, wanted}
 use Rattle.exec_journal.specs.Rules as r
 use Rattle.exec_journal.specs.Scripts as sc
-use Rattle.exec_journal.specs.Legal.{Legal}
+use Rattle.exec_journal.specs.Lawful.{Lawful}
 use Rattle.run_plan.specs.Sound.{Sound}
 use Rattle.exec_journal.specs.Facts.{BeginsNext, ContinuesOn}
 use Rattle.exec_journal.proofs.Begins.{begin_in_order, bound_is, launched_begun}
@@ -30,9 +31,9 @@ bound_so p j l n t at wish unsent going = rw (at, wish, unsent, going) refl
 
 -- ---- a Send
 
-pub is_send : (p : Plan) (j : List Entry) (lane l : ℕ) (n : ℤ) (t : Attempt) → Sound p → Legal p j
-    → sc.script p j lane call.Ask ≡ true → reply.Send l n t.action t.branch t.number
-    ≡ r.rule p j lane call.Ask → IsSendOf p j (lane / 2) l t
+pub is_send : (p : Plan) (j : List Entry) (lane l : ℕ) (n : ℤ) (t : Attempt) → Sound p → Lawful p j
+    → lw.in_script p j lane call.Ask ≡ true → lw.Told p j lane call.Ask (reply.Send l n t.action t.branch t.number)
+    → IsSendOf p j l t
 is_send p j lane l n t sound legal may is =
     let e : Entry = record {
       lane = lane;
@@ -40,7 +41,7 @@ is_send p j lane l n t sound legal may is =
       reply = reply.Send l n t.action t.branch t.number;
     } in
     let x : Request = record { line = l; number = n; attempt = t } in
-    let next : Legal p (e ∷ j) = (legal, record { scripted = may; replied = is; kept = refl }) in
+    let next : Lawful p (e ∷ j) = (legal, record { scripted = may; told = is; kept = refl }) in
     let new = of.fresh_send p e j x next refl in
     let place = pl.numbered_send p e j x next sound.least refl in
     let wish = g.sends_wanted p j lane call.Ask e.reply x (v.entry_ruled p e j next) refl in
@@ -64,15 +65,15 @@ is_send p j lane l n t sound legal may is =
 
 -- ---- a Launch
 
-pub is_launch : (p : Plan) (j : List Entry) (lane l : ℕ) (t : Attempt) → Sound p → Legal p j
-    → sc.script p j lane call.Ask ≡ true → reply.Launch l t.action t.branch t.number
-    ≡ r.rule p j lane call.Ask → IsLaunchOf p j (lane / 2) t
+pub is_launch : (p : Plan) (j : List Entry) (lane l : ℕ) (t : Attempt) → Sound p → Lawful p j
+    → lw.in_script p j lane call.Ask ≡ true → lw.Told p j lane call.Ask (reply.Launch l t.action t.branch t.number)
+    → IsLaunchOf p j t
 is_launch p j lane l t sound legal may is =
     let e : Entry = record {
       lane = lane;
       call = call.Ask;
       reply = reply.Launch l t.action t.branch t.number;
     } in
-    let next : Legal p (e ∷ j) = (legal, record { scripted = may; replied = is; kept = refl }) in
+    let next : Lawful p (e ∷ j) = (legal, record { scripted = may; told = is; kept = refl }) in
     let new = pl.fresh_launch p e j (l, t) next sound.least refl in
-    record { seated = new.seated; room = new.room; within = ca.launch_within p e j l t next refl }
+    record { room = new.room; within = ca.launch_within p e j l t next refl }

@@ -2,9 +2,11 @@
 -- work. So a lane that may Ask owes nothing.
 use Rattle.std.proofs.Common.{◌≡◌, ℕ, ◌/◌, ◌%◌, ◌==◌, Bool, true, false, ◌&&◌, ◌||◌, not, List, [], ◌∷◌, Option, Some, is_some, option_map, ◌⊎◌, inl, inr, refl, sym, ap, subst, ◌∙◌}
 use Rattle.std.proofs.lemmas.Bool.{eqb-true, eq-eqb, and_parts, or_cases, or_left, or_right}
+use Rattle.run_plan.specs.declared.plan.Kind.TheVariants as kind
 use Rattle.run_plan.specs.declared.plan.Branch.{Branch}
 use Rattle.run_plan.specs.declared.plan.Kind.{Kind}
 use Rattle.run_plan.specs.declared.plan.Plan.{Plan}
+use Rattle.exec_journal.specs.Lawful as lw
 use Rattle.exec_journal.specs.declared.attempt.Attempt.{Attempt}
 use Rattle.exec_journal.specs.declared.journal.Entry.{Entry}
 use Rattle.exec_journal.specs.declared.call.Call.{Call}
@@ -18,7 +20,7 @@ use Rattle.exec_journal.specs.Words.{last_work, launch_of, started, failed, was_
 use Rattle.run_plan.specs.Groups.{kind_of}
 use Rattle.exec_journal.specs.Rules.{gathered}
 use Rattle.exec_journal.specs.Scripts as sc
-use Rattle.exec_journal.specs.Legal.{Legal}
+use Rattle.exec_journal.specs.Lawful.{Lawful}
 use Rattle.exec_journal.specs.Facts.{reply_line, IsOfBerth}
 use Rattle.journal_laws.specs.Invariant.{claims_it, claimed}
 use Rattle.exec_journal.proofs.Ruled.{by_bool}
@@ -51,6 +53,7 @@ order_owes_none d (call.Committed a b how) h y = order_commits_none a b d.call d
 order_owes_none d call.Ask h y = cc
 order_owes_none d call.Take h y = cc
 order_owes_none d call.Halt h y = cc
+order_owes_none d call.Tick h y = cc
 order_owes_none d (call.Look x) h y = cc
 order_owes_none d (call.Launched i how) h y = cc
 order_owes_none d (call.Wrote i n how) h y = cc
@@ -67,6 +70,7 @@ owed_by : (p : Plan) (n : Kind) (d : Entry) (c : Call) → is_order d.reply ≡ 
     → sc.allowed p n true (Some d) c ≡ true → sc.is_owed p n c d.reply ≡ true
 owed_by p n d call.Ask h w y = absurd (order_may d.reply d.call h y)
 owed_by p n d call.Take h w y = absurd (cc)
+owed_by p n d call.Tick h w y = either _ _ (order_owes_none d call.Tick h) y
 owed_by p n d call.Halt h w y = absurd (cc)
 owed_by p n d (call.Answer i a) h w y = absurd (cc)
 owed_by p n d (call.Ended i how) h w y = absurd (cc)
@@ -79,17 +83,19 @@ owed_by p n d (call.Committed a b how) h w y = either _ _
 owed_by p n d (call.Killed i) h w y = either _ _ (order_owes_none d (call.Killed i) h) y
 
 -- it is the call that the order asks
-pub order_next : (p : Plan) (e : Entry) (j : List Entry) (d : Entry) → Legal p (e ∷ j)
+pub order_next : (p : Plan) (e : Entry) (j : List Entry) (d : Entry) → Lawful p (e ∷ j)
     → last_work j e.lane ≡ Some d → is_order d.reply ≡ true → is_work e.call ≡ true
-    → sc.is_owed p (kind_of p (e.lane / 2)) e.call d.reply ≡ true
+    → sc.is_owed p kind.Single e.call d.reply ≡ true
 order_next p e j d legal at h w =
     let even = la.newest_even p j e.lane d legal.0 at h in
-    elim (o.scripted p j e.lane e.call legal.1.scripted) [
-      | inl owes ↦ absurd (order_owes_none d e.call h (subst
+    elim (o.scripts p j e.lane e.call legal.1.scripted) [
+      | o.Ticks is proxy ask ↦ absurd (order_may d.reply d.call h (subst
+          (λ (x : Option Entry). sc.may_ask x ≡ true) at ask))
+      | o.Owes owes ↦ absurd (order_owes_none d e.call h (subst
           (λ (x : Option Entry). sc.is_owed_commit e.call x ≡ true) at owes))
-      | inr may ↦ owed_by p (kind_of p (e.lane / 2)) d e.call h w
-          (subst (λ b. sc.allowed p (kind_of p (e.lane / 2)) b (Some d) e.call ≡ true) even
-          (subst (λ (x : Option Entry). sc.allowed p (kind_of p (e.lane / 2))
+      | o.May may ↦ owed_by p kind.Single d e.call h w
+          (subst (λ b. sc.allowed p kind.Single b (Some d) e.call ≡ true) even
+          (subst (λ (x : Option Entry). sc.allowed p kind.Single
           (e.lane % 2 == 0) x e.call ≡ true) at may))
     ]
 
@@ -129,28 +135,28 @@ met q D (e ∷ j) all h = by (or_cases (q e) _ h) (λ y. met q D j all.0 y)
 
 -- at each entry of a legal journal
 pub each_legal : (p : Plan) (P : List Entry → Entry → Type 0)
-    → ((e : Entry) (j : List Entry) → Legal p (e ∷ j) → P j e) → (j : List Entry) → Legal p j
+    → ((e : Entry) (j : List Entry) → Lawful p (e ∷ j) → P j e) → (j : List Entry) → Lawful p j
     → AtEach P j
 each_legal p P f [] legal = tt
 each_legal p P f (e ∷ j) legal = (each_legal p P f j legal.0, f e j legal)
 
 -- an order is given to an Ask, which is work
-pub order_works : (p : Plan) (e : Entry) (j : List Entry) → Legal p (e ∷ j)
+pub order_works : (p : Plan) (e : Entry) (j : List Entry) → Lawful p (e ∷ j)
     → is_order e.reply ≡ true → is_work e.call ≡ true
 order_works p e j legal h = rw (la.order_asked p e j legal h) refl
 
 -- ---- a lane that may Ask
 
-pub asks_proxy : (p : Plan) (j : List Entry) (lane : ℕ) → sc.script p j lane call.Ask ≡ true
+pub asks_proxy : (p : Plan) (j : List Entry) (lane : ℕ) → lw.in_script p j lane call.Ask ≡ true
     → ((lane % 2 == 0) ≡ true) × (sc.may_ask (last_work j lane) ≡ true)
-asks_proxy p j lane h = elim (o.scripted p j lane call.Ask h) [
+asks_proxy p j lane h = elim (o.scripted p j lane call.Ask refl h) [
   | inl owes ↦ absurd (cc)
   | inr may ↦ and_parts (lane % 2 == 0) _ may
 ]
 
 -- it owes nothing: what its berth was ordered is met
 pub asking_met : (p : Plan) (j : List Entry) (lane : ℕ) (q : Entry → Bool) (D : List Entry → Bool)
-    → Legal p j → sc.script p j lane call.Ask ≡ true
+    → Lawful p j → lw.in_script p j lane call.Ask ≡ true
     → ((d : Entry) → q d ≡ true → is_order d.reply ≡ true)
     → ((n : ℕ) (d : Entry) → last_work j n ≡ Some d → q d ≡ true → n / 2 ≡ lane / 2)
     → IsMet q D j → D j ≡ true
@@ -206,13 +212,13 @@ reported_later e j l h = elim (or_cases (started j l) _ h) [
       (or_right (fails l e.call) _ b)
 ]
 
-launch_meets : (p : Plan) (l : ℕ) (e : Entry) (j : List Entry) → Legal p (e ∷ j)
+launch_meets : (p : Plan) (l : ℕ) (e : Entry) (j : List Entry) → Lawful p (e ∷ j)
     → Meets (is_launch l) (reported l) j e
 launch_meets p l e j legal = record {
   works = λ h. order_works p e j legal (launch_order l e.reply h).1;
   stays = λ h. reported_later e j l h;
   answer = λ d at h w. reported_here e j l (launched_by p
-      (kind_of p (e.lane / 2)) l e.call d.reply h w (order_next p e j d legal at
+      kind.Single l e.call d.reply h w (order_next p e j d legal at
       (launch_order l d.reply h).1 w));
 }
 
@@ -234,14 +240,14 @@ launch_ever p (e ∷ j) l m t h = by (q.launch_cases p e j l m t h) (λ y. launc
     by (q.Before at) ih = or_right (is_launch l e) _ (ih at)
 
 -- a line that was launched was reported, or its lane owes that
-pub launch_met : (p : Plan) (j : List Entry) (l m : ℕ) (t : Attempt) → Legal p j
+pub launch_met : (p : Plan) (j : List Entry) (l m : ℕ) (t : Attempt) → Lawful p j
     → launch_of j l ≡ Some (m, t) → IsMet (is_launch l) (reported l) j
 launch_met p j l m t legal h = met (is_launch l) (reported l) j
     (each_legal p _ (λ e k y. launch_meets p l e k y) j legal) (launch_ever p j l m t h)
 
 -- where a lane may Ask, the lines of its berth were reported
-pub asking_reported : (p : Plan) (j : List Entry) (lane l : ℕ) → Legal p j
-    → sc.script p j lane call.Ask ≡ true → IsOfBerth j l (lane / 2) → reported l j ≡ true
+pub asking_reported : (p : Plan) (j : List Entry) (lane l : ℕ) → Lawful p j
+    → lw.in_script p j lane call.Ask ≡ true → IsOfBerth j l (lane / 2) → reported l j ≡ true
 asking_reported p j lane l legal asks own =
     asking_met p j lane (is_launch l) (reported l) legal asks (λ d y. (launch_order l d.reply y).1)
     (λ n d at y. la.berths_same j l (n / 2) (lane / 2)
@@ -276,19 +282,19 @@ written_later : (e : Entry) (j : List Entry) (t : Attempt) → is_written t j �
 unfolding wrote
 written_later e j t h = k.some_later_cause (wrote_at t j e) (wrote j t) h
 
-send_meets : (p : Plan) (t : Attempt) (e : Entry) (j : List Entry) → Legal p (e ∷ j)
+send_meets : (p : Plan) (t : Attempt) (e : Entry) (j : List Entry) → Lawful p (e ∷ j)
     → Meets (is_send t) (is_written t) j e
 send_meets p t e j legal = record {
   works = λ h. order_works p e j legal (send_order t e.reply h);
   stays = λ h. written_later e j t h;
   answer = λ d at h w. written_here e j t (subst (λ (x : Option Entry). is_some
       (wrote_if t e.call (send_of_entry x)) ≡ true) (sym at)
-      (written_by p (kind_of p (e.lane / 2)) t e.call d.reply h w
+      (written_by p kind.Single t e.call d.reply h w
       (order_next p e j d legal at (send_order t d.reply h) w)));
 }
 
 -- a request that was sent has its Wrote, or its lane owes that
-pub send_met : (p : Plan) (j : List Entry) (t : Attempt) → Legal p j → was_sent j t ≡ true
+pub send_met : (p : Plan) (j : List Entry) (t : Attempt) → Lawful p j → was_sent j t ≡ true
     → IsMet (is_send t) (is_written t) j
 unfolding was_sent
 send_met p j t legal h = met (is_send t) (is_written t) j
@@ -321,18 +327,18 @@ claimed_later : (e : Entry) (j : List Entry) (t : Attempt) → claimed j t ≡ t
 unfolding claimed
 claimed_later e j t h = or_right (claims_it t e.call) _ h
 
-gather_meets : (p : Plan) (t : Attempt) (e : Entry) (j : List Entry) → Legal p (e ∷ j)
+gather_meets : (p : Plan) (t : Attempt) (e : Entry) (j : List Entry) → Lawful p (e ∷ j)
     → Meets (is_gather t) (λ k. claimed k t) j e
 gather_meets p t e j legal = record {
   works = λ h. order_works p e j legal (gather_order t e.reply h);
   stays = λ h. claimed_later e j t h;
   answer = λ d at h w. claimed_here e j t (claimed_by p
-      (kind_of p (e.lane / 2)) t e.call d.reply h w (order_next p e j d legal at
+      kind.Single t e.call d.reply h w (order_next p e j d legal at
       (gather_order t d.reply h) w));
 }
 
 -- an attempt that was gathered was claimed, or its lane owes that
-pub gather_met : (p : Plan) (j : List Entry) (t : Attempt) → Legal p j → gathered j t ≡ true
+pub gather_met : (p : Plan) (j : List Entry) (t : Attempt) → Lawful p j → gathered j t ≡ true
     → IsMet (is_gather t) (λ k. claimed k t) j
 unfolding gathered
 gather_met p j t legal h = met (is_gather t) (λ k. claimed k t) j

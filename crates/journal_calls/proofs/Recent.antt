@@ -15,8 +15,11 @@ use Rattle.exec_journal.specs.declared.reply.Reply.TheVariants as reply
 use Rattle.list_lemmas.specs.Options.{and_more}
 use Rattle.exec_journal.specs.Entries.{Request, attempt_of, is_for, launch_in, send_in, consumed_in}
 use Rattle.exec_journal.specs.Words.{last_line, sends, sent_on, pending, is_pending, answered}
-use Rattle.run_plan.specs.Groups.{capacity, kind_of}
-use Rattle.exec_journal.specs.Legal.{Legal}
+use Rattle.run_plan.specs.Groups.{capacity}
+use Rattle.run_plan.specs.declared.plan.Kind.{Kind}
+use Rattle.run_plan.specs.declared.plan.Kind.TheVariants as kind
+use Rattle.exec_journal.specs.Seated.{line_kind}
+use Rattle.exec_journal.specs.Lawful.{Lawful}
 use Rattle.exec_journal.specs.Facts.{call_line}
 use Rattle.exec_journal.proofs.Ruled.{by_bool}
 use Rattle.exec_journal.proofs.Begins.{same_attempt_refl}
@@ -151,7 +154,13 @@ one_more : (e : Entry) (j : List Entry) (w : ℕ) (o : Option Matched) → sends
 unfolding recent
 one_more e j w o off is = rw (off, is) refl
 
-module _ (p : Plan) (e : Entry) (j : List Entry) (w : ℕ) (legal : Legal p (e ∷ j)) where
+below_eight : (k : Kind) (n : ℕ) → n < capacity k → n < 8
+below_eight kind.Single n h = omega arith
+below_eight kind.Multi n h = h
+below_eight kind.Boxed n h = h
+below_eight kind.Remote n h = h
+
+module _ (p : Plan) (e : Entry) (j : List Entry) (w : ℕ) (legal : Lawful p (e ∷ j)) where
   own_send : (l : ℕ) (x : Request) → last_line j w ≡ Some l → sent_on l e.reply ≡ Some x
       → sends_at w e ≡ true
   own_send l x here is =
@@ -172,7 +181,7 @@ module _ (p : Plan) (e : Entry) (j : List Entry) (w : ℕ) (legal : Legal p (e �
       by (Some x) is = absurd (clash (sends_at w e) (own_send l x here is) off)
 
   at_send : (o : Option ℕ) → last_line (e ∷ j) w ≡ o → sends_at w e ≡ true → 1 ≤ p.limit
-      → length (recent (e ∷ j) w) + waiting_on (e ∷ j) o ≤ capacity (kind_of p w)
+      → length (recent (e ∷ j) w) + waiting_on (e ∷ j) o ≤ 8
   at_send o here on least =
       let parts = and_parts (e.lane / 2 == w) _ on in
       let same = eqb-true (e.lane / 2) w parts.0 in
@@ -183,22 +192,20 @@ module _ (p : Plan) (e : Entry) (j : List Entry) (w : ℕ) (legal : Legal p (e �
       to.here in
       let last : o ≡ Some x.0.line = sym here ∙ ll.last_same e j w
       (send_launches_none e.reply x.0 x.1) ∙ there in
-      let place : length (pending j x.0.line) < capacity (kind_of p w) =
-      subst (λ n. length (pending j x.0.line) < capacity (kind_of p n)) same
-      (pl.numbered_send p e j x.0 legal least x.1).place in
+      let place : length (pending j x.0.line) < 8 = below_eight (line_kind p j x.0.line)
+      (length (pending j x.0.line)) (pl.numbered_send p e j x.0 legal least x.1).place in
       let more = pending_one_more e j x.0.line x.0 (sent_on_own e.reply x.0 x.1) in
       let none = cleared e j w on in
-      subst (λ z. length (recent (e ∷ j) w) + waiting_on (e ∷ j) z ≤ capacity (kind_of p w))
+      subst (λ z. length (recent (e ∷ j) w) + waiting_on (e ∷ j) z ≤ 8)
       (sym last) (omega (arith, none, more, place))
 
   at_match : (o : Option ℕ) (m : Matched) → last_line (e ∷ j) w ≡ o → sends_at w e ≡ false
-      → matched_at w e ≡ Some m → length (recent j w) + waiting_on j (last_line j w) ≤ capacity
-      (kind_of p w) → length (recent (e ∷ j) w) + waiting_on (e ∷ j) o ≤ capacity (kind_of p w)
+      → matched_at w e ≡ Some m → length (recent j w) + waiting_on j (last_line j w) ≤ 8 → length (recent (e ∷ j) w) + waiting_on (e ∷ j) o ≤ 8
   at_match o m here off is ih =
       let a = matched_is w e m is in
       let consumed : consumed_in e.reply ≡ Some a.3 = ap consumed_in a.5 in
       let y = ca.consumed_request p e j a.1 a.2 a.3 legal a.4 consumed in
-      let at = pl.asked_place p j (e.lane / 2) a.1 a.2 y.0 y.2 in
+      let at = pl.asked_place p j a.1 a.2 y.0 y.2 in
       let named : last_line j (e.lane / 2) ≡ Some a.1 = ll.names_last p j e.lane a.1 e.call legal.0
       legal.1.scripted (ap call_line a.4) in
       let there : last_line j w ≡ Some a.1 = subst (λ n. last_line j n ≡ Some a.1) a.0 named in
@@ -207,65 +214,64 @@ module _ (p : Plan) (e : Entry) (j : List Entry) (w : ℕ) (legal : Legal p (e �
       (consumed ∙ ap Some (sym y.1)) in
       let grown : length (recent (e ∷ j) w) ≡ suc (length (recent j w)) =
       one_more e j w (Some m) off is in
-      let before : length (recent j w) + length (pending j a.1) ≤ capacity (kind_of p w) =
-      subst (λ z. length (recent j w) + waiting_on j z ≤ capacity (kind_of p w)) there ih in
-      subst (λ z. length (recent (e ∷ j) w) + waiting_on (e ∷ j) z ≤ capacity (kind_of p w))
+      let before : length (recent j w) + length (pending j a.1) ≤ 8 =
+      subst (λ z. length (recent j w) + waiting_on j z ≤ 8) there ih in
+      subst (λ z. length (recent (e ∷ j) w) + waiting_on (e ∷ j) z ≤ 8)
       (sym last) (omega (arith, one, grown, before))
 
   at_other : (o : Option ℕ) → last_line (e ∷ j) w ≡ o → sends_at w e ≡ false → matched_at w e ≡ None
-      → length (recent j w) + waiting_on j (last_line j w) ≤ capacity (kind_of p w)
-      → length (recent (e ∷ j) w) + waiting_on (e ∷ j) o ≤ capacity (kind_of p w)
+      → length (recent j w) + waiting_on j (last_line j w) ≤ 8
+      → length (recent (e ∷ j) w) + waiting_on (e ∷ j) o ≤ 8
   at_other o here off is ih = by (launch_in e.reply) refl
     where
       same_count : length (recent (e ∷ j) w) ≡ length (recent j w)
       same_count = one_more e j w None off is
 
       kept : last_line (e ∷ j) w ≡ last_line j w → length (recent (e ∷ j) w) + waiting_on
-          (e ∷ j) o ≤ capacity (kind_of p w)
+          (e ∷ j) o ≤ 8
       kept same =
           let n = same_count in
           let there : last_line j w ≡ o = sym same ∙ here in
-          let before : length (recent j w) + waiting_on j o ≤ capacity (kind_of p w) =
-          subst (λ z. length (recent j w) + waiting_on j z ≤ capacity (kind_of p w)) there ih in
+          let before : length (recent j w) + waiting_on j o ≤ 8 =
+          subst (λ z. length (recent j w) + waiting_on j z ≤ 8) there ih in
           let fall = less o there off in
           omega (arith, n, before, fall)
 
       by : (z : Option (ℕ × Attempt)) → launch_in e.reply ≡ z
-          → length (recent (e ∷ j) w) + waiting_on (e ∷ j) o ≤ capacity (kind_of p w)
+          → length (recent (e ∷ j) w) + waiting_on (e ∷ j) o ≤ 8
       by None at = kept (ll.last_same e j w at)
       by (Some y) at =
           by_bool (e.lane / 2 == w) (λ b. (e.lane / 2 == w) ≡ b
-          → length (recent (e ∷ j) w) + waiting_on (e ∷ j) o ≤ capacity (kind_of p w))
+          → length (recent (e ∷ j) w) + waiting_on (e ∷ j) o ≤ 8)
           (λ _ mine.
           let new : last_line (e ∷ j) w ≡ Some y.0 = subst (λ n. last_line (e ∷ j) n ≡ Some y.0)
           (eqb-true (e.lane / 2) w mine) (ll.last_new e j y.0 y.1 at) in
           let last : o ≡ Some y.0 = sym here ∙ new in
           let none = no_pending (e ∷ j) y.0 (q.new_line_unsent p e j y.0 y.1 legal at) in
           let n = same_count in
-          subst (λ z. length (recent (e ∷ j) w) + waiting_on (e ∷ j) z ≤ capacity (kind_of p w))
+          subst (λ z. length (recent (e ∷ j) w) + waiting_on (e ∷ j) z ≤ 8)
           (sym last) (omega (arith, n, none, ih)))
           (λ _ apart. kept (ll.last_other e j w apart)) refl
 
-pub matches_fit : (p : Plan) (j : List Entry) (w : ℕ) → Legal p j → 1 ≤ p.limit
-    → length (recent j w) + waiting_on j (last_line j w) ≤ capacity (kind_of p w)
+pub matches_fit : (p : Plan) (j : List Entry) (w : ℕ) → Lawful p j → 1 ≤ p.limit
+    → length (recent j w) + waiting_on j (last_line j w) ≤ 8
 unfolding recent last_line
 matches_fit p [] w legal least = omega arith
 matches_fit p (e ∷ j) w legal least =
     by_bool (sends_at w e) (λ b. sends_at w e ≡ b → length (recent j w) + waiting_on j
-    (last_line j w) ≤ capacity (kind_of p w) → length (recent (e ∷ j) w) + waiting_on (e ∷ j)
-    (last_line (e ∷ j) w) ≤ capacity (kind_of p w))
+    (last_line j w) ≤ 8 → length (recent (e ∷ j) w) + waiting_on (e ∷ j)
+    (last_line (e ∷ j) w) ≤ 8)
     (λ _ on ih. at_send p e j w legal (last_line (e ∷ j) w) refl on least)
     (λ _ off ih. by (matched_at w e) refl off ih) refl (matches_fit p j w legal.0 least)
   where
     by : (o : Option Matched) → matched_at w e ≡ o → sends_at w e ≡ false
-        → length (recent j w) + waiting_on j (last_line j w) ≤ capacity (kind_of p w)
-        → length (recent (e ∷ j) w) + waiting_on (e ∷ j) (last_line (e ∷ j) w) ≤ capacity
-        (kind_of p w)
+        → length (recent j w) + waiting_on j (last_line j w) ≤ 8
+        → length (recent (e ∷ j) w) + waiting_on (e ∷ j) (last_line (e ∷ j) w) ≤ 8
     by None is off ih = at_other p e j w legal (last_line (e ∷ j) w) refl off is ih
     by (Some m) is off ih = at_match p e j w legal (last_line (e ∷ j) w) m refl off is ih
 
 -- so where a request of the line is pending, there is room for its match
-pub room_for_match : (p : Plan) (j : List Entry) (w l : ℕ) → Legal p j → 1 ≤ p.limit
-    → last_line j w ≡ Some l → length (recent j w) + length (pending j l) ≤ capacity (kind_of p w)
+pub room_for_match : (p : Plan) (j : List Entry) (w l : ℕ) → Lawful p j → 1 ≤ p.limit
+    → last_line j w ≡ Some l → length (recent j w) + length (pending j l) ≤ 8
 room_for_match p j w l legal least here = subst (λ z. length
-    (recent j w) + waiting_on j z ≤ capacity (kind_of p w)) here (matches_fit p j w legal least)
+    (recent j w) + waiting_on j z ≤ 8) here (matches_fit p j w legal least)

@@ -2,22 +2,24 @@
 use Rattle.std.proofs.Common.{◌≡◌, ℕ, ◌*◌, ◌<◌, ◌≤◌, true, false, List, [], ◌∷◌, length, Option, Some, None, option_map, refl, sym, ap, subst, ◌∙◌, arith}
 use Rattle.std.specs.List.{find}
 use Rattle.run_plan.specs.declared.plan.Plan.{Plan}
-use Rattle.run_plan.specs.Groups.{berth_group, berths}
+use Rattle.exec_journal.specs.Seated.{group_on, line_group}
 use Rattle.run_plan.specs.Sound.{Sound}
+use Rattle.exec_journal.specs.Lawful as lw
 use Rattle.exec_journal.specs.declared.attempt.Attempt.{Attempt}
 use Rattle.exec_journal.specs.declared.journal.Entry.{Entry}
 use Rattle.exec_journal.specs.declared.call.Call.TheVariants as call
 use Rattle.exec_journal.specs.declared.call.Started.{Started}
 use Rattle.exec_journal.specs.Attempts.{ended}
 use Rattle.exec_journal.specs.Entries.{Request, launch_in, launch_of_entry, send_of_entry}
-use Rattle.exec_journal.specs.Facts.{begun}
-use Rattle.exec_journal.specs.Legal.{Legal}
+use Rattle.exec_journal.specs.Facts.{IsOfBerth, begun}
+use Rattle.exec_journal.specs.Lawful.{Lawful}
 use Rattle.exec_journal.specs.Rules as r
 use Rattle.exec_journal.specs.Scripts as sc
 use Rattle.exec_journal.specs.Words.{last_work, last_line, launch_of, line_count, order_of, sends, was_sent, answered, wrote, says_feed_fault}
 use Rattle.exec_journal.proofs.Histories.{AllOf}
-use Rattle.exec_journal.proofs.Ruled as u
+use Rattle.exec_journal.proofs.Reasons as u
 use Rattle.journal_laws.specs.Invariant.{older}
+use Rattle.journal_laws.proofs.Requests as q
 use Rattle.journal_laws.proofs.Carried as k
 use Rattle.journal_laws.proofs.Claims as c
 use Rattle.journal_laws.proofs.Claims.{clash, false_by}
@@ -32,44 +34,44 @@ use Rattle.journal_calls.proofs.Requested as re
 
 -- ---- bounds
 
-pub few_lines : (p : Plan) (j : List Entry) → Sound p → Legal p j
+pub few_lines : (p : Plan) (j : List Entry) → Sound p → Lawful p j
     → line_count j ≤ 2 * length p.actions * p.limit
 few_lines p j sound legal = let a = co.lines_made p j legal in
     let b = co.made_most p j legal sound.least in omega arith
 
-pub few_sends : (p : Plan) (j : List Entry) (l : ℕ) → Sound p → Legal p j
+pub few_sends : (p : Plan) (j : List Entry) (l : ℕ) → Sound p → Lawful p j
     → length (sends j l) ≤ 2 * length p.actions * p.limit
 few_sends p j l sound legal = let a = co.line_sends j l in
     let b = co.sends_made p j legal sound.least in let m = co.sent_most p j in omega arith
 
 -- ---- what comes first
 
-pub unbegun_goes : (p : Plan) (j : List Entry) (t : Attempt) → Legal p j → begun j t ≡ false
+pub unbegun_goes : (p : Plan) (j : List Entry) (t : Attempt) → Lawful p j → begun j t ≡ false
     → ended j t ≡ false
 unbegun_goes p j t legal h = false_by _ (λ y. clash _ (c.ended_begun p j t legal y) h)
 
-pub unsent_unanswered : (p : Plan) (j : List Entry) (t : Attempt) → Legal p j → was_sent j t ≡ false
+pub unsent_unanswered : (p : Plan) (j : List Entry) (t : Attempt) → Lawful p j → was_sent j t ≡ false
     → answered j t ≡ false
 unsent_unanswered p j t legal h = false_by _ (λ y. clash _ (c.answered_sent p j t legal y) h)
 
 -- ---- the requests of a berth's line are of its group
 
-pub grouped : (p : Plan) (j : List Entry) (w l : ℕ) → Legal p j → last_line j w ≡ Some l
-    → AllOf (λ x. BranchOf p x.attempt (berth_group p w)) (sends j l)
-grouped p j w l legal here =
-    let own = la.here_own p j w l legal here in
-    let seat : w < berths p = subst (λ n. n < berths p) own.owner.3
-    (re.seated p j l own.owner.0 own.owner.1 legal own.owner.2) in
-    let run = subst (λ n. AllOf (λ (x : Request). ke.RunsIn p x.attempt (u.group_at p n))
-    (sends j l)) own.owner.3 (ke.sends_run p j l own.owner.0 own.owner.1 legal own.owner.2) in
-    k.all_map (λ (x : Request). ke.RunsIn p x.attempt (u.group_at p w))
-    (λ x. BranchOf p x.attempt (berth_group p w)) (λ x h. of.runs_in_group p x.attempt w h seat)
-    (sends j l) run
+pub grouped : (p : Plan) (j : List Entry) (l w : ℕ) → Lawful p j → IsOfBerth j l w
+    → AllOf (λ x. BranchOf p x.attempt (group_on p j l)) (sends j l)
+grouped p j l w legal own =
+    let at = own.owner.2 in
+    let n = line_group p j l in
+    let there = q.group_is p j l own.owner.0 own.owner.1 at in
+    let runs = ke.launched_runs p j l own.owner.0 own.owner.1 legal at in
+    let is : group_on p j l ≡ Some n = there ∙ ke.group_runs p own.owner.1 n runs in
+    k.all_map (λ (x : Request). ke.RunsIn p x.attempt n)
+    (λ x. BranchOf p x.attempt (group_on p j l)) (λ x h. ke.group_runs p x.attempt n h ∙ sym is)
+    (sends j l) (ke.sends_run p j l own.owner.0 own.owner.1 n legal at runs)
 
 -- ---- a Launched answers the lane's newest order, its line's Launch
 
-pub launches : (p : Plan) (j : List Entry) (lane l m : ℕ) (how : Started) (t : Attempt) → Legal p j
-    → sc.script p j lane (call.Launched l how) ≡ true → launch_of j l ≡ Some (m, t)
+pub launches : (p : Plan) (j : List Entry) (lane l m : ℕ) (how : Started) (t : Attempt) → Lawful p j
+    → lw.in_script p j lane (call.Launched l how) ≡ true → launch_of j l ≡ Some (m, t)
     → launch_of_entry (last_work j lane) ≡ Some t
 launches p j lane l m how t legal may at =
     let x = ed.launched_order p j lane l how legal may in
@@ -96,7 +98,7 @@ none_fed j (y ∷ ys) x h none all =
     rest [] every = refl
     rest (z ∷ zs) every = rw every.0 (rest zs every.1)
 
-pub unfed : (p : Plan) (j : List Entry) (lane : ℕ) (x : Request) → Legal p j
+pub unfed : (p : Plan) (j : List Entry) (lane : ℕ) (x : Request) → Lawful p j
     → order_of j lane ≡ Some x → fed_on j x.line ≡ None
 unfed p j lane x legal order = by (last_work j lane) refl order
   where

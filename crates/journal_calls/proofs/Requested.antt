@@ -1,6 +1,6 @@
 -- The requests of a line: of which berth and group, how they are numbered and known, and which of
 -- them a feed fault names.
-use Rattle.std.proofs.Common.{◌≡◌, ℕ, ◌+◌, ◌/◌, ◌<◌, ◌≤◌, ◌==◌, true, false, ◌&&◌, not, List, [], ◌∷◌, length, Option, Some, None, option_map, ◌⊎◌, inl, inr, refl, sym, ap, subst, ◌∙◌, ℤ, pos, arith}
+use Rattle.std.proofs.Common.{unwrap_or, ◌||◌, ◌≡◌, ℕ, ◌+◌, ◌/◌, ◌<◌, ◌≤◌, ◌==◌, true, false, ◌&&◌, not, List, [], ◌∷◌, length, Option, Some, None, option_map, ◌⊎◌, inl, inr, refl, sym, ap, subst, ◌∙◌, ℤ, pos, arith}
 use Rattle.std.specs.Prelude.{option_and_then, slice_get}
 use Rattle.std.specs.List.{filter, find}
 use Rattle.std.specs.Ordering.{int_eq}
@@ -18,17 +18,19 @@ use Rattle.list_lemmas.specs.Options.{unless_before, and_more}
 use Rattle.exec_journal.specs.Entries.{Request, same_attempt, is_for, send_in, send_of_entry}
 use Rattle.exec_journal.specs.Words.{last_work, live, started, last_line, launch_of, sends, sent_on, pending, is_pending, has_cancel, has_greeted, cancels, was_sent, answered, wrote, wrote_at, says_unwritten, says_feed_fault, has_ended, order_of, broke, break_at, line_cause}
 use Rattle.exec_journal.specs.Attempts.{line_of}
-use Rattle.run_plan.specs.Groups.{kind_of, is_single, berths, berth_group, group_of, has_cancellation, is_remote}
+use Rattle.run_plan.specs.Groups.{is_single, has_cancellation, is_remote}
+use Rattle.exec_journal.specs.Seated.{group_for, kind_in, group_on, line_group, line_kind, may_be_asked}
 use Rattle.exec_journal.specs.Settled.{bound}
 use Rattle.exec_journal.specs.Rules as r
 use Rattle.exec_journal.specs.Rules.{gathered}
-use Rattle.exec_journal.specs.Legal.{Legal}
+use Rattle.exec_journal.specs.Lawful.{Lawful}
 use Rattle.exec_journal.specs.Facts.{IsOfBerth}
 use Rattle.journal_laws.specs.Invariant.{NumberedAs, EachRequest, older, LineFacts}
 use Rattle.journal_laws.specs.Steps.{KnownByNumber}
 use Rattle.journal_calls.specs.Moments.{is_clean, IsClean}
 use Rattle.exec_journal.proofs.Histories.{AllOf, all_filter, all_oldest}
-use Rattle.exec_journal.proofs.Ruled as u
+use Rattle.exec_journal.proofs.Ruled as ru
+use Rattle.exec_journal.proofs.Reasons as u
 use Rattle.exec_journal.proofs.Ruled.{by_bool}
 use Rattle.exec_journal.proofs.Lines.{pending_line, lines_named, of_berth_more}
 use Rattle.exec_journal.proofs.Begins.{begin_in_order, same_attempt_refl, same_attempt_eq, bound_is}
@@ -46,37 +48,16 @@ use Rattle.journal_laws.proofs.Greeted as gr
 
 -- ---- the berth's group
 
--- a line was launched by a berth of the plan
-pub seated : (p : Plan) (j : List Entry) (l m : ℕ) (t : Attempt) → Legal p j
-    → launch_of j l ≡ Some (m, t) → m / 2 < berths p
-unfolding launch_of
-seated p [] l m t legal h = absurd (cc)
-seated p (e ∷ j) l m t legal h = by (q.launch_cases p e j l m t h) (λ y. seated p j l m t legal.0 y)
-  where
-    by : q.Launches p e j l m t → (launch_of j l ≡ Some (m, t) → m / 2 < berths p)
-        → m / 2 < berths p
-    by (q.Now is lane) ih = subst (λ n. n / 2 < berths p) lane
-        (of.lane_of_plan p j e.lane e.call legal.1.scripted)
-    by (q.Before at) ih = ih at
-
--- what is bound to a berth's line is of the berth's group
-pub bound_group : (p : Plan) (j : List Entry) (w l : ℕ) (t : Attempt) → Legal p j
-    → last_line j w ≡ Some l → bound p j l ≡ Some t
-    → option_and_then (λ x. group_of x t.branch) (slice_get p.actions t.action) ≡ berth_group p w
-bound_group p j w l t legal here h =
-    let b = bound_is p j l t h in
-    subst (λ n. option_and_then (λ x. group_of x t.branch) (slice_get p.actions t.action)
-    ≡ berth_group p n) (q.same_berth p j l 0 w b.lane t legal here b.launched)
-    (of.runs_in_group p t (b.lane / 2) (ke.launched_runs p j l b.lane t legal b.launched)
-    (seated p j l b.lane t legal b.launched))
+-- what is bound to a line is of the line's group
+pub bound_group : (p : Plan) (j : List Entry) (l : ℕ) (t : Attempt) → Lawful p j
+    → bound p j l ≡ Some t → group_for p t ≡ group_on p j l
+bound_group p j l t legal h =
+    let b = bound_is p j l t h in sym (q.group_is p j l b.lane t b.launched)
 
 -- and its requests are numbered by its kind
-pub numbered : (p : Plan) (j : List Entry) (w l : ℕ) → Legal p j → last_line j w ≡ Some l
-    → NumberedAs (is_single (kind_of p w)) (sends j l)
-numbered p j w l legal here =
-    let own = la.here_own p j w l legal here in
-    subst (λ n. NumberedAs (is_single (kind_of p n)) (sends j l)) own.owner.3
-    (q.numbered p j l own.owner.0 own.owner.1 legal own.owner.2)
+pub numbered : (p : Plan) (j : List Entry) (l w : ℕ) → Lawful p j → IsOfBerth j l w
+    → NumberedAs (is_single (line_kind p j l)) (sends j l)
+numbered p j l w legal own = (q.line_facts p j l w legal own).numbers
 
 -- ---- only a line that can be asked to cancel gets a Cancel: its group has cancellation, or it is
 -- an executor's and has greeted
@@ -84,18 +65,21 @@ numbered p j w l legal here =
 record IsCancelled (p : Plan) (j : List Entry) (l : ℕ) : Type 0 where
   pub berth : ℕ
   pub own : IsOfBerth j l berth
-  pub may : r.may_cancel p j berth (u.group_at p berth) l ≡ true
+  pub may : may_be_asked p j l ≡ true
 
 -- what greeted stays greeted, so such a line can be asked from then on
-may_later : (p : Plan) (e : Entry) (j : List Entry) (w g l : ℕ) → r.may_cancel p j w g l ≡ true
-    → r.may_cancel p (e ∷ j) w g l ≡ true
-may_later p e j w g l h = elim (or_cases (has_cancellation p g) _ h) [
-  | inl able ↦ or_left _ (is_remote (kind_of p w) && has_greeted (e ∷ j) l) able
-  | inr greeted ↦ (let parts = and_parts (is_remote (kind_of p w)) _ greeted in
-      or_right (has_cancellation p g) _ (and_from _ _ parts.0 (gr.greeted_stays e j l parts.1)))
-]
+may_later : (p : Plan) (e : Entry) (j : List Entry) (l m : ℕ) (t : Attempt) → Lawful p (e ∷ j) → launch_of j l ≡ Some (m, t) → may_be_asked p j l ≡ true
+    → may_be_asked p (e ∷ j) l ≡ true
+may_later p e j l m t legal at h =
+    let same : group_on p j l ≡ group_on p (e ∷ j) l = q.group_is p j l m t at ∙ sym (q.group_is p (e ∷ j) l m t (q.launch_later p e j l m t legal at)) in
+    subst (λ (o : Option ℕ). (has_cancellation p (unwrap_or o 0) || (is_remote (kind_in p o) && has_greeted (e ∷ j) l)) ≡ true) same
+    (elim (or_cases (has_cancellation p (line_group p j l)) _ h) [
+      | inl able ↦ or_left _ (is_remote (line_kind p j l) && has_greeted (e ∷ j) l) able
+      | inr greeted ↦ (let parts = and_parts (is_remote (line_kind p j l)) _ greeted in
+          or_right (has_cancellation p (line_group p j l)) _ (and_from _ _ parts.0 (gr.greeted_stays e j l parts.1)))
+    ])
 
-cancels_at : (p : Plan) (j : List Entry) (lane : ℕ) (y : Request) (d : Call) (x : Reply) → Legal p j
+cancels_at : (p : Plan) (j : List Entry) (lane : ℕ) (y : Request) (d : Call) (x : Reply) → Lawful p j
     → u.Ruled p j lane d x → cancels y x ≡ true → IsCancelled p j y.line
 cancels_at p j lane y d x legal (u.Cancels m z here up may which none) h =
     let line : z.line ≡ m = all_oldest (λ (a : Request). a.line ≡ m) _ z
@@ -106,14 +90,13 @@ cancels_at p j lane y d x legal (u.Cancels m z here up may which none) h =
       berth = lane / 2;
       own = subst (λ i. IsOfBerth j i (lane / 2)) same
           (la.here_own p j (lane / 2) m legal here);
-      may = subst
-          (λ i. r.may_cancel p j (lane / 2) (u.group_at p (lane / 2)) i ≡ true) same may;
+      may = subst (λ i. may_be_asked p j i ≡ true) same may;
     }
 cancels_at p j lane y d x legal (u.KillsBroken m z here run broken over) h = absurd (cc)
 cancels_at p j lane y d x legal (u.Notes z n) h = absurd (cc)
 cancels_at p j lane y d x legal _ h = absurd (cc)
 
-cancelled : (p : Plan) (j : List Entry) (y : Request) → Legal p j → has_cancel j y ≡ true
+cancelled : (p : Plan) (j : List Entry) (y : Request) → Lawful p j → has_cancel j y ≡ true
     → IsCancelled p j y.line
 unfolding has_cancel
 cancelled p [] y legal h = absurd (cc)
@@ -130,23 +113,18 @@ cancelled p (e ∷ j) y legal h = later (elim (or_cases
       own = of_berth_more e j y.line is.berth
           (lines_named p (e ∷ j) legal).1.numbered is.own;
       may =
-          may_later p e j is.berth (u.group_at p is.berth) y.line is.may;
+          may_later p e j y.line is.own.owner.0 is.own.owner.1 legal is.own.owner.2 is.may;
     }
 
-pub no_cancel : (p : Plan) (j : List Entry) (w l : ℕ) → Legal p j → last_line j w ≡ Some l
-    → r.may_cancel p j w (u.group_at p w) l ≡ false → AllOf
-    (λ y. has_cancel j y ≡ false) (pending j l)
-no_cancel p j w l legal here none = k.all_map (λ (y : Request). y.line ≡ l)
+pub no_cancel : (p : Plan) (j : List Entry) (l : ℕ) → Lawful p j
+    → may_be_asked p j l ≡ false → AllOf (λ y. has_cancel j y ≡ false) (pending j l)
+no_cancel p j l legal none = k.all_map (λ (y : Request). y.line ≡ l)
     (λ y. has_cancel j y ≡ false) one (pending j l) (pending_line j l)
   where
     one : (y : Request) → y.line ≡ l → has_cancel j y ≡ false
     one y line = false_by _ (λ h.
         let is = cancelled p j y legal h in
-        let same = la.berths_same j l is.berth w (subst (λ i. IsOfBerth j i is.berth) line is.own)
-        (la.here_own p j w l legal here) in
-        clash _ (subst (λ n. r.may_cancel p j n (u.group_at p n) l ≡ true) same
-        (subst (λ i. r.may_cancel p j is.berth (u.group_at p is.berth) i ≡ true) line is.may))
-        none)
+        clash _ (subst (λ i. may_be_asked p j i ≡ true) line is.may) none)
 
 -- ---- each pending request is known by its line and its number
 
@@ -185,20 +163,20 @@ all_found (x ∷ qs) all = (
         let le = h.1.2 in absurd (omega arith)) in
         rw apart h.0
 
-pub known_pending : (p : Plan) (j : List Entry) (l w : ℕ) → Legal p j → IsOfBerth j l w
+pub known_pending : (p : Plan) (j : List Entry) (l w : ℕ) → Lawful p j → IsOfBerth j l w
     → AllOf (λ x. KnownByNumber j l x.number x.attempt) (pending j l)
 unfolding pending
-known_pending p j l w legal own = by_bool (is_single (kind_of p w))
-    (λ b. is_single (kind_of p w) ≡ b → AllOf (λ x. KnownByNumber j l x.number x.attempt)
+known_pending p j l w legal own = by_bool (is_single (line_kind p j l))
+    (λ b. is_single (line_kind p j l) ≡ b → AllOf (λ x. KnownByNumber j l x.number x.attempt)
     (filter (is_pending j) (sends j l))) singly many refl
   where
     on : AllOf (k.IsSentOn j l) (sends j l)
     on = k.sends_on j l (begin_in_order p j legal)
 
-    facts : LineFacts p j l w
+    facts : LineFacts p j l
     facts = q.line_facts p j l w legal own
 
-    singly : is_single (kind_of p w) ≡ true → is_single (kind_of p w) ≡ true
+    singly : is_single (line_kind p j l) ≡ true → is_single (line_kind p j l) ≡ true
         → AllOf (λ x. KnownByNumber j l x.number x.attempt) (filter (is_pending j) (sends j l))
     singly _ one = of_list (filter (is_pending j) (sends j l)) refl
         (pl.one_pending p j l w legal own one) (all_filter (k.IsSentOn j l) (is_pending j)
@@ -221,7 +199,7 @@ known_pending p j l w legal own = by_bool (is_single (kind_of p w))
         )
         of_list (x ∷ y ∷ xs) is le all = absurd (omega arith)
 
-    many : is_single (kind_of p w) ≡ false → is_single (kind_of p w) ≡ false
+    many : is_single (line_kind p j l) ≡ false → is_single (line_kind p j l) ≡ false
         → AllOf (λ x. KnownByNumber j l x.number x.attempt) (filter (is_pending j) (sends j l))
     many _ off =
         let numbers = subst (λ b. NumberedAs b (sends j l)) off facts.numbers in
@@ -275,7 +253,7 @@ pub record IsWritten (j : List Entry) (e : Entry) (t : Attempt) (y : Written) : 
   pub carrier : line_of j t ≡ Some request.line
 
 pub written_is : (p : Plan) (e : Entry) (j : List Entry) (t : Attempt) (y : Written)
-    → Legal p (e ∷ j) → wrote_at t j e ≡ Some y → IsWritten j e t y
+    → Lawful p (e ∷ j) → wrote_at t j e ≡ Some y → IsWritten j e t y
 written_is p e j t y legal h =
     let it = c.wrote_at_is j e t y h in
     let s = send_of_order j e.lane it.order t it.newest it.fits in
@@ -306,7 +284,7 @@ wrote_cases e j t y h = by (wrote_at t j e) (wrote j t) refl refl h
     by (Some a) None in_n in_w g = inr (in_n ∙ g)
     by (Some a) (Some b) in_n in_w g = inl (in_w ∙ g)
 
-fed : (p : Plan) (j : List Entry) (t : Attempt) → Legal p j → wrote j t ≡ Some write.FeedFault
+fed : (p : Plan) (j : List Entry) (t : Attempt) → Lawful p j → wrote j t ≡ Some write.FeedFault
     → IsFed j t
 unfolding wrote
 fed p [] t legal h = absurd (cc)
@@ -329,7 +307,7 @@ fed p (e ∷ j) t legal h = elim (wrote_cases e j t write.FeedFault h) [
 ]
 
 -- so on an unbroken line no Wrote says it
-pub unfed : (p : Plan) (j : List Entry) (l : ℕ) (t : Attempt) → Legal p j → broke j l ≡ false
+pub unfed : (p : Plan) (j : List Entry) (l : ℕ) (t : Attempt) → Lawful p j → broke j l ≡ false
     → line_of j t ≡ Some l → says_feed_fault (wrote j t) ≡ false
 unfed p j l t legal whole at = false_by _ (λ h.
     let is = fed p j t legal (v.feed_is (wrote j t) h) in
@@ -347,7 +325,7 @@ clean_by (Some write.FeedFault) a b = absurd (cc)
 clean_by (Some write.RoomFault) a b = absurd (cc)
 clean_by (Some write.TooLarge) a b = absurd (cc)
 
-pub clean_request : (p : Plan) (j : List Entry) (l : ℕ) (x : Request) → Legal p j
+pub clean_request : (p : Plan) (j : List Entry) (l : ℕ) (x : Request) → Lawful p j
     → broke j l ≡ false → k.IsSentOn j l x → is_pending j x ≡ true → IsClean j x.attempt
 clean_request p j l x legal whole on h =
     let now = q.pending_is j x h in
@@ -358,7 +336,7 @@ clean_request p j l x legal whole on h =
           now.unanswered);
     }
 
-pub pending_clean : (p : Plan) (j : List Entry) (l : ℕ) → Legal p j → broke j l ≡ false
+pub pending_clean : (p : Plan) (j : List Entry) (l : ℕ) → Lawful p j → broke j l ≡ false
     → AllOf (λ x. IsClean j x.attempt) (pending j l)
 unfolding pending
 pending_clean p j l legal whole =
@@ -370,7 +348,7 @@ pending_clean p j l legal whole =
 -- ---- a Wrote with a fault, of a request that isn't pending, on a line that hasn't Ended: the
 -- request was answered
 
-pub written_answered : (p : Plan) (j : List Entry) (lane : ℕ) (x : Request) → Legal p j
+pub written_answered : (p : Plan) (j : List Entry) (lane : ℕ) (x : Request) → Lawful p j
     → order_of j lane ≡ Some x → has_ended j x.line ≡ false → is_pending j x ≡ false
     → answered j x.attempt ≡ true
 written_answered p j lane x legal order running closed =
@@ -383,11 +361,11 @@ written_answered p j lane x legal order running closed =
 
 live_whole : (j : List Entry) (l : ℕ) → live j l ≡ true → broke j l ≡ false
 unfolding live
-live_whole j l h = u.not_true _ (and_parts (not (broke j l)) _ (and_parts (started j l) _ h).1).0
+live_whole j l h = ru.not_true _ (and_parts (not (broke j l)) _ (and_parts (started j l) _ h).1).0
 
 -- ---- at most one request of a line has a feed fault: its last
 
-older_apart : (p : Plan) (j : List Entry) (l : ℕ) (x : Request) → Legal p j
+older_apart : (p : Plan) (j : List Entry) (l : ℕ) (x : Request) → Lawful p j
     → r.head (sends j l) ≡ Some x → AllOf (λ y. same_attempt x.attempt y.attempt ≡ false)
     (older (sends j l))
 unfolding sends
@@ -416,7 +394,7 @@ all_older : (P : Request → Type 0) (xs : List Request) → AllOf P xs → AllO
 all_older P [] all = tt
 all_older P (x ∷ xs) all = all.1
 
-pub fed_last : (p : Plan) (j : List Entry) (l : ℕ) → Legal p j
+pub fed_last : (p : Plan) (j : List Entry) (l : ℕ) → Lawful p j
     → AllOf (λ y. says_feed_fault (wrote j y.attempt) ≡ false) (older (sends j l))
 unfolding sends
 fed_last p [] l legal = tt

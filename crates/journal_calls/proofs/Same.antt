@@ -5,6 +5,8 @@ use Rattle.std.specs.List.{find, list_any}
 use Rattle.std.proofs.lemmas.Bool.{or_cases}
 use Rattle.run_plan.specs.declared.plan.Branch.{Branch}
 use Rattle.run_plan.specs.declared.plan.Plan.{Plan}
+use Rattle.exec_journal.specs.Seated.{line_group}
+use Rattle.exec_journal.specs.Lawful as lw
 use Rattle.exec_journal.specs.declared.attempt.Attempt.{Attempt}
 use Rattle.exec_journal.specs.declared.journal.Entry.{Entry}
 use Rattle.exec_journal.specs.declared.call.Call.{Call}
@@ -21,13 +23,13 @@ use Rattle.exec_journal.specs.Words.{last_work, order_of, launch_of, sends, pend
 use Rattle.exec_journal.specs.Attempts.{fault_at, fault_by, start_cause, ended}
 use Rattle.exec_journal.specs.Settled.{bound}
 use Rattle.exec_journal.specs.Rules as r
-use Rattle.exec_journal.specs.Legal.{Legal}
+use Rattle.exec_journal.specs.Lawful.{Lawful}
 use Rattle.run_plan.specs.Sound.{Sound}
 use Rattle.exec_journal.specs.Facts.{SameActions}
 use Rattle.journal_laws.specs.Invariant.{EndsWith, ByFault, ByEnd, ByFeed}
 use Rattle.journal_calls.specs.Moments.{fed_on, stands_on}
 use Rattle.exec_journal.proofs.Histories.{AllOf, all_filter, all_find}
-use Rattle.exec_journal.proofs.Ruled as u
+use Rattle.exec_journal.proofs.Reasons as u
 use Rattle.exec_journal.proofs.Ruled.{by_bool}
 use Rattle.exec_journal.proofs.Begins.{same_attempt_refl, same_attempt_eq, is_for_eq, bound_is}
 use Rattle.exec_journal.proofs.Quiet.{ended_stays}
@@ -46,7 +48,7 @@ use Rattle.journal_calls.proofs.LineEnds as le
 -- ---- a Claim that isn't refused
 
 pub claimed_ends_none : (p : Plan) (e : Entry) (j : List Entry) (a : ℕ) (b : Branch) (n : ℕ)
-    (x : Found) → Legal p (e ∷ j) → e.call ≡ call.Claim a b n x → refused_in e.call e.reply ≡ None
+    (x : Found) → Lawful p (e ∷ j) → e.call ≡ call.Claim a b n x → refused_in e.call e.reply ≡ None
     → (t : Attempt) → ended (e ∷ j) t ≡ ended j t
 claimed_ends_none p e j a b n x legal is none t =
     by_bool (ended j t) (λ z. ended j t ≡ z → ended (e ∷ j) t ≡ z) (λ _ old. ended_stays e j t old)
@@ -68,7 +70,7 @@ claimed_ends_none p e j a b n x legal is none t =
 
 -- one that is lost changes nothing of actions
 pub lost_same : (p : Plan) (e : Entry) (j : List Entry) (a : ℕ) (b : Branch) (n : ℕ) (x : Found)
-    → Legal p (e ∷ j) → e.call ≡ call.Claim a b n x → e.reply ≡ reply.Lost → SameActions j (e ∷ j)
+    → Lawful p (e ∷ j) → e.call ≡ call.Claim a b n x → e.reply ≡ reply.Lost → SameActions j (e ∷ j)
 lost_same p e j a b n x legal is lost = record {
   grant = λ i. en.grants_same e j i (rw (is, lost) refl);
   commit = λ i w. en.commits_same e j i w (λ how h. no_commit i w how
@@ -82,7 +84,7 @@ lost_same p e j a b n x legal is lost = record {
 
 -- ---- a Launched with Done
 
-pub started_same : (p : Plan) (e : Entry) (j : List Entry) (l : ℕ) → Legal p (e ∷ j)
+pub started_same : (p : Plan) (e : Entry) (j : List Entry) (l : ℕ) → Lawful p (e ∷ j)
     → e.call ≡ call.Launched l start.Done → SameActions j (e ∷ j)
 started_same p e j l legal is = record {
   grant = λ i. en.grants_same e j i (rw is refl);
@@ -136,14 +138,14 @@ wrote_same e j l n how is same = record {
 
 -- with Done, or of a Cancel
 pub written_same : (p : Plan) (e : Entry) (j : List Entry) (l : ℕ) (n : ℤ) (how : Written)
-    → Legal p (e ∷ j) → e.call ≡ call.Wrote l n how → (how ≡ write.Done)
+    → Lawful p (e ∷ j) → e.call ≡ call.Wrote l n how → (how ≡ write.Done)
     ⊎ (order_of j e.lane ≡ None) → SameActions j (e ∷ j)
 written_same p e j l n how legal is quiet = wrote_same e j l n how is
     (λ t. ex.written_ends_none p e j l n how legal is quiet t)
 
 -- a FeedFault before its line has Ended
 pub fed_same : (p : Plan) (e : Entry) (j : List Entry) (l : ℕ) (n : ℤ) (x : Request)
-    → Legal p (e ∷ j) → e.call ≡ call.Wrote l n write.FeedFault → order_of j e.lane ≡ Some x
+    → Lawful p (e ∷ j) → e.call ≡ call.Wrote l n write.FeedFault → order_of j e.lane ≡ Some x
     → has_ended j x.line ≡ false → SameActions j (e ∷ j)
 fed_same p e j l n x legal is order running = wrote_same e j l n write.FeedFault is
     (λ t. ed.fed_ends_none p e j l n x legal is order running t)
@@ -152,13 +154,13 @@ fed_same p e j l n x legal is order running = wrote_same e j l n write.FeedFault
 
 -- its request is the last of the line, and from then on it is the one whose feed failed
 pub fed_now : (p : Plan) (e : Entry) (j : List Entry) (l : ℕ) (n : ℤ) (x : Request)
-    → Legal p (e ∷ j) → e.call ≡ call.Wrote l n write.FeedFault → order_of j e.lane ≡ Some x
+    → Lawful p (e ∷ j) → e.call ≡ call.Wrote l n write.FeedFault → order_of j e.lane ≡ Some x
     → fed_on (e ∷ j) l ≡ Some x.attempt
 fed_now p e j l n x legal is order =
     let it = la.writes_request p e j l n write.FeedFault x legal is order in
     let head : r.head (sends j l) ≡ Some x = subst (λ i. r.head (sends j i) ≡ Some x) it.line
     (la.newest_head p j e.lane it.order x legal.0 it.newest it.sends_it) in
-    let noted : e.reply ≡ reply.Noted = legal.1.replied ∙ ap (r.rule p j e.lane) is in
+    let noted : e.reply ≡ reply.Noted = subst (λ (d : Call). lw.Told p j e.lane d e.reply) is legal.1.told in
     let same : sends (e ∷ j) l ≡ sends j l = q.sends_same e j l (rw noted refl) in
     let at : wrote_at x.attempt j e ≡ Some write.FeedFault = wrote_is in
     let fed : wrote (e ∷ j) x.attempt ≡ Some write.FeedFault =
@@ -179,42 +181,42 @@ fed_now p e j l n x legal is order =
 
 -- ---- on one line at most one attempt of an action stands that hasn't ended
 
-module _ (p : Plan) (j : List Entry) (l m : ℕ) (s : Attempt) (sound : Sound p) (legal : Legal p j)
+module _ (p : Plan) (j : List Entry) (l m : ℕ) (s : Attempt) (sound : Sound p) (legal : Lawful p j)
     (launched : launch_of j l ≡ Some (m, s)) where
   runs_any : (t : Attempt) (xs : List Request) → AllOf
-      (λ x. ke.RunsIn p x.attempt (u.group_at p (m / 2))) xs
-      → list_any (λ x. same_attempt x.attempt t) xs ≡ true → ke.RunsIn p t (u.group_at p (m / 2))
+      (λ x. ke.RunsIn p x.attempt (line_group p j l)) xs
+      → list_any (λ x. same_attempt x.attempt t) xs ≡ true → ke.RunsIn p t (line_group p j l)
   runs_any t [] all h = absurd (cc)
   runs_any t (x ∷ xs) all h = elim (or_cases (same_attempt x.attempt t) _ h) [
-    | inl here ↦ subst (λ (a : Attempt). ke.RunsIn p a (u.group_at p (m / 2)))
+    | inl here ↦ subst (λ (a : Attempt). ke.RunsIn p a (line_group p j l))
         (same_attempt_eq x.attempt t here) all.0
     | inr later ↦ runs_any t xs all.1 later
   ]
 
   runs_fed : (t : Attempt) (o : Option Request) → find
       (λ x. says_feed_fault (wrote j x.attempt)) (sends j l) ≡ o
-      → is_for t (option_map (λ x. x.attempt) o) ≡ true → ke.RunsIn p t (u.group_at p (m / 2))
+      → is_for t (option_map (λ x. x.attempt) o) ≡ true → ke.RunsIn p t (line_group p j l)
   runs_fed t None is h = absurd (cc)
   runs_fed t (Some x) is h =
-      subst (λ (a : Attempt). ke.RunsIn p a (u.group_at p (m / 2))) (same_attempt_eq x.attempt t h)
-      (all_find (λ y. ke.RunsIn p y.attempt (u.group_at p (m / 2)))
+      subst (λ (a : Attempt). ke.RunsIn p a (line_group p j l)) (same_attempt_eq x.attempt t h)
+      (all_find (λ y. ke.RunsIn p y.attempt (line_group p j l))
       (λ y. says_feed_fault (wrote j y.attempt)) (sends j l) x
-      (ke.sends_run p j l m s legal launched) is)
+      (ke.sends_run p j l m s (line_group p j l) legal launched (ke.launched_runs p j l m s legal launched)) is)
 
   -- it is of the line's group
   pub standing_runs : (t : Attempt) → stands_on p j l t ≡ true
-      → ke.RunsIn p t (u.group_at p (m / 2))
+      → ke.RunsIn p t (line_group p j l)
   unfolding pending
   standing_runs t h = elim (or_cases (list_any (λ x. same_attempt x.attempt t) (pending j l)) _ h) [
     | inl waiting ↦ runs_any t (pending j l) (all_filter
-        (λ x. ke.RunsIn p x.attempt (u.group_at p (m / 2))) (is_pending j) (sends j l)
-        (ke.sends_run p j l m s legal launched)) waiting
+        (λ x. ke.RunsIn p x.attempt (line_group p j l)) (is_pending j) (sends j l)
+        (ke.sends_run p j l m s (line_group p j l) legal launched (ke.launched_runs p j l m s legal launched))) waiting
     | inr other ↦ elim (or_cases (is_for t (fed_on j l)) _ other) [
       | inl fed ↦ runs_fed t (find (λ x. says_feed_fault (wrote j x.attempt)) (sends j l)) refl fed
       | inr held ↦ (let b = bound_is p j l t (is_for_eq t (bound p j l) held) in
           let both : Some (b.lane, t) ≡ Some (m, s) = sym b.launched ∙ launched in
           let pair : (b.lane, t) ≡ (m, s) = cc in
-          subst (λ (a : Attempt). ke.RunsIn p a (u.group_at p (m / 2)))
+          subst (λ (a : Attempt). ke.RunsIn p a (line_group p j l))
           (sym (ap (λ (x : ℕ × Attempt). x.1) pair)) (ke.launched_runs p j l m s legal
           launched))
     ]
@@ -225,5 +227,5 @@ module _ (p : Plan) (j : List Entry) (l m : ℕ) (s : Attempt) (sound : Sound p)
   standing_one t v a b going_t going_v same =
       g.same_going j t v (g.going_is p j t legal (le.standing_begun p j l t legal a) going_t)
       (g.going_is p j v legal (le.standing_begun p j l v legal b) going_v) same
-      (ke.one_branch p t v (u.group_at p (m / 2)) sound (standing_runs t a)
+      (ke.one_branch p t v (line_group p j l) sound (standing_runs t a)
       (standing_runs v b) same)

@@ -3,6 +3,7 @@
 use Rattle.std.proofs.Common.{◌≡◌, ℕ, ◌/◌, Bool, true, false, ◌&&◌, ◌||◌, not, List, ◌∷◌, Option, Some, None, is_some, option_map, inl, inr, refl, sym, ap, subst, ◌∙◌}
 use Rattle.std.proofs.lemmas.Bool.{or_cases, or_left, or_right}
 use Rattle.run_plan.specs.declared.plan.Plan.{Plan}
+use Rattle.exec_journal.specs.Lawful as lw
 use Rattle.exec_journal.specs.declared.attempt.Attempt.{Attempt}
 use Rattle.exec_journal.specs.declared.journal.Entry.{Entry}
 use Rattle.exec_journal.specs.declared.call.Call.{Call}
@@ -17,7 +18,7 @@ use Rattle.exec_journal.specs.Attempts.{line_of}
 use Rattle.exec_journal.specs.Rules as r
 use Rattle.exec_journal.specs.Rules.{gathered}
 use Rattle.exec_journal.specs.Scripts as sc
-use Rattle.exec_journal.specs.Legal.{Legal}
+use Rattle.exec_journal.specs.Lawful.{Lawful}
 use Rattle.exec_journal.specs.Facts.{call_line, reply_line, IsOfBerth, OfBerth}
 use Rattle.exec_journal.proofs.Lines.{lines_named, of_berth_more}
 use Rattle.exec_journal.proofs.Begins.{begin_in_order, same_attempt_refl, same_attempt_eq}
@@ -40,7 +41,7 @@ pub record IsMatchOf (j : List Entry) (w : ℕ) (t : Attempt) : Type 0 where
   pub carrier : line_of j t ≡ Some line
   pub consumed : answered j t ≡ true
 
-pub match_later : (p : Plan) (e : Entry) (j : List Entry) (w : ℕ) (t : Attempt) → Legal p (e ∷ j)
+pub match_later : (p : Plan) (e : Entry) (j : List Entry) (w : ℕ) (t : Attempt) → Lawful p (e ∷ j)
     → IsMatchOf j w t → IsMatchOf (e ∷ j) w t
 match_later p e j w t legal m = record {
   line = m.line;
@@ -53,7 +54,7 @@ matched_consumed : (x : Reply) (t : Attempt) → matched_in x ≡ Some t → con
 matched_consumed (reply.Matched a b n) t h = h
 matched_consumed _ t h = absurd (cc)
 
-pub match_now : (p : Plan) (e : Entry) (j : List Entry) (t : Attempt) → Legal p (e ∷ j)
+pub match_now : (p : Plan) (e : Entry) (j : List Entry) (t : Attempt) → Lawful p (e ∷ j)
     → matched_in e.reply ≡ Some t → IsMatchOf (e ∷ j) (e.lane / 2) t
 unfolding answered
 match_now p e j t legal h =
@@ -86,8 +87,8 @@ send_line : (x : Reply) (y : Request) → send_in x ≡ Some y → (reply_line x
 send_line (reply.Send l n a b t) y h = ap (λ (z : Option Request). option_map (λ w. w.line) z) h
 send_line _ y h = absurd (cc)
 
-pub asking_written : (p : Plan) (j : List Entry) (lane : ℕ) (t : Attempt) → Legal p j
-    → sc.script p j lane call.Ask ≡ true → IsMatchOf j (lane / 2) t → is_some (wrote j t) ≡ true
+pub asking_written : (p : Plan) (j : List Entry) (lane : ℕ) (t : Attempt) → Lawful p j
+    → lw.in_script p j lane call.Ask ≡ true → IsMatchOf j (lane / 2) t → is_some (wrote j t) ≡ true
 asking_written p j lane t legal asks m =
     ow.asking_met p j lane (is_send t) (ow.is_written t) legal asks
     (λ d y. ow.send_order t d.reply y) own (ow.send_met p j t legal

@@ -3,6 +3,7 @@
 use Rattle.std.proofs.Common.{◌≡◌, ℕ, true, false, cond, List, [], ◌∷◌, Option, Some, None, option_map, ◌⊎◌, inl, inr, refl, sym, subst, ◌∙◌, ℤ}
 use Rattle.std.proofs.lemmas.Bool.{eq-eqb, and_parts, or_right}
 use Rattle.run_plan.specs.declared.plan.Plan.{Plan}
+use Rattle.exec_journal.specs.Lawful as lw
 use Rattle.exec_journal.specs.declared.attempt.Attempt.{Attempt}
 use Rattle.exec_journal.specs.declared.journal.Entry.{Entry}
 use Rattle.exec_journal.specs.declared.ends.Cause.{Cause}
@@ -19,7 +20,7 @@ use Rattle.exec_journal.specs.Words.{last_work, failed, has_ended, was_sent, gra
 use Rattle.exec_journal.specs.Attempts.{line_of, fault_of, fault_at, fault_by, start_cause, unwritten_cause, found_cause, refused_cause, ended}
 use Rattle.exec_journal.specs.Settled.{wanted, bound}
 use Rattle.exec_journal.specs.Scripts as sc
-use Rattle.exec_journal.specs.Legal.{Legal}
+use Rattle.exec_journal.specs.Lawful.{Lawful}
 use Rattle.exec_journal.proofs.Ruled.{by_bool}
 use Rattle.exec_journal.proofs.Begins.{begin_in_order, same_attempt_eq, launched_begun}
 use Rattle.journal_laws.proofs.Carried as k
@@ -42,7 +43,7 @@ record HasFailed (j : List Entry) (t : Attempt) : Type 0 where
   pub carrier : line_of j t ≡ Some line
   pub fault : failed j line ≡ true
 
-failed_later : (p : Plan) (e : Entry) (j : List Entry) (t : Attempt) → Legal p (e ∷ j)
+failed_later : (p : Plan) (e : Entry) (j : List Entry) (t : Attempt) → Lawful p (e ∷ j)
     → HasFailed j t → HasFailed (e ∷ j) t
 unfolding failed
 failed_later p e j t legal h = record {
@@ -71,13 +72,13 @@ fault_new_at e j t x h = by (fault_at t j e) (fault_of j t) h
     by (Some y) None g = inr g
     by (Some y) (Some z) g = inl g
 
-module _ (p : Plan) (e : Entry) (j : List Entry) (t : Attempt) (x : Cause) (legal : Legal p (e ∷ j))
+module _ (p : Plan) (e : Entry) (j : List Entry) (t : Attempt) (x : Cause) (legal : Lawful p (e ∷ j))
     (unsent : was_sent j t ≡ false) where
   at_launched : (l : ℕ) (how : Started) → e.call ≡ call.Launched l how → fault_at t j e ≡ Some x
       → HasFailed (e ∷ j) t
   at_launched l how is h =
       let order = ed.launched_order p j e.lane l how legal.0
-      (subst (λ (d : Call). sc.script p j e.lane d ≡ true) is legal.1.scripted) in
+      (subst (λ (d : Call). lw.in_script p j e.lane d ≡ true) is legal.1.scripted) in
       by_bool (same_attempt order.attempt t) (λ b. same_attempt order.attempt t ≡ b
       → cond b (start_cause how) None ≡ Some x → HasFailed (e ∷ j) t)
       (λ _ same g.
@@ -122,7 +123,7 @@ module _ (p : Plan) (e : Entry) (j : List Entry) (t : Attempt) (x : Cause) (lega
   at_entry (call.Claim a b n y) is h = at_claim (refused_in e.call e.reply) refl (rw is h)
   at_entry _ is h = absurd (cc)
 
-unsent_fault : (p : Plan) (j : List Entry) (t : Attempt) (x : Cause) → Legal p j
+unsent_fault : (p : Plan) (j : List Entry) (t : Attempt) (x : Cause) → Lawful p j
     → fault_of j t ≡ Some x → was_sent j t ≡ false → HasFailed j t
 unfolding fault_of
 unsent_fault p [] t x legal h unsent = absurd (cc)
@@ -140,13 +141,13 @@ unsent_fault p (e ∷ j) t x legal h unsent = by (fault_new_at e j t x h)
 -- ---- so it is bound where its line Ends
 
 pub unsent_bound : (p : Plan) (e : Entry) (j : List Entry) (l : ℕ) (how : HowEnded) (t : Attempt)
-    → Legal p (e ∷ j) → e.call ≡ call.Ended l how → line_of j t ≡ Some l → was_sent j t ≡ false
+    → Lawful p (e ∷ j) → e.call ≡ call.Ended l how → line_of j t ≡ Some l → was_sent j t ≡ false
     → granted j t.action ≡ false
     → bound p j l ≡ Some t
 unsent_bound p e j l how t legal is at unsent free = by (cl.on_line p j t l legal.0 at)
   where
     heard : ll.IsHeard j l
-    heard = ll.heard p j e.lane l how legal.0 (subst (λ (d : Call). sc.script p j e.lane d ≡ true)
+    heard = ll.heard p j e.lane l how legal.0 (subst (λ (d : Call). lw.in_script p j e.lane d ≡ true)
         is legal.1.scripted)
 
     of_ends : v.Ends j t → ⊥

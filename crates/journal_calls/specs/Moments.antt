@@ -16,8 +16,9 @@ use Rattle.exec_journal.specs.Scripts.{hears_after, is_commit_of}
 use Rattle.journal_laws.specs.Steps.{is_line}
 use Rattle.exec_journal.specs.Attempts.{attempt, ended}
 use Rattle.exec_journal.specs.Settled.{bound}
-use Rattle.exec_journal.specs.Facts.{BeginsNext}
-use Rattle.run_plan.specs.Groups.{berth_group, berths, capacity, group_of, kind_of}
+use Rattle.exec_journal.specs.Facts.{IsOfBerth, BeginsNext}
+use Rattle.run_plan.specs.Groups.{capacity, group_of}
+use Rattle.exec_journal.specs.Seated.{group_for, group_on, line_kind}
 
 -- the attempt was begun: its number is one of its branch's, and its action uses its branch
 pub record IsBegun (p : Plan) (j : List Entry) (t : Attempt) : Type 0 where
@@ -85,31 +86,30 @@ pub record IsClean (j : List Entry) (t : Attempt) : Type 0 where
 
 -- ---- orders
 
--- the line is the last of a berth of the plan
+-- the line is the last of its berth
 pub record IsSeated (p : Plan) (j : List Entry) (l : ℕ) : Type 0 where
   pub berth : ℕ
-  pub within : berth < berths p
+  pub own : IsOfBerth j l berth
   pub last : last_line j berth ≡ Some l
 
 -- the branch of the attempt is run by this group
 abbrev pub BranchOf : Plan → Attempt → Option ℕ → Type 0
-BranchOf p t g = option_and_then (λ x. group_of x t.branch) (slice_get p.actions t.action) ≡ g
+BranchOf p t g = group_for p t ≡ g
 
--- a Send of the attempt to the line of the berth w: what is bound there is the latest of its
+-- a Send of the attempt to the line: what is bound there is the latest of its
 -- branch, and what isn't begins next; and there is room for it
-pub record IsSendOf (p : Plan) (j : List Entry) (w l : ℕ) (t : Attempt) : Type 0 where
+pub record IsSendOf (p : Plan) (j : List Entry) (l : ℕ) (t : Attempt) : Type 0 where
   pub unsent : was_sent j t ≡ false
-  pub group : BranchOf p t (berth_group p w)
+  pub group : BranchOf p t (group_on p j l)
   pub latest : bound p j l ≡ Some t → t.number ≡ attempt j t.action t.branch
   pub fresh : bound p j l ≡ None → BeginsNext j t
-  pub place : length (pending j l) < capacity (kind_of p w)
+  pub place : length (pending j l) < capacity (line_kind p j l)
   pub room : length (sends j l) < 2 * length p.actions * p.limit
   pub line : l < 2 * length p.actions * p.limit
   pub within : t.action < length p.actions
 
--- a Launch for the attempt on the berth w
-pub record IsLaunchOf (p : Plan) (j : List Entry) (w : ℕ) (t : Attempt) : Type 0 where
-  pub seated : w < berths p
+-- a Launch for the attempt
+pub record IsLaunchOf (p : Plan) (j : List Entry) (t : Attempt) : Type 0 where
   pub room : line_count j < 2 * length p.actions * p.limit
   pub within : t.action < length p.actions
 

@@ -4,12 +4,13 @@ use Rattle.std.specs.List.{filter}
 use Rattle.std.proofs.lemmas.Bool.{eqb-true, eq-eqb, ltb-true, ltb-false, or_left, or_right}
 use Rattle.run_plan.specs.declared.plan.Plan.{Plan}
 use Rattle.run_plan.specs.Groups.{berths}
+use Rattle.exec_journal.specs.Facts.{IsOfBerth}
 use Rattle.exec_journal.specs.declared.attempt.Attempt.{Attempt}
 use Rattle.exec_journal.specs.declared.journal.Entry.{Entry}
 use Rattle.list_lemmas.specs.Options.{and_more}
 use Rattle.exec_journal.specs.Words.{last_line}
 use Rattle.exec_journal.specs.Settled.{bound}
-use Rattle.exec_journal.specs.Legal.{Legal}
+use Rattle.exec_journal.specs.Lawful.{Lawful}
 use Rattle.exec_journal.proofs.Ruled.{by_bool}
 use Rattle.journal_calls.proofs.Calls as ca
 use Rattle.worker_pool.specs.Entries as wp
@@ -64,13 +65,13 @@ among_last j (suc n) w l lt at =
     more None h = h
     more (Some k) h = or_right (k == l) _ h
 
-pub are_of_action : (p : Plan) (j : List Entry) (a : ℕ) → Legal p j
-    → wp.AreOfAction p j a (lines_bound_for p j a)
-are_of_action p j a legal = record { each = λ l t at. one l t at }
+pub are_of_action : (p : Plan) (j : List Entry) (a : ℕ) → Lawful p j
+    → ((l w : ℕ) → IsOfBerth j l w → w < berths p) → wp.AreOfAction p j a (lines_bound_for p j a)
+are_of_action p j a legal within = record { each = λ l t at. one l t at }
   where
     one : (l : ℕ) (t : Attempt) → bound p j l ≡ Some t
         → wp.is_among l (lines_bound_for p j a) ≡ (a == t.action)
     one l t at =
         let seat = ca.bound_seat p j l t legal at in
         among_filter l (λ k. is_of_action a (bound p j k)) (last_lines j (berths p))
-        ∙ rw (among_last j (berths p) seat.berth l seat.within seat.last, at) refl
+        ∙ rw (among_last j (berths p) seat.berth l (within l seat.berth seat.own) seat.last, at) refl

@@ -2,6 +2,8 @@
 use Rattle.std.proofs.Common.{◌≡◌, ℕ, ◌≤◌, ◌==◌, Bool, true, false, ◌&&◌, ◌||◌, not, List, [], ◌∷◌, Some, None, ◌⊎◌, refl, sym, ap, subst, ◌∙◌, ℤ, inr, length, cond}
 use Rattle.run_plan.specs.declared.plan.Branch.{Branch}
 use Rattle.run_plan.specs.declared.plan.Plan.{Plan}
+use Rattle.exec_journal.specs.Seated.{group_on}
+use Rattle.exec_journal.specs.Lawful as lw
 use Rattle.exec_journal.specs.declared.attempt.Attempt.{Attempt}
 use Rattle.exec_journal.specs.declared.journal.Entry.{Entry}
 use Rattle.exec_journal.specs.declared.call.Answer.{Answer}
@@ -21,7 +23,7 @@ use Rattle.exec_journal.specs.Words.{launch_of, order_of, has_ended, answered, g
 use Rattle.exec_journal.specs.Attempts.{begun_in, line_of, ended, attempt}
 use Rattle.exec_journal.specs.Rules.{rule}
 use Rattle.run_plan.specs.Sound.{Sound}
-use Rattle.exec_journal.specs.Legal.{Legal}
+use Rattle.exec_journal.specs.Lawful.{Lawful}
 use Rattle.exec_journal.specs.Facts.{begun}
 use Rattle.journal_laws.specs.Invariant.{is_quiet_call, IsGoing, NumberedAs, EachRequest}
 use Rattle.journal_laws.specs.Steps.{EndExactly, is_open_attempt}
@@ -66,12 +68,12 @@ no_grant (call.Claim a b t f) x h = absurd (cc)
 no_grant _ x h = refl
 
 -- ready_order
-pub begins_this : (p : Plan) (e : Entry) (j : List Entry) (t : Attempt) → Legal p (e ∷ j)
+pub begins_this : (p : Plan) (e : Entry) (j : List Entry) (t : Attempt) → Lawful p (e ∷ j)
     → begun_in e.reply ≡ Some t → begun j t ≡ false → ro.BeginsThis j e t
 begins_this p e j t legal h new = let b = of.begins_one p e j t legal h new in
     record { begins = b.begins; next = b.next; going = b.going; same = b.same }
 
-pub under_way : (p : Plan) (j : List Entry) (t : Attempt) → Sound p → Legal p j → IsGoing j t
+pub under_way : (p : Plan) (j : List Entry) (t : Attempt) → Sound p → Lawful p j → IsGoing j t
     → ro.IsUnderWay p j t
 under_way p j t sound legal is = record {
   begun = is.least;
@@ -80,13 +82,13 @@ under_way p j t sound legal is = record {
   going = is.going;
 }
 
-pub is_open : (p : Plan) (e : Entry) (j : List Entry) (y : Attempt × Found) → Legal p (e ∷ j)
+pub is_open : (p : Plan) (e : Entry) (j : List Entry) (y : Attempt × Found) → Lawful p (e ∷ j)
     → granted_in e.call e.reply ≡ Some y → ro.IsOpen j y.0.action
 is_open p e j y legal h = let b = of.is_ungranted p e j y legal h in
     record { ungranted = b.ungranted; uncommitted = b.uncommitted }
 
 pub won_files : (p : Plan) (e : Entry) (j : List Entry) (a : ℕ) (b : Branch) (how : CommitEnd)
-    → Legal p (e ∷ j) → e.call ≡ call.Committed a b how → ro.WonFiles j a b
+    → Lawful p (e ∷ j) → e.call ≡ call.Committed a b how → ro.WonFiles j a b
 won_files p e j a b how legal h = let w = of.is_granted_files p e j a b how legal h in
     record { number = w.number; files = w.files; winner = w.winner; uncommitted = w.uncommitted }
 
@@ -104,7 +106,7 @@ turned y t =
     (same_attempt_refl t)) off)) refl)) refl
 
 -- where exactly this attempt ends, which was under way
-pub ends_one : (p : Plan) (e : Entry) (j : List Entry) (y : Attempt) → Sound p → Legal p (e ∷ j)
+pub ends_one : (p : Plan) (e : Entry) (j : List Entry) (y : Attempt) → Sound p → Lawful p (e ∷ j)
     → EndsOne j e y → ro.EndsThese p j e (y ∷ [])
 ends_one p e j y sound legal is = record {
   these = λ t. is.exact t ∙ ap (λ b. ended j t || b) (turned y t);
@@ -118,7 +120,7 @@ ends_one p e j y sound legal is = record {
 }
 
 -- of a Claim that is refused
-pub ends_claimed : (p : Plan) (e : Entry) (j : List Entry) (y : Attempt × Found) → Legal p (e ∷ j)
+pub ends_claimed : (p : Plan) (e : Entry) (j : List Entry) (y : Attempt × Found) → Lawful p (e ∷ j)
     → refused_in e.call e.reply ≡ Some y → EndsOne j e y.0
 ends_claimed p e j y legal h = record {
   exact = ex.refused_ends p e j y legal h;
@@ -152,14 +154,23 @@ and_false false true true h = refl
 and_false false false d h = refl
 and_false false true false h = absurd (cc)
 
-noted_begins_none : (p : Plan) (e : Entry) (j : List Entry) → Legal p (e ∷ j)
+noted_begins_none : (p : Plan) (e : Entry) (j : List Entry) → Lawful p (e ∷ j)
     → is_report e.call ≡ true → begun_in e.reply ≡ None
-noted_begins_none p e j legal h = rw legal.1.replied (by e.call h)
+noted_begins_none p e j legal h = by e.call e.reply legal.1.told h
   where
-    by : (d : Call) → is_report d ≡ true → begun_in (rule p j e.lane d) ≡ None
-    by (call.Launched l how) k = refl
-    by (call.Wrote l n how) k = refl
-    by _ k = absurd (cc)
+    by : (d : Call) (x : Reply) → lw.Told p j e.lane d x → is_report d ≡ true → begun_in x ≡ None
+    by (call.Launched l how) x is k = ap begun_in is
+    by (call.Wrote l n how) x is k = ap begun_in is
+    by call.Ask x is k = absurd (cc)
+    by call.Tick x is k = absurd (cc)
+    by call.Take x is k = absurd (cc)
+    by call.Halt x is k = absurd (cc)
+    by (call.Look w) x is k = absurd (cc)
+    by (call.Claim a b t y) x is k = absurd (cc)
+    by (call.Committed a b how) x is k = absurd (cc)
+    by (call.Killed l) x is k = absurd (cc)
+    by (call.Answer l y) x is k = absurd (cc)
+    by (call.Ended l how) x is k = absurd (cc)
 
 report_grants_none : (d : Call) (x : Reply) → is_report d ≡ true → granted_in d x ≡ None
 report_grants_none (call.Launched l how) x h = refl
@@ -172,7 +183,7 @@ report_commits_none (call.Wrote l n how) h = refl
 report_commits_none _ h = absurd (cc)
 
 ends_reported : (p : Plan) (e : Entry) (j : List Entry) (s : Attempt) (test : Attempt → Bool)
-    → Legal p (e ∷ j) → is_report e.call ≡ true → EndExactly j e test
+    → Lawful p (e ∷ j) → is_report e.call ≡ true → EndExactly j e test
     → ((t : Attempt) → test t ≡ same_attempt s t) → IsGoing j s → EndsOne j e s
 ends_reported p e j s test legal report exact same going = record {
   exact = λ t. exact t ∙ ap (λ b. ended j t || b) (same t);
@@ -183,7 +194,7 @@ ends_reported p e j s test legal report exact same going = record {
 }
 
 pub ends_launched : (p : Plan) (e : Entry) (j : List Entry) (l m : ℕ) (how : Started) (s : Attempt)
-    → Legal p (e ∷ j) → e.call ≡ call.Launched l how → is_done how ≡ false
+    → Lawful p (e ∷ j) → e.call ≡ call.Launched l how → is_done how ≡ false
     → launch_of j l ≡ Some (m, s) → granted j s.action ≡ false → EndsOne j e s
 ends_launched p e j l m how s legal is fault at free =
     ends_reported p e j s (is_open_attempt j s) legal (rw is refl)
@@ -192,7 +203,7 @@ ends_launched p e j l m how s legal is fault at free =
     (fa.launched_going p e j l m how s legal is at)
 
 pub none_launched : (p : Plan) (e : Entry) (j : List Entry) (l m : ℕ) (how : Started) (s : Attempt)
-    → Legal p (e ∷ j) → e.call ≡ call.Launched l how → is_done how ≡ false
+    → Lawful p (e ∷ j) → e.call ≡ call.Launched l how → is_done how ≡ false
     → launch_of j l ≡ Some (m, s) → granted j s.action ≡ true → rr.EndsNone j e
 none_launched p e j l m how s legal is fault at won =
     λ t. ex.launched_ends p e j l m how s legal is fault at t
@@ -200,7 +211,7 @@ none_launched p e j l m how s legal is fault at won =
 
 -- a Wrote of a request on a line that hasn't Ended, or that was answered
 pub ends_written : (p : Plan) (e : Entry) (j : List Entry) (l : ℕ) (n : ℤ) (how : Written)
-    (x : Request) → Legal p (e ∷ j) → e.call ≡ call.Wrote l n how → is_unwritten how ≡ true
+    (x : Request) → Lawful p (e ∷ j) → e.call ≡ call.Wrote l n how → is_unwritten how ≡ true
     → order_of j e.lane ≡ Some x
     → (has_ended j x.line ≡ false) ⊎ (answered j x.attempt ≡ true)
     → granted j x.attempt.action ≡ false → EndsOne j e x.attempt
@@ -211,7 +222,7 @@ ends_written p e j l n how x legal is un order up free =
     (fa.written_going p e j l n how x legal is order up)
 
 pub none_written : (p : Plan) (e : Entry) (j : List Entry) (l : ℕ) (n : ℤ) (how : Written)
-    (x : Request) → Legal p (e ∷ j) → e.call ≡ call.Wrote l n how → is_unwritten how ≡ true
+    (x : Request) → Lawful p (e ∷ j) → e.call ≡ call.Wrote l n how → is_unwritten how ≡ true
     → order_of j e.lane ≡ Some x → granted j x.attempt.action ≡ true
     → rr.EndsNone j e
 none_written p e j l n how x legal is un order won =
@@ -231,7 +242,7 @@ ended_already j s t b h = by (ended j t) (same_attempt s t) b refl refl refl
         (subst (λ (z : Attempt). ended j z ≡ true) (same_attempt_eq s t w) (h y)) u)
 
 pub none_left : (p : Plan) (e : Entry) (j : List Entry) (l : ℕ) (n : ℤ) (how : Written)
-    (x : Request) → Legal p (e ∷ j) → e.call ≡ call.Wrote l n how → is_unwritten how ≡ true
+    (x : Request) → Lawful p (e ∷ j) → e.call ≡ call.Wrote l n how → is_unwritten how ≡ true
     → order_of j e.lane ≡ Some x
     → has_ended j x.line ≡ true → answered j x.attempt ≡ false → rr.EndsNone j e
 none_left p e j l n how x legal is un order over unanswered = λ t.
@@ -241,7 +252,7 @@ none_left p e j l n how x legal is un order over unanswered = λ t.
 
 -- a FeedFault of an answered request on a line that has Ended
 pub ends_fed : (p : Plan) (e : Entry) (j : List Entry) (l : ℕ) (n : ℤ) (x : Request)
-    → Legal p (e ∷ j) → e.call ≡ call.Wrote l n write.FeedFault → order_of j e.lane ≡ Some x
+    → Lawful p (e ∷ j) → e.call ≡ call.Wrote l n write.FeedFault → order_of j e.lane ≡ Some x
     → has_ended j x.line ≡ true → answered j x.attempt ≡ true → granted j x.attempt.action ≡ false
     → EndsOne j e x.attempt
 ends_fed p e j l n x legal is order over done free =
@@ -254,7 +265,7 @@ ends_fed p e j l n x legal is order over done free =
 
 -- of every other request
 pub none_fed : (p : Plan) (e : Entry) (j : List Entry) (l : ℕ) (n : ℤ) (x : Request)
-    → Legal p (e ∷ j) → e.call ≡ call.Wrote l n write.FeedFault → order_of j e.lane ≡ Some x
+    → Lawful p (e ∷ j) → e.call ≡ call.Wrote l n write.FeedFault → order_of j e.lane ≡ Some x
     → (has_ended j x.line && (answered j x.attempt && not (granted j x.attempt.action))) ≡ false
     → rr.EndsNone j e
 none_fed p e j l n x legal is order h = λ t.
@@ -268,7 +279,7 @@ none_fed p e j l n x legal is order h = λ t.
     fa.written_over p e j l n write.FeedFault x legal is order parts.0 unanswered free)
 
 -- of an entry with which nothing begins, ends, is granted or committed
-pub same_branches : (p : Plan) (e : Entry) (j : List Entry) → Legal p (e ∷ j)
+pub same_branches : (p : Plan) (e : Entry) (j : List Entry) → Lawful p (e ∷ j)
     → is_quiet_call e.call ≡ true → is_commit e.call ≡ false → begun_in e.reply ≡ None
     → ro.SameBranches j (e ∷ j)
 same_branches p e j legal quiet uncommitted none = record {
@@ -281,7 +292,7 @@ same_branches p e j legal quiet uncommitted none = record {
 }
 
 -- of a Send of an attempt that was launched before
-pub sent_branches : (p : Plan) (e : Entry) (j : List Entry) (t : Attempt) → Legal p (e ∷ j)
+pub sent_branches : (p : Plan) (e : Entry) (j : List Entry) (t : Attempt) → Lawful p (e ∷ j)
     → begun_in e.reply ≡ Some t → begun j t ≡ true → e.call ≡ call.Ask → ro.SameBranches j (e ∷ j)
 sent_branches p e j t legal begins old asked = record {
   actions = record {
@@ -299,23 +310,23 @@ sent_branches p e j t legal begins old asked = record {
     uncommitted = rw asked refl
 
 -- of a greeting
-pub greeted_branches : (p : Plan) (e : Entry) (j : List Entry) → Legal p (e ∷ j)
+pub greeted_branches : (p : Plan) (e : Entry) (j : List Entry) → Lawful p (e ∷ j)
     → e.reply ≡ reply.Greeted → ro.SameBranches j (e ∷ j)
 greeted_branches p e j legal h = let w = gr.greeting_keeps p e j legal h in
     record { actions = w.actions; none_begins = w.none_begins }
 
 -- race_core
-pub is_open_race : (p : Plan) (e : Entry) (j : List Entry) (y : Attempt × Found) → Legal p (e ∷ j)
+pub is_open_race : (p : Plan) (e : Entry) (j : List Entry) (y : Attempt × Found) → Lawful p (e ∷ j)
     → granted_in e.call e.reply ≡ Some y → rc.IsOpen j y.0.action
 is_open_race p e j y legal h = let b = of.is_ungranted p e j y legal h in
     record { ungranted = b.ungranted; uncommitted = b.uncommitted }
 
 pub won_by : (p : Plan) (e : Entry) (j : List Entry) (a : ℕ) (b : Branch) (how : CommitEnd)
-    → Legal p (e ∷ j) → e.call ≡ call.Committed a b how → rc.WonBy j a b
+    → Lawful p (e ∷ j) → e.call ≡ call.Committed a b how → rc.WonBy j a b
 won_by p e j a b how legal h = let w = of.is_granted_files p e j a b how legal h in
     record { winner = rw w.winner refl; uncommitted = w.uncommitted }
 
-pub same_race : (p : Plan) (e : Entry) (j : List Entry) → Legal p (e ∷ j)
+pub same_race : (p : Plan) (e : Entry) (j : List Entry) → Lawful p (e ∷ j)
     → granted_in e.call e.reply ≡ None → is_commit e.call ≡ false → rc.SameRace j (e ∷ j)
 same_race p e j legal ungranted uncommitted = record {
   grant = λ a. en.grants_same e j a ungranted;
@@ -323,20 +334,20 @@ same_race p e j legal ungranted uncommitted = record {
 }
 
 -- worker_pool
-pub wanted_stays : (p : Plan) (e : Entry) (j : List Entry) → Legal p (e ∷ j) → wp.WantedStays p j e
+pub wanted_stays : (p : Plan) (e : Entry) (j : List Entry) → Lawful p (e ∷ j) → wp.WantedStays p j e
 wanted_stays p e j legal = let w = of.wanted_follows p e j legal in
     record { unwanted = w.unwanted; bound_yet = w.bound_yet }
 
-pub carries : (p : Plan) (j : List Entry) → Legal p j → wp.CarriesItsBound p j
+pub carries : (p : Plan) (j : List Entry) → Lawful p j → wp.CarriesItsBound p j
 carries p j legal = let w = of.bound_carried p j legal in
     record { carrier = w.carrier; unanswered = w.unanswered }
 
-pub is_new : (p : Plan) (e : Entry) (j : List Entry) (x : ℕ × Attempt) → Sound p → Legal p (e ∷ j)
+pub is_new : (p : Plan) (e : Entry) (j : List Entry) (x : ℕ × Attempt) → Sound p → Lawful p (e ∷ j)
     → launch_in e.reply ≡ Some x → wp.IsNew p j x.1
 is_new p e j x sound legal h = let w = pl.fresh_launch p e j x legal sound.least h in
     record { unbegun = w.unbegun; going = w.going; wish = w.wish }
 
-pub is_sent_to : (p : Plan) (e : Entry) (j : List Entry) (x : Request) → Legal p (e ∷ j)
+pub is_sent_to : (p : Plan) (e : Entry) (j : List Entry) (x : Request) → Lawful p (e ∷ j)
     → send_in e.reply ≡ Some x → wp.IsSentTo j x.attempt x.line
 is_sent_to p e j x legal h = let w = of.fresh_send p e j x legal h in
     record {
@@ -347,13 +358,13 @@ is_sent_to p e j x legal h = let w = of.fresh_send p e j x legal h in
       launched = w.launched;
     }
 
-pub is_first : (p : Plan) (j : List Entry) (lane : ℕ) (x : Request) → Legal p j
+pub is_first : (p : Plan) (j : List Entry) (lane : ℕ) (x : Request) → Lawful p j
     → order_of j lane ≡ Some x → wp.IsFirstWrite j lane x
 is_first p j lane x legal h = record { order = h; first = pl.first_write p j lane x legal h }
 
 -- an answer that is consumed has its request pending on its own line, and nowhere else
 pub is_pending_on : (p : Plan) (e : Entry) (j : List Entry) (l : ℕ) (x : Answer) (s : Attempt)
-    → Legal p (e ∷ j) → e.call ≡ call.Answer l x → consumed_in e.reply ≡ Some s
+    → Lawful p (e ∷ j) → e.call ≡ call.Answer l x → consumed_in e.reply ≡ Some s
     → wp.IsPendingOn j s l
 is_pending_on p e j l x s legal ic is =
     let w = pl.answered_place p e j l x s legal ic is in
@@ -361,7 +372,7 @@ is_pending_on p e j l x s legal ic is =
     (begin_in_order p j legal.0) l w.3.place w.0 w.3.is w.2)
 
 -- request_table and cancel_rules
-pub is_new_request : (p : Plan) (e : Entry) (j : List Entry) (x : Request) → Legal p (e ∷ j)
+pub is_new_request : (p : Plan) (e : Entry) (j : List Entry) (x : Request) → Lawful p (e ∷ j)
     → send_in e.reply ≡ Some x → rq.IsNewRequest j x.line x.attempt
 is_new_request p e j x legal h = let w = of.fresh_send p e j x legal h in
     record {
@@ -371,8 +382,8 @@ is_new_request p e j x legal h = let w = of.fresh_send p e j x legal h in
       running = w.unended;
     }
 
-pub is_next_send : (p : Plan) (e : Entry) (j : List Entry) (x : Request) → Sound p → Legal p (e ∷ j)
-    → send_in e.reply ≡ Some x → rq.IsNextSend p j e.lane x.line x.number x.attempt.action
+pub is_next_send : (p : Plan) (e : Entry) (j : List Entry) (x : Request) → Sound p → Lawful p (e ∷ j)
+    → send_in e.reply ≡ Some x → rq.IsNextSend p j (group_on p j x.line) x.line x.number x.attempt.action
     x.attempt.branch x.attempt.number
 is_next_send p e j x sound legal h =
     let w = of.fresh_send p e j x legal h in
@@ -385,25 +396,25 @@ is_next_send p e j x sound legal h =
     }
 
 pub known_answer : (p : Plan) (e : Entry) (j : List Entry) (l : ℕ) (x : Answer) (s : Attempt)
-    → Legal p (e ∷ j) → e.call ≡ call.Answer l x → consumed_in e.reply ≡ Some s
+    → Lawful p (e ∷ j) → e.call ≡ call.Answer l x → consumed_in e.reply ≡ Some s
     → rq.IsKnownBy j l x.number s
 known_answer p e j l x s legal ic is = let w = of.known_by_answer p e j l x s legal ic is in
     record { here = each_of _ _ w.here; elsewhere = λ i apart. each_of _ _ (w.elsewhere i apart) }
 
 pub known_write : (p : Plan) (e : Entry) (j : List Entry) (l : ℕ) (n : ℤ) (how : Written)
-    (x : Request) → Legal p (e ∷ j) → e.call ≡ call.Wrote l n how → order_of j e.lane ≡ Some x
+    (x : Request) → Lawful p (e ∷ j) → e.call ≡ call.Wrote l n how → order_of j e.lane ≡ Some x
     → rq.IsKnownBy j l n x.attempt
 known_write p e j l n how x legal is h = let w = la.known_by_write p e j l n how x legal is h in
     record { here = each_of _ _ w.here; elsewhere = λ i apart. each_of _ _ (w.elsewhere i apart) }
 
-pub is_past : (p : Plan) (j : List Entry) (s : Attempt) (l : ℕ) → Legal p j → line_of j s ≡ Some l
+pub is_past : (p : Plan) (j : List Entry) (s : Attempt) (l : ℕ) → Lawful p j → line_of j s ≡ Some l
     → has_ended j l ≡ true → rq.IsPast j s
 is_past p j s l legal at over = λ i. each_of _ _ (of.past_ended p j s l legal at over i)
 
 pub is_past_answered : (j : List Entry) (s : Attempt) → answered j s ≡ true → rq.IsPast j s
 is_past_answered j s h = λ i. each_of _ _ (of.past_answered j s h i)
 
-pub wanted_by_grant : (p : Plan) (j : List Entry) (l : ℕ) → Legal p j → cr.WantedByGrant p j l
+pub wanted_by_grant : (p : Plan) (j : List Entry) (l : ℕ) → Lawful p j → cr.WantedByGrant p j l
 wanted_by_grant p j l legal = let w = of.wanted_unless_granted p j l legal in
     record { within = each_of _ _ w.within; grants = each_of _ _ w.grants }
 
@@ -414,7 +425,7 @@ is_going j t is = record {
   going = subst (λ n. ended j (attempt_of t.action t.branch n) ≡ false) is.latest is.going;
 }
 
-pub ends_none : (p : Plan) (e : Entry) (j : List Entry) → Legal p (e ∷ j)
+pub ends_none : (p : Plan) (e : Entry) (j : List Entry) → Lawful p (e ∷ j)
     → is_quiet_call e.call ≡ true → rr.EndsNone j e
 ends_none p e j legal calm = λ t. en.quiet_ends_none p e j t legal calm
 

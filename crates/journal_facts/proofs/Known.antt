@@ -7,7 +7,7 @@ use Rattle.exec_journal.specs.declared.call.Call.TheVariants as call
 use Rattle.exec_journal.specs.declared.call.Started.{Started}
 use Rattle.exec_journal.specs.Entries.{Request, is_done}
 use Rattle.exec_journal.specs.Words.{order_of, sends, pending, is_pending}
-use Rattle.exec_journal.specs.Legal.{Legal}
+use Rattle.exec_journal.specs.Lawful.{Lawful}
 use Rattle.exec_journal.specs.Facts.{IsOfBerth}
 use Rattle.exec_journal.proofs.Histories.{AllOf}
 use Rattle.exec_journal.proofs.Begins.{begin_in_order}
@@ -35,7 +35,7 @@ places (x ∷ qs) = (
 )
 
 -- each is the only pending one of its attempt
-pub pending_on : (p : Plan) (j : List Entry) (l : ℕ) → Legal p j
+pub pending_on : (p : Plan) (j : List Entry) (l : ℕ) → Lawful p j
     → AllOf (λ x. wp.IsPendingOn j x.attempt l) (pending j l)
 unfolding pending
 pending_on p j l legal =
@@ -46,7 +46,7 @@ pending_on p j l legal =
     (places (sends j l)))
 
 -- and known by its line and its number
-pub known_by : (p : Plan) (j : List Entry) (l w : ℕ) → Legal p j → IsOfBerth j l w
+pub known_by : (p : Plan) (j : List Entry) (l w : ℕ) → Lawful p j → IsOfBerth j l w
     → AllOf (λ x. rq.IsKnownBy j l x.number x.attempt) (pending j l)
 known_by p j l w legal own = k.all_map (λ x. KnownByNumber j l x.number x.attempt)
     (λ x. rq.IsKnownBy j l x.number x.attempt)
@@ -58,18 +58,18 @@ known_by p j l w legal own = k.all_map (λ x. KnownByNumber j l x.number x.attem
     (re.known_pending p j l w legal own)
 
 -- that of a Wrote is pending on its own line, or nowhere
-pub written_on : (p : Plan) (j : List Entry) (lane : ℕ) (x : Request) → Legal p j
+pub written_on : (p : Plan) (j : List Entry) (lane : ℕ) (x : Request) → Lawful p j
     → order_of j lane ≡ Some x → is_pending j x ≡ true → wp.IsPendingOn j x.attempt x.line
 written_on p j lane x legal order up = let at = pl.written_place p j lane x legal order in
     once.pending_on j (begin_in_order p j legal) x.line at.place x at.is up
 
-pub written_nowhere : (p : Plan) (j : List Entry) (lane : ℕ) (x : Request) → Legal p j
+pub written_nowhere : (p : Plan) (j : List Entry) (lane : ℕ) (x : Request) → Lawful p j
     → order_of j lane ≡ Some x → is_pending j x ≡ false → wp.IsPendingNowhere j x.attempt
 written_nowhere p j lane x legal order off = let at = pl.written_place p j lane x legal order in
     once.pending_nowhere j (begin_in_order p j legal) x.line at.place x at.is off
 
 -- of what is bound, a Launched with a fault is about what is bound to its own line
-pub are_faulted : (p : Plan) (e : Entry) (j : List Entry) (l : ℕ) (how : Started) → Legal p (e ∷ j)
+pub are_faulted : (p : Plan) (e : Entry) (j : List Entry) (l : ℕ) (how : Started) → Lawful p (e ∷ j)
     → e.call ≡ call.Launched l how → is_done how ≡ false → wp.AreFaulted p j e (l ∷ [])
 are_faulted p e j l how legal is fault = record {
   each = λ m t at. last (l == m)

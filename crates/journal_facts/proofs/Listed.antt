@@ -4,6 +4,7 @@ use Rattle.std.specs.List.{filter, list_any}
 use Rattle.std.proofs.lemmas.Bool.{or_left, or_right}
 use Rattle.run_plan.specs.declared.plan.Branch.{Branch}
 use Rattle.run_plan.specs.declared.plan.Plan.{Plan}
+use Rattle.exec_journal.specs.Lawful as lw
 use Rattle.exec_journal.specs.declared.attempt.Attempt.{Attempt}
 use Rattle.exec_journal.specs.declared.journal.Entry.{Entry}
 use Rattle.exec_journal.specs.declared.call.Call.{Call}
@@ -13,7 +14,7 @@ use Rattle.exec_journal.specs.Entries.{attempt_of, same_attempt, is_branch_of}
 use Rattle.exec_journal.specs.Words.{has_ended}
 use Rattle.exec_journal.specs.Attempts.{begun_in, attempt, ended}
 use Rattle.exec_journal.specs.Scripts as sc
-use Rattle.exec_journal.specs.Legal.{Legal}
+use Rattle.exec_journal.specs.Lawful.{Lawful}
 use Rattle.run_plan.specs.Sound.{Sound}
 use Rattle.exec_journal.proofs.Ruled.{by_bool}
 use Rattle.exec_journal.proofs.Begins.{same_attempt_eq, same_attempt_refl}
@@ -29,14 +30,14 @@ use Rattle.retry_rules.specs.Entries as rr
 use Rattle.journal_facts.specs.Asked.{is_commit}
 use Rattle.journal_facts.proofs.Bridge as br
 
-module _ (p : Plan) (e : Entry) (j : List Entry) (l : ℕ) (how : HowEnded) (legal : Legal p (e ∷ j))
+module _ (p : Plan) (e : Entry) (j : List Entry) (l : ℕ) (how : HowEnded) (legal : Lawful p (e ∷ j))
     (is : e.call ≡ call.Ended l how) where
   running : has_ended j l ≡ false
   running = (ll.heard p j e.lane l how legal.0 (subst
-      (λ (d : Call). sc.script p j e.lane d ≡ true) is legal.1.scripted)).running
+      (λ (d : Call). lw.in_script p j e.lane d ≡ true) is legal.1.scripted)).running
 
   none_begins : begun_in e.reply ≡ None
-  none_begins = rw (legal.1.replied, is) refl
+  none_begins = ap begun_in (subst (λ (d : Call). lw.Told p j e.lane d e.reply) is legal.1.told)
 
   uncommitted : is_commit e.call ≡ false
   uncommitted = rw is refl

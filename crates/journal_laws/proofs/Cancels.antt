@@ -15,14 +15,15 @@ use Rattle.exec_journal.specs.declared.reply.Reply.TheVariants as reply
 use Rattle.exec_journal.specs.Entries.{Request, same_attempt, send_in, matched_in}
 use Rattle.exec_journal.specs.Words.{launch_of, sends, sent_on, pending, is_pending, was_sent, has_cancel, cancels, granted}
 use Rattle.exec_journal.specs.Settled.{wanted}
-use Rattle.run_plan.specs.Groups.{kind_of, is_single}
+use Rattle.run_plan.specs.Groups.{is_single}
+use Rattle.exec_journal.specs.Seated.{line_kind}
 use Rattle.exec_journal.specs.Rules as r
 use Rattle.exec_journal.specs.Rules.{is_unwanted}
-use Rattle.exec_journal.specs.Legal.{Legal}
+use Rattle.exec_journal.specs.Lawful.{Lawful}
 use Rattle.exec_journal.specs.Facts.{call_line, IsOfBerth, OfBerth}
 use Rattle.journal_laws.specs.Invariant.{NumberedAs, older, EachRequest}
 use Rattle.exec_journal.proofs.Histories.{AllOf, all_oldest, all_filter}
-use Rattle.exec_journal.proofs.Ruled as u
+use Rattle.exec_journal.proofs.Reasons as u
 use Rattle.exec_journal.proofs.Ruled.{by_bool, not_true}
 use Rattle.exec_journal.proofs.Lines.{lines_named, pending_line}
 use Rattle.exec_journal.proofs.Begins.{begin_in_order, same_attempt_eq}
@@ -65,7 +66,7 @@ find_there test (y ∷ qs) h =
     (λ _ off. elim (or_cases (test y) _ h) [ inl a ↦ absurd (clash _ a off) | inr b ↦ find_there test qs b ]) refl
 
 -- the requests of the line with the number of that to cancel: those that are pending are of its attempt
-module _ (p : Plan) (j : List Entry) (w l : ℕ) (y : Request) (legal : Legal p j) (own : IsOfBerth j l w) (which : r.oldest (filter (λ z. is_unwanted p j z && not (has_cancel j z)) (pending j l)) ≡ Some y) where
+module _ (p : Plan) (j : List Entry) (w l : ℕ) (y : Request) (legal : Lawful p j) (own : IsOfBerth j l w) (which : r.oldest (filter (λ z. is_unwanted p j z && not (has_cancel j z)) (pending j l)) ≡ Some y) where
   is_found : k.IsSentOn j l y × (is_pending j y ≡ true) × (granted j y.attempt.action ≡ true)
   unfolding pending
   is_found =
@@ -144,7 +145,7 @@ module _ (p : Plan) (j : List Entry) (w l : ℕ) (y : Request) (legal : Legal p 
   unfolding pending
   named_won =
       let facts = q.line_facts p j l w legal own in
-      by_bool (is_single (kind_of p w)) (λ b. is_single (kind_of p w) ≡ b → EachRequest Won (sends j l))
+      by_bool (is_single (line_kind p j l)) (λ b. is_single (line_kind p j l) ≡ b → EachRequest Won (sends j l))
       (λ _ one. single_won (sends j l) (facts.closed one) which)
       (λ _ many. multi_won (subst (λ b. NumberedAs b (sends j l)) many facts.numbers)) refl
 
@@ -154,7 +155,7 @@ data CancelsAt (p : Plan) (j : List Entry) (l : ℕ) (x : Reply) : Type 0 where
   Nowhere : ((z : Request) → z.line ≡ l → cancels z x ≡ false) → CancelsAt p j l x
   Here : (w : ℕ) (y : Request) → IsOfBerth j l w → r.oldest (filter (λ z. is_unwanted p j z && not (has_cancel j z)) (pending j l)) ≡ Some y → x ≡ reply.Cancel y.line y.number → CancelsAt p j l x
 
-cancels_at : (p : Plan) (j : List Entry) (lane l : ℕ) (d : Call) (x : Reply) → Legal p j → u.Ruled p j lane d x → CancelsAt p j l x
+cancels_at : (p : Plan) (j : List Entry) (lane l : ℕ) (d : Call) (x : Reply) → Lawful p j → u.Ruled p j lane d x → CancelsAt p j l x
 cancels_at p j lane l d x legal (u.Cancels m y here alive may which none) =
     by_bool (m == l) (λ b. (m == l) ≡ b → CancelsAt p j l (reply.Cancel y.line y.number))
     (λ _ same. let e = eqb-true m l same in
@@ -176,7 +177,7 @@ send_cancels_none : (x : Request) (y : Reply) (z : Request) → send_in y ≡ So
 send_cancels_none x (reply.Send l n a b t) z h = refl
 send_cancels_none x _ z h = absurd (cc)
 
-pub none_vain : (p : Plan) (j : List Entry) (l m : ℕ) (t : Attempt) → Legal p j → launch_of j l ≡ Some (m, t) → EachRequest (λ x. is_vain j x ≡ false) (sends j l)
+pub none_vain : (p : Plan) (j : List Entry) (l m : ℕ) (t : Attempt) → Lawful p j → launch_of j l ≡ Some (m, t) → EachRequest (λ x. is_vain j x ≡ false) (sends j l)
 unfolding launch_of Won
 none_vain p [] l m t legal h = absurd (cc)
 none_vain p (e ∷ j) l m t legal h = by (q.launch_cases p e j l m t h) (λ y. none_vain p j l m t legal.0 y)
@@ -227,7 +228,7 @@ none_vain p (e ∷ j) l m t legal h = by (q.launch_cases p e j l m t h) (λ y. n
     by (q.Before at) ih = more (sent_on l e.reply) refl (ih at)
 
 -- an answer that says cancelled is never Matched
-pub matched_uncancelled : (p : Plan) (e : Entry) (j : List Entry) (l : ℕ) (x : Answer) (t : Attempt) → Legal p (e ∷ j) → e.call ≡ call.Answer l x → matched_in e.reply ≡ Some t → x.cancelled ≡ false
+pub matched_uncancelled : (p : Plan) (e : Entry) (j : List Entry) (l : ℕ) (x : Answer) (t : Attempt) → Lawful p (e ∷ j) → e.call ≡ call.Answer l x → matched_in e.reply ≡ Some t → x.cancelled ≡ false
 matched_uncancelled p e j l x t legal ic is = of_ruled e.call e.reply (v.entry_ruled p e j legal) ic is (lines_named p (e ∷ j) legal).1.called
   where
     by_test : (a b : Bool) → (a && not b) ≡ false → b ≡ false → a ≡ false
@@ -243,7 +244,7 @@ matched_uncancelled p e j l x t legal ic is = of_ruled e.call e.reply (v.entry_r
     of_ruled d z (u.IsMatched m a y asked free) dc h own =
         let m_is : m ≡ l = cc in
         let a_is : a ≡ x = cc in
-        let vain = v.of_request p j (e.lane / 2) m a y (λ w. is_vain j w ≡ false) asked (all_of (λ w. is_vain j w ≡ false) (sends j m) (none_vain p j m own.owner.0 own.owner.1 legal.0 own.owner.2)) in
+        let vain = v.of_request p j m a y (λ w. is_vain j w ≡ false) asked (all_of (λ w. is_vain j w ≡ false) (sends j m) (none_vain p j m own.owner.0 own.owner.1 legal.0 own.owner.2)) in
         let uncancelled : has_cancel j y ≡ false = false_by _ (λ yes_so. clash _ (and_from _ _ yes_so (and_from _ _ asked.is_open (rw free refl))) vain) in
         subst (λ (b : Answer). b.cancelled ≡ false) a_is (by_test a.cancelled (has_cancel j y) asked.allowed uncancelled)
     of_ruled d z (u.KillsBroken m y here run broken over) dc h own = absurd (cc)

@@ -3,6 +3,7 @@ use Rattle.std.proofs.Common.{◌≡◌, ℕ, ◌/◌, ◌<◌, ◌==◌, Bool, 
 use Rattle.std.proofs.lemmas.Bool.{eqb-true, eq-eqb, and_parts, and_from, or_cases, or_left, or_right, or_parts}
 use Rattle.run_plan.specs.declared.plan.Branch.{Branch}
 use Rattle.run_plan.specs.declared.plan.Plan.{Plan}
+use Rattle.exec_journal.specs.Seated.{line_kind}
 use Rattle.exec_journal.specs.declared.attempt.Attempt.{Attempt}
 use Rattle.exec_journal.specs.declared.journal.Entry.{Entry}
 use Rattle.exec_journal.specs.declared.ends.Cause.{Cause}
@@ -21,12 +22,14 @@ use Rattle.exec_journal.specs.Words.{last_work, line_count, launch_of, started, 
 use Rattle.exec_journal.specs.Attempts.{begun_in, line_of, fault_of, fault_at, fault_by, start_cause, unwritten_cause, refused_cause, found_cause, ended}
 use Rattle.exec_journal.specs.Rules as r
 use Rattle.exec_journal.specs.Rules.{gathered}
+use Rattle.exec_journal.specs.Lawful as lw
 use Rattle.exec_journal.specs.Scripts as sc
-use Rattle.exec_journal.specs.Legal.{Legal}
+use Rattle.exec_journal.specs.Lawful.{Lawful}
 use Rattle.exec_journal.specs.Facts.{begun, BeginsNext, ContinuesOn, Begins, IsNext}
 use Rattle.journal_laws.specs.Invariant.{claims_it, claimed}
 use Rattle.exec_journal.proofs.Histories.{AtSome, some_map}
-use Rattle.exec_journal.proofs.Ruled as u
+use Rattle.exec_journal.proofs.Reasons as u
+use Rattle.exec_journal.proofs.Ruled as ru
 use Rattle.exec_journal.proofs.Ruled.{by_bool, not_true}
 use Rattle.exec_journal.proofs.Lines.{count_grows, launch_stays, lines_named}
 use Rattle.journal_laws.proofs.Fresh.{fresh}
@@ -97,7 +100,7 @@ asks p j lane c x q _ h = absurd (cc)
 pub ask_writes_none : (j : List Entry) (e : Entry) (t : Attempt) → e.call ≡ call.Ask → wrote_at t j e ≡ None
 ask_writes_none j e t h = rw h refl
 
-send_keeps : (p : Plan) (t : Attempt) (j : List Entry) → Legal p j → AtEach (Keeps (is_send t) (λ k. wrote k t ≡ None)) j
+send_keeps : (p : Plan) (t : Attempt) (j : List Entry) → Lawful p j → AtEach (Keeps (is_send t) (λ k. wrote k t ≡ None)) j
 send_keeps p t [] legal = tt
 send_keeps p t (e ∷ j) legal = (
   send_keeps p t j legal.0,
@@ -112,7 +115,7 @@ send_keeps p t (e ∷ j) legal = (
 )
 
 -- a request that is its lane's newest work has no Wrote yet
-pub owed_unwritten : (p : Plan) (j : List Entry) (t : Attempt) → Legal p j → (lane : ℕ) (d : Entry) → last_work j lane ≡ Some d → is_send t d ≡ true → wrote j t ≡ None
+pub owed_unwritten : (p : Plan) (j : List Entry) (t : Attempt) → Lawful p j → (lane : ℕ) (d : Entry) → last_work j lane ≡ Some d → is_send t d ≡ true → wrote j t ≡ None
 owed_unwritten p j t legal lane d h y = o.while_owed (is_send t) (λ k. wrote k t ≡ None) j (k.sent_once t j (begin_in_order p j legal)) (send_keeps p t j legal) lane d h y
 
 -- ---- a line's Launched answers its Launch
@@ -126,15 +129,15 @@ launch_new : (e : Entry) (j : List Entry) (l : ℕ) (s : Attempt) → launch_in 
 unfolding line_count launch_of
 launch_new e j l s h n = record { lane = e.lane; is = rw (h, eq-eqb l l refl) refl; below = rw h (let c = n in omega arith) }
 
-launch_kept_on : (p : Plan) (e : Entry) (j : List Entry) (l : ℕ) (s : Attempt) → Legal p (e ∷ j) → IsLaunchedOn j l s → IsLaunchedOn (e ∷ j) l s
+launch_kept_on : (p : Plan) (e : Entry) (j : List Entry) (l : ℕ) (s : Attempt) → Lawful p (e ∷ j) → IsLaunchedOn j l s → IsLaunchedOn (e ∷ j) l s
 launch_kept_on p e j l s legal on =
     let next = (lines_named p (e ∷ j) legal).1.numbered in let g = count_grows e j in let b = on.below in
     record { lane = on.lane; is = launch_stays e j l next b ∙ on.is; below = omega arith }
 
-pub next_line : (p : Plan) (e : Entry) (j : List Entry) (x : ℕ × Attempt) → Legal p (e ∷ j) → launch_in e.reply ≡ Some x → x.0 ≡ line_count j
+pub next_line : (p : Plan) (e : Entry) (j : List Entry) (x : ℕ × Attempt) → Lawful p (e ∷ j) → launch_in e.reply ≡ Some x → x.0 ≡ line_count j
 next_line p e j x legal h = subst (IsNext j) h (lines_named p (e ∷ j) legal).1.numbered
 
-pub newest_launch : (p : Plan) (j : List Entry) (lane l : ℕ) (s : Attempt) (d : Entry) → Legal p j → last_work j lane ≡ Some d → launch_in d.reply ≡ Some (l, s) → IsLaunchedOn j l s
+pub newest_launch : (p : Plan) (j : List Entry) (lane l : ℕ) (s : Attempt) (d : Entry) → Lawful p j → last_work j lane ≡ Some d → launch_in d.reply ≡ Some (l, s) → IsLaunchedOn j l s
 unfolding last_work
 newest_launch p [] lane l s d legal h k = absurd (cc)
 newest_launch p (e ∷ j) lane l s d legal h k = by (o.newest_cases e j lane d h) (λ g. newest_launch p j lane l s d legal.0 g k)
@@ -185,10 +188,10 @@ pub clash : (b : Bool) → b ≡ true → b ≡ false → ⊥
 clash b h k = let both : true ≡ false = sym h ∙ k in cc
 
 -- a Launch begins its attempt
-pub launch_next : (p : Plan) (e : Entry) (j : List Entry) (x : ℕ × Attempt) → Legal p (e ∷ j) → launch_in e.reply ≡ Some x → BeginsNext j x.1
+pub launch_next : (p : Plan) (e : Entry) (j : List Entry) (x : ℕ × Attempt) → Lawful p (e ∷ j) → launch_in e.reply ≡ Some x → BeginsNext j x.1
 launch_next p e j x legal h = subst (λ (q : Option (ℕ × Attempt)). Begins j q (send_in e.reply)) h (begin_in_order p (e ∷ j) legal).1
 
-pub launched_once : (p : Plan) (l : ℕ) (s : Attempt) (j : List Entry) → Legal p j → AtEach (Once (is_launch_it l s)) j
+pub launched_once : (p : Plan) (l : ℕ) (s : Attempt) (j : List Entry) → Lawful p j → AtEach (Once (is_launch_it l s)) j
 launched_once p l s [] legal = tt
 launched_once p l s (e ∷ j) legal = (
   launched_once p l s j legal.0,
@@ -203,13 +206,13 @@ pub record IsUnstarted (j : List Entry) (l : ℕ) (s : Attempt) : Type 0 where
   pub unfailed : failed j l ≡ false
 
 pub launch_asks : (p : Plan) (j : List Entry) (lane : ℕ) (c : Call) (x : Reply) (y : ℕ × Attempt) → u.Ruled p j lane c x → launch_in x ≡ Some y → c ≡ call.Ask
-launch_asks p j lane c x y (u.Launches t vacant full next none) h = refl
+launch_asks p j lane c x y (u.Launches gr t vacant next none) h = refl
 launch_asks p j lane c x y (u.KillsBroken l z here run broken over) h = absurd (cc)
 launch_asks p j lane c x y _ h = absurd (cc)
 
 pub sends_live : (p : Plan) (j : List Entry) (lane : ℕ) (c : Call) (x : Reply) (q : Request) → u.Ruled p j lane c x → send_in x ≡ Some q → live j q.line ≡ true
 sends_live p j lane c x q (u.Sends l t here alive next none) h =
-    let e : record { line = l; number = r.number_on p j (lane / 2) l; attempt = attempt_of t.action t.branch t.number } ≡ q = cc in subst (λ (y : Request). live j y.line ≡ true) e alive
+    let e : record { line = l; number = r.number_of j (line_kind p j l) l; attempt = attempt_of t.action t.branch t.number } ≡ q = cc in subst (λ (y : Request). live j y.line ≡ true) e alive
 sends_live p j lane c x q (u.KillsBroken l y here run broken over) h = absurd (cc)
 sends_live p j lane c x q _ h = absurd (cc)
 
@@ -241,7 +244,7 @@ pub launches_line_is : (l : ℕ) (x : Reply) → o.launches_line l x ≡ true �
 launches_line_is l (reply.Launch m a b t) h = (attempt_of a b t, ap (λ n. Some (n, attempt_of a b t)) (eqb-true m l h))
 launches_line_is l _ h = absurd (cc)
 
-pub launch_owed_keeps : (p : Plan) (l : ℕ) (s : Attempt) (j : List Entry) → Legal p j → AtEach (Keeps (is_launch_it l s) (λ i. IsUnstarted i l s)) j
+pub launch_owed_keeps : (p : Plan) (l : ℕ) (s : Attempt) (j : List Entry) → Lawful p j → AtEach (Keeps (is_launch_it l s) (λ i. IsUnstarted i l s)) j
 launch_owed_keeps p l s [] legal = tt
 launch_owed_keeps p l s (e ∷ j) legal = (launch_owed_keeps p l s j legal.0, record { begin = begins; stay = stays })
   where
@@ -290,7 +293,7 @@ launch_owed_keeps p l s (e ∷ j) legal = (launch_owed_keeps p l s j legal.0, re
 
         unstartable : (how : Started) × (e.call ≡ call.Launched l how) → ⊥
         unstartable c =
-            let script = subst (λ (x : Call). sc.script p j e.lane x ≡ true) c.1 legal.1.scripted in
+            let script = subst (λ (x : Call). lw.in_script p j e.lane x ≡ true) c.1 legal.1.scripted in
             let answer = o.launched_answers p j e.lane l c.0 script in
             let launch = launches_line_is l answer.order.reply answer.fits in
             let on = newest_launch p j e.lane l launch.0 answer.order legal.0 answer.newest launch.1 in
@@ -300,7 +303,7 @@ launch_owed_keeps p l s (e ∷ j) legal = (launch_owed_keeps p l s j legal.0, re
             let fit : is_launch_it l s answer.order ≡ true = rw launch.1 (and_from _ _ (eq-eqb l l refl) (subst (λ (x : Attempt). same_attempt launch.0 x ≡ true) same (same_attempt_refl launch.0))) in
             leaves answer.order answer.newest fit (rw c.1 refl)
 
-pub owed_unstarted : (p : Plan) (j : List Entry) (l : ℕ) (s : Attempt) → Legal p j → (lane : ℕ) (d : Entry) → last_work j lane ≡ Some d → is_launch_it l s d ≡ true → IsUnstarted j l s
+pub owed_unstarted : (p : Plan) (j : List Entry) (l : ℕ) (s : Attempt) → Lawful p j → (lane : ℕ) (d : Entry) → last_work j lane ≡ Some d → is_launch_it l s d ≡ true → IsUnstarted j l s
 owed_unstarted p j l s legal lane d h y = o.while_owed (is_launch_it l s) (λ i. IsUnstarted i l s) j (launched_once p l s j legal) (launch_owed_keeps p l s j legal) lane d h y
 
 -- ---- gathered and claimed
@@ -313,8 +316,8 @@ some_both A B [] h = absurd h
 abbrev is_answer : Attempt → Entry → Bool
 is_answer t e = is_for t (consumed_in e.reply)
 
-gather_answer : (t : Attempt) (i : List Entry) (c : Call) (y x : Reply) → u.GatherFor i c y x → gather_in x ≡ Some t → (is_for t (consumed_in y) ≡ true) × (r.waits i t ≡ true)
-gather_answer t i c y x (u.For l m a b n waiting) h =
+gather_answer : (t : Attempt) (i : List Entry) (c : Call) (y x : Reply) → ru.GatherFor i c y x → gather_in x ≡ Some t → (is_for t (consumed_in y) ≡ true) × (r.waits i t ≡ true)
+gather_answer t i c y x (ru.For l m a b n waiting) h =
     let is : attempt_of a b n ≡ t = cc in
     subst (λ (z : Attempt). (same_attempt (attempt_of a b n) z ≡ true) × (r.waits i z ≡ true)) is (same_attempt_refl (attempt_of a b n), waiting)
 
@@ -328,7 +331,7 @@ gather_from : (j : List Entry) (w : ℕ) (x : Reply) (t : Attempt) → r.gathers
 unfolding answered
 gather_from j w x t h g =
     let found = some_both (is_answer t) (r.waits j t ≡ true) j
-    (some_map _ (λ _ e. (is_answer t e ≡ true) × (r.waits j t ≡ true)) (λ i e q. gather_answer t j e.call e.reply x q.1 g) j (u.gathers_from j w x h)) in
+    (some_map _ (λ _ e. (is_answer t e ≡ true) × (r.waits j t ≡ true)) (λ i e q. gather_answer t j e.call e.reply x q.1 g) j (ru.gathers_from j w x h)) in
     let parts = and_parts (says_done (wrote j t)) _ found.1 in
     let more = and_parts (not (gathered j t)) _ parts.1 in
     record { consumed = found.0; written = parts.0; ungathered = not_true _ more.0; ungranted = not_true _ more.1 }
@@ -348,7 +351,7 @@ is_for_is : (t : Attempt) (q : Option Attempt) → is_for t q ≡ true → q ≡
 is_for_is t (Some x) h = ap Some (same_attempt_eq x t h)
 is_for_is t None h = absurd (cc)
 
-pub gathered_once : (p : Plan) (t : Attempt) (j : List Entry) → Legal p j → AtEach (Once (is_gather t)) j
+pub gathered_once : (p : Plan) (t : Attempt) (j : List Entry) → Lawful p j → AtEach (Once (is_gather t)) j
 unfolding gathered
 gathered_once p t [] legal = tt
 gathered_once p t (e ∷ j) legal = (
@@ -372,7 +375,7 @@ pub record WasGathered (j : List Entry) (t : Attempt) : Type 0 where
   pub consumed : answered j t ≡ true
   pub written : says_done (wrote j t) ≡ true
 
-pub gathered_is : (p : Plan) (j : List Entry) (t : Attempt) → Legal p j → gathered j t ≡ true → WasGathered j t
+pub gathered_is : (p : Plan) (j : List Entry) (t : Attempt) → Lawful p j → gathered j t ≡ true → WasGathered j t
 unfolding gathered
 gathered_is p [] t legal h = absurd (cc)
 gathered_is p (e ∷ j) t legal h = elim (or_cases (is_gather t e) (gathered j t) h) [
@@ -388,10 +391,10 @@ claims_is t (call.Claim a b n f) h =
 claims_is t _ h = absurd (cc)
 
 -- a Claim in the script answers a Gather
-pub claim_owed : (p : Plan) (e : Entry) (j : List Entry) (t : Attempt) → Legal p (e ∷ j) → claims_it t e.call ≡ true → o.Answers j e.lane (is_gather t)
+pub claim_owed : (p : Plan) (e : Entry) (j : List Entry) (t : Attempt) → Lawful p (e ∷ j) → claims_it t e.call ≡ true → o.Answers j e.lane (is_gather t)
 claim_owed p e j t legal h =
     let c = claims_is t e.call h in
-    o.claim_answers p j e.lane t.action t.branch t.number c.0 (subst (λ (x : Call). sc.script p j e.lane x ≡ true) c.1 legal.1.scripted)
+    o.claim_answers p j e.lane t.action t.branch t.number c.0 (subst (λ (x : Call). lw.in_script p j e.lane x ≡ true) c.1 legal.1.scripted)
 
 gathered_later : (e : Entry) (j : List Entry) (t : Attempt) → gathered j t ≡ true → gathered (e ∷ j) t ≡ true
 unfolding gathered
@@ -401,7 +404,7 @@ pub gathered_newest : (j : List Entry) (t : Attempt) (lane : ℕ) (d : Entry) �
 unfolding gathered
 gathered_newest j t lane d h y = o.newest_ever (is_gather t) j lane d h y
 
-pub claimed_gathered : (p : Plan) (j : List Entry) (t : Attempt) → Legal p j → claimed j t ≡ true → gathered j t ≡ true
+pub claimed_gathered : (p : Plan) (j : List Entry) (t : Attempt) → Lawful p j → claimed j t ≡ true → gathered j t ≡ true
 unfolding claimed
 claimed_gathered p [] t legal h = absurd (cc)
 claimed_gathered p (e ∷ j) t legal h = gathered_later e j t (elim (or_cases (claims_it t e.call) (claimed j t) h) [
@@ -417,7 +420,7 @@ claim_works : (t : Attempt) (c : Call) → claims_it t c ≡ true → is_work c 
 claim_works t (call.Claim a b n f) h = refl
 claim_works t _ h = absurd (cc)
 
-gather_keeps : (p : Plan) (t : Attempt) (j : List Entry) → Legal p j → AtEach (Keeps (is_gather t) (λ i. claimed i t ≡ false)) j
+gather_keeps : (p : Plan) (t : Attempt) (j : List Entry) → Lawful p j → AtEach (Keeps (is_gather t) (λ i. claimed i t ≡ false)) j
 gather_keeps p t [] legal = tt
 gather_keeps p t (e ∷ j) legal = (
   gather_keeps p t j legal.0,
@@ -433,18 +436,18 @@ gather_keeps p t (e ∷ j) legal = (
 )
 
 -- an attempt whose Gather is its lane's newest work wasn't claimed yet
-pub owed_unclaimed : (p : Plan) (j : List Entry) (t : Attempt) → Legal p j → (lane : ℕ) (d : Entry) → last_work j lane ≡ Some d → is_gather t d ≡ true → claimed j t ≡ false
+pub owed_unclaimed : (p : Plan) (j : List Entry) (t : Attempt) → Lawful p j → (lane : ℕ) (d : Entry) → last_work j lane ≡ Some d → is_gather t d ≡ true → claimed j t ≡ false
 owed_unclaimed p j t legal lane d h y = o.while_owed (is_gather t) (λ i. claimed i t ≡ false) j (gathered_once p t j legal) (gather_keeps p t j legal) lane d h y
 
 -- ---- what was answered was sent
 
-answer_sent : (p : Plan) (e : Entry) (j : List Entry) (t : Attempt) → Legal p (e ∷ j) → is_answer t e ≡ true → was_sent j t ≡ true
+answer_sent : (p : Plan) (e : Entry) (j : List Entry) (t : Attempt) → Lawful p (e ∷ j) → is_answer t e ≡ true → was_sent j t ≡ true
 answer_sent p e j t legal h =
     let one = v.consumes p j e.lane e.call e.reply t (v.entry_ruled p e j legal) (is_for_is t (consumed_in e.reply) h) in
-    let on = v.of_request p j (e.lane / 2) one.line one.answer one.request (k.IsSentOn j one.line) one.asked (k.sends_on j one.line (begin_in_order p j legal.0)) in
+    let on = v.of_request p j one.line one.answer one.request (k.IsSentOn j one.line) one.asked (k.sends_on j one.line (begin_in_order p j legal.0)) in
     subst (λ (x : Attempt). was_sent j x ≡ true) one.of on.sent
 
-pub answered_sent : (p : Plan) (j : List Entry) (t : Attempt) → Legal p j → answered j t ≡ true → was_sent j t ≡ true
+pub answered_sent : (p : Plan) (j : List Entry) (t : Attempt) → Lawful p j → answered j t ≡ true → was_sent j t ≡ true
 unfolding answered
 answered_sent p [] t legal h = absurd (cc)
 answered_sent p (e ∷ j) t legal h = k.sent_later e j t (elim (or_cases (is_answer t e) (answered j t) h) [
@@ -523,17 +526,17 @@ pub sent_newest : (j : List Entry) (t : Attempt) (lane : ℕ) (d : Entry) → la
 unfolding was_sent
 sent_newest j t lane d h y = o.newest_ever (is_send t) j lane d h y
 
-pub claim_sent : (p : Plan) (e : Entry) (j : List Entry) (t : Attempt) → Legal p (e ∷ j) → claims_it t e.call ≡ true → was_sent j t ≡ true
+pub claim_sent : (p : Plan) (e : Entry) (j : List Entry) (t : Attempt) → Lawful p (e ∷ j) → claims_it t e.call ≡ true → was_sent j t ≡ true
 claim_sent p e j t legal h =
     let owed = claim_owed p e j t legal h in
     answered_sent p j t legal.0 (gathered_is p j t legal.0 (gathered_newest j t e.lane owed.order owed.newest owed.fits)).consumed
 
-fault_at_begun : (p : Plan) (e : Entry) (j : List Entry) (t : Attempt) → Legal p (e ∷ j) → FaultsAt j e t → begun j t ≡ true
+fault_at_begun : (p : Plan) (e : Entry) (j : List Entry) (t : Attempt) → Lawful p (e ∷ j) → FaultsAt j e t → begun j t ≡ true
 fault_at_begun p e j t legal (AtLaunched d l h y) = begun_newest j t e.lane l d h y
 fault_at_begun p e j t legal (AtWrote y at un) = let it = wrote_at_is j e t y at in k.sent_begun j t (sent_newest j t e.lane it.order it.newest it.fits)
 fault_at_begun p e j t legal (AtClaim h) = k.sent_begun j t (claim_sent p e j t legal h)
 
-pub fault_begun : (p : Plan) (j : List Entry) (t : Attempt) (c : Cause) → Legal p j → fault_of j t ≡ Some c → begun j t ≡ true
+pub fault_begun : (p : Plan) (j : List Entry) (t : Attempt) (c : Cause) → Lawful p j → fault_of j t ≡ Some c → begun j t ≡ true
 unfolding fault_of
 fault_begun p [] t c legal h = absurd (cc)
 fault_begun p (e ∷ j) t c legal h = begun_later e j t (elim (fault_new e j t c h) [
@@ -542,7 +545,7 @@ fault_begun p (e ∷ j) t c legal h = begun_later e j t (elim (fault_new e j t c
 ])
 
 -- what has ended was begun
-pub ended_begun : (p : Plan) (j : List Entry) (t : Attempt) → Legal p j → ended j t ≡ true → begun j t ≡ true
+pub ended_begun : (p : Plan) (j : List Entry) (t : Attempt) → Lawful p j → ended j t ≡ true → begun j t ≡ true
 ended_begun p j t legal h = by (v.ended_is p j t legal h)
   where
     by : v.Ends j t → begun j t ≡ true
@@ -551,9 +554,9 @@ ended_begun p j t legal h = by (v.ended_is p j t legal h)
 
 -- ---- a line starts or fails, once
 
-launched_unstarted : (p : Plan) (e : Entry) (j : List Entry) (l : ℕ) → Legal p (e ∷ j) → (how : Started) × (e.call ≡ call.Launched l how) → (started j l ≡ false) × (failed j l ≡ false)
+launched_unstarted : (p : Plan) (e : Entry) (j : List Entry) (l : ℕ) → Lawful p (e ∷ j) → (how : Started) × (e.call ≡ call.Launched l how) → (started j l ≡ false) × (failed j l ≡ false)
 launched_unstarted p e j l legal c =
-    let script = subst (λ (x : Call). sc.script p j e.lane x ≡ true) c.1 legal.1.scripted in
+    let script = subst (λ (x : Call). lw.in_script p j e.lane x ≡ true) c.1 legal.1.scripted in
     let answer = o.launched_answers p j e.lane l c.0 script in
     let launch = launches_line_is l answer.order.reply answer.fits in
     let fit : is_launch_it l launch.0 answer.order ≡ true = rw launch.1 (and_from _ _ (eq-eqb l l refl) (same_attempt_refl launch.0)) in
@@ -564,7 +567,7 @@ starts_not_fails : (l : ℕ) (c : Call) → starts l c ≡ true → fails l c �
 starts_not_fails l (call.Launched k how) h = let parts = and_parts (is_done how) _ h in rw parts.0 refl
 starts_not_fails l _ h = absurd (cc)
 
-pub started_unfailed : (p : Plan) (j : List Entry) (l : ℕ) → Legal p j → started j l ≡ true → failed j l ≡ false
+pub started_unfailed : (p : Plan) (j : List Entry) (l : ℕ) → Lawful p j → started j l ≡ true → failed j l ≡ false
 unfolding started failed
 started_unfailed p [] l legal h = refl
 started_unfailed p (e ∷ j) l legal h = by (or_cases (starts l e.call) (started j l) h) (λ y. started_unfailed p j l legal.0 y)

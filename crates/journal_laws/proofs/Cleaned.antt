@@ -35,18 +35,20 @@ use Rattle.exec_journal.specs.Entries.{Request, attempt_of, same_attempt, same_b
 use Rattle.exec_journal.specs.Words.{last_work, line_count, launch_of, sends, sent_on, pending, is_pending, was_sent, answered, wrote, wrote_at, says_unwritten, says_feed_fault, has_ended, has_cancel, kill_ordered, line_cause, broke, break_at, break_by, order_of, granted, grant_of, commit_of, halted}
 use Rattle.exec_journal.specs.Attempts.{line_of, carrier_in, end_of, fault_by, ended, dropped}
 use Rattle.exec_journal.specs.Settled.{is_settled, is_unsuccessful, by_commit, by_grant, all_dropped, is_starved, standing_after, standings_from, standings, settled, all_settled, wanted, bound}
-use Rattle.run_plan.specs.Groups.{kind_of, is_single}
+use Rattle.run_plan.specs.Groups.{is_single}
+use Rattle.exec_journal.specs.Lawful as lw
+use Rattle.exec_journal.specs.Seated.{line_kind}
 use Rattle.exec_journal.specs.Rules as r
 use Rattle.exec_journal.specs.Rules.{is_unwanted}
 use Rattle.exec_journal.specs.Clean.{is_asked, clean_at, Clean}
 use Rattle.exec_journal.specs.Outcomes.{outcome_of, grant_outcome, commit_outcome, is_ok}
 use Rattle.run_plan.specs.Sound.{Sound, has_branches, is_sound_action, are_sound_from}
-use Rattle.exec_journal.specs.Legal.{Legal}
+use Rattle.exec_journal.specs.Lawful.{Lawful}
 use Rattle.exec_journal.specs.Facts.{begun, call_line, IsOfBerth, OfBerth}
 use Rattle.journal_laws.specs.Invariant.{IsGoing, NumberedAs, older, EachRequest, LineFacts, EndsWith, ByFault, ByEnd, ByFeed, is_left}
 use Rattle.journal_laws.specs.Steps.{is_needed, IsDone}
 use Rattle.exec_journal.proofs.Histories.{AllOf}
-use Rattle.exec_journal.proofs.Ruled as u
+use Rattle.exec_journal.proofs.Reasons as u
 use Rattle.exec_journal.proofs.Ruled.{by_bool, not_true}
 use Rattle.exec_journal.proofs.Lines.{lines_named, launch_stays, of_berth_more}
 use Rattle.exec_journal.proofs.Begins.{same_attempt_refl, same_attempt_eq, begin_in_order, bound_is, wanted_is, launched_begun}
@@ -86,6 +88,7 @@ fault_none t j w (call.Wrote l n _) x h = absurd (cc)
 fault_none t j w (call.Claim a b n (found.Files fs)) x h = no_refusal t a b n fs x
 fault_none t j w (call.Claim a b n _) x h = absurd (cc)
 fault_none t j w call.Ask x h = refl
+fault_none t j w call.Tick x h = refl
 fault_none t j w (call.Look y) x h = refl
 fault_none t j w (call.Committed a b how) x h = refl
 fault_none t j w (call.Killed l) x h = refl
@@ -194,17 +197,17 @@ consume_calm j x y h = by x.cancelled (has_cancel j y) (granted j y.attempt.acti
 abbrev pub may_answer : List Entry → Answer → Request → Bool
 may_answer j x y = not (answered j y.attempt) && (not x.cancelled || has_cancel j y)
 
-pub answer_calm : (p : Plan) (j : List Entry) (w l : ℕ) (x : Answer) → Legal p j → Clean j → IsOfBerth j l w → broke j l ≡ false → has_ended j l ≡ false → is_asked j l x ≡ true
-    → is_breach (r.answer_reply p j w l x) ≡ false
+pub answer_calm : (p : Plan) (j : List Entry) (w l : ℕ) (x : Answer) → Lawful p j → Clean j → IsOfBerth j l w → broke j l ≡ false → has_ended j l ≡ false → is_asked j l x ≡ true
+    → is_breach (r.answer_reply_of j (line_kind p j l) l x) ≡ false
 unfolding pending IsWritten
 answer_calm p j w l x legal clean own whole running asked =
-    rw whole (by_bool (r.is_greeting p j w l x)
-    (λ b. is_breach (cond b reply.Greeted (cond (is_single (kind_of p w)) (cond (int_eq x.number (pos 0)) (r.answer_single j x (r.head (pending j l))) (reply.Breach breach.WrongNumber)) (r.answer_multi j x (find (λ y. int_eq y.number x.number) (sends j l))))) ≡ false)
-    (λ _. refl) (λ _. by_bool (is_single (kind_of p w))
-    (λ b. is_single (kind_of p w) ≡ b → is_breach (cond b (cond (int_eq x.number (pos 0)) (r.answer_single j x (r.head (pending j l))) (reply.Breach breach.WrongNumber)) (r.answer_multi j x (find (λ y. int_eq y.number x.number) (sends j l)))) ≡ false)
+    rw whole (by_bool (r.is_greeting_of j (line_kind p j l) l x)
+    (λ b. is_breach (cond b reply.Greeted (cond (is_single (line_kind p j l)) (cond (int_eq x.number (pos 0)) (r.answer_single j x (r.head (pending j l))) (reply.Breach breach.WrongNumber)) (r.answer_multi j x (find (λ y. int_eq y.number x.number) (sends j l))))) ≡ false)
+    (λ _. refl) (λ _. by_bool (is_single (line_kind p j l))
+    (λ b. is_single (line_kind p j l) ≡ b → is_breach (cond b (cond (int_eq x.number (pos 0)) (r.answer_single j x (r.head (pending j l))) (reply.Breach breach.WrongNumber)) (r.answer_multi j x (find (λ y. int_eq y.number x.number) (sends j l)))) ≡ false)
     (λ _ one. single one) (λ _ many. multi many) refl))
   where
-    facts : LineFacts p j l w
+    facts : LineFacts p j l
     facts = q.line_facts p j l w legal own
 
     on : AllOf (k.IsSentOn j l) (sends j l)
@@ -231,7 +234,7 @@ answer_calm p j w l x legal clean own whole running asked =
     head_filter [] y h k = absurd (cc)
     head_filter (z ∷ ys) y h k = (let e : z ≡ y = cc in rw (subst (λ (v : Request). is_pending j v ≡ true) (sym e) k) h)
 
-    single : is_single (kind_of p w) ≡ true → is_breach (cond (int_eq x.number (pos 0)) (r.answer_single j x (r.head (filter (is_pending j) (sends j l)))) (reply.Breach breach.WrongNumber)) ≡ false
+    single : is_single (line_kind p j l) ≡ true → is_breach (cond (int_eq x.number (pos 0)) (r.answer_single j x (r.head (filter (is_pending j) (sends j l)))) (reply.Breach breach.WrongNumber)) ≡ false
     single one =
         let found = any_first (λ y. k.IsSentOn j l y × (y.number ≡ pos 0)) test (sends j l)
         (k.all_both (k.IsSentOn j l) (λ y. y.number ≡ pos 0) (sends j l) on (q.all_zero (sends j l) (subst (λ b. NumberedAs b (sends j l)) one facts.numbers)))
@@ -241,7 +244,7 @@ answer_calm p j w l x legal clean own whole running asked =
         let head = head_filter (sends j l) found.0 found.1 (passing_open found.0 found.2.0 found.3) in
         rw (number, head) (consume_calm j x found.0 (and_parts (not (answered j (found.0).attempt)) _ parts.1).1)
 
-    multi : is_single (kind_of p w) ≡ false → is_breach (r.answer_multi j x (find (λ y. int_eq y.number x.number) (sends j l))) ≡ false
+    multi : is_single (line_kind p j l) ≡ false → is_breach (r.answer_multi j x (find (λ y. int_eq y.number x.number) (sends j l))) ≡ false
     multi many =
         let found = any_number (k.IsSentOn j l) (may_answer j x) x.number (sends j l) on (subst (λ b. NumberedAs b (sends j l)) many facts.numbers) asked in
         let parts = and_parts (not (answered j (found.0).attempt)) _ found.3 in
@@ -263,6 +266,7 @@ calm_break j w l (call.Committed a b how) x clean calm h = refl
 calm_break j w l (call.Killed m) x clean calm h = refl
 calm_break j w l call.Take x clean calm h = refl
 calm_break j w l call.Halt x clean calm h = refl
+calm_break j w l call.Tick x clean calm h = refl
 
 broke_new : (e : Entry) (j : List Entry) (l : ℕ) → broke (e ∷ j) l ≡ true → (is_some (break_at l j e) ≡ true) ⊎ (broke j l ≡ true)
 unfolding line_cause
@@ -290,7 +294,7 @@ breach_answers p j lane d x _ h = absurd (cc)
 answer_reports : (d : Call) (l : ℕ) (a : Answer) → d ≡ call.Answer l a → ta.reports l d ≡ true
 answer_reports d l a is = rw is (eq-eqb l l refl)
 
-pub broke_ended : (p : Plan) (j : List Entry) (l : ℕ) → Legal p j → Clean j → broke j l ≡ true → has_ended j l ≡ true
+pub broke_ended : (p : Plan) (j : List Entry) (l : ℕ) → Lawful p j → Clean j → broke j l ≡ true → has_ended j l ≡ true
 unfolding has_ended line_cause
 broke_ended p [] l legal clean h = absurd (cc)
 broke_ended p (e ∷ j) l legal clean h = by (broke_new e j l h) (λ m y. broke_ended p j m legal.0 clean.0 y)
@@ -305,7 +309,7 @@ broke_ended p (e ∷ j) l legal clean h = by (broke_new e j l h) (λ m y. broke_
         let whole : broke j a.0 ≡ false = false_by _ (λ b. clash (has_ended j a.0) (ih a.0 b) running) in
         let asked = breach_asked j a.0 a.1 e.reply yes_so (subst (λ (d : Call). clean_at j d e.reply ≡ true) a.2 clean.1) in
         let none = answer_calm p j (e.lane / 2) a.0 a.1 legal.0 clean.0 own whole running asked in
-        let is : e.reply ≡ r.answer_reply p j (e.lane / 2) a.0 a.1 = legal.1.replied ∙ ap (λ d. r.rule p j e.lane d) a.2 in
+        let is : e.reply ≡ r.answer_reply_of j (line_kind p j a.0) a.0 a.1 = subst (λ (d : Call). lw.Told p j e.lane d e.reply) a.2 legal.1.told in
         clash (is_breach e.reply) yes_so (ap is_breach is ∙ none))
 
     by : (is_some (break_at l j e) ≡ true) ⊎ (broke j l ≡ true) → ((m : ℕ) → broke j m ≡ true → has_ended j m ≡ true) → (ends l e.call || has_ended j l) ≡ true
@@ -338,7 +342,7 @@ unneeded_later e j (y ∷ ys) all = (
   unneeded_later e j ys all.1,
 )
 
-unbound_later : (p : Plan) (e : Entry) (j : List Entry) (l : ℕ) → Legal p (e ∷ j) → IsDone p j l → bound p (e ∷ j) l ≡ None
+unbound_later : (p : Plan) (e : Entry) (j : List Entry) (l : ℕ) → Lawful p (e ∷ j) → IsDone p j l → bound p (e ∷ j) l ≡ None
 unbound_later p e j l legal was = by (bound p (e ∷ j) l) refl
   where
     of_launch : (t : Attempt) → bound p (e ∷ j) l ≡ Some t → (b : bg.IsBound p (e ∷ j) l t) → q.Launches p e j l b.lane t → ⊥
@@ -350,7 +354,7 @@ unbound_later p e j l legal was = by (bound p (e ∷ j) l) refl
     by (Some t) is = (let b = bound_is p (e ∷ j) l t is in absurd (of_launch t is b (q.launch_cases p e j l b.lane t b.launched)))
 
 -- nothing is sent there with this entry
-pub done_later : (p : Plan) (e : Entry) (j : List Entry) (l : ℕ) → Legal p (e ∷ j) → sent_on l e.reply ≡ None → IsDone p j l → IsDone p (e ∷ j) l
+pub done_later : (p : Plan) (e : Entry) (j : List Entry) (l : ℕ) → Lawful p (e ∷ j) → sent_on l e.reply ≡ None → IsDone p j l → IsDone p (e ∷ j) l
 done_later p e j l legal quiet was = record {
   berth = was.berth;
   own = of_berth_more e j l was.berth (lines_named p (e ∷ j) legal).1.numbered was.own;
@@ -359,7 +363,7 @@ done_later p e j l legal quiet was = record {
 }
 
 -- the line's requests, each of an attempt under way or closed
-each_needed : (p : Plan) (j : List Entry) (l : ℕ) → Legal p j → ((y : Request) → IsGoing j y.attempt → granted j y.attempt.action ≡ false → ⊥) → (ys : List Request) → AllOf (k.IsSentOn j l) ys → EachRequest (λ y. is_needed j y ≡ false) ys
+each_needed : (p : Plan) (j : List Entry) (l : ℕ) → Lawful p j → ((y : Request) → IsGoing j y.attempt → granted j y.attempt.action ≡ false → ⊥) → (ys : List Request) → AllOf (k.IsSentOn j l) ys → EachRequest (λ y. is_needed j y ≡ false) ys
 each_needed p j l legal none [] on = tt
 each_needed p j l legal none (y ∷ ys) on = (
   false_by _ (λ h. let parts = and_parts (is_pending j y) _ h in none y (q.pending_going p j l y legal on.0 parts.0) (not_true _ parts.1)),
@@ -367,7 +371,7 @@ each_needed p j l legal none (y ∷ ys) on = (
 )
 
 -- all is over: nothing is wanted
-pub over_done : (p : Plan) (j : List Entry) (l w : ℕ) → Legal p j → IsOfBerth j l w → all_settled p j ≡ true → IsDone p j l
+pub over_done : (p : Plan) (j : List Entry) (l w : ℕ) → Lawful p j → IsOfBerth j l w → all_settled p j ≡ true → IsDone p j l
 over_done p j l w legal own all = record {
   berth = w;
   own = own;
@@ -385,7 +389,7 @@ over_done p j l w legal own all = record {
         absurd (clash (settled p j t.action) (at t (launched_begun j l b.lane t b.launched)) (wanted_is p j t.action t.branch b.wish).unsettled)
 
 -- a Single line whose pending request isn't wanted
-pub unwanted_done : (p : Plan) (j : List Entry) (l w : ℕ) → Legal p j → IsOfBerth j l w → is_single (kind_of p w) ≡ true → r.has_unwanted p j l ≡ true → IsDone p j l
+pub unwanted_done : (p : Plan) (j : List Entry) (l w : ℕ) → Lawful p j → IsOfBerth j l w → is_single (line_kind p j l) ≡ true → r.has_unwanted p j l ≡ true → IsDone p j l
 unfolding pending
 unwanted_done p j l w legal own one h = record {
   berth = w;
@@ -406,7 +410,7 @@ unwanted_done p j l w legal own one h = record {
     closed_none [] all = refl
     closed_none (y ∷ ys) all = rw all.0 (closed_none ys all.1)
 
-    only : (ys : List Request) → AllOf (k.IsSentOn j l) ys → (is_single (kind_of p w) ≡ true → EachRequest (λ y. is_pending j y ≡ false) (older ys)) → list_any (is_unwanted p j) (filter (is_pending j) ys) ≡ true → EachRequest (λ y. is_needed j y ≡ false) ys
+    only : (ys : List Request) → AllOf (k.IsSentOn j l) ys → (is_single (line_kind p j l) ≡ true → EachRequest (λ y. is_pending j y ≡ false) (older ys)) → list_any (is_unwanted p j) (filter (is_pending j) ys) ≡ true → EachRequest (λ y. is_needed j y ≡ false) ys
     only [] on closed m = tt
     only (y ∷ ys) on closed m = (
       false_by _ (λ needed. let parts = and_parts (is_pending j y) _ needed in
@@ -418,7 +422,18 @@ unwanted_done p j l w legal own one h = record {
       closed_needs ys (closed one),
     )
 
-kill_done : (p : Plan) (e : Entry) (j : List Entry) (l : ℕ) → Legal p (e ∷ j) → Clean j → halted j ≡ false → (lane : ℕ) (d : Call) (x : Reply) → u.Ruled p j lane d x → orders_kill l x ≡ true → kill_ordered j l ≡ false → IsDone p j l
+-- a line of which nothing is pending or bound
+pub empty_done : (p : Plan) (j : List Entry) (l w : ℕ) → IsOfBerth j l w → pending j l ≡ [] → bound p j l ≡ None → IsDone p j l
+unfolding pending
+empty_done p j l w own empty free = record { berth = w; own = own; unbound = free; unneeded = none (sends j l) empty }
+  where
+    none : (ys : List Request) → filter (is_pending j) ys ≡ [] → EachRequest (λ y. is_needed j y ≡ false) ys
+    none [] h = tt
+    none (y ∷ ys) h =
+        by_bool (is_pending j y) (λ b. is_pending j y ≡ b → cond b (y ∷ filter (is_pending j) ys) (filter (is_pending j) ys) ≡ [] → (is_needed j y ≡ false) × EachRequest (λ z. is_needed j z ≡ false) ys)
+        (λ _ _ m. absurd (cc)) (λ _ off m. (rw off refl, none ys m)) refl h
+
+kill_done : (p : Plan) (e : Entry) (j : List Entry) (l : ℕ) → Lawful p (e ∷ j) → Clean j → halted j ≡ false → (lane : ℕ) (d : Call) (x : Reply) → u.Ruled p j lane d x → orders_kill l x ≡ true → kill_ordered j l ≡ false → IsDone p j l
 kill_done p e j l legal clean none lane d x (u.Quits m here run over) h new =
     let n = eqb-true m l h in
     elim (or_cases (all_settled p j) (halted j) over) [
@@ -431,7 +446,11 @@ kill_done p e j l legal clean none lane d x (u.KillsBroken m y here run broken o
     absurd (clash (kill_ordered j l) (ended_ordered j l clean (broke_ended p j l legal.0 clean b)) new)
 kill_done p e j l legal clean none lane d x (u.KillsUnwanted m here run one no_cancel unwanted over) h new =
     let n = eqb-true m l h in
-    unwanted_done p j l (lane / 2) legal.0 (subst (λ i. IsOfBerth j i (lane / 2)) n (la.here_own p j (lane / 2) m legal.0 here)) one (subst (λ i. r.has_unwanted p j i ≡ true) n unwanted)
+    unwanted_done p j l (lane / 2) legal.0 (subst (λ i. IsOfBerth j i (lane / 2)) n (la.here_own p j (lane / 2) m legal.0 here)) (subst (λ i. is_single (line_kind p j i) ≡ true) n one) (subst (λ i. r.has_unwanted p j i ≡ true) n unwanted)
+kill_done p e j l legal clean none lane d x (u.Evicts m here alive empty free before) h new =
+    let n = eqb-true m l h in
+    empty_done p j l (lane / 2) (subst (λ i. IsOfBerth j i (lane / 2)) n (la.here_own p j (lane / 2) m legal.0 here))
+    (subst (λ i. pending j i ≡ []) n empty) (subst (λ i. bound p j i ≡ None) n free)
 kill_done p e j l legal clean none lane d x _ h new = absurd (cc)
 
 pub unhalted_before : (e : Entry) (j : List Entry) → halted (e ∷ j) ≡ false → halted j ≡ false
@@ -443,7 +462,7 @@ kill_sends_none l m (reply.Kill i y) h = refl
 kill_sends_none l m _ h = absurd (cc)
 
 -- in a clean journal where no lane halted
-pub ordered_done : (p : Plan) (j : List Entry) (l : ℕ) → Legal p j → Clean j → halted j ≡ false → kill_ordered j l ≡ true → IsDone p j l
+pub ordered_done : (p : Plan) (j : List Entry) (l : ℕ) → Lawful p j → Clean j → halted j ≡ false → kill_ordered j l ≡ true → IsDone p j l
 unfolding kill_ordered
 ordered_done p [] l legal clean none h = absurd (cc)
 ordered_done p (e ∷ j) l legal clean none h = by (or_cases (orders_kill l e.reply) (kill_ordered j l) h) (λ y. ordered_done p j l legal.0 clean.0 (unhalted_before e j none) y)
@@ -459,11 +478,6 @@ ordered_done p (e ∷ j) l legal clean none h = by (or_cases (orders_kill l e.re
         let once = la.kills_once p e j l legal here in
         done_later p e j l legal (kill_sends_none l l e.reply here) (kill_done p e j l legal clean.0 (unhalted_before e j none) e.lane e.call e.reply (v.entry_ruled p e j legal) here once.first)
     by (inr before) ih = done_later p e j l legal (unsent before (sent_on l e.reply) refl) (ih before)
-
-launch_later : (p : Plan) (e : Entry) (j : List Entry) (l m : ℕ) (t : Attempt) → Legal p (e ∷ j) → launch_of j l ≡ Some (m, t) → launch_of (e ∷ j) l ≡ Some (m, t)
-launch_later p e j l m t legal at = by_bool (nat_lt l (line_count j)) (λ b. nat_lt l (line_count j) ≡ b → launch_of (e ∷ j) l ≡ Some (m, t))
-    (λ _ below. launch_stays e j l (lines_named p (e ∷ j) legal).1.numbered (ltb-true l (line_count j) below) ∙ at)
-    (λ _ above. (let none = (fresh p j l legal.0 (ltb-false l (line_count j) above)).launch in let both : None ≡ Some (m, t) = sym none ∙ at in absurd (cc))) refl
 
 -- ---- no attempt ends
 
@@ -493,13 +507,13 @@ sent_at : (e : Entry) (j : List Entry) (t : Attempt) → is_for t (option_map (�
 unfolding was_sent
 sent_at e j t h = or_left _ _ h
 
-pub on_line : (p : Plan) (j : List Entry) (t : Attempt) (l : ℕ) → Legal p j → line_of j t ≡ Some l → OnLine j t l
+pub on_line : (p : Plan) (j : List Entry) (t : Attempt) (l : ℕ) → Lawful p j → line_of j t ≡ Some l → OnLine j t l
 unfolding line_of
 on_line p [] t l legal h = absurd (cc)
 on_line p (e ∷ j) t l legal h = by (line_of_new e j t l h) (λ y. on_line p j t l legal.0 y)
   where
     later : OnLine j t l → OnLine (e ∷ j) t l
-    later (Launched m at) = Launched m (launch_later p e j l m t legal at)
+    later (Launched m at) = Launched m (q.launch_later p e j l m t legal at)
     later (Sent y) = Sent (k.sent_later e j t y)
 
     by : (carrier_in t e.reply ≡ Some l) ⊎ (line_of j t ≡ Some l) → (line_of j t ≡ Some l → OnLine j t l) → OnLine (e ∷ j) t l
@@ -513,7 +527,7 @@ pub record HasRequest (j : List Entry) (t : Attempt) : Type 0 where
   pub carrier : line_of j t ≡ Some request.line
   pub among : va.IsAmong j request
 
-sent_request : (p : Plan) (j : List Entry) (t : Attempt) → Legal p j → was_sent j t ≡ true → HasRequest j t
+sent_request : (p : Plan) (j : List Entry) (t : Attempt) → Lawful p j → was_sent j t ≡ true → HasRequest j t
 unfolding was_sent
 sent_request p [] t legal h = absurd (cc)
 sent_request p (e ∷ j) t legal h = by (or_cases (is_for t (option_map (λ y. y.attempt) (send_in e.reply))) (was_sent j t) h) (λ y. sent_request p j t legal.0 y)
@@ -535,7 +549,7 @@ unfolding bound
 bound_to p j l m t at wish un going = rw (at, wish, un, going) refl
 
 -- in a clean journal where no lane halted
-pub none_ends : (p : Plan) (j : List Entry) (t : Attempt) → Legal p j → Clean j → halted j ≡ false → ended j t ≡ false
+pub none_ends : (p : Plan) (j : List Entry) (t : Attempt) → Lawful p j → Clean j → halted j ≡ false → ended j t ≡ false
 unfolding ended end_of
 none_ends p [] t legal clean none = refl
 none_ends p (e ∷ j) t legal clean none = false_by _ (λ now.
@@ -649,7 +663,7 @@ used_at p n zero (y ∷ ys) x h at =
 used_at p n (suc i) (y ∷ ys) x h at = used_at p (suc n) i ys x (and_parts (is_sound_action p n y) _ h).1 at
 
 -- in a clean journal where no lane halted no action is without success
-module _ (p : Plan) (j : List Entry) (sound : Sound p) (legal : Legal p j) (clean : Clean j) (none : halted j ≡ false) where
+module _ (p : Plan) (j : List Entry) (sound : Sound p) (legal : Lawful p j) (clean : Clean j) (none : halted j ≡ false) where
   undropped : (a : ℕ) (b : Branch) → dropped p j a b ≡ false
   unfolding dropped
   undropped a b = none_ends p j (attempt_of a b p.limit) legal clean none
@@ -743,6 +757,6 @@ module _ (p : Plan) (j : List Entry) (sound : Sound p) (legal : Legal p j) (clea
       ]
 
 -- at Stop of a clean journal where no lane halted every action has success
-pub complete : (p : Plan) (j : List Entry) (lane : ℕ) (d : Call) → Sound p → Legal p j → Clean j → halted j ≡ false → r.rule p j lane d ≡ reply.Stop
+pub complete : (p : Plan) (j : List Entry) (lane : ℕ) (d : Call) → Sound p → Lawful p j → Clean j → halted j ≡ false → lw.Told p j lane d reply.Stop
     → (a : ℕ) (x : PlanAction) → slice_get p.actions a ≡ Some x → is_ok (outcome_of p j a) ≡ true
 complete p j lane d sound legal clean none stop a x at = all_succeed p j sound legal clean none (st.stop_settles p j lane d stop none) a x at

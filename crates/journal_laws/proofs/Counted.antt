@@ -14,7 +14,7 @@ use Rattle.list_lemmas.specs.Options.{and_more}
 use Rattle.exec_journal.specs.Entries.{Request, attempt_of, is_branch_of, launch_in, send_in}
 use Rattle.exec_journal.specs.Words.{line_count, sends, sent_on, was_sent}
 use Rattle.exec_journal.specs.Attempts.{attempt, begun_in}
-use Rattle.exec_journal.specs.Legal.{Legal}
+use Rattle.exec_journal.specs.Lawful.{Lawful}
 use Rattle.exec_journal.specs.Facts.{begun, BeginsNext}
 use Rattle.exec_journal.proofs.Ruled.{by_bool}
 use Rattle.exec_journal.proofs.Begins.{begin_in_order, attempts_in_order, attempt_begun, attempt_other, is_branch_refl, same_attempt_refl}
@@ -53,7 +53,7 @@ sum_most g m (suc n) le = let x = sum_most g m n le in let y = le n in omega ari
 -- ---- attempts only grow
 
 -- of each branch
-pub attempt_grows : (p : Plan) (e : Entry) (j : List Entry) (a : ℕ) (b : Branch) → Legal p (e ∷ j) → attempt j a b ≤ attempt (e ∷ j) a b
+pub attempt_grows : (p : Plan) (e : Entry) (j : List Entry) (a : ℕ) (b : Branch) → Lawful p (e ∷ j) → attempt j a b ≤ attempt (e ∷ j) a b
 attempt_grows p e j a b legal = by (begun_in e.reply) refl
   where
     mine : (s : Attempt) → begun_in e.reply ≡ Some s → is_branch_of a b s ≡ true → st.BeginsIt j s → attempt j a b ≤ attempt (e ∷ j) a b
@@ -82,11 +82,11 @@ attempts_of j a = attempt j a Local + attempt j a Remote
 pub attempts_made : Plan → List Entry → ℕ
 attempts_made p j = sum_below (attempts_of j) (length p.actions)
 
-attempts_grow : (p : Plan) (e : Entry) (j : List Entry) (a : ℕ) → Legal p (e ∷ j) → attempts_of j a ≤ attempts_of (e ∷ j) a
+attempts_grow : (p : Plan) (e : Entry) (j : List Entry) (a : ℕ) → Lawful p (e ∷ j) → attempts_of j a ≤ attempts_of (e ∷ j) a
 unfolding attempts_of
 attempts_grow p e j a legal = let x = attempt_grows p e j a Local legal in let y = attempt_grows p e j a Remote legal in omega arith
 
-made_grows : (p : Plan) (e : Entry) (j : List Entry) → Legal p (e ∷ j) → attempts_made p j ≤ attempts_made p (e ∷ j)
+made_grows : (p : Plan) (e : Entry) (j : List Entry) → Lawful p (e ∷ j) → attempts_made p j ≤ attempts_made p (e ∷ j)
 unfolding attempts_made
 made_grows p e j legal = sum_le (attempts_of j) (attempts_of (e ∷ j)) (length p.actions) (λ a. attempts_grow p e j a legal)
 
@@ -95,7 +95,7 @@ new_attempt e j s is next =
     let top : attempt (e ∷ j) s.action s.branch ≡ s.number = attempt_begun e j s.action s.branch s is (is_branch_refl s) in
     let n = next.next in omega arith
 
-new_of_action : (p : Plan) (e : Entry) (j : List Entry) (s : Attempt) → Legal p (e ∷ j) → begun_in e.reply ≡ Some s → BeginsNext j s → attempts_of j s.action + 1 ≤ attempts_of (e ∷ j) s.action
+new_of_action : (p : Plan) (e : Entry) (j : List Entry) (s : Attempt) → Lawful p (e ∷ j) → begun_in e.reply ≡ Some s → BeginsNext j s → attempts_of j s.action + 1 ≤ attempts_of (e ∷ j) s.action
 unfolding attempts_of
 new_of_action p e j s legal is next = by s.branch refl
   where
@@ -107,10 +107,10 @@ new_of_action p e j s legal is next = by s.branch refl
         let more : attempt j s.action Remote + 1 ≤ attempt (e ∷ j) s.action Remote = subst (λ (b : Branch). attempt j s.action b + 1 ≤ attempt (e ∷ j) s.action b) same (new_attempt e j s is next) in
         let y = attempt_grows p e j s.action Local legal in omega arith
 
-begun_within : (p : Plan) (j : List Entry) (t : Attempt) → Legal p j → begun j t ≡ true → t.action < length p.actions
+begun_within : (p : Plan) (j : List Entry) (t : Attempt) → Lawful p j → begun j t ≡ true → t.action < length p.actions
 begun_within p j t legal h = let has = f.going_ready_at p j t legal h in slice_get_within p.actions t.action has.action has.place
 
-made_more : (p : Plan) (e : Entry) (j : List Entry) (s : Attempt) → Legal p (e ∷ j) → begun_in e.reply ≡ Some s → BeginsNext j s → attempts_made p j + 1 ≤ attempts_made p (e ∷ j)
+made_more : (p : Plan) (e : Entry) (j : List Entry) (s : Attempt) → Lawful p (e ∷ j) → begun_in e.reply ≡ Some s → BeginsNext j s → attempts_made p j + 1 ≤ attempts_made p (e ∷ j)
 unfolding attempts_made
 made_more p e j s legal is next =
     sum_more (attempts_of j) (attempts_of (e ∷ j)) (length p.actions) s.action (begun_within p (e ∷ j) s legal (st.begun_here e j s is))
@@ -122,7 +122,7 @@ line_counted : (e : Entry) (j : List Entry) (o : Option (ℕ × Attempt)) → la
 unfolding line_count
 line_counted e j o is = rw is refl
 
-pub lines_made : (p : Plan) (j : List Entry) → Legal p j → line_count j ≤ attempts_made p j
+pub lines_made : (p : Plan) (j : List Entry) → Lawful p j → line_count j ≤ attempts_made p j
 unfolding line_count
 lines_made p [] legal = omega arith
 lines_made p (e ∷ j) legal = by (launch_in e.reply) refl (lines_made p j legal.0)
@@ -131,14 +131,14 @@ lines_made p (e ∷ j) legal = by (launch_in e.reply) refl (lines_made p j legal
     by None is ih = let g = made_grows p e j legal in omega arith
     by (Some x) is ih = let m = made_more p e j x.1 legal (c.launch_begins e.reply x is) (c.launch_next p e j x legal is) in omega arith
 
-pub made_most : (p : Plan) (j : List Entry) → Legal p j → 1 ≤ p.limit → attempts_made p j ≤ 2 * length p.actions * p.limit
+pub made_most : (p : Plan) (j : List Entry) → Lawful p j → 1 ≤ p.limit → attempts_made p j ≤ 2 * length p.actions * p.limit
 unfolding attempts_made attempts_of
 made_most p j legal least =
     let m = sum_most (attempts_of j) (p.limit + p.limit) (length p.actions) (λ a.
     (let order = attempts_in_order p j legal in let x = order.limited a Local least in let y = order.limited a Remote least in omega arith)) in omega arith
 
 -- at a Launch there is room for one more line
-pub launch_has_room : (p : Plan) (e : Entry) (j : List Entry) (x : ℕ × Attempt) → Legal p (e ∷ j) → 1 ≤ p.limit → launch_in e.reply ≡ Some x → line_count j < 2 * length p.actions * p.limit
+pub launch_has_room : (p : Plan) (e : Entry) (j : List Entry) (x : ℕ × Attempt) → Lawful p (e ∷ j) → 1 ≤ p.limit → launch_in e.reply ≡ Some x → line_count j < 2 * length p.actions * p.limit
 unfolding line_count
 launch_has_room p e j x legal least is =
     let n = lines_made p j legal.0 in
@@ -214,7 +214,7 @@ sent_more p e j t low high un sent = by t.branch refl
         let more = subst (λ (b : Branch). sum_below (was_sent_bit j t.action b) p.limit + 1 ≤ sum_below (was_sent_bit (e ∷ j) t.action b) p.limit) same (branch_more p e j t low high un sent) in
         let y = branch_grows p e j t.action Local in omega arith
 
-send_more : (p : Plan) (e : Entry) (j : List Entry) (x : Request) → Legal p (e ∷ j) → 1 ≤ p.limit → send_in e.reply ≡ Some x → sent_made p j + 1 ≤ sent_made p (e ∷ j)
+send_more : (p : Plan) (e : Entry) (j : List Entry) (x : Request) → Lawful p (e ∷ j) → 1 ≤ p.limit → send_in e.reply ≡ Some x → sent_made p j + 1 ≤ sent_made p (e ∷ j)
 unfolding sent_made
 send_more p e j x legal least is =
     let t = x.attempt in
@@ -233,7 +233,7 @@ send_more p e j x legal least is =
     sent_now : (e : Entry) (j : List Entry) (x : Request) → send_in e.reply ≡ Some x → was_sent (e ∷ j) x.attempt ≡ true
     sent_now e j x h = q.sent_now e j x h
 
-pub sends_made : (p : Plan) (j : List Entry) → Legal p j → 1 ≤ p.limit → length (each (λ _ e. send_in e.reply) j) ≤ sent_made p j
+pub sends_made : (p : Plan) (j : List Entry) → Lawful p j → 1 ≤ p.limit → length (each (λ _ e. send_in e.reply) j) ≤ sent_made p j
 sends_made p [] legal least = omega arith
 sends_made p (e ∷ j) legal least = by (send_in e.reply) refl (sends_made p j legal.0 least)
   where
@@ -258,7 +258,7 @@ line_sends [] l = omega arith
 line_sends (e ∷ j) l = one_more_send l e.reply (each (λ _ d. sent_on l d.reply) j) (each (λ _ d. send_in d.reply) j) (line_sends j l)
 
 -- at a Send there is room for one more request, on whichever line
-pub send_has_room : (p : Plan) (e : Entry) (j : List Entry) (x : Request) (l : ℕ) → Legal p (e ∷ j) → 1 ≤ p.limit → send_in e.reply ≡ Some x → length (sends j l) < 2 * length p.actions * p.limit
+pub send_has_room : (p : Plan) (e : Entry) (j : List Entry) (x : Request) (l : ℕ) → Lawful p (e ∷ j) → 1 ≤ p.limit → send_in e.reply ≡ Some x → length (sends j l) < 2 * length p.actions * p.limit
 send_has_room p e j x l legal least is =
     let a = line_sends j l in
     let b = sends_made p j legal.0 least in

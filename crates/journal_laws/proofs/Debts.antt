@@ -12,17 +12,17 @@ use Rattle.exec_journal.specs.declared.reply.Reply.{Reply}
 use Rattle.exec_journal.specs.declared.reply.Reply.TheVariants as reply
 use Rattle.exec_journal.specs.Entries.{is_kept, is_halt, is_stop}
 use Rattle.exec_journal.specs.Words.{last_work, stopped, has_halted}
-use Rattle.exec_journal.specs.Rules.{rule}
+use Rattle.exec_journal.specs.Lawful.{plain_reply}
 use Rattle.exec_journal.specs.Scripts.{owes_commit, is_commit_of}
 use Rattle.exec_journal.specs.Legal.{after}
-use Rattle.journal_laws.specs.Paid.{is_paid, wins_files, owes_files, count, lane_owes, lanes_owe, owes}
+use Rattle.journal_laws.specs.Paid.{seat_paid, wins_files, owes_files, count, lane_owes, lanes_owe, seats_owe}
 
 -- ---- the reply
 
-pub paid_noted : (p : Plan) (j : List Entry) (lane : ℕ) (c : Call) → is_paid p j lane c ≡ true → rule p j lane c ≡ reply.Noted
-paid_noted p j lane call.Halt h = refl
-paid_noted p j lane (call.Committed a b how) h = refl
-paid_noted p j lane _ h = let e : false ≡ true = (and_parts (nat_lt lane (2 * berths p)) _ h).1 in absurd (cc)
+pub paid_noted : (p : Plan) (m : ℕ) (j : List Entry) (lane : ℕ) (c : Call) → seat_paid m j lane c ≡ true → plain_reply p j lane c ≡ reply.Noted
+paid_noted p m j lane call.Halt h = refl
+paid_noted p m j lane (call.Committed a b how) h = refl
+paid_noted p m j lane _ h = let e : false ≡ true = (and_parts (nat_lt lane (2 * m)) _ h).1 in absurd (cc)
 
 -- ---- entries of other lanes
 
@@ -35,10 +35,10 @@ same_lane : (e : Entry) (j : List Entry) (lane : ℕ) → (e.lane == lane) ≡ f
 unfolding stopped has_halted last_work
 same_lane e j lane h = record { stops = rw h refl; halts = rw h refl; works = rw h refl }
 
-pub paid_stays : (p : Plan) (e : Entry) (j : List Entry) (lane : ℕ) (c : Call) → (e.lane == lane) ≡ false → is_paid p (e ∷ j) lane c ≡ is_paid p j lane c
-paid_stays p e j lane call.Halt h = let s = same_lane e j lane h in rw (s.stops, s.halts) refl
-paid_stays p e j lane (call.Committed a b how) h = let s = same_lane e j lane h in rw s.works refl
-paid_stays p e j lane _ h = refl
+pub paid_stays : (m : ℕ) (e : Entry) (j : List Entry) (lane : ℕ) (c : Call) → (e.lane == lane) ≡ false → seat_paid m (e ∷ j) lane c ≡ seat_paid m j lane c
+paid_stays m e j lane call.Halt h = let s = same_lane e j lane h in rw (s.stops, s.halts) refl
+paid_stays m e j lane (call.Committed a b how) h = let s = same_lane e j lane h in rw s.works refl
+paid_stays m e j lane _ h = refl
 
 other_lane : (e : Entry) (j : List Entry) (lane : ℕ) → (e.lane == lane) ≡ false → lane_owes (e ∷ j) lane ≡ lane_owes j lane
 unfolding lane_owes
@@ -69,8 +69,8 @@ unfolding lanes_owe lane_owes stopped has_halted last_work
 lanes_first zero = refl
 lanes_first (suc n) = omega (arith, lanes_first n)
 
-pub owes_first : (p : Plan) → owes p [] ≡ 2 * berths p
-owes_first p = lanes_first (2 * berths p)
+pub owes_first : (m : ℕ) → seats_owe m [] ≡ 2 * m
+owes_first m = lanes_first (2 * m)
 
 -- ---- an entry raises it by one at most
 
@@ -95,12 +95,12 @@ entry_more e j n = elim (cases_lt e.lane n) [
   | inr high ↦ omega (arith, lanes_before e j n high)
 ]
 
-kept_more : (p : Plan) (j : List Entry) (lane : ℕ) (c : Call) (x : Reply) (b : Bool) → is_kept x ≡ b → owes p (after j lane c x) ≤ owes p j + 1
-kept_more p j lane c x true is = rw is (entry_more (record { lane = lane; call = c; reply = x }) j (2 * berths p))
-kept_more p j lane c x false is = rw is (omega arith)
+kept_more : (m : ℕ) (j : List Entry) (lane : ℕ) (c : Call) (x : Reply) (b : Bool) → is_kept x ≡ b → seats_owe m (after j lane c x) ≤ seats_owe m j + 1
+kept_more m j lane c x true is = rw is (entry_more (record { lane = lane; call = c; reply = x }) j (2 * m))
+kept_more m j lane c x false is = rw is (omega arith)
 
-pub owes_more : (p : Plan) (j : List Entry) (lane : ℕ) (c : Call) → owes p (after j lane c (rule p j lane c)) ≤ owes p j + 1
-owes_more p j lane c = kept_more p j lane c (rule p j lane c) (is_kept (rule p j lane c)) refl
+pub owes_more : (m : ℕ) (j : List Entry) (lane : ℕ) (c : Call) (x : Reply) → seats_owe m (after j lane c x) ≤ seats_owe m j + 1
+owes_more m j lane c x = kept_more m j lane c x (is_kept x) refl
 
 -- ---- a paid call lowers it by one
 
@@ -120,20 +120,19 @@ owes_by : (a : ℕ) (b : Branch) (o : Option Entry) → owes_commit a b o ≡ tr
 owes_by a b (Some e) h = wins_by a b e.call e.reply h
 owes_by a b None h = absurd (cc)
 
-lane_less : (p : Plan) (j : List Entry) (lane : ℕ) (c : Call) → is_paid p j lane c ≡ true → lane_owes (noted lane c ∷ j) lane + 1 ≡ lane_owes j lane
+lane_less : (m : ℕ) (j : List Entry) (lane : ℕ) (c : Call) → seat_paid m j lane c ≡ true → lane_owes (noted lane c ∷ j) lane + 1 ≡ lane_owes j lane
 unfolding lane_owes stopped has_halted last_work noted
-lane_less p j lane call.Halt h =
-    rw (eq-eqb lane lane refl) (halt_pays (stopped j lane) (has_halted j lane) (count (owes_files (last_work j lane))) (and_parts (nat_lt lane (2 * berths p)) _ h).1)
-lane_less p j lane (call.Committed a b how) h =
-    let won = ap count (owes_by a b (last_work j lane) (and_parts (nat_lt lane (2 * berths p)) _ h).1) in
+lane_less m j lane call.Halt h =
+    rw (eq-eqb lane lane refl) (halt_pays (stopped j lane) (has_halted j lane) (count (owes_files (last_work j lane))) (and_parts (nat_lt lane (2 * m)) _ h).1)
+lane_less m j lane (call.Committed a b how) h =
+    let won = ap count (owes_by a b (last_work j lane) (and_parts (nat_lt lane (2 * m)) _ h).1) in
     rw (eq-eqb lane lane refl) (omega (arith, won))
-lane_less p j lane _ h = let e : false ≡ true = (and_parts (nat_lt lane (2 * berths p)) _ h).1 in absurd (cc)
+lane_less m j lane _ h = let e : false ≡ true = (and_parts (nat_lt lane (2 * m)) _ h).1 in absurd (cc)
 
-in_plan : (p : Plan) (j : List Entry) (lane : ℕ) (c : Call) → is_paid p j lane c ≡ true → lane < 2 * berths p
-in_plan p j lane call.Halt h = ltb-true lane (2 * berths p) (and_parts (nat_lt lane (2 * berths p)) _ h).0
-in_plan p j lane _ h = ltb-true lane (2 * berths p) (and_parts (nat_lt lane (2 * berths p)) _ h).0
+in_plan : (m : ℕ) (j : List Entry) (lane : ℕ) (c : Call) → seat_paid m j lane c ≡ true → lane < 2 * m
+in_plan m j lane call.Halt h = ltb-true lane (2 * m) (and_parts (nat_lt lane (2 * m)) _ h).0
+in_plan m j lane _ h = ltb-true lane (2 * m) (and_parts (nat_lt lane (2 * m)) _ h).0
 
-pub owes_less : (p : Plan) (j : List Entry) (lane : ℕ) (c : Call) → is_paid p j lane c ≡ true → owes p (after j lane c (rule p j lane c)) + 1 ≡ owes p j
+pub owes_less : (m : ℕ) (j : List Entry) (lane : ℕ) (c : Call) → seat_paid m j lane c ≡ true → seats_owe m (after j lane c reply.Noted) + 1 ≡ seats_owe m j
 unfolding noted
-owes_less p j lane c h =
-    rw (paid_noted p j lane c h) (omega (arith, lanes_with (noted lane c) j (2 * berths p) (in_plan p j lane c h), lane_less p j lane c h))
+owes_less m j lane c h = omega (arith, lanes_with (noted lane c) j (2 * m) (in_plan m j lane c h), lane_less m j lane c h)

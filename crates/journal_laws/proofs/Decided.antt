@@ -39,6 +39,7 @@ why_eq why.Breach why.Breach h = refl
 why_eq why.Feed why.Feed h = refl
 why_eq why.Unwanted why.Unwanted h = refl
 why_eq why.Quit why.Quit h = refl
+why_eq why.Evicted why.Evicted h = refl
 why_eq _ _ h = absurd (cc)
 
 why_refl : (x : Why) → same_why x x ≡ true
@@ -47,6 +48,7 @@ why_refl why.Breach = refl
 why_refl why.Feed = refl
 why_refl why.Unwanted = refl
 why_refl why.Quit = refl
+why_refl why.Evicted = refl
 
 stray_eq : (x y : StrayWhy) → same_stray x y ≡ true → x ≡ y
 stray_eq stray.Never stray.Never h = refl

@@ -3,6 +3,7 @@ use Rattle.std.proofs.Common.{◌≡◌, ℕ, true, false, not, cond, List, ◌�
 use Rattle.std.proofs.lemmas.Bool.{eqb-true, eq-eqb, and_parts, and_from, or_cases, or_left, or_right}
 use Rattle.run_plan.specs.declared.plan.Branch.{Branch}
 use Rattle.run_plan.specs.declared.plan.Plan.{Plan}
+use Rattle.exec_journal.specs.Lawful as lw
 use Rattle.exec_journal.specs.declared.attempt.Attempt.{Attempt}
 use Rattle.exec_journal.specs.declared.journal.Entry.{Entry}
 use Rattle.exec_journal.specs.declared.ends.Cause.{Cause}
@@ -19,7 +20,7 @@ use Rattle.exec_journal.specs.Entries.{Request, attempt_of, same_attempt, launch
 use Rattle.exec_journal.specs.Words.{answered, wrote, wrote_at, says_feed_fault, has_ended, live, granted, grant_of, commit_of}
 use Rattle.exec_journal.specs.Attempts.{begun_in, line_of, carrier_in, fault_of, fault_at, over, ended}
 use Rattle.exec_journal.specs.Rules as r
-use Rattle.exec_journal.specs.Legal.{Legal}
+use Rattle.exec_journal.specs.Lawful.{Lawful}
 use Rattle.exec_journal.specs.Facts.{SameActions}
 use Rattle.journal_laws.specs.Invariant.{IsGoing, is_quiet_call, EndsWith, ByFault, ByEnd, ByFeed}
 use Rattle.exec_journal.proofs.Ruled.{by_bool, not_true}
@@ -83,7 +84,7 @@ launch_carrier t (reply.Send m o a b n) l h =
     (λ _ e. let i : m ≡ l = cc in Sending (record { line = m; number = o; attempt = attempt_of a b n }) refl i) (λ _ e. absurd (cc)) h
 launch_carrier t _ l h = absurd (cc)
 
-begun_on_running : (p : Plan) (e : Entry) (j : List Entry) (t : Attempt) (l : ℕ) → Legal p (e ∷ j) → carrier_in t e.reply ≡ Some l → (has_ended j l ≡ false) × (ends l e.call ≡ false)
+begun_on_running : (p : Plan) (e : Entry) (j : List Entry) (t : Attempt) (l : ℕ) → Lawful p (e ∷ j) → carrier_in t e.reply ≡ Some l → (has_ended j l ≡ false) × (ends l e.call ≡ false)
 begun_on_running p e j t l legal h = by (launch_carrier t e.reply l h)
   where
     by : CarriesOn e.reply l → (has_ended j l ≡ false) × (ends l e.call ≡ false)
@@ -103,7 +104,7 @@ line_new e j t l h = k.or_some (carrier_in t e.reply) (line_of j t) l h
 
 -- ---- how an attempt ends
 
-pub ends_with : (p : Plan) (e : Entry) (j : List Entry) (t : Attempt) → Legal p (e ∷ j) → ended (e ∷ j) t ≡ true → ended j t ≡ false → EndsWith j e t × (granted (e ∷ j) t.action ≡ false)
+pub ends_with : (p : Plan) (e : Entry) (j : List Entry) (t : Attempt) → Lawful p (e ∷ j) → ended (e ∷ j) t ≡ true → ended j t ≡ false → EndsWith j e t × (granted (e ∷ j) t.action ≡ false)
 ends_with p e j t legal now before = elim (v.ended_new e j t now) [
   | inl old ↦ absurd (clash _ old before)
   | inr new ↦ (let x = v.some_is (over (e ∷ j) t) new.1 in (by (granted_before e j t.action new.0) (v.over_is (e ∷ j) t x.0 x.1), new.0))
@@ -146,6 +147,7 @@ quiet_faults j e t (call.Killed l) is h = rw is refl
 quiet_faults j e t call.Take is h = rw is refl
 quiet_faults j e t (call.Answer l x) is h = rw is refl
 quiet_faults j e t call.Halt is h = rw is refl
+quiet_faults j e t call.Tick is h = rw is refl
 quiet_faults j e t (call.Launched l how) is h = absurd (cc)
 quiet_faults j e t (call.Wrote l n how) is h = absurd (cc)
 quiet_faults j e t (call.Claim a b n x) is h = absurd (cc)
@@ -159,14 +161,14 @@ quiet_end j e t h (ByFault x is) = (let none = quiet_faults j e t e.call refl h 
 quiet_end j e t h (ByEnd l how is at left) = quiet_not e (call.Ended l how) is refl h
 quiet_end j e t h (ByFeed l is at over) = (let it = c.wrote_at_is j e t write.FeedFault is in quiet_not e (call.Wrote it.line it.number write.FeedFault) it.is refl h)
 
-pub quiet_ends_none : (p : Plan) (e : Entry) (j : List Entry) (t : Attempt) → Legal p (e ∷ j) → is_quiet_call e.call ≡ true → ended (e ∷ j) t ≡ ended j t
+pub quiet_ends_none : (p : Plan) (e : Entry) (j : List Entry) (t : Attempt) → Lawful p (e ∷ j) → is_quiet_call e.call ≡ true → ended (e ∷ j) t ≡ ended j t
 quiet_ends_none p e j t legal h =
     by_bool (ended j t) (λ b. ended j t ≡ b → ended (e ∷ j) t ≡ b)
     (λ _ old. ended_stays e j t old)
     (λ _ going. false_by _ (λ now. quiet_end j e t h (ends_with p e j t legal now going).0)) refl
 
 -- an attempt that ends was under way
-pub ending_was_going : (p : Plan) (e : Entry) (j : List Entry) (t : Attempt) → Legal p (e ∷ j) → ended (e ∷ j) t ≡ true → ended j t ≡ false → begun_in e.reply ≡ None → IsGoing j t
+pub ending_was_going : (p : Plan) (e : Entry) (j : List Entry) (t : Attempt) → Lawful p (e ∷ j) → ended (e ∷ j) t ≡ true → ended j t ≡ false → begun_in e.reply ≡ None → IsGoing j t
 ending_was_going p e j t legal now before none =
     g.going_is p j t legal.0 (elim (begun_more e j t (c.ended_begun p (e ∷ j) t legal now)) [
       | inl here ↦ (let is = is_for_eq t (begun_in e.reply) here in let both : None ≡ Some t = sym none ∙ is in absurd (cc))
@@ -182,7 +184,7 @@ ended_here : (e : Entry) (j : List Entry) (l : ℕ) (how : HowEnded) → e.call 
 unfolding has_ended
 ended_here e j l how h = or_left (ends l e.call) _ (rw h (eq-eqb l l refl))
 
-pub ends_so : (p : Plan) (e : Entry) (j : List Entry) (t : Attempt) → Legal p (e ∷ j) → EndsWith j e t → granted (e ∷ j) t.action ≡ false → ended (e ∷ j) t ≡ true
+pub ends_so : (p : Plan) (e : Entry) (j : List Entry) (t : Attempt) → Lawful p (e ∷ j) → EndsWith j e t → granted (e ∷ j) t.action ≡ false → ended (e ∷ j) t ≡ true
 ends_so p e j t legal (ByFault x is) free = (let y = v.some_is (fault_of (e ∷ j) t) (fault_here e j t x is) in v.over_ended (e ∷ j) t free (v.Faulted y.0 y.1))
 ends_so p e j t legal (ByEnd l how is at left) free =
     let quiet : consumed_in e.reply ≡ None = ended_consumes_none p e j l how legal is in
@@ -193,8 +195,8 @@ ends_so p e j t legal (ByEnd l how is at left) free =
       | inr fed ↦ or_right (not (answered (e ∷ j) t)) _ (v.feed_stays e j t fed)
     ])))
   where
-    ended_consumes_none : (p : Plan) (e : Entry) (j : List Entry) (l : ℕ) (how : HowEnded) → Legal p (e ∷ j) → e.call ≡ call.Ended l how → consumed_in e.reply ≡ None
-    ended_consumes_none p e j l how legal is = ap consumed_in (legal.1.replied ∙ ap (λ d. r.rule p j e.lane d) is)
+    ended_consumes_none : (p : Plan) (e : Entry) (j : List Entry) (l : ℕ) (how : HowEnded) → Lawful p (e ∷ j) → e.call ≡ call.Ended l how → consumed_in e.reply ≡ None
+    ended_consumes_none p e j l how legal is = ap consumed_in (subst (λ (d : Call). lw.Told p j e.lane d e.reply) is legal.1.told)
 ends_so p e j t legal (ByFeed l is at over) free =
     let it = c.wrote_at_is j e t write.FeedFault is in
     let none = c.owed_unwritten p j t legal.0 e.lane it.order it.newest it.fits in
@@ -219,7 +221,7 @@ commits_same e j a b h = by (committed_in a b e.call) refl
 asked_commits : (a : ℕ) (b : Branch) (how : CommitEnd) → committed_in a b call.Ask ≡ Some how → ⊥
 asked_commits a b how h = cc
 
-pub ask_changes_none : (p : Plan) (e : Entry) (j : List Entry) → Legal p (e ∷ j) → e.call ≡ call.Ask → SameActions j (e ∷ j)
+pub ask_changes_none : (p : Plan) (e : Entry) (j : List Entry) → Lawful p (e ∷ j) → e.call ≡ call.Ask → SameActions j (e ∷ j)
 ask_changes_none p e j legal is = record {
   grant = λ a. grants_same e j a (rw is refl);
   commit = λ a b. commits_same e j a b (λ how h. asked_commits a b how (subst (λ (d : Call). committed_in a b d ≡ Some how) is h));

@@ -21,11 +21,13 @@ use Rattle.exec_journal.specs.Entries.{Request, attempt_of, same_attempt, is_for
 use Rattle.exec_journal.specs.Words.{last_work, launch_of, wrote_at, order_of, has_ended, granted, grant_of}
 use Rattle.exec_journal.specs.Attempts.{line_of, fault_at, fault_by, start_cause, unwritten_cause, refused_cause, found_cause, ended}
 use Rattle.exec_journal.specs.Rules as r
+use Rattle.exec_journal.specs.Lawful as lw
 use Rattle.exec_journal.specs.Scripts as sc
-use Rattle.exec_journal.specs.Legal.{Legal}
+use Rattle.exec_journal.specs.Lawful.{Lawful}
 use Rattle.journal_laws.specs.Invariant.{EndsWith, ByFault, ByEnd, ByFeed, is_left, claims_it}
 use Rattle.journal_laws.specs.Steps.{EndExactly, is_line, is_open_attempt, is_left_on}
-use Rattle.exec_journal.proofs.Ruled as u
+use Rattle.exec_journal.proofs.Reasons as u
+use Rattle.exec_journal.proofs.Ruled as ru
 use Rattle.exec_journal.proofs.Ruled.{by_bool, not_true}
 use Rattle.exec_journal.proofs.Begins.{same_attempt_eq, same_attempt_refl}
 use Rattle.exec_journal.proofs.Quiet.{ended_stays}
@@ -36,7 +38,7 @@ use Rattle.journal_laws.proofs.Claims.{clash, false_by}
 use Rattle.journal_laws.proofs.Granted as g
 use Rattle.journal_laws.proofs.Endings as en
 
-pub exactly : (p : Plan) (e : Entry) (j : List Entry) (test : Attempt → Bool) → Legal p (e ∷ j)
+pub exactly : (p : Plan) (e : Entry) (j : List Entry) (test : Attempt → Bool) → Lawful p (e ∷ j)
     → ((t : Attempt) → EndsWith j e t → granted (e ∷ j) t.action ≡ false → test t ≡ true)
     → ((t : Attempt) → test t ≡ true → EndsWith j e t × (granted (e ∷ j) t.action ≡ false)) → EndExactly j e test
 exactly p e j test legal only so t =
@@ -71,9 +73,9 @@ pub record IsOrdered (j : List Entry) (lane l : ℕ) (s : Attempt) : Type 0 wher
   pub newest : last_work j lane ≡ Some entry
   pub launch : launch_in entry.reply ≡ Some (l, s)
 
-pub launch_order : (p : Plan) (e : Entry) (j : List Entry) (l m : ℕ) (how : Started) (s : Attempt) → Legal p (e ∷ j) → e.call ≡ call.Launched l how → launch_of j l ≡ Some (m, s) → IsOrdered j e.lane l s
+pub launch_order : (p : Plan) (e : Entry) (j : List Entry) (l m : ℕ) (how : Started) (s : Attempt) → Lawful p (e ∷ j) → e.call ≡ call.Launched l how → launch_of j l ≡ Some (m, s) → IsOrdered j e.lane l s
 launch_order p e j l m how s legal is at =
-    let answer = o.launched_answers p j e.lane l how (subst (λ (d : Call). sc.script p j e.lane d ≡ true) is legal.1.scripted) in
+    let answer = o.launched_answers p j e.lane l how (subst (λ (d : Call). lw.in_script p j e.lane d ≡ true) is legal.1.scripted) in
     let launch = c.launches_line_is l answer.order.reply answer.fits in
     let on = c.newest_launch p j e.lane l launch.0 answer.order legal.0 answer.newest launch.1 in
     let both : Some (on.lane, launch.0) ≡ Some (m, s) = sym on.is ∙ at in
@@ -81,7 +83,7 @@ launch_order p e j l m how s legal is at =
     record { entry = answer.order; newest = answer.newest; launch = launch.1 ∙ ap (λ (x : Attempt). Some (l, x)) (ap (λ (x : ℕ × Attempt). x.1) pair) }
 
 -- it ends the attempt of the line's Launch
-pub launched_ends : (p : Plan) (e : Entry) (j : List Entry) (l m : ℕ) (how : Started) (s : Attempt) → Legal p (e ∷ j) → e.call ≡ call.Launched l how → is_done how ≡ false → launch_of j l ≡ Some (m, s) → EndExactly j e (is_open_attempt j s)
+pub launched_ends : (p : Plan) (e : Entry) (j : List Entry) (l m : ℕ) (how : Started) (s : Attempt) → Lawful p (e ∷ j) → e.call ≡ call.Launched l how → is_done how ≡ false → launch_of j l ≡ Some (m, s) → EndExactly j e (is_open_attempt j s)
 launched_ends p e j l m how s legal is fault at = exactly p e j (is_open_attempt j s) legal only so
   where
     order : IsOrdered j e.lane l s
@@ -119,7 +121,7 @@ unwritten_some write.Done h = absurd (cc)
 unwritten_some write.FeedFault h = absurd (cc)
 
 -- RoomFault and TooLarge end the attempt of the request
-pub unwritten_ends : (p : Plan) (e : Entry) (j : List Entry) (l : ℕ) (n : ℤ) (how : Written) (x : Request) → Legal p (e ∷ j) → e.call ≡ call.Wrote l n how → is_unwritten how ≡ true → order_of j e.lane ≡ Some x
+pub unwritten_ends : (p : Plan) (e : Entry) (j : List Entry) (l : ℕ) (n : ℤ) (how : Written) (x : Request) → Lawful p (e ∷ j) → e.call ≡ call.Wrote l n how → is_unwritten how ≡ true → order_of j e.lane ≡ Some x
     → EndExactly j e (is_open_attempt j x.attempt)
 unwritten_ends p e j l n how x legal is un order = exactly p e j (is_open_attempt j x.attempt) legal only so
   where
@@ -148,7 +150,7 @@ unwritten_ends p e j l n how x legal is un order = exactly p e j (is_open_attemp
         )
 
 -- a Wrote with Done ends none, nor does that of a Cancel
-pub written_ends_none : (p : Plan) (e : Entry) (j : List Entry) (l : ℕ) (n : ℤ) (how : Written) → Legal p (e ∷ j) → e.call ≡ call.Wrote l n how → (how ≡ write.Done) ⊎ (order_of j e.lane ≡ None) → (t : Attempt) → ended (e ∷ j) t ≡ ended j t
+pub written_ends_none : (p : Plan) (e : Entry) (j : List Entry) (l : ℕ) (n : ℤ) (how : Written) → Lawful p (e ∷ j) → e.call ≡ call.Wrote l n how → (how ≡ write.Done) ⊎ (order_of j e.lane ≡ None) → (t : Attempt) → ended (e ∷ j) t ≡ ended j t
 written_ends_none p e j l n how legal is quiet t =
     by_bool (ended j t) (λ b. ended j t ≡ b → ended (e ∷ j) t ≡ b) (λ _ old. ended_stays e j t old)
     (λ _ going. false_by _ (λ now. none (en.ends_with p e j t legal now going).0 quiet)) refl
@@ -175,7 +177,7 @@ written_ends_none p e j l n how legal is quiet t =
         let both : None ≡ Some write.FeedFault = sym f ∙ h in cc
 
 -- FeedFault ends the attempt of the request where its line has Ended
-pub feed_ends : (p : Plan) (e : Entry) (j : List Entry) (l : ℕ) (n : ℤ) (x : Request) → Legal p (e ∷ j) → e.call ≡ call.Wrote l n write.FeedFault → order_of j e.lane ≡ Some x → line_of j x.attempt ≡ Some x.line
+pub feed_ends : (p : Plan) (e : Entry) (j : List Entry) (l : ℕ) (n : ℤ) (x : Request) → Lawful p (e ∷ j) → e.call ≡ call.Wrote l n write.FeedFault → order_of j e.lane ≡ Some x → line_of j x.attempt ≡ Some x.line
     → EndExactly j e (λ t. same_attempt x.attempt t && (has_ended j x.line && not (granted j x.attempt.action)))
 feed_ends p e j l n x legal is order at = exactly p e j (λ t. same_attempt x.attempt t && (has_ended j x.line && not (granted j x.attempt.action))) legal only so
   where
@@ -221,7 +223,7 @@ line_is None l h = absurd (cc)
 is_at : (w : Option ℕ) (l : ℕ) → w ≡ Some l → is_line w l ≡ true
 is_at w l h = rw h (eq-eqb l l refl)
 
-pub line_ends : (p : Plan) (e : Entry) (j : List Entry) (l : ℕ) (how : HowEnded) → Legal p (e ∷ j) → e.call ≡ call.Ended l how → EndExactly j e (is_left_on j l)
+pub line_ends : (p : Plan) (e : Entry) (j : List Entry) (l : ℕ) (how : HowEnded) → Lawful p (e ∷ j) → e.call ≡ call.Ended l how → EndExactly j e (is_left_on j l)
 line_ends p e j l how legal is = exactly p e j (is_left_on j l) legal only so
   where
     only : (t : Attempt) → EndsWith j e t → granted (e ∷ j) t.action ≡ false → is_left_on j l t ≡ true
@@ -252,7 +254,7 @@ record IsRefusal (j : List Entry) (y : Attempt × Found) : Type 0 where
   pub free : r.is_other y.0.branch (grant_of j y.0.action) ≡ false
   pub cause : is_some (found_cause y.1) ≡ true
 
-fault_found : (f : Found) → u.may_win f ≡ false → is_some (found_cause f) ≡ true
+fault_found : (f : Found) → ru.may_win f ≡ false → is_some (found_cause f) ≡ true
 fault_found (found.Files fs) h = absurd (cc)
 fault_found (found.Exit n) h = absurd (cc)
 fault_found (found.Missing k) h = refl
@@ -270,7 +272,7 @@ refusal_is p j lane d x y (u.Notes n m) h = absurd (none d h)
     none _ k = cc
 refusal_is p j lane d x y _ h = absurd (cc)
 
-pub refused_free : (p : Plan) (e : Entry) (j : List Entry) (y : Attempt × Found) → Legal p (e ∷ j) → refused_in e.call e.reply ≡ Some y → granted j y.0.action ≡ false
+pub refused_free : (p : Plan) (e : Entry) (j : List Entry) (y : Attempt × Found) → Lawful p (e ∷ j) → refused_in e.call e.reply ≡ Some y → granted j y.0.action ≡ false
 refused_free p e j y legal h = false_by _ (λ old.
     let x = g.granted_is j y.0.action old in
     let apart = g.never_twice p e j y.0 legal (refused_claims e.call e.reply y h) x.0 x.1 in
@@ -285,7 +287,7 @@ refused_grants_none (call.Claim a b t f) _ y h = absurd (cc)
 refused_grants_none _ _ y h = absurd (cc)
 
 -- and ends its attempt
-pub refused_ends : (p : Plan) (e : Entry) (j : List Entry) (y : Attempt × Found) → Legal p (e ∷ j) → refused_in e.call e.reply ≡ Some y → EndExactly j e (λ t. same_attempt y.0 t)
+pub refused_ends : (p : Plan) (e : Entry) (j : List Entry) (y : Attempt × Found) → Lawful p (e ∷ j) → refused_in e.call e.reply ≡ Some y → EndExactly j e (λ t. same_attempt y.0 t)
 refused_ends p e j y legal h = exactly p e j (λ t. same_attempt y.0 t) legal only so
   where
     claims : (f : Found) × (e.call ≡ call.Claim y.0.action y.0.branch y.0.number f)

@@ -17,7 +17,7 @@ use Rattle.exec_journal.specs.History.{AtEach}
 use Rattle.exec_journal.specs.Entries.{Request, launch_in}
 use Rattle.exec_journal.specs.Words.{last_work, launch_of, sends, pending, is_pending, was_sent, answered, wrote, says_unwritten, says_done, says_feed_fault, has_ended, started, granted, order_of}
 use Rattle.exec_journal.specs.Attempts.{line_of, fault_by, fault_at, ended}
-use Rattle.exec_journal.specs.Legal.{Legal}
+use Rattle.exec_journal.specs.Lawful.{Lawful}
 use Rattle.journal_laws.specs.Invariant.{claimed, EachRequest, IsGoing, EndsWith, ByFault, ByEnd, ByFeed}
 use Rattle.exec_journal.proofs.Begins.{same_attempt_refl, begin_in_order}
 use Rattle.journal_laws.proofs.Owed as o
@@ -49,14 +49,14 @@ record IsUntouched (j : List Entry) (l : ℕ) (s : Attempt) : Type 0 where
   pub unstarted : c.IsUnstarted j l s
   pub going : ended j s ≡ false
 
-carried : (p : Plan) (j : List Entry) (l m : ℕ) (s : Attempt) → Legal p j → launch_of j l ≡ Some (m, s) → line_of j s ≡ Some l
+carried : (p : Plan) (j : List Entry) (l m : ℕ) (s : Attempt) → Lawful p j → launch_of j l ≡ Some (m, s) → line_of j s ≡ Some l
 carried p j l m s legal at = (k.are_carried j (begin_in_order p j legal)).launched l m s at
 
 ends_there : (e : Entry) (j : List Entry) (l : ℕ) (how : HowEnded) → e.call ≡ call.Ended l how → has_ended (e ∷ j) l ≡ true
 unfolding has_ended
 ends_there e j l how is = rw (is, eq-eqb l l refl) refl
 
-not_ended : (p : Plan) (l : ℕ) (s : Attempt) (e : Entry) (j : List Entry) → Legal p (e ∷ j) → c.IsUnstarted j l s → ended j s ≡ false → Leaves (is_launch_it l s) j e → ended (e ∷ j) s ≡ false
+not_ended : (p : Plan) (l : ℕ) (s : Attempt) (e : Entry) (j : List Entry) → Lawful p (e ∷ j) → c.IsUnstarted j l s → ended j s ≡ false → Leaves (is_launch_it l s) j e → ended (e ∷ j) s ≡ false
 not_ended p l s e j legal un going leaves = false_by _ (λ now. by (en.ends_with p e j s legal now going).0)
   where
     on_line : line_of j s ≡ Some l
@@ -86,7 +86,7 @@ not_ended p l s e j legal un going leaves = false_by _ (λ now. by (en.ends_with
         clash (started j l) (sym was ∙ up) un.unstarted
     by (ByFeed m at there over) = of_write write.FeedFault (c.wrote_at_is j e s write.FeedFault at)
 
-untouched_keeps : (p : Plan) (l : ℕ) (s : Attempt) (j : List Entry) → Legal p j → AtEach (Keeps (is_launch_it l s) (λ i. IsUntouched i l s)) j
+untouched_keeps : (p : Plan) (l : ℕ) (s : Attempt) (j : List Entry) → Lawful p j → AtEach (Keeps (is_launch_it l s) (λ i. IsUntouched i l s)) j
 untouched_keeps p l s [] legal = tt
 untouched_keeps p l s (e ∷ j) legal = (
   untouched_keeps p l s j legal.0,
@@ -106,7 +106,7 @@ untouched_keeps p l s (e ∷ j) legal = (
         b.same.ended_too s ∙ b.going
 
 -- the attempt of a Launched is under way
-pub launched_going : (p : Plan) (e : Entry) (j : List Entry) (l m : ℕ) (how : Started) (s : Attempt) → Legal p (e ∷ j) → e.call ≡ call.Launched l how → launch_of j l ≡ Some (m, s) → IsGoing j s
+pub launched_going : (p : Plan) (e : Entry) (j : List Entry) (l m : ℕ) (how : Started) (s : Attempt) → Lawful p (e ∷ j) → e.call ≡ call.Launched l how → launch_of j l ≡ Some (m, s) → IsGoing j s
 launched_going p e j l m how s legal is at =
     let order = ex.launch_order p e j l m how s legal is at in
     let fit : is_launch_it l s order.entry ≡ true = rw order.launch (and_from _ _ (eq-eqb l l refl) (same_attempt_refl s)) in
@@ -119,7 +119,7 @@ none_says : (o : Option Written) → o ≡ None → (says_unwritten o ≡ false)
 none_says None h = (refl, refl, refl)
 none_says (Some y) h = absurd (cc)
 
-module _ (p : Plan) (e : Entry) (j : List Entry) (l : ℕ) (n : ℤ) (how : Written) (x : Request) (legal : Legal p (e ∷ j)) (is : e.call ≡ call.Wrote l n how) (order : order_of j e.lane ≡ Some x) where
+module _ (p : Plan) (e : Entry) (j : List Entry) (l : ℕ) (n : ℤ) (how : Written) (x : Request) (legal : Lawful p (e ∷ j)) (is : e.call ≡ call.Wrote l n how) (order : order_of j e.lane ≡ Some x) where
   pub order_on : k.IsSentOn j x.line x
   order_on =
       let w = la.writes_request p e j l n how x legal is order in
@@ -155,7 +155,7 @@ module _ (p : Plan) (e : Entry) (j : List Entry) (l : ℕ) (n : ℤ) (how : Writ
 
 -- ---- what is pending
 
-pub pendings_going : (p : Plan) (j : List Entry) (l : ℕ) → Legal p j → EachRequest (λ y. IsGoing j y.attempt) (pending j l)
+pub pendings_going : (p : Plan) (j : List Entry) (l : ℕ) → Lawful p j → EachRequest (λ y. IsGoing j y.attempt) (pending j l)
 unfolding pending
 pendings_going p j l legal =
     of.each_of (λ y. IsGoing j y.attempt) (filter (is_pending j) (sends j l))

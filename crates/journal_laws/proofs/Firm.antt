@@ -24,12 +24,12 @@ use Rattle.exec_journal.specs.Attempts.{begun_in, ended, dropped}
 use Rattle.exec_journal.specs.Settled.{uses, is_unsuccessful, is_success, is_settled, by_commit, by_grant, unused_or_dropped, all_dropped, is_starved, standing_after, standings_from, standings, settled, ready, wanted, bound, earliest, free_places}
 use Rattle.run_plan.specs.Groups.{group_of, kind_of}
 use Rattle.exec_journal.specs.Rules as r
-use Rattle.exec_journal.specs.Legal.{Legal}
+use Rattle.exec_journal.specs.Lawful.{Lawful, IsNextOf, NextOn, FromBound, FromQueue}
 use Rattle.exec_journal.specs.Facts.{begun}
 use Rattle.journal_laws.specs.Invariant.{IsGoing, HasInputs}
-use Rattle.exec_journal.proofs.Ruled as u
+use Rattle.exec_journal.proofs.Reasons as u
 use Rattle.exec_journal.proofs.Ruled.{by_bool, not_true}
-use Rattle.exec_journal.proofs.Begins.{attempts_in_order, earliest_next, queued_is, bound_is, launched_begun, is_for_eq, begun_more}
+use Rattle.exec_journal.proofs.Begins.{attempts_in_order, queued_is, bound_is, launched_begun, is_for_eq, begun_more}
 use Rattle.exec_journal.proofs.Quiet.{ended_stays}
 use Rattle.journal_laws.proofs.Over as v
 use Rattle.journal_laws.proofs.Claims as c
@@ -188,7 +188,7 @@ AreReady p j = (t : Attempt) → begun j t ≡ true → HasInputs p j t
 
 -- ---- an attempt under way: not all branches of its action are dropped
 
-pub undropped : (p : Plan) (j : List Entry) (t : Attempt) → Legal p j → IsGoing j t → dropped p j t.action t.branch ≡ false
+pub undropped : (p : Plan) (j : List Entry) (t : Attempt) → Lawful p j → IsGoing j t → dropped p j t.action t.branch ≡ false
 unfolding dropped
 undropped p j t legal is = false_by _ (λ over.
     let spent = attempt_of t.action t.branch p.limit in
@@ -208,7 +208,7 @@ pub has_branch_left : (p : Plan) (j : List Entry) (a : ℕ) (b : Branch) (x : Pl
 has_branch_left p j a Local x n h k = false_by _ (λ all. clash (dropped p j a Local) (sym (unused_is p j a Local x.local n h) ∙ (and_parts (unused_or_dropped p j a Local x.local) _ all).0) k)
 has_branch_left p j a Remote x n h k = false_by _ (λ all. clash (dropped p j a Remote) (sym (unused_is p j a Remote x.remote n h) ∙ (and_parts (unused_or_dropped p j a Local x.local) _ all).1) k)
 
-going_open : (p : Plan) (j : List Entry) (t : Attempt) (x : PlanAction) → Legal p j → AreReady p j → IsGoing j t → slice_get p.actions t.action ≡ Some x → (all_dropped p j t.action x ≡ false) × (ready p j x ≡ true)
+going_open : (p : Plan) (j : List Entry) (t : Attempt) (x : PlanAction) → Lawful p j → AreReady p j → IsGoing j t → slice_get p.actions t.action ≡ Some x → (all_dropped p j t.action x ≡ false) × (ready p j x ≡ true)
 unfolding AreReady
 going_open p j t x legal all is at =
     let has = all t is.begun_yet in
@@ -249,7 +249,7 @@ unfolding dropped
 unused_stays p e j a b None h = refl
 unused_stays p e j a b (Some n) h = ended_stays e j (attempt_of a b p.limit) h
 
-new_grant : (p : Plan) (e : Entry) (j : List Entry) (a : ℕ) (x : PlanAction) → Legal p (e ∷ j) → AreReady p j → slice_get p.actions a ≡ Some x
+new_grant : (p : Plan) (e : Entry) (j : List Entry) (a : ℕ) (x : PlanAction) → Lawful p (e ∷ j) → AreReady p j → slice_get p.actions a ≡ Some x
     → (by_grant (e ∷ j) (grant_of (e ∷ j) a) ≡ None) ⊎ ((all_dropped p j a x ≡ false) × (ready p j x ≡ true))
 new_grant p e j a x legal all at = by (grant_of (e ∷ j) a) refl
   where
@@ -265,7 +265,7 @@ new_grant p e j a x legal all at = by (grant_of (e ∷ j) a) refl
       | inr new ↦ (let one = g.claimable p e j y.0 legal (g.granted_claims e.call e.reply y new.0) in open_at y.0 one.under_way new.1)
     ])
 
-keeps_standing : (p : Plan) (e : Entry) (j : List Entry) → Legal p (e ∷ j) → AreReady p j → (a : ℕ) (x : PlanAction) → slice_get p.actions a ≡ Some x → KeepsStanding p j (e ∷ j) a x
+keeps_standing : (p : Plan) (e : Entry) (j : List Entry) → Lawful p (e ∷ j) → AreReady p j → (a : ℕ) (x : PlanAction) → slice_get p.actions a ≡ Some x → KeepsStanding p j (e ∷ j) a x
 keeps_standing p e j legal all a x at = record {
   own = λ s h. own_stays e j a s h;
   new = λ none. new_grant p e j a x legal all at;
@@ -282,30 +282,22 @@ uses_is x b g h = by (group_of x b) h
     by (Some k) y = ap Some (eqb-true k g y)
     by None y = absurd (cc)
 
-earliest_ready : (p : Plan) (j : List Entry) (g : ℕ) (t : Attempt) → earliest p j g ≡ Some t → HasInputs p j t
-earliest_ready p j g t h =
-    let n = earliest_next p j g t h in
+queue_ready : (p : Plan) (j : List Entry) (g : ℕ) (t : Attempt) → IsNextOf p j g t → HasInputs p j t
+queue_ready p j g t n =
     record { action = n.action; place = n.place; group = g; runs = uses_is n.action t.branch g n.group; inputs = (queued_is p j t.action t.branch n.action n.waiting).inputs }
 
-pub next_ready : (p : Plan) (j : List Entry) (w g l : ℕ) (t : Attempt) → AreReady p j → r.next_for p j w g l ≡ Some t → HasInputs p j t
+pub next_ready : (p : Plan) (j : List Entry) (l : ℕ) (t : Attempt) → AreReady p j → NextOn p j l t → HasInputs p j t
 unfolding AreReady
-next_ready p j w g l t all h = by (bound p j l) refl h
-  where
-    by : (q : Option Attempt) → bound p j l ≡ q → or_else q (cond (nat_lt 0 (free_places p j (kind_of p w) l)) (earliest p j g) None) ≡ Some t → HasInputs p j t
-    by (Some x) is n = (let b = bound_is p j l t (is ∙ n) in all t (launched_begun j l b.lane t b.launched))
-    by None is n =
-        by_bool (nat_lt 0 (free_places p j (kind_of p w) l)) (λ b. cond b (earliest p j g) None ≡ Some t → HasInputs p j t)
-        (λ _ m. earliest_ready p j g t m) (λ _ m. absurd (cc)) n
+next_ready p j l t all (FromBound h) = let b = bound_is p j l t h in all t (launched_begun j l b.lane t b.launched)
+next_ready p j l t all (FromQueue none room next) = queue_ready p j _ t next
 
 begins_ready : (p : Plan) (j : List Entry) (lane : ℕ) (d : Call) (x : Reply) (t : Attempt) → AreReady p j → u.Ruled p j lane d x → begun_in x ≡ Some t → HasInputs p j t
-begins_ready p j lane d x t all (u.Sends l s here alive next none) h =
-    let e : s ≡ t = cc in subst (HasInputs p j) e (next_ready p j (lane / 2) (u.group_at p (lane / 2)) l s all next)
-begins_ready p j lane d x t all (u.Launches s vacant full next none) h =
-    let e : s ≡ t = cc in subst (HasInputs p j) e (earliest_ready p j (u.group_at p (lane / 2)) s next)
+begins_ready p j lane d x t all (u.Sends l s here alive next none) h = let e : s ≡ t = cc in subst (HasInputs p j) e (next_ready p j l s all next)
+begins_ready p j lane d x t all (u.Launches gr s vacant next none) h = let e : s ≡ t = cc in subst (HasInputs p j) e (queue_ready p j gr s next)
 begins_ready p j lane d x t all (u.KillsBroken l y here run broken over) h = absurd (cc)
 begins_ready p j lane d x t all _ h = absurd (cc)
 
-pub are_ready : (p : Plan) (j : List Entry) → Legal p j → AreReady p j
+pub are_ready : (p : Plan) (j : List Entry) → Lawful p j → AreReady p j
 unfolding AreReady begun
 are_ready p [] legal = λ t h. absurd (cc)
 are_ready p (e ∷ j) legal = step (are_ready p j legal.0)
@@ -327,13 +319,13 @@ are_ready p (e ∷ j) legal = step (are_ready p j legal.0)
 
 -- ---- what a legal entry keeps
 
-pub standings_follow : (p : Plan) (e : Entry) (j : List Entry) → Legal p (e ∷ j) → Follows (standings p j) (standings p (e ∷ j))
+pub standings_follow : (p : Plan) (e : Entry) (j : List Entry) → Lawful p (e ∷ j) → Follows (standings p j) (standings p (e ∷ j))
 standings_follow p e j legal = standings_grow p j (e ∷ j) (keeps_standing p e j legal (are_ready p j legal.0))
 
-pub settled_stays : (p : Plan) (e : Entry) (j : List Entry) (a : ℕ) → Legal p (e ∷ j) → settled p j a ≡ true → settled p (e ∷ j) a ≡ true
+pub settled_stays : (p : Plan) (e : Entry) (j : List Entry) (a : ℕ) → Lawful p (e ∷ j) → settled p j a ≡ true → settled p (e ∷ j) a ≡ true
 settled_stays p e j a legal h = settled_grows p j (e ∷ j) a (standings_follow p e j legal) h
 
-pub ready_stays : (p : Plan) (e : Entry) (j : List Entry) (x : PlanAction) → Legal p (e ∷ j) → ready p j x ≡ true → ready p (e ∷ j) x ≡ true
+pub ready_stays : (p : Plan) (e : Entry) (j : List Entry) (x : PlanAction) → Lawful p (e ∷ j) → ready p j x ≡ true → ready p (e ∷ j) x ≡ true
 ready_stays p e j x legal h = ready_grows p j (e ∷ j) x (standings_follow p e j legal) h
 
 dropped_stays : (p : Plan) (e : Entry) (j : List Entry) (a : ℕ) (b : Branch) → dropped p j a b ≡ true → dropped p (e ∷ j) a b ≡ true
@@ -347,7 +339,7 @@ earlier_false : (x y : Bool) → (x ≡ true → y ≡ true) → y ≡ false →
 earlier_false x y f h = false_by x (λ on. clash y (f on) h)
 
 -- a branch that is wanted was wanted before: one that isn't wanted is never wanted again
-pub wanted_before : (p : Plan) (e : Entry) (j : List Entry) (a : ℕ) (b : Branch) → Legal p (e ∷ j) → wanted p (e ∷ j) a b ≡ true → wanted p j a b ≡ true
+pub wanted_before : (p : Plan) (e : Entry) (j : List Entry) (a : ℕ) (b : Branch) → Lawful p (e ∷ j) → wanted p (e ∷ j) a b ≡ true → wanted p j a b ≡ true
 unfolding wanted
 wanted_before p e j a b legal h =
     let parts = and_parts (not (settled p (e ∷ j) a)) _ h in let more = and_parts (not (granted (e ∷ j) a)) _ parts.1 in
@@ -400,14 +392,14 @@ ungranted_is j a h = by (grant_of j a) h
     by (Some x) k = absurd (cc)
 
 -- an action without a grant that is ready and has a branch left isn't settled
-pub open_unsettled : (p : Plan) (j : List Entry) (a : ℕ) (x : PlanAction) → Legal p j → slice_get p.actions a ≡ Some x → grant_of j a ≡ None → all_dropped p j a x ≡ false → ready p j x ≡ true → settled p j a ≡ false
+pub open_unsettled : (p : Plan) (j : List Entry) (a : ℕ) (x : PlanAction) → Lawful p j → slice_get p.actions a ≡ Some x → grant_of j a ≡ None → all_dropped p j a x ≡ false → ready p j x ≡ true → settled p j a ≡ false
 unfolding settled
 open_unsettled p j a x legal place none left inputs =
     let at = stands_at p j a x place in
     rw (at.is ∙ ap Some (open_standing p j a x at.front none left (not_fed p j x at.front at.begin inputs))) refl
 
 -- an attempt under way: its action isn't settled, unless it has a grant
-pub going_unsettled : (p : Plan) (j : List Entry) (t : Attempt) → Legal p j → IsGoing j t → granted j t.action ≡ false → settled p j t.action ≡ false
+pub going_unsettled : (p : Plan) (j : List Entry) (t : Attempt) → Lawful p j → IsGoing j t → granted j t.action ≡ false → settled p j t.action ≡ false
 unfolding settled AreReady
 going_unsettled p j t legal is free =
     let has = are_ready p j legal t is.begun_yet in
@@ -417,7 +409,7 @@ going_unsettled p j t legal is free =
     rw (at.is ∙ ap Some now) refl
 
 -- so its branch is wanted exactly where its action has no grant
-pub going_wanted : (p : Plan) (j : List Entry) (t : Attempt) → Legal p j → IsGoing j t → wanted p j t.action t.branch ≡ not (granted j t.action)
+pub going_wanted : (p : Plan) (j : List Entry) (t : Attempt) → Lawful p j → IsGoing j t → wanted p j t.action t.branch ≡ not (granted j t.action)
 unfolding wanted
 going_wanted p j t legal is =
     by_bool (granted j t.action) (λ b. granted j t.action ≡ b → (not (settled p j t.action) && (not (granted j t.action) && not (dropped p j t.action t.branch))) ≡ not b)
@@ -429,6 +421,6 @@ going_wanted p j t legal is =
     nothing false = refl
 
 -- the action of an attempt under way is ready
-pub going_ready_at : (p : Plan) (j : List Entry) (t : Attempt) → Legal p j → begun j t ≡ true → HasInputs p j t
+pub going_ready_at : (p : Plan) (j : List Entry) (t : Attempt) → Lawful p j → begun j t ≡ true → HasInputs p j t
 unfolding AreReady
 going_ready_at p j t legal start = are_ready p j legal t start

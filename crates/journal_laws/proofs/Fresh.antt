@@ -10,7 +10,7 @@ use Rattle.exec_journal.specs.declared.reply.Reply.TheVariants as reply
 use Rattle.exec_journal.specs.History.{AtEach}
 use Rattle.exec_journal.specs.Entries.{Request, starts, fails, ends, kills, takes, speaks, greets, is_done}
 use Rattle.exec_journal.specs.Words.{line_count, started, failed, has_ended, was_killed, was_taken, has_spoken, has_greeted, line_cause, break_at, break_by, if_line, order_of, launch_of, launch_at, sends, sent_on}
-use Rattle.exec_journal.specs.Legal.{Legal}
+use Rattle.exec_journal.specs.Lawful.{Lawful}
 use Rattle.exec_journal.specs.Facts.{call_line, reply_line, OfBerth, NameTheirLines, IsFresh}
 use Rattle.exec_journal.proofs.Histories.{each_map, ever_none, first_none, latest_none, each_none}
 use Rattle.exec_journal.proofs.Lines.{count_grows, lines_named}
@@ -82,7 +82,7 @@ module _ (l : ℕ) where
   no_launch lane c (reply.Launch k a b t) lt = rw (apart k l lt)
   no_launch lane c _ lt = refl
 
-pub fresh : (p : Plan) (j : List Entry) (l : ℕ) → Legal p j → line_count j ≤ l → IsFresh j l
+pub fresh : (p : Plan) (j : List Entry) (l : ℕ) → Lawful p j → line_count j ≤ l → IsFresh j l
 unfolding launch_of started failed line_cause has_ended was_killed was_taken has_spoken has_greeted sends
 fresh p j l legal le =
     let below = all_below j l (lines_named p j legal) le in

@@ -3,6 +3,7 @@ use Rattle.std.proofs.Common.{◌≡◌, ℕ, ◌/◌, ◌≤◌, ◌==◌, nat_
 use Rattle.std.proofs.lemmas.Bool.{eqb-true, eq-eqb, ltb-true, ltb-false, and_parts, and_from, or_cases, or_left, or_right}
 use Rattle.run_plan.specs.declared.plan.Branch.{Branch}
 use Rattle.run_plan.specs.declared.plan.Plan.{Plan}
+use Rattle.exec_journal.specs.Seated.{line_kind}
 use Rattle.exec_journal.specs.declared.attempt.Attempt.{Attempt}
 use Rattle.exec_journal.specs.declared.journal.Entry.{Entry}
 use Rattle.exec_journal.specs.declared.ends.Cause.{Cause}
@@ -21,12 +22,12 @@ use Rattle.exec_journal.specs.Settled.{wanted, bound, earliest, free_places}
 use Rattle.run_plan.specs.Groups.{kind_of}
 use Rattle.exec_journal.specs.Rules as r
 use Rattle.exec_journal.specs.Rules.{gathered}
-use Rattle.exec_journal.specs.Legal.{Legal}
+use Rattle.exec_journal.specs.Lawful.{Lawful, NextOn, FromBound, FromQueue}
 use Rattle.exec_journal.specs.Facts.{begun, BeginsNext, ContinuesOn}
 use Rattle.journal_laws.specs.Invariant.{claims_it, claimed, IsGoing, IsClaimable, IsWinner}
-use Rattle.exec_journal.proofs.Ruled as u
+use Rattle.exec_journal.proofs.Reasons as u
 use Rattle.exec_journal.proofs.Ruled.{by_bool, not_true}
-use Rattle.exec_journal.proofs.Begins.{same_branch_eq, same_attempt_refl, begin_in_order, attempts_in_order, bound_is, queued_is, wanted_is, earliest_next}
+use Rattle.exec_journal.proofs.Begins.{same_branch_eq, same_attempt_refl, begin_in_order, attempts_in_order, bound_is, queued_is, wanted_is}
 use Rattle.journal_laws.proofs.Owed.{is_send}
 use Rattle.journal_laws.proofs.Carried as k
 use Rattle.journal_laws.proofs.Over as v
@@ -35,25 +36,20 @@ use Rattle.journal_laws.proofs.Claims.{clash, false_by}
 
 -- ---- a Send is of a wanted branch
 
-pub next_wanted : (p : Plan) (j : List Entry) (w g l : ℕ) (t : Attempt) → r.next_for p j w g l ≡ Some t → wanted p j t.action t.branch ≡ true
-next_wanted p j w g l t h = by (bound p j l) refl h
-  where
-    by : (q : Option Attempt) → bound p j l ≡ q → or_else q (cond (nat_lt 0 (free_places p j (kind_of p w) l)) (earliest p j g) None) ≡ Some t → wanted p j t.action t.branch ≡ true
-    by (Some x) is n = (bound_is p j l t (is ∙ n)).wish
-    by None is n =
-        by_bool (nat_lt 0 (free_places p j (kind_of p w) l)) (λ b. cond b (earliest p j g) None ≡ Some t → wanted p j t.action t.branch ≡ true)
-        (λ _ m. let e = earliest_next p j g t m in (queued_is p j t.action t.branch e.action e.waiting).wish) (λ _ m. absurd (cc)) n
+pub next_wanted : (p : Plan) (j : List Entry) (l : ℕ) (t : Attempt) → NextOn p j l t → wanted p j t.action t.branch ≡ true
+next_wanted p j l t (FromBound h) = (bound_is p j l t h).wish
+next_wanted p j l t (FromQueue none room e) = (queued_is p j t.action t.branch e.action e.waiting).wish
 
 pub sends_wanted : (p : Plan) (j : List Entry) (lane : ℕ) (d : Call) (x : Reply) (q : Request) → u.Ruled p j lane d x → send_in x ≡ Some q → wanted p j q.attempt.action q.attempt.branch ≡ true
 sends_wanted p j lane d x q (u.Sends l t here alive next none) h =
-    let e : record { line = l; number = r.number_on p j (lane / 2) l; attempt = attempt_of t.action t.branch t.number } ≡ q = cc in
-    subst (λ (y : Request). wanted p j y.attempt.action y.attempt.branch ≡ true) e (next_wanted p j (lane / 2) (u.group_at p (lane / 2)) l t next)
+    let e : record { line = l; number = r.number_of j (line_kind p j l) l; attempt = attempt_of t.action t.branch t.number } ≡ q = cc in
+    subst (λ (y : Request). wanted p j y.attempt.action y.attempt.branch ≡ true) e (next_wanted p j l t next)
 sends_wanted p j lane d x q (u.KillsBroken l y here run broken over) h = absurd (cc)
 sends_wanted p j lane d x q _ h = absurd (cc)
 
 -- ---- what a Send finds: an attempt that isn't over
 
-sent_unfaulted : (p : Plan) (e : Entry) (j : List Entry) (t : Attempt) (f : Cause) → Legal p (e ∷ j) → is_send t e ≡ true → fault_of j t ≡ Some f → ⊥
+sent_unfaulted : (p : Plan) (e : Entry) (j : List Entry) (t : Attempt) (f : Cause) → Lawful p (e ∷ j) → is_send t e ≡ true → fault_of j t ≡ Some f → ⊥
 sent_unfaulted p e j t f legal h is =
     let it = k.send_of j e.reply t (begin_in_order p (e ∷ j) legal).1 h in
     let wish = sends_wanted p j e.lane e.call e.reply it.request (v.entry_ruled p e j legal) it.is in
@@ -87,7 +83,7 @@ unfolding wrote
 wrote_here e j t y h g = rw (g, h) refl
 
 -- a fault of an attempt that was sent: it wasn't written, or was claimed
-pub sent_faults : (p : Plan) (j : List Entry) (t : Attempt) (f : Cause) → Legal p j → was_sent j t ≡ true → fault_of j t ≡ Some f → (says_unwritten (wrote j t) ≡ true) ⊎ (claimed j t ≡ true)
+pub sent_faults : (p : Plan) (j : List Entry) (t : Attempt) (f : Cause) → Lawful p j → was_sent j t ≡ true → fault_of j t ≡ Some f → (says_unwritten (wrote j t) ≡ true) ⊎ (claimed j t ≡ true)
 unfolding was_sent
 sent_faults p [] t f legal h g = absurd (cc)
 sent_faults p (e ∷ j) t f legal h g = by (or_cases (is_send t e) (was_sent j t) h) (c.fault_new e j t f g) (λ a b. sent_faults p j t f legal.0 a b)
@@ -135,7 +131,7 @@ sent_faults p (e ∷ j) t f legal h g = by (or_cases (is_send t e) (was_sent j t
     by (inr a) (inr b) ih = new a b
 
 -- an attempt that was sent has not ended, where nothing ends it
-pub still_going : (p : Plan) (j : List Entry) (t : Attempt) → Legal p j → was_sent j t ≡ true → says_unwritten (wrote j t) ≡ false → claimed j t ≡ false
+pub still_going : (p : Plan) (j : List Entry) (t : Attempt) → Lawful p j → was_sent j t ≡ true → says_unwritten (wrote j t) ≡ false → claimed j t ≡ false
     → ((l : ℕ) → line_of j t ≡ Some l → v.is_lost j t l ≡ false) → ended j t ≡ false
 still_going p j t legal sent written unclaimed kept = false_by _ (λ over. by (v.ended_is p j t legal over))
   where
@@ -145,7 +141,7 @@ still_going p j t legal sent written unclaimed kept = false_by _ (λ over. by (v
 
 -- ---- an attempt that was begun and hasn't ended is its branch's latest
 
-pub going_is : (p : Plan) (j : List Entry) (t : Attempt) → Legal p j → begun j t ≡ true → ended j t ≡ false → IsGoing j t
+pub going_is : (p : Plan) (j : List Entry) (t : Attempt) → Lawful p j → begun j t ≡ true → ended j t ≡ false → IsGoing j t
 going_is p j t legal start going =
     let order = attempts_in_order p j legal in
     let range = order.numbered t start in
@@ -182,7 +178,7 @@ done_written (Some write.RoomFault) h = absurd (cc)
 done_written (Some write.TooLarge) h = absurd (cc)
 done_written None h = absurd (cc)
 
-pub claimable : (p : Plan) (e : Entry) (j : List Entry) (t : Attempt) → Legal p (e ∷ j) → claims_it t e.call ≡ true → IsClaimable j t
+pub claimable : (p : Plan) (e : Entry) (j : List Entry) (t : Attempt) → Lawful p (e ∷ j) → claims_it t e.call ≡ true → IsClaimable j t
 claimable p e j t legal h =
     let owed = c.claim_owed p e j t legal h in
     let ordered = c.gathered_newest j t e.lane owed.order owed.newest owed.fits in
@@ -238,10 +234,10 @@ granted_is j a h = v.some_is (grant_of j a) h
 pub granted_unended : (e : Entry) (j : List Entry) (t : Attempt) → granted (e ∷ j) t.action ≡ true → ended j t ≡ false → ended (e ∷ j) t ≡ false
 granted_unended e j t won going = false_by _ (λ over. elim (v.ended_new e j t over) [ inl old ↦ clash _ old going | inr new ↦ clash _ won new.0 ])
 
-attempt_later : (p : Plan) (e : Entry) (j : List Entry) (t : Attempt) → Legal p (e ∷ j) → IsGoing j t → ended (e ∷ j) t ≡ false → IsGoing (e ∷ j) t
+attempt_later : (p : Plan) (e : Entry) (j : List Entry) (t : Attempt) → Lawful p (e ∷ j) → IsGoing j t → ended (e ∷ j) t ≡ false → IsGoing (e ∷ j) t
 attempt_later p e j t legal is going = going_is p (e ∷ j) t legal (c.begun_later e j t is.begun_yet) going
 
-pub winner : (p : Plan) (j : List Entry) (a : ℕ) (x : Attempt × Found) → Legal p j → grant_of j a ≡ Some x → IsWinner j a x.0
+pub winner : (p : Plan) (j : List Entry) (a : ℕ) (x : Attempt × Found) → Lawful p j → grant_of j a ≡ Some x → IsWinner j a x.0
 unfolding grant_of
 winner p [] a x legal h = absurd (cc)
 winner p (e ∷ j) a x legal h = by (grant_cases e j a x h) (λ g. winner p j a x legal.0 g)
@@ -268,7 +264,7 @@ winner p (e ∷ j) a x legal h = by (grant_cases e j a x h) (λ g. winner p j a 
 
 -- ---- a grant comes where there is none
 
-pub never_twice : (p : Plan) (e : Entry) (j : List Entry) (t : Attempt) → Legal p (e ∷ j) → claims_it t e.call ≡ true → (x : Attempt × Found) → grant_of j t.action ≡ Some x → same_branch x.0.branch t.branch ≡ false
+pub never_twice : (p : Plan) (e : Entry) (j : List Entry) (t : Attempt) → Lawful p (e ∷ j) → claims_it t e.call ≡ true → (x : Attempt × Found) → grant_of j t.action ≡ Some x → same_branch x.0.branch t.branch ≡ false
 never_twice p e j t legal h x g = false_by _ (λ same.
     let one = claimable p e j t legal h in
     let w = winner p j t.action x legal.0 g in
@@ -282,7 +278,7 @@ grants_free p j lane a b t f d x (u.Grants c e n g free may) h k =
 grants_free p j lane a b t f d x (u.KillsBroken l y here run broken over) h k = absurd (cc)
 grants_free p j lane a b t f d x _ h k = absurd (cc)
 
-pub grant_is_first : (p : Plan) (e : Entry) (j : List Entry) (y : Attempt × Found) → Legal p (e ∷ j) → granted_in e.call e.reply ≡ Some y → granted j y.0.action ≡ false
+pub grant_is_first : (p : Plan) (e : Entry) (j : List Entry) (y : Attempt × Found) → Lawful p (e ∷ j) → granted_in e.call e.reply ≡ Some y → granted j y.0.action ≡ false
 grant_is_first p e j y legal h = false_by _ (λ old.
     let x = granted_is j y.0.action old in
     let apart = never_twice p e j y.0 legal (granted_claims e.call e.reply y h) x.0 x.1 in

@@ -9,6 +9,7 @@ use Rattle.run_plan.specs.declared.plan.Group.{Group}
 use Rattle.run_plan.specs.declared.plan.Kind.{Kind}
 use Rattle.run_plan.specs.declared.plan.Kind.TheVariants as kind
 use Rattle.run_plan.specs.declared.plan.Plan.{Plan}
+use Rattle.exec_journal.specs.declared.attempt.Attempt.{Attempt}
 use Rattle.exec_journal.specs.declared.journal.Entry.{Entry}
 use Rattle.exec_journal.specs.declared.call.Answer.{Answer}
 use Rattle.exec_journal.specs.declared.call.Call.{Call}
@@ -17,17 +18,19 @@ use Rattle.exec_journal.specs.declared.reply.Reply.{Reply}
 use Rattle.exec_journal.specs.declared.reply.Reply.TheVariants as reply
 use Rattle.exec_journal.specs.Entries.{Request, speaks, greets}
 use Rattle.exec_journal.specs.Words.{line_count, launch_of, line_cause, broke, live, started, was_killed, has_ended, has_spoken, has_greeted, sends, was_sent, answered, match_of, wrote, is_pending, pending, has_cancel}
+use Rattle.exec_journal.specs.Lawful as lw
+use Rattle.exec_journal.specs.Seated.{kind_for, group_on, line_group, line_kind, may_be_asked}
 use Rattle.run_plan.specs.Groups.{kind_of, is_single, is_remote, has_cancellation, berth_group}
 use Rattle.exec_journal.specs.Rules as r
 use Rattle.run_plan.specs.Sound.{Sound, is_sound_group}
-use Rattle.exec_journal.specs.Legal.{Legal}
+use Rattle.exec_journal.specs.Lawful.{Lawful}
 use Rattle.exec_journal.specs.Facts.{call_line, IsOfBerth, OfBerth, SameActions}
 use Rattle.journal_laws.specs.Invariant.{NumberedAs}
 use Rattle.journal_laws.specs.Steps.{IsGreeting, SameRequests}
 use Rattle.exec_journal.proofs.Histories.{all_oldest, all_filter}
-use Rattle.exec_journal.proofs.Ruled as u
+use Rattle.exec_journal.proofs.Reasons as u
 use Rattle.exec_journal.proofs.Ruled.{by_bool, not_true}
-use Rattle.exec_journal.proofs.Lines.{lines_named, of_berth_more, pending_line}
+use Rattle.exec_journal.proofs.Lines.{lines_named, launch_stays, of_berth_more, pending_line}
 use Rattle.exec_journal.proofs.Quiet.{bound_same}
 use Rattle.journal_laws.proofs.Over as v
 use Rattle.journal_laws.proofs.Claims as c
@@ -41,7 +44,7 @@ use Rattle.journal_laws.proofs.Known as kn
 
 -- only an Answer is answered Greeted
 greets_is : (p : Plan) (j : List Entry) (lane : ℕ) (d : Call) (x : Reply) → u.Ruled p j lane d x → x ≡ reply.Greeted
-    → (l : ℕ) × (a : Answer) × (d ≡ call.Answer l a) × (broke j l ≡ false) × (r.is_greeting p j (lane / 2) l a ≡ true)
+    → (l : ℕ) × (a : Answer) × (d ≡ call.Answer l a) × (broke j l ≡ false) × (r.is_greeting_of j (line_kind p j l) l a ≡ true)
 greets_is p j lane d x (u.Greets l a whole greeting) h = (l, a, refl, whole, greeting)
 greets_is p j lane d x (u.KillsBroken l y here run broken over) h = absurd (cc)
 greets_is p j lane d x (u.Notes n k) h = absurd (cc)
@@ -74,13 +77,13 @@ none_zero (y ∷ qs) all =
     or_from _ _ (false_by _ (λ same. let e = (Decides-int_eq y.number (pos 0)).0 same in let k : pos (length qs + 1) ≡ pos 0 = sym all.0 ∙ e in let m : length qs + 1 ≡ 0 = cc in omega arith))
     (none_zero qs all.1)
 
-of_greeting : (p : Plan) (j : List Entry) (lane l : ℕ) (x : Answer) → Legal p j → IsOfBerth j l (lane / 2) → broke j l ≡ false → r.is_greeting p j (lane / 2) l x ≡ true → IsGreeting p j lane l x
-of_greeting p j lane l x legal own whole g =
-    let a = and_parts (is_remote (kind_of p (lane / 2))) _ g in
+of_greeting : (p : Plan) (j : List Entry) (w l : ℕ) (x : Answer) → Lawful p j → IsOfBerth j l w → broke j l ≡ false → r.is_greeting_of j (line_kind p j l) l x ≡ true → IsGreeting p j l x
+of_greeting p j w l x legal own whole g =
+    let a = and_parts (is_remote (line_kind p j l)) _ g in
     let b = and_parts (int_eq x.number (pos 0)) _ a.1 in
     let d = and_parts (int_le (pos 2) x.version) _ b.1 in
     let quiet = not_true _ d.1 in
-    let facts = q.line_facts p j l (lane / 2) legal own in
+    let facts = q.line_facts p j l w legal own in
     record {
       of_executor = a.0;
       number = (Decides-int_eq x.number (pos 0)).0 b.0;
@@ -88,20 +91,20 @@ of_greeting p j lane l x legal own whole g =
       whole = whole;
       first = quiet;
       ungreeted = false_by _ (λ y. clash (has_spoken j l) (greeted_spoken j l y) quiet);
-      nobody = rw (none_zero (sends j l) (subst (λ s. NumberedAs s (sends j l)) (remote_many (kind_of p (lane / 2)) a.0) facts.numbers)) refl;
+      nobody = rw (none_zero (sends j l) (subst (λ s. NumberedAs s (sends j l)) (remote_many (line_kind p j l) a.0) facts.numbers)) refl;
     }
 
-own_line : (p : Plan) (e : Entry) (j : List Entry) (l : ℕ) (x : Answer) → Legal p (e ∷ j) → e.call ≡ call.Answer l x → IsOfBerth j l (e.lane / 2)
+own_line : (p : Plan) (e : Entry) (j : List Entry) (l : ℕ) (x : Answer) → Lawful p (e ∷ j) → e.call ≡ call.Answer l x → IsOfBerth j l (e.lane / 2)
 own_line p e j l x legal ic = subst (λ (d : Call). OfBerth j (call_line d) (e.lane / 2)) ic (lines_named p (e ∷ j) legal).1.called
 
-pub greeting_is : (p : Plan) (e : Entry) (j : List Entry) (l : ℕ) (x : Answer) → Legal p (e ∷ j) → e.call ≡ call.Answer l x → e.reply ≡ reply.Greeted → IsGreeting p j e.lane l x
+pub greeting_is : (p : Plan) (e : Entry) (j : List Entry) (l : ℕ) (x : Answer) → Lawful p (e ∷ j) → e.call ≡ call.Answer l x → e.reply ≡ reply.Greeted → IsGreeting p j l x
 greeting_is p e j l x legal ic ir =
     let g = greets_is p j e.lane e.call e.reply (v.entry_ruled p e j legal) ir in
     let same_call : call.Answer g.0 g.1 ≡ call.Answer l x = sym g.2 ∙ ic in
     let l_is : g.0 ≡ l = cc in
     let x_is : g.1 ≡ x = cc in
-    of_greeting p j e.lane l x legal.0 (own_line p e j l x legal ic) (subst (λ n. broke j n ≡ false) l_is g.3)
-    (subst (λ (y : Answer). r.is_greeting p j (e.lane / 2) l y ≡ true) x_is (subst (λ n. r.is_greeting p j (e.lane / 2) n g.1 ≡ true) l_is g.4))
+    of_greeting p j (e.lane / 2) l x legal.0 (own_line p e j l x legal ic) (subst (λ n. broke j n ≡ false) l_is g.3)
+    (subst (λ (y : Answer). r.is_greeting_of j (line_kind p j l) l y ≡ true) x_is (subst (λ n. r.is_greeting_of j (line_kind p j n) n g.1 ≡ true) l_is g.4))
 
 -- each such answer is greeted
 greets_by : (b g : Bool) (x y : Reply) → b ≡ false → g ≡ true → cond b x (cond g reply.Greeted y) ≡ reply.Greeted
@@ -109,10 +112,10 @@ greets_by false true x y h k = refl
 greets_by true g x y h k = absurd (cc)
 greets_by false false x y h k = absurd (cc)
 
-pub greeting_so : (p : Plan) (e : Entry) (j : List Entry) (l : ℕ) (x : Answer) → Legal p (e ∷ j) → e.call ≡ call.Answer l x → IsGreeting p j e.lane l x → e.reply ≡ reply.Greeted
+pub greeting_so : (p : Plan) (e : Entry) (j : List Entry) (l : ℕ) (x : Answer) → Lawful p (e ∷ j) → e.call ≡ call.Answer l x → IsGreeting p j l x → e.reply ≡ reply.Greeted
 greeting_so p e j l x legal ic g =
-    legal.1.replied ∙ ap (λ d. r.rule p j e.lane d) ic
-    ∙ greets_by (broke j l) (r.is_greeting p j (e.lane / 2) l x) _ _ g.whole
+    subst (λ (d : Call). lw.Told p j e.lane d e.reply) ic legal.1.told
+    ∙ greets_by (broke j l) (r.is_greeting_of j (line_kind p j l) l x) _ _ g.whole
     (and_from _ _ g.of_executor (and_from _ _ ((Decides-int_eq x.number (pos 0)).1 g.number) (and_from _ _ g.version (rw g.first refl))))
 
 -- ---- it consumes nothing: only its line has spoken now, and greeted
@@ -120,14 +123,14 @@ greeting_so p e j l x legal ic g =
 abbrev pub greeting_entry : ℕ → ℕ → Answer → Entry
 greeting_entry lane l x = record { lane = lane; call = call.Answer l x; reply = reply.Greeted }
 
-same_actions : (p : Plan) (j : List Entry) (lane l : ℕ) (x : Answer) → Legal p (greeting_entry lane l x ∷ j) → SameActions j (greeting_entry lane l x ∷ j)
+same_actions : (p : Plan) (j : List Entry) (lane l : ℕ) (x : Answer) → Lawful p (greeting_entry lane l x ∷ j) → SameActions j (greeting_entry lane l x ∷ j)
 same_actions p j lane l x legal = record {
   grant = λ a. en.grants_same (greeting_entry lane l x) j a refl;
   commit = λ a b. en.commits_same (greeting_entry lane l x) j a b (λ how k. cc);
   ended_too = λ t. en.quiet_ends_none p (greeting_entry lane l x) j t legal refl;
 }
 
-same_requests : (p : Plan) (j : List Entry) (lane l : ℕ) (x : Answer) → Legal p (greeting_entry lane l x ∷ j) → SameRequests p j (greeting_entry lane l x ∷ j)
+same_requests : (p : Plan) (j : List Entry) (lane l : ℕ) (x : Answer) → Lawful p (greeting_entry lane l x ∷ j) → SameRequests p j (greeting_entry lane l x ∷ j)
 unfolding line_count launch_of line_cause live started was_killed has_ended sends was_sent answered match_of wrote is_pending pending has_cancel
 same_requests p j lane l x legal = record {
   actions = same_actions p j lane l x legal;
@@ -145,11 +148,11 @@ same_requests p j lane l x legal = record {
   cancels_too = λ y. refl;
 }
 
-pub greeting_keeps : (p : Plan) (e : Entry) (j : List Entry) → Legal p (e ∷ j) → e.reply ≡ reply.Greeted → SameRequests p j (e ∷ j)
+pub greeting_keeps : (p : Plan) (e : Entry) (j : List Entry) → Lawful p (e ∷ j) → e.reply ≡ reply.Greeted → SameRequests p j (e ∷ j)
 greeting_keeps p e j legal ir =
     let g = greets_is p j e.lane e.call e.reply (v.entry_ruled p e j legal) ir in
     let same : e ≡ greeting_entry e.lane g.0 g.1 = λ i. record { lane = e.lane; call = g.2 i; reply = ir i } in
-    subst (λ (d : Entry). SameRequests p j (d ∷ j)) (sym same) (same_requests p j e.lane g.0 g.1 (subst (λ (d : Entry). Legal p (d ∷ j)) same legal))
+    subst (λ (d : Entry). SameRequests p j (d ∷ j)) (sym same) (same_requests p j e.lane g.0 g.1 (subst (λ (d : Entry). Lawful p (d ∷ j)) same legal))
 
 -- ---- a line that has greeted
 
@@ -158,19 +161,23 @@ unfolding has_greeted
 greeted_stays e j l h = or_right (greets l e.call e.reply) _ h
 
 -- it is an executor's
-greeted_by : (p : Plan) (j : List Entry) (l : ℕ) → Legal p j → has_greeted j l ≡ true → (w : ℕ) × IsOfBerth j l w × (is_remote (kind_of p w) ≡ true)
+greeted_by : (p : Plan) (j : List Entry) (l : ℕ) → Lawful p j → has_greeted j l ≡ true → (m : ℕ) × (t : Attempt) × (launch_of j l ≡ Some (m, t)) × (is_remote (kind_for p t) ≡ true)
 unfolding has_greeted
 greeted_by p [] l legal h = absurd (cc)
 greeted_by p (e ∷ j) l legal h = elim (or_cases (greets l e.call e.reply) (has_greeted j l) h) [
   | inl here ↦ (let g = greets_call l e.call e.reply here in
       let is = greeting_is p e j l g.0 legal g.1 g.2 in
-      (e.lane / 2, of_berth_more e j l (e.lane / 2) (lines_named p (e ∷ j) legal).1.numbered (own_line p e j l g.0 legal g.1), is.of_executor))
-  | inr before ↦ (let b = greeted_by p j l legal.0 before in (b.0, of_berth_more e j l b.0 (lines_named p (e ∷ j) legal).1.numbered b.1, b.2))
+      let own = own_line p e j l g.0 legal g.1 in
+      let later = of_berth_more e j l (e.lane / 2) (lines_named p (e ∷ j) legal).1.numbered own in
+      let kind = q.kind_is p j l own.owner.0 own.owner.1 own.owner.2 in
+      (own.owner.0, own.owner.1, launch_stays e j l (lines_named p (e ∷ j) legal).1.numbered own.below ∙ own.owner.2, subst (λ (k : Kind). is_remote k ≡ true) kind is.of_executor))
+  | inr before ↦ (let b = greeted_by p j l legal.0 before in
+      (b.0, b.1, q.launch_later p e j l b.0 b.1 legal b.2, b.3))
 ]
 
-pub greeted_remote : (p : Plan) (j : List Entry) (l w : ℕ) → Legal p j → IsOfBerth j l w → has_greeted j l ≡ true → is_remote (kind_of p w) ≡ true
-greeted_remote p j l w legal own h =
-    let b = greeted_by p j l legal h in subst (λ i. is_remote (kind_of p i) ≡ true) (la.berths_same j l b.0 w b.1 own) b.2
+pub greeted_remote : (p : Plan) (j : List Entry) (l : ℕ) → Lawful p j → has_greeted j l ≡ true → is_remote (line_kind p j l) ≡ true
+greeted_remote p j l legal h =
+    let b = greeted_by p j l legal h in subst (λ (k : Kind). is_remote k ≡ true) (sym (q.kind_is p j l b.0 b.1 b.2)) b.3
 
 both_or_one : (a b d : Bool) → (d ≡ true → b ≡ true) → (a || (b && d)) ≡ (a || d)
 both_or_one true b d h = refl
@@ -178,9 +185,9 @@ both_or_one false true d h = refl
 both_or_one false false false h = refl
 both_or_one false false true h = absurd (let k = h refl in cc)
 
--- so for a line of the berth it decides alone, beside the group
-pub may_cancel_is : (p : Plan) (j : List Entry) (l w g : ℕ) → Legal p j → IsOfBerth j l w → r.may_cancel p j w g l ≡ (has_cancellation p g || has_greeted j l)
-may_cancel_is p j l w g legal own = both_or_one (has_cancellation p g) (is_remote (kind_of p w)) (has_greeted j l) (λ h. greeted_remote p j l w legal own h)
+-- so for a line it decides alone, beside the group
+pub may_be_asked_is : (p : Plan) (j : List Entry) (l : ℕ) → Lawful p j → may_be_asked p j l ≡ (has_cancellation p (line_group p j l) || has_greeted j l)
+may_be_asked_is p j l legal = both_or_one (has_cancellation p (line_group p j l)) (is_remote (line_kind p j l)) (has_greeted j l) (λ h. greeted_remote p j l legal h)
 
 -- ---- an executor's line gets a Cancel only once it has greeted
 
@@ -198,22 +205,22 @@ no_cancel gs (Some g) all h = at (slice_get gs g) refl h
     at None is m = absurd (cc)
     at (Some x) is m = false_by _ (λ y. clash _ (and_from _ _ m y) (not_true _ (all_at is_sound_group gs g x all is)))
 
-no_cancellation : (p : Plan) (w : ℕ) → Sound p → is_remote (kind_of p w) ≡ true → has_cancellation p (u.group_at p w) ≡ false
-no_cancellation p w sound h = no_cancel p.groups (berth_group p w) sound.each_group h
+no_cancellation : (p : Plan) (j : List Entry) (l : ℕ) → Sound p → is_remote (line_kind p j l) ≡ true → has_cancellation p (line_group p j l) ≡ false
+no_cancellation p j l sound h = no_cancel p.groups (group_on p j l) sound.each_group h
 
-cancels_on : (p : Plan) (j : List Entry) (lane : ℕ) (d : Call) (x : Reply) (l : ℕ) (n : ℤ) → u.Ruled p j lane d x → x ≡ reply.Cancel l n → r.may_cancel p j (lane / 2) (u.group_at p (lane / 2)) l ≡ true
+cancels_on : (p : Plan) (j : List Entry) (lane : ℕ) (d : Call) (x : Reply) (l : ℕ) (n : ℤ) → u.Ruled p j lane d x → x ≡ reply.Cancel l n → may_be_asked p j l ≡ true
 cancels_on p j lane d x l n (u.Cancels m y here alive may which none) h =
     let on : y.line ≡ m = all_oldest (λ (z : Request). z.line ≡ m) _ y (all_filter (λ (z : Request). z.line ≡ m) (λ z. r.is_unwanted p j z && not (has_cancel j z)) (pending j m) (pending_line j m)) which in
     let same : y.line ≡ l = cc in
-    subst (λ i. r.may_cancel p j (lane / 2) (u.group_at p (lane / 2)) i ≡ true) (sym on ∙ same) may
+    subst (λ i. may_be_asked p j i ≡ true) (sym on ∙ same) may
 cancels_on p j lane d x l n (u.KillsBroken m y here run broken over) h = absurd (cc)
 cancels_on p j lane d x l n (u.Notes k m) h = absurd (cc)
 cancels_on p j lane d x l n _ h = absurd (cc)
 
-pub cancel_greeted : (p : Plan) (e : Entry) (j : List Entry) (l : ℕ) (n : ℤ) → Sound p → Legal p (e ∷ j) → e.reply ≡ reply.Cancel l n → is_remote (kind_of p (e.lane / 2)) ≡ true → has_greeted j l ≡ true
+pub cancel_greeted : (p : Plan) (e : Entry) (j : List Entry) (l : ℕ) (n : ℤ) → Sound p → Lawful p (e ∷ j) → e.reply ≡ reply.Cancel l n → is_remote (line_kind p j l) ≡ true → has_greeted j l ≡ true
 cancel_greeted p e j l n sound legal ir remote =
     let may = cancels_on p j e.lane e.call e.reply l n (v.entry_ruled p e j legal) ir in
-    elim (or_cases (has_cancellation p (u.group_at p (e.lane / 2))) _ may) [
-      | inl group ↦ absurd (clash _ group (no_cancellation p (e.lane / 2) sound remote))
-      | inr line ↦ (and_parts (is_remote (kind_of p (e.lane / 2))) _ line).1
+    elim (or_cases (has_cancellation p (line_group p j l)) _ may) [
+      | inl group ↦ absurd (clash _ group (no_cancellation p j l sound remote))
+      | inr line ↦ (and_parts (is_remote (line_kind p j l)) _ line).1
     ]

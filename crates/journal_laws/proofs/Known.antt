@@ -26,7 +26,7 @@ use Rattle.exec_journal.specs.Words.{answered, wrote, says_done, says_unwritten,
 use Rattle.exec_journal.specs.Attempts.{attempt, ended, begun_in}
 use Rattle.exec_journal.specs.Settled.{is_settled, is_unsuccessful, is_success, by_commit, by_grant, all_dropped, is_starved, standing_after, standings_from, standings, settled, all_settled}
 use Rattle.exec_journal.specs.Outcomes.{outcome_of, outcome_after, grant_outcome, commit_outcome, least_without, lesser, skipped}
-use Rattle.exec_journal.specs.Legal.{Legal}
+use Rattle.exec_journal.specs.Lawful.{Lawful}
 use Rattle.exec_journal.specs.Facts.{begun}
 use Rattle.journal_laws.specs.Invariant.{IsGoing, claimed, claims_it}
 use Rattle.journal_laws.specs.Steps.{is_known, IsGathering}
@@ -42,15 +42,15 @@ use Rattle.journal_laws.proofs.Stops as st
 
 -- ---- attempts under way
 
-pub going_limited : (p : Plan) (j : List Entry) (t : Attempt) → Legal p j → 1 ≤ p.limit → IsGoing j t → t.number ≤ p.limit
+pub going_limited : (p : Plan) (j : List Entry) (t : Attempt) → Lawful p j → 1 ≤ p.limit → IsGoing j t → t.number ≤ p.limit
 going_limited p j t legal least is = let most = (attempts_in_order p j legal).limited t.action t.branch least in let n = is.latest in omega arith
 
 -- what wasn't begun hasn't ended
-pub past_unended : (p : Plan) (j : List Entry) (t : Attempt) → Legal p j → attempt j t.action t.branch < t.number → ended j t ≡ false
+pub past_unended : (p : Plan) (j : List Entry) (t : Attempt) → Lawful p j → attempt j t.action t.branch < t.number → ended j t ≡ false
 past_unended p j t legal lt = false_by _ (λ over. let up = ((attempts_in_order p j legal).numbered t (c.ended_begun p j t legal over)).1 in absurd (omega arith))
 
 -- a match whose Wrote isn't a fault, and that isn't claimed, is under way
-pub match_going : (p : Plan) (j : List Entry) (t : Attempt) → Legal p j → answered j t ≡ true → says_unwritten (wrote j t) ≡ false → says_feed_fault (wrote j t) ≡ false → claimed j t ≡ false → IsGoing j t
+pub match_going : (p : Plan) (j : List Entry) (t : Attempt) → Lawful p j → answered j t ≡ true → says_unwritten (wrote j t) ≡ false → says_feed_fault (wrote j t) ≡ false → claimed j t ≡ false → IsGoing j t
 match_going p j t legal consumed whole fed unclaimed =
     let sent = c.answered_sent p j t legal consumed in
     g.going_is p j t legal (k.sent_begun j t sent) (g.still_going p j t legal sent whole unclaimed
@@ -67,7 +67,7 @@ done_fed (Some write.TooLarge) h = absurd (cc)
 done_fed None h = absurd (cc)
 
 -- so is what is to be gathered: its action isn't settled, and its branch is wanted
-pub gathers_going : (p : Plan) (e : Entry) (j : List Entry) (t : Attempt) → Legal p (e ∷ j) → gather_in e.reply ≡ Some t → IsGathering p j t
+pub gathers_going : (p : Plan) (e : Entry) (j : List Entry) (t : Attempt) → Lawful p (e ∷ j) → gather_in e.reply ≡ Some t → IsGathering p j t
 gathers_going p e j t legal h =
     let ga = c.gather_is p j e.lane e.call e.reply t (v.entry_ruled p e j legal) h in
     let unclaimed : claimed j t ≡ false = false_by _ (λ old. clash _ (c.claimed_gathered p j t legal.0 old) ga.ungathered) in
@@ -75,7 +75,7 @@ gathers_going p e j t legal h =
     record { under_way = is; unsettled = f.going_unsettled p j t legal.0 is ga.ungranted; wish = f.going_wanted p j t legal.0 is ∙ rw ga.ungranted refl }
 
 -- a Claim comes on no action that is settled without a grant
-pub claims_unsettled : (p : Plan) (e : Entry) (j : List Entry) (t : Attempt) → Legal p (e ∷ j) → claims_it t e.call ≡ true → granted j t.action ≡ false → settled p j t.action ≡ false
+pub claims_unsettled : (p : Plan) (e : Entry) (j : List Entry) (t : Attempt) → Lawful p (e ∷ j) → claims_it t e.call ≡ true → granted j t.action ≡ false → settled p j t.action ≡ false
 claims_unsettled p e j t legal h free = f.going_unsettled p j t legal.0 (g.claimable p e j t legal h).under_way free
 
 -- ---- the outcome of a settled action is known
@@ -172,13 +172,13 @@ all_follow (x ∷ xs) (y ∷ ys) same fol h =
 all_follow [] (y ∷ ys) same fol h = absurd (omega arith)
 all_follow (x ∷ xs) [] same fol h = absurd (omega arith)
 
-pub all_settled_stays : (p : Plan) (e : Entry) (j : List Entry) → Legal p (e ∷ j) → all_settled p j ≡ true → all_settled p (e ∷ j) ≡ true
+pub all_settled_stays : (p : Plan) (e : Entry) (j : List Entry) → Lawful p (e ∷ j) → all_settled p j ≡ true → all_settled p (e ∷ j) ≡ true
 unfolding all_settled standings
 all_settled_stays p e j legal h =
     all_follow (standings_from p j [] p.actions) (standings_from p (e ∷ j) [] p.actions) (standings_length p j p.actions [] ∙ sym (standings_length p (e ∷ j) p.actions [])) (f.standings_follow p e j legal) h
 
 -- where a lane was told to stop, and none has halted, all actions are settled from then on
-pub stopped_settled : (p : Plan) (j : List Entry) (lane : ℕ) → Legal p j → stopped j lane ≡ true → halted j ≡ false → all_settled p j ≡ true
+pub stopped_settled : (p : Plan) (j : List Entry) (lane : ℕ) → Lawful p j → stopped j lane ≡ true → halted j ≡ false → all_settled p j ≡ true
 unfolding stopped halted
 stopped_settled p [] lane legal h none = absurd (cc)
 stopped_settled p (e ∷ j) lane legal h none = all_settled_stays p e j legal (by (or_cases ((e.lane == lane) && is_stop e.reply) _ h) (λ y. stopped_settled p j lane legal.0 y before))
@@ -203,7 +203,7 @@ pub none_begins : (e : Entry) (j : List Entry) (a : ℕ) (b : Branch) → begun_
 none_begins e j a b h = attempt_other e j a b (st.no_number e a b None h (λ s g. absurd (cc)))
 
 -- so they do at the Send of a bound branch
-pub again_same : (p : Plan) (e : Entry) (j : List Entry) (s : Attempt) → Legal p (e ∷ j) → begun_in e.reply ≡ Some s → begun j s ≡ true → (a : ℕ) (b : Branch) → attempt (e ∷ j) a b ≡ attempt j a b
+pub again_same : (p : Plan) (e : Entry) (j : List Entry) (s : Attempt) → Lawful p (e ∷ j) → begun_in e.reply ≡ Some s → begun j s ≡ true → (a : ℕ) (b : Branch) → attempt (e ∷ j) a b ≡ attempt j a b
 again_same p e j s legal is start a b =
     by_bool (is_branch_of a b s) (λ z. is_branch_of a b s ≡ z → attempt (e ∷ j) a b ≡ attempt j a b)
     (λ _ same. mine same (st.begins_it j e.reply s (begin_in_order p (e ∷ j) legal).1 is))

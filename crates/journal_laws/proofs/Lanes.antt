@@ -3,6 +3,7 @@ use Rattle.std.proofs.Common.{◌≡◌, ℕ, ◌/◌, ◌%◌, ◌==◌, Bool, 
 use Rattle.std.specs.List.{filter, find}
 use Rattle.std.specs.Ordering.{int_eq}
 use Rattle.std.proofs.lemmas.Bool.{eqb-true, eq-eqb, and_parts, and_from, or_cases, or_left, or_right}
+use Rattle.run_plan.specs.declared.plan.Kind.TheVariants as kind
 use Rattle.run_plan.specs.declared.plan.Plan.{Plan}
 use Rattle.run_plan.specs.declared.plan.Kind.{Kind}
 use Rattle.exec_journal.specs.declared.attempt.Attempt.{Attempt}
@@ -19,14 +20,16 @@ use Rattle.exec_journal.specs.declared.reply.Reply.{Reply}
 use Rattle.exec_journal.specs.declared.reply.Reply.TheVariants as reply
 use Rattle.exec_journal.specs.Entries.{Request, attempt_of, same_attempt, send_in, orders_kill, kills, send_of_entry}
 use Rattle.exec_journal.specs.Words.{last_work, last_line, sends, sent_on, pending, is_pending, kill_ordered, was_killed, order_of, live, started, broke}
-use Rattle.run_plan.specs.Groups.{kind_of, is_single}
+use Rattle.run_plan.specs.Groups.{is_single}
+use Rattle.exec_journal.specs.Seated.{line_kind}
 use Rattle.exec_journal.specs.Rules as r
+use Rattle.exec_journal.specs.Lawful as lw
 use Rattle.exec_journal.specs.Scripts as sc
-use Rattle.exec_journal.specs.Legal.{Legal}
+use Rattle.exec_journal.specs.Lawful.{Lawful}
 use Rattle.exec_journal.specs.Facts.{reply_line, IsOfBerth, OfBerth}
 use Rattle.journal_laws.specs.Invariant.{NumberedAs, EachRequest}
 use Rattle.journal_laws.specs.Steps.{KnownByNumber, KillsOnce}
-use Rattle.exec_journal.proofs.Ruled as u
+use Rattle.exec_journal.proofs.Reasons as u
 use Rattle.exec_journal.proofs.Ruled.{by_bool, not_true}
 use Rattle.exec_journal.proofs.Lines.{last_line_own, last_work_own, WorkOwn, lines_named}
 use Rattle.exec_journal.proofs.Begins.{begin_in_order, same_attempt_refl}
@@ -41,8 +44,8 @@ use Rattle.journal_laws.proofs.Offered as of
 
 -- ---- an Ask is made by a proxy lane
 
-pub asks_even : (p : Plan) (e : Entry) (j : List Entry) → Legal p (e ∷ j) → e.call ≡ call.Ask → ((e.lane % 2 == 0) ≡ true) × (sc.may_ask (last_work j e.lane) ≡ true)
-asks_even p e j legal is = elim (o.scripted p j e.lane call.Ask (subst (λ (d : Call). sc.script p j e.lane d ≡ true) is legal.1.scripted)) [
+pub asks_even : (p : Plan) (e : Entry) (j : List Entry) → Lawful p (e ∷ j) → e.call ≡ call.Ask → ((e.lane % 2 == 0) ≡ true) × (sc.may_ask (last_work j e.lane) ≡ true)
+asks_even p e j legal is = elim (o.scripted p j e.lane call.Ask refl (subst (λ (d : Call). lw.in_script p j e.lane d ≡ true) is legal.1.scripted)) [
   | inl owes ↦ absurd (cc)
   | inr may ↦ and_parts (e.lane % 2 == 0) _ may
 ]
@@ -63,14 +66,15 @@ orders_ask p j lane d x (u.KillsUnwanted l here run one none unwanted over) h = 
 orders_ask p j lane d x (u.Gathers l n a b t e v next over) h = refl
 orders_ask p j lane d x (u.Cancels l y here alive may which none) h = refl
 orders_ask p j lane d x (u.Sends l t here alive next none) h = refl
-orders_ask p j lane d x (u.Launches t vacant full next none) h = refl
+orders_ask p j lane d x (u.Evicts l here alive empty free none) h = refl
+orders_ask p j lane d x (u.Launches gr t vacant next none) h = refl
 orders_ask p j lane d x _ h = absurd (cc)
 
-pub order_asked : (p : Plan) (e : Entry) (j : List Entry) → Legal p (e ∷ j) → is_order e.reply ≡ true → e.call ≡ call.Ask
+pub order_asked : (p : Plan) (e : Entry) (j : List Entry) → Lawful p (e ∷ j) → is_order e.reply ≡ true → e.call ≡ call.Ask
 order_asked p e j legal h = orders_ask p j e.lane e.call e.reply (v.entry_ruled p e j legal) h
 
 -- the lane of an order is a proxy lane
-pub newest_even : (p : Plan) (j : List Entry) (lane : ℕ) (d : Entry) → Legal p j → last_work j lane ≡ Some d → is_order d.reply ≡ true → (lane % 2 == 0) ≡ true
+pub newest_even : (p : Plan) (j : List Entry) (lane : ℕ) (d : Entry) → Lawful p j → last_work j lane ≡ Some d → is_order d.reply ≡ true → (lane % 2 == 0) ≡ true
 unfolding last_work
 newest_even p [] lane d legal h y = absurd (cc)
 newest_even p (e ∷ j) lane d legal h y = by (o.newest_cases e j lane d h) (λ m. newest_even p j lane d legal.0 m y)
@@ -85,7 +89,7 @@ pub one_proxy : (m n : ℕ) → (m % 2 == 0) ≡ true → (n % 2 == 0) ≡ true 
 one_proxy m n a b same = let x = eqb-true (m % 2) 0 a in let y = eqb-true (n % 2) 0 b in omega arith
 
 -- the line that a lane's newest order names is its own
-pub newest_own_line : (p : Plan) (j : List Entry) (lane l : ℕ) (d : Entry) → Legal p j → last_work j lane ≡ Some d → reply_line d.reply ≡ Some l → IsOfBerth j l (lane / 2)
+pub newest_own_line : (p : Plan) (j : List Entry) (lane l : ℕ) (d : Entry) → Lawful p j → last_work j lane ≡ Some d → reply_line d.reply ≡ Some l → IsOfBerth j l (lane / 2)
 newest_own_line p j lane l d legal h is =
     let own : WorkOwn j (Some d) (lane / 2) = subst (λ (x : Option Entry). WorkOwn j x (lane / 2)) h (last_work_own lane j (lines_named p j legal)) in
     subst (λ (x : Option ℕ). OfBerth j x (lane / 2)) is own.1
@@ -97,7 +101,7 @@ berths_same j l w z a b =
     let n : a.owner.0 ≡ b.owner.0 = ap (λ (x : ℕ × Attempt). x.0) pair in
     sym a.owner.3 ∙ ap (λ x. x / 2) n ∙ b.owner.3
 
-pub here_own : (p : Plan) (j : List Entry) (w l : ℕ) → Legal p j → last_line j w ≡ Some l → IsOfBerth j l w
+pub here_own : (p : Plan) (j : List Entry) (w l : ℕ) → Lawful p j → last_line j w ≡ Some l → IsOfBerth j l w
 here_own p j w l legal h = subst (λ (x : Option ℕ). OfBerth j x w) h (last_line_own w j (lines_named p j legal))
 
 -- ---- Killed answers Kill at once
@@ -125,6 +129,7 @@ after_kill p n l call.Take m y lane c at h w = absurd (cc)
 after_kill p n l (call.Answer i a) m y lane c at h w = absurd (cc)
 after_kill p n l (call.Ended i how) m y lane c at h w = absurd (cc)
 after_kill p n l call.Halt m y lane c at h w = absurd (cc)
+after_kill p n l call.Tick m y lane c at h w = absurd (cc)
 after_kill p n l (call.Launched i how) m y lane c at h w = absurd (cc)
 after_kill p n l (call.Wrote i o how) m y lane c at h w = absurd (cc)
 after_kill p n l (call.Claim a b t f) m y lane c at h w = absurd (cc)
@@ -141,6 +146,7 @@ no_commit_of_kill l (call.Committed a b how) e h g = (let x = commit_grants a b 
 no_commit_of_kill l call.Ask e h g = cc
 no_commit_of_kill l call.Take e h g = cc
 no_commit_of_kill l call.Halt e h g = cc
+no_commit_of_kill l call.Tick e h g = cc
 no_commit_of_kill l (call.Look x) e h g = cc
 no_commit_of_kill l (call.Launched i how) e h g = cc
 no_commit_of_kill l (call.Wrote i n how) e h g = cc
@@ -149,13 +155,22 @@ no_commit_of_kill l (call.Killed i) e h g = cc
 no_commit_of_kill l (call.Answer i a) e h g = cc
 no_commit_of_kill l (call.Ended i how) e h g = cc
 
+-- after a Kill a lane may not ask
+kill_asks : (l : ℕ) (e : Entry) → orders_kill l e.reply ≡ true → sc.may_ask (Some e) ≡ true → ⊥
+kill_asks l e h ask = by e.reply h ask
+  where
+    by : (x : Reply) → orders_kill l x ≡ true → sc.may_ask_after e.call x ≡ true → ⊥
+    by (reply.Kill m y) a b = cc
+    by _ a b = cc
+
 -- the lane's next work after a Kill
-pub kills_next : (p : Plan) (e : Entry) (j : List Entry) (l : ℕ) (d : Entry) → Legal p (e ∷ j) → last_work j e.lane ≡ Some d → is_kill l d ≡ true → is_work e.call ≡ true → kills l e.call ≡ true
+pub kills_next : (p : Plan) (e : Entry) (j : List Entry) (l : ℕ) (d : Entry) → Lawful p (e ∷ j) → last_work j e.lane ≡ Some d → is_kill l d ≡ true → is_work e.call ≡ true → kills l e.call ≡ true
 kills_next p e j l d legal at h w =
     let even = newest_even p j e.lane d legal.0 at (kill_line l d.reply h).1 in
-    elim (o.scripted p j e.lane e.call legal.1.scripted) [
-      | inl owes ↦ absurd (no_commit_of_kill l e.call d h (subst (λ (x : Option Entry). sc.is_owed_commit e.call x ≡ true) at owes))
-      | inr may ↦ kill_entry p (kind_of p (e.lane / 2)) l e.call d h (subst (λ b. sc.allowed p (kind_of p (e.lane / 2)) b (Some d) e.call ≡ true) even (subst (λ (x : Option Entry). sc.allowed p (kind_of p (e.lane / 2)) (e.lane % 2 == 0) x e.call ≡ true) at may)) w
+    elim (o.scripts p j e.lane e.call legal.1.scripted) [
+      | o.Owes owes ↦ absurd (no_commit_of_kill l e.call d h (subst (λ (x : Option Entry). sc.is_owed_commit e.call x ≡ true) at owes))
+      | o.Ticks is proxy ask ↦ absurd (kill_asks l d h (subst (λ (x : Option Entry). sc.may_ask x ≡ true) at ask))
+      | o.May may ↦ kill_entry p kind.Single l e.call d h (subst (λ b. sc.allowed p kind.Single b (Some d) e.call ≡ true) even (subst (λ (x : Option Entry). sc.allowed p kind.Single (e.lane % 2 == 0) x e.call ≡ true) at may)) w
     ]
 
 -- a line that was ordered to be killed was killed, or its lane still owes that
@@ -171,7 +186,7 @@ killed_here : (e : Entry) (j : List Entry) (l : ℕ) → kills l e.call ≡ true
 unfolding was_killed
 killed_here e j l h = or_left (kills l e.call) _ h
 
-pub kill_is : (p : Plan) (j : List Entry) (l : ℕ) → Legal p j → kill_ordered j l ≡ true → KillIs j l
+pub kill_is : (p : Plan) (j : List Entry) (l : ℕ) → Lawful p j → kill_ordered j l ≡ true → KillIs j l
 unfolding kill_ordered
 kill_is p [] l legal h = absurd (cc)
 kill_is p (e ∷ j) l legal h = by (or_cases (is_kill l e) (kill_ordered j l) h) (λ y. kill_is p j l legal.0 y)
@@ -191,7 +206,7 @@ kill_is p (e ∷ j) l legal h = by (or_cases (is_kill l e) (kill_ordered j l) h)
     by (inr before) ih = more (ih before)
 
 -- a lane that asks owes no Killed: so a line of its berth that was ordered to be killed was killed
-pub asked_killed : (p : Plan) (e : Entry) (j : List Entry) (l : ℕ) → Legal p (e ∷ j) → e.call ≡ call.Ask → IsOfBerth j l (e.lane / 2) → kill_ordered j l ≡ true → was_killed j l ≡ true
+pub asked_killed : (p : Plan) (e : Entry) (j : List Entry) (l : ℕ) → Lawful p (e ∷ j) → e.call ≡ call.Ask → IsOfBerth j l (e.lane / 2) → kill_ordered j l ≡ true → was_killed j l ≡ true
 asked_killed p e j l legal ask own h = by (kill_is p j l legal.0 h)
   where
     by : KillIs j l → was_killed j l ≡ true
@@ -211,14 +226,20 @@ asked_killed p e j l legal ask own h = by (kill_is p j l legal.0 h)
 runs_unkilled : (j : List Entry) (l : ℕ) → r.runs j l ≡ true → was_killed j l ≡ false
 runs_unkilled j l h = not_true _ (and_parts (started j l) _ h).1
 
+live_runs : (j : List Entry) (l : ℕ) → live j l ≡ true → r.runs j l ≡ true
+unfolding live
+live_runs j l h =
+    let up = and_parts (started j l) _ h in and_from _ _ up.0 (and_parts (not (broke j l)) _ up.1).1
+
 kill_runs : (p : Plan) (j : List Entry) (lane l : ℕ) (d : Call) (x : Reply) → u.Ruled p j lane d x → orders_kill l x ≡ true → (last_line j (lane / 2) ≡ Some l) × (r.runs j l ≡ true)
 kill_runs p j lane l d x (u.Quits i here run over) h = let n = eqb-true i l h in (subst (λ m. last_line j (lane / 2) ≡ Some m) n here, subst (λ m. r.runs j m ≡ true) n run)
 kill_runs p j lane l d x (u.KillsBroken i y here run broken over) h = let n = eqb-true i l h in (subst (λ m. last_line j (lane / 2) ≡ Some m) n here, subst (λ m. r.runs j m ≡ true) n run)
 kill_runs p j lane l d x (u.KillsUnwanted i here run one none unwanted over) h = let n = eqb-true i l h in (subst (λ m. last_line j (lane / 2) ≡ Some m) n here, subst (λ m. r.runs j m ≡ true) n run)
+kill_runs p j lane l d x (u.Evicts i here alive empty free none) h = let n = eqb-true i l h in (subst (λ m. last_line j (lane / 2) ≡ Some m) n here, subst (λ m. r.runs j m ≡ true) n (live_runs j i alive))
 kill_runs p j lane l d x _ h = absurd (cc)
 
 -- a line is ordered to be killed once, while it runs
-pub kills_once : (p : Plan) (e : Entry) (j : List Entry) (l : ℕ) → Legal p (e ∷ j) → orders_kill l e.reply ≡ true → KillsOnce j e l
+pub kills_once : (p : Plan) (e : Entry) (j : List Entry) (l : ℕ) → Lawful p (e ∷ j) → orders_kill l e.reply ≡ true → KillsOnce j e l
 kills_once p e j l legal h =
     let k = kill_runs p j e.lane l e.call e.reply (v.entry_ruled p e j legal) h in
     let ask = order_asked p e j legal (kill_line l e.reply h).1 in
@@ -229,7 +250,7 @@ kills_once p e j l legal h =
     }
 
 -- nothing is sent to a line that was ordered to be killed
-pub sends_unordered : (p : Plan) (e : Entry) (j : List Entry) (x : Request) → Legal p (e ∷ j) → send_in e.reply ≡ Some x → kill_ordered j x.line ≡ false
+pub sends_unordered : (p : Plan) (e : Entry) (j : List Entry) (x : Request) → Lawful p (e ∷ j) → send_in e.reply ≡ Some x → kill_ordered j x.line ≡ false
 unfolding live
 sends_unordered p e j x legal h =
     let to = q.sends_to p j e.lane x.line e.call e.reply x (v.entry_ruled p e j legal) h refl in
@@ -244,7 +265,7 @@ send_line (reply.Send l n a b t) y h = let e : record { line = l; number = n; at
 send_line _ y h = absurd (cc)
 
 -- it is the last that was sent on its line
-pub newest_head : (p : Plan) (j : List Entry) (lane : ℕ) (d : Entry) (x : Request) → Legal p j → last_work j lane ≡ Some d → send_in d.reply ≡ Some x → r.head (sends j x.line) ≡ Some x
+pub newest_head : (p : Plan) (j : List Entry) (lane : ℕ) (d : Entry) (x : Request) → Lawful p j → last_work j lane ≡ Some d → send_in d.reply ≡ Some x → r.head (sends j x.line) ≡ Some x
 unfolding last_work
 newest_head p [] lane d x legal h y = absurd (cc)
 newest_head p (e ∷ j) lane d x legal h y = by (o.newest_cases e j lane d h) (λ m. newest_head p j lane d x legal.0 m y)
@@ -295,16 +316,16 @@ wrote_names p i l n how e x h g = by e.reply h g
         ]
     by _ y k = absurd (cc)
 
-pub writes_request : (p : Plan) (e : Entry) (j : List Entry) (l : ℕ) (n : ℤ) (how : Written) (x : Request) → Legal p (e ∷ j) → e.call ≡ call.Wrote l n how → order_of j e.lane ≡ Some x → WritesRequest j e.lane l n x
-writes_request p e j l n how x legal is h = by (last_work j e.lane) refl h (o.scripted p j e.lane (call.Wrote l n how) (subst (λ (d : Call). sc.script p j e.lane d ≡ true) is legal.1.scripted))
+pub writes_request : (p : Plan) (e : Entry) (j : List Entry) (l : ℕ) (n : ℤ) (how : Written) (x : Request) → Lawful p (e ∷ j) → e.call ≡ call.Wrote l n how → order_of j e.lane ≡ Some x → WritesRequest j e.lane l n x
+writes_request p e j l n how x legal is h = by (last_work j e.lane) refl h (o.scripted p j e.lane (call.Wrote l n how) refl (subst (λ (d : Call). lw.in_script p j e.lane d ≡ true) is legal.1.scripted))
   where
     by : (z : Option Entry) → last_work j e.lane ≡ z → send_of_entry z ≡ Some x
-        → (sc.is_owed_commit (call.Wrote l n how) (last_work j e.lane) ≡ true) ⊎ (sc.allowed p (kind_of p (e.lane / 2)) (e.lane % 2 == 0) (last_work j e.lane) (call.Wrote l n how) ≡ true) → WritesRequest j e.lane l n x
+        → (sc.is_owed_commit (call.Wrote l n how) (last_work j e.lane) ≡ true) ⊎ (sc.allowed p kind.Single (e.lane % 2 == 0) (last_work j e.lane) (call.Wrote l n how) ≡ true) → WritesRequest j e.lane l n x
     by None at g s = absurd (cc)
     by (Some d) at g (inl a) = absurd (cc)
     by (Some d) at g (inr b) =
         let owed = (and_parts (e.lane % 2 == 0) _ b).1 in
-        let named = wrote_names p (kind_of p (e.lane / 2)) l n how d x g (subst (λ (z : Option Entry). sc.is_owed_after p (kind_of p (e.lane / 2)) (call.Wrote l n how) z ≡ true) at owed) in
+        let named = wrote_names p kind.Single l n how d x g (subst (λ (z : Option Entry). sc.is_owed_after p kind.Single (call.Wrote l n how) z ≡ true) at owed) in
         record { order = d; newest = at; sends_it = g; line = named.0; number = named.1 }
 
 find_head : (test : Request → Bool) (qs : List Request) (x : Request) → r.head qs ≡ Some x → test x ≡ true → find test qs ≡ Some x
@@ -312,7 +333,7 @@ find_head test [] x h y = absurd (cc)
 find_head test (w ∷ qs) x h y = let e : w ≡ x = cc in rw (subst (λ z. test z ≡ true) (sym e) y) h
 
 -- so its request is known by them
-pub known_by_write : (p : Plan) (e : Entry) (j : List Entry) (l : ℕ) (n : ℤ) (how : Written) (x : Request) → Legal p (e ∷ j) → e.call ≡ call.Wrote l n how → order_of j e.lane ≡ Some x → KnownByNumber j l n x.attempt
+pub known_by_write : (p : Plan) (e : Entry) (j : List Entry) (l : ℕ) (n : ℤ) (how : Written) (x : Request) → Lawful p (e ∷ j) → e.call ≡ call.Wrote l n how → order_of j e.lane ≡ Some x → KnownByNumber j l n x.attempt
 unfolding pending
 known_by_write p e j l n how x legal is h =
     let it = writes_request p e j l n how x legal is h in
@@ -322,7 +343,7 @@ known_by_write p e j l n how x legal is h =
     let facts = q.line_facts p j l (e.lane / 2) legal.0 own in
     let on = of.all_head_of (k.IsSentOn j l) (sends j l) x (k.sends_on j l (begin_in_order p j legal.0)) head in
     record {
-      here = by_bool (is_single (kind_of p (e.lane / 2))) (λ b. is_single (kind_of p (e.lane / 2)) ≡ b → EachRequest (λ w. same_attempt x.attempt w.attempt ≡ int_eq w.number n) (filter (is_pending j) (sends j l)))
+      here = by_bool (is_single (line_kind p j l)) (λ b. is_single (line_kind p j l) ≡ b → EachRequest (λ w. same_attempt x.attempt w.attempt ≡ int_eq w.number n) (filter (is_pending j) (sends j l)))
           (λ _ one. of.only_head (is_pending j) (sends j l) x _ (facts.closed one) head (same_attempt_refl x.attempt ∙ sym it.number))
           (λ _ many. of.each_filter _ (is_pending j) (sends j l) (of.by_number (sends j l) n x (subst (λ b. NumberedAs b (sends j l)) many facts.numbers) (of.distinct p j l legal.0) (find_head (λ y. int_eq y.number n) (sends j l) x head it.number)))
           refl;

@@ -10,6 +10,8 @@ pub mod Firm
 pub mod Requests
 pub mod Vacant
 pub mod Keeping
+pub mod Ours
+pub mod Berths
 pub mod Stops
 pub mod Endings
 pub mod Offered
@@ -18,6 +20,7 @@ pub mod Counted
 pub mod Taps
 pub mod Cleaned
 pub mod Known
+pub mod Finishing
 pub mod Places
 pub mod Exactly
 pub mod Cancels

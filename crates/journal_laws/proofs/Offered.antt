@@ -10,6 +10,7 @@ use Rattle.std.proofs.lemmas.List.Sums.{sum_by-cons}
 use Rattle.run_plan.specs.declared.plan.Branch.{Branch}
 use Rattle.run_plan.specs.declared.plan.Group.{Group}
 use Rattle.run_plan.specs.declared.plan.Plan.{Plan}
+use Rattle.exec_journal.specs.Seated.{line_kind}
 use Rattle.exec_journal.specs.declared.attempt.Attempt.{Attempt}
 use Rattle.exec_journal.specs.declared.journal.Entry.{Entry}
 use Rattle.exec_journal.specs.declared.call.Answer.{Answer}
@@ -29,15 +30,16 @@ use Rattle.run_plan.specs.Groups.{group_from, berth_group, berths, group_of, kin
 use Rattle.exec_journal.specs.Rules as r
 use Rattle.exec_journal.specs.Rules.{is_unwanted}
 use Rattle.exec_journal.specs.Race.{commits, committed}
+use Rattle.exec_journal.specs.Lawful as lw
 use Rattle.exec_journal.specs.Scripts as sc
-use Rattle.exec_journal.specs.Legal.{Legal}
+use Rattle.exec_journal.specs.Lawful.{Lawful}
 use Rattle.exec_journal.specs.Facts.{begun, call_line, IsOfBerth, OfBerth, BeginsNext, ContinuesOn}
 use Rattle.journal_laws.specs.Invariant.{IsGoing, NumberedAs, older, EachRequest}
 use Rattle.journal_laws.specs.Steps.{BeginsOne, IsUngranted, IsGrantedFiles, WantedFollows, BoundIsCarried, IsFreshSend, KnownByNumber, IsPastAttempt, WantedUnlessGranted}
 use Rattle.exec_journal.proofs.Histories.{AllOf, all_filter, all_head, all_find}
-use Rattle.exec_journal.proofs.Ruled as u
+use Rattle.exec_journal.proofs.Reasons as u
 use Rattle.exec_journal.proofs.Ruled.{by_bool, not_true}
-use Rattle.exec_journal.proofs.Lines.{lines_named}
+use Rattle.exec_journal.proofs.Lines.{last_line_own, lines_named}
 use Rattle.exec_journal.proofs.Begins.{same_attempt_eq, same_attempt_refl, begin_in_order, attempts_in_order, bound_is, wanted_is}
 use Rattle.journal_laws.proofs.Owed as o
 use Rattle.journal_laws.proofs.Owed.{is_send}
@@ -58,11 +60,11 @@ use Rattle.exec_journal.proofs.Begins as bg
 
 begins_ask : (p : Plan) (j : List Entry) (lane : ℕ) (d : Call) (x : Reply) (t : Attempt) → u.Ruled p j lane d x → begun_in x ≡ Some t → d ≡ call.Ask
 begins_ask p j lane d x t (u.Sends l s here alive next none) h = refl
-begins_ask p j lane d x t (u.Launches s vacant full next none) h = refl
+begins_ask p j lane d x t (u.Launches gr s vacant next none) h = refl
 begins_ask p j lane d x t (u.KillsBroken l y here run broken over) h = absurd (cc)
 begins_ask p j lane d x t _ h = absurd (cc)
 
-pub begins_one : (p : Plan) (e : Entry) (j : List Entry) (t : Attempt) → Legal p (e ∷ j) → begun_in e.reply ≡ Some t → begun j t ≡ false → BeginsOne j e t
+pub begins_one : (p : Plan) (e : Entry) (j : List Entry) (t : Attempt) → Lawful p (e ∷ j) → begun_in e.reply ≡ Some t → begun j t ≡ false → BeginsOne j e t
 begins_one p e j t legal h new = record {
   begins = h;
   next = next_of (st.begins_it j e.reply t (begin_in_order p (e ∷ j) legal).1 h);
@@ -104,7 +106,7 @@ uncommitted_is j a b h = by (commit_of j a b) refl
     by None is = refl
     by (Some how) is = absurd (clash (committed j a) (commit_committed j a b how is) h)
 
-pub is_ungranted : (p : Plan) (e : Entry) (j : List Entry) (y : Attempt × Found) → Legal p (e ∷ j) → granted_in e.call e.reply ≡ Some y → IsUngranted j y.0.action
+pub is_ungranted : (p : Plan) (e : Entry) (j : List Entry) (y : Attempt × Found) → Lawful p (e ∷ j) → granted_in e.call e.reply ≡ Some y → IsUngranted j y.0.action
 is_ungranted p e j y legal h =
     let free = g.grant_is_first p e j y legal h in
     record {
@@ -117,7 +119,7 @@ unfolding grant_of
 grant_new e j y h none = rw (h, eq-eqb y.0.action y.0.action refl, none) refl
 
 -- the grant that a lane answers with a Committed is the action's
-newest_grant : (p : Plan) (j : List Entry) (lane : ℕ) (d : Entry) (y : Attempt × Found) → Legal p j → last_work j lane ≡ Some d → granted_in d.call d.reply ≡ Some y → grant_of j y.0.action ≡ Some y
+newest_grant : (p : Plan) (j : List Entry) (lane : ℕ) (d : Entry) (y : Attempt × Found) → Lawful p j → last_work j lane ≡ Some d → granted_in d.call d.reply ≡ Some y → grant_of j y.0.action ≡ Some y
 unfolding last_work
 newest_grant p [] lane d y legal h is = absurd (cc)
 newest_grant p (e ∷ j) lane d y legal h is = by (o.newest_cases e j lane d h) (λ m. newest_grant p j lane d y legal.0 m is)
@@ -136,9 +138,9 @@ files_of a b (call.Claim m n t (found.Files fs)) reply.Granted h =
     (t, fs, (λ z. Some (attempt_of (i z) (w z) t, found.Files fs)))
 files_of a b _ _ h = absurd (cc)
 
-pub is_granted_files : (p : Plan) (e : Entry) (j : List Entry) (a : ℕ) (b : Branch) (how : CommitEnd) → Legal p (e ∷ j) → e.call ≡ call.Committed a b how → IsGrantedFiles j a b
+pub is_granted_files : (p : Plan) (e : Entry) (j : List Entry) (a : ℕ) (b : Branch) (how : CommitEnd) → Lawful p (e ∷ j) → e.call ≡ call.Committed a b how → IsGrantedFiles j a b
 is_granted_files p e j a b how legal is =
-    let answer = o.commit_answers p j e.lane a b how (subst (λ (x : Call). sc.script p j e.lane x ≡ true) is legal.1.scripted) in
+    let answer = o.commit_answers p j e.lane a b how (subst (λ (x : Call). lw.in_script p j e.lane x ≡ true) is legal.1.scripted) in
     let won = files_of a b answer.order.call answer.order.reply answer.fits in
     record {
       number = won.0;
@@ -149,7 +151,7 @@ is_granted_files p e j a b how legal is =
 
 -- ---- wanted and bound
 
-pub wanted_follows : (p : Plan) (e : Entry) (j : List Entry) → Legal p (e ∷ j) → WantedFollows p j e
+pub wanted_follows : (p : Plan) (e : Entry) (j : List Entry) → Lawful p (e ∷ j) → WantedFollows p j e
 wanted_follows p e j legal = record {
   unwanted = λ a b h. false_by _ (λ y. clash (wanted p j a b) (f.wanted_before p e j a b legal y) h);
   bound_yet = λ l t h free going. (let b = bound_is p j l t h in
@@ -158,7 +160,7 @@ wanted_follows p e j legal = record {
       f.going_wanted p (e ∷ j) t legal is ∙ rw free refl);
 }
 
-pub bound_carried : (p : Plan) (j : List Entry) → Legal p j → BoundIsCarried p j
+pub bound_carried : (p : Plan) (j : List Entry) → Lawful p j → BoundIsCarried p j
 bound_carried p j legal = record {
   carrier = λ l t h. (let b = bound_is p j l t h in (k.are_carried j (begin_in_order p j legal)).launched l b.lane t b.launched);
   unanswered = λ l t h. (let b = bound_is p j l t h in false_by _ (λ y. clash (was_sent j t) (c.answered_sent p j t legal y) b.unsent));
@@ -166,32 +168,13 @@ bound_carried p j legal = record {
 
 -- ---- a Send
 
-group_of_berth : (n : ℕ) (gs : List Group) (w : ℕ) → w < sum_by (λ x. x.berths) gs → (m : ℕ) × (group_from n gs w ≡ Some m)
-group_of_berth n [] w lt = absurd (omega arith)
-group_of_berth n (x ∷ xs) w lt =
-    by_bool (nat_lt w x.berths) (λ b. nat_lt w x.berths ≡ b → (m : ℕ) × (cond b (Some n) (group_from (n + 1) xs (w - x.berths)) ≡ Some m))
-    (λ _ _. (n, refl)) (λ _ above. group_of_berth (n + 1) xs (w - x.berths) (let le = ltb-false w x.berths above in let s = sum_by-cons (λ (y : Group). y.berths) x xs in omega (arith, s))) refl
-
-pub lane_of_plan : (p : Plan) (j : List Entry) (lane : ℕ) (d : Call) → sc.script p j lane d ≡ true → lane / 2 < berths p
-lane_of_plan p j lane d h = let lt = ltb-true lane (2 * berths p) (and_parts (nat_lt lane (2 * berths p)) _ h).0 in omega arith
-
-berth_group_is : (p : Plan) (w : ℕ) → w < berths p → berth_group p w ≡ Some (u.group_at p w)
-berth_group_is p w lt = let m = group_of_berth 0 p.groups w lt in by (berth_group p w) m.1
-  where
-    by : (z : Option ℕ) {n : ℕ} → z ≡ Some n → z ≡ Some (unwrap_or z 0)
-    by (Some i) h = refl
-    by None h = absurd (cc)
-
-pub runs_in_group : (p : Plan) (t : Attempt) (w : ℕ) → ke.RunsIn p t (u.group_at p w) → w < berths p → option_and_then (λ x. group_of x t.branch) (slice_get p.actions t.action) ≡ berth_group p w
-runs_in_group p t w runs lt = rw runs.place (runs.runs ∙ sym (berth_group_is p w lt))
-
 carried_on : (j : List Entry) (t : Attempt) (l : ℕ) → k.AreCarried j → BeginsNext j t ⊎ ContinuesOn j l t → (m : ℕ) → line_of j t ≡ Some m → m ≡ l
 carried_on j t l are (inl next) m at = absurd (clash (begun j t) (k.carried_begun j t m at) next.unbegun)
 carried_on j t l are (inr on) m at =
     let here = are.launched l on.launched.0 t on.launched.1 in
     let both : Some m ≡ Some l = sym at ∙ here in cc
 
-pub fresh_send : (p : Plan) (e : Entry) (j : List Entry) (x : Request) → Legal p (e ∷ j) → send_in e.reply ≡ Some x → IsFreshSend p j e.lane x.attempt x.line
+pub fresh_send : (p : Plan) (e : Entry) (j : List Entry) (x : Request) → Lawful p (e ∷ j) → send_in e.reply ≡ Some x → IsFreshSend p j x.attempt x.line
 fresh_send p e j x legal h =
     let ruled = v.entry_ruled p e j legal in
     let to = q.sends_to p j e.lane x.line e.call e.reply x ruled h refl in
@@ -202,8 +185,9 @@ fresh_send p e j x legal h =
     let begins : BeginsNext j x.attempt ⊎ ContinuesOn j x.line x.attempt = subst (λ (y : Request). BeginsNext j x.attempt ⊎ ContinuesOn j y.line x.attempt) same it.begins in
     let are = k.are_carried j (begin_in_order p j legal.0) in
     let unsent = k.unsent_by j x.line x.attempt begins in
+    let own : IsOfBerth j x.line (e.lane / 2) = subst (λ (o : Option ℕ). OfBerth j o (e.lane / 2)) to.here (last_line_own (e.lane / 2) j (lines_named p j legal.0)) in
     record {
-      group = runs_in_group p x.attempt (e.lane / 2) (ke.next_runs p j (e.lane / 2) x.line x.attempt legal.0 to.here to.next) (lane_of_plan p j e.lane e.call legal.1.scripted);
+      group = ke.group_there p j x.line own.owner.0 own.owner.1 x.attempt legal.0 own.owner.2 to.next;
       unended = q.live_running j x.line to.up;
       unsent = unsent;
       unanswered = false_by _ (λ y. clash (was_sent j x.attempt) (c.answered_sent p j x.attempt legal.0 y) unsent);
@@ -218,10 +202,10 @@ pub each_of : (P : Request → Type 0) (xs : List Request) → AllOf P xs → Ea
 each_of P [] all = tt
 each_of P (x ∷ xs) all = (all.0, each_of P xs all.1)
 
-launched_sends : (p : Plan) (j : List Entry) (l : ℕ) (x : Request) → Legal p j → k.IsSentOn j l x → is_pending j x ≡ true → IsGoing j x.attempt
+launched_sends : (p : Plan) (j : List Entry) (l : ℕ) (x : Request) → Lawful p j → k.IsSentOn j l x → is_pending j x ≡ true → IsGoing j x.attempt
 launched_sends p j l x legal on h = q.pending_going p j l x legal on h
 
-pub wanted_unless_granted : (p : Plan) (j : List Entry) (l : ℕ) → Legal p j → WantedUnlessGranted p j l
+pub wanted_unless_granted : (p : Plan) (j : List Entry) (l : ℕ) → Lawful p j → WantedUnlessGranted p j l
 unfolding pending
 wanted_unless_granted p j l legal = record {
   within = each_of _ _ (k.all_map _ (λ x. x.attempt.action < length p.actions) (λ x h. (let is = q.pending_going p j l x legal h.0 h.1 in
@@ -246,7 +230,7 @@ AreDistinct (y ∷ ys) = AllOf (λ x. same_attempt y.attempt x.attempt ≡ false
 apart_sent : (j : List Entry) (l : ℕ) (t : Attempt) (x : Request) → was_sent j t ≡ false → k.IsSentOn j l x → same_attempt t x.attempt ≡ false
 apart_sent j l t x un on = false_by _ (λ same. clash (was_sent j t) (subst (λ (w : Attempt). was_sent j w ≡ true) (sym (same_attempt_eq t x.attempt same)) on.sent) un)
 
-pub distinct : (p : Plan) (j : List Entry) (l : ℕ) → Legal p j → AreDistinct (sends j l)
+pub distinct : (p : Plan) (j : List Entry) (l : ℕ) → Lawful p j → AreDistinct (sends j l)
 unfolding AreDistinct sends
 distinct p [] l legal = tt
 distinct p (e ∷ j) l legal = by (sent_on l e.reply) refl (distinct p j l legal.0)
@@ -300,7 +284,7 @@ only_head test (w ∷ qs) x P closed h y =
 pub each_filter : (P : Request → Type 0) (test : Request → Bool) (xs : List Request) → AllOf P xs → EachRequest P (filter test xs)
 each_filter P test xs all = each_of P (filter test xs) (all_filter P test xs all)
 
-pub other_lines : (p : Plan) (j : List Entry) (l : ℕ) (s : Attempt) → Legal p j → line_of j s ≡ Some l → (m : ℕ) → (l == m) ≡ false → EachRequest (λ y. same_attempt s y.attempt ≡ false) (pending j m)
+pub other_lines : (p : Plan) (j : List Entry) (l : ℕ) (s : Attempt) → Lawful p j → line_of j s ≡ Some l → (m : ℕ) → (l == m) ≡ false → EachRequest (λ y. same_attempt s y.attempt ≡ false) (pending j m)
 unfolding pending
 other_lines p j l s legal at m apart =
     each_filter _ (is_pending j) (sends j m) (k.all_map (k.IsSentOn j m) (λ y. same_attempt s y.attempt ≡ false) (λ y on. false_by _ (λ same.
@@ -313,24 +297,24 @@ pub all_head_of : (P : Request → Type 0) (xs : List Request) (x : Request) →
 all_head_of P xs x all h = all_head P xs x all h
 
 -- of an answer that is consumed
-pub known_by_answer : (p : Plan) (e : Entry) (j : List Entry) (l : ℕ) (x : Answer) (s : Attempt) → Legal p (e ∷ j) → e.call ≡ call.Answer l x → consumed_in e.reply ≡ Some s → KnownByNumber j l x.number s
+pub known_by_answer : (p : Plan) (e : Entry) (j : List Entry) (l : ℕ) (x : Answer) (s : Attempt) → Lawful p (e ∷ j) → e.call ≡ call.Answer l x → consumed_in e.reply ≡ Some s → KnownByNumber j l x.number s
 unfolding pending
 known_by_answer p e j l x s legal ic is =
     let one = v.consumes p j e.lane e.call e.reply s (v.entry_ruled p e j legal) is in
     let same_call : call.Answer one.line one.answer ≡ call.Answer l x = sym one.is ∙ ic in
     let l_is : one.line ≡ l = cc in
     let x_is : one.answer ≡ x = cc in
-    let asked : u.IsRequest p j (e.lane / 2) l x one.request = subst (λ (y : Answer). u.IsRequest p j (e.lane / 2) l y one.request) x_is (subst (λ n. u.IsRequest p j (e.lane / 2) n one.answer one.request) l_is one.asked) in
+    let asked : u.IsRequest p j l x one.request = subst (λ (y : Answer). u.IsRequest p j l y one.request) x_is (subst (λ n. u.IsRequest p j n one.answer one.request) l_is one.asked) in
     let named = (lines_named p (e ∷ j) legal).1.called in
     let own : IsOfBerth j l (e.lane / 2) = subst (λ (d : Call). OfBerth j (call_line d) (e.lane / 2)) ic named in
     subst (KnownByNumber j l x.number) one.of (of_asked one.request asked own)
   where
-    of_asked : (y : Request) → u.IsRequest p j (e.lane / 2) l x y → IsOfBerth j l (e.lane / 2) → KnownByNumber j l x.number y.attempt
+    of_asked : (y : Request) → u.IsRequest p j l x y → IsOfBerth j l (e.lane / 2) → KnownByNumber j l x.number y.attempt
     of_asked y asked own =
         let facts = q.line_facts p j l (e.lane / 2) legal.0 own in
-        let on = v.of_request p j (e.lane / 2) l x y (k.IsSentOn j l) asked (k.sends_on j l (begin_in_order p j legal.0)) in
+        let on = v.of_request p j l x y (k.IsSentOn j l) asked (k.sends_on j l (begin_in_order p j legal.0)) in
         record {
-          here = by_bool (is_single (kind_of p (e.lane / 2))) (λ b. is_single (kind_of p (e.lane / 2)) ≡ b → EachRequest (λ w. same_attempt y.attempt w.attempt ≡ int_eq w.number x.number) (filter (is_pending j) (sends j l)))
+          here = by_bool (is_single (line_kind p j l)) (λ b. is_single (line_kind p j l) ≡ b → EachRequest (λ w. same_attempt y.attempt w.attempt ≡ int_eq w.number x.number) (filter (is_pending j) (sends j l)))
               (λ _ one. only_head (is_pending j) (sends j l) y _ (facts.closed one) (q.first_head (is_pending j) (sends j l) y (facts.closed one) (asked.single one).1)
               (same_attempt_refl y.attempt ∙ sym (q.number_same p j e.lane l x y legal.0 own asked true one)))
               (λ _ many. each_filter _ (is_pending j) (sends j l) (by_number (sends j l) x.number y (subst (λ b. NumberedAs b (sends j l)) many facts.numbers) (distinct p j l legal.0) (asked.multi many)))
@@ -351,7 +335,7 @@ past_answered j s h m = none (sends j m)
         (λ _ on. (false_by _ (λ same. clash (answered j y.attempt) (subst (λ (w : Attempt). answered j w ≡ true) (same_attempt_eq s y.attempt same) h) (q.pending_is j y on).unanswered), none ys))
         (λ _ _. none ys) refl
 
-pub past_ended : (p : Plan) (j : List Entry) (s : Attempt) (l : ℕ) → Legal p j → line_of j s ≡ Some l → has_ended j l ≡ true → IsPastAttempt j s
+pub past_ended : (p : Plan) (j : List Entry) (s : Attempt) (l : ℕ) → Lawful p j → line_of j s ≡ Some l → has_ended j l ≡ true → IsPastAttempt j s
 unfolding pending
 past_ended p j s l legal at over m =
     each_of _ _ (k.all_map _ (λ y. same_attempt s y.attempt ≡ false) (λ y h. false_by _ (λ same.

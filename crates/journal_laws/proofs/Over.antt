@@ -16,11 +16,12 @@ use Rattle.list_lemmas.specs.Options.{or_else, unless_before}
 use Rattle.exec_journal.specs.Entries.{Request, same_attempt, is_for, consumed_in, ends}
 use Rattle.exec_journal.specs.Words.{sends, pending, is_pending, answered, wrote, wrote_at, says_feed_fault, has_ended, line_cause, broke, granted}
 use Rattle.exec_journal.specs.Attempts.{line_of, fault_of, fault_at, lost_cause, over, end_of, ended}
-use Rattle.run_plan.specs.Groups.{is_single, kind_of}
-use Rattle.exec_journal.specs.Legal.{Legal}
+use Rattle.run_plan.specs.Groups.{is_single}
+use Rattle.exec_journal.specs.Seated.{line_kind}
+use Rattle.exec_journal.specs.Lawful.{Lawful}
 use Rattle.exec_journal.specs.Facts.{BeginInOrder}
 use Rattle.exec_journal.proofs.Histories.{AllOf, all_filter, all_head, all_find}
-use Rattle.exec_journal.proofs.Ruled as u
+use Rattle.exec_journal.proofs.Reasons as u
 use Rattle.exec_journal.proofs.Ruled.{by_bool, not_true}
 use Rattle.exec_journal.proofs.Begins.{same_attempt_eq, begin_in_order}
 use Rattle.exec_journal.proofs.Quiet.{end_settles}
@@ -34,7 +35,7 @@ pub record Consumes (p : Plan) (j : List Entry) (lane : ℕ) (c : Call) (t : Att
   pub request : Request
   pub is : c ≡ call.Answer line answer
   pub of : request.attempt ≡ t
-  pub asked : u.IsRequest p j (lane / 2) line answer request
+  pub asked : u.IsRequest p j line answer request
 
 pub consumes : (p : Plan) (j : List Entry) (lane : ℕ) (c : Call) (x : Reply) (t : Attempt) → u.Ruled p j lane c x → consumed_in x ≡ Some t → Consumes p j lane c t
 consumes p j lane c x t (u.IsLate l y q asked g) h = record { line = l; answer = y; request = q; is = refl; of = cc; asked = asked }
@@ -43,14 +44,14 @@ consumes p j lane c x t (u.KillsBroken l y here run broken over) h = absurd (cc)
 consumes p j lane c x t (u.Notes d n) h = absurd (cc)
 consumes p j lane c x t _ h = absurd (cc)
 
-pub entry_ruled : (p : Plan) (e : Entry) (j : List Entry) → Legal p (e ∷ j) → u.Ruled p j e.lane e.call e.reply
-entry_ruled p e j legal = subst (λ (x : Reply). u.Ruled p j e.lane e.call x) (sym legal.1.replied) (u.ruled p j e.lane e.call)
+pub entry_ruled : (p : Plan) (e : Entry) (j : List Entry) → Lawful p (e ∷ j) → u.Ruled p j e.lane e.call e.reply
+entry_ruled p e j legal = u.ruled p j e legal.1
 
 -- what holds of each request of the line holds of that of the answer
-pub of_request : (p : Plan) (j : List Entry) (w l : ℕ) (x : Answer) (q : Request) (P : Request → Type 0) → u.IsRequest p j w l x q → AllOf P (sends j l) → P q
+pub of_request : (p : Plan) (j : List Entry) (l : ℕ) (x : Answer) (q : Request) (P : Request → Type 0) → u.IsRequest p j l x q → AllOf P (sends j l) → P q
 unfolding pending
-of_request p j w l x q P asked all =
-    by_bool (is_single (kind_of p w)) (λ _. P q)
+of_request p j l x q P asked all =
+    by_bool (is_single (line_kind p j l)) (λ _. P q)
     (λ one. all_head P (pending j l) q (all_filter P (is_pending j) (sends j l) all) (asked.single one).1)
     (λ many. all_find P (λ y. int_eq y.number x.number) (sends j l) q all (asked.multi many))
 
@@ -74,7 +75,7 @@ pending_unanswered j q h = not_true _ (and_parts (not (answered j q.attempt)) _ 
 
 pub consumed_open : (p : Plan) (j : List Entry) (lane : ℕ) (c : Call) (t : Attempt) → BeginInOrder j → (h : Consumes p j lane c t) → IsConsumed j h.line t
 consumed_open p j lane c t order h =
-    let on = of_request p j (lane / 2) h.line h.answer h.request (IsSentOn j h.line) h.asked (sends_on j h.line order) in
+    let on = of_request p j h.line h.answer h.request (IsSentOn j h.line) h.asked (sends_on j h.line order) in
     record {
       carrier = subst (λ (v : Attempt). line_of j v ≡ Some h.line) h.of on.carrier;
       unbroken = h.asked.unbroken;
@@ -129,7 +130,7 @@ unfolding has_ended
 ended_line_stays e j l h = or_right (ends l e.call) _ h
 
 -- no answer is consumed on a line that has Ended
-unconsumed : (p : Plan) (e : Entry) (j : List Entry) (t : Attempt) (l : ℕ) → Legal p (e ∷ j) → line_of j t ≡ Some l → has_ended j l ≡ true → is_for t (consumed_in e.reply) ≡ false
+unconsumed : (p : Plan) (e : Entry) (j : List Entry) (t : Attempt) (l : ℕ) → Lawful p (e ∷ j) → line_of j t ≡ Some l → has_ended j l ≡ true → is_for t (consumed_in e.reply) ≡ false
 unconsumed p e j t l legal at over = by (consumed_in e.reply) refl
   where
     by : (o : Option Attempt) → consumed_in e.reply ≡ o → is_for t o ≡ false
@@ -145,7 +146,7 @@ unconsumed p e j t l legal at over = by (consumed_in e.reply) refl
         let clash : true ≡ false = sym over ∙ run in absurd (cc))
         (λ off. refl)
 
-lost_stays : (p : Plan) (e : Entry) (j : List Entry) (t : Attempt) (l : ℕ) → Legal p (e ∷ j) → line_of j t ≡ Some l → is_lost j t l ≡ true → is_lost (e ∷ j) t l ≡ true
+lost_stays : (p : Plan) (e : Entry) (j : List Entry) (t : Attempt) (l : ℕ) → Lawful p (e ∷ j) → line_of j t ≡ Some l → is_lost j t l ≡ true → is_lost (e ∷ j) t l ≡ true
 lost_stays p e j t l legal at h =
     let parts = and_parts (has_ended j l) _ h in
     let same = answered_same e j t (unconsumed p e j t l legal at parts.0) in
@@ -184,7 +185,7 @@ is_over j t (Faulted c is) = or_some_left (fault_of j t) _ (is_some_from _ c is)
 is_over j t (IsLost l at lost) =
     or_some_right (fault_of j t) _ (rw (at, lost) (ended_broke j l (and_parts (has_ended j l) _ lost).0))
 
-pub ends_stay : (p : Plan) (e : Entry) (j : List Entry) (t : Attempt) → Legal p (e ∷ j) → Ends j t → Ends (e ∷ j) t
+pub ends_stay : (p : Plan) (e : Entry) (j : List Entry) (t : Attempt) → Lawful p (e ∷ j) → Ends j t → Ends (e ∷ j) t
 ends_stay p e j t legal (Faulted c is) = Faulted c (fault_stays e j t c is)
 ends_stay p e j t legal (IsLost l at lost) = IsLost l (line_stays e j t l (begin_in_order p (e ∷ j) legal) at) (lost_stays p e j t l legal at lost)
 
@@ -199,7 +200,7 @@ ended_new e j t h = by (end_of j t) refl h
     by (Some c) is k = inl (is_some_from _ c is)
     by None is k = inr (by_bool (granted (e ∷ j) t.action) (λ b. is_some (cond b None (over (e ∷ j) t)) ≡ true → (b ≡ false) × (is_some (over (e ∷ j) t) ≡ true)) (λ _ m. absurd (cc)) (λ _ m. (refl, m)) k)
 
-pub ended_is : (p : Plan) (j : List Entry) (t : Attempt) → Legal p j → ended j t ≡ true → Ends j t
+pub ended_is : (p : Plan) (j : List Entry) (t : Attempt) → Lawful p j → ended j t ≡ true → Ends j t
 unfolding ended end_of
 ended_is p [] t legal h = absurd (cc)
 ended_is p (e ∷ j) t legal h = by (ended_new e j t h) (λ k. ended_is p j t legal.0 k)

@@ -3,6 +3,7 @@ use Rattle.std.proofs.Common.{◌≡◌, ℕ, ◌*◌, ◌/◌, ◌%◌, ◌==�
 use Rattle.std.proofs.lemmas.Bool.{eqb-true, eq-eqb, and_parts, and_from, or_cases, or_left, or_right}
 use Rattle.run_plan.specs.declared.plan.Branch.{Branch}
 use Rattle.run_plan.specs.declared.plan.Kind.{Kind}
+use Rattle.run_plan.specs.declared.plan.Kind.TheVariants as kind
 use Rattle.run_plan.specs.declared.plan.Plan.{Plan}
 use Rattle.exec_journal.specs.declared.attempt.Attempt.{Attempt}
 use Rattle.exec_journal.specs.declared.journal.Entry.{Entry}
@@ -17,7 +18,7 @@ use Rattle.exec_journal.specs.History.{ever, latest, AtEach}
 use Rattle.list_lemmas.specs.Options.{or_else}
 use Rattle.exec_journal.specs.Entries.{attempt_of, same_attempt, is_for, is_look, is_halt, send_in, gather_in, orders_kill}
 use Rattle.exec_journal.specs.Words.{last_work, work_at, stopped, has_halted}
-use Rattle.run_plan.specs.Groups.{kind_of, berths}
+use Rattle.exec_journal.specs.Lawful as lw
 use Rattle.exec_journal.specs.Scripts as s
 use Rattle.exec_journal.proofs.Ruled.{by_bool}
 use Rattle.exec_journal.proofs.Begins.{same_attempt_eq, same_branch_refl}
@@ -118,14 +119,49 @@ while_owed q P (e ∷ j) once all lane d h y = by (newest_cases e j lane d h) (�
 
 -- ---- which order a call answers
 
-pub scripted : (p : Plan) (j : List Entry) (lane : ℕ) (c : Call) → s.script p j lane c ≡ true
-    → (s.is_owed_commit c (last_work j lane) ≡ true) ⊎ (s.allowed p (kind_of p (lane / 2)) (lane % 2 == 0) (last_work j lane) c ≡ true)
-scripted p j lane c h =
-    let running = (and_parts (not (stopped j lane)) _ (and_parts (nat_lt lane (2 * berths p)) _ h).1).1 in
+-- what is owed, what a lane's newest work allows, or a Tick
+pub scripted_by : (p : Plan) (j : List Entry) (lane : ℕ) (c : Call) → lw.in_script p j lane c ≡ true
+    → (s.is_owed_commit c (last_work j lane) ≡ true) ⊎ ((lw.may_tick (lane % 2 == 0) (last_work j lane) c || s.allowed p kind.Single (lane % 2 == 0) (last_work j lane) c) ≡ true)
+scripted_by p j lane c h =
+    let running = (and_parts (not (stopped j lane)) _ h).1 in
     by_bool (has_halted j lane)
-    (λ b. cond b (s.is_owed_commit c (last_work j lane)) (s.allowed p (kind_of p (lane / 2)) (lane % 2 == 0) (last_work j lane) c) ≡ true
-    → (s.is_owed_commit c (last_work j lane) ≡ true) ⊎ (s.allowed p (kind_of p (lane / 2)) (lane % 2 == 0) (last_work j lane) c ≡ true))
+    (λ b. cond b (s.is_owed_commit c (last_work j lane)) (lw.may_tick (lane % 2 == 0) (last_work j lane) c || s.allowed p kind.Single (lane % 2 == 0) (last_work j lane) c) ≡ true
+    → (s.is_owed_commit c (last_work j lane) ≡ true) ⊎ ((lw.may_tick (lane % 2 == 0) (last_work j lane) c || s.allowed p kind.Single (lane % 2 == 0) (last_work j lane) c) ≡ true))
     (λ _ g. inl g) (λ _ g. inr g) running
+
+abbrev pub is_tick : Call → Bool
+is_tick call.Tick = true
+is_tick _ = false
+
+ticks_none : (proxy : Bool) (o : Option Entry) (c : Call) → is_tick c ≡ false → lw.may_tick proxy o c ≡ false
+ticks_none proxy o call.Tick h = absurd (cc)
+ticks_none proxy o _ h = refl
+
+tick_is : (proxy : Bool) (o : Option Entry) (c : Call) → lw.may_tick proxy o c ≡ true → (c ≡ call.Tick) × (proxy ≡ true) × (s.may_ask o ≡ true)
+tick_is proxy o call.Tick h = let parts = and_parts proxy _ h in (refl, parts.0, parts.1)
+tick_is proxy o _ h = absurd (cc)
+
+-- a Tick comes from a lane that may ask
+pub data Scripted (p : Plan) (j : List Entry) (lane : ℕ) (c : Call) : Type 0 where
+  Owes : s.is_owed_commit c (last_work j lane) ≡ true → Scripted p j lane c
+  May : s.allowed p kind.Single (lane % 2 == 0) (last_work j lane) c ≡ true → Scripted p j lane c
+  Ticks : c ≡ call.Tick → (lane % 2 == 0) ≡ true → s.may_ask (last_work j lane) ≡ true → Scripted p j lane c
+
+pub scripts : (p : Plan) (j : List Entry) (lane : ℕ) (c : Call) → lw.in_script p j lane c ≡ true → Scripted p j lane c
+scripts p j lane c h = elim (scripted_by p j lane c h) [
+  | inl owes ↦ Owes owes
+  | inr rest ↦ elim (or_cases (lw.may_tick (lane % 2 == 0) (last_work j lane) c) _ rest) [
+    | inl tick ↦ (let t = tick_is (lane % 2 == 0) (last_work j lane) c tick in Ticks t.0 t.1 t.2)
+    | inr may ↦ May may
+  ]
+]
+
+pub scripted : (p : Plan) (j : List Entry) (lane : ℕ) (c : Call) → is_tick c ≡ false → lw.in_script p j lane c ≡ true
+    → (s.is_owed_commit c (last_work j lane) ≡ true) ⊎ (s.allowed p kind.Single (lane % 2 == 0) (last_work j lane) c ≡ true)
+scripted p j lane c n h = elim (scripted_by p j lane c h) [
+  | inl owes ↦ inl owes
+  | inr rest ↦ inr (subst (λ b. (b || s.allowed p kind.Single (lane % 2 == 0) (last_work j lane) c) ≡ true) (ticks_none (lane % 2 == 0) (last_work j lane) c n) rest)
+]
 
 -- the newest work of the lane, whose reply orders this
 pub record Answers (j : List Entry) (lane : ℕ) (q : Entry → Bool) : Type 0 where
@@ -158,35 +194,35 @@ abbrev pub is_commit_grant : ℕ → Branch → Entry → Bool
 is_commit_grant a b d = s.is_commit_of a b d.call d.reply
 
 -- a line's Launched answers its Launch
-pub launched_answers : (p : Plan) (j : List Entry) (lane l : ℕ) (how : Started) → s.script p j lane (call.Launched l how) ≡ true → Answers j lane (is_launch l)
-launched_answers p j lane l how h = elim (scripted p j lane (call.Launched l how) h) [
+pub launched_answers : (p : Plan) (j : List Entry) (lane l : ℕ) (how : Started) → lw.in_script p j lane (call.Launched l how) ≡ true → Answers j lane (is_launch l)
+launched_answers p j lane l how h = elim (scripted p j lane (call.Launched l how) refl h) [
   | inl n ↦ absurd (cc)
-  | inr y ↦ answers_by j lane p (kind_of p (lane / 2)) (call.Launched l how) (is_launch l) (last_work j lane) refl (λ d g. of_reply d.reply g) (and_parts (lane % 2 == 0) _ y).1
+  | inr y ↦ answers_by j lane p kind.Single (call.Launched l how) (is_launch l) (last_work j lane) refl (λ d g. of_reply d.reply g) (and_parts (lane % 2 == 0) _ y).1
 ]
   where
-    of_reply : (x : Reply) → (s.is_owed p (kind_of p (lane / 2)) (call.Launched l how) x || false) ≡ true → launches_line l x ≡ true
+    of_reply : (x : Reply) → (s.is_owed p kind.Single (call.Launched l how) x || false) ≡ true → launches_line l x ≡ true
     of_reply (reply.Launch m a b t) g = elim (or_cases (m == l) false g) [ inl y ↦ y | inr n ↦ absurd (cc) ]
     of_reply _ g = absurd (cc)
 
 -- its Killed answers its Kill
-pub killed_answers : (p : Plan) (j : List Entry) (lane l : ℕ) → s.script p j lane (call.Killed l) ≡ true → Answers j lane (is_kill l)
-killed_answers p j lane l h = elim (scripted p j lane (call.Killed l) h) [
+pub killed_answers : (p : Plan) (j : List Entry) (lane l : ℕ) → lw.in_script p j lane (call.Killed l) ≡ true → Answers j lane (is_kill l)
+killed_answers p j lane l h = elim (scripted p j lane (call.Killed l) refl h) [
   | inl n ↦ absurd (cc)
-  | inr y ↦ answers_by j lane p (kind_of p (lane / 2)) (call.Killed l) (is_kill l) (last_work j lane) refl (λ d g. of_reply d.reply g) (and_parts (lane % 2 == 0) _ y).1
+  | inr y ↦ answers_by j lane p kind.Single (call.Killed l) (is_kill l) (last_work j lane) refl (λ d g. of_reply d.reply g) (and_parts (lane % 2 == 0) _ y).1
 ]
   where
-    of_reply : (x : Reply) → (s.is_owed p (kind_of p (lane / 2)) (call.Killed l) x || false) ≡ true → orders_kill l x ≡ true
+    of_reply : (x : Reply) → (s.is_owed p kind.Single (call.Killed l) x || false) ≡ true → orders_kill l x ≡ true
     of_reply (reply.Kill m y) g = elim (or_cases (m == l) false g) [ inl y ↦ y | inr n ↦ absurd (cc) ]
     of_reply _ g = absurd (cc)
 
 -- an attempt's Claim answers its Gather
-pub claim_answers : (p : Plan) (j : List Entry) (lane a : ℕ) (b : Branch) (t : ℕ) (f : Found) → s.script p j lane (call.Claim a b t f) ≡ true → Answers j lane (is_gather (attempt_of a b t))
-claim_answers p j lane a b t f h = elim (scripted p j lane (call.Claim a b t f) h) [
+pub claim_answers : (p : Plan) (j : List Entry) (lane a : ℕ) (b : Branch) (t : ℕ) (f : Found) → lw.in_script p j lane (call.Claim a b t f) ≡ true → Answers j lane (is_gather (attempt_of a b t))
+claim_answers p j lane a b t f h = elim (scripted p j lane (call.Claim a b t f) refl h) [
   | inl n ↦ absurd (cc)
-  | inr y ↦ answers_by j lane p (kind_of p (lane / 2)) (call.Claim a b t f) (is_gather (attempt_of a b t)) (last_work j lane) refl (λ d g. of_reply d.reply g) (and_parts (lane % 2 == 0) _ y).1
+  | inr y ↦ answers_by j lane p kind.Single (call.Claim a b t f) (is_gather (attempt_of a b t)) (last_work j lane) refl (λ d g. of_reply d.reply g) (and_parts (lane % 2 == 0) _ y).1
 ]
   where
-    of_reply : (x : Reply) → (s.is_owed p (kind_of p (lane / 2)) (call.Claim a b t f) x || false) ≡ true → is_for (attempt_of a b t) (gather_in x) ≡ true
+    of_reply : (x : Reply) → (s.is_owed p kind.Single (call.Claim a b t f) x || false) ≡ true → is_for (attempt_of a b t) (gather_in x) ≡ true
     of_reply (reply.Gather l n c d u e v) g = elim (or_cases (same_attempt (attempt_of a b t) (attempt_of c d u) && _) false g) [
       | inl y ↦ (let same : attempt_of a b t ≡ attempt_of c d u = same_attempt_eq (attempt_of a b t) (attempt_of c d u) (and_parts _ _ y).0 in
           subst (λ (v : Attempt). same_attempt v (attempt_of a b t) ≡ true) same (and_from _ _ (eq-eqb a a refl) (and_from _ _ (same_branch_refl b) (eq-eqb t t refl))))
@@ -195,18 +231,18 @@ claim_answers p j lane a b t f h = elim (scripted p j lane (call.Claim a b t f) 
     of_reply _ g = absurd (cc)
 
 -- a Committed answers the grant of files
-pub commit_answers : (p : Plan) (j : List Entry) (lane a : ℕ) (b : Branch) (how : CommitEnd) → s.script p j lane (call.Committed a b how) ≡ true → Answers j lane (is_commit_grant a b)
-commit_answers p j lane a b how h = elim (scripted p j lane (call.Committed a b how) h) [
+pub commit_answers : (p : Plan) (j : List Entry) (lane a : ℕ) (b : Branch) (how : CommitEnd) → lw.in_script p j lane (call.Committed a b how) ≡ true → Answers j lane (is_commit_grant a b)
+commit_answers p j lane a b how h = elim (scripted p j lane (call.Committed a b how) refl h) [
   | inl owes ↦ of_last (last_work j lane) refl owes
-  | inr y ↦ answers_by j lane p (kind_of p (lane / 2)) (call.Committed a b how) (is_commit_grant a b) (last_work j lane) refl (λ d g. of_entry d g) (and_parts (lane % 2 == 0) _ y).1
+  | inr y ↦ answers_by j lane p kind.Single (call.Committed a b how) (is_commit_grant a b) (last_work j lane) refl (λ d g. of_entry d g) (and_parts (lane % 2 == 0) _ y).1
 ]
   where
     of_last : (o : Option Entry) → last_work j lane ≡ o → s.owes_commit a b o ≡ true → Answers j lane (is_commit_grant a b)
     of_last None is g = absurd (cc)
     of_last (Some d) is g = record { order = d; newest = is; fits = g }
 
-    of_entry : (d : Entry) → (s.is_owed p (kind_of p (lane / 2)) (call.Committed a b how) d.reply || s.is_commit_of a b d.call d.reply) ≡ true → s.is_commit_of a b d.call d.reply ≡ true
+    of_entry : (d : Entry) → (s.is_owed p kind.Single (call.Committed a b how) d.reply || s.is_commit_of a b d.call d.reply) ≡ true → s.is_commit_of a b d.call d.reply ≡ true
     of_entry d g = of_reply d.reply g
       where
-        of_reply : (x : Reply) → (s.is_owed p (kind_of p (lane / 2)) (call.Committed a b how) x || s.is_commit_of a b d.call d.reply) ≡ true → s.is_commit_of a b d.call d.reply ≡ true
+        of_reply : (x : Reply) → (s.is_owed p kind.Single (call.Committed a b how) x || s.is_commit_of a b d.call d.reply) ≡ true → s.is_commit_of a b d.call d.reply ≡ true
         of_reply _ g = g

@@ -17,11 +17,12 @@ use Rattle.exec_journal.specs.History.{each, ever, AtEach}
 use Rattle.exec_journal.specs.Entries.{Request, attempt_of, send_in, granted_in}
 use Rattle.exec_journal.specs.Words.{last_work, was_sent, answered, has_ended, granted, grant_of, of_action, sent_on}
 use Rattle.exec_journal.specs.Attempts.{line_of, ended}
+use Rattle.exec_journal.specs.Lawful as lw
 use Rattle.exec_journal.specs.Scripts as sc
 use Rattle.exec_journal.specs.Scripts.{is_commit_of}
 use Rattle.exec_journal.specs.Race.{has_grant_of, commits, committed, race_at, Race}
 use Rattle.exec_journal.specs.Accounted.{is_request_accounted}
-use Rattle.exec_journal.specs.Legal.{Legal}
+use Rattle.exec_journal.specs.Lawful.{Lawful}
 use Rattle.exec_journal.specs.Facts.{BeginInOrder}
 use Rattle.exec_journal.proofs.Histories.{AllOf}
 use Rattle.exec_journal.proofs.Ruled.{by_bool}
@@ -65,7 +66,7 @@ files_granted a (e ∷ j) h = elim (or_cases (grants_files a e) _ h) [
   | inr before ↦ granted_later e j a (files_granted a j before)
 ]
 
-files_once : (p : Plan) (a : ℕ) (j : List Entry) → Legal p j → AtEach (Once (grants_files a)) j
+files_once : (p : Plan) (a : ℕ) (j : List Entry) → Lawful p j → AtEach (Once (grants_files a)) j
 files_once p a [] legal = tt
 files_once p a (e ∷ j) legal = (
   files_once p a j legal.0,
@@ -79,13 +80,13 @@ commits_is a (call.Committed d b how) h = (b, how, ap (λ n. call.Committed n b 
 commits_is a _ h = absurd (cc)
 
 -- a Committed of the action answers a grant of its files
-commit_owed : (p : Plan) (e : Entry) (j : List Entry) (a : ℕ) → Legal p (e ∷ j) → commits a e.call ≡ true → o.Answers j e.lane (grants_files a)
+commit_owed : (p : Plan) (e : Entry) (j : List Entry) (a : ℕ) → Lawful p (e ∷ j) → commits a e.call ≡ true → o.Answers j e.lane (grants_files a)
 commit_owed p e j a legal h =
     let c = commits_is a e.call h in
-    let answer = o.commit_answers p j e.lane a c.0 c.1 (subst (λ (x : Call). sc.script p j e.lane x ≡ true) c.2 legal.1.scripted) in
+    let answer = o.commit_answers p j e.lane a c.0 c.1 (subst (λ (x : Call). lw.in_script p j e.lane x ≡ true) c.2 legal.1.scripted) in
     record { order = answer.order; newest = answer.newest; fits = commit_of_action a c.0 answer.order.call answer.order.reply answer.fits }
 
-pub committed_granted : (p : Plan) (j : List Entry) (a : ℕ) → Legal p j → committed j a ≡ true → granted j a ≡ true
+pub committed_granted : (p : Plan) (j : List Entry) (a : ℕ) → Lawful p j → committed j a ≡ true → granted j a ≡ true
 unfolding committed
 committed_granted p [] a legal h = absurd (cc)
 committed_granted p (e ∷ j) a legal h = granted_later e j a (elim (or_cases (commits a e.call) (committed j a) h) [
@@ -106,7 +107,7 @@ commit_works : (a : ℕ) (c : Call) → commits a c ≡ true → is_work c ≡ t
 commit_works a (call.Committed c d how) h = refl
 commit_works a _ h = absurd (cc)
 
-commit_keeps : (p : Plan) (a : ℕ) (j : List Entry) → Legal p j → AtEach (Keeps (grants_files a) (λ i. committed i a ≡ false)) j
+commit_keeps : (p : Plan) (a : ℕ) (j : List Entry) → Lawful p j → AtEach (Keeps (grants_files a) (λ i. committed i a ≡ false)) j
 commit_keeps p a [] legal = tt
 commit_keeps p a (e ∷ j) legal = (
   commit_keeps p a j legal.0,
@@ -119,7 +120,7 @@ commit_keeps p a (e ∷ j) legal = (
 )
 
 -- while a lane owes the Committed of an action there was none
-pub owed_uncommitted : (p : Plan) (j : List Entry) (a : ℕ) → Legal p j → (lane : ℕ) (d : Entry) → last_work j lane ≡ Some d → grants_files a d ≡ true → committed j a ≡ false
+pub owed_uncommitted : (p : Plan) (j : List Entry) (a : ℕ) → Lawful p j → (lane : ℕ) (d : Entry) → last_work j lane ≡ Some d → grants_files a d ≡ true → committed j a ≡ false
 owed_uncommitted p j a legal lane d h y = o.while_owed (grants_files a) (λ i. committed i a ≡ false) j (files_once p a j legal) (commit_keeps p a j legal) lane d h y
 
 -- ---- Race
@@ -130,18 +131,18 @@ granted_by j lane a b owed =
     o.newest_ever (λ d. (d.lane == lane) && is_commit_of a b d.call d.reply) j lane owed.order owed.newest
     (and_from _ _ (eq-eqb owed.order.lane lane (o.newest_lane j lane owed.order owed.newest)) owed.fits)
 
-race_of : (p : Plan) (e : Entry) (j : List Entry) → Legal p (e ∷ j) → (c : Call) (x : Reply) → e.call ≡ c → e.reply ≡ x → race_at j e.lane c x ≡ true
+race_of : (p : Plan) (e : Entry) (j : List Entry) → Lawful p (e ∷ j) → (c : Call) (x : Reply) → e.call ≡ c → e.reply ≡ x → race_at j e.lane c x ≡ true
 race_of p e j legal (call.Claim a b t f) reply.Granted ic ir =
     let y : granted_in e.call e.reply ≡ Some (attempt_of a b t, f) = rw (ic, ir) refl in
     not_from_false (granted j a) (g.grant_is_first p e j (attempt_of a b t, f) legal y)
 race_of p e j legal (call.Claim a b t f) _ ic ir = refl
 race_of p e j legal (call.Committed a b how) x ic ir =
-    let answer = o.commit_answers p j e.lane a b how (subst (λ (c : Call). sc.script p j e.lane c ≡ true) ic legal.1.scripted) in
+    let answer = o.commit_answers p j e.lane a b how (subst (λ (c : Call). lw.in_script p j e.lane c ≡ true) ic legal.1.scripted) in
     and_from _ _ (granted_by j e.lane a b answer)
     (not_from_false (committed j a) (owed_uncommitted p j a legal.0 e.lane answer.order answer.newest (commit_of_action a b answer.order.call answer.order.reply answer.fits)))
 race_of p e j legal _ x ic ir = refl
 
-pub race : (p : Plan) (j : List Entry) → Legal p j → Race j
+pub race : (p : Plan) (j : List Entry) → Lawful p j → Race j
 race p [] legal = tt
 race p (e ∷ j) legal = (race p j legal.0, race_of p e j legal e.call e.reply refl refl)
 
@@ -180,6 +181,6 @@ request_accounted j q on =
     refl) refl)
     (λ _ _. refl) refl
 
-pub requests_accounted : (p : Plan) (j : List Entry) → Legal p j → list_all (is_request_accounted j) (each (λ _ e. send_in e.reply) j) ≡ true
+pub requests_accounted : (p : Plan) (j : List Entry) → Lawful p j → list_all (is_request_accounted j) (each (λ _ e. send_in e.reply) j) ≡ true
 requests_accounted p j legal =
     list_all_from (is_request_accounted j) _ (k.all_map (IsSentRequest j) (λ q. is_request_accounted j q ≡ true) (λ q on. request_accounted j q on) _ (all_sends j (begin_in_order p j legal)))

@@ -2,7 +2,7 @@
 use Rattle.std.proofs.Common.{◌≡◌, ℕ, ◌+◌, ◌-◌, ◌/◌, ◌<◌, ◌==◌, nat_lt, Bool, true, false, ◌&&◌, ◌||◌, not, cond, List, [], ◌∷◌, length, Option, Some, None, inl, inr, refl, sym, ap, subst, ◌∙◌, ℤ, pos, arith}
 use Rattle.std.specs.List.{list_any, list_all, filter, find}
 use Rattle.std.specs.Ordering.{int_eq}
-use Rattle.std.proofs.lemmas.Bool.{eqb-true, eq-eqb, ltb-true, and_parts, and_from, or_left, or_right, not_from_false}
+use Rattle.std.proofs.lemmas.Bool.{eqb-true, eq-eqb, ltb-true, ltb-false, and_parts, and_from, or_left, or_right, not_from_false}
 use Rattle.std.proofs.lemmas.Bool.Decides.{Decides-int_eq}
 use Rattle.run_plan.specs.declared.plan.Kind.{Kind}
 use Rattle.run_plan.specs.declared.plan.Kind.TheVariants as kind
@@ -16,20 +16,21 @@ use Rattle.exec_journal.specs.declared.reply.Reply.{Reply}
 use Rattle.exec_journal.specs.declared.reply.Reply.TheVariants as reply
 use Rattle.list_lemmas.specs.Options.{or_else}
 use Rattle.exec_journal.specs.Entries.{Request, attempt_of, same_attempt, launch_in, send_in}
-use Rattle.exec_journal.specs.Words.{last_line, launch_of, launch_at, launch_on, sends, sent_on, pending, is_pending, was_sent, answered, wrote, says_done, says_unwritten, has_ended, live, broke, started}
+use Rattle.exec_journal.specs.Words.{last_line, line_count, launch_of, launch_at, launch_on, sends, sent_on, pending, is_pending, was_sent, answered, wrote, says_done, says_unwritten, has_ended, live, broke, started}
 use Rattle.exec_journal.specs.Attempts.{ended}
 use Rattle.exec_journal.specs.Settled.{bound, earliest, free_places, one_if}
-use Rattle.run_plan.specs.Groups.{kind_of, is_single, capacity}
+use Rattle.run_plan.specs.Groups.{is_single, capacity}
+use Rattle.exec_journal.specs.Seated.{group_for, kind_for, group_on, line_kind}
 use Rattle.exec_journal.specs.Rules as r
 use Rattle.exec_journal.specs.Paired as pr
 use Rattle.exec_journal.specs.Paired.{Paired}
-use Rattle.exec_journal.specs.Legal.{Legal}
+use Rattle.exec_journal.specs.Lawful.{Lawful, NextOn, FromBound, FromQueue, NoneBefore}
 use Rattle.exec_journal.specs.Facts.{call_line, IsOfBerth, OfBerth}
 use Rattle.journal_laws.specs.Invariant.{claimed, IsGoing, NumberedAs, older, EachRequest, LineFacts}
 use Rattle.exec_journal.proofs.Histories.{AllOf}
-use Rattle.exec_journal.proofs.Ruled as u
+use Rattle.exec_journal.proofs.Reasons as u
 use Rattle.exec_journal.proofs.Ruled.{by_bool, not_true}
-use Rattle.exec_journal.proofs.Lines.{last_line_own, lines_named}
+use Rattle.exec_journal.proofs.Lines.{last_line_own, launch_stays, lines_named}
 use Rattle.journal_laws.proofs.Fresh.{fresh}
 use Rattle.exec_journal.proofs.Begins.{same_attempt_refl, begin_in_order, bound_is, IsBound}
 use Rattle.exec_journal.proofs.Quiet.{ended_stays}
@@ -58,7 +59,7 @@ unfolding is_pending
 is_open j q h = rw (h.unanswered, h.written, h.running) refl
 
 -- its attempt is under way
-pub pending_going : (p : Plan) (j : List Entry) (l : ℕ) (q : Request) → Legal p j → k.IsSentOn j l q → is_pending j q ≡ true → IsGoing j q.attempt
+pub pending_going : (p : Plan) (j : List Entry) (l : ℕ) (q : Request) → Lawful p j → k.IsSentOn j l q → is_pending j q ≡ true → IsGoing j q.attempt
 pending_going p j l q legal on h =
     let now = pending_is j q h in
     let unclaimed : claimed j q.attempt ≡ false = false_by _ (λ yes. clash _ (c.gathered_is p j q.attempt legal (c.claimed_gathered p j q.attempt legal yes)).consumed now.unanswered) in
@@ -103,9 +104,9 @@ none_pass test (q ∷ qs) h =
 pub record SendsTo (p : Plan) (j : List Entry) (lane l : ℕ) (q : Request) : Type 0 where
   pub here : last_line j (lane / 2) ≡ Some l
   pub up : live j l ≡ true
-  pub next : r.next_for p j (lane / 2) (u.group_at p (lane / 2)) l ≡ Some q.attempt
-  pub none : u.NoneBefore p j (lane / 2)
-  pub number : q.number ≡ r.number_on p j (lane / 2) l
+  pub next : NextOn p j l q.attempt
+  pub none : NoneBefore p j (lane / 2)
+  pub number : q.number ≡ r.number_of j (line_kind p j l) l
   pub line : q.line ≡ l
 
 pub sent_on_is : (l : ℕ) (x : Reply) (q : Request) → sent_on l x ≡ Some q → (send_in x ≡ Some q) × (q.line ≡ l)
@@ -118,14 +119,14 @@ sent_on_is l _ q h = absurd (cc)
 
 pub sends_to : (p : Plan) (j : List Entry) (lane l : ℕ) (d : Call) (x : Reply) (q : Request) → u.Ruled p j lane d x → send_in x ≡ Some q → q.line ≡ l → SendsTo p j lane l q
 sends_to p j lane l d x q (u.Sends m t here alive next none) h at =
-    let e : record { line = m; number = r.number_on p j (lane / 2) m; attempt = attempt_of t.action t.branch t.number } ≡ q = cc in
+    let e : record { line = m; number = r.number_of j (line_kind p j m) m; attempt = attempt_of t.action t.branch t.number } ≡ q = cc in
     let m_is : m ≡ l = subst (λ (y : Request). y.line ≡ l) (sym e) at in
     subst (SendsTo p j lane l) e (record {
       here = subst (λ n. last_line j (lane / 2) ≡ Some n) m_is here;
       up = subst (λ n. live j n ≡ true) m_is alive;
-      next = subst (λ n. r.next_for p j (lane / 2) (u.group_at p (lane / 2)) n ≡ Some t) m_is next;
+      next = subst (λ n. NextOn p j n t) m_is next;
       none = none;
-      number = ap (r.number_on p j (lane / 2)) m_is;
+      number = ap (λ n. r.number_of j (line_kind p j n) n) m_is;
       line = m_is;
     })
 sends_to p j lane l d x q (u.KillsBroken m y here run broken over) h at = absurd (cc)
@@ -140,7 +141,7 @@ unfolding sends
 sends_same e j l h = rw h refl
 
 -- the line's berth is the lane's
-pub same_berth : (p : Plan) (j : List Entry) (l lane w : ℕ) (m : ℕ) (t : Attempt) → Legal p j → last_line j w ≡ Some l → launch_of j l ≡ Some (m, t) → m / 2 ≡ w
+pub same_berth : (p : Plan) (j : List Entry) (l lane w : ℕ) (m : ℕ) (t : Attempt) → Lawful p j → last_line j w ≡ Some l → launch_of j l ≡ Some (m, t) → m / 2 ≡ w
 same_berth p j l lane w m t legal here at =
     let own : IsOfBerth j l w = subst (λ (o : Option ℕ). OfBerth j o w) here (last_line_own w j (lines_named p j legal)) in
     let both : Some (own.owner.0, own.owner.1) ≡ Some (m, t) = sym own.owner.2 ∙ at in
@@ -172,15 +173,31 @@ launch_cases p e j l m t h = elim (k.or_some (launch_at l e) (launch_of j l) (m,
 ]
 
 -- the bound branch goes first
-bound_first : (p : Plan) (j : List Entry) (w g l : ℕ) (s t : Attempt) → bound p j l ≡ Some s → r.next_for p j w g l ≡ Some t → s ≡ t
-bound_first p j w g l s t h n = by (bound p j l) h n
-  where
-    by : (o : Option Attempt) → o ≡ Some s → or_else o (cond (nat_lt 0 (free_places p j (kind_of p w) l)) (earliest p j g) None) ≡ Some t → s ≡ t
-    by (Some x) a b = (let e : x ≡ s = cc in let d : x ≡ t = cc in sym e ∙ d)
-    by None a b = absurd (cc)
+bound_first : (p : Plan) (j : List Entry) (l : ℕ) (s t : Attempt) → bound p j l ≡ Some s → NextOn p j l t → s ≡ t
+bound_first p j l s t h (FromBound is) = let both : Some s ≡ Some t = sym h ∙ is in cc
+bound_first p j l s t h (FromQueue none room next) = let both : Some s ≡ None = sym h ∙ none in absurd (cc)
+
+pub launched_below : (p : Plan) (j : List Entry) (l m : ℕ) (t : Attempt) → Lawful p j → launch_of j l ≡ Some (m, t) → l < line_count j
+launched_below p j l m t legal at = by_bool (nat_lt l (line_count j)) (λ b. nat_lt l (line_count j) ≡ b → l < line_count j)
+    (λ _ below. ltb-true l (line_count j) below)
+    (λ _ above. (let none = (fresh p j l legal (ltb-false l (line_count j) above)).launch in let both : None ≡ Some (m, t) = sym none ∙ at in absurd (cc))) refl
+
+-- a line that was launched stays so
+pub launch_later : (p : Plan) (e : Entry) (j : List Entry) (l m : ℕ) (t : Attempt) → Lawful p (e ∷ j) → launch_of j l ≡ Some (m, t) → launch_of (e ∷ j) l ≡ Some (m, t)
+launch_later p e j l m t legal at = by_bool (nat_lt l (line_count j)) (λ b. nat_lt l (line_count j) ≡ b → launch_of (e ∷ j) l ≡ Some (m, t))
+    (λ _ below. launch_stays e j l (lines_named p (e ∷ j) legal).1.numbered (ltb-true l (line_count j) below) ∙ at)
+    (λ _ above. (let none = (fresh p j l legal.0 (ltb-false l (line_count j) above)).launch in let both : None ≡ Some (m, t) = sym none ∙ at in absurd (cc))) refl
+
+-- the group of a line is its attempt's
+pub group_is : (p : Plan) (j : List Entry) (l m : ℕ) (t : Attempt) → launch_of j l ≡ Some (m, t) → group_on p j l ≡ group_for p t
+unfolding group_on
+group_is p j l m t h = rw h refl
+
+pub kind_is : (p : Plan) (j : List Entry) (l m : ℕ) (t : Attempt) → launch_of j l ≡ Some (m, t) → line_kind p j l ≡ kind_for p t
+kind_is p j l m t h = rw (group_is p j l m t h) refl
 
 -- what is bound was bound before, where the line was there
-pub bound_before : (p : Plan) (e : Entry) (j : List Entry) (l m : ℕ) (t : Attempt) → Legal p (e ∷ j) → launch_of j l ≡ Some (m, t) → IsBound p (e ∷ j) l t → bound p j l ≡ Some t
+pub bound_before : (p : Plan) (e : Entry) (j : List Entry) (l m : ℕ) (t : Attempt) → Lawful p (e ∷ j) → launch_of j l ≡ Some (m, t) → IsBound p (e ∷ j) l t → bound p j l ≡ Some t
 unfolding bound
 bound_before p e j l m t legal at b =
     let wish = f.wanted_before p e j t.action t.branch legal b.wish in
@@ -196,13 +213,13 @@ launch_sends_none_on : (l : ℕ) (x : Reply) (y : ℕ × Attempt) → launch_in 
 launch_sends_none_on l (reply.Launch m a b t) y h = refl
 launch_sends_none_on l _ y h = absurd (cc)
 
-pub new_line_unsent : (p : Plan) (e : Entry) (j : List Entry) (l : ℕ) (t : Attempt) → Legal p (e ∷ j) → launch_in e.reply ≡ Some (l, t) → sends (e ∷ j) l ≡ []
+pub new_line_unsent : (p : Plan) (e : Entry) (j : List Entry) (l : ℕ) (t : Attempt) → Lawful p (e ∷ j) → launch_in e.reply ≡ Some (l, t) → sends (e ∷ j) l ≡ []
 new_line_unsent p e j l t legal h =
     let line = c.next_line p e j (l, t) legal h in
     sends_same e j l (launch_sends_none_on l e.reply (l, t) h) ∙ (fresh p j l legal.0 (let n = line in omega arith)).send
 
 -- while a branch is bound to a line, nothing was sent there
-pub bound_unsent : (p : Plan) (j : List Entry) (l : ℕ) (t : Attempt) → Legal p j → bound p j l ≡ Some t → sends j l ≡ []
+pub bound_unsent : (p : Plan) (j : List Entry) (l : ℕ) (t : Attempt) → Lawful p j → bound p j l ≡ Some t → sends j l ≡ []
 unfolding sends
 bound_unsent p [] l t legal h = refl
 bound_unsent p (e ∷ j) l t legal h =
@@ -214,7 +231,7 @@ bound_unsent p (e ∷ j) l t legal h =
     quiet (Some q) is b was empty =
         let s = sent_on_is l e.reply q is in
         let to = sends_to p j e.lane l e.call e.reply q (v.entry_ruled p e j legal) s.0 s.1 in
-        let same = bound_first p j (e.lane / 2) (u.group_at p (e.lane / 2)) l t q.attempt was to.next in
+        let same = bound_first p j l t q.attempt was to.next in
         absurd (clash (was_sent (e ∷ j) t) (subst (λ (x : Attempt). was_sent (e ∷ j) x ≡ true) (sym same) (sent_now e j q s.0)) b.unsent)
 
     by : (b : IsBound p (e ∷ j) l t) → Launches p e j l b.lane t → (bound p j l ≡ Some t → sends j l ≡ []) → sends (e ∷ j) l ≡ []
@@ -223,22 +240,21 @@ bound_unsent p (e ∷ j) l t legal h =
 
 -- ---- numbers
 
-pub numbered : (p : Plan) (j : List Entry) (l m : ℕ) (t : Attempt) → Legal p j → launch_of j l ≡ Some (m, t) → NumberedAs (is_single (kind_of p (m / 2))) (sends j l)
+pub numbered : (p : Plan) (j : List Entry) (l m : ℕ) (t : Attempt) → Lawful p j → launch_of j l ≡ Some (m, t) → NumberedAs (is_single (kind_for p t)) (sends j l)
 unfolding launch_of
 numbered p [] l m t legal h = absurd (cc)
 numbered p (e ∷ j) l m t legal h = by (launch_cases p e j l m t h) (λ y. numbered p j l m t legal.0 y)
   where
-    more : (o : Option Request) → sent_on l e.reply ≡ o → launch_of j l ≡ Some (m, t) → NumberedAs (is_single (kind_of p (m / 2))) (sends j l) → NumberedAs (is_single (kind_of p (m / 2))) (sends (e ∷ j) l)
-    more None is at old = subst (NumberedAs (is_single (kind_of p (m / 2)))) (sym (sends_same e j l is)) old
+    more : (o : Option Request) → sent_on l e.reply ≡ o → launch_of j l ≡ Some (m, t) → NumberedAs (is_single (kind_for p t)) (sends j l) → NumberedAs (is_single (kind_for p t)) (sends (e ∷ j) l)
+    more None is at old = subst (NumberedAs (is_single (kind_for p t))) (sym (sends_same e j l is)) old
     more (Some q) is at old =
         let s = sent_on_is l e.reply q is in
         let to = sends_to p j e.lane l e.call e.reply q (v.entry_ruled p e j legal) s.0 s.1 in
-        let w = same_berth p j l e.lane (e.lane / 2) m t legal.0 to.here at in
-        let n : q.number ≡ r.number_on p j (m / 2) l = subst (λ i. q.number ≡ r.number_on p j i l) (sym w) to.number in
-        subst (NumberedAs (is_single (kind_of p (m / 2)))) (sym (sends_grow e j l q is)) (n, old)
+        let n : q.number ≡ r.number_of j (kind_for p t) l = subst (λ (i : Kind). q.number ≡ r.number_of j i l) (kind_is p j l m t at) to.number in
+        subst (NumberedAs (is_single (kind_for p t))) (sym (sends_grow e j l q is)) (n, old)
 
-    by : Launches p e j l m t → (launch_of j l ≡ Some (m, t) → NumberedAs (is_single (kind_of p (m / 2))) (sends j l)) → NumberedAs (is_single (kind_of p (m / 2))) (sends (e ∷ j) l)
-    by (Now is lane) ih = subst (NumberedAs (is_single (kind_of p (m / 2)))) (sym (new_line_unsent p e j l t legal is)) tt
+    by : Launches p e j l m t → (launch_of j l ≡ Some (m, t) → NumberedAs (is_single (kind_for p t)) (sends j l)) → NumberedAs (is_single (kind_for p t)) (sends (e ∷ j) l)
+    by (Now is lane) ih = subst (NumberedAs (is_single (kind_for p t))) (sym (new_line_unsent p e j l t legal is)) tt
     by (Before at) ih = more (sent_on l e.reply) refl at (ih at)
 
 -- ---- on a Single line only the newest request can be pending
@@ -257,19 +273,15 @@ room_is p j k l one h =
     omega arith
 
 -- before a Send on a Single line, none of its requests is pending
-pub none_pending : (p : Plan) (j : List Entry) (lane l : ℕ) (q : Request) → Legal p j → is_single (kind_of p (lane / 2)) ≡ true → SendsTo p j lane l q → EachRequest (λ x. is_pending j x ≡ false) (sends j l)
+pub none_pending : (p : Plan) (j : List Entry) (lane l : ℕ) (q : Request) → Lawful p j → is_single (line_kind p j l) ≡ true → SendsTo p j lane l q → EachRequest (λ x. is_pending j x ≡ false) (sends j l)
 unfolding pending
-none_pending p j lane l q legal one to = by (bound p j l) refl to.next
+none_pending p j lane l q legal one to = by to.next
   where
-    by : (o : Option Attempt) → bound p j l ≡ o → or_else o (cond (nat_lt 0 (free_places p j (kind_of p (lane / 2)) l)) (earliest p j (u.group_at p (lane / 2))) None) ≡ Some q.attempt
-        → EachRequest (λ x. is_pending j x ≡ false) (sends j l)
-    by (Some t) is n = subst (EachRequest (λ x. is_pending j x ≡ false)) (sym (bound_unsent p j l t legal is)) tt
-    by None is n =
-        by_bool (nat_lt 0 (free_places p j (kind_of p (lane / 2)) l))
-        (λ z. nat_lt 0 (free_places p j (kind_of p (lane / 2)) l) ≡ z → cond z (earliest p j (u.group_at p (lane / 2))) None ≡ Some q.attempt → EachRequest (λ x. is_pending j x ≡ false) (sends j l))
-        (λ _ room _. none_pass (is_pending j) (sends j l) (room_is p j (kind_of p (lane / 2)) l one room)) (λ _ _ y. absurd (cc)) refl n
+    by : NextOn p j l q.attempt → EachRequest (λ x. is_pending j x ≡ false) (sends j l)
+    by (FromBound is) = subst (EachRequest (λ x. is_pending j x ≡ false)) (sym (bound_unsent p j l q.attempt legal is)) tt
+    by (FromQueue is room next) = none_pass (is_pending j) (sends j l) (room_is p j (line_kind p j l) l one room)
 
-pub older_closed : (p : Plan) (j : List Entry) (l m : ℕ) (t : Attempt) → Legal p j → launch_of j l ≡ Some (m, t) → is_single (kind_of p (m / 2)) ≡ true → EachRequest (λ q. is_pending j q ≡ false) (older (sends j l))
+pub older_closed : (p : Plan) (j : List Entry) (l m : ℕ) (t : Attempt) → Lawful p j → launch_of j l ≡ Some (m, t) → is_single (kind_for p t) ≡ true → EachRequest (λ q. is_pending j q ≡ false) (older (sends j l))
 unfolding launch_of
 older_closed p [] l m t legal h one = absurd (cc)
 older_closed p (e ∷ j) l m t legal h one = by (launch_cases p e j l m t h) (λ y. older_closed p j l m t legal.0 y one)
@@ -285,22 +297,22 @@ older_closed p (e ∷ j) l m t legal h one = by (launch_cases p e j l m t h) (λ
     more (Some q) is at old =
         let s = sent_on_is l e.reply q is in
         let to = sends_to p j e.lane l e.call e.reply q (v.entry_ruled p e j legal) s.0 s.1 in
-        let w = same_berth p j l e.lane (e.lane / 2) m t legal.0 to.here at in
-        let single : is_single (kind_of p (e.lane / 2)) ≡ true = subst (λ i. is_single (kind_of p i) ≡ true) w one in
+        let single : is_single (line_kind p j l) ≡ true = subst (λ (i : Kind). is_single i ≡ true) (sym (kind_is p j l m t at)) one in
         subst (λ qs. EachRequest (λ x. is_pending (e ∷ j) x ≡ false) (older qs)) (sym (sends_grow e j l q is)) (still (sends j l) (none_pending p j e.lane l q legal.0 single to))
 
     by : Launches p e j l m t → (launch_of j l ≡ Some (m, t) → EachRequest (λ q. is_pending j q ≡ false) (older (sends j l))) → EachRequest (λ q. is_pending (e ∷ j) q ≡ false) (older (sends (e ∷ j) l))
     by (Now is lane) ih = subst (λ qs. EachRequest (λ x. is_pending (e ∷ j) x ≡ false) (older qs)) (sym (new_line_unsent p e j l t legal is)) tt
     by (Before at) ih = more (sent_on l e.reply) refl at (ih at)
 
-pub line_facts : (p : Plan) (j : List Entry) (l w : ℕ) → Legal p j → IsOfBerth j l w → LineFacts p j l w
+pub line_facts : (p : Plan) (j : List Entry) (l w : ℕ) → Lawful p j → IsOfBerth j l w → LineFacts p j l
 line_facts p j l w legal own =
     let at = own.owner.2 in
-    subst (λ i. LineFacts p j l i) own.owner.3 (record {
-      numbers = numbered p j l own.owner.0 own.owner.1 legal at;
+    let kind = kind_is p j l own.owner.0 own.owner.1 at in
+    record {
+      numbers = subst (λ (i : Kind). NumberedAs (is_single i) (sends j l)) (sym kind) (numbered p j l own.owner.0 own.owner.1 legal at);
       unsent = λ t h. bound_unsent p j l t legal h;
-      closed = λ one. older_closed p j l own.owner.0 own.owner.1 legal at one;
-    })
+      closed = λ one. older_closed p j l own.owner.0 own.owner.1 legal at (subst (λ (i : Kind). is_single i ≡ true) kind one);
+    }
 
 -- ---- Paired
 
@@ -353,19 +365,19 @@ only_one (y ∷ qs) z q all h =
     (λ _ _ m. only_one qs z q all.1 m) refl h
 
 -- the request of a consumed answer
-module _ (p : Plan) (j : List Entry) (lane l : ℕ) (x : Answer) (q : Request) (legal : Legal p j) (own : IsOfBerth j l (lane / 2)) (asked : u.IsRequest p j (lane / 2) l x q) where
-  facts : LineFacts p j l (lane / 2)
+module _ (p : Plan) (j : List Entry) (lane l : ℕ) (x : Answer) (q : Request) (legal : Lawful p j) (own : IsOfBerth j l (lane / 2)) (asked : u.IsRequest p j l x q) where
+  facts : LineFacts p j l
   facts = line_facts p j l (lane / 2) legal own
 
-  pub number_same : (b : Bool) → is_single (kind_of p (lane / 2)) ≡ b → int_eq q.number x.number ≡ true
+  pub number_same : (b : Bool) → is_single (line_kind p j l) ≡ b → int_eq q.number x.number ≡ true
   unfolding pending
   number_same true one =
       let zero_asked = (Decides-int_eq x.number (pos 0)).0 (asked.single one).0 in
-      let zero_sent = v.of_request p j (lane / 2) l x q (λ y. y.number ≡ pos 0) asked (all_zero (sends j l) (subst (λ b. NumberedAs b (sends j l)) one facts.numbers)) in
+      let zero_sent = v.of_request p j l x q (λ y. y.number ≡ pos 0) asked (all_zero (sends j l) (subst (λ b. NumberedAs b (sends j l)) one facts.numbers)) in
       (Decides-int_eq q.number x.number).1 (zero_sent ∙ sym zero_asked)
   number_same false many = find_passes (λ y. int_eq y.number x.number) (sends j l) q (asked.multi many)
 
-  was_asked_so : (b : Bool) → is_single (kind_of p (lane / 2)) ≡ b → pr.was_asked j l x.number q.attempt ≡ true
+  was_asked_so : (b : Bool) → is_single (line_kind p j l) ≡ b → pr.was_asked j l x.number q.attempt ≡ true
   unfolding pending
   was_asked_so true one =
       any_head (is_pending j) (λ y. same_attempt y.attempt q.attempt && int_eq y.number x.number) (sends j l) q (asked.single one).1
@@ -374,7 +386,7 @@ module _ (p : Plan) (j : List Entry) (lane l : ℕ) (x : Answer) (q : Request) (
       any_find (λ y. int_eq y.number x.number) (λ y. same_attempt y.attempt q.attempt && int_eq y.number x.number) (sends j l) q (asked.multi many)
       (and_from _ _ (same_attempt_refl q.attempt) (number_same false many))
 
-  own_send : (b : Bool) → is_single (kind_of p (lane / 2)) ≡ b → (cond b (pr.is_last_send j l q.attempt) (pr.is_only_send j l x.number)) ≡ true
+  own_send : (b : Bool) → is_single (line_kind p j l) ≡ b → (cond b (pr.is_last_send j l q.attempt) (pr.is_only_send j l x.number)) ≡ true
   unfolding pending
   own_send true one =
       let h = first_head (is_pending j) (sends j l) q (facts.closed one) (asked.single one).1 in
@@ -383,10 +395,10 @@ module _ (p : Plan) (j : List Entry) (lane l : ℕ) (x : Answer) (q : Request) (
       let n = only_one (sends j l) x.number q (subst (λ b. NumberedAs b (sends j l)) many facts.numbers) (asked.multi many) in
       eq-eqb _ 1 n
 
-  pub requested : pr.has_request (is_single (kind_of p (lane / 2))) j l x.number q.attempt ≡ true
+  pub requested : pr.has_request (is_single (line_kind p j l)) j l x.number q.attempt ≡ true
   requested =
-      and_from _ _ (was_asked_so (is_single (kind_of p (lane / 2))) refl)
-      (and_from _ _ (not_from_false _ (v.pending_unanswered j q asked.is_open)) (own_send (is_single (kind_of p (lane / 2))) refl))
+      and_from _ _ (was_asked_so (is_single (line_kind p j l)) refl)
+      (and_from _ _ (not_from_false _ (v.pending_unanswered j q asked.is_open)) (own_send (is_single (line_kind p j l)) refl))
 
 -- each request of a live line that isn't pending was answered, where its Wrote says Done
 pub live_running : (j : List Entry) (l : ℕ) → live j l ≡ true → has_ended j l ≡ false
@@ -418,11 +430,11 @@ none_long test (x ∷ xs) h =
 pub new_number : (j : List Entry) (l : ℕ) (n : ℤ) → NumberedAs false (sends j l) → n ≡ pos (length (sends j l) + 1) → pr.is_new_number j l n ≡ true
 new_number j l n numbers is = rw (none_long (λ x. int_eq x.number n) (sends j l) (fewer (sends j l) (length (sends j l) + 1) n numbers (omega arith) is)) refl
 
-next_is_new : (p : Plan) (j : List Entry) (lane l : ℕ) → Legal p j → last_line j (lane / 2) ≡ Some l → is_single (kind_of p (lane / 2)) ≡ false → pr.is_new_number j l (r.number_on p j (lane / 2) l) ≡ true
+next_is_new : (p : Plan) (j : List Entry) (lane l : ℕ) → Lawful p j → last_line j (lane / 2) ≡ Some l → is_single (line_kind p j l) ≡ false → pr.is_new_number j l (r.number_of j (line_kind p j l) l) ≡ true
 next_is_new p j lane l legal here many =
     let own : IsOfBerth j l (lane / 2) = subst (λ (o : Option ℕ). OfBerth j o (lane / 2)) here (last_line_own (lane / 2) j (lines_named p j legal)) in
     let facts = line_facts p j l (lane / 2) legal own in
-    new_number j l (r.number_on p j (lane / 2) l) (subst (λ b. NumberedAs b (sends j l)) many facts.numbers) (ap (λ b. cond b (pos 0) (pos (length (sends j l) + 1))) many)
+    new_number j l (r.number_of j (line_kind p j l) l) (subst (λ b. NumberedAs b (sends j l)) many facts.numbers) (ap (λ b. cond b (pos 0) (pos (length (sends j l) + 1))) many)
 
 noted_pairs : (p : Plan) (j : List Entry) (lane : ℕ) (d : Call) → pr.pair_at p j lane d reply.Noted ≡ true
 noted_pairs p j lane (call.Answer l x) = refl
@@ -431,19 +443,19 @@ noted_pairs p j lane _ = refl
 attempt_eta : (q : Request) → attempt_of q.attempt.action q.attempt.branch q.attempt.number ≡ q.attempt
 attempt_eta q = refl
 
-pair_of : (p : Plan) (j : List Entry) (lane : ℕ) (d : Call) (x : Reply) → Legal p j → (OfBerth j (call_line d) (lane / 2)) → u.Ruled p j lane d x → pr.pair_at p j lane d x ≡ true
+pair_of : (p : Plan) (j : List Entry) (lane : ℕ) (d : Call) (x : Reply) → Lawful p j → (OfBerth j (call_line d) (lane / 2)) → u.Ruled p j lane d x → pr.pair_at p j lane d x ≡ true
 pair_of p j lane d x legal own (u.IsLate l y q asked won) = requested p j lane l y q legal own asked
 pair_of p j lane d x legal own (u.IsMatched l y q asked free) = requested p j lane l y q legal own asked
 pair_of p j lane d x legal own (u.Sends l t here alive next none) =
-    by_bool (is_single (kind_of p (lane / 2))) (λ b. is_single (kind_of p (lane / 2)) ≡ b → (cond b (pr.all_answered j l) (pr.is_new_number j l (r.number_on p j (lane / 2) l))) ≡ true)
+    by_bool (is_single (line_kind p j l)) (λ b. is_single (line_kind p j l) ≡ b → (cond b (pr.all_answered j l) (pr.is_new_number j l (r.number_of j (line_kind p j l) l))) ≡ true)
     (λ _ one. each_answered j l (sends j l) (live_running j l alive) (k.sends_on j l (begin_in_order p j legal))
-    (none_pending p j lane l (record { line = l; number = r.number_on p j (lane / 2) l; attempt = t }) legal one
+    (none_pending p j lane l (record { line = l; number = r.number_of j (line_kind p j l) l; attempt = t }) legal one
     (record { here = here; up = alive; next = next; none = none; number = refl; line = refl })))
     (λ _ many. next_is_new p j lane l legal here many) refl
 pair_of p j lane d x legal own (u.Notes c n) = noted_pairs p j lane d
 pair_of p j lane d x legal own (u.KillsBroken l y here run broken over) = refl
 pair_of p j lane d x legal own _ = refl
 
-pub paired : (p : Plan) (j : List Entry) → Legal p j → Paired p j
+pub paired : (p : Plan) (j : List Entry) → Lawful p j → Paired p j
 paired p [] legal = tt
 paired p (e ∷ j) legal = (paired p j legal.0, pair_of p j e.lane e.call e.reply legal.0 (lines_named p (e ∷ j) legal).1.called (v.entry_ruled p e j legal))

@@ -22,10 +22,10 @@ use Rattle.exec_journal.specs.Rules as r
 use Rattle.exec_journal.specs.Rules.{is_other}
 use Rattle.exec_journal.specs.Accounted.{is_followed, is_attempt_accounted, Accounted}
 use Rattle.run_plan.specs.Sound.{Sound}
-use Rattle.exec_journal.specs.Legal.{Legal}
+use Rattle.exec_journal.specs.Lawful.{Lawful, Told}
 use Rattle.exec_journal.specs.Facts.{begun, BeginsNext, Begins}
 use Rattle.journal_laws.specs.Invariant.{HasInputs}
-use Rattle.exec_journal.proofs.Ruled as u
+use Rattle.exec_journal.proofs.Reasons as u
 use Rattle.exec_journal.proofs.Ruled.{by_bool, not_true}
 use Rattle.exec_journal.proofs.Begins.{same_attempt_refl, same_branch_eq, begin_in_order, attempts_in_order, attempt_begun, attempt_other, is_for_eq, launched_begun}
 use Rattle.journal_laws.proofs.Claims as c
@@ -63,7 +63,7 @@ no_number e a b (Some s) is h = rw (is, h s refl) refl
 pub branch_parts : (a : ℕ) (b : Branch) (s : Attempt) → is_branch_of a b s ≡ true → (s.action ≡ a) × (s.branch ≡ b)
 branch_parts a b s h = let parts = and_parts (s.action == a) _ h in (eqb-true s.action a parts.0, same_branch_eq s.branch b parts.1)
 
-pub no_gap : (p : Plan) (j : List Entry) (a : ℕ) (b : Branch) (n : ℕ) → Legal p j → 1 ≤ n → n ≤ attempt j a b → begun j (attempt_of a b n) ≡ true
+pub no_gap : (p : Plan) (j : List Entry) (a : ℕ) (b : Branch) (n : ℕ) → Lawful p j → 1 ≤ n → n ≤ attempt j a b → begun j (attempt_of a b n) ≡ true
 unfolding attempt
 no_gap p [] a b n legal low high = absurd (omega arith)
 no_gap p (e ∷ j) a b n legal low high = by (begun_in e.reply) refl (λ le. no_gap p j a b n legal.0 low le)
@@ -113,7 +113,7 @@ followed_here : (e : Entry) (j : List Entry) (t : Attempt) → begun_in e.reply 
 unfolding is_followed
 followed_here e j t h over = or_left (is_for (next_of t) (begun_in e.reply) && ended j t) _ (rw h (and_from _ _ (same_attempt_refl (next_of t)) over))
 
-pub followed : (p : Plan) (j : List Entry) (t : Attempt) → Legal p j → 1 ≤ t.number → begun j (next_of t) ≡ true → is_followed j t ≡ true
+pub followed : (p : Plan) (j : List Entry) (t : Attempt) → Lawful p j → 1 ≤ t.number → begun j (next_of t) ≡ true → is_followed j t ≡ true
 unfolding begun
 followed p [] t legal low h = absurd (cc)
 followed p (e ∷ j) t legal low h = by (or_cases (is_for (next_of t) (begun_in e.reply)) (begun j (next_of t)) h) (λ y. followed p j t legal.0 low y)
@@ -135,15 +135,16 @@ followed p (e ∷ j) t legal low h = by (or_cases (is_for (next_of t) (begun_in 
 -- ---- Stop
 
 pub stop_is : (p : Plan) (j : List Entry) (lane : ℕ) (d : Call) (x : Reply) → u.Ruled p j lane d x → x ≡ reply.Stop → r.is_over p j ≡ true
-stop_is p j lane d x (u.Stops over) h = over
+stop_is p j lane d x (u.Stops over gone) h = over
 stop_is p j lane d x (u.TakeStops over) h = over
+stop_is p j lane d x (u.Ticks over) h = over
 stop_is p j lane d x (u.KillsBroken l y here run broken over) h = absurd (cc)
 stop_is p j lane d x (u.Notes e n) h = absurd (cc)
 stop_is p j lane d x _ h = absurd (cc)
 
 -- where it is answered and no lane has halted, all actions are settled
-pub stop_settles : (p : Plan) (j : List Entry) (lane : ℕ) (d : Call) → r.rule p j lane d ≡ reply.Stop → halted j ≡ false → all_settled p j ≡ true
-stop_settles p j lane d h none = elim (or_cases (all_settled p j) (halted j) (stop_is p j lane d (r.rule p j lane d) (u.ruled p j lane d) h)) [
+pub stop_settles : (p : Plan) (j : List Entry) (lane : ℕ) (d : Call) → Told p j lane d reply.Stop → halted j ≡ false → all_settled p j ≡ true
+stop_settles p j lane d h none = elim (or_cases (all_settled p j) (halted j) (stop_is p j lane d reply.Stop (u.told_ruled p j lane d reply.Stop h) refl)) [
   | inl all ↦ all
   | inr halt ↦ absurd (clash (halted j) halt none)
 ]
@@ -162,7 +163,7 @@ each_settled p j a x all at =
 
 -- ---- each attempt that ended is accounted for
 
-module _ (p : Plan) (j : List Entry) (t : Attempt) (sound : Sound p) (legal : Legal p j) (all : all_settled p j ≡ true) (over : ended j t ≡ true) where
+module _ (p : Plan) (j : List Entry) (t : Attempt) (sound : Sound p) (legal : Lawful p j) (all : all_settled p j ≡ true) (over : ended j t ≡ true) where
   start : begun j t ≡ true
   start = c.ended_begun p j t legal over
 
@@ -214,12 +215,12 @@ module _ (p : Plan) (j : List Entry) (t : Attempt) (sound : Sound p) (legal : Le
       ]
 
 -- where all actions are settled, nothing is lost
-pub settled_accounted : (p : Plan) (j : List Entry) → Sound p → Legal p j → all_settled p j ≡ true → Accounted p j
+pub settled_accounted : (p : Plan) (j : List Entry) → Sound p → Lawful p j → all_settled p j ≡ true → Accounted p j
 settled_accounted p j sound legal all = record {
   requests = ra.requests_accounted p j legal;
   attempts = λ t over. attempt_accounted p j t sound legal all over;
 }
 
 -- at Stop, where no lane has halted
-pub accounted : (p : Plan) (j : List Entry) (lane : ℕ) (d : Call) → Sound p → Legal p j → r.rule p j lane d ≡ reply.Stop → halted j ≡ false → Accounted p j
+pub accounted : (p : Plan) (j : List Entry) (lane : ℕ) (d : Call) → Sound p → Lawful p j → Told p j lane d reply.Stop → halted j ≡ false → Accounted p j
 accounted p j lane d sound legal h none = settled_accounted p j sound legal (stop_settles p j lane d h none)

@@ -14,11 +14,11 @@ use Rattle.exec_journal.specs.Entries.{Request, attempt_of, launch_in, send_in, 
 use Rattle.exec_journal.specs.Words.{last_line, line_at, lines_of, launch_of, sends, sent_on, is_pending, has_ended, started, failed, was_killed, broke, live}
 use Rattle.exec_journal.specs.Rules.{is_vacant, head}
 use Rattle.exec_journal.specs.Kept.{sent_by, requests_of, is_room_free}
-use Rattle.exec_journal.specs.Legal.{Legal}
+use Rattle.exec_journal.specs.Lawful.{Lawful}
 use Rattle.exec_journal.specs.Facts.{reply_line, IsOfBerth, OfBerth}
 use Rattle.journal_laws.specs.Invariant.{EachRequest}
 use Rattle.exec_journal.proofs.Histories.{AllOf}
-use Rattle.exec_journal.proofs.Ruled as u
+use Rattle.exec_journal.proofs.Reasons as u
 use Rattle.exec_journal.proofs.Ruled.{by_bool, not_true}
 use Rattle.exec_journal.proofs.Lines.{lines_named, of_berth_more}
 use Rattle.exec_journal.proofs.Begins.{begin_in_order}
@@ -44,7 +44,7 @@ done_stays e j l h = elim (or_cases (failed j l) _ h) [
 -- ---- the lines of a berth, the newest first
 
 -- all but the first are done
-pub EachDone : List Entry → List ℕ → Type 0
+unfoldable pub EachDone : List Entry → List ℕ → Type 0
 EachDone j [] = Unit {0}
 EachDone j (l ∷ ls) = (is_done_line j l ≡ true) × EachDone j ls
 
@@ -80,7 +80,7 @@ line_at_is w e l h =
     of_launch (Some x) is m same = (let n : x.0 ≡ l = cc in (x.1, is ∙ ap (λ i. Some (i, x.1)) n, same))
 
 launches_for : (p : Plan) (j : List Entry) (lane : ℕ) (d : Call) (x : Reply) (y : ℕ × Attempt) → u.Ruled p j lane d x → launch_in x ≡ Some y → LaunchesFor p j (lane / 2)
-launches_for p j lane d x y (u.Launches t vacant full next none) h = record { vacant = vacant }
+launches_for p j lane d x y (u.Launches gr t vacant next none) h = record { vacant = vacant }
 launches_for p j lane d x y (u.KillsBroken l z here run broken over) h = absurd (cc)
 launches_for p j lane d x y _ h = absurd (cc)
 
@@ -93,7 +93,7 @@ lines_grow : (e : Entry) (j : List Entry) (w : ℕ) (o : Option ℕ) → line_at
 unfolding lines_of
 lines_grow e j w o h = rw h refl
 
-pub older_done : (p : Plan) (j : List Entry) (w : ℕ) → Legal p j → EachDone j (rest (lines_of j w))
+pub older_done : (p : Plan) (j : List Entry) (w : ℕ) → Lawful p j → EachDone j (rest (lines_of j w))
 unfolding lines_of EachDone
 older_done p [] w legal = tt
 older_done p (e ∷ j) w legal = by (line_at w e) refl (older_done p j w legal.0)
@@ -107,7 +107,7 @@ older_done p (e ∷ j) w legal = by (line_at w e) refl (older_done p j w legal.0
         dones_stay e j (lines_of j w) (all_done j (lines_of j w) (ap (is_vacant j) (head_last j w) ∙ vacant) all)
 
 -- each line of the berth is its last, or done
-pub last_or_done : (p : Plan) (j : List Entry) (l m : ℕ) (t : Attempt) → Legal p j → launch_of j l ≡ Some (m, t) → (last_line j (m / 2) ≡ Some l) ⊎ (is_done_line j l ≡ true)
+pub last_or_done : (p : Plan) (j : List Entry) (l m : ℕ) (t : Attempt) → Lawful p j → launch_of j l ≡ Some (m, t) → (last_line j (m / 2) ≡ Some l) ⊎ (is_done_line j l ≡ true)
 unfolding launch_of last_line
 last_or_done p [] l m t legal h = absurd (cc)
 last_or_done p (e ∷ j) l m t legal h = by (q.launch_cases p e j l m t h) (λ y. last_or_done p j l m t legal.0 y)
@@ -131,7 +131,7 @@ last_or_done p (e ∷ j) l m t legal h = by (q.launch_cases p e j l m t h) (λ y
 
 -- ---- a done line is not live, and nothing is pending on it
 
-pub done_not_live : (p : Plan) (j : List Entry) (l : ℕ) → Legal p j → is_done_line j l ≡ true → live j l ≡ false
+pub done_not_live : (p : Plan) (j : List Entry) (l : ℕ) → Lawful p j → is_done_line j l ≡ true → live j l ≡ false
 unfolding live
 done_not_live p j l legal h = elim (or_cases (failed j l) _ h) [
   | inl a ↦ and_left (started j l) _ (false_by _ (λ up. clash (failed j l) a (c.started_unfailed p j l legal up)))
@@ -144,7 +144,7 @@ done_not_live p j l legal h = elim (or_cases (failed j l) _ h) [
     not_so x false z h = absurd (cc)
 
 -- a line to which something was sent was started
-sent_started_here : (p : Plan) (e : Entry) (j : List Entry) (x : Request) → Legal p (e ∷ j) → send_in e.reply ≡ Some x → started (e ∷ j) x.line ≡ true
+sent_started_here : (p : Plan) (e : Entry) (j : List Entry) (x : Request) → Lawful p (e ∷ j) → send_in e.reply ≡ Some x → started (e ∷ j) x.line ≡ true
 unfolding started
 sent_started_here p e j x legal h = or_right _ (started j x.line) (c.live_started j x.line (c.sends_live p j e.lane e.call e.reply x (v.entry_ruled p e j legal) h))
 
@@ -190,7 +190,7 @@ among_later e j x among test all = among test (less (sent_on x.line e.reply) (se
     less None xs a = a
     less (Some y) xs a = a.1
 
-pub berth_requests : (p : Plan) (j : List Entry) (w : ℕ) → Legal p j → AllOf (IsBerthRequest j w) (requests_of j w)
+pub berth_requests : (p : Plan) (j : List Entry) (w : ℕ) → Lawful p j → AllOf (IsBerthRequest j w) (requests_of j w)
 berth_requests p [] w legal = tt
 berth_requests p (e ∷ j) w legal =
     k.all_more (IsBerthRequest (e ∷ j) w) (sent_by w e) (each (λ _ d. sent_by w d) j)
@@ -226,7 +226,7 @@ among_closed j x among all = among (is_pending j) all
 
 -- ---- when a room is free
 
-done_closed : (p : Plan) (j : List Entry) (w : ℕ) (x : Request) → Legal p j → IsBerthRequest j w x → is_done_line j x.line ≡ true → is_pending j x ≡ false
+done_closed : (p : Plan) (j : List Entry) (w : ℕ) (x : Request) → Lawful p j → IsBerthRequest j w x → is_done_line j x.line ≡ true → is_pending j x ≡ false
 done_closed p j w x legal of_berth h = false_by _ (λ open_yet. by (q.pending_is j x open_yet) (or_cases (failed j x.line) _ h))
   where
     by : q.IsOpen j x → (failed j x.line ≡ true) ⊎ ((has_ended j x.line && was_killed j x.line) ≡ true) → ⊥
@@ -238,7 +238,7 @@ none_of test [] all = refl
 none_of test (x ∷ xs) all = or_from _ _ all.0 (none_of test xs all.1)
 
 -- a berth whose last line's requests are all closed has a free room
-pub room_free : (p : Plan) (j : List Entry) (w : ℕ) → Legal p j → ((x : Request) → IsBerthRequest j w x → last_line j w ≡ Some x.line → is_pending j x ≡ false) → is_room_free j w ≡ true
+pub room_free : (p : Plan) (j : List Entry) (w : ℕ) → Lawful p j → ((x : Request) → IsBerthRequest j w x → last_line j w ≡ Some x.line → is_pending j x ≡ false) → is_room_free j w ≡ true
 room_free p j w legal last =
     rw (none_of (is_pending j) (requests_of j w) (k.all_map (IsBerthRequest j w) (λ x. is_pending j x ≡ false) one _ (berth_requests p j w legal))) refl
   where
@@ -250,18 +250,18 @@ room_free p j w legal last =
         by (inr done) = done_closed p j w x legal h done
 
 -- a vacant berth has
-pub vacant_room : (p : Plan) (j : List Entry) (w : ℕ) → Legal p j → is_vacant j (last_line j w) ≡ true → is_room_free j w ≡ true
+pub vacant_room : (p : Plan) (j : List Entry) (w : ℕ) → Lawful p j → is_vacant j (last_line j w) ≡ true → is_room_free j w ≡ true
 vacant_room p j w legal vacant =
     room_free p j w legal (λ x h here. done_closed p j w x legal h (subst (λ (o : Option ℕ). is_vacant j o ≡ true) here vacant))
 
 -- ---- one live line
 
-live_lines : (p : Plan) (j : List Entry) (ls : List ℕ) → Legal p j → EachDone j ls → length (filter (live j) ls) ≡ 0
+live_lines : (p : Plan) (j : List Entry) (ls : List ℕ) → Lawful p j → EachDone j ls → length (filter (live j) ls) ≡ 0
 unfolding EachDone
 live_lines p j [] legal all = refl
 live_lines p j (l ∷ ls) legal all = rw (done_not_live p j l legal all.0) (live_lines p j ls legal all.1)
 
-pub one_live : (p : Plan) (j : List Entry) (w : ℕ) → Legal p j → nat_le (length (filter (live j) (lines_of j w))) 1 ≡ true
+pub one_live : (p : Plan) (j : List Entry) (w : ℕ) → Lawful p j → nat_le (length (filter (live j) (lines_of j w))) 1 ≡ true
 one_live p j w legal = by (lines_of j w) (older_done p j w legal)
   where
     by : (ls : List ℕ) → EachDone j (rest ls) → nat_le (length (filter (live j) ls)) 1 ≡ true

@@ -14,7 +14,8 @@ use Rattle.exec_journal.specs.Entries.{Request, attempt_of, same_attempt}
 use Rattle.exec_journal.specs.Words.{sends, is_pending, answered, wrote, wrote_at, says_done, says_feed_fault, has_ended}
 use Rattle.exec_journal.specs.Attempts.{attempt, line_of, fault_at, ended}
 use Rattle.exec_journal.specs.Settled.{ready, bound}
-use Rattle.run_plan.specs.Groups.{group_of, kind_of, is_single}
+use Rattle.run_plan.specs.Groups.{group_of, is_single}
+use Rattle.exec_journal.specs.Seated.{line_kind}
 use Rattle.exec_journal.specs.Rules.{gathered}
 use Rattle.exec_journal.specs.Facts.{begun}
 
@@ -75,13 +76,13 @@ abbrev pub EachRequest : (Request → Type 0) → List Request → Type 0
 EachRequest P [] = Unit {0}
 EachRequest P (r ∷ rs) = P r × EachRequest P rs
 
--- a line that the proxy lane of the berth w launched: its requests have the numbers of the berth's
+-- a line that was launched: its requests have the numbers of its group's
 -- kind; while a branch is bound to it, it has none; and in a Single group only its newest request
 -- can be pending
-pub record LineFacts (p : Plan) (j : List Entry) (l w : ℕ) : Type 0 where
-  pub numbers : NumberedAs (is_single (kind_of p w)) (sends j l)
+pub record LineFacts (p : Plan) (j : List Entry) (l : ℕ) : Type 0 where
+  pub numbers : NumberedAs (is_single (line_kind p j l)) (sends j l)
   pub unsent : (t : Attempt) → bound p j l ≡ Some t → sends j l ≡ []
-  pub closed : is_single (kind_of p w) ≡ true
+  pub closed : is_single (line_kind p j l) ≡ true
       → EachRequest (λ q. is_pending j q ≡ false) (older (sends j l))
 
 -- ---- which attempts end with an entry

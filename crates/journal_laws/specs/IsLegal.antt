@@ -24,6 +24,7 @@ same_why why.Breach why.Breach = true
 same_why why.Feed why.Feed = true
 same_why why.Unwanted why.Unwanted = true
 same_why why.Quit why.Quit = true
+same_why why.Evicted why.Evicted = true
 same_why _ _ = false
 
 abbrev pub same_stray : StrayWhy → StrayWhy → Bool

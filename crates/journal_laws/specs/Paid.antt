@@ -16,9 +16,13 @@ abbrev pub may_halt : List Entry → ℕ → Bool
 may_halt j lane = not (stopped j lane) && not (has_halted j lane)
 
 -- one Halt of each lane of the plan that neither stopped nor halted, and a Committed that is owed
+abbrev pub seat_paid : ℕ → List Entry → ℕ → Call → Bool
+seat_paid seats j lane call.Halt = nat_lt lane (2 * seats) && may_halt j lane
+seat_paid seats j lane c = nat_lt lane (2 * seats) && is_owed_commit c (last_work j lane)
+
+-- by the plan's own berths
 abbrev pub is_paid : Plan → List Entry → ℕ → Call → Bool
-is_paid p j lane call.Halt = nat_lt lane (2 * berths p) && may_halt j lane
-is_paid p j lane c = nat_lt lane (2 * berths p) && is_owed_commit c (last_work j lane)
+is_paid p j lane c = seat_paid (berths p) j lane c
 
 -- ---- how many of them are still to come
 
@@ -43,5 +47,8 @@ unfoldable pub lanes_owe : List Entry → ℕ → ℕ
 lanes_owe j zero = 0
 lanes_owe j (suc n) = lanes_owe j n + lane_owes j n
 
+abbrev pub seats_owe : ℕ → List Entry → ℕ
+seats_owe seats j = lanes_owe j (2 * seats)
+
 abbrev pub owes : Plan → List Entry → ℕ
-owes p j = lanes_owe j (2 * berths p)
+owes p j = seats_owe (berths p) j

@@ -18,8 +18,9 @@ use Rattle.exec_journal.specs.Entries.{Request, attempt_of, same_attempt}
 use Rattle.exec_journal.specs.Words.{line_count, last_line, launch_of, line_cause, broke, live, kill_ordered, has_spoken, has_greeted, sends, has_ended, was_sent, answered, match_of, wrote, is_pending, pending, has_cancel, granted, grant_of, commit_of}
 use Rattle.exec_journal.specs.Attempts.{attempt, begun_in, line_of, ended}
 use Rattle.exec_journal.specs.Settled.{settled, wanted, bound}
-use Rattle.run_plan.specs.Groups.{berth_group, berths, group_of, kind_of, is_single, is_remote, capacity}
-use Rattle.exec_journal.specs.Rules.{is_unwanted, number_on, runs}
+use Rattle.run_plan.specs.Groups.{is_single, is_remote, capacity}
+use Rattle.exec_journal.specs.Seated.{group_for, group_on, line_kind}
+use Rattle.exec_journal.specs.Rules.{is_unwanted, number_of, runs}
 use Rattle.exec_journal.specs.Paired.{is_new_number}
 use Rattle.exec_journal.specs.Facts.{begun, IsOfBerth, BeginsNext, SameActions}
 use Rattle.journal_laws.specs.Invariant.{IsGoing, NumberedAs, EachRequest, is_left}
@@ -57,9 +58,8 @@ pub record BoundIsCarried (p : Plan) (j : List Entry) : Type 0 where
 
 -- a Send: of a branch of the lane's group, to a line that hasn't Ended; nothing was said yet of the
 -- request, and where its attempt was launched, it was on this line
-pub record IsFreshSend (p : Plan) (j : List Entry) (lane : ℕ) (t : Attempt) (l : ℕ) : Type 0 where
-  pub group : option_and_then (λ x. group_of x t.branch) (slice_get p.actions t.action)
-      ≡ berth_group p (lane / 2)
+pub record IsFreshSend (p : Plan) (j : List Entry) (t : Attempt) (l : ℕ) : Type 0 where
+  pub group : group_for p t ≡ group_on p j l
   pub unended : has_ended j l ≡ false
   pub unsent : was_sent j t ≡ false
   pub unanswered : answered j t ≡ false
@@ -85,20 +85,19 @@ pub record WantedUnlessGranted (p : Plan) (j : List Entry) (l : ℕ) : Type 0 wh
 
 -- a Launch: of an attempt that nothing was said of, of a wanted branch, by a berth of the plan;
 -- there is room for one more line
-pub record IsFreshLaunch (p : Plan) (j : List Entry) (lane : ℕ) (l : ℕ) (t : Attempt) : Type 0 where
+pub record IsFreshLaunch (p : Plan) (j : List Entry) (l : ℕ) (t : Attempt) : Type 0 where
   pub numbered : l ≡ line_count j
   pub unbegun : begun j t ≡ false
   pub going : ended j t ≡ false
   pub wish : wanted p j t.action t.branch ≡ true
-  pub seated : lane / 2 < berths p
   pub room : line_count j < 2 * length p.actions * p.limit
 
 -- a Send: with the next number, to a line with a place for it and room for one more request; which
 -- was launched by the lane's berth
 pub record IsNumberedSend (p : Plan) (j : List Entry) (lane : ℕ) (q : Request) : Type 0 where
-  pub number : q.number ≡ number_on p j (lane / 2) q.line
-  pub earlier : NumberedAs (is_single (kind_of p (lane / 2))) (sends j q.line)
-  pub place : length (pending j q.line) < capacity (kind_of p (lane / 2))
+  pub number : q.number ≡ number_of j (line_kind p j q.line) q.line
+  pub earlier : NumberedAs (is_single (line_kind p j q.line)) (sends j q.line)
+  pub place : length (pending j q.line) < capacity (line_kind p j q.line)
   pub room : length (sends j q.line) < 2 * length p.actions * p.limit
   pub line : q.line < 2 * length p.actions * p.limit
   pub owner : (n : ℕ) × (t : Attempt) × (launch_of j q.line ≡ Some (n, t)) × (n / 2 ≡ lane / 2)
@@ -159,9 +158,10 @@ pub record IsDone (p : Plan) (j : List Entry) (l : ℕ) : Type 0 where
 abbrev pub gives_up : ℕ → Reply → Bool
 gives_up l (reply.Kill k why.Unwanted) = k == l
 gives_up l (reply.Kill k why.Quit) = k == l
+gives_up l (reply.Kill k why.Evicted) = k == l
 gives_up l _ = false
 
--- the line was to be killed for Unwanted or Quit
+-- the line was to be killed for Unwanted, Quit or Evicted
 unfoldable pub given_up : List Entry → ℕ → Bool
 given_up j l = ever (λ _ e. gives_up l e.reply) j
 
@@ -169,8 +169,8 @@ given_up j l = ever (λ _ e. gives_up l e.reply) j
 
 -- an executor's first answer, with the number 0, which no request of the line has, and the
 -- version 2 or more
-pub record IsGreeting (p : Plan) (j : List Entry) (lane l : ℕ) (x : Answer) : Type 0 where
-  pub of_executor : is_remote (kind_of p (lane / 2)) ≡ true
+pub record IsGreeting (p : Plan) (j : List Entry) (l : ℕ) (x : Answer) : Type 0 where
+  pub of_executor : is_remote (line_kind p j l) ≡ true
   pub number : x.number ≡ pos 0
   pub version : int_le (pos 2) x.version ≡ true
   pub whole : broke j l ≡ false

@@ -19,16 +19,17 @@ ghost use Rattle.exec_journal.specs.declared.call.Started.{Started};
 ghost use Rattle.exec_journal.specs.declared.call.Written.{Written};
 ghost use Rattle.exec_journal.specs.declared.call.Written.TheVariants as write;
 ghost use Rattle.run_plan.specs.declared.plan.Branch.{Branch};
+ghost use Rattle.run_plan.specs.declared.plan.Kind.{Kind};
+ghost use Rattle.exec_journal.specs.declared.reply.Reply.{Reply};
 ghost use Rattle.run_plan.specs.declared.plan.PlanAction.{PlanAction};
 ghost use Rattle.exec_journal.specs.declared.reply.Reply.TheVariants as reply;
 ghost use Rattle.exec_journal.specs.Settled.{settled, all_settled, ready, wanted};
-ghost use Rattle.run_plan.specs.Groups.{berths, kind_of, is_single, is_remote, has_cancellation};
+ghost use Rattle.run_plan.specs.Groups.{berths, berth_group, is_single, is_remote, has_cancellation};
 ghost use Rattle.exec_journal.specs.History.{each};
-ghost use Rattle.exec_journal.specs.Rules.{rule, may_cancel};
-ghost use Rattle.exec_journal.specs.Scripts.{script};
+ghost use Rattle.exec_journal.specs.Scripts.{seat_script};
 ghost use Rattle.exec_journal.specs.Race.{Race};
 ghost use Rattle.exec_journal.specs.Paired.{Paired};
-ghost use Rattle.exec_journal.specs.Kept.{Kept};
+ghost use Rattle.exec_journal.specs.Kept.{Kept, OrdersKept};
 ghost use Rattle.exec_journal.specs.Accounted.{is_request_accounted, Accounted};
 ghost use Rattle.exec_journal.specs.Clean.{clean_at, Clean};
 ghost use Rattle.exec_journal.specs.Outcomes.{outcome_of, is_ok};
@@ -36,32 +37,34 @@ ghost use Rattle.run_plan.specs.Sound.{Sound};
 ghost use Rattle.journal_laws.specs.Invariant.{EndsWith, claims_it, claimed, is_quiet_call, EachRequest, HasInputs, IsGoing, IsClaimable, IsWinner, LineFacts};
 ghost use Rattle.journal_laws.specs.Steps.{EndExactly, is_open_attempt, is_left_on, is_known, given_up, StandsThere, KillsOnce, IsGathering, IsDone, IsGreeting, SameRequests, BeginsOne, IsUngranted, IsGrantedFiles, WantedFollows, BoundIsCarried, IsFreshSend, IsFreshLaunch, IsNumberedSend, KnownByNumber, IsPastAttempt, WantedUnlessGranted};
 ghost use Rattle.exec_journal.specs.Legal.{Legal, after};
+ghost use Rattle.exec_journal.specs.Lawful.{Lawful, Told, plain_reply};
+ghost use Rattle.exec_journal.specs.Seated.{group_on, line_group, line_kind, may_be_asked};
 ghost use Rattle.journal_laws.specs.IsLegal.{is_legal};
 ghost use Rattle.journal_laws.specs.Finished.{Finished};
-ghost use Rattle.journal_laws.specs.Paid.{is_paid, owes};
+ghost use Rattle.journal_laws.specs.Paid.{seat_paid, seats_owe};
 ghost use Rattle.exec_journal.specs.Facts.{begun, IsOfBerth, NameTheirLines, IsFresh, AttemptsInOrder, BeginInOrder, SameActions, SameStandings};
 
 /// Lines are numbered in order, each line that an entry names was launched, and a lane names only
 /// lines of its own berth.
 pub fn lines_are_numbered()
-    ensures { (p : Plan) (j : List Entry) → Legal p j → NameTheirLines j }
+    ensures { (p : Plan) (j : List Entry) → Lawful p j → NameTheirLines j }
 {}
 
 /// Nothing is said of a line that wasn't launched yet.
 pub fn new_lines_are_fresh()
-    ensures { (p : Plan) (j : List Entry) (l : ℕ) → Legal p j → line_count j ≤ l → IsFresh j l }
+    ensures { (p : Plan) (j : List Entry) (l : ℕ) → Lawful p j → line_count j ≤ l → IsFresh j l }
 {}
 
 /// Attempts of a branch run from 1 to its latest, at most to the limit, and all but the latest
 /// have ended.
 pub fn attempts_run_in_order()
-    ensures { (p : Plan) (j : List Entry) → Legal p j → AttemptsInOrder p j }
+    ensures { (p : Plan) (j : List Entry) → Lawful p j → AttemptsInOrder p j }
 {}
 
 /// Each attempt is launched at most once and sent at most once, and begins only when the one
 /// before it has ended.
 pub fn attempts_begin_once()
-    ensures { (p : Plan) (j : List Entry) → Legal p j → BeginInOrder j }
+    ensures { (p : Plan) (j : List Entry) → Lawful p j → BeginInOrder j }
 {}
 
 /// An attempt that has ended stays ended, with its cause.
@@ -79,34 +82,35 @@ pub fn standings_stay()
 /// An action is granted once, and its files are committed once, by the lane that was granted
 /// them.
 pub fn branches_win_once()
-    ensures { (p : Plan) (j : List Entry) → Legal p j → Race j }
+    ensures { (p : Plan) (j : List Entry) → Lawful p j → Race j }
 {}
 
 /// Each consumed answer has a request of its own.
 pub fn answers_are_paired()
-    ensures { (p : Plan) (j : List Entry) → Legal p j → Paired p j }
+    ensures { (p : Plan) (j : List Entry) → Lawful p j → Paired p j }
 {}
 
-/// What is said of each order holds when it is given, and at most one line of a berth is live.
+/// Of each scheduling discipline, what is said of each order holds when it is given, and at most one
+/// line of a berth is live.
 pub fn orders_are_kept()
-    ensures { (p : Plan) (j : List Entry) → Sound p → Legal p j → Kept p j }
+    ensures { (p : Plan) (j : List Entry) → Sound p → Lawful p j → OrdersKept p j }
 {}
 
 /// When a lane is told to stop and none has halted, all actions are settled and nothing is lost.
 pub fn stops_settle_all()
     ensures settled { (p : Plan) (j : List Entry) (lane : ℕ) (c : Call)
-        → rule p j lane c ≡ reply.Stop → halted j ≡ false → all_settled p j ≡ true }
-    ensures later { (p : Plan) (j : List Entry) (lane : ℕ) → Legal p j → stopped j lane ≡ true
+        → Told p j lane c reply.Stop → halted j ≡ false → all_settled p j ≡ true }
+    ensures later { (p : Plan) (j : List Entry) (lane : ℕ) → Lawful p j → stopped j lane ≡ true
         → halted j ≡ false → all_settled p j ≡ true }
-    ensures accounted { (p : Plan) (j : List Entry) (lane : ℕ) (c : Call) → Sound p → Legal p j
-        → rule p j lane c ≡ reply.Stop → halted j ≡ false → Accounted p j }
+    ensures accounted { (p : Plan) (j : List Entry) (lane : ℕ) (c : Call) → Sound p → Lawful p j
+        → Told p j lane c reply.Stop → halted j ≡ false → Accounted p j }
 {}
 
 /// When a lane is told to stop, none has halted and every worker did its part, every action has
 /// success.
 pub fn clean_runs_succeed()
-    ensures { (p : Plan) (j : List Entry) (lane : ℕ) (c : Call) → Sound p → Legal p j → Clean j
-        → halted j ≡ false → rule p j lane c ≡ reply.Stop → (a : ℕ) (x : PlanAction)
+    ensures { (p : Plan) (j : List Entry) (lane : ℕ) (c : Call) → Sound p → Lawful p j → Clean j
+        → halted j ≡ false → Told p j lane c reply.Stop → (a : ℕ) (x : PlanAction)
         → slice_get p.actions a ≡ Some x → is_ok (outcome_of p j a) ≡ true }
 {}
 
@@ -115,23 +119,23 @@ pub fn clean_runs_succeed()
 /// to a line of the lane's berth that hasn't ended and has a place for it, with the line's next
 /// number, and nothing was said yet of its request.
 pub fn begins_are_fresh()
-    ensures begins { (p : Plan) (e : Entry) (j : List Entry) (t : Attempt) → Legal p (e ∷ j)
+    ensures begins { (p : Plan) (e : Entry) (j : List Entry) (t : Attempt) → Lawful p (e ∷ j)
         → begun_in e.reply ≡ Some t → begun j t ≡ false → BeginsOne j e t }
     ensures launches { (p : Plan) (e : Entry) (j : List Entry) (x : ℕ × Attempt)
-        → Legal p (e ∷ j) → 1 ≤ p.limit → launch_in e.reply ≡ Some x
-        → IsFreshLaunch p j e.lane x.0 x.1 }
-    ensures sends { (p : Plan) (e : Entry) (j : List Entry) (x : Request) → Legal p (e ∷ j)
-        → send_in e.reply ≡ Some x → IsFreshSend p j e.lane x.attempt x.line }
-    ensures numbers { (p : Plan) (e : Entry) (j : List Entry) (x : Request) → Legal p (e ∷ j)
+        → Lawful p (e ∷ j) → 1 ≤ p.limit → launch_in e.reply ≡ Some x
+        → IsFreshLaunch p j x.0 x.1 }
+    ensures sends { (p : Plan) (e : Entry) (j : List Entry) (x : Request) → Lawful p (e ∷ j)
+        → send_in e.reply ≡ Some x → IsFreshSend p j x.attempt x.line }
+    ensures numbers { (p : Plan) (e : Entry) (j : List Entry) (x : Request) → Lawful p (e ∷ j)
         → 1 ≤ p.limit → send_in e.reply ≡ Some x → IsNumberedSend p j e.lane x }
 {}
 
 /// An attempt ends only by a fault of its own, or when its line has ended and it has no answer or
 /// its feed failed; and each of these ends it, unless its action has a grant.
 pub fn ends_are_told()
-    ensures only { (p : Plan) (e : Entry) (j : List Entry) (t : Attempt) → Legal p (e ∷ j)
+    ensures only { (p : Plan) (e : Entry) (j : List Entry) (t : Attempt) → Lawful p (e ∷ j)
         → ended (e ∷ j) t ≡ true → ended j t ≡ false → EndsWith j e t }
-    ensures so { (p : Plan) (e : Entry) (j : List Entry) (t : Attempt) → Legal p (e ∷ j)
+    ensures so { (p : Plan) (e : Entry) (j : List Entry) (t : Attempt) → Lawful p (e ∷ j)
         → EndsWith j e t → granted (e ∷ j) t.action ≡ false → ended (e ∷ j) t ≡ true }
 {}
 
@@ -139,14 +143,14 @@ pub fn ends_are_told()
 /// action's first, and its attempt never ends. A Committed is the first of its branch, and that
 /// was granted files.
 pub fn claims_are_due()
-    ensures claims { (p : Plan) (e : Entry) (j : List Entry) (t : Attempt) → Legal p (e ∷ j)
+    ensures claims { (p : Plan) (e : Entry) (j : List Entry) (t : Attempt) → Lawful p (e ∷ j)
         → claims_it t e.call ≡ true → IsClaimable j t }
-    ensures wins { (p : Plan) (j : List Entry) (a : ℕ) (x : Attempt × Found) → Legal p j
+    ensures wins { (p : Plan) (j : List Entry) (a : ℕ) (x : Attempt × Found) → Lawful p j
         → grant_of j a ≡ Some x → IsWinner j a x.0 }
     ensures grants { (p : Plan) (e : Entry) (j : List Entry) (y : Attempt × Found)
-        → Legal p (e ∷ j) → granted_in e.call e.reply ≡ Some y → IsUngranted j y.0.action }
+        → Lawful p (e ∷ j) → granted_in e.call e.reply ≡ Some y → IsUngranted j y.0.action }
     ensures commits { (p : Plan) (e : Entry) (j : List Entry) (a : ℕ) (b : Branch)
-        (how : CommitEnd) → Legal p (e ∷ j) → e.call ≡ call.Committed a b how
+        (how : CommitEnd) → Lawful p (e ∷ j) → e.call ≡ call.Committed a b how
         → IsGrantedFiles j a b }
 {}
 
@@ -156,21 +160,21 @@ pub fn claims_are_due()
 /// Answer or a Wrote is about have its number on its line; a request has one Wrote; and once a
 /// line has ended, no attempt that it carries is pending.
 pub fn branches_stand()
-    ensures wanted { (p : Plan) (e : Entry) (j : List Entry) → Legal p (e ∷ j)
+    ensures wanted { (p : Plan) (e : Entry) (j : List Entry) → Lawful p (e ∷ j)
         → WantedFollows p j e }
-    ensures bound { (p : Plan) (j : List Entry) → Legal p j → BoundIsCarried p j }
-    ensures pending { (p : Plan) (j : List Entry) (l : ℕ) → Legal p j → WantedUnlessGranted p j l }
-    ensures lines { (p : Plan) (j : List Entry) (l w : ℕ) → Legal p j → IsOfBerth j l w
-        → LineFacts p j l w }
+    ensures bound { (p : Plan) (j : List Entry) → Lawful p j → BoundIsCarried p j }
+    ensures pending { (p : Plan) (j : List Entry) (l : ℕ) → Lawful p j → WantedUnlessGranted p j l }
+    ensures lines { (p : Plan) (j : List Entry) (l w : ℕ) → Lawful p j → IsOfBerth j l w
+        → LineFacts p j l }
     ensures answers { (p : Plan) (e : Entry) (j : List Entry) (l : ℕ) (x : Answer) (s : Attempt)
-        → Legal p (e ∷ j) → e.call ≡ call.Answer l x → consumed_in e.reply ≡ Some s
+        → Lawful p (e ∷ j) → e.call ≡ call.Answer l x → consumed_in e.reply ≡ Some s
         → KnownByNumber j l x.number s }
     ensures writes { (p : Plan) (e : Entry) (j : List Entry) (l : ℕ) (n : ℤ) (how : Written)
-        (x : Request) → Legal p (e ∷ j) → e.call ≡ call.Wrote l n how
+        (x : Request) → Lawful p (e ∷ j) → e.call ≡ call.Wrote l n how
         → order_of j e.lane ≡ Some x → KnownByNumber j l n x.attempt }
-    ensures first { (p : Plan) (j : List Entry) (lane : ℕ) (x : Request) → Legal p j
+    ensures first { (p : Plan) (j : List Entry) (lane : ℕ) (x : Request) → Lawful p j
         → order_of j lane ≡ Some x → wrote j x.attempt ≡ None }
-    ensures past { (p : Plan) (j : List Entry) (s : Attempt) (l : ℕ) → Legal p j
+    ensures past { (p : Plan) (j : List Entry) (s : Attempt) (l : ℕ) → Lawful p j
         → line_of j s ≡ Some l → has_ended j l ≡ true → IsPastAttempt j s }
 {}
 
@@ -180,27 +184,27 @@ pub fn branches_stand()
 /// other call, none. Of an action with a grant none ends.
 pub fn ends_are_exact()
     ensures launched { (p : Plan) (e : Entry) (j : List Entry) (l m : ℕ) (how : Started)
-        (s : Attempt) → Legal p (e ∷ j) → e.call ≡ call.Launched l how → is_done how ≡ false
+        (s : Attempt) → Lawful p (e ∷ j) → e.call ≡ call.Launched l how → is_done how ≡ false
         → launch_of j l ≡ Some (m, s) → EndExactly j e (is_open_attempt j s) }
     ensures unwritten { (p : Plan) (e : Entry) (j : List Entry) (l : ℕ) (n : ℤ) (how : Written)
-        (x : Request) → Legal p (e ∷ j) → e.call ≡ call.Wrote l n how → is_unwritten how ≡ true
+        (x : Request) → Lawful p (e ∷ j) → e.call ≡ call.Wrote l n how → is_unwritten how ≡ true
         → order_of j e.lane ≡ Some x → EndExactly j e (is_open_attempt j x.attempt) }
     ensures fed { (p : Plan) (e : Entry) (j : List Entry) (l : ℕ) (n : ℤ) (x : Request)
-        → Legal p (e ∷ j) → e.call ≡ call.Wrote l n write.FeedFault → order_of j e.lane ≡ Some x
+        → Lawful p (e ∷ j) → e.call ≡ call.Wrote l n write.FeedFault → order_of j e.lane ≡ Some x
         → line_of j x.attempt ≡ Some x.line
         → EndExactly j e (λ t. same_attempt x.attempt t && (has_ended j x.line && not
         (granted j x.attempt.action))) }
     ensures ended { (p : Plan) (e : Entry) (j : List Entry) (l : ℕ) (how : HowEnded)
-        → Legal p (e ∷ j) → e.call ≡ call.Ended l how → EndExactly j e (is_left_on j l) }
+        → Lawful p (e ∷ j) → e.call ≡ call.Ended l how → EndExactly j e (is_left_on j l) }
     ensures refused { (p : Plan) (e : Entry) (j : List Entry) (y : Attempt × Found)
-        → Legal p (e ∷ j) → refused_in e.call e.reply ≡ Some y
+        → Lawful p (e ∷ j) → refused_in e.call e.reply ≡ Some y
         → EndExactly j e (λ t. same_attempt y.0 t) }
     ensures written { (p : Plan) (e : Entry) (j : List Entry) (l : ℕ) (n : ℤ) (how : Written)
-        (t : Attempt) → Legal p (e ∷ j) → e.call ≡ call.Wrote l n how → (how ≡ write.Done)
+        (t : Attempt) → Lawful p (e ∷ j) → e.call ≡ call.Wrote l n how → (how ≡ write.Done)
         ⊎ (order_of j e.lane ≡ None) → ended (e ∷ j) t ≡ ended j t }
-    ensures quiet { (p : Plan) (e : Entry) (j : List Entry) (t : Attempt) → Legal p (e ∷ j)
+    ensures quiet { (p : Plan) (e : Entry) (j : List Entry) (t : Attempt) → Lawful p (e ∷ j)
         → is_quiet_call e.call ≡ true → ended (e ∷ j) t ≡ ended j t }
-    ensures under_way { (p : Plan) (e : Entry) (j : List Entry) (t : Attempt) → Legal p (e ∷ j)
+    ensures under_way { (p : Plan) (e : Entry) (j : List Entry) (t : Attempt) → Lawful p (e ∷ j)
         → ended (e ∷ j) t ≡ true → ended j t ≡ false → begun_in e.reply ≡ None → IsGoing j t }
 {}
 
@@ -211,40 +215,40 @@ pub fn ends_are_exact()
 /// action without a grant, is of an action that isn't settled; and a branch that was granted
 /// makes no Claim again.
 pub fn attempts_stand()
-    ensures going { (p : Plan) (j : List Entry) (t : Attempt) → Legal p j → begun j t ≡ true
+    ensures going { (p : Plan) (j : List Entry) (t : Attempt) → Lawful p j → begun j t ≡ true
         → ended j t ≡ false → IsGoing j t }
-    ensures limited { (p : Plan) (j : List Entry) (t : Attempt) → Legal p j → 1 ≤ p.limit
+    ensures limited { (p : Plan) (j : List Entry) (t : Attempt) → Lawful p j → 1 ≤ p.limit
         → IsGoing j t → t.number ≤ p.limit }
-    ensures later { (p : Plan) (j : List Entry) (t : Attempt) → Legal p j
+    ensures later { (p : Plan) (j : List Entry) (t : Attempt) → Lawful p j
         → attempt j t.action t.branch < t.number → ended j t ≡ false }
-    ensures inputs { (p : Plan) (j : List Entry) (t : Attempt) → Legal p j → begun j t ≡ true
+    ensures inputs { (p : Plan) (j : List Entry) (t : Attempt) → Lawful p j → begun j t ≡ true
         → HasInputs p j t }
-    ensures wanted { (p : Plan) (j : List Entry) (t : Attempt) → Legal p j → IsGoing j t
+    ensures wanted { (p : Plan) (j : List Entry) (t : Attempt) → Lawful p j → IsGoing j t
         → wanted p j t.action t.branch ≡ not (granted j t.action) }
-    ensures gathers { (p : Plan) (e : Entry) (j : List Entry) (t : Attempt) → Legal p (e ∷ j)
+    ensures gathers { (p : Plan) (e : Entry) (j : List Entry) (t : Attempt) → Lawful p (e ∷ j)
         → gather_in e.reply ≡ Some t → IsGathering p j t }
-    ensures claims { (p : Plan) (e : Entry) (j : List Entry) (t : Attempt) → Legal p (e ∷ j)
+    ensures claims { (p : Plan) (e : Entry) (j : List Entry) (t : Attempt) → Lawful p (e ∷ j)
         → claims_it t e.call ≡ true → granted j t.action ≡ false → settled p j t.action ≡ false }
-    ensures twice { (p : Plan) (e : Entry) (j : List Entry) (t : Attempt) → Legal p (e ∷ j)
+    ensures twice { (p : Plan) (e : Entry) (j : List Entry) (t : Attempt) → Lawful p (e ∷ j)
         → claims_it t e.call ≡ true → (x : Attempt × Found) → grant_of j t.action ≡ Some x
         → same_branch x.0.branch t.branch ≡ false }
     ensures launched { (p : Plan) (e : Entry) (j : List Entry) (l m : ℕ) (how : Started)
-        (s : Attempt) → Legal p (e ∷ j) → e.call ≡ call.Launched l how
+        (s : Attempt) → Lawful p (e ∷ j) → e.call ≡ call.Launched l how
         → launch_of j l ≡ Some (m, s) → IsGoing j s }
     ensures written { (p : Plan) (e : Entry) (j : List Entry) (l : ℕ) (n : ℤ) (how : Written)
-        (x : Request) → Legal p (e ∷ j) → e.call ≡ call.Wrote l n how
+        (x : Request) → Lawful p (e ∷ j) → e.call ≡ call.Wrote l n how
         → order_of j e.lane ≡ Some x → (has_ended j x.line ≡ false)
         ⊎ (answered j x.attempt ≡ true) → IsGoing j x.attempt }
     ensures left { (p : Plan) (e : Entry) (j : List Entry) (l : ℕ) (n : ℤ) (how : Written)
-        (x : Request) → Legal p (e ∷ j) → e.call ≡ call.Wrote l n how
+        (x : Request) → Lawful p (e ∷ j) → e.call ≡ call.Wrote l n how
         → order_of j e.lane ≡ Some x → has_ended j x.line ≡ true → answered j x.attempt ≡ false
         → granted j x.attempt.action ≡ false → ended j x.attempt ≡ true }
-    ensures matched { (p : Plan) (j : List Entry) (t : Attempt) → Legal p j → answered j t ≡ true
+    ensures matched { (p : Plan) (j : List Entry) (t : Attempt) → Lawful p j → answered j t ≡ true
         → says_unwritten (wrote j t) ≡ false → says_feed_fault (wrote j t) ≡ false
         → claimed j t ≡ false → IsGoing j t }
-    ensures pending { (p : Plan) (j : List Entry) (l : ℕ) → Legal p j
+    ensures pending { (p : Plan) (j : List Entry) (l : ℕ) → Lawful p j
         → EachRequest (λ y. IsGoing j y.attempt) (pending j l) }
-    ensures again { (p : Plan) (e : Entry) (j : List Entry) (s : Attempt) → Legal p (e ∷ j)
+    ensures again { (p : Plan) (e : Entry) (j : List Entry) (s : Attempt) → Lawful p (e ∷ j)
         → begun_in e.reply ≡ Some s → begun j s ≡ true → (a : ℕ) (b : Branch)
         → attempt (e ∷ j) a b ≡ attempt j a b }
 {}
@@ -252,42 +256,42 @@ pub fn attempts_stand()
 /// What is settled stays settled and has an outcome, what is ready stays ready, and each request
 /// is accounted for at each moment.
 pub fn standings_grow()
-    ensures settled { (p : Plan) (e : Entry) (j : List Entry) (a : ℕ) → Legal p (e ∷ j)
+    ensures settled { (p : Plan) (e : Entry) (j : List Entry) (a : ℕ) → Lawful p (e ∷ j)
         → settled p j a ≡ true → settled p (e ∷ j) a ≡ true }
-    ensures all { (p : Plan) (e : Entry) (j : List Entry) → Legal p (e ∷ j)
+    ensures all { (p : Plan) (e : Entry) (j : List Entry) → Lawful p (e ∷ j)
         → all_settled p j ≡ true → all_settled p (e ∷ j) ≡ true }
-    ensures ready { (p : Plan) (e : Entry) (j : List Entry) (x : PlanAction) → Legal p (e ∷ j)
+    ensures ready { (p : Plan) (e : Entry) (j : List Entry) (x : PlanAction) → Lawful p (e ∷ j)
         → ready p j x ≡ true → ready p (e ∷ j) x ≡ true }
     ensures known { (p : Plan) (j : List Entry) (a : ℕ) (x : PlanAction)
         → slice_get p.actions a ≡ Some x → settled p j a ≡ true
         → is_known (outcome_of p j a) ≡ true }
-    ensures requests { (p : Plan) (j : List Entry) → Legal p j
+    ensures requests { (p : Plan) (j : List Entry) → Lawful p j
         → list_all (is_request_accounted j) (each (λ _ e. send_in e.reply) j) ≡ true }
 {}
 
 /// A line is killed once and ends once; and one that was given up has nothing left to do, if no
 /// lane has halted.
 pub fn lines_end_once()
-    ensures kills { (p : Plan) (e : Entry) (j : List Entry) (l : ℕ) → Legal p (e ∷ j)
+    ensures kills { (p : Plan) (e : Entry) (j : List Entry) (l : ℕ) → Lawful p (e ∷ j)
         → orders_kill l e.reply ≡ true → KillsOnce j e l }
-    ensures sends { (p : Plan) (e : Entry) (j : List Entry) (x : Request) → Legal p (e ∷ j)
+    ensures sends { (p : Plan) (e : Entry) (j : List Entry) (x : Request) → Lawful p (e ∷ j)
         → send_in e.reply ≡ Some x → kill_ordered j x.line ≡ false }
-    ensures asks { (p : Plan) (e : Entry) (j : List Entry) (l : ℕ) → Legal p (e ∷ j)
+    ensures asks { (p : Plan) (e : Entry) (j : List Entry) (l : ℕ) → Lawful p (e ∷ j)
         → e.call ≡ call.Ask → IsOfBerth j l (e.lane / 2) → kill_ordered j l ≡ true
         → was_killed j l ≡ true }
-    ensures killed { (p : Plan) (j : List Entry) (l : ℕ) → Legal p j → was_killed j l ≡ true
+    ensures killed { (p : Plan) (j : List Entry) (l : ℕ) → Lawful p j → was_killed j l ≡ true
         → kill_ordered j l ≡ true }
-    ensures taken { (p : Plan) (j : List Entry) (l : ℕ) → Legal p j → has_ended j l ≡ true
+    ensures taken { (p : Plan) (j : List Entry) (l : ℕ) → Lawful p j → has_ended j l ≡ true
         → was_taken j l ≡ true }
     ensures once { (p : Plan) (e : Entry) (j : List Entry) (l : ℕ) (how : HowEnded)
-        → Legal p (e ∷ j) → e.call ≡ call.Ended l how → has_ended j l ≡ false }
+        → Lawful p (e ∷ j) → e.call ≡ call.Ended l how → has_ended j l ≡ false }
     ensures answers { (p : Plan) (e : Entry) (j : List Entry) (l : ℕ) (x : Answer)
-        → Legal p (e ∷ j) → e.call ≡ call.Answer l x → has_ended j l ≡ false }
-    ensures started { (p : Plan) (j : List Entry) (l : ℕ) → Legal p j → was_taken j l ≡ true
+        → Lawful p (e ∷ j) → e.call ≡ call.Answer l x → has_ended j l ≡ false }
+    ensures started { (p : Plan) (j : List Entry) (l : ℕ) → Lawful p j → was_taken j l ≡ true
         → started j l ≡ true }
-    ensures whole { (p : Plan) (j : List Entry) (l : ℕ) → Legal p j → started j l ≡ true
+    ensures whole { (p : Plan) (j : List Entry) (l : ℕ) → Lawful p j → started j l ≡ true
         → failed j l ≡ false }
-    ensures done { (p : Plan) (j : List Entry) (l : ℕ) → Legal p j → halted j ≡ false
+    ensures done { (p : Plan) (j : List Entry) (l : ℕ) → Lawful p j → halted j ≡ false
         → given_up j l ≡ true → IsDone p j l }
 {}
 
@@ -296,42 +300,42 @@ pub fn lines_end_once()
 /// requests of its line, what was answered is no longer pending, and an answer that says
 /// cancelled is never matched.
 pub fn requests_have_places()
-    ensures lines { (p : Plan) (j : List Entry) (l : ℕ) → Legal p j → 1 ≤ p.limit
+    ensures lines { (p : Plan) (j : List Entry) (l : ℕ) → Lawful p j → 1 ≤ p.limit
         → l < line_count j → l < 2 * length p.actions * p.limit }
-    ensures one { (p : Plan) (j : List Entry) (l w : ℕ) → Legal p j → IsOfBerth j l w
-        → is_single (kind_of p w) ≡ true → length (pending j l) ≤ 1 }
-    ensures writes { (p : Plan) (j : List Entry) (lane : ℕ) (x : Request) → Legal p j
+    ensures one { (p : Plan) (j : List Entry) (l w : ℕ) → Lawful p j → IsOfBerth j l w
+        → is_single (line_kind p j l) ≡ true → length (pending j l) ≤ 1 }
+    ensures writes { (p : Plan) (j : List Entry) (lane : ℕ) (x : Request) → Lawful p j
         → order_of j lane ≡ Some x → StandsThere j x.line x }
     ensures answers { (p : Plan) (e : Entry) (j : List Entry) (l : ℕ) (x : Answer) (s : Attempt)
-        → Legal p (e ∷ j) → e.call ≡ call.Answer l x → consumed_in e.reply ≡ Some s
+        → Lawful p (e ∷ j) → e.call ≡ call.Answer l x → consumed_in e.reply ≡ Some s
         → (y : Request) × (y.attempt ≡ s) × (is_pending j y ≡ true) × StandsThere j l y }
     ensures past { (j : List Entry) (s : Attempt) → answered j s ≡ true → IsPastAttempt j s }
     ensures cancelled { (p : Plan) (e : Entry) (j : List Entry) (l : ℕ) (x : Answer)
-        (t : Attempt) → Legal p (e ∷ j) → e.call ≡ call.Answer l x → matched_in e.reply ≡ Some t
+        (t : Attempt) → Lawful p (e ∷ j) → e.call ≡ call.Answer l x → matched_in e.reply ≡ Some t
         → x.cancelled ≡ false }
 {}
 
 /// A greeting is an executor's first answer. It changes nothing of lines, requests and attempts,
 /// its line stays greeted, and an executor's line gets a Cancel only once it has greeted.
 pub fn greetings_come_first()
-    ensures is { (p : Plan) (e : Entry) (j : List Entry) (l : ℕ) (x : Answer) → Legal p (e ∷ j)
-        → e.call ≡ call.Answer l x → e.reply ≡ reply.Greeted → IsGreeting p j e.lane l x }
-    ensures so { (p : Plan) (e : Entry) (j : List Entry) (l : ℕ) (x : Answer) → Legal p (e ∷ j)
-        → e.call ≡ call.Answer l x → IsGreeting p j e.lane l x → e.reply ≡ reply.Greeted }
-    ensures keeps { (p : Plan) (e : Entry) (j : List Entry) → Legal p (e ∷ j)
+    ensures is { (p : Plan) (e : Entry) (j : List Entry) (l : ℕ) (x : Answer) → Lawful p (e ∷ j)
+        → e.call ≡ call.Answer l x → e.reply ≡ reply.Greeted → IsGreeting p j l x }
+    ensures so { (p : Plan) (e : Entry) (j : List Entry) (l : ℕ) (x : Answer) → Lawful p (e ∷ j)
+        → e.call ≡ call.Answer l x → IsGreeting p j l x → e.reply ≡ reply.Greeted }
+    ensures keeps { (p : Plan) (e : Entry) (j : List Entry) → Lawful p (e ∷ j)
         → e.reply ≡ reply.Greeted → SameRequests p j (e ∷ j) }
     ensures clean { (j : List Entry) (l : ℕ) (x : Answer)
         → clean_at j (call.Answer l x) reply.Greeted ≡ true }
     ensures stays { (e : Entry) (j : List Entry) (l : ℕ) → has_greeted j l ≡ true
         → has_greeted (e ∷ j) l ≡ true }
     ensures spoken { (j : List Entry) (l : ℕ) → has_greeted j l ≡ true → has_spoken j l ≡ true }
-    ensures remote { (p : Plan) (j : List Entry) (l w : ℕ) → Legal p j → IsOfBerth j l w
-        → has_greeted j l ≡ true → is_remote (kind_of p w) ≡ true }
-    ensures may { (p : Plan) (j : List Entry) (l w g : ℕ) → Legal p j → IsOfBerth j l w
-        → may_cancel p j w g l ≡ (has_cancellation p g || has_greeted j l) }
+    ensures remote { (p : Plan) (j : List Entry) (l : ℕ) → Lawful p j
+        → has_greeted j l ≡ true → is_remote (line_kind p j l) ≡ true }
+    ensures may { (p : Plan) (j : List Entry) (l : ℕ) → Lawful p j
+        → may_be_asked p j l ≡ (has_cancellation p (line_group p j l) || has_greeted j l) }
     ensures cancels { (p : Plan) (e : Entry) (j : List Entry) (l : ℕ) (n : ℤ) → Sound p
-        → Legal p (e ∷ j) → e.reply ≡ reply.Cancel l n
-        → is_remote (kind_of p (e.lane / 2)) ≡ true → has_greeted j l ≡ true }
+        → Lawful p (e ∷ j) → e.reply ≡ reply.Cancel l n
+        → is_remote (line_kind p j l) ≡ true → has_greeted j l ≡ true }
 {}
 
 /// `is_legal` decides which journals are legal.
@@ -342,27 +346,40 @@ pub fn legal_is_decided()
 /// A run is finished when a lane is told to stop and none has halted: all actions are settled,
 /// each has an outcome, and nothing is lost. It stays finished.
 pub fn stops_finish_runs()
-    ensures stops { (p : Plan) (j : List Entry) (lane : ℕ) (c : Call) → Sound p → Legal p j
-        → rule p j lane c ≡ reply.Stop → halted j ≡ false → Finished p j }
-    ensures later { (p : Plan) (j : List Entry) (lane : ℕ) → Sound p → Legal p j
+    ensures stops { (p : Plan) (j : List Entry) (lane : ℕ) (c : Call) → Sound p → Lawful p j
+        → Told p j lane c reply.Stop → halted j ≡ false → Finished p j }
+    ensures later { (p : Plan) (j : List Entry) (lane : ℕ) → Sound p → Lawful p j
         → stopped j lane ≡ true → halted j ≡ false → Finished p j }
-    ensures stays { (p : Plan) (e : Entry) (j : List Entry) → Sound p → Legal p (e ∷ j)
+    ensures stays { (p : Plan) (e : Entry) (j : List Entry) → Sound p → Lawful p (e ∷ j)
         → Finished p j → Finished p (e ∷ j) }
 {}
 
-/// At first each lane of the plan owes one call, its Halt. A paid call is in its lane's script,
+/// At first each lane of so many berths owes one call, its Halt. A paid call is in its lane's script,
 /// is answered Noted, and stays paid for after entries of other lanes. With it one less is owed,
 /// and with any other call at most one more.
 pub fn paid_calls_are_noted()
-    ensures first { (p : Plan) → owes p [] ≡ 2 * berths p }
-    ensures allowed { (p : Plan) (j : List Entry) (lane : ℕ) (c : Call) → Legal p j
-        → is_paid p j lane c ≡ true → script p j lane c ≡ true }
-    ensures noted { (p : Plan) (j : List Entry) (lane : ℕ) (c : Call) → is_paid p j lane c ≡ true
-        → rule p j lane c ≡ reply.Noted }
-    ensures stays { (p : Plan) (e : Entry) (j : List Entry) (lane : ℕ) (c : Call)
-        → (e.lane == lane) ≡ false → is_paid p (e ∷ j) lane c ≡ is_paid p j lane c }
-    ensures less { (p : Plan) (j : List Entry) (lane : ℕ) (c : Call) → is_paid p j lane c ≡ true
-        → owes p (after j lane c (rule p j lane c)) + 1 ≡ owes p j }
-    ensures more { (p : Plan) (j : List Entry) (lane : ℕ) (c : Call)
-        → owes p (after j lane c (rule p j lane c)) ≤ owes p j + 1 }
+    ensures first { (seats : ℕ) → seats_owe seats [] ≡ 2 * seats }
+    ensures allowed { (seats : ℕ) (kinds : ℕ → Kind) (p : Plan) (j : List Entry) (lane : ℕ)
+        (c : Call) → Lawful p j → seat_paid seats j lane c ≡ true
+        → seat_script seats kinds p j lane c ≡ true }
+    ensures noted { (p : Plan) (seats : ℕ) (j : List Entry) (lane : ℕ) (c : Call)
+        → seat_paid seats j lane c ≡ true → plain_reply p j lane c ≡ reply.Noted }
+    ensures stays { (seats : ℕ) (e : Entry) (j : List Entry) (lane : ℕ) (c : Call)
+        → (e.lane == lane) ≡ false → seat_paid seats (e ∷ j) lane c ≡ seat_paid seats j lane c }
+    ensures less { (seats : ℕ) (j : List Entry) (lane : ℕ) (c : Call)
+        → seat_paid seats j lane c ≡ true
+        → seats_owe seats (after j lane c reply.Noted) + 1 ≡ seats_owe seats j }
+    ensures more { (seats : ℕ) (j : List Entry) (lane : ℕ) (c : Call) (x : Reply)
+        → seats_owe seats (after j lane c x) ≤ seats_owe seats j + 1 }
+{}
+
+/// Where each group has berths of its own, a legal journal is lawful, each line runs the group of its
+/// berth, and what is said of orders there holds too.
+pub fn own_berths_are_lawful()
+    ensures lawful { (p : Plan) (j : List Entry) → Legal p j → Lawful p j }
+    ensures seated { (p : Plan) (j : List Entry) (l w : ℕ) → Legal p j → IsOfBerth j l w
+        → group_on p j l ≡ berth_group p w }
+    ensures within { (p : Plan) (j : List Entry) (l w : ℕ) → Legal p j → IsOfBerth j l w
+        → w < berths p }
+    ensures kept { (p : Plan) (j : List Entry) → Sound p → Legal p j → Kept p j }
 {}

@@ -101,6 +101,7 @@ ends_breaks l j o (call.Killed k) x h = absurd (cc)
 ends_breaks l j o call.Take x h = absurd (cc)
 ends_breaks l j o (call.Answer k y) x h = absurd (cc)
 ends_breaks l j o call.Halt x h = absurd (cc)
+ends_breaks l j o call.Tick x h = absurd (cc)
 
 unless_there : {X : Type 0} (a b : Option X) → is_some b ≡ true → unless_before a b ≡ b
 unless_there None (Some y) h = refl

@@ -29,6 +29,7 @@ report_fits (call.Claim a b t f) r e = absurd (cc)
 report_fits (call.Committed a b how) r e = absurd (cc)
 report_fits (call.Killed l) r e = refl
 report_fits call.Take r e = absurd (cc)
+report_fits call.Tick r e = absurd (cc)
 report_fits (call.Answer l x) r e = absurd (cc)
 report_fits (call.Ended l how) r e = absurd (cc)
 report_fits call.Halt r e = absurd (cc)
@@ -53,6 +54,7 @@ module _ {K T P : Type 0} (child : K → ChildTold) (tap : T → TapTold) (place
   goes_plain rule h lane (call.Committed a b how) e = absurd (cc)
   goes_plain rule h lane (call.Killed l) e = refl
   goes_plain rule h lane call.Take e = absurd (cc)
+  goes_plain rule h lane call.Tick e = absurd (cc)
   goes_plain rule h lane (call.Answer l x) e = absurd (cc)
   goes_plain rule h lane (call.Ended l how) e = absurd (cc)
   goes_plain rule h lane call.Halt e = absurd (cc)
@@ -72,6 +74,7 @@ module _ (outputs : ℕ → List (List ℕ)) (makers : ℕ → List Maker) (remo
   never_left (call.Committed a b how) e = cc
   never_left (call.Killed l) e = cc
   never_left call.Take e = cc
+  never_left call.Tick e = cc
   never_left (call.Answer l x) e = cc
   never_left (call.Ended l how) e = cc
   never_left call.Halt e = cc
@@ -87,6 +90,7 @@ module _ (outputs : ℕ → List (List ℕ)) (makers : ℕ → List Maker) (remo
   plain s (call.Committed a b how) e = absurd (cc)
   plain s (call.Killed l) e = refl
   plain s call.Take e = absurd (cc)
+  plain s call.Tick e = absurd (cc)
   plain s (call.Answer l x) e = absurd (cc)
   plain s (call.Ended l how) e = absurd (cc)
   plain s call.Halt e = absurd (cc)

@@ -14,8 +14,9 @@ use Rattle.run_plan.specs.declared.plan.Plan.{Plan}
 use Rattle.run_plan.specs.declared.plan.PlanAction.{PlanAction}
 use Rattle.exec_journal.specs.declared.journal.Entry.{Entry}
 use Rattle.exec_journal.specs.Entries.{Request}
-use Rattle.exec_journal.specs.Rules.{head, number_on}
-use Rattle.run_plan.specs.Groups.{group_of, is_single, kind_of, capacity}
+use Rattle.exec_journal.specs.Rules.{head, number_of}
+use Rattle.exec_journal.specs.Seated.{kind_in}
+use Rattle.run_plan.specs.Groups.{group_of, is_single, capacity}
 use Rattle.exec_journal.specs.Words.{sends, pending, has_cancel, was_sent}
 use Rattle.exec_journal.proofs.Lines.{pending_line}
 use Rattle.exec_journal.proofs.Ruled.{by_bool}
@@ -41,8 +42,8 @@ single_by_group p b None = refl
 single_by_group p Local (Some x) = refl
 single_by_group p Remote (Some x) = refl
 
-pub single_is : (p : Plan) (f : Facts) (j : List Entry) (lane a : ℕ) (b : Branch) → Stands p f j → IsOfGroup p lane a b → single_of f a b ≡ is_single (kind_of p (lane / 2))
-single_is p f j lane a b st group =
+pub single_is : (p : Plan) (f : Facts) (j : List Entry) (g : Option ℕ) (a : ℕ) (b : Branch) → Stands p f j → IsOfGroup p g a b → single_of f a b ≡ is_single (kind_in p g)
+single_is p f j g a b st group =
     ap (λ xs. unwrap_or (option_map (single_by b) (slice_get xs a)) true) st.kinds
     ∙ ap (λ o. unwrap_or (option_map (single_by b) o) true) (get_map (singles_of p) p.actions a)
     ∙ single_by_group p b (slice_get p.actions a) ∙ ap (is_single_group p) group
@@ -53,8 +54,8 @@ capacity_by kind.Multi = refl
 capacity_by kind.Boxed = refl
 capacity_by kind.Remote = refl
 
-pub capacity_is : (p : Plan) (f : Facts) (j : List Entry) (lane a : ℕ) (b : Branch) → Stands p f j → IsOfGroup p lane a b → capacity_of (single_of f a b) ≡ capacity (kind_of p (lane / 2))
-capacity_is p f j lane a b st group = ap capacity_of (single_is p f j lane a b st group) ∙ capacity_by (kind_of p (lane / 2))
+pub capacity_is : (p : Plan) (f : Facts) (j : List Entry) (g : Option ℕ) (a : ℕ) (b : Branch) → Stands p f j → IsOfGroup p g a b → capacity_of (single_of f a b) ≡ capacity (kind_in p g)
+capacity_is p f j g a b st group = ap capacity_of (single_is p f j g a b st group) ∙ capacity_by (kind_in p g)
 
 -- ---- the row of a line
 
@@ -106,21 +107,21 @@ last_number false (r ∷ rs) all =
     let last : natural r.number ≡ length rs + 1 = ap natural all.0 in
     let more : natural r.number + 1 ≡ suc (length rs) + 1 = omega arith in ap pos more
 
-pub next_number_is : (p : Plan) (f : Facts) (j : List Entry) (lane l a : ℕ) (b : Branch) → Stands p f j → l < line_room p → IsOfGroup p lane a b → NumberedBy p j lane l
-    → pos (next_number f l a b) ≡ number_on p j (lane / 2) l
-next_number_is p f j lane l a b st within group earlier =
-    (λ i. pos (number_after (single_is p f j lane a b st group i) (row_last p f j l st within i)))
-    ∙ last_number (is_single (kind_of p (lane / 2))) (sends j l) earlier
+pub next_number_is : (p : Plan) (f : Facts) (j : List Entry) (g : Option ℕ) (l a : ℕ) (b : Branch) → Stands p f j → l < line_room p → IsOfGroup p g a b → NumberedBy p j g l
+    → pos (next_number f l a b) ≡ number_of j (kind_in p g) l
+next_number_is p f j g l a b st within group earlier =
+    (λ i. pos (number_after (single_is p f j g a b st group i) (row_last p f j l st within i)))
+    ∙ last_number (is_single (kind_in p g)) (sends j l) earlier
 
 -- ---- Send
 
-module _ (p : Plan) (f : Facts) (j : List Entry) (lane l : ℕ) (n : ℤ) (a : ℕ) (b : Branch) (t : ℕ) (st : Stands p f j) (within : l < line_room p) (next : IsNextSend p j lane l n a b t) where
+module _ (p : Plan) (f : Facts) (j : List Entry) (lane : ℕ) (g : Option ℕ) (l : ℕ) (n : ℤ) (a : ℕ) (b : Branch) (t : ℕ) (st : Stands p f j) (within : l < line_room p) (next : IsNextSend p j g l n a b t) where
   same_places : request_row (send_entry lane l n a b t ∷ j) ≡ request_row j
   unfolding has_cancel
   same_places = refl
 
   number_is_next : n ≡ pos (next_number f l a b)
-  number_is_next = next.number ∙ sym (next_number_is p f j lane l a b st within next.group next.earlier)
+  number_is_next = next.number ∙ sym (next_number_is p f j g l a b st within next.group next.earlier)
 
   new_is : request_row j (sent_request l n a b t) ≡ new_place (next_number f l a b) a t
   new_is = λ i. record { number = natural (number_is_next i); action = a; attempt = t; pending = true; cancelled = unsent_uncancelled j (sent_request l n a b t) next.new.unsent i }
@@ -139,7 +140,7 @@ module _ (p : Plan) (f : Facts) (j : List Entry) (lane l : ℕ) (n : ℤ) (a : �
   numbered_sent : (d : ℕ) → AreNumbered (send_entry lane l n a b t ∷ j) d
   numbered_sent d = by_bool (l == d) (λ _. AreNumbered (send_entry lane l n a b t ∷ j) d)
       (λ same. subst (AreNumbered (send_entry lane l n a b t ∷ j)) (eqb-true l d same)
-      (record { single = is_single (kind_of p (lane / 2)); numbers = subst (Numbered (is_single (kind_of p (lane / 2)))) (sym (sends_here j lane l n a b t next.new)) (next.number, next.earlier) }))
+      (record { single = is_single (kind_in p g); numbers = subst (Numbered (is_single (kind_in p g))) (sym (sends_here j lane l n a b t next.new)) (next.number, next.earlier) }))
       (λ apart. numbered_same j (send_entry lane l n a b t ∷ j) d (sends_other j lane l n a b t next.new d apart) (st.numbered d))
 
   pub sends_kept : Stands p (with_send f l a b t) (send_entry lane l n a b t ∷ j)

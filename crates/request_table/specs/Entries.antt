@@ -11,8 +11,9 @@ use Rattle.exec_journal.specs.declared.reply.Reply.{Reply}
 use Rattle.exec_journal.specs.declared.reply.Reply.TheVariants as reply
 use Rattle.exec_journal.specs.Entries.{Request, attempt_of, same_attempt}
 use Rattle.exec_journal.specs.Words.{sends, pending, was_sent, answered, wrote, has_ended}
-use Rattle.exec_journal.specs.Rules.{number_on}
-use Rattle.run_plan.specs.Groups.{berth_group, is_single, kind_of, group_of}
+use Rattle.exec_journal.specs.Rules.{number_of}
+use Rattle.exec_journal.specs.Seated.{kind_in}
+use Rattle.run_plan.specs.Groups.{is_single, group_of}
 use Rattle.request_table.specs.declared.Matching.{Matching}
 use Rattle.request_table.specs.declared.Matching.TheVariants.{Closed, Never}
 use Rattle.request_table.specs.Stands.{Numbered}
@@ -22,14 +23,13 @@ abbrev pub EachOf : (Request → Type 0) → List Request → Type 0
 EachOf P [] = Unit {0}
 EachOf P (r ∷ rs) = P r × EachOf P rs
 
--- the branch is run by the lane's own group
-abbrev pub IsOfGroup : Plan → ℕ → ℕ → Branch → Type 0
-IsOfGroup p lane a b =
-    option_and_then (λ x. group_of x b) (slice_get p.actions a) ≡ berth_group p (lane / 2)
+-- the branch is run by this group
+abbrev pub IsOfGroup : Plan → Option ℕ → ℕ → Branch → Type 0
+IsOfGroup p g a b = option_and_then (λ x. group_of x b) (slice_get p.actions a) ≡ g
 
--- the line's Sends so far were numbered as the lane's group does
-abbrev pub NumberedBy : Plan → List Entry → ℕ → ℕ → Type 0
-NumberedBy p j lane l = Numbered (is_single (kind_of p (lane / 2))) (sends j l)
+-- the line's Sends so far were numbered as this group does
+abbrev pub NumberedBy : Plan → List Entry → Option ℕ → ℕ → Type 0
+NumberedBy p j g l = Numbered (is_single (kind_in p g)) (sends j l)
 
 -- nothing was said yet of the attempt's request, and the line on which it is sent hasn't ended
 pub record IsNewRequest (j : List Entry) (l : ℕ) (t : Attempt) : Type 0 where
@@ -39,11 +39,11 @@ pub record IsNewRequest (j : List Entry) (l : ℕ) (t : Attempt) : Type 0 where
   pub running : has_ended j l ≡ false
 
 -- a Send of a new request has the next number of its line, which is of the branch's group
-pub record IsNextSend (p : Plan) (j : List Entry) (lane l : ℕ) (n : ℤ) (a : ℕ) (b : Branch)
+pub record IsNextSend (p : Plan) (j : List Entry) (g : Option ℕ) (l : ℕ) (n : ℤ) (a : ℕ) (b : Branch)
     (t : ℕ) : Type 0 where
-  pub number : n ≡ number_on p j (lane / 2) l
-  pub group : IsOfGroup p lane a b
-  pub earlier : NumberedBy p j lane l
+  pub number : n ≡ number_of j (kind_in p g) l
+  pub group : IsOfGroup p g a b
+  pub earlier : NumberedBy p j g l
   pub new : IsNewRequest j l (attempt_of a b t)
 
 -- of all pending requests exactly those of this attempt stand on this line with this number

@@ -1,5 +1,5 @@
 //! How the table follows a journal. The functions do nothing: each is a law, for those who keep a table of a journal.
-ghost use Rattle.std.specs.Prelude.{◌≡◌, ◌+◌, ◌<◌, ◌≤◌, ◌/◌, ℕ, ℤ, List, ◌∷◌, Some, None, true, false, filter, length, map, pos, reverse};
+ghost use Rattle.std.specs.Prelude.{Option, ◌≡◌, ◌+◌, ◌<◌, ◌≤◌, ◌/◌, ℕ, ℤ, List, ◌∷◌, Some, None, true, false, filter, length, map, pos, reverse};
 ghost use Rattle.std.specs.List.{find};
 ghost use Rattle.std.specs.Ordering.{int_eq};
 ghost use Rattle.exec_journal.specs.declared.attempt.Attempt.{Attempt};
@@ -13,8 +13,9 @@ ghost use Rattle.run_plan.specs.declared.plan.Plan.{Plan};
 ghost use Rattle.exec_journal.specs.declared.reply.Reply.{Reply};
 ghost use Rattle.exec_journal.specs.declared.reply.Reply.TheVariants as reply;
 ghost use Rattle.exec_journal.specs.Entries.{Request, consumed_in, is_unwritten};
-ghost use Rattle.exec_journal.specs.Rules.{head, number_on};
-ghost use Rattle.run_plan.specs.Groups.{kind_of, capacity};
+ghost use Rattle.exec_journal.specs.Rules.{head, number_of};
+ghost use Rattle.exec_journal.specs.Seated.{kind_in};
+ghost use Rattle.run_plan.specs.Groups.{capacity};
 ghost use Rattle.exec_journal.specs.Words.{sends, pending, wrote, order_of};
 ghost use Rattle.request_table.specs.Entries.{IsOfGroup, NumberedBy, IsNextSend, IsKnownBy, NoneIsPending, is_still, is_calm, finds_none};
 ghost use Rattle.request_table.specs.Rows.{Facts, is_open, line_room, last_of, next_number, open_of, places_of, single_of, capacity_of, matching_of, with_send, with_answer, with_reopened, with_unwritten, with_cancelled, with_ended};
@@ -22,8 +23,9 @@ ghost use Rattle.request_table.specs.Stands.{Stands, Numbered, of_sent, of_pendi
 
 /// A Send: `send` is called.
 pub fn sends_are_kept()
-    ensures { (p : Plan) (f : Facts) (j : List Entry) (lane l : ℕ) (n : ℤ) (a : ℕ) (b : Branch)
-        (t : ℕ) → Stands p f j → l < line_room p → IsNextSend p j lane l n a b t
+    ensures { (p : Plan) (f : Facts) (j : List Entry) (lane : ℕ) (g : Option ℕ) (l : ℕ)
+        (n : ℤ) (a : ℕ) (b : Branch) (t : ℕ) → Stands p f j → l < line_room p
+        → IsNextSend p j g l n a b t
         → Stands p (with_send f l a b t)
         (record { lane = lane; call = call.Ask; reply = reply.Send l n a b t } ∷ j) }
 {}
@@ -96,16 +98,16 @@ pub fn others_change_nothing()
 /// The number that `send` gives is the rules', and what it asks for is there: the numbers so far leave room for it, as
 /// many places are taken as requests are pending, and the line's capacity is the rules'.
 pub fn numbers_are_the_journals()
-    ensures number { (p : Plan) (f : Facts) (j : List Entry) (lane l a : ℕ) (b : Branch)
-        → Stands p f j → l < line_room p → IsOfGroup p lane a b → NumberedBy p j lane l
-        → pos (next_number f l a b) ≡ number_on p j (lane / 2) l }
+    ensures number { (p : Plan) (f : Facts) (j : List Entry) (g : Option ℕ) (l a : ℕ)
+        (b : Branch) → Stands p f j → l < line_room p → IsOfGroup p g a b → NumberedBy p j g l
+        → pos (next_number f l a b) ≡ number_of j (kind_in p g) l }
     ensures fewer { (p : Plan) (f : Facts) (j : List Entry) (l : ℕ) → Stands p f j
         → l < line_room p → length (sends j l) < line_room p → last_of f l < length f.lines }
     ensures places { (p : Plan) (f : Facts) (j : List Entry) (l : ℕ) → Stands p f j
         → l < line_room p → length (open_of f l) ≡ length (pending j l) }
-    ensures capacity { (p : Plan) (f : Facts) (j : List Entry) (lane a : ℕ) (b : Branch)
-        → Stands p f j → IsOfGroup p lane a b
-        → capacity_of (single_of f a b) ≡ capacity (kind_of p (lane / 2)) }
+    ensures capacity { (p : Plan) (f : Facts) (j : List Entry) (g : Option ℕ) (a : ℕ)
+        (b : Branch) → Stands p f j → IsOfGroup p g a b
+        → capacity_of (single_of f a b) ≡ capacity (kind_in p g) }
 {}
 
 /// What `answer` finds is what the rules find: on a Single line its pending request, and on every other line the

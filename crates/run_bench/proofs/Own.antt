@@ -32,6 +32,7 @@ tap_leaves o call.Take r = ⊎_elim
 tap_leaves o call.Ask r = refl
 tap_leaves o (call.Launched l how) r = refl
 tap_leaves o (call.Wrote l n how) r = refl
+tap_leaves o call.Tick r = refl
 tap_leaves o (call.Look w) r = refl
 tap_leaves o (call.Claim a b t f) r = refl
 tap_leaves o (call.Committed a b how) r = refl

@@ -392,6 +392,7 @@ module _ {K T P : Type 0} (child : K → ChildTold) (tap : T → TapTold) (place
   proxy_may (call.Launched l start.RoomFault) r put is goes = tt
   proxy_may (call.Launched l start.LaunchFault) r put is goes = tt
   proxy_may (call.Wrote l n how) r put is goes = tt
+  proxy_may call.Tick r put is goes = tt
   proxy_may (call.Look w) r put is goes = tt
   proxy_may (call.Claim a b t f) r put is goes = takes_place_may a b t f r put is
   proxy_may (call.Committed a b how) r put is goes = puts_place_may a b how r put goes
@@ -406,6 +407,7 @@ module _ {K T P : Type 0} (child : K → ChildTold) (tap : T → TapTold) (place
   tap_may call.Ask r put is = tt
   tap_may (call.Launched l how) r put is = tt
   tap_may (call.Wrote l n how) r put is = tt
+  tap_may call.Tick r put is = tt
   tap_may (call.Look w) r put is = tt
   tap_may (call.Claim a b t f) r put is = tt
   tap_may (call.Committed a b how) r put is = tt

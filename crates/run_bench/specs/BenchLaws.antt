@@ -86,6 +86,7 @@ module _ {K T P : Type 0} (child : K → ChildTold) (tap : T → TapTold) (place
   )
   suits_on rule h more lane call.Ask g others stays i = i
   suits_on rule h more lane (call.Wrote l n how) g others stays i = i
+  suits_on rule h more lane call.Tick g others stays i = i
   suits_on rule h more lane (call.Look w) g others stays i = i
   suits_on rule h more lane (call.Claim a b t f) g others stays i = i
   suits_on rule h more lane (call.Killed l) g others stays i = i

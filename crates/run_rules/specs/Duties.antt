@@ -80,11 +80,12 @@ duty_of own = fold duty_then Asks own
 abbrev pub is_maker : List Maker → ℕ → ℕ → Bool
 is_maker makers c o = list_any (λ m. is_made m c o) makers
 
--- A lane that owes a Committed may halt before it makes it, and so make it once it has left. No
--- duty asks for that.
+-- A lane that owes a Committed may halt before it makes it, and so make it once it has left. A lane
+-- that owes nothing may make a Tick. No duty asks for that.
 abbrev pub may_besides : Duty → Call → Bool
 may_besides (Commits a b fs) call.Halt = true
 may_besides Left (call.Committed a b how) = true
+may_besides Asks call.Tick = true
 may_besides _ _ = false
 
 -- ---- which calls it may make, by the paths of each action's outputs, the made inputs of each

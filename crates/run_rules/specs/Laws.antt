@@ -52,6 +52,12 @@ fits_take reply.Stop = true
 fits_take reply.Idle = true
 fits_take _ = false
 
+abbrev pub fits_tick : Reply → Bool
+fits_tick reply.Noted = true
+fits_tick reply.Stop = true
+fits_tick reply.Idle = true
+fits_tick _ = false
+
 abbrev pub fits_answer : Reply → Bool
 fits_answer (reply.Matched a b t) = true
 fits_answer (reply.Late a b t) = true
@@ -73,6 +79,7 @@ fits (call.Committed a b how) r = fits_noted r
 fits (call.Killed l) r = fits_noted r
 fits (call.Ended l how) r = fits_noted r
 fits call.Halt r = fits_noted r
+fits call.Tick r = fits_tick r
 
 -- off its lane's script a call is answered Astray
 abbrev pub Fits : Call → Reply → Type 0

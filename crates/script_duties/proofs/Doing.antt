@@ -7,7 +7,7 @@ use Rattle.run_plan.specs.declared.plan.Plan.{Plan}
 use Rattle.run_plan.specs.declared.plan.PlanAction.{PlanAction}
 use Rattle.run_plan.specs.declared.plan.Kind.{Kind}
 use Rattle.run_plan.specs.declared.plan.Maker.{Maker}
-use Rattle.run_plan.specs.Groups.{kind_of, is_remote, berths}
+use Rattle.run_plan.specs.Groups.{is_remote}
 use Rattle.exec_journal.specs.declared.call.Call.{Call}
 use Rattle.exec_journal.specs.declared.call.Call.TheVariants as call
 use Rattle.exec_journal.specs.declared.call.Found.TheVariants as found
@@ -18,7 +18,7 @@ use Rattle.exec_journal.specs.declared.reply.Reply.TheVariants as reply
 use Rattle.exec_journal.specs.declared.journal.Entry.{Entry}
 use Rattle.exec_journal.specs.Entries.{attempt_of, same_attempt}
 use Rattle.exec_journal.specs.Words.{last_work, stopped, has_halted}
-use Rattle.exec_journal.specs.Scripts.{is_made, is_owed_commit, may_find, allowed, script}
+use Rattle.exec_journal.specs.Scripts.{is_made, is_owed_commit, may_find, allowed, seat_script}
 use Rattle.run_rules.specs.Moves.{History}
 use Rattle.run_rules.specs.Duties.{Duty, Asks, Launches, Sends, Cancels, Gathers, Commits, Kills, Left, ordered, duty_of_claim, duty_of, proxy_lane, may_do}
 use Rattle.seat_desk.specs.History.{calls_by}
@@ -64,6 +64,7 @@ module _ (p : Plan) (k : Kind) where
   asks_only P (call.Answer k z) h ask halt = absurd (cc)
   asks_only P (call.Ended k how) h ask halt = absurd (cc)
   asks_only P call.Halt h ask halt = halt
+  asks_only P call.Tick h ask halt = absurd (cc)
 
   launch_may : (n : ℕ) (x : Call) (l a : ℕ) (b : Branch) (t : ℕ) (c : Call)
       → Do (Launches l) c ≡ true → May n x (reply.Launch l a b t) c
@@ -78,6 +79,7 @@ module _ (p : Plan) (k : Kind) where
   launch_may n x l a b t (call.Answer k z) h = absurd (cc)
   launch_may n x l a b t (call.Ended k how) h = absurd (cc)
   launch_may n x l a b t call.Halt h = refl
+  launch_may n x l a b t call.Tick h = absurd (cc)
 
   send_may : (n : ℕ) (x : Call) (l : ℕ) (o : ℤ) (a : ℕ) (b : Branch) (t : ℕ) (c : Call)
       → Do (Sends l o a) c ≡ true → May n x (reply.Send l o a b t) c
@@ -94,6 +96,7 @@ module _ (p : Plan) (k : Kind) where
   send_may n x l o a b t (call.Answer k z) h = absurd (cc)
   send_may n x l o a b t (call.Ended k how) h = absurd (cc)
   send_may n x l o a b t call.Halt h = refl
+  send_may n x l o a b t call.Tick h = absurd (cc)
 
   cancel_may : (n : ℕ) (x : Call) (l : ℕ) (o : ℤ) (c : Call)
       → Do (Cancels l o) c ≡ true → May n x (reply.Cancel l o) c
@@ -108,6 +111,7 @@ module _ (p : Plan) (k : Kind) where
   cancel_may n x l o (call.Answer k z) h = absurd (cc)
   cancel_may n x l o (call.Ended k how) h = absurd (cc)
   cancel_may n x l o call.Halt h = refl
+  cancel_may n x l o call.Tick h = absurd (cc)
 
   gather_may : (n : ℕ) (x : Call) (l : ℕ) (o : ℤ) (a : ℕ) (b : Branch) (t : ℕ) (exit : ℤ)
       (refused : Bool) (c : Call) → Do (Gathers l o (attempt_of a b t) exit refused) c ≡ true
@@ -130,6 +134,7 @@ module _ (p : Plan) (k : Kind) where
   gather_may n x l o a b t exit refused (call.Answer k z) h = absurd (cc)
   gather_may n x l o a b t exit refused (call.Ended k how) h = absurd (cc)
   gather_may n x l o a b t exit refused call.Halt h = refl
+  gather_may n x l o a b t exit refused call.Tick h = absurd (cc)
 
   kill_may : (n : ℕ) (x : Call) (l : ℕ) (y : Why) (c : Call) → Do (Kills l) c ≡ true
       → May n x (reply.Kill l y) c
@@ -144,6 +149,7 @@ module _ (p : Plan) (k : Kind) where
   kill_may n x l y (call.Answer k z) h = absurd (cc)
   kill_may n x l y (call.Ended k how) h = absurd (cc)
   kill_may n x l y call.Halt h = refl
+  kill_may n x l y call.Tick h = absurd (cc)
 
   commit_may : (n a : ℕ) (b : Branch) (t : ℕ) (fs : List (List ℕ)) (c : Call)
       → Do (Commits a b fs) c ≡ true → May n (call.Claim a b t (found.Files fs)) reply.Granted c
@@ -158,6 +164,7 @@ module _ (p : Plan) (k : Kind) where
   commit_may n a b t fs (call.Answer k z) h = absurd (cc)
   commit_may n a b t fs (call.Ended k how) h = absurd (cc)
   commit_may n a b t fs call.Halt h = absurd (cc)
+  commit_may n a b t fs call.Tick h = absurd (cc)
 
   abbrev pub is_grant : Reply → Bool
   is_grant reply.Granted = true
@@ -231,6 +238,7 @@ module _ (p : Plan) (k : Kind) where
   ungranted (call.Answer k z) r e = refl
   ungranted (call.Ended k how) r e = refl
   ungranted call.Halt r e = refl
+  ungranted call.Tick r e = refl
 
   grant_may : (n : ℕ) (x : Call) (c : Call) → Do (duty_of_work x reply.Granted) c ≡ true
       → May n x reply.Granted c
@@ -258,6 +266,7 @@ module _ (p : Plan) (k : Kind) where
   grant_may n (call.Ended k how) c h =
       asks_only (May n (call.Ended k how) reply.Granted) c h refl refl
   grant_may n call.Halt c h = asks_only (May n call.Halt reply.Granted) c h refl refl
+  grant_may n call.Tick c h = asks_only (May n call.Tick reply.Granted) c h refl refl
 
   pub grant_is : (r : Reply) → is_grant r ≡ true → r ≡ reply.Granted
   grant_is (reply.Launch l a b t) e = absurd (cc)
@@ -306,23 +315,23 @@ module _ (p : Plan) (k : Kind) where
   still_here Left c h = absurd (cc)
 
 -- what a proxy lane may do by its duty is in its script
-pub duty_is_scripted : (p : Plan) (h : History) (w : ℕ) (c : Call) → w < berths p
-    → may_do (outputs_in p) (makers_in p) (is_remote (kind_of p w))
+pub duty_is_scripted : (n : ℕ) (kinds : ℕ → Kind) (p : Plan) (h : History) (w : ℕ) (c : Call) → w < n
+    → may_do (outputs_in p) (makers_in p) (is_remote (kinds w))
     (duty_of (calls_by (proxy_lane w) h)) c ≡ true
-    → script p (journal_of h) (proxy_lane w) c ≡ true
-duty_is_scripted p h w c lt may =
+    → seat_script n kinds p (journal_of h) (proxy_lane w) c ≡ true
+duty_is_scripted n kinds p h w c lt may =
     let j : List Entry = journal_of h in
     let s : Duty = duty_of (calls_by (proxy_lane w) h) in
     let d = duty_is h (proxy_lane w) in
-    let here : has_left s ≡ false = still_here p (kind_of p w) s c may in
+    let here : has_left s ≡ false = still_here p (kinds w) s c may in
     let on = neither_left (stopped j (proxy_lane w)) (has_halted j (proxy_lane w))
     (sym d.gone ∙ here) in
     let even : (proxy_lane w % 2 == 0) ≡ true =
     eq-eqb (proxy_lane w % 2) 0 (mul-mod_right 2 w) in
     let half : proxy_lane w / 2 ≡ w = mul-div_cancel_left w {n = 2} (omega arith) in
     let last : Option Entry = last_work j (proxy_lane w) in
-    (λ i. lane_within p w lt i && (not (on.0 i)
-    && cond (on.1 i) (is_owed_commit c last) (allowed p (kind_of p (half i)) (even i) last c)))
-    ∙ newest_may p (kind_of p w) last c
-    (ap (λ (x : Duty). may_do (outputs_in p) (makers_in p) (is_remote (kind_of p w)) x c)
+    (λ i. lane_within n w lt i && (not (on.0 i)
+    && cond (on.1 i) (is_owed_commit c last) (allowed p (kinds (half i)) (even i) last c)))
+    ∙ newest_may p (kinds w) last c
+    (ap (λ (x : Duty). may_do (outputs_in p) (makers_in p) (is_remote (kinds w)) x c)
     (sym (d.owed here)) ∙ may)

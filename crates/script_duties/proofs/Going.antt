@@ -148,6 +148,12 @@ at_call (call.Ended l how) r s = record {
   looks = λ e. absurd (cc);
   works = λ e f. refl;
 }
+at_call call.Tick r s = record {
+  halts = λ e. absurd (cc);
+  stays = λ o e l. (at_reply r).orders o;
+  looks = λ e. absurd (cc);
+  works = λ e f. refl;
+}
 at_call call.Halt r s = record {
   halts = λ e. refl;
   stays = λ o e. absurd (cc);

@@ -8,7 +8,7 @@ use Rattle.std.proofs.Math.Nat.{mul-mod_right, mul-div_cancel_left}
 use Rattle.run_plan.specs.declared.plan.Branch.{Branch}
 use Rattle.run_plan.specs.declared.plan.Plan.{Plan}
 use Rattle.run_plan.specs.declared.plan.Kind.{Kind}
-use Rattle.run_plan.specs.Groups.{kind_of, is_remote, berths}
+use Rattle.run_plan.specs.Groups.{is_remote}
 use Rattle.exec_journal.specs.declared.call.Call.{Call}
 use Rattle.exec_journal.specs.declared.call.Call.TheVariants as call
 use Rattle.exec_journal.specs.declared.call.Found.TheVariants as found
@@ -20,7 +20,7 @@ use Rattle.exec_journal.specs.declared.reply.Reply.TheVariants as reply
 use Rattle.exec_journal.specs.declared.journal.Entry.{Entry}
 use Rattle.exec_journal.specs.Entries.{is_stop, attempt_of, same_attempt, same_branch}
 use Rattle.exec_journal.specs.Words.{last_work, stopped, has_halted}
-use Rattle.exec_journal.specs.Scripts.{is_made, may_find, is_commit_of, is_owed, is_owed_commit, may_look, allowed, script}
+use Rattle.exec_journal.specs.Scripts.{is_made, may_find, is_commit_of, is_owed, is_owed_commit, may_look, allowed, seat_script}
 use Rattle.run_rules.specs.Moves.{History}
 use Rattle.run_rules.specs.Duties.{Duty, Asks, Launches, Sends, Cancels, Gathers, Commits, Kills, ordered, duty_of, proxy_lane, may_make}
 use Rattle.seat_desk.specs.History.{calls_by}
@@ -241,11 +241,11 @@ not_so true e = absurd (cc)
 not_so false e = refl
 
 -- a call in a proxy lane's script is one that its duty allows, or what it may do besides
-pub script_is_duty : (p : Plan) (h : History) (w : ℕ) (c : Call)
-    → script p (journal_of h) (proxy_lane w) c ≡ true
-    → may_make (outputs_in p) (makers_in p) (is_remote (kind_of p w))
+pub script_is_duty : (n : ℕ) (kinds : ℕ → Kind) (p : Plan) (h : History) (w : ℕ) (c : Call)
+    → seat_script n kinds p (journal_of h) (proxy_lane w) c ≡ true
+    → may_make (outputs_in p) (makers_in p) (is_remote (kinds w))
     (duty_of (calls_by (proxy_lane w) h)) c ≡ true
-script_is_duty p h w c may =
+script_is_duty n kinds p h w c may =
     let j : List Entry = journal_of h in
     let lane : ℕ = proxy_lane w in
     let s : Duty = duty_of (calls_by lane h) in
@@ -253,17 +253,17 @@ script_is_duty p h w c may =
     let d = duty_is h lane in
     let even : (lane % 2 == 0) ≡ true = eq-eqb (lane % 2) 0 (mul-mod_right 2 w) in
     let half : lane / 2 ≡ w = mul-div_cancel_left w {n = 2} (omega arith) in
-    let parts = and_parts (nat_lt lane (2 * berths p)) _ may in
+    let parts = and_parts (nat_lt lane (2 * n)) _ may in
     let runs = and_parts (not (stopped j lane)) _ parts.1 in
     let on : stopped j lane ≡ false = not_so (stopped j lane) runs.0 in
     by_bool (has_halted j lane)
     (λ b. has_halted j lane ≡ b
     → cond b (is_owed_commit c last)
-    (allowed p (kind_of p (lane / 2)) (lane % 2 == 0) last c) ≡ true
-    → Make p (kind_of p w) s c)
-    (λ halts g. after_halt p (kind_of p w) s last c (d.gone ∙ (λ i. on i || halts i)) g)
+    (allowed p (kinds (lane / 2)) (lane % 2 == 0) last c) ≡ true
+    → Make p (kinds w) s c)
+    (λ halts g. after_halt p (kinds w) s last c (d.gone ∙ (λ i. on i || halts i)) g)
     (λ goes g. let here : has_left s ≡ false = d.gone ∙ (λ i. on i || goes i) in
-    subst (λ (x : Duty). Make p (kind_of p w) x c) (sym (d.owed here))
-    (newest_only p (kind_of p w) last c (ap has_left (sym (d.owed here)) ∙ here)
-    ((λ i. allowed p (kind_of p (sym half i)) (sym even i) last c) ∙ g)))
+    subst (λ (x : Duty). Make p (kinds w) x c) (sym (d.owed here))
+    (newest_only p (kinds w) last c (ap has_left (sym (d.owed here)) ∙ here)
+    ((λ i. allowed p (kinds (sym half i)) (sym even i) last c) ∙ g)))
     refl runs.1

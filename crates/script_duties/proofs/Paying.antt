@@ -3,7 +3,6 @@ use Rattle.std.proofs.Common.{◌≡◌, ℕ, ◌*◌, ◌==◌, ◌<◌, nat_lt
 use Rattle.run_plan.specs.declared.plan.Branch.{Branch}
 use Rattle.run_plan.specs.declared.plan.Branch.TheVariants.{Local, Remote}
 use Rattle.run_plan.specs.declared.plan.Plan.{Plan}
-use Rattle.run_plan.specs.Groups.{berths}
 use Rattle.exec_journal.specs.declared.call.Call.{Call}
 use Rattle.exec_journal.specs.declared.call.Call.TheVariants as call
 use Rattle.exec_journal.specs.declared.call.Found.TheVariants as found
@@ -14,7 +13,7 @@ use Rattle.exec_journal.specs.declared.journal.Entry.{Entry}
 use Rattle.exec_journal.specs.Entries.{same_branch}
 use Rattle.exec_journal.specs.Words.{last_work, stopped, has_halted}
 use Rattle.exec_journal.specs.Scripts.{is_commit_of, owes_commit}
-use Rattle.journal_laws.specs.Paid.{is_paid}
+use Rattle.journal_laws.specs.Paid.{seat_paid}
 use Rattle.run_rules.specs.Moves.{History}
 use Rattle.run_rules.specs.Duties.{Duty, Asks, Launches, Sends, Cancels, Gathers, Commits, Kills, Left, ordered, duty_of_claim, duty_of, proxy_lane}
 use Rattle.seat_desk.specs.History.{calls_by}
@@ -94,6 +93,7 @@ module _ (a : ℕ) (b : Branch) where
   by_work (call.Answer l x) r = sym (by_order r)
   by_work (call.Ended l how) r = sym (by_order r)
   by_work call.Halt r = sym (by_order r)
+  by_work call.Tick r = sym (by_order r)
 
   by_newest : (o : Option Entry) → owes_commit a b o ≡ commits_it (owed_by o)
   by_newest None = refl
@@ -110,21 +110,21 @@ pub neither_left : (x y : Bool) → (x || y) ≡ false → (x ≡ false) × (y �
 neither_left true y e = absurd (cc)
 neither_left false y e = (refl, e)
 
-pub lane_within : (p : Plan) (w : ℕ) → w < berths p → nat_lt (proxy_lane w) (2 * berths p) ≡ true
-lane_within p w lt = lt-ltb (proxy_lane w) (2 * berths p) (omega (arith, lt))
+pub lane_within : (n w : ℕ) → w < n → nat_lt (proxy_lane w) (2 * n) ≡ true
+lane_within n w lt = lt-ltb (proxy_lane w) (2 * n) (omega (arith, lt))
 
 -- ---- what is paid
 
-pub commit_is_paid : (p : Plan) (h : History) (w a : ℕ) (b : Branch) (fs : List (List ℕ))
-    (how : CommitEnd) → w < berths p
+pub commit_is_paid : (n : ℕ) (h : History) (w a : ℕ) (b : Branch) (fs : List (List ℕ))
+    (how : CommitEnd) → w < n
     → duty_of (calls_by (proxy_lane w) h) ≡ Commits a b fs
-    → is_paid p (journal_of h) (proxy_lane w) (call.Committed a b how) ≡ true
-commit_is_paid p h w a b fs how lt e =
+    → seat_paid n (journal_of h) (proxy_lane w) (call.Committed a b how) ≡ true
+commit_is_paid n h w a b fs how lt e =
     let d = duty_is h (proxy_lane w) in
     let owed : owes_commit a b (last_work (journal_of h) (proxy_lane w)) ≡ true =
     by_newest a b (last_work (journal_of h) (proxy_lane w))
     ∙ (ap (commits_it a b) (sym (d.owed (ap has_left e)) ∙ e) ∙ commits_own a b fs) in
-    (λ i. lane_within p w lt i && owed i)
+    (λ i. lane_within n w lt i && owed i)
 
 not_left : (s : Duty) → (s ≡ Left → ⊥) → has_left s ≡ false
 not_left Asks n = refl
@@ -136,12 +136,12 @@ not_left (Commits a b fs) n = refl
 not_left (Kills l) n = refl
 not_left Left n = absurd (n refl)
 
-pub halt_is_paid : (p : Plan) (h : History) (w : ℕ) → w < berths p
+pub halt_is_paid : (m : ℕ) (h : History) (w : ℕ) → w < m
     → (duty_of (calls_by (proxy_lane w) h) ≡ Left → ⊥)
-    → is_paid p (journal_of h) (proxy_lane w) call.Halt ≡ true
-halt_is_paid p h w lt n =
+    → seat_paid m (journal_of h) (proxy_lane w) call.Halt ≡ true
+halt_is_paid m h w lt n =
     let d = duty_is h (proxy_lane w) in
     let here = neither_left (stopped (journal_of h) (proxy_lane w))
     (has_halted (journal_of h) (proxy_lane w))
     (sym d.gone ∙ not_left (duty_of (calls_by (proxy_lane w) h)) n) in
-    (λ i. lane_within p w lt i && (not (here.0 i) && not (here.1 i)))
+    (λ i. lane_within m w lt i && (not (here.0 i) && not (here.1 i)))

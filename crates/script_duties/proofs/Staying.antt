@@ -5,12 +5,12 @@ use Rattle.std.proofs.lemmas.Grind.{fold-append}
 use Rattle.std.proofs.Math.Nat.{div-add-mod}
 use Rattle.seat_desk.specs.History.{calls_by}
 use Rattle.run_plan.specs.declared.plan.Plan.{Plan}
-use Rattle.run_plan.specs.Groups.{kind_of, berths}
+use Rattle.run_plan.specs.declared.plan.Kind.{Kind}
 use Rattle.exec_journal.specs.declared.call.Call.{Call}
 use Rattle.exec_journal.specs.declared.journal.Entry.{Entry}
 use Rattle.exec_journal.specs.Entries.{is_stop, is_halt, is_look}
 use Rattle.exec_journal.specs.Words.{last_work, stopped, has_halted}
-use Rattle.exec_journal.specs.Scripts.{is_owed_commit, allowed, script}
+use Rattle.exec_journal.specs.Scripts.{is_owed_commit, allowed, seat_script}
 use Rattle.run_rules.specs.Moves.{Past, History}
 use Rattle.script_duties.specs.Owed.{to_entry, journal_of}
 use Rattle.script_duties.proofs.Going.{then, flip}
@@ -51,24 +51,24 @@ all_more (e ∷ es) j lane none_own = then_more e es j lane (lane == e.lane) ref
     (λ k h. all_more es k lane h) none_own
 
 -- what is in a lane's script stays there
-pub script_stays : (p : Plan) (h more : History) (lane : ℕ) (c : Call) → calls_by lane more ≡ []
-    → script p (journal_of (h ++ more)) lane c ≡ script p (journal_of h) lane c
-script_stays p h more lane c none_own =
+pub script_stays : (n : ℕ) (kinds : ℕ → Kind) (p : Plan) (h more : History) (lane : ℕ) (c : Call) → calls_by lane more ≡ []
+    → seat_script n kinds p (journal_of (h ++ more)) lane c ≡ seat_script n kinds p (journal_of h) lane c
+script_stays n kinds p h more lane c none_own =
     let same = all_more more (journal_of h) lane none_own in
-    ap (λ (j : List Entry). script p j lane c) (fold-append (λ j e. to_entry e ∷ j) [] h more)
-    ∙ (λ i. nat_lt lane (2 * berths p) && (not (same.stops i)
+    ap (λ (j : List Entry). seat_script n kinds p j lane c) (fold-append (λ j e. to_entry e ∷ j) [] h more)
+    ∙ (λ i. nat_lt lane (2 * n) && (not (same.stops i)
     && cond (same.halts i) (is_owed_commit c (same.works i))
-    (allowed p (kind_of p (lane / 2)) (lane % 2 == 0) (same.works i) c)))
+    (allowed p (kinds (lane / 2)) (lane % 2 == 0) (same.works i) c)))
 
 first_part : (a b : Bool) → (a && b) ≡ true → a ≡ true
 first_part true b h = refl
 first_part false b h = absurd (cc)
 
 -- and is a call of a lane of the plan
-pub lane_is_known : (p : Plan) (j : List Entry) (lane : ℕ) (c : Call) → script p j lane c ≡ true
-    → lane / 2 < berths p
-lane_is_known p j lane c h =
+pub lane_is_known : (n : ℕ) (kinds : ℕ → Kind) (p : Plan) (j : List Entry) (lane : ℕ) (c : Call) → seat_script n kinds p j lane c ≡ true
+    → lane / 2 < n
+lane_is_known n kinds p j lane c h =
     let whole = div-add-mod lane 2 in
-    let within : lane < 2 * berths p =
-    ltb-true lane (2 * berths p) (first_part (nat_lt lane (2 * berths p)) _ h) in
+    let within : lane < 2 * n =
+    ltb-true lane (2 * n) (first_part (nat_lt lane (2 * n)) _ h) in
     omega (arith, whole, within)

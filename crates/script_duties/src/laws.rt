@@ -9,9 +9,10 @@ ghost use Rattle.exec_journal.specs.declared.call.Call.TheVariants as call;
 ghost use Rattle.exec_journal.specs.declared.call.CommitEnd.{CommitEnd};
 ghost use Rattle.run_plan.specs.declared.plan.Branch.{Branch};
 ghost use Rattle.run_plan.specs.declared.plan.Plan.{Plan};
-ghost use Rattle.run_plan.specs.Groups.{berths, kind_of, is_remote};
-ghost use Rattle.exec_journal.specs.Scripts.{script};
-ghost use Rattle.journal_laws.specs.Paid.{is_paid};
+ghost use Rattle.run_plan.specs.declared.plan.Kind.{Kind};
+ghost use Rattle.run_plan.specs.Groups.{is_remote};
+ghost use Rattle.exec_journal.specs.Scripts.{seat_script};
+ghost use Rattle.journal_laws.specs.Paid.{seat_paid};
 ghost use Rattle.run_rules.specs.Duties.{duty_of, proxy_lane, may_do, may_make, Commits, Left};
 ghost use Rattle.script_duties.specs.Owed.{DutyIs, journal_of, outputs_in, makers_in};
 
@@ -24,38 +25,41 @@ pub fn duties_are_newest_works()
 
 /// What a proxy lane may do by its duty is in its script.
 pub fn duties_are_scripted()
-    ensures { (p : Plan) (h : List (Entry Call Reply)) (w : ℕ) (c : Call) → w < berths p
-        → may_do (outputs_in p) (makers_in p) (is_remote (kind_of p w))
+    ensures { (n : ℕ) (kinds : ℕ → Kind) (p : Plan) (h : List (Entry Call Reply)) (w : ℕ)
+        (c : Call) → w < n
+        → may_do (outputs_in p) (makers_in p) (is_remote (kinds w))
         (duty_of (calls_by (proxy_lane w) h)) c ≡ true
-        → script p (journal_of h) (proxy_lane w) c ≡ true }
+        → seat_script n kinds p (journal_of h) (proxy_lane w) c ≡ true }
 {}
 
 /// Nothing else is, but a Halt of a lane that owes a Committed, and a Committed of one that has
 /// left.
 pub fn scripts_are_duties()
-    ensures { (p : Plan) (h : List (Entry Call Reply)) (w : ℕ) (c : Call)
-        → script p (journal_of h) (proxy_lane w) c ≡ true
-        → may_make (outputs_in p) (makers_in p) (is_remote (kind_of p w))
+    ensures { (n : ℕ) (kinds : ℕ → Kind) (p : Plan) (h : List (Entry Call Reply)) (w : ℕ)
+        (c : Call) → seat_script n kinds p (journal_of h) (proxy_lane w) c ≡ true
+        → may_make (outputs_in p) (makers_in p) (is_remote (kinds w))
         (duty_of (calls_by (proxy_lane w) h)) c ≡ true }
 {}
 
 /// A proxy lane's Halt is paid for until it has left, and so is the Committed that it owes.
 pub fn owed_calls_are_paid()
-    ensures halts { (p : Plan) (h : List (Entry Call Reply)) (w : ℕ) → w < berths p
+    ensures halts { (n : ℕ) (h : List (Entry Call Reply)) (w : ℕ) → w < n
         → (duty_of (calls_by (proxy_lane w) h) ≡ Left → ⊥)
-        → is_paid p (journal_of h) (proxy_lane w) call.Halt ≡ true }
-    ensures commits { (p : Plan) (h : List (Entry Call Reply)) (w a : ℕ) (b : Branch)
-        (fs : List (List ℕ)) (how : CommitEnd) → w < berths p
+        → seat_paid n (journal_of h) (proxy_lane w) call.Halt ≡ true }
+    ensures commits { (n : ℕ) (h : List (Entry Call Reply)) (w a : ℕ) (b : Branch)
+        (fs : List (List ℕ)) (how : CommitEnd) → w < n
         → duty_of (calls_by (proxy_lane w) h) ≡ Commits a b fs
-        → is_paid p (journal_of h) (proxy_lane w) (call.Committed a b how) ≡ true }
+        → seat_paid n (journal_of h) (proxy_lane w) (call.Committed a b how) ≡ true }
 {}
 
 /// A call in a lane's script is one of a lane of the plan, and entries of other lanes leave it
 /// there.
 pub fn scripts_stay()
-    ensures known { (p : Plan) (h : List (Entry Call Reply)) (lane : ℕ) (c : Call)
-        → script p (journal_of h) lane c ≡ true → lane / 2 < berths p }
-    ensures stays { (p : Plan) (h more : List (Entry Call Reply)) (lane : ℕ) (c : Call)
-        → calls_by lane more ≡ []
-        → script p (journal_of (h ++ more)) lane c ≡ script p (journal_of h) lane c }
+    ensures known { (n : ℕ) (kinds : ℕ → Kind) (p : Plan) (h : List (Entry Call Reply))
+        (lane : ℕ) (c : Call) → seat_script n kinds p (journal_of h) lane c ≡ true
+        → lane / 2 < n }
+    ensures stays { (n : ℕ) (kinds : ℕ → Kind) (p : Plan) (h more : List (Entry Call Reply))
+        (lane : ℕ) (c : Call) → calls_by lane more ≡ []
+        → seat_script n kinds p (journal_of (h ++ more)) lane c
+        ≡ seat_script n kinds p (journal_of h) lane c }
 {}

@@ -1,5 +1,5 @@
 -- All that the core asks of legal journals, for each journal, each call and each entry.
-use Rattle.std.proofs.Common.{◌≡◌, ℕ, ◌<◌, ◌≤◌, Bool, true, false, ◌&&◌, ◌||◌, List, [], ◌∷◌, ◌++◌, reverse, map, Option, Some, None, option_map, refl, sym, ap, subst, ◌∙◌, ℤ, arith}
+use Rattle.std.proofs.Common.{◌≡◌, ℕ, ◌<◌, ◌≤◌, ◌/◌, ◌==◌, nat_lt, zero, suc, Bool, true, false, ◌&&◌, ◌||◌, cond, length, filter, List, [], ◌∷◌, ◌++◌, reverse, map, Option, Some, None, option_map, ◌⊎◌, inl, inr, refl, sym, ap, subst, ◌∙◌, ℤ, arith}
 use Rattle.std.specs.Prelude.{slice_get}
 use Rattle.std.specs.List.{find, list_any}
 use Rattle.std.proofs.lemmas.Bool.{eqb-true, eq-eqb, and_parts, and_from}
@@ -21,19 +21,15 @@ use Rattle.exec_journal.specs.declared.reply.Reply.TheVariants as reply
 use Rattle.exec_journal.specs.Entries.{Request, attempt_of, same_attempt, is_for, is_kept, launch_in, consumed_in, matched_in, launch_of_entry}
 use Rattle.exec_journal.specs.Words.{last_work, last_line, launch_of, order_of, sends, pending, wrote, says_feed_fault, granted}
 use Rattle.exec_journal.specs.Attempts.{ended, line_of}
-use Rattle.run_plan.specs.Groups.{berth_group, berths, capacity, kind_of}
 use Rattle.exec_journal.specs.Settled.{bound}
-use Rattle.exec_journal.specs.Rules as r
-use Rattle.exec_journal.specs.Scripts as sc
-use Rattle.exec_journal.specs.Legal.{Legal}
 use Rattle.run_plan.specs.Sound.{Sound}
 use Rattle.exec_journal.specs.Facts.{begun}
 use Rattle.journal_laws.specs.Invariant.{older}
 use Rattle.exec_journal.proofs.Histories.{AllOf}
-use Rattle.exec_journal.proofs.Ruled as u
 use Rattle.exec_journal.proofs.Ruled.{by_bool}
 use Rattle.exec_journal.proofs.Begins.{same_attempt_refl}
 use Rattle.journal_laws.proofs.Carried as k
+use Rattle.journal_laws.specs.Invariant.{NumberedAs}
 use Rattle.journal_laws.proofs.Claims as c
 use Rattle.journal_laws.proofs.Claims.{clash, false_by}
 use Rattle.journal_laws.proofs.Granted as g
@@ -53,59 +49,117 @@ use Rattle.journal_calls.proofs.LastLines as ll
 use Rattle.journal_calls.proofs.LineEnds as le
 use Rattle.journal_calls.proofs.Requested as re
 use Rattle.journal_calls.specs.Moments.{BranchOf}
+use Rattle.journal_calls.proofs.Recent.{room_for_match}
+use Rattle.exec_journal.specs.Words.{has_greeted, lines_of, live, sends}
+use Rattle.journal_laws.proofs.Requests as q
+use Rattle.journal_calls.proofs.Gathers.{gathers}
+use Rattle.exec_journal.specs.Lawful as lw
+use Rattle.exec_journal.specs.Lawful.{Lawful}
+use Rattle.exec_journal.specs.Seated.{group_on, line_group, line_kind, may_be_asked}
+use Rattle.journal_laws.proofs.Over as v
+use Rattle.run_plan.specs.Groups.{berths, berth_group, kind_of, capacity, has_cancellation, is_remote, is_single}
+use Rattle.exec_journal.specs.Kept.{group_at}
+use Rattle.exec_journal.specs.Legal.{Legal}
+use Rattle.exec_journal.specs.Rules as r
+use Rattle.exec_journal.specs.Scripts as sc
+use Rattle.journal_laws.proofs.Ours as ours
 use Rattle.core_tables.specs.Last.{fed_of}
+use Rattle.core_laws.specs.Facts.{JournalFacts, Among}
 use Rattle.core_laws.specs.Premises.{Uses, SentInGroup, LostOn, ConsumesOne, lost_with, if_there, is_line, is_left}
 use Rattle.core_laws.specs.Moments.{MoreFacts, WritesOne, ClaimsOne, CallFacts, EntryFacts, AllLegal}
 use Rattle.core_laws.proofs.Asked.{any_append, any_reverse, any_map}
-use Rattle.spawn_core.proofs.LegalFacts.{facts}
-use Rattle.journal_calls.proofs.Recent.{room_for_match}
+
+among_all : (P : ℕ → Type 0) (k : ℕ) (ls : List ℕ) → AllOf P ls → Among k ls → P k
+among_all P k [] all h = absurd h
+among_all P k (l ∷ ls) all (inl here) = subst P (sym here) all.0
+among_all P k (l ∷ ls) all (inr more) = among_all P k ls all.1 more
+
+-- a Single line is no executor's, so it has a Cancel only where its group has cancellation
+single_only : (k : Kind) (c g : Bool) → is_single k ≡ true → c ≡ false
+    → (c || (is_remote k && g)) ≡ false
+single_only kind.Single c g one none = rw none refl
+single_only kind.Multi c g one none = absurd (cc)
+single_only kind.Boxed c g one none = absurd (cc)
+single_only kind.Remote c g one none = absurd (cc)
+
+module _ (p : Plan) (j : List Entry) (legal : Legal p j) (w l : ℕ) (here : last_line j w ≡ Some l) where
+  good : Lawful p j
+  good = ours.lawful p j legal
+
+  seat : (kind_of p w ≡ line_kind p j l) × (group_at p w ≡ line_group p j l)
+  seat = ours.berth_seated p j good (ours.both_ours p j legal).1 w l here
+
+  group_is : group_on p j l ≡ berth_group p w
+  group_is = ours.seated p j l w legal (la.here_own p j w l good here)
+
+  uncancelled : is_single (kind_of p w) ≡ true → has_cancellation p (group_at p w) ≡ false → may_be_asked p j l ≡ false
+  uncancelled one none =
+      (λ i. has_cancellation p (sym seat.1 i) || (is_remote (sym seat.0 i) && has_greeted j l))
+      ∙ single_only (kind_of p w) (has_cancellation p (group_at p w)) (has_greeted j l) one none
+
+pub facts : (p : Plan) (j : List Entry) → Sound p → Legal p j → JournalFacts p j
+facts p j sound legal =
+    let good = ours.lawful p j legal in
+    record {
+      lines_fit = (let a = co.lines_made p j good in let b = co.made_most p j good sound.least in
+          omega arith);
+      live_last = λ w l here k among up. among_all (λ i. live j i ≡ true → i ≡ l) k (lines_of j w)
+          (ll.live_last p j w l good here) among up;
+      launched_yet = λ lane l asks here. ll.launched_yet p j lane l good (ours.scripted_anywhere p j lane call.Ask asks) here;
+      wanted_by_grant = λ l. br.wanted_by_grant p j l good;
+      no_cancel = λ w l here one none. br.each_of _ _ (re.no_cancel p j l good (uncancelled p j legal w l here one none));
+      bound_group = λ w l t here at. re.bound_group p j l t good at ∙ group_is p j legal w l here;
+      numbered = λ w l here. br.numbered _ (sends j l)
+          (subst (λ k. NumberedAs (is_single k) (sends j l)) (sym (seat p j legal w l here).0)
+          (re.numbered p j l w good (la.here_own p j w l good here)));
+      gathers = λ lane asks. gathers p j lane good (ours.scripted_anywhere p j lane call.Ask asks);
+      unbegun_goes = λ t h. false_by _ (λ y. clash _ (c.ended_begun p j t good y) h);
+      unsent_unanswered = λ t h. false_by _ (λ y. clash _ (c.answered_sent p j t good y) h);
+    }
 
 -- ---- of each legal journal
 
-uses : (p : Plan) (j : List Entry) (t : Attempt) → Legal p j → begun j t ≡ true → Uses p t
+uses : (p : Plan) (j : List Entry) (t : Attempt) → Lawful p j → begun j t ≡ true → Uses p t
 uses p j t legal h = let has = f.going_ready_at p j t legal h in
     record { action = has.action; place = has.place; group = has.group; runs = has.runs }
 
-grouped : (p : Plan) (j : List Entry) (w l : ℕ) → Legal p j → last_line j w ≡ Some l
-    → SentInGroup p j w l
+grouped : (p : Plan) (j : List Entry) (w l : ℕ) → Legal p j → last_line j w ≡ Some l → SentInGroup p j w l
 grouped p j w l legal here =
-    let own = la.here_own p j w l legal here in
-    let seat : w < berths p = subst (λ n. n < berths p) own.owner.3
-    (re.seated p j l own.owner.0 own.owner.1 legal own.owner.2) in
-    let run = subst (λ n. AllOf (λ (x : Request). ke.RunsIn p x.attempt (u.group_at p n))
-    (sends j l)) own.owner.3 (ke.sends_run p j l own.owner.0 own.owner.1 legal own.owner.2) in
-    br.each_of _ _ (k.all_map (λ (x : Request). ke.RunsIn p x.attempt (u.group_at p w))
-    (λ x. BranchOf p x.attempt (berth_group p w)) (λ x h. of.runs_in_group p x.attempt w h seat)
-    (sends j l) run)
-
-few : (n : Kind) → capacity n ≤ 8
-few kind.Single = omega arith
-few kind.Multi = omega arith
-few kind.Boxed = omega arith
-few kind.Remote = omega arith
+    let good = ours.lawful p j legal in
+    let own = la.here_own p j w l good here in
+    let m = own.owner.0 in
+    let t = own.owner.1 in
+    let at = own.owner.2 in
+    let runs = ke.launched_runs p j l m t good at in
+    let group = q.group_is p j l m t at ∙ ke.group_runs p t (line_group p j l) runs in
+    br.each_of _ _ (k.all_map (λ (x : Request). ke.RunsIn p x.attempt (line_group p j l)) (λ x. BranchOf p x.attempt (berth_group p w))
+    (λ x h. ke.group_runs p x.attempt (line_group p j l) h ∙ sym group ∙ group_is p j legal w l here) (sends j l)
+    (ke.sends_run p j l m t (line_group p j l) good at runs))
 
 more : (p : Plan) (j : List Entry) → Sound p → Legal p j → MoreFacts p j
-more p j sound legal = record {
-  used = λ t h. uses p j t legal h;
-  grouped = λ w l here. grouped p j w l legal here;
-  carries = br.carries p j legal;
-  bound_at = λ l t h. (let s = ca.bound_seat p j l t legal h in
-      record { berth = s.berth; below = s.within; here = s.last });
-  sends_fit = λ l. (let a = co.line_sends j l in let b = co.sends_made p j legal sound.least in
-      let m = co.sent_most p j in omega arith);
-  matches_fit = λ w l here. (let a = room_for_match p j w l legal sound.least here in
-      let b = few (kind_of p w) in omega arith);
-  alone = λ w l here one. pl.one_pending p j l w legal (la.here_own p j w l legal here) one;
-}
+more p j sound legal =
+    let good = ours.lawful p j legal in
+    record {
+      used = λ t h. uses p j t good h;
+      grouped = λ w l here. grouped p j w l legal here;
+      carries = br.carries p j good;
+      bound_at = λ l t h. (let s = ca.bound_seat p j l t good h in
+          record { berth = s.berth; below = ours.within p j l s.berth legal s.own; here = s.last });
+      sends_fit = λ l. (let a = co.line_sends j l in let b = co.sends_made p j good sound.least in
+          let m = co.sent_most p j in omega arith);
+      matches_fit = λ w l here. room_for_match p j w l good sound.least here;
+      alone = λ w l here one. pl.one_pending p j l w good (la.here_own p j w l good here)
+          (subst (λ n. is_single n ≡ true) (seat p j legal w l here).0 one);
+    }
 
 -- ---- of each call
 
-module _ (p : Plan) (j : List Entry) (lane : ℕ) (sound : Sound p) (legal : Legal p j) where
+module _ (p : Plan) (j : List Entry) (lane : ℕ) (sound : Sound p) (legal : Lawful p j) where
   abbrev next : Call → Entry
   next d = ca.next_entry p j lane d
 
   launches : (l m : ℕ) (how : Started) (t : Attempt)
-      → sc.script p j lane (call.Launched l how) ≡ true → launch_of j l ≡ Some (m, t)
+      → lw.in_script p j lane (call.Launched l how) ≡ true → launch_of j l ≡ Some (m, t)
       → launch_of_entry (last_work j lane) ≡ Some t
   launches l m how t may at =
       let x = ed.launched_order p j lane l how legal may in
@@ -131,12 +185,12 @@ module _ (p : Plan) (j : List Entry) (lane : ℕ) (sound : Sound p) (legal : Leg
       rest (z ∷ zs) every = rw every.0 (rest zs every.1)
 
   writes : (l : ℕ) (n : ℤ) (how : Written) (x : Request)
-      → sc.script p j lane (call.Wrote l n how) ≡ true → order_of j lane ≡ Some x
+      → lw.in_script p j lane (call.Wrote l n how) ≡ true → order_of j lane ≡ Some x
       → WritesOne j l n x
   unfolding fed_of
   writes l n how x may order =
       let e : Entry = next (call.Wrote l n how) in
-      let after : Legal p (e ∷ j) = ca.next_legal p j lane (call.Wrote l n how) legal may refl in
+      let after : Lawful p (e ∷ j) = ca.next_legal p j lane (call.Wrote l n how) legal may refl refl in
       let it = la.writes_request p e j l n how x after refl order in
       let at = pl.written_place p j lane x legal order in
       let head : r.head (sends j l) ≡ Some x = subst (λ i. r.head (sends j i) ≡ Some x) it.line
@@ -152,11 +206,11 @@ module _ (p : Plan) (j : List Entry) (lane : ℕ) (sound : Sound p) (legal : Leg
             (re.fed_last p j l legal));
       }
 
-  claims : (a n : ℕ) (b : Branch) (x : Found) → sc.script p j lane (call.Claim a b n x) ≡ true
+  claims : (a n : ℕ) (b : Branch) (x : Found) → lw.in_script p j lane (call.Claim a b n x) ≡ true
       → ClaimsOne j a b n
   claims a n b x may =
       let e : Entry = next (call.Claim a b n x) in
-      let after : Legal p (e ∷ j) = ca.claim_legal p j lane a b n x legal may in
+      let after : Lawful p (e ∷ j) = ca.claim_legal p j lane a b n x legal may in
       let it = g.claimable p e j (attempt_of a b n) after (same_attempt_refl (attempt_of a b n)) in
       record {
         sent = c.answered_sent p j (attempt_of a b n) legal it.consumed;
@@ -174,19 +228,25 @@ module _ (p : Plan) (j : List Entry) (lane : ℕ) (sound : Sound p) (legal : Leg
   matched_consumed (reply.Matched a b n) t h = h
   matched_consumed _ t h = absurd (cc)
 
-  consumes : (l : ℕ) (x : Answer) → sc.script p j lane (call.Answer l x) ≡ true
-      → ConsumesOne p j lane l x
-  consumes l x may = record {
-    on = λ t h. br.is_pending_on p (next (call.Answer l x)) j l x t (after t h) refl h;
-    known = λ t h. br.known_answer p (next (call.Answer l x)) j l x t (after t h) refl h;
+  consumes : (l : ℕ) (x : Answer) → lw.in_script p j lane (call.Answer l x) ≡ true
+      → r.rule p j lane (call.Answer l x) ≡ lw.plain_reply p j lane (call.Answer l x) → ConsumesOne p j lane l x
+  consumes l x may same = record {
+    on = λ t h. br.is_pending_on p (next (call.Answer l x)) j l x t (after t (told t h)) refl (told t h);
+    known = λ t h. br.known_answer p (next (call.Answer l x)) j l x t (after t (told t h)) refl (told t h);
     waits = λ t h. ca.match_unspent p (next (call.Answer l x)) j l x t
-        (after t (matched_consumed (r.rule p j lane (call.Answer l x)) t h)) refl h;
+        (after t (matched_consumed (lw.plain_reply p j lane (call.Answer l x)) t (matched t h))) refl (matched t h);
   }
     where
-      after : (t : Attempt) → consumed_in (r.rule p j lane (call.Answer l x)) ≡ Some t
-          → Legal p (next (call.Answer l x) ∷ j)
-      after t h = ca.next_legal p j lane (call.Answer l x) legal may
-          (consumed_kept (r.rule p j lane (call.Answer l x)) t h)
+      told : (t : Attempt) → consumed_in (r.rule p j lane (call.Answer l x)) ≡ Some t → consumed_in (lw.plain_reply p j lane (call.Answer l x)) ≡ Some t
+      told t h = subst (λ (y : Reply). consumed_in y ≡ Some t) same h
+
+      matched : (t : Attempt) → matched_in (r.rule p j lane (call.Answer l x)) ≡ Some t → matched_in (lw.plain_reply p j lane (call.Answer l x)) ≡ Some t
+      matched t h = subst (λ (y : Reply). matched_in y ≡ Some t) same h
+
+      after : (t : Attempt) → consumed_in (lw.plain_reply p j lane (call.Answer l x)) ≡ Some t
+          → Lawful p (next (call.Answer l x) ∷ j)
+      after t h = ca.next_legal p j lane (call.Answer l x) legal may refl
+          (consumed_kept (lw.plain_reply p j lane (call.Answer l x)) t h)
 
   -- what stands on the line is what is lost with it
   any_there : (t : Attempt) (o : Option Attempt) → list_any (same_attempt t) (if_there o)
@@ -221,7 +281,7 @@ module _ (p : Plan) (j : List Entry) (lane : ℕ) (sound : Sound p) (legal : Leg
       rest = any_append (same_attempt t) (if_there (fed_of j l)) (if_there (bound p j l))
           ∙ (λ i. any_there t (fed_of j l) i || any_there t (bound p j l) i)
 
-  lost : (l : ℕ) (how : HowEnded) → sc.script p j lane (call.Ended l how) ≡ true → LostOn p j l
+  lost : (l : ℕ) (how : HowEnded) → lw.in_script p j lane (call.Ended l how) ≡ true → LostOn p j l
   lost l how may = record { each = λ t going free. sides t going free ∙ sym (among_is l t) }
     where
       at_line : (o : Option ℕ) → is_line o l ≡ true → o ≡ Some l
@@ -242,45 +302,57 @@ module _ (p : Plan) (j : List Entry) (lane : ℕ) (sound : Sound p) (legal : Leg
           clash _ (le.left_stands p j l t legal (ll.heard p j lane l how legal may).running
           (at_line (line_of j t) parts.0) parts.1 free going) off)) refl
 
-  calls : (d : Call) → sc.script p j lane d ≡ true → CallFacts p j lane d
-  calls d may = record {
+  calls : (d : Call) → lw.in_script p j lane d ≡ true
+      → ((l : ℕ) (x : Answer) → d ≡ call.Answer l x → r.rule p j lane (call.Answer l x) ≡ lw.plain_reply p j lane (call.Answer l x))
+      → CallFacts p j lane d
+  calls d may same = record {
     names = λ l is. ll.names_last p j lane l d legal may is;
     launches = λ l m how t is at. launches l m how t (subst
-        (λ (z : Call). sc.script p j lane z ≡ true) is may) at;
+        (λ (z : Call). lw.in_script p j lane z ≡ true) is may) at;
     writes = λ l n how x is order. writes l n how x (subst
-        (λ (z : Call). sc.script p j lane z ≡ true) is may) order;
-    claims = λ a n b x is. claims a n b x (subst (λ (z : Call). sc.script p j lane z ≡ true) is
+        (λ (z : Call). lw.in_script p j lane z ≡ true) is may) order;
+    claims = λ a n b x is. claims a n b x (subst (λ (z : Call). lw.in_script p j lane z ≡ true) is
         may);
-    commits = λ a b how is. (let now = subst (λ (z : Call). sc.script p j lane z ≡ true) is may in
+    commits = λ a b how is. (let now = subst (λ (z : Call). lw.in_script p j lane z ≡ true) is may in
         br.won_files p (next (call.Committed a b how)) j a b how
-        (ca.next_legal p j lane (call.Committed a b how) legal now refl) refl);
+        (ca.next_legal p j lane (call.Committed a b how) legal now refl refl) refl);
     commits_within = λ a b how is. ca.commit_within p j lane a b how legal
-        (subst (λ (z : Call). sc.script p j lane z ≡ true) is may);
-    consumes = λ l x is. consumes l x (subst (λ (z : Call). sc.script p j lane z ≡ true) is may);
-    lost = λ l how is. lost l how (subst (λ (z : Call). sc.script p j lane z ≡ true) is may);
+        (subst (λ (z : Call). lw.in_script p j lane z ≡ true) is may);
+    consumes = λ l x is. consumes l x (subst (λ (z : Call). lw.in_script p j lane z ≡ true) is may) (same l x is);
+    lost = λ l how is. lost l how (subst (λ (z : Call). lw.in_script p j lane z ≡ true) is may);
   }
 
 -- ---- of each entry
 
 entries : (p : Plan) (j : List Entry) (e : Entry) → Sound p → Legal p (e ∷ j) → EntryFacts p j e
-entries p j e sound legal = record {
-  stays = br.wanted_stays p e j legal;
-  grants = λ x h. br.is_open p e j x legal h;
-  launch_room = λ x h. (pl.fresh_launch p e j x legal sound.least h).room;
-  send_room = λ x h. (let s = pl.numbered_send p e j x legal sound.least h in
-      record { place = s.place; left = s.room });
-  launched = λ l m how t is fault at. ex.launched_ends p e j l m how t legal is fault at;
-  unwritten = λ l n how x is un order. ex.unwritten_ends p e j l n how x legal is un order;
-  fed = λ l n x is order. ex.feed_ends p e j l n x legal is order
-      (ed.order_carrier p j e.lane x legal.0 order);
-  refused = λ x h. ex.refused_ends p e j x legal h;
-  finished = λ l how is. ex.line_ends p e j l how legal is;
-}
+entries p j e sound legal =
+    let good = ours.lawful p (e ∷ j) legal in
+    record {
+      stays = br.wanted_stays p e j good;
+      grants = λ x h. br.is_open p e j x good h;
+      launch_room = λ x h. (pl.fresh_launch p e j x good sound.least h).room;
+      send_room = λ x h. (let s = pl.numbered_send p e j x good sound.least h in
+          record {
+            place = subst (λ n. length (pending j x.line) < capacity n) (sym (seat p j legal.0 (e.lane / 2) x.line
+                (q.sends_to p j e.lane x.line e.call e.reply x (v.entry_ruled p e j good) h refl).here).0) s.place;
+            left = s.room;
+          });
+      launched = λ l m how t is fault at. ex.launched_ends p e j l m how t good is fault at;
+      unwritten = λ l n how x is un order. ex.unwritten_ends p e j l n how x good is un order;
+      fed = λ l n x is order. ex.feed_ends p e j l n x good is order
+          (ed.order_carrier p j e.lane x good.0 order);
+      refused = λ x h. ex.refused_ends p e j x good h;
+      finished = λ l how is. ex.line_ends p e j l how good is;
+    }
 
 pub all_facts : AllLegal
-all_facts p j sound legal = record {
-  facts = facts p j sound legal;
-  more = more p j sound legal;
-  calls = λ lane d may. calls p j lane sound legal d may;
-  entries = λ e entry. entries p j e sound (legal, entry);
-}
+all_facts p j sound legal =
+    let good = ours.lawful p j legal in
+    record {
+      facts = facts p j sound legal;
+      more = more p j sound legal;
+      calls = λ lane d may. calls p j lane sound good d (ours.scripted_anywhere p j lane d may)
+          (λ l x is. ours.answer_seated p j lane l x good (ours.both_ours p j legal).1
+          (subst (λ (z : Call). lw.in_script p j lane z ≡ true) is (ours.scripted_anywhere p j lane d may)));
+      entries = λ e entry. entries p j e sound (legal, entry);
+    }

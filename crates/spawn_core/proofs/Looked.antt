@@ -24,6 +24,7 @@ use Rattle.exec_journal.specs.Entries.{gather_in, gather_of_entry, is_kept}
 use Rattle.exec_journal.specs.Words.{grant_of, has_halted, last_work, match_of, stopped}
 use Rattle.exec_journal.specs.Rules.{gathered}
 use Rattle.exec_journal.proofs.Ruled.{by_bool}
+use Rattle.journal_laws.proofs.Ours.{lawful}
 use Rattle.core_tables.specs.declared.lanes.LaneState.{LaneState}
 use Rattle.core_tables.specs.declared.lanes.Order.{Order}
 use Rattle.core_tables.specs.declared.lanes.Order.TheVariants as order
@@ -204,9 +205,9 @@ module _ (p : Plan) (s : State) (f : slots.Facts) (j : List Entry) (lane : ℕ) 
     is_newest = by (match_of j t) refl
       where
         by : (m : Option Answer) → match_of j t ≡ m → m ≡ files.newest_match j t.action t.branch
-        by (Some x) at = sym (newest_of p j t x st.tables.legal
-            (gathering_going p j lane t st.tables.legal ordered) at)
-        by None at = absurd (let some = gathered_match p j t st.tables.legal
+        by (Some x) at = sym (newest_of p j t x (lawful p j st.tables.legal)
+            (gathering_going p j lane t (lawful p j st.tables.legal) ordered) at)
+        by None at = absurd (let some = gathered_match p j t (lawful p j st.tables.legal)
             (gathering_ordered p j lane t ordered) in let no = ap is_some at in cc)
 
     gather_look : (l o : ℕ) (n : ℤ) (y : Reply) → o < outputs_of p t.action

@@ -14,13 +14,13 @@ use Rattle.exec_journal.specs.declared.journal.Entry.{Entry}
 use Rattle.exec_journal.specs.declared.reply.Reply.{Reply}
 use Rattle.exec_journal.specs.declared.reply.Reply.TheVariants as reply
 use Rattle.exec_journal.specs.Entries.{Request, attempt_of, consumed_in, gather_in, gather_of_entry, is_branch_of, is_for, matched_in, same_attempt, same_branch}
-use Rattle.exec_journal.specs.Legal.{Legal}
+use Rattle.exec_journal.specs.Lawful.{Lawful}
 use Rattle.exec_journal.specs.Rules.{gathered}
 use Rattle.exec_journal.specs.Words.{answered, is_pending, last_work, match_at, match_of, says_done, says_feed_fault, sends, wrote}
 use Rattle.exec_journal.proofs.Begins.{attempts_in_order, begin_in_order, same_attempt_eq, same_attempt_refl, same_branch_eq}
 use Rattle.exec_journal.proofs.Histories.{AllOf, AtSome, some_map}
-use Rattle.exec_journal.proofs.Ruled as u
-use Rattle.exec_journal.proofs.Ruled.{by_bool}
+use Rattle.exec_journal.proofs.Reasons as u
+use Rattle.exec_journal.proofs.Ruled.{by_bool, gathers_from, GatherFor, For}
 use Rattle.list_lemmas.specs.Options.{or_else, unless_before}
 use Rattle.journal_laws.specs.Invariant.{IsGoing}
 use Rattle.journal_laws.proofs.Carried as k
@@ -149,7 +149,7 @@ record IsMatchedNow (j : List Entry) (t : Attempt) : Type 0 where
   first : match_of j t ≡ None
 
 matched_now : (p : Plan) (e : Entry) (j : List Entry) (l : ℕ) (x : Answer) (t : Attempt)
-    → Legal p (e ∷ j) → e.call ≡ call.Answer l x → consumed_in e.reply ≡ Some t → IsMatchedNow j t
+    → Lawful p (e ∷ j) → e.call ≡ call.Answer l x → consumed_in e.reply ≡ Some t → IsMatchedNow j t
 matched_now p e j l x t legal ic is =
     let w = pl.answered_place p e j l x t legal ic is in
     let on = all_place (k.IsSentOn j l) (sends j l) w.3.place w.0
@@ -163,7 +163,7 @@ matched_now p e j l x t legal ic is =
     none s fresh None h = refl
     none s fresh (Some y) h = absurd (clash _ (matched_answered s j y h) fresh)
 
-newest_step : (p : Plan) (e : Entry) (j : List Entry) → Legal p (e ∷ j)
+newest_step : (p : Plan) (e : Entry) (j : List Entry) → Lawful p (e ∷ j)
     → (a : ℕ) (b : Branch) (x : Answer) (o : Option Answer) → match_for a b e.call e.reply ≡ o
     → (newest_match j a b ≡ Some x → IsNewest j a b x) → or_else o (newest_match j a b) ≡ Some x
     → IsNewest (e ∷ j) a b x
@@ -226,7 +226,7 @@ newest_step p e j legal a b x (Some y) at rest h =
             let most = range.1 in
             omega arith
 
-newest_is : (p : Plan) (j : List Entry) → Legal p j → (a : ℕ) (b : Branch) (x : Answer)
+newest_is : (p : Plan) (j : List Entry) → Lawful p j → (a : ℕ) (b : Branch) (x : Answer)
     → newest_match j a b ≡ Some x → IsNewest j a b x
 unfolding newest_match
 newest_is p [] legal a b x h = absurd (cc)
@@ -253,9 +253,9 @@ has_newest (e ∷ j) a n b x h none = has_step e j a n b x (match_for a b e.call
 
 -- ---- what a lane is to gather was matched
 
-match_here : (t : Attempt) (i : List Entry) (d : Call) (y x : Reply) → u.GatherFor i d y x
+match_here : (t : Attempt) (i : List Entry) (d : Call) (y x : Reply) → GatherFor i d y x
     → gather_in x ≡ Some t → is_some (match_at t d y) ≡ true
-match_here t i d y x (u.For l m a b n waiting) h =
+match_here t i d y x (For l m a b n waiting) h =
     let is : attempt_of a b n ≡ t = cc in
     subst (λ (z : Attempt). is_some (match_at z (call.Answer l m) (reply.Matched a b n)) ≡ true) is
     (ap (λ z. is_some (cond z (Some m) None)) (same_attempt_refl (attempt_of a b n)))
@@ -279,7 +279,7 @@ gather_match : (p : Plan) (j : List Entry) (lane : ℕ) (d : Call) (x : Reply) (
     → u.Ruled p j lane d x → gather_in x ≡ Some t → is_some (match_of j t) ≡ true
 gather_match p j lane d x t (u.Gathers l n a b m e y next over) h =
     some_match t j (some_map _ _ (λ i w q. match_here t j w.call w.reply
-    (reply.Gather l n a b m e y) q.1 h) j (u.gathers_from j (lane / 2)
+    (reply.Gather l n a b m e y) q.1 h) j (gathers_from j (lane / 2)
     (reply.Gather l n a b m e y) next))
 gather_match p j lane d x t (u.KillsBroken l y here run broken over) h = absurd (cc)
 gather_match p j lane d x t _ h = absurd (cc)
@@ -288,7 +288,7 @@ is_for_is : (t : Attempt) (q : Option Attempt) → is_for t q ≡ true → q ≡
 is_for_is t (Some x) h = ap Some (same_attempt_eq x t h)
 is_for_is t None h = absurd (cc)
 
-pub gathered_match : (p : Plan) (j : List Entry) (t : Attempt) → Legal p j → gathered j t ≡ true
+pub gathered_match : (p : Plan) (j : List Entry) (t : Attempt) → Lawful p j → gathered j t ≡ true
     → is_some (match_of j t) ≡ true
 unfolding gathered match_of
 gathered_match p [] t legal h = absurd (cc)
@@ -302,7 +302,7 @@ gathered_match p (e ∷ j) t legal h = elim (or_cases (is_for t (gather_in e.rep
 
 -- ---- of the latest attempt of its branch the match is the newest
 
-pub newest_of : (p : Plan) (j : List Entry) (t : Attempt) (x : Answer) → Legal p j → IsGoing j t
+pub newest_of : (p : Plan) (j : List Entry) (t : Attempt) (x : Answer) → Lawful p j → IsGoing j t
     → match_of j t ≡ Some x → newest_match j t.action t.branch ≡ Some x
 newest_of p j t x legal going at = by (newest_match j t.action t.branch) refl
   where
@@ -337,7 +337,7 @@ done_unfed (Some write.Done) h = refl
 done_unfed _ h = absurd (cc)
 
 -- it is under way
-pub gathering_going : (p : Plan) (j : List Entry) (lane : ℕ) (t : Attempt) → Legal p j
+pub gathering_going : (p : Plan) (j : List Entry) (lane : ℕ) (t : Attempt) → Lawful p j
     → gather_of_entry (last_work j lane) ≡ Some t → IsGoing j t
 gathering_going p j lane t legal h =
     let w = gather_of_work t (last_work j lane) h in

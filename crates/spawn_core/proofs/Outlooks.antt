@@ -30,8 +30,7 @@ use Rattle.core_laws.proofs.Chosen.{lane_within}
 use Rattle.core_laws.proofs.Read as read
 use Rattle.spawn_core.specs.Outlook.{SaysNews, is_idle, owes_by, told_by}
 use Rattle.spawn_core.specs.Stands.{HasHistory, Kept}
-use Rattle.spawn_core.proofs.AllFacts.{all_facts}
-use Rattle.spawn_core.proofs.LegalFacts.{facts}
+use Rattle.spawn_core.proofs.AllFacts.{all_facts, facts}
 
 -- ---- what a lane owes
 

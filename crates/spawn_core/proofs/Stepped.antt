@@ -151,6 +151,7 @@ module _ (s : State) where
       (end_lanes (reports.end_all s seat (asks.places_of s.requests l))
       (reports.fed_on (slice_get s.last (lane / 2))) refl)
   made_lanes lane seat call.Halt = refl
+  made_lanes lane seat call.Tick = refl
 
 lane_known : (p : Plan) (s : State) (j : List Entry) (lane : ℕ) (c : Call) → Stands p s j
     → script p j lane c ≡ true → lane < length s.lanes
@@ -252,6 +253,7 @@ module _ (s : State) where
   unkept lane seat (call.Killed l) look h = absurd (cc)
   unkept lane seat (call.Ended l how) look h = absurd (cc)
   unkept lane seat call.Halt look h = absurd (cc)
+  unkept lane seat call.Tick look h = absurd (cc)
 
 -- ---- a call that its lane's script has
 

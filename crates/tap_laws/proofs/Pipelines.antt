@@ -35,6 +35,7 @@ answer_onto l (call.Look w) xs ys = refl
 answer_onto l (call.Claim a b t f) xs ys = refl
 answer_onto l (call.Committed a b how) xs ys = refl
 answer_onto l (call.Killed m) xs ys = refl
+answer_onto l call.Tick xs ys = refl
 answer_onto l call.Take xs ys = refl
 answer_onto l (call.Answer m x) xs ys = elim (m == l) as (λ b.
     cond b (x ∷ (xs ++ ys)) (xs ++ ys) ≡ cond b (x ∷ xs) xs ++ ys) [
@@ -64,6 +65,7 @@ end_onto l (call.Look w) o p = refl
 end_onto l (call.Claim a b t f) o p = refl
 end_onto l (call.Committed a b how) o p = refl
 end_onto l (call.Killed m) o p = refl
+end_onto l call.Tick o p = refl
 end_onto l call.Take o p = refl
 end_onto l (call.Answer m x) o p = refl
 end_onto l (call.Ended m how) o p = elim (m == l) as (λ b.
@@ -88,6 +90,7 @@ silent_answer l (call.Look w) xs e = refl
 silent_answer l (call.Claim a b t f) xs e = refl
 silent_answer l (call.Committed a b how) xs e = refl
 silent_answer l (call.Killed m) xs e = refl
+silent_answer l call.Tick xs e = refl
 silent_answer l call.Take xs e = refl
 silent_answer l (call.Answer m x) xs e = ap (λ (b : Bool). cond b (x ∷ xs) xs) e
 silent_answer l (call.Ended m how) xs e = refl
@@ -101,6 +104,7 @@ silent_end l (call.Look w) o e = refl
 silent_end l (call.Claim a b t f) o e = refl
 silent_end l (call.Committed a b how) o e = refl
 silent_end l (call.Killed m) o e = refl
+silent_end l call.Tick o e = refl
 silent_end l call.Take o e = refl
 silent_end l (call.Answer m x) o e = refl
 silent_end l (call.Ended m how) o e = ap (λ (b : Bool). cond b (Some how) o) e

@@ -81,6 +81,7 @@ two_sent =
     ∷ entry 0 call.Ask (reply.Send 0 (pos 2) 1 Local 1)
     ∷ entry 0 (call.Wrote 0 (pos 1) write.Done) reply.Noted
     ∷ entry 0 call.Ask (reply.Send 0 (pos 1) 0 Local 1)
+    ∷ entry 0 call.Ask (reply.Launch 0 0 Local 1)
     ∷ []
 
 unfoldable one_matched : List Entry
@@ -89,7 +90,7 @@ one_matched = entry 1 (call.Answer 0 (numbered 1)) (reply.Matched 0 Local 1) ∷
 
 it_matches : Paired multis one_matched
 unfolding multis one_matched words
-it_matches = (((((tt, refl), refl), refl), refl), refl)
+it_matches = ((((((tt, refl), refl), refl), refl), refl), refl)
 
 -- one request has two answers
 matched_again : Paired multis (entry 1 (call.Answer 0 (numbered 1)) (reply.Matched 0 Local 1) ∷ one_matched) → ⊥
@@ -116,6 +117,7 @@ unfolding entry
 one_sent =
     entry 0 (call.Wrote 0 (pos 0) write.Done) reply.Noted
     ∷ entry 0 call.Ask (reply.Send 0 (pos 0) 0 Local 1)
+    ∷ entry 0 call.Ask (reply.Launch 0 0 Local 1)
     ∷ []
 
 -- a Single line gets a request while the one before it has no answer
@@ -135,12 +137,12 @@ one_live =
 -- a line is launched on a berth that isn't vacant
 launched_over : Kept singles (entry 0 call.Ask (reply.Launch 1 1 Local 1) ∷ one_live) → ⊥
 unfolding singles one_live words
-launched_over h = let e : false ≡ true = h.1 in cc
+launched_over h = let e : false ≡ true = h.orders.1 in cc
 
 -- a line that didn't break is killed as broken
 killed_for_nothing : Kept singles (entry 0 call.Ask (reply.Kill 0 why.Ended) ∷ one_live) → ⊥
 unfolding singles one_live words
-killed_for_nothing h = let e : false ≡ true = h.1 in cc
+killed_for_nothing h = let e : false ≡ true = h.orders.1 in cc
 
 unfoldable one_pending : List Entry
 unfolding entry one_live
@@ -152,12 +154,12 @@ one_pending =
 -- a Single line gets more than it has room for
 overfull : Kept singles (entry 0 call.Ask (reply.Send 0 (pos 0) 1 Local 1) ∷ one_pending) → ⊥
 unfolding singles one_pending words
-overfull h = let e : false ≡ true = h.1 in cc
+overfull h = let e : false ≡ true = h.orders.1 in cc
 
 -- a request that is wanted is cancelled
 cancelled_though_wanted : Kept singles (entry 0 call.Ask (reply.Cancel 0 (pos 0)) ∷ one_pending) → ⊥
 unfolding singles one_pending words
-cancelled_though_wanted h = let e : false ≡ true = h.1 in cc
+cancelled_though_wanted h = let e : false ≡ true = h.orders.1 in cc
 
 -- two lines of a berth are live, though each was launched when it was vacant
 unfoldable one_failed : List Entry
@@ -171,7 +173,7 @@ one_failed =
 
 two_live : Kept singles (entry 0 (call.Launched 0 start.Done) reply.Noted ∷ one_failed) → ⊥
 unfolding singles one_failed words
-two_live h = let e : false ≡ true = h.2 0 in cc
+two_live h = let e : false ≡ true = h.orders.2 0 in cc
 
 -- ---- Accounted: nothing is lost
 

@@ -1,3 +1,4 @@
+use Rattle.journal_laws.proofs.Ours.{lawful}
 use Rattle.exec_journal.proofs.Begins.{attempts_in_order}
 use Rattle.core_laws.proofs.Several.{several_counts, several_states}
 use Rattle.core_laws.proofs.laws.ends_come_together.Goals as goal
@@ -5,7 +6,7 @@ use Rattle.core_laws.proofs.laws.ends_come_together.Goals as goal
 pub returns-clause-counts : goal.returns-clause-counts
 returns-clause-counts c = λ p s j e ts st facts all together.
     several_counts p st.sound.least s.race j e ts (record {
-      order = attempts_in_order p j st.legal;
+      order = attempts_in_order p j (lawful p j st.legal);
       unbegun = facts.unbegun_goes;
       won = st.race;
     }) all together s.attempts st.attempts s.ready
@@ -14,7 +15,7 @@ returns-clause-counts c = λ p s j e ts st facts all together.
 pub returns-clause-states : goal.returns-clause-states
 returns-clause-states c = λ p s j e ts st facts all together.
     several_states p st.sound.least s.race j e ts (record {
-      order = attempts_in_order p j st.legal;
+      order = attempts_in_order p j (lawful p j st.legal);
       unbegun = facts.unbegun_goes;
       won = st.race;
     }) all together s.attempts st.attempts s.ready

@@ -1,14 +1,24 @@
-use Rattle.run_rules.specs.Duties.{proxy_lane}
+use Rattle.std.proofs.Common.{◌≡◌, ℕ, Bool, true, List, refl}
+use Rattle.run_plan.specs.declared.plan.Maker.{Maker}
+use Rattle.run_plan.specs.Groups.{is_remote}
+use Rattle.exec_journal.specs.declared.call.Call.{Call}
+use Rattle.exec_journal.specs.declared.call.Call.TheVariants as call
+use Rattle.seat_desk.specs.History.{calls_by}
+use Rattle.run_rules.specs.Duties.{proxy_lane, Duty, Asks, may_make, duty_of}
+use Rattle.run_rules.specs.Moves.{History}
+use Rattle.script_duties.specs.Owed.{journal_of, outputs_in, makers_in}
+use Rattle.history_laws.specs.Disciplines.{Discipline}
 use Rattle.script_duties.proofs.Doing.{duty_is_scripted}
 use Rattle.script_duties.proofs.Only.{script_is_duty}
 use Rattle.script_duties.proofs.Paying.{halt_is_paid, commit_is_paid}
-use Rattle.history_laws.proofs.Fitting.{in_script, scripted_so}
+use Rattle.history_laws.proofs.Ticking.{only_makes}
+use Rattle.history_laws.proofs.Fitting.{in_script, scripted_so, scripted_as, seated_so, Scripted, Ticks, Seated}
 use Rattle.history_laws.proofs.laws.proxies_do_their_duties.Goals as goal
 
 pub returns : goal.returns
 returns c = record {
-  does = λ p h w c lt may. in_script p h (proxy_lane w) c (duty_is_scripted p h w c lt may);
-  does_only = λ p h w c fit. script_is_duty p h w c (scripted_so p h (proxy_lane w) c fit);
-  halts = halt_is_paid;
-  commits = commit_is_paid;
+  does = λ q is h w d lt may. in_script q is h (proxy_lane w) d (seated_so q (journal_of h) (proxy_lane w) d (duty_is_scripted q.seats q.kinds q.plan h w d lt may));
+  does_only = λ q is h w d fit. only_makes q h w d (scripted_as q (journal_of h) (proxy_lane w) d (scripted_so q h (proxy_lane w) d fit));
+  halts = λ q is h w lt n. halt_is_paid q.seats h w lt n;
+  commits = λ q is h w a b fs how lt e. commit_is_paid q.seats h w a b fs how lt e;
 }

@@ -1,12 +1,20 @@
-use Rattle.std.proofs.Common.{◌∙◌, ◌++◌}
+use Rattle.std.proofs.Common.{◌≡◌, ℕ, ◌/◌, ◌<◌, ◌&&◌, ◌||◌, List, [], None, ◌∙◌, ◌++◌}
+use Rattle.exec_journal.specs.declared.call.Call.{Call}
+use Rattle.exec_journal.specs.declared.call.Call.TheVariants as call
+use Rattle.exec_journal.specs.declared.journal.Entry.{Entry}
+use Rattle.exec_journal.specs.Lawful.{may_tick}
+use Rattle.seat_desk.specs.History.{calls_by}
+use Rattle.run_rules.specs.Moves.{History}
+use Rattle.history_laws.specs.Disciplines.{Discipline, script_of}
 use Rattle.script_duties.specs.Owed.{journal_of}
 use Rattle.script_duties.proofs.Staying.{lane_is_known, script_stays}
-use Rattle.history_laws.proofs.Fitting.{in_script, scripted_so}
+use Rattle.history_laws.proofs.Ticking.{known, stays}
+use Rattle.history_laws.proofs.Fitting.{in_script, scripted_so, scripted_as, Scripted, Ticks, Seated}
 use Rattle.history_laws.proofs.laws.scripts_are_lanes.Goals as goal
 
 pub returns : goal.returns
 returns c = record {
-  known = λ p h lane c fit. lane_is_known p (journal_of h) lane c (scripted_so p h lane c fit);
-  stays = λ p h more lane c none fit. in_script p (h ++ more) lane c
-      (script_stays p h more lane c none ∙ scripted_so p h lane c fit);
+  known = λ q is h lane d fit. known q (journal_of h) lane d (scripted_as q (journal_of h) lane d (scripted_so q h lane d fit));
+  stays = λ q is h more lane d none fit. in_script q is (h ++ more) lane d
+      (stays q h more lane d none ∙ scripted_so q h lane d fit);
 }

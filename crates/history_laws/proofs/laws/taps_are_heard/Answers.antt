@@ -1,13 +1,22 @@
-use Rattle.run_rules.specs.Laws.{tap_lane}
-use Rattle.history_laws.proofs.Fitting.{in_script, scripted_so}
+use Rattle.std.proofs.Common.{◌≡◌, ℕ, true}
+use Rattle.exec_journal.specs.declared.call.Call.{Call}
+use Rattle.exec_journal.specs.declared.call.Call.TheVariants as call
+use Rattle.exec_journal.specs.Lawful.{Lawful}
+use Rattle.seat_desk.specs.History.{calls_by}
+use Rattle.run_rules.specs.Moves.{History}
+use Rattle.history_laws.specs.Disciplines.{Discipline}
+use Rattle.run_rules.specs.Laws.{tap_lane, may_hear, hearing_of, tells_of, Hearing, Free, Hears, Over}
+use Rattle.script_duties.specs.Owed.{journal_of}
+use Rattle.history_laws.proofs.Ticking.{only_hears, telling}
+use Rattle.history_laws.proofs.Fitting.{in_script, lawful, scripted_so, scripted_as, seated_so, Scripted, Ticks, Seated}
 use Rattle.history_laws.proofs.Hearing.{hearing_is_scripted, script_is_hearing, tap_halt_is_paid, tells_hears}
 use Rattle.history_laws.proofs.laws.taps_are_heard.Goals as goal
 
 pub returns : goal.returns
 returns c = record {
-  hears = λ p h w c lt may. in_script p h (tap_lane w) c (hearing_is_scripted p h w c lt may);
-  hears_only = λ p h w c came fit.
-      script_is_hearing p h w c came.legal (scripted_so p h (tap_lane w) c fit);
-  halts = tap_halt_is_paid;
-  only = λ p h lane c l tells fit. tells_hears p h lane c l tells (scripted_so p h lane c fit);
+  hears = λ q is h w d lt may. in_script q is h (tap_lane w) d (seated_so q (journal_of h) (tap_lane w) d (hearing_is_scripted q.seats q.kinds q.plan h w d lt may));
+  hears_only = λ q is h w d came fit.
+      only_hears q h w d (lawful q is (journal_of h) came.legal) (scripted_as q (journal_of h) (tap_lane w) d (scripted_so q h (tap_lane w) d fit));
+  halts = λ q is h w lt n. tap_halt_is_paid q.seats h w lt n;
+  only = λ q is h lane d l tells fit. telling q h lane d l tells (scripted_as q (journal_of h) lane d (scripted_so q h lane d fit));
 }

@@ -8,5 +8,5 @@ returns c = record {
   sends = rp.few_sends;
   begun = rp.unbegun_goes;
   sent = rp.unsent_unanswered;
-  group = λ p j w l legal here. each_of _ _ (rp.grouped p j w l legal here);
+  group = λ p j l w legal own. each_of _ _ (rp.grouped p j l w legal own);
 }

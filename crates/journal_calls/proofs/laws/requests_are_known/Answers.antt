@@ -7,7 +7,7 @@ returns c = record {
   known = λ p j l w legal own. each_of _ _ (re.known_pending p j l w legal own);
   numbers = re.numbered;
   clean = λ p j l legal whole. each_of _ _ (re.pending_clean p j l legal whole);
-  cancels = λ p j w l legal here none. each_of _ _ (re.no_cancel p j w l legal here none);
+  cancels = λ p j l legal none. each_of _ _ (re.no_cancel p j l legal none);
   fed = λ p j l legal. each_of _ _ (re.fed_last p j l legal);
   past = re.written_answered;
 }

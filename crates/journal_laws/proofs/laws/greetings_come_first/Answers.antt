@@ -1,4 +1,4 @@
-use Rattle.journal_laws.proofs.Greeted.{greeting_is, greeting_so, greeting_keeps, greeted_stays, greeted_spoken, greeted_remote, may_cancel_is, cancel_greeted}
+use Rattle.journal_laws.proofs.Greeted.{greeting_is, greeting_so, greeting_keeps, greeted_stays, greeted_spoken, greeted_remote, may_be_asked_is, cancel_greeted}
 use Rattle.std.proofs.Common.{refl}
 use Rattle.journal_laws.proofs.laws.greetings_come_first.Goals as goal
 
@@ -10,7 +10,7 @@ returns c = record {
   clean = λ j l x. refl;
   stays = λ e j l h. greeted_stays e j l h;
   spoken = λ j l h. greeted_spoken j l h;
-  remote = λ p j l w legal own h. greeted_remote p j l w legal own h;
-  may = λ p j l w g legal own. may_cancel_is p j l w g legal own;
+  remote = λ p j l legal h. greeted_remote p j l legal h;
+  may = λ p j l legal. may_be_asked_is p j l legal;
   cancels = λ p e j l n sound legal ir remote. cancel_greeted p e j l n sound legal ir remote;
 }

@@ -4,6 +4,6 @@ use Rattle.script_duties.proofs.laws.scripts_stay.Goals as goal
 
 pub returns : goal.returns
 returns c = record {
-  known = λ p h. lane_is_known p (journal_of h);
+  known = λ n kinds p h. lane_is_known n kinds p (journal_of h);
   stays = script_stays;
 }

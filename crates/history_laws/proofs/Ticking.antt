@@ -1,0 +1,58 @@
+-- What a lane's script has, where some lanes make Ticks too.
+use Rattle.exec_journal.specs.Lawful.{Lawful, may_tick}
+use Rattle.exec_journal.specs.declared.call.Call.{Call}
+use Rattle.exec_journal.specs.declared.journal.Entry.{Entry}
+use Rattle.history_laws.proofs.Hearing.{hearing_is_scripted, script_is_hearing, tap_halt_is_paid, tells_hears}
+use Rattle.history_laws.specs.Disciplines.{Discipline, script_of}
+use Rattle.run_plan.specs.Groups.{is_remote}
+use Rattle.run_plan.specs.declared.plan.Maker.{Maker}
+use Rattle.run_rules.specs.Duties.{Asks, Duty, duty_of, may_make, proxy_lane}
+use Rattle.run_rules.specs.Laws.{Free, Hearing, Hears, Over, hearing_of, may_hear, tap_lane, tells_of}
+use Rattle.run_rules.specs.Moves.{History}
+use Rattle.script_duties.proofs.Doing.{duty_is_scripted}
+use Rattle.script_duties.proofs.Only.{script_is_duty}
+use Rattle.script_duties.proofs.Paying.{commit_is_paid, halt_is_paid}
+use Rattle.script_duties.proofs.Staying.{lane_is_known, script_stays}
+use Rattle.script_duties.specs.Owed.{journal_of, makers_in, outputs_in}
+use Rattle.seat_desk.specs.History.{calls_by}
+use Rattle.std.proofs.Common.{Bool, List, None, [], refl, true, ℕ, ◌&&◌, ◌++◌, ◌/◌, ◌<◌, ◌||◌, ◌∙◌, ◌≡◌}
+use Rattle.exec_journal.specs.declared.call.Call.TheVariants as call
+use Rattle.history_laws.proofs.Fitting.{scripted_as, Scripted, Ticks, Seated}
+
+asks_make : (outputs : ℕ → List (List ℕ)) (makers : ℕ → List Maker) (remote : Bool) (s : Duty) → may_make outputs makers remote s call.Ask ≡ true → may_make outputs makers remote s call.Tick ≡ true
+asks_make outputs makers remote Asks h = refl
+asks_make outputs makers remote _ h = absurd (cc)
+
+pub only_makes : (q : Discipline) (h : History) (w : ℕ) (d : Call) → Scripted q (journal_of h) (proxy_lane w) d
+    → may_make (outputs_in q.plan) (makers_in q.plan) (is_remote (q.kinds w)) (duty_of (calls_by (proxy_lane w) h)) d ≡ true
+only_makes q h w d (Seated _ seat) = script_is_duty q.seats q.kinds q.plan h w d seat
+only_makes q h w d (Ticks ask) =
+    asks_make (outputs_in q.plan) (makers_in q.plan) (is_remote (q.kinds w)) (duty_of (calls_by (proxy_lane w) h))
+    (script_is_duty q.seats q.kinds q.plan h w call.Ask ask)
+
+pub known : (q : Discipline) (j : List Entry) (lane : ℕ) (d : Call) → Scripted q j lane d → lane / 2 < q.seats
+known q j lane d (Seated _ seat) = lane_is_known q.seats q.kinds q.plan j lane d seat
+known q j lane d (Ticks ask) = lane_is_known q.seats q.kinds q.plan j lane call.Ask ask
+
+pub stays : (q : Discipline) (h more : History) (lane : ℕ) (d : Call) → calls_by lane more ≡ []
+    → script_of q (journal_of (h ++ more)) lane d ≡ script_of q (journal_of h) lane d
+stays q h more lane d none =
+    let ask = script_stays q.seats q.kinds q.plan h more lane call.Ask none in
+    let same = script_stays q.seats q.kinds q.plan h more lane d none in
+    λ i. (q.ticks lane && may_tick (ask i) None d) || same i
+
+asks_not : (s : Hearing) → may_hear s call.Ask ≡ true → ⊥
+asks_not Free h = cc
+asks_not (Hears l) h = cc
+asks_not Over h = cc
+
+pub only_hears : (q : Discipline) (h : History) (w : ℕ) (d : Call) → Lawful q.plan (journal_of h) → Scripted q (journal_of h) (tap_lane w) d
+    → may_hear (hearing_of (calls_by (tap_lane w) h)) d ≡ true
+only_hears q h w d good (Seated _ seat) = script_is_hearing q.seats q.kinds q.plan h w d good seat
+only_hears q h w d good (Ticks ask) =
+    absurd (asks_not (hearing_of (calls_by (tap_lane w) h)) (script_is_hearing q.seats q.kinds q.plan h w call.Ask good ask))
+
+pub telling : (q : Discipline) (h : History) (lane : ℕ) (d : Call) (l : ℕ) → tells_of l d ≡ true → Scripted q (journal_of h) lane d
+    → hearing_of (calls_by lane h) ≡ Hears l
+telling q h lane d l tells (Seated _ seat) = tells_hears q.seats q.kinds q.plan h lane d l tells seat
+telling q h lane d l tells (Ticks ask) = absurd (cc)
