@@ -32,7 +32,7 @@ use Rattle.request_table.proofs.Sent.{open_is}
 use Rattle.worker_pool.specs.Entries.{is_of}
 use Rattle.core_tables.specs.declared.seat.Seat.{Seat}
 use Rattle.journal_calls.specs.Moments.{BranchOf}
-use Rattle.core_laws.specs.Premises.{SentInGroup}
+use Rattle.core_laws.proofs.AtBerths.{SentAtBerth}
 use Rattle.core_state.specs.Reports.{branch_of_group, branch_in, attempt_in, is_open_for}
 use Rattle.ready_order.proofs.AllSettled.{sound_at}
 use Rattle.core_laws.proofs.Several.{same_sym}
@@ -204,7 +204,7 @@ module _ (p : Plan) (sound : Sound p) where
 module _ (p : Plan) (f : asks.Facts) (j : List Entry) (l : ℕ) (st : tables.Stands p f j)
     (within : l < line_room p) where
   module _ (sound : Sound p) (w g : ℕ) (at : berth_group p w ≡ Some g)
-      (grouped : SentInGroup p j w l) where
+      (grouped : SentAtBerth p j w l) where
     pub pending_grouped : EachOf (λ r. BranchOf p r.attempt (Some g)) (pending j l)
     unfolding pending
     pending_grouped = each_filter (λ r. BranchOf p r.attempt (Some g)) (is_pending j) (sends j l)

@@ -35,7 +35,7 @@ use Rattle.core_tables.specs.declared.matches.Match.{Match}
 use Rattle.core_tables.specs.declared.seat.Seat.{Seat}
 use Rattle.core_state.specs.declared.state.State.{State}
 use Rattle.core_state.specs.Choices as c
-use Rattle.core_laws.specs.Facts.{JournalFacts}
+use Rattle.lawful_facts.specs.Moments.{JournalFacts}
 use Rattle.journal_calls.specs.Moments.{BranchOf}
 use Rattle.core_state.specs.Machine.{carried, carried_reply, number_of, launched_for, sent}
 use Rattle.core_state.specs.Noted.{noted_after}
@@ -46,6 +46,7 @@ use Rattle.core_laws.proofs.Orders.{kill_stands, stop_stands, gather_stands, can
 use Rattle.core_laws.proofs.Rowed.{berth_of}
 use Rattle.core_tables.proofs.Seated.{seat_is}
 use Rattle.core_laws.proofs.Sends.{bound_stands, new_stands}
+use Rattle.core_laws.proofs.AtBerths as at_berth
 
 -- ---- a Send's flag is what the row says of the line
 
@@ -275,7 +276,7 @@ module _ (p : Plan) (s : State) (j : List Entry) (lane : ℕ) (st : Stands p s j
     was_keeps was =
         let b = bound_is p j l t was in
         bound_stands p s j lane l t st facts may reasons.here reasons.alive is_too b.unsent
-        (facts.bound_group w l t reasons.here was) was (latest t
+        (at_berth.bound_group p j st.legal w l reasons.here facts t was) was (latest t
         (launched_begun j l b.lane t b.launched) b.going)
 
     uses_is : (o : Option ℕ) (g : ℕ) → unwrap_or (option_map (λ k. k == g) o) false ≡ true

@@ -50,7 +50,7 @@ use Rattle.core_state.specs.declared.state.State.{State}
 use Rattle.core_state.specs.Choices.{is_over, row_at}
 use Rattle.core_tables.specs.Lanes.{lane_in, order_after, order_of_work, state_by}
 use Rattle.core_state.specs.Machine.{with_pool, with_end, states_after, order_on, launched_in, launch_by, launched_with, end_of_some, is_won, found_reply, found_with, claim_reply_by, takeable, takes_line, take_reply, taken_on, taken_with}
-use Rattle.core_laws.specs.Moments.{EntryFacts, LegalMore, ClaimsOne}
+use Rattle.lawful_facts.specs.Moments.{EntryFacts, LawfulMore, ClaimsOne}
 use Rattle.core_state.specs.Noted.{noted_after}
 use Rattle.core_laws.specs.Premises.{EndsTogether}
 use Rattle.core_state.specs.Reports.{wrote_with}
@@ -72,6 +72,7 @@ use Rattle.core_laws.proofs.Rowed.{berth_of, lane_inside}
 use Rattle.core_laws.proofs.Several.{several_counts, several_states, one_test}
 use Rattle.core_laws.proofs.Unwritten.{write_fault_stands}
 use Rattle.core_laws.proofs.Greeted.{quiet_greetings}
+use Rattle.core_laws.proofs.AtBerths as at_berth
 
 -- ---- a Launched with a fault
 
@@ -99,7 +100,7 @@ launch_is p s j lane c st may =
     ∙ work_launches (last_work j lane)
 
 module _ (p : Plan) (s : State) (j : List Entry) (lane l : ℕ) (how : Started) (st : Stands p s j)
-    (all : LegalMore p j) (may : script p j lane (call.Launched l how) ≡ true)
+    (all : LawfulMore p j) (may : script p j lane (call.Launched l how) ≡ true)
     (fault : is_done how ≡ false) where
   abbrev fault_entry : Entry
   fault_entry = record { lane = lane; call = call.Launched l how; reply = reply.Noted }
@@ -136,14 +137,14 @@ module _ (p : Plan) (s : State) (j : List Entry) (lane l : ℕ) (how : Started) 
 
   module _ (m : ℕ) (t : Attempt) (at : launch_of j l ≡ Some (m, t)) where
     newest : launch_of_entry (last_work j lane) ≡ Some t
-    newest = (all.calls lane (call.Launched l how) may).launches l m how t refl at
+    newest = (at_berth.at_call p j lane (call.Launched l how) may all).launches l m how t refl at
 
     started_at : begun j t ≡ true
     started_at = launched_begun j l m t at
 
     together : EndsTogether j fault_entry (t ∷ [])
     together = record {
-      these = λ u. (all.entries fault_entry fault_legal).launched l m how t refl fault at u
+      these = λ u. (at_berth.at_entry p j st.legal all fault_entry fault_legal).launched l m how t refl fault at u
           ∙ ap (λ b. ended j u || b) (one_test j t u);
       none_begins = λ a b. attempt_other fault_entry j a b refl;
       grant = same_grant;
@@ -191,7 +192,7 @@ module _ (p : Plan) (s : State) (j : List Entry) (lane l : ℕ) (how : Started) 
       sound = st.sound;
       legal = (st.legal, fault_legal);
       pool = aside_kept p s.pool j fault_entry st.pool aside (l ∷ [])
-          (faults_unbind p j fault_entry aside refl (all.entries fault_entry fault_legal).stays
+          (faults_unbind p j fault_entry aside refl (at_berth.at_entry p j st.legal all fault_entry fault_legal).stays
           (l ∷ []) faulted);
       requests = asks.others p s.requests j fault_entry st.requests refl refl;
       cancels = marks.others p s.cancels j fault_entry st.cancels refl refl refl;
@@ -223,7 +224,7 @@ module _ (p : Plan) (s : State) (j : List Entry) (lane l : ℕ) (how : Started) 
   launch_fault : Stands p (noted_after (launched_with s lane l how) lane
       (call.Launched l how) reply.Noted) (fault_entry ∷ j)
   launch_fault =
-      let own = (berth_of p s j (lane / 2) l st ((all.calls lane (call.Launched l how) may).names l
+      let own = (berth_of p s j (lane / 2) l st ((at_berth.at_call p j lane (call.Launched l how) may all).names l
       refl)).owner in
       subst (λ x. Stands p (noted_after x lane (call.Launched l how) reply.Noted) (fault_entry ∷ j))
       (sym (ap (λ b. cond b (with_pool s (rows.change s.pool l rows.set_started))
@@ -234,7 +235,7 @@ module _ (p : Plan) (s : State) (j : List Entry) (lane l : ℕ) (how : Started) 
       (fault_keeps own.0 own.1 own.2)
 
 launched_keeps : (p : Plan) (s : State) (j : List Entry) (lane l : ℕ) (how : Started) → Stands p s j
-    → LegalMore p j → script p j lane (call.Launched l how) ≡ true
+    → LawfulMore p j → script p j lane (call.Launched l how) ≡ true
     → Stands p (noted_after (launched_with s lane l how) lane (call.Launched l how) reply.Noted)
     (record { lane = lane; call = call.Launched l how; reply = reply.Noted } ∷ j)
 launched_keeps p s j lane l start.Done st all may = started_stands p s j lane st l may
@@ -291,13 +292,13 @@ write_ordered p j lane l n how may un =
 -- ---- the others
 
 module _ (p : Plan) (s : State) (j : List Entry) (lane : ℕ) (st : Stands p s j)
-    (all : LegalMore p j) where
+    (all : LawfulMore p j) where
   Keeps : Call → State → Reply → Type 0
   Keeps c t y = Stands p (noted_after t lane c y) (record { lane = lane; call = c; reply = y } ∷ j)
 
   noted_facts : (c : Call) → script p j lane c ≡ true → reply.Noted ≡ r.rule p j lane c
       → EntryFacts p j (record { lane = lane; call = c; reply = reply.Noted })
-  noted_facts c may is = all.entries (record { lane = lane; call = c; reply = reply.Noted })
+  noted_facts c may is = at_berth.at_entry p j st.legal all (record { lane = lane; call = c; reply = reply.Noted })
       (record { scripted = may; replied = is; kept = refl })
 
   -- ---- Wrote
@@ -309,12 +310,12 @@ module _ (p : Plan) (s : State) (j : List Entry) (lane : ℕ) (st : Stands p s j
     unfolding Keeps
     unwritten_keeps how may un None at g = absurd (cc)
     unwritten_keeps how may un (Some q) at g =
-        let calls = all.calls lane (call.Wrote l n how) may in
+        let calls = at_berth.at_call p j lane (call.Wrote l n how) may all in
         let one = calls.writes l n how q refl at in
         let here = calls.names l refl in
         let entry = noted_facts (call.Wrote l n how) may refl in
         write_fault_stands p s j lane l n how q one.place st all.facts may here un at one.line
-        one.there one.first one.known all.more.used (all.more.grouped (lane / 2) l here)
+        one.there one.first one.known all.more.used (at_berth.grouped p j st.legal (lane / 2) l here all.more)
         entry.stays (entry.unwritten l n how q refl un at)
 
     fed_keeps : script p j lane (call.Wrote l n write.FeedFault) ≡ true → (o : Option Request)
@@ -322,11 +323,11 @@ module _ (p : Plan) (s : State) (j : List Entry) (lane : ℕ) (st : Stands p s j
         (wrote_with s lane (lane / 2) l n write.FeedFault) reply.Noted
     unfolding Keeps
     fed_keeps may None at =
-        let here = (all.calls lane (call.Wrote l n write.FeedFault) may).names l refl in
+        let here = (at_berth.at_call p j lane (call.Wrote l n write.FeedFault) may all).names l refl in
         cancel_fault_stands p s j lane l n st may here (noted_facts
         (call.Wrote l n write.FeedFault) may refl).stays at
     fed_keeps may (Some q) at =
-        let calls = all.calls lane (call.Wrote l n write.FeedFault) may in
+        let calls = at_berth.at_call p j lane (call.Wrote l n write.FeedFault) may all in
         let one = calls.writes l n write.FeedFault q refl at in
         let entry = noted_facts (call.Wrote l n write.FeedFault) may refl in
         feed_fault_stands p s j lane l n st may (calls.names l refl) entry.stays all.facts q
@@ -351,7 +352,7 @@ module _ (p : Plan) (s : State) (j : List Entry) (lane : ℕ) (st : Stands p s j
 
     bound_at : (l : ℕ) (u : Attempt) → bound p j l ≡ Some u
         → (w : ℕ) × (w < berths p) × (last_line j w ≡ Some l)
-    bound_at l u h = let x = all.more.bound_at l u h in (x.berth, x.below, x.here)
+    bound_at l u h = let x = all.more.bound_at l u h in (x.berth, at_berth.below p j st.legal x.berth l x.here, x.here)
 
     known : begun j t ≡ true → a < length p.actions
     known h = let u = all.more.used t h in slice_get_within p.actions a u.action u.place
@@ -367,14 +368,14 @@ module _ (p : Plan) (s : State) (j : List Entry) (lane : ℕ) (st : Stands p s j
 
     module _ (f : Found) (may : script p j lane (call.Claim a b n f) ≡ true) where
       one : ClaimsOne j a b n
-      one = (all.calls lane (call.Claim a b n f) may).claims a n b f refl
+      one = (at_berth.at_call p j lane (call.Claim a b n f) may all).claims a n b f refl
 
       again_keeps : granted j a ≡ false → (again : Bool)
           → cond again reply.AgainLater reply.Dropped ≡ r.rule p j lane (call.Claim a b n f)
           → Keeps (call.Claim a b n f) (with_end s t) (cond again reply.AgainLater reply.Dropped)
       unfolding Keeps
       again_keeps free true is =
-          let entry = all.entries (record {
+          let entry = at_berth.at_entry p j st.legal all (record {
             lane = lane;
             call = call.Claim a b n f;
             reply = reply.AgainLater;
@@ -382,7 +383,7 @@ module _ (p : Plan) (s : State) (j : List Entry) (lane : ℕ) (st : Stands p s j
           again_stands p s j lane a n b f st may all.facts one.sent one.start
           (all.more.used t one.start) free is entry.stays (entry.refused (t, f) refl)
       again_keeps free false is =
-          let entry = all.entries (record {
+          let entry = at_berth.at_entry p j st.legal all (record {
             lane = lane;
             call = call.Claim a b n f;
             reply = reply.Dropped;
@@ -396,7 +397,7 @@ module _ (p : Plan) (s : State) (j : List Entry) (lane : ℕ) (st : Stands p s j
             call = call.Claim a b n f;
             reply = reply.Granted;
           })
-      granted_facts is = all.entries (record {
+      granted_facts is = at_berth.at_entry p j st.legal all (record {
         lane = lane;
         call = call.Claim a b n f;
         reply = reply.Granted;
@@ -502,9 +503,9 @@ module _ (p : Plan) (s : State) (j : List Entry) (lane : ℕ) (st : Stands p s j
     call_reply (call.Killed l) h may = refl
     call_reply call.Take h may = take_is p s j lane st may
     call_reply (call.Answer l x) h may =
-        let here = (all.calls lane (call.Answer l x) may).names l refl in
+        let here = (at_berth.at_call p j lane (call.Answer l x) may all).names l refl in
         answer_is p s j lane l seat x st all.facts may here seated
-        (all.more.grouped (lane / 2) l here) (all.more.alone (lane / 2) l here)
+        (at_berth.grouped p j st.legal (lane / 2) l here all.more) (at_berth.alone p j st.legal (lane / 2) l here all.more)
     call_reply (call.Ended l how) h may = refl
     call_reply call.Halt h may = refl
     call_reply call.Tick h may = refl
@@ -521,31 +522,31 @@ module _ (p : Plan) (s : State) (j : List Entry) (lane : ℕ) (st : Stands p s j
         (is_won s (attempt_of a b n)) refl (claim_reply a n b f may)
     call_keeps (call.Committed a b how) h may kept = commit_stands p s j lane a b how st may
         (noted_facts (call.Committed a b how) may refl).stays
-        ((all.calls lane (call.Committed a b how) may).commits a b how refl)
+        ((at_berth.at_call p j lane (call.Committed a b how) may all).commits a b how refl)
     call_keeps (call.Killed l) h may kept = killed_stands p s j lane st l may
     call_keeps call.Take h may kept = take_keeps may kept
     call_keeps (call.Answer l x) h may kept =
-        let calls = all.calls lane (call.Answer l x) may in
+        let calls = at_berth.at_call p j lane (call.Answer l x) may all in
         answered_stands p s j lane l seat x st may (calls.names l refl) (calls.consumes l x refl)
         (call_reply (call.Answer l x) refl may)
     call_keeps (call.Ended l how) h may kept =
-        let calls = all.calls lane (call.Ended l how) may in
+        let calls = at_berth.at_call p j lane (call.Ended l how) may all in
         let here = calls.names l refl in
         let entry = noted_facts (call.Ended l how) may refl in
         ended_stands p s j lane l seat how st all.facts may here seated all.more.used
-        (all.more.grouped (lane / 2) l here) (calls.lost l how refl) all.more.carries
+        (at_berth.grouped p j st.legal (lane / 2) l here all.more) (calls.lost l how refl) all.more.carries
         entry.stays (entry.finished l how refl)
     call_keeps call.Halt h may kept = halt_stands p s j lane st may
     call_keeps call.Tick h may kept = absurd (no_tick p (kind_of p (lane / 2)) j lane
         (and_parts (nat_lt lane (2 * berths p)) _ may).1)
 
 pub reply_is : (p : Plan) (s : State) (j : List Entry) (lane : ℕ) (seat : Seat) (c : Call)
-    → Stands p s j → LegalMore p j → seat_at p (lane / 2) ≡ Some seat → is_look c ≡ false
+    → Stands p s j → LawfulMore p j → seat_at p (lane / 2) ≡ Some seat → is_look c ≡ false
     → script p j lane c ≡ true → made_reply s lane seat c ≡ r.rule p j lane c
 reply_is p s j lane seat c st all seated h may = call_reply p s j lane st all seat seated c h may
 
 pub call_stands : (p : Plan) (s : State) (j : List Entry) (lane : ℕ) (seat : Seat) (c : Call)
-    → Stands p s j → LegalMore p j → seat_at p (lane / 2) ≡ Some seat → is_look c ≡ false
+    → Stands p s j → LawfulMore p j → seat_at p (lane / 2) ≡ Some seat → is_look c ≡ false
     → script p j lane c ≡ true → is_kept (made_reply s lane seat c) ≡ true
     → Stands p (noted_after (made s lane seat c) lane c (made_reply s lane seat c))
     (record { lane = lane; call = c; reply = made_reply s lane seat c } ∷ j)

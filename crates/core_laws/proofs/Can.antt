@@ -61,7 +61,7 @@ use Rattle.core_state.specs.Machine.{CanEnd, CanEndOf, EndFits, CanCarry, CanCan
 use Rattle.core_tables.specs.declared.matches.Match.{Match}
 use Rattle.core_tables.specs.Matches.{matches_of, matches_on, matches_in, match_in}
 use Rattle.journal_calls.specs.Matches.{recent}
-use Rattle.core_laws.specs.Moments.{LegalMore}
+use Rattle.lawful_facts.specs.Moments.{LawfulMore}
 use Rattle.core_state.specs.Reports.{CanEndSome, CanWrite, CanHear, CanHearBy, CanAnswer, CanEndPlaces, CanEndAll, attempt_in, is_pending_at, sent_in, end_all, fed_on, bound_on, places_counts, places_states, place_counts, place_states}
 use Rattle.core_laws.specs.Stands.{Stands}
 use Rattle.core_state.specs.Steps.{CanAsk, CanLaunched, CanMake}
@@ -75,8 +75,9 @@ use Rattle.core_state.proofs.Places.{SameRoom, moved, same_room, chained, place_
 use Rattle.core_laws.proofs.Read.{reads, seats_are, lasts_are, greetings_are, matches_are, cancels_are, counts_are, states_are, line_below}
 use Rattle.core_laws.proofs.Rowed.{berth_of, lane_inside, sent_is}
 use Rattle.core_tables.proofs.Seated.{seat_is}
+use Rattle.core_laws.proofs.AtBerths as at_berth
 
-module _ (p : Plan) (s : State) (j : List Entry) (st : Stands p s j) (all : LegalMore p j) where
+module _ (p : Plan) (s : State) (j : List Entry) (st : Stands p s j) (all : LawfulMore p j) where
   -- ---- the rooms of the tables
 
   lanes_are : length s.lanes ≡ 2 * berths p
@@ -673,7 +674,7 @@ module _ (p : Plan) (s : State) (j : List Entry) (st : Stands p s j) (all : Lega
       next_one l t here (Some u) room was h = (let b = bound_is p j l t (was ∙ h) in
           record {
             known = in_plan t (launched_begun j l b.lane t b.launched);
-            group = all.facts.bound_group (lane / 2) l t here (was ∙ h);
+            group = at_berth.bound_group p j st.legal (lane / 2) l here all.facts t (was ∙ h);
           })
       next_one l t here None true none h = first_one t h
       next_one l t here None false none h = absurd (cc)
@@ -696,7 +697,7 @@ module _ (p : Plan) (s : State) (j : List Entry) (st : Stands p s j) (all : Lega
           let next = next_one l t here (bound p j l) (nat_lt 0
           (free_places p j (kind_of p (lane / 2)) l)) refl why_it.next in
           let at = inside (lane / 2) l here in
-          let room = (all.entries (record {
+          let room = (at_berth.at_entry p j st.legal all (record {
             lane = lane;
             call = call.Ask;
             reply = reply.Send l (number_of s l t) t.action t.branch t.number;
@@ -709,7 +710,8 @@ module _ (p : Plan) (s : State) (j : List Entry) (st : Stands p s j) (all : Lega
           let ready = states_are p s j st all.facts in
           let singles = singles_are in
           let known = next.known in
-          let place = room.place in
+          let place = subst (λ k. length (pending j l) < capacity k)
+          (sym (at_berth.kind_is p j st.legal (lane / 2) l here)) room.place in
           let left = room.left in
           let most = capacity_most (kind_of p (lane / 2)) in
           let waits = count_is p s.cancels j l st.cancels at.table in
@@ -737,7 +739,7 @@ module _ (p : Plan) (s : State) (j : List Entry) (st : Stands p s j) (all : Lega
               u.branch ≤ 2 * length p.actions * p.limit + 1
           number_few m u here table group left =
               let e = ap natural (ask-laws.next_number_is p s.requests j (berth_group p (lane / 2)) m u.action u.branch
-              st.requests table group (all.facts.numbered (lane / 2) m here)) in
+              st.requests table group (at_berth.numbered p j st.legal (lane / 2) m here all.facts)) in
               let c = number_most (is_single (kind_of p (lane / 2))) (length (sends j m)) in
               omega arith
 
@@ -747,7 +749,7 @@ module _ (p : Plan) (s : State) (j : List Entry) (st : Stands p s j) (all : Lega
           let next = launch_why p j lane call.Ask (r.rule p j lane call.Ask)
           (length s.pool.lines, t) (ruled p j lane call.Ask) (ap launch_in (sym is)) in
           let known = (first_one t next).known in
-          let room = (all.entries (record {
+          let room = (at_berth.at_entry p j st.legal all (record {
             lane = lane;
             call = call.Ask;
             reply = reply.Launch (length s.pool.lines) t.action t.branch t.number;
@@ -801,36 +803,36 @@ module _ (p : Plan) (s : State) (j : List Entry) (st : Stands p s j) (all : Lega
     make_can : (seat : Seat) (c : Call) → script p j lane c ≡ true → CanMake s lane seat c
     make_can seat call.Ask may = ask_can may
     make_can seat (call.Launched l how) may =
-        let calls = all.calls lane (call.Launched l how) may in
+        let calls = at_berth.at_call p j lane (call.Launched l how) may all in
         launched_can l (call.Launched l how) may (calls.names l refl)
         (λ m t h. launch_is p s j lane (call.Launched l how) st may
         ∙ calls.launches l m how t refl h)
     make_can seat (call.Wrote l n how) may =
-        let calls = all.calls lane (call.Wrote l n how) may in
+        let calls = at_berth.at_call p j lane (call.Wrote l n how) may all in
         wrote_can l (call.Wrote l n how) may (calls.names l refl)
         (λ q h. (let one = calls.writes l n how q refl h in
         each_place (λ x. begun j x.attempt ≡ true) (sends j l) one.place q
         (sends_begun j l) one.there))
     make_can seat (call.Look x) may = tt
     make_can seat (call.Claim a b n f) may = (let one =
-        (all.calls lane (call.Claim a b n f) may).claims a n b f refl in
+        (at_berth.at_call p j lane (call.Claim a b n f) may all).claims a n b f refl in
         claim_can a n b one.start one.apart)
     make_can seat (call.Committed a b how) may =
-        let within = (all.calls lane (call.Committed a b how) may).commits_within a b how refl in
+        let within = (at_berth.at_call p j lane (call.Committed a b how) may all).commits_within a b how refl in
         let race = race_is in
         let ready = states_are p s j st all.facts in
         record { race = omega arith; ready = omega arith }
     make_can seat (call.Killed l) may = (inside (lane / 2) l
-        ((all.calls lane (call.Killed l) may).names l refl)).pool
+        ((at_berth.at_call p j lane (call.Killed l) may all).names l refl)).pool
     make_can seat call.Take may = reads p s j st all.facts (lane / 2)
         (lane_within p j lane call.Take may)
     make_can seat (call.Answer l x) may = answer_can (call.Answer l x) seat l x.number may
-        ((all.calls lane (call.Answer l x) may).names l refl)
+        ((at_berth.at_call p j lane (call.Answer l x) may all).names l refl)
     make_can seat (call.Ended l how) may = ended_can (call.Ended l how) seat l may
-        ((all.calls lane (call.Ended l how) may).names l refl)
+        ((at_berth.at_call p j lane (call.Ended l how) may all).names l refl)
     make_can seat call.Halt may = tt
     make_can seat call.Tick may = tt
 
 pub can_make : (p : Plan) (s : State) (j : List Entry) (lane : ℕ) (seat : Seat) (c : Call)
-    → Stands p s j → LegalMore p j → script p j lane c ≡ true → CanMake s lane seat c
+    → Stands p s j → LawfulMore p j → script p j lane c ≡ true → CanMake s lane seat c
 can_make p s j lane seat c st all may = make_can p s j st all lane seat c may

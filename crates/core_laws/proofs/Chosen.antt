@@ -43,7 +43,7 @@ use Rattle.core_tables.specs.declared.matches.Match.{Match}
 use Rattle.core_tables.specs.declared.seat.Seat.{Seat}
 use Rattle.core_state.specs.declared.state.State.{State}
 use Rattle.core_state.specs.Choices as c
-use Rattle.core_laws.specs.Facts.{JournalFacts}
+use Rattle.lawful_facts.specs.Moments.{JournalFacts}
 use Rattle.journal_calls.specs.Matches.{waits_yet}
 use Rattle.journal_calls.specs.Moments.{BranchOf}
 use Rattle.core_tables.specs.Greetings.{greeting_in, greeting_of}
@@ -57,6 +57,7 @@ use Rattle.core_laws.proofs.Earliest.{earliest_of_is}
 use Rattle.ready_order.proofs.AllSettled.{over_is}
 use Rattle.core_laws.proofs.Rooms.{some_is}
 use Rattle.core_tables.proofs.Seated.{IsSeat, seat_is, kind_by_group}
+use Rattle.core_laws.proofs.AtBerths as at_berth
 
 -- ---- the first that fits
 
@@ -182,7 +183,7 @@ module _ (p : Plan) (s : State) (j : List Entry) (lane : ℕ) (st : Stands p s j
       (find_oldest is_waiting (waits_yet j) (match_in j) (λ m. refl) (recent j w))
       ∙ map_twice (λ x. carried_reply s w (choice.Gather x)) (match_in j)
       (r.oldest (filter (waits_yet j) (recent j w)))
-      ∙ sym (facts.gathers lane may)
+      ∙ sym (facts.gathers lane (at_berth.anywhere p j lane call.Ask may))
 
   -- ---- launches
 
@@ -330,7 +331,7 @@ module _ (p : Plan) (s : State) (j : List Entry) (lane : ℕ) (st : Stands p s j
         (each_map (λ x. has_cancel j x ≡ false) (λ x. (r.is_unwanted p j x && not (has_cancel j x))
         ≡ r.is_unwanted p j x)
         (λ x h. ap (λ b. r.is_unwanted p j x && not b) h ∙ and_true (r.is_unwanted p j x))
-        (pending j l) (facts.no_cancel w l here single (ap (has_cancellation p) group_eq
+        (pending j l) (at_berth.no_cancel p j st.legal w l here facts single (ap (has_cancellation p) group_eq
         ∙ none)))
       where
         and_true : (b : Bool) → (b && true) ≡ b
@@ -381,7 +382,7 @@ module _ (p : Plan) (s : State) (j : List Entry) (lane : ℕ) (st : Stands p s j
         → sent_reply s l t ≡ r.send_order p j w l t
     number_eq t g = ap (λ n. reply.Send l n t.action t.branch t.number)
         (next_number_is p s.requests j (berth_group p (lane / 2)) l t.action t.branch st.requests in_room g
-        (facts.numbered w l here))
+        (at_berth.numbered p j st.legal w l here facts))
 
     own_branch : (t : Attempt) → earliest p j seat.group ≡ Some t → BranchOf p t (berth_group p w)
     own_branch t h =
@@ -422,7 +423,7 @@ module _ (p : Plan) (s : State) (j : List Entry) (lane : ℕ) (st : Stands p s j
         of_bound (Some t) h =
             ap (λ o. option_map f (option_map (λ u. choice.Send l u true) o))
             (attempt_eq ∙ ap (option_map (λ x. x.1)) (bound_is p j l t h).launched)
-            ∙ ap Some (number_eq t (facts.bound_group w l t here h))
+            ∙ ap Some (number_eq t (at_berth.bound_group p j st.legal w l here facts t h))
         of_bound None h = (λ i. option_map f (cond (nat_lt 0 (free_eq i))
             (option_map (λ t. choice.Send l t false) (earliest_eq i)) None))
             ∙ place (nat_lt 0 (free_places p j (kind_of p w) l))
@@ -436,7 +437,7 @@ module _ (p : Plan) (s : State) (j : List Entry) (lane : ℕ) (st : Stands p s j
         (r.launches p j w seat.group (Some l)) reply.Idle
     vacant_eq =
         ap (λ b. f (cond (b || (has_ended j l && was_killed j l)) (c.launch_by s seat) choice.Idle))
-        (sym (facts.launched_yet lane l may here))
+        (sym (facts.launched_yet lane l (at_berth.anywhere p j lane call.Ask may) here))
         ∙ by (failed j l || (has_ended j l && was_killed j l))
       where
         by : (b : Bool) → f (cond b (c.launch_by s seat) choice.Idle) ≡ unwrap_or

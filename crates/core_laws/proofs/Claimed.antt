@@ -39,10 +39,10 @@ use Rattle.ready_order.specs.Stands as queue-stands
 use Rattle.ready_order.proofs.Followed as queues
 use Rattle.retry_rules.proofs.Counted as tallies
 use Rattle.core_state.specs.declared.state.State.{State}
-use Rattle.core_laws.specs.Facts.{JournalFacts}
+use Rattle.lawful_facts.specs.Moments.{JournalFacts, Uses}
 use Rattle.core_state.specs.Machine.{with_end, states_after, committed_with, claim_reply_by, found_reply}
 use Rattle.core_state.specs.Noted.{noted_after}
-use Rattle.core_laws.specs.Premises.{Uses, EndsTogether}
+use Rattle.core_laws.specs.Premises.{EndsTogether}
 use Rattle.core_laws.specs.Stands.{Stands}
 use Rattle.core_laws.proofs.Own.{lanes_kept, last_kept, matches_kept, IsQuiet, SpendsNone, ready_kept, race_kept, attempts_kept}
 use Rattle.core_laws.proofs.Several.{several_counts, several_states, one_test}

@@ -44,12 +44,12 @@ use Rattle.retry_rules.proofs.Counted as tallies
 use Rattle.core_tables.specs.declared.last.LastLine.{LastLine}
 use Rattle.core_state.specs.declared.state.State.{State}
 use Rattle.core_state.specs.Choices.{row_at}
-use Rattle.core_laws.specs.Facts.{JournalFacts}
+use Rattle.lawful_facts.specs.Moments.{JournalFacts, AreUsed}
 use Rattle.core_tables.specs.Last.{last_in, row_of, row_by, fed_of, set_cause, set_fed}
 use Rattle.core_state.specs.Machine.{states_after}
 use Rattle.journal_calls.specs.Matches.{is_faulty}
 use Rattle.core_state.specs.Noted.{noted_after}
-use Rattle.core_laws.specs.Premises.{AreUsed, EndsTogether}
+use Rattle.core_laws.specs.Premises.{EndsTogether}
 use Rattle.core_state.specs.Reports.{broken_by_feed, fed_attempt, fed_by, ended_if, wrote_with}
 use Rattle.core_laws.specs.Stands.{Stands}
 use Rattle.core_laws.proofs.Asked.{each_place, sends_begun}

@@ -50,11 +50,12 @@ use Rattle.core_tables.specs.declared.seat.Seat.{Seat}
 use Rattle.core_state.specs.declared.state.State.{State}
 use Rattle.core_state.specs.Choices.{row_at, attempt_on}
 use Rattle.core_laws.specs.Ends.{chain_counts, chain_states}
-use Rattle.core_laws.specs.Facts.{JournalFacts}
+use Rattle.lawful_facts.specs.Moments.{JournalFacts, AreUsed, is_line, is_left, is_left_on, if_there, lost_with, LostOn}
 use Rattle.core_tables.specs.Last.{last_in, row_of, row_by, fed_of, set_cause}
 use Rattle.core_state.specs.Machine.{counts_after, states_after, end_of_some}
 use Rattle.core_state.specs.Noted.{noted_after}
-use Rattle.core_laws.specs.Premises.{AreUsed, AllBegun, EndsTogether, SentInGroup, is_line, is_left, is_left_on, if_there, lost_with, LostOn}
+use Rattle.core_laws.specs.Premises.{AllBegun, EndsTogether}
+use Rattle.core_laws.proofs.AtBerths.{SentAtBerth}
 use Rattle.core_state.specs.Reports.{attempt_in, places_counts, places_states, end_all, fed_on, bound_on, closed, ended_with}
 use Rattle.core_tables.specs.Seats.{seat_at}
 use Rattle.core_laws.specs.Stands.{Stands}
@@ -137,7 +138,7 @@ all_ends s seat xs = λ i. record s {
 module _ (p : Plan) (s : State) (j : List Entry) (lane l : ℕ) (seat : Seat) (how : HowEnded)
     (st : Stands p s j) (facts : JournalFacts p j) (may : script p j lane (call.Ended l how) ≡ true)
     (here : last_line j (lane / 2) ≡ Some l) (seated : seat_at p (lane / 2) ≡ Some seat)
-    (used : AreUsed p j) (grouped : SentInGroup p j (lane / 2) l) (lost : LostOn p j l)
+    (used : AreUsed p j) (grouped : SentAtBerth p j (lane / 2) l) (lost : LostOn p j l)
     (carries : CarriesItsBound p j) (stays : WantedStays p j
     (record { lane = lane; call = call.Ended l how; reply = reply.Noted }))
     (ends : (u : Attempt) → ended (record {

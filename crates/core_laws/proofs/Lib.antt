@@ -1,4 +1,5 @@
 pub mod Earliest
+pub mod AtBerths
 pub mod Rooms
 pub mod Chosen
 pub mod Own

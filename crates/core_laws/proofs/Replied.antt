@@ -43,13 +43,13 @@ use Rattle.race_core.proofs.Kept.{winner_is}
 use Rattle.core_tables.specs.declared.seat.Seat.{Seat}
 use Rattle.core_state.specs.declared.state.State.{State}
 use Rattle.core_state.specs.Choices.{row_at, is_over}
-use Rattle.core_laws.specs.Facts.{JournalFacts}
+use Rattle.lawful_facts.specs.Moments.{JournalFacts, ConsumesOne}
 use Rattle.journal_calls.specs.Moments.{BranchOf}
 use Rattle.core_tables.specs.Greetings.{greeting_in, greeting_of}
 use Rattle.core_tables.specs.Last.{last_in, row_of}
 use Rattle.core_state.specs.Machine.{takeable, takes_line, take_reply, taken_on}
 use Rattle.core_state.specs.Noted.{noted_after}
-use Rattle.core_laws.specs.Premises.{SentInGroup, ConsumesOne}
+use Rattle.core_laws.proofs.AtBerths.{SentAtBerth}
 use Rattle.core_state.specs.Reports.{attempt_in, breached, heard, reopened, heard_late, heard_match, unmatched_reply, consumed_with, consumed_reply, matching_with, matching_reply, is_wrong, is_won, is_greeting_by, spoken_on, told_reply, told_with, answered_with, answer_reply_by}
 use Rattle.core_tables.specs.Seats.{seat_at}
 use Rattle.core_laws.specs.Stands.{Stands}
@@ -63,6 +63,8 @@ use Rattle.core_laws.proofs.Own.{IsQuiet, SpendsNone}
 use Rattle.core_laws.proofs.Rowed.{berth_of}
 use Rattle.core_tables.proofs.Seated.{IsSeat, seat_is}
 use Rattle.core_laws.proofs.Greeted.{answer_greetings}
+use Rattle.core_laws.proofs.AtBerths as at_berth
+use Rattle.exec_journal.specs.Lawful.{plain_reply}
 
 -- ---- the row of a line
 
@@ -156,6 +158,11 @@ module _ (p : Plan) (s : State) (j : List Entry) (lane l : ℕ) (seat : Seat) (x
         refl refl refl refl refl refl (answer_greetings p s j lane l x (reply.Stray y) st here refl)
         (quiet y) (spends y)
 
+  -- told by the rule, it is told by the line's kind
+  told_plain : {y : Reply} → y ≡ r.rule p j lane (call.Answer l x)
+      → plain_reply p j lane (call.Answer l x) ≡ y
+  told_plain is = sym (is ∙ at_berth.answer_told p j lane l x st.legal may)
+
   back_stands : Stands p (reopened (heard s l x.number) l x.number) j
   back_stands = record {
     plan = st.plan;
@@ -188,8 +195,8 @@ module _ (p : Plan) (s : State) (j : List Entry) (lane l : ℕ) (seat : Seat) (x
       }) lane (call.Answer l x)
       (reply.Late t.action t.branch t.number)) (entry (reply.Late t.action t.branch t.number)
       ∷ j)) (sym h)
-      (late_stands p s j lane l x t st may here (one.on t (ap consumed_in (sym is)))
-      (one.known t (ap consumed_in (sym is))) is)
+      (late_stands p s j lane l x t st may here (one.on t (ap consumed_in (told_plain is)))
+      (one.known t (ap consumed_in (told_plain is))) is)
   consumed_keeps t false h is =
       subst (λ c. Stands p (noted_after (record (heard_late s l x.number) {
         matches =
@@ -197,8 +204,8 @@ module _ (p : Plan) (s : State) (j : List Entry) (lane l : ℕ) (seat : Seat) (x
       }) lane (call.Answer l x)
       (reply.Matched t.action t.branch t.number)) (entry
       (reply.Matched t.action t.branch t.number) ∷ j)) (sym h)
-      (match_stands p s j lane l x t st may here (one.on t (ap consumed_in (sym is)))
-      (one.known t (ap consumed_in (sym is))) is (one.waits t (ap matched_in (sym is))))
+      (match_stands p s j lane l x t st may here (one.on t (ap consumed_in (told_plain is)))
+      (one.known t (ap consumed_in (told_plain is))) is (one.waits t (ap matched_in (told_plain is))))
 
   consumed_reply_keeps : (t : Attempt) → consumed_reply s t ≡ r.rule p j lane (call.Answer l x)
       → Keeps (consumed_with (heard s l x.number) w l x t) (consumed_reply s t)
@@ -298,7 +305,7 @@ zero_is (negsuc n) h = absurd (cc)
 module _ (p : Plan) (s : State) (j : List Entry) (lane l : ℕ) (seat : Seat) (x : Answer)
     (st : Stands p s j) (facts : JournalFacts p j) (may : script p j lane (call.Answer l x) ≡ true)
     (here : last_line j (lane / 2) ≡ Some l) (seated : seat_at p (lane / 2) ≡ Some seat)
-    (grouped : SentInGroup p j (lane / 2) l) (alone : is_single (kind_of p (lane / 2)) ≡ true
+    (grouped : SentAtBerth p j (lane / 2) l) (alone : is_single (kind_of p (lane / 2)) ≡ true
     → length (pending j l) ≤ 1) where
   abbrev v : ℕ
   v = lane / 2
@@ -403,11 +410,11 @@ module _ (p : Plan) (s : State) (j : List Entry) (lane l : ℕ) (seat : Seat) (x
   by_kind true true h k =
       ap (matching_reply s seat x) (ap (matching_of s.requests l) (zero_is x.number k)
       ∙ single_answer p s.requests j l st.requests inside
-      (subst (λ b. Numbered b (sends j l)) h (facts.numbered v l here)) (alone h))
+      (subst (λ b. Numbered b (sends j l)) h (at_berth.numbered p j st.legal v l here facts)) (alone h))
       ∙ single_pending (sym (ap is_single at.kind) ∙ h) (r.head (pending j l)) refl
   by_kind false c h k =
       ap (matching_reply s seat x) (multi_answer p s.requests j l x.number st.requests inside
-      (subst (λ b. Numbered b (sends j l)) h (facts.numbered v l here)))
+      (subst (λ b. Numbered b (sends j l)) h (at_berth.numbered p j st.legal v l here facts)))
       ∙ multi_by (sym (ap is_single at.kind) ∙ h) (find (λ q. int_eq q.number x.number) (sends j l))
       (λ q e. each_found (λ y. BranchOf p y.attempt (Some seat.group))
       (λ y. int_eq y.number x.number) (sends j l) q grouped_here e)

@@ -18,7 +18,7 @@ use Rattle.worker_pool.specs.Rows as pool
 use Rattle.worker_pool.specs.Stands as pools
 use Rattle.worker_pool.proofs.Answered.{live_is, free_is}
 use Rattle.core_state.specs.Choices as choices
-use Rattle.core_laws.specs.Facts.{JournalFacts, Among}
+use Rattle.lawful_facts.specs.Moments.{JournalFacts, Among}
 
 module _ (p : Plan) (f : pool.Facts) (j : List Entry) (st : pools.Stands p f j)
     (names : NameTheirLines j) (facts : JournalFacts p j) where

@@ -41,7 +41,7 @@ use Rattle.race_core.proofs.Kept as races
 use Rattle.retry_rules.proofs.Counted as tallies
 use Rattle.core_tables.specs.declared.matches.Match.{Match}
 use Rattle.core_state.specs.declared.state.State.{State}
-use Rattle.core_laws.specs.Facts.{JournalFacts}
+use Rattle.lawful_facts.specs.Moments.{JournalFacts}
 use Rattle.journal_calls.specs.Moments.{BranchOf}
 use Rattle.core_tables.specs.Last.{last_in, row_of, row_by, fed_of}
 use Rattle.core_state.specs.Machine.{sent}
@@ -51,6 +51,7 @@ use Rattle.core_state.specs.Noted.{noted_after}
 use Rattle.core_laws.specs.Stands.{Stands}
 use Rattle.core_laws.proofs.Own.{lanes_kept, map_matches}
 use Rattle.core_laws.proofs.Greeted.{quiet_greetings}
+use Rattle.core_laws.proofs.AtBerths as at_berth
 
 abbrev asked : ℕ → Reply → Entry
 asked lane x = record { lane = lane; call = call.Ask; reply = x }
@@ -177,13 +178,13 @@ module _ (p : Plan) (s : State) (j : List Entry) (lane l : ℕ) (t : Attempt) (s
     next = record {
       number = refl;
       group = group;
-      earlier = facts.numbered (lane / 2) l here;
+      earlier = at_berth.numbered p j st.legal (lane / 2) l here facts;
       new = new;
     }
 
     number_is : pos (next_number s.requests l t.action t.branch) ≡ number
     number_is = asks-sent.next_number_is p s.requests j (berth_group p (lane / 2)) l t.action t.branch st.requests in_room
-        group (facts.numbered (lane / 2) l here)
+        group (at_berth.numbered p j st.legal (lane / 2) l here facts)
 
     -- ---- what was bound to the line
 

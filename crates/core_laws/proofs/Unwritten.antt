@@ -48,14 +48,15 @@ use Rattle.race_core.proofs.Kept as races
 use Rattle.ready_order.specs.Stands as queue-stands
 use Rattle.core_tables.specs.declared.matches.Match.{Match}
 use Rattle.core_state.specs.declared.state.State.{State}
-use Rattle.core_laws.specs.Facts.{JournalFacts}
+use Rattle.lawful_facts.specs.Moments.{JournalFacts, AreUsed}
 use Rattle.journal_calls.specs.Moments.{BranchOf}
 use Rattle.core_tables.specs.Last.{row_of, row_by, fed_of, set_cause}
 use Rattle.core_state.specs.Machine.{with_end, states_after, order_at}
 use Rattle.core_tables.specs.Matches.{match_in, matches_in, spend_if, spent_row, with_spent}
 use Rattle.journal_calls.specs.Matches.{Matched, recent, is_faulty}
 use Rattle.core_state.specs.Noted.{noted_after}
-use Rattle.core_laws.specs.Premises.{AreUsed, EndsTogether, SentInGroup}
+use Rattle.core_laws.specs.Premises.{EndsTogether}
+use Rattle.core_laws.proofs.AtBerths.{SentAtBerth}
 use Rattle.core_state.specs.Reports.{breached, dropped_from, spent_for, is_pending_at, unwritten_with, unwritten_by, wrote_with, sent_in}
 use Rattle.core_laws.specs.Stands.{Stands}
 use Rattle.core_laws.proofs.Asked.{each_place, sends_begun, waiting_is}
@@ -192,7 +193,7 @@ module _ (p : Plan) (s : State) (j : List Entry) (lane l : ℕ) (n : ℤ) (how :
     (un : is_unwritten how ≡ true) (order : order_of j lane ≡ Some q) (own_line : q.line ≡ l)
     (place : slice_get (sends j l) i ≡ Some q) (first : wrote j q.attempt ≡ None)
     (known : IsKnownBy j l n q.attempt) (used : AreUsed p j)
-    (grouped : SentInGroup p j (lane / 2) l)
+    (grouped : SentAtBerth p j (lane / 2) l)
     (stays : WantedStays p j (record {
       lane = lane;
       call = call.Wrote l n how;

@@ -1,5 +1,3 @@
 pub mod Ends
-pub mod Facts
-pub mod Moments
 pub mod Premises
 pub mod Stands

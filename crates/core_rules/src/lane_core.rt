@@ -4,10 +4,11 @@ ghost use Rattle.run_plan.specs.declared.plan.Plan.{Plan};
 ghost use Rattle.run_plan.specs.Groups.{berths, kind_of, is_remote};
 ghost use Rattle.script_duties.specs.Owed.{outputs_in, makers_in};
 ghost use Rattle.spawn_core.specs.Stands.{Stands};
-ghost use Rattle.history_laws.specs.Disciplines.{own_discipline};
 ghost use Rattle.history_laws.specs.Ruled.{answer_after, IsPaidAfter, owes_after, CameAbout};
 ghost use Rattle.core_rules.specs.LaneCores.{no_plan, plan_of, StandsFor};
-ghost use Rattle.core_rules.specs.Laws as laws;
+ghost use Rattle.history_laws.specs.Laws as laws;
+ghost use Rattle.core_rules.specs.Laws as own_laws;
+ghost use Rattle.core_rules.specs.Laws.{own, own_is};
 ghost use Rattle.core_rules.specs.Waking.{stirred, waking};
 
 use crate::news::{News, bit_of, news_of, waiting_after};
@@ -74,13 +75,13 @@ impl Rules for LaneCore {
 
     ghost stands = { StandsFor };
 
-    ghost legal = { λ q. CameAbout (own_discipline q) };
+    ghost legal = { λ q. CameAbout (own q) };
 
-    ghost rule = { λ q. answer_after (own_discipline q) };
+    ghost rule = { λ q. answer_after (own q) };
 
-    ghost paid = { λ q. IsPaidAfter (own_discipline q) };
+    ghost paid = { λ q. IsPaidAfter (own q) };
 
-    ghost owes = { λ q. owes_after (own_discipline q) };
+    ghost owes = { λ q. owes_after (own q) };
 
     ghost seats = { berths };
 
@@ -120,51 +121,51 @@ impl Rules for LaneCore {
         self.core.berths()
     }
 
-    ghost paid_is_noted = { laws.paid_is_noted };
+    ghost paid_is_noted = { own_laws.paid_is_noted };
 
-    ghost paid_stays = { laws.paid_stays };
+    ghost paid_stays = { own_laws.paid_stays };
 
-    ghost owes_less = { laws.owes_less };
+    ghost owes_less = { own_laws.owes_less };
 
-    ghost owes_more = { laws.owes_more };
+    ghost owes_more = { own_laws.owes_more };
 
-    ghost replies = { laws.replies };
+    ghost replies = { λ q. laws.replies (own q) (own_is q) };
 
-    ghost lanes_are_known = { laws.lanes_are_known };
+    ghost lanes_are_known = { λ q. laws.lanes_are_known (own q) (own_is q) };
 
-    ghost script_stays = { laws.script_stays };
+    ghost script_stays = { λ q. laws.script_stays (own q) (own_is q) };
 
-    ghost taps_hear = { laws.taps_hear };
+    ghost taps_hear = { λ q. laws.taps_hear (own q) (own_is q) };
 
-    ghost taps_hear_only = { laws.taps_hear_only };
+    ghost taps_hear_only = { λ q. laws.taps_hear_only (own q) (own_is q) };
 
-    ghost taps_may_halt = { laws.taps_may_halt };
+    ghost taps_may_halt = { λ q. laws.taps_may_halt (own q) (own_is q) };
 
-    ghost proxies_do = { laws.proxies_do };
+    ghost proxies_do = { λ q. laws.proxies_do (own q) (own_is q) };
 
-    ghost proxies_do_only = { laws.proxies_do_only };
+    ghost proxies_do_only = { λ q. laws.proxies_do_only (own q) (own_is q) };
 
-    ghost proxies_may_halt = { laws.proxies_may_halt };
+    ghost proxies_may_halt = { λ q. laws.proxies_may_halt (own q) (own_is q) };
 
-    ghost commits_are_paid = { laws.commits_are_paid };
+    ghost commits_are_paid = { λ q. laws.commits_are_paid (own q) (own_is q) };
 
-    ghost only_hears = { laws.only_hears };
+    ghost only_hears = { λ q. laws.only_hears (own q) (own_is q) };
 
-    ghost stands_legal = { laws.stands_legal };
+    ghost stands_legal = { own_laws.stands_legal };
 
-    ghost legal_before = { laws.legal_before };
+    ghost legal_before = { λ q. laws.legal_before (own q) (own_is q) };
 
-    ghost orders_hold = { laws.orders_hold };
+    ghost orders_hold = { λ q. laws.orders_hold (own q) (own_is q) };
 
-    ghost inputs_are_there = { laws.inputs_are_there };
+    ghost inputs_are_there = { λ q. laws.inputs_are_there (own q) (own_is q) };
 
-    ghost lines_find_room = { laws.lines_find_room };
+    ghost lines_find_room = { λ q. laws.lines_find_room (own q) (own_is q) };
 
-    ghost takes_there = { laws.takes_there };
+    ghost takes_there = { λ q. laws.takes_there (own q) (own_is q) };
 
-    ghost takes_once = { laws.takes_once };
+    ghost takes_once = { λ q. laws.takes_once (own q) (own_is q) };
 
-    ghost grants_once = { laws.grants_once };
+    ghost grants_once = { λ q. laws.grants_once (own q) (own_is q) };
 
-    ghost commits_own = { laws.commits_own };
+    ghost commits_own = { λ q. laws.commits_own (own q) (own_is q) };
 }

@@ -106,8 +106,8 @@ abbrev pub OrdersKept : Plan → List Entry → Type 0
 OrdersKept p [] = Unit {0}
 OrdersKept p (e ∷ j) = OrdersKept p j × (order_kept p j e e.reply ≡ true) × OneLive (e ∷ j)
 
--- beside that, where each group has berths of its own: a Launch comes where no live line of the berth's group has a free
--- place, and no line is evicted
+-- beside that, where each group has berths of its own: a Launch comes where no live line of the
+-- berth's group has a free place, and no line is evicted
 abbrev pub own_berths_kept : Plan → List Entry → ℕ → Reply → Bool
 own_berths_kept p j w (reply.Launch l a b t) =
     not (some_free p j (kind_of p w) (first_berth p (group_at p w)) (berths_of p (group_at p w)))

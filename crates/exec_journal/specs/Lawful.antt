@@ -1,5 +1,5 @@
--- What each scheduling discipline keeps, whatever it orders next: calls follow their lanes' scripts, each call but an Ask has
--- the one reply that is its own, and each order has its reasons.
+-- What each scheduling discipline keeps, whatever it orders next: calls follow their lanes' scripts,
+-- each call but an Ask has the one reply that is its own, and each order has its reasons.
 use Rattle.std.specs.Prelude.{◌≡◌, ℕ, ◌+◌, ◌/◌, ◌%◌, ◌==◌, nat_lt, Bool, true, false, ◌&&◌, ◌||◌, not, Option, Some, None, if◌then◌else◌, List, [], ◌∷◌, filter, slice_get, ℤ}
 use Rattle.run_plan.specs.declared.plan.Branch.{Branch}
 use Rattle.run_plan.specs.declared.plan.Kind.TheVariants as kind
@@ -45,7 +45,8 @@ pub record IsNextOf (p : Plan) (j : List Entry) (g : ℕ) (t : Attempt) : Type 0
   pub waiting : queued p j t.action t.branch action ≡ true
   pub number : t.number ≡ attempt j t.action t.branch + 1
 
--- what goes to a line: what is bound to it, or, where it has a free place, what is next of its group
+-- what goes to a line: what is bound to it, or, where it has a free place, what is next of its
+-- group
 pub data NextOn (p : Plan) (j : List Entry) (l : ℕ) (t : Attempt) : Type 0 where
   FromBound : bound p j l ≡ Some t → NextOn p j l t
   FromQueue : bound p j l ≡ None → nat_lt 0 (free_places p j (line_kind p j l) l) ≡ true

@@ -174,8 +174,8 @@ launches_of p j w g next last =
 abbrev pub launches : Plan → List Entry → ℕ → ℕ → Option ℕ → Option Reply
 launches p j w g last = launches_of p j w g (earliest p j g) last
 
--- the first of these rules that fits, else Idle: of each scheduling discipline, which says what is next in the line's group
--- and what more is ordered where nothing is sent
+-- the first of these rules that fits, else Idle: of each scheduling discipline, which says what is
+-- next in the line's group, and what more is ordered where nothing is sent
 abbrev pub ask_of : Plan → List Entry → ℕ → Kind → ℕ → Option ℕ → Option Attempt → Option Reply → Reply
 ask_of p j w k g last next more =
     unwrap_or

@@ -150,8 +150,8 @@ allowed p k proxy last (call.Ended l how) = not proxy && hears last l
 allowed p k proxy last call.Halt = true
 allowed p k proxy last c = proxy && is_owed_after p k c last
 
--- a lane of so many berths, each with its kind of line; nothing after Stop; after a Halt nothing but an owed Committed; else as its
--- newest work says
+-- a lane of so many berths, each with its kind of line; nothing after Stop; after a Halt nothing but
+-- an owed Committed; else as its newest work says
 abbrev pub seat_script : ℕ → (ℕ → Kind) → Plan → List Entry → ℕ → Call → Bool
 seat_script seats kinds p j lane c =
     nat_lt lane (2 * seats) && (not (stopped j lane) &&

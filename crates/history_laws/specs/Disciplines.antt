@@ -1,4 +1,5 @@
--- Disciplines of scheduling: whatever a lane is told when it asks, its scripts and its other replies are the journal's.
+-- Disciplines of scheduling: whatever a lane is told when it asks, its scripts and its other replies
+-- are the journal's.
 use Rattle.std.specs.Prelude.{◌≡◌, ℕ, Bool, true, false, ◌&&◌, ◌||◌, Option, None, List, [], ◌∷◌}
 use Rattle.run_plan.specs.declared.plan.Kind.{Kind}
 use Rattle.run_plan.specs.declared.plan.Plan.{Plan}
@@ -13,8 +14,8 @@ use Rattle.exec_journal.specs.Scripts.{seat_script}
 use Rattle.run_plan.specs.Groups.{berths, kind_of}
 use Rattle.run_rules.specs.Laws.{fits}
 
--- its plan, its berths with the kind of each one's lines, the lanes that make Ticks, and its reply to
--- each call in a script
+-- its plan, its berths with the kind of each one's lines, the lanes that make Ticks, and its reply
+-- to each call in a script
 pub record Discipline : Type 0 where
   pub plan : Plan
   pub seats : ℕ

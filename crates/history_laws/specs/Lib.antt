@@ -1,3 +1,4 @@
 -- What the laws cite.
 pub mod Disciplines
 pub mod Ruled
+pub mod Laws

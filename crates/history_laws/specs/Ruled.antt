@@ -22,8 +22,8 @@ IsPaidAfter q h lane c = seat_paid q.seats (journal_of h) lane c ≡ true
 abbrev pub owes_after : Discipline → History → ℕ
 owes_after q h = seats_owe q.seats (journal_of h)
 
--- the plan is sound, each call was in its lane's script, each reply is the discipline's, and each entry
--- is kept
+-- the plan is sound, each call was in its lane's script, each reply is the discipline's, and each
+-- entry is kept
 pub record CameAbout (q : Discipline) (h : History) : Type 0 where
   pub sound : Sound q.plan
   pub legal : LegalBy q (journal_of h)

@@ -58,7 +58,8 @@ use Rattle.exec_journal.specs.Lawful as lw
 use Rattle.exec_journal.specs.Lawful.{Lawful}
 use Rattle.exec_journal.specs.Seated.{group_on, line_group, line_kind}
 use Rattle.request_table.proofs.Lists.{reverse_front}
-use Rattle.lawful_facts.specs.Moments.{JournalFacts, Among, Uses, SentInGroup, LostOn, ConsumesOne, lost_with, if_there, is_line, is_left, fed_of, MoreFacts, WritesOne, ClaimsOne, CallFacts, EntryFacts, AllLawful}
+use Rattle.core_tables.specs.Last.{fed_of}
+use Rattle.lawful_facts.specs.Moments.{JournalFacts, Among, Uses, SentInGroup, LostOn, ConsumesOne, lost_with, if_there, is_line, is_left, MoreFacts, WritesOne, ClaimsOne, CallFacts, EntryFacts, AllLawful}
 
 or_comm : (x y : Bool) → (x || y) ≡ (y || x)
 or_comm true true = refl
@@ -186,6 +187,7 @@ module _ (p : Plan) (j : List Entry) (lane : ℕ) (sound : Sound p) (legal : Law
   writes : (l : ℕ) (n : ℤ) (how : Written) (x : Request)
       → lw.in_script p j lane (call.Wrote l n how) ≡ true → order_of j lane ≡ Some x
       → WritesOne j l n x
+  unfolding fed_of
   writes l n how x may order =
       let e : Entry = next (call.Wrote l n how) in
       let after : Lawful p (e ∷ j) = ca.next_legal p j lane (call.Wrote l n how) legal may refl refl in
@@ -256,6 +258,7 @@ module _ (p : Plan) (j : List Entry) (lane : ℕ) (sound : Sound p) (legal : Law
   any_pending t (x ∷ xs) = λ i. ed.same_sym t x.attempt i || any_pending t xs i
 
   among_is : (l : ℕ) (t : Attempt) → is_among (lost_with p j l) t ≡ stands_on p j l t
+  unfolding fed_of
   among_is l t =
       any_append (same_attempt t) (reverse (map (λ (x : Request). x.attempt) (pending j l)))
       (if_there (fed_of j l) ++ if_there (bound p j l))

@@ -1,4 +1,5 @@
--- What a core's tables ask of a lawful journal: of each, of each call that is in a lane's script, and of each entry that joins.
+-- What a core's tables ask of a lawful journal: of each, of each call that is in a lane's script, and
+-- of each entry that joins.
 use Rattle.std.specs.Prelude.{◌≡◌, ℕ, ◌+◌, ◌*◌, ◌/◌, ◌<◌, ◌≤◌, ◌==◌, ◌⊎◌, Bool, true, false, ◌&&◌, ◌||◌, not, Option, Some, None, option_map, List, [], ◌∷◌, ◌++◌, map, reverse, length, filter, slice_get, ℤ}
 use Rattle.run_plan.specs.declared.plan.Branch.{Branch}
 use Rattle.run_plan.specs.declared.plan.Plan.{Plan}
@@ -30,10 +31,8 @@ use Rattle.request_table.specs.Entries.{EachOf, IsKnownBy}
 use Rattle.request_table.specs.Stands.{Numbered}
 use Rattle.worker_pool.specs.Entries.{WantedStays, CarriesItsBound, IsPendingOn}
 use Rattle.journal_calls.specs.Matches.{gather_of, recent, waits_yet, is_spent}
-use Rattle.journal_calls.specs.Moments.{BranchOf, fed_on}
-
-abbrev pub fed_of : List Entry → ℕ → Option Attempt
-fed_of j l = fed_on j l
+use Rattle.journal_calls.specs.Moments.{BranchOf}
+use Rattle.core_tables.specs.Last.{fed_of}
 
 -- its action is one of the plan, and uses its branch
 pub record Uses (p : Plan) (t : Attempt) : Type 0 where

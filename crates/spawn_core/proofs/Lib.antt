@@ -1,6 +1,5 @@
 pub mod New
 pub mod Stepped
-pub mod AllFacts
 pub mod Newest
 pub mod Looked
 pub mod Turned

@@ -30,7 +30,7 @@ use Rattle.core_laws.proofs.Chosen.{lane_within}
 use Rattle.core_laws.proofs.Read as read
 use Rattle.spawn_core.specs.Outlook.{SaysNews, is_idle, owes_by, told_by}
 use Rattle.spawn_core.specs.Stands.{HasHistory, Kept}
-use Rattle.spawn_core.proofs.AllFacts.{all_facts, facts}
+use Rattle.core_laws.proofs.AtBerths.{all_of}
 
 -- ---- what a lane owes
 
@@ -78,7 +78,7 @@ pub reads_kept : (c : Kept) (w : ℕ) → HasHistory c → w < berths c.state.pl
 reads_kept c w h lt =
     let st = h.stands.tables in
     let same : berths c.state.plan ≡ berths h.plan = ap berths st.plan in
-    read.reads h.plan c.state h.journal st (facts h.plan h.journal st.sound st.legal) w
+    read.reads h.plan c.state h.journal st (all_of h.plan c.state h.journal st).facts w
     (omega (arith, same, lt))
 
 -- ---- what a lane would be told
@@ -88,7 +88,7 @@ question_told : (p : Plan) (s : State) (j : List Entry) (lane : ℕ) (c : Call)
     → (seat : Seat) × (made_reply s lane seat c ≡ rule p j lane c)
 question_told p s j lane c st look may =
     let seat = seat_is p (lane / 2) (lane_within p j lane c may) in
-    (seat.0, reply_is p s j lane seat.0 c st (all_facts p j st.sound st.legal) seat.1.is look may)
+    (seat.0, reply_is p s j lane seat.0 c st (all_of p s j st) seat.1.is look may)
 
 -- what the tables answer is what the rules do
 pub told_news : (p : Plan) (s : State) (j : List Entry) (lane : ℕ) → tables.Stands p s j

@@ -38,7 +38,7 @@ use Rattle.core_tables.specs.declared.lanes.LaneState.{LaneState}
 use Rattle.core_tables.specs.Greetings.{greeting_in, greeting_of}
 use Rattle.core_tables.specs.Lanes.{allows_by, lane_in, may_some, state_by}
 use Rattle.core_state.specs.Machine as m
-use Rattle.core_laws.specs.Moments.{LegalMore}
+use Rattle.lawful_facts.specs.Moments.{LawfulMore}
 use Rattle.core_state.specs.Noted.{noted_after, noted_if_kept}
 use Rattle.core_state.specs.Reports as reports
 use Rattle.core_tables.specs.Seats.{seat_at}
@@ -290,7 +290,7 @@ module _ (p : Plan) (s : State) (j : List Entry) (lane : ℕ) (seat : Seat) (c :
       ∙ script_is p j s.lanes lane c (st.lanes lane))
       (λ _ h. outside h) refl
 
-  module _ (all : LegalMore p j) (look : is_look c ≡ false)
+  module _ (all : LawfulMore p j) (look : is_look c ≡ false)
       (may : allows_by s.plan seat.kind s.lanes lane c ≡ true) where
     pub script_here : script p j lane c ≡ true
     script_here = sym allowed_is ∙ may

@@ -19,7 +19,7 @@ use Rattle.core_tables.specs.Seats.{seat_at}
 use Rattle.core_state.specs.declared.state.State.{State}
 use Rattle.core_state.specs.Noted.{noted_if_kept}
 use Rattle.core_state.specs.Steps.{CanMake, made, made_reply}
-use Rattle.core_laws.specs.Moments.{LegalMore}
+use Rattle.lawful_facts.specs.Moments.{LawfulMore}
 use Rattle.core_laws.proofs.Calls.{reply_is}
 use Rattle.core_tables.specs.Slots as slots
 use Rattle.core_tables.specs.Slots.{Follows, FoundFiles}
@@ -28,7 +28,7 @@ use Rattle.core_tables.proofs.Kept.{follows}
 use Rattle.spawn_core.specs.Answers.{Replies, answer}
 use Rattle.spawn_core.specs.Looks.{ToldLook}
 use Rattle.spawn_core.specs.Stands.{Stands}
-use Rattle.spawn_core.proofs.AllFacts.{all_facts}
+use Rattle.core_laws.proofs.AtBerths.{all_of, at_entry}
 use Rattle.spawn_core.proofs.Looked.{look_told, look_unkept}
 use Rattle.spawn_core.proofs.Stepped.{allowed_is, script_here, seated, can_here, lane_here, berth_here, plan_here, reply_here, stands_here}
 
@@ -45,8 +45,8 @@ module _ (p : Plan) (s : State) (f : slots.Facts) (j : List Entry) (lane : ℕ) 
     (c : Call) (st : Stands p (record { state = s; files = f }) j)
     (at : seat_at s.plan (lane / 2) ≡ Some seat) (look : is_look c ≡ false)
     (may : allows_by s.plan seat.kind s.lanes lane c ≡ true) where
-  abbrev all : LegalMore p j
-  all = all_facts p j st.tables.sound st.tables.legal
+  abbrev all : LawfulMore p j
+  all = all_of p s j st.tables
 
   abbrev told : Reply
   told = made_reply s lane seat c
@@ -82,7 +82,7 @@ module _ (p : Plan) (s : State) (f : slots.Facts) (j : List Entry) (lane : ℕ) 
 
     files_turn : (b : Bool) → is_kept told ≡ b → files.Stands p g (cond b (entry ∷ j) j)
     files_turn true kept = follows p f g j lane st.kept c told
-        (λ x is. ((all.entries entry (legal kept)).grants x is).ungranted) followed
+        (λ x is. ((at_entry p j st.tables.legal all entry (legal kept)).grants x is).ungranted) followed
     files_turn false kept = subst (λ (k : slots.Facts). files.Stands p k j)
         (sym (unkept_files p c told f g kept followed)) st.kept
 

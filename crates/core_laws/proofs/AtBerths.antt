@@ -1,0 +1,90 @@
+-- What the core asks of a journal, said of the berth of a line: in a legal journal each line runs its berth's group.
+use Rattle.std.proofs.Common.{◌≡◌, ℕ, ◌<◌, ◌≤◌, ◌/◌, Bool, true, false, ◌||◌, ◌&&◌, List, ◌∷◌, length, Some, refl, sym, ap, subst, ◌∙◌}
+use Rattle.run_plan.specs.declared.plan.Plan.{Plan}
+use Rattle.run_plan.specs.Groups.{berths, berth_group, kind_of, has_cancellation, is_single}
+use Rattle.exec_journal.specs.declared.attempt.Attempt.{Attempt}
+use Rattle.exec_journal.specs.declared.call.Answer.{Answer}
+use Rattle.exec_journal.specs.declared.call.Call.{Call}
+use Rattle.exec_journal.specs.declared.call.Call.TheVariants as call
+use Rattle.exec_journal.specs.declared.journal.Entry.{Entry}
+use Rattle.exec_journal.specs.Kept.{group_at}
+use Rattle.exec_journal.specs.Lawful.{Lawful, in_script, plain_reply}
+use Rattle.exec_journal.specs.Legal.{Legal, LegalEntry}
+use Rattle.exec_journal.specs.Rules.{rule}
+use Rattle.exec_journal.specs.Scripts.{script}
+use Rattle.exec_journal.specs.Seated.{group_on, line_group, line_kind}
+use Rattle.exec_journal.specs.Settled.{bound}
+use Rattle.exec_journal.specs.Words.{last_line, sends, pending, has_cancel}
+use Rattle.journal_laws.proofs.Lanes.{here_own}
+use Rattle.journal_laws.proofs.Ours as ours
+use Rattle.journal_calls.specs.Moments.{BranchOf}
+use Rattle.request_table.specs.Entries.{EachOf}
+use Rattle.request_table.specs.Stands.{Numbered}
+use Rattle.core_state.specs.declared.state.State.{State}
+use Rattle.core_laws.specs.Stands.{Stands}
+use Rattle.lawful_facts.proofs.AllFacts.{all_facts}
+use Rattle.lawful_facts.specs.Moments.{JournalFacts, MoreFacts, CallFacts, EntryFacts, LawfulMore, BoundAt}
+
+-- each request of the line is of the group of this berth
+abbrev pub SentAtBerth : Plan → List Entry → ℕ → ℕ → Type 0
+SentAtBerth p j w l = EachOf (λ r. BranchOf p r.attempt (berth_group p w)) (sends j l)
+
+module _ (p : Plan) (j : List Entry) (legal : Legal p j) (w l : ℕ) (here : last_line j w ≡ Some l) where
+  good : Lawful p j
+  good = ours.lawful p j legal
+
+  seat : (kind_of p w ≡ line_kind p j l) × (group_at p w ≡ line_group p j l)
+  seat = ours.berth_seated p j good (ours.both_ours p j legal).1 w l here
+
+  group_is : group_on p j l ≡ berth_group p w
+  group_is = ours.seated p j l w legal (here_own p j w l good here)
+
+  pub no_cancel : JournalFacts p j → is_single (kind_of p w) ≡ true
+      → has_cancellation p (group_at p w) ≡ false
+      → EachOf (λ r. has_cancel j r ≡ false) (pending j l)
+  no_cancel facts one none = facts.no_cancel l
+      (subst (λ k. is_single k ≡ true) seat.0 one)
+      (subst (λ g. has_cancellation p g ≡ false) seat.1 none)
+
+  pub bound_group : JournalFacts p j → (t : Attempt) → bound p j l ≡ Some t
+      → BranchOf p t (berth_group p w)
+  bound_group facts t at = facts.bound_group l t at ∙ group_is
+
+  pub numbered : JournalFacts p j → Numbered (is_single (kind_of p w)) (sends j l)
+  numbered facts = subst (λ k. Numbered (is_single k) (sends j l)) (sym seat.0)
+      (facts.numbered w l here)
+
+  pub grouped : MoreFacts p j → SentAtBerth p j w l
+  grouped more = subst (λ g. EachOf (λ r. BranchOf p r.attempt g) (sends j l)) group_is
+      (more.grouped w l here)
+
+  pub alone : MoreFacts p j → is_single (kind_of p w) ≡ true → length (pending j l) ≤ 1
+  alone more one = more.alone w l here (subst (λ k. is_single k ≡ true) seat.0 one)
+
+  pub kind_is : kind_of p w ≡ line_kind p j l
+  kind_is = seat.0
+
+  pub below : w < berths p
+  below = ours.within p j l w legal (here_own p j w l good here)
+
+module _ (p : Plan) (j : List Entry) (lane : ℕ) (c : Call) (may : script p j lane c ≡ true) where
+  pub anywhere : in_script p j lane c ≡ true
+  anywhere = ours.scripted_anywhere p j lane c may
+
+  pub at_call : LawfulMore p j → CallFacts p j lane c
+  at_call all = all.calls lane c anywhere
+
+pub at_entry : (p : Plan) (j : List Entry) → Legal p j → LawfulMore p j → (e : Entry)
+    → LegalEntry p j e → EntryFacts p j e
+at_entry p j legal all e entry = all.entries e (ours.lawful p (e ∷ j) (legal, entry)).1
+
+-- the reply to an Answer goes by the line's kind
+pub answer_told : (p : Plan) (j : List Entry) (lane l : ℕ) (x : Answer) → Legal p j
+    → script p j lane (call.Answer l x) ≡ true
+    → rule p j lane (call.Answer l x) ≡ plain_reply p j lane (call.Answer l x)
+answer_told p j lane l x legal may = ours.answer_seated p j lane l x (ours.lawful p j legal)
+    (ours.both_ours p j legal).1 (anywhere p j lane (call.Answer l x) may)
+
+-- all of it, of the journal for which the state stands
+pub all_of : (p : Plan) (s : State) (j : List Entry) → Stands p s j → LawfulMore p j
+all_of p s j st = all_facts p j st.sound (ours.lawful p j st.legal)

@@ -1,0 +1,158 @@
+-- The laws of `Rules`, of each discipline: what a core that goes by one keeps.
+use Rattle.std.proofs.Common.{◌∙◌}
+use Rattle.std.specs.Prelude.{◌≡◌, ℕ, ℤ, ◌/◌, ◌+◌, ◌<◌, ◌≤◌, true, false, List, [], ◌∷◌, ◌++◌, length, Some, None}
+use Rattle.run_plan.specs.declared.plan.Branch.{Branch}
+use Rattle.exec_journal.specs.declared.call.Call.{Call}
+use Rattle.exec_journal.specs.declared.call.Call.TheVariants as call
+use Rattle.exec_journal.specs.declared.call.CommitEnd.{CommitEnd}
+use Rattle.exec_journal.specs.declared.call.Found.TheVariants as found
+use Rattle.exec_journal.specs.declared.call.Started.TheVariants as start
+use Rattle.exec_journal.specs.declared.call.Wanted.TheVariants as wanted
+use Rattle.exec_journal.specs.declared.reply.Reply.TheVariants as reply
+use Rattle.exec_journal.specs.Entries.{is_kept}
+use Rattle.seat_desk.specs.History.{entry, calls_by}
+use Rattle.run_rules.specs.Duties.{Sends, Commits, Left, proxy_lane, duty_of, is_maker, may_do, may_make}
+use Rattle.run_rules.specs.Laws.{InScript, Fits, tap_lane, hearing_of, may_hear, Hears, Over, tells_of, claimed, says_file, lines_in, is_taken, OrderHolds}
+use Rattle.run_rules.specs.Moves.{Past, History}
+use Rattle.run_rules.specs.Shelf.{child_at, tap_at, place_at, Fresh, Away}
+use Rattle.script_duties.specs.Owed.{journal_of, outputs_in, makers_in}
+use Rattle.script_duties.proofs.Doing.{duty_is_scripted}
+use Rattle.script_duties.proofs.Paying as paying
+use Rattle.history_laws.specs.Ruled.{answer_after, IsPaidAfter, owes_after, CameAbout}
+use Rattle.history_laws.proofs.Fitting.{in_script, lawful, scripted_as, scripted_so, seated_so, replies_fit}
+use Rattle.history_laws.proofs.Ticking as ticking
+use Rattle.history_laws.proofs.Granting as granting
+use Rattle.history_laws.proofs.Growing as growing
+use Rattle.history_laws.proofs.Hearing as hearing
+use Rattle.history_laws.proofs.Inputs as inputs
+use Rattle.history_laws.proofs.Ordering as ordering
+use Rattle.history_laws.proofs.Paying as paid
+use Rattle.run_plan.specs.Groups.{is_remote}
+use Rattle.history_laws.specs.Disciplines.{Discipline, IsDiscipline}
+
+module _ (q : Discipline) (is : IsDiscipline q) where
+  pub legal_before : (h : History) (e : Past) → CameAbout q (h ++ e ∷ [])
+      → CameAbout q h × (e.reply ≡ answer_after q h e.lane e.call) × (is_kept e.reply ≡ true)
+  legal_before h e came = growing.legal_before q h e came
+
+  -- ---- what is paid
+
+  pub paid_is_noted : (h : History) (lane : ℕ) (c : Call) → CameAbout q h → IsPaidAfter q h lane c
+      → answer_after q h lane c ≡ reply.Noted
+  paid_is_noted h lane c came p = paid.paid_noted q is h lane c came p
+
+  pub paid_stays : (h more : History) (lane : ℕ) (c : Call) → calls_by lane more ≡ []
+      → IsPaidAfter q h lane c → IsPaidAfter q (h ++ more) lane c
+  paid_stays h more lane c none p = paid.paid_stays q h more lane c none p
+
+  pub owes_less : (h : History) (lane : ℕ) (c : Call) → IsPaidAfter q h lane c
+      → owes_after q (h ++ entry lane c reply.Noted ∷ []) + 1 ≡ owes_after q h
+  owes_less h lane c p = paid.owes_less q h lane c p
+
+  pub owes_more : (h : History) (lane : ℕ) (c : Call)
+      → is_kept (answer_after q h lane c) ≡ true
+      → owes_after q (h ++ entry lane c (answer_after q h lane c) ∷ []) ≤ owes_after q h + 2
+  owes_more h lane c kept = paid.owes_more q h lane c kept
+
+  -- ---- scripts
+
+  pub replies : (h : History) (lane : ℕ) (c : Call) → Fits c (answer_after q h lane c)
+  replies h lane c = replies_fit q is h lane c
+
+  pub lanes_are_known : (h : History) (lane : ℕ) (c : Call)
+      → InScript (answer_after q) h lane c → lane / 2 < q.seats
+  lanes_are_known h lane c fit =
+      ticking.known q (journal_of h) lane c
+      (scripted_as q (journal_of h) lane c (scripted_so q h lane c fit))
+
+  pub script_stays : (h more : History) (lane : ℕ) (c : Call) → calls_by lane more ≡ []
+      → InScript (answer_after q) h lane c → InScript (answer_after q) (h ++ more) lane c
+  script_stays h more lane c none fit = in_script q is (h ++ more) lane c
+      (ticking.stays q h more lane c none ∙ scripted_so q h lane c fit)
+
+  pub taps_hear : (h : History) (w : ℕ) (c : Call) → w < q.seats
+      → may_hear (hearing_of (calls_by (tap_lane w) h)) c ≡ true
+      → InScript (answer_after q) h (tap_lane w) c
+  taps_hear h w c lt may =
+      in_script q is h (tap_lane w) c (seated_so q (journal_of h) (tap_lane w) c
+      (hearing.hearing_is_scripted q.seats q.kinds q.plan h w c lt may))
+
+  pub taps_hear_only : (h : History) (w : ℕ) (c : Call) → CameAbout q h
+      → InScript (answer_after q) h (tap_lane w) c
+      → may_hear (hearing_of (calls_by (tap_lane w) h)) c ≡ true
+  taps_hear_only h w c came fit =
+      ticking.only_hears q h w c (lawful q is (journal_of h) came.legal)
+      (scripted_as q (journal_of h) (tap_lane w) c (scripted_so q h (tap_lane w) c fit))
+
+  pub taps_may_halt : (h : History) (w : ℕ) → w < q.seats
+      → (hearing_of (calls_by (tap_lane w) h) ≡ Over → ⊥)
+      → IsPaidAfter q h (tap_lane w) call.Halt
+  taps_may_halt h w lt n = hearing.tap_halt_is_paid q.seats h w lt n
+
+  pub only_hears : (h : History) (lane : ℕ) (c : Call) (l : ℕ) → tells_of l c ≡ true
+      → InScript (answer_after q) h lane c → hearing_of (calls_by lane h) ≡ Hears l
+  only_hears h lane c l tells fit =
+      ticking.telling q h lane c l tells
+      (scripted_as q (journal_of h) lane c (scripted_so q h lane c fit))
+
+  pub proxies_do : (h : History) (w : ℕ) (c : Call) → w < q.seats
+      → may_do (outputs_in q.plan) (makers_in q.plan) (is_remote (q.kinds w))
+      (duty_of (calls_by (proxy_lane w) h)) c ≡ true
+      → InScript (answer_after q) h (proxy_lane w) c
+  proxies_do h w c lt may = in_script q is h (proxy_lane w) c
+      (seated_so q (journal_of h) (proxy_lane w) c
+      (duty_is_scripted q.seats q.kinds q.plan h w c lt may))
+
+  pub proxies_do_only : (h : History) (w : ℕ) (c : Call)
+      → InScript (answer_after q) h (proxy_lane w) c
+      → may_make (outputs_in q.plan) (makers_in q.plan) (is_remote (q.kinds w))
+      (duty_of (calls_by (proxy_lane w) h)) c ≡ true
+  proxies_do_only h w c fit =
+      ticking.only_makes q h w c
+      (scripted_as q (journal_of h) (proxy_lane w) c (scripted_so q h (proxy_lane w) c fit))
+
+  pub proxies_may_halt : (h : History) (w : ℕ) → w < q.seats
+      → (duty_of (calls_by (proxy_lane w) h) ≡ Left → ⊥)
+      → IsPaidAfter q h (proxy_lane w) call.Halt
+  proxies_may_halt h w lt n = paying.halt_is_paid q.seats h w lt n
+
+  pub commits_are_paid : (h : History) (w a : ℕ) (b : Branch) (fs : List (List ℕ))
+      (how : CommitEnd) → w < q.seats → duty_of (calls_by (proxy_lane w) h) ≡ Commits a b fs
+      → IsPaidAfter q h (proxy_lane w) (call.Committed a b how)
+  commits_are_paid h w a b fs how lt e = paying.commit_is_paid q.seats h w a b fs how lt e
+
+  -- ---- what holds of every history that came about
+
+  pub orders_hold : (h : History) (lane : ℕ) → CameAbout q h
+      → OrderHolds (length q.plan.actions) (child_at (lane / 2) h) (lines_in h)
+      (answer_after q h lane call.Ask)
+  orders_hold h lane came = ordering.orders_hold q is h lane came
+
+  pub inputs_are_there : (h : History) (w l : ℕ) (n : ℤ) (a c o : ℕ) → CameAbout q h
+      → duty_of (calls_by (proxy_lane w) h) ≡ Sends l n a → is_maker (makers_in q.plan a) c o ≡ true
+      → says_file (answer_after q h (proxy_lane w) (call.Look (wanted.Made c o))) ≡ true
+  inputs_are_there h w l n a c o came owes maker = inputs.inputs_are_there q is h w l n a c o came owes maker
+
+  pub lines_find_room : (h : History) (lane l : ℕ) → CameAbout q h
+      → InScript (answer_after q) h lane (call.Launched l start.Done)
+      → (child_at (lane / 2) h ≡ None) × (tap_at (lane / 2) h ≡ None)
+  lines_find_room h lane l came fit = ordering.lines_find_room q is h lane l came fit
+
+  pub takes_there : (h : History) (lane l : ℕ) → CameAbout q h
+      → answer_after q h lane call.Take ≡ reply.Line l → tap_at (lane / 2) h ≡ Some l
+  takes_there h lane l came so = ordering.takes_there q is h lane l came so
+
+  pub takes_once : (h : History) (lane l : ℕ) → CameAbout q h
+      → answer_after q h lane call.Take ≡ reply.Line l → is_taken l h ≡ false
+  takes_once h lane l came so = ordering.takes_once q is h lane l so
+
+  pub grants_once : (h : History) (lane a : ℕ) (b : Branch) (t : ℕ) (fs : List (List ℕ))
+      → CameAbout q h
+      → answer_after q h lane (call.Claim a b t (found.Files fs)) ≡ reply.Granted
+      → (a < length q.plan.actions) × (place_at a h ≡ Fresh)
+  grants_once h lane a b t fs came so = granting.grants_once q is h lane a b t fs came so
+
+  pub commits_own : (h : History) (lane a : ℕ) (b : Branch) (how : CommitEnd)
+      → CameAbout q h → InScript (answer_after q) h lane (call.Committed a b how)
+      → place_at a h ≡ Away (claimed (calls_by lane h))
+  commits_own h lane a b how came fit = granting.commits_own q is h lane a b how came fit
