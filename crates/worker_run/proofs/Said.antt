@@ -7,15 +7,18 @@ use Rattle.build_report.specs.declared.fault.RunFault.TheVariants as fault
 use Rattle.build_report.specs.declared.fault.Stage.{Stage}
 use Rattle.build_report.specs.declared.fault.Stage.TheVariants as stage
 use Rattle.exec_journal.specs.declared.journal.Entry.{Entry}
+use Rattle.exec_journal.specs.Lawful.{Lawful}
 use Rattle.exec_journal.specs.Legal.{Legal}
 use Rattle.exec_journal.specs.Ends.{ends_from, ends_of}
 use Rattle.exec_journal.specs.Outcomes.{is_ok, outcome_of}
 use Rattle.exec_journal.specs.Settled.{all_settled, is_settled, standings, standings_from}
 use Rattle.exec_journal.specs.Words.{halted, stopped}
+use Rattle.history_laws.proofs.OwnDiscipline.{own_legal}
+use Rattle.history_laws.specs.Disciplines.{own_discipline}
 use Rattle.history_laws.specs.Ruled.{answer_after}
 use Rattle.journal_laws.proofs.Cleaned.{all_succeed}
-use Rattle.journal_laws.proofs.Keeping.{kept}
 use Rattle.journal_laws.proofs.Known.{outcome_known, stopped_settled}
+use Rattle.journal_laws.proofs.Ours.{kept, lawful}
 use Rattle.journal_laws.proofs.Races.{race}
 use Rattle.journal_laws.proofs.Requests.{paired}
 use Rattle.journal_laws.proofs.Stops.{each_settled, settled_accounted}
@@ -37,12 +40,12 @@ use Rattle.worker_run.specs.Histories.{history_of}
 use Rattle.worker_run.specs.Lanes.{AreNewBerths, TaskRan, WhereWhole, is_during}
 use Rattle.worker_run.specs.Seen.{EndedTold, Left}
 
-finished : (p : Plan) (j : List Entry) → Sound p → Legal p j → all_settled p j ≡ true
+finished : (p : Plan) (j : List Entry) → Sound p → Lawful p j → all_settled p j ≡ true
     → Finished p j
-finished p j sound legal all = record {
+finished p j sound lawful all = record {
   settled_all = all;
   known = λ a x at. outcome_known p j a x at (each_settled p j a x all at);
-  accounted = settled_accounted p j sound legal all;
+  accounted = settled_accounted p j sound lawful all;
 }
 
 -- a plan without actions has none to settle
@@ -79,13 +82,17 @@ module _ (t : Task) (when : Option Stage) (x : Left) (ran : TaskRan t when x) wh
   newest = newest_is ran.run.history ∙ ap reverse (sym ran.run.in_journal)
 
   pub is_legal : IsLegal t x
-  is_legal = subst (λ j. Legal t.plan j) newest ran.run.is_legal.legal
+  is_legal = subst (λ j. Legal t.plan j) newest
+      (own_legal t.plan (journal_of ran.run.history) ran.run.is_legal.legal)
+
+  is_lawful : Lawful t.plan (newest_first x)
+  is_lawful = lawful t.plan (newest_first x) is_legal
 
   pub has_race : HasRace t x
-  has_race = race t.plan (newest_first x) is_legal
+  has_race = race t.plan (newest_first x) is_lawful
 
   pub is_paired : IsPaired t x
-  is_paired = paired t.plan (newest_first x) is_legal
+  is_paired = paired t.plan (newest_first x) is_lawful
 
   pub is_kept : IsKept t x
   is_kept = kept t.plan (newest_first x) ran.run.is_legal.sound is_legal
@@ -105,8 +112,8 @@ module _ (t : Task) (when : Option Stage) (x : Left) (ran : TaskRan t when x) wh
     has_rooms = record {
       before = ran.before;
       new = subst (λ n. AreNewBerths n ran.before) posts.0 ran.new;
-      rooms = subst (λ h. Rooms (answer_after t.plan) t.work.actions h x.lines 0 t.posts.items
-          ran.before x.berths) (sym same) ran.run.rooms;
+      rooms = subst (λ h. Rooms (answer_after (own_discipline t.plan)) t.work.actions h x.lines 0
+          t.posts.items ran.before x.berths) (sym same) ran.run.rooms;
     }
 
     pub is_stopped : IsStopped t x
@@ -129,17 +136,17 @@ module _ (t : Task) (when : Option Stage) (x : Left) (ran : TaskRan t when x) wh
       settles : (n : ℕ) → berths t.plan ≡ n → has_halt (history_of x.journal) ≡ false
           → all_settled t.plan (newest_first x) ≡ true
       settles zero is none = none_to_settle t.plan (newest_first x) (has is)
-      settles (suc n) is none = stopped_settled t.plan (newest_first x) (proxy_lane 0) is_legal
+      settles (suc n) is none = stopped_settled t.plan (newest_first x) (proxy_lane 0) is_lawful
           (stops_first (ap has_halt (sym same) ∙ none) (subst (λ m. 0 < m) (sym is) (omega arith)))
           (unhalted none)
 
       pub is_accounted : IsAccounted t x
-      is_accounted none = finished t.plan (newest_first x) ran.run.is_legal.sound is_legal
+      is_accounted none = finished t.plan (newest_first x) ran.run.is_legal.sound is_lawful
           (settles (berths t.plan) refl none)
 
       pub is_complete : IsComplete t x
       is_complete none clean = all_ok t.plan (newest_first x)
-          (all_succeed t.plan (newest_first x) ran.run.is_legal.sound is_legal clean (unhalted none)
+          (all_succeed t.plan (newest_first x) ran.run.is_legal.sound is_lawful clean (unhalted none)
           (settles (berths t.plan) refl none))
 
 -- What is so of each run of lanes is so of the run that is told.

@@ -10,6 +10,7 @@ use Rattle.exec_journal.specs.Legal.{Legal}
 use Rattle.exec_journal.specs.Paired.{Paired}
 use Rattle.exec_journal.specs.Race.{Race}
 use Rattle.exec_journal.specs.declared.journal.Entry.{Entry}
+use Rattle.history_laws.specs.Disciplines.{own_discipline}
 use Rattle.history_laws.specs.Ruled.{answer_after}
 use Rattle.journal_laws.specs.Finished.{Finished}
 use Rattle.lane_runs.specs.Layout.{has_halt}
@@ -80,8 +81,8 @@ HasPipes t x = Pipes t.posts.items (history_of x.journal) x.lines
 pub record HasRooms (t : Task) (x : Left) : Type 0 where
   pub before : List BerthTold
   pub new : AreNewBerths (berths t.plan) before
-  pub rooms : Rooms (answer_after t.plan) t.work.actions (history_of x.journal) x.lines 0
-      t.posts.items before x.berths
+  pub rooms : Rooms (answer_after (own_discipline t.plan)) t.work.actions (history_of x.journal)
+      x.lines 0 t.posts.items before x.berths
 
 -- each action's place was written what was granted and committed, and nothing else
 abbrev pub HasOuts : Task → Left → Type 0

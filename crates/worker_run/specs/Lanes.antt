@@ -4,6 +4,7 @@ use Rattle.build_report.specs.declared.fault.Stage.{Stage}
 use Rattle.build_report.specs.declared.fault.Stage.TheVariants as stage
 use Rattle.exec_journal.specs.declared.call.Call.{Call}
 use Rattle.exec_journal.specs.declared.reply.Reply.{Reply}
+use Rattle.history_laws.specs.Disciplines.{own_discipline}
 use Rattle.history_laws.specs.Ruled.{CameAbout, answer_after}
 use Rattle.lane_deeds.specs.declared.post.Post.{Post}
 use Rattle.lane_runs.specs.Runs.{HasRun, LaidTold}
@@ -67,5 +68,6 @@ WhereLost (Some stage.After) P = P
 
 -- the lanes of this task ran by the rules of the journal of its plan
 abbrev pub TaskRan : Task → Option Stage → Left → Type 0
-TaskRan t fault left = LanesRan (CameAbout t.plan) (answer_after t.plan) (outputs_in t.plan)
+TaskRan t fault left = LanesRan (CameAbout (own_discipline t.plan))
+    (answer_after (own_discipline t.plan)) (outputs_in t.plan)
     (length t.plan.actions) t.posts.items t.work.actions fault left
