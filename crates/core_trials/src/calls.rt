@@ -36,6 +36,7 @@ fn plain(kind: &str, words: Words) -> Option<Call> {
     match kind {
         "Ask" => Some(Call::Ask),
         "Take" => Some(Call::Take),
+        "Tick" => Some(Call::Tick),
         "Halt" => Some(Call::Halt),
         "Look" => Some(Call::Look(answered_output(words))),
         "See" => Some(Call::Look(made_output(words))),

@@ -161,5 +161,6 @@ fn reason(why: Why) -> &'static str {
         Why::Feed => "Feed",
         Why::Unwanted => "Unwanted",
         Why::Quit => "Quit",
+        Why::Evicted => "Evicted",
     }
 }
