@@ -8,7 +8,7 @@ use Rattle.seat_desk.specs.History.{entry, calls_by}
 use Rattle.run_rules.specs.Moves.{History}
 use Rattle.script_duties.specs.Owed.{journal_of}
 use Rattle.history_laws.specs.Disciplines.{Discipline, IsDiscipline, own_discipline}
-use Rattle.history_laws.specs.Laws as laws
+use Rattle.history_laws.proofs.OfRules as laws
 use Rattle.history_laws.specs.Ruled.{answer_after, IsPaidAfter, owes_after, CameAbout}
 use Rattle.history_laws.proofs.OwnDiscipline.{own_is_discipline, legal_own}
 use Rattle.core_rules.specs.declared.lane_core.LaneCore.{LaneCore}

@@ -6,7 +6,7 @@ ghost use Rattle.script_duties.specs.Owed.{outputs_in, makers_in};
 ghost use Rattle.spawn_core.specs.Stands.{Stands};
 ghost use Rattle.history_laws.specs.Ruled.{answer_after, IsPaidAfter, owes_after, CameAbout};
 ghost use Rattle.core_rules.specs.LaneCores.{no_plan, plan_of, StandsFor};
-ghost use Rattle.history_laws.specs.Laws as laws;
+ghost use Rattle.history_laws.proofs.OfRules as laws;
 ghost use Rattle.core_rules.specs.Laws as own_laws;
 ghost use Rattle.core_rules.specs.Laws.{own, own_is};
 ghost use Rattle.core_rules.specs.Waking.{stirred, waking};

@@ -13,3 +13,4 @@ pub mod Inputs
 pub mod Counting
 pub mod Growing
 pub mod OwnDiscipline
+pub mod OfRules

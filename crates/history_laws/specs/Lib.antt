@@ -1,4 +1,3 @@
 -- What the laws cite.
 pub mod Disciplines
 pub mod Ruled
-pub mod Laws
