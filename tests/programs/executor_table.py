@@ -1,0 +1,142 @@
+"""remote_exec over jobs that Python spells: the results, how it ends, and what it leaves outside a job's folder."""
+from __future__ import annotations
+
+import os
+import pathlib
+import socket
+import subprocess
+from collections.abc import Iterator
+
+import play
+import wire
+from play import Case, Programs, compare, fill, found, run
+from wire import GREETING, framed, job, result
+
+SHELL = (b"/bin/sh", b"-c")
+PATH = (b"PATH", b"/usr/bin:/bin")
+
+# Longer than the name of a file may be, so that it can neither be read nor written.
+LONG = b"n" * 300
+
+# Jobs, each with its result, or with none.
+JOBS = [
+    (job(1, [*SHELL, b"printf x > o"], outputs=[b"o"]), result(1, files=[(b"o", b"x")])),
+    # The input stands in the job's folder, and so is found there as an output. Another output is missing.
+    (job(2, [*SHELL, b"printf ran"], [(b"a/i", b"in")], [b"a/i", b"gone"]), result(2, said=b"ran", files=[(b"a/i", b"in")])),
+    # A text that isn't UTF-8 is none; the exit code is no refusal; an input without bytes.
+    (job(3, [*SHELL, b"printf '\\377'; exit 3"], [(b"i", b"")], [b"i"]), result(3, 3, files=[(b"i", b"")])),
+    (job(4, [*SHELL, b"tr a-z A-Z <i >made/deep/o; echo $WHO"], [(b"i", b"abc")], [b"made/deep/o"], [(b"WHO", b"me"), PATH]),
+     result(4, said=b"me\n", files=[(b"made/deep/o", b"ABC")])),
+    # Its environment is the job's alone, its input is empty, and it runs in its folder.
+    (job(5, [b"/usr/bin/env"], env=[(b"A", b""), (b"B", b"2")]), result(5, said=b"A=\nB=2\n")),
+    (job(6, [*SHELL, b"cat; basename $(pwd)"], env=[PATH]), result(6, said=b"job6\n")),
+    (job(7, [*SHELL, b"kill -9 $$"]), result(7, refusal=b"ended by a signal")),
+    (job(8, [b"/no/such/program"]), result(8, refusal=b"cannot start")),
+    (job(9, []), result(9, refusal=b"cannot start")),
+    # A word without a slash at its front is looked for in the folder of the tool's start.
+    (job(10, [b"tool"], outputs=[b"o"]), result(10, files=[(b"o", b"from the tool\n")])),
+    # Paths that lead out of the job's folder, and what can't be written or read.
+    (job(11, [b"tool"], [(b"../i", b"x")]), result(11, refusal=b"cannot write")),
+    (job(12, [b"tool"], outputs=[b"/o"]), result(12, refusal=b"cannot write")),
+    (job(-1, [b"tool"], outputs=[b""]), result(-1, refusal=b"cannot write")),
+    (job(13, [b"tool"], [(b"i", b"x"), (LONG, b"")], [b"i"]), result(13, refusal=b"cannot write")),
+    (job(14, [b"tool"], outputs=[LONG + b"/o"]), result(14, refusal=b"cannot write")),
+    (job(15, [*SHELL, b":"], outputs=[b"o", LONG]), result(15, refusal=b"cannot read")),
+    (job(16, [*SHELL, b"ln -s /etc/passwd o; mkdir p"], outputs=[b"o", b"p"], env=[PATH]), result(16)),
+    # A longer number, an unknown field, an empty content, and parts in another order.
+    (bytes.fromhex("22016f" "1a050a01661200" "82010178" "08918000") + b"".join(wire.span(2, it) for it in (*SHELL, b"cp f o"))
+     + wire.span(5, wire.span(2, PATH[1]) + wire.span(1, PATH[0])), result(17, files=[(b"o", b"")])),
+    # The job of another number isn't given up.
+    (job(99, cancel=True), None),
+    (job(18, [*SHELL, b"exit 255"]), result(18, 255)),
+]
+
+BAD_JOBS = ["08", "2a030a01ff", "1201ff", "0b", "1a020801ff"]
+
+
+def rooms(folder: pathlib.Path) -> pathlib.Path:
+    """The room of an executor below the folder of the start, which has a program `tool`."""
+    fill(folder, {"tool": b"#!/bin/sh\necho from the tool >o\n"})
+    (folder / "tool").chmod(0o755)
+    room = folder / ".worker_rooms" / "0"
+    room.mkdir(parents=True)
+    return room
+
+
+def one_after_another(programs: Programs, folder: pathlib.Path) -> None:
+    """All jobs in one piece, and byte by byte."""
+    given = b"".join(framed(it) for it, _ in JOBS)
+    wanted = [wire.messages(GREETING)[0], *(it for _, it in JOBS if it is not None)]
+    for bytewise in (False, True):
+        place = folder / str(bytewise)
+        room = rooms(place)
+        mine, its = socket.socketpair()
+        with subprocess.Popen([programs.remote_exec, "--serve"], cwd=room, stdin=its, stdout=subprocess.PIPE, stderr=subprocess.PIPE) as it:
+            its.close()
+            for at in range(len(given)) if bytewise else [0]:
+                mine.sendall(given[at : at + 1] if bytewise else given)
+            mine.shutdown(socket.SHUT_WR)
+            out, err = it.communicate(timeout=play.MOST_SECONDS)
+        mine.close()
+        for one, got in zip(wanted, wire.messages(out)):
+            compare(("in order", JOBS[wanted.index(one) - 1][0]), one, got)
+        compare(f"{len(JOBS)} jobs", (0, len(wanted), b""), (it.returncode, len(wire.messages(out)), err))
+        compare("nothing outside", (None, None), (found(room, "i"), found(place, "i")))
+
+
+def bad_jobs(programs: Programs, folder: pathlib.Path) -> None:
+    """A frame that spells no job: what stands before it is done, and nothing behind it."""
+    first, behind = job(1, [*SHELL, b":"]), job(2, [*SHELL, b":"])
+    for number, digits in enumerate(BAD_JOBS):
+        given = framed(first) + framed(bytes.fromhex(digits)) + framed(behind)
+        ended = run([programs.remote_exec, "--serve"], rooms(folder / str(number)), given)
+        compare(digits, (4, GREETING + framed(result(1))), (ended.status, ended.out))
+    for number, length in enumerate([wire.varint(2**26 + 1), b"\xff" * 10]):
+        ended = run([programs.remote_exec, "--serve"], rooms(folder / f"length{number}"), framed(first) + length)
+        compare(length, (4, GREETING + framed(result(1))), (ended.status, ended.out))
+
+
+def given_up(programs: Programs, folder: pathlib.Path) -> None:
+    """A cancelling job that comes while another job is run: that one's run ends only once all has been read.
+
+    That the cancelling job was read shows in the size of the pipe: it stands behind more bytes than a pipe holds, so the
+    last of them can be written only while the executor reads on beside the run.
+    """
+    room = rooms(folder)
+    filler = job(3, [*SHELL, b":"], [(b"big", b"x" * 1_000_000)])
+    jobs = framed(job(1, [*SHELL, b"while ! test -e ../../../go; do sleep 0.01; done"], env=[PATH])) + framed(job(2, [*SHELL, b"echo ran"]))
+    jobs += framed(job(2, cancel=True)) + framed(filler)
+    with subprocess.Popen([programs.remote_exec, "--serve"], cwd=room, stdin=subprocess.PIPE, stdout=subprocess.PIPE) as executor:
+        assert executor.stdin is not None
+        executor.stdin.write(jobs)
+        executor.stdin.flush()
+        (folder / "go").write_bytes(b"")
+        out, _ = executor.communicate(timeout=play.MOST_SECONDS)
+    wanted = GREETING + framed(result(1)) + framed(result(2, cancelled=True)) + framed(result(3))
+    compare("jobs 1 and 2, and a cancelling job 2", (0, wanted), (executor.returncode, out))
+
+
+def streams(programs: Programs, folder: pathlib.Path) -> None:
+    """Other words, an input that ends inside a job or can't be read, and an output that takes nothing."""
+    room = rooms(folder)
+    for words in [[], ["--server"], ["--serve", "--serve"], [""]]:
+        ended = run([programs.remote_exec, *words], room)
+        compare(words, (2, b"", b"remote_exec: words are not accepted\n"), (ended.status, ended.out, ended.err))
+    compare("no job", (0, GREETING), (lambda it: (it.status, it.out))(run([programs.remote_exec, "--serve"], room)))
+    cut = run([programs.remote_exec, "--serve"], room, framed(job(1, [*SHELL, b":"])) + b"\x05\x08")
+    compare("an input that ends inside a job", (0, GREETING + framed(result(1))), (cut.status, cut.out))
+    source = os.open(room, os.O_RDONLY)
+    full = os.open("/dev/full", os.O_WRONLY)
+    try:
+        ended = run([programs.remote_exec, "--serve"], room, stdin=source)
+        compare("an input that can't be read", (5, GREETING), (ended.status, ended.out))
+        ended = run([programs.remote_exec, "--serve"], room, framed(job(1, [*SHELL, b"touch ../done"], env=[PATH])), stdout=full)
+        compare("an output that takes nothing", (6, False), (ended.status, (room / "done").exists()))
+    finally:
+        os.close(source)
+        os.close(full)
+
+
+def cases() -> Iterator[Case]:
+    for case in [one_after_another, bad_jobs, given_up, streams]:
+        yield Case(f"executor: {case.__name__.replace('_', ' ')}", case)

@@ -1,0 +1,205 @@
+"""Whole runs: what a worker may do wrong, what races come to, which actions share a worker, and the largest list."""
+from __future__ import annotations
+
+import json
+import os
+import pathlib
+from collections.abc import Callable, Iterator, Mapping, Sequence
+
+import play
+import wire
+from play import Case, Programs, Steps, action, compare, exchange, heard, report, supports
+
+LOCAL = "ok local local=won remote=unused"
+OK = wire.framed(wire.response())
+GREET = ["give", wire.GREETING.hex()]
+WON = ["give", wire.framed(wire.result(1, files=[(b"o", b"x")])).hex()]
+
+
+def serve(output: str = "o", text: str = "made") -> list[list[object]]:
+    """One request that is done, one at a time."""
+    return [["hear", 1], ["leave", output, text], ["give", OK.hex()]]
+
+
+def played(name: str, actions: Sequence[Mapping[str, object]], wanted: bytes, words: Sequence[str] = ("--instances=1",),
+           files: Mapping[str, bytes | None] | None = None, count: int | None = None, others: Sequence[str] = (),
+           **players: Sequence[Steps]) -> Case:
+    """A run with its report, what stands at these paths afterwards, and how many processes of `t` it had.
+
+    Of a branch whose fate hangs on which lane is first, `others` are the further ones that it may have.
+    """
+    def case(programs: Programs, folder: pathlib.Path) -> None:
+        ended = exchange(programs, folder, actions, words, **players)
+        status = 0 if f"ok={len(actions)} ".encode() in wanted else 1
+        compare((name, words), (status, wanted, b""), (ended.status, with_fate(ended.out, wanted, others), ended.err))
+        compare((name, "files"), dict(files or {}), {path: play.found(folder, path) for path in files or {}})
+        if count is not None:
+            compare((name, "processes"), count, len(heard(folder, "t")))
+    return Case(name, case)
+
+
+def with_fate(out: bytes, wanted: bytes, others: Sequence[str]) -> bytes:
+    """The report with the fate that is wanted in place of another one that may stand there."""
+    for other in others:
+        branch = other.split("=")[0]
+        fate = next(word for word in wanted.decode().split() if word.startswith(f"{branch}="))
+        out = out.replace(other.encode(), fate.encode())
+    return out
+
+
+def workers() -> Iterator[Case]:
+    """A worker that has one request at a time."""
+    two = [action("a"), action("b", outputs=["q"])]
+    both = report(f"a {LOCAL}", f"b {LOCAL}", ok=2)
+    yield played("one worker for two actions", two, both, count=1, files={"o": b"made", "q": b"made"}, t=[[*serve(), *serve("q")]])
+    # The second response was asked for by nobody: the line broke, and yet its first answer counts.
+    twice = [["hear", 1], ["leave", "o", "made"], ["give", (OK + OK).hex()]]
+    yield played("a worker answers twice", two[:1], report(f"a {LOCAL}", ok=1), count=1, files={"o": b"made"}, t=[twice])
+    yield played("a worker dies before its answer, and after it", two, both, count=3,
+                 t=[[["hear", 1], ["end"]], [*serve(), ["end"]], serve("q"), serve("q")][:3])
+    yield played("a worker dies at each attempt", [action()], report("a broken local=dropped:died:3 remote=unused", broken=1),
+                 ["--retries=2"], count=3, files={"o": None}, t=[[["hear", 1], ["end"]]] * 3)
+    yield played("a worker ends inside an answer", [action()], report("a broken local=dropped:died:1 remote=unused", broken=1),
+                 ["--retries=0"], t=[[["hear", 1], ["give", "0508"], ["end"]]])
+    yield played("a worker dies before it is asked", [action()], report(f"a {LOCAL}", ok=1), count=2, t=[[["end"]], serve()])
+    yield played("an output isn't there, and then it is", [action()], report(f"a {LOCAL}", ok=1), files={"o": b"made"},
+                 t=[[["hear", 1], ["give", OK.hex()], *serve()], serve()])
+    yield played("outputs that are a folder, and one that isn't there", [action(outputs=["d/p", "q"])],
+                 report("a broken local=dropped:missing(d/p):2 remote=unused", broken=1), files={"q": None},
+                 t=[[["hear", 1], ["leave", "d/p/x", ""], ["leave", "q", ""], ["give", OK.hex()]] * 2] * 2)
+    failed = wire.framed(wire.response(0, 3, b"x\n\ny"))
+    yield played("an action fails, and what reads its output is skipped",
+                 [action("a"), action("b", outputs=["q"], inputs=["f", "o"]), action("c", outputs=["r"], inputs=["f", "q"])],
+                 report("a failed local 3 local=won remote=unused", "  | x", "  | ", "  | y", "b skipped a local=idle remote=unused",
+                        "c skipped b local=idle remote=unused", failed=1, skipped=2),
+                 files={"o": None, "q": None}, t=[[["hear", 1], ["leave", "o", "made"], ["give", failed.hex()]]])
+
+
+def several() -> Iterator[Case]:
+    """A worker that has several requests at once dies over them, or is cut in a frame."""
+    needs = supports("multiplex-workers")
+    three = [action(name, outputs=[], requirements=needs) for name in "abc"]
+    answers = [wire.framed(wire.response(number)).hex() for number in (1, 2, 3)]
+    all_ok = report(*[f"{name} {LOCAL}" for name in "abc"], ok=3)
+    yield played("each request that a worker died over is tried again", three, all_ok, count=2,
+                 t=[[["hear", 3], ["give", answers[1]], ["end"]], [["hear", 2], ["give", *answers[:2]]]])
+    yield played("each pending request is told", three,
+                 report(f"a {LOCAL}", *[f"{name} broken local=dropped:frame:1 remote=unused" for name in "bc"], ok=1, broken=2),
+                 ["--retries=0", "--instances=1"], t=[[["hear", 3], ["give", answers[0], "80" * 10]]])
+    yield played("it is cancelled though nobody asked", three[:1], report("a broken local=dropped:breach:1 remote=unused", broken=1),
+                 ["--retries=0"], t=[[["hear", 1], ["give", wire.framed(wire.response(1, cancelled=True)).hex()]]])
+
+
+def races() -> Iterator[Case]:
+    """An action that a worker and the executor race for."""
+    one = [action(strategy="dynamic")]
+    dies = [["hear", 1], ["end"]]
+    # The branch that lost may have ended by itself before, or not.
+    yield played("the worker dies twice, and the executor wins", one, report("a ok remote local=dropped:died:2 remote=won", ok=1),
+                 files={"o": b"x"}, others=["local=lost", "local=idle"],
+                 t=[dies, [["hear", 1], ["raise", "twice"], ["end"]]], x=[[GREET, ["hear", 1], ["await", "twice"], WON]])
+    yield played("the worker can't be started, and the executor wins", one, report("a ok remote local=dropped:launch:2 remote=won", ok=1),
+                 files={"o": b"x"}, others=["local=lost", "local=idle"], x=[[GREET, ["hear", 1], WON]])
+    yield played("the executor can't be started, and the worker wins", one, report("a ok local local=won remote=dropped:launch:2", ok=1),
+                 ["--executor=gone"], files={"o": b"made"}, others=["remote=lost", "remote=idle"], t=[serve()])
+    wrong = ["give", wire.framed(wire.result(1, 3, b"no")).hex()]
+    yield played("the executor's exit code counts where it is first", one,
+                 report("a failed remote 3 local=dropped:launch:2 remote=won", "  | no", failed=1), others=["local=lost", "local=idle"],
+                 x=[[GREET, ["hear", 1], wrong]])
+    refused = ["give", wire.framed(wire.result(1, refusal=b"cannot start")).hex()]
+    again = ["give", wire.framed(wire.result(2, refusal=b"cannot start")).hex()]
+    yield played("the executor refuses twice, and the worker wins", one,
+                 report("a ok local local=won remote=dropped:refused:2", ok=1), files={"o": b"made"},
+                 t=[[["hear", 1], ["await", "refused"], ["leave", "o", "made"], ["give", OK.hex()]]],
+                 x=[[GREET, ["hear", 1], refused, ["hear", 1], again, ["raise", "refused"]]])
+    # Both answer before either is known to: exactly one of them is committed.
+    def both(programs: Programs, folder: pathlib.Path) -> None:
+        worker = [["hear", 1], ["raise", "worker"], ["await", "executor"], ["leave", "o", "made"], ["give", OK.hex()]]
+        executor = [GREET, ["hear", 1], ["raise", "executor"], ["await", "worker"], WON]
+        ended = exchange(programs, folder, one, ["--retries=0"], t=[worker], x=[executor])
+        got = (ended.out, play.found(folder, "o"))
+        wanted = [(report("a ok local local=won remote=lost", ok=1), b"made"), (report("a ok remote local=lost remote=won", ok=1), b"x")]
+        compare("both branches at once", got if got in wanted else wanted, got)
+    yield Case("both branches at once", both)
+    # Without cancellation the worker that lost is killed, and the next action has one of its own.
+    two = [*one, action("b", outputs=["q"], inputs=["f", "o"])]
+    yield played("the worker that lost is killed", two, report("a ok remote local=lost remote=won", f"b {LOCAL}", ok=2), count=2,
+                 t=[[["hear", 1], ["raise", "asked"], ["hear", 1]], serve("q")], x=[[GREET, ["hear", 1], ["await", "asked"], WON]])
+
+
+def keys() -> Iterator[Case]:
+    """Two actions share a worker exactly if their keys are equal."""
+    same = [action("a", outputs=[]), action("b", outputs=[])]
+    rows = [
+        ("equal keys", {}, True), ("the environment", {"env": {"K": "1"}}, False), ("the mnemonic", {"mnemonic": "U"}, False),
+        ("a start-up word", {"argv": ["t", "-v", "@f"]}, False), ("a request word", {"argv": ["t", "@f", "--flagfile=x"]}, True),
+        ("the tools", {"tools": ["f"]}, False), ("the mnemonic in the key", {"mnemonic": "U", "requirements": supports(**{"worker-key-mnemonic": "T"})}, True),
+        ("cancellation", {"requirements": supports("worker-cancellation")}, False),
+        ("several requests at once", {"requirements": supports("multiplex-workers")}, False),
+        ("folders alone", {"requirements": supports("multiplex-sandboxing")}, True),
+        ("another requirement", {"requirements": supports(other="1")}, True), ("an input", {"inputs": ["f", "g"]}, True),
+    ]
+    for what, more, shared in rows:
+        yield Case(f"keys: {what}", sharing([same[0], {**same[1], **more}], shared))
+
+
+def sharing(two: Sequence[Mapping[str, object]], shared: bool) -> Callable[[Programs, pathlib.Path], None]:
+    """Each process answers the number 0 twice; where the second worker has several requests at once it is a program of its own."""
+    def case(programs: Programs, folder: pathlib.Path) -> None:
+        has_several = "supports-multiplex-workers" in json.dumps(two[1])
+        plays = {"t": [[["hear", 1], ["give", OK.hex()]] * 2] * 2}
+        if has_several:
+            plays["u"] = [[["hear", 1], ["give", wire.framed(wire.response(1)).hex()]]]
+        actions = [two[0], {**two[1], "argv": ["u", "@f"]} if has_several else two[1]]
+        ended = exchange(programs, folder, actions, ["--instances=1", "--retries=0"], {"g": b""}, **plays)
+        compare(two, report(f"a {LOCAL}", f"b {LOCAL}", ok=2), ended.out)
+        compare((two, "processes"), 1 if shared else 2, len(heard(folder, "t")) + len(heard(folder, "u")))
+    return case
+
+
+def places() -> Iterator[Case]:
+    """What stands where an output is to be written, and a room in which nothing can be made."""
+    def spoiled(programs: Programs, folder: pathlib.Path) -> None:
+        play.fill(folder, {"q/x": b""})
+        ended = exchange(programs, folder, [action(outputs=["o", "q", "r"])],
+                         t=[[["hear", 1], *(["leave", it, it] for it in "oqr"), ["give", OK.hex()]]])
+        compare("a folder at the second output", (1, report("a broken local=spoiled:1 remote=unused", broken=1), b"o", None),
+                (ended.status, ended.out, play.found(folder, "o"), play.found(folder, "r")))
+    yield Case("a write that fails", spoiled)
+
+    def replaced(programs: Programs, folder: pathlib.Path) -> None:
+        play.fill(folder, {"o": b"old", "kept": b"kept"})
+        os.symlink("kept", folder / "q")
+        ended = exchange(programs, folder, [action(outputs=["o", "q", "d/e/p"])],
+                         t=[[["hear", 1], *(["leave", it, "new"] for it in ("o", "q", "d/e/p")), ["give", OK.hex()]]])
+        got = {path: play.found(folder, path) for path in ("o", "q", "d/e/p", "kept")}
+        compare("a file, a link, and folders that aren't there", (0, {"o": b"new", "q": b"new", "d/e/p": b"new", "kept": b"kept"}),
+                (ended.status, got))
+        compare("nothing beside", [], [it.name for it in folder.rglob(".worker_tool*")])
+    yield Case("outputs replace what is there", replaced)
+
+    def no_room(programs: Programs, folder: pathlib.Path) -> None:
+        play.fill(folder, {".worker_rooms": b"a file"})
+        ended = exchange(programs, folder, [action()], ["--retries=1"], t=[serve()])
+        compare("a file in place of the rooms", (1, report("a broken local=dropped:room:2 remote=unused", broken=1)), (ended.status, ended.out))
+    yield Case("a room that can't be made", no_room)
+
+
+def largest(programs: Programs, folder: pathlib.Path) -> None:
+    """4,096 actions with ten attempts each, the last two hundred of them in chains of ten by what they read and make."""
+    play.copy(programs.demo_tool, folder, "t")
+    actions, flags = [action(f"a{n}", outputs=[]) for n in range(3896)], {}
+    for n in range(3896, 4096):
+        source = f"flag{n}" if n == 3896 or n % 10 == 0 else f"o{n - 1}"
+        flags[f"flag{n}"] = f"--in={source}\n--out=o{n}\n".encode()
+        actions.append(action(f"a{n}", outputs=[f"o{n}"], inputs=sorted({f"flag{n}", source}), argv=["t", f"@flag{n}"]))
+    ended = exchange(programs, folder, actions, ["--retries=9", "--instances=8"], flags)
+    compare("4,096 actions", (0, report(*[f"a{n} {LOCAL}" for n in range(4096)], ok=4096)), (ended.status, ended.out))
+    for n in range(3896, 4096):
+        compare(f"the output of a{n}", flags[f"flag{max(3896, n - n % 10)}"], play.found(folder, f"o{n}"))
+
+
+def cases() -> Iterator[Case]:
+    for part in [workers, several, races, keys, places]:
+        yield from part()
+    yield Case("the largest list", largest)
