@@ -1,0 +1,65 @@
+//! Plays cases of calls that the other programs don't make, or whose answers they don't show, one a line of standard
+//! input, and prints what each comes to. Bytes are hexadecimal.
+//!
+//! | A line | Prints |
+//! |---|---|
+//! | `request BYTES`, `response BYTES`, `job BYTES`, `result BYTES` | the written form of the message, or its fault |
+//! | `list JSON` | how many actions the list has, or `refused` |
+//! | `key` | the length of a worker key's canonical bytes, and its name |
+//! | `execute BYTES` | the executor's status, and what it put, given these jobs and a shop some of whose calls fail |
+//! | `meanwhile BYTES` | the same with a shop whose runs wait until all jobs have been read |
+//!
+//! Other lines are printed as they are. `tools/wire-vectors` writes the cases of requests and responses, with the written
+//! forms that protoc gives, and `tools/shop-vectors` those of the executor, into `stdin` and `stdout`.
+#![tactic(auto)]
+
+mod jobs;
+mod keys;
+mod messages;
+
+use action_list::{ListRefusal, read_list};
+use plain_values::NoMemory;
+use std::alloc::Global;
+use std::io::{ErrorKind, Read};
+use std::sync::Wait;
+use std::thread::Threads;
+use std::{io, str};
+
+fn main(rt: HostRuntime) -> io::Result<()> {
+    let alloc = rt.alloc();
+    let mut bytes = Vec::new(alloc);
+    rt.reader().read_to_end(&mut bytes)?;
+    let Ok(text) = str::from_utf8(&bytes) else {
+        return Err(io::Error::from(ErrorKind::InvalidData));
+    };
+    for line in text.lines() {
+        match told(&rt, alloc, line) {
+            Ok(told) => println!(&rt; "{}", told.as_str())?,
+            Err(NoMemory) => return Err(io::Error::from(ErrorKind::OutOfMemory)),
+        }
+    }
+    Ok(())
+}
+
+fn told<R: Threads + Wait + Sync>(rt: &R, alloc: Global, line: &str) -> Result<String, NoMemory> {
+    let (kind, rest) = line.split_once(' ').unwrap_or((line, ""));
+    match kind {
+        "request" => messages::request(alloc, rest),
+        "response" => messages::response(alloc, rest),
+        "job" => messages::job(alloc, rest),
+        "result" => messages::result(alloc, rest),
+        "list" => list(alloc, rest),
+        "key" => keys::key(alloc),
+        "execute" => jobs::one_after_another(rt, alloc, rest),
+        "meanwhile" => jobs::meanwhile(rt, alloc, rest),
+        _ => Ok(String::from_str(alloc, line)?),
+    }
+}
+
+fn list(alloc: Global, json: &str) -> Result<String, NoMemory> {
+    match read_list(alloc, json.as_bytes()) {
+        Ok(list) => Ok(format!(in alloc; "{} actions", list.actions.as_slice().len())?),
+        Err(ListRefusal::Fault(_)) => Ok(String::from_str(alloc, "refused")?),
+        Err(ListRefusal::NoMemory) => Err(NoMemory),
+    }
+}
