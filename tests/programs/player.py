@@ -9,7 +9,7 @@ heard. A part is a list of steps:
     ["give", DIGITS, ..]    writes bytes, piece by piece
     ["leave", PATH, TEXT]   puts a file into the room
     ["raise", NAME]         lets those go on that wait for this name
-    ["await", NAME, ..]     waits until all these names were raised, for ten seconds at most
+    ["await", NAME, ..]     waits until all these names were raised, for thirty seconds at most
     ["end"]                 ends at once
 
 Behind the last step it reads on until its input ends or it is killed.
@@ -21,7 +21,7 @@ import time
 
 TOP = "../.."
 NAME = os.path.basename(sys.argv[0])
-MOST_SECONDS = 10
+MOST_SECONDS = 30
 
 
 def claim() -> int:

@@ -38,13 +38,18 @@ fn ends(alloc: Global) -> Result<Vec<JobEnd>, NoMemory> {
 
 fn fails(alloc: Global) -> Result<Vec<FailAt>, NoMemory> {
     let mut fails = Vec::new(alloc);
-    for (on, nth) in [
-        (Object::ShopPut, 3),
-        (Object::ShopFolder, 2),
-        (Object::ShopGet, 5),
-    ] {
-        fails.push(FailAt { on, nth })?;
-    }
+    fails.push(FailAt {
+        on: Object::ShopPut,
+        nth: 3,
+    })?;
+    fails.push(FailAt {
+        on: Object::ShopFolder,
+        nth: 2,
+    })?;
+    fails.push(FailAt {
+        on: Object::ShopGet,
+        nth: 5,
+    })?;
     Ok(fails)
 }
 
