@@ -6,7 +6,7 @@ import pathlib
 from collections.abc import Iterator
 
 import list_rules
-from play import Case, Programs, Wrong, compare, fill, run, shown
+from play import Case, Programs, Wrong, compare, fault_line, fill, run, shown
 
 FIRST = '{"name":"a","mnemonic":"T","argv":["t","@f"],"inputs":["f"],"outputs":["o"],"requirements":{"supports-workers":"1"}'
 
@@ -87,19 +87,19 @@ def listed(name: str, given: bytes) -> Case:
     def played(programs: Programs, folder: pathlib.Path) -> None:
         fill(folder, {"list": given})
         ended = run([programs.worker_tool, "list"], folder)
-        lines = ended.err.decode().split("\n")
+        line = fault_line(ended.err)
         try:
             source = list_rules.first_source(list_rules.read(given))
         except list_rules.Refused as refused:
-            compare(given, (4, b"", refused.line), (ended.status, ended.out, lines[0]))
-            if refused.hint not in lines[1]:
-                raise Wrong(f"given  {shown(given)}\nwanted {refused.hint!r} in the second line\ngot    {lines[1]!r}") from None
+            compare(given, (4, b"", refused.line), (ended.status, ended.out, line))
+            if refused.hint not in ended.err.decode():
+                raise Wrong(f"given  {shown(given)}\nwanted {refused.hint!r} behind that line\ngot    {shown(ended.err)}") from None
             return
         if source is None:
             compare(given, 0, ended.status)
         else:
             state = "not read" if len(source) > MOST_READ else "not there"
-            compare(given, (5, f"worker_tool: {state}: {source}"), (ended.status, lines[0]))
+            compare(given, (5, f"worker_tool: {state}: {source}"), (ended.status, line))
     return Case(f"list: {name}", played)
 
 

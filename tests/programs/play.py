@@ -91,6 +91,14 @@ def run(words: Sequence[str | bytes | pathlib.Path], folder: pathlib.Path, given
     return Ended(program.returncode, told or b"", said)
 
 
+def fault_line(err: bytes) -> str:
+    """The line of a fault on standard error. Lines behind it begin with two spaces and say what to look at."""
+    first, *behind = err.decode().split("\n")
+    if any(line and not line.startswith("  ") for line in behind):
+        raise Wrong(f"wanted lines that begin with two spaces behind a fault's line\ngot    {shown(err)}")
+    return first
+
+
 def action(name: str = "a", **more: object) -> dict[str, object]:
     """An action of the worker `t`, with the flag file `f` and the output `o`; what is given stands in place of that."""
     base = {"name": name, "mnemonic": "T", "argv": ["t", "@f"], "inputs": ["f"], "outputs": ["o"]}

@@ -9,7 +9,7 @@ from collections.abc import Iterator, Mapping, Sequence
 
 import play
 import wire
-from play import Case, Programs, action, compare, exchange, heard, report, supports
+from play import Case, Programs, action, compare, exchange, fault_line, heard, report, supports
 
 LOCAL = "ok local local=won remote=unused"
 
@@ -75,8 +75,8 @@ def expanded(words: list[str], wanted: list[str] | str) -> Case:
         one = action(argv=["t", *words], inputs=list(FILES), outputs=[])
         ended = exchange(programs, folder, [one], files=FILES, t=[[["hear", 1], ["give", "00"]]])
         if isinstance(wanted, str):
-            line = f"worker_tool: flag file refused: {wanted} action 0\n".encode()
-            compare(words, (4, b"", line), (ended.status, ended.out, ended.err))
+            line = f"worker_tool: flag file refused: {wanted} action 0"
+            compare(words, (4, b"", line), (ended.status, ended.out, fault_line(ended.err)))
             return
         inputs = [(path.encode(), digest(content)) for path, content in FILES.items()]
         given = wire.framed(wire.request(0, [word.encode() for word in wanted], inputs))
@@ -90,8 +90,8 @@ def too_many_words(programs: Programs, folder: pathlib.Path) -> None:
         one = action(argv=["t", "@w"], inputs=["w"], outputs=[])
         place = folder / str(count)
         ended = exchange(programs, place, [one], files={"w": b"\n" * count}, t=[[["hear", 1], ["give", "00"]]])
-        wanted = b"" if status == 0 else b"worker_tool: flag file refused: TooManyWords action 0\n"
-        compare(f"{count} words", (status, wanted), (ended.status, ended.err))
+        wanted = "" if status == 0 else "worker_tool: flag file refused: TooManyWords action 0"
+        compare(f"{count} words", (status, wanted), (ended.status, fault_line(ended.err)))
 
 
 def chain(programs: Programs, folder: pathlib.Path) -> None:

@@ -7,7 +7,7 @@ from collections.abc import Iterator
 
 import play
 import wire
-from play import Case, Programs, action, compare, exchange, heard, report, run, supports
+from play import Case, Programs, action, compare, exchange, fault_line, heard, report, run
 
 ACCEPTED = {
     "l.json": "l.json", "l": "l", "--instances=1 l": "l", "l --instances=48": "l", "--remote=1 l --retries=0": "l",
@@ -33,7 +33,7 @@ def accepted(words: str, path: str) -> Case:
     """Words that name a list which isn't there: that it is looked for shows that they are accepted."""
     def played(programs: Programs, folder: pathlib.Path) -> None:
         ended = run([programs.worker_tool, *words.split()], folder)
-        compare(words, (5, b"", f"worker_tool: not there: {path}\n".encode()), (ended.status, ended.out, ended.err))
+        compare(words, (5, b"", f"worker_tool: not there: {path}"), (ended.status, ended.out, fault_line(ended.err)))
     return Case(f"accepted: {words}", played)
 
 
@@ -41,11 +41,10 @@ def refused(words: list[str]) -> Case:
     """Words that aren't accepted. Behind the fault's line stands the usage, which has each option."""
     def played(programs: Programs, folder: pathlib.Path) -> None:
         ended = run([programs.worker_tool, *words], folder)
-        first, usage = ended.err.split(b"\n", 1)
-        compare(words, (2, b"", b"worker_tool: words are not accepted"), (ended.status, ended.out, first))
+        compare(words, (2, b"", "worker_tool: words are not accepted"), (ended.status, ended.out, fault_line(ended.err)))
         options = [b"--instances=", b"--remote=", b"--retries=", b"--executor=", b"--extra_flag=", b"--worker_verbose",
                    b"--generate="]
-        compare(words, options, [it for it in options if it in usage])
+        compare(words, options, [it for it in options if it in ended.err])
     return Case(f"refused: {words}", played)
 
 
@@ -68,7 +67,7 @@ def fault(name: str, words: list[str], status: int, line: str, files: dict[str, 
         finally:
             if out is not None:
                 os.close(out)
-        compare(words, (status, b"", line.encode()), (ended.status, ended.out, ended.err.split(b"\n")[0]))
+        compare(words, (status, b"", line), (ended.status, ended.out, fault_line(ended.err)))
     return Case(name, played)
 
 
