@@ -65,6 +65,8 @@ def once() -> Iterator[Row]:
     yield Row(f"--in=a --in={LONG} --in=gone --out=o", 1, f"cannot read: {LONG}".encode(), {"o": None})
     yield Row("--exit=7 --in=a --out=p --out=d", 1, b"cannot write: d", {"p": None}, files={**FILES, "d/x": b""})
     yield Row("--in=d --out=o", 1, b"missing: d", {"o": None}, files={"d/x": b""})
+    yield Row("--in=a/b --out=o", 1, b"missing: a/b", {"o": None})
+    yield Row(f"--in=a --out={LONG}", 1, f"cannot write: {LONG}".encode())
 
 
 def flag_files() -> Iterator[Row]:
@@ -228,6 +230,17 @@ def failing_output(programs: Programs, folder: pathlib.Path) -> None:
     compare("what was done", (b"one\n", None), (found(folder, "o"), found(folder, "p")))
 
 
+def links(programs: Programs, folder: pathlib.Path) -> None:
+    """A link is no file, and one that stands at an output is replaced."""
+    fill(folder, FILES)
+    (folder / "link").symlink_to("a")
+    ended = run([programs.demo_tool, "--in=link", "--out=o"], folder)
+    compare("an input that is a link", (1, b"missing: link", None), (ended.status, ended.out, found(folder, "o")))
+    ended = run([programs.demo_tool, "--in=b", "--out=link"], folder)
+    left = ((folder / "link").is_symlink(), found(folder, "link"), found(folder, "a"))
+    compare("an output that is a link", (0, (False, b"two\n", b"one\n")), (ended.status, left))
+
+
 def odd_word(programs: Programs, folder: pathlib.Path) -> None:
     """A word that isn't UTF-8."""
     ended = run([programs.demo_tool, b"\xff"], folder)
@@ -237,5 +250,5 @@ def odd_word(programs: Programs, folder: pathlib.Path) -> None:
 def cases() -> Iterator[Case]:
     for rows in [once, flag_files, requests, faulty_requests, lines, vectors]:
         yield from map(played, rows())
-    for case in [failing_input, failing_output, odd_word]:
+    for case in [failing_input, failing_output, links, odd_word]:
         yield Case(f"demo: {case.__name__.replace('_', ' ')}", case)
