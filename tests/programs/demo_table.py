@@ -1,6 +1,7 @@
 """demo_tool as a command and as a worker: what it puts, how it ends, and what stands at its paths afterwards."""
 from __future__ import annotations
 
+import base64
 import dataclasses
 import json
 import os
@@ -143,9 +144,10 @@ def lines() -> Iterator[Row]:
               [line(cancel=True, requestId=1, arguments=["--in=a"])
                + line(arguments=["--exit=0"], requestId=None, verbosity=10, inputs=[{"path": "a", "digest": "YWJj"}], later=[1])
                + json.dumps({"arguments": ['--in=q"\u00e9\x1f\U0001f600', "--out=o"], "requestId": "-2", "sandboxDir": "s"}).encode() + b"\n"])
+    digest = base64.b64encode(bytes(range(256))).decode()
     good = [
         {"arguments": ["abc"], "inputs": [{"path": "f", "digest": "YWJj"}], "requestId": 7, "verbosity": 10},
-        {"arguments": ["--a=\u00fc", "", "@@x"], "inputs": [{"path": "a/b", "digest": "AAEC"}, {"path": "", "digest": ""}],
+        {"arguments": ["--a=\u00fc", "", "@@x"], "inputs": [{"path": "a/b", "digest": digest}, {"path": "", "digest": ""}, {"path": "c", "digest": "YWI="}],
          "requestId": 0, "cancel": False, "verbosity": 0, "sandbox_dir": "__sandbox/1"},
         {"inputs": [{"digest": None}], "cancel": None}, {"requestId": 2147483647, "request_id": "x"}, {"requestId": "-2147483648"}, {},
     ]

@@ -5,12 +5,13 @@
 //! |---|---|
 //! | `request BYTES`, `response BYTES`, `job BYTES`, `result BYTES` | the written form of the message, or its fault |
 //! | `list JSON` | how many actions the list has, or `refused` |
+//! | `generated COUNT` | the text of a generated list |
 //! | `key` | the length of a worker key's canonical bytes, and its name |
 //! | `execute BYTES` | the executor's status, and what it put, given these jobs and a shop some of whose calls fail |
 //! | `meanwhile BYTES` | the same with a shop whose runs wait until all jobs have been read |
 //!
 //! Other lines are printed as they are. `tools/wire-vectors` writes the cases of requests and responses, with the written
-//! forms that protoc gives, and `tools/shop-vectors` those of the executor, into `stdin` and `stdout`.
+//! forms that protoc gives, and `tools/shop-vectors` those of generated lists and of the executor, into `stdin` and `stdout`.
 #![tactic(auto)]
 
 mod jobs;
@@ -18,6 +19,7 @@ mod keys;
 mod messages;
 
 use action_list::{ListRefusal, read_list};
+use generated_list::generated_list;
 use plain_values::NoMemory;
 use std::alloc::Global;
 use std::io::{ErrorKind, Read};
@@ -49,6 +51,7 @@ fn told<R: Threads + Wait + Sync>(rt: &R, alloc: Global, line: &str) -> Result<S
         "job" => messages::job(alloc, rest),
         "result" => messages::result(alloc, rest),
         "list" => list(alloc, rest),
+        "generated" => generated(alloc, rest),
         "key" => keys::key(alloc),
         "execute" => jobs::one_after_another(rt, alloc, rest),
         "meanwhile" => jobs::meanwhile(rt, alloc, rest),
@@ -61,5 +64,13 @@ fn list(alloc: Global, json: &str) -> Result<String, NoMemory> {
         Ok(list) => Ok(format!(in alloc; "{} actions", list.actions.as_slice().len())?),
         Err(ListRefusal::Fault(_)) => Ok(String::from_str(alloc, "refused")?),
         Err(ListRefusal::NoMemory) => Err(NoMemory),
+    }
+}
+
+fn generated(alloc: Global, digits: &str) -> Result<String, NoMemory> {
+    let text = generated_list(alloc, digits.parse::<u32>().unwrap_or(0))?;
+    match str::from_utf8(&text) {
+        Ok(text) => Ok(String::from_str(alloc, text)?),
+        Err(_) => Ok(String::new(alloc)),
     }
 }
