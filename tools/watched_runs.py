@@ -178,9 +178,11 @@ def room_line() -> str:
 
 def worker_lines(worker: Worker) -> Iterator[str]:
     """What a worker did instead of a response, where its words are, and how to do it once more."""
-    for note in worker.since_last_response():
+    notes = worker.since_last_response()
+    was_ended = any(note["what"] == "limit" for note in notes)
+    for note in notes:
         line = note_line(note)
-        if line:
+        if line and not (was_ended and note["what"] == "end"):
             yield line
     error_file = worker.base + ".err"
     if os.path.exists(error_file) and os.path.getsize(error_file):
@@ -195,7 +197,8 @@ def note_line(note: Note) -> str | None:
         status = note["status"]
         return f"it ended with status {status}" if status >= 0 else f"it was ended by signal {-status}"
     if what == "limit":
-        wrote = "what it wrote is no whole response" if note["wrote"] else "it wrote nothing: is its output flushed?"
+        wrote = "what it wrote is no whole response" if note["wrote"] else \
+            "it wrote nothing: does it flush its output, and does it read the protocol that the list asks for?"
         return f"it owed a response for longer than the limit; {wrote}"
     if what == "closed":
         return "it closed its standard output and ran on"
