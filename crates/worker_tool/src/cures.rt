@@ -1,0 +1,80 @@
+// What else to look at where a list, a flag file or a path is at fault. The list is read once more for it, since a fault
+// has the number of its action alone.
+use fault_cures::{flag_lines, list_lines, path_lines};
+use outside::{Floor, Read};
+use plain_values::{Blob, NoMemory};
+use std::alloc::Global;
+use std::env::{self, Env};
+use std::fs;
+use std::rt::Files;
+use tool_words::read_words;
+use worker_run::RunFault;
+
+/// The lines, each behind two spaces; none where there is nothing to add.
+///
+/// # Errors
+///
+/// `NoMemory` where the list, its values or the lines find no memory.
+pub fn lines<R: Env + Files + AllocGlobal>(
+    rt: &R,
+    alloc: Global,
+    words: &[String],
+    floor: &mut impl Floor,
+    fault: &RunFault,
+) -> Result<String, NoMemory> {
+    let mut lines = match list_bytes(alloc, words, floor)? {
+        Some(list) => list_lines_of(alloc, list.bytes(), fault)?,
+        None => String::new(alloc),
+    };
+    if let RunFault::Absent { path } = fault {
+        lines.push_str(folder_line(rt, alloc, path.as_str())?.as_str())?;
+    }
+    Ok(lines)
+}
+
+// The bytes of the list, if it is still there.
+fn list_bytes(
+    alloc: Global,
+    words: &[String],
+    floor: &mut impl Floor,
+) -> Result<Option<Blob>, NoMemory> {
+    let Some(options) = read_words(alloc, words)? else {
+        return Ok(None);
+    };
+    let Some(path) = options.list.as_ref().map(|path| path.as_str()) else {
+        return Ok(None);
+    };
+    match floor.read(path)? {
+        Read::Found(bytes) => Ok(Some(bytes)),
+        Read::Absent | Read::Failed => Ok(None),
+    }
+}
+
+fn list_lines_of(alloc: Global, list: &[u8], fault: &RunFault) -> Result<String, NoMemory> {
+    match fault {
+        RunFault::List(fault) => list_lines(alloc, list, fault),
+        RunFault::Flags { action, fault } => flag_lines(alloc, list, *action, fault),
+        RunFault::Absent { path } | RunFault::FloorFailed { path } => {
+            path_lines(alloc, list, path.as_str())
+        }
+        RunFault::Words | RunFault::NoMemory(_) | RunFault::SinkFailed => Ok(String::new(alloc)),
+    }
+}
+
+// Where a path was looked for, or what stands there.
+fn folder_line<R: Env + Files + AllocGlobal>(
+    rt: &R,
+    alloc: Global,
+    path: &str,
+) -> Result<String, NoMemory> {
+    if let Ok(found) = fs::metadata(rt, path) {
+        let what = if found.is_dir() { "a folder" } else { "no regular file" };
+        return Ok(format!(in alloc; "  {what} stands there, and a file is wanted\n")?);
+    }
+    match env::current_dir(rt) {
+        Ok(folder) => Ok(format!(in alloc;
+            "  it was looked for in {}\n", folder.as_path().to_string_lossy()
+        )?),
+        Err(_) => Ok(String::new(alloc)),
+    }
+}
