@@ -59,7 +59,17 @@ def is_watched(action: Any) -> bool:
     argv = action.get("argv")
     if not isinstance(argv, list) or not argv or not isinstance(argv[0], str) or not argv[0]:
         return False
-    return isinstance(action.get("requirements", {}), dict) and program_trouble(argv[0]) is None
+    return isinstance(action.get("requirements", {}), dict) and start_trouble(argv[0]) is None
+
+
+def start_trouble(program: str) -> str | None:
+    """Why a worker's program can't be started, seen from the folder of the start and from a room."""
+    trouble = program_trouble(program)
+    if trouble or program.startswith("/") or not os.path.islink(".worker_rooms"):
+        return trouble
+    rooms = os.path.realpath(".worker_rooms")
+    seen = program_trouble(os.path.join(os.path.dirname(rooms), program))
+    return f"seen from {rooms}/0, to which .worker_rooms leads: {seen}; give its whole path" if seen else None
 
 
 def watched_action(action: Any, folder: str, limit: float) -> Any:
@@ -117,7 +127,8 @@ class Explained:
             return
         if cause == "launch":
             program = action["argv"][0] if branch == "local" else self.executor
-            yield program_trouble(program) or f"{program}: the system refused to start it"
+            trouble = start_trouble(program) if branch == "local" else program_trouble(program)
+            yield trouble or f"{program}: the system refused to start it"
         elif cause == "room":
             yield room_line()
         elif cause == "refused":
@@ -181,7 +192,7 @@ def worker_lines(worker: Worker) -> Iterator[str]:
     notes = worker.since_last_response()
     was_ended = any(note["what"] == "limit" for note in notes)
     for note in notes:
-        line = note_line(note)
+        line = note_line(note, worker.notes[0]["json"])
         if line and not (was_ended and note["what"] == "end"):
             yield line
     error_file = worker.base + ".err"
@@ -190,7 +201,7 @@ def worker_lines(worker: Worker) -> Iterator[str]:
     yield f"once more, by hand: {worker.rerun()}"
 
 
-def note_line(note: Note) -> str | None:
+def note_line(note: Note, asked_in_json: bool) -> str | None:
     """What a note tells of a worker that gave no response."""
     what = note["what"]
     if what == "end":
@@ -205,17 +216,18 @@ def note_line(note: Note) -> str | None:
     if what == "response" and not note["asked"]:
         return f"it answered request {note['id']}, which wasn't open"
     if what == "text":
-        return f"on its standard output, where only responses belong, it wrote {note['text']!r}{text_hint(note['text'])}"
+        return f"on its standard output, where only responses belong, it wrote {note['text']}; {text_hint(note, asked_in_json)}"
     return None
 
 
-def text_hint(text: str) -> str:
-    """What such a text mostly is."""
-    if text.startswith("{"):
-        return '; a response in JSON is one line, and the list asks for it by "requires-worker-protocol": "json"'
-    if text.isprintable() or text.strip().isprintable():
-        return "; what a worker has to say goes to standard error"
-    return '; a list that asks for JSON has "requires-worker-protocol": "json"'
+def text_hint(note: Note, asked_in_json: bool) -> str:
+    """What a text that is no response mostly is."""
+    if note["text"].startswith("'{"):
+        return "a response in JSON is one line with a line feed at its end" if asked_in_json else \
+            'that is JSON, for which the list asks by "requires-worker-protocol": "json"'
+    if note["printable"]:
+        return "what a worker has to say goes to standard error"
+    return "the list asks for JSON; is that protobuf?" if asked_in_json else "that spells no response"
 
 
 @dataclasses.dataclass

@@ -62,7 +62,8 @@ def number_bytes(number: int) -> bytes:
 def fields(message: bytes) -> Iterator[tuple[int, int | bytes]]:
     """Each field of a message: its number, and its value or its bytes."""
     stream = io.BytesIO(message)
-    while (tag := read_number(stream)) is not None:
+    while stream.tell() < len(message):
+        tag = whole(read_number(stream))
         kind = tag & 7
         if kind == WHOLE:
             yield tag >> 3, whole(read_number(stream))
