@@ -72,7 +72,13 @@ pub fn add_keys(
 ) -> Result<(), NoMemory> {
     for (key, _) in members.iter() {
         if !is_known(key.as_str(), known) {
-            add_key(alloc, page, place, key.as_str(), nearest(key.as_str(), known))?;
+            add_key(
+                alloc,
+                page,
+                place,
+                key.as_str(),
+                nearest(key.as_str(), known),
+            )?;
         }
     }
     Ok(())

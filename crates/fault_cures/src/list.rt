@@ -172,7 +172,11 @@ fn add_flag_file(
 ) -> Result<(), NoMemory> {
     let number = listed.number;
     let word = format!(in alloc; "@{path}")?;
-    let named = if listed.has("argv", word.as_str()) { "argv" } else { "a flag file" };
+    let named = if listed.has("argv", word.as_str()) {
+        "argv"
+    } else {
+        "a flag file"
+    };
     let line = if listed.has("inputs", path) {
         format!(in alloc;
             "actions[{number}]: {named} names it by @{path}, and an action makes it: a flag file is a source"

@@ -19,7 +19,9 @@ pub fn path_lines(alloc: Global, bytes: &[u8], path: &str) -> Result<String, NoM
     {
         let number = listed.number;
         let name = listed.text("name").unwrap_or("");
-        let line = format!(in alloc; "actions[{number}].{key} has it; the action's name is {name:?}")?;
+        let line = format!(in alloc;
+            "actions[{number}].{key} has it; the action's name is {name:?}"
+        )?;
         page.add(line.as_str())?;
         listed.add_unknown(alloc, &mut page)?;
     }

@@ -68,12 +68,17 @@ fn folder_line<R: Env + Files + AllocGlobal>(
     path: &str,
 ) -> Result<String, NoMemory> {
     if let Ok(found) = fs::metadata(rt, path) {
-        let what = if found.is_dir() { "a folder" } else { "no regular file" };
+        let what = if found.is_dir() {
+            "a folder"
+        } else {
+            "no regular file"
+        };
         return Ok(format!(in alloc; "  {what} stands there, and a file is wanted\n")?);
     }
     match env::current_dir(rt) {
         Ok(folder) => Ok(format!(in alloc;
-            "  it was looked for in {}\n", folder.as_path().to_string_lossy()
+            "  it was looked for in {}\n",
+            folder.as_path().to_string_lossy()
         )?),
         Err(_) => Ok(String::new(alloc)),
     }
