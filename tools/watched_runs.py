@@ -59,17 +59,7 @@ def is_watched(action: Any) -> bool:
     argv = action.get("argv")
     if not isinstance(argv, list) or not argv or not isinstance(argv[0], str) or not argv[0]:
         return False
-    return isinstance(action.get("requirements", {}), dict) and start_trouble(argv[0]) is None
-
-
-def start_trouble(program: str) -> str | None:
-    """Why a worker's program can't be started, seen from the folder of the start and from a room."""
-    trouble = program_trouble(program)
-    if trouble or program.startswith("/") or not os.path.islink(".worker_rooms"):
-        return trouble
-    rooms = os.path.realpath(".worker_rooms")
-    seen = program_trouble(os.path.join(os.path.dirname(rooms), program))
-    return f"seen from {rooms}/0, to which .worker_rooms leads: {seen}; give its whole path" if seen else None
+    return isinstance(action.get("requirements", {}), dict) and program_trouble(argv[0]) is None
 
 
 def watched_action(action: Any, folder: str, limit: float) -> Any:
@@ -78,16 +68,14 @@ def watched_action(action: Any, folder: str, limit: float) -> Any:
         return action
     program, *words = action["argv"]
     form = action.get("requirements", {}).get("requires-worker-protocol", "proto")
-    start = program if program.startswith("/") else "../../" + program
     watcher = [sys.executable, WATCHER, folder, "json" if form == "json" else "proto", f"{limit:g}"]
-    return {**action, "argv": [*watcher, start, *words]}
+    return {**action, "argv": [*watcher, os.path.abspath(program), *words]}
 
 
 def start_words(action: Action) -> tuple[str, ...]:
     """The words by which an action's worker is started, but for further flags of the command line."""
     program, *words = action["argv"]
-    start = program if program.startswith("/") else "../../" + program
-    return (start, *(word for word in words if not FLAG_WORD.match(word)), "--persistent_worker")
+    return (os.path.abspath(program), *(word for word in words if not FLAG_WORD.match(word)), "--persistent_worker")
 
 
 def read_workers(folder: str) -> list[Worker]:
@@ -127,8 +115,7 @@ class Explained:
             return
         if cause == "launch":
             program = action["argv"][0] if branch == "local" else self.executor
-            trouble = start_trouble(program) if branch == "local" else program_trouble(program)
-            yield trouble or f"{program}: the system refused to start it"
+            yield program_trouble(program) or f"{program}: the system refused to start it"
         elif cause == "room":
             yield room_line()
         elif cause == "refused":

@@ -44,7 +44,7 @@ impl<'a> Listed<'a> {
             return Ok(());
         };
         let line = format!(in alloc; "actions[{number}] has the name {name:?}")?;
-        page.add(line.as_str())
+        page.add(alloc, line.as_str())
     }
 
     /// Adds a line for each key that means nothing, and for each requirement that is like a known one.
@@ -113,5 +113,5 @@ fn add_key(
         )?,
         None => format!(in alloc; "{place} has the key {key:?}, which means nothing here")?,
     };
-    page.add(line.as_str())
+    page.add(alloc, line.as_str())
 }

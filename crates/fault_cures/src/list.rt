@@ -16,7 +16,7 @@ use std::alloc::Global;
 pub fn list_lines(alloc: Global, bytes: &[u8], fault: &ListFault) -> Result<String, NoMemory> {
     let mut page = Page::new(alloc);
     let Ok(text) = str::from_utf8(bytes) else {
-        page.add("it isn't text: some of its bytes aren't UTF-8")?;
+        page.add(alloc, "it isn't text: some of its bytes aren't UTF-8")?;
         return Ok(page.text());
     };
     match Value::from_str(alloc, text) {
@@ -60,14 +60,13 @@ pub fn value_of(alloc: Global, bytes: &[u8]) -> Option<Value> {
 
 // Where a text stops being JSON.
 fn add_place(alloc: Global, page: &mut Page, text: &str, error: &Error) -> Result<(), NoMemory> {
-    let (line, column) = (error.line(), error.column());
     if text.is_empty() {
-        page.add("it is empty")?;
+        page.add(alloc, "it is empty")?;
     } else if text.starts_with("\u{feff}") {
-        page.add("it begins with a byte order mark: save it as UTF-8 without one")?;
-    } else if 0 < line {
-        let line = format!(in alloc; "line {line}, column {column}: {error}")?;
-        page.add(line.as_str())?;
+        page.add(alloc, "it begins with a byte order mark: save it as UTF-8 without one")?;
+    } else {
+        let line = format!(in alloc; "{error}")?;
+        page.add(alloc, line.as_str())?;
     }
     Ok(())
 }
@@ -92,7 +91,7 @@ fn add_fault(
 fn add_top(alloc: Global, page: &mut Page, top: &Value) -> Result<(), NoMemory> {
     match top.as_object() {
         Some(members) => add_keys(alloc, page, "the whole text", members, &OF_LIST),
-        None => page.add("the whole text isn't an object, as {\"actions\": [..]} is"),
+        None => page.add(alloc, "the whole text isn't an object, as {\"actions\": [..]} is"),
     }
 }
 
@@ -118,7 +117,7 @@ fn add_strategy(alloc: Global, page: &mut Page, listed: &Listed) -> Result<(), N
         let line = format!(in alloc;
             "actions[{number}].strategy: {strategy:?} is none of worker, remote and dynamic"
         )?;
-        return page.add(line.as_str());
+        return page.add(alloc, line.as_str());
     }
     let line = match listed.requirement("supports-workers") {
         None => format!(in alloc;
@@ -128,7 +127,7 @@ fn add_strategy(alloc: Global, page: &mut Page, listed: &Listed) -> Result<(), N
             "actions[{number}].requirements: \"supports-workers\" has another text than \"1\", which {strategy} needs"
         )?,
     };
-    page.add(line.as_str())
+    page.add(alloc, line.as_str())
 }
 
 // Which key has the path.
@@ -142,7 +141,7 @@ fn add_path_key(
     for key in ["tools", "inputs", "outputs"] {
         if listed.has(key, path) {
             let line = format!(in alloc; "actions[{number}].{key} has this path")?;
-            return page.add(line.as_str());
+            return page.add(alloc, line.as_str());
         }
     }
     Ok(())
@@ -161,7 +160,7 @@ fn add_kind(alloc: Global, page: &mut Page, listed: &Listed, key: Key) -> Result
     };
     let number = listed.number;
     let line = format!(in alloc; "actions[{number}]{key}: {kind} may stand there")?;
-    page.add(line.as_str())
+    page.add(alloc, line.as_str())
 }
 
 fn add_flag_file(
@@ -172,21 +171,22 @@ fn add_flag_file(
 ) -> Result<(), NoMemory> {
     let number = listed.number;
     let word = format!(in alloc; "@{path}")?;
-    let named = if listed.has("argv", word.as_str()) {
+    let word = word.as_str();
+    let named = if listed.has("argv", word) {
         "argv"
     } else {
         "a flag file"
     };
     let line = if listed.has("inputs", path) {
         format!(in alloc;
-            "actions[{number}]: {named} names it by @{path}, and an action makes it: a flag file is a source"
+            "actions[{number}]: {named} names it by {word:?}, and an action makes it: a flag file is a source"
         )?
     } else {
         format!(in alloc;
-            "actions[{number}]: {named} names it by @{path}, and the inputs haven't got {path:?}"
+            "actions[{number}]: {named} names it by {word:?}, and the inputs haven't got {path:?}"
         )?
     };
-    page.add(line.as_str())
+    page.add(alloc, line.as_str())
 }
 
 // The number of the action, if the fault is one of an action.

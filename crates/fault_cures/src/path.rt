@@ -22,7 +22,7 @@ pub fn path_lines(alloc: Global, bytes: &[u8], path: &str) -> Result<String, NoM
         let line = format!(in alloc;
             "actions[{number}].{key} has it; the action's name is {name:?}"
         )?;
-        page.add(line.as_str())?;
+        page.add(alloc, line.as_str())?;
         listed.add_unknown(alloc, &mut page)?;
     }
     Ok(page.text())

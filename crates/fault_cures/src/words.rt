@@ -4,20 +4,25 @@ use plain_values::NoMemory;
 use std::alloc::Global;
 use tool_words::read_words;
 
-/// The lines behind words that aren't accepted together. No line where each is accepted by itself, and where there are
-/// none.
+/// The lines behind words that aren't accepted: each that isn't by itself, or that they aren't together. No line where there
+/// are none.
 ///
 /// # Errors
 ///
 /// `NoMemory` where the words or the lines find no memory.
 pub fn word_lines(alloc: Global, words: &[String]) -> Result<String, NoMemory> {
     let mut page = Page::new(alloc);
+    let mut is_told = words.is_empty();
     for word in words {
-        if !is_accepted(alloc, word.as_str())? {
-            let word = word.as_str();
-            let line = format!(in alloc; "this word isn't accepted: {word}")?;
-            page.add(line.as_str())?;
+        let word = word.as_str();
+        if !is_accepted(alloc, word)? {
+            let line = format!(in alloc; "this word isn't accepted: {word:?}")?;
+            page.add(alloc, line.as_str())?;
+            is_told = true;
         }
+    }
+    if !is_told {
+        page.add(alloc, "there is one list or one --generate, and every option but --extra_flag stands once at most")?;
     }
     Ok(page.text())
 }

@@ -10,6 +10,9 @@ use std::rt::Files;
 use tool_words::read_words;
 use worker_run::RunFault;
 
+// The folder of all rooms.
+const ROOMS: &str = ".worker_rooms";
+
 /// The lines, each behind two spaces; none where there is nothing to add.
 ///
 /// # Errors
@@ -26,8 +29,14 @@ pub fn lines<R: Env + Files + AllocGlobal>(
         Some(list) => list_lines_of(alloc, list.bytes(), fault)?,
         None => String::new(alloc),
     };
-    if let RunFault::Absent { path } = fault {
-        lines.push_str(folder_line(rt, alloc, path.as_str())?.as_str())?;
+    match fault {
+        RunFault::Absent { path } => {
+            lines.push_str(folder_line(rt, alloc, path.as_str())?.as_str())?;
+        }
+        RunFault::FloorFailed { .. } if is_no_folder(rt, ROOMS) => {
+            lines.push_str("  .worker_rooms is no folder, so no run can be at work here\n")?;
+        }
+        _ => {}
     }
     Ok(lines)
 }
@@ -61,6 +70,14 @@ fn list_lines_of(alloc: Global, list: &[u8], fault: &RunFault) -> Result<String,
     }
 }
 
+// Whether something else than a folder stands at a path.
+fn is_no_folder(rt: &impl Files, path: &str) -> bool {
+    match fs::metadata(rt, path) {
+        Ok(found) => !found.is_dir(),
+        Err(_) => false,
+    }
+}
+
 // Where a path was looked for, or what stands there.
 fn folder_line<R: Env + Files + AllocGlobal>(
     rt: &R,
@@ -77,7 +94,7 @@ fn folder_line<R: Env + Files + AllocGlobal>(
     }
     match env::current_dir(rt) {
         Ok(folder) => Ok(format!(in alloc;
-            "  it was looked for in {}\n",
+            "  it was looked for in {:?}\n",
             folder.as_path().to_string_lossy()
         )?),
         Err(_) => Ok(String::new(alloc)),

@@ -1,0 +1,19 @@
+-- A text of lines with one line more.
+use Rattle.std.proofs.Common.{◌≡◌, ℕ, List, [], ◌∷◌, ◌++◌, ◌∙◌, All, ap, sym}
+use Rattle.std.specs.List.{flat_map}
+use Rattle.std.proofs.Math.Logic.{∥∥₁_map}
+use Rattle.std.proofs.lemmas.Grind.{flat_map-append}
+use Rattle.std.proofs.lemmas.List.{append-nil}
+use Rattle.std.proofs.lemmas.List.Elements.{All-append, All-cons, All-nil}
+use Rattle.fault_cures.specs.Lines.{AreBehind, AreLinesOf, IsOneLine, printed}
+
+pub AreLinesOf-append : (text line : List ℕ) (lines : List (List ℕ)) → AreLinesOf text lines → IsOneLine line
+    → AreLinesOf (text ++ printed line) (lines ++ line ∷ [])
+AreLinesOf-append text line lines old clean = (
+    All-append IsOneLine lines (line ∷ []) old.0 (All-cons IsOneLine line [] clean (All-nil IsOneLine)),
+    ap (λ t. t ++ printed line) old.1 ∙ sym (flat_map-append printed lines (line ∷ [])
+        ∙ ap (λ t. flat_map printed lines ++ t) (append-nil (printed line))))
+
+pub AreBehind-append : (text line : List ℕ) → AreBehind text → IsOneLine line → AreBehind (text ++ printed line)
+AreBehind-append text line old clean =
+    ∥∥₁_map old (λ found. (found.0 ++ line ∷ [], AreLinesOf-append text line found.0 found.1 clean))
