@@ -1,5 +1,6 @@
 -- A text of lines with one line more.
-use Rattle.std.proofs.Common.{◌≡◌, ℕ, List, [], ◌∷◌, ◌++◌, ◌∙◌, All, ap, sym}
+use Rattle.std.proofs.Common.{◌≡◌, ℕ, Bool, true, false, List, [], ◌∷◌, ◌++◌, ◌∙◌, All, ap, subst, sym}
+use Rattle.std.specs.Prelude.{if◌then◌else◌}
 use Rattle.std.specs.List.{flat_map}
 use Rattle.std.proofs.Math.Logic.{∥∥₁_map}
 use Rattle.std.proofs.lemmas.Grind.{flat_map-append}
@@ -17,3 +18,10 @@ AreLinesOf-append text line lines old clean = (
 pub AreBehind-append : (text line : List ℕ) → AreBehind text → IsOneLine line → AreBehind (text ++ printed line)
 AreBehind-append text line old clean =
     ∥∥₁_map old (λ found. (found.0 ++ line ∷ [], AreLinesOf-append text line found.0 found.1 clean))
+
+-- a line was pushed, or there was no memory for it
+pub AreBehind-pushed : (before after line text : List ℕ) (ok : Bool) → AreBehind before → IsOneLine line → text ≡ printed line
+    → after ≡ (if ok then before ++ text else before) → AreBehind after
+AreBehind-pushed before after line text true old clean is pushed =
+    subst AreBehind (sym (pushed ∙ ap (λ t. before ++ t) is)) (AreBehind-append before line old clean)
+AreBehind-pushed before after line text false old clean is pushed = subst AreBehind (sym pushed) old
