@@ -11,9 +11,10 @@ use Rattle.fault_cures.specs.Lines.{AreBehind, AreLinesOf, IsOneLine, printed}
 pub AreLinesOf-append : (text line : List ℕ) (lines : List (List ℕ)) → AreLinesOf text lines → IsOneLine line
     → AreLinesOf (text ++ printed line) (lines ++ line ∷ [])
 AreLinesOf-append text line lines old clean = (
-    All-append IsOneLine lines (line ∷ []) old.0 (All-cons IsOneLine line [] clean (All-nil IsOneLine)),
-    ap (λ t. t ++ printed line) old.1 ∙ sym (flat_map-append printed lines (line ∷ [])
-        ∙ ap (λ t. flat_map printed lines ++ t) (append-nil (printed line))))
+  All-append IsOneLine lines (line ∷ []) old.0 (All-cons IsOneLine line [] clean (All-nil IsOneLine)),
+  ap (λ t. t ++ printed line) old.1 ∙ sym (flat_map-append printed lines (line ∷ [])
+      ∙ ap (λ t. flat_map printed lines ++ t) (append-nil (printed line))),
+)
 
 pub AreBehind-append : (text line : List ℕ) → AreBehind text → IsOneLine line → AreBehind (text ++ printed line)
 AreBehind-append text line old clean =

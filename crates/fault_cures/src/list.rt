@@ -1,4 +1,7 @@
 // What to look at in a list that is refused, or whose flag files are.
+ghost use Rattle.std.specs.Prelude.{IfOk, string_bytes};
+ghost use Rattle.fault_cures.specs.Lines.{AreBehind};
+
 use crate::action::{Listed, add_keys};
 use crate::keys::{OF_LIST, STRATEGIES, is_known};
 use crate::page::Page;
@@ -13,7 +16,9 @@ use std::alloc::Global;
 /// # Errors
 ///
 /// `NoMemory` where the list's values or the lines find no memory.
-pub fn list_lines(alloc: Global, bytes: &[u8], fault: &ListFault) -> Result<String, NoMemory> {
+pub fn list_lines(alloc: Global, bytes: &[u8], fault: &ListFault) -> Result<String, NoMemory>
+    ensures { IfOk result (λ lines. AreBehind (string_bytes lines)) }
+{
     let mut page = Page::new(alloc);
     let Ok(text) = str::from_utf8(bytes) else {
         page.add(alloc, "it isn't text: some of its bytes aren't UTF-8")?;
@@ -36,7 +41,9 @@ pub fn flag_lines(
     bytes: &[u8],
     action: u32,
     fault: &FlagFault,
-) -> Result<String, NoMemory> {
+) -> Result<String, NoMemory>
+    ensures { IfOk result (λ lines. AreBehind (string_bytes lines)) }
+{
     let mut page = Page::new(alloc);
     if let Some(top) = value_of(alloc, bytes)
         && let Some(listed) = Listed::of(&top, action)
@@ -63,7 +70,10 @@ fn add_place(alloc: Global, page: &mut Page, text: &str, error: &Error) -> Resul
     if text.is_empty() {
         page.add(alloc, "it is empty")?;
     } else if text.starts_with("\u{feff}") {
-        page.add(alloc, "it begins with a byte order mark: save it as UTF-8 without one")?;
+        page.add(
+            alloc,
+            "it begins with a byte order mark: save it as UTF-8 without one",
+        )?;
     } else {
         let line = format!(in alloc; "{error}")?;
         page.add(alloc, line.as_str())?;
@@ -91,7 +101,10 @@ fn add_fault(
 fn add_top(alloc: Global, page: &mut Page, top: &Value) -> Result<(), NoMemory> {
     match top.as_object() {
         Some(members) => add_keys(alloc, page, "the whole text", members, &OF_LIST),
-        None => page.add(alloc, "the whole text isn't an object, as {\"actions\": [..]} is"),
+        None => page.add(
+            alloc,
+            "the whole text isn't an object, as {\"actions\": [..]} is",
+        ),
     }
 }
 

@@ -1,4 +1,7 @@
-// Which action wants the file at a path.
+// Which action wants the file at a path, and what stands there.
+ghost use Rattle.std.specs.Prelude.{IfOk, string_bytes};
+ghost use Rattle.fault_cures.specs.Lines.{AreBehind};
+
 use crate::action::Listed;
 use crate::list::value_of;
 use crate::page::Page;
@@ -12,7 +15,9 @@ use std::alloc::Global;
 /// # Errors
 ///
 /// `NoMemory` where the list's values or the lines find no memory.
-pub fn path_lines(alloc: Global, bytes: &[u8], path: &str) -> Result<String, NoMemory> {
+pub fn path_lines(alloc: Global, bytes: &[u8], path: &str) -> Result<String, NoMemory>
+    ensures { IfOk result (λ lines. AreBehind (string_bytes lines)) }
+{
     let mut page = Page::new(alloc);
     if let Some(top) = value_of(alloc, bytes)
         && let Some((listed, key)) = wanted_by(&top, path)
@@ -24,6 +29,37 @@ pub fn path_lines(alloc: Global, bytes: &[u8], path: &str) -> Result<String, NoM
         )?;
         page.add(alloc, line.as_str())?;
         listed.add_unknown(alloc, &mut page)?;
+    }
+    Ok(page.text())
+}
+
+/// What a look at a path found where a file is wanted.
+#[derive(Clone, Copy)]
+pub enum AtPath<'a> {
+    /// A folder.
+    Folder,
+    /// Neither a folder nor a regular file.
+    Other,
+    /// Nothing, below this folder.
+    NothingIn(&'a str),
+}
+
+/// The line that says what was found.
+///
+/// # Errors
+///
+/// `NoMemory` where the line finds no memory.
+pub fn at_path_line(alloc: Global, found: AtPath<'_>) -> Result<String, NoMemory>
+    ensures { IfOk result (λ lines. AreBehind (string_bytes lines)) }
+{
+    let mut page = Page::new(alloc);
+    match found {
+        AtPath::Folder => page.add(alloc, "a folder stands there, and a file is wanted")?,
+        AtPath::Other => page.add(alloc, "no regular file stands there, and one is wanted")?,
+        AtPath::NothingIn(folder) => {
+            let line = format!(in alloc; "it was looked for in {folder:?}")?;
+            page.add(alloc, line.as_str())?;
+        }
     }
     Ok(page.text())
 }

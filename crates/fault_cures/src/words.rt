@@ -1,4 +1,7 @@
 // Which word of the command isn't accepted.
+ghost use Rattle.std.specs.Prelude.{IfOk, string_bytes};
+ghost use Rattle.fault_cures.specs.Lines.{AreBehind};
+
 use crate::page::Page;
 use plain_values::NoMemory;
 use std::alloc::Global;
@@ -10,7 +13,9 @@ use tool_words::read_words;
 /// # Errors
 ///
 /// `NoMemory` where the words or the lines find no memory.
-pub fn word_lines(alloc: Global, words: &[String]) -> Result<String, NoMemory> {
+pub fn word_lines(alloc: Global, words: &[String]) -> Result<String, NoMemory>
+    ensures { IfOk result (λ lines. AreBehind (string_bytes lines)) }
+{
     let mut page = Page::new(alloc);
     let mut is_told = words.is_empty();
     for word in words {
@@ -22,7 +27,10 @@ pub fn word_lines(alloc: Global, words: &[String]) -> Result<String, NoMemory> {
         }
     }
     if !is_told {
-        page.add(alloc, "there is one list or one --generate, and every option but --extra_flag stands once at most")?;
+        page.add(
+            alloc,
+            "there is one list or one --generate, and every option but --extra_flag stands once at most",
+        )?;
     }
     Ok(page.text())
 }

@@ -1,6 +1,6 @@
 // What else to look at where a list, a flag file or a path is at fault. The list is read once more for it, since a fault
 // has the number of its action alone.
-use fault_cures::{flag_lines, list_lines, path_lines};
+use fault_cures::{AtPath, at_path_line, flag_lines, list_lines, path_lines};
 use outside::{Floor, Read};
 use plain_values::{Blob, NoMemory};
 use std::alloc::Global;
@@ -85,18 +85,15 @@ fn folder_line<R: Env + Files + AllocGlobal>(
     path: &str,
 ) -> Result<String, NoMemory> {
     if let Ok(found) = fs::metadata(rt, path) {
-        let what = if found.is_dir() {
-            "a folder"
+        let found = if found.is_dir() {
+            AtPath::Folder
         } else {
-            "no regular file"
+            AtPath::Other
         };
-        return Ok(format!(in alloc; "  {what} stands there, and a file is wanted\n")?);
+        return at_path_line(alloc, found);
     }
     match env::current_dir(rt) {
-        Ok(folder) => Ok(format!(in alloc;
-            "  it was looked for in {:?}\n",
-            folder.as_path().to_string_lossy()
-        )?),
+        Ok(folder) => at_path_line(alloc, AtPath::NothingIn(folder.as_path().to_string_lossy())),
         Err(_) => Ok(String::new(alloc)),
     }
 }
