@@ -215,6 +215,7 @@ def expansion_faults(words: list[str], sources: set[str], depth: int) -> Iterato
 
 
 def file_expansion_faults(path: str, sources: set[str], depth: int) -> Iterator[str]:
+    """The first fault of a flag file: it isn't text, can't be read, or has a line that is at fault."""
     try:
         with open(path, encoding="utf-8", newline="") as file:
             words = file.read().split("\n")

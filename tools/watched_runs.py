@@ -109,6 +109,7 @@ class Explained:
                     yield from ("  " + line for line in self.branch(action, branch, fate))
 
     def branch(self, action: Action, branch: str, fate: str) -> Iterator[str]:
+        """What can be said of a branch with this fate."""
         kind, cause, *_ = fate.split(":")
         if kind == "spoiled":
             yield spoiled_line(action["outputs"][int(cause)])
