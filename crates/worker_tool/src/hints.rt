@@ -1,10 +1,12 @@
 // What standard error has behind the line of a fault: lines that begin with two spaces and say what to look at.
+use fault_cures::word_lines;
 use plain_values::NoMemory;
 use std::alloc::Global;
 use std::io;
 use worker_run::RunFault;
 
-const USAGE: &str = "  worker_tool LIST                  run the action list at this path
+const USAGE: &str = "  usage: worker_tool [OPTION].. LIST
+  LIST                              the path of the action list that is run
   --instances=N                     at most N workers of one key, 1 to 48 (4)
   --remote=N                        at most N executors, 1 to 16 (1)
   --retries=N                       make an attempt again up to N times, 0 to 9 (1)
@@ -12,20 +14,26 @@ const USAGE: &str = "  worker_tool LIST                  run the action list at 
   --extra_flag=WORD                 a further start-up word of each worker; may stand several times
   --worker_verbose                  ask the workers to say more
   --generate=N                      in place of LIST: a list of N actions, 1 to 1000, in memory
+  more: docs/GUIDE.md
 ";
 
-/// The lines of a fault, each with its line feed; no line where there is nothing to add.
+/// The lines of a fault of a command with these words, each with its line feed; no line where there is nothing to add.
 ///
 /// # Errors
 ///
 /// `NoMemory` where they find no memory.
 pub fn lines(
     alloc: Global,
+    words: &[String],
     fault: &RunFault,
     last_error: Option<&io::Error>,
 ) -> Result<String, NoMemory> {
     match (fault, last_error) {
-        (RunFault::Words, _) => Ok(String::from_str(alloc, USAGE)?),
+        (RunFault::Words, _) => {
+            let mut lines = word_lines(alloc, words)?;
+            lines.push_str(USAGE)?;
+            Ok(lines)
+        }
         (RunFault::List(fault), _) => Ok(format!(in alloc; "  {fault}\n")?),
         (RunFault::FloorFailed { .. }, Some(error)) => Ok(format!(in alloc; "  {error}\n")?),
         _ => Ok(String::new(alloc)),

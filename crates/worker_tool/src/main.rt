@@ -4,8 +4,8 @@
 //! they are asked.
 #![tactic(auto)]
 
+mod cures;
 mod hints;
-mod names;
 mod screen;
 
 use crate::screen::{BehindLine, Screen};
@@ -16,6 +16,7 @@ use std::alloc::Global;
 use std::env::Env;
 use std::io::{Eprint, ErrorKind, IsTerminal, Print};
 use std::process::ExitCode;
+use std::rt::Files;
 use std::sync::Wait;
 use std::thread::Threads;
 use std::time::Clock;
@@ -42,8 +43,8 @@ fn main(rt: HostRuntime) -> ExitCode {
         ..
     } = ended;
     if let Some(fault) = &fault {
-        tell(&rt, alloc, fault, floor.last_error());
-        name_action(&rt, alloc, &words, &mut floor, fault);
+        tell(&rt, alloc, &words, fault, floor.last_error());
+        tell_cures(&rt, alloc, &words, &mut floor, fault);
     }
     ExitCode::from(status)
 }
@@ -61,7 +62,7 @@ fn run_generated<R: Threads + Wait + Clock + Print + Eprint + Copy + Drop + Send
     };
     let Ended { status, fault, .. } = run(rt, alloc, words, floor, on_terminal);
     if let Some(fault) = &fault {
-        tell(&rt, alloc, fault, None);
+        tell(&rt, alloc, words, fault, None);
     }
     ExitCode::from(status)
 }
@@ -142,32 +143,36 @@ fn end_unread(rt: &impl Eprint, alloc: Global, error: &io::Error) -> ExitCode {
 
 // The end of a run that was not begun.
 fn end(rt: &impl Eprint, alloc: Global, fault: &RunFault) -> ExitCode {
-    tell(rt, alloc, fault, None);
+    tell(rt, alloc, &[], fault, None);
     ExitCode::from(fault.status())
 }
 
 // Prints the fault's line and what to look at, as far as there is memory for them.
-fn tell(rt: &impl Eprint, alloc: Global, fault: &RunFault, last_error: Option<&io::Error>) {
+fn tell(
+    rt: &impl Eprint,
+    alloc: Global,
+    words: &[String],
+    fault: &RunFault,
+    last_error: Option<&io::Error>,
+) {
     if let Ok(line) = fault_line(alloc, fault) {
         let _ = rt.eprint(line.as_str());
         let _ = rt.eprint("\n");
     }
-    if let Ok(lines) = hints::lines(alloc, fault, last_error) {
+    if let Ok(lines) = hints::lines(alloc, words, fault, last_error) {
         let _ = rt.eprint(lines.as_str());
     }
 }
 
-// Prints which action of the list is meant, where the fault is the list's and it can be read again.
-fn name_action(
-    rt: &impl Eprint,
+// Prints what else to look at: which action is meant, and what of it.
+fn tell_cures(
+    rt: &(impl Eprint + Env + Files + AllocGlobal),
     alloc: Global,
     words: &[String],
     floor: &mut impl Floor,
     fault: &RunFault,
 ) {
-    if let RunFault::List(fault) = fault
-        && let Ok(line) = names::line(alloc, words, floor, fault)
-    {
-        let _ = rt.eprint(line.as_str());
+    if let Ok(lines) = cures::lines(rt, alloc, words, floor, fault) {
+        let _ = rt.eprint(lines.as_str());
     }
 }
