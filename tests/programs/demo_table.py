@@ -124,7 +124,7 @@ def faulty_requests() -> Iterator[Row]:
     for cut in [b"\x05", b"\x80", next_one[:-1]]:
         yield Row(WORKER, 0, framed_response(1, 2), {"o": None}, [whole + cut])
     # No text, a bad tag, a number that is too long, a cut field, and bad lengths.
-    bad = ["0a01ff", "0b", "18" + "ff" * 10, "0a0561", "00", "07", "08", "18", "120100", "12030a01ff", "3201ff", "180880"[:4] + "80"]
+    bad = ["0a01ff", "0b", "18" + "ff" * 10, "0a0561", "00", "07", "08", "18", "120100", "12030a01ff", "3201ff", "180880"]
     for digits in bad:
         yield Row(WORKER, 4, framed_response(1, 2), {"o": None}, [whole + framed(bytes.fromhex(digits)) + next_one])
     for length in [wire.varint(2**26 + 1), b"\xff" * 10, b"\x80" * 10]:
