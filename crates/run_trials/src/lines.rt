@@ -13,11 +13,11 @@ const FIRST: &str = "ln -s /etc/passwd out; ln -s /etc way; ln -s /etc/passwd ..
     echo \"heard $line, greeting $GREETING, home [$HOME]\"; read line; \
     mv ../3 ../moved; ln -s .. ../3; echo $line; exec cat";
 
-const SECOND: &str =
-    "read pid <../pid; test -e /proc/$pid && echo \"it is there\" || echo \"it is gone\"; \
-    test \"$(readlink /proc/$$/fd/2)\" = \"$(readlink /proc/$PPID/fd/2)\" && echo \"errors go where ours go\" || echo \"errors go elsewhere\"; \
-    printf x >\"$(printf 'x\\351')\"; mkdir -p shut/in; printf x >shut/in/file; chmod 555 shut/in shut; \
-    read line; exec cat";
+const SECOND: &str = "printf x >\"$(printf 'x\\351')\"; mkdir -p shut/in; printf x >shut/in/file; \
+    chmod 555 shut/in shut; read pid <../pid; \
+    test -e /proc/$pid && echo \"it is there\" || echo \"it is gone\"; \
+    test \"$(readlink /proc/$$/fd/2)\" = \"$(readlink /proc/$PPID/fd/2)\" \
+    && echo \"errors go where ours go\" || echo \"errors go elsewhere\"; exec cat";
 
 const THIRD: &str =
     "test -z \"$(ls -A)\" && echo \"nothing is left\" || echo \"something is left\"; exec cat";
@@ -26,8 +26,7 @@ pub fn play<P: Print, B: Berth>(page: &mut Page<'_, P>, alloc: Global, berth: &m
     if let Some((mut feed, mut tap, mut child)) = shell(page, alloc, berth, 0, FIRST) {
         talk(page, berth, &mut feed, &mut tap, &mut child);
     }
-    if let Some((mut feed, mut tap, mut child)) = shell(page, alloc, berth, 1, SECOND) {
-        page.io("feed", &feed.write(b"go on\n"));
+    if let Some((_feed, mut tap, mut child)) = shell(page, alloc, berth, 1, SECOND) {
         take_all(page, &mut tap, 2);
         page.io("clear", &berth.room_clear(""));
         child.kill();

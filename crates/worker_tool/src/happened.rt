@@ -1,5 +1,5 @@
 // What a run's journal says of the branches that came to nothing: how the last attempt of each ended.
-use exec_journal::{Answer, Call, CommitEnd, Entry, Found, HowEnded, Reply, Started, Written};
+use exec_journal::{Call, CommitEnd, Entry, Found, HowEnded, Reply, Started, Written};
 use plain_values::NoMemory;
 use run_plan::Branch;
 use std::alloc::Global;
@@ -31,12 +31,19 @@ pub struct Tried {
     pub branch: Branch,
 }
 
+impl Tried {
+    pub fn of(action: u32, branch: Branch) -> Tried {
+        Tried { action, branch }
+    }
+}
+
 // What has come of a branch so far.
 #[derive(Clone, Copy)]
 struct Track {
     ends: u32,
     last: Option<Happened>,
     is_granted: bool,
+    // The entry of the answer that it was last matched with.
     answer: usize,
 }
 
@@ -112,63 +119,54 @@ impl Walk {
         match &entry.call {
             Call::Launched { line, how } => self.see_start(berth, *line, *how),
             Call::Wrote { line, how, .. } => self.see_write(berth, *line, *how),
-            Call::Answer { line, answer } => self.see_answer(number, *line, answer, &entry.reply),
-            Call::Ended { line, how } => {
-                let (line, how) = (*line, *how);
-                self.end_all(line, Happened::Ended { line, how });
-            }
+            Call::Answer { line, .. } => self.see_answer(number, *line, &entry.reply),
+            Call::Ended { line, how } => self.end_all(
+                *line,
+                Happened::Ended {
+                    line: *line,
+                    how: *how,
+                },
+            ),
             Call::Claim {
                 action,
                 branch,
                 found,
                 ..
-            } => {
-                let tried = Tried {
-                    action: *action,
-                    branch: *branch,
-                };
-                self.see_claim(berth, tried, found, &entry.reply);
-            }
+            } => self.see_claim(berth, Tried::of(*action, *branch), found, &entry.reply),
             Call::Committed {
                 action,
                 branch,
                 how: CommitEnd::PlaceFault { .. },
-            } => {
-                let tried = Tried {
-                    action: *action,
-                    branch: *branch,
-                };
-                self.note(tried, Happened::Spoiled);
-            }
+            } => self.note(Tried::of(*action, *branch), Happened::Spoiled),
             _ => {}
         }
         self.see_order(&entry.reply)
     }
 
+    // An attempt is under way on a line from its launch there on, or from its request.
     fn see_order(&mut self, reply: &Reply) -> Result<(), NoMemory> {
-        match reply {
-            Reply::Launch {
-                line,
-                action,
-                branch,
-                ..
-            }
-            | Reply::Send {
-                line,
-                action,
-                branch,
-                ..
-            } => {
-                let tried = Tried {
-                    action: *action,
-                    branch: *branch,
-                };
-                self.under_way.retain(|other| other.tried != tried);
-                self.under_way.push(UnderWay { line: *line, tried })?;
-            }
-            _ => {}
+        if let Reply::Launch {
+            line,
+            action,
+            branch,
+            ..
+        }
+        | Reply::Send {
+            line,
+            action,
+            branch,
+            ..
+        } = reply
+        {
+            let (line, tried) = (*line, Tried::of(*action, *branch));
+            self.leave(tried);
+            self.under_way.push(UnderWay { line, tried })?;
         }
         Ok(())
+    }
+
+    fn leave(&mut self, tried: Tried) {
+        self.under_way.retain(|other| other.tried != tried);
     }
 
     fn see_start(&mut self, berth: u32, line: u32, how: Started) {
@@ -202,14 +200,11 @@ impl Walk {
         }
     }
 
-    fn see_answer(&mut self, number: usize, line: u32, answer: &Answer, reply: &Reply) {
+    fn see_answer(&mut self, number: usize, line: u32, reply: &Reply) {
         match reply {
             Reply::Matched { action, branch, .. } => {
-                let tried = Tried {
-                    action: *action,
-                    branch: *branch,
-                };
-                self.under_way.retain(|other| other.tried != tried);
+                let tried = Tried::of(*action, *branch);
+                self.leave(tried);
                 if let Some(track) = self.tracks.get_mut(place_of(tried)) {
                     track.answer = number;
                 }
@@ -217,7 +212,6 @@ impl Walk {
             Reply::Breach(_) => self.end_all(line, Happened::Breach { line }),
             _ => {}
         }
-        let _ = answer;
     }
 
     fn see_claim(&mut self, berth: u32, tried: Tried, found: &Found, reply: &Reply) {
@@ -231,10 +225,8 @@ impl Walk {
             Found::Files(_) | Found::Exit(_) => {}
             Found::Missing(output) => self.end(tried, Happened::Missing { output: *output }),
             Found::Refused => {
-                let entry = match self.tracks.get(place_of(tried)) {
-                    Some(track) => track.answer,
-                    None => 0,
-                };
+                let track = self.tracks.get(place_of(tried));
+                let entry = track.map_or(0, |track| track.answer);
                 self.end(tried, Happened::Refused { entry });
             }
             Found::RoomFault => {
@@ -281,7 +273,7 @@ impl Walk {
 
     // An attempt has ended so. It counts unless the action was granted before.
     fn end(&mut self, tried: Tried, happened: Happened) {
-        self.under_way.retain(|other| other.tried != tried);
+        self.leave(tried);
         if self.is_granted(tried.action) {
             return;
         }
@@ -299,11 +291,8 @@ impl Walk {
 
     fn is_granted(&self, action: u32) -> bool {
         [Branch::Local, Branch::Remote].iter().any(|branch| {
-            let tried = Tried {
-                action,
-                branch: *branch,
-            };
-            matches!(self.tracks.get(place_of(tried)), Some(track) if track.is_granted)
+            let track = self.tracks.get(place_of(Tried::of(action, *branch)));
+            track.is_some_and(|track| track.is_granted)
         })
     }
 }

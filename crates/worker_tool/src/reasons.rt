@@ -31,10 +31,7 @@ pub fn lines<R>(alloc: Global, left: &Left<'_, R>) -> Result<String, NoMemory> {
     let mut lines = String::new(alloc);
     for (number, action) in actions.iter().enumerate() {
         for branch in [Branch::Local, Branch::Remote] {
-            let tried = Tried {
-                action: u32::try_from(number).unwrap_or(u32::MAX),
-                branch,
-            };
+            let tried = Tried::of(u32::try_from(number).unwrap_or(u32::MAX), branch);
             if let Some(happened) = walk.of(tried, left.plan.limit) {
                 let why = left.why(alloc, tried, action, happened)?;
                 let name = action.name.as_str();
