@@ -1,12 +1,20 @@
-//! The bare calls on files, folders and processes, as the objects of the outside make them. What they do is trusted: no
-//! clause speaks of it, and what is proved is that they are safe and end.
+//! The bare calls on files, folders, pipes and processes, as the objects of the outside make them. What the system does
+//! for them is trusted. A clause says how paths are put together, and what a process is started with; of the rest it is
+//! proved that it is safe and ends, and `run_trials` shows each call and each way in which it may fail.
 #![tactic(auto)]
 
 mod disk;
+mod emptying;
+mod inside;
+mod lock;
+mod paths;
+mod pipes;
 mod spawn;
 
-pub use disk::{
-    empty_inside, make_folder_inside, read_inside, read_regular, remove_inside, write_beside,
-    write_inside,
-};
+pub use disk::{read_regular, write_beside};
+pub use emptying::{empty_inside, remove_inside};
+pub use inside::{make_folder_inside, read_inside, write_inside};
+pub use lock::{LockFile, lock_inside};
+pub use paths::path_in;
+pub use pipes::{never_wait, wait_to_read, wait_to_write, write_now};
 pub use spawn::{end, run_to_end, start};

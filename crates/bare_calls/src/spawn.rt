@@ -1,27 +1,27 @@
-// The bare calls on processes. What they do is trusted.
+// The bare calls on processes. What a process is started with is a clause; what the system then does is trusted.
+ghost use Rattle.std.specs.Prelude.{IfOk, OnOk};
+ghost use Rattle.bare_calls.specs.Paths.{program_from};
+ghost use Rattle.bare_calls.specs.Starts.{IsStart, AddsWords, SetsOne, SetsEach};
+
+use crate::paths::program_from;
 use outside::{Command, Variable};
 use plain_values::Text;
 use std::alloc::{AllocError, Global};
 use std::io::{self, ErrorKind, Read};
 use std::process::{self, ExitStatus, Processes, Stdio, SystemProcess};
 
-/// Starts the command's program in a room, which lies two folders below that of the start, with pipes
-/// for its standard input and output and with the command's environment alone. Its standard error is
-/// ours.
+/// Starts the command's program in a room, with pipes for its standard input and output and with the command's
+/// environment alone. A program's path that doesn't begin with a slash begins at `base`. Its standard error is ours.
 pub fn start<R: Processes<Started = SystemProcess>>(
     rt: &R,
     alloc: Global,
+    base: &str,
     room: &str,
     command: &Command,
 ) -> io::Result<process::Child> {
-    let mut start = command_in(
-        alloc,
-        room,
-        "../..",
-        command.program.as_str(),
-        command.words.as_slice(),
-        command.env.as_slice(),
-    )?;
+    let words = command.words.as_slice();
+    let env = command.env.as_slice();
+    let mut start = command_in(alloc, base, command.program.as_str(), words, env, room)?;
     start.stdin(Stdio::piped());
     start.stdout(Stdio::piped());
     start.spawn(rt)
@@ -40,7 +40,7 @@ pub fn run_to_end<R: Processes<Started = SystemProcess>>(
     let [program, words @ ..] = words else {
         return Err(io::Error::from(ErrorKind::InvalidInput));
     };
-    let mut start = command_in(alloc, folder, "../../..", program.as_str(), words, env)?;
+    let mut start = command_in(alloc, "../../..", program.as_str(), words, env, folder)?;
     start.stdin(Stdio::null());
     start.stdout(Stdio::piped());
     ended(alloc, start.spawn(rt)?)
@@ -51,7 +51,7 @@ fn ended(alloc: Global, mut child: process::Child) -> io::Result<(ExitStatus, Ve
     match written_by(alloc, &mut child) {
         Ok(written) => Ok((child.wait()?, written)),
         Err(error) => {
-            end(&mut child);
+            let _ = end(&mut child);
             Err(error)
         }
     }
@@ -69,47 +69,50 @@ fn written_by(alloc: Global, child: &mut process::Child) -> io::Result<Vec<u8>> 
 // A program in a folder, with these words and with these variables alone as environment.
 fn command_in(
     alloc: Global,
-    folder: &str,
-    up: &str,
+    base: &str,
     program: &str,
     words: &[Text],
     env: &[Variable],
-) -> Result<process::Command, AllocError> {
-    let program = program_from(alloc, up, program)?;
+    folder: &str,
+) -> Result<process::Command, AllocError>
+    ensures { IfOk result (IsStart (program_from base.now program.now) words.now env.now folder.now) }
+{
+    let program = program_from(alloc, base, program)?;
     let mut start = process::Command::new(alloc, program.as_str())?;
-    prepare(&mut start, folder, words, env)?;
+    start.env_clear();
+    start.current_dir(folder)?;
+    give_words(&mut start, words)?;
+    give_variables(&mut start, env)?;
     Ok(start)
 }
 
-fn prepare(
-    start: &mut process::Command,
-    folder: &str,
-    words: &[Text],
-    env: &[Variable],
-) -> Result<(), AllocError> {
+fn give_words(start: &mut process::Command, words: &[Text]) -> Result<(), AllocError>
+    ensures { OnOk result (AddsWords words.now start.old start.new) }
+{
     for word in words {
         start.arg(word.as_str())?;
     }
-    start.env_clear();
-    for variable in env {
-        start.env(variable.name.as_str(), variable.value.as_str())?;
-    }
-    start.current_dir(folder)?;
     Ok(())
 }
 
-// A program's path as it is found from a folder that lies so far below the one by which it is
-// named.
-fn program_from(alloc: Global, up: &str, program: &str) -> Result<String, AllocError> {
-    if program.starts_with('/') {
-        String::from_str(alloc, program)
-    } else {
-        format!(in alloc; "{up}/{program}")
+fn give_variables(start: &mut process::Command, env: &[Variable]) -> Result<(), AllocError>
+    ensures { OnOk result (SetsEach env.now start.old start.new) }
+{
+    for variable in env {
+        give_variable(start, variable)?;
     }
+    Ok(())
 }
 
-/// Kills a process and waits for it. One that has ended already is waited for all the same.
-pub fn end(child: &mut process::Child) {
+fn give_variable(start: &mut process::Command, variable: &Variable) -> Result<(), AllocError>
+    ensures { OnOk result (SetsOne variable.now start.old start.new) }
+{
+    start.env(variable.name.as_str(), variable.value.as_str())?;
+    Ok(())
+}
+
+/// Kills a process and waits for it, and says how it ended. One that has ended already is waited for all the same.
+pub fn end(child: &mut process::Child) -> io::Result<ExitStatus> {
     let _ = child.kill();
-    let _ = child.wait();
+    child.wait()
 }

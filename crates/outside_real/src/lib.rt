@@ -5,7 +5,9 @@
 mod floor;
 mod input;
 mod line;
+mod pipe;
 mod place;
+mod reason;
 mod room;
 mod shop;
 mod sink;
@@ -14,6 +16,7 @@ pub use floor::RealFloor;
 pub use input::RealInput;
 pub use line::{RealChild, RealFeed, RealTap};
 pub use place::RealPlace;
+pub use reason::Reason;
 pub use room::RealBerth;
 pub use shop::RealShop;
 pub use sink::RealSink;

@@ -5,16 +5,27 @@
 use demo_programs::execute;
 use outside_real::{RealInput, RealShop, RealSink};
 use std::env::{self, Env};
+use std::io::{self, ErrorKind};
 use std::process::ExitCode;
 
 /// The status of a program whose words aren't accepted.
 const WRONG_WORDS: u8 = 2;
 
+/// The status of a program for which there is no memory.
+const NO_MEMORY: u8 = 3;
+
 fn main(rt: HostRuntime) -> ExitCode {
     let alloc = rt.alloc();
-    if !is_to_serve(&rt) {
-        let _ = rt.eprint("remote_exec: words are not accepted\n");
-        return ExitCode::from(WRONG_WORDS);
+    match is_to_serve(&rt) {
+        Ok(true) => {}
+        Err(error) if error.kind() == ErrorKind::OutOfMemory => {
+            let _ = rt.eprint("remote_exec: no memory\n");
+            return ExitCode::from(NO_MEMORY);
+        }
+        _ => {
+            let _ = rt.eprint("remote_exec: words are not accepted\n");
+            return ExitCode::from(WRONG_WORDS);
+        }
     }
     let mut input = RealInput::new(rt.stdin());
     let mut out = RealSink::new(rt);
@@ -24,11 +35,8 @@ fn main(rt: HostRuntime) -> ExitCode {
 }
 
 // Whether the words after the program's name are `--serve` alone.
-fn is_to_serve(rt: &(impl Env + AllocGlobal)) -> bool {
-    let Ok(words) = env::args(rt) else {
-        return false;
-    };
-    let mut words = words.skip(1);
+fn is_to_serve(rt: &(impl Env + AllocGlobal)) -> io::Result<bool> {
+    let mut words = env::args(rt)?.skip(1);
     let serves = matches!(words.next(), Some(word) if word.as_str() == "--serve");
-    serves && words.next().is_none()
+    Ok(serves && words.next().is_none())
 }

@@ -83,7 +83,8 @@ fn write_one<P: Print, F: Floor>(
     }
 }
 
-fn name(alloc: Global, length: usize) -> Result<String, NoMemory> {
+/// A name of so many bytes.
+pub fn name(alloc: Global, length: usize) -> Result<String, NoMemory> {
     let mut name = String::new(alloc);
     for _ in 0..length {
         name.push('n')?;

@@ -5,13 +5,18 @@
 #![tactic(auto)]
 
 mod cures;
+mod happened;
 mod hints;
+mod names;
+mod reasons;
 mod screen;
 
+use crate::reasons::Left;
 use crate::screen::{BehindLine, Screen};
 use outside::{Berth, Floor, Sink};
 use outside_mem::MemFloor;
 use outside_real::{RealFloor, RealSink};
+use plain_values::NoMemory;
 use std::alloc::Global;
 use std::env::Env;
 use std::io::{Eprint, ErrorKind, IsTerminal, Print};
@@ -26,7 +31,7 @@ use worker_run::{Ended, RunFault, Stage, fault_line, run_build, run_build_watche
 
 fn main(rt: HostRuntime) -> ExitCode {
     let alloc = rt.alloc();
-    let on_terminal = rt.stderr().is_terminal();
+    let on_terminal = rt.stderr().is_terminal() && !is_dumb(&rt);
     let words = match words(&rt, alloc) {
         Ok(words) => words,
         Err(error) => return end_unread(&rt, alloc, &error),
@@ -34,19 +39,36 @@ fn main(rt: HostRuntime) -> ExitCode {
     if let Some(actions) = generated(&words) {
         return run_generated(rt, alloc, &words, actions, on_terminal);
     }
-    let floor = RealFloor::new(rt, alloc);
-    let ended = run(rt, alloc, &words, floor, on_terminal);
-    let Ended {
-        status,
-        fault,
-        mut floor,
-        ..
-    } = ended;
-    if let Some(fault) = &fault {
-        tell(&rt, alloc, &words, fault, floor.last_error());
-        tell_cures(&rt, alloc, &words, &mut floor, fault);
+    let mut floor = RealFloor::new(rt, alloc);
+    let screen = if on_terminal {
+        screen_of(rt, alloc, names::all(alloc, &words, &mut floor))
+    } else {
+        None
+    };
+    let mut ended = run(rt, alloc, &words, floor, screen);
+    if let Some(fault) = &ended.fault {
+        tell(&rt, alloc, &words, fault, ended.floor.last_error());
+        tell_cures(&rt, alloc, &words, &mut ended.floor, fault);
+    } else if let Some(task) = &ended.task {
+        let left = Left {
+            plan: &task.plan,
+            entries: ended.journal.entries(),
+            berths: &ended.berths,
+            lines: &ended.lines,
+            places: &ended.places,
+        };
+        tell_reasons(&rt, alloc, ended.status, &left);
     }
-    ExitCode::from(status)
+    ExitCode::from(ended.status)
+}
+
+// Prints why branches came to nothing, if some action has no success, as far as there is memory for it.
+fn tell_reasons<R>(rt: &impl Eprint, alloc: Global, status: u8, left: &Left<'_, R>) {
+    if status != 0
+        && let Ok(lines) = reasons::lines(alloc, left)
+    {
+        let _ = rt.eprint(lines.as_str());
+    }
 }
 
 // Runs a list of so many actions that is generated, in memory.
@@ -60,7 +82,12 @@ fn run_generated<R: Threads + Wait + Clock + Print + Eprint + Copy + Drop + Send
     let Ok(floor) = MemFloor::generated(rt, alloc, actions) else {
         return end(&rt, alloc, &RunFault::NoMemory(Stage::Before));
     };
-    let Ended { status, fault, .. } = run(rt, alloc, words, floor, on_terminal);
+    let screen = if on_terminal {
+        screen_of(rt, alloc, Ok(Vec::new(alloc)))
+    } else {
+        None
+    };
+    let Ended { status, fault, .. } = run(rt, alloc, words, floor, screen);
     if let Some(fault) = &fault {
         tell(&rt, alloc, words, fault, None);
     }
@@ -73,7 +100,7 @@ fn run<R: Threads + Wait + Clock + Print + Eprint + Copy + Drop + Send + Sync + 
     alloc: Global,
     words: &[String],
     floor: F,
-    on_terminal: bool,
+    screen: Option<Screen>,
 ) -> Ended<F>
 where
     F::Berth: Send,
@@ -83,22 +110,24 @@ where
     <F::Berth as Berth>::Child: Send,
 {
     let mut out = RealSink::new(rt);
-    match screen_if(rt, alloc, on_terminal) {
+    match screen {
         Some(screen) => run_shown(rt, alloc, words, floor, out, screen),
         None => run_build(&rt, alloc, words, floor, &mut out),
     }
 }
 
-fn screen_if<R: Threads + Wait + Clock + Eprint + Copy + Drop + Send + 'static>(
+// A line in which actions have these names. Without memory or a thread for it none is shown.
+fn screen_of<R: Threads + Wait + Clock + Eprint + Copy + Drop + Send + 'static>(
     rt: R,
     alloc: Global,
-    on_terminal: bool,
+    names: Result<Vec<String>, NoMemory>,
 ) -> Option<Screen> {
-    if on_terminal {
-        Screen::open(rt, alloc)
-    } else {
-        None
-    }
+    Screen::open(rt, alloc, names.ok()?)
+}
+
+// A terminal that only prints.
+fn is_dumb(rt: &(impl Env + AllocGlobal)) -> bool {
+    matches!(env::var(rt, "TERM"), Ok(kind) if kind.as_str() == "dumb")
 }
 
 fn run_shown<R: Threads + Wait + Eprint + Copy + Drop + Sync, F: Floor, O: Sink>(

@@ -1,7 +1,7 @@
 // The line on the terminal that says how far a run is.
 use outside::{Io, Sink};
-use run_progress::{Notes, Progress, Watcher};
-use std::alloc::Global;
+use run_progress::{Look, Notes, Oldest, Progress, Watcher};
+use std::alloc::{AllocError, Global};
 use std::io::Eprint;
 use std::sync::{Arc, Mutex, Wait};
 use std::thread;
@@ -11,8 +11,18 @@ use std::time::{Clock, Duration};
 /// How many milliseconds a line stands before it is written again.
 const PAUSE: u64 = 200;
 
-/// Goes to the start of the line and erases it.
-const ERASE: &str = "\r\x1b[K";
+/// Erases all from the start of the row on. The cursor stands in an empty row above the line, where a worker's words on the
+/// same terminal go.
+const ERASE: &str = "\r\x1b[J";
+
+/// Goes to the row below, from which on nothing is carried over into the next row.
+const BEGIN: &str = "\n\x1b[?7l";
+
+/// Goes back to the start of the row above.
+const END: &str = "\x1b[?7h\x1b[A\r";
+
+/// For how many seconds an action runs before the line says that no answer has come.
+const LONG: u64 = 10;
 
 /// A terminal whose last line says how far a run is, with the thread that writes it.
 #[derive(Drop)]
@@ -29,6 +39,8 @@ pub struct Line {
     pen: Mutex<bool>,
     // Where the watcher rests.
     rest: Parker,
+    // Those of the actions, in the list's order, as far as they could be read.
+    names: Vec<String>,
 }
 
 /// A sink before whose bytes the line is erased, since they may go to the same terminal.
@@ -40,12 +52,13 @@ pub struct BehindLine<'a, R, O> {
 }
 
 impl Screen {
-    /// Begins to show a line. `None` where there is no memory or no thread for that.
+    /// Begins to show a line, in which actions have these names. `None` where there is no memory or no thread for that.
     pub fn open<R: Threads + Wait + Clock + Eprint + Copy + Drop + Send + 'static>(
         rt: R,
         alloc: Global,
+        names: Vec<String>,
     ) -> Option<Screen> {
-        let line = Arc::new(alloc, Line::new(alloc)?).ok()?;
+        let line = Arc::new(alloc, Line::new(alloc, names)?).ok()?;
         let shown = Arc::try_clone(&line).ok()?;
         let watcher = thread::spawn(&rt, move || shown.show(&rt, alloc)).ok()?;
         Some(Screen { line, watcher })
@@ -69,12 +82,13 @@ impl Screen {
 }
 
 impl Line {
-    fn new(alloc: Global) -> Option<Line> {
+    fn new(alloc: Global, names: Vec<String>) -> Option<Line> {
         let progress = Progress::new(alloc).ok()?;
         Some(Line {
             progress: Arc::new(alloc, progress).ok()?,
             pen: Mutex::new(false),
             rest: Parker::new(),
+            names,
         })
     }
 
@@ -106,13 +120,43 @@ impl Line {
             return;
         };
         let look = watcher.look(&self.progress, now);
-        let Ok(line) = format!(in alloc; "{ERASE}{look}") else {
+        let Ok(line) = self.text(alloc, &look) else {
             return;
         };
         let mut stands = self.pen.lock(rt);
         if !self.progress.is_over() {
             let _ = rt.eprint(line.as_str());
             *stands = true;
+        }
+    }
+
+    // All that is written for a look.
+    fn text(&self, alloc: Global, look: &Look) -> Result<String, AllocError> {
+        let Look {
+            all,
+            settled,
+            failed,
+            running,
+            oldest,
+        } = look;
+        let oldest = match oldest {
+            Some(oldest) => self.oldest(alloc, oldest)?,
+            None => String::new(alloc),
+        };
+        let counts = format!(in alloc; "[{settled}/{all}] {running} running, {failed} failed")?;
+        format!(in alloc; "{ERASE}{BEGIN}{counts}{oldest}{END}")
+    }
+
+    fn oldest(&self, alloc: Global, oldest: &Oldest) -> Result<String, AllocError> {
+        let seconds = oldest.for_so_long.as_secs();
+        let waits = if seconds < LONG {
+            ""
+        } else {
+            ", no answer yet"
+        };
+        match self.names.get(oldest.action as usize) {
+            Some(name) => format!(in alloc; ", {seconds} s: {name}{waits}"),
+            None => format!(in alloc; ", {seconds} s: actions[{}]{waits}", oldest.action),
         }
     }
 
