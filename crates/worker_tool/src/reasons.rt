@@ -144,7 +144,7 @@ fn not_started(alloc: Global, reason: Option<&Reason>) -> Result<String, NoMemor
         return said(alloc, "its program couldn't be started");
     };
     let cure = match error.kind() {
-        ErrorKind::PermissionDenied => format!(in alloc; "; chmod +x {path}")?,
+        ErrorKind::PermissionDenied => format!(in alloc; "; if it is a file, chmod +x {path}")?,
         ErrorKind::NotFound => {
             String::from_str(
                 alloc,
