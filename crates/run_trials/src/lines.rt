@@ -8,7 +8,8 @@ use plain_values::{Items, NoMemory, Text};
 use std::alloc::Global;
 use std::io::Print;
 
-const FIRST: &str = "ln -s /etc/passwd out; ln -s /etc way; ln -s /etc/passwd ../../link; \
+const FIRST: &str = "mkdir ../../aside; printf kept >../../aside/file; ln -s ../../aside/file out; \
+    ln -s ../../aside way; ln -s aside/file ../../link; \
     ln -s letter ../../.worker_tool.0.part; mkfifo fifo; echo $$ >../pid; read line; \
     echo \"heard $line, greeting $GREETING, home [$HOME]\"; read line; \
     mv ../3 ../moved; ln -s .. ../3; echo $line; exec cat";
@@ -122,8 +123,8 @@ fn talk<P: Print, B: Berth>(
     page.io("feed", &feed.write(b"abc\n"));
     take(page, tap);
     page.read("out, a link", berth.room_get("out"));
-    page.read("way/passwd, behind a link", berth.room_get("way/passwd"));
-    page.io("clear way/passwd", &berth.room_clear("way/passwd"));
+    page.read("way/file, behind a link", berth.room_get("way/file"));
+    page.io("clear way/file", &berth.room_clear("way/file"));
     page.io("put way/x", &berth.room_put("way/x", b"inside"));
     page.read("way/x", berth.room_get("way/x"));
     page.read("fifo", berth.room_get("fifo"));

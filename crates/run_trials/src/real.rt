@@ -25,7 +25,9 @@ pub fn drive<P: Print, F: Floor>(page: &mut Page<'_, P>, alloc: Global, floor: &
         }
         Err(NoMemory) => page.no_memory(),
     }
-    page.read("letter", floor.read("letter"));
+    for path in ["letter", "aside/file", "aside/x"] {
+        page.read(path, floor.read(path));
+    }
     places::play(page, alloc, floor);
 }
 
