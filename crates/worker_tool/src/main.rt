@@ -45,21 +45,30 @@ fn main(rt: HostRuntime) -> ExitCode {
     } else {
         None
     };
-    let mut ended = run(rt, alloc, &words, floor, screen);
-    if let Some(fault) = &ended.fault {
-        tell(&rt, alloc, &words, fault, ended.floor.last_error());
-        tell_cures(&rt, alloc, &words, &mut ended.floor, fault);
-    } else if let Some(task) = &ended.task {
+    let Ended {
+        status,
+        fault,
+        task,
+        journal,
+        mut floor,
+        berths,
+        lines,
+        places,
+    } = run(rt, alloc, &words, floor, screen);
+    if let Some(fault) = &fault {
+        tell(&rt, alloc, &words, fault, floor.last_error());
+        tell_cures(&rt, alloc, &words, &mut floor, fault);
+    } else if let Some(task) = &task {
         let left = Left {
             plan: &task.plan,
-            entries: ended.journal.entries(),
-            berths: &ended.berths,
-            lines: &ended.lines,
-            places: &ended.places,
+            entries: journal.entries(),
+            berths: &berths,
+            lines: &lines,
+            places: &places,
         };
-        tell_reasons(&rt, alloc, ended.status, &left);
+        tell_reasons(&rt, alloc, status, &left);
     }
-    ExitCode::from(ended.status)
+    ExitCode::from(status)
 }
 
 // Prints why branches came to nothing, if some action has no success, as far as there is memory for it.
