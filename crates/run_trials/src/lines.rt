@@ -144,17 +144,21 @@ fn talk<P: Print, B: Berth>(
 // Takes so many lines, in whatever pieces they come.
 fn take_all<P: Print, T: Tap>(page: &mut Page<'_, P>, tap: &mut T, lines: usize) {
     let mut into = [0u8; 256];
-    let mut length = 0;
-    for _ in 0..into.len() {
-        if into[..length].iter().filter(|byte| **byte == b'\n').count() >= lines {
+    let mut length = 0usize;
+    for _ in 0..256 {
+        let taken = into.get(..length).unwrap_or(&[]);
+        if taken.iter().filter(|byte| **byte == b'\n').count() >= lines {
             break;
         }
-        match tap.read(&mut into[length..]) {
-            Taken::Bytes(count) => length += count,
+        let Some(rest) = into.get_mut(length..) else {
+            break;
+        };
+        match tap.read(rest) {
+            Taken::Bytes(count) => length = length.saturating_add(count),
             Taken::End | Taken::Failed => break,
         }
     }
-    page.taken(&into[..length]);
+    page.taken(into.get(..length).unwrap_or(&[]));
 }
 
 /// Takes one piece.

@@ -61,7 +61,7 @@ impl<'a, R: Files + Print + Copy + Drop> Files for Recorder<'a, R> {
         self.call(way(how), path)?;
         let file = self.rt.open_file(how, path)?;
         Ok(Recorded {
-            of: *self,
+            of: Recorder::new(self.rt, self.made, self.fails),
             file,
             most: MOST_READ,
         })
@@ -71,7 +71,7 @@ impl<'a, R: Files + Print + Copy + Drop> Files for Recorder<'a, R> {
         self.call("list", path)?;
         let file = self.rt.open_dir(path)?;
         Ok(Recorded {
-            of: *self,
+            of: Recorder::new(self.rt, self.made, self.fails),
             file,
             most: usize::MAX,
         })
