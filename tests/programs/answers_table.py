@@ -107,7 +107,7 @@ def answered(name: str, answers: Sequence[Answer], lines: bool = False, bytewise
             start = next(at for at, line in enumerate(got) if line.startswith(f"a{n} "))
             wanted = it.lines(f"a{n}")
             compare(it, wanted, got[start : start + len(wanted)])
-        compare(name, b"", ended.err)
+        play.no_fault(ended)
     return Case(name, played)
 
 

@@ -99,6 +99,13 @@ def fault_line(err: bytes) -> str:
     return first
 
 
+def no_fault(ended: Ended) -> None:
+    """Fails where standard error has more than reasons: lines behind a report without success, which begin with two spaces."""
+    lines = ended.err.decode().splitlines()
+    if (lines and ended.status != 1) or any(not line.startswith("  ") for line in lines):
+        raise Wrong(f"wanted no fault on standard error, and at status 1 lines that begin with two spaces\ngot    {shown(ended)}")
+
+
 def action(name: str = "a", **more: object) -> dict[str, object]:
     """An action of the worker `t`, with the flag file `f` and the output `o`; what is given stands in place of that."""
     base = {"name": name, "mnemonic": "T", "argv": ["t", "@f"], "inputs": ["f"], "outputs": ["o"]}

@@ -31,7 +31,8 @@ def played(name: str, actions: Sequence[Mapping[str, object]], wanted: bytes, wo
     def case(programs: Programs, folder: pathlib.Path) -> None:
         ended = exchange(programs, folder, actions, words, **players)
         status = 0 if f"ok={len(actions)} ".encode() in wanted else 1
-        compare((name, words), (status, wanted, b""), (ended.status, with_fate(ended.out, wanted, others), ended.err))
+        compare((name, words), (status, wanted), (ended.status, with_fate(ended.out, wanted, others)))
+        play.no_fault(ended)
         compare((name, "files"), dict(files or {}), {path: play.found(folder, path) for path in files or {}})
         if count is not None:
             compare((name, "processes"), count, len(heard(folder, "t")))
@@ -181,8 +182,9 @@ def places() -> Iterator[Case]:
     def no_room(programs: Programs, folder: pathlib.Path) -> None:
         play.fill(folder, {".worker_rooms": b"a file"})
         ended = exchange(programs, folder, [action()], ["--retries=1"], t=[serve()])
-        compare("a file in place of the rooms", (1, report("a broken local=dropped:room:2 remote=unused", broken=1)), (ended.status, ended.out))
-    yield Case("a room that can't be made", no_room)
+        compare("a file in place of the rooms", (5, b""), (ended.status, ended.out))
+        compare("its fault", True, play.fault_line(ended.err).startswith("worker_tool: not read: "))
+    yield Case("a folder of rooms that can't be made", no_room)
 
 
 def largest(programs: Programs, folder: pathlib.Path) -> None:

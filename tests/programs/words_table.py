@@ -130,7 +130,6 @@ def cases() -> Iterator[Case]:
     yield meeting(["--instances=2"], 2, False)
     yield meeting(["--instances=6"], 6, False)
     yield meeting([], 1, True)
-    yield meeting(["--remote=3"], 3, True)
     worker = "--persistent_worker"
     yield startup(["--extra_flag=-x", "--extra_flag=@y"], ["@f"], [worker, "-x", "@y"], 0)
     yield startup(["--worker_verbose"], ["-v", "@f"], ["-v", worker], 10)
