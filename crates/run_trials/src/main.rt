@@ -14,7 +14,6 @@
 //! | `meet WORD WORD ..` | its status and its report, where each of two actions writes only once the other does too |
 //! | `reads`, `writes` | what the floor and the places tell of the last run |
 //! | `room`, `given` | what its first berth and its first line tell |
-//! | `files CALL PATH`, `files CALL PATH NTH` | one of the bare calls `source`, `read`, `write`, `beside`, `folder`, `remove`, `empty` at this path (all but `source` and `beside` in the room `files`): each call that it makes of the system, of which the NTH fails, and what it comes to |
 //! | `real` | each real object is driven once; behind this line each line is a list, which is run with real objects and shell workers: its report, its status and the line of its fault |
 //!
 //! Other lines before `real` are printed as they are. The program runs in a folder of its own with the files of `data/`.
@@ -22,31 +21,22 @@
 #![tactic(auto)]
 
 mod case;
-mod files;
 mod lines;
 mod meeting;
 mod page;
 mod places;
 mod played;
 mod real;
-mod recorder;
 mod rooms;
-mod shops;
 
 use case::Case;
 use meeting::MeetingFloor;
-use outside::Floor;
 use outside_mem::{MemFloor, MemSink};
-use outside_real::{RealFloor, RealShop, RealSink, RealTap};
-use page::Page;
+use outside_real::{RealFloor, RealSink};
 use plain_values::NoMemory;
 use played::Shown;
 use std::alloc::Global;
-use std::fs::File;
 use std::io::{ErrorKind, Print, Read};
-use std::os::fd::OwnedFd;
-use std::process::{ChildStdout, Processes, SystemProcess};
-use std::rt::Files;
 use std::sync::Wait;
 use std::thread::Threads;
 use std::{io, str};
@@ -63,7 +53,7 @@ fn main(rt: HostRuntime) -> io::Result<()> {
         return play_all(&rt, alloc, text);
     };
     play_all(&rt, alloc, memory)?;
-    drive(rt, alloc)?;
+    real::drive(&rt, alloc, RealFloor::new(rt, alloc))?;
     for path in lists.lines() {
         println!(&rt; "{path}")?;
         let floor = RealFloor::new(rt, alloc);
@@ -72,32 +62,7 @@ fn main(rt: HostRuntime) -> io::Result<()> {
     Ok(())
 }
 
-// Drives each real object once.
-fn drive<R>(rt: R, alloc: Global) -> io::Result<()>
-where
-    R: Files<File = File> + Processes<Started = SystemProcess> + Print,
-    R: AllocGlobal + Threads + Wait + Copy + Drop,
-{
-    let mut page = Page::of(&rt);
-    let mut floor = RealFloor::new(rt, alloc);
-    real::drive(&mut page, alloc, &mut floor);
-    real::fail(&mut page, alloc, &mut floor);
-    page.error(floor.last_error());
-    page.line("another run");
-    let mut second = RealFloor::new(rt, alloc);
-    page.read("letter", second.read("letter"));
-    page.error(second.last_error());
-    page.line("a tap over what is no pipe");
-    let folder = ChildStdout::from(OwnedFd::from(File::open(&rt, ".")?));
-    let mut tap = RealTap::over(alloc, folder).map_err(no_memory)?;
-    lines::take(&mut page, &mut tap);
-    page.error(tap.last_error());
-    page.line("a shop");
-    shops::play(&mut page, alloc, &mut RealShop::new(rt, alloc));
-    page.end()
-}
-
-fn play_all<R: Threads + Wait + Files + Print + Copy + Drop + Send + Sync>(
+fn play_all<R: Threads + Wait + Print + Copy + Drop + Send + Sync>(
     rt: &R,
     alloc: Global,
     text: &str,
@@ -108,7 +73,7 @@ fn play_all<R: Threads + Wait + Files + Print + Copy + Drop + Send + Sync>(
 }
 
 // What the next run has, and what became of the last one, is lent to what may end early.
-fn play_lines<R: Threads + Wait + Files + Print + Copy + Drop + Send + Sync>(
+fn play_lines<R: Threads + Wait + Print + Copy + Drop + Send + Sync>(
     rt: &R,
     alloc: Global,
     text: &str,
@@ -123,7 +88,7 @@ fn play_lines<R: Threads + Wait + Files + Print + Copy + Drop + Send + Sync>(
 }
 
 // What is printed for the line.
-fn play<R: Threads + Wait + Files + Print + Copy + Drop + Send + Sync>(
+fn play<R: Threads + Wait + Copy + Drop + Send + Sync>(
     rt: &R,
     alloc: Global,
     line: &str,
@@ -135,7 +100,6 @@ fn play<R: Threads + Wait + Files + Print + Copy + Drop + Send + Sync>(
         "play" => run(rt, alloc, rest, case, last, Shown::All),
         "race" => run(rt, alloc, rest, case, last, Shown::Totals),
         "meet" => meet(rt, alloc, rest, case),
-        "files" => files::play(rt, alloc, rest),
         "reads" | "writes" | "room" | "given" => tell_last(alloc, last, kind),
         _ => case.note(alloc, line),
     }

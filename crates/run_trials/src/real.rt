@@ -11,7 +11,13 @@ use std::thread::Threads;
 use worker_run::{RunFault, fault_line, run_build};
 
 /// Drives each object of this floor once.
-pub fn drive<P: Print, F: Floor>(page: &mut Page<'_, P>, alloc: Global, floor: &mut F) {
+pub fn drive<P: Print, F: Floor>(rt: &P, alloc: Global, mut floor: F) -> io::Result<()> {
+    let mut page = Page::of(rt);
+    each_object(&mut page, alloc, &mut floor);
+    page.end()
+}
+
+fn each_object<P: Print, F: Floor>(page: &mut Page<'_, P>, alloc: Global, floor: &mut F) {
     page.line("sources");
     for path in ["letter", "gone", "."] {
         page.read(path, floor.read(path));
@@ -20,23 +26,13 @@ pub fn drive<P: Print, F: Floor>(page: &mut Page<'_, P>, alloc: Global, floor: &
     match floor.make_berth(3) {
         Ok(mut berth) => {
             rooms::play(page, alloc, &mut berth);
-            page.line("lines");
+            page.line("a line");
             lines::play(page, alloc, &mut berth);
         }
         Err(NoMemory) => page.no_memory(),
     }
-    for path in ["letter", "aside/file", "aside/x"] {
-        page.read(path, floor.read(path));
-    }
+    page.read("letter", floor.read("letter"));
     places::play(page, alloc, floor);
-}
-
-/// Reads what can't be read.
-pub fn fail<P: Print, F: Floor>(page: &mut Page<'_, P>, alloc: Global, floor: &mut F) {
-    match places::name(alloc, 300) {
-        Ok(name) => page.read("a name of 300 bytes", floor.read(name.as_str())),
-        Err(NoMemory) => page.no_memory(),
-    }
 }
 
 /// Makes the run of this list, and prints its status and its fault's line.
