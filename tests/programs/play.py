@@ -5,10 +5,10 @@ import dataclasses
 import json
 import os
 import pathlib
-import shutil
 import signal
 import subprocess
 import sys
+import tempfile
 from collections.abc import Callable, Iterable, Mapping, Sequence
 
 # How long one run of a program may take, in seconds.
@@ -134,13 +134,27 @@ class Heard:
     given: bytes
 
 
+def made_player() -> tempfile.TemporaryDirectory:
+    """The player as a program, in a folder of its own.
+
+    It is written once, before a case begins: the system starts no program that is still open for writing, and a process
+    that another case is just starting may have it open.
+    """
+    folder = tempfile.TemporaryDirectory()
+    place = pathlib.Path(folder.name) / "player"
+    place.write_text(f"#!{sys.executable} -IS\n{PLAYER.read_text(encoding='utf-8')}", encoding="utf-8")
+    place.chmod(0o755)
+    return folder
+
+
+PLAYERS = made_player()
+
+
 def put_player(folder: pathlib.Path, name: str, plays: Iterable[Steps]) -> None:
     """Puts a program of this name, whose nth process does what the nth of these says."""
     place = folder / name
     place.parent.mkdir(parents=True, exist_ok=True)
-    body = PLAYER.read_text(encoding="utf-8")
-    place.write_text(f"#!{sys.executable} -IS\n{body}", encoding="utf-8")
-    place.chmod(0o755)
+    place.symlink_to(pathlib.Path(PLAYERS.name) / "player")
     (folder / f"{place.name}.plays").write_text(json.dumps(list(plays)), encoding="utf-8")
 
 
@@ -177,4 +191,5 @@ def marked(said: bytes) -> list[str]:
 
 
 def copy(program: pathlib.Path, folder: pathlib.Path, name: str) -> None:
-    shutil.copy(program, folder / name)
+    """Puts a program there under another name, by a link for the same reason."""
+    (folder / name).symlink_to(program.resolve())
