@@ -2,10 +2,13 @@
 use plain_values::NoMemory;
 use run_plan::Branch;
 use std::alloc::Global;
-use std::sync::atomic::{AtomicBool, AtomicU64, Ordering};
+use std::sync::atomic::{AtomicBool, AtomicU32, AtomicU64, Ordering};
 
 /// The most actions that a list may have.
 pub const MOST_ACTIONS: u32 = 4096;
+
+// The number of no action.
+const NOBODY: u32 = MOST_ACTIONS;
 
 /// How far a run is. It is shared with whoever watches the run, and waits for nobody.
 #[derive(Drop)]
@@ -13,6 +16,8 @@ pub struct Progress {
     all: AtomicU64,
     settled: AtomicU64,
     failed: AtomicU64,
+    // The numbers of those that failed, in the order in which they did, and `NOBODY` behind them.
+    failures: Vec<AtomicU32>,
     // Of each action, by its number.
     marks: Vec<Marks>,
     over: AtomicBool,
@@ -33,13 +38,16 @@ impl Progress {
     /// `NoMemory`. No other call takes any.
     pub fn new(alloc: Global) -> Result<Progress, NoMemory> {
         let mut marks = Vec::with_capacity(alloc, MOST_ACTIONS as usize)?;
+        let mut failures = Vec::with_capacity(alloc, MOST_ACTIONS as usize)?;
         for _ in 0..MOST_ACTIONS {
             marks.push(Marks::none())?;
+            failures.push(AtomicU32::new(NOBODY))?;
         }
         Ok(Progress {
             all: AtomicU64::new(0),
             settled: AtomicU64::new(0),
             failed: AtomicU64::new(0),
+            failures,
             marks,
             over: AtomicBool::new(false),
         })
@@ -66,7 +74,7 @@ impl Progress {
         self.ended(action, Branch::Remote);
         self.settled.fetch_add(1, Ordering::SeqCst);
         if !success {
-            self.failed.fetch_add(1, Ordering::SeqCst);
+            self.failed(action);
         }
     }
 
@@ -95,11 +103,29 @@ impl Progress {
         self.failed.load(Ordering::SeqCst)
     }
 
+    /// The action that was settled without success behind so many others. `None` where none was, or it isn't noted yet.
+    pub fn failure(&self, behind: u64) -> Option<u32> {
+        let behind = usize::try_from(behind).ok()?;
+        let action = self.failures.get(behind)?.load(Ordering::SeqCst);
+        (action != NOBODY).then_some(action)
+    }
+
     /// Whether a branch of the action has an attempt under way.
     pub fn is_running(&self, action: u32) -> bool {
         match self.marks.get(action as usize) {
             Some(marks) => marks.any(),
             None => false,
+        }
+    }
+
+    // Whoever counts a failure has a place of its own for its number.
+    fn failed(&self, action: u32) {
+        let behind = self.failed.fetch_add(1, Ordering::SeqCst);
+        let place = usize::try_from(behind)
+            .ok()
+            .and_then(|behind| self.failures.get(behind));
+        if let Some(place) = place {
+            place.store(action, Ordering::SeqCst);
         }
     }
 

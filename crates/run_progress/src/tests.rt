@@ -34,6 +34,22 @@ fn a_line_says_how_far_the_run_is(rt: HostRuntime) -> Result<(), Fail> {
 }
 
 #[test]
+fn each_failure_is_told_once_and_in_order(rt: HostRuntime) -> Result<(), Fail> {
+    let alloc = rt.alloc();
+    let progress = Progress::new(alloc)?;
+    let mut watcher = Watcher::new(alloc)?;
+    assert!(rt; watcher.new_failures(alloc, &progress)?.is_empty());
+    progress.settled(6, false);
+    progress.settled(7, true);
+    progress.settled(2, false);
+    assert!(rt; watcher.new_failures(alloc, &progress)?.as_slice() == [6, 2]);
+    assert!(rt; watcher.new_failures(alloc, &progress)?.is_empty());
+    progress.settled(0, false);
+    assert!(rt; watcher.new_failures(alloc, &progress)?.as_slice() == [0]);
+    Ok(())
+}
+
+#[test]
 fn an_action_runs_while_one_of_its_branches_does(rt: HostRuntime) -> Result<(), Fail> {
     let progress = Progress::new(rt.alloc())?;
     progress.began(1, Branch::Local);

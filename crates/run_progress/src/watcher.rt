@@ -6,9 +6,11 @@ use std::alloc::Global;
 use std::fmt;
 use std::time::Duration;
 
-/// Who looks at a run from time to time, and remembers since when each action runs.
+/// Who looks at a run from time to time, and remembers since when each action runs and of which failures it has told.
 #[derive(Drop)]
 pub struct Watcher {
+    // How many failures it has told of.
+    told: u64,
     // Of each action, by its number: when it was first seen to run, if it ran at the last look.
     since: Vec<Option<Duration>>,
 }
@@ -42,7 +44,28 @@ impl Watcher {
         for _ in 0..MOST_ACTIONS {
             since.push(None)?;
         }
-        Ok(Watcher { since })
+        Ok(Watcher { told: 0, since })
+    }
+
+    /// The actions that were settled without success since the last call that found memory, in that order.
+    ///
+    /// # Errors
+    ///
+    /// `NoMemory`. The next call has them too then.
+    pub fn new_failures(
+        &mut self,
+        alloc: Global,
+        progress: &Progress,
+    ) -> Result<Vec<u32>, NoMemory> {
+        let mut found = Vec::new(alloc);
+        for behind in self.told..progress.failed_so_far() {
+            let Some(action) = progress.failure(behind) else {
+                break;
+            };
+            found.push(action)?;
+        }
+        self.told = self.told.saturating_add(found.len() as u64);
+        Ok(found)
     }
 
     /// Looks at the run, at this reading of a clock that never goes back.

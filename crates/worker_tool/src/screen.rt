@@ -1,5 +1,6 @@
 // The line on the terminal that says how far a run is.
 use outside::{Io, Sink};
+use plain_values::NoMemory;
 use run_progress::{Look, Notes, Oldest, Progress, Watcher};
 use std::alloc::{AllocError, Global};
 use std::io::Eprint;
@@ -120,7 +121,10 @@ impl Line {
             return;
         };
         let look = watcher.look(&self.progress, now);
-        let Ok(line) = self.text(alloc, &look) else {
+        let Ok(failures) = self.failures(alloc, watcher) else {
+            return;
+        };
+        let Ok(line) = self.text(alloc, &look, failures.as_str()) else {
             return;
         };
         let mut stands = self.pen.lock(rt);
@@ -130,8 +134,8 @@ impl Line {
         }
     }
 
-    // All that is written for a look.
-    fn text(&self, alloc: Global, look: &Look) -> Result<String, AllocError> {
+    // All that is written for a look: the rows of what has failed, and the line below them.
+    fn text(&self, alloc: Global, look: &Look, failures: &str) -> Result<String, AllocError> {
         let Look {
             all,
             settled,
@@ -144,20 +148,37 @@ impl Line {
             None => String::new(alloc),
         };
         let counts = format!(in alloc; "[{settled}/{all}] {running} running, {failed} failed")?;
-        format!(in alloc; "{ERASE}{BEGIN}{counts}{oldest}{END}")
+        format!(in alloc; "{ERASE}{failures}{BEGIN}{counts}{oldest}{END}")
+    }
+
+    // A row for each action that has failed since the last look. It stays above the line.
+    fn failures(&self, alloc: Global, watcher: &mut Watcher) -> Result<String, NoMemory> {
+        let mut rows = String::new(alloc);
+        for action in watcher.new_failures(alloc, &self.progress)? {
+            let name = self.name(alloc, action)?;
+            rows.push_str(name.as_str())?;
+            rows.push_str(" failed\n")?;
+        }
+        Ok(rows)
+    }
+
+    // What the action is called, or its place in the list if its name isn't known.
+    fn name(&self, alloc: Global, action: u32) -> Result<String, AllocError> {
+        match self.names.get(action as usize) {
+            Some(name) => String::from_str(alloc, name.as_str()),
+            None => format!(in alloc; "actions[{action}]"),
+        }
     }
 
     fn oldest(&self, alloc: Global, oldest: &Oldest) -> Result<String, AllocError> {
         let seconds = oldest.for_so_long.as_secs();
+        let name = self.name(alloc, oldest.action)?;
         let waits = if seconds < LONG {
             ""
         } else {
             ", no answer yet"
         };
-        match self.names.get(oldest.action as usize) {
-            Some(name) => format!(in alloc; ", {seconds} s: {name}{waits}"),
-            None => format!(in alloc; ", {seconds} s: actions[{}]{waits}", oldest.action),
-        }
+        format!(in alloc; ", {seconds} s: {name}{waits}")
     }
 
     // The run is over, or about to put its report: the line is erased, and none is written any more.
