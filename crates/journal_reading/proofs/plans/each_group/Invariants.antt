@@ -1,0 +1,9 @@
+use Rattle.std.proofs.Common.{◌≡◌, drop, map}
+use Rattle.serde_json.specs.View.{view}
+use Rattle.journal_text.specs.Options.{each}
+use Rattle.journal_text.specs.Reading.{group_in}
+use Rattle.journal_reading.proofs.Lists.{behind}
+use Rattle.journal_reading.proofs.plans.each_group.Given as goal
+
+abbrev pub invariant-loop-value : goal.invariant-loop-value
+invariant-loop-value l = each group_in (map view l.row) ≡ behind l.groups.items (each group_in (map view (drop l.value-index l.row)))

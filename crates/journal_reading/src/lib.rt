@@ -1,0 +1,15 @@
+//! Reads the lines of a journal's text: what each spells, or that it spells nothing.
+#![tactic(auto)]
+
+mod answers;
+mod calls;
+mod fields;
+mod misread;
+mod plans;
+mod reading;
+mod replies;
+mod values;
+mod words;
+
+pub use misread::Misread;
+pub use reading::{read_entry, read_plan};

@@ -1,0 +1,7 @@
+pub mod Options
+pub mod Values
+pub mod Words
+pub mod Writing
+pub mod Reading
+pub mod Fits
+pub mod Lines

@@ -1,0 +1,12 @@
+//! The journal of a run as text: a JSON line for the plan, and one for each entry. The definitions say both how a line is
+//! written and what it spells; the code writes.
+#![tactic(auto)]
+
+mod calls;
+mod plans;
+mod replies;
+mod row;
+mod words;
+mod writing;
+
+pub use writing::journal_text;
