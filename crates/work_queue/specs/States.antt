@@ -1,0 +1,305 @@
+-- What a work queue has after a history, and what it answers then.
+use Rattle.std.specs.Prelude.{◌≡◌, ℕ, ◌+◌, ◌==◌, ◌&&◌, ◌≤◌, ℤ, Bool, true, false, cond, List}
+use Rattle.std.specs.Prelude.{[], ◌∷◌, ◌++◌, length, map, Option, Some, None, ltb}
+use Rattle.std.specs.Global.{Vec}
+use Rattle.std.specs.List.{fold, flat_map, list_any, AllByRecursion}
+use Rattle.std.specs.Ordering.{int_eq}
+use Rattle.outside.specs.Causes.{Rose}
+use Rattle.outside.specs.Lists.{Adds, AddsFront}
+use Rattle.outside.specs.Told.{SinkTold}
+use Rattle.seat_desk.specs.declared.entry.Entry.{Entry}
+use Rattle.work_queue.specs.declared.rows.Asked.{Asked}
+use Rattle.work_queue.specs.declared.queue.Ask.{Ask}
+use Rattle.work_queue.specs.declared.queue.Ask.TheVariants as ask
+use Rattle.work_queue.specs.declared.queue.Told.{Told}
+use Rattle.work_queue.specs.declared.queue.Told.TheVariants as told
+use Rattle.work_queue.specs.declared.queue.Load.{Load}
+use Rattle.work_queue.specs.declared.queue.Load.TheVariants as load
+use Rattle.work_queue.specs.Rows.{asked_marked, new_asked}
+
+-- the number of the lane that reads
+abbrev pub reader : ℕ
+reader = 0
+
+-- a request that was heard, at its place among all that were heard, and whether it was cancelled
+pub record Task (X : Type 0) : Type 0 where
+  pub place : ℕ
+  pub work : Asked X
+
+-- a request in the hand of a lane
+pub record InHand (X : Type 0) : Type 0 where
+  pub lane : ℕ
+  pub task : Task X
+
+-- what was answered to the request at this place
+pub record Reply (Y : Type 0) : Type 0 where
+  pub place : ℕ
+  pub response : Y
+
+-- All that was heard, with the requests that cancel others; what waits, what is in hand, and what
+-- was answered, each in its order.
+pub record State (X Y : Type 0) : Type 0 where
+  pub heard : List X
+  pub waiting : List (Task X)
+  pub hands : List (InHand X)
+  pub replies : List (Reply Y)
+
+-- these bytes were put
+pub record PutAll (bytes : List ℕ) (old new : SinkTold) : Type 0 where
+  pub given : Adds bytes old.contents new.contents
+  pub count : old.faults ≤ new.faults
+
+-- some front of them was put, and the sink failed
+pub record PutFront (bytes : List ℕ) (old new : SinkTold) : Type 0 where
+  pub given : AddsFront bytes old.contents new.contents
+  pub rose : Rose old.faults new.faults
+
+abbrev pub PutSo : Bool → List ℕ → SinkTold → SinkTold → Type 0
+PutSo false bytes old new = PutAll bytes old new
+PutSo true bytes old new = PutFront bytes old new
+
+module _ {X : Type 0} where
+  -- the request that this lane took last and hasn't answered
+  abbrev pub task_at : ℕ → List (InHand X) → Option (Task X)
+  task_at lane [] = None
+  task_at lane (h ∷ hs) = cond (h.lane == lane) (Some h.task) (task_at lane hs)
+
+  abbrev pub hands_without : ℕ → List (InHand X) → List (InHand X)
+  hands_without lane [] = []
+  hands_without lane (h ∷ hs) = cond (h.lane == lane) hs (h ∷ hands_without lane hs)
+
+  abbrev pub is_cancelled : Option (Task X) → Bool
+  is_cancelled None = false
+  is_cancelled (Some t) = t.work.cancelled
+
+  abbrev pub has_some : List (Task X) → Told
+  has_some [] = told.Idle
+  has_some (t ∷ ts) = told.Done
+
+module _ {X : Type 0} (number : X → ℤ) where
+  -- the task, once the request of this number is cancelled
+  abbrev pub task_marked : ℤ → Task X → Task X
+  task_marked n t = record { place = t.place; work = asked_marked number n t.work }
+
+  abbrev pub in_hand_marked : ℤ → InHand X → InHand X
+  in_hand_marked n h = record { lane = h.lane; task = task_marked n h.task }
+
+module _ {X : Type 0} (number : X → ℤ) (cancels : X → Bool) where
+  -- one of these cancels the request of this number
+  abbrev pub has_cancel : ℤ → List X → Bool
+  has_cancel n behind = list_any (λ m. cancels m && int_eq n (number m)) behind
+
+  -- The request stands at its place among those that were heard. It is cancelled only where one
+  -- behind it cancels its number.
+  pub record IsTask (heard : List X) (t : Task X) : Type 0 where
+    pub before : List X
+    pub behind : List X
+    pub stands : heard ≡ before ++ t.work.request ∷ behind
+    pub place : length before ≡ t.place
+    pub asks : cancels t.work.request ≡ false
+    pub marked : t.work.cancelled ≡ true → has_cancel (number t.work.request) behind ≡ true
+
+  -- the places of the requests that are to be answered: those that don't cancel
+  abbrev pub asked_from : ℕ → List X → List ℕ
+  asked_from k [] = []
+  asked_from k (m ∷ ms) = cond (cancels m) (asked_from (k + 1) ms) (k ∷ asked_from (k + 1) ms)
+
+-- ---- calls and replies
+
+abbrev pub is_done : Told → Bool
+is_done told.Done = true
+is_done told.Open = false
+is_done told.Idle = false
+is_done told.Closed = false
+
+abbrev pub is_short : Told → Bool
+is_short told.Done = false
+is_short told.Open = false
+is_short told.Idle = false
+is_short told.Closed = true
+
+module _ {X Y : Type 0} where
+  -- the calls that change what waits, what is in hand or what was answered
+  abbrev pub changes : Ask X Y → Bool
+  changes (ask.Hear request) = true
+  changes (ask.Room depth) = false
+  changes ask.Take = true
+  changes ask.IsCancelled = false
+  changes (ask.Answer response) = true
+  changes ask.Close = false
+  changes ask.Halt = false
+
+  abbrev pub is_kept : Ask X Y → Told → Bool
+  is_kept c r = changes c && is_done r
+
+  -- the calls that take no memory
+  abbrev pub IsPaid : Ask X Y → Type 0
+  IsPaid (ask.Hear request) = ⊥
+  IsPaid (ask.Room depth) = ⊥
+  IsPaid ask.Take = ⊥
+  IsPaid ask.IsCancelled = ⊥
+  IsPaid (ask.Answer response) = ⊥
+  IsPaid ask.Close = Unit {0}
+  IsPaid ask.Halt = Unit {0}
+
+  abbrev pub MayBeShort : Ask X Y → Type 0
+  MayBeShort (ask.Hear request) = Unit {0}
+  MayBeShort (ask.Room depth) = Unit {0}
+  MayBeShort ask.Take = Unit {0}
+  MayBeShort ask.IsCancelled = Unit {0}
+  MayBeShort (ask.Answer response) = Unit {0}
+  MayBeShort ask.Close = ⊥
+  MayBeShort ask.Halt = ⊥
+
+  -- the reply to each call
+  abbrev pub answer_to : State X Y → ℕ → Ask X Y → Told
+  answer_to s lane (ask.Hear request) = told.Done
+  answer_to s lane (ask.Room depth) =
+      cond (ltb (length s.waiting) depth) told.Open told.Idle
+  answer_to s lane ask.Take = has_some s.waiting
+  answer_to s lane ask.IsCancelled = cond (is_cancelled (task_at lane s.hands)) told.Open told.Idle
+  answer_to s lane (ask.Answer response) = told.Done
+  answer_to s lane ask.Close = told.Idle
+  answer_to s lane ask.Halt = told.Idle
+
+  abbrev pub first : State X Y
+  first = record { heard = []; waiting = []; hands = []; replies = [] }
+
+  -- the state after the lane has taken the first of these
+  abbrev pub taken_by : ℕ → State X Y → List (Task X) → State X Y
+  taken_by lane s [] = s
+  taken_by lane s (t ∷ ts) = record {
+    heard = s.heard;
+    waiting = ts;
+    hands = (record { lane = lane; task = t }) ∷ s.hands;
+    replies = s.replies;
+  }
+
+  -- the state after the lane has answered so what it has in hand
+  abbrev pub answered_by : ℕ → State X Y → Y → Option (Task X) → State X Y
+  answered_by lane s r None = s
+  answered_by lane s r (Some t) = record {
+    heard = s.heard;
+    waiting = s.waiting;
+    hands = hands_without lane s.hands;
+    replies = s.replies ++ (record { place = t.place; response = r }) ∷ [];
+  }
+
+  module _ (number : X → ℤ) (cancels : X → Bool) where
+    -- the state after a request was heard: one that cancels marks those of its number that aren't
+    -- answered, and any other waits
+    abbrev pub heard_by : State X Y → X → Bool → State X Y
+    heard_by s m true = record {
+      heard = s.heard ++ m ∷ [];
+      waiting = map (task_marked number (number m)) s.waiting;
+      hands = map (in_hand_marked number (number m)) s.hands;
+      replies = s.replies;
+    }
+    heard_by s m false = record {
+      heard = s.heard ++ m ∷ [];
+      waiting = s.waiting
+          ++ (record { place = length s.heard; work = new_asked number m }) ∷ [];
+      hands = s.hands;
+      replies = s.replies;
+    }
+
+    -- the state after a call that was kept
+    abbrev pub moved : State X Y → ℕ → Ask X Y → State X Y
+    moved s lane (ask.Hear request) =
+        cond (lane == reader) (heard_by s request.value (cancels request.value)) s
+    moved s lane ask.Take = taken_by lane s s.waiting
+    moved s lane (ask.Answer response) =
+        answered_by lane s response.value (task_at lane s.hands)
+    moved s lane (ask.Room depth) = s
+    moved s lane ask.IsCancelled = s
+    moved s lane ask.Close = s
+    moved s lane ask.Halt = s
+
+    abbrev pub state_then : State X Y → Entry (Ask X Y) Told → State X Y
+    state_then s e = moved s e.lane e.call
+
+    -- the state after a history
+    abbrev pub state_of : List (Entry (Ask X Y) Told) → State X Y
+    state_of h = fold state_then first h
+
+    module _ (Says : X → Bool → Y → Type 0) where
+      -- The response is said to the request at its place. It may be that of a cancelled request
+      -- only where one behind it cancels its number.
+      pub record IsReply (heard : List X) (r : Reply Y) : Type 0 where
+        pub request : X
+        pub before : List X
+        pub behind : List X
+        pub stands : heard ≡ before ++ request ∷ behind
+        pub place : length before ≡ r.place
+        pub asks : cancels request ≡ false
+        pub cancelled : Bool
+        pub marked : cancelled ≡ true
+            → has_cancel number cancels (number request) behind ≡ true
+        pub says : Says request cancelled r.response
+
+-- how often k stands among these
+abbrev pub times : ℕ → List ℕ → ℕ
+times k [] = 0
+times k (x ∷ xs) = cond (k == x) 1 0 + times k xs
+
+module _ {X Y : Type 0} where
+  abbrev pub places_waiting : State X Y → List ℕ
+  places_waiting s = map (λ t. t.place) s.waiting
+
+  abbrev pub places_in_hand : State X Y → List ℕ
+  places_in_hand s = map (λ h. h.task.place) s.hands
+
+  abbrev pub places_answered : State X Y → List ℕ
+  places_answered s = map (λ r. r.place) s.replies
+
+  module _ (number : X → ℤ) (cancels : X → Bool) (Says : X → Bool → Y → Type 0) where
+    -- Whatever waits, is in hand or was answered stands at its place, and each request that is to
+    -- be answered waits, is in hand or was answered, once.
+    pub record IsProper (s : State X Y) : Type 0 where
+      pub waits : AllByRecursion (IsTask number cancels s.heard) s.waiting
+      pub holds : AllByRecursion (λ h. IsTask number cancels s.heard h.task) s.hands
+      pub said : AllByRecursion (IsReply number cancels Says s.heard) s.replies
+      pub each : (k : ℕ)
+          → times k (places_waiting s) + times k (places_in_hand s) + times k (places_answered s)
+          ≡ times k (asked_from number cancels 0 s.heard)
+
+    module _ (written : Y → List ℕ) where
+      -- what was put for these
+      abbrev pub put_by : List (Reply Y) → List ℕ
+      put_by replies = flat_map (λ r. written r.response) replies
+
+      -- what may go in with a call: the request that is heard, by its reader; the bytes of a
+      -- response that may be said to what the lane has in hand
+      abbrev pub GoesIn : State X Y → ℕ → Ask X Y → Option (Load X) → Type 0
+      GoesIn s lane (ask.Hear request) put =
+          (lane ≡ reader) × (put ≡ Some (load.Request request.value))
+      GoesIn s lane (ask.Answer response) put =
+          (t : Task X) × (bytes : Vec ℕ) × (task_at lane s.hands ≡ Some t)
+          × ((b : Bool) × (b ≡ true → t.work.cancelled ≡ true)
+          × Says t.work.request b response.value)
+          × (put ≡ Some (load.Bytes bytes)) × (bytes.items ≡ written response.value)
+      GoesIn s lane (ask.Room depth) put = Unit {0}
+      GoesIn s lane ask.Take put = Unit {0}
+      GoesIn s lane ask.IsCancelled put = Unit {0}
+      GoesIn s lane ask.Close put = Unit {0}
+      GoesIn s lane ask.Halt put = Unit {0}
+
+-- the first of these comes out with a Take that is Done
+abbrev pub FirstIs : {X : Type 0} → List (Task X) → Option (Load X) → Type 0
+FirstIs [] good = Unit {0}
+FirstIs (t ∷ ts) good = good ≡ Some (load.Task t.work)
+
+abbrev pub Gives : {X : Type 0} → List (Task X) → Told → Option (Load X) → Type 0
+Gives ts told.Done good = FirstIs ts good
+Gives ts told.Open good = Unit {0}
+Gives ts told.Idle good = Unit {0}
+Gives ts told.Closed good = Unit {0}
+
+abbrev pub ComesOut : {X Y : Type 0} → State X Y → Ask X Y → Told → Option (Load X) → Type 0
+ComesOut s ask.Take reply good = Gives s.waiting reply good
+ComesOut s (ask.Hear request) reply good = Unit {0}
+ComesOut s (ask.Room depth) reply good = Unit {0}
+ComesOut s ask.IsCancelled reply good = Unit {0}
+ComesOut s (ask.Answer response) reply good = Unit {0}
+ComesOut s ask.Close reply good = Unit {0}
+ComesOut s ask.Halt reply good = Unit {0}

@@ -1,0 +1,135 @@
+// What a worker makes of its requests.
+ghost use Rattle.std.specs.Prelude.{◌≡◌, IfOk};
+ghost use Rattle.wire_messages.specs.declared.request.WorkRequest.{WorkRequest};
+ghost use Rattle.worker_kit.specs.declared.handler.Handled.{Handled};
+ghost use Rattle.worker_kit.specs.Responses.{response_of, cancelled_response, Says};
+
+use crate::speech::Speech;
+use plain_values::{NoMemory, Text};
+use std::alloc::Global;
+use std::marker::PhantomData;
+use std::sync::Wait;
+use wire_messages::{WorkRequest, WorkResponse};
+use work_queue::{CancelFlag, Kind};
+
+/// What a handler makes of a request.
+#[derive(Drop)]
+pub struct Handled {
+    /// The exit code, as of a tool that was run for the request.
+    pub exit: i32,
+    /// What there is to say, for people.
+    pub output: Text,
+    /// The work was left unfinished, since the request was cancelled. Where a cancel request was
+    /// read behind it, it is answered as cancelled, without the exit code and the output.
+    pub stopped: bool,
+}
+
+/// Who answers requests, many at once: all lanes of a worker call it, each on a thread of its own.
+/// What they share they share as threads do, behind a `Mutex` for one.
+pub trait Handler: Sync {
+    // What may be made of a request.
+    ghost answers: { WorkRequest → Handled → Type 0 };
+
+    /// Does what a request asks. The flag says whether it was cancelled meanwhile; a handler that
+    /// looks at it may stop early and say so.
+    ///
+    /// # Errors
+    ///
+    /// `NoMemory`, and then the worker ends. A handler that can go on answers with an exit code.
+    fn handle<R: Wait>(
+        &self,
+        rt: &R,
+        alloc: Global,
+        request: &WorkRequest,
+        flag: &CancelFlag,
+    ) -> Result<Handled, NoMemory>
+        ensures { IfOk result (answers request.now) };
+}
+
+/// Who answers requests, one at a time. A worker has one for each of its lanes, with a state of its
+/// own, as a compiler that is kept warm.
+pub trait LaneHandler: Drop {
+    // What may be made of a request.
+    ghost answers: { WorkRequest → Handled → Type 0 };
+
+    /// As [`Handler::handle`].
+    ///
+    /// # Errors
+    ///
+    /// As of [`Handler::handle`].
+    fn handle<R: Wait>(
+        &mut self,
+        rt: &R,
+        alloc: Global,
+        request: &WorkRequest,
+        flag: &CancelFlag,
+    ) -> Result<Handled, NoMemory>
+        ensures { IfOk result (answers request.now) };
+}
+
+/// A lane's share in the one handler of all lanes.
+#[derive(Drop)]
+pub(crate) struct Shared<'a, H> {
+    pub(crate) handler: &'a H,
+}
+
+impl<H: Handler> LaneHandler for Shared<'_, H> {
+    ghost answers = { H.answers };
+
+    fn handle<R: Wait>(
+        &mut self,
+        rt: &R,
+        alloc: Global,
+        request: &WorkRequest,
+        flag: &CancelFlag,
+    ) -> Result<Handled, NoMemory> {
+        self.handler.handle(rt, alloc, request, flag)
+    }
+}
+
+/// Requests that are answered by handlers, in a speech. No value of it is made.
+pub struct Works<H, V> {
+    of: PhantomData<(H, V)>,
+}
+
+impl<H: LaneHandler, V: Speech> Kind<WorkRequest, WorkResponse> for Works<H, V> {
+    ghost number = { λ m. m.request_id };
+
+    ghost cancels = { λ m. m.cancel };
+
+    ghost says = { Says H.answers };
+
+    ghost written = { V.written };
+
+    fn number(request: &WorkRequest) -> i32 {
+        request.request_id
+    }
+
+    fn cancels(request: &WorkRequest) -> bool {
+        request.cancel
+    }
+}
+
+/// The response to a request that was handled so.
+pub(crate) fn response_of(request: &WorkRequest, handled: Handled) -> WorkResponse
+    ensures { result ≡ response_of request.now handled }
+{
+    WorkResponse {
+        exit_code: handled.exit,
+        output: handled.output,
+        request_id: request.request_id,
+        was_cancelled: false,
+    }
+}
+
+/// The response to a request that was cancelled.
+pub(crate) fn cancelled_response(alloc: Global, number: i32) -> WorkResponse
+    ensures { result ≡ cancelled_response number }
+{
+    WorkResponse {
+        exit_code: 0,
+        output: Text::of(String::new(alloc)),
+        request_id: number,
+        was_cancelled: true,
+    }
+}

@@ -1,0 +1,25 @@
+//! A library for writing workers that answer many requests at once.
+//!
+//! A worker is a [`Handler`]: what it makes of one request. [`serve`] does the rest: one lane reads
+//! the input, and others answer what it has read, each request once and under its number. A request
+//! that is cancelled before a lane takes it is answered as cancelled and not handled. One that is
+//! being handled is told so by its [`CancelFlag`]. [`serve_each`] gives each lane a handler of its
+//! own.
+//!
+//! [`Delimited`] reads and writes messages in the binary form of Protocol Buffers, each behind its
+//! length.
+#![tactic(auto)]
+
+mod calls;
+mod end;
+mod handler;
+mod handling;
+mod reading;
+mod serving;
+mod speech;
+
+pub use end::KitEnd;
+pub use handler::{Handled, Handler, LaneHandler, Works};
+pub use serving::{KitEnded, Size, Streams, serve, serve_each};
+pub use speech::{Delimited, Speech};
+pub use work_queue::CancelFlag;
