@@ -1,6 +1,6 @@
 //! The bare calls on files, folders, pipes and processes, as the objects of the outside make them. What the system does
 //! for them is trusted. A clause says how paths are put together, and what a process is started with; of the rest it is
-//! proved that it is safe and ends, and `run_trials` shows each call and each way in which it may fail.
+//! proved that it is safe and ends, and `real_trials` shows which calls of the system each makes.
 #![tactic(auto)]
 
 mod disk;

@@ -14,20 +14,16 @@
 //! | `meet WORD WORD ..` | its status and its report, where each of two actions writes only once the other does too |
 //! | `reads`, `writes` | what the floor and the places tell of the last run |
 //! | `room`, `given` | what its first berth and its first line tell |
-//! | `real` | each real object is driven once; behind this line each line is a list, which is run with real objects and shell workers: its report, its status and the line of its fault |
+//! | `real` | behind this line each line is a list, which is run with real objects and shell workers: its report, its status and the line of its fault |
 //!
 //! Other lines before `real` are printed as they are. The program runs in a folder of its own with the files of `data/`.
 //! `tools/run-vectors` writes `stdin` and `stdout`, and `tools/fail-alloc` plays two runs with each allocation refused in turn.
 #![tactic(auto)]
 
 mod case;
-mod lines;
 mod meeting;
-mod page;
-mod places;
 mod played;
 mod real;
-mod rooms;
 
 use case::Case;
 use meeting::MeetingFloor;
@@ -53,7 +49,6 @@ fn main(rt: HostRuntime) -> io::Result<()> {
         return play_all(&rt, alloc, text);
     };
     play_all(&rt, alloc, memory)?;
-    real::drive(&rt, alloc, RealFloor::new(rt, alloc))?;
     for path in lists.lines() {
         println!(&rt; "{path}")?;
         let floor = RealFloor::new(rt, alloc);

@@ -79,6 +79,21 @@ impl<'a, P: Print> Page<'a, P> {
         self.note(printed);
     }
 
+    /// The status with which a job ended.
+    pub fn code(&mut self, code: i32) {
+        let printed = println!(self.rt; "  exit {code}");
+        self.note(printed);
+    }
+
+    /// What the system said, if it did.
+    pub fn error(&mut self, error: Option<&io::Error>) {
+        let printed = match error {
+            Some(error) => println!(self.rt; "  the system said: {error}"),
+            None => println!(self.rt; "  the system said nothing"),
+        };
+        self.note(printed);
+    }
+
     /// The bytes that were taken.
     pub fn taken(&mut self, bytes: &[u8]) {
         let text = str::from_utf8(bytes).unwrap_or("no text");

@@ -41,6 +41,7 @@ fn write_all<P: Print, F: Floor>(
         page.read(path, floor.read(path));
     }
     page.read("letter", floor.read("letter"));
+    page.read("aside/file", floor.read("aside/file"));
     write_long(page, alloc, place, "a name of 255 bytes", 255);
     write_long(page, alloc, place, "a name of 256 bytes", 256);
     // What stands in the way of one place's name stands in the way of no other.
@@ -83,7 +84,8 @@ fn write_one<P: Print, F: Floor>(
     }
 }
 
-fn name(alloc: Global, length: usize) -> Result<String, NoMemory> {
+/// A name of so many bytes.
+pub fn name(alloc: Global, length: usize) -> Result<String, NoMemory> {
     let mut name = String::new(alloc);
     for _ in 0..length {
         name.push('n')?;
