@@ -1,0 +1,118 @@
+// What the handlers of the trials do.
+ghost use Rattle.std.specs.Prelude.{◌≡◌, []};
+
+use plain_values::{NoMemory, Text};
+use std::alloc::Global;
+use std::sync::Wait;
+use std::sync::atomic::AtomicBool;
+use std::sync::atomic::Ordering::SeqCst;
+use std::thread::yield_now;
+use wire_messages::WorkRequest;
+use worker_kit::{CancelFlag, Handled, Handler, LaneHandler};
+
+/// For how many turns a handler waits.
+const MOST_TURNS: u64 = 10_000_000;
+
+/// What a handler does. It answers exit 3, or 9 where it has waited in vain.
+#[derive(Clone, Copy, PartialEq, Eq)]
+pub enum Does {
+    /// It answers at once.
+    Three,
+    /// Number 1 waits until number 2 has begun.
+    Meets,
+    /// Number 1 waits until it is cancelled, and stops.
+    Stops,
+    /// Number 2 finds no memory.
+    Starves,
+}
+
+/// The handler of all lanes.
+#[derive(Drop)]
+pub struct Trial {
+    does: Does,
+    second_has_begun: AtomicBool,
+}
+
+impl Trial {
+    pub fn new(does: Does) -> Trial {
+        Trial {
+            does,
+            second_has_begun: AtomicBool::new(false),
+        }
+    }
+
+    // Waits for what this request waits for. Whether that has come.
+    fn awaits(&self, request: &WorkRequest, flag: &CancelFlag) -> bool {
+        if request.request_id != 1 {
+            return true;
+        }
+        for _ in 0..MOST_TURNS {
+            let has_come = match self.does {
+                Does::Three | Does::Starves => true,
+                Does::Meets => self.second_has_begun.load(SeqCst),
+                Does::Stops => flag.is_raised(),
+            };
+            if has_come {
+                return true;
+            }
+            yield_now();
+        }
+        false
+    }
+}
+
+impl Handler for Trial {
+    ghost answers = { λ request handled. Unit {0} };
+
+    fn handle<R: Wait>(
+        &self,
+        _rt: &R,
+        alloc: Global,
+        request: &WorkRequest,
+        flag: &CancelFlag,
+    ) -> Result<Handled, NoMemory> {
+        if request.request_id == 2 {
+            self.second_has_begun.store(true, SeqCst);
+            if self.does == Does::Starves {
+                return Err(NoMemory);
+            }
+        }
+        let has_come = self.awaits(request, flag);
+        Ok(Handled {
+            exit: if has_come { 3 } else { 9 },
+            output: Text::of(String::new(alloc)),
+            stopped: self.does == Does::Stops && request.request_id == 1 && has_come,
+        })
+    }
+}
+
+/// A handler of a lane's own, which answers how many requests it has had.
+#[derive(Drop)]
+pub struct Counts {
+    count: i32,
+}
+
+impl Counts {
+    pub fn new() -> Counts {
+        Counts { count: 0 }
+    }
+}
+
+impl LaneHandler for Counts {
+    ghost answers = { λ request handled. handled.output ≡ [] };
+
+    fn handle<R: Wait>(
+        &mut self,
+        _rt: &R,
+        alloc: Global,
+        _request: &WorkRequest,
+        _flag: &CancelFlag,
+    ) -> Result<Handled, NoMemory> {
+        self.count = self.count.saturating_add(1);
+        Ok(Handled {
+            exit: self.count,
+            output: Text::of(String::new(alloc)),
+            stopped: false,
+        })
+    }
+}
