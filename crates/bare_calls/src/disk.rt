@@ -32,9 +32,9 @@ pub(crate) fn read_found<R: Files + AllocGlobal>(
     }
 }
 
-// All bytes of a file. One read takes as many as a look found, and the next finds the end, for
-// which there is one byte of room more. A file that has changed since the look is read to its end
-// all the same.
+// All bytes of a file. There is room for one byte more than a look found, so a read that takes as many as were found has
+// come to the end. After any other read the file is read on to its end: it has changed since the look, or gives its bytes
+// in parts, or its length says nothing.
 fn read_whole<R: Files + AllocGlobal>(rt: &R, path: &str, looked: u64) -> io::Result<Vec<u8>> {
     let mut file = fs::open(rt, path)?;
     let mut bytes = Vec::new(rt.alloc());
@@ -45,7 +45,9 @@ fn read_whole<R: Files + AllocGlobal>(rt: &R, path: &str, looked: u64) -> io::Re
         taken => taken?,
     };
     bytes.truncate(count);
-    file.read_to_end(&mut bytes)?;
+    if count == 0 || u64::try_from(count) != Ok(looked) {
+        file.read_to_end(&mut bytes)?;
+    }
     Ok(bytes)
 }
 

@@ -38,10 +38,19 @@ pub fn write_inside<R: Files + AllocGlobal>(
     bytes: &[u8],
 ) -> io::Result<()> {
     make_way(rt, alloc, room, path)?;
-    let path = path_in(alloc, room, path)?;
-    match write_new(rt, path.as_str(), bytes)? {
+    write_at(rt, alloc, path_in(alloc, room, path)?.as_str(), bytes)
+}
+
+/// Writes a file of a room whose folder stands.
+pub(crate) fn write_at<R: Files>(
+    rt: &R,
+    alloc: Global,
+    path: &str,
+    bytes: &[u8],
+) -> io::Result<()> {
+    match write_new(rt, path, bytes)? {
         Some(()) => Ok(()),
-        None => write_beside(rt, alloc, BESIDE, path.as_str(), bytes),
+        None => write_beside(rt, alloc, BESIDE, path, bytes),
     }
 }
 
@@ -87,8 +96,8 @@ fn are_plain<R: Files + AllocGlobal>(
     Ok(true)
 }
 
-// Makes the way longer by a folder.
-fn push_folder(way: &mut String, folder: &str) -> Result<(), AllocError> {
+/// Makes the way longer by a folder.
+pub(crate) fn push_folder(way: &mut String, folder: &str) -> Result<(), AllocError> {
     way.push_str("/")?;
     way.push_str(folder)
 }

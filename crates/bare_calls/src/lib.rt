@@ -6,6 +6,7 @@
 mod disk;
 mod emptying;
 mod inside;
+mod known;
 mod lock;
 mod paths;
 mod pipes;
@@ -14,6 +15,7 @@ mod spawn;
 pub use disk::{read_regular, write_beside};
 pub use emptying::{empty_inside, remove_inside};
 pub use inside::{make_folder_inside, read_inside, write_inside};
+pub use known::Known;
 pub use lock::{LockFile, lock_inside};
 pub use paths::path_in;
 pub use pipes::{never_wait, wait_to_read, wait_to_write, write_now};

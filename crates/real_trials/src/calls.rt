@@ -1,8 +1,8 @@
 // The bare calls on files and folders, over files whose calls are printed.
 use crate::recorder::Recorder;
 use bare_calls::{
-    empty_inside, make_folder_inside, read_inside, read_regular, remove_inside, write_beside,
-    write_inside,
+    Known, empty_inside, make_folder_inside, read_inside, read_regular, remove_inside,
+    write_beside, write_inside,
 };
 use plain_values::NoMemory;
 use std::alloc::Global;
@@ -11,7 +11,7 @@ use std::rt::Files;
 use std::str;
 use std::sync::atomic::AtomicU64;
 
-/// The room in which calls are made.
+/// The room in which calls are made, and the folder of rooms of which it is known what stands in them.
 const ROOM: &str = "files";
 
 /// Makes the bare call that a line says, as `write made/first 3`: its name, a path, and which of the calls that it makes
@@ -23,6 +23,7 @@ const ROOM: &str = "files";
 pub fn play<R: Files + Print + Copy + Drop>(
     rt: &R,
     alloc: Global,
+    known: &mut Known,
     line: &str,
 ) -> Result<String, NoMemory> {
     let (name, rest) = line.split_once(' ').unwrap_or((line, ""));
@@ -38,6 +39,11 @@ pub fn play<R: Files + Print + Copy + Drop>(
         "folder" => make_folder_inside(&files, alloc, ROOM, path),
         "remove" => remove_inside(&files, alloc, ROOM, path),
         "empty" => empty_inside(&files, alloc, ROOM, path),
+        "clear" => known.empty(&files, ROOM, path),
+        "part" => known.remove(&files, ROOM, path),
+        "make" => known.make(&files, ROOM, path),
+        "put" => known.write(&files, ROOM, path, b"new"),
+        "get" => return found(alloc, known.read(&files, ROOM, path)),
         "source" => return found(alloc, read_regular(&files, path)),
         _ => return found(alloc, read_inside(&files, alloc, ROOM, path)),
     };

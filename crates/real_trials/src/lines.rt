@@ -17,7 +17,8 @@ const FIRST: &str =
     mv ../3 ../moved; ln -s .. ../3; echo $line; exec cat";
 
 const SECOND: &str =
-    "./tool; ln -s ../../aside aside; printf x >\"$(printf 'x\\351')\"; mkdir -p shut/in; printf x >shut/in/file; \
+    "./tool || echo \"it can't be run\"; rm -r shelf rack; ln -s ../../aside shelf; ln -s ../../aside rack; \
+    printf x >\"$(printf 'x\\351')\"; mkdir -p shut/in; printf x >shut/in/file; \
     chmod 555 shut/in shut; read pid <../pid; \
     test -e /proc/$pid && echo \"it is there\" || echo \"it is gone\"; \
     test \"$(readlink /proc/$$/fd/2)\" = \"$(readlink /proc/$PPID/fd/2)\" \
@@ -27,12 +28,17 @@ const THIRD: &str = "test -z \"$(ls -A)\" && left=nothing || left=something; \
     echo \"$left is left, aside has $(stat -c %a ../../aside)\"; exec cat";
 
 pub fn play<P: Print, B: Berth>(page: &mut Page<'_, P>, alloc: Global, berth: &mut B) {
+    page.io("put letter", &berth.room_put("letter", b"inside"));
     if let Some((mut feed, mut tap, mut child)) = shell(page, alloc, berth, 0, FIRST) {
         talk(page, berth, &mut feed, &mut tap, &mut child);
     }
     page.io("put tool", &berth.room_put("tool", b"echo it runs\n"));
+    page.io("put shelf/file", &berth.room_put("shelf/file", b"inside"));
+    page.io("put rack/file", &berth.room_put("rack/file", b"inside"));
     if let Some((_feed, mut tap, mut child)) = shell(page, alloc, berth, 1, SECOND) {
         take_all(page, alloc, &mut tap, 3);
+        page.io("put rack/x", &berth.room_put("rack/x", b"inside"));
+        page.read("rack/x", berth.room_get("rack/x"));
         page.io("clear", &berth.room_clear(""));
         child.kill();
     }

@@ -1,4 +1,4 @@
-use Rattle.std.proofs.Common.{rules, ◌+◌, take, sym, subst}
+use Rattle.std.proofs.Common.{take, sym, subst}
 use Rattle.bare_calls.specs.Starts.{SetsEach}
 use Rattle.bare_calls.proofs.Variables.{sets_more, up_to}
 use Rattle.bare_calls.proofs.spawn.give_variables.Goals as goal
