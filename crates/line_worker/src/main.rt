@@ -1,0 +1,111 @@
+//! A worker that counts lines, four requests at once: the example from which a worker of one's own is made. The words of a
+//! request are the path of its output, and then the files whose lines are counted.
+#![tactic(auto)]
+
+ghost use Rattle.std.specs.Prelude.{◌≡◌, ◌⊎◌, IfOk, pos};
+
+use outside::{Io, Read, Shop};
+use outside_real::{RealInput, RealShop, RealSink};
+use plain_values::{NoMemory, Text};
+use std::alloc::Global;
+use std::process::ExitCode;
+use std::sync::{Mutex, Wait};
+use wire_messages::WorkRequest;
+use worker_kit::{CancelFlag, Delimited, Handled, Handler, KitEnd, Size, Streams, serve};
+
+/// Counts the lines of files of a shop, which all lanes share.
+#[derive(Drop)]
+struct LineCounter<S> {
+    shop: Mutex<S>,
+}
+
+impl<S: Shop + Send> Handler for LineCounter<S> {
+    ghost answers = { λ request handled. (handled.exit ≡ pos 0) ⊎ (handled.exit ≡ pos 1) };
+
+    fn handle<R: Wait>(
+        &self,
+        rt: &R,
+        alloc: Global,
+        request: &WorkRequest,
+        flag: &CancelFlag,
+    ) -> Result<Handled, NoMemory> {
+        let mut words = request.arguments.as_slice().iter();
+        let Some(output) = words.next() else {
+            return ended(alloc, 1, "no output is named\n");
+        };
+        let mut count: u64 = 0;
+        for word in words {
+            if flag.is_raised() {
+                return stopped(alloc);
+            }
+            let path = placed(alloc, request, word)?;
+            let found = self.shop.lock(rt).get(&path)?;
+            match found {
+                Read::Found(file) => count = count.saturating_add(lines_of(file.bytes())),
+                Read::Absent | Read::Failed => {
+                    let text = format!(in alloc; "can't be read: {}\n", word.as_str())?;
+                    return ended(alloc, 1, &text);
+                }
+            }
+        }
+        let text = format!(in alloc; "{count}\n")?;
+        let path = placed(alloc, request, output)?;
+        let put = self.shop.lock(rt).put(&path, text.as_bytes());
+        match put {
+            Io::Done => ended(alloc, 0, &text),
+            Io::Failed => ended(alloc, 1, "the output can't be written\n"),
+        }
+    }
+}
+
+// Where a path of the request lies: in the request's own folder, if it has one.
+fn placed(alloc: Global, request: &WorkRequest, path: &Text) -> Result<String, NoMemory> {
+    match request.sandbox_dir.as_str() {
+        "" => Ok(String::from_str(alloc, path.as_str())?),
+        folder => Ok(format!(in alloc; "{folder}/{}", path.as_str())?),
+    }
+}
+
+fn lines_of(bytes: &[u8]) -> u64 {
+    bytes.iter().filter(|byte| **byte == b'\n').count() as u64
+}
+
+fn ended(alloc: Global, exit: i32, text: &str) -> Result<Handled, NoMemory>
+    ensures { IfOk result (λ handled. handled.exit ≡ exit) }
+{
+    Ok(Handled {
+        exit,
+        output: Text::of(String::from_str(alloc, text)?),
+        stopped: false,
+    })
+}
+
+fn stopped(alloc: Global) -> Result<Handled, NoMemory>
+    ensures { IfOk result (λ handled. handled.exit ≡ pos 1) }
+{
+    Ok(Handled {
+        exit: 1,
+        output: Text::of(String::new(alloc)),
+        stopped: true,
+    })
+}
+
+fn main(rt: HostRuntime) -> ExitCode {
+    let alloc = rt.alloc();
+    let counter = LineCounter {
+        shop: Mutex::new(RealShop::new(rt, alloc)),
+    };
+    let streams = Streams {
+        tap: RealInput::new(rt.stdin()),
+        sink: RealSink::new(rt),
+    };
+    let size = Size {
+        handlers: 4,
+        depth: 1_024,
+    };
+    let end = match serve(&rt, alloc, &Delimited, streams, size, &counter) {
+        Ok(ended) => ended.end,
+        Err(NoMemory) => KitEnd::NoMemory,
+    };
+    ExitCode::from(end.status())
+}
