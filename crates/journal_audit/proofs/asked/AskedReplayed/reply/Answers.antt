@@ -1,0 +1,6 @@
+use Rattle.journal_audit.proofs.Only.{only}
+use Rattle.journal_audit.proofs.asked.AskedReplayed.reply.Goals as goal
+
+pub returns-clause-only : goal.returns-clause-only
+returns-clause-only c = λ p j x stood legal.
+    only p j c.args.lane c.args.call.now c.step.result x (c.step.ensures.reply p j stood) legal.1

@@ -1,0 +1,45 @@
+//! Checks the text of a run's journal, by the scheduling core itself.
+#![tactic(auto)]
+
+mod asked;
+mod texts;
+
+ghost use Rattle.std.specs.Prelude.{◌≡◌, IfOk};
+ghost use Rattle.exec_journal.specs.Legal.{Legal};
+ghost use Rattle.outside.specs.Causes.{Counts};
+ghost use Rattle.journal_replay.specs.Streams.{Streamed};
+ghost use Rattle.journal_replay.specs.Verdicts.{Judges};
+ghost use Rattle.journal_replay.specs.declared.verdict.Verdict.{Verdict};
+
+use asked::Asked;
+pub use journal_replay::Verdict;
+use journal_replay::{audit_with, check_stream_with};
+use outside::{Sink, Tap};
+use plain_values::NoMemory;
+use std::alloc::Global;
+pub use texts::{audit_again, legal_texts_are_judged};
+
+/// What the text comes to. Whoever made it isn't trusted: where the answer is Yes, the journal that it spells is legal. It is
+/// the only answer that is due.
+///
+/// # Errors
+///
+/// `NoMemory`, which says nothing of the text.
+pub fn audit(alloc: Global, bytes: &[u8]) -> Result<Verdict, NoMemory>
+    ensures answer { IfOk result (Judges Legal bytes.now) }
+    ensures only { IfOk result (λ v. (w : Verdict) → Judges Legal bytes.now w → w ≡ v) }
+{
+    audit_with::<Asked>(alloc, bytes)
+}
+
+/// Reads a text to its end, or until it is too long, and puts a line that says what it comes to. The status is 0 where it is
+/// legal, 1 where it isn't, 4 where it is no journal of a sound plan, 3 where memory was wanted, 5 where the tap failed and
+/// 6 where the sink did.
+pub fn check_stream<T: Tap, O: Sink>(alloc: Global, input: &mut T, out: &mut O) -> u8
+    ensures streamed { Streamed Legal (T.told input.old) (T.told input.new)
+        (O.told out.old) (O.told out.new) result }
+    ensures tap { Counts (T.told input.old).faults (T.told input.new).faults (result ≡ 5) }
+    ensures sink { Counts (O.told out.old).faults (O.told out.new).faults (result ≡ 6) }
+{
+    check_stream_with::<Asked, T, O>(alloc, input, out)
+}

@@ -1,0 +1,17 @@
+use Rattle.std.proofs.Common.{◌≡◌, ◌+◌, ◌<◌, ◌≤◌, ◌^◌, [], length, arith}
+use Rattle.journal_replay.proofs.Once.{judged_only}
+use Rattle.journal_replay.proofs.auditing.audit_with.Goals as goal
+
+pub returns-clause-answer : goal.returns-clause-answer
+returns-clause-answer g c =
+    let bytes = c.args.bytes.now in
+    let few : length bytes ≤ 268435456 = omega arith in
+    let fits : 0 + length bytes < 2 ^ 63 = omega arith in
+    c.verdict.ensures bytes (c.in_ok-feed.ensures [] c.new-auditor.ensures fits) few
+
+pub returns-clause-only : goal.returns-clause-only
+returns-clause-only g c =
+    let bytes = c.args.bytes.now in
+    let few : length bytes ≤ 268435456 = omega arith in
+    let fits : 0 + length bytes < 2 ^ 63 = omega arith in
+    judged_only g.C.Replayed.makes g.met.C.Replayed.fronts bytes c.verdict.result (c.verdict.ensures bytes (c.in_ok-feed.ensures [] c.new-auditor.ensures fits) few)

@@ -1,0 +1,38 @@
+use Rattle.std.proofs.Common.{◌≡◌, ◌+◌, ◌-◌, ◌<◌, ◌≤◌, ◌^◌, ◌∷◌, [], ◌++◌, length, take, refl, sym, ◌∙◌, ap, arith}
+use Rattle.journal_replay.proofs.Pieces.{fed_byte, fed_same, front_fits, front_more, no_part, part, part_more}
+use Rattle.journal_replay.proofs.feeding.Auditor.feed.Goals as goal
+use Rattle.journal_replay.proofs.feeding.Auditor.feed.Goals.{then-byte-eq10+in_ok-end_line, else-byte-eq10}
+
+pub loop-at-preserved : goal.loop-at-preserved
+loop-at-preserved g c =
+    let makes = g.C.Replayed.makes in
+    let stands = g.C.Replayed.stands in
+    let piece = c.args.piece.now in
+    let at = c.loop-at.at in
+    let start = c.loop-at.start in
+    let before = c.loop-at.invariant in
+    elim c.if-byte-eq10.branch [
+      | then-byte-eq10+in_ok-end_line w ↦ (
+          let order : at + 1 ≤ at + 1 = omega arith in
+          rw (w.self-is, w.start-is)
+          record {
+            order = order;
+            fed = λ bytes fed few.
+                let known = before.fed bytes fed few in
+                let below : length (bytes ++ take at piece) < 2 ^ 63 = front_fits bytes piece at c.loop-at-test.true few in
+                fed_same makes stands _ _ _ _ _ _ (w.in_ok-end_line.ensures (bytes ++ take at piece) known below)
+                (no_part _ piece (at + 1)) (front_more bytes piece at 10 c.loop-at-test.true w.if-byte-eq10.true);
+          }
+          )
+      | else-byte-eq10 w ↦ (
+          rw (w.self-is, w.start-is)
+          record {
+            order = omega (arith, before.order);
+            fed = λ bytes fed few.
+                fed_same makes stands c.loop-at.self.found c.loop-at.self.number _ _ _ _
+                (fed_byte makes stands c.loop-at.self.found c.loop-at.self.number _ _ _ (before.fed bytes fed few) w.if-byte-eq10.false)
+                (part_more c.loop-at.self.begun.items piece start at _ before.order c.loop-at-test.true refl)
+                (front_more bytes piece at _ c.loop-at-test.true refl);
+          }
+          )
+    ]

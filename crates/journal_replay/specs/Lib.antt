@@ -1,0 +1,11 @@
+pub mod Plans
+pub mod Beyond
+pub mod Legality
+pub mod Same
+pub mod Spelled
+pub mod Verdicts
+pub mod Bounds
+pub mod Knows
+pub mod Words
+pub mod Fed
+pub mod Streams

@@ -1,0 +1,31 @@
+// The verdict on a text.
+ghost use Rattle.std.specs.Prelude.{◌≡◌, ◌≤◌, IfOk, length};
+ghost use Rattle.journal_text.specs.Lines.{lines_of};
+ghost use Rattle.journal_replay.specs.Knows.{Knows};
+ghost use Rattle.journal_replay.specs.Verdicts.{Judges};
+ghost use Rattle.journal_replay.specs.declared.verdict.Verdict.{Verdict};
+
+use crate::feeding::Auditor;
+use crate::replayed::Replayed;
+use crate::verdict::Verdict;
+use plain_values::NoMemory;
+use std::alloc::Global;
+
+const LIMIT: usize = 268_435_456;
+
+/// What the text comes to. Whoever made it isn't trusted: where the answer is Yes, the journal that it spells is legal.
+///
+/// # Errors
+///
+/// `NoMemory`, which says nothing of the text.
+pub fn audit_with<C: Replayed>(alloc: Global, bytes: &[u8]) -> Result<Verdict, NoMemory>
+    ensures answer { IfOk result (Judges C.makes bytes.now) }
+    ensures only { IfOk result (λ v. (w : Verdict) → Judges C.makes bytes.now w → w ≡ v) }
+{
+    if bytes.len() > LIMIT {
+        return Ok(Verdict::TooLong);
+    }
+    let mut auditor: Auditor<C> = Auditor::new(alloc);
+    auditor.feed(bytes)?;
+    auditor.verdict()
+}

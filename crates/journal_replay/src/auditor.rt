@@ -1,0 +1,209 @@
+// What is known of the lines so far, and what the next line makes of it.
+ghost use Rattle.std.specs.Prelude.{◌≡◌, ◌+◌, ◌<◌, ◌^◌, ◌++◌, ◌∷◌, [], ℕ, List, IfOk, Some, None, true, is_some, length, reverse};
+ghost use Rattle.run_plan.specs.Sound.{Sound};
+ghost use Rattle.journal_text.specs.Lines.{entry_of, plan_of};
+ghost use Rattle.journal_replay.specs.Knows.{IsBad, IsLegalSoFar, Knows};
+ghost use Rattle.journal_replay.specs.Spelled.{Spells};
+ghost use Rattle.journal_replay.specs.Verdicts.{HasFault, IsBadPlan, Says};
+
+use crate::beyond::{Bounds, bounds_of, is_entry_beyond};
+use crate::replayed::Replayed;
+use crate::same::is_told;
+use crate::sound::is_sound;
+use crate::verdict::Verdict;
+use exec_journal::{Entry, Plan};
+use journal_reading::{Misread, read_entry, read_plan};
+use plain_values::NoMemory;
+use std::alloc::Global;
+
+/// What is known of the lines so far.
+#[derive(Drop)]
+pub(crate) enum Found<C: Drop> {
+    /// There was none.
+    Nothing,
+    /// This line was the first that doesn't spell what it should.
+    Bad { line: u64 },
+    /// They spell a plan that isn't sound, and entries.
+    Unsound,
+    /// They spell a sound plan and entries, of which this is the first that the rules don't make.
+    Wrong { entry: u64, beyond: bool },
+    /// They spell a sound plan and entries, which are legal.
+    Going(Going<C>),
+}
+
+/// A sound plan, how many entries there were, and a core that was called as they say.
+#[derive(Drop)]
+pub(crate) struct Going<C: Drop> {
+    core: C,
+    plan: Plan,
+    bounds: Bounds,
+    entries: u64,
+}
+
+/// What is known with one more line, which has this number from 1.
+pub(crate) fn with_line<C: Replayed>(
+    alloc: Global,
+    found: Found<C>,
+    number: u64,
+    line: &[u8],
+) -> Result<Found<C>, NoMemory>
+    ensures { (ls : List (List ℕ)) → Knows C.makes C.stands found ls
+        → number ≡ length ls + 1 → length ls < 2 ^ 63
+        → IfOk result (λ f. Knows C.makes C.stands f (ls ++ line.now ∷ [])) }
+{
+    match found {
+        Found::Nothing => first_line(alloc, line),
+        Found::Bad { line } => Ok(Found::Bad { line }),
+        Found::Unsound => unsound_line(alloc, number, line),
+        Found::Wrong { entry, beyond } => wrong_line(alloc, entry, beyond, number, line),
+        Found::Going(going) => next_line(alloc, going, number, line),
+    }
+}
+
+fn first_line<C: Replayed>(alloc: Global, line: &[u8]) -> Result<Found<C>, NoMemory>
+    ensures { IfOk result (λ f. Knows C.makes C.stands f (line.now ∷ [])) }
+{
+    match read_plan(alloc, line) {
+        Ok(plan) => begun(alloc, plan, line),
+        Err(Misread::Otherwise) => Ok(Found::Bad { line: 1 }),
+        Err(Misread::NoMemory) => Err(NoMemory),
+    }
+}
+
+// The plan is what the line spells.
+fn begun<C: Replayed>(alloc: Global, plan: Plan, line: &[u8]) -> Result<Found<C>, NoMemory>
+    requires { plan_of line.now ≡ Some plan }
+    ensures { IfOk result (λ f. Knows C.makes C.stands f (line.now ∷ [])) }
+{
+    if !is_sound(&plan) {
+        return Ok(Found::Unsound);
+    }
+    let bounds = bounds_of(&plan);
+    let twin = read_again(alloc, line)?;
+    let core = C::begin(alloc, twin)?;
+    Ok(Found::Going(Going {
+        core,
+        plan,
+        bounds,
+        entries: 0,
+    }))
+}
+
+// The plan of a line that spells one.
+fn read_again(alloc: Global, line: &[u8]) -> Result<Plan, NoMemory>
+    requires { is_some (plan_of line.now) ≡ true }
+    ensures { IfOk result (λ p. plan_of line.now ≡ Some p) }
+{
+    match read_plan(alloc, line) {
+        Ok(plan) => Ok(plan),
+        Err(Misread::Otherwise) => unreachable!(),
+        Err(Misread::NoMemory) => Err(NoMemory),
+    }
+}
+
+fn spells_entry(alloc: Global, line: &[u8]) -> Result<bool, NoMemory>
+    ensures { IfOk result (λ b. b ≡ is_some (entry_of line.now)) }
+{
+    match read_entry(alloc, line) {
+        Ok(_) => Ok(true),
+        Err(Misread::Otherwise) => Ok(false),
+        Err(Misread::NoMemory) => Err(NoMemory),
+    }
+}
+
+fn unsound_line<C: Replayed>(alloc: Global, number: u64, line: &[u8]) -> Result<Found<C>, NoMemory>
+    ensures { (ls : List (List ℕ)) → IsBadPlan ls → number ≡ length ls + 1
+        → IfOk result (λ f. Knows C.makes C.stands f (ls ++ line.now ∷ [])) }
+{
+    if spells_entry(alloc, line)? {
+        Ok(Found::Unsound)
+    } else {
+        Ok(Found::Bad { line: number })
+    }
+}
+
+fn wrong_line<C: Replayed>(
+    alloc: Global,
+    entry: u64,
+    beyond: bool,
+    number: u64,
+    line: &[u8],
+) -> Result<Found<C>, NoMemory>
+    ensures { (ls : List (List ℕ)) → HasFault C.makes ls entry beyond → number ≡ length ls + 1
+        → IfOk result (λ f. Knows C.makes C.stands f (ls ++ line.now ∷ [])) }
+{
+    if spells_entry(alloc, line)? {
+        Ok(Found::Wrong { entry, beyond })
+    } else {
+        Ok(Found::Bad { line: number })
+    }
+}
+
+fn next_line<C: Replayed>(
+    alloc: Global,
+    going: Going<C>,
+    number: u64,
+    line: &[u8],
+) -> Result<Found<C>, NoMemory>
+    ensures { (ls : List (List ℕ)) → IsLegalSoFar C.makes C.stands ls going
+        → number ≡ length ls + 1 → length ls < 2 ^ 63
+        → IfOk result (λ f. Knows C.makes C.stands f (ls ++ line.now ∷ [])) }
+{
+    match read_entry(alloc, line) {
+        Ok(entry) => Ok(judged(going, entry)),
+        Err(Misread::Otherwise) => Ok(Found::Bad { line: number }),
+        Err(Misread::NoMemory) => Err(NoMemory),
+    }
+}
+
+// The core is called as the entry says, and what it replies is compared with what the entry says.
+fn judged<C: Replayed>(going: Going<C>, entry: Entry) -> Found<C>
+    ensures { (ls : List (List ℕ)) (line : List ℕ) → IsLegalSoFar C.makes C.stands ls going
+        → entry_of line ≡ Some entry → length ls < 2 ^ 63
+        → Knows C.makes C.stands result (ls ++ line ∷ []) }
+{
+    let Going {
+        core,
+        plan,
+        bounds,
+        entries,
+    } = going;
+    let mut core = core;
+    let reply = core.reply(entry.lane, &entry.call);
+    if is_told(&entry.reply, &reply) {
+        return Found::Going(Going {
+            core,
+            plan,
+            bounds,
+            entries: entries.saturating_add(1),
+        });
+    }
+    let beyond = is_entry_beyond(bounds, &plan, &entry);
+    Found::Wrong {
+        entry: entries,
+        beyond,
+    }
+}
+
+/// The verdict on these lines.
+pub(crate) fn verdict_of<C: Replayed>(found: Found<C>) -> Verdict
+    ensures { (ls : List (List ℕ)) → Knows C.makes C.stands found ls → Says C.makes ls result }
+{
+    match found {
+        Found::Nothing => Verdict::BadLine { line: 1 },
+        Found::Bad { line } => Verdict::BadLine { line },
+        Found::Unsound => Verdict::BadPlan,
+        Found::Wrong {
+            entry,
+            beyond: true,
+        } => Verdict::OutOfPlan { entry },
+        Found::Wrong {
+            entry,
+            beyond: false,
+        } => Verdict::Illegal { entry },
+        Found::Going(going) => Verdict::Yes {
+            actions: going.bounds.actions,
+            entries: going.entries,
+        },
+    }
+}

@@ -1,0 +1,18 @@
+//! Checks the text of a run's journal: whether it spells a legal one. Whoever made the text isn't trusted.
+#![tactic(auto)]
+
+mod auditing;
+mod auditor;
+mod beyond;
+mod feeding;
+pub mod laws;
+mod replayed;
+mod same;
+mod sound;
+mod streaming;
+mod verdict;
+
+pub use auditing::audit_with;
+pub use replayed::Replayed;
+pub use streaming::check_stream_with;
+pub use verdict::Verdict;

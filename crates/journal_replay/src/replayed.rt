@@ -1,0 +1,49 @@
+// What an auditor asks of a scheduling core.
+ghost use Rattle.std.specs.Prelude.{◌≡◌, ◌∷◌, List, [], IfOk, true};
+ghost use Rattle.run_plan.specs.declared.plan.Plan.{Plan};
+ghost use Rattle.run_plan.specs.Sound.{Sound};
+ghost use Rattle.exec_journal.specs.declared.journal.Entry.{Entry};
+ghost use Rattle.exec_journal.specs.declared.reply.Reply.{Reply};
+ghost use Rattle.exec_journal.specs.Entries.{is_kept};
+ghost use Rattle.exec_journal.specs.Legal.{after};
+ghost use Rattle.exec_journal.specs.Paired.{Paired};
+ghost use Rattle.exec_journal.specs.Race.{Race};
+ghost use Rattle.journal_replay.specs.Legality.{joined};
+
+use exec_journal::{Call, Plan, Reply};
+use plain_values::NoMemory;
+use std::alloc::Global;
+
+/// A scheduling core with rules of its own: it answers each call as they say, and stands for the journal of the calls
+/// so far.
+pub trait Replayed: Drop {
+    /// The journals that its rules make, the newest entry first.
+    ghost makes: { Plan → List Entry → Type 0 };
+
+    /// The journal is that of the calls which it answered.
+    ghost stands: { Plan → Self → List Entry → Type 0 };
+
+    /// One in which nothing was called yet.
+    fn begin(alloc: Global, plan: Plan) -> Result<Self, NoMemory>
+    where
+        Self: Sized,
+        requires { Sound plan }
+        ensures { IfOk result (λ c. stands plan c []) };
+
+    /// The reply to a call. With no other than this one do the rules make the journal.
+    fn reply(&mut self, lane: u32, call: &Call) -> Reply
+        ensures only { (p : Plan) (j : List Entry) (x : Reply) → stands p self.old j
+            → makes p (joined j lane call.now x) → result ≡ x }
+        ensures stands { (p : Plan) (j : List Entry) → stands p self.old j
+            → stands p self.new (after j lane call.now result) }
+        ensures legal { (p : Plan) (j : List Entry) → stands p self.new j → makes p j }
+        ensures race { (p : Plan) (j : List Entry) → stands p self.new j → Race j }
+        ensures paired { (p : Plan) (j : List Entry) → stands p self.new j → Paired p j };
+
+    ghost none: { (p : Plan) → makes p [] };
+
+    ghost fronts: { (p : Plan) (e : Entry) (j : List Entry) → makes p (e ∷ j) → makes p j };
+
+    ghost kept: { (p : Plan) (e : Entry) (j : List Entry) → makes p (e ∷ j)
+        → is_kept e.reply ≡ true };
+}
