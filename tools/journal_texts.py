@@ -1,0 +1,72 @@
+"""The text of a journal, as docs/FORMATS.md says it. What stands in front of its plan, as a report does, is passed over."""
+from __future__ import annotations
+
+import dataclasses
+import json
+from collections.abc import Iterable
+from typing import Any
+
+Entry = tuple[int, list[Any], list[Any]]
+
+
+class NoPlan(Exception):
+    """No line spells a plan."""
+
+
+@dataclasses.dataclass(frozen=True)
+class Plan:
+    """The actions of a run and the groups of its berths."""
+
+    actions: list[list[Any]]
+    groups: list[list[Any]]
+    limit: int
+
+
+@dataclasses.dataclass(frozen=True)
+class Text:
+    """A plan, its entries, and the number of the line from which on nothing could be read, if there is one."""
+
+    plan: Plan
+    entries: list[Entry]
+    bad: int | None
+
+
+def value_of(line: str) -> Any:
+    """The JSON value of a line; `None` where it is none."""
+    try:
+        return json.loads(line)
+    except ValueError:
+        return None
+
+
+def plan_in(value: Any) -> Plan | None:
+    is_plan = isinstance(value, list) and len(value) == 3 and [type(it) for it in value] == [list, list, int]
+    return Plan(*value) if is_plan else None
+
+
+def entry_in(value: Any) -> Entry | None:
+    is_entry = isinstance(value, list) and len(value) == 3 and [type(it) for it in value] == [int, list, list]
+    return (value[0], value[1], value[2]) if is_entry and value[1] and value[2] else None
+
+
+def read(lines: Iterable[str]) -> Text:
+    """The text, up to the first line that spells no entry."""
+    plan: Plan | None = None
+    entries: list[Entry] = []
+    for number, line in enumerate(lines, 1):
+        value = value_of(line)
+        if plan is None:
+            plan = plan_in(value)
+            continue
+        entry = entry_in(value)
+        if entry is None:
+            return Text(plan, entries, number)
+        entries.append(entry)
+    if plan is None:
+        raise NoPlan
+    return Text(plan, entries, None)
+
+
+def line_of(value: Any) -> str:
+    """A value as a line, written as the programs write it."""
+    return json.dumps(value, separators=(",", ":"), ensure_ascii=False)
