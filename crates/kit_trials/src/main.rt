@@ -20,6 +20,7 @@ mod trial;
 use crate::crowd::{crowd, meets};
 use crate::ends::{Fed, Kept, Last};
 use crate::trial::{Counts, Does, Trial};
+use hex::FromHexError;
 use kit_lines::Lines;
 use plain_values::NoMemory;
 use std::alloc::Global;
@@ -75,7 +76,7 @@ fn row<R: Threads + Wait + Sync>(
     let depth = number_of(words.next());
     let piece = number_of(words.next()) as usize;
     let room = number_of(words.next()) as usize;
-    let given = bytes_of(alloc, words.next().unwrap_or(""));
+    let given = bytes_of(alloc, words.next().unwrap_or(""))?;
     if handlers < 1 || handlers > 64 || depth < 1 || depth > 1_024 {
         return Ok(String::from_str(alloc, "no worker of this size")?);
     }
@@ -96,7 +97,7 @@ fn row<R: Threads + Wait + Sync>(
 }
 
 fn each<R: Threads + Wait + Sync>(rt: &R, alloc: Global, digits: &str) -> Result<String, NoMemory> {
-    let given = bytes_of(alloc, digits);
+    let given = bytes_of(alloc, digits)?;
     let streams = Streams {
         tap: Fed::new(&given, ALL, Last::End),
         sink: Kept::new(alloc, ALL),
@@ -148,9 +149,10 @@ fn number_of(word: Option<&str>) -> u32 {
 }
 
 // The bytes that hexadecimal digits stand for; of any other text none.
-fn bytes_of(alloc: Global, digits: &str) -> Vec<u8> {
+fn bytes_of(alloc: Global, digits: &str) -> Result<Vec<u8>, NoMemory> {
     match hex::decode(alloc, digits) {
-        Ok(bytes) => bytes,
-        Err(_) => Vec::new(alloc),
+        Ok(bytes) => Ok(bytes),
+        Err(FromHexError::OutOfMemory) => Err(NoMemory),
+        Err(_) => Ok(Vec::new(alloc)),
     }
 }
