@@ -31,6 +31,7 @@ class Programs:
     worker_tool: pathlib.Path
     remote_exec: pathlib.Path
     demo_tool: pathlib.Path
+    journal_check: pathlib.Path
 
 
 @dataclasses.dataclass(frozen=True)

@@ -1,0 +1,394 @@
+"""The texts of journals: what journal_check says of them. The journals are played by the rules of journal_rules, with lanes that
+take turns at random and workers that fail now and then; and texts in which one thing was changed."""
+from __future__ import annotations
+
+import base64
+import copy
+import hashlib
+import json
+import os
+import pathlib
+import random
+from collections.abc import Iterator
+from typing import Any
+
+from journal_rules import Entry, History, Plan, first_wrong
+from play import Case, Programs, compare, run
+
+MOST_ATTEMPTS = 10
+MOST_ACTIONS = 4_096
+MOST_BERTHS = 64
+MOST_BYTES = 268_435_456
+
+ONE_PLAN: Plan = [[["a", ["o"], [], 0, None]], [[["Single"], False, 1]], 2]
+
+ONE: list[Entry] = [
+    [0, ["Ask"], ["Launch", 0, 0, ["Local"], 1]],
+    [0, ["Launched", 0, ["Done"]], ["Noted"]],
+    [1, ["Take"], ["Line", 0]],
+    [0, ["Ask"], ["Send", 0, 0, 0, ["Local"], 1]],
+    [0, ["Wrote", 0, 0, ["Done"]], ["Noted"]],
+    [1, ["Answer", 0, [0, 0, False, "", "", [], 0]], ["Matched", 0, ["Local"], 1]],
+    [0, ["Ask"], ["Gather", 0, 0, 0, ["Local"], 1, 0, False]],
+    [0, ["Claim", 0, ["Local"], 1, ["Files", ["eA=="]]], ["Granted"]],
+    [0, ["Committed", 0, ["Local"], ["Done"]], ["Noted"]],
+    [0, ["Ask"], ["Kill", 0, ["Quit"]]],
+    [0, ["Killed", 0], ["Noted"]],
+    [1, ["Ended", 0, ["End"]], ["Noted"]],
+    [0, ["Ask"], ["Stop"]],
+    [1, ["Take"], ["Stop"]],
+]
+
+
+def text_of(plan: Plan, entries: list[Entry]) -> bytes:
+    return b"".join(json.dumps(line, separators=(",", ":")).encode() + b"\n" for line in [plan, *entries])
+
+
+# ---- journals that the rules make
+
+
+class Lanes:
+    """The lanes of a run: what each calls next, at random."""
+
+    def __init__(self, plan: Plan, seed: int, trouble: float) -> None:
+        self.history, self.dice, self.trouble = History(plan), random.Random(seed), trouble
+
+    def fails(self) -> bool:
+        return self.dice.random() < self.trouble
+
+    def content(self) -> str:
+        return base64.b64encode(self.dice.randbytes(self.dice.randrange(6))).decode()
+
+    def call(self, lane: int) -> list[Any] | None:
+        """A call in the lane's script; nothing after it was told to stop."""
+        if lane in self.history.stopped:
+            return None
+        newest = self.history.newest.get(lane)
+        return self.of_tap(newest) if lane % 2 else self.of_proxy(newest)
+
+    def of_proxy(self, newest: Entry | None) -> list[Any]:
+        told = newest[2] if newest is not None else ["Noted"]
+        commit = self.history.owed_commit(newest)
+        if commit is not None:
+            return ["Committed", *commit, ["PlaceFault", 0] if self.fails() else ["Done"]]
+        if told[0] == "Launch":
+            return ["Launched", told[1], [self.dice.choice(["RoomFault", "LaunchFault"])] if self.fails() else ["Done"]]
+        if told[0] == "Send":
+            return ["Wrote", *told[1:3], [self.dice.choice(["RoomFault", "FeedFault", "TooLarge"])] if self.fails() else ["Done"]]
+        if told[0] == "Cancel":
+            return ["Wrote", *told[1:3], ["FeedFault"] if self.fails() else ["Done"]]
+        if told[0] == "Gather":
+            return ["Claim", *told[3:6], self.found(told)]
+        return ["Killed", told[1]] if told[0] == "Kill" else ["Ask"]
+
+    def found(self, gather: list[Any]) -> list[Any]:
+        outputs = self.history.actions[gather[3]][1]
+        if gather[6] != 0:
+            return ["Exit", gather[6]]
+        if gather[7]:
+            return ["Refused"]
+        if outputs and self.fails():
+            return ["Missing", self.dice.randrange(len(outputs))]
+        return ["Files", [self.content() for _ in outputs]]
+
+    def of_tap(self, newest: Entry | None) -> list[Any] | None:
+        at = self.history.heard(newest)
+        if at is None:
+            return ["Take"]
+        line = self.history.lines[at]
+        if line.killed or self.dice.random() < self.trouble / 4:
+            return ["Ended", at, [self.dice.choice(["End", "TapFault", "BadFrame", "Long"])]]
+        waiting = self.history.pending(line)
+        is_executor = self.history.kind_of(line.lane // 2) == "Remote"
+        if is_executor and not line.spoken:
+            return ["Answer", at, [0, 0, False, "", "", [], self.dice.choice([1, 2])]]
+        if not waiting:
+            return None
+        return ["Answer", at, self.answer(self.dice.choice(waiting), is_executor)]
+
+    def answer(self, request: Any, is_executor: bool) -> list[Any]:
+        number = request.number + (1 if self.fails() else 0)
+        files = [["o", self.content()]] if is_executor else []
+        refusal = "no" if is_executor and self.fails() else ""
+        is_cancelled = request.cancelled and self.dice.random() < 0.5
+        return [number, 1 if self.fails() else 0, is_cancelled, self.dice.choice(["", "warn\u00fc\n"]), refusal, files, 2 * is_executor]
+
+
+def played(plan: Plan, seed: int, trouble: float, most: int = 600) -> list[Entry]:
+    """A journal of the plan, to its end or to so many turns."""
+    lanes = Lanes(plan, seed, trouble)
+    entries: list[Entry] = []
+    for _ in range(most):
+        lane = lanes.dice.randrange(2 * len(lanes.history.seats))
+        call = lanes.call(lane)
+        reply = ["Idle"] if call is None else lanes.history.reply(lane, call)
+        if reply[0] not in ("Idle", "Astray"):
+            entries.append([lane, call, reply])
+            lanes.history.add(entries[-1])
+    return entries
+
+
+def plan_of(dice: random.Random) -> Plan:
+    """A sound plan of a few actions, workers of any kind and, now and then, an executor."""
+    kinds = [["Single", False], ["Single", True], ["Multi", False], ["Boxed", True]]
+    groups = [[[kind], cancels, dice.randrange(1, 3)] for kind, cancels in dice.sample(kinds, dice.randrange(1, 3))]
+    executor = len(groups)
+    if dice.random() < 0.7:
+        groups.append([["Remote"], False, dice.randrange(1, 3)])
+    actions: list[Any] = []
+    for at in range(dice.randrange(1, 6)):
+        makers = [[dice.randrange(at), 0]] if at and dice.random() < 0.4 else []
+        remote = executor if len(groups) > executor and dice.random() < 0.7 else None
+        local = None if remote is not None and dice.random() < 0.2 else dice.randrange(executor)
+        actions.append([f"a{at}", ["o"], makers, local, remote])
+    return [actions, groups, dice.randrange(1, 4)]
+
+
+# ---- what is wanted
+
+
+def is_beyond(plan: Plan, entry: Entry) -> bool:
+    """It names a lane, a line, an action or an output that the plan hasn't."""
+    lane, call, reply = entry
+    lines, actions = 2 * len(plan[0]) * plan[2], len(plan[0])
+    named_lines = [it[1] for it, words in ((call, LINE_OF_CALL), (reply, LINE_OF_REPLY)) if it[0] in words]
+    named_actions = [it[ACTION_OF[it[0]]] for it in (call, reply) if it[0] in ACTION_OF]
+    is_missing = call[0] == "Claim" and call[4][0] == "Missing"
+    outputs = len(plan[0][call[1]][1]) if is_missing and call[1] < actions else 0
+    return (lane >= 2 * sum(group[2] for group in plan[1]) or any(line >= lines for line in named_lines)
+            or any(action >= actions for action in named_actions) or (is_missing and call[4][1] >= outputs))
+
+
+LINE_OF_CALL = ("Launched", "Wrote", "Killed", "Answer", "Ended")
+LINE_OF_REPLY = ("Launch", "Send", "Cancel", "Gather", "Kill", "Line")
+ACTION_OF = {"Claim": 1, "Committed": 1, "Launch": 2, "Send": 3, "Gather": 3, "Matched": 1, "Late": 1}
+
+
+def wanted(plan: Plan, entries: list[Entry]) -> tuple[int, bytes]:
+    """The status and the line for a sound plan and entries."""
+    at = first_wrong(plan, entries)
+    if at is None:
+        return 0, f"legal actions={len(plan[0])} entries={len(entries)}\n".encode()
+    if is_beyond(plan, entries[at]):
+        return 4, f"out of plan entry={at}\n".encode()
+    return 1, f"illegal entry={at}\n".encode()
+
+
+def case(name: str, text: bytes, status: int, line: bytes) -> Case:
+    def check(programs: Programs, folder: pathlib.Path) -> None:
+        ended = run([programs.journal_check], folder, given=text)
+        compare(text, (status, line, b""), (ended.status, ended.out, ended.err))
+    return Case(name, check)
+
+
+def journal(name: str, plan: Plan, entries: list[Entry]) -> Case:
+    return case(name, text_of(plan, entries), *wanted(plan, entries))
+
+
+# ---- texts in which one thing was changed
+
+
+def changed_entry(at: int, change: Any) -> list[Entry]:
+    """The journal of one action, in which this entry is another."""
+    entries = copy.deepcopy(ONE)
+    change(entries[at])
+    return entries
+
+
+def put(*path: int, value: Any) -> Any:
+    """Puts a value at a place of an entry."""
+    def change(entry: Any) -> None:
+        for step in path[:-1]:
+            entry = entry[step]
+        entry[path[-1]] = value
+    return change
+
+
+def one_thing(entry: Entry, dice: random.Random, actions: int) -> None:
+    """Another reply, lane or number."""
+    lane, call, reply = entry
+    which = dice.randrange(4)
+    if which == 0:
+        entry[0] = lane + dice.choice([1, 2, 100])
+    elif which == 1:
+        entry[2] = dice.choice([it for it in REPLIES if it != reply])
+    elif which == 2 and any(isinstance(it, int) for it in reply[1:]):
+        at = dice.choice([at for at in range(1, len(reply)) if isinstance(reply[at], int)])
+        reply[at] = not reply[at] if isinstance(reply[at], bool) else reply[at] + dice.choice([1, actions, 1000])
+    else:
+        entry[1] = dice.choice([it for it in CALLS if it != call])
+
+
+REPLIES: list[list[Any]] = [["Noted"], ["Granted"], ["Lost"], ["AgainLater"], ["Dropped"], ["Stop"], ["Idle"], ["Astray"],
+                            ["Line", 0], ["Matched", 0, ["Local"], 1], ["Late", 0, ["Remote"], 1], ["Greeted"],
+                            ["Stray", ["Never"]], ["Stray", ["Closed"]], ["Breach", ["Unasked"]], ["Kill", 0, ["Quit"]],
+                            ["Kill", 0, ["Evicted"]], ["Launch", 0, 0, ["Local"], 1], ["NoFile"], ["File", "eA=="]]
+CALLS: list[list[Any]] = [["Ask"], ["Take"], ["Tick"], ["Killed", 0], ["Ended", 0, ["Long"]], ["Launched", 0, ["RoomFault"]],
+                          ["Wrote", 0, 1, ["Done"]], ["Claim", 0, ["Local"], 1, ["Missing", 0]],
+                          ["Committed", 0, ["Local"], ["Done"]], ["Look", ["Made", 0, 0]]]
+
+
+def changed(number: int) -> Case:
+    """A journal of which one entry is changed, left out, said twice, or another follows in its place."""
+    dice = random.Random(10_000 + number)
+    plan = plan_of(dice)
+    entries = played(plan, number, 0.1)
+    at = dice.randrange(len(entries))
+    which = number % 5
+    if which < 3:
+        one_thing(entries[at], dice, len(plan[0]))
+    elif which == 3:
+        del entries[at]
+    else:
+        entries.insert(at, entries[at])
+    return journal(f"one entry changed, {number}", plan, entries)
+
+
+def slim(value: Any) -> Any:
+    """An entry whose contents are replaced by their SHA-256."""
+    entry = copy.deepcopy(value)
+    call = entry[1]
+    if call[0] == "Claim" and call[4][0] == "Files":
+        call[4][1] = [digest(it) for it in call[4][1]]
+    if call[0] == "Answer":
+        call[2][5] = [[path, digest(it)] for path, it in call[2][5]]
+    return entry
+
+
+def digest(content: str) -> str:
+    return base64.b64encode(hashlib.sha256(base64.b64decode(content)).digest()).decode()
+
+
+# ---- cases
+
+
+def lines() -> Iterator[Case]:
+    """What a text may look like, and what spells nothing."""
+    text = text_of(ONE_PLAN, ONE)
+    rows = text.splitlines(keepends=True)
+    yes = (0, b"legal actions=1 entries=14\n")
+    spaced = b"".join(json.dumps(json.loads(row)).encode() + b" \r\n" for row in rows)
+    yield case("no last line feed", text[:-1], *yes)
+    yield case("spaces and carriage returns", spaced, *yes)
+    yield case("nothing", b"", 4, b"bad line=1\n")
+    yield case("an empty first line", b"\n" + text, 4, b"bad line=1\n")
+    yield case("an empty line inside", b"".join([*rows[:4], b"\n", *rows[4:]]), 4, b"bad line=5\n")
+    yield case("an empty line at the end", text + b"\n", 4, b"bad line=16\n")
+    yield case("an entry first", b"".join(rows[1:]), 4, b"bad line=1\n")
+    yield case("no UTF-8", b"".join([*rows[:9], b"\xff" + rows[9]]), 4, b"bad line=10\n")
+    yield case("two on a line", b"".join([*rows[:3], rows[3][:-1] + rows[4]]), 4, b"bad line=4\n")
+    yield case("the plan twice", b"".join([rows[0], *rows]), 4, b"bad line=2\n")
+
+
+def spellings() -> Iterator[Case]:
+    """Values that spell nothing, each in one line."""
+    for name, at, old, new in [
+        ("a limit with a fraction", 0, b",2]", b",2.0]"), ("a lane of 2^32", 3, b"[1,", b"[4294967296,"),
+        ("a lane below 0", 3, b"[1,", b"[-1,"), ("base64 with unused bits", 8, b"eA==", b"eB=="),
+        ("base64 without padding", 8, b"eA==", b"eA"), ("another name", 1, b"Ask", b"ask"),
+        ("a field too many", 1, b'["Ask"]', b'["Ask",0]'), ("a field too few", 2, b'0,["Done"]', b'["Done"]'),
+        ("a number in place of a flag", 7, b"0,false", b"0,0"), ("a request's number of 2^31", 4, b'"Send",0,0', b'"Send",0,2147483648'),
+    ]:
+        rows = text_of(ONE_PLAN, ONE).splitlines(keepends=True)
+        rows[at] = rows[at].replace(old, new, 1)
+        yield case(name, b"".join(rows), 4, f"bad line={at + 1}\n".encode())
+
+
+def plans() -> Iterator[Case]:
+    """Plans that aren't sound, and what goes before."""
+    action = ONE_PLAN[0][0]
+    groups = ONE_PLAN[1]
+    for name, plan in {
+        "limit 0": [[action], groups, 0], "limit 11": [[action], groups, MOST_ATTEMPTS + 1],
+        "65 berths": [[action], [[["Single"], False, MOST_BERTHS + 1]], 2],
+        "many berths in two groups": [[action], [[["Single"], False, 2**32 - 1]] * 2, 2],
+        "4,097 actions": [[action] * (MOST_ACTIONS + 1), groups, 2],
+        "no branch": [[["a", ["o"], [], None, None]], groups, 2],
+        "no such group": [[["a", ["o"], [], 1, None]], groups, 2],
+        "one group for both branches": [[["a", ["o"], [], 0, 0]], groups, 2],
+        "its own input": [[["a", ["o"], [[0, 0]], 0, None]], groups, 2],
+        "an executor that is asked to cancel": [[action], [[["Single"], False, 1], [["Remote"], True, 1]], 2],
+    }.items():
+        yield case(f"unsound: {name}", text_of(plan, []), 4, b"bad plan\n")
+    rows = text_of([[action], groups, 11], ONE).splitlines(keepends=True)
+    yield case("unsound, with entries", b"".join(rows), 4, b"bad plan\n")
+    yield case("unsound, and a bad line", b"".join([*rows[:2], b"x\n", *rows[3:]]), 4, b"bad line=3\n")
+    yield case("a bad line behind a wrong entry", text_of(ONE_PLAN, ONE[1:]) + b"x\n", 4, b"bad line=15\n")
+    yield case("the plan alone", text_of(ONE_PLAN, []), 0, b"legal actions=1 entries=0\n")
+    yield case("no actions", text_of([[], [], 1], []), 0, b"legal actions=0 entries=0\n")
+
+
+def entries_of_one() -> Iterator[Case]:
+    """The journal of one action, and near misses of it."""
+    yield journal("one action", ONE_PLAN, ONE)
+    yield case("one action, said", text_of(ONE_PLAN, ONE), 0, b"legal actions=1 entries=14\n")
+    for name, at, change, status, line in [
+        ("Granted is Lost", 7, put(2, 0, value="Lost"), 1, b"illegal entry=7\n"),
+        ("lane 2 asks first", 0, put(0, value=2), 4, b"out of plan entry=0\n"),
+        ("a reply names line 4", 0, put(2, 1, value=4), 4, b"out of plan entry=0\n"),
+        ("a reply names line 3", 0, put(2, 1, value=3), 1, b"illegal entry=0\n"),
+        ("an output that isn't there", 7, put(1, 4, value=["Missing", 1]), 4, b"out of plan entry=7\n"),
+        ("an entry that isn't kept", 2, put(2, value=["Idle"]), 1, b"illegal entry=2\n"),
+    ]:
+        yield case(name, text_of(ONE_PLAN, changed_entry(at, change)), status, line)
+    for count in (1, 6, 13):
+        yield case(f"cut after {count} entries", text_of(ONE_PLAN, ONE[:count]), 0, f"legal actions=1 entries={count}\n".encode())
+
+
+def runs() -> Iterator[Case]:
+    """Journals of other plans."""
+    for number in range(20):
+        dice = random.Random(number)
+        plan = plan_of(dice)
+        yield journal(f"played {number}", plan, played(plan, number, 0.15 * (number % 3)))
+    plan = [[[f"a{at}", ["o"], [], 0, 1] for at in range(12)], [[["Multi"], True, 2], [["Remote"], False, 2]], 2]
+    entries = played(plan, 7, 0.05, 3_000)
+    yield journal("contents", plan, entries)
+    yield journal("contents as digests", plan, [slim(entry) for entry in entries])
+
+
+def too_long() -> Case:
+    """A text past the limit, from a file: lines of spaces."""
+    def check(programs: Programs, folder: pathlib.Path) -> None:
+        path = folder / "text"
+        with path.open("wb") as text:
+            for _ in range(MOST_BYTES // 2**20):
+                text.write((b" " * 1023 + b"\n") * 1024)
+            text.write(b"\n")
+        with path.open("rb") as text:
+            ended = run([programs.journal_check], folder, stdin=text.fileno())
+        compare("too long", (4, b"too long\n", b""), (ended.status, ended.out, ended.err))
+    return Case("too long", check)
+
+
+def words() -> Iterator[Case]:
+    def refused(programs: Programs, folder: pathlib.Path) -> None:
+        ended = run([programs.journal_check, "x"], folder)
+        compare("a word", (2, b"", b"journal_check: words are not accepted\n"), (ended.status, ended.out, ended.err))
+    yield Case("a word", refused)
+
+    def folder_as_input(programs: Programs, folder: pathlib.Path) -> None:
+        given = os.open(folder, os.O_RDONLY)
+        try:
+            ended = run([programs.journal_check], folder, stdin=given)
+        finally:
+            os.close(given)
+        compare("a folder", (5, b""), (ended.status, ended.out))
+    yield Case("a folder as input", folder_as_input)
+
+    def full(programs: Programs, folder: pathlib.Path) -> None:
+        out = os.open("/dev/full", os.O_WRONLY)
+        try:
+            ended = run([programs.journal_check], folder, given=text_of(ONE_PLAN, ONE), stdout=out)
+        finally:
+            os.close(out)
+        compare("output that takes nothing", 6, ended.status)
+    yield Case("output that takes nothing", full)
+
+
+def cases() -> Iterator[Case]:
+    for part in (entries_of_one, lines, spellings, plans, runs, words):
+        yield from part()
+    for number in range(50):
+        yield changed(number)
+    yield too_long()
