@@ -1,28 +1,25 @@
 -- What one more line makes of what is known.
-use Rattle.std.proofs.Common.{◌≡◌, ℕ, cond, ◌-◌, zero, suc, ◌+◌, ◌<◌, ◌≤◌, ◌^◌, ◌⊎◌, inl, inr, min, Bool, true, false, List, [], ◌∷◌, ◌++◌, length, reverse, take, Option, Some, None, is_some, refl, sym, ap, subst, ◌∙◌, arith, length-append, ◌&&◌, leb, ltb}
+use Rattle.std.proofs.Common.{◌≡◌, ℕ, cond, ◌-◌, zero, suc, ◌+◌, ◌<◌, ◌^◌, min, Bool, true, false, List, [], ◌∷◌, ◌++◌, length, reverse, take, Option, Some, None, is_some, refl, sym, ap, subst, ◌∙◌, arith, length-append, ◌&&◌, leb, ltb}
 use Rattle.std.proofs.lemmas.Bool.{le-leb, leb-true, lt-ltb, ltb-true}
-use Rattle.std.specs.List.{list_all}
 use Rattle.run_plan.specs.Groups.{berths}
 use Rattle.std.specs.Prelude.{slice_get}
 use Rattle.std.proofs.lemmas.List.{reverse-append, take-append-le}
 use Rattle.std.proofs.lemmas.Option.{slice_get_within}
 use Rattle.std.proofs.Math.Seq.{take-append_seam}
 use Rattle.run_plan.specs.declared.plan.Plan.{Plan}
-use Rattle.run_plan.specs.Sound.{Sound, is_sound_group}
-use Rattle.exec_journal.specs.declared.call.Call.{Call}
+use Rattle.run_plan.specs.Sound.{Sound}
 use Rattle.exec_journal.specs.declared.journal.Entry.{Entry}
 use Rattle.exec_journal.specs.declared.reply.Reply.{Reply}
-use Rattle.exec_journal.specs.declared.reply.Reply.TheVariants as reply
 use Rattle.exec_journal.specs.Entries.{is_kept}
 use Rattle.exec_journal.specs.Legal.{after}
 use Rattle.journal_text.specs.Lines.{entry_of, plan_of}
 use Rattle.journal_text.specs.Options.{◌>>=◌, each}
 use Rattle.journal_replay.specs.Legality.{Legality, joined}
-use Rattle.journal_replay.specs.Beyond.{entry_beyond, entry_beyond_by, line_bound}
+use Rattle.journal_replay.specs.Beyond.{entry_beyond_by, line_bound}
 use Rattle.journal_replay.specs.Bounds.{AreBounds}
 use Rattle.journal_replay.specs.Plans.{are_sound_groups, has_limits, is_sound}
 use Rattle.journal_replay.specs.declared.beyond.Bounds.{Bounds}
-use Rattle.journal_replay.specs.Knows.{IsBad, IsLegalSoFar}
+use Rattle.journal_replay.specs.Knows.{IsBad}
 use Rattle.journal_replay.specs.Same.{is_told}
 use Rattle.journal_replay.specs.Spelled.{Spells, bad_entry, bad_line}
 use Rattle.journal_replay.specs.Verdicts.{FirstIllegal, HasFault, IsBadPlan}

@@ -1,5 +1,5 @@
 -- The written text of a legal journal is judged so.
-use Rattle.std.proofs.Common.{◌≡◌, ℕ, ◌≤◌, cond, not, ◌&&◌, eqb, Bool, true, false, List, [], ◌∷◌, ◌++◌, length, map, reverse, Option, Some, None, refl, sym, ap, ◌∙◌, append_assoc, append-nil}
+use Rattle.std.proofs.Common.{◌≡◌, ℕ, ◌≤◌, not, ◌&&◌, eqb, Bool, true, false, List, [], ◌∷◌, ◌++◌, length, map, reverse, Some, refl, sym, ap, ◌∙◌, append_assoc, append-nil}
 use Rattle.std.specs.List.{flat_map, list_all}
 use Rattle.std.proofs.lemmas.List.Concat.{flat_map-cons}
 use Rattle.run_plan.specs.declared.plan.Plan.{Plan}
@@ -9,10 +9,10 @@ use Rattle.exec_journal.specs.Paired.{Paired}
 use Rattle.exec_journal.specs.Race.{Race}
 use Rattle.journal_text.specs.Fits.{Each}
 use Rattle.journal_text.specs.Lines.{in_line, IsOneLine, IsWrittenEntry, IsWrittenPlan, entry_of, entry_text, lines_behind, lines_of, plan_text, text_of}
-use Rattle.journal_text.specs.Options.{◌>>=◌, each}
+use Rattle.journal_text.specs.Options.{each}
 use Rattle.journal_replay.specs.Legality.{Legality}
 use Rattle.journal_replay.specs.Spelled.{Spells}
-use Rattle.journal_replay.specs.Verdicts.{IsYes, Judges}
+use Rattle.journal_replay.specs.Verdicts.{Judges}
 use Rattle.journal_replay.specs.declared.verdict.Verdict.TheVariants as verdict
 
 by_test : (t more : Bool) → not t && more ≡ true → (t ≡ false) × (more ≡ true)

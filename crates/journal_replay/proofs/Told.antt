@@ -1,9 +1,8 @@
 -- A reply that was told is the one that was given, and is kept.
-use Rattle.std.proofs.Common.{◌≡◌, ℕ, ℤ, Bool, true, false, ◌&&◌, ◌==◌, refl, sym, ap, ◌∙◌, inl, inr}
+use Rattle.std.proofs.Common.{◌≡◌, ℕ, ℤ, Bool, true, false, ◌==◌, refl, ap, ◌∙◌}
 use Rattle.std.specs.Ordering.{int_eq}
 use Rattle.std.proofs.lemmas.Bool.{eqb-true, eq-eqb, and_parts, and_from}
 use Rattle.std.proofs.lemmas.Bool.Decides.{Decides-int_eq}
-use Rattle.run_plan.specs.declared.plan.Plan.{Plan}
 use Rattle.exec_journal.specs.declared.attempt.Attempt.{Attempt}
 use Rattle.exec_journal.specs.declared.reply.BreachWhy.{BreachWhy}
 use Rattle.exec_journal.specs.declared.reply.BreachWhy.TheVariants as breach
@@ -13,7 +12,7 @@ use Rattle.exec_journal.specs.declared.reply.StrayWhy.{StrayWhy}
 use Rattle.exec_journal.specs.declared.reply.StrayWhy.TheVariants as stray
 use Rattle.exec_journal.specs.declared.reply.Why.{Why}
 use Rattle.exec_journal.specs.declared.reply.Why.TheVariants as why
-use Rattle.exec_journal.specs.Entries.{attempt_of, is_kept, same_attempt}
+use Rattle.exec_journal.specs.Entries.{attempt_of, is_kept}
 use Rattle.exec_journal.proofs.Begins.{same_attempt_eq, same_attempt_refl}
 use Rattle.journal_replay.specs.Same.{is_breach, is_cancel, is_gather, is_kill, is_late, is_launch, is_line, is_matched, is_send, is_stray, is_told, is_stop, is_noted, is_granted, is_lost, is_dropped, is_again_later, is_greeted, same_breach, same_flag, same_stray, same_why}
 

@@ -1,7 +1,5 @@
 -- What an auditor knows of a text of which these bytes came so far.
 use Rattle.std.specs.Prelude.{◌≡◌, ℕ, ◌+◌, ◌≤◌, List, ◌++◌, length}
-use Rattle.run_plan.specs.declared.plan.Plan.{Plan}
-use Rattle.exec_journal.specs.declared.journal.Entry.{Entry}
 use Rattle.journal_text.specs.Lines.{lines_behind, lines_of}
 use Rattle.journal_replay.specs.Legality.{Legality, Standing}
 use Rattle.journal_replay.specs.Knows.{Knows}

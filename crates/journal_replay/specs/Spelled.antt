@@ -1,5 +1,5 @@
 -- What the lines of a text spell.
-use Rattle.std.specs.Prelude.{◌≡◌, ℕ, suc, Bool, is_some, if◌then◌else◌, List, [], ◌∷◌, Option, Some, None}
+use Rattle.std.specs.Prelude.{◌≡◌, ℕ, suc, is_some, if◌then◌else◌, List, [], ◌∷◌, Option, Some, None}
 use Rattle.run_plan.specs.declared.plan.Plan.{Plan}
 use Rattle.exec_journal.specs.declared.journal.Entry.{Entry}
 use Rattle.journal_text.specs.Lines.{entry_of, plan_of}

@@ -1,7 +1,5 @@
 -- What is left of a text that came through a pipe.
 use Rattle.std.specs.Prelude.{◌≡◌, ℕ, ◌<◌, ◌⊎◌, true, List, [], length, IfSome}
-use Rattle.run_plan.specs.declared.plan.Plan.{Plan}
-use Rattle.exec_journal.specs.declared.journal.Entry.{Entry}
 use Rattle.outside.specs.Lists.{Adds, Gives}
 use Rattle.outside.specs.Told.{SinkTold, TapTold}
 use Rattle.outside.specs.declared.answers.Io.{Io}

@@ -1,4 +1,4 @@
-use Rattle.std.proofs.Common.{◌≡◌, ◌+◌, ◌<◌, ◌≤◌, ◌^◌, [], length, arith}
+use Rattle.std.proofs.Common.{◌+◌, ◌<◌, ◌≤◌, ◌^◌, [], length, arith}
 use Rattle.journal_replay.proofs.Once.{judged_only}
 use Rattle.journal_replay.proofs.auditing.audit_with.Goals as goal
 

@@ -1,6 +1,6 @@
-use Rattle.std.proofs.Common.{◌≡◌, [], true, false, List, refl, subst, sym, ◌∙◌}
+use Rattle.std.proofs.Common.{◌≡◌, [], refl, subst, sym, ◌∙◌}
 use Rattle.run_plan.specs.declared.plan.Plan.{Plan}
-use Rattle.journal_replay.proofs.Steps.{is_sound_plan, one_line, unsound}
+use Rattle.journal_replay.proofs.Steps.{is_sound_plan, one_line}
 use Rattle.journal_replay.proofs.auditor.begun.Goals as goal
 
 pub returns : goal.returns

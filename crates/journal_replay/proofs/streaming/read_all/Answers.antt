@@ -1,4 +1,4 @@
-use Rattle.std.proofs.Common.{◌≡◌, ◌+◌, ◌<◌, ◌≤◌, ◌^◌, ◌++◌, length, take, arith, subst, sym}
+use Rattle.std.proofs.Common.{◌+◌, ◌<◌, ◌≤◌, ◌^◌, length, take, arith}
 use Rattle.journal_replay.proofs.Taken.{all_read, more_read, much_read, piece_fits}
 use Rattle.journal_replay.proofs.streaming.read_all.Goals as goal
 

@@ -1,5 +1,5 @@
-use Rattle.std.proofs.Common.{◌≡◌, ◌+◌, ◌-◌, ◌<◌, ◌≤◌, ◌^◌, ◌∷◌, [], ◌++◌, length, take, refl, sym, ◌∙◌, ap, arith}
-use Rattle.journal_replay.proofs.Pieces.{fed_byte, fed_same, front_fits, front_more, no_part, part, part_more}
+use Rattle.std.proofs.Common.{◌+◌, ◌<◌, ◌≤◌, ◌^◌, ◌++◌, length, take, refl, arith}
+use Rattle.journal_replay.proofs.Pieces.{fed_byte, fed_same, front_fits, front_more, no_part, part_more}
 use Rattle.journal_replay.proofs.feeding.Auditor.feed.Goals as goal
 use Rattle.journal_replay.proofs.feeding.Auditor.feed.Goals.{then-byte-eq10+in_ok-end_line, else-byte-eq10}
 

@@ -1,4 +1,4 @@
-use Rattle.std.proofs.Common.{◌≡◌, ◌<◌, ◌≤◌, ◌^◌, List, ℕ, length, ap, subst, sym, ◌∙◌, arith, ◌++◌, ◌∷◌, []}
+use Rattle.std.proofs.Common.{◌≡◌, ◌<◌, ◌^◌, List, ℕ, length, ap, subst, sym, ◌∙◌, arith, ◌++◌, ◌∷◌, []}
 use Rattle.journal_text.specs.Lines.{lines_of}
 use Rattle.journal_replay.specs.Knows.{Knows}
 use Rattle.journal_replay.proofs.Once.{judge_said}
