@@ -299,8 +299,8 @@ impl<O: Sink, X: Drop, Y, K: Kind<X, Y>> Machine for WorkQueue<O, X, Y, K> {
     }
 
     fn turn(&mut self, lane: u32, call: &Ask<X, Y>, put: Option<Load<X>>) -> (Told, Option<Load<X>>)
-        ensures turns { TurnsSo K.number K.cancels K.says K.written O.told self.old lane call.now put
-            result.0 result.1 self.new }
+        ensures turns { TurnsSo K.number K.cancels K.says K.written O.told self.old lane call.now
+            put result.0 result.1 self.new }
     {
         match call {
             Ask::Close => {

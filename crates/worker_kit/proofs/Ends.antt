@@ -88,8 +88,8 @@ module _ (f : Framing) (spells : List ℕ → WorkRequest → Type 0)
 
     -- what was put, by whether the sink has failed
     put_by_flag : (m : WorkQueue O WorkRequest WorkResponse K) (s : KitState) (b : Bool)
-        (sink start : O) → m.outlet.has_failed ≡ b → m.outlet.sink ≡ sink → m.outlet.start.value ≡ start
-        → Fine m s → PutSo b (put_for s) (told_of start) (told_of sink)
+        (sink start : O) → m.outlet.has_failed ≡ b → m.outlet.sink ≡ sink
+        → m.outlet.start.value ≡ start → Fine m s → PutSo b (put_for s) (told_of start) (told_of sink)
     put_by_flag m s b sink start flag is was st =
         subst (λ (x : O). PutSo b (put_for s) (told_of x) (told_of sink)) was
         (subst (λ (x : O). PutSo b (put_for s) (told_of m.outlet.start.value) (told_of x)) is
