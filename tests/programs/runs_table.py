@@ -110,7 +110,7 @@ def races() -> Iterator[Case]:
     refused = ["give", wire.framed(wire.result(1, refusal=b"cannot start")).hex()]
     again = ["give", wire.framed(wire.result(2, refusal=b"cannot start")).hex()]
     yield played("the executor refuses twice, and the worker wins", one,
-                 report("a ok local local=won remote=dropped:refused:2", ok=1), files={"o": b"made"},
+                 report("a ok local local=won remote=dropped:refused:2", ok=1), files={"o": b"made"}, others=["remote=lost"],
                  t=[[["hear", 1], ["await", "refused"], ["leave", "o", "made"], ["give", OK.hex()]]],
                  x=[[GREET, ["hear", 1], refused, ["hear", 1], again, ["raise", "refused"]]])
     # Both answer before either is known to: exactly one of them is committed.
