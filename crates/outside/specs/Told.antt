@@ -1,16 +1,18 @@
 -- What each object of the outside tells: its counts always, and what it holds where it tells it.
-use Rattle.std.specs.Prelude.{◌≡◌, ℕ, List, Bool, Option}
+use Rattle.std.specs.Prelude.{◌≡◌, ℕ, ◌+◌, List, Bool, Option}
 use Rattle.outside.specs.declared.berth.BerthCall.{BerthCall}
 use Rattle.outside.specs.declared.floor.FloorRead.{FloorRead}
 use Rattle.outside.specs.declared.floor.SourceFile.{SourceFile}
 use Rattle.outside.specs.declared.place.PlaceWrite.{PlaceWrite}
 use Rattle.outside.specs.declared.shop.ShopCall.{ShopCall}
 
--- how often it has failed, its files, and its reads so far
+-- how often it has failed, its files, its reads so far, and how many berths and places it has made
 pub record FloorTold : Type 0 where
   pub faults : ℕ
   pub files : Option (List SourceFile)
   pub log : Option (List FloorRead)
+  pub berths : ℕ
+  pub places : ℕ
 
 -- its number, how often it has failed, and the calls so far with their answers
 pub record BerthTold : Type 0 where
@@ -63,10 +65,30 @@ pub record LineTold : Type 0 where
 abbrev pub line_told : FeedTold → TapTold → ChildTold → LineTold
 line_told feed tap child = record { feed = feed; tap = tap; child = child }
 
+-- a floor's files, and how many berths and places it has made
+pub record Ground : Type 0 where
+  pub files : Option (List SourceFile)
+  pub berths : ℕ
+  pub places : ℕ
+
+abbrev pub ground : FloorTold → Ground
+ground floor =
+    record { files = floor.files; berths = floor.berths; places = floor.places }
+
+-- A floor that is only read has the same files, and makes nothing.
+abbrev pub SameFloor : FloorTold → FloorTold → Type 0
+SameFloor old new = ground new ≡ ground old
+
+-- it has made b berths and p places more, and has the same files
+pub record Makes (b p : ℕ) (old new : FloorTold) : Type 0 where
+  pub files : new.files ≡ old.files
+  pub berths : new.berths ≡ old.berths + b
+  pub places : new.places ≡ old.places + p
+
 -- What an object is doesn't change: the floor's files, the number of a berth or a place, the line
 -- of a feed, a tap or a child.
-abbrev pub SameFloor : FloorTold → FloorTold → Type 0
-SameFloor old new = new.files ≡ old.files
+abbrev pub SameFiles : FloorTold → FloorTold → Type 0
+SameFiles old new = new.files ≡ old.files
 
 abbrev pub SameBerth : BerthTold → BerthTold → Type 0
 SameBerth old new = new.number ≡ old.number

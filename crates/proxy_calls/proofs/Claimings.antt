@@ -1,6 +1,7 @@
 -- What a Claim leaves, and a Committed.
-use Rattle.std.proofs.Common.{◌≡◌, ◌⊎◌, inl, inr, ⊎_elim, ℕ, ◌/◌, Bool, true, ◌&&◌, List, [], ◌∷◌, ◌++◌, Option, Some, None, refl, ap, sym, subst, ◌∙◌, eq-eqb, arith, length, take, ◌≤◌}
+use Rattle.std.proofs.Common.{◌≡◌, ◌⊎◌, inl, inr, ⊎_elim, ℕ, zero, suc, ◌/◌, Bool, true, ◌&&◌, List, [], ◌∷◌, ◌++◌, Option, Some, None, refl, ap, sym, subst, ◌∙◌, eq-eqb, arith, length, take, ◌+◌, ◌-◌, ◌^◌, ◌≤◌, ◌<◌, min}
 use Rattle.std.proofs.lemmas.List.{take_all}
+use Rattle.outside.specs.Causes.{Rose}
 use Rattle.outside.specs.Lists.{Tells}
 use Rattle.outside.specs.declared.place.PlaceWrite.{PlaceWrite}
 use Rattle.output_commit.specs.Commits.{writes_of}
@@ -239,6 +240,21 @@ few_writes : (outputs files : List (List ℕ)) → length (writes_of outputs fil
 few_writes [] files = omega arith
 few_writes (o ∷ os) [] = omega arith
 few_writes (o ∷ os) (f ∷ fs) = let more = few_writes os fs in omega arith
+
+-- a count that has risen isn't 0
+pub risen : (old new : ℕ) → Rose old new → 0 < new
+risen old new rose =
+    let more : min (old + 1) (2 ^ 64 - 1) ≤ new = rose in
+    omega arith
+
+pub below_writes : (k : ℕ) (outputs files : List (List ℕ)) → k < length outputs
+    → length files ≡ length outputs → k < length (writes_of outputs files)
+below_writes k [] files below same = absurd (omega (arith, below))
+below_writes k (o ∷ os) [] below same = absurd (cc)
+below_writes zero (o ∷ os) (f ∷ fs) below same = omega arith
+below_writes (suc k) (o ∷ os) (f ∷ fs) below same =
+    let more = below_writes k os fs (omega (arith, below)) (omega (arith, same)) in
+    omega (arith, more)
 
 pub wrote_all : (outputs files : List (List ℕ)) (log : Option (List PlaceWrite))
     → Tells log (take (length outputs) (writes_of outputs files)) → Tells log (writes_of outputs files)

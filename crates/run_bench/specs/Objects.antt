@@ -8,10 +8,11 @@ use Rattle.outside.specs.declared.place.PlaceWrite.{PlaceWrite}
 use Rattle.output_commit.specs.Commits.{writes_of}
 use Rattle.run_rules.specs.Shelf.{Spot, Fresh, Away, Back}
 
--- these writes were done, or, where one failed, the first so many of them
+-- these writes were done, or, where one failed, fewer of them: the first so many
 abbrev pub WroteAs : CommitEnd → List PlaceWrite → PlaceTold → Type 0
 WroteAs end.Done all place = Tells place.log all
-WroteAs (end.PlaceFault k) all place = Tells place.log (take k all) × (0 < place.faults)
+WroteAs (end.PlaceFault k) all place =
+    Tells place.log (take k all) × (k < length all) × (0 < place.faults)
 
 -- What was done to a place with these outputs by the time it lies there. One that is away doesn't.
 abbrev pub WroteBy : List (List ℕ) → Spot → PlaceTold → Type 0

@@ -1,5 +1,5 @@
 -- Reads that a floor logs, one after another.
-use Rattle.std.proofs.Common.{ℕ, List, [], ◌++◌, Option, Some, None, IfSome, sym, subst, append-nil, append_assoc}
+use Rattle.std.proofs.Common.{ℕ, List, [], ◌++◌, Option, Some, None, IfSome, ap, sym, subst, append-nil, append_assoc}
 use Rattle.std.proofs.lemmas.List.Elements.{All-cons, All-nil, All-append}
 use Rattle.outside.specs.Lists.{Adds, Tells}
 use Rattle.outside.specs.Told.{FloorTold, SameFloor}
@@ -48,7 +48,7 @@ reads_weaker before after P Q f l = (l.0, l.1, l.2, f l.0 l.3)
 -- reads and then further reads
 pub reads_on : (before mid after : FloorTold) (P Q R : List FloorRead → Type 0) → SameFloor before mid → ((first second : List FloorRead) → P first → Q second → R (first ++ second)) → Reads before mid P → Reads mid after Q → Reads before after R
 reads_on before mid after P Q R same f first second =
-    let second_of = subst (λ (files : Option (List SourceFile)). AreOfFiles files second.0) same second.2 in
+    let second_of = subst (λ (files : Option (List SourceFile)). AreOfFiles files second.0) (ap (λ g. g.files) same) second.2 in
     (first.0 ++ second.0, adds_on first.0 second.0 before.log mid.log after.log first.1 second.1, both_of_files before.files first.0 second.0 first.2 second_of, f first.0 second.0 first.3 second.3)
 
 -- ---- the same unless memory was wanted

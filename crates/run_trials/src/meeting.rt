@@ -63,9 +63,10 @@ impl<F: Floor> Floor for MeetingFloor<F> {
     }
 
     fn make_place(&mut self, number: u32) -> Result<MeetingPlace<F::Place>, NoMemory> {
+        let begun = Arc::try_clone(&self.begun)?;
         Ok(MeetingPlace {
             place: self.floor.make_place(number)?,
-            begun: Arc::try_clone(&self.begun)?,
+            begun,
             wanted: self.wanted,
             faults: 0,
         })

@@ -1,5 +1,5 @@
 -- What a run of the lanes of a task says, one promise after another.
-use Rattle.std.proofs.Common.{arith, ◌≡◌, ℕ, zero, suc, ◌+◌, ◌<◌, Bool, true, false, ◌&&◌, List, [], ◌∷◌, length, slice_get, reverse, Option, Some, None, IfSome, refl, ap, sym, subst, ◌∙◌}
+use Rattle.std.proofs.Common.{arith, ◌≡◌, ℕ, zero, suc, ◌+◌, ◌<◌, Bool, true, false, ◌&&◌, if◌then◌else◌, List, [], ◌∷◌, length, slice_get, reverse, Option, Some, None, IfSome, refl, ap, sym, subst, ◌∙◌}
 use Rattle.std.specs.List.{list_all}
 use Rattle.build_report.specs.Report.{is_success}
 use Rattle.build_report.specs.declared.fault.RunFault.{RunFault}
@@ -7,6 +7,7 @@ use Rattle.build_report.specs.declared.fault.RunFault.TheVariants as fault
 use Rattle.build_report.specs.declared.fault.Stage.{Stage}
 use Rattle.build_report.specs.declared.fault.Stage.TheVariants as stage
 use Rattle.exec_journal.specs.declared.journal.Entry.{Entry}
+use Rattle.exec_journal.specs.Clean.{Clean}
 use Rattle.exec_journal.specs.Lawful.{Lawful}
 use Rattle.exec_journal.specs.Legal.{Legal}
 use Rattle.exec_journal.specs.Ends.{ends_from, ends_of}
@@ -34,8 +35,8 @@ use Rattle.run_tasks.specs.Tasks.{HasBerths, HasPosts}
 use Rattle.run_tasks.specs.declared.task.Task.{Task}
 use Rattle.script_duties.specs.Owed.{journal_of, outputs_in}
 use Rattle.worker_run.proofs.Histories.{halted_is, history_again, newest_is, stopped_is}
-use Rattle.worker_run.specs.Ends.{IsReportEnd, IsRunEnd, is_halted}
-use Rattle.worker_run.specs.Headline.{HaltsAsSaid, HasOuts, HasPipes, HasRace, HasRooms, IsAccounted, IsComplete, IsKept, IsLegal, IsPaired, IsStopped, OnRun, newest_first}
+use Rattle.worker_run.specs.Ends.{IsReportEnd, IsRunEnd, is_halted, status_by}
+use Rattle.worker_run.specs.Headline.{AllSucceed, HaltsAsSaid, HasOuts, HasPipes, HasRace, HasRooms, IsAccounted, IsComplete, IsKept, IsLegal, IsPaired, IsStopped, OnRun, Succeeds, newest_first}
 use Rattle.worker_run.specs.Histories.{history_of}
 use Rattle.worker_run.specs.Lanes.{AreNewBerths, TaskRan, WhereWhole, is_during}
 use Rattle.worker_run.specs.Seen.{EndedTold, Left}
@@ -194,3 +195,36 @@ halts_as_said (Some stage.Before) t x end kind ran left =
     untold None t x end (λ t x. has_halt (history_of x.journal) ≡ is_halted end.fault) kind.1
 halts_as_said (Some stage.After) t x end kind ran left =
     untold None t x end (λ t x. has_halt (history_of x.journal) ≡ is_halted end.fault) kind.1
+
+-- ---- with no fault
+
+zero_where : (b : Bool) → b ≡ true → ◌≡◌ {A = ℕ} (if b then 0 else 1) 0
+zero_where true is = refl
+zero_where false is = absurd (cc)
+
+module _ (t : Task) (end : EndedTold) (task : end.task ≡ Some t) where
+  is_zero : end.fault ≡ None → end.status ≡ status_by end.fault end.task end.left.journal
+      → AllSucceed t end.left → end.status ≡ 0
+  is_zero none status all = status
+      ∙ (ap (λ (f : Option RunFault). status_by f end.task end.left.journal) none
+      ∙ (ap (λ (o : Option Task). status_by None o end.left.journal) task
+      ∙ zero_where (list_all is_success (ends_of t.plan (newest_first end.left))) all))
+
+module _ (t : Task) (x : Left) (end : EndedTold) (left : end.left ≡ x) (posts : HasPosts t)
+    (has : HasBerths t.plan)
+    (status : end.status ≡ status_by end.fault end.task end.left.journal) where
+  all_succeeded : TaskRan t None x → Clean (newest_first end.left) → AllSucceed t end.left
+  all_succeeded ran = subst (λ (y : Left). Clean (newest_first y) → AllSucceed t y) (sym left)
+      (is_complete t None x ran posts has (halts t None x ran))
+
+  pub succeeds : (when : Option Stage) → IsRunEnd when t end.fault end.task
+      → WhereWhole when (TaskRan t when x) → Succeeds end
+  succeeds None kind ran none = (
+    t,
+    kind.1,
+    λ clean.
+        let all = all_succeeded ran clean in (all, is_zero t end kind.1 none status all),
+  )
+  succeeds (Some stage.During) kind ran none = absurd (let e = kind.0 in cc)
+  succeeds (Some stage.Before) kind ran none = absurd (let e = kind.0 in cc)
+  succeeds (Some stage.After) kind ran none = absurd (let e = kind.0 in cc)

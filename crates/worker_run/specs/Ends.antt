@@ -15,7 +15,8 @@ use Rattle.run_loading.specs.Reads.{Reads}
 use Rattle.run_tasks.specs.Course.{Course, Made}
 use Rattle.run_tasks.specs.declared.task.Task.{Task}
 use Rattle.tool_words.specs.declared.options.Options.{Options}
-use Rattle.worker_run.specs.Seen.{EndedTold}
+use Rattle.worker_run.specs.Lanes.{HasMade, MakesUpTo}
+use Rattle.worker_run.specs.Seen.{EndedTold, Left}
 
 -- ---- the fault
 
@@ -64,6 +65,18 @@ IsRunEnd (Some when) t end task = (end ≡ Some (fault.NoMemory when)) × (task 
 abbrev pub is_halted : Option RunFault → Bool
 is_halted (Some (fault.NoMemory stage.During)) = true
 is_halted _ = false
+
+-- ---- what was made
+
+-- All that the floor has made is handed back. Where memory was wanted before the lanes, or behind
+-- them and the run is lost, it was no more than a plan may have.
+abbrev pub MadeBy : Option RunFault → Option Task → FloorTold → FloorTold → Left → Type 0
+MadeBy (Some (fault.NoMemory stage.Before)) task before after x = MakesUpTo 64 4096 before after
+MadeBy (Some (fault.NoMemory stage.After)) None before after x = MakesUpTo 64 4096 before after
+MadeBy end task before after x = HasMade before after x
+
+abbrev pub MadeAll : FloorTold → EndedTold → Type 0
+MadeAll before end = MadeBy end.fault end.task before end.floor end.left
 
 -- ---- what led to it
 

@@ -1,6 +1,6 @@
 -- What is said of a run that is told. Each is said of the task that was run and of what is left of
 -- it, and all of them of the one history that its journal is.
-use Rattle.std.specs.Prelude.{◌≡◌, true, false, List, [], length, reverse, Option, Some, None, IfSome}
+use Rattle.std.specs.Prelude.{◌≡◌, true, false, ℕ, List, [], length, reverse, Option, Some, None, IfSome}
 use Rattle.std.specs.List.{list_all}
 use Rattle.build_report.specs.Report.{is_success}
 use Rattle.exec_journal.specs.Clean.{Clean}
@@ -17,6 +17,7 @@ use Rattle.lane_runs.specs.Layout.{has_halt}
 use Rattle.lane_runs.specs.Runs.{Outs, Pipes, Rooms, Stops}
 use Rattle.outside.specs.Told.{BerthTold}
 use Rattle.run_plan.specs.Groups.{berths}
+use Rattle.run_plan.specs.Sound.{Sound}
 use Rattle.run_tasks.specs.declared.task.Task.{Task}
 use Rattle.script_duties.specs.Owed.{outputs_in}
 use Rattle.worker_run.specs.Ends.{is_halted}
@@ -27,6 +28,10 @@ use Rattle.worker_run.specs.Seen.{EndedTold, Left}
 -- the task that was run, and what is left
 abbrev pub OnRun : EndedTold → (Task → Left → Type 0) → Type 0
 OnRun end P = IfSome end.task (λ t. P t end.left)
+
+-- what every call of the run asks of its plan
+abbrev pub IsSound : Task → Left → Type 0
+IsSound t x = Sound t.plan
 
 -- ---- the journal
 
@@ -66,10 +71,22 @@ WithoutHalt x P = has_halt (history_of x.journal) ≡ false → P
 abbrev pub IsAccounted : Task → Left → Type 0
 IsAccounted t x = WithoutHalt x (Finished t.plan (newest_first x))
 
+-- every outcome is a success
+abbrev pub AllSucceed : Task → Left → Type 0
+AllSucceed t x = list_all is_success (ends_of t.plan (newest_first x)) ≡ true
+
 -- and where every worker did its part, every outcome is a success
 abbrev pub IsComplete : Task → Left → Type 0
-IsComplete t x = WithoutHalt x (Clean (newest_first x)
-    → list_all is_success (ends_of t.plan (newest_first x)) ≡ true)
+IsComplete t x = WithoutHalt x (Clean (newest_first x) → AllSucceed t x)
+
+abbrev pub IsSuccess : Task → EndedTold → Type 0
+IsSuccess t end = AllSucceed t end.left × (end.status ≡ 0)
+
+-- With no fault a task was run, and where every worker did its part, every outcome is a success and
+-- the status says so.
+abbrev pub Succeeds : EndedTold → Type 0
+Succeeds end = end.fault ≡ None → (t : Task) × (end.task ≡ Some t)
+    × (Clean (newest_first end.left) → IsSuccess t end)
 
 -- ---- the objects
 

@@ -1,5 +1,5 @@
 -- A run of the lanes of new berths, by a core.
-use Rattle.std.specs.Prelude.{◌≡◌, ℕ, Bool, true, false, List, [], length, slice_get, Option, Some, None}
+use Rattle.std.specs.Prelude.{◌≡◌, ◌≤◌, ◌+◌, ℕ, Bool, true, false, List, [], length, slice_get, Option, Some, None}
 use Rattle.build_report.specs.declared.fault.Stage.{Stage}
 use Rattle.build_report.specs.declared.fault.Stage.TheVariants as stage
 use Rattle.exec_journal.specs.declared.call.Call.{Call}
@@ -9,7 +9,7 @@ use Rattle.history_laws.specs.Ruled.{CameAbout, answer_after}
 use Rattle.lane_deeds.specs.declared.post.Post.{Post}
 use Rattle.lane_runs.specs.Runs.{HasRun, LaidTold}
 use Rattle.outside.specs.Lists.{Tells}
-use Rattle.outside.specs.Told.{BerthTold}
+use Rattle.outside.specs.Told.{BerthTold, FloorTold}
 use Rattle.remote_messages.specs.declared.work.WorkAction.{WorkAction}
 use Rattle.run_rules.specs.Moves.{History}
 use Rattle.run_tasks.specs.declared.task.Task.{Task}
@@ -26,6 +26,16 @@ pub record IsNewBerth (number : ℕ) (berth : BerthTold) : Type 0 where
 pub record AreNewBerths (count : ℕ) (berths : List BerthTold) : Type 0 where
   pub as_many : length berths ≡ count
   pub each : (w : ℕ) (b : BerthTold) → slice_get berths w ≡ Some b → IsNewBerth w b
+
+-- the floor has made exactly the berths and the places that are left
+pub record HasMade (before after : FloorTold) (x : Left) : Type 0 where
+  pub berths : after.berths ≡ before.berths + length x.berths
+  pub places : after.places ≡ before.places + length x.places
+
+-- the floor has made b berths and p places at most
+pub record MakesUpTo (b p : ℕ) (before after : FloorTold) : Type 0 where
+  pub berths : after.berths ≤ before.berths + b
+  pub places : after.places ≤ before.places + p
 
 -- Memory was wanted while the lanes were at work: then some lane has halted.
 abbrev pub is_during : Option Stage → Bool

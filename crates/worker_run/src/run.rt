@@ -2,14 +2,14 @@
 ghost use Rattle.std.specs.Prelude.{◌≡◌, ◌≤◌, Some, None, map, string_bytes};
 ghost use Rattle.build_report.specs.Report.{report_of};
 ghost use Rattle.outside.specs.Causes.{Counts};
-ghost use Rattle.outside.specs.Told.{SameFloor};
+ghost use Rattle.outside.specs.Told.{SameFiles};
 ghost use Rattle.run_loading.specs.Reads.{IsFloorFailed};
 ghost use Rattle.run_plan.specs.Sound.{Sound};
 ghost use Rattle.run_tasks.specs.Tasks.{HasPosts, HasWork};
 ghost use Rattle.tool_words.specs.Options.{options_of};
-ghost use Rattle.worker_run.specs.Ends.{HasCourse, IsPutEnd, IsReportEnd, IsRunEnd, Puts, Reports, TellsTask, report_by, status_by};
-ghost use Rattle.worker_run.specs.Headline.{HaltsAsSaid, HasOuts, HasPipes, HasRace, HasRooms, IsAccounted, IsComplete, IsKept, IsLegal, IsPaired, IsStopped, OnRun, UnlessRun};
-ghost use Rattle.worker_run.specs.Lanes.{TaskRan, WhereLost, WhereWhole};
+ghost use Rattle.worker_run.specs.Ends.{HasCourse, IsPutEnd, IsReportEnd, IsRunEnd, MadeAll, Puts, Reports, TellsTask, report_by, status_by};
+ghost use Rattle.worker_run.specs.Headline.{HaltsAsSaid, HasOuts, HasPipes, HasRace, HasRooms, IsAccounted, IsComplete, IsKept, IsLegal, IsPaired, IsSound, IsStopped, OnRun, Succeeds, UnlessRun};
+ghost use Rattle.worker_run.specs.Lanes.{HasMade, MakesUpTo, TaskRan, WhereLost, WhereWhole};
 ghost use Rattle.worker_run.specs.Seen.{nothing_left};
 
 use crate::ended::Ended;
@@ -51,7 +51,9 @@ where
     // What was read led to the task that was run, or to the fault.
     ensures course { HasCourse (options_of (map string_bytes words.now)) (F.told floor) result }
     ensures told { TellsTask result.fault result.task }
+    ensures sound { OnRun result IsSound }
     ensures nothing { UnlessRun result.task (result.left ≡ nothing_left) }
+    ensures made { MadeAll (F.told floor) result }
     // The one journal of the run.
     ensures legal { OnRun result IsLegal }
     ensures race { OnRun result HasRace }
@@ -67,10 +69,11 @@ where
     ensures outs { OnRun result HasOuts }
     ensures report { Reports result (O.told out.old) (O.told out.new) }
     // How it ended.
+    ensures success { Succeeds result }
     ensures status { result.status ≡ status_by result.fault result.task result.left.journal }
     ensures floor { Counts (F.told floor).faults result.floor.faults
         (IsFloorFailed result.fault) }
-    ensures files { SameFloor (F.told floor) result.floor }
+    ensures files { SameFiles (F.told floor) result.floor }
     ensures sink { Counts (O.told out.old).faults (O.told out.new).faults
         (result.fault ≡ Some RunFault.SinkFailed) }
 {
@@ -96,7 +99,9 @@ where
     // What was read led to the task that was run, or to the fault.
     ensures course { HasCourse (options_of (map string_bytes words.now)) (F.told floor) result }
     ensures told { TellsTask result.fault result.task }
+    ensures sound { OnRun result IsSound }
     ensures nothing { UnlessRun result.task (result.left ≡ nothing_left) }
+    ensures made { MadeAll (F.told floor) result }
     // The one journal of the run.
     ensures legal { OnRun result IsLegal }
     ensures race { OnRun result HasRace }
@@ -112,10 +117,11 @@ where
     ensures outs { OnRun result HasOuts }
     ensures report { Reports result (O.told out.old) (O.told out.new) }
     // How it ended.
+    ensures success { Succeeds result }
     ensures status { result.status ≡ status_by result.fault result.task result.left.journal }
     ensures floor { Counts (F.told floor).faults result.floor.faults
         (IsFloorFailed result.fault) }
-    ensures files { SameFloor (F.told floor) result.floor }
+    ensures files { SameFiles (F.told floor) result.floor }
     ensures sink { Counts (O.told out.old).faults (O.told out.new).faults
         (result.fault ≡ Some RunFault.SinkFailed) }
 {
@@ -151,7 +157,9 @@ where
     requires posts { HasPosts task.now }
     ensures run { WhereWhole result.fault (TaskRan task.now result.fault result.left) }
     ensures lost { WhereLost result.fault (result.left ≡ nothing_left) }
-    ensures files { SameFloor (F.told floor) result.floor }
+    ensures made { WhereWhole result.fault (HasMade (F.told floor) result.floor result.left) }
+    ensures few { MakesUpTo 64 4096 (F.told floor) result.floor }
+    ensures files { SameFiles (F.told floor) result.floor }
     ensures log { result.floor.log ≡ (F.told floor).log }
     ensures count { (F.told floor).faults ≤ result.floor.faults }
 {

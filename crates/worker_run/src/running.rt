@@ -4,8 +4,8 @@ ghost use Rattle.berth_lanes.specs.Seats.{PostsFit};
 ghost use Rattle.build_report.specs.declared.fault.Stage.TheVariants as stage;
 ghost use Rattle.lane_steps.specs.Work.{IsWorkOf};
 ghost use Rattle.lane_runs.specs.Runs.{laid_told};
-ghost use Rattle.outside.specs.Told.{SameFloor};
-ghost use Rattle.worker_run.specs.Lanes.{LanesRan, WhereLost, WhereWhole};
+ghost use Rattle.outside.specs.Told.{SameFiles};
+ghost use Rattle.worker_run.specs.Lanes.{HasMade, LanesRan, MakesUpTo, WhereLost, WhereWhole};
 ghost use Rattle.worker_run.specs.Seen.{nothing_left, ran_by, ran_told};
 
 use crate::EndedLine;
@@ -123,7 +123,10 @@ where
         (C.outputs (C.plan core)) (C.actions (C.plan core)) posts.now work.now.actions
         result.fault result.left) }
     ensures lost { WhereLost result.fault (result.left ≡ nothing_left) }
-    ensures files { SameFloor (F.told floor) result.floor }
+    // All that the floor has made is left, and it has never made more than a plan may have.
+    ensures made { WhereWhole result.fault (HasMade (F.told floor) result.floor result.left) }
+    ensures few { MakesUpTo 64 4096 (F.told floor) result.floor }
+    ensures files { SameFiles (F.told floor) result.floor }
     ensures log { result.floor.log ≡ (F.told floor).log }
     ensures count { (F.told floor).faults ≤ result.floor.faults }
 {

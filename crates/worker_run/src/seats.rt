@@ -1,8 +1,8 @@
 // A place for each action, and a berth for each post.
-ghost use Rattle.std.specs.Prelude.{◌≡◌, ◌≤◌, IfOk, map};
-ghost use Rattle.outside.specs.Told.{SameFloor};
+ghost use Rattle.std.specs.Prelude.{◌≡◌, ◌≤◌, IfOk, OnOk, map};
+ghost use Rattle.outside.specs.Told.{Makes, SameFiles};
 ghost use Rattle.run_bench.specs.Objects.{AreFresh};
-ghost use Rattle.worker_run.specs.Lanes.{AreNewBerths};
+ghost use Rattle.worker_run.specs.Lanes.{AreNewBerths, MakesUpTo};
 
 use outside::Floor;
 use plain_values::NoMemory;
@@ -30,7 +30,9 @@ pub fn make_seats<F: Floor>(
     requires actions { actions ≤ 4096 }
     ensures places { IfOk result (λ s. AreFresh F.Place.told actions s.places.items) }
     ensures berths { IfOk result (λ s. AreNewBerths berths (map F.Berth.told s.berths.items)) }
-    ensures files { SameFloor (F.told floor.old) (F.told floor.new) }
+    ensures files { SameFiles (F.told floor.old) (F.told floor.new) }
+    ensures made { OnOk result (Makes berths actions (F.told floor.old) (F.told floor.new)) }
+    ensures few { MakesUpTo berths actions (F.told floor.old) (F.told floor.new) }
     ensures log { (F.told floor.new).log ≡ (F.told floor.old).log }
     ensures count { (F.told floor.old).faults ≤ (F.told floor.new).faults }
 {
@@ -47,7 +49,9 @@ fn make_places<F: Floor>(
 ) -> Result<Vec<F::Place>, NoMemory>
     requires { count ≤ 4096 }
     ensures places { IfOk result (λ places. AreFresh F.Place.told count places.items) }
-    ensures files { SameFloor (F.told floor.old) (F.told floor.new) }
+    ensures files { SameFiles (F.told floor.old) (F.told floor.new) }
+    ensures made { OnOk result (Makes 0 count (F.told floor.old) (F.told floor.new)) }
+    ensures few { MakesUpTo 0 count (F.told floor.old) (F.told floor.new) }
     ensures log { (F.told floor.new).log ≡ (F.told floor.old).log }
     ensures count { (F.told floor.old).faults ≤ (F.told floor.new).faults }
 {
@@ -66,7 +70,9 @@ fn make_berths<F: Floor>(
 ) -> Result<Vec<F::Berth>, NoMemory>
     requires { count ≤ 64 }
     ensures berths { IfOk result (λ berths. AreNewBerths count (map F.Berth.told berths.items)) }
-    ensures files { SameFloor (F.told floor.old) (F.told floor.new) }
+    ensures files { SameFiles (F.told floor.old) (F.told floor.new) }
+    ensures made { OnOk result (Makes count 0 (F.told floor.old) (F.told floor.new)) }
+    ensures few { MakesUpTo count 0 (F.told floor.old) (F.told floor.new) }
     ensures log { (F.told floor.new).log ≡ (F.told floor.old).log }
     ensures count { (F.told floor.old).faults ≤ (F.told floor.new).faults }
 {

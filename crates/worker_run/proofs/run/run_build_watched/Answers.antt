@@ -1,9 +1,10 @@
 -- Where a task was read, what its lanes say is what is told; where a fault was, nothing is.
-use Rattle.std.proofs.Common.{map, string_bytes, ◌∙◌}
+use Rattle.std.proofs.Common.{ap, map, string_bytes, ◌∙◌}
 use Rattle.tool_words.specs.Options.{options_of}
+use Rattle.worker_run.proofs.Made.{nothing_made, task_made}
 use Rattle.worker_run.proofs.Reading.{fault_course, fault_puts, fault_sink, fault_told, task_course, task_floor, task_nothing, task_told}
-use Rattle.worker_run.proofs.Said.{halts_as_said, has_outs, has_pipes, has_race, has_rooms, is_accounted, is_complete, is_kept, is_legal, is_paired, is_stopped, on_run}
-use Rattle.worker_run.specs.Headline.{HasOuts, HasPipes, HasRace, HasRooms, IsAccounted, IsComplete, IsKept, IsLegal, IsPaired, IsStopped}
+use Rattle.worker_run.proofs.Said.{halts_as_said, has_outs, has_pipes, has_race, has_rooms, is_accounted, is_complete, is_kept, is_legal, is_paired, is_stopped, on_run, succeeds}
+use Rattle.worker_run.specs.Headline.{HasOuts, HasPipes, HasRace, HasRooms, IsAccounted, IsComplete, IsKept, IsLegal, IsPaired, IsSound, IsStopped}
 use Rattle.worker_run.proofs.run.run_build_watched.Goals as goal
 
 pub returns-in-Ok-clause-course : goal.returns-in-Ok-clause-course
@@ -122,7 +123,43 @@ returns-in-Ok-clause-floor g c =
 
 pub returns-in-Ok-clause-files : goal.returns-in-Ok-clause-files
 returns-in-Ok-clause-files g c =
-    rw (c.conclude.ensures.floor) (c.run_task-ran.ensures.files ∙ c.in-Ok.ensures.files)
+    rw (c.conclude.ensures.floor) (c.run_task-ran.ensures.files
+    ∙ ap (λ g. g.files) c.in-Ok.ensures.files)
+
+pub returns-in-Err-clause-files : goal.returns-in-Err-clause-files
+returns-in-Err-clause-files g c =
+    rw (c.with_no_lane.ensures) (ap (λ g. g.files) c.in-Err.ensures.files)
+
+pub returns-in-Ok-clause-sound : goal.returns-in-Ok-clause-sound
+returns-in-Ok-clause-sound g c =
+    let t = c.in-Ok.made.0 in
+    let when = c.run_task-ran.result.fault in
+    let x = c.run_task-ran.result.left in
+    on_run when t x c.conclude.result IsSound c.conclude.ensures.kind c.run_task-ran.ensures.run
+    c.conclude.ensures.left (λ ran. c.in-Ok.ensures.sound.0)
+
+pub returns-in-Ok-clause-made : goal.returns-in-Ok-clause-made
+returns-in-Ok-clause-made g c =
+    let e = c.conclude.ensures in
+    rw (e.floor, e.left) (task_made (g.F.Floor.told c.args.floor)
+    (g.F.Floor.told c.read_task.new.floor) c.run_task-ran.result.floor c.in-Ok.ensures.files
+    c.run_task-ran.result.left c.run_task-ran.result.fault c.in-Ok.made.0 c.conclude.result.fault
+    c.conclude.result.task e.kind c.run_task-ran.ensures.made c.run_task-ran.ensures.few)
+
+pub returns-in-Err-clause-made : goal.returns-in-Err-clause-made
+returns-in-Err-clause-made g c =
+    rw (c.with_no_lane.ensures) (nothing_made (g.F.Floor.told c.args.floor)
+    (g.F.Floor.told c.read_task.new.floor) c.in-Err.fault c.in-Err.ensures.files)
+
+pub returns-in-Ok-clause-success : goal.returns-in-Ok-clause-success
+returns-in-Ok-clause-success g c =
+    succeeds c.in-Ok.made.0 c.run_task-ran.result.left c.conclude.result c.conclude.ensures.left
+    c.in-Ok.ensures.posts c.in-Ok.ensures.berths c.conclude.ensures.status
+    c.run_task-ran.result.fault c.conclude.ensures.kind c.run_task-ran.ensures.run
+
+pub returns-in-Err-clause-success : goal.returns-in-Err-clause-success
+returns-in-Err-clause-success g c =
+    rw (c.with_no_lane.ensures) (λ none. absurd (cc))
 
 pub returns-in-Err-clause-course : goal.returns-in-Err-clause-course
 returns-in-Err-clause-course g c =

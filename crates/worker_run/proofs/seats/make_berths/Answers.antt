@@ -1,5 +1,6 @@
 -- One more berth is made.
 use Rattle.std.proofs.Common.{arith, ◌∙◌}
+use Rattle.worker_run.proofs.Made.{makes_on}
 use Rattle.worker_run.proofs.Numbered.{one_more_berth}
 use Rattle.worker_run.proofs.seats.make_berths.Goals as goal
 
@@ -12,7 +13,9 @@ loop-number-preserved g c =
       berths = rw (c.in_ok-push.ensures.items) (one_more_berth g.F.Berth.Berth.told
           c.loop-number.number c.loop-number.berths.items c.in_ok-make_berth.field-0 were.berths
           made.number made.log made.faults);
-      files = c.make_berth.ensures.files ∙ were.files;
+      made = makes_on c.loop-number.number 0 1 0 (g.F.Floor.told c.args.floor.now)
+          (g.F.Floor.told c.loop-number.floor) (g.F.Floor.told c.make_berth.new.self) were.made
+          made.made;
       log = c.make_berth.ensures.told ∙ were.log;
       count = omega (arith, c.make_berth.ensures.count, were.count);
     }

@@ -1,5 +1,5 @@
 use Rattle.std.proofs.Common.{◌≡◌, ◌≤◌}
-use Rattle.outside.specs.Told.{SameFloor}
+use Rattle.outside.specs.Told.{Makes}
 use Rattle.run_bench.specs.Objects.{AreFresh}
 use Rattle.worker_run.proofs.seats.make_places.Given as goal
 
@@ -7,7 +7,7 @@ abbrev pub invariant-loop-action : goal.invariant-loop-action
 invariant-loop-action g l = record {
   within : l.action ≤ l.action-end;
   places : AreFresh g.F.Place.Place.told l.action l.places.items;
-  files : SameFloor (g.F.Floor.told l.initial.floor) (g.F.Floor.told l.floor);
+  made : Makes 0 l.action (g.F.Floor.told l.initial.floor) (g.F.Floor.told l.floor);
   log : (g.F.Floor.told l.floor).log ≡ (g.F.Floor.told l.initial.floor).log;
   count : (g.F.Floor.told l.initial.floor).faults ≤ (g.F.Floor.told l.floor).faults;
 }

@@ -1,0 +1,163 @@
+-- What the floor has made, from step to step, and how much of it is left.
+use Rattle.std.proofs.Common.{◌≡◌, ◌≤◌, arith, ℕ, suc, ◌+◌, Bool, true, false, List, [], ◌∷◌, length, Option, Some, None, refl, ap, sym, subst, ◌∙◌}
+use Rattle.build_report.specs.declared.fault.RunFault.{RunFault}
+use Rattle.build_report.specs.declared.fault.RunFault.TheVariants as fault
+use Rattle.build_report.specs.declared.fault.Stage.{Stage}
+use Rattle.build_report.specs.declared.fault.Stage.TheVariants as stage
+use Rattle.exec_journal.specs.declared.call.Call.{Call}
+use Rattle.exec_journal.specs.declared.reply.Reply.{Reply}
+use Rattle.lane_deeds.specs.declared.post.Post.{Post}
+use Rattle.lane_runs.specs.Runs.{EndTold, Rooms}
+use Rattle.outside.specs.Told.{BerthTold, FloorTold, Makes, SameFloor}
+use Rattle.remote_messages.specs.declared.work.WorkAction.{WorkAction}
+use Rattle.run_rules.specs.Moves.{History}
+use Rattle.run_tasks.specs.declared.task.Task.{Task}
+use Rattle.worker_run.specs.Ends.{IsRunEnd, MadeBy}
+use Rattle.worker_run.specs.Lanes.{HasMade, MakesUpTo, WhereWhole}
+use Rattle.worker_run.specs.Seen.{Left, nothing_left, stage_of}
+
+-- ---- making
+
+pub makes_none : (floor : FloorTold) → Makes 0 0 floor floor
+makes_none floor = record { files = refl; berths = omega arith; places = omega arith }
+
+pub makes_on : (b p c q : ℕ) (old mid new : FloorTold) → Makes b p old mid → Makes c q mid new
+    → Makes (b + c) (p + q) old new
+makes_on b p c q old mid new first second = record {
+  files = second.files ∙ first.files;
+  berths = omega (arith, first.berths, second.berths);
+  places = omega (arith, first.places, second.places);
+}
+
+-- a step that has failed makes nothing
+pub makes_no_more : (b p : ℕ) (old mid new : FloorTold) → Makes b p old mid → SameFloor mid new
+    → Makes b p old new
+makes_no_more b p old mid new made same = record {
+  files = ap (λ g. g.files) same ∙ made.files;
+  berths = ap (λ g. g.berths) same ∙ made.berths;
+  places = ap (λ g. g.places) same ∙ made.places;
+}
+
+pub up_to : (b p c q : ℕ) (old new : FloorTold) → Makes b p old new → b ≤ c → p ≤ q
+    → MakesUpTo c q old new
+up_to b p c q old new made few less = record {
+  berths = omega (arith, made.berths, few);
+  places = omega (arith, made.places, less);
+}
+
+pub up_to_more : (b p c q : ℕ) (old new : FloorTold) → MakesUpTo b p old new → b ≤ c → p ≤ q
+    → MakesUpTo c q old new
+up_to_more b p c q old new made few less = record {
+  berths = omega (arith, made.berths, few);
+  places = omega (arith, made.places, less);
+}
+
+pub up_to_on : (b p c q : ℕ) (old mid new : FloorTold) → Makes b p old mid
+    → MakesUpTo c q mid new → MakesUpTo (b + c) (p + q) old new
+up_to_on b p c q old mid new first second = record {
+  berths = omega (arith, first.berths, second.berths);
+  places = omega (arith, first.places, second.places);
+}
+
+-- ---- what is left
+
+-- as many berths come back as there are posts
+pub rooms_length : (rule : History → ℕ → Call → Reply) (work : List WorkAction) (h : History)
+    (lines : List EndTold) (w : ℕ) (posts : List Post) (olds news : List BerthTold)
+    → Rooms rule work h lines w posts olds news → length news ≡ length posts
+rooms_length rule work h lines w [] [] [] r = refl
+rooms_length rule work h lines w [] [] (n ∷ ns) r = absurd r
+rooms_length rule work h lines w [] (o ∷ os) [] r = absurd r
+rooms_length rule work h lines w [] (o ∷ os) (n ∷ ns) r = absurd r
+rooms_length rule work h lines w (p ∷ ps) [] [] r = absurd r
+rooms_length rule work h lines w (p ∷ ps) [] (n ∷ ns) r = absurd r
+rooms_length rule work h lines w (p ∷ ps) (o ∷ os) [] r = absurd r
+rooms_length rule work h lines w (p ∷ ps) (o ∷ os) (n ∷ ns) r =
+    ap suc (rooms_length rule work h lines (w + 1) ps os ns r.1)
+
+pub made_left : (b p : ℕ) (before after : FloorTold) (x : Left) → Makes b p before after
+    → length x.berths ≡ b → length x.places ≡ p → HasMade before after x
+made_left b p before after x made berths places = record {
+  berths = made.berths ∙ ap (λ (n : ℕ). before.berths + n) (sym berths);
+  places = made.places ∙ ap (λ (n : ℕ). before.places + n) (sym places);
+}
+
+-- what holds anyway holds where lanes ran
+pub where_whole : (halted : Bool) (P : Type 0) → P → WhereWhole (stage_of halted) P
+where_whole true P p = p
+where_whole false P p = p
+
+-- ---- the end of a run
+
+module _ (before after : FloorTold) (x : Left) where
+  by_end : (f : Option RunFault) (o : Option Task) → HasMade before after x
+      → MakesUpTo 64 4096 before after → MadeBy f o before after x
+  by_end None o made few = made
+  by_end (Some fault.SinkFailed) o made few = made
+  by_end (Some (fault.NoMemory stage.Before)) o made few = few
+  by_end (Some (fault.NoMemory stage.During)) o made few = made
+  by_end (Some (fault.NoMemory stage.After)) None made few = few
+  by_end (Some (fault.NoMemory stage.After)) (Some t) made few = made
+  by_end (Some fault.Words) o made few = made
+  by_end (Some (fault.List y)) o made few = made
+  by_end (Some (fault.Flags a y)) o made few = made
+  by_end (Some (fault.Absent at)) o made few = made
+  by_end (Some (fault.FloorFailed at)) o made few = made
+
+  by_run : (when : Option Stage) (t : Task) (f : Option RunFault) (o : Option Task)
+      → IsRunEnd when t f o → WhereWhole when (HasMade before after x)
+      → MakesUpTo 64 4096 before after → MadeBy f o before after x
+  by_run None t f o kind made few = by_end f o made few
+  by_run (Some stage.During) t f o kind made few = by_end f o made few
+  by_run (Some stage.Before) t f o kind made few =
+      subst (λ (f : Option RunFault). MadeBy f o before after x) (sym kind.0) few
+  by_run (Some stage.After) t f o kind made few =
+      subst (λ (f : Option RunFault). MadeBy f o before after x) (sym kind.0)
+      (subst (λ (o : Option Task). MadeBy (Some (fault.NoMemory stage.After)) o before after x)
+      (sym kind.1) few)
+
+-- the reads before it made nothing
+module _ (before mid after : FloorTold) (same : SameFloor before mid) where
+  berths_are : mid.berths ≡ before.berths
+  berths_are = ap (λ g. g.berths) same
+
+  places_are : mid.places ≡ before.places
+  places_are = ap (λ g. g.places) same
+
+  few_since : MakesUpTo 64 4096 mid after → MakesUpTo 64 4096 before after
+  few_since few = record {
+    berths = subst (λ (n : ℕ). after.berths ≤ n + 64) berths_are few.berths;
+    places = subst (λ (n : ℕ). after.places ≤ n + 4096) places_are few.places;
+  }
+
+  made_since : (x : Left) → HasMade mid after x → HasMade before after x
+  made_since x made = record {
+    berths = made.berths ∙ ap (λ (n : ℕ). n + length x.berths) berths_are;
+    places = made.places ∙ ap (λ (n : ℕ). n + length x.places) places_are;
+  }
+
+  whole_since : (when : Option Stage) (x : Left) → WhereWhole when (HasMade mid after x)
+      → WhereWhole when (HasMade before after x)
+  whole_since None x made = made_since x made
+  whole_since (Some stage.During) x made = made_since x made
+  whole_since (Some stage.Before) x made = tt
+  whole_since (Some stage.After) x made = tt
+
+  pub task_made : (x : Left) (when : Option Stage) (t : Task) (f : Option RunFault)
+      (o : Option Task) → IsRunEnd when t f o → WhereWhole when (HasMade mid after x)
+      → MakesUpTo 64 4096 mid after → MadeBy f o before after x
+  task_made x when t f o kind made few =
+      by_run before after x when t f o kind (whole_since when x made) (few_since few)
+
+-- where the reads ended it nothing was made
+pub nothing_made : (before after : FloorTold) (f : RunFault) → SameFloor before after
+    → MadeBy (Some f) None before after nothing_left
+nothing_made before after f same = by_end before after nothing_left (Some f) None
+    (record {
+      berths = ap (λ g. g.berths) same ∙ omega arith;
+      places = ap (λ g. g.places) same ∙ omega arith;
+    })
+    (record {
+      berths = subst (λ (n : ℕ). n ≤ before.berths + 64) (sym (ap (λ g. g.berths) same)) (omega arith);
+      places = subst (λ (n : ℕ). n ≤ before.places + 4096) (sym (ap (λ g. g.places) same)) (omega arith);
+    })
