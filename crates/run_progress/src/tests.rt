@@ -42,10 +42,10 @@ fn each_failure_is_told_once_and_in_order(rt: HostRuntime) -> Result<(), Fail> {
     progress.settled(6, false);
     progress.settled(7, true);
     progress.settled(2, false);
-    assert!(rt; watcher.new_failures(alloc, &progress)?.as_slice() == [6, 2]);
+    assert!(rt; watcher.new_failures(alloc, &progress)?.as_slice() == [6, 2].as_slice());
     assert!(rt; watcher.new_failures(alloc, &progress)?.is_empty());
     progress.settled(0, false);
-    assert!(rt; watcher.new_failures(alloc, &progress)?.as_slice() == [0]);
+    assert!(rt; watcher.new_failures(alloc, &progress)?.as_slice() == [0].as_slice());
     Ok(())
 }
 
