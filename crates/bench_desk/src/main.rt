@@ -5,12 +5,14 @@
 //! bench_desk crowd LANES TURNS        lanes that call an adder without a pause, TURNS each
 //! bench_desk traffic SEATS ROUNDS     64 seats, of which SEATS make ROUNDS actions each
 //! bench_desk rest MILLISECONDS        the lanes of 64 idle seats
+//! bench_desk history TURNS            the slowest of so many turns at a desk
 //! ```
 #![tactic(auto)]
 
 mod crowd;
 mod failure;
 mod hall;
+mod history;
 mod lane;
 mod rounds;
 mod seats;
@@ -20,6 +22,7 @@ mod watch;
 
 use crowd::{Crowd, alone};
 use failure::Failure;
+use history::slowest_turn;
 use seats::{Behind, Limit, rest, traffic};
 use std::alloc::Global;
 use std::env;
@@ -141,6 +144,12 @@ fn time_rest<R: Threads + Wait + Clock + CpuClock + Files + Print + Sync>(
     Ok(())
 }
 
+fn time_history<R: Wait + Clock + Print>(rt: &R, alloc: Global, turns: u32) -> Result<(), Failure> {
+    let slowest = slowest_turn(rt, alloc, turns as usize)?;
+    println!(rt; "history {turns}: the slowest turn took {slowest} ns")?;
+    Ok(())
+}
+
 fn main(rt: HostRuntime) -> Result<(), Failure> {
     let first = number(&rt, 2)?;
     let second = number(&rt, 3)?;
@@ -149,6 +158,7 @@ fn main(rt: HostRuntime) -> Result<(), Failure> {
             "crowd" => time_crowd(&rt, rt.alloc(), first, second),
             "traffic" => time_traffic(&rt, rt.alloc(), first, second),
             "rest" => time_rest(&rt, rt.alloc(), first),
+            "history" => time_history(&rt, rt.alloc(), first),
             _ => small_run(&rt, rt.alloc()),
         },
         None => small_run(&rt, rt.alloc()),

@@ -109,7 +109,7 @@ fn tell_token<R: Wait + Print>(rt: &R, alloc: Global) -> Result<(), Failure> {
     };
     let taken = pass.stirs();
     desk.join_pass(rt, &mut root, pass);
-    let history = desk.close(rt, root)?.history.len();
+    let history = desk.close(rt, root).history.len();
     let number = token.number;
     println!(rt;
         "token 4 is left, stamped and taken: {number} in {history} calls, stirs {left:x} and {taken:x}"

@@ -4,6 +4,8 @@
 //! | A line | Prints |
 //! |---|---|
 //! | `request BYTES`, `response BYTES`, `job BYTES`, `result BYTES` | the written form of the message, or its fault |
+//! | `pieces FORM SIZE BYTES` | what a splitter gives of a stream, `delimited` or `lines`, in pieces of so many bytes: how many pieces gave nothing, frames, faults, and the digest of the last frame |
+//! | `long FORM SIZE LENGTH` | the same of one frame of so many bytes |
 //! | `list JSON` | how many actions the list has, or `refused` |
 //! | `generated COUNT` | the text of a generated list |
 //! | `key` | the length of a worker key's canonical bytes, and its name |
@@ -11,12 +13,13 @@
 //! | `meanwhile BYTES` | the same with a shop whose runs wait until all jobs have been read |
 //!
 //! Other lines are printed as they are. `tools/wire-vectors` writes the cases of requests and responses, with the written
-//! forms that protoc gives, and `tools/shop-vectors` those of generated lists and of the executor, into `stdin` and `stdout`.
+//! forms that protoc gives, and `tools/shop-vectors` those of pieces, of generated lists and of the executor, into `stdin` and `stdout`.
 #![tactic(auto)]
 
 mod jobs;
 mod keys;
 mod messages;
+mod pieces;
 
 use action_list::{ListRefusal, read_list};
 use generated_list::generated_list;
@@ -50,6 +53,8 @@ fn told<R: Threads + Wait + Sync>(rt: &R, alloc: Global, line: &str) -> Result<S
         "response" => messages::response(alloc, rest),
         "job" => messages::job(alloc, rest),
         "result" => messages::result(alloc, rest),
+        "pieces" => pieces::given(alloc, rest),
+        "long" => pieces::long(alloc, rest),
         "list" => list(alloc, rest),
         "generated" => generated(alloc, rest),
         "key" => keys::key(alloc),

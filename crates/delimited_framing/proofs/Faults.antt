@@ -3,7 +3,7 @@ use Rattle.std.proofs.Common.{◌≡◌, ℕ, zero, suc, Bool, true, false, cond
 use Rattle.wire_fields.specs.Varint.{Fault, CutField, BadVarint, BadTag, BadText, below, number_at, varint_at}
 use Rattle.delimited_framing.specs.declared.frame.FrameFault.{FrameFault}
 use Rattle.delimited_framing.specs.declared.frame.FrameFault.TheVariants.{TooLong}
-use Rattle.delimited_framing.specs.Front.{Front, Whole, Unfinished, Bad}
+use Rattle.delimited_framing.specs.Front.{Whole, Unfinished, Bad}
 use Rattle.delimited_framing.specs.Frame.{behind, after_length, frame_at}
 use Rattle.delimited_framing.proofs.Streams.{done, varint_more}
 

@@ -1,5 +1,5 @@
 -- A stream has one reading.
-use Rattle.std.proofs.Common.{◌≡◌, ℕ, zero, suc, ◌<◌, ◌≤◌, ◌^◌, ltb, List, [], ◌∷◌, ◌++◌, length, take, drop, refl, sym, ap, subst, ◌∙◌, append_assoc, inl, inr, arith}
+use Rattle.std.proofs.Common.{◌≡◌, ℕ, zero, suc, ◌<◌, ◌≤◌, ◌^◌, List, [], ◌∷◌, ◌++◌, length, refl, sym, ap, subst, ◌∙◌, append_assoc, inl, inr, arith}
 use Rattle.std.proofs.lemmas.List.{length-append, take_at, drop_at}
 use Rattle.std.proofs.lemmas.Bool.{le-ltb}
 use Rattle.std.proofs.lemmas.List.Concat.{flat_map-cons}
@@ -7,7 +7,6 @@ use Rattle.std.specs.List.{AllByRecursion, flat_map}
 use Rattle.wire_fields.specs.Varint.{number_at, varint_at, varint}
 use Rattle.wire_fields.specs.Spelling.{delimited}
 use Rattle.wire_fields.proofs.Again.{varint_again}
-use Rattle.delimited_framing.specs.declared.frame.FrameFault.{FrameFault}
 use Rattle.delimited_framing.specs.Front.{Front, Whole, Unfinished, Bad, HoldsBy, HasReading, OneReading, IsMarked}
 use Rattle.delimited_framing.specs.Frame.{frame_at, delimited_form, Holds, DelimitedIsRead}
 use Rattle.delimited_framing.specs.Splitter.{GivenFirst}

@@ -1,10 +1,13 @@
 -- A stream that goes on, and one frame more.
-use Rattle.std.proofs.Common.{◌≡◌, ℕ, zero, suc, ◌+◌, ◌-◌, ◌*◌, ◌%◌, ◌<◌, ◌≤◌, Bool, true, false, cond, ltb, leb, List, [], ◌∷◌, ◌++◌, length, take, drop, Option, Some, None, Result, Ok, Err, refl, sym, ap, subst, ◌∙◌, arith}
-use Rattle.std.proofs.lemmas.Bool.{le-ltb, ltb-false}
-use Rattle.std.proofs.lemmas.List.{take-append-le, drop-append-le, length-append, length-drop, drop-drop, take_all}
+use Rattle.std.proofs.Common.{◌≡◌, ℕ, zero, suc, ◌+◌, ◌-◌, ◌*◌, ◌%◌, ◌<◌, ◌≤◌, Bool, true, false, cond, ltb, leb, List, [], ◌∷◌, ◌++◌, length, take, drop, Option, Some, None, Result, Ok, Err, refl, sym, ap, subst, ◌∙◌, arith, inl, inr, min, ◌⊎◌}
+use Rattle.std.proofs.lemmas.Bool.{le-ltb, ltb-false, leb-true, leb-false}
+use Rattle.std.proofs.lemmas.List.{take-append-le, drop-append-le, length-append, length-drop, take_all, take-append-drop, length-take}
 use Rattle.std.specs.Prelude.{is_some}
 use Rattle.wire_fields.proofs.Readings.{varint_shorter}
-use Rattle.wire_fields.specs.Varint.{Fault, CutField, BadVarint, BadTag, BadText, below, number_at, varint_at}
+use Rattle.byte_pieces.specs.Queues.{IsPartAt}
+use Rattle.wire_fields.specs.declared.varint.Varint.{Varint}
+use Rattle.wire_fields.specs.declared.varint.Varint.TheVariants.{Whole as Whole_number, Cut, Bad as BadNumber}
+use Rattle.wire_fields.specs.Varint.{IsVarintAt, Fault, CutField, BadVarint, BadTag, BadText, below, number_at, varint_at}
 use Rattle.delimited_framing.specs.declared.frame.FrameFault.{FrameFault}
 use Rattle.delimited_framing.specs.declared.frame.FrameFault.TheVariants.{TooLong}
 use Rattle.delimited_framing.specs.Front.{Front, Whole, Unfinished, Bad, HoldsBy, IsMarked}
@@ -130,28 +133,113 @@ held_at limit start items fault = record { limit = limit; rest = drop start item
 abbrev pub read_on : ℕ → Held → Held
 read_on n s = record { limit = s.limit; rest = drop n s.rest; fault = s.fault }
 
-pub gives_found : (fed : List ℕ) (given : List (List ℕ)) (limit start a b : ℕ) (items seen frame : List ℕ) (fault : Option FrameFault) (old new : Held) → held_at limit start items fault ≡ old → fault ≡ None → seen ≡ items
-    → frame_at limit (take (length seen - start) (drop start seen)) ≡ Whole (take (b - a) (drop a (take (length seen - start) (drop start seen)))) (drop b (take (length seen - start) (drop start seen)))
-    → frame ≡ take (b - a) (drop a (take (length seen - start) (drop start seen)))
-    → new ≡ read_on b old → Stands fed given old → Stands fed (given ++ frame ∷ []) new × (new.limit ≡ old.limit) × (new.fault ≡ old.fault)
-gives_found fed given limit start a b items seen frame fault old new is none same e f read s =
-    let tail : take (length seen - start) (drop start seen) ≡ drop start items = tail_is start seen ∙ ap (drop start) same in
-    let e' = subst (λ (t : List ℕ). frame_at limit t ≡ Whole (take (b - a) (drop a t)) (drop b t)) tail e in
-    let f' = subst (λ (t : List ℕ). frame ≡ take (b - a) (drop a t)) tail f in
-    let here : frame_at limit (drop start items) ≡ Whole frame (drop b (drop start items)) = e' ∙ ap (λ (x : List ℕ). Whole x (drop b (drop start items))) (sym f') in
-    let s' : Stands fed given (held_at limit start items fault) = subst (λ (h : Held). Stands fed given h) (sym is) s in
-    let gives = gives_frame fed given (held_at limit start items fault) frame (drop b (drop start items)) none here s' in
-    let after : held_at limit b (drop start items) fault ≡ new = ap (read_on b) is ∙ sym read in
-    (subst (λ (h : Held). Stands fed (given ++ frame ∷ []) h) after gives, ap (λ (h : Held). h.limit) read, ap (λ (h : Held). h.fault) read)
+pub gives_found : (fed : List ℕ) (given : List (List ℕ)) (limit a b : ℕ) (rest after frame : List ℕ) (fault : Option FrameFault) (old : Held) → held_at limit 0 rest fault ≡ old → fault ≡ None
+    → frame_at limit rest ≡ Whole (take (b - a) (drop a rest)) (drop b rest) → frame ≡ take (b - a) (drop a rest) → after ≡ drop b rest → Stands fed given old
+    → Stands fed (given ++ frame ∷ []) (held_at limit 0 after fault) × (limit ≡ old.limit) × (fault ≡ old.fault)
+gives_found fed given limit a b rest after frame fault old is none e f g s =
+    let here : frame_at limit rest ≡ Whole frame after = e ∙ (ap (λ (x : List ℕ). Whole x (drop b rest)) (sym f) ∙ ap (Whole frame) (sym g)) in
+    let s' : Stands fed given (held_at limit 0 rest fault) = subst (λ (h : Held). Stands fed given h) (sym is) s in
+    (gives_frame fed given (held_at limit 0 rest fault) frame after none here s', ap (λ (h : Held). h.limit) is, ap (λ (h : Held). h.fault) is)
 
-pub takes_found : (fed : List ℕ) (given : List (List ℕ)) (limit start : ℕ) (items after piece : List ℕ) (fault : Option FrameFault) (old : Held) → held_at limit start items fault ≡ old → old.fault ≡ None
-    → start ≤ length items → after ≡ items ++ piece → Stands fed given old → Stands (fed_more old.fault fed piece) given (held_at limit start after fault)
-takes_found fed given limit start items after piece fault old is none within same s =
+pub takes_found : (fed : List ℕ) (given : List (List ℕ)) (limit : ℕ) (rest after piece : List ℕ) (fault : Option FrameFault) (old : Held) → held_at limit 0 rest fault ≡ old → old.fault ≡ None
+    → after ≡ rest ++ piece → Stands fed given old → Stands (fed_more old.fault fed piece) given (held_at limit 0 after fault)
+takes_found fed given limit rest after piece fault old is none same s =
     let none' : fault ≡ None = ap (λ (h : Held). h.fault) is ∙ none in
-    let rest : drop start after ≡ drop start items ++ piece = ap (drop start) same ∙ drop-append-le start items piece within in
-    let s' : Stands fed given (held_at limit start items fault) = subst (λ (h : Held). Stands fed given h) (sym is) s in
-    subst (λ (h : Held). Stands (fed_more h.fault fed piece) given (held_at limit start after fault)) is (takes_piece fed given (held_at limit start items fault) piece (drop start after) none' rest s')
+    let s' : Stands fed given (held_at limit 0 rest fault) = subst (λ (h : Held). Stands fed given h) (sym is) s in
+    subst (λ (h : Held). Stands (fed_more h.fault fed piece) given (held_at limit 0 after fault)) is (takes_piece fed given (held_at limit 0 rest fault) piece after none' same s')
 
 pub none_is : (o : Option FrameFault) → false ≡ is_some o → o ≡ None
 none_is None e = refl
 none_is (Some x) e = absurd cc
+
+-- ---- a length among the first bytes
+
+abbrev pub failed : Fault → Result (ℕ × List ℕ) Fault
+failed fault = Err fault
+
+-- these are the first bytes, and so many that a length among them is whole
+abbrev pub HasLength : List ℕ → List ℕ → Type 0
+HasLength bytes front = (front ≡ take (length front) bytes) × ((length bytes ≤ length front) ⊎ (10 ≤ length front))
+
+never_cut : (more : ℕ) (bytes : List ℕ) → more < length bytes → number_at more bytes ≡ failed CutField → ⊥
+unfolding number_at
+never_cut more [] long e = omega arith
+never_cut zero (byte ∷ rest) long e = last_not_cut (leb byte 1) byte rest e
+  where
+    last_not_cut : (t : Bool) (byte : ℕ) (rest : List ℕ) → cond t (done (byte, rest)) (failed BadVarint) ≡ failed CutField → ⊥
+    last_not_cut true byte rest e = absurd cc
+    last_not_cut false byte rest e = absurd cc
+never_cut (suc more) (byte ∷ rest) long e = step_not_cut (ltb byte 128) byte rest (number_at more rest) (λ cut. never_cut more rest (omega arith) cut) e
+  where
+    below_not_cut : (byte : ℕ) (read : Result (ℕ × List ℕ) Fault) → (read ≡ failed CutField → ⊥) → below byte read ≡ failed CutField → ⊥
+    below_not_cut byte (Ok read) not_cut e = absurd cc
+    below_not_cut byte (Err fault) not_cut e = not_cut e
+
+    step_not_cut : (t : Bool) (byte : ℕ) (rest : List ℕ) (read : Result (ℕ × List ℕ) Fault) → (read ≡ failed CutField → ⊥) → cond t (done (byte, rest)) (below byte read) ≡ failed CutField → ⊥
+    step_not_cut true byte rest read not_cut e = absurd cc
+    step_not_cut false byte rest read not_cut e = below_not_cut byte read not_cut e
+
+bad_more : (more : ℕ) (bytes p : List ℕ) → number_at more bytes ≡ failed BadVarint → number_at more (bytes ++ p) ≡ failed BadVarint
+unfolding number_at
+bad_more more [] p e = absurd cc
+bad_more zero (byte ∷ rest) p e = last_bad (leb byte 1) byte rest e
+  where
+    last_bad : (t : Bool) (byte : ℕ) (rest : List ℕ) → cond t (done (byte, rest)) (failed BadVarint) ≡ failed BadVarint → cond t (done (byte, rest ++ p)) (failed BadVarint) ≡ failed BadVarint
+    last_bad true byte rest e = absurd cc
+    last_bad false byte rest e = refl
+bad_more (suc more) (byte ∷ rest) p e = step_bad (ltb byte 128) byte rest (number_at more rest) (number_at more (rest ++ p)) (λ bad. bad_more more rest p bad) e
+  where
+    below_bad : (byte : ℕ) (read next : Result (ℕ × List ℕ) Fault) → (read ≡ failed BadVarint → next ≡ failed BadVarint) → below byte read ≡ failed BadVarint → below byte next ≡ failed BadVarint
+    below_bad byte (Ok read) next goes e = absurd cc
+    below_bad byte (Err fault) next goes e = rw (goes e) refl
+
+    step_bad : (t : Bool) (byte : ℕ) (rest : List ℕ) (read next : Result (ℕ × List ℕ) Fault) → (read ≡ failed BadVarint → next ≡ failed BadVarint) → cond t (done (byte, rest)) (below byte read) ≡ failed BadVarint
+        → cond t (done (byte, rest ++ p)) (below byte next) ≡ failed BadVarint
+    step_bad true byte rest read next goes e = absurd cc
+    step_bad false byte rest read next goes e = below_bad byte read next goes e
+
+-- the first bytes and what is behind them
+behind_front : (bytes front : List ℕ) → front ≡ take (length front) bytes → bytes ≡ front ++ drop (length front) bytes
+behind_front bytes front is = sym (take-append-drop (length front) bytes) ∙ ap (λ (x : List ℕ). x ++ drop (length front) bytes) (sym is)
+
+pub whole_length : (bytes front : List ℕ) (value used : ℕ) → HasLength bytes front → varint_at front ≡ done (value, drop used front) → used ≤ length front
+    → (varint_at bytes ≡ done (value, drop used bytes)) × (used ≤ length bytes)
+whole_length bytes front value used has e within =
+    let parts = behind_front bytes front has.0 in
+    let l : length bytes ≡ length (front ++ drop (length front) bytes) = ap length parts in
+    let rest : drop used front ++ drop (length front) bytes ≡ drop used bytes = sym (ap (drop used) parts ∙ drop-append-le used front (drop (length front) bytes) within) in (
+      ap varint_at parts ∙ (varint_more front (drop (length front) bytes) value (drop used front) e ∙ ap (λ (r : List ℕ). done (value, r)) rest),
+      omega (arith, length-append front (drop (length front) bytes)),
+    )
+
+pub bad_length : (bytes front : List ℕ) → HasLength bytes front → varint_at front ≡ failed BadVarint → varint_at bytes ≡ failed BadVarint
+unfolding varint_at
+bad_length bytes front has e = ap varint_at (behind_front bytes front has.0) ∙ bad_more 9 front (drop (length front) bytes) e
+
+pub cut_length : (bytes front : List ℕ) → HasLength bytes front → varint_at front ≡ failed CutField → varint_at bytes ≡ failed CutField
+unfolding varint_at
+cut_length bytes front (is, inl all) e = ap varint_at (sym (is ∙ take_all (length front) bytes all)) ∙ e
+cut_length bytes front (is, inr long) e = absurd (never_cut 9 front (omega arith) e)
+
+length_is : (bytes front : List ℕ) (v : Varint) → HasLength bytes front → IsVarintAt front v → IsVarintAt bytes v
+length_is bytes front (Whole_number value used) has at = let w = whole_length bytes front value used has at.0 at.1 in (w.0, w.1, at.2, at.3)
+length_is bytes front Cut has at = cut_length bytes front has at
+length_is bytes front BadNumber has at = bad_length bytes front has at
+
+enough : (all n : ℕ) → min all 10 ≤ n → (all ≤ n) ⊎ (10 ≤ n)
+enough all n le = by (leb all 10) refl
+  where
+    by : (b : Bool) → leb all 10 ≡ b → (all ≤ n) ⊎ (10 ≤ n)
+    by true e = inl (let l : all ≤ 10 = leb-true all 10 e in omega arith)
+    by false e = inr (let l : 10 < all = leb-false all 10 e in omega arith)
+
+-- where the first bytes stand in one piece
+pub length_in_part : (bytes front : List ℕ) (v : Varint) → IsPartAt bytes 0 front → min (length bytes) 10 ≤ length front → IsVarintAt front v → IsVarintAt bytes v
+length_in_part bytes front v part long at = length_is bytes front v (part.front, enough (length bytes) (length front) long) at
+
+-- and where they were put together
+pub length_in_copy : (bytes copied : List ℕ) (v : Varint) → copied ≡ take (min (length bytes) 10 - 0) (drop 0 bytes) → IsVarintAt copied v → IsVarintAt bytes v
+length_in_copy bytes copied v is at =
+    let n : length copied ≡ min (min (length bytes) 10 - 0) (length bytes) = ap length is ∙ length-take (min (length bytes) 10 - 0) bytes in
+    let m : min (length bytes) 10 - 0 ≡ length copied = omega arith in
+    length_is bytes copied v (is ∙ ap (λ (k : ℕ). take k bytes) m, enough (length bytes) (length copied) (omega arith)) at

@@ -1,6 +1,10 @@
 // The frame at the front of some bytes.
+ghost use Rattle.std.specs.Prelude.{IfOk};
 ghost use Rattle.delimited_framing.specs.Frame.{IsFrameAt};
+ghost use Rattle.wire_fields.specs.Varint.{IsVarintAt};
 
+use byte_pieces::Pieces;
+use plain_values::NoMemory;
 use wire_fields::{Varint, read_varint};
 
 /// What is wrong with a stream.
@@ -31,27 +35,43 @@ pub(crate) enum Found {
     Bad(FrameFault),
 }
 
+// How many bytes a length takes at most.
+const LONGEST: usize = 10;
+
 #[tactic(auto, unfolding(crate::specs::Frame::frame_at))]
-pub(crate) fn find_frame(bytes: &[u8], limit: u64) -> Found
-    ensures { IsFrameAt limit bytes.now result }
+pub(crate) fn find_frame(held: &Pieces, limit: u64) -> Result<Found, NoMemory>
+    ensures { IfOk result (IsFrameAt limit held.now) }
 {
-    match read_varint(bytes) {
-        Varint::Cut => Found::Unfinished,
-        Varint::Bad => Found::Bad(FrameFault::BadLength),
+    match length_at(held)? {
+        Varint::Cut => Ok(Found::Unfinished),
+        Varint::Bad => Ok(Found::Bad(FrameFault::BadLength)),
         Varint::Whole {
             value: length,
             used: start,
         } => {
             if length > limit {
-                return Found::Bad(FrameFault::TooLong { length });
+                return Ok(Found::Bad(FrameFault::TooLong { length }));
             }
-            if length > (bytes.len() - start) as u64 {
-                return Found::Unfinished;
+            if length > (held.len() - start) as u64 {
+                return Ok(Found::Unfinished);
             }
-            Found::Whole {
+            Ok(Found::Whole {
                 start,
                 end: start + length as usize,
-            }
+            })
         }
     }
+}
+
+// The length at the front. It is read where it stands, unless it may go on in a second piece.
+fn length_at(held: &Pieces) -> Result<Varint, NoMemory>
+    ensures { IfOk result (IsVarintAt held.now) }
+{
+    let front = held.part(0);
+    let long = held.len().min(LONGEST);
+    if front.len() < long {
+        let copied = held.copy(0, long)?;
+        return Ok(read_varint(copied.as_slice()));
+    }
+    Ok(read_varint(front))
 }

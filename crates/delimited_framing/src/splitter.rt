@@ -1,36 +1,28 @@
 // Frames of a stream that comes in pieces.
-ghost use Rattle.std.specs.Prelude.{◌≡◌, ◌≤◌, ◌++◌, List, ℕ, [], length, drop, None, Ok, OnOk, OnErr, IfOk, IfSome};
+ghost use Rattle.std.specs.Prelude.{◌≡◌, ◌++◌, List, ℕ, [], length, None, Ok, OnOk, OnErr, IfOk, IfSome};
 ghost use Rattle.delimited_framing.specs.Frame.{delimited_form};
 ghost use Rattle.delimited_framing.specs.Splitter.{Held, Stands, Gives, fed_more};
 
 use crate::frame::{Found, FrameFault, Next, find_frame};
+use byte_pieces::Pieces;
 use plain_values::NoMemory;
 use std::alloc::Global;
 use std::marker::Model;
-
-// How much room an empty splitter keeps, so that the pieces of small frames need no new memory.
-const ROOM_KEPT: usize = 65_536;
 
 /// Cuts a stream into its frames.
 #[derive(Drop)]
 pub struct Splitter {
     limit: u64,
-    held: Vec<u8>,
-    start: usize,
+    held: Pieces,
     fault: Option<FrameFault>,
 }
 
 impl Model for Splitter {
-    ghost use Rattle.std.specs.Prelude.{drop, length, ◌+◌, ◌≤◌};
     ghost use Rattle.delimited_framing.specs.Splitter.{Held};
 
     ghost Value = { Held };
 
-    ghost view = { λ s.
-        record { limit = s.limit; rest = drop s.start s.held.items; fault = s.fault } };
-
-    // Of what was read no more is held than of what is to be read.
-    ghost invariant = { λ s. s.start + s.start ≤ length s.held.items };
+    ghost view = { λ s. record { limit = s.limit; rest = s.held; fault = s.fault } };
 }
 
 impl Splitter {
@@ -42,8 +34,7 @@ impl Splitter {
     {
         Splitter {
             limit,
-            held: Vec::new(alloc),
-            start: 0,
+            held: Pieces::new(alloc),
             fault: None,
         }
     }
@@ -63,7 +54,7 @@ impl Splitter {
         if self.fault.is_some() {
             return Ok(());
         }
-        self.held.extend_from_slice(piece)?;
+        self.held.feed(piece)?;
         Ok(())
     }
 
@@ -83,16 +74,16 @@ impl Splitter {
         if let Some(fault) = self.fault {
             return Ok(Next::Bad(fault));
         }
-        let rest = &self.held[self.start..];
-        match find_frame(rest, self.limit) {
+        let found = find_frame(&self.held, self.limit)?;
+        match found {
             Found::Unfinished => Ok(Next::NotYet),
             Found::Bad(fault) => {
                 self.fault = Some(fault);
                 Ok(Next::Bad(fault))
             }
             Found::Whole { start, end } => {
-                let frame = Vec::from_slice(*self.held.allocator(), &rest[start..end])?;
-                self.drop_read(end);
+                let frame = self.held.copy(start, end)?;
+                self.held.drop_front(end);
                 Ok(Next::Frame(frame))
             }
         }
@@ -102,24 +93,6 @@ impl Splitter {
     pub fn unread(&self) -> usize
         ensures { result ≡ length self.now.rest }
     {
-        self.held.len() - self.start
-    }
-
-    // So many bytes more were read. What was read is dropped when it is at least as long as what is left, so each
-    // byte that moves is paid for by one that was read. The room of a large frame is given back when nothing is left.
-    fn drop_read(&mut self, count: usize)
-        requires { count ≤ length self.old.rest }
-        ensures { self.new ≡ record self.old { rest = drop count self.old.rest } }
-    {
-        let start = self.start + count;
-        if start < self.held.len() - start {
-            self.start = start;
-            return;
-        }
-        self.held.drain(..start);
-        self.start = 0;
-        if self.held.is_empty() && self.held.capacity() > ROOM_KEPT {
-            self.held = Vec::new(*self.held.allocator());
-        }
+        self.held.len()
     }
 }

@@ -1,18 +1,17 @@
 -- Lines of a stream that goes on.
-use Rattle.std.proofs.Common.{◌≡◌, ℕ, zero, suc, ◌+◌, ◌-◌, ◌<◌, ◌≤◌, Bool, true, false, not, cond, ltb, eqb, List, [], ◌∷◌, ◌++◌, length, take, drop, get_or, Option, Some, None, refl, sym, ap, subst, ◌∙◌, arith}
+use Rattle.std.proofs.Common.{◌≡◌, ℕ, zero, suc, ◌+◌, ◌-◌, ◌<◌, ◌≤◌, Bool, true, false, not, cond, ltb, eqb, List, [], ◌∷◌, ◌++◌, length, take, drop, get_or, Some, None, refl, sym, ap, subst, ◌∙◌, arith}
 use Rattle.std.proofs.lemmas.Bool.{le-ltb, lt-ltb, ltb-true, ltb-false, ne_eqb}
 use Rattle.std.proofs.lemmas.List.{take-append-le, drop-append-le, length-append, length-drop, drop-drop}
 use Rattle.std.proofs.lemmas.List.Elements.{filter-append}
 use Rattle.std.proofs.lemmas.List.Folds.{prefix_len-append}
 use Rattle.std.proofs.lemmas.List.Sums.{prefix_len_is, prefix_len-le-length}
-use Rattle.std.specs.List.{filter, prefix_len}
+use Rattle.std.specs.List.{filter}
 use Rattle.memchr.specs.Find.{IsFirstByte, is_byte}
 use Rattle.delimited_framing.specs.declared.frame.FrameFault.{FrameFault}
 use Rattle.delimited_framing.specs.declared.frame.FrameFault.TheVariants.{TooLong}
 use Rattle.delimited_framing.specs.Front.{Front, Whole, Unfinished, Bad, HoldsBy, IsMarked}
-use Rattle.delimited_framing.specs.Splitter.{Held, StandsFor, fed_more}
-use Rattle.delimited_framing.proofs.Streams.{HoldsBy-more, HoldsBy-push}
-use Rattle.json_framing.specs.Lines.{line_length, line_at, is_blank, says_something, Holds, Skips, line_form}
+use Rattle.delimited_framing.proofs.Streams.{HoldsBy-more}
+use Rattle.json_framing.specs.Lines.{line_length, line_at, is_blank, says_something, Holds, Skips}
 
 abbrev in_line : ℕ → Bool
 in_line b = not (eqb b 10)

@@ -1,5 +1,5 @@
 -- A stream of lines: each ends with a line feed, and blank ones are left out.
-use Rattle.std.specs.Prelude.{◌≡◌, ℕ, ◌+◌, ◌-◌, ◌≤◌, ◌<◌, ◌==◌, ◌||◌, Bool, not, List, [], ◌∷◌, length, take, drop, nat_lt, if◌then◌else◌}
+use Rattle.std.specs.Prelude.{◌≡◌, ℕ, ◌+◌, ◌-◌, ◌≤◌, ◌<◌, ◌==◌, ◌||◌, Bool, not, List, [], length, take, drop, nat_lt, if◌then◌else◌}
 use Rattle.std.specs.List.{filter, list_all, prefix_len}
 use Rattle.delimited_framing.specs.declared.frame.FrameFault.{FrameFault}
 use Rattle.delimited_framing.specs.declared.frame.FrameFault.TheVariants.{TooLong}

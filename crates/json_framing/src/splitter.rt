@@ -4,26 +4,23 @@ ghost use Rattle.delimited_framing.specs.Splitter.{Held, Gives, StandsFor, fed_m
 ghost use Rattle.json_framing.specs.Lines.{line_form, line_length};
 
 use crate::line::{Found, find_line};
+use byte_pieces::Pieces;
 use delimited_framing::{FrameFault, Next};
 use plain_values::NoMemory;
 use std::alloc::Global;
 use std::marker::Model;
 
-// How much room an empty splitter keeps, so that the pieces of short lines need no new memory.
-const ROOM_KEPT: usize = 65_536;
-
 /// Cuts a stream into its lines, and leaves out blank ones.
 #[derive(Drop)]
 pub struct LineSplitter {
     limit: u64,
-    held: Vec<u8>,
-    start: usize,
+    held: Pieces,
     looked: usize,
     fault: Option<FrameFault>,
 }
 
 impl Model for LineSplitter {
-    ghost use Rattle.std.specs.Prelude.{drop, length, ◌+◌, ◌≤◌};
+    ghost use Rattle.std.specs.Prelude.{◌≤◌};
     ghost use Rattle.delimited_framing.specs.Splitter.{Held};
     ghost use Rattle.json_framing.specs.Lines.{line_length};
 
@@ -31,14 +28,12 @@ impl Model for LineSplitter {
 
     ghost view = { λ s. record {
       limit = s.limit;
-      rest = drop s.start s.held.items;
+      rest = s.held;
       fault = s.fault;
     } };
 
-    // Of what was read no more is held than of what is to be read. The part that was looked
-    // through holds no line feed.
-    ghost invariant = { λ s. (s.start + s.start ≤ length s.held.items)
-        × (s.looked ≤ line_length (drop s.start s.held.items)) };
+    // The part that was looked through holds no line feed.
+    ghost invariant = { λ s. s.looked ≤ line_length s.held };
 }
 
 impl LineSplitter {
@@ -50,8 +45,7 @@ impl LineSplitter {
     {
         LineSplitter {
             limit,
-            held: Vec::new(alloc),
-            start: 0,
+            held: Pieces::new(alloc),
             looked: 0,
             fault: None,
         }
@@ -73,7 +67,7 @@ impl LineSplitter {
         if self.fault.is_some() {
             return Ok(());
         }
-        self.held.extend_from_slice(piece)?;
+        self.held.feed(piece)?;
         Ok(())
     }
 
@@ -93,11 +87,10 @@ impl LineSplitter {
         if let Some(fault) = self.fault {
             return Ok(Next::Bad(fault));
         }
-        let rest = self.rest();
-        match find_line(rest, self.looked, self.limit) {
+        let unread = self.held.len();
+        match find_line(&self.held, self.looked, self.limit) {
             Found::Unfinished { start } => {
-                let unread = rest.len() - start;
-                self.drop_read(start, unread);
+                self.drop_read(start, unread - start);
                 Ok(Next::NotYet)
             }
             Found::TooLong { start, length } => {
@@ -107,40 +100,20 @@ impl LineSplitter {
                 Ok(Next::Bad(fault))
             }
             Found::Whole { start, end } => {
-                let line = Vec::from_slice(*self.held.allocator(), &rest[start..end])?;
+                let line = self.held.copy(start, end)?;
                 self.drop_read(end + 1, 0);
                 Ok(Next::Frame(line))
             }
         }
     }
 
-    // What was fed and not read.
-    fn rest(&self) -> &[u8]
-        ensures { result.now ≡ self.now.rest }
-    {
-        &self.held[self.start..]
-    }
-
-    // So many bytes more were read, and so many of those behind them were looked through. What was
-    // read is dropped when it is at least as long as what is left, so each byte that moves is paid
-    // for by one that was read. The room of a large line is given back when nothing is left.
+    // So many bytes more were read, and so many of those behind them were looked through.
     fn drop_read(&mut self, count: usize, looked: usize)
         requires count { count ≤ length self.old.rest }
         requires looked { looked ≤ line_length (drop count self.old.rest) }
         ensures { self.new ≡ record self.old { rest = drop count self.old.rest } }
     {
-        let start = self.start + count;
-        self.looked = 0;
-        if start < self.held.len() - start {
-            self.start = start;
-            self.looked = looked;
-            return;
-        }
-        self.held.drain(..start);
-        self.start = 0;
+        self.held.drop_front(count);
         self.looked = looked;
-        if self.held.is_empty() && self.held.capacity() > ROOM_KEPT {
-            self.held = Vec::new(*self.held.allocator());
-        }
     }
 }
