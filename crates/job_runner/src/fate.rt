@@ -42,7 +42,8 @@ fn is_given_up(id: i32, behind: &[Job]) -> bool
     behind.iter().any(|later| later.cancel && later.id == id)
 }
 
-fn has_bad_path(job: &Job) -> bool
+/// Whether one of the paths of a job may lead out of its folder.
+pub fn has_bad_path(job: &Job) -> bool
     ensures { result ≡ has_bad_path job.now }
 {
     has_bad_input(job.inputs.as_slice()) || has_bad_output(job.outputs.as_slice())

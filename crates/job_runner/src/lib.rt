@@ -1,4 +1,7 @@
 //! The executor: runs jobs in a shop, each in a folder of its own, and answers each with a result.
+//!
+//! [`Executor`] does so one job after another. [`run_job`] and the results [`refused`] and [`given_up`]
+//! are for those who run several at once.
 #![tactic(auto)]
 
 mod collecting;
@@ -11,4 +14,7 @@ mod results;
 mod running;
 
 pub use executor::{Executor, GREETING};
+pub use fate::has_bad_path;
 pub use laws::replies_fit;
+pub use results::{given_up, refused};
+pub use running::run_job;

@@ -6,6 +6,12 @@ use Rattle.wire_messages.specs.declared.response.WorkResponse.{WorkResponse}
 use Rattle.wire_messages.specs.Response.{response_spelling}
 use Rattle.worker_kit.specs.declared.handler.Handled.{Handled}
 
+abbrev pub number_of : WorkRequest → ℤ
+number_of m = m.request_id
+
+abbrev pub cancels_in : WorkRequest → Bool
+cancels_in m = m.cancel
+
 abbrev pub response_of : WorkRequest → Handled → WorkResponse
 response_of m o = record {
   exit_code = o.exit;

@@ -2,15 +2,16 @@
 ghost use Rattle.std.specs.Prelude.{◌≡◌, IfOk};
 ghost use Rattle.wire_messages.specs.declared.request.WorkRequest.{WorkRequest};
 ghost use Rattle.worker_kit.specs.declared.handler.Handled.{Handled};
-ghost use Rattle.worker_kit.specs.Responses.{response_of, cancelled_response, Says};
+ghost use Rattle.worker_kit.specs.Responses.{number_of, cancels_in, response_of, cancelled_response, Says};
 
 use crate::speech::Speech;
+use json_framing::Framing;
 use plain_values::{NoMemory, Text};
 use std::alloc::Global;
 use std::marker::PhantomData;
 use std::sync::Wait;
 use wire_messages::{WorkRequest, WorkResponse};
-use work_queue::{CancelFlag, Kind};
+use work_lanes::{Answerer, CancelFlag, Kind, Made};
 
 /// What a handler makes of a request.
 #[derive(Drop)]
@@ -87,15 +88,34 @@ impl<H: Handler> LaneHandler for Shared<'_, H> {
     }
 }
 
-/// Requests that are answered by handlers, in a speech. No value of it is made.
-pub struct Works<H, V> {
-    of: PhantomData<(H, V)>,
+/// A lane's handler, in a speech.
+pub(crate) struct Works<H, V> {
+    handler: H,
+    speech: PhantomData<V>,
+}
+
+impl<H, V> Works<H, V> {
+    pub(crate) fn of(handler: H) -> Works<H, V> {
+        Works {
+            handler,
+            speech: PhantomData,
+        }
+    }
+}
+
+impl<H: Drop, V> Drop for Works<H, V> {
+    fn drop(self) {
+        let Works {
+            handler: _,
+            speech: _,
+        } = self;
+    }
 }
 
 impl<H: LaneHandler, V: Speech> Kind<WorkRequest, WorkResponse> for Works<H, V> {
-    ghost number = { λ m. m.request_id };
+    ghost number = { number_of };
 
-    ghost cancels = { λ m. m.cancel };
+    ghost cancels = { cancels_in };
 
     ghost says = { Says H.answers };
 
@@ -110,8 +130,45 @@ impl<H: LaneHandler, V: Speech> Kind<WorkRequest, WorkResponse> for Works<H, V> 
     }
 }
 
-/// The response to a request that was handled so.
-pub(crate) fn response_of(request: &WorkRequest, handled: Handled) -> WorkResponse
+impl<H: LaneHandler, V: Speech> Answerer<WorkRequest, WorkResponse> for Works<H, V> {
+    ghost framing = { V.framing };
+
+    ghost spells = { V.spells };
+
+    fn framing() -> Framing {
+        V::framing()
+    }
+
+    fn read(alloc: Global, frame: &[u8]) -> Result<Option<WorkRequest>, NoMemory> {
+        V::read(alloc, frame)
+    }
+
+    fn write(alloc: Global, response: &WorkResponse) -> Result<Vec<u8>, NoMemory> {
+        V::write(alloc, response)
+    }
+
+    fn answer<R: Wait>(
+        &mut self,
+        rt: &R,
+        alloc: Global,
+        request: &WorkRequest,
+        flag: &CancelFlag,
+    ) -> Result<Made<WorkResponse>, NoMemory> {
+        let handled = self.handler.handle(rt, alloc, request, flag)?;
+        let stopped = handled.stopped;
+        Ok(Made {
+            response: response_of(request, handled),
+            stopped,
+        })
+    }
+
+    fn give_up(alloc: Global, request: &WorkRequest) -> WorkResponse {
+        cancelled_response(alloc, request.request_id)
+    }
+}
+
+// The response to a request that was handled so.
+fn response_of(request: &WorkRequest, handled: Handled) -> WorkResponse
     ensures { result ≡ response_of request.now handled }
 {
     WorkResponse {
@@ -122,8 +179,8 @@ pub(crate) fn response_of(request: &WorkRequest, handled: Handled) -> WorkRespon
     }
 }
 
-/// The response to a request that was cancelled.
-pub(crate) fn cancelled_response(alloc: Global, number: i32) -> WorkResponse
+// The response to a request that was cancelled.
+fn cancelled_response(alloc: Global, number: i32) -> WorkResponse
     ensures { result ≡ cancelled_response number }
 {
     WorkResponse {

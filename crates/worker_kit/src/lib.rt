@@ -10,16 +10,13 @@
 //! length.
 #![tactic(auto)]
 
-mod calls;
 mod end;
 mod handler;
-mod handling;
-mod reading;
 mod serving;
 mod speech;
 
 pub use end::KitEnd;
-pub use handler::{Handled, Handler, LaneHandler, Works};
-pub use serving::{KitEnded, Size, Streams, serve, serve_each};
+pub use handler::{Handled, Handler, LaneHandler};
+pub use serving::{KitEnded, Size, serve, serve_each};
 pub use speech::{Delimited, Speech};
-pub use work_queue::CancelFlag;
+pub use work_lanes::{CancelFlag, Streams};

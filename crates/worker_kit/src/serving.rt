@@ -1,31 +1,19 @@
 // From the start of the input to its end.
 ghost use Rattle.std.specs.Prelude.{◌≡◌, ◌<◌, length, IfOk};
 ghost use Rattle.json_framing.specs.Cutter.{form_of};
-ghost use Rattle.worker_kit.specs.Serves.{AreHandlers, IsDepth, Serves, finish_of, told_by};
-ghost use Rattle.worker_kit.specs.Crews.{AreLanes, finish_by};
+ghost use Rattle.work_lanes.specs.Serves.{AreHandlers, IsDepth, told_by};
+ghost use Rattle.worker_kit.specs.Serves.{Serves, finish_of};
 
-use crate::calls::Queue;
 use crate::end::KitEnd;
-use crate::handler::{Handler, LaneHandler, Shared};
-use crate::handling::Hands;
-use crate::reading::{Reader, ReaderLeft};
+use crate::handler::{Handler, LaneHandler, Shared, Works};
 use crate::speech::Speech;
-use lane_crew::{Crew, OfTwo, run_crew};
-use message_service::Finish;
 use outside::{Sink, Tap};
 use plain_values::NoMemory;
 use std::alloc::Global;
 use std::collections::VecDeque;
-use std::sync::{Arc, Wait};
+use std::sync::Wait;
 use std::thread::Threads;
-use work_queue::{CancelFlag, Flags, How, WorkQueue};
-
-/// Where a worker's requests come from, and where its responses go.
-#[derive(Drop)]
-pub struct Streams<T, O> {
-    pub tap: T,
-    pub sink: O,
-}
+use work_lanes::{LanesEnded, Streams, run_lanes};
 
 /// How many requests are handled at once, from 1 to 64, and how many may wait, from 1 to 1,024.
 /// While so many wait nothing more is read; those that came whole with one read all wait.
@@ -109,73 +97,20 @@ pub fn serve_each<
         (finish_of s.end) (told_by T.told O.told streams.tap streams.sink)
         (told_by T.told O.told s.tap s.sink)) }
 {
-    let Streams { tap, sink } = streams;
-    let flags = Arc::new(alloc, Flags::new(alloc, 1 + handlers.len() as u32)?)?;
-    let lanes = lanes_of(alloc, &flags, tap, depth, handlers)?;
-    let queue: Queue<O, H, V> = WorkQueue::new(alloc, sink, flags);
-    let Ok(crew) = run_crew(rt, alloc, queue, lanes) else {
-        return Err(NoMemory);
-    };
-    let Crew {
-        machine,
-        history: _,
-        ends,
-    } = crew;
-    let mut ends = ends;
-    match ends.remove(0) {
-        OfTwo::First(ReaderLeft { input, finish }) => {
-            let (sink, how) = machine.into_end();
-            let finish = finish_by(how, finish);
-            let end = KitEnd::of(finish);
-            let tap = input;
-            Ok(KitEnded { end, tap, sink })
-        }
-        OfTwo::Second(_) => unreachable!(),
-    }
+    let works: Vec<Works<H, V>> = works_of(alloc, handlers)?;
+    let LanesEnded { finish, tap, sink } = run_lanes(rt, alloc, streams, depth, works)?;
+    let end = KitEnd::of(finish);
+    Ok(KitEnded { end, tap, sink })
 }
 
-// Why a worker has ended whose queue and whose reader have ended so.
-fn finish_by(how: How, finish: Finish) -> Finish
-    ensures { result ≡ finish_by how finish }
+// Each handler, in a speech.
+fn works_of<H: Drop, V>(alloc: Global, handlers: Vec<H>) -> Result<Vec<Works<H, V>>, NoMemory>
+    ensures { IfOk result (λ works. length works.items ≡ length handlers.items) }
 {
-    match how {
-        How::Failed => Finish::OutputFault,
-        How::Halted => Finish::NoMemory,
-        How::Whole => finish,
-    }
-}
-
-/// A lane of a worker.
-type KitLane<T, H> = OfTwo<Reader<T>, Hands<H>>;
-
-// The reader's lane, and one for each handler.
-fn lanes_of<T: Drop, H: Drop>(
-    alloc: Global,
-    flags: &Arc<Flags>,
-    input: T,
-    depth: u32,
-    handlers: Vec<H>,
-) -> Result<Vec<KitLane<T, H>>, NoMemory>
-    requires { AreHandlers (length handlers.items) }
-    ensures { IfOk result (λ lanes. AreLanes input (length handlers.items) lanes.items) }
-{
-    let mut lanes = Vec::with_capacity(alloc, handlers.len() + 1)?;
-    lanes.push_reserved(OfTwo::First(Reader {
-        alloc,
-        input,
-        depth,
-    }));
+    let mut works = Vec::with_capacity(alloc, handlers.len())?;
     let mut rest = VecDeque::from_vec(handlers);
-    let mut number = 1;
     while let Some(handler) = rest.pop_front() {
-        let flag = CancelFlag::of(Arc::try_clone(flags)?, number);
-        lanes.push_reserved(OfTwo::Second(Hands {
-            alloc,
-            number,
-            handler,
-            flag,
-        }));
-        number += 1;
+        works.push_reserved(Works::of(handler));
     }
-    Ok(lanes)
+    Ok(works)
 }

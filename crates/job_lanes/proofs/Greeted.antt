@@ -1,0 +1,82 @@
+-- Behind the greeting.
+use Rattle.std.proofs.Common.{◌≡◌, ◌∙◌, ℕ, List, [], ◌∷◌, Some, refl, subst, sym, append-nil, arith}
+use Rattle.std.specs.List.{flat_map}
+use Rattle.std.specs.Prelude.{Result, Ok, Err, IfOk}
+use Rattle.plain_values.specs.declared.no_memory.NoMemory.{NoMemory}
+use Rattle.outside.specs.Causes.{Rose}
+use Rattle.outside.specs.Lists.{AddsFront}
+use Rattle.outside.specs.Told.{TapTold, SinkTold, ShopTold}
+use Rattle.wire_fields.specs.Spelling.{spelling}
+use Rattle.wire_fields.specs.Varint.{varint, number_bytes}
+use Rattle.delimited_framing.specs.Frame.{delimited_form}
+use Rattle.json_framing.specs.declared.cutter.Framing.TheVariants as framing
+use Rattle.remote_messages.specs.Job.{SpellsJob}
+use Rattle.remote_messages.specs.JobResult.{job_result_fields}
+use Rattle.message_service.specs.declared.finish.Finish.{Finish}
+use Rattle.message_service.specs.declared.finish.Finish.TheVariants as finish
+use Rattle.message_service.specs.Ends.{PutAll}
+use Rattle.message_service.proofs.Made.{adds_nothing, puts_on}
+use Rattle.message_service.proofs.Streams.{whole_new}
+use Rattle.job_runner.specs.Results.{greeting}
+use Rattle.job_runner.specs.Answers.{framed}
+use Rattle.work_lanes.specs.declared.serving.LanesEnded.{LanesEnded}
+use Rattle.work_lanes.specs.Serves.{Serves, told_by}
+use Rattle.job_lanes.specs.Pools.{Pools, SaysJob, number_of, cancels_in}
+
+-- the three bytes are the greeting behind its length
+greeting_is : 2 ∷ 64 ∷ 2 ∷ [] ≡ framed greeting
+unfolding job_result_fields spelling varint number_bytes
+greeting_is = refl
+
+module _ {S : Type 0} (told : S → ShopTold) where
+  pub greeted : (f : Finish) (tap tap' : TapTold) (old mid new : SinkTold)
+      → PutAll (2 ∷ 64 ∷ 2 ∷ []) old mid
+      → Serves number_of cancels_in (SaysJob told) framed delimited_form SpellsJob f []
+      (record { tap = tap; sink = mid }) (record { tap = tap'; sink = new })
+      → Pools told f (record { tap = tap; sink = old }) (record { tap = tap'; sink = new })
+  greeted f tap tap' old mid new put s = record {
+    bytes = s.bytes;
+    requests = s.requests;
+    replies = s.replies;
+    taken = s.taken;
+    reads = s.reads;
+    caused = s.caused;
+    put = puts_on (Some f) (framed greeting) (flat_map (λ r. framed r.response) s.replies) old mid
+        new (subst (λ (bytes : List ℕ). PutAll bytes old mid) greeting_is put) s.put;
+    said = s.said;
+    once = s.once;
+  }
+
+  -- the same, where memory may have run out
+  pub greeted_or_not : {T O : Type 0} (tap_told : T → TapTold) (sink_told : O → SinkTold)
+      (r : Result (LanesEnded T O) NoMemory) (tap : T) (old mid : O)
+      → PutAll (2 ∷ 64 ∷ 2 ∷ []) (sink_told old) (sink_told mid)
+      → IfOk r (λ s. Serves number_of cancels_in (SaysJob told) framed delimited_form SpellsJob
+      s.finish [] (told_by tap_told sink_told tap mid) (told_by tap_told sink_told s.tap s.sink))
+      → IfOk r (λ s. Pools told s.finish (told_by tap_told sink_told tap old)
+      (told_by tap_told sink_told s.tap s.sink))
+  greeted_or_not tap_told sink_told (Ok s) tap old mid put h =
+      greeted s.finish (tap_told tap) (tap_told s.tap) (sink_told old) (sink_told mid)
+      (sink_told s.sink) put h
+  greeted_or_not tap_told sink_told (Err e) tap old mid put h = tt
+
+  -- the greeting couldn't be put, and nothing else was done
+  pub not_greeted : (tap : TapTold) (old new : SinkTold)
+      → AddsFront (2 ∷ 64 ∷ 2 ∷ []) old.contents new.contents → Rose old.faults new.faults
+      → Pools told finish.OutputFault (record { tap = tap; sink = old })
+      (record { tap = tap; sink = new })
+  not_greeted tap old new front rose = record {
+    bytes = [];
+    requests = [];
+    replies = [];
+    taken = adds_nothing tap.taken;
+    reads = let w = whole_new framing.Delimited SpellsJob in (w.0, w.1);
+    caused = tt;
+    put = record {
+      given = subst (λ (bytes : List ℕ). AddsFront bytes old.contents new.contents)
+          (greeting_is ∙ sym (append-nil (framed greeting))) front;
+      rose = rose;
+    };
+    said = tt;
+    once = λ k. omega arith;
+  }

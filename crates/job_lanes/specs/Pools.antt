@@ -1,0 +1,48 @@
+-- What the executor that runs jobs side by side does from its start to its end.
+use Rattle.std.specs.Prelude.{◌≡◌, ℤ, Bool, true, false, List, if◌then◌else◌}
+use Rattle.outside.specs.Told.{ShopTold}
+use Rattle.outside.specs.declared.shop.ShopCall.{ShopCall}
+use Rattle.delimited_framing.specs.Frame.{delimited_form}
+use Rattle.remote_messages.specs.declared.job.Job.{Job}
+use Rattle.remote_messages.specs.declared.job_result.JobResult.{JobResult}
+use Rattle.remote_messages.specs.Job.{SpellsJob}
+use Rattle.message_service.specs.declared.finish.Finish.{Finish}
+use Rattle.message_service.specs.Calls.{Made}
+use Rattle.job_runner.specs.declared.fate.Fate.{Fate}
+use Rattle.job_runner.specs.declared.fate.Fate.TheVariants as fate
+use Rattle.job_runner.specs.Jobs.{has_bad_path}
+use Rattle.job_runner.specs.Results.{given_up, greeting}
+use Rattle.job_runner.specs.Answers.{ResultFor, framed}
+use Rattle.work_lanes.specs.Serves.{Outside, Serves}
+
+abbrev pub number_of : Job → ℤ
+number_of job = job.id
+
+abbrev pub cancels_in : Job → Bool
+cancels_in job = job.cancel
+
+-- what is done with a job that isn't given up
+abbrev pub fate_alone : Job → Fate
+fate_alone job = if has_bad_path job then fate.BadPath else fate.Runs
+
+-- The result of such a job, and the calls that were made for it, which are those for a job that has
+-- this result. They stand at the end of the shop's log.
+pub record HasDone (job : Job) (r : JobResult) (old new : ShopTold) : Type 0 where
+  pub id : r.id ≡ job.id
+  pub kept : r.cancelled ≡ false
+  pub calls : List ShopCall
+  pub comes : ResultFor (fate_alone job) job calls r
+  pub made : Made calls old new
+
+module _ {S : Type 0} (told : S → ShopTold) where
+  -- The result of a job that was given up says so, and nothing else. Any other was done between two
+  -- moments of a shop.
+  abbrev pub SaysJob : Job → Bool → JobResult → Type 0
+  SaysJob job true r = r ≡ given_up job.id
+  SaysJob job false r = (old : S) × (new : S) × HasDone job r (told old) (told new)
+
+  -- The bytes taken are frames that spell jobs. What was put is the greeting, and then results, each
+  -- whole, one after another: each said to the job at its place, under its number.
+  abbrev pub Pools : Finish → Outside → Outside → Type 0
+  Pools f old new = Serves number_of cancels_in SaysJob framed delimited_form SpellsJob f
+      (framed greeting) old new

@@ -1,0 +1,147 @@
+-- The calls of the lanes, as what they tell of the queue's state.
+use Rattle.std.proofs.Common.{◌≡◌, ℕ, ℤ, Bool, true, false, ◌==◌, cond, List, Option, Some, None}
+use Rattle.std.proofs.Common.{refl, ap, ◌∙◌, subst}
+use Rattle.std.specs.Prelude.{Ok, IfSome}
+use Rattle.plain_values.specs.declared.entry.Entry.{Entry}
+use Rattle.seat_desk.specs.declared.view.View.{View}
+use Rattle.seat_desk.specs.History.{GoesOn}
+use Rattle.seat_desk.specs.Desks.{Answers}
+use Rattle.work_queue.specs.declared.rows.Asked.{Asked}
+use Rattle.work_queue.specs.declared.queue.Ask.{Ask}
+use Rattle.work_queue.specs.declared.queue.Ask.TheVariants as ask
+use Rattle.work_queue.specs.declared.queue.Told.{Told}
+use Rattle.work_queue.specs.declared.queue.Told.TheVariants as told
+use Rattle.work_queue.specs.declared.queue.Load.{Load}
+use Rattle.work_queue.specs.declared.queue.Load.TheVariants as load
+use Rattle.work_queue.specs.States.{State, Task, reader, task_at, answer_to, is_kept, is_short}
+use Rattle.work_queue.specs.States.{heard_by, ComesOut}
+use Rattle.work_queue.proofs.Sided.{Called, called, heard_on, still_heard, now_heard, now_taken}
+use Rattle.work_queue.proofs.Sided.{still_there, now_cancelled}
+use Rattle.work_lanes.specs.Calls.{after_all, HasHeard, HasTaken, InHand}
+use Rattle.work_lanes.specs.Calls.{is_open, done_by}
+
+abbrev Puts : Type 0 → Type 0
+Puts X = Option (Load X)
+
+abbrev History : Type 0 → Type 0 → Type 0
+History X Y = List (Entry (Ask X Y) Told)
+
+abbrev pub IsHearOf : {X Y : Type 0} → X → Ask X Y → Type 0
+IsHearOf m (ask.Hear about) = about.value ≡ m
+IsHearOf m (ask.Room depth) = ⊥
+IsHearOf m ask.Take = ⊥
+IsHearOf m ask.IsCancelled = ⊥
+IsHearOf m (ask.Answer response) = ⊥
+IsHearOf m ask.Close = ⊥
+IsHearOf m ask.Halt = ⊥
+
+false_not_true : false ≡ true → ⊥
+false_not_true e = cc
+
+module _ {X Y : Type 0} (number : X → ℤ) (cancels : X → Bool) where
+  abbrev After : History X Y → State X Y
+  After h = after_all number cancels h
+
+  abbrev Tells : ℕ → History X Y → Ask X Y → Told → Puts X → History X Y → Type 0
+  Tells lane seen call reply good seen' = Called number cancels lane seen call reply good seen'
+
+  -- ---- the reader
+
+  pub hear_so : (lane : ℕ) (seen seen' : History X Y) (m : X) (call : Ask X Y)
+      → IsHearOf m call → (r : Told) (good : Puts X) → lane ≡ reader
+      → Tells lane seen call r good seen'
+      → HasHeard m (done_by r) (After seen).heard (After seen').heard
+  hear_so lane seen seen' m (ask.Hear about) e told.Done good is k =
+      now_heard number cancels lane seen seen' (ask.Hear about) m good is
+      (λ s. ap (λ (x : X). cond (lane == reader)
+      (heard_by number cancels s x (cancels x)) s) e) refl k
+  hear_so lane seen seen' m (ask.Hear about) e told.Open good is k =
+      still_heard number cancels lane seen seen' (ask.Hear about) told.Open good is refl k
+  hear_so lane seen seen' m (ask.Hear about) e told.Idle good is k =
+      still_heard number cancels lane seen seen' (ask.Hear about) told.Idle good is refl k
+  hear_so lane seen seen' m (ask.Hear about) e told.Closed good is k =
+      still_heard number cancels lane seen seen' (ask.Hear about) told.Closed good is refl k
+  hear_so lane seen seen' m (ask.Room depth) e r good is k = absurd e
+  hear_so lane seen seen' m ask.Take e r good is k = absurd e
+  hear_so lane seen seen' m ask.IsCancelled e r good is k = absurd e
+  hear_so lane seen seen' m (ask.Answer response) e r good is k = absurd e
+  hear_so lane seen seen' m ask.Close e r good is k = absurd e
+  hear_so lane seen seen' m ask.Halt e r good is k = absurd e
+
+  pub room_so : (lane depth : ℕ) (seen seen' : History X Y) (r : Told) (good : Puts X)
+      → lane ≡ reader
+      → Tells lane seen (ask.Room depth) r good seen'
+      → (After seen').heard ≡ (After seen).heard
+  room_so lane depth seen seen' r good is k =
+      still_heard number cancels lane seen seen' (ask.Room depth) r good is refl k
+
+  pub close_so : (lane : ℕ) (seen seen' : History X Y) (r : Told) (good : Puts X)
+      → lane ≡ reader → Tells lane seen ask.Close r good seen'
+      → (After seen').heard ≡ (After seen).heard
+  close_so lane seen seen' r good is k =
+      still_heard number cancels lane seen seen' ask.Close r good is refl k
+
+  pub halt_so : (lane : ℕ) (seen seen' : History X Y) (r : Told) (good : Puts X)
+      → lane ≡ reader → Tells lane seen ask.Halt r good seen'
+      → (After seen').heard ≡ (After seen).heard
+  halt_so lane seen seen' r good is k =
+      still_heard number cancels lane seen seen' ask.Halt r good is refl k
+
+  pub refused_so : (lane : ℕ) (seen seen' : History X Y) → lane ≡ reader → GoesOn lane seen seen'
+      → (After seen').heard ≡ (After seen).heard
+  refused_so lane seen seen' is on = heard_on number cancels lane seen seen' is on
+
+  -- ---- those who answer
+
+  pub take_so : (lane : ℕ) (seen seen' : History X Y) (r : Told) (good : Puts X)
+      (asked : Asked X) → r ≡ told.Done → good ≡ Some (load.Task asked)
+      → Tells lane seen ask.Take r good seen'
+      → InHand lane asked.request asked.cancelled (After seen')
+  take_so lane seen seen' r good asked is came k =
+      let t = now_taken number cancels lane seen seen' r asked is
+      (subst (λ (x : Puts X). Tells lane seen ask.Take r x seen') came k) in record {
+        task = t.task;
+        here = t.here;
+        is = ap (λ (w : Asked X). w.request) t.is;
+        marked = λ c. ap (λ (w : Asked X). w.cancelled) t.is ∙ c;
+      }
+
+  marked_so : (lane : ℕ) (seen seen' : History X Y) (r : Told) (good : Puts X) (t : Task X)
+      → task_at lane (After seen').hands ≡ Some t
+      → Tells lane seen ask.IsCancelled r good seen' → is_open r ≡ true → t.work.cancelled ≡ true
+  marked_so lane seen seen' told.Open good t at k e =
+      now_cancelled number cancels lane seen seen' told.Open good t refl at k
+  marked_so lane seen seen' told.Done good t at k e = absurd (false_not_true e)
+  marked_so lane seen seen' told.Idle good t at k e = absurd (false_not_true e)
+  marked_so lane seen seen' told.Closed good t at k e = absurd (false_not_true e)
+
+  pub look_so : (lane : ℕ) (seen seen' : History X Y) (m : X) (r : Told) (good : Puts X)
+      → InHand lane m false (After seen) → Tells lane seen ask.IsCancelled r good seen'
+      → InHand lane m (is_open r) (After seen')
+  look_so lane seen seen' m r good hand k =
+      let st = still_there number cancels lane seen seen' ask.IsCancelled r good hand.task refl
+      hand.here k in record {
+        task = st.0;
+        here = st.1;
+        is = st.2.0 ∙ hand.is;
+        marked = marked_so lane seen seen' r good st.0 st.1 k;
+      }
+
+  pub came_so : (lane : ℕ) (seen seen' : History X Y) (r : Told) (good : Puts X)
+      (o : Option (Asked X))
+      → IfSome o (λ asked. (r ≡ told.Done) × (good ≡ Some (load.Task asked)))
+      → Tells lane seen ask.Take r good seen' → HasTaken lane (Ok o) (After seen')
+  came_so lane seen seen' r good None is k = tt
+  came_so lane seen seen' r good (Some asked) is k =
+      take_so lane seen seen' r good asked is.0 is.1 k
+
+  -- the same, made of what the desk says of the call
+  pub tells : {S Q : Type 0} (stands : S → History X Y → Type 0) (lane : ℕ)
+      (may : History X Y → ℕ → Ask X Y → Type 0) (v w : View (Ask X Y) Told Q) (call : Ask X Y)
+      (reply : Told) (good : Puts X)
+      → Answers stands (λ h k c. answer_to (After h) k c) is_short may
+      (λ e. is_kept e.call e.reply) (λ h k c r g. ComesOut (After h) c r g) lane v call
+      reply good w
+      → Tells lane v.seen call reply good w.seen
+  tells {S} {Q} stands lane may v w call reply good a =
+      called number cancels stands lane may v w call reply good a

@@ -1,0 +1,6 @@
+-- Lemmas of this crate.
+pub mod Fronts
+pub mod Ends
+pub mod Crewing
+pub mod Calling
+pub mod Leaving

@@ -1,0 +1,51 @@
+use Rattle.std.proofs.Common.{◌≡◌, [], length, refl, ap, arith, rules}
+use Rattle.work_lanes.proofs.Crewing.{lanes_begin, lanes_go_on, lanes_end}
+use Rattle.work_lanes.proofs.serving.lanes_of.Goals as goal
+
+pub loop-handler-init : goal.loop-handler-init
+loop-handler-init g c =
+    let n = ap length c.from_vec-rest.ensures.items in
+    record {
+      room = omega (
+        arith,
+        n,
+        c.push_reserved.ensures.len,
+        c.push_reserved.ensures.capacity,
+        c.in_ok-lanes.ensures.len,
+        c.in_ok-lanes.ensures.capacity,
+        c.len.ensures,
+      );
+      few = omega (arith, n, c.requires.1);
+      so_far = lanes_begin c.args.input (length c.args.handlers.items)
+          (length c.from_vec-rest.result.items)
+          (record { alloc = c.args.alloc; input = c.args.input; depth = c.args.depth })
+          c.in_ok-lanes.lanes.items c.push_reserved.new.self.items
+          c.push_reserved.ensures.items c.in_ok-lanes.ensures.items
+          refl n;
+    }
+
+pub loop-handler-preserved : goal.loop-handler-preserved
+loop-handler-preserved g c =
+    let i = c.loop-handler.invariant in
+    let fewer = ap length c.in-Some.ensures.items in
+    record {
+      room = omega (
+        arith,
+        fewer,
+        i.room,
+        c.push_reserved-in-Some.ensures.len,
+        c.push_reserved-in-Some.ensures.capacity,
+      );
+      few = omega (arith, fewer, i.few);
+      so_far = lanes_go_on c.args.input (length c.args.handlers.items) c.loop-handler.number
+          (length c.loop-handler.rest.items) (length c.pop_front.new.self.items) _
+          c.loop-handler.lanes.items c.push_reserved-in-Some.new.self.items
+          c.push_reserved-in-Some.ensures.items refl (omega (arith, fewer)) i.so_far;
+    }
+
+pub returns : goal.returns
+returns g c =
+    let none : c.loop-handler.rest.items ≡ [] = search rules in
+    lanes_end c.args.input (length c.args.handlers.items) c.loop-handler.number
+    (length c.loop-handler.rest.items) c.loop-handler.lanes.items (ap length none)
+    c.loop-handler.invariant.so_far

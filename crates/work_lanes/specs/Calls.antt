@@ -1,0 +1,87 @@
+-- What the calls of the lanes say of the queue's state.
+use Rattle.std.specs.Prelude.{◌≡◌, ℕ, ℤ, Bool, true, false, List, [], ◌∷◌, ◌++◌, Option, Some, None}
+use Rattle.std.specs.Prelude.{Result, Ok, Err}
+use Rattle.plain_values.specs.declared.no_memory.NoMemory.{NoMemory}
+use Rattle.seat_desk.specs.declared.machine.Machine.{Ghosts}
+use Rattle.seat_desk.specs.declared.desk.Pass.{Pass}
+use Rattle.plain_values.specs.declared.entry.Entry.{Entry}
+use Rattle.seat_desk.specs.Passes.{seen}
+use Rattle.work_queue.specs.declared.queue.Ask.{Ask}
+use Rattle.work_queue.specs.declared.queue.Ask.TheVariants as ask
+use Rattle.work_queue.specs.declared.queue.Told.{Told}
+use Rattle.work_queue.specs.declared.queue.Told.TheVariants as told
+use Rattle.work_queue.specs.declared.rows.Asked.{Asked}
+use Rattle.work_queue.specs.States.{State, Task, state_of, task_at, is_kept}
+use Rattle.std.proofs.Common.{refl}
+
+module _ {X Y : Type 0} (number : X → ℤ) (cancels : X → Bool) where
+  -- the queue after a history
+  abbrev pub after_all : List (Entry (Ask X Y) Told) → State X Y
+  after_all h = state_of number cancels h
+
+  module _ {M G Q : Type 0} {g : Ghosts M (Ask X Y) Told G Q} where
+    -- the state of the queue that a lane has seen last
+    abbrev pub state_at : Pass M (Ask X Y) Told G Q g → State X Y
+    state_at p = after_all (seen p)
+
+    -- all that had been heard then
+    abbrev pub heard_at : Pass M (Ask X Y) Told G Q g → List X
+    heard_at p = (state_at p).heard
+
+-- a reply that says that there is nothing for the lane now
+abbrev pub is_idle : Told → Bool
+is_idle told.Done = false
+is_idle told.Open = false
+is_idle told.Idle = true
+is_idle told.Closed = false
+
+-- a call that wasn't done says want of memory
+abbrev pub done_by : Told → Result (Unit {0}) NoMemory
+done_by told.Done = Ok tt
+done_by told.Open = Err (record {})
+done_by told.Idle = Err (record {})
+done_by told.Closed = Err (record {})
+
+abbrev pub is_open : Told → Bool
+is_open told.Done = false
+is_open told.Open = true
+is_open told.Idle = false
+is_open told.Closed = false
+
+false_not_true : false ≡ true → ⊥
+false_not_true e = cc
+
+pub idle_not_kept : {X Y : Type 0} (c : Ask X Y) (r : Told) → is_idle r ≡ true
+    → is_kept c r ≡ false
+idle_not_kept c told.Done e = absurd (false_not_true e)
+idle_not_kept c told.Open e = absurd (false_not_true e)
+idle_not_kept c told.Closed e = absurd (false_not_true e)
+idle_not_kept (ask.Hear request) told.Idle e = refl
+idle_not_kept (ask.Room depth) told.Idle e = refl
+idle_not_kept ask.Take told.Idle e = refl
+idle_not_kept ask.IsCancelled told.Idle e = refl
+idle_not_kept (ask.Answer response) told.Idle e = refl
+idle_not_kept ask.Close told.Idle e = refl
+idle_not_kept ask.Halt told.Idle e = refl
+
+module _ {X Y : Type 0} where
+  -- the lane has this request in hand, and where b says so it was cancelled
+  pub record InHand (lane : ℕ) (m : X) (b : Bool) (s : State X Y) : Type 0 where
+    pub task : Task X
+    pub here : task_at lane s.hands ≡ Some task
+    pub is : task.work.request ≡ m
+    pub marked : b ≡ true → task.work.cancelled ≡ true
+
+  abbrev pub HasTaken : ℕ → Result (Option (Asked X)) NoMemory → State X Y → Type 0
+  HasTaken lane (Ok (Some w)) s = InHand lane w.request w.cancelled s
+  HasTaken lane (Ok None) s = Unit {0}
+  HasTaken lane (Err e) s = Unit {0}
+
+  abbrev pub HasLooked : ℕ → X → Result Bool NoMemory → State X Y → Type 0
+  HasLooked lane m (Ok b) s = InHand lane m b s
+  HasLooked lane m (Err e) s = Unit {0}
+
+-- the request was heard, or all is over
+abbrev pub HasHeard : {X : Type 0} → X → Result (Unit {0}) NoMemory → List X → List X → Type 0
+HasHeard m (Ok done) old new = new ≡ old ++ m ∷ []
+HasHeard m (Err e) old new = new ≡ old

@@ -1,0 +1,5 @@
+-- What the contracts of this crate cite.
+pub mod Calls
+pub mod Serves
+pub mod Reading
+pub mod Crews

@@ -1,0 +1,68 @@
+// Who answers requests, whatever they are.
+ghost use Rattle.std.specs.Prelude.{◌≡◌, List, ℕ, true, false, IfOk};
+ghost use Rattle.json_framing.specs.declared.cutter.Framing.{Framing};
+ghost use Rattle.message_service.specs.Stream.{ReadsFrame};
+
+use json_framing::Framing;
+use plain_values::NoMemory;
+use std::alloc::Global;
+use std::sync::Wait;
+use work_queue::{CancelFlag, Kind};
+
+/// What was made of a request.
+#[derive(Drop)]
+pub struct Made<Y> {
+    pub response: Y,
+    /// The work was left unfinished, since the request was cancelled. Where a cancel request was
+    /// read behind it, it is given up, without this response.
+    pub stopped: bool,
+}
+
+/// Who answers requests, one at a time, and how they are read and responses written. Each lane that
+/// answers has one, with a state of its own.
+pub trait Answerer<X, Y>: Kind<X, Y> + Drop {
+    // How the frames of the input are marked.
+    ghost framing: { Framing };
+
+    // Which request a frame spells.
+    ghost spells: { List ℕ → X → Type 0 };
+
+    /// How the frames of the input are marked.
+    fn framing() -> Framing
+        ensures { result ≡ framing };
+
+    /// The request that a frame spells; `None` where it spells none.
+    ///
+    /// # Errors
+    ///
+    /// `NoMemory`.
+    fn read(alloc: Global, frame: &[u8]) -> Result<Option<X>, NoMemory>
+        ensures { IfOk result (ReadsFrame spells frame.now) };
+
+    /// The bytes of a response.
+    ///
+    /// # Errors
+    ///
+    /// `NoMemory`.
+    fn write(alloc: Global, response: &Y) -> Result<Vec<u8>, NoMemory>
+        ensures { IfOk result (λ bytes. bytes.items ≡ Self.written response.now) };
+
+    /// Does what a request asks. The flag says whether it was cancelled meanwhile; who looks at it
+    /// may stop early and say so.
+    ///
+    /// # Errors
+    ///
+    /// `NoMemory`, and then all lanes end.
+    fn answer<R: Wait>(
+        &mut self,
+        rt: &R,
+        alloc: Global,
+        request: &X,
+        flag: &CancelFlag,
+    ) -> Result<Made<Y>, NoMemory>
+        ensures { IfOk result (λ made. Self.says request.now false made.response) };
+
+    /// The response to a request that was cancelled.
+    fn give_up(alloc: Global, request: &X) -> Y
+        ensures { Self.says request.now true result };
+}

@@ -1,0 +1,166 @@
+// A lane that answers requests.
+ghost use Rattle.std.specs.Prelude.{◌≡◌, ◌<◌, false, IfOk};
+ghost use Rattle.seat_desk.specs.Passes.{IsPassOf, IsSamePass};
+ghost use Rattle.work_lanes.specs.Calls.{state_at, InHand};
+
+use crate::answerer::{Answerer, Made};
+use crate::calls::{answer, halt, is_cancelled, take};
+use lane_bells::Bells;
+use lane_crew::{Caller, Lane};
+use outside::Sink;
+use plain_values::NoMemory;
+use seat_desk::{Desk, Pass};
+use std::alloc::Global;
+use std::sync::Wait;
+use std::thread::Threads;
+use work_queue::{Asked, CancelFlag, WorkQueue};
+
+/// A lane that answers requests by its handler.
+#[derive(Drop)]
+pub(crate) struct Hands<H> {
+    pub(crate) alloc: Global,
+    pub(crate) number: u32,
+    pub(crate) handler: H,
+    pub(crate) flag: CancelFlag,
+}
+
+/// What it ends with: nothing.
+#[derive(Drop)]
+pub(crate) struct HandsLeft;
+
+impl<O: Sink, X: Drop, Y: Drop, H: Answerer<X, Y>> Lane<
+    Desk<WorkQueue<O, X, Y, H>>,
+    Pass<WorkQueue<O, X, Y, H>>,
+> for Hands<H> {
+    type End = HandsLeft;
+
+    ghost may_run = { λ self desk bells pass. IsPassOf desk pass × (pass.lane ≡ self.number)
+        × (pass.lane < bells) };
+
+    ghost has_run = { λ self pass end after. IsSamePass pass after };
+
+    fn run<R: Threads + Wait + Sync>(
+        self,
+        rt: &R,
+        desk: &Desk<WorkQueue<O, X, Y, H>>,
+        bells: &Bells,
+        pass: Pass<WorkQueue<O, X, Y, H>>,
+    ) -> (HandsLeft, Pass<WorkQueue<O, X, Y, H>>) {
+        let Hands {
+            alloc,
+            number,
+            handler,
+            flag,
+        } = self;
+        let mut handler = handler;
+        let mut caller = Caller::new(desk, bells, pass, number);
+        if work(rt, alloc, &mut caller, &mut handler, &flag).is_err() {
+            halt(rt, &mut caller);
+        }
+        (HandsLeft, caller.into_pass())
+    }
+}
+
+// Answers one request after another, until all is over.
+fn work<O: Sink, X: Drop, Y: Drop, H: Answerer<X, Y>, R: Wait>(
+    rt: &R,
+    alloc: Global,
+    caller: &mut Caller<WorkQueue<O, X, Y, H>>,
+    handler: &mut H,
+    flag: &CancelFlag,
+) -> Result<(), NoMemory>
+    ensures same { IsSamePass caller.old.pass caller.new.pass }
+{
+    for _ in rt.forever() {
+        let Some(asked) = take(rt, caller)? else {
+            return Ok(());
+        };
+        answer_one(rt, alloc, caller, handler, flag, asked)?;
+    }
+    unreachable!()
+}
+
+// Answers the request that the lane has taken.
+fn answer_one<O: Sink, X: Drop, Y: Drop, H: Answerer<X, Y>, R: Wait>(
+    rt: &R,
+    alloc: Global,
+    caller: &mut Caller<WorkQueue<O, X, Y, H>>,
+    handler: &mut H,
+    flag: &CancelFlag,
+    asked: Asked<X>,
+) -> Result<(), NoMemory>
+    requires hand { InHand caller.old.pass.lane asked.request asked.cancelled
+        (state_at H.number H.cancels caller.old.pass) }
+    ensures same { IsSamePass caller.old.pass caller.new.pass }
+{
+    let Asked { request, cancelled } = asked;
+    if cancelled {
+        let response = H::give_up(alloc, &request);
+        return put(rt, alloc, caller, &request, true, response);
+    }
+    let Said {
+        response,
+        cancelled,
+    } = handle(rt, alloc, caller, handler, flag, &request)?;
+    put(rt, alloc, caller, &request, cancelled, response)
+}
+
+// Puts the response to the request that the lane has in hand.
+fn put<O: Sink, X: Drop, Y: Drop, H: Answerer<X, Y>, R: Wait>(
+    rt: &R,
+    alloc: Global,
+    caller: &mut Caller<WorkQueue<O, X, Y, H>>,
+    request: &X,
+    cancelled: bool,
+    response: Y,
+) -> Result<(), NoMemory>
+    requires hand { InHand caller.old.pass.lane request.now cancelled
+        (state_at H.number H.cancels caller.old.pass) }
+    requires says { H.says request.now cancelled response }
+    ensures same { IsSamePass caller.old.pass caller.new.pass }
+{
+    let bytes = H::write(alloc, &response)?;
+    answer(rt, caller, request, cancelled, response, bytes)
+}
+
+// A response, and whether it is that of a cancelled request.
+#[derive(Drop)]
+struct Said<Y> {
+    response: Y,
+    cancelled: bool,
+}
+
+// Lets the handler do what the request asks.
+fn handle<O: Sink, X: Drop, Y: Drop, H: Answerer<X, Y>, R: Wait>(
+    rt: &R,
+    alloc: Global,
+    caller: &mut Caller<WorkQueue<O, X, Y, H>>,
+    handler: &mut H,
+    flag: &CancelFlag,
+    request: &X,
+) -> Result<Said<Y>, NoMemory>
+    requires hand { InHand caller.old.pass.lane request.now false
+        (state_at H.number H.cancels caller.old.pass) }
+    ensures same { IsSamePass caller.old.pass caller.new.pass }
+    ensures said { IfOk result (λ said. H.says request.now said.cancelled said.response) }
+    ensures hand { IfOk result (λ said. InHand caller.new.pass.lane request.now said.cancelled
+        (state_at H.number H.cancels caller.new.pass)) }
+{
+    let Made { response, stopped } = handler.answer(rt, alloc, request, flag)?;
+    if !stopped {
+        return Ok(Said {
+            response,
+            cancelled: false,
+        });
+    }
+    if is_cancelled(rt, caller, request)? {
+        return Ok(Said {
+            response: H::give_up(alloc, request),
+            cancelled: true,
+        });
+    }
+    Ok(Said {
+        response,
+        cancelled: false,
+    })
+}

@@ -1,0 +1,17 @@
+//! Lanes over a work queue: one reads requests, and others answer them, each request once.
+//!
+//! Whatever requests and responses are, and how they are read and written, an [`Answerer`] says. A
+//! request that is cancelled before a lane takes it is given up and not answered. One that is being
+//! answered is told so by its [`CancelFlag`]. [`run_lanes`] runs all lanes, up to the end of the
+//! input.
+#![tactic(auto)]
+
+mod answerer;
+mod calls;
+mod handling;
+mod reading;
+mod serving;
+
+pub use answerer::{Answerer, Made};
+pub use serving::{LanesEnded, Streams, run_lanes};
+pub use work_queue::{CancelFlag, Kind};

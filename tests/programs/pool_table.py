@@ -1,0 +1,164 @@
+"""job_pool over jobs that Python spells: its results, which jobs are run at once, what is given up, and how it ends."""
+from __future__ import annotations
+
+import contextlib
+import os
+import pathlib
+import subprocess
+import time
+from collections.abc import Iterable, Iterator
+
+import play
+import wire
+from executor_table import BAD_JOBS, JOBS, PATH, SHELL, rooms
+from play import Case, Programs, action, compare, exchange, run
+from wire import GREETING, framed, job, result
+
+# The words of the command, and how many jobs are then run at once.
+SIZES = [(["--serve"], 8), (["--serve", "--jobs=2"], 2), (["--serve", "--jobs=64"], 64)]
+
+WRONG_WORDS = [
+    [], [""], ["--server"], ["--serve", "--serve"], ["--jobs=8"], ["--jobs=8", "--serve"], ["--serve", "--jobs=8", "--jobs=8"],
+    *(["--serve", f"--jobs={it}"] for it in ["", "0", "00", "65", "99", "008", "+8", "-1", " 8", "8 ", "x", "8x", "\u0663"]),
+]
+
+
+def meeting(folder: str, count: int) -> bytes:
+    """A command that ends once so many are in this folder at once."""
+    return f"mkdir -p {folder}; : >{folder}/$$; while test $(ls {folder} | wc -l) -lt {count}; do sleep 0.01; done".encode()
+
+
+def until(path: str) -> list[bytes]:
+    """The words of a command that ends once there is a file there."""
+    return [*SHELL, f"while ! test -e {path}; do sleep 0.01; done".encode()]
+
+
+@contextlib.contextmanager
+def started(programs: Programs, folder: pathlib.Path, *words: str) -> Iterator[subprocess.Popen[bytes]]:
+    """The program, which has greeted."""
+    with subprocess.Popen([programs.job_pool, "--serve", *words], cwd=rooms(folder), stdin=subprocess.PIPE, stdout=subprocess.PIPE) as it:
+        compare("the greeting", GREETING, read(it, len(GREETING)))
+        yield it
+
+
+def give(program: subprocess.Popen[bytes], *jobs: bytes) -> None:
+    assert program.stdin is not None
+    program.stdin.write(b"".join(framed(it) for it in jobs))
+    program.stdin.flush()
+
+
+def read(program: subprocess.Popen[bytes], count: int) -> bytes:
+    assert program.stdout is not None
+    return program.stdout.read(count)
+
+
+def comes(program: subprocess.Popen[bytes], wanted: bytes) -> None:
+    """The next result is this one."""
+    compare("the next result", framed(wanted), read(program, len(framed(wanted))))
+
+
+def ends(program: subprocess.Popen[bytes], *wanted: bytes) -> None:
+    """The input ends, and these results are the last."""
+    out, _ = program.communicate(timeout=play.MOST_SECONDS)
+    compare("the last results", (0, sorted(wanted)), (program.returncode, sorted(wire.messages(out))))
+
+
+def results(programs: Programs, folder: pathlib.Path) -> None:
+    """The results of all jobs are those that remote_exec gives: in their order where one is run at a time."""
+    given = b"".join(framed(it) for it, _ in JOBS)
+    wanted = [it for _, it in JOBS if it is not None]
+    for words, _ in [(["--serve", "--jobs=1"], 1), *SIZES]:
+        ended = run([programs.job_pool, *words], rooms(folder / words[-1]), given)
+        greeting, *got = wire.messages(ended.out)
+        in_order = words[-1] == "--jobs=1"
+        compare(words, (0, b"", GREETING), (ended.status, ended.err, framed(greeting)))
+        compare(words, wanted if in_order else sorted(wanted), list(got) if in_order else sorted(got))
+
+
+def side_by_side(programs: Programs, folder: pathlib.Path) -> None:
+    """As many jobs as are to be run at once, each of which waits for all others; then one that is run by whoever is free."""
+    for words, count in SIZES:
+        jobs = [job(it + 1, [*SHELL, meeting("../../../met", count)], env=[PATH]) for it in range(count)]
+        ended = run([programs.job_pool, *words], rooms(folder / str(count)), b"".join(framed(it) for it in [*jobs, job(100, [*SHELL, b":"])]))
+        wanted = sorted([*(result(it + 1) for it in range(count)), result(100)])
+        compare(words, (0, wanted), (ended.status, sorted(wire.messages(ended.out)[1:])))
+
+
+def as_they_end(programs: Programs, folder: pathlib.Path) -> None:
+    """The result of a job that has ended comes while an earlier one is run, and a number is used again."""
+    with started(programs, folder) as it:
+        give(it, job(1, until("../../../go"), env=[PATH]), job(2, [*SHELL, b"echo one"]))
+        comes(it, result(2, said=b"one\n"))
+        give(it, job(2, [*SHELL, b"echo two"]))
+        comes(it, result(2, said=b"two\n"))
+        (folder / "go").write_bytes(b"")
+        comes(it, result(1))
+        ends(it)
+
+
+def given_up(programs: Programs, folder: pathlib.Path) -> None:
+    """While the one lane runs a job, others are given up, and the one that is run is not.
+
+    That the cancelling jobs were read shows in the size of the pipe, which holds less than the last job.
+    """
+    with started(programs, folder, "--jobs=1") as it:
+        waits = b": >../../../begun; while ! test -e ../../../go; do sleep 0.01; done"
+        give(it, job(1, [*SHELL, waits], env=[PATH]))
+        while not (folder / "begun").exists():
+            time.sleep(0.01)
+        give(it, job(2, [*SHELL, b": >../../../ran"]), job(3, [*SHELL, b"echo ran"]), job(2, cancel=True),
+             job(1, cancel=True), job(9, cancel=True), job(4, [*SHELL, b":"], [(b"big", b"x" * 1_000_000)]))
+        (folder / "go").write_bytes(b"")
+        for wanted in [result(1), result(2, cancelled=True), result(3, said=b"ran\n"), result(4)]:
+            comes(it, wanted)
+        ends(it)
+    compare("the job that was given up", False, (folder / "ran").exists())
+
+
+def crowd(programs: Programs, folder: pathlib.Path) -> None:
+    """A hundred jobs, each third cancelled: each is answered once, and one that nobody has cancelled isn't given up."""
+    for words, _ in SIZES:
+        jobs = [it for n in range(1, 101) for it in [job(n, [*SHELL, f"echo {n}".encode()]), *([job(n, cancel=True)] if n % 3 == 0 else [])]]
+        ended = run([programs.job_pool, *words], rooms(folder / words[-1]), b"".join(framed(it) for it in jobs))
+        got = sorted(wire.messages(ended.out)[1:])
+        done = {n: result(n, said=f"{n}\n".encode()) for n in range(1, 101)}
+        wanted = sorted(result(n, cancelled=True) if n % 3 == 0 and done[n] not in got else done[n] for n in range(1, 101))
+        compare(words, (0, wanted), (ended.status, got))
+
+
+def with_the_tool(programs: Programs, folder: pathlib.Path) -> None:
+    """Eight actions of one executor, each of which waits for all others."""
+    command = ["/bin/sh", "-c", meeting("../../../met", 8).decode() + "; echo >$0"]
+    actions = [action(f"a{it}", strategy="remote", requirements={}, argv=[*command, f"o{it}"], outputs=[f"o{it}"], env={"PATH": "/usr/bin:/bin"})
+               for it in range(8)]
+    ended = exchange(programs, folder, actions, ["--remote=1", f"--executor={programs.job_pool}"])
+    lines = [f"a{it} ok remote local=unused remote=won" for it in range(8)]
+    compare("eight actions", (0, play.report(*lines, ok=8)), (ended.status, ended.out))
+
+
+def streams(programs: Programs, folder: pathlib.Path) -> None:
+    """Other words, a frame that spells no job, an input that ends inside one or can't be read, and an output that takes nothing."""
+    room, first = rooms(folder), framed(job(1, [*SHELL, b":"]))
+    for words in WRONG_WORDS:
+        ended = run([programs.job_pool, *words], room)
+        compare(words, (2, b"", b"job_pool: words are not accepted\n"), (ended.status, ended.out, ended.err))
+    endings: Iterable[tuple[bytes, int]] = [(b"", 0), (b"\x05\x08", 0), (wire.varint(2**26 + 1), 4), (b"\xff" * 10, 4),
+                                            *((framed(bytes.fromhex(it)) + framed(job(2, [*SHELL, b":"])), 4) for it in BAD_JOBS)]
+    for behind, status in endings:
+        ended = run([programs.job_pool, "--serve"], room, first + behind)
+        compare(behind, (status, GREETING + framed(result(1))), (ended.status, ended.out))
+    source = os.open(room, os.O_RDONLY)
+    full = os.open("/dev/full", os.O_WRONLY)
+    try:
+        ended = run([programs.job_pool, "--serve"], room, stdin=source)
+        compare("an input that can't be read", (5, GREETING), (ended.status, ended.out))
+        ended = run([programs.job_pool, "--serve"], room, framed(job(1, [*SHELL, b"touch ../done"], env=[PATH])), stdout=full)
+        compare("an output that takes nothing", (6, False), (ended.status, (room / "done").exists()))
+    finally:
+        os.close(source)
+        os.close(full)
+
+
+def cases() -> Iterator[Case]:
+    for case in [results, side_by_side, as_they_end, given_up, crowd, with_the_tool, streams]:
+        yield Case(f"pool: {case.__name__.replace('_', ' ')}", case)
