@@ -12,6 +12,7 @@ import random
 from collections.abc import Iterator
 from typing import Any
 
+from journal_changes import REPLIES, is_beyond
 from journal_rules import Entry, History, Plan, first_wrong
 from play import Case, Programs, compare, run
 
@@ -147,23 +148,6 @@ def plan_of(dice: random.Random) -> Plan:
 # ---- what is wanted
 
 
-def is_beyond(plan: Plan, entry: Entry) -> bool:
-    """It names a lane, a line, an action or an output that the plan hasn't."""
-    lane, call, reply = entry
-    lines, actions = 2 * len(plan[0]) * plan[2], len(plan[0])
-    named_lines = [it[1] for it, words in ((call, LINE_OF_CALL), (reply, LINE_OF_REPLY)) if it[0] in words]
-    named_actions = [it[ACTION_OF[it[0]]] for it in (call, reply) if it[0] in ACTION_OF]
-    is_missing = call[0] == "Claim" and call[4][0] == "Missing"
-    outputs = len(plan[0][call[1]][1]) if is_missing and call[1] < actions else 0
-    return (lane >= 2 * sum(group[2] for group in plan[1]) or any(line >= lines for line in named_lines)
-            or any(action >= actions for action in named_actions) or (is_missing and call[4][1] >= outputs))
-
-
-LINE_OF_CALL = ("Launched", "Wrote", "Killed", "Answer", "Ended")
-LINE_OF_REPLY = ("Launch", "Send", "Cancel", "Gather", "Kill", "Line")
-ACTION_OF = {"Claim": 1, "Committed": 1, "Launch": 2, "Send": 3, "Gather": 3, "Matched": 1, "Late": 1}
-
-
 def wanted(plan: Plan, entries: list[Entry]) -> tuple[int, bytes]:
     """The status and the line for a sound plan and entries."""
     at = first_wrong(plan, entries)
@@ -219,10 +203,6 @@ def one_thing(entry: Entry, dice: random.Random, actions: int) -> None:
         entry[1] = dice.choice([it for it in CALLS if it != call])
 
 
-REPLIES: list[list[Any]] = [["Noted"], ["Granted"], ["Lost"], ["AgainLater"], ["Dropped"], ["Stop"], ["Idle"], ["Astray"],
-                            ["Line", 0], ["Matched", 0, ["Local"], 1], ["Late", 0, ["Remote"], 1], ["Greeted"],
-                            ["Stray", ["Never"]], ["Stray", ["Closed"]], ["Breach", ["Unasked"]], ["Kill", 0, ["Quit"]],
-                            ["Kill", 0, ["Evicted"]], ["Launch", 0, 0, ["Local"], 1], ["NoFile"], ["File", "eA=="]]
 CALLS: list[list[Any]] = [["Ask"], ["Take"], ["Tick"], ["Killed", 0], ["Ended", 0, ["Long"]], ["Launched", 0, ["RoomFault"]],
                           ["Wrote", 0, 1, ["Done"]], ["Claim", 0, ["Local"], 1, ["Missing", 0]],
                           ["Committed", 0, ["Local"], ["Done"]], ["Look", ["Made", 0, 0]]]
@@ -373,7 +353,8 @@ def words() -> Iterator[Case]:
             ended = run([programs.journal_check], folder, stdin=given)
         finally:
             os.close(given)
-        compare("a folder", (5, b""), (ended.status, ended.out))
+        wanted = b"journal_check: input not read; give it a file, as in journal_check <journal.jsonl\n"
+        compare("a folder", (5, b"", wanted), (ended.status, ended.out, ended.err))
     yield Case("a folder as input", folder_as_input)
 
     def full(programs: Programs, folder: pathlib.Path) -> None:
@@ -382,7 +363,8 @@ def words() -> Iterator[Case]:
             ended = run([programs.journal_check], folder, given=text_of(ONE_PLAN, ONE), stdout=out)
         finally:
             os.close(out)
-        compare("output that takes nothing", 6, ended.status)
+        wanted = b"journal_check: line not written; standard output is closed or full\n"
+        compare("output that takes nothing", (6, wanted), (ended.status, ended.err))
     yield Case("output that takes nothing", full)
 
 

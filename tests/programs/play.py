@@ -30,8 +30,10 @@ class Programs:
 
     worker_tool: pathlib.Path
     remote_exec: pathlib.Path
+    job_pool: pathlib.Path
     demo_tool: pathlib.Path
     journal_check: pathlib.Path
+    journal_run: pathlib.Path
 
 
 @dataclasses.dataclass(frozen=True)

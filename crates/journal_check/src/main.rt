@@ -18,7 +18,23 @@ fn main(rt: HostRuntime) -> ExitCode {
     }
     let mut input = RealInput::new(rt.stdin());
     let mut out = RealSink::new(rt);
-    ExitCode::from(check_stream(alloc, &mut input, &mut out))
+    let status = check_stream(alloc, &mut input, &mut out);
+    if let Some(line) = unsaid(status) {
+        let _ = rt.eprint(line);
+    }
+    ExitCode::from(status)
+}
+
+// The line on standard error where nothing was said of the text: the cause, and what to do.
+fn unsaid(status: u8) -> Option<&'static str> {
+    match status {
+        3 => Some("journal_check: no memory; free some\n"),
+        5 => Some(
+            "journal_check: input not read; give it a file, as in journal_check <journal.jsonl\n",
+        ),
+        6 => Some("journal_check: line not written; standard output is closed or full\n"),
+        _ => None,
+    }
 }
 
 fn has_no_words(rt: &(impl Env + AllocGlobal)) -> bool {

@@ -1,0 +1,75 @@
+//! Runs the actions of a list as `worker_tool` does, and prints behind the report the text of the run's journal.
+//!
+//! A list that is generated is run in memory: its sources are there, and its workers do at once what
+//! they are asked.
+#![tactic(auto)]
+
+use outside_mem::MemFloor;
+use outside_real::{RealFloor, RealSink};
+use recorded_runs::run_recorded;
+use run_command::{Left, end, end_unread, tell, tell_cures, tell_reasons, words};
+use std::alloc::Global;
+use std::io::{Eprint, Print};
+use std::process::ExitCode;
+use std::sync::Wait;
+use std::thread::Threads;
+use tool_words::generated;
+use worker_run::{Ended, RunFault, Stage};
+
+const PROGRAM: &str = "journal_run";
+
+fn main(rt: HostRuntime) -> ExitCode {
+    let alloc = rt.alloc();
+    let words = match words(&rt, alloc) {
+        Ok(words) => words,
+        Err(error) => return end_unread(&rt, alloc, PROGRAM, &error),
+    };
+    if let Some(actions) = generated(&words) {
+        return run_generated(rt, alloc, &words, actions);
+    }
+    let floor = RealFloor::new(rt, alloc);
+    let mut out = RealSink::new(rt);
+    let Ended {
+        status,
+        fault,
+        task,
+        journal,
+        mut floor,
+        berths,
+        lines,
+        places,
+        ..
+    } = run_recorded(&rt, alloc, &words, floor, &mut out);
+    if let Some(fault) = &fault {
+        tell(&rt, alloc, PROGRAM, &words, fault, floor.last_error());
+        tell_cures(&rt, alloc, &words, &mut floor, fault);
+    } else if let Some(task) = &task {
+        let left = Left {
+            plan: &task.plan,
+            entries: journal.entries(),
+            berths: &berths,
+            lines: &lines,
+            places: &places,
+        };
+        tell_reasons(&rt, alloc, status, &left);
+    }
+    ExitCode::from(status)
+}
+
+// Runs a list of so many actions that is generated, in memory.
+fn run_generated<R: Threads + Wait + Print + Eprint + Copy + Drop + Send + Sync + 'static>(
+    rt: R,
+    alloc: Global,
+    words: &[String],
+    actions: u32,
+) -> ExitCode {
+    let Ok(floor) = MemFloor::generated(rt, alloc, actions) else {
+        return end(&rt, alloc, PROGRAM, &RunFault::NoMemory(Stage::Before));
+    };
+    let mut out = RealSink::new(rt);
+    let Ended { status, fault, .. } = run_recorded(&rt, alloc, words, floor, &mut out);
+    if let Some(fault) = &fault {
+        tell(&rt, alloc, PROGRAM, words, fault, None);
+    }
+    ExitCode::from(status)
+}

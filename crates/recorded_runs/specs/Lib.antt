@@ -1,0 +1,2 @@
+-- What contracts cite of a recorded run.
+pub mod Recorded

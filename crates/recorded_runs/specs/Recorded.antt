@@ -1,0 +1,88 @@
+-- A run that leaves its journal as text.
+use Rattle.std.specs.Prelude.{◌≡◌, ◌≤◌, ℕ, List, [], ◌++◌, length, Option, Some, None, ◌⊎◌}
+use Rattle.build_report.specs.declared.fault.RunFault.{RunFault}
+use Rattle.build_report.specs.declared.fault.RunFault.TheVariants as fault
+use Rattle.build_report.specs.declared.fault.Stage.TheVariants as stage
+use Rattle.exec_journal.specs.Legal.{Legal}
+use Rattle.exec_journal.specs.Entry.{Entry}
+use Rattle.journal_replay.specs.Verdicts.{Judges}
+use Rattle.journal_replay.specs.declared.verdict.Verdict.TheVariants as verdict
+use Rattle.journal_text.specs.Lines.{text_of}
+use Rattle.outside.specs.Causes.{Counts}
+use Rattle.outside.specs.Lists.{Gives}
+use Rattle.outside.specs.Told.{FloorTold, SameFiles, SinkTold}
+use Rattle.outside.specs.declared.answers.Io.TheVariants as io
+use Rattle.run_loading.specs.Reads.{IsFloorFailed}
+use Rattle.run_plan.specs.declared.plan.Plan.{Plan}
+use Rattle.run_tasks.specs.declared.task.Task.{Task}
+use Rattle.tool_words.specs.declared.options.Options.{Options}
+use Rattle.worker_run.specs.Ends.{HasCourse, MadeAll, TellsTask, report_by, status_by}
+use Rattle.worker_run.specs.Headline.{HaltsAsSaid, HasOuts, HasPipes, HasRace, HasRooms, HasUnsaid, IsAccounted, IsComplete, IsKept, IsLegal, IsPaired, IsSound, IsStopped, OnRun, Succeeds, UnlessRun}
+use Rattle.worker_run.specs.Seen.{EndedTold, nothing_left}
+
+-- ---- the run
+
+-- What `run_build` promises of a run with these options over this floor, but for what it puts: a
+-- field for each of its clauses, by the clause's name.
+pub record RunKeeps (options : Option Options) (before : FloorTold) (end : EndedTold) : Type 0 where
+  pub course : HasCourse options before end
+  pub told : TellsTask end.fault end.task
+  pub sound : OnRun end IsSound
+  pub nothing : UnlessRun end.task (end.left ≡ nothing_left)
+  pub made : MadeAll before end
+  pub legal : OnRun end IsLegal
+  pub race : OnRun end HasRace
+  pub paired : OnRun end IsPaired
+  pub kept : OnRun end IsKept
+  pub halts : HaltsAsSaid end
+  pub stopped : OnRun end IsStopped
+  pub accounted : OnRun end IsAccounted
+  pub complete : OnRun end IsComplete
+  pub pipes : OnRun end HasPipes
+  pub rooms : OnRun end HasRooms
+  pub outs : OnRun end HasOuts
+  pub unsaid : OnRun end HasUnsaid
+  pub success : Succeeds end
+  pub status : end.status ≡ status_by end.fault end.task end.left.journal
+  pub floor : Counts before.faults end.floor.faults (IsFloorFailed end.fault)
+  pub files : SameFiles before end.floor
+
+-- ---- what is put
+
+-- the text of the journal of a task
+abbrev pub text_by : Option Task → List Entry → List ℕ
+text_by None journal = []
+text_by (Some t) journal = text_of t.plan journal
+
+-- With no fault the report and the text are put, and a front of the two where the sink failed. Where
+-- memory was wanted behind the lanes, it was before the report or between the two. With any other
+-- fault nothing is put.
+abbrev pub RecordsBy : Option RunFault → List ℕ → List ℕ → SinkTold → SinkTold → Type 0
+RecordsBy None report text old new = Gives io.Done (report ++ text) old.contents new.contents
+RecordsBy (Some fault.SinkFailed) report text old new =
+    Gives io.Failed (report ++ text) old.contents new.contents
+RecordsBy (Some (fault.NoMemory stage.After)) report text old new =
+    (new.contents ≡ old.contents) ⊎ Gives io.Done report old.contents new.contents
+RecordsBy (Some f) report text old new = new.contents ≡ old.contents
+
+-- the report, and the text of the journal that is told
+abbrev pub Records : EndedTold → SinkTold → SinkTold → Type 0
+Records end old new = RecordsBy end.fault (report_by end.task end.left.journal)
+    (text_by end.task end.left.journal) old new
+
+-- ---- what a checker says of it
+
+-- The text of the plan and the journal is judged legal, with so many actions and entries, unless it
+-- is too long.
+abbrev pub IsJudgedYes : Plan → List Entry → Type 0
+IsJudgedYes p j = length (text_of p j) ≤ 268435456
+    → Judges (λ q k. Legal q k) (text_of p j) (verdict.Yes (length p.actions) (length j))
+
+-- it holds where the text was put whole
+abbrev pub WherePut : Option RunFault → Type 0 → Type 0
+WherePut None P = P
+WherePut (Some f) P = Unit {0}
+
+-- the text that is put whole is judged so
+abbrev pub YesIfPut : EndedTold → Type 0
+YesIfPut end = WherePut end.fault (OnRun end (λ t x. IsJudgedYes t.plan x.journal))

@@ -1,0 +1,83 @@
+// The words of a command, and what standard error has of its run. All of it is printed as far as there is memory for it.
+use crate::reasons::Left;
+use crate::{cures, hints, reasons};
+use outside::Floor;
+use std::alloc::Global;
+use std::env::{self, Env};
+use std::io::{self, Eprint, ErrorKind};
+use std::process::ExitCode;
+use std::rt::Files;
+use worker_run::{RunFault, Stage, fault_line};
+
+// The program that the line of a fault names.
+const NAMED: &str = "worker_tool";
+
+/// The words behind the program's name.
+///
+/// # Errors
+///
+/// `OutOfMemory` where there is no memory for them, and else where one of them isn't text.
+pub fn words(rt: &(impl Env + AllocGlobal), alloc: Global) -> io::Result<Vec<String>> {
+    let mut words = Vec::new(alloc);
+    for word in env::args(rt)?.skip(1) {
+        words.push(word)?;
+    }
+    Ok(words)
+}
+
+/// Tells that the words weren't read: there was no memory for them, or they aren't text, and then they are wrong words.
+pub fn end_unread(rt: &impl Eprint, alloc: Global, program: &str, error: &io::Error) -> ExitCode {
+    let fault = match error.kind() {
+        ErrorKind::OutOfMemory => RunFault::NoMemory(Stage::Before),
+        _ => RunFault::Words,
+    };
+    end(rt, alloc, program, &fault)
+}
+
+/// Tells the fault of a run that was not begun, and ends with its status.
+pub fn end(rt: &impl Eprint, alloc: Global, program: &str, fault: &RunFault) -> ExitCode {
+    tell(rt, alloc, program, &[], fault, None);
+    ExitCode::from(fault.status())
+}
+
+/// Prints the fault's line, in this program's name, and what to look at.
+pub fn tell(
+    rt: &impl Eprint,
+    alloc: Global,
+    program: &str,
+    words: &[String],
+    fault: &RunFault,
+    last_error: Option<&io::Error>,
+) {
+    if let Ok(line) = fault_line(alloc, fault) {
+        let line = line.as_str();
+        let _ = rt.eprint(program);
+        let _ = rt.eprint(line.strip_prefix(NAMED).unwrap_or(line));
+        let _ = rt.eprint("\n");
+    }
+    if let Ok(lines) = hints::lines(alloc, program, words, fault, last_error) {
+        let _ = rt.eprint(lines.as_str());
+    }
+}
+
+/// Prints what else to look at: which action is meant, and what of it.
+pub fn tell_cures(
+    rt: &(impl Eprint + Env + Files + AllocGlobal),
+    alloc: Global,
+    words: &[String],
+    floor: &mut impl Floor,
+    fault: &RunFault,
+) {
+    if let Ok(lines) = cures::lines(rt, alloc, words, floor, fault) {
+        let _ = rt.eprint(lines.as_str());
+    }
+}
+
+/// Prints why branches came to nothing, if some action has no success.
+pub fn tell_reasons<R>(rt: &impl Eprint, alloc: Global, status: u8, left: &Left<'_, R>) {
+    if status != 0
+        && let Ok(lines) = reasons::lines(alloc, left)
+    {
+        let _ = rt.eprint(lines.as_str());
+    }
+}
