@@ -67,6 +67,19 @@ def read(lines: Iterable[str]) -> Text:
     return Text(plan, entries, None)
 
 
+def split(out: bytes) -> tuple[bytes, bytes]:
+    """What stands in front of the first line that spells a plan, as a report does, and the text from there on; no text where none does.
+
+    No line of a report is a JSON value: a name has words behind it, and a text of an answer stands behind `  | `.
+    """
+    at = 0
+    for line in out.splitlines(keepends=True):
+        if line.startswith(b"[") and plan_in(value_of(line.decode(errors="replace"))) is not None:
+            return out[:at], out[at:]
+        at += len(line)
+    return out, b""
+
+
 def line_of(value: Any) -> str:
     """A value as a line, written as the programs write it."""
     return json.dumps(value, separators=(",", ":"), ensure_ascii=False)

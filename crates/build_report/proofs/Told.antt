@@ -4,7 +4,7 @@ use Rattle.std.specs.Prelude.{slice_get}
 use Rattle.run_plan.specs.declared.plan.Plan.{Plan}
 use Rattle.exec_journal.specs.declared.ends.ActionEnd.{ActionEnd}
 use Rattle.exec_journal.specs.declared.call.Answer.{Answer}
-use Rattle.exec_journal.specs.declared.journal.Entry.{Entry}
+use Rattle.exec_journal.specs.Entry.{Entry}
 use Rattle.exec_journal.specs.Words.{grant_of}
 use Rattle.exec_journal.specs.Outcomes.{winning_answer}
 use Rattle.journal_ends.specs.Winning.{AreWinning}

@@ -1,7 +1,7 @@
 -- What the laws ask of a journal and its next entry.
 use Rattle.std.specs.Prelude.{◌≡◌, ℕ, ◌<◌, List, length}
 use Rattle.run_plan.specs.declared.plan.Plan.{Plan}
-use Rattle.exec_journal.specs.declared.journal.Entry.{Entry}
+use Rattle.exec_journal.specs.Entry.{Entry}
 use Rattle.exec_journal.specs.Rules.{is_unwanted}
 use Rattle.exec_journal.specs.Words.{pending, granted}
 use Rattle.request_table.specs.Entries.{EachOf}

@@ -2,7 +2,7 @@
 use Rattle.std.specs.Prelude.{◌≡◌, ℕ, nat_lt, Some, None, if◌then◌else◌, List, length, map, reverse, slice_get}
 use Rattle.arrayvec.specs.ArrayVec.{ArrayVec}
 use Rattle.run_plan.specs.declared.plan.Plan.{Plan}
-use Rattle.exec_journal.specs.declared.journal.Entry.{Entry}
+use Rattle.exec_journal.specs.Entry.{Entry}
 use Rattle.exec_journal.specs.Entries.{Request}
 use Rattle.exec_journal.specs.Words.{pending, has_cancel, granted}
 use Rattle.request_table.specs.Rows.{line_room}

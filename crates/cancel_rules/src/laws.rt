@@ -6,7 +6,7 @@ ghost use Rattle.exec_journal.specs.declared.call.Call.TheVariants as call;
 ghost use Rattle.exec_journal.specs.declared.call.Found.{Found};
 ghost use Rattle.exec_journal.specs.declared.call.HowEnded.{HowEnded};
 ghost use Rattle.exec_journal.specs.declared.call.Written.{Written};
-ghost use Rattle.exec_journal.specs.declared.journal.Entry.{Entry};
+ghost use Rattle.exec_journal.specs.Entry.{Entry};
 ghost use Rattle.run_plan.specs.declared.plan.Branch.{Branch};
 ghost use Rattle.run_plan.specs.declared.plan.Plan.{Plan};
 ghost use Rattle.exec_journal.specs.declared.reply.Reply.{Reply};

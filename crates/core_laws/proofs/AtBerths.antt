@@ -6,7 +6,7 @@ use Rattle.exec_journal.specs.declared.attempt.Attempt.{Attempt}
 use Rattle.exec_journal.specs.declared.call.Answer.{Answer}
 use Rattle.exec_journal.specs.declared.call.Call.{Call}
 use Rattle.exec_journal.specs.declared.call.Call.TheVariants as call
-use Rattle.exec_journal.specs.declared.journal.Entry.{Entry}
+use Rattle.exec_journal.specs.Entry.{Entry}
 use Rattle.exec_journal.specs.Kept.{group_at}
 use Rattle.exec_journal.specs.Lawful.{Lawful, in_script, plain_reply}
 use Rattle.exec_journal.specs.Legal.{Legal, LegalEntry}

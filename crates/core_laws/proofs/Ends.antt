@@ -9,7 +9,7 @@ use Rattle.run_plan.specs.declared.plan.Plan.{Plan}
 use Rattle.run_plan.specs.declared.plan.PlanAction.{PlanAction}
 use Rattle.exec_journal.specs.declared.attempt.Attempt.{Attempt}
 use Rattle.exec_journal.specs.declared.call.Found.{Found}
-use Rattle.exec_journal.specs.declared.journal.Entry.{Entry}
+use Rattle.exec_journal.specs.Entry.{Entry}
 use Rattle.exec_journal.specs.Entries.{attempt_of, same_attempt, is_branch_of}
 use Rattle.exec_journal.specs.Facts.{AttemptsInOrder, begun}
 use Rattle.exec_journal.specs.Words.{granted, grant_of}

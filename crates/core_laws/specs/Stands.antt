@@ -1,7 +1,7 @@
 -- When the state stands for a journal, whose newest entry stands first.
 use Rattle.std.specs.Prelude.{◌≡◌, ℕ, List, slice_get}
 use Rattle.run_plan.specs.declared.plan.Plan.{Plan}
-use Rattle.exec_journal.specs.declared.journal.Entry.{Entry}
+use Rattle.exec_journal.specs.Entry.{Entry}
 use Rattle.exec_journal.specs.Legal.{Legal}
 use Rattle.run_plan.specs.Sound.{Sound}
 use Rattle.exec_journal.specs.Words.{halted}

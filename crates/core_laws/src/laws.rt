@@ -7,7 +7,7 @@ ghost use Rattle.exec_journal.specs.declared.call.Call.{Call};
 ghost use Rattle.core_tables.specs.Lanes.{allows_by};
 ghost use Rattle.core_state.specs.Noted.{noted_after};
 ghost use Rattle.exec_journal.specs.declared.call.Call.TheVariants.{Ask};
-ghost use Rattle.exec_journal.specs.declared.journal.Entry.{Entry};
+ghost use Rattle.exec_journal.specs.Entry.{Entry};
 ghost use Rattle.run_plan.specs.declared.plan.Plan.{Plan};
 ghost use Rattle.exec_journal.specs.Rules.{rule};
 ghost use Rattle.exec_journal.specs.Scripts.{script};

@@ -1,5 +1,5 @@
 // The core behind the trait.
-ghost use Rattle.std.specs.Prelude.{◌≡◌, [], length};
+ghost use Rattle.std.specs.Prelude.{◌≡◌, ◌*◌, [], length};
 ghost use Rattle.run_plan.specs.declared.plan.Plan.{Plan};
 ghost use Rattle.run_plan.specs.Groups.{berths, kind_of, is_remote};
 ghost use Rattle.script_duties.specs.Owed.{outputs_in, makers_in};
@@ -87,6 +87,8 @@ impl Rules for LaneCore {
 
     ghost remote = { λ q w. is_remote (kind_of q w) };
 
+    ghost line_room = { λ q. 2 * length q.actions * q.limit };
+
     ghost actions = { λ q. length q.actions };
 
     ghost outputs = { outputs_in };
@@ -119,6 +121,10 @@ impl Rules for LaneCore {
 
     fn berths(&self) -> u32 {
         self.core.berths()
+    }
+
+    fn most_lines(&self) -> u32 {
+        self.core.most_lines()
     }
 
     ghost paid_is_noted = { own_laws.paid_is_noted };
@@ -156,6 +162,8 @@ impl Rules for LaneCore {
     ghost legal_before = { λ q. laws.legal_before (own q) (own_is q) };
 
     ghost orders_hold = { λ q. laws.orders_hold (own q) (own_is q) };
+
+    ghost lines_fit = { λ q. laws.lines_fit (own q) (own_is q) };
 
     ghost inputs_are_there = { λ q. laws.inputs_are_there (own q) (own_is q) };
 

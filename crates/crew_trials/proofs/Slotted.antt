@@ -1,6 +1,6 @@
 -- The slot's answers.
 use Rattle.std.proofs.Common.{◌≡◌, ℕ, Bool, true, false, cond, refl, sym, ◌∙◌, List, [], ◌∷◌, ◌++◌}
-use Rattle.seat_desk.specs.declared.entry.Entry.{Entry}
+use Rattle.plain_values.specs.declared.entry.Entry.{Entry}
 use Rattle.seat_desk.specs.History.{entry, after}
 use Rattle.crew_trials.specs.declared.slot.Ask.{Ask}
 use Rattle.crew_trials.specs.declared.slot.Answer.{Answer}

@@ -1,6 +1,6 @@
 -- What a lane at the slot asks and ends with.
 use Rattle.std.specs.Prelude.{◌≡◌, ℕ, ◌+◌, ◌%◌, ◌≤◌, List, [], ◌∷◌, length}
-use Rattle.seat_desk.specs.declared.entry.Entry.{Entry}
+use Rattle.plain_values.specs.declared.entry.Entry.{Entry}
 use Rattle.seat_desk.specs.History.{calls_by}
 use Rattle.crew_trials.specs.declared.slot.Ask.{Ask}
 use Rattle.crew_trials.specs.declared.slot.Answer.{Answer}

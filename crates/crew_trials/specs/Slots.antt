@@ -1,7 +1,7 @@
 -- A slot that is filled and emptied in turn.
 use Rattle.std.specs.Prelude.{◌≡◌, Bool, true, false, List, [], ◌∷◌}
 use Rattle.std.proofs.Common.{refl}
-use Rattle.seat_desk.specs.declared.entry.Entry.{Entry}
+use Rattle.plain_values.specs.declared.entry.Entry.{Entry}
 use Rattle.crew_trials.specs.declared.slot.Ask.{Ask}
 use Rattle.crew_trials.specs.declared.slot.Ask.TheVariants.{Fill, Empty}
 use Rattle.crew_trials.specs.declared.slot.Answer.{Answer}

@@ -8,7 +8,7 @@ ghost use Rattle.crew_trials.specs.Slots.{is_idle, idle_not_kept, full_after};
 
 use crate::slot::{Answer, Ask, Slot};
 use lane_bells::Bells;
-use lane_crew::{Caller, Crew, CrewFault, Lane, Question, run_crew};
+use lane_crew::{Caller, Crew, Lane, Question, run_crew};
 use plain_values::NoMemory;
 use seat_desk::{Desk, Pass};
 use std::alloc::Global;
@@ -178,16 +178,14 @@ pub fn exchange<R: Threads + Wait + Sync>(
     alloc: Global,
     pairs: u32,
     count: usize,
-) -> Result<Crew<Slot, SlotEnd>, CrewFault>
+) -> Result<Crew<Slot, SlotEnd>, NoMemory>
     requires { pairs ≤ 64 }
     ensures others { IfOk result (λ c. NoneFrom (2 * pairs) c.history.items) }
     ensures full { IfOk result (λ c. c.machine.full ≡ full_after false c.history.items) }
     ensures ends { IfOk result (λ c. AreCounts count 0 c.history.items c.ends.items) }
     ensures all { IfOk result (λ c. length c.ends.items ≡ 2 * pairs) }
 {
-    let Ok(lanes) = lanes_of(alloc, pairs, count) else {
-        return Err(CrewFault::Before);
-    };
+    let lanes = lanes_of(alloc, pairs, count)?;
     let crew = run_crew(rt, alloc, Slot::new(), lanes)?;
     Ok(crew)
 }

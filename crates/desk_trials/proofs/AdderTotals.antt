@@ -1,6 +1,6 @@
 -- The adder's history after a turn.
 use Rattle.std.proofs.Common.{◌≡◌, ℕ, ◌+◌, ◌%◌, ◌^◌, List, [], ◌∷◌, ◌++◌, ap, sym, ◌∙◌, arith, add_assoc, zero-add}
-use Rattle.seat_desk.specs.declared.entry.Entry.{Entry}
+use Rattle.plain_values.specs.declared.entry.Entry.{Entry}
 use Rattle.seat_desk.specs.History.{entry}
 use Rattle.desk_trials.specs.declared.adder.Add.{Add}
 use Rattle.desk_trials.specs.AdderSums.{added, SumsFrom}

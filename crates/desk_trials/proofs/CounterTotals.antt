@@ -1,7 +1,7 @@
 -- The counter's history after a turn.
 use Rattle.std.proofs.Common.{◌≡◌, ℕ, ◌+◌, ◌%◌, ⊎_elim, inl, inr, List, [], ◌∷◌, ◌++◌, ap, sym, ◌∙◌, subst, arith, add_assoc, zero-add}
 use Rattle.std.proofs.Math.Nat.{mod-add-mod}
-use Rattle.seat_desk.specs.declared.entry.Entry.{Entry}
+use Rattle.plain_values.specs.declared.entry.Entry.{Entry}
 use Rattle.seat_desk.specs.History.{entry, after, IsReply}
 use Rattle.desk_trials.specs.declared.counter.Ask.{Ask}
 use Rattle.desk_trials.specs.declared.counter.Ask.TheVariants.{Add, Look}

@@ -1,6 +1,6 @@
 -- What the adder has added.
 use Rattle.std.specs.Prelude.{◌≡◌, ℕ, ◌+◌, ◌%◌, ◌^◌, List, [], ◌∷◌}
-use Rattle.seat_desk.specs.declared.entry.Entry.{Entry}
+use Rattle.plain_values.specs.declared.entry.Entry.{Entry}
 use Rattle.desk_trials.specs.declared.adder.Add.{Add}
 
 -- the sum of the numbers of a history

@@ -1,6 +1,6 @@
 -- What the counter has counted.
 use Rattle.std.specs.Prelude.{◌≡◌, ◌⊎◌, ℕ, ◌+◌, ◌%◌, ◌<◌, Bool, true, false, List, [], ◌∷◌}
-use Rattle.seat_desk.specs.declared.entry.Entry.{Entry}
+use Rattle.plain_values.specs.declared.entry.Entry.{Entry}
 use Rattle.desk_trials.specs.declared.counter.Ask.{Ask}
 use Rattle.desk_trials.specs.declared.counter.Ask.TheVariants.{Add, Look}
 use Rattle.desk_trials.specs.declared.counter.Answer.{Answer}

@@ -1,6 +1,6 @@
 -- Where the token is, after a history.
 use Rattle.std.specs.Prelude.{◌≡◌, ℕ, ◌^◌, ◌-◌, ◌==◌, Bool, true, false, cond, List, Option, None, IsSome, fold}
-use Rattle.seat_desk.specs.declared.entry.Entry.{Entry}
+use Rattle.plain_values.specs.declared.entry.Entry.{Entry}
 use Rattle.desk_trials.specs.declared.locker.Ask.{Ask}
 use Rattle.desk_trials.specs.declared.locker.Ask.TheVariants.{Leave, Take, Borrow, Return}
 use Rattle.desk_trials.specs.declared.locker.Answer.{Answer}

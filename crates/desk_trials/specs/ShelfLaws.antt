@@ -3,7 +3,7 @@ use Rattle.std.proofs.Common.{◌≡◌, ◌≢◌, ℕ, ◌+◌, ◌≤◌, ◌
 use Rattle.std.specs.List.{fold}
 use mathlib.Core.Logic.{dite}
 use native.Mathlib.Decide.{ℕ_discrete}
-use Rattle.seat_desk.specs.declared.entry.Entry.{Entry}
+use Rattle.plain_values.specs.declared.entry.Entry.{Entry}
 use Rattle.seat_desk.specs.History.{entry, calls_by}
 use Rattle.desk_trials.specs.declared.locker.Ask.{Ask}
 use Rattle.desk_trials.specs.declared.locker.Ask.TheVariants.{Leave, Take, Borrow, Return}

@@ -126,6 +126,6 @@ pub fn count_by_four<R: Threads + Wait + Sync>(
     desk.join_pass(rt, &mut root, b.pass);
     desk.join_pass(rt, &mut root, c.pass);
     desk.join_pass(rt, &mut root, d.pass);
-    let closed = desk.close(rt, root)?;
+    let closed = desk.close(rt, root);
     Ok(Tally { closed, made })
 }

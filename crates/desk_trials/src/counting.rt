@@ -101,6 +101,6 @@ pub fn run<R: Threads + Wait + Sync>(
     };
     desk.join_pass(rt, &mut root, a);
     desk.join_pass(rt, &mut root, b);
-    let closed = desk.close(rt, root)?;
+    let closed = desk.close(rt, root);
     Ok((closed, first, second))
 }

@@ -1,3 +1,4 @@
+pub mod Ins
 pub mod Steps
 pub mod Owing
 pub mod Tapping

@@ -20,9 +20,9 @@ use Rattle.run_rules.specs.Duties.{Duty, Asks, Launches, Sends, Cancels, Gathers
 use Rattle.run_rules.specs.Shelf.{child_at}
 use Rattle.lane_deeds.specs.Lines.{started_by, started_in}
 use Rattle.lane_deeds.proofs.Growing.{started_more}
-use Rattle.line_order.specs.Places.{In, Distinct}
-use Rattle.line_order.specs.Berths.{concat}
-use Rattle.line_order.proofs.Placing.{in_front, in_either}
+use Rattle.ending_laws.specs.Numbers.{In, Distinct}
+use Rattle.ending_laws.specs.Numbers.{concat}
+use Rattle.ending_laws.proofs.Ins.{in_front, in_either}
 use Rattle.ending_laws.specs.Taps.{started_at}
 use Rattle.ending_laws.specs.Lines.{started_from, AreApart}
 use Rattle.ending_laws.proofs.Steps as steps

@@ -11,7 +11,7 @@ use Rattle.exec_journal.specs.declared.reply.Reply.TheVariants as reply
 use Rattle.run_rules.specs.Moves.{History}
 use Rattle.run_rules.specs.Duties.{Left, duty_of}
 use Rattle.run_rules.specs.Shelf.{Away, Back, place_at}
-use Rattle.line_order.specs.Berths.{concat}
+use Rattle.ending_laws.specs.Numbers.{concat}
 use Rattle.ending_laws.specs.Places.{halts_owing}
 use Rattle.ending_laws.specs.Taps.{taken_in}
 use Rattle.ending_laws.specs.Lines.{started_from}

@@ -16,8 +16,8 @@ use Rattle.run_rules.specs.Laws.{fits, Fits, InScript, tap_lane, is_taken}
 use Rattle.run_rules.specs.Duties.{Duty, Commits, Asks, Left, duty_of, proxy_lane, may_make}
 use Rattle.run_rules.specs.Shelf.{tap_at}
 use Rattle.lane_deeds.specs.Lines.{listed}
-use Rattle.line_order.specs.Places.{In, Distinct}
-use Rattle.line_order.proofs.Placing.{in_front, in_back}
+use Rattle.ending_laws.specs.Numbers.{In, Distinct}
+use Rattle.ending_laws.proofs.Ins.{in_front, in_back}
 use Rattle.ending_laws.specs.Taps.{taken_by, taken_in, started_at}
 use Rattle.ending_laws.specs.Lines.{AreApart}
 use Rattle.ending_laws.proofs.Steps as steps

@@ -1,4 +1,5 @@
 -- What contracts cite of a history whose lanes have ended.
+pub mod Numbers
 pub mod Places
 pub mod Taps
 pub mod Lines

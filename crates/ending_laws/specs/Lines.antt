@@ -2,8 +2,8 @@
 use Rattle.std.specs.Prelude.{◌≡◌, ℕ, zero, suc, ◌+◌, ◌<◌, List, [], ◌∷◌, All}
 use Rattle.run_rules.specs.Moves.{History}
 use Rattle.run_rules.specs.Laws.{lines_in}
-use Rattle.line_order.specs.Places.{In, Distinct}
-use Rattle.line_order.specs.Berths.{concat}
+use Rattle.ending_laws.specs.Numbers.{In, Distinct}
+use Rattle.ending_laws.specs.Numbers.{concat}
 use Rattle.ending_laws.specs.Taps.{started_at}
 
 -- the lines of so many berths from the berth w on, berth after berth

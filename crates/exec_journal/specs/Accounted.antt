@@ -3,7 +3,7 @@ use Rattle.std.specs.Prelude.{◌≡◌, ◌+◌, ◌==◌, nat_lt, Bool, true, 
 use Rattle.std.specs.List.{list_all}
 use Rattle.run_plan.specs.declared.plan.Plan.{Plan}
 use Rattle.exec_journal.specs.declared.attempt.Attempt.{Attempt}
-use Rattle.exec_journal.specs.declared.journal.Entry.{Entry}
+use Rattle.exec_journal.specs.Entry.{Entry}
 use Rattle.exec_journal.specs.History.{ever, each}
 use Rattle.exec_journal.specs.Entries.{Request, attempt_of, is_for, send_in}
 use Rattle.exec_journal.specs.Words.{has_ended, answered, granted, grant_of}

@@ -1,7 +1,7 @@
 -- What was so at some entry of a journal. The newest entry stands first: what is behind an entry
 -- came before it.
 use Rattle.std.specs.Prelude.{Bool, false, ◌||◌, List, [], ◌∷◌, Option, Some, None}
-use Rattle.exec_journal.specs.declared.journal.Entry.{Entry}
+use Rattle.exec_journal.specs.Entry.{Entry}
 use Rattle.list_lemmas.specs.Options.{or_else, unless_before, and_more}
 
 -- at some entry, with what came before it, the test holds

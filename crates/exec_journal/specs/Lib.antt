@@ -1,3 +1,4 @@
+pub mod Entry
 pub mod History
 pub mod Entries
 pub mod Words

@@ -3,17 +3,17 @@
 use Rattle.std.proofs.Common.{◌≡◌, ℕ, ◌==◌, Bool, true, false, cond, List, [], ◌∷◌, ◌++◌, refl, ap, sym, ◌∙◌}
 use Rattle.std.specs.List.{fold}
 use Rattle.std.proofs.lemmas.Grind.{fold-append}
-use Rattle.exec_journal.specs.declared.journal.Entry.{Entry}
+use Rattle.exec_journal.specs.Entry.{Entry}
 use Rattle.run_rules.specs.Moves.{Past, History}
 use Rattle.seat_desk.specs.History.{calls_by}
-use Rattle.script_duties.specs.Owed.{to_entry, journal_of}
+use Rattle.script_duties.specs.Owed.{journal_of}
 
 -- the journal of a longer history
 pub journal_more : (h more : History)
-    → journal_of (h ++ more) ≡ fold (λ j e. to_entry e ∷ j) (journal_of h) more
-journal_more h more = fold-append (λ (j : List Entry) (e : Past). to_entry e ∷ j) [] h more
+    → journal_of (h ++ more) ≡ fold (λ j e. e ∷ j) (journal_of h) more
+journal_more h more = fold-append (λ (j : List Entry) (e : Past). e ∷ j) [] h more
 
-pub journal_next : (h : History) (e : Past) → journal_of (h ++ e ∷ []) ≡ to_entry e ∷ journal_of h
+pub journal_next : (h : History) (e : Past) → journal_of (h ++ e ∷ []) ≡ e ∷ journal_of h
 journal_next h e = journal_more h (e ∷ [])
 
 module _ {S : Type 0} (g : S → Entry → S) (s : S) where
@@ -22,34 +22,34 @@ module _ {S : Type 0} (g : S → Entry → S) (s : S) where
   after_all [] = s
   after_all (e ∷ j) = g (after_all j) e
 
-  pub along : (f : S → Past → S) → ((x : S) (e : Past) → f x e ≡ g x (to_entry e))
+  pub along : (f : S → Past → S) → ((x : S) (e : Past) → f x e ≡ g x e)
       → (h : History) (j : List Entry)
-      → fold f (after_all j) h ≡ after_all (fold (λ j e. to_entry e ∷ j) j h)
+      → fold f (after_all j) h ≡ after_all (fold (λ j e. e ∷ j) j h)
   along f same [] j = refl
   along f same (e ∷ h) j =
-      ap (λ (x : S). fold f x h) (same (after_all j) e) ∙ along f same h (to_entry e ∷ j)
+      ap (λ (x : S). fold f x h) (same (after_all j) e) ∙ along f same h (e ∷ j)
 
 -- the entries of one lane alone
 abbrev pub own_then : {S : Type 0} → ℕ → (S → Entry → S) → S → Entry → S
 own_then lane g x e = cond (lane == e.lane) (g x e) x
 
 pub along_own : {S : Type 0} (lane : ℕ) (g : S → Entry → S) (s : S) (f : S → Past → S)
-    → ((x : S) (e : Past) → f x e ≡ g x (to_entry e)) → (h : History) (j : List Entry)
+    → ((x : S) (e : Past) → f x e ≡ g x e) → (h : History) (j : List Entry)
     → fold f (after_all (own_then lane g) s j) (calls_by lane h)
-    ≡ after_all (own_then lane g) s (fold (λ j e. to_entry e ∷ j) j h)
+    ≡ after_all (own_then lane g) s (fold (λ j e. e ∷ j) j h)
 along_own lane g s f same [] j = refl
 along_own {S} lane g s f same (e ∷ h) j =
-    by (lane == e.lane) refl (along_own lane g s f same h (to_entry e ∷ j))
+    by (lane == e.lane) refl (along_own lane g s f same h (e ∷ j))
   where
     before : S
     before = after_all (own_then lane g) s j
 
     by : (b : Bool) → (lane == e.lane) ≡ b
-        → fold f (own_then lane g before (to_entry e)) (calls_by lane h)
-        ≡ after_all (own_then lane g) s (fold (λ j e. to_entry e ∷ j) (to_entry e ∷ j) h)
+        → fold f (own_then lane g before e) (calls_by lane h)
+        ≡ after_all (own_then lane g) s (fold (λ j e. e ∷ j) (e ∷ j) h)
         → fold f before (cond b (e ∷ calls_by lane h) (calls_by lane h))
-        ≡ after_all (own_then lane g) s (fold (λ j e. to_entry e ∷ j) (to_entry e ∷ j) h)
+        ≡ after_all (own_then lane g) s (fold (λ j e. e ∷ j) (e ∷ j) h)
     by true own rest = ap (λ (x : S). fold f x (calls_by lane h))
-        (same before e ∙ ap (λ (b : Bool). cond b (g before (to_entry e)) before) (sym own)) ∙ rest
+        (same before e ∙ ap (λ (b : Bool). cond b (g before e) before) (sym own)) ∙ rest
     by false other rest = ap (λ (x : S). fold f x (calls_by lane h))
-        (ap (λ (b : Bool). cond b (g before (to_entry e)) before) (sym other)) ∙ rest
+        (ap (λ (b : Bool). cond b (g before e) before) (sym other)) ∙ rest

@@ -2,7 +2,7 @@
 use Rattle.std.proofs.Common.{◌≡◌, ℕ, ◌+◌, Bool, true, false, cond, ◌||◌, List, [], ◌∷◌, length, Option, Some, None, is_some, refl, sym, ◌∙◌, arith}
 use Rattle.std.specs.List.{filter, fold, list_any}
 use Rattle.exec_journal.specs.declared.attempt.Attempt.{Attempt}
-use Rattle.exec_journal.specs.declared.journal.Entry.{Entry}
+use Rattle.exec_journal.specs.Entry.{Entry}
 use Rattle.exec_journal.specs.Entries.{launch_in, takes}
 use Rattle.exec_journal.specs.History.{each, ever}
 use Rattle.exec_journal.specs.Words.{line_count, was_taken}
@@ -10,7 +10,7 @@ use Rattle.list_lemmas.specs.Options.{and_more}
 use Rattle.run_rules.specs.Laws.{lines_in, is_taken}
 use Rattle.run_rules.specs.Moves.{History}
 use Rattle.run_rules.specs.Shelf.{child_at, child_then, tap_at, tap_then}
-use Rattle.script_duties.specs.Owed.{to_entry, journal_of}
+use Rattle.script_duties.specs.Owed.{journal_of}
 use Rattle.history_laws.proofs.Along.{along}
 use Rattle.history_laws.proofs.Lying.{child_entry, tap_entry, child_in, tap_in}
 
@@ -25,13 +25,13 @@ tap_is w h = along (tap_entry w) None (tap_then w) (λ o e. refl) h []
 count_along : (h : History) (j : List Entry)
     → length (filter (λ e. is_some (launch_in e.reply)) h)
     + length (each (λ _ e. launch_in e.reply) j)
-    ≡ length (each (λ _ e. launch_in e.reply) (fold (λ j e. to_entry e ∷ j) j h))
+    ≡ length (each (λ _ e. launch_in e.reply) (fold (λ j e. e ∷ j) j h))
 count_along [] j = omega arith
-count_along (e ∷ h) j = by (launch_in e.reply) (count_along h (to_entry e ∷ j))
+count_along (e ∷ h) j = by (launch_in e.reply) (count_along h (e ∷ j))
   where
     whole : ℕ
     whole = length (each (λ _ e. launch_in e.reply)
-        (fold (λ j e. to_entry e ∷ j) (to_entry e ∷ j) h))
+        (fold (λ j e. e ∷ j) (e ∷ j) h))
 
     rest : ℕ
     rest = length (filter (λ e. is_some (launch_in e.reply)) h)
@@ -53,11 +53,11 @@ lines_are h = let n = count_along h [] in omega (arith, n)
 
 taken_along : (l : ℕ) (h : History) (j : List Entry)
     → (list_any (λ e. takes l e.reply) h || ever (λ _ e. takes l e.reply) j)
-    ≡ ever (λ _ e. takes l e.reply) (fold (λ j e. to_entry e ∷ j) j h)
+    ≡ ever (λ _ e. takes l e.reply) (fold (λ j e. e ∷ j) j h)
 taken_along l [] j = refl
 taken_along l (e ∷ h) j =
     shuffle (takes l e.reply) (list_any (λ e. takes l e.reply) h) (ever (λ _ e. takes l e.reply) j)
-    ∙ taken_along l h (to_entry e ∷ j)
+    ∙ taken_along l h (e ∷ j)
   where
     shuffle : (a b c : Bool) → ((a || b) || c) ≡ (b || (a || c))
     shuffle true true c = refl

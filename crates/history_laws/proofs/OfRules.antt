@@ -1,5 +1,5 @@
 -- The laws of `Rules`, of each discipline: what a core that goes by one keeps.
-use Rattle.std.proofs.Common.{◌∙◌}
+use Rattle.std.proofs.Common.{◌∙◌, ◌*◌, arith}
 use Rattle.std.specs.Prelude.{◌≡◌, ℕ, ℤ, ◌/◌, ◌+◌, ◌<◌, ◌≤◌, true, false, List, [], ◌∷◌, ◌++◌, length, Some, None}
 use Rattle.run_plan.specs.declared.plan.Branch.{Branch}
 use Rattle.exec_journal.specs.declared.call.Call.{Call}
@@ -16,9 +16,11 @@ use Rattle.run_rules.specs.Laws.{InScript, Fits, tap_lane, hearing_of, may_hear,
 use Rattle.run_rules.specs.Moves.{Past, History}
 use Rattle.run_rules.specs.Shelf.{child_at, tap_at, place_at, Fresh, Away}
 use Rattle.script_duties.specs.Owed.{journal_of, outputs_in, makers_in}
+use Rattle.journal_calls.proofs.Reports.{few_lines}
 use Rattle.script_duties.proofs.Doing.{duty_is_scripted}
 use Rattle.script_duties.proofs.Paying as paying
 use Rattle.history_laws.specs.Ruled.{answer_after, IsPaidAfter, owes_after, CameAbout}
+use Rattle.history_laws.proofs.Bridging.{lines_are}
 use Rattle.history_laws.proofs.Fitting.{in_script, lawful, scripted_as, scripted_so, seated_so, replies_fit}
 use Rattle.history_laws.proofs.Ticking as ticking
 use Rattle.history_laws.proofs.Granting as granting
@@ -127,6 +129,13 @@ module _ (q : Discipline) (is : IsDiscipline q) where
       → OrderHolds (length q.plan.actions) (child_at (lane / 2) h) (lines_in h)
       (answer_after q h lane call.Ask)
   orders_hold h lane came = ordering.orders_hold q is h lane came
+
+  pub lines_fit : (h : History) → CameAbout q h
+      → lines_in h ≤ 2 * length q.plan.actions * q.plan.limit
+  lines_fit h came =
+      let same = lines_are h in
+      let few = few_lines q.plan (journal_of h) came.sound (lawful q is (journal_of h) came.legal) in
+      omega (arith, same, few)
 
   pub inputs_are_there : (h : History) (w l : ℕ) (n : ℤ) (a c o : ℕ) → CameAbout q h
       → duty_of (calls_by (proxy_lane w) h) ≡ Sends l n a → is_maker (makers_in q.plan a) c o ≡ true

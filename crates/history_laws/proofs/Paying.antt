@@ -4,7 +4,7 @@ use Rattle.std.specs.List.{fold}
 use Rattle.run_plan.specs.declared.plan.Plan.{Plan}
 use Rattle.exec_journal.specs.declared.call.Call.{Call}
 use Rattle.exec_journal.specs.declared.call.Call.TheVariants as call
-use Rattle.exec_journal.specs.declared.journal.Entry.{Entry}
+use Rattle.exec_journal.specs.Entry.{Entry}
 use Rattle.exec_journal.specs.declared.reply.Reply.{Reply}
 use Rattle.exec_journal.specs.declared.reply.Reply.TheVariants as reply
 use Rattle.exec_journal.specs.Entries.{is_kept}
@@ -17,7 +17,7 @@ use Rattle.journal_laws.proofs.Debts as debts
 use Rattle.journal_laws.proofs.Allowed.{paid_allowed}
 use Rattle.run_rules.specs.Moves.{History}
 use Rattle.seat_desk.specs.History.{entry, calls_by}
-use Rattle.script_duties.specs.Owed.{to_entry, journal_of}
+use Rattle.script_duties.specs.Owed.{journal_of}
 use Rattle.script_duties.proofs.Going.{flip}
 use Rattle.history_laws.specs.Ruled.{answer_after, IsPaidAfter, owes_after, CameAbout}
 use Rattle.history_laws.proofs.Along.{journal_more, journal_next}
@@ -42,7 +42,7 @@ paid_noted q is h lane c came paid =
 
 stays_along : (m : ℕ) (lane : ℕ) (c : Call) (more : History) (j : List Entry)
     → calls_by lane more ≡ [] → seat_paid m j lane c ≡ true
-    → seat_paid m (fold (λ j e. to_entry e ∷ j) j more) lane c ≡ true
+    → seat_paid m (fold (λ j e. e ∷ j) j more) lane c ≡ true
 stays_along m lane c [] j none paid = paid
 stays_along m lane c (e ∷ more) j none paid =
     by (lane == e.lane) refl none (λ k pays rest. stays_along m lane c more k rest pays)
@@ -50,11 +50,11 @@ stays_along m lane c (e ∷ more) j none paid =
     by : (b : Bool) → (lane == e.lane) ≡ b
         → cond b (e ∷ calls_by lane more) (calls_by lane more) ≡ []
         → ((k : List Entry) → seat_paid m k lane c ≡ true → calls_by lane more ≡ []
-        → seat_paid m (fold (λ j e. to_entry e ∷ j) k more) lane c ≡ true)
-        → seat_paid m (fold (λ j e. to_entry e ∷ j) (to_entry e ∷ j) more) lane c ≡ true
+        → seat_paid m (fold (λ j e. e ∷ j) k more) lane c ≡ true)
+        → seat_paid m (fold (λ j e. e ∷ j) (e ∷ j) more) lane c ≡ true
     by true own clash go = absurd (cc)
-    by false other rest go = go (to_entry e ∷ j)
-        (debts.paid_stays m (to_entry e) j lane c (flip lane e.lane false other) ∙ paid) rest
+    by false other rest go = go (e ∷ j)
+        (debts.paid_stays m e j lane c (flip lane e.lane false other) ∙ paid) rest
 
 pub paid_stays : (q : Discipline) (h more : History) (lane : ℕ) (c : Call) → calls_by lane more ≡ []
     → IsPaidAfter q h lane c → IsPaidAfter q (h ++ more) lane c

@@ -1,7 +1,7 @@
 -- What a lane's script has, where some lanes make Ticks too.
 use Rattle.exec_journal.specs.Lawful.{Lawful, may_tick}
 use Rattle.exec_journal.specs.declared.call.Call.{Call}
-use Rattle.exec_journal.specs.declared.journal.Entry.{Entry}
+use Rattle.exec_journal.specs.Entry.{Entry}
 use Rattle.history_laws.proofs.Hearing.{hearing_is_scripted, script_is_hearing, tap_halt_is_paid, tells_hears}
 use Rattle.history_laws.specs.Disciplines.{Discipline, script_of}
 use Rattle.run_plan.specs.Groups.{is_remote}

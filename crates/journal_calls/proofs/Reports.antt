@@ -6,7 +6,7 @@ use Rattle.exec_journal.specs.Seated.{group_on, line_group}
 use Rattle.run_plan.specs.Sound.{Sound}
 use Rattle.exec_journal.specs.Lawful as lw
 use Rattle.exec_journal.specs.declared.attempt.Attempt.{Attempt}
-use Rattle.exec_journal.specs.declared.journal.Entry.{Entry}
+use Rattle.exec_journal.specs.Entry.{Entry}
 use Rattle.exec_journal.specs.declared.call.Call.TheVariants as call
 use Rattle.exec_journal.specs.declared.call.Started.{Started}
 use Rattle.exec_journal.specs.Attempts.{ended}

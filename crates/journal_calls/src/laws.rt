@@ -19,7 +19,7 @@ ghost use Rattle.exec_journal.specs.declared.call.Started.TheVariants as start;
 ghost use Rattle.exec_journal.specs.declared.call.Started.{Started};
 ghost use Rattle.exec_journal.specs.declared.call.Written.TheVariants as write;
 ghost use Rattle.exec_journal.specs.declared.call.Written.{Written};
-ghost use Rattle.exec_journal.specs.declared.journal.Entry.{Entry};
+ghost use Rattle.exec_journal.specs.Entry.{Entry};
 ghost use Rattle.exec_journal.specs.declared.reply.Reply.TheVariants as reply;
 ghost use Rattle.exec_journal.specs.Attempts.{ended, fault_at, line_of};
 ghost use Rattle.exec_journal.specs.Entries.{Request, gather_in, launch_of_entry, is_done, is_unwritten, launch_in, matched_in, refused_in, same_attempt, send_in};

@@ -18,7 +18,7 @@ use Rattle.exec_journal.specs.declared.ends.Cause.{Cause}
 use Rattle.exec_journal.specs.declared.ends.Standing.{Standing}
 use Rattle.exec_journal.specs.declared.ends.Standing.TheVariants.{Open, Unsuccessful}
 use Rattle.journal_lookback.specs.declared.grant.Grant.{Grant}
-use Rattle.exec_journal.specs.declared.journal.Entry.{Entry}
+use Rattle.exec_journal.specs.Entry.{Entry}
 use Rattle.journal_ends.specs.declared.replay.ActionFact.{ActionFact}
 use Rattle.journal_ends.specs.declared.replay.BranchFact.{BranchFact}
 use Rattle.journal_ends.specs.declared.endings.Verdict.{Verdict}

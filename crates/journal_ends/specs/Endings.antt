@@ -20,7 +20,7 @@ use Rattle.exec_journal.specs.declared.ends.Outcome.{Outcome}
 use Rattle.exec_journal.specs.declared.ends.Outcome.TheVariants as outcome
 use Rattle.exec_journal.specs.declared.ends.Standing.{Standing}
 use Rattle.exec_journal.specs.declared.ends.Standing.TheVariants.{Open, Succeeded, Unsuccessful}
-use Rattle.exec_journal.specs.declared.journal.Entry.{Entry}
+use Rattle.exec_journal.specs.Entry.{Entry}
 use Rattle.journal_ends.specs.declared.endings.Verdict.{Verdict}
 use Rattle.exec_journal.specs.Words.{grant_of}
 use Rattle.exec_journal.specs.Settled.{all_dropped, is_starved}

@@ -1,6 +1,6 @@
 // What a journal says of all actions and lines, gathered by going through it once.
 ghost use Rattle.std.specs.Prelude.{◌≡◌, ◌∷◌, ℕ, true, List, reverse, option_copied, option_map, unwrap_or, if◌then◌else◌};
-ghost use Rattle.exec_journal.specs.declared.journal.Entry.{Entry};
+ghost use Rattle.exec_journal.specs.Entry.{Entry};
 ghost use Rattle.exec_journal.specs.Entries.{attempt_of, send_of_entry, launch_of_entry, consumed_in};
 ghost use Rattle.exec_journal.specs.Words.{last_work, answered};
 ghost use Rattle.exec_journal.specs.Attempts.{number_if};

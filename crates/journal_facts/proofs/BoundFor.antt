@@ -6,7 +6,7 @@ use Rattle.run_plan.specs.declared.plan.Plan.{Plan}
 use Rattle.run_plan.specs.Groups.{berths}
 use Rattle.exec_journal.specs.Facts.{IsOfBerth}
 use Rattle.exec_journal.specs.declared.attempt.Attempt.{Attempt}
-use Rattle.exec_journal.specs.declared.journal.Entry.{Entry}
+use Rattle.exec_journal.specs.Entry.{Entry}
 use Rattle.list_lemmas.specs.Options.{and_more}
 use Rattle.exec_journal.specs.Words.{last_line}
 use Rattle.exec_journal.specs.Settled.{bound}

@@ -2,7 +2,7 @@
 use Rattle.std.proofs.Common.{◌≡◌, ℕ, suc, ◌==◌, Bool, true, false, ◌||◌, List, [], ◌∷◌, Some, refl, ◌∙◌}
 use Rattle.std.specs.Prelude.{slice_get}
 use Rattle.run_plan.specs.declared.plan.Plan.{Plan}
-use Rattle.exec_journal.specs.declared.journal.Entry.{Entry}
+use Rattle.exec_journal.specs.Entry.{Entry}
 use Rattle.exec_journal.specs.declared.call.Call.TheVariants as call
 use Rattle.exec_journal.specs.declared.call.Started.{Started}
 use Rattle.exec_journal.specs.Entries.{Request, is_done}

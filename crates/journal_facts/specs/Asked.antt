@@ -7,7 +7,7 @@ use Rattle.list_lemmas.specs.Options.{and_more}
 use Rattle.exec_journal.specs.declared.attempt.Attempt.{Attempt}
 use Rattle.exec_journal.specs.declared.call.Call.{Call}
 use Rattle.exec_journal.specs.declared.call.Call.TheVariants as call
-use Rattle.exec_journal.specs.declared.journal.Entry.{Entry}
+use Rattle.exec_journal.specs.Entry.{Entry}
 use Rattle.exec_journal.specs.Entries.{same_attempt, granted_in}
 use Rattle.exec_journal.specs.Words.{last_line}
 use Rattle.exec_journal.specs.Settled.{bound}

@@ -6,7 +6,7 @@ use Rattle.run_plan.specs.declared.plan.Branch.{Branch}
 use Rattle.run_plan.specs.declared.plan.Branch.TheVariants.{Local, Remote}
 use Rattle.run_plan.specs.declared.plan.Plan.{Plan}
 use Rattle.exec_journal.specs.declared.attempt.Attempt.{Attempt}
-use Rattle.exec_journal.specs.declared.journal.Entry.{Entry}
+use Rattle.exec_journal.specs.Entry.{Entry}
 use Rattle.exec_journal.specs.declared.reply.Reply.{Reply}
 use Rattle.exec_journal.specs.declared.reply.Reply.TheVariants as reply
 use Rattle.exec_journal.specs.History.{each}

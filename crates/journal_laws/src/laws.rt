@@ -4,7 +4,7 @@ ghost use Rattle.std.specs.Prelude.{◌≡◌, ◌≤◌, ◌<◌, ◌*◌, ◌/
 ghost use Rattle.std.specs.List.{list_all};
 ghost use Rattle.exec_journal.specs.declared.attempt.Attempt.{Attempt};
 ghost use Rattle.exec_journal.specs.declared.ends.Cause.{Cause};
-ghost use Rattle.exec_journal.specs.declared.journal.Entry.{Entry};
+ghost use Rattle.exec_journal.specs.Entry.{Entry};
 ghost use Rattle.run_plan.specs.declared.plan.Plan.{Plan};
 ghost use Rattle.exec_journal.specs.Words.{line_count, launch_of, started, failed, was_taken, was_killed, kill_ordered, has_spoken, has_greeted, granted, grant_of, halted, stopped, has_ended, order_of, wrote, says_unwritten, says_feed_fault, answered, is_pending, pending};
 ghost use Rattle.exec_journal.specs.Attempts.{attempt, end_of, ended, begun_in, line_of};

@@ -9,7 +9,7 @@ use Rattle.exec_journal.specs.declared.call.Written.{Written}
 use Rattle.exec_journal.specs.declared.call.Call.{Call}
 use Rattle.exec_journal.specs.declared.call.Call.TheVariants as call
 use Rattle.exec_journal.specs.declared.reply.Reply.{Reply}
-use Rattle.exec_journal.specs.declared.journal.Entry.{Entry}
+use Rattle.exec_journal.specs.Entry.{Entry}
 use Rattle.journal_lookback.specs.declared.attempt_state.Track.{Track}
 use Rattle.list_lemmas.specs.Options.{or_else, unless_before}
 use Rattle.exec_journal.specs.Entries.{Request, is_for, consumed_in, send_of_entry, ends}

@@ -5,7 +5,7 @@ use Rattle.std.proofs.lemmas.Bool.{ltb-false, ltb-true}
 use Rattle.std.proofs.lemmas.List.{reverse-append}
 use Rattle.run_plan.specs.declared.plan.Plan.{Plan}
 use Rattle.run_plan.specs.Sound.{Sound}
-use Rattle.exec_journal.specs.declared.journal.Entry.{Entry}
+use Rattle.exec_journal.specs.Entry.{Entry}
 use Rattle.journal_text.specs.Lines.{entry_of, lines_of, plan_of}
 use Rattle.journal_text.specs.Options.{each}
 use Rattle.journal_replay.specs.Legality.{Legality}

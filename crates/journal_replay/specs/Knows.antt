@@ -1,7 +1,7 @@
 -- What an auditor knows of the lines so far.
 use Rattle.std.specs.Prelude.{◌≡◌, ℕ, List, [], ◌∷◌, length, reverse, Some}
 use Rattle.run_plan.specs.Sound.{Sound}
-use Rattle.exec_journal.specs.declared.journal.Entry.{Entry}
+use Rattle.exec_journal.specs.Entry.{Entry}
 use Rattle.exec_journal.specs.Paired.{Paired}
 use Rattle.exec_journal.specs.Race.{Race}
 use Rattle.journal_replay.specs.Legality.{Legality, Standing}

@@ -1,7 +1,7 @@
 -- What the lines of a text spell.
 use Rattle.std.specs.Prelude.{◌≡◌, ℕ, suc, is_some, if◌then◌else◌, List, [], ◌∷◌, Option, Some, None}
 use Rattle.run_plan.specs.declared.plan.Plan.{Plan}
-use Rattle.exec_journal.specs.declared.journal.Entry.{Entry}
+use Rattle.exec_journal.specs.Entry.{Entry}
 use Rattle.journal_text.specs.Lines.{entry_of, plan_of}
 use Rattle.journal_text.specs.Options.{each}
 

@@ -2,7 +2,7 @@
 ghost use Rattle.std.specs.Prelude.{◌≤◌, List, length, reverse};
 ghost use Rattle.run_plan.specs.declared.plan.Plan.{Plan};
 ghost use Rattle.run_plan.specs.Sound.{Sound};
-ghost use Rattle.exec_journal.specs.declared.journal.Entry.{Entry};
+ghost use Rattle.exec_journal.specs.Entry.{Entry};
 ghost use Rattle.exec_journal.specs.Paired.{Paired};
 ghost use Rattle.exec_journal.specs.Race.{Race};
 ghost use Rattle.journal_text.specs.Fits.{Each};

@@ -6,7 +6,7 @@ use Rattle.serde_json.specs.Data.{Data}
 use Rattle.serde_json.specs.Read.{read}
 use Rattle.serde_json.specs.Written.{compact_text}
 use Rattle.run_plan.specs.declared.plan.Plan.{Plan}
-use Rattle.exec_journal.specs.declared.journal.Entry.{Entry}
+use Rattle.exec_journal.specs.Entry.{Entry}
 use Rattle.journal_text.specs.Options.{◌>>=◌}
 use Rattle.journal_text.specs.Reading.{entry_in, plan_in}
 use Rattle.journal_text.specs.Writing.{entry_data, plan_data}

@@ -3,7 +3,7 @@ ghost use Rattle.std.specs.Prelude.{◌≡◌, ◌≤◌, ◌∷◌, false, IfOk
 ghost use Rattle.serde_json.specs.Data.{depth};
 ghost use Rattle.serde_json.specs.View.{view};
 ghost use Rattle.serde_json.specs.Written.{compact_text, has_float};
-ghost use Rattle.exec_journal.specs.declared.journal.Entry.{Entry};
+ghost use Rattle.exec_journal.specs.Entry.{Entry};
 ghost use Rattle.journal_text.specs.Fits.{Each, EntryFits};
 ghost use Rattle.journal_text.specs.Lines.{IsOneLine, entries_text, entry_of, entry_text, json_in, lines_of, plan_of, plan_text, text_of, IsWrittenEntry, IsWrittenPlan};
 ghost use Rattle.journal_text.specs.Writing.{entry_data};

@@ -1,0 +1,2 @@
+-- What contracts say of rings.
+pub mod Rings

@@ -91,3 +91,44 @@ impl Bells {
         }
     }
 }
+
+/// The bells in the hands of one who rings them. A contract sees how many bells there are, how often
+/// it has rung, modulo 2^64, and whom it rang last.
+#[derive(Drop)]
+pub struct Ringer<'a> {
+    bells: &'a Bells,
+    rings: u64,
+    last: u128,
+}
+
+impl<'a> Ringer<'a> {
+    ghost use Rattle.lane_bells.specs.Rings.{Rings};
+
+    /// These bells, of which it has rung none.
+    pub fn new(bells: &'a Bells) -> Ringer<'a>
+        ensures bells { result.bells.now ≡ bells.now }
+        ensures none { (result.rings ≡ 0) × (result.last ≡ 0) }
+    {
+        Ringer {
+            bells,
+            rings: 0,
+            last: 0,
+        }
+    }
+
+    /// Rings these lanes, as [`Bells::ring`] does.
+    pub fn ring(&mut self, lanes: u128)
+        ensures { Rings self.old lanes self.new }
+    {
+        self.bells.ring(lanes);
+        self.rings = self.rings.wrapping_add(1);
+        self.last = lanes;
+    }
+
+    /// Rests on the lane's bell, as [`Bells::rest`] does.
+    pub fn rest<R: Wait>(&self, rt: &R, lane: u32)
+        requires { lane < self.now.bells.now }
+    {
+        self.bells.rest(rt, lane);
+    }
+}

@@ -10,9 +10,10 @@
 //! Waking every lane at every call is right too, and a thousand times slower.
 //!
 //! A rest ends by itself after a second at most, so that a caller who forgot a lane costs a second and
-//! no more. No clause speaks of any of this: that a thread is woken, no contract can say.
+//! no more. A [`Ringer`] says how often it has rung and whom last, so that a call can promise its ring.
+//! That a thread is woken, no contract can say.
 #![tactic(auto)]
 
 mod bells;
 
-pub use bells::Bells;
+pub use bells::{Bells, Ringer};

@@ -1,7 +1,7 @@
 -- A call that is made again.
 use Rattle.std.proofs.Common.{◌≡◌, ℕ, ◌==◌, cond, List, [], ◌∷◌, ◌++◌, Bool, true, false, Option, refl, sym, ◌∙◌, ap, subst, append_assoc, append-nil}
 use Rattle.seat_desk.specs.declared.machine.Machine.{Ghosts}
-use Rattle.seat_desk.specs.declared.entry.Entry.{Entry}
+use Rattle.plain_values.specs.declared.entry.Entry.{Entry}
 use Rattle.seat_desk.specs.declared.desk.Pass.{Pass}
 use Rattle.seat_desk.specs.History.{entry, calls_by, after, GoesOn, StandsUnder}
 use Rattle.seat_desk.specs.Desks.{Answers}

@@ -1,7 +1,7 @@
 -- What a call that is made again and again asks.
 use Rattle.std.specs.Prelude.{List, None}
 use Rattle.seat_desk.specs.declared.machine.Machine.{Ghosts}
-use Rattle.seat_desk.specs.declared.entry.Entry.{Entry}
+use Rattle.plain_values.specs.declared.entry.Entry.{Entry}
 use Rattle.seat_desk.specs.declared.desk.Pass.{Pass}
 use Rattle.seat_desk.specs.History.{GoesOn}
 use Rattle.seat_desk.specs.Passes.{rules, seen}

@@ -1,10 +1,11 @@
 //! What a lane calls the machine with.
 ghost use Rattle.std.specs.Prelude.{◌≡◌, ◌<◌, Bool, true, false, IfOk, IfErr, None};
-ghost use Rattle.seat_desk.specs.declared.entry.Entry.{Entry};
+ghost use Rattle.plain_values.specs.declared.entry.Entry.{Entry};
 ghost use Rattle.seat_desk.specs.Passes.{IsPassOf, IsSamePass, Suits, IsPaidFor, MakesCall, MakesPaidCall, MakesNoCall, MayMakeThen, MakesCallThen};
+ghost use Rattle.lane_bells.specs.Rings.{Rings};
 ghost use Rattle.lane_crew.specs.Callers.{AlwaysSuits};
 
-use lane_bells::Bells;
+use lane_bells::{Bells, Ringer};
 use seat_desk::{Desk, Machine, Pass, Refused, Then};
 use std::sync::Wait;
 
@@ -32,15 +33,16 @@ pub trait Question<M: Machine> {
 
 /// The one way by which lanes call: a pass with its desk and the bells of all lanes.
 ///
-/// Each of its calls rings, right after its turn and in the same thread, the lanes that may have news,
-/// so that no ring is lost. A clause reads its pass, and no clause speaks of waiting.
+/// Each of its calls rings, right after its turn and in the same thread, the lanes that the turn stirred,
+/// once, so that no ring is lost. A clause reads its pass and what it has rung, and no clause speaks of
+/// waiting.
 pub struct Caller<'a, M: Machine> {
     desk: &'a Desk<M>,
-    bells: &'a Bells,
+    ringer: Ringer<'a>,
     pass: Pass<M>,
     lane: u32,
     pub ghost at_desk: { pass.seat.table_id ≡ desk.now.table.shared.table_id },
-    pub ghost has_bell: { lane < bells.now },
+    pub ghost has_bell: { lane < ringer.bells.now },
 }
 
 impl<'a, M: Machine> Caller<'a, M> {
@@ -53,7 +55,7 @@ impl<'a, M: Machine> Caller<'a, M> {
     {
         Caller {
             desk,
-            bells,
+            ringer: Ringer::new(bells),
             pass,
             lane,
         }
@@ -65,7 +67,7 @@ impl<'a, M: Machine> Caller<'a, M> {
     {
         let Caller {
             desk: _,
-            bells: _,
+            ringer: _,
             pass,
             lane: _,
         } = self;
@@ -85,12 +87,13 @@ impl<'a, M: Machine> Caller<'a, M> {
     ) -> Result<(M::Reply, Option<M::Good>), Refused<M>>
         requires { Suits self.old.pass call put }
         ensures same { IsSamePass self.old.pass self.new.pass }
+        ensures rung { Rings self.old.ringer self.new.pass.stirs self.new.ringer }
         ensures answer { IfOk result (λ r. MakesCall self.old.pass call r.0 r.1 self.new.pass) }
         ensures refused { IfErr result (λ e. (e.call ≡ call) × (e.put ≡ put)
             × MakesNoCall self.old.pass self.new.pass) }
     {
         let answer = self.desk.call(rt, &mut self.pass, call, put);
-        self.bells.ring(self.pass.stirs());
+        self.ringer.ring(self.pass.stirs());
         answer
     }
 
@@ -105,11 +108,12 @@ impl<'a, M: Machine> Caller<'a, M> {
         requires suits { Suits self.old.pass call put }
         requires paid { IsPaidFor self.old.pass call }
         ensures same { IsSamePass self.old.pass self.new.pass }
+        ensures rung { Rings self.old.ringer self.new.pass.stirs self.new.ringer }
         ensures answer { MakesPaidCall self.old.pass call result.0 result.1 self.new.pass }
         ensures not_short { M.short result.0 ≡ false }
     {
         let answer = self.desk.call_paid(rt, &mut self.pass, call, put);
-        self.bells.ring(self.pass.stirs());
+        self.ringer.ring(self.pass.stirs());
         answer
     }
 
@@ -128,13 +132,14 @@ impl<'a, M: Machine> Caller<'a, M> {
         requires suits { Suits self.old.pass call None }
         requires may { MayMakeThen W.meets self.old.pass call work.old }
         ensures same { IsSamePass self.old.pass self.new.pass }
+        ensures rung { Rings self.old.ringer self.new.pass.stirs self.new.ringer }
         ensures answer { IfOk result (λ r.
             MakesCallThen W.meets self.old.pass call work.old r.0 r.1 work.new self.new.pass) }
         ensures refused { IfErr result (λ e. (e.call ≡ call) × (e.put ≡ None)
             × (work.new ≡ work.old) × MakesNoCall self.old.pass self.new.pass) }
     {
         let answer = self.desk.call_then(rt, &mut self.pass, call, work);
-        self.bells.ring(self.pass.stirs());
+        self.ringer.ring(self.pass.stirs());
         answer
     }
 
@@ -153,6 +158,7 @@ impl<'a, M: Machine> Caller<'a, M> {
     ) -> Result<(M::Reply, Option<M::Good>), Refused<M>>
         requires { AlwaysSuits self.old.pass (Q.asks question.now) }
         ensures same { IsSamePass self.old.pass self.new.pass }
+        ensures rung { self.new.ringer.last ≡ self.new.pass.stirs }
         ensures answer { IfOk result (λ r.
             MakesCall self.old.pass (Q.asks question.now) r.0 r.1 self.new.pass
             × (Q.idles r.0 ≡ false)) }
@@ -168,7 +174,7 @@ impl<'a, M: Machine> Caller<'a, M> {
                 }
                 Err(refused) => return Err(refused),
             }
-            self.bells.rest(rt, self.lane);
+            self.ringer.rest(rt, self.lane);
         }
         unreachable!()
     }

@@ -27,15 +27,6 @@ pub struct Crew<M: Machine, E> {
     pub ends: Vec<E>,
 }
 
-/// When memory was wanted, or a thread.
-#[derive(Debug, Drop, Clone, Copy, PartialEq, Eq)]
-pub enum CrewFault {
-    /// Before any lane ran: none has begun.
-    Before,
-    /// After all lanes ran, as the desk was closed.
-    After,
-}
-
 // Gives each lane a pass, in order.
 fn enlist<M: Machine, L: Lane<Desk<M>, Pass<M>>, R>(
     rt: &R,
@@ -132,18 +123,19 @@ fn make_muster<M: Machine, L: Lane<Desk<M>, Pass<M>>, R>(
 /// order, and no others. The machine stands for the history, and no lane but these has a call in it.
 ///
 /// All that needs memory is made first, and all threads are there before the first lane begins. So
-/// between the first lane's start and the last one's end the crew itself takes none. That the lanes end is for them to see to: no clause speaks of waiting.
+/// from the first lane's start on the crew itself takes none, and what ran is never lost. That the lanes
+/// end is for them to see to: no clause speaks of waiting.
 ///
 /// # Errors
 ///
-/// `Before` if there is no memory before the lanes, or the system starts no thread for one of them, and
-/// then none has begun. `After` if there is no memory as the desk is closed.
+/// `NoMemory` if there is no memory before the lanes, or the system starts no thread for one of them.
+/// Then none has begun.
 pub fn run_crew<M: Machine + Send, L: Lane<Desk<M>, Pass<M>> + Send, R: Threads + Wait + Sync>(
     rt: &R,
     alloc: Global,
     machine: M,
     lanes: Vec<L>,
-) -> Result<Crew<M, L::End>, CrewFault>
+) -> Result<Crew<M, L::End>, NoMemory>
 where
     M::Call: Send,
     M::Reply: Send,
@@ -159,23 +151,17 @@ where
         EachLane L.has_run (M.rules machine) c.history.items 0 lanes.items c.ends.items) }
     ensures others { IfOk result (λ c. NoneFrom (length lanes.items) c.history.items) }
 {
-    let Ok(muster) = make_muster(rt, alloc, machine, lanes) else {
-        return Err(CrewFault::Before);
-    };
+    let muster = make_muster(rt, alloc, machine, lanes)?;
     let Muster {
         hall,
         mut root,
         posts,
         mut ends,
     } = muster;
-    let Ok(posts) = run_list(rt, alloc, &hall, posts) else {
-        return Err(CrewFault::Before);
-    };
+    let posts = run_list(rt, alloc, &hall, posts)?;
     let Hall { desk, bells: _ } = hall;
     collect(rt, &desk, &mut root, posts, &mut ends);
-    let Ok(closed) = desk.close(rt, root) else {
-        return Err(CrewFault::After);
-    };
+    let closed = desk.close(rt, root);
     let Closed { machine, history } = closed;
     Ok(Crew {
         machine,

@@ -1,20 +1,21 @@
 -- One entry more, with its deed.
-use Rattle.std.proofs.Common.{◌≡◌, ℕ, ◌+◌, ◌<◌, ◌==◌, Bool, true, false, cond, List, [], ◌∷◌, ◌++◌, Option, refl, ap, sym, subst, ◌∙◌, append_assoc, append-nil, arith, eq-eqb, ne_eqb}
+use Rattle.std.proofs.Common.{◌≡◌, ℕ, ◌+◌, ◌<◌, ◌==◌, Bool, true, false, cond, List, [], ◌∷◌, ◌++◌, Option, refl, ap, sym, subst, ◌∙◌, append_assoc, append-nil, arith, eq-eqb, ne_eqb, min, ◌-◌, ◌^◌, ◌≤◌}
 use Rattle.std.specs.Prelude.{All, IfSome, slice_index_or}
 use Rattle.std.specs.List.{fold}
 use Rattle.seat_desk.specs.History.{StartsWith}
 use Rattle.outside.specs.Lists.{Tells, Adds}
 use Rattle.outside.specs.Told.{BerthTold, SameBerth, FeedTold, SameFeed}
 use Rattle.outside.specs.declared.berth.BerthCall.{BerthCall}
+use Rattle.outside.specs.declared.berth.BerthCall.TheVariants as berth
 use Rattle.exec_journal.specs.declared.call.Call.{Call}
 use Rattle.exec_journal.specs.declared.reply.Reply.{Reply}
 use Rattle.remote_messages.specs.declared.work.WorkAction.{WorkAction}
 use Rattle.run_rules.specs.Moves.{Past, History}
 use Rattle.run_rules.specs.Duties.{Duty, duty_then}
 use Rattle.lane_deeds.specs.declared.post.Post.{Post}
-use Rattle.lane_deeds.specs.Deeds.{Looked, Deed, DeedOf, Acts, calls_of, given_by, given_to}
+use Rattle.lane_deeds.specs.Deeds.{Looked, Deed, DeedOf, Acts, calls_of, given_by, given_to, with_end, with_ends}
 use Rattle.lane_deeds.specs.Told.{IsTold, AreTold, AllTold}
-use Rattle.lane_deeds.specs.Lines.{started_by, started_in, room_fault, room_faults, feed_fault, feed_faults, RoseBy, Back, IsFed, IsBack, IsServed}
+use Rattle.lane_deeds.specs.Lines.{started_by, started_in, room_fault, room_faults, feed_fault, feed_faults, RoseBy, Back, EndsLine, IsFed, IsBack, IsServed}
 
 -- ---- the entries with their deeds
 
@@ -180,3 +181,55 @@ gives_other d l k is below =
 
 pub gives_own : (d : Deed) (l : ℕ) → d.line ≡ l → given_by l d ≡ d.given
 gives_own d l is = ap (λ (b : Bool). cond b d.given []) (eq-eqb d.line l is)
+
+-- ---- a deed with a line's end behind it
+
+pub with_ends_on : (ls ms : List ℕ) (d : Deed)
+    → with_ends (ls ++ ms) d ≡ with_ends ms (with_ends ls d)
+with_ends_on [] ms d = refl
+with_ends_on (l ∷ ls) ms d = with_ends_on ls ms (with_end l d)
+
+module _ (l : ℕ) (d : Deed) where
+  pub told_with_end : (rule : History → ℕ → Call → Reply) (lane : ℕ) (seen : History)
+      (ds : List Deed) → AllTold rule lane seen (ds ++ d ∷ [])
+      → AllTold rule lane seen (ds ++ with_end l d ∷ [])
+  told_with_end rule lane seen [] t = t
+  told_with_end rule lane seen (x ∷ ds) t = (t.0, told_with_end rule lane seen ds t.1)
+
+  pub given_with_end : (n : ℕ) (ds : List Deed)
+      → given_to n (ds ++ with_end l d ∷ []) ≡ given_to n (ds ++ d ∷ [])
+  given_with_end n [] = refl
+  given_with_end n (x ∷ ds) = ap (λ (bs : List ℕ). given_by n x ++ bs) (given_with_end n ds)
+
+  calls_with_end : (ds : List Deed)
+      → calls_of (ds ++ with_end l d ∷ []) ≡ calls_of (ds ++ d ∷ []) ++ berth.End l ∷ []
+  calls_with_end ds = calls_more ds (with_end l d)
+      ∙ (sym (append_assoc (calls_of ds) d.calls (berth.End l ∷ []))
+      ∙ ap (λ (cs : List BerthCall). cs ++ berth.End l ∷ []) (sym (calls_more ds d)))
+
+  pub served_with_end : (own : History) (ds : List Deed) (old mid new : BerthTold)
+      → IsServed own (ds ++ d ∷ []) old mid → EndsLine l mid new
+      → IsServed own (ds ++ with_end l d ∷ []) old new
+  served_with_end own ds old mid new s x = record {
+    log = adds_more (calls_of (ds ++ d ∷ [])) (berth.End l ∷ [])
+        (calls_of (ds ++ with_end l d ∷ [])) old.log mid.log new.log (calls_with_end ds) s.log x.log;
+    faults = rose_later (room_faults own) old.faults mid.faults new.faults s.faults x.later;
+    same = x.same ∙ s.same;
+  }
+    where
+      rose_later : (n before mid now : ℕ) → RoseBy n before mid → mid ≤ now → RoseBy n before now
+      rose_later n before mid now rose later = omega arith
+
+  pub fed_with_end : (own : History) (ds : List Deed) (n : ℕ) (feed : FeedTold)
+      → IsFed own (ds ++ d ∷ []) n feed → IsFed own (ds ++ with_end l d ∷ []) n feed
+  fed_with_end own ds n feed f = record {
+    of_line = f.of_line;
+    given = subst (λ (bs : List ℕ). Tells feed.given bs) (sym (given_with_end n ds)) f.given;
+    faults = f.faults;
+  }
+
+  pub backs_with_end : (own : History) (ds : List Deed) (xs : List Back)
+      → All (IsBack own (ds ++ d ∷ [])) xs → All (IsBack own (ds ++ with_end l d ∷ [])) xs
+  backs_with_end own ds xs a = λ k y h.
+      let x : Back = slice_index_or xs k y in
+      (fed_with_end own ds x.line x.feed (a k y h).0, (a k y h).1)

@@ -84,6 +84,10 @@ lacks l n k = record { wanted = wanted.Answered l n k; found = None }
 abbrev pub IsNothing : Deed → Type 0
 IsNothing d = (d.looks ≡ []) × (d.calls ≡ []) × (d.given ≡ [])
 
+-- it ended the line's child, and did nothing else
+abbrev pub IsEnd : ℕ → Deed → Type 0
+IsEnd l d = (d.looks ≡ []) × (d.calls ≡ berth.End l ∷ []) × (d.given ≡ [])
+
 -- the bytes and the calls of a Send, by what is due and by what is reported
 abbrev pub SentAs : List Asked → Due → Written → List BerthCall → List ℕ → Type 0
 SentAs asks (due.Frame frame) how calls given = SentBy asks frame how calls given
@@ -162,7 +166,7 @@ module _ (post : Post) (actions : List WorkAction) where
   DeedOf (Cancels l n) (call.Wrote k m how) d = IsCancel post l n how d
   DeedOf (Gathers l n t exit refused) (call.Claim a b u f) d = IsGather l n t.action f d
   DeedOf (Commits a b fs) (call.Committed c e how) d = IsNothing d
-  DeedOf (Kills l) (call.Killed k) d = IsNothing d
+  DeedOf (Kills l) (call.Killed k) d = IsEnd l d
   DeedOf _ _ d = ⊥
 
   -- the same for the lane's entries one after the other
@@ -191,11 +195,26 @@ module _ (post : Post) (actions : List WorkAction) where
   CutsCalls (Cancels l n) calls = calls ≡ []
   CutsCalls (Gathers l n t exit refused) calls = IsCutGather n t.action calls
   CutsCalls (Commits a b fs) calls = ⊥
-  CutsCalls (Kills l) calls = calls ≡ []
+  CutsCalls (Kills l) calls = calls ≡ berth.End l ∷ []
   CutsCalls Left calls = ⊥
 
   abbrev pub IsCut : Duty → Deed → Type 0
   IsCut s d = (d.given ≡ []) × CutsCalls s d.calls
+
+-- ---- where a lane halts
+
+-- the same deed, and behind it the end of the line
+abbrev pub with_end : ℕ → Deed → Deed
+with_end l d = record {
+  line = d.line;
+  looks = d.looks;
+  calls = d.calls ++ berth.End l ∷ [];
+  given = d.given;
+}
+
+abbrev pub with_ends : List ℕ → Deed → Deed
+with_ends [] d = d
+with_ends (l ∷ ls) d = with_ends ls (with_end l d)
 
 -- all calls on the berth
 abbrev pub calls_of : List Deed → List BerthCall

@@ -1,5 +1,5 @@
 -- How a proxy lane ends.
-use Rattle.std.specs.Prelude.{◌≡◌, ℕ, List, [], ◌∷◌, ◌++◌, Bool, true, false, Option, Some, None}
+use Rattle.std.specs.Prelude.{◌≡◌, ℕ, ◌/◌, List, [], ◌∷◌, ◌++◌, Bool, true, false, Option, Some, None}
 use Rattle.seat_desk.specs.History.{entry}
 use Rattle.exec_journal.specs.declared.call.Call.TheVariants as call
 use Rattle.exec_journal.specs.declared.reply.Reply.TheVariants as reply
@@ -9,7 +9,9 @@ use Rattle.run_rules.specs.Duties.{Duty, Asks, Launches, Sends, Cancels, Gathers
 use Rattle.lane_deeds.specs.declared.post.Post.{Post}
 use Rattle.lane_deeds.specs.declared.cause.Cause.{Cause}
 use Rattle.lane_deeds.specs.declared.cause.Cause.TheVariants as cause
-use Rattle.lane_deeds.specs.Deeds.{Deed, DeedOf, IsCut, Acts}
+use Rattle.run_rules.specs.Shelf.{child_at}
+use Rattle.lane_deeds.specs.Deeds.{Deed, DeedOf, IsCut, Acts, with_ends}
+use Rattle.lane_deeds.specs.Lines.{listed, unsaid_by}
 
 -- a lane that owes a Committed makes it first, and one that has left makes nothing
 abbrev pub may_halt : Duty → Bool
@@ -22,6 +24,11 @@ may_halt (Cancels l n) = true
 may_halt (Gathers l n t exit refused) = true
 may_halt (Kills l) = true
 
+-- The lines whose children a lane ends where it halts: the one that was started and that it couldn't
+-- report, and the one that is open.
+abbrev pub lines_to_end : ℕ → Cause → History → List ℕ
+lines_to_end lane by own = unsaid_by (Some by) ++ listed (child_at (lane / 2) own)
+
 module _ (post : Post) (actions : List WorkAction) where
   -- what the lane had done where it found no memory: for what it owed, or for the call by which it
   -- would have reported it
@@ -29,13 +36,13 @@ module _ (post : Post) (actions : List WorkAction) where
   HaltsBy cause.NoMemory s d = IsCut post actions s d
   HaltsBy (cause.Refused c) s d = (may_halt s ≡ true) × DeedOf post actions s c d
 
-  -- it halted, by its last entry
+  -- It halted, by its last entry. Behind what it had done it ended the lines that were left.
   pub record Halts (lane : ℕ) (by : Cause) (own : History) (deeds : List Deed) : Type 0 where
     pub before : History
     pub done : List Deed
     pub last : Deed
     pub made : own ≡ before ++ entry lane call.Halt reply.Noted ∷ []
-    pub did : deeds ≡ done ++ last ∷ []
+    pub did : deeds ≡ done ++ with_ends (lines_to_end lane by before) last ∷ []
     pub acts : Acts post actions Asks before done
     pub halts : HaltsBy by (duty_of before) last
 

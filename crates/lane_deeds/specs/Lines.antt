@@ -1,7 +1,8 @@
 -- The lines of a proxy lane: what their feeds were given, and that their children were killed.
-use Rattle.std.specs.Prelude.{◌≡◌, ℕ, ◌+◌, ◌-◌, ◌^◌, ◌≤◌, ◌==◌, min, true, if◌then◌else◌, List, [], ◌∷◌, ◌++◌, map, All, Option, Some, None, IfSome}
+use Rattle.std.specs.Prelude.{◌≡◌, ℕ, ◌+◌, ◌-◌, ◌^◌, ◌≤◌, ◌==◌, min, if◌then◌else◌, List, [], ◌∷◌, ◌++◌, map, All, Option, Some, None, IfSome}
 use Rattle.outside.specs.Lists.{Tells, Adds}
 use Rattle.outside.specs.Told.{BerthTold, SameBerth, FeedTold, ChildTold}
+use Rattle.outside.specs.declared.berth.BerthCall.TheVariants as berth
 use Rattle.exec_journal.specs.declared.call.Call.{Call}
 use Rattle.exec_journal.specs.declared.call.Call.TheVariants as call
 use Rattle.exec_journal.specs.declared.call.Started.TheVariants as start
@@ -64,9 +65,10 @@ pub record IsFed (own : History) (deeds : List Deed) (line : ℕ) (feed : FeedTo
   pub given : Tells feed.given (given_to line deeds)
   pub faults : RoseBy (feed_faults line own) 0 feed.faults
 
+-- the line's child was killed, once
 pub record IsKilled (line : ℕ) (child : ChildTold) : Type 0 where
   pub of_line : IfSome child.line (λ l. l ≡ line)
-  pub killed : IfSome child.killed (λ b. b ≡ true)
+  pub killed : IfSome child.kills (λ n. n ≡ 1)
 
 abbrev pub IsBack : History → List Deed → Back → Type 0
 IsBack own deeds x = IsFed own deeds x.line x.feed × IsKilled x.line x.child
@@ -75,6 +77,12 @@ IsBack own deeds x = IsFed own deeds x.line x.feed × IsKilled x.line x.child
 pub record IsServed (own : History) (deeds : List Deed) (old new : BerthTold) : Type 0 where
   pub log : Adds (calls_of deeds) old.log new.log
   pub faults : RoseBy (room_faults own) old.faults new.faults
+  pub same : SameBerth old new
+
+-- its End stands in the berth's log
+pub record EndsLine (line : ℕ) (old new : BerthTold) : Type 0 where
+  pub log : Adds (berth.End line ∷ []) old.log new.log
+  pub later : old.faults ≤ new.faults
   pub same : SameBerth old new
 
 abbrev pub lines_of : List Back → List ℕ

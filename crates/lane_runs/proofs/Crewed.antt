@@ -1,5 +1,8 @@
 -- The whole crew's leavings, at the plan of the core that was handed in.
-use Rattle.std.proofs.Common.{◌≡◌, ℕ, ◌+◌, ◌*◌, List, [], ◌∷◌, length, Option, ap, subst, ◌∙◌, arith}
+use Rattle.std.specs.Global.{Vec}
+use Rattle.lane_runs.specs.declared.blank.Blank.{Blank}
+use Rattle.lane_runs.specs.Blanks.{HasRoom, IsBlankFor}
+use Rattle.std.proofs.Common.{◌≡◌, ℕ, ◌+◌, ◌*◌, ◌≤◌, List, [], ◌∷◌, length, Option, ap, subst, ◌∙◌, arith}
 use Rattle.exec_journal.specs.declared.call.Call.{Call}
 use Rattle.exec_journal.specs.declared.reply.Reply.{Reply}
 use Rattle.lane_crew.specs.declared.pair.OfTwo.{OfTwo}
@@ -28,6 +31,22 @@ two_each actions w (b ∷ bs) (p ∷ ps) (First x ∷ First y ∷ lanes) are = a
 two_each actions w (b ∷ bs) (p ∷ ps) (Second x ∷ lanes) are = absurd are
 two_each actions w [] (p ∷ ps) lanes are = absurd are
 two_each actions w (b ∷ bs) [] lanes are = absurd are
+
+room_suits : {X : Type 0} (n n' : ℕ) (v : Vec X) → HasRoom n v → n' ≤ n → HasRoom n' v
+room_suits n n' v has less = record {
+  empty = has.empty;
+  room = let room = has.room in omega (arith, room, less);
+}
+
+-- room for more is room enough
+pub blank_suits : {B D T K P : Type 0} (b n a b' n' a' : ℕ) (blank : Blank B D T K P)
+    → IsBlankFor b n a blank → b' ≤ b → n' ≤ n → a' ≤ a → IsBlankFor b' n' a' blank
+blank_suits b n a b' n' a' blank has fewer_berths fewer_lines fewer_places = record {
+  berths_fit = room_suits b b' blank.berths has.berths_fit fewer_berths;
+  lines_fit = room_suits n n' blank.lines has.lines_fit fewer_lines;
+  unsaid_fit = room_suits b b' blank.unsaid has.unsaid_fit fewer_berths;
+  places_fit = room_suits a a' blank.places has.places_fit fewer_places;
+}
 
 module _ {Q B D T K P : Type 0} (legal : Q → History → Type 0) (seats : Q → ℕ)
     (rule : Q → History → ℕ → Call → Reply) (outputs : Q → ℕ → List (List ℕ)) (actions : Q → ℕ)

@@ -7,13 +7,12 @@ use Rattle.std.proofs.lemmas.List.Elements.{All-nil, All-cons, All-head, All-tai
 use Rattle.std.proofs.lemmas.List.FromFn.{get_or-range_with_len}
 use Rattle.lane_steps.specs.declared.hands.EndedFeed.{EndedFeed}
 use Rattle.tap_lane.specs.declared.ends.EndedTap.{EndedTap}
-use Rattle.line_order.specs.declared.places.Numbered.{Numbered}
-use Rattle.line_order.specs.Places.{In}
-use Rattle.line_order.proofs.Placing.{in_either}
-use Rattle.lane_runs.specs.declared.halves.BerthLines.{BerthLines}
+use Rattle.lane_runs.specs.Placed.{Numbered}
+use Rattle.ending_laws.specs.Numbers.{In}
+use Rattle.ending_laws.proofs.Ins.{in_either}
+use Rattle.lane_runs.specs.BerthHalves.{BerthLines, IsMatched, all_feed_lines, all_halves, halves_of, halves_with, taps_left}
 use Rattle.lane_runs.specs.declared.halves.EndedLine.{EndedLine}
 use Rattle.lane_runs.specs.declared.halves.Halves.{Halves}
-use Rattle.lane_runs.specs.BerthHalves.{taps_left, IsMatched, halves_with, halves_of, all_halves, all_feed_lines}
 use Rattle.lane_runs.specs.LineFacts.{OfFeed, OfTap, HasFacts, EachHasFacts, HaveFacts, LinesHaveFacts}
 use Rattle.lane_runs.specs.EndedLines.{AreLines}
 use Rattle.lane_runs.proofs.Matching.{lines_in, all_halves_lines}
@@ -68,7 +67,7 @@ module _ {D T K : Type 0} (F : ℕ → ℕ → D → K → Type 0) (G : ℕ → 
   halves_facts : (w : ℕ) (b : BerthLines D T K) → HasFacts F G w b → IsMatched b
       → All (OfBerth w) (halves_of b)
   halves_facts w b h m =
-      zipped_halves w b.feeds.items b.taps.items b.shelved m.more m.lines h.feeds h.taps h.shelved
+      zipped_halves w b.feeds b.taps b.shelved m.more m.lines h.feeds h.taps h.shelved
 
   -- ---- all berths
 
@@ -139,8 +138,8 @@ module _ {D K : Type 0} where
 
 -- what holds of the lines that a berth has beyond those of its taps holds of those feeds
 pub of_more : {D T K : Type 0} (P : ℕ → Type 0) (b : BerthLines D T K) (m : IsMatched b)
-    → All P m.more → All (λ x. P x.line) (drop (length b.taps.items) b.feeds.items)
-of_more P b m all = behind_taps P b.feeds.items b.taps.items m.more m.lines all
+    → All P m.more → All (λ x. P x.line) (drop (length b.taps) b.feeds)
+of_more P b m all = behind_taps P b.feeds b.taps m.more m.lines all
 
 -- ---- what is there whatever is known
 

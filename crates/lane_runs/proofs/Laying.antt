@@ -1,43 +1,42 @@
 -- The history and its journal, and slots in each of which something lies.
-use Rattle.std.proofs.Common.{◌≡◌, ℕ, suc, Bool, true, false, cond, List, [], ◌∷◌, ◌++◌, length, map, filter, take, get_or, ◌+◌, ◌<◌, count_by, is_some, Option, Some, None, refl, sym, ap, subst, ◌∙◌}
-use Rattle.std.specs.Prelude.{◌||◌}
+use Rattle.std.proofs.Common.{◌≡◌, ℕ, Bool, true, false, List, [], ◌∷◌, ◌++◌, length, map, filter, take, get_or, replicate, ◌+◌, ◌<◌, count_by, is_some, Option, Some, None, refl, sym, ap, subst, ◌∙◌}
 use Rattle.std.specs.List.{list_any}
 use Rattle.std.proofs.lemmas.List.Sums.{length-filter, count_by_more_yes, count_by_more_no}
-use Rattle.exec_journal.specs.declared.journal.Entry.{Entry}
+use Rattle.exec_journal.specs.Entry.{Entry}
 use Rattle.exec_journal.specs.Entries.{is_halt, launch_in}
-use Rattle.run_rules.specs.Moves.{Past, History}
+use Rattle.run_rules.specs.Moves.{History}
 use Rattle.run_rules.specs.Laws.{lines_in}
-use Rattle.script_duties.specs.Owed.{to_entry}
-use Rattle.lane_runs.specs.Layout.{AllThere, has_halt, orders_line, tells_halt}
+use Rattle.ending_laws.specs.Numbers.{Distinct}
+use Rattle.lane_runs.specs.declared.halves.EndedLine.{EndedLine}
+use Rattle.lane_runs.specs.BerthHalves.{BerthLines, all_halves}
+use Rattle.lane_runs.specs.Layout.{AllThere, AreFit, has_halt, orders_line, tells_halt}
+use Rattle.lane_runs.specs.Placed.{IsPlaced, placed_all}
+use Rattle.lane_runs.proofs.Matching.{all_halves_lines, all_lines, halves_at}
+use Rattle.lane_runs.proofs.Placing.{placed}
 
-one_more : {X Y : Type 0} (b : Bool) (x : X) (xs : List X) (y : Y) (ys : List Y)
-    → length xs ≡ length ys → length (cond b (x ∷ xs) xs) ≡ length (cond b (y ∷ ys) ys)
-one_more true x xs y ys e = ap suc e
-one_more false x xs y ys e = e
-
-as_many : (h : History)
-    → length (filter (λ (e : Entry). is_some (launch_in e.reply)) (map to_entry h)) ≡ lines_in h
-as_many [] = refl
-as_many (e ∷ h) =
-    one_more (is_some (launch_in e.reply)) (to_entry e)
-    (filter (λ (x : Entry). is_some (launch_in x.reply)) (map to_entry h)) e
-    (filter (λ (x : Past). is_some (launch_in x.reply)) h) (as_many h)
-
-pub lines_counted : (h : History) (j : List Entry) (n : ℕ) → j ≡ map to_entry h
+pub lines_counted : (h : History) (j : List Entry) (n : ℕ) → j ≡ h
     → n ≡ count_by orders_line j → n ≡ lines_in h
 lines_counted h j n e f =
     f ∙ (sym (length-filter (λ (x : Entry). is_some (launch_in x.reply)) j)
-    ∙ (ap (λ (l : List Entry). length (filter (λ (x : Entry). is_some (launch_in x.reply)) l)) e
-    ∙ as_many h))
+    ∙ ap (λ (l : List Entry). length (filter (λ (x : Entry). is_some (launch_in x.reply)) l)) e)
 
-any_halt : (h : History) → list_any (λ (e : Entry). is_halt e.call) (map to_entry h) ≡ has_halt h
-any_halt [] = refl
-any_halt (e ∷ h) = ap (λ (b : Bool). is_halt e.call || b) (any_halt h)
-
-pub halts_told : (h : History) (j : List Entry) (b : Bool) → j ≡ map to_entry h
+pub halts_told : (h : History) (j : List Entry) (b : Bool) → j ≡ h
     → b ≡ list_any tells_halt j → b ≡ has_halt h
-halts_told h j b e f =
-    f ∙ (ap (λ (l : List Entry). list_any (λ (x : Entry). is_halt x.call) l) e ∙ any_halt h)
+halts_told h j b e f = f ∙ ap (λ (l : List Entry). list_any (λ (x : Entry). is_halt x.call) l) e
+
+-- ---- lines
+
+module _ {D T K : Type 0} where
+  -- lines of which nothing was known, once the halves of all berths were put at their numbers
+  pub lines_placed : (n : ℕ) (lefts : List (BerthLines D T K)) (before lines : List (EndedLine D T K))
+      → AreFit n lefts → halves_at before ≡ replicate n None
+      → halves_at lines ≡ placed_all (halves_at before) (all_halves lefts)
+      → IsPlaced n (all_halves lefts) (halves_at lines)
+  lines_placed n lefts before lines fit none put =
+      let matched = fit.inside.matched in
+      rw (put, none)
+      (placed n (all_halves lefts) (subst Distinct (sym (all_halves_lines lefts matched)) fit.distinct)
+      (all_lines (λ l. l < n) lefts matched fit.inside.below))
 
 -- ---- slots
 

@@ -9,7 +9,7 @@ use Rattle.lane_crew.specs.declared.pair.OfTwo.{OfTwo}
 use Rattle.lane_crew.specs.declared.pair.OfTwo.TheVariants.{First, Second}
 use Rattle.outside.specs.Told.{BerthTold, FeedTold, TapTold, ChildTold}
 use Rattle.remote_messages.specs.declared.work.WorkAction.{WorkAction}
-use Rattle.line_order.specs.Berths.{concat}
+use Rattle.ending_laws.specs.Numbers.{concat}
 use Rattle.run_rules.specs.Moves.{History}
 use Rattle.run_rules.specs.Duties.{proxy_lane}
 use Rattle.run_rules.specs.Laws.{tap_lane}
@@ -17,7 +17,7 @@ use Rattle.run_rules.specs.Shelf.{tap_at}
 use Rattle.run_bench.specs.Bench.{IsOf, IsTapOf}
 use Rattle.lane_deeds.specs.declared.post.Post.{Post}
 use Rattle.lane_deeds.specs.declared.cause.Cause.{Cause}
-use Rattle.lane_deeds.specs.Lines.{Back, lines_of, listed}
+use Rattle.lane_deeds.specs.Lines.{lines_of, listed}
 use Rattle.lane_steps.specs.declared.hands.EndedFeed.{EndedFeed}
 use Rattle.lane_steps.specs.Lanes.{back_of}
 use Rattle.lane_steps.specs.Steps.{Ended}
@@ -28,30 +28,31 @@ use Rattle.tap_lane.specs.Lane.{LaneEnds}
 use Rattle.berth_lanes.specs.declared.proxies.ProxyLeft.{ProxyLeft}
 use Rattle.berth_lanes.specs.declared.taps.TapLeft.{TapLeft}
 use Rattle.berth_lanes.specs.Ran.{BerthRan, EachBerthRan}
-use Rattle.lane_runs.specs.declared.halves.BerthLines.{BerthLines}
-use Rattle.lane_runs.specs.BerthHalves.{IsMatched, feed_lines, all_feed_lines}
+use Rattle.lane_runs.specs.BerthHalves.{BerthLines, IsMatched, all_feed_lines, feed_lines}
 use Rattle.ending_laws.specs.Taps.{started_at, taken_in}
 use Rattle.ending_laws.specs.Lines.{started_from}
 use Rattle.ending_laws.specs.Lanes.{TakenAreTapped}
-use Rattle.lane_runs.specs.Apart.{Alternate, Apart, lines_left}
+use Rattle.lane_runs.specs.Apart.{Alternate, lines_left, berths_of, lefts_of, unsaid_of}
 
--- a berth by what it goes by, the berth before and after, and what is left of its lines
+-- a berth by what it goes by, the berth before and after, what is left of its lines, and the line that
+-- wasn't reported
 pub record Seen (B D T K : Type 0) : Type 0 where
   pub post : Post
   pub old : B
   pub new : B
   pub left : BerthLines D T K
+  pub unsaid : Option (EndedFeed D K)
 
 module _ {B D T K : Type 0} (berth : B → BerthTold) (feed : D → FeedTold) (tap : T → TapTold)
     (child : K → ChildTold) (rule : History → ℕ → Call → Reply) (actions : List WorkAction)
     (h : History) where
   pub record BerthLeft (w : ℕ) (s : Seen B D T K) : Type 0 where
-    pub unsaid : Option Back
     pub halted : Option Cause
     pub want : Option Want
     pub served : Ended s.post actions rule (proxy_lane w) (calls_by (proxy_lane w) h) h
-        (berth s.old) (berth s.new) (map (back_of feed child) s.left.feeds.items) unsaid halted
-    pub told : LaneEnds s.post.speech (tap_lane w) want (map (back_by tap) s.left.taps.items)
+        (berth s.old) (berth s.new) (map (back_of feed child) s.left.feeds)
+        (option_map (back_of feed child) s.unsaid) halted
+    pub told : LaneEnds s.post.speech (tap_lane w) want (map (back_by tap) s.left.taps)
         (calls_by (tap_lane w) h)
     pub slot : IsOf (IsTapOf tap) (tap_at w h) s.left.shelved
 
@@ -76,69 +77,63 @@ module _ {B D T K : Type 0} (berth : B → BerthTold) (feed : D → FeedTold) (t
   )
 
   -- the berths that were seen, by these lists
-  pub record Gathered (w : ℕ) (posts : List Post) (olds news : List B)
-      (lines : List (BerthLines D T K)) : Type 0 where
+  pub record Gathered (w : ℕ) (posts : List Post) (olds : List B) (slots : List (Option T))
+      (ends : List (OfTwo (ProxyLeft B D K) (TapLeft T))) : Type 0 where
     pub seen : List (Seen B D T K)
     pub each : EachLeft w seen
     pub posts_are : posts ≡ map (λ (s : Seen B D T K). s.post) seen
     pub olds_are : olds ≡ map (λ (s : Seen B D T K). s.old) seen
-    pub news_are : news ≡ map (λ (s : Seen B D T K). s.new) seen
-    pub lines_are : lines ≡ map (λ (s : Seen B D T K). s.left) seen
-
-  one_left : (w : ℕ) (b n : B) (p : Post) (x : ProxyLeft B D K) (y : TapLeft T) (s : Option T)
-      (l : BerthLines D T K) → BerthRan berth feed tap child rule actions h w p b x y
-      → IsOf (IsTapOf tap) (tap_at w h) s → n ≡ x.berth → l ≡ lines_left x y s
-      → BerthLeft w (record { post = p; old = b; new = n; left = l })
-  one_left w b n p x y s l ran slot e f =
-      subst (λ (m : B). BerthLeft w (record { post = p; old = b; new = m; left = l })) (sym e)
-      (subst (λ (k : BerthLines D T K). BerthLeft w (record { post = p; old = b; new = x.berth; left = k }))
-      (sym f) (record {
-        unsaid = option_map (back_of feed child) x.unsaid;
-        halted = x.halted;
-        want = y.halted;
-        served = ran.served;
-        told = ran.told;
-        slot = slot;
-      }))
+    pub news_are : berths_of slots ends ≡ map (λ (s : Seen B D T K). s.new) seen
+    pub lines_are : lefts_of slots ends ≡ map (λ (s : Seen B D T K). s.left) seen
+    pub unsaid_are : unsaid_of slots ends ≡ map (λ (s : Seen B D T K). s.unsaid) seen
 
   pub gather : (w : ℕ) (olds : List B) (posts : List Post)
-      (ends : List (OfTwo (ProxyLeft B D K) (TapLeft T))) (slots : List (Option T)) (news : List B)
-      (lines : List (BerthLines D T K)) → EachBerthRan berth feed tap child rule actions h w olds posts ends
-      → SlotsFrom w slots → length slots ≡ length posts → Apart ends slots news lines
-      → Gathered w posts olds news lines
-  gather w [] [] ends [] news lines ran sl eq apart = record {
+      (ends : List (OfTwo (ProxyLeft B D K) (TapLeft T))) (slots : List (Option T))
+      → EachBerthRan berth feed tap child rule actions h w olds posts ends
+      → SlotsFrom w slots → length slots ≡ length posts → Gathered w posts olds slots ends
+  gather w [] [] ends [] ran sl eq = record {
     seen = [];
     each = tt;
     posts_are = refl;
     olds_are = refl;
-    news_are = apart.0;
-    lines_are = apart.1;
+    news_are = refl;
+    lines_are = refl;
+    unsaid_are = refl;
   }
-  gather w [] [] ends (s ∷ slots) news lines ran sl eq apart = absurd (omega (arith, eq))
-  gather w (b ∷ bs) (p ∷ ps) (First x ∷ Second y ∷ ends) (s ∷ slots) (n ∷ news) (l ∷ lines) ran sl eq apart =
-      let rest = gather (w + 1) bs ps ends slots news lines ran.1 sl.1 (omega (arith, eq)) apart.2 in
+  gather w [] [] ends (s ∷ slots) ran sl eq = absurd (omega (arith, eq))
+  gather w (b ∷ bs) (p ∷ ps) (First x ∷ Second y ∷ ends) (s ∷ slots) ran sl eq =
+      let rest = gather (w + 1) bs ps ends slots ran.1 sl.1 (omega (arith, eq)) in
+      let here : Seen B D T K = record {
+        post = p;
+        old = b;
+        new = x.berth;
+        left = lines_left x y s;
+        unsaid = x.unsaid;
+      } in
       record {
-        seen = record { post = p; old = b; new = n; left = l } ∷ rest.seen;
-        each = (one_left w b n p x y s l ran.0 sl.0 apart.0 apart.1, rest.each);
+        seen = here ∷ rest.seen;
+        each = (
+          record { halted = x.halted; want = y.halted; served = ran.0.served; told = ran.0.told; slot = sl.0 },
+          rest.each,
+        );
         posts_are = ap (λ (z : List Post). p ∷ z) rest.posts_are;
         olds_are = ap (λ (z : List B). b ∷ z) rest.olds_are;
-        news_are = ap (λ (z : List B). n ∷ z) rest.news_are;
-        lines_are = ap (λ (z : List (BerthLines D T K)). l ∷ z) rest.lines_are;
+        news_are = ap (λ (z : List B). x.berth ∷ z) rest.news_are;
+        lines_are = ap (λ (z : List (BerthLines D T K)). lines_left x y s ∷ z) rest.lines_are;
+        unsaid_are = ap (λ (z : List (Option (EndedFeed D K))). x.unsaid ∷ z) rest.unsaid_are;
       }
-  gather w (b ∷ bs) (p ∷ ps) (First x ∷ Second y ∷ ends) [] news lines ran sl eq apart = absurd (omega (arith, eq))
-  gather w (b ∷ bs) (p ∷ ps) (First x ∷ Second y ∷ ends) (s ∷ slots) [] lines ran sl eq apart = absurd apart
-  gather w (b ∷ bs) (p ∷ ps) (First x ∷ Second y ∷ ends) (s ∷ slots) (n ∷ news) [] ran sl eq apart = absurd apart
-  gather w (b ∷ bs) (p ∷ ps) [] slots news lines ran sl eq apart = absurd ran
-  gather w (b ∷ bs) (p ∷ ps) (First x ∷ []) slots news lines ran sl eq apart = absurd ran
-  gather w (b ∷ bs) (p ∷ ps) (First x ∷ First y ∷ ends) slots news lines ran sl eq apart = absurd ran
-  gather w (b ∷ bs) (p ∷ ps) (Second x ∷ ends) slots news lines ran sl eq apart = absurd ran
-  gather w [] (p ∷ ps) ends slots news lines ran sl eq apart = absurd ran
-  gather w (b ∷ bs) [] ends slots news lines ran sl eq apart = absurd ran
+  gather w (b ∷ bs) (p ∷ ps) (First x ∷ Second y ∷ ends) [] ran sl eq = absurd (omega (arith, eq))
+  gather w (b ∷ bs) (p ∷ ps) [] slots ran sl eq = absurd ran
+  gather w (b ∷ bs) (p ∷ ps) (First x ∷ []) slots ran sl eq = absurd ran
+  gather w (b ∷ bs) (p ∷ ps) (First x ∷ First y ∷ ends) slots ran sl eq = absurd ran
+  gather w (b ∷ bs) (p ∷ ps) (Second x ∷ ends) slots ran sl eq = absurd ran
+  gather w [] (p ∷ ps) ends slots ran sl eq = absurd ran
+  gather w (b ∷ bs) [] ends slots ran sl eq = absurd ran
 
   pub alternate : (w : ℕ) (olds : List B) (posts : List Post)
       (ends : List (OfTwo (ProxyLeft B D K) (TapLeft T))) (slots : List (Option T))
       → EachBerthRan berth feed tap child rule actions h w olds posts ends
-      → length slots ≡ length posts → Alternate ends slots
+      → length slots ≡ length posts → Alternate slots ends
   alternate w [] [] ends [] ran eq = ran
   alternate w [] [] ends (s ∷ slots) ran eq = absurd (omega (arith, eq))
   alternate w (b ∷ bs) (p ∷ ps) (First x ∷ Second y ∷ ends) (s ∷ slots) ran eq =
@@ -165,7 +160,7 @@ module _ {B D T K : Type 0} (berth : B → BerthTold) (feed : D → FeedTold) (t
 
   pub feeds_are_started : (w : ℕ) (s : Seen B D T K) → BerthLeft w s
       → feed_lines s.left ≡ started_at w h
-  feeds_are_started w s x = sym (feeds_of_backs s.left.feeds.items) ∙ x.served.lines.lines
+  feeds_are_started w s x = sym (feeds_of_backs s.left.feeds) ∙ x.served.lines.lines
 
   pub as_many_slots : (o : Option ℕ) (s : Option T) → IsOf (IsTapOf tap) o s
       → length (listed o) ≡ length (option_to_list s)
@@ -182,8 +177,8 @@ module _ {B D T K : Type 0} (berth : B → BerthTold) (feed : D → FeedTold) (t
     lines = feeds_are_started w s x
         ∙ (tapped
         ∙ ap (λ (ls : List ℕ). ls ++ listed (tap_at w h))
-        (taken s.post.speech (tap_lane w) x.want (map (back_by tap) s.left.taps.items)
-        (calls_by (tap_lane w) h) x.told ∙ taps_of_backs s.left.taps.items));
+        (taken s.post.speech (tap_lane w) x.want (map (back_by tap) s.left.taps)
+        (calls_by (tap_lane w) h) x.told ∙ taps_of_backs s.left.taps));
     as_many = as_many_slots (tap_at w h) s.left.shelved x.slot;
   }
 

@@ -6,3 +6,4 @@ mod Whole
 mod Crewed
 mod FactsAt
 mod Matching
+mod Placing

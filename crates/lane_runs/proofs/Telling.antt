@@ -14,9 +14,9 @@ use Rattle.remote_messages.specs.declared.work.WorkAction.{WorkAction}
 use Rattle.run_plan.specs.declared.plan.Speech.{Speech}
 use Rattle.run_plan.specs.declared.plan.Speech.TheVariants as speech
 use Rattle.answer_reader.specs.Says.{SaysFirst}
-use Rattle.line_order.specs.declared.places.Numbered.{Numbered}
-use Rattle.line_order.specs.Places.{In}
-use Rattle.line_order.proofs.Placing.{in_front, in_back}
+use Rattle.lane_runs.specs.Placed.{Numbered}
+use Rattle.ending_laws.specs.Numbers.{In}
+use Rattle.ending_laws.proofs.Ins.{in_front, in_back}
 use Rattle.run_rules.specs.Moves.{History}
 use Rattle.run_rules.specs.Shelf.{tap_at}
 use Rattle.run_rules.specs.Duties.{proxy_lane}
@@ -128,11 +128,11 @@ module _ {B D T K : Type 0} (berth : B → BerthTold) (feed : D → FeedTold) (t
       → ((l : ℕ) → tap_at w h ≡ Some l → (said_on l h ≡ []) × (end_on l h ≡ None))
       → HasFacts OfStarted (Heard posts) w s.left
   facts posts w s x m is more says silent = record {
-    feeds = all_started w s.left.feeds.items (started_at w h)
+    feeds = all_started w s.left.feeds (started_at w h)
         (λ l i. subst (λ (ls : List ℕ). In l ls)
         (feeds_are_started berth feed tap child rule actions h w s x) i);
-    taps = all_heard posts w s.post is s.left.taps.items
-        (says (map (back_by tap) s.left.taps.items) x.want s.post.speech (tap_lane w) x.told);
+    taps = all_heard posts w s.post is s.left.taps
+        (says (map (back_by tap) s.left.taps) x.want s.post.speech (tap_lane w) x.told);
     shelved = if_some s.left.shelved
         (shelved_heard posts w s.post is (tap_at w h) s.left.shelved x.slot silent)
         (λ t all. of_more (λ l. Heard posts w l t) s.left m
@@ -209,20 +209,20 @@ module _ {B D T K : Type 0} (berth : B → BerthTold) (feed : D → FeedTold) (t
       → BerthLeft berth feed tap child rule actions h w s → IsMatched s.left
       → ((y : Numbered (Halves D T K)) → In y (halves_of s.left) → line_at toldl y.line ≡ Some (tell feed tap child y.thing))
       → Room rule actions h toldl w s.post (berth s.old) (berth s.new)
+      (option_map (back_of feed child) s.unsaid)
   room toldl w s x m at =
       let many = as_many_taps s.left m in
       let started : map (λ (y : Numbered (Halves D T K)). y.line) (halves_of s.left) ≡ started_at w h =
-      zipped_lines s.left.feeds.items (taps_left s.left.taps.items s.left.shelved) many
+      zipped_lines s.left.feeds (taps_left s.left.taps s.left.shelved) many
       ∙ feeds_are_started berth feed tap child rule actions h w s x in
-      let backs : map (back_of feed child) s.left.feeds.items ≡ backs_at toldl (started_at w h) =
-      sym (zipped_backs s.left.feeds.items (taps_left s.left.taps.items s.left.shelved) many)
+      let backs : map (back_of feed child) s.left.feeds ≡ backs_at toldl (started_at w h) =
+      sym (zipped_backs s.left.feeds (taps_left s.left.taps s.left.shelved) many)
       ∙ (sym (backs_stand toldl (halves_of s.left) at)
       ∙ ap (backs_at toldl) started) in
       record {
         halted = x.halted;
-        unsaid = x.unsaid;
         lane = subst (λ (bs : List deeds.Back). Ended s.post actions rule (proxy_lane w)
-            (calls_by (proxy_lane w) h) h (berth s.old) (berth s.new) bs x.unsaid x.halted) backs x.served;
+            (calls_by (proxy_lane w) h) h (berth s.old) (berth s.new) bs (option_map (back_of feed child) s.unsaid) x.halted) backs x.served;
       }
 
   pub rooms : (toldl : List EndTold) (w : ℕ) (seen : List (Seen B D T K))
@@ -234,6 +234,7 @@ module _ {B D T K : Type 0} (berth : B → BerthTold) (feed : D → FeedTold) (t
       → Rooms rule actions h toldl w (map (λ (s : Seen B D T K). s.post) seen)
       (map berth (map (λ (s : Seen B D T K). s.old) seen))
       (map berth (map (λ (s : Seen B D T K). s.new) seen))
+      (map (option_map (back_of feed child)) (map (λ (s : Seen B D T K). s.unsaid) seen))
   rooms toldl w [] each tapped taken at = tt
   rooms toldl w (s ∷ ss) each tapped taken at = (
     room toldl w s each.0 (matched berth feed tap child rule actions h w s each.0 (tapped w) taken)
@@ -276,7 +277,7 @@ module _ {B D T K : Type 0} (berth : B → BerthTold) (feed : D → FeedTold) (t
   all_stopped ht by left w (s ∷ ss) each none zero lt =
       subst (λ (v : ℕ). AreStopped h v) (let e : w ≡ w + 0 = omega arith in e) (
         proxy_stopped ht by left (proxy_lane w) s.post each.0.halted each.0.served.deeds none each.0.served.ends,
-        tap_stopped ht by (tap_lane w) s.post.speech each.0.want (map (back_by tap) s.left.taps.items) none each.0.told,
+        tap_stopped ht by (tap_lane w) s.post.speech each.0.want (map (back_by tap) s.left.taps) none each.0.told,
       )
   all_stopped ht by left w (s ∷ ss) each none (suc i) lt =
       subst (λ (v : ℕ). AreStopped h v) (let e : w + 1 + i ≡ w + suc i = omega arith in e)

@@ -11,9 +11,9 @@ use Rattle.remote_messages.specs.declared.work.WorkAction.{WorkAction}
 use Rattle.lane_crew.specs.declared.pair.OfTwo.{OfTwo}
 use Rattle.lane_crew.specs.declared.pair.OfTwo.TheVariants.{First, Second}
 use Rattle.ending_laws.specs.Lanes.{EndedHaveLeft}
-use Rattle.line_order.specs.declared.places.Numbered.{Numbered}
-use Rattle.line_order.specs.Places.{In, Distinct}
-use Rattle.line_order.specs.Berths.{concat}
+use Rattle.lane_runs.specs.Placed.{Numbered}
+use Rattle.ending_laws.specs.Numbers.{In, Distinct}
+use Rattle.ending_laws.specs.Numbers.{concat}
 use Rattle.run_rules.specs.Moves.{History}
 use Rattle.run_rules.specs.Shelf.{Spot, Fresh, Away, Back, tap_at, place_at}
 use Rattle.run_rules.specs.Duties.{proxy_lane}
@@ -21,13 +21,14 @@ use Rattle.run_rules.specs.Laws.{tap_lane, lines_in}
 use Rattle.run_bench.specs.Bench.{IsOf, IsTapOf, IsInSpot, IsPlaceOf, TapsLie, PlacesLie}
 use Rattle.run_bench.specs.Objects.{IsPlaceAt}
 use Rattle.lane_deeds.specs.declared.post.Post.{Post}
+use Rattle.lane_steps.specs.declared.hands.EndedFeed.{EndedFeed}
+use Rattle.lane_steps.specs.Lanes.{back_of}
 use Rattle.berth_lanes.specs.declared.proxies.ProxyLeft.{ProxyLeft}
 use Rattle.berth_lanes.specs.declared.taps.TapLeft.{TapLeft}
 use Rattle.berth_lanes.specs.Ran.{EachBerthRan}
-use Rattle.lane_runs.specs.declared.halves.BerthLines.{BerthLines}
+use Rattle.lane_runs.specs.BerthHalves.{BerthLines, IsMatched, all_feed_lines, all_halves}
 use Rattle.lane_runs.specs.declared.halves.EndedLine.{EndedLine}
 use Rattle.lane_runs.specs.declared.halves.Halves.{Halves}
-use Rattle.lane_runs.specs.BerthHalves.{IsMatched, all_halves, all_feed_lines}
 use Rattle.lane_runs.specs.EndedLines as ended
 use Rattle.lane_runs.proofs.FactsAt.{facts_at}
 use Rattle.ending_laws.specs.Lines.{started_from}
@@ -39,9 +40,9 @@ use Rattle.tap_lane.specs.declared.ends.Want.{Want}
 use Rattle.tap_lane.specs.Lane.{LaneEnds}
 use Rattle.run_plan.specs.declared.plan.Speech.{Speech}
 use Rattle.lane_runs.specs.declared.layout.Laid.{Laid}
-use Rattle.lane_runs.specs.Apart.{Alternate, Apart}
+use Rattle.lane_runs.specs.Apart.{Alternate, lefts_of}
 use Rattle.lane_runs.specs.Laws.{HistoryLaws}
-use Rattle.lane_runs.specs.Layout.{AllThere, MayLay, IsLaid}
+use Rattle.lane_runs.specs.Layout.{AllThere, AreFit, IsLaid}
 use Rattle.lane_runs.specs.Runs.{EndTold, end_of, line_at, laid_told, Pipe, Outs, Rooms, AreStopped, HasRun}
 use Rattle.lane_runs.proofs.Leaving.{Seen, Gathered, SlotsFrom, slots_from, gather, alternate, all_matched, all_started}
 use Rattle.lane_runs.proofs.Telling as telling
@@ -167,19 +168,15 @@ module _ {Q B D T K P : Type 0} (legal : Q → History → Type 0) (seats : Q �
   as_many : length slots ≡ length posts
   as_many = lie.as_many ∙ sym many
 
-  pub in_turn : Alternate ends slots
+  pub in_turn : Alternate slots ends
   in_turn = alternate berth feed tap child (rule q) work h 0 olds posts ends slots ran as_many
 
-  gathered : (news : List B) (lines : List (BerthLines D T K)) → Apart ends slots news lines
-      → Gathered berth feed tap child (rule q) work h 0 posts olds news lines
-  gathered news lines apart =
-      gather berth feed tap child (rule q) work h 0 olds posts ends slots news lines ran in_slots
-      as_many apart
+  gathered : Gathered berth feed tap child (rule q) work h 0 posts olds slots ends
+  gathered = gather berth feed tap child (rule q) work h 0 olds posts ends slots ran in_slots as_many
 
-  as_many_seen : (news : List B) (lines : List (BerthLines D T K))
-      (g : Gathered berth feed tap child (rule q) work h 0 posts olds news lines)
+  as_many_seen : (g : Gathered berth feed tap child (rule q) work h 0 posts olds slots ends)
       → length g.seen ≡ seats q
-  as_many_seen news lines g =
+  as_many_seen g =
       sym (length-map g.seen (λ (s : Seen B D T K). s.post)) ∙ (sym (ap length g.posts_are) ∙ many)
 
   tapped : (v : ℕ) → started_at v h ≡ taken_in (calls_by (tap_lane v) h) ++ listed (tap_at v h)
@@ -192,20 +189,22 @@ module _ {Q B D T K P : Type 0} (legal : Q → History → Type 0) (seats : Q �
   silent : (v l : ℕ) → tap_at v h ≡ Some l → (said_on l h ≡ []) × (end_on l h ≡ None)
   silent v l at = laws.silent q h l good (laws.untaken q h v l good at)
 
-  pub may_lay : MayLay (lines_in h) ends slots
-  may_lay news lines apart =
-      let g = gathered news lines apart in
+  pub are_fit : AreFit (lines_in h) (lefts_of slots ends)
+  are_fit =
+      let g = gathered in
       let apart_all = laws.apart q h good in
-      let started : all_feed_lines lines ≡ concat (started_from h 0 (seats q)) =
+      let started : all_feed_lines (lefts_of slots ends) ≡ concat (started_from h 0 (seats q)) =
       ap all_feed_lines g.lines_are
       ∙ (all_started berth feed tap child (rule q) work h 0 g.seen g.each
-      ∙ ap (λ (n : ℕ). concat (started_from h 0 n)) (as_many_seen news lines g)) in
+      ∙ ap (λ (n : ℕ). concat (started_from h 0 n)) (as_many_seen g)) in
       record {
-        matched = subst (λ (ls : List (BerthLines D T K)). All IsMatched ls) (sym g.lines_are)
-            (all_matched berth feed tap child (rule q) work h 0 g.seen g.each
-            tapped laws.taken);
+        inside = record {
+          matched = subst (λ (ls : List (BerthLines D T K)). All IsMatched ls) (sym g.lines_are)
+              (all_matched berth feed tap child (rule q) work h 0 g.seen g.each
+              tapped laws.taken);
+          below = subst (λ (ls : List ℕ). All (λ l. l < lines_in h) ls) (sym started) apart_all.all_below;
+        };
         distinct = subst (λ (ls : List ℕ). Distinct ls) (sym started) apart_all.all_once;
-        below = subst (λ (ls : List ℕ). All (λ l. l < lines_in h) ls) (sym started) apart_all.all_below;
       }
 
   -- all places lie there, as the proxy lanes have left
@@ -223,8 +222,8 @@ module _ {Q B D T K P : Type 0} (legal : Q → History → Type 0) (seats : Q �
       → HasRun (legal q) (rule q) (outputs q) (actions q) posts work (map berth olds)
       (laid_told berth feed tap child place laid)
   has_run places laid lying is =
-      let g = gathered laid.berths.items is.left is.apart in
-      let fit = may_lay laid.berths.items is.left is.apart in
+      let g = gathered in
+      let fit = are_fit in
       let seen = g.seen in
       let lefts : List (BerthLines D T K) = map (λ (s : Seen B D T K). s.left) seen in
       let toldl : List EndTold = map (end_of feed tap child) laid.lines.items in
@@ -232,7 +231,7 @@ module _ {Q B D T K P : Type 0} (legal : Q → History → Type 0) (seats : Q �
       (λ i p e. subst (λ (v : ℕ). slice_get posts v ≡ Some p) (let z : i ≡ 0 + i = omega arith in z)
       (ap (λ (l : List Post). slice_get l i) g.posts_are ∙ e))
       tapped laws.taken said silent in
-      let matched_all : All IsMatched lefts = subst (λ (ls : List (BerthLines D T K)). All IsMatched ls) g.lines_are fit.matched in
+      let matched_all : All IsMatched lefts = subst (λ (ls : List (BerthLines D T K)). All IsMatched ls) g.lines_are fit.inside.matched in
       let are = subst (λ (ls : List (BerthLines D T K)). ended.AreLines (lines_in h) ls laid.lines.items) g.lines_are is.lines in
       let at : (y : Numbered (Halves D T K)) → In y (all_halves lefts)
       → line_at toldl y.line ≡ Some (telling.tell feed tap child y.thing) = λ y i. telling.line_tells berth feed tap child (rule q) work h laid.lines.items y.line
@@ -241,14 +240,21 @@ module _ {Q B D T K P : Type 0} (legal : Q → History → Type 0) (seats : Q �
         history = h;
         in_journal = is.journal;
         is_legal = good;
-        rooms = subst (λ (ps : List Post). Rooms (rule q) work h toldl 0 ps (map berth olds) (map berth laid.berths.items))
+        rooms = subst (λ (ps : List Post). Rooms (rule q) work h toldl 0 ps (map berth olds) (map berth laid.berths.items)
+            (map (option_map (back_of feed child)) laid.unsaid.items))
             (sym g.posts_are)
-            (subst (λ (os : List B). Rooms (rule q) work h toldl 0 (map (λ (s : Seen B D T K). s.post) seen) (map berth os) (map berth laid.berths.items))
+            (subst (λ (os : List B). Rooms (rule q) work h toldl 0 (map (λ (s : Seen B D T K). s.post) seen) (map berth os)
+            (map berth laid.berths.items) (map (option_map (back_of feed child)) laid.unsaid.items))
             (sym g.olds_are)
             (subst (λ (ns : List B). Rooms (rule q) work h toldl 0 (map (λ (s : Seen B D T K). s.post) seen)
-            (map berth (map (λ (s : Seen B D T K). s.old) seen)) (map berth ns))
-            (sym g.news_are)
-            (telling.rooms berth feed tap child (rule q) work h toldl 0 seen g.each tapped laws.taken at)));
+            (map berth (map (λ (s : Seen B D T K). s.old) seen)) (map berth ns)
+            (map (option_map (back_of feed child)) laid.unsaid.items))
+            (sym (is.berths ∙ g.news_are))
+            (subst (λ (us : List (Option (EndedFeed D K))). Rooms (rule q) work h toldl 0
+            (map (λ (s : Seen B D T K). s.post) seen) (map berth (map (λ (s : Seen B D T K). s.old) seen))
+            (map berth (map (λ (s : Seen B D T K). s.new) seen)) (map (option_map (back_of feed child)) us))
+            (sym (is.unsaid ∙ g.unsaid_are))
+            (telling.rooms berth feed tap child (rule q) work h toldl 0 seen g.each tapped laws.taken at))));
         pipes = record {
           numbers = numbers_told feed tap child laid.lines.items ∙ is.lines.numbers;
           each = λ l t e.
@@ -269,7 +275,7 @@ module _ {Q B D T K P : Type 0} (legal : Q → History → Type 0) (seats : Q �
         outs = outs place (outputs q) h (actions q) places laid.places.items lying is.places;
         halts = is.halts;
         stops = λ none w lt.
-            let seen_many = as_many_seen laid.berths.items is.left g in
+            let seen_many = as_many_seen g in
             subst (λ (v : ℕ). AreStopped h v) (let z : 0 + w ≡ w = omega arith in z)
             (telling.all_stopped berth feed tap child (rule q) work h laws.halts laws.by_lanes laws.left 0
             seen g.each none w (omega (arith, lt, many, seen_many)));

@@ -1,10 +1,9 @@
 -- The lines of a run, with what the berths have of them.
 use Rattle.std.specs.Prelude.{◌≡◌, ℕ, List, map}
 use Rattle.std.specs.List.{range_with_len}
-use Rattle.line_order.specs.Places.{IsPlaced}
-use Rattle.lane_runs.specs.declared.halves.BerthLines.{BerthLines}
+use Rattle.lane_runs.specs.Placed.{IsPlaced}
+use Rattle.lane_runs.specs.BerthHalves.{BerthLines, all_halves}
 use Rattle.lane_runs.specs.declared.halves.EndedLine.{EndedLine}
-use Rattle.lane_runs.specs.BerthHalves.{all_halves}
 
 -- there are so many lines, numbered from 0 in order, and each has the halves that a berth has of
 -- it, and none where no berth has any

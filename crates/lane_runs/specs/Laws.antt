@@ -1,5 +1,6 @@
 -- What every history of a core says, in one record.
-use Rattle.std.specs.Prelude.{ℕ}
+use Rattle.std.specs.Prelude.{ℕ, ◌≤◌}
+use Rattle.run_rules.specs.Laws.{lines_in}
 use Rattle.run_rules.specs.Moves.{History}
 use Rattle.tap_laws.specs.Pipes.{SaysWhatTapsTell, SilentUnlessGiven}
 use Rattle.ending_laws.specs.Places.{PlacesAreBack}
@@ -12,6 +13,10 @@ use Rattle.ending_laws.specs.Halts.{EndsTellHalts, HaltsAreByLanes}
 abbrev pub StandLegal : {S Q : Type 0} → (S → History → Type 0) → (S → Q)
     → (Q → History → Type 0) → Type 0
 StandLegal {S} {Q} stands plan legal = (m : S) (h : History) → stands m h → legal (plan m) h
+
+-- a legal history orders no more lines than there may be
+abbrev pub LinesFit : {Q : Type 0} → (Q → History → Type 0) → (Q → ℕ) → Type 0
+LinesFit {Q} legal line_room = (q : Q) (h : History) → legal q h → lines_in h ≤ line_room q
 
 -- what the lanes' laws say of all of its histories
 pub record HistoryLaws {Q : Type 0} (legal : Q → History → Type 0) (seats : Q → ℕ) : Type 0 where

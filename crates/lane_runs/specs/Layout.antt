@@ -2,18 +2,16 @@
 use Rattle.std.specs.Prelude.{◌≡◌, ◌<◌, ℕ, List, [], ◌∷◌, map, All, Bool, is_some, Option, Some, None}
 use Rattle.std.specs.List.{list_any}
 use Rattle.exec_journal.specs.Entries.{is_halt, launch_in}
-use Rattle.exec_journal.specs.declared.journal.Entry.{Entry}
+use Rattle.exec_journal.specs.Entry.{Entry}
 use Rattle.lane_crew.specs.declared.pair.OfTwo.{OfTwo}
-use Rattle.line_order.specs.Places.{Distinct}
+use Rattle.ending_laws.specs.Numbers.{Distinct}
 use Rattle.run_rules.specs.Moves.{History}
 use Rattle.run_rules.specs.Laws.{lines_in}
-use Rattle.script_duties.specs.Owed.{to_entry}
 use Rattle.berth_lanes.specs.declared.proxies.ProxyLeft.{ProxyLeft}
 use Rattle.berth_lanes.specs.declared.taps.TapLeft.{TapLeft}
-use Rattle.lane_runs.specs.BerthHalves.{IsMatched, all_feed_lines}
+use Rattle.lane_runs.specs.BerthHalves.{AreInside, BerthLines, all_feed_lines}
 use Rattle.lane_runs.specs.EndedLines.{AreLines}
-use Rattle.lane_runs.specs.declared.halves.BerthLines.{BerthLines}
-use Rattle.lane_runs.specs.Apart.{Apart}
+use Rattle.lane_runs.specs.Apart.{berths_of, lefts_of, unsaid_of}
 use Rattle.lane_runs.specs.declared.layout.Laid.{Laid}
 
 abbrev pub orders_line : Entry → Bool
@@ -32,25 +30,19 @@ AllThere [] = Unit {0}
 AllThere (Some p ∷ slots) = AllThere slots
 AllThere (None ∷ slots) = ⊥
 
--- each berth's feeds have their taps, no line stands twice, and all are among so many
+-- each berth's feeds have their taps, all lines are among so many, and none stands twice
 pub record AreFit {D T K : Type 0} (count : ℕ) (lines : List (BerthLines D T K)) : Type 0 where
-  pub matched : All IsMatched lines
+  pub inside : AreInside count lines
   pub distinct : Distinct (all_feed_lines lines)
-  pub below : All (λ line. line < count) (all_feed_lines lines)
 
 module _ {B D T K : Type 0} where
-  -- what the ends of the lanes and the slots leave is so
-  abbrev pub MayLay : ℕ → List (OfTwo (ProxyLeft B D K) (TapLeft T)) → List (Option T) → Type 0
-  MayLay count ends slots =
-      (berths : List B) (lines : List (BerthLines D T K)) → Apart ends slots berths lines
-      → AreFit count lines
-
-  -- these are the journal of the history, the berths, their lines by number, and the places
+  -- these are the history, the berths, their lines by number, the line of each that wasn't reported,
+  -- and the places
   pub record IsLaid {P : Type 0} (h : History) (ends : List (OfTwo (ProxyLeft B D K) (TapLeft T)))
       (taps : List (Option T)) (slots : List (Option P)) (laid : Laid B D T K P) : Type 0 where
-    pub journal : laid.journal ≡ map to_entry h
-    pub left : List (BerthLines D T K)
-    pub apart : Apart ends taps laid.berths.items left
-    pub lines : AreLines (lines_in h) left laid.lines.items
+    pub journal : laid.journal ≡ h
+    pub berths : laid.berths.items ≡ berths_of taps ends
+    pub lines : AreLines (lines_in h) (lefts_of taps ends) laid.lines.items
+    pub unsaid : laid.unsaid.items ≡ unsaid_of taps ends
     pub places : slots ≡ map Some laid.places.items
     pub halts : laid.halted ≡ has_halt h

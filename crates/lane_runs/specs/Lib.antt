@@ -1,5 +1,7 @@
 -- What contracts cite of a run of lanes.
+pub mod Placed
 pub mod Apart
+pub mod Blanks
 pub mod Layout
 pub mod Laws
 pub mod Runs

@@ -1,14 +1,13 @@
 -- What is known of the feeds and taps of the berths, and of the lines that are made of them.
 use Rattle.std.specs.Prelude.{ℕ, ◌+◌, All, IfSome, List, [], ◌∷◌, drop, length}
-use Rattle.exec_journal.specs.declared.journal.Entry.{Entry}
+use Rattle.exec_journal.specs.Entry.{Entry}
 use Rattle.exec_journal.specs.Facts.{IsOfBerth}
 use Rattle.lane_steps.specs.declared.hands.EndedFeed.{EndedFeed}
 use Rattle.tap_lane.specs.declared.ends.EndedTap.{EndedTap}
-use Rattle.line_order.specs.Places.{In, Distinct}
-use Rattle.lane_runs.specs.declared.halves.BerthLines.{BerthLines}
+use Rattle.ending_laws.specs.Numbers.{In, Distinct}
+use Rattle.lane_runs.specs.BerthHalves.{BerthLines, feed_lines}
 use Rattle.lane_runs.specs.declared.halves.EndedLine.{EndedLine}
 use Rattle.lane_runs.specs.declared.halves.Halves.{Halves}
-use Rattle.lane_runs.specs.BerthHalves.{feed_lines}
 
 -- F w l is said of a feed and the child of the line l at the berth w, and G w l so of a tap
 module _ {D T K : Type 0} (F : ℕ → ℕ → D → K → Type 0) (G : ℕ → ℕ → T → Type 0) where
@@ -21,10 +20,10 @@ module _ {D T K : Type 0} (F : ℕ → ℕ → D → K → Type 0) (G : ℕ → 
   -- F holds of each feed of the berth w, G of each tap, and G of the shelved one at the line that
   -- no tap of the lane has
   pub record HasFacts (w : ℕ) (b : BerthLines D T K) : Type 0 where
-    pub feeds : All (OfFeed w) b.feeds.items
-    pub taps : All (OfTap w) b.taps.items
+    pub feeds : All (OfFeed w) b.feeds
+    pub taps : All (OfTap w) b.taps
     pub shelved : IfSome b.shelved
-        (λ t. All (λ x. G w x.line t) (drop (length b.taps.items) b.feeds.items))
+        (λ t. All (λ x. G w x.line t) (drop (length b.taps) b.feeds))
 
   -- so it is with these berths, from the number w on
   abbrev pub EachHasFacts : ℕ → List (BerthLines D T K) → Type 0

@@ -5,7 +5,7 @@ use Rattle.seat_desk.specs.History.{calls_by}
 use Rattle.exec_journal.specs.declared.call.Call.{Call}
 use Rattle.exec_journal.specs.declared.reply.Reply.{Reply}
 use Rattle.exec_journal.specs.declared.reply.Reply.TheVariants as reply
-use Rattle.exec_journal.specs.declared.journal.Entry.{Entry}
+use Rattle.exec_journal.specs.Entry.{Entry}
 use Rattle.outside.specs.Told.{BerthTold, PlaceTold, FeedTold, TapTold, ChildTold, LineTold, line_told}
 use Rattle.remote_messages.specs.declared.work.WorkAction.{WorkAction}
 use Rattle.run_rules.specs.Moves.{Past, History}
@@ -13,13 +13,13 @@ use Rattle.run_rules.specs.Shelf.{place_at}
 use Rattle.run_rules.specs.Duties.{proxy_lane}
 use Rattle.run_rules.specs.Laws.{tap_lane, lines_in}
 use Rattle.run_bench.specs.Objects.{IsPlaceAt}
-use Rattle.line_order.specs.Places.{In}
+use Rattle.ending_laws.specs.Numbers.{In}
 use Rattle.tap_laws.specs.Pipes.{PipeOf}
 use Rattle.lane_deeds.specs.declared.post.Post.{Post}
 use Rattle.lane_deeds.specs.declared.cause.Cause.{Cause}
 use Rattle.lane_deeds.specs.Lines.{Back, started_in}
+use Rattle.lane_steps.specs.Lanes.{back_of}
 use Rattle.lane_steps.specs.Steps.{Ended}
-use Rattle.script_duties.specs.Owed.{to_entry}
 use Rattle.lane_runs.specs.declared.halves.EndedLine.{EndedLine}
 use Rattle.lane_runs.specs.Layout.{has_halt}
 use Rattle.lane_runs.specs.declared.layout.Laid.{Laid}
@@ -41,6 +41,8 @@ pub record LaidTold : Type 0 where
   pub journal : List Entry
   pub berths : List BerthTold
   pub lines : List EndTold
+  -- for each berth the line that was started and not reported
+  pub unsaid : List (Option Back)
   pub places : List PlaceTold
   pub halted : Bool
 
@@ -50,6 +52,7 @@ laid_told berth feed tap child place x = record {
   journal = x.journal;
   berths = map berth x.berths.items;
   lines = map (end_of feed tap child) x.lines.items;
+  unsaid = map (option_map (back_of feed child)) x.unsaid.items;
   places = map place x.places.items;
   halted = x.halted;
 }
@@ -84,19 +87,21 @@ AreStopped h w = IsStopped h (proxy_lane w) × IsStopped h (tap_lane w)
 module _ (rule : History → ℕ → Call → Reply) (work : List WorkAction) (h : History) where
   -- The berth w, which told `old` at first, was served by its post: the calls on it, the bytes
   -- given to its lines' feeds and the ends of their children are, entry by entry of its proxy lane,
-  -- what that lane does for its orders; and each line that it says was started is there.
-  pub record Room (lines : List EndTold) (w : ℕ) (post : Post) (old new : BerthTold) : Type 0 where
+  -- what that lane does for its orders; each line that it says was started is there, and so is one
+  -- that it could not report, where it halted over it.
+  pub record Room (lines : List EndTold) (w : ℕ) (post : Post) (old new : BerthTold)
+      (unsaid : Option Back) : Type 0 where
     pub halted : Option Cause
-    pub unsaid : Option Back
     pub lane : Ended post work rule (proxy_lane w) (calls_by (proxy_lane w) h) h old new
         (backs_at lines (started_in (calls_by (proxy_lane w) h))) unsaid halted
 
   -- so were the berths from w on
-  abbrev pub Rooms : List EndTold → ℕ → List Post → List BerthTold → List BerthTold → Type 0
-  Rooms lines w [] [] [] = Unit {0}
-  Rooms lines w (post ∷ posts) (old ∷ olds) (new ∷ news) =
-      Room lines w post old new × Rooms lines (w + 1) posts olds news
-  Rooms lines w _ _ _ = ⊥
+  abbrev pub Rooms : List EndTold → ℕ → List Post → List BerthTold → List BerthTold
+      → List (Option Back) → Type 0
+  Rooms lines w [] [] [] [] = Unit {0}
+  Rooms lines w (post ∷ posts) (old ∷ olds) (new ∷ news) (u ∷ unsaid) =
+      Room lines w post old new u × Rooms lines (w + 1) posts olds news unsaid
+  Rooms lines w _ _ _ _ = ⊥
 
 -- the proxy lane of some berth says that the line was started, and the history says of it what the
 -- bytes taken from its tap say, and how that has ended
@@ -129,9 +134,9 @@ pub record HasRun (legal : History → Type 0) (rule : History → ℕ → Call 
     (outputs : ℕ → List (List ℕ)) (actions : ℕ) (posts : List Post) (work : List WorkAction)
     (before : List BerthTold) (laid : LaidTold) : Type 0 where
   pub history : History
-  pub in_journal : laid.journal ≡ map to_entry history
+  pub in_journal : laid.journal ≡ history
   pub is_legal : legal history
-  pub rooms : Rooms rule work history laid.lines 0 posts before laid.berths
+  pub rooms : Rooms rule work history laid.lines 0 posts before laid.berths laid.unsaid
   pub pipes : Pipes posts history laid.lines
   pub outs : Outs outputs actions history laid.places
   pub halts : laid.halted ≡ has_halt history

@@ -1,6 +1,4 @@
 //! What is left of lines.
-use lane_steps::EndedFeed;
-use tap_lane::EndedTap;
 
 /// The feed, the tap and the child of a line.
 #[derive(Drop)]
@@ -17,15 +15,4 @@ pub struct EndedLine<D, T, K> {
     pub number: u32,
     /// `None` where it failed to launch.
     pub halves: Option<Halves<D, T, K>>,
-}
-
-/// What is left of the lines of one berth.
-#[derive(Drop)]
-pub struct BerthLines<D, T, K> {
-    /// The feeds with their children, in the order of the lines.
-    pub feeds: Vec<EndedFeed<D, K>>,
-    /// The taps that its tap lane took, in that order.
-    pub taps: Vec<EndedTap<T>>,
-    /// The tap of the line behind these, if no lane took it.
-    pub shelved: Option<T>,
 }

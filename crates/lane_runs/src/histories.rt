@@ -1,5 +1,5 @@
 //! What every history of a core says. The function does nothing: it is a law.
-ghost use Rattle.lane_runs.specs.Laws.{HistoryLaws, StandLegal};
+ghost use Rattle.lane_runs.specs.Laws.{HistoryLaws, LinesFit, StandLegal};
 
 use ending_laws::{
     ended_lanes_have_left, ends_tell_halts, halts_are_by_lanes, only_known_lanes_speak,
@@ -13,6 +13,7 @@ use tap_laws::{history_says_what_taps_tell, lines_not_given_are_silent};
 pub(crate) fn histories_say<C: Rules>()
     ensures laws { HistoryLaws C.legal C.seats }
     ensures stands { StandLegal C.stands C.plan C.legal }
+    ensures fit { LinesFit C.legal C.line_room }
 {
     places_are_back::<C>();
     started_lines_have_taps::<C>();

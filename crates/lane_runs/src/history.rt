@@ -1,30 +1,9 @@
-//! The one history of a run, as its journal.
-ghost use Rattle.std.specs.Prelude.{◌≡◌, IfOk, map, count_by};
+//! What a run's journal says of all of it.
+ghost use Rattle.std.specs.Prelude.{◌≡◌, count_by};
 ghost use Rattle.std.specs.List.{list_any};
 ghost use Rattle.lane_runs.specs.Layout.{orders_line, tells_halt};
-ghost use Rattle.script_duties.specs.Owed.{to_entry};
 
-use exec_journal::{Call, Entry, Journal, Reply};
-use plain_values::NoMemory;
-use seat_desk::Entry as Past;
-use std::alloc::Global;
-use std::collections::VecDeque;
-
-/// The journal of the history.
-pub(crate) fn journal_of(
-    alloc: Global,
-    history: Vec<Past<Call, Reply>>,
-) -> Result<Journal, NoMemory>
-    ensures { IfOk result (λ journal. journal ≡ map to_entry history.items) }
-{
-    let mut entries = Vec::new(alloc);
-    let mut rest = VecDeque::from_vec(history);
-    while let Some(next) = rest.pop_front() {
-        let Past { lane, call, reply } = next;
-        entries.push(Entry { lane, call, reply })?;
-    }
-    Ok(Journal::of(entries))
-}
+use exec_journal::{Call, Entry, Reply};
 
 /// How many lines were ordered.
 pub(crate) fn lines_ordered(entries: &[Entry]) -> usize

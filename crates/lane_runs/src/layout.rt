@@ -1,20 +1,20 @@
 //! What a run leaves, laid out by number.
-ghost use Rattle.std.specs.Prelude.{◌≡◌, IfOk, map, Some};
+ghost use Rattle.std.specs.Prelude.{◌≡◌, ◌<◌, ◌^◌, length, map, Some};
 ghost use Rattle.run_rules.specs.Laws.{lines_in};
-ghost use Rattle.lane_runs.specs.Apart.{Alternate};
-ghost use Rattle.lane_runs.specs.Layout.{AllThere, IsLaid, MayLay};
+ghost use Rattle.lane_runs.specs.Apart.{Alternate, lefts_of};
+ghost use Rattle.lane_runs.specs.Layout.{AllThere, AreFit, IsLaid};
+ghost use Rattle.lane_runs.specs.Blanks.{HasRoom, IsBlankFor};
 
-use crate::apart::{Berths, berth_by_berth};
+use crate::berths::lay_berths;
+use crate::blank::Blank;
 use crate::halves::EndedLine;
-use crate::history::{has_halt, journal_of, lines_ordered};
-use crate::lines::lines_of;
+use crate::history::{has_halt, lines_ordered};
+use crate::lines::number_lines;
 use berth_lanes::{ProxyLeft, TapLeft};
-use exec_journal::{Call, Journal, Reply};
+use exec_journal::{Entry, Journal};
 use lane_crew::OfTwo;
+use lane_steps::EndedFeed;
 use outside::Berth;
-use plain_values::NoMemory;
-use seat_desk::Entry as Past;
-use std::alloc::Global;
 use std::collections::VecDeque;
 
 /// What a run of lanes leaves. The type has no bound: [`LaidOut`] names it by the outside.
@@ -26,6 +26,9 @@ pub struct Laid<B, D, T, K, P> {
     pub berths: Vec<B>,
     /// The lines, one for each launch that was ordered, by their numbers.
     pub lines: Vec<EndedLine<D, T, K>>,
+    /// For each berth the line that was started and not reported, since its lane found no memory for
+    /// that and halted. Its child was killed, and its tap is gone.
+    pub unsaid: Vec<Option<EndedFeed<D, K>>>,
     /// The places, by the numbers of their actions.
     pub places: Vec<P>,
     /// Some lane has halted.
@@ -35,56 +38,55 @@ pub struct Laid<B, D, T, K, P> {
 /// What the outside of a run leaves.
 pub type LaidOut<B, P> = Laid<B, <B as Berth>::Feed, <B as Berth>::Tap, <B as Berth>::Child, P>;
 
-/// The most lines that are numbered.
-const LINES: usize = 4_294_967_295;
-
-/// Lays out what the lanes leave, with the taps and the places that lay on the shelf.
-///
-/// # Errors
-///
-/// `NoMemory` if there is none for the lists. So many lines that they have no numbers would need
-/// more than there is: a plan orders fewer than 100,000.
+/// Lays out what the lanes leave, with the taps and the places that lay on the shelf, in the room that
+/// was made for it. It takes no memory.
 pub(crate) fn lay_out<B: Drop, D: Drop, T: Drop, K: Drop, P: Drop>(
-    alloc: Global,
-    history: Vec<Past<Call, Reply>>,
+    blank: Blank<B, D, T, K, P>,
+    history: Vec<Entry>,
     ends: Vec<OfTwo<ProxyLeft<B, D, K>, TapLeft<T>>>,
     taps: Vec<Option<T>>,
     places: Vec<Option<P>>,
-) -> Result<Laid<B, D, T, K, P>, NoMemory>
-    requires alternate { Alternate ends.items taps.items }
-    requires may { MayLay (lines_in history.items) ends.items taps.items }
+) -> Laid<B, D, T, K, P>
+    requires room { IsBlankFor (length taps.items) (lines_in history.items) (length places.items)
+        blank }
+    requires few { lines_in history.items < 2 ^ 32 }
+    requires alternate { Alternate taps.items ends.items }
+    requires fit { AreFit (lines_in history.items) (lefts_of taps.items ends.items) }
     requires there { AllThere places.items }
-    ensures { IfOk result (λ laid.
-        IsLaid history.items ends.items taps.items places.items laid) }
+    ensures { IsLaid history.items ends.items taps.items places.items result }
 {
-    let journal = journal_of(alloc, history)?;
-    let count = lines_ordered(journal.entries());
-    if count > LINES {
-        return Err(NoMemory);
-    }
+    let Blank {
+        mut berths,
+        mut lines,
+        mut unsaid,
+        places: kept,
+    } = blank;
+    let journal = Journal::of(history);
     let halted = has_halt(journal.entries());
-    let Berths { berths, lines } = berth_by_berth(alloc, ends, taps)?;
-    let lines = lines_of(alloc, count, lines)?;
-    let places = all_there(alloc, places)?;
-    Ok(Laid {
+    number_lines(&mut lines, lines_ordered(journal.entries()));
+    lay_berths(ends, taps, &mut berths, &mut unsaid, &mut lines);
+    let places = all_there(places, kept);
+    Laid {
         journal,
         berths,
         lines,
+        unsaid,
         places,
         halted,
-    })
+    }
 }
 
 // The places, all of which lie there.
-fn all_there<P: Drop>(alloc: Global, slots: Vec<Option<P>>) -> Result<Vec<P>, NoMemory>
-    requires { AllThere slots.items }
-    ensures { IfOk result (λ places. slots.items ≡ map Some places.items) }
+fn all_there<P: Drop>(slots: Vec<Option<P>>, kept: Vec<P>) -> Vec<P>
+    requires there { AllThere slots.items }
+    requires room { HasRoom (length slots.items) kept }
+    ensures { slots.items ≡ map Some result.items }
 {
-    let mut places = Vec::new(alloc);
+    let mut places = kept;
     let mut rest = VecDeque::from_vec(slots);
     while let Some(slot) = rest.pop_front() {
         let Some(place) = slot else { unreachable!() };
-        places.push(place)?;
+        places.push_reserved(place);
     }
-    Ok(places)
+    places
 }

@@ -2,12 +2,14 @@
 //! they leave: the journal, the berths, the lines and the places.
 //!
 //! A proxy lane leaves the feeds of its lines with their children, and a tap lane the taps that it
-//! took. The halves of each line are put together, whatever they are, and the lines laid in order.
+//! took. The halves of each line are put together, whatever they are, at the line's number. All room
+//! for that is made before the lanes begin, so that no run is lost behind them.
 //! `proofs/FactsAt.antt` says that what is known of each feed and of each tap by its line is known of
 //! the halves that stand at the line.
 #![tactic(auto)]
 
-mod apart;
+mod berths;
+mod blank;
 mod halves;
 mod histories;
 mod history;
@@ -16,6 +18,6 @@ mod lines;
 mod run;
 
 pub use halves::{EndedLine, Halves};
-pub use lane_crew::CrewFault;
+pub use lane_steps::EndedFeed;
 pub use layout::{Laid, LaidOut};
 pub use run::run_lanes;

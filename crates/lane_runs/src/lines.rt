@@ -1,84 +1,59 @@
-//! Puts the halves of each line together, and lays the lines in order.
-ghost use Rattle.std.specs.Prelude.{◌≡◌, ◌++◌, ◌∷◌, [], ◌<◌, ◌^◌, All, IfOk, MatchOption, OnOk, length, map};
+//! The lines of a run, by their numbers.
+ghost use Rattle.std.specs.Prelude.{◌≡◌, ◌∷◌, [], ◌<◌, ◌^◌, All, MatchOption, None, length, map, replicate};
 ghost use Rattle.std.specs.List.{range_with_len};
-ghost use Rattle.line_order.specs.Places.{Distinct};
-ghost use Rattle.lane_runs.specs.BerthHalves.{IsMatched, all_feed_lines, all_halves, halves_of, taps_left};
-ghost use Rattle.lane_runs.specs.EndedLines.{AreLines};
+ghost use Rattle.lane_runs.specs.BerthHalves.{IsMatched, berth_lines, halves_of, taps_left};
+ghost use Rattle.lane_runs.specs.Placed.{placed_all};
+ghost use Rattle.lane_runs.specs.Blanks.{HasRoom};
 
-use crate::halves::{BerthLines, EndedLine, Halves};
+use crate::halves::{EndedLine, Halves};
 use lane_steps::EndedFeed;
-use line_order::{Numbered, in_line_order};
-use plain_values::NoMemory;
-use std::alloc::Global;
 use std::collections::VecDeque;
 use tap_lane::EndedTap;
 
-/// The lines from 0 up to this number, in order. The halves of a line are the feed and the child
-/// that some berth has of it, and the tap in the same place of that berth. A line of which no berth
-/// has a feed has none.
-///
-/// # Errors
-///
-/// `NoMemory` if there is none for the lists; all that was given is then dropped.
-pub fn lines_of<D: Drop, T: Drop, K: Drop>(
-    alloc: Global,
+/// So many lines, numbered from 0, of which nothing is known yet. It takes no memory.
+pub(crate) fn number_lines<D: Drop, T: Drop, K: Drop>(
+    lines: &mut Vec<EndedLine<D, T, K>>,
     count: usize,
-    berths: Vec<BerthLines<D, T, K>>,
-) -> Result<Vec<EndedLine<D, T, K>>, NoMemory>
-    requires matched { All IsMatched berths.items }
-    requires distinct { Distinct (all_feed_lines berths.items) }
-    requires below { All (λ line. line < count) (all_feed_lines berths.items) }
-    requires numbers { count < 2 ^ 32 }
-    ensures { IfOk result (λ v. AreLines count berths.items v.items) }
+)
+    requires room { HasRoom count lines.old }
+    requires few { count < 2 ^ 32 }
+    ensures numbers { map (λ x. x.number) lines.new.items ≡ range_with_len 0 count }
+    ensures halves { map (λ x. x.halves) lines.new.items ≡ replicate count None }
 {
-    let halves = all_halves(alloc, berths)?;
-    let places = in_line_order(alloc, count, halves)?;
-    number_lines(alloc, places)
-}
-
-// The halves of all lines, berth by berth.
-fn all_halves<D: Drop, T: Drop, K: Drop>(
-    alloc: Global,
-    berths: Vec<BerthLines<D, T, K>>,
-) -> Result<Vec<Numbered<Halves<D, T, K>>>, NoMemory>
-    requires { All IsMatched berths.items }
-    ensures { IfOk result (λ v. v.items ≡ all_halves berths.items) }
-{
-    let mut halves = Vec::new(alloc);
-    let mut rest = VecDeque::from_vec(berths);
-    while let Some(berth) = rest.pop_front() {
-        add_halves(&mut halves, berth)?;
+    for number in 0..count as u32 {
+        lines.push_reserved(EndedLine {
+            number,
+            halves: None,
+        });
     }
-    Ok(halves)
 }
 
-// Adds the halves of a berth's lines.
-fn add_halves<D: Drop, T: Drop, K: Drop>(
-    halves: &mut Vec<Numbered<Halves<D, T, K>>>,
-    berth: BerthLines<D, T, K>,
-) -> Result<(), NoMemory>
-    requires { IsMatched berth }
-    ensures { OnOk result (halves.new.items ≡ halves.old.items ++ halves_of berth) }
+/// Puts the halves of a berth's lines at their numbers: each feed with its child, and the tap in the
+/// same place. It takes no memory.
+pub(crate) fn put_halves<D: Drop, T: Drop, K: Drop>(
+    lines: &mut Vec<EndedLine<D, T, K>>,
+    feeds: Vec<EndedFeed<D, K>>,
+    taps: Vec<EndedTap<T>>,
+    shelved: Option<T>,
+)
+    requires matched { IsMatched (berth_lines feeds.items taps.items shelved) }
+    requires below { All (λ l. l < length lines.old.items) (map (λ x. x.line) feeds.items) }
+    ensures numbers { map (λ x. x.number) lines.new.items ≡ map (λ x. x.number) lines.old.items }
+    ensures halves { map (λ x. x.halves) lines.new.items
+        ≡ placed_all (map (λ x. x.halves) lines.old.items)
+        (halves_of (berth_lines feeds.items taps.items shelved)) }
 {
-    let BerthLines {
-        feeds,
-        taps,
-        mut shelved,
-    } = berth;
     let mut feeds = VecDeque::from_vec(feeds);
     let mut taps = VecDeque::from_vec(taps);
+    let mut shelved = shelved;
     while let Some(ended) = feeds.pop_front() {
         let EndedFeed { line, feed, child } = ended;
         let tap = match next_tap(&mut taps, &mut shelved) {
             Some(tap) => tap,
             None => unreachable!(),
         };
-        halves.push(Numbered {
-            line,
-            thing: Halves { feed, tap, child },
-        })?;
+        lines[line as usize].halves = Some(Halves { feed, tap, child });
     }
-    Ok(())
 }
 
 // The next tap of these, or else the shelved one.
@@ -93,24 +68,4 @@ fn next_tap<T: Drop>(taps: &mut VecDeque<EndedTap<T>>, shelved: &mut Option<T>) 
         }
         None => shelved.take(),
     }
-}
-
-// Each place with its number.
-fn number_lines<D: Drop, T: Drop, K: Drop>(
-    alloc: Global,
-    places: Vec<Option<Halves<D, T, K>>>,
-) -> Result<Vec<EndedLine<D, T, K>>, NoMemory>
-    requires { length places.items < 2 ^ 32 }
-    ensures numbers { IfOk result (λ v. map (λ x. x.number) v.items
-        ≡ range_with_len 0 (length places.items)) }
-    ensures halves { IfOk result (λ v. map (λ x. x.halves) v.items ≡ places.items) }
-{
-    let mut lines = Vec::new(alloc);
-    let mut rest = VecDeque::from_vec(places);
-    let mut number = 0;
-    while let Some(halves) = rest.pop_front() {
-        lines.push(EndedLine { number, halves })?;
-        number += 1;
-    }
-    Ok(lines)
 }

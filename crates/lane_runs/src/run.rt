@@ -5,12 +5,14 @@ ghost use Rattle.berth_lanes.specs.Seats.{PostsFit};
 ghost use Rattle.lane_steps.specs.Work.{IsWorkOf};
 ghost use Rattle.lane_runs.specs.Runs.{HasRun, laid_told};
 
+use crate::blank::Blank;
 use crate::histories::histories_say;
 use crate::layout::{LaidOut, lay_out};
 use berth_lanes::lanes_of;
-use lane_crew::{Crew, CrewFault, run_crew};
+use lane_crew::{Crew, run_crew};
 use lane_deeds::Post;
 use outside::{Berth, Place};
+use plain_values::NoMemory;
 use remote_messages::WorkAction;
 use run_bench::Bench;
 use run_rules::Rules;
@@ -19,12 +21,12 @@ use std::sync::Wait;
 use std::thread::Threads;
 
 /// Runs the lanes of these berths, each on a thread of its own, over this core, until each was told
-/// to stop or has halted, and lays out what they leave.
+/// to stop or has halted, and lays out what they leave. The room for that is made before the lanes
+/// begin, so that no run is lost behind them.
 ///
 /// # Errors
 ///
-/// `Before` if there is no memory before the lanes, and then none was started. `After` if there is
-/// none behind them.
+/// `NoMemory` if there is none before the lanes, and then none was started.
 pub fn run_lanes<B: Berth, P: Place, C: Rules, R: Threads + Wait + Sync>(
     rt: &R,
     alloc: Global,
@@ -33,7 +35,7 @@ pub fn run_lanes<B: Berth, P: Place, C: Rules, R: Threads + Wait + Sync>(
     berths: Vec<B>,
     posts: &[Post],
     actions: &[WorkAction],
-) -> Result<LaidOut<B, P>, CrewFault>
+) -> Result<LaidOut<B, P>, NoMemory>
 where
     B: Send,
     P: Send,
@@ -54,12 +56,10 @@ where
         (map B.told berths.items)
         (laid_told B.told B.Feed.told B.Tap.told B.Child.told P.told laid)) }
 {
-    let Ok(bench) = Bench::new(alloc, core, places) else {
-        return Err(CrewFault::Before);
-    };
-    let Ok(lanes) = lanes_of(alloc, berths, posts, actions) else {
-        return Err(CrewFault::Before);
-    };
+    let lines = core.most_lines() as usize;
+    let blank = Blank::new(alloc, berths.len(), lines, places.len())?;
+    let bench = Bench::new(alloc, core, places)?;
+    let lanes = lanes_of(alloc, berths, posts, actions)?;
     histories_say::<C>();
     let Crew {
         machine,
@@ -67,8 +67,5 @@ where
         ends,
     } = run_crew(rt, alloc, bench, lanes)?;
     let (_core, taps, places) = machine.into_parts();
-    match lay_out(alloc, history, ends, taps, places) {
-        Ok(laid) => Ok(laid),
-        Err(_) => Err(CrewFault::After),
-    }
+    Ok(lay_out(blank, history, ends, taps, places))
 }

@@ -163,7 +163,7 @@ module _ {M G Q : Type 0} {g : Ghosts M Call Reply G Q} (post : Post) (actions :
       (are_told_later (rule (rules p)) p.lane (seen p1) (seen p2) no_entry.0 acts.deed.looks acts.told) new
       (touches_quiet p.lane reply.Noted acts.deed h.berth new call.Halt (IsRoomFault result) refl acts.berth)
       (record { starts = refl; gives = acts.nothing_given; feeds = λ m. refl }))
-      (ap (λ (u : Option Back). lines_of (listed u)) k.all_said ∙ sym not_launched)
+      k.all_said not_launched
 
   pub gather_cut : (e : NoMemory) → GatherActs post (rule (rules p)) p.lane l n action (Result.Err e) (seen p1) h.berth new
       → MakesNone p1 p2 → Halts post actions rule cause.NoMemory p h p2 then

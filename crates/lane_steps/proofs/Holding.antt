@@ -18,11 +18,11 @@ use Rattle.run_rules.specs.Laws.{lines_in}
 use Rattle.run_rules.specs.Duties.{Asks, duty_of}
 use Rattle.lane_deeds.specs.declared.post.Post.{Post}
 use Rattle.lane_deeds.specs.declared.cause.Cause.{Cause}
-use Rattle.lane_deeds.specs.Deeds.{Deed, DeedOf, Acts, given_by, given_to}
+use Rattle.lane_deeds.specs.Deeds.{Deed, DeedOf, Acts, given_by, given_to, with_end}
 use Rattle.lane_deeds.specs.Told.{AreTold, AllTold}
-use Rattle.lane_deeds.specs.Lines.{started_by, started_in, room_fault, feed_fault, feed_faults, RoseBy, Back, IsFed, IsBack, IsKilled, IsServed, lines_of, listed}
+use Rattle.lane_deeds.specs.Lines.{started_by, started_in, room_fault, feed_fault, feed_faults, RoseBy, Back, EndsLine, IsFed, IsBack, IsKilled, IsServed, lines_of, listed}
 use Rattle.lane_deeds.specs.Ends.{HaltsBy}
-use Rattle.lane_deeds.proofs.Growing.{acts_more, all_told_later, all_told_more, started_more, served_none, served_more, given_more, feed_more, fed_more, fed_still, LeavesFeed, backs_still, leaves_all, gives_other, gives_own}
+use Rattle.lane_deeds.proofs.Growing.{acts_more, all_told_later, all_told_more, started_more, served_none, served_more, given_more, feed_more, fed_more, fed_still, LeavesFeed, backs_still, leaves_all, gives_other, gives_own, told_with_end, given_with_end, served_with_end, fed_with_end, backs_with_end}
 use Rattle.proxy_calls.proofs.Askings.{lines_later}
 use Rattle.lane_steps.specs.Lanes.{Open, Held, open_line, IsAfter, IsOpenFed, Holds, Keeps, Halting}
 
@@ -303,6 +303,33 @@ module _ (rule : History → ℕ → Call → Reply) (lane : ℕ) (own : History
     after = tt;
     below = k.below;
     untouched = k.untouched;
+  }
+
+-- ---- a line was ended by the berth, behind the last deed
+
+module _ (rule : History → ℕ → Call → Reply) (lane : ℕ) (own : History) (ds : List Deed) (d : Deed)
+    (l : ℕ) (seen : History) (first : BerthTold) (h : Held)
+    (k : Holds rule lane own (ds ++ d ∷ []) seen first h) (new : BerthTold)
+    (ended : EndsLine l h.berth new) where
+  abbrev after_all : List Deed
+  after_all = ds ++ with_end l d ∷ []
+
+  open_ended : (o : Option Open) → IsOpenFed own (ds ++ d ∷ []) o → IsOpenFed own after_all o
+  open_ended None fed = tt
+  open_ended (Some o) fed = fed_with_end l d own ds o.line o.feed fed
+
+  pub holds_ended : Holds rule lane own after_all seen first (record h { berth = new })
+  holds_ended = record {
+    told = told_with_end l d rule lane seen ds k.told;
+    berth = served_with_end l d own ds first h.berth new k.berth ended;
+    ended = backs_with_end l d own ds h.ended k.ended;
+    unsaid = backs_with_end l d own ds (listed h.unsaid) k.unsaid;
+    opened = open_ended h.opened k.opened;
+    lines = k.lines;
+    after = k.after;
+    below = k.below;
+    untouched = λ n later.
+        let u = k.untouched n later in (given_with_end l d n ds ∙ u.0, u.1);
   }
 
 -- before its first call

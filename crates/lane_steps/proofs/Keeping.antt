@@ -21,9 +21,9 @@ use Rattle.run_rules.specs.Moves.{Past, History}
 use Rattle.run_rules.specs.Duties.{Duty, Asks, duty_of}
 use Rattle.lane_deeds.specs.declared.post.Post.{Post}
 use Rattle.lane_deeds.specs.declared.cause.Cause.{Cause}
-use Rattle.lane_deeds.specs.Deeds.{Deed, DeedOf, Acts}
+use Rattle.lane_deeds.specs.Deeds.{Deed, DeedOf, Acts, with_ends}
 use Rattle.lane_deeds.specs.Told.{AreTold}
-use Rattle.lane_deeds.specs.Lines.{RoseBy, room_fault, feed_fault, lines_of, listed, unsaid_by}
+use Rattle.lane_deeds.specs.Lines.{Back, RoseBy, room_fault, feed_fault, lines_of, listed, unsaid_by}
 use Rattle.lane_deeds.specs.Ends.{HaltsBy}
 use Rattle.lane_deeds.proofs.Growing.{acts_more}
 use Rattle.lane_steps.specs.Lanes.{Open, Held, Holds, Keeps, Halting}
@@ -101,17 +101,30 @@ module _ (rule : History → ℕ → Call → Reply) (lane : ℕ) (post : Post) 
   abbrev pub halt : Past
   halt = entry lane call.Halt reply.Noted
 
-  pub halting_more : (cause : Cause) (own' seen' : History) (h' : Held) (d : Deed) → own' ≡ own
-      → HaltsBy post actions cause (duty_of own) d
-      → Holds rule lane (own ++ halt ∷ []) (k.deeds ++ d ∷ []) seen' first h'
-      → lines_of (listed h'.unsaid) ≡ unsaid_by (Some cause)
+  -- with these lines ended, which couldn't be reported
+  pub halting_with : (cause : Cause) (own' seen' : History) (h' : Held) (d : Deed) (ls : List ℕ)
+      → own' ≡ own → HaltsBy post actions cause (duty_of own) d
+      → Holds rule lane (own ++ halt ∷ []) (k.deeds ++ with_ends ls d ∷ []) seen' first h'
+      → lines_of (listed h'.unsaid) ≡ ls → unsaid_by (Some cause) ≡ ls
       → Halting rule lane post actions cause own' seen' first h'
-  halting_more cause own' seen' h' d is by holds said = record {
+  halting_with cause own' seen' h' d ls is by holds said why = record {
     deeds = k.deeds;
     last = d;
     acts = subst (λ (x : History). Acts post actions Asks x k.deeds) (sym is) k.acts;
     halts = subst (λ (x : History). HaltsBy post actions cause (duty_of x) d) (sym is) by;
-    holds = subst (λ (x : History). Holds rule lane (x ++ halt ∷ []) (k.deeds ++ d ∷ []) seen' first h')
-        (sym is) holds;
-    said = said;
+    holds = subst (λ (x : History). Holds rule lane (x ++ halt ∷ [])
+        (k.deeds ++ with_ends (unsaid_by (Some cause)) d ∷ []) seen' first h') (sym is)
+        (subst (λ (ms : List ℕ). Holds rule lane (own ++ halt ∷ []) (k.deeds ++ with_ends ms d ∷ [])
+        seen' first h') (sym why) holds);
+    said = said ∙ sym why;
   }
+
+  -- with none
+  pub halting_more : (cause : Cause) (own' seen' : History) (h' : Held) (d : Deed) → own' ≡ own
+      → HaltsBy post actions cause (duty_of own) d
+      → Holds rule lane (own ++ halt ∷ []) (k.deeds ++ d ∷ []) seen' first h'
+      → h'.unsaid ≡ None → unsaid_by (Some cause) ≡ []
+      → Halting rule lane post actions cause own' seen' first h'
+  halting_more cause own' seen' h' d is by holds none why =
+      halting_with cause own' seen' h' d [] is by holds
+      (ap (λ (u : Option Back). lines_of (listed u)) none) why

@@ -59,7 +59,7 @@ module _ {M G Q : Type 0} {g : Ghosts M Call Reply G Q} (post : Post) (actions :
       (holds_quiet (rule (rules p)) p.lane (mine p) k.deeds (seen p) first h k.holds e nothing (seen p1)
       no_entry.0 tt h.berth (touches_none e h.berth refl)
       (record { starts = refl; gives = refl; feeds = λ m. refl }))
-      (ap (λ (u : Option Back). lines_of (listed u)) k.all_said)
+      k.all_said refl
 
   -- ---- what holds of an order
 

@@ -146,7 +146,7 @@ module _ {M G Q : Type 0} {g : Ghosts M Call Reply G Q} (post : Post) (actions :
         → Halting (rule q) p.lane post actions by (mine p2) (seen p2) first then
     halts by F D made gave own did not_launched = halting_more (rule q) p.lane post actions (mine p)
         (seen p) first h k by (mine p2) (seen p2) then d (own ∙ none.1) did (halt_holds F D made gave)
-        (ap (λ (u : Option Back). lines_of (listed u)) k.all_said ∙ sym not_launched)
+        k.all_said not_launched
 
   -- ---- a Send
 

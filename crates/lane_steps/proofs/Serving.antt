@@ -1,5 +1,5 @@
 -- Round after round, to the lane's end.
-use Rattle.std.proofs.Common.{◌≡◌, ℕ, Bool, List, [], ◌∷◌, ◌++◌, Option, Some, None, option_map, vec_len, vec_capacity, ◌<◌, refl, ap, sym, subst, ◌∙◌, arith}
+use Rattle.std.proofs.Common.{◌≡◌, ℕ, ◌/◌, Bool, List, [], ◌∷◌, ◌++◌, Option, Some, None, option_map, vec_len, vec_capacity, ◌<◌, refl, ap, sym, subst, ◌∙◌, arith}
 use Rattle.std.specs.Prelude.{true}
 use Rattle.seat_desk.specs.declared.machine.Machine.{Ghosts}
 use Rattle.seat_desk.specs.declared.desk.Pass.{Pass}
@@ -57,12 +57,13 @@ module _ {M G Q : Type 0} {g : Ghosts M Call Reply G Q} (post : Post) (actions :
   -- ---- ends
 
   pub ends_halted : (by : Cause) (o : Option ℕ) → Halts post actions rule by p h p1 h1
-      → open_line h1.opened ≡ o → MakesOne call.Halt reply.Noted p1 p2 → AreLaidBy o h1 h2
+      → open_line h1.opened ≡ o → child_at (p1.lane / 2) (mine p1) ≡ o
+      → MakesOne call.Halt reply.Noted p1 p2 → AreLaidBy o h1 h2
       → Finishes post actions rule (Some by) p h p2 h2
-  ends_halted by o x is made laid = λ first k.
+  ends_halted by o x is at made laid = λ first k.
       to_first (λ r n. Ended post actions r n (mine p2) (seen p2) first h2.berth h2.ended h2.unsaid (Some by))
       (halted_ends post actions rule p1 p2 h1 h2 by first o
-      (to_second (λ r n. Halting r n post actions by (mine p1) (seen p1) first h1) (x first k)) is made laid)
+      (to_second (λ r n. Halting r n post actions by (mine p1) (seen p1) first h1) (x first k)) is at made laid)
 
   pub ends_stopped : Goes post actions rule p h p1 h1 → duty_of (mine p1) ≡ Left → h1.opened ≡ None
       → Finishes post actions rule None p h p1 h1

@@ -38,6 +38,13 @@ child_more w lane own c r is =
     ∙ (ap (λ (b : Bool). cond b (child_by o (move_in lane c r)) o) half
     ∙ ap (child_by o) (move_is lane w c r is))
 
+-- what lies there by the number of the lane
+pub at_half : {M G Q : Type 0} {g : Ghosts M Call Reply G Q} (w : ℕ) (p : Pass M Call Reply G Q g)
+    (o : Option ℕ) → p.lane ≡ proxy_lane w → child_at w (mine p) ≡ o
+    → child_at (p.lane / 2) (mine p) ≡ o
+at_half w p o is at =
+    ap (λ (n : ℕ). child_at n (mine p)) (ap (λ (n : ℕ). n / 2) is ∙ halved w) ∙ at
+
 -- a report of what was written leaves it
 pub wrote_shelved : {M G Q A : Type 0} {g : Ghosts M Call Reply G Q} (w l : ℕ) (n : ℤ)
     (wrote : Result Written NoMemory) (p p1 p2 : Pass M Call Reply G Q g) (r : Result A Cause)

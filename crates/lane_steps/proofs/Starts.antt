@@ -1,5 +1,5 @@
 -- What a Launch makes of what the lane has done so far.
-use Rattle.std.proofs.Common.{◌≡◌, ◌⊎◌, inl, inr, ℕ, ◌<◌, List, [], ◌∷◌, ◌++◌, Option, Some, None, Result, refl, ap, sym, subst, ◌∙◌, arith}
+use Rattle.std.proofs.Common.{◌≡◌, ◌⊎◌, inl, inr, ℕ, ◌<◌, List, [], ◌∷◌, ◌++◌, ◌≤◌, Option, Some, None, Result, refl, ap, sym, subst, ◌∙◌, arith}
 use Rattle.std.specs.Prelude.{All, true, false}
 use Rattle.seat_desk.specs.declared.machine.Machine.{Ghosts}
 use Rattle.seat_desk.specs.declared.desk.Pass.{Pass}
@@ -27,17 +27,21 @@ use Rattle.run_rules.specs.Duties.{Duty, Launches, duty_of}
 use Rattle.lane_deeds.specs.declared.post.Post.{Post}
 use Rattle.lane_deeds.specs.declared.cause.Cause.{Cause}
 use Rattle.lane_deeds.specs.declared.cause.Cause.TheVariants as cause
-use Rattle.lane_deeds.specs.Deeds.{Deed, DeedOf, IsCut}
-use Rattle.lane_deeds.specs.Lines.{Back, IsFed, IsKilled, RoseBy, room_fault, started_by, started_in, lines_of, listed, unsaid_by}
+use Rattle.lane_deeds.specs.Deeds.{Deed, DeedOf, IsCut, with_end}
+use Rattle.lane_deeds.specs.Lines.{Back, EndsLine, IsFed, IsKilled, RoseBy, room_fault, started_by, started_in, lines_of, listed, unsaid_by}
 use Rattle.lane_deeds.specs.Ends.{HaltsBy, may_halt}
 use Rattle.proxy_calls.specs.Calls.{MakesNone, MakesOne}
 use Rattle.lane_steps.specs.Lanes.{Open, Held, Holds, Keeps, Halting}
+use Rattle.lane_deeds.proofs.Growing.{adds_more}
 use Rattle.lane_steps.specs.Steps.{Goes, Halts}
 use Rattle.lane_steps.proofs.Holding.{Touches, IsQuiet, holds_quiet, holds_started, holds_unsaid}
-use Rattle.lane_steps.proofs.Keeping.{touches_quiet, rose_none, rose_one, keeps_more, halting_more}
+use Rattle.lane_steps.proofs.Keeping.{touches_quiet, rose_none, rose_one, keeps_more, halting_more, halting_with}
 
 abbrev pub calls_deed : List BerthCall → Deed
 calls_deed calls = record { line = 0; looks = []; calls = calls; given = [] }
+
+rose_over : (before mid now : ℕ) → before ≤ mid → mid ≤ now → RoseBy 0 before now
+rose_over before mid now first second = omega arith
 
 new_fed : (l : ℕ) (feed : FeedTold) → IsNewFeed l feed → IsFed [] [] l feed
 new_fed l feed new =
@@ -68,21 +72,30 @@ module _ {M G Q : Type 0} {g : Ghosts M Call Reply G Q} (post : Post) (actions :
         (holds_quiet (rule (rules p)) p.lane (mine p) k.deeds (seen p) first h k.holds e (calls_deed calls)
         (seen p2) no_entry.0 tt new halt_touches
         (record { starts = refl; gives = refl; feeds = λ n. refl }))
-        (ap (λ (u : Option Back). lines_of (listed u)) k.all_said ∙ sym not_started)
+        k.all_said not_started
 
-    -- one was, and its child was killed
-    module _ (back : Back) (of : back.line ≡ l) (feed : IsNewFeed l back.feed)
+    -- one was, and the berth has ended its child
+    module _ (then : BerthTold) (ended : EndsLine l new then) (back : Back) (of : back.line ≡ l) (feed : IsNewFeed l back.feed)
         (killed : IsKilled l back.child) (fresh : All (λ n. n < l) (started_in (mine p)))
         (ordered : l < lines_in (seen p)) where
+      ended_touches : Touches e (with_end l (calls_deed calls)) h.berth then
+      ended_touches = record {
+        log = adds_more calls (berth.End l ∷ []) (calls ++ berth.End l ∷ []) h.berth.log new.log
+            then.log refl made.log ended.log;
+        faults = rose_over h.berth.faults new.faults then.faults made.count.later ended.later;
+        same = ended.same ∙ made.same;
+      }
+
       pub unsaid_halts : unsaid_by (Some by) ≡ l ∷ []
-          → Halts post actions rule by p h p2 (record h { berth = new; unsaid = Some back })
+          → Halts post actions rule by p h p2 (record h { berth = then; unsaid = Some back })
       unsaid_halts is_started = λ first k.
-          halting_more (rule (rules p)) p.lane post actions (mine p) (seen p) first h k by (mine p2)
-          (seen p2) (record h { berth = new; unsaid = Some back }) (calls_deed calls) no_entry.1 by_duty
+          halting_with (rule (rules p)) p.lane post actions (mine p) (seen p) first h k by (mine p2)
+          (seen p2) (record h { berth = then; unsaid = Some back }) (calls_deed calls) (l ∷ [])
+          no_entry.1 by_duty
           (holds_unsaid (rule (rules p)) p.lane (mine p) k.deeds (seen p) first h k.holds e
-          (calls_deed calls) (seen p2) no_entry.0 tt new halt_touches l refl (λ n. refl) none fresh ordered
-          back (new_fed l back.feed feed, killed) of refl)
-          ((λ i. of i ∷ []) ∙ sym is_started)
+          (with_end l (calls_deed calls)) (seen p2) no_entry.0 tt then ended_touches l refl (λ n. refl)
+          none fresh ordered back (new_fed l back.feed feed, killed) of refl)
+          (λ i. of i ∷ []) is_started
 
   -- ---- a report
 

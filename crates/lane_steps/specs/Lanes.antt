@@ -16,7 +16,7 @@ use Rattle.run_rules.specs.Laws.{lines_in}
 use Rattle.run_rules.specs.Duties.{Asks, duty_of}
 use Rattle.lane_deeds.specs.declared.post.Post.{Post}
 use Rattle.lane_deeds.specs.declared.cause.Cause.{Cause}
-use Rattle.lane_deeds.specs.Deeds.{Deed, Acts, given_to}
+use Rattle.lane_deeds.specs.Deeds.{Deed, Acts, given_to, with_ends}
 use Rattle.lane_deeds.specs.Told.{AllTold}
 use Rattle.lane_deeds.specs.Lines.{Back, IsFed, IsBack, IsServed, feed_faults, started_in, lines_of, listed, unsaid_by}
 use Rattle.lane_deeds.specs.Ends.{HaltsBy}
@@ -88,12 +88,13 @@ module _ (rule : History → ℕ → Call → Reply) (lane : ℕ) where
     pub holds : Holds own deeds seen first h
     pub all_said : h.unsaid ≡ None
 
-  -- it has acted so, and found no memory then
+  -- It has acted so, and found no memory then. A line that it couldn't report was ended.
   pub record Halting (post : Post) (actions : List WorkAction) (cause : Cause) (own seen : History)
       (first : BerthTold) (h : Held) : Type 0 where
     pub deeds : List Deed
     pub last : Deed
     pub acts : Acts post actions Asks own deeds
     pub halts : HaltsBy post actions cause (duty_of own) last
-    pub holds : Holds (own ++ entry lane call.Halt reply.Noted ∷ []) (deeds ++ last ∷ []) seen first h
+    pub holds : Holds (own ++ entry lane call.Halt reply.Noted ∷ [])
+        (deeds ++ with_ends (unsaid_by (Some cause)) last ∷ []) seen first h
     pub said : lines_of (listed h.unsaid) ≡ unsaid_by (Some cause)

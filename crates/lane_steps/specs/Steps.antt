@@ -33,7 +33,7 @@ use Rattle.proxy_calls.specs.declared.asking.Order.{Order}
 use Rattle.proxy_calls.specs.declared.asking.Order.TheVariants as order
 use Rattle.proxy_calls.specs.Calls.{MakesOne, MayMake}
 use Rattle.proxy_calls.specs.Claims.{claim_of}
-use Rattle.lane_deeds.specs.Lines.{Back, IsKilled, IsServed, AreBack, started_in}
+use Rattle.lane_deeds.specs.Lines.{Back, EndsLine, IsKilled, IsServed, AreBack, started_in}
 use Rattle.lane_steps.specs.declared.hands.Hands.{Hands}
 use Rattle.lane_steps.specs.Lanes.{Open, Held, Keeps, Halting}
 
@@ -59,7 +59,7 @@ abbrev pub IsCauseOfClaim : Attempt → Found → Cause → Type 0
 IsCauseOfClaim t f cause.NoMemory = HasFiles f
 IsCauseOfClaim t f (cause.Refused c) = c ≡ claim_of t f
 
--- the open line was laid by, with its child, which was killed
+-- the open line was laid by, with its child, which the berth has ended
 pub record IsLaidBy (line : ℕ) (h h' : Held) : Type 0 where
   pub was_open : Open
   pub back : Back
@@ -68,7 +68,8 @@ pub record IsLaidBy (line : ℕ) (h h' : Held) : Type 0 where
   pub is_back : (back.line ≡ was_open.line) × (back.feed ≡ was_open.feed)
       × IsKilled back.line back.child
   pub ended : h'.ended ≡ h.ended ++ back ∷ []
-  pub rest : (h'.opened ≡ None) × (h'.berth ≡ h.berth) × (h'.unsaid ≡ h.unsaid)
+  pub by_berth : EndsLine line h.berth h'.berth
+  pub rest : (h'.opened ≡ None) × (h'.unsaid ≡ h.unsaid)
 
 -- so was every line that was open
 abbrev pub AreLaidBy : Option ℕ → Held → Held → Type 0

@@ -4,7 +4,7 @@ use crate::calls::Calls;
 use crate::line::Line;
 use crate::notes::{note, note_end};
 use crate::{Files, Gates, MemChild, MemFeed, MemTap, Object, Script};
-use outside::{Berth, BerthCall, Command, Io, Launch, Read};
+use outside::{Berth, BerthCall, Child, Command, Io, Launch, Read};
 use plain_values::{Blob, NoMemory, Text};
 use std::alloc::Global;
 use std::sync::{Arc, Mutex, Wait};
@@ -130,7 +130,7 @@ impl<R: Wait + Clone + Drop> MemBerth<R> {
             × (l.0.faults ≡ 0)) }
         ensures tap { IfOk result (λ l. (l.1.line ≡ line) × (l.1.taken.items ≡ [])
             × (l.1.ended ≡ false) × (l.1.faults ≡ 0)) }
-        ensures child { IfOk result (λ l. (l.2.line ≡ line) × (l.2.killed ≡ false)) }
+        ensures child { IfOk result (λ l. (l.2.line ≡ line) × (l.2.kills ≡ Some 0)) }
     {
         let shared = self.shared(serves)?;
         let feed = self.feed(line, &shared)?;
@@ -273,6 +273,13 @@ impl<R: Wait + Clone + Drop> Berth for MemBerth<R> {
             self.faults = self.faults.saturating_add(1);
         }
         Ok(answer)
+    }
+
+    fn end(&mut self, line: u32, child: &mut MemChild<R>) {
+        child.kill();
+        if note(&mut self.log, BerthCall::End { line }).is_err() {
+            self.log = None;
+        }
     }
 }
 

@@ -1,43 +1,55 @@
-ghost use Rattle.std.specs.Prelude.{◌≡◌, Some, false};
+ghost use Rattle.std.specs.Prelude.{◌≡◌, Some};
+ghost use Rattle.outside.specs.Lists.{OnceMore};
 
 use crate::line::Line;
 use outside::Child;
 use std::sync::{Arc, Wait};
 
-/// A child. It tells whether it has been killed.
+/// A child. It tells how often it has been killed.
 #[derive(Drop)]
 pub struct MemChild<R> {
     rt: R,
     shared: Arc<Line>,
     line: u32,
-    killed: bool,
+    /// `None` once it was killed more often than there are numbers.
+    kills: Option<u64>,
 }
 
 impl<R> MemChild<R> {
     /// The child of this line.
     pub fn new(rt: R, shared: Arc<Line>, line: u32) -> MemChild<R>
         ensures line { result.line ≡ line }
-        ensures killed { result.killed ≡ false }
+        ensures killed { result.kills ≡ Some 0 }
     {
         MemChild {
             rt,
             shared,
             line,
-            killed: false,
+            kills: Some(0),
         }
     }
 
     /// Whether it has been killed.
     pub fn is_killed(&self) -> bool {
-        self.killed
+        !matches!(self.kills, Some(0))
+    }
+}
+
+// One more, unless there is no such number.
+fn more(kills: Option<u64>) -> Option<u64>
+    ensures { OnceMore kills result }
+{
+    match kills {
+        Some(count) if count < u64::MAX => Some(count + 1),
+        _ => None,
     }
 }
 
 impl<R: Wait + Drop> Child for MemChild<R> {
-    ghost told = { λ c. record { line = Some c.line; killed = Some c.killed } };
+    ghost told = { λ c. record { line = Some c.line; kills = c.kills } };
 
     fn kill(&mut self) {
-        self.killed = true;
+        self.kills = more(self.kills);
         self.shared.kill(&self.rt);
     }
 }

@@ -1,7 +1,7 @@
 -- A turn of the mailbox.
 use Rattle.std.proofs.Common.{◌≡◌, ◌⊎◌, ℕ, Bool, true, false, cond, List, [], ◌∷◌, ◌++◌}
 use Rattle.std.proofs.Common.{refl, ap, sym, ◌∙◌, subst, inl, inr}
-use Rattle.seat_desk.specs.declared.entry.Entry.{Entry}
+use Rattle.plain_values.specs.declared.entry.Entry.{Entry}
 use Rattle.seat_desk.specs.History.{entry, after}
 use Rattle.message_box.specs.declared.mailbox.Ask.{Ask}
 use Rattle.message_box.specs.declared.mailbox.Answer.{Answer}

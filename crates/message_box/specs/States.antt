@@ -3,7 +3,7 @@ use Rattle.std.specs.Prelude.{◌≡◌, ◌⊎◌, ℕ, ◌+◌, ◌==◌, ◌&
 use Rattle.std.specs.Prelude.{◌++◌, length, Option, Some, None, ltb}
 use Rattle.std.specs.Global.{Vec}
 use Rattle.std.specs.List.{fold}
-use Rattle.seat_desk.specs.declared.entry.Entry.{Entry}
+use Rattle.plain_values.specs.declared.entry.Entry.{Entry}
 use Rattle.message_box.specs.declared.mailbox.Stop.{Stop}
 use Rattle.message_box.specs.declared.mailbox.Ask.{Ask}
 use Rattle.message_box.specs.declared.mailbox.Ask.TheVariants as ask

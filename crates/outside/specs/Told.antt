@@ -41,10 +41,10 @@ pub record TapTold : Type 0 where
   pub taken : Option (List ℕ)
   pub ended : Option Bool
 
--- the line whose child it is, and whether it has been killed
+-- the line whose child it is, and how often it has been killed
 pub record ChildTold : Type 0 where
   pub line : Option ℕ
-  pub killed : Option Bool
+  pub kills : Option ℕ
 
 -- how often it has failed, and the bytes put
 pub record SinkTold : Type 0 where

@@ -15,14 +15,14 @@ use exec_journal::Call;
 use lane_crew::Caller;
 use lane_deeds::{Cause, Post};
 use lane_steps::{EndedFeed, Hands, OpenFeed};
-use outside::{Berth, Child, Place};
+use outside::{Berth, Place};
 use proxy_calls::{halt, tell};
 use remote_messages::WorkAction;
 use run_bench::Bench;
 use run_rules::Rules;
 use std::sync::Wait;
 
-/// Kills the open line's child, which is laid by with the line's feed, and reports it.
+/// Has the berth end the open line's child, which is laid by with the line's feed, and reports it.
 ///
 /// # Errors
 ///
@@ -63,7 +63,7 @@ pub(crate) fn kill<B: Berth, P: Place, C: Rules, R: Wait>(
     }
 }
 
-// Kills the child, and puts it with the open line's feed behind the lines that ended.
+// Has the berth end the child, and puts it with the open line's feed behind the lines that ended.
 fn lay_by<B: Berth>(hands: &mut Hands<B, B::Feed, B::Child>, line: u32, child: B::Child)
     requires open { open_in hands.old ≡ Some line }
     requires child { IsNewChild line (B.Child.told child) }
@@ -75,14 +75,14 @@ fn lay_by<B: Berth>(hands: &mut Hands<B, B::Feed, B::Child>, line: u32, child: B
         Some(open) => {
             let OpenFeed { line: _, feed } = open;
             let mut child = child;
-            child.kill();
+            hands.berth.end(line, &mut child);
             hands.ended.push_reserved(EndedFeed { line, feed, child });
         }
         None => unreachable!(),
     }
 }
 
-/// Halts. If a line is open, its child comes off the shelf and is killed.
+/// Halts. If a line is open, its child comes off the shelf, and the berth ends it.
 pub(crate) fn give_up<B: Berth, P: Place, C: Rules, R: Wait>(
     rt: &R,
     caller: &mut Caller<'_, Bench<B, P, C>>,

@@ -15,7 +15,7 @@ use lane_crew::Caller;
 use lane_deeds::{Cause, Post};
 use lane_steps::{EndedFeed, Hands, OpenFeed};
 use order_acts::{Opened, launch_line};
-use outside::{Berth, Child, Place};
+use outside::{Berth, Place};
 use proxy_calls::{Unsaid, tell, tell_started};
 use remote_messages::WorkAction;
 use run_bench::Bench;
@@ -99,7 +99,7 @@ fn start<B: Berth, P: Place, C: Rules, R: Wait>(
                 }
                 Err(unsaid) => {
                     let Unsaid { mut child } = unsaid;
-                    child.kill();
+                    hands.berth.end(line, &mut child);
                     hands.unsaid = Some(EndedFeed { line, feed, child });
                     Err(Cause::Refused(Call::Launched {
                         line,

@@ -1,7 +1,7 @@
 -- What the laws ask of a journal and its next entry.
 use Rattle.std.specs.Prelude.{◌≡◌, ℕ, Some, None, List}
 use Rattle.run_plan.specs.declared.plan.Branch.{Branch}
-use Rattle.exec_journal.specs.declared.journal.Entry.{Entry}
+use Rattle.exec_journal.specs.Entry.{Entry}
 use Rattle.exec_journal.specs.Words.{grant_of, commit_of}
 use Rattle.race_core.specs.Stands.{branch_in}
 

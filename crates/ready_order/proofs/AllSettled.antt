@@ -15,7 +15,7 @@ use Rattle.exec_journal.specs.declared.call.CommitEnd.{CommitEnd}
 use Rattle.exec_journal.specs.declared.call.CommitEnd.TheVariants as commit
 use Rattle.exec_journal.specs.declared.ends.Standing.{Standing}
 use Rattle.exec_journal.specs.declared.ends.Standing.TheVariants.{Open, Succeeded, Unsuccessful}
-use Rattle.exec_journal.specs.declared.journal.Entry.{Entry}
+use Rattle.exec_journal.specs.Entry.{Entry}
 use Rattle.exec_journal.specs.Settled.{by_commit, by_grant, all_dropped, is_starved, is_success, is_unsuccessful, is_settled, standing_after, standings_from, standings, settled, all_settled, ready}
 use Rattle.run_plan.specs.Sound.{Sound, are_sound_from, is_sound_action, is_earlier, has_branches}
 use Rattle.exec_journal.specs.Words.{grant_of, commit_of}

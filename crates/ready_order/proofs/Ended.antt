@@ -10,7 +10,7 @@ use Rattle.run_plan.specs.declared.plan.PlanAction.{PlanAction}
 use Rattle.exec_journal.specs.declared.attempt.Attempt.{Attempt}
 use Rattle.exec_journal.specs.declared.ends.Standing.{Standing}
 use Rattle.exec_journal.specs.declared.ends.Standing.TheVariants.{Open, Unsuccessful}
-use Rattle.exec_journal.specs.declared.journal.Entry.{Entry}
+use Rattle.exec_journal.specs.Entry.{Entry}
 use Rattle.exec_journal.specs.declared.call.Found.{Found}
 use Rattle.list_lemmas.specs.Options.{or_else}
 use Rattle.exec_journal.specs.Entries.{attempt_of, same_branch, same_attempt, is_branch_of}

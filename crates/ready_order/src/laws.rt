@@ -4,7 +4,7 @@ ghost use Rattle.exec_journal.specs.declared.attempt.Attempt.{Attempt};
 ghost use Rattle.exec_journal.specs.declared.call.Call.TheVariants.{Claim, Committed};
 ghost use Rattle.exec_journal.specs.declared.call.CommitEnd.{CommitEnd};
 ghost use Rattle.exec_journal.specs.declared.call.Found.TheVariants.{Files, Exit};
-ghost use Rattle.exec_journal.specs.declared.journal.Entry.{Entry};
+ghost use Rattle.exec_journal.specs.Entry.{Entry};
 ghost use Rattle.run_plan.specs.declared.plan.Branch.{Branch};
 ghost use Rattle.run_plan.specs.declared.plan.Plan.{Plan};
 ghost use Rattle.run_plan.specs.Sound.{Sound};

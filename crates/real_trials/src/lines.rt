@@ -40,7 +40,7 @@ pub fn play<P: Print, B: Berth>(page: &mut Page<'_, P>, alloc: Global, berth: &m
         page.io("put rack/x", &berth.room_put("rack/x", b"inside"));
         page.read("rack/x", berth.room_get("rack/x"));
         page.io("clear", &berth.room_clear(""));
-        child.kill();
+        berth.end(1, &mut child);
     }
     if let Some((_feed, mut tap, mut child)) = shell(page, alloc, berth, 2, THIRD) {
         take(page, &mut tap);
@@ -142,7 +142,7 @@ fn talk<P: Print, B: Berth>(
     take(page, tap);
     page.read("letter, not in the room", berth.room_get("letter"));
     page.io("clear", &berth.room_clear(""));
-    child.kill();
+    berth.end(0, child);
     take(page, tap);
     page.io("feed of a dead process", &feed.write(b"abc\n"));
     page.counts(

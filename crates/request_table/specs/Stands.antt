@@ -1,7 +1,7 @@
 -- When the table's facts are those of a journal, whose newest entry stands first.
 use Rattle.std.specs.Prelude.{◌≡◌, ℕ, ◌+◌, nat_lt, Bool, true, Option, Some, None, is_some, option_map, if◌then◌else◌, List, [], ◌∷◌, length, filter, map, reverse, slice_get, ℤ, pos, negsuc}
 use Rattle.run_plan.specs.declared.plan.Plan.{Plan}
-use Rattle.exec_journal.specs.declared.journal.Entry.{Entry}
+use Rattle.exec_journal.specs.Entry.{Entry}
 use Rattle.exec_journal.specs.Entries.{Request}
 use Rattle.exec_journal.specs.Words.{sends, pending, is_pending, has_cancel}
 use Rattle.exec_journal.specs.Rules.{head}

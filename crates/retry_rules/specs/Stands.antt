@@ -3,7 +3,7 @@ use Rattle.std.specs.Prelude.{◌≡◌, ℕ, ◌-◌, nat_lt, Some, None, if◌
 use Rattle.run_plan.specs.declared.plan.Branch.{Branch}
 use Rattle.run_plan.specs.declared.plan.Branch.TheVariants.{Local, Remote}
 use Rattle.run_plan.specs.declared.plan.Plan.{Plan}
-use Rattle.exec_journal.specs.declared.journal.Entry.{Entry}
+use Rattle.exec_journal.specs.Entry.{Entry}
 use Rattle.exec_journal.specs.Entries.{attempt_of}
 use Rattle.exec_journal.specs.Attempts.{attempt, ended}
 use Rattle.retry_rules.specs.declared.EndedCounts.{EndedCounts}

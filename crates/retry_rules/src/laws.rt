@@ -1,7 +1,7 @@
 //! How the table follows a journal. The functions do nothing: each is a law, for those who keep a table of a journal.
 ghost use Rattle.std.specs.Prelude.{◌≡◌, ◌+◌, ◌<◌, ◌≤◌, nat_le, ℕ, List, ◌∷◌, Some, false, length};
 ghost use Rattle.exec_journal.specs.declared.attempt.Attempt.{Attempt};
-ghost use Rattle.exec_journal.specs.declared.journal.Entry.{Entry};
+ghost use Rattle.exec_journal.specs.Entry.{Entry};
 ghost use Rattle.run_plan.specs.declared.plan.Branch.{Branch};
 ghost use Rattle.run_plan.specs.declared.plan.Plan.{Plan};
 ghost use Rattle.exec_journal.specs.Attempts.{attempt, begun_in, ended};

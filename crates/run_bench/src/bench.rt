@@ -1,6 +1,6 @@
 //! The bench.
 ghost use Rattle.std.specs.Prelude.{◌≡◌, ◌/◌, true, List, [], IfOk};
-ghost use Rattle.seat_desk.specs.declared.entry.Entry.{Entry};
+ghost use Rattle.plain_values.specs.declared.entry.Entry.{Entry};
 ghost use Rattle.exec_journal.specs.declared.call.Call.{Call};
 ghost use Rattle.exec_journal.specs.declared.reply.Reply.{Reply};
 ghost use Rattle.exec_journal.specs.Entries.{is_kept};

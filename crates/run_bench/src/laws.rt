@@ -1,6 +1,6 @@
 //! What holds of the shelf after any history. The functions do nothing: each is a law.
 ghost use Rattle.std.specs.Prelude.{◌≡◌, ℕ, List};
-ghost use Rattle.seat_desk.specs.declared.entry.Entry.{Entry};
+ghost use Rattle.plain_values.specs.declared.entry.Entry.{Entry};
 ghost use Rattle.seat_desk.specs.History.{calls_by};
 ghost use Rattle.exec_journal.specs.declared.call.Call.{Call};
 ghost use Rattle.exec_journal.specs.declared.reply.Reply.{Reply};

@@ -1,6 +1,6 @@
 //! What a scheduling core is.
 ghost use Rattle.std.specs.Prelude.{◌≡◌, ◌≤◌, ◌<◌, ◌+◌, ◌/◌, ℕ, ℤ, Bool, true, false, List, [], ◌∷◌, ◌++◌, Option, Some, None};
-ghost use Rattle.seat_desk.specs.declared.entry.Entry.{Entry};
+ghost use Rattle.plain_values.specs.declared.entry.Entry.{Entry};
 ghost use Rattle.seat_desk.specs.History.{entry, calls_by, Owes};
 ghost use Rattle.run_plan.specs.declared.plan.Branch.{Branch};
 ghost use Rattle.run_plan.specs.declared.plan.Maker.{Maker};
@@ -56,6 +56,9 @@ pub trait Rules: Sized + Drop {
     // The process of this berth is an executor.
     ghost remote: { Self.Plan → ℕ → Bool };
 
+    // The most lines that may be ordered.
+    ghost line_room: { Self.Plan → ℕ };
+
     // The number of actions.
     ghost actions: { Self.Plan → ℕ };
 
@@ -87,6 +90,10 @@ pub trait Rules: Sized + Drop {
     /// The number of berths.
     fn berths(&self) -> u32
         ensures { result ≡ seats (plan self.now) };
+
+    /// The most lines that may be ordered.
+    fn most_lines(&self) -> u32
+        ensures { result ≡ line_room (plan self.now) };
 
     // A paid call is answered Noted, and so never by want of memory.
     ghost paid_is_noted: { (m : Self) (h : List (Entry Call Reply)) (lane : ℕ) (c : Call)
@@ -179,6 +186,10 @@ pub trait Rules: Sized + Drop {
     ghost orders_hold: { (q : Self.Plan) (h : List (Entry Call Reply)) (lane : ℕ)
         → legal q h
         → OrderHolds (actions q) (child_at (lane / 2) h) (lines_in h) (rule q h lane call.Ask) };
+
+    // No more lines are ordered than there may be.
+    ghost lines_fit: { (q : Self.Plan) (h : List (Entry Call Reply))
+        → legal q h → lines_in h ≤ line_room q };
 
     // The made inputs of a request that was ordered are there when its lane looks at them.
     ghost inputs_are_there: { (q : Self.Plan) (h : List (Entry Call Reply)) (w l : ℕ) (n : ℤ)

@@ -74,6 +74,10 @@ fn first_words<R: Wait + Clone + Drop>(
         .halves
         .as_ref()
         .is_none_or(|halves| halves.child.is_killed()));
+    let unsaid_killed = ended.unsaid.iter().all(|line| line
+        .as_ref()
+        .is_none_or(|line| line.child.is_killed()));
+    let killed = killed && unsaid_killed;
     Ok(format!(in alloc; "status {} berths {berths} killed {killed}", ended.status)?)
 }
 
@@ -170,6 +174,7 @@ fn called(alloc: Global, call: &BerthCall) -> Result<String, NoMemory> {
         BerthCall::Folder { path, .. } => called_on(alloc, "folder", path),
         BerthCall::Put { path, .. } => called_on(alloc, "put", path),
         BerthCall::Get { path, .. } => called_on(alloc, "get", path),
+        BerthCall::End { line } => Ok(format!(in alloc; "end {line}")?),
     }
 }
 

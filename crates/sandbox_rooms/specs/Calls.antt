@@ -19,6 +19,7 @@ pub data Asked : Type 0 where
   Folder : List ℕ → Asked
   Put : List ℕ → List ℕ → Asked
   Get : List ℕ → Asked
+  End : ℕ → Asked
 
 abbrev pub asked : BerthCall → Asked
 asked (call.Launch line command end) = Launch line command
@@ -26,6 +27,7 @@ asked (call.Clear part end) = Clear part
 asked (call.Folder path end) = Folder path
 asked (call.Put path bytes end) = Put path bytes
 asked (call.Get path answer) = Get path
+asked (call.End line) = End line
 
 abbrev pub is_done : Io → Bool
 is_done io.Done = true
@@ -36,13 +38,14 @@ is_found (read.Found bytes) = true
 is_found read.Absent = false
 is_found read.Failed = false
 
--- the call was answered Done or Found
+-- The call was answered Done or Found. An End has no answer.
 abbrev pub went_well : BerthCall → Bool
 went_well (call.Launch line command end) = is_done end
 went_well (call.Clear part end) = is_done end
 went_well (call.Folder path end) = is_done end
 went_well (call.Put path bytes end) = is_done end
 went_well (call.Get path answer) = is_found answer
+went_well (call.End line) = true
 
 -- how calls that were to be made ended
 pub data RunEnd : Type 0 where

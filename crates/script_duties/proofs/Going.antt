@@ -9,12 +9,12 @@ use Rattle.exec_journal.specs.declared.call.Found.{Found}
 use Rattle.exec_journal.specs.declared.call.Found.TheVariants as found
 use Rattle.exec_journal.specs.declared.reply.Reply.{Reply}
 use Rattle.exec_journal.specs.declared.reply.Reply.TheVariants as reply
-use Rattle.exec_journal.specs.declared.journal.Entry.{Entry}
+use Rattle.exec_journal.specs.Entry.{Entry}
 use Rattle.exec_journal.specs.Entries.{is_stop, is_halt, is_look}
 use Rattle.exec_journal.specs.Words.{last_work, stopped, has_halted}
 use Rattle.run_rules.specs.Moves.{Past, History}
 use Rattle.run_rules.specs.Duties.{Duty, Asks, Launches, Sends, Cancels, Gathers, Commits, Kills, Left, ordered, duty_of_claim, duty_by_call, duty_from, duty_by, duty_then}
-use Rattle.script_duties.specs.Owed.{to_entry, journal_of, has_left, duty_of_work, owed_by, DutyIs}
+use Rattle.script_duties.specs.Owed.{journal_of, has_left, duty_of_work, owed_by, DutyIs}
 
 pub by_bool : (b : Bool) (P : Bool → Type 0) → P true → P false → P b
 by_bool true P t f = t
@@ -213,7 +213,7 @@ or_true false false h x y = absurd (cc)
 module _ (s : Duty) (e : Past) (j : List Entry) (lane : ℕ) (own : (e.lane == lane) ≡ true)
     (is : DutyIs s j lane) where
   abbrev E : Entry
-  E = to_entry e
+  E = e
 
   stops_own : stopped (E ∷ j) lane ≡ (is_stop e.reply || stopped j lane)
   stops_own = (then E j lane).stops
@@ -301,14 +301,14 @@ module _ (s : Duty) (e : Past) (j : List Entry) (lane : ℕ) (own : (e.lane == l
 
 -- an entry of another lane
 other_entry : (s : Duty) (e : Past) (j : List Entry) (lane : ℕ) → (e.lane == lane) ≡ false
-    → DutyIs s j lane → DutyIs s (to_entry e ∷ j) lane
+    → DutyIs s j lane → DutyIs s (e ∷ j) lane
 other_entry s e j lane other is =
-    let t = then (to_entry e) j lane in
-    let stops : stopped (to_entry e ∷ j) lane ≡ stopped j lane = t.stops
+    let t = then e j lane in
+    let stops : stopped (e ∷ j) lane ≡ stopped j lane = t.stops
     ∙ ap (λ (b : Bool). (b && is_stop e.reply) || stopped j lane) other in
-    let halts : has_halted (to_entry e ∷ j) lane ≡ has_halted j lane = t.halts
+    let halts : has_halted (e ∷ j) lane ≡ has_halted j lane = t.halts
     ∙ ap (λ (b : Bool). (b && is_halt e.call) || has_halted j lane) other in
-    let works : last_work (to_entry e ∷ j) lane ≡ last_work j lane =
+    let works : last_work (e ∷ j) lane ≡ last_work j lane =
     t.other (ap (λ (b : Bool). b && (not (is_look e.call) && not (is_halt e.call))) other) in
     record {
       gone = is.gone ∙ sym (λ i. stops i || halts i);
@@ -324,17 +324,17 @@ flip a b false h = by_bool (b == a) (λ c. (b == a) ≡ c → c ≡ false)
 one_entry : (e : Past) (es : History) (s : Duty) (j : List Entry) (lane : ℕ) (b : Bool)
     → (lane == e.lane) ≡ b
     → ((s : Duty) (j : List Entry) → DutyIs s j lane
-    → DutyIs (fold duty_then s (calls_by lane es)) (fold (λ j e. to_entry e ∷ j) j es) lane)
+    → DutyIs (fold duty_then s (calls_by lane es)) (fold (λ j e. e ∷ j) j es) lane)
     → DutyIs s j lane
     → DutyIs (fold duty_then s (cond b (e ∷ calls_by lane es) (calls_by lane es)))
-    (fold (λ j e. to_entry e ∷ j) (to_entry e ∷ j) es) lane
-one_entry e es s j lane true own rest is = rest (duty_then s e) (to_entry e ∷ j)
+    (fold (λ j e. e ∷ j) (e ∷ j) es) lane
+one_entry e es s j lane true own rest is = rest (duty_then s e) (e ∷ j)
     (own_entry s e j lane (flip lane e.lane true own) is (has_left s) refl)
-one_entry e es s j lane false other rest is = rest s (to_entry e ∷ j)
+one_entry e es s j lane false other rest is = rest s (e ∷ j)
     (other_entry s e j lane (flip lane e.lane false other) is)
 
 goes_along : (es : History) (lane : ℕ) (s : Duty) (j : List Entry) → DutyIs s j lane
-    → DutyIs (fold duty_then s (calls_by lane es)) (fold (λ j e. to_entry e ∷ j) j es) lane
+    → DutyIs (fold duty_then s (calls_by lane es)) (fold (λ j e. e ∷ j) j es) lane
 goes_along [] lane s j is = is
 goes_along (e ∷ es) lane s j is =
     one_entry e es s j lane (lane == e.lane) refl (λ x k. goes_along es lane x k) is

@@ -17,7 +17,7 @@ use Rattle.exec_journal.specs.declared.call.Wanted.TheVariants as wanted
 use Rattle.exec_journal.specs.declared.reply.Why.{Why}
 use Rattle.exec_journal.specs.declared.reply.Reply.{Reply}
 use Rattle.exec_journal.specs.declared.reply.Reply.TheVariants as reply
-use Rattle.exec_journal.specs.declared.journal.Entry.{Entry}
+use Rattle.exec_journal.specs.Entry.{Entry}
 use Rattle.exec_journal.specs.Entries.{is_stop, attempt_of, same_attempt, same_branch}
 use Rattle.exec_journal.specs.Words.{last_work, stopped, has_halted}
 use Rattle.exec_journal.specs.Scripts.{is_made, may_find, is_commit_of, is_owed, is_owed_commit, may_look, allowed, seat_script}

@@ -9,7 +9,7 @@ use Rattle.exec_journal.specs.declared.call.Found.TheVariants as found
 use Rattle.exec_journal.specs.declared.call.CommitEnd.{CommitEnd}
 use Rattle.exec_journal.specs.declared.reply.Reply.{Reply}
 use Rattle.exec_journal.specs.declared.reply.Reply.TheVariants as reply
-use Rattle.exec_journal.specs.declared.journal.Entry.{Entry}
+use Rattle.exec_journal.specs.Entry.{Entry}
 use Rattle.exec_journal.specs.Entries.{same_branch}
 use Rattle.exec_journal.specs.Words.{last_work, stopped, has_halted}
 use Rattle.exec_journal.specs.Scripts.{is_commit_of, owes_commit}

@@ -7,12 +7,12 @@ use Rattle.seat_desk.specs.History.{calls_by}
 use Rattle.run_plan.specs.declared.plan.Plan.{Plan}
 use Rattle.run_plan.specs.declared.plan.Kind.{Kind}
 use Rattle.exec_journal.specs.declared.call.Call.{Call}
-use Rattle.exec_journal.specs.declared.journal.Entry.{Entry}
+use Rattle.exec_journal.specs.Entry.{Entry}
 use Rattle.exec_journal.specs.Entries.{is_stop, is_halt, is_look}
 use Rattle.exec_journal.specs.Words.{last_work, stopped, has_halted}
 use Rattle.exec_journal.specs.Scripts.{is_owed_commit, allowed, seat_script}
 use Rattle.run_rules.specs.Moves.{Past, History}
-use Rattle.script_duties.specs.Owed.{to_entry, journal_of}
+use Rattle.script_duties.specs.Owed.{journal_of}
 use Rattle.script_duties.proofs.Going.{then, flip}
 
 -- what a lane's script hangs on is the same by both journals
@@ -22,8 +22,8 @@ record SameLane (k j : List Entry) (lane : ℕ) : Type 0 where
   works : last_work k lane ≡ last_work j lane
 
 one_more : (e : Past) (j : List Entry) (lane : ℕ) → (e.lane == lane) ≡ false
-    → SameLane (to_entry e ∷ j) j lane
-one_more e j lane other = let t = then (to_entry e) j lane in record {
+    → SameLane (e ∷ j) j lane
+one_more e j lane other = let t = then e j lane in record {
   stops = t.stops ∙ ap (λ (b : Bool). (b && is_stop e.reply) || stopped j lane) other;
   halts = t.halts ∙ ap (λ (b : Bool). (b && is_halt e.call) || has_halted j lane) other;
   works = t.other (ap (λ (b : Bool). b && (not (is_look e.call) && not (is_halt e.call))) other);
@@ -32,20 +32,20 @@ one_more e j lane other = let t = then (to_entry e) j lane in record {
 then_more : (e : Past) (es : History) (j : List Entry) (lane : ℕ) (b : Bool)
     → (lane == e.lane) ≡ b
     → ((k : List Entry) → calls_by lane es ≡ []
-    → SameLane (fold (λ j e. to_entry e ∷ j) k es) k lane)
+    → SameLane (fold (λ j e. e ∷ j) k es) k lane)
     → cond b (e ∷ calls_by lane es) (calls_by lane es) ≡ []
-    → SameLane (fold (λ j e. to_entry e ∷ j) (to_entry e ∷ j) es) j lane
+    → SameLane (fold (λ j e. e ∷ j) (e ∷ j) es) j lane
 then_more e es j lane true own rest none_own = absurd (cc)
 then_more e es j lane false other rest none_own =
     let first = one_more e j lane (flip lane e.lane false other) in
-    let later = rest (to_entry e ∷ j) none_own in record {
+    let later = rest (e ∷ j) none_own in record {
       stops = later.stops ∙ first.stops;
       halts = later.halts ∙ first.halts;
       works = later.works ∙ first.works;
     }
 
 all_more : (es : History) (j : List Entry) (lane : ℕ) → calls_by lane es ≡ []
-    → SameLane (fold (λ j e. to_entry e ∷ j) j es) j lane
+    → SameLane (fold (λ j e. e ∷ j) j es) j lane
 all_more [] j lane none_own = record { stops = refl; halts = refl; works = refl }
 all_more (e ∷ es) j lane none_own = then_more e es j lane (lane == e.lane) refl
     (λ k h. all_more es k lane h) none_own
@@ -55,7 +55,7 @@ pub script_stays : (n : ℕ) (kinds : ℕ → Kind) (p : Plan) (h more : History
     → seat_script n kinds p (journal_of (h ++ more)) lane c ≡ seat_script n kinds p (journal_of h) lane c
 script_stays n kinds p h more lane c none_own =
     let same = all_more more (journal_of h) lane none_own in
-    ap (λ (j : List Entry). seat_script n kinds p j lane c) (fold-append (λ j e. to_entry e ∷ j) [] h more)
+    ap (λ (j : List Entry). seat_script n kinds p j lane c) (fold-append (λ j e. e ∷ j) [] h more)
     ∙ (λ i. nat_lt lane (2 * n) && (not (same.stops i)
     && cond (same.halts i) (is_owed_commit c (same.works i))
     (allowed p (kinds (lane / 2)) (lane % 2 == 0) (same.works i) c)))

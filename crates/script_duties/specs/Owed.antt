@@ -3,19 +3,16 @@ use Rattle.std.specs.Prelude.{◌≡◌, ℕ, Bool, true, false, ◌||◌, List,
 use Rattle.exec_journal.specs.declared.call.Call.{Call}
 use Rattle.exec_journal.specs.declared.call.Call.TheVariants as call
 use Rattle.exec_journal.specs.declared.reply.Reply.{Reply}
-use Rattle.exec_journal.specs.declared.journal.Entry.{Entry}
+use Rattle.exec_journal.specs.Entry.{Entry}
 use Rattle.exec_journal.specs.Words.{last_work, stopped, has_halted}
 use Rattle.run_plan.specs.declared.plan.Plan.{Plan}
 use Rattle.run_plan.specs.declared.plan.Maker.{Maker}
 use Rattle.run_rules.specs.Moves.{Past, History}
 use Rattle.run_rules.specs.Duties.{Duty, Asks, Launches, Sends, Cancels, Gathers, Commits, Kills, Left, ordered, duty_of_claim}
 
-abbrev pub to_entry : Past → Entry
-to_entry e = record { lane = e.lane; call = e.call; reply = e.reply }
-
 -- the journal of a history, whose newest entry stands first
 abbrev pub journal_of : History → List Entry
-journal_of h = fold (λ j e. to_entry e ∷ j) [] h
+journal_of h = fold (λ j e. e ∷ j) [] h
 
 abbrev pub has_left : Duty → Bool
 has_left Left = true

@@ -1,7 +1,7 @@
 //! How a proxy lane's duty and the words of its script belong together. The functions do nothing:
 //! each is a law.
 ghost use Rattle.std.specs.Prelude.{◌≡◌, ◌<◌, ◌/◌, ℕ, true, List, [], ◌++◌};
-ghost use Rattle.seat_desk.specs.declared.entry.Entry.{Entry};
+ghost use Rattle.plain_values.specs.declared.entry.Entry.{Entry};
 ghost use Rattle.seat_desk.specs.History.{calls_by};
 ghost use Rattle.exec_journal.specs.declared.call.Call.{Call};
 ghost use Rattle.exec_journal.specs.declared.reply.Reply.{Reply};

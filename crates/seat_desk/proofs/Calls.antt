@@ -1,7 +1,7 @@
 -- From the steps to the calls of a desk.
 use Rattle.std.proofs.Common.{◌≡◌, ◌≢◌, ℕ, ◌+◌, ◌%◌, ◌^◌, Bool, true, false, cond, List, [], ◌∷◌, ◌++◌, sym, refl, ap, ◌∙◌, subst, append-nil, arith, Option, Some, None, length, length-append, inl, inr}
 use Rattle.atomic_table.specs.Table.{rest, Allows}
-use Rattle.seat_desk.specs.declared.entry.Entry.{Entry}
+use Rattle.plain_values.specs.declared.entry.Entry.{Entry}
 use Rattle.seat_desk.specs.declared.view.Role.TheVariants.{Lane}
 use Rattle.seat_desk.specs.declared.view.Stage.TheVariants.{Waits}
 use Rattle.seat_desk.specs.declared.view.View.{View}

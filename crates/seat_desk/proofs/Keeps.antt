@@ -7,7 +7,7 @@ use lib.ListN.{get_elem?}
 use lib.Seq.{set-get_or}
 use Rattle.atomic_table.specs.Table.{State, Me, Act, keeps, takes, gives, put_back, rest, carried_after, Valid, stepped, Allows, opening}
 use Rattle.atomic_table.proofs.Lists.{set_again, one_turn}
-use Rattle.seat_desk.specs.declared.entry.Entry.{Entry}
+use Rattle.plain_values.specs.declared.entry.Entry.{Entry}
 use Rattle.seat_desk.specs.declared.view.Role.{Role}
 use Rattle.seat_desk.specs.declared.view.Role.TheVariants.{Root, Lane, Gone}
 use Rattle.seat_desk.specs.declared.view.Stage.{Stage}

@@ -2,7 +2,7 @@
 -- meaning. Their words for passes stand in Passes.
 use Rattle.std.specs.Prelude.{◌≡◌, ◌⊎◌, ℕ, ◌≤◌, ◌%◌, ◌^◌, Bool, false, List, [], ◌∷◌, ◌++◌, Option, Some, None}
 use Rattle.atomic_table.specs.Table.{Me}
-use Rattle.seat_desk.specs.declared.entry.Entry.{Entry}
+use Rattle.plain_values.specs.declared.entry.Entry.{Entry}
 use Rattle.seat_desk.specs.declared.view.Role.TheVariants.{Root, Lane}
 use Rattle.seat_desk.specs.declared.view.Stage.TheVariants.{Idle, Waits, Turn}
 use Rattle.seat_desk.specs.declared.view.View.{View}

@@ -1,7 +1,6 @@
 -- What lies in the slot.
-use Rattle.std.specs.Prelude.{◌≡◌, ℕ, ◌+◌, ◌≤◌, ◌⊎◌, List, vec_len}
-use Rattle.std.specs.Vec.{vec_capacity}
-use Rattle.seat_desk.specs.declared.entry.Entry.{Entry}
+use Rattle.std.specs.Prelude.{◌≡◌, ℕ, ◌+◌, ◌≤◌, ◌⊎◌, List}
+use Rattle.plain_values.specs.declared.entry.Entry.{Entry}
 use Rattle.seat_desk.specs.declared.held.Held.{Held}
 use Rattle.seat_desk.specs.History.{FactOfCall}
 
@@ -14,7 +13,7 @@ module _ {M C R : Type 0} where
   -- than it owes now, or the call was paid for
   abbrev pub HasRoom : (List (Entry C R) → ℕ) → FactOfCall C R → ℕ → C → Held M C R → Type 0
   HasRoom owes paid lane call y =
-      (vec_len y.history + owes y.history.items + 3 ≤ vec_capacity y.history)
+      (owes y.history.items + 3 ≤ y.history.room)
       ⊎ (paid y.history.items lane call)
 
   -- the machine has the rules q and stands for the history, which has room for what the machine
@@ -23,5 +22,5 @@ module _ {M C R : Type 0} where
       → (Q → List (Entry C R) → ℕ) → Q → Held M C R → Type 0
   IsGood {Q} rules stands owes q y =
       stands y.machine y.history.items
-      × (vec_len y.history + owes q y.history.items ≤ vec_capacity y.history)
+      × (owes q y.history.items ≤ y.history.room)
       × (rules y.machine ≡ q)

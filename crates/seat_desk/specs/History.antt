@@ -1,7 +1,7 @@
 -- Histories: lists of entries, the oldest first.
 use Rattle.std.specs.Prelude.{◌≡◌, ℕ, ◌==◌, Bool, cond, List, [], ◌∷◌, ◌++◌, ◌⊎◌, true, Option}
 use Rattle.std.specs.Int.Bits.{bit_or}
-use Rattle.seat_desk.specs.declared.entry.Entry.{Entry}
+use Rattle.plain_values.specs.declared.entry.Entry.{Entry}
 
 -- a reply to each call of a lane after a history
 abbrev pub ReplyAfter : Type 0 → Type 0 → Type 0

@@ -1,5 +1,6 @@
 -- What the contracts of this crate cite.
 pub mod History
+pub mod Logs
 pub mod Helds
 pub mod Turns
 pub mod Desks

@@ -1,7 +1,7 @@
 -- What a clause reads of a desk, its root and its passes.
 use Rattle.std.specs.Prelude.{◌≡◌, ◌+◌, List, Option}
 use Rattle.seat_desk.specs.declared.machine.Machine.{Ghosts}
-use Rattle.seat_desk.specs.declared.entry.Entry.{Entry}
+use Rattle.plain_values.specs.declared.entry.Entry.{Entry}
 use Rattle.seat_desk.specs.declared.view.Joined.{Joined}
 use Rattle.seat_desk.specs.declared.desk.Pass.{Pass}
 use Rattle.seat_desk.specs.declared.desk.Root.{Root}

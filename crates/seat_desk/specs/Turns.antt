@@ -6,7 +6,7 @@ use Rattle.std.specs.Prelude.{◌≡◌, ◌≢◌, ℕ, ◌+◌, ◌%◌, ◌^�
 use mathlib.Core.Option as maybe
 use lib.ListN.{get_elem?}
 use Rattle.atomic_table.specs.Table.{State, Me}
-use Rattle.seat_desk.specs.declared.entry.Entry.{Entry}
+use Rattle.plain_values.specs.declared.entry.Entry.{Entry}
 use Rattle.seat_desk.specs.declared.view.Role.{Role}
 use Rattle.seat_desk.specs.declared.view.Role.TheVariants.{Root, Lane, Gone}
 use Rattle.seat_desk.specs.declared.view.Stage.{Stage}

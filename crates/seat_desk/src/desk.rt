@@ -8,6 +8,7 @@ ghost use Rattle.seat_desk.specs.Desks.{IsIdle, IsRoot, Draws, WaitsFor, IsServe
 use crate::entry::HistoryEntry;
 use crate::held::Held;
 use crate::machine::{Machine, Then};
+use crate::pieces::Pieces;
 use crate::plays::{Cut, Draw, End, Gather, Glue, Look};
 use crate::rule::Turns;
 use crate::turn::{follow, step};
@@ -102,7 +103,7 @@ impl<M: Machine> Desk<M> {
         ensures { IfOk result (λ d. IsRootOf d.0 d.1 × IsNewRoot (M.rules machine) d.1) }
     {
         let mut slots = Vec::with_capacity(alloc, 1)?;
-        let mut history = Vec::new(alloc);
+        let mut history = Pieces::new(alloc);
         history.reserve(machine.owed() as usize)?;
         let about = Snapshot::of(&machine);
         let held = Held { machine, history };
@@ -262,19 +263,15 @@ impl<M: Machine> Desk<M> {
 
     /// Ends the desk, once each pass was joined. The history begins with all that the root has seen,
     /// the calls of each lane in it are those that its pass made, no other lane has a call in it, and
-    /// the machine stands for it.
-    ///
-    /// # Errors
-    ///
-    /// `NoMemory`, and then the desk is gone.
-    pub fn close<R>(self, rt: &R, root: Root<M>) -> Result<Closed<M>, NoMemory>
+    /// the machine stands for it. It takes no memory.
+    pub fn close<R>(self, rt: &R, root: Root<M>) -> Closed<M>
         requires desk { IsRootOf self root }
         requires all { length (joined root) ≡ root.made }
-        ensures stands { IfOk result (λ c.
-            StandsUnder M.rules M.stands (root_rules root) c.machine c.history.items) }
-        ensures seen { IfOk result (λ c. StartsWith c.history.items (root_seen root)) }
-        ensures joined { IfOk result (λ c. AllJoined c.history.items (joined root)) }
-        ensures others { IfOk result (λ c. NoneFrom root.made c.history.items) }
+        ensures stands { StandsUnder M.rules M.stands (root_rules root) result.machine
+            result.history.items }
+        ensures seen { StartsWith result.history.items (root_seen root) }
+        ensures joined { AllJoined result.history.items (joined root) }
+        ensures others { NoneFrom root.made result.history.items }
     {
         let _ = rt;
         let Desk { table, gate: _ } = self;
@@ -283,7 +280,8 @@ impl<M: Machine> Desk<M> {
         let held = closed.take(0).unwrap();
         closed.free();
         let Held { machine, history } = held;
-        Ok(Closed { machine, history })
+        let history = history.into_list();
+        Closed { machine, history }
     }
 
     // Draws a ticket. In all private functions the seat is one of this desk's table.

@@ -15,11 +15,12 @@ mod desk;
 mod entry;
 mod held;
 mod machine;
+mod pieces;
 mod plays;
 mod rule;
 mod turn;
 mod view;
 
 pub use desk::{Closed, Desk, Pass, Refused, Root};
-pub use entry::{Entry, HistoryEntry};
+pub use entry::HistoryEntry;
 pub use machine::{Machine, Then};

@@ -1,28 +1,27 @@
 //! What happens in a turn, while the machine is out of the slot.
-ghost use Rattle.std.specs.Prelude.{◌≡◌, ◌<◌, ◌+◌, true, false, cond, vec_len};
-ghost use Rattle.std.specs.Vec.{vec_capacity};
+ghost use Rattle.std.specs.Prelude.{◌≡◌, ◌<◌, ◌+◌, true, false, cond};
 ghost use Rattle.seat_desk.specs.History.{entry, after, IsReply};
 ghost use Rattle.seat_desk.specs.Helds.{IsGood, HasRoom};
 ghost use Rattle.seat_desk.specs.Desks.{MayFollow, Follows};
 
-use crate::entry::Entry;
 use crate::held::Held;
 use crate::machine::{Machine, Then};
+use crate::pieces::Pieces;
+use plain_values::Entry;
 
 // Adds the entry to the history, where it is kept. It takes no memory.
 fn write<M: Machine>(
-    history: &mut Vec<Entry<M::Call, M::Reply>>,
+    history: &mut Pieces<Entry<M::Call, M::Reply>>,
     lane: u32,
     call: M::Call,
     reply: &M::Reply,
 )
     requires { M.keeps (entry lane call reply.now) ≡ true
-        → vec_len history.old < vec_capacity history.old }
+        → 0 < history.old.room }
     ensures items { history.new.items ≡ after M.keeps history.old.items
         (entry lane call reply.now) }
-    ensures len { vec_len history.new ≡ vec_len history.old + cond (M.keeps
-        (entry lane call reply.now)) 1 0 }
-    ensures capacity { vec_capacity history.new ≡ vec_capacity history.old }
+    ensures room { history.new.room + cond (M.keeps (entry lane call reply.now)) 1 0
+        ≡ history.old.room }
 {
     if M::is_kept(lane, &call, reply) {
         let reply = M::copy(reply);

@@ -1,7 +1,7 @@
 //! What each seat at the table knows. No value of these types is made: they are data of the proofs.
 //!
 //! Seat 0 is the root's, and seat `k + 1` that of lane `k`.
-use crate::entry::Entry;
+use plain_values::Entry;
 use std::collections::LinkedList;
 
 /// Whose seat it is.

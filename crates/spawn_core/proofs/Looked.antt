@@ -15,7 +15,7 @@ use Rattle.exec_journal.specs.declared.call.Answer.{Answer}
 use Rattle.exec_journal.specs.declared.call.Call.TheVariants as call
 use Rattle.exec_journal.specs.declared.call.Wanted.{Wanted}
 use Rattle.exec_journal.specs.declared.call.Wanted.TheVariants as look
-use Rattle.exec_journal.specs.declared.journal.Entry.{Entry}
+use Rattle.exec_journal.specs.Entry.{Entry}
 use Rattle.exec_journal.specs.declared.reply.Reply.{Reply}
 use Rattle.exec_journal.specs.declared.reply.Reply.TheVariants as reply
 use Rattle.exec_journal.specs.Rules as r

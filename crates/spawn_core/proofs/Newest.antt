@@ -10,7 +10,7 @@ use Rattle.exec_journal.specs.declared.call.Call.{Call}
 use Rattle.exec_journal.specs.declared.call.Call.TheVariants as call
 use Rattle.exec_journal.specs.declared.call.Written.{Written}
 use Rattle.exec_journal.specs.declared.call.Written.TheVariants as write
-use Rattle.exec_journal.specs.declared.journal.Entry.{Entry}
+use Rattle.exec_journal.specs.Entry.{Entry}
 use Rattle.exec_journal.specs.declared.reply.Reply.{Reply}
 use Rattle.exec_journal.specs.declared.reply.Reply.TheVariants as reply
 use Rattle.exec_journal.specs.Entries.{Request, attempt_of, consumed_in, gather_in, gather_of_entry, is_branch_of, is_for, matched_in, same_attempt, same_branch}

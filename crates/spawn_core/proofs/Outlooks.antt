@@ -1,12 +1,13 @@
 -- What the tables say of a lane before it calls is what the journal says.
-use Rattle.std.proofs.Common.{◌≡◌, ℕ, ◌*◌, ◌+◌, ◌/◌, ◌%◌, ◌<◌, ◌==◌, Bool, true, false, cond, not, List, length, Option, Some, None, refl, ap, sym, ◌∙◌, arith, lt-ltb}
+use Rattle.std.proofs.Common.{◌≡◌, ℕ, ◌*◌, ◌+◌, ◌/◌, ◌%◌, ◌<◌, ◌≤◌, ◌==◌, Bool, true, false, cond, not, List, length, Option, Some, None, refl, ap, sym, ◌∙◌, arith, lt-ltb}
+use Rattle.std.proofs.Math.Nat.{mul-le-mul_right}
 use Rattle.std.specs.Prelude.{slice_get}
 use Rattle.run_plan.specs.declared.plan.Plan.{Plan}
 use Rattle.run_plan.specs.Groups.{berths}
 use Rattle.exec_journal.specs.declared.call.Call.{Call}
 use Rattle.exec_journal.specs.declared.call.Call.TheVariants as call
 use Rattle.exec_journal.specs.declared.call.Found.TheVariants as found
-use Rattle.exec_journal.specs.declared.journal.Entry.{Entry}
+use Rattle.exec_journal.specs.Entry.{Entry}
 use Rattle.exec_journal.specs.declared.reply.Reply.{Reply}
 use Rattle.exec_journal.specs.declared.reply.Reply.TheVariants as reply
 use Rattle.exec_journal.specs.Entries.{is_look}
@@ -80,6 +81,19 @@ reads_kept c w h lt =
     let same : berths c.state.plan ≡ berths h.plan = ap berths st.plan in
     read.reads h.plan c.state h.journal st (all_of h.plan c.state h.journal st).facts w
     (omega (arith, same, lt))
+
+-- how few actions there are, and how few attempts of their branches
+pub attempts_kept : (c : Kept) → HasHistory c → (length c.state.plan.actions ≤ 4096)
+    × (2 * length c.state.plan.actions * c.state.plan.limit ≤ 81920)
+attempts_kept c h =
+    let st = h.stands.tables in
+    let actions : length c.state.plan.actions ≡ length h.plan.actions =
+    ap (λ (p : Plan). length p.actions) st.plan in
+    let limit : c.state.plan.limit ≡ h.plan.limit = ap (λ (p : Plan). p.limit) st.plan in
+    let few : length c.state.plan.actions ≤ 4096 = omega (arith, actions, st.sound.actions) in
+    let less : c.state.plan.limit ≤ 10 = omega (arith, limit, st.sound.most) in
+    let both = mul-le-mul_right c.state.plan.limit few in
+    (few, omega (arith, both, less))
 
 -- ---- what a lane would be told
 

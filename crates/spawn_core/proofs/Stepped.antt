@@ -12,7 +12,7 @@ use Rattle.exec_journal.specs.declared.call.Found.{Found}
 use Rattle.exec_journal.specs.declared.call.Found.TheVariants as found
 use Rattle.exec_journal.specs.declared.call.Written.{Written}
 use Rattle.exec_journal.specs.declared.call.Written.TheVariants as write
-use Rattle.exec_journal.specs.declared.journal.Entry.{Entry}
+use Rattle.exec_journal.specs.Entry.{Entry}
 use Rattle.exec_journal.specs.declared.reply.BreachWhy.TheVariants as breach
 use Rattle.exec_journal.specs.declared.reply.StrayWhy.TheVariants as stray
 use Rattle.exec_journal.specs.declared.reply.Reply.{Reply}

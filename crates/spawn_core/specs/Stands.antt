@@ -1,7 +1,7 @@
 -- When a core stands for a journal, whose newest entry stands first.
 use Rattle.std.specs.Prelude.{List}
 use Rattle.run_plan.specs.declared.plan.Plan.{Plan}
-use Rattle.exec_journal.specs.declared.journal.Entry.{Entry}
+use Rattle.exec_journal.specs.Entry.{Entry}
 use Rattle.core_state.specs.declared.state.State.{State}
 use Rattle.core_laws.specs.Stands as tables
 use Rattle.core_tables.specs.Slots as slots

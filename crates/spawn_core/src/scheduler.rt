@@ -1,9 +1,9 @@
 // The core as its callers see it: it always stands for some journal.
-ghost use Rattle.std.specs.Prelude.{◌≡◌, ◌≤◌, ◌<◌, ◌*◌, List, [], IfOk, false, sum_by};
+ghost use Rattle.std.specs.Prelude.{◌≡◌, ◌≤◌, ◌<◌, ◌*◌, List, [], length, IfOk, false, sum_by};
 ghost use Rattle.run_plan.specs.declared.plan.Plan.{Plan};
 ghost use Rattle.run_plan.specs.Groups.{berths};
 ghost use Rattle.run_plan.specs.Sound.{Sound};
-ghost use Rattle.exec_journal.specs.declared.journal.Entry.{Entry};
+ghost use Rattle.exec_journal.specs.Entry.{Entry};
 ghost use Rattle.exec_journal.specs.declared.reply.Reply.TheVariants as reply;
 ghost use Rattle.exec_journal.specs.Clean.{Clean};
 ghost use Rattle.exec_journal.specs.Legal.{after};
@@ -114,6 +114,14 @@ impl Core {
         ensures { result ≡ berths self.now.state.plan }
     {
         all_berths(self.state.plan.groups.as_slice())
+    }
+
+    /// The most lines that may be launched: one for each attempt of either branch of each action.
+    pub fn most_lines(&self) -> u32
+        ensures { result ≡ 2 * length self.now.state.plan.actions * self.now.state.plan.limit }
+    {
+        let actions = self.state.plan.actions.as_slice().len() as u32;
+        2 * actions * self.state.plan.limit
     }
 
     /// How many paid entries the lane still owes: its Halt, and the Committed of what it was

@@ -1,7 +1,7 @@
 // One call of a lane.
 ghost use Rattle.std.specs.Prelude.{◌≡◌, ◌<◌, ◌/◌, List, Some, length, true};
 ghost use Rattle.run_plan.specs.declared.plan.Plan.{Plan};
-ghost use Rattle.exec_journal.specs.declared.journal.Entry.{Entry};
+ghost use Rattle.exec_journal.specs.Entry.{Entry};
 ghost use Rattle.exec_journal.specs.Legal.{after};
 ghost use Rattle.core_tables.specs.Lanes.{allows_by};
 ghost use Rattle.core_tables.specs.Seats.{seat_at};

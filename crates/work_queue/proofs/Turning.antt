@@ -5,7 +5,7 @@ use Rattle.std.proofs.Common.{eq-eqb}
 use Rattle.std.specs.Global.{Vec}
 use Rattle.std.proofs.lemmas.List.Concat.{flat_map-append}
 use Rattle.outside.specs.Told.{SinkTold}
-use Rattle.seat_desk.specs.declared.entry.Entry.{Entry}
+use Rattle.plain_values.specs.declared.entry.Entry.{Entry}
 use Rattle.seat_desk.specs.History.{entry, after}
 use Rattle.work_queue.specs.declared.outlet.Outlet.{Outlet}
 use Rattle.work_queue.specs.declared.rows.Asked.{Asked}

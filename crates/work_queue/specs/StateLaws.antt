@@ -7,7 +7,7 @@ use native.Mathlib.Decide.{ℕ_discrete}
 use Rattle.std.specs.List.{fold}
 use Rattle.std.proofs.lemmas.List.Sums.{fold-append}
 use Rattle.outside.specs.Told.{SinkTold}
-use Rattle.seat_desk.specs.declared.entry.Entry.{Entry}
+use Rattle.plain_values.specs.declared.entry.Entry.{Entry}
 use Rattle.seat_desk.specs.History.{calls_by}
 use Rattle.work_queue.specs.declared.rows.Asked.{Asked}
 use Rattle.work_queue.specs.declared.rows.Hand.{Hand}

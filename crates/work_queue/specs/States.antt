@@ -7,7 +7,7 @@ use Rattle.std.specs.Ordering.{int_eq}
 use Rattle.outside.specs.Causes.{Rose}
 use Rattle.outside.specs.Lists.{Adds, AddsFront}
 use Rattle.outside.specs.Told.{SinkTold}
-use Rattle.seat_desk.specs.declared.entry.Entry.{Entry}
+use Rattle.plain_values.specs.declared.entry.Entry.{Entry}
 use Rattle.work_queue.specs.declared.rows.Asked.{Asked}
 use Rattle.work_queue.specs.declared.queue.Ask.{Ask}
 use Rattle.work_queue.specs.declared.queue.Ask.TheVariants as ask

@@ -3,7 +3,7 @@ use Rattle.std.proofs.Common.{◌≡◌, ℕ, zero, suc, ◌+◌, ◌-◌, ◌==
 use Rattle.std.specs.Prelude.{slice_get}
 use Rattle.run_plan.specs.declared.plan.Plan.{Plan}
 use Rattle.exec_journal.specs.declared.attempt.Attempt.{Attempt}
-use Rattle.exec_journal.specs.declared.journal.Entry.{Entry}
+use Rattle.exec_journal.specs.Entry.{Entry}
 use Rattle.exec_journal.specs.Entries.{launch_in}
 use Rattle.exec_journal.specs.Words.{launch_of, started, broke, has_ended, was_killed, pending}
 use Rattle.exec_journal.specs.Settled.{bound}

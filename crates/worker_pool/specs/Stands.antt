@@ -2,7 +2,7 @@
 use Rattle.std.specs.Prelude.{◌≡◌, ℕ, ◌/◌, nat_lt, Bool, Option, Some, None, is_some, option_and_then, if◌then◌else◌, List, length, slice_get}
 use Rattle.run_plan.specs.declared.plan.Plan.{Plan}
 use Rattle.exec_journal.specs.declared.attempt.Attempt.{Attempt}
-use Rattle.exec_journal.specs.declared.journal.Entry.{Entry}
+use Rattle.exec_journal.specs.Entry.{Entry}
 use Rattle.exec_journal.specs.Words.{line_count, launch_of, last_line, started, broke, has_ended, was_killed, pending, live}
 use Rattle.exec_journal.specs.Settled.{bound}
 use Rattle.run_plan.specs.Groups.{berths, kind_of, capacity}

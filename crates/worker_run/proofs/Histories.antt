@@ -1,8 +1,8 @@
 -- A journal as a history, and what its words say of it.
-use Rattle.std.proofs.Common.{◌≡◌, ℕ, ◌==◌, Bool, true, false, cond, ◌&&◌, ◌||◌, List, [], ◌∷◌, ◌++◌, reverse, map, refl, ap, sym, ◌∙◌}
+use Rattle.std.proofs.Common.{◌≡◌, ℕ, ◌==◌, Bool, true, false, cond, ◌&&◌, ◌||◌, List, [], ◌∷◌, ◌++◌, reverse, refl, ap, sym, ◌∙◌}
 use Rattle.std.proofs.lemmas.List.{append_assoc, append-nil, reverse-append}
 use Rattle.std.specs.List.{fold, list_any}
-use Rattle.exec_journal.specs.declared.journal.Entry.{Entry}
+use Rattle.exec_journal.specs.Entry.{Entry}
 use Rattle.exec_journal.specs.Entries.{is_halt, is_stop}
 use Rattle.exec_journal.specs.History.{ever}
 use Rattle.exec_journal.specs.Words.{halted, stopped}
@@ -10,14 +10,8 @@ use Rattle.lane_runs.specs.Layout.{has_halt}
 use Rattle.lane_runs.specs.Runs.{IsStopped}
 use Rattle.run_rules.specs.Moves.{Past, History}
 use Rattle.script_duties.proofs.Going.{flip}
-use Rattle.script_duties.specs.Owed.{journal_of, to_entry}
+use Rattle.script_duties.specs.Owed.{journal_of}
 use Rattle.seat_desk.specs.History.{calls_by}
-use Rattle.worker_run.specs.Histories.{history_of}
-
--- the journal of a history gives that history again
-pub history_again : (h : History) → history_of (map to_entry h) ≡ h
-history_again [] = refl
-history_again (e ∷ h) = ap (λ (x : History). e ∷ x) (history_again h)
 
 -- ---- its entries with the newest first
 
@@ -26,12 +20,12 @@ turned e m j = sym (ap (λ (l : List Entry). l ++ j) (reverse-append (e ∷ []) 
     ∙ append_assoc (reverse m) (e ∷ []) j)
 
 onto : (h : History) (j : List Entry)
-    → fold (λ j e. to_entry e ∷ j) j h ≡ reverse (map to_entry h) ++ j
+    → fold (λ j e. e ∷ j) j h ≡ reverse h ++ j
 onto [] j = refl
-onto (e ∷ h) j = onto h (to_entry e ∷ j) ∙ turned (to_entry e) (map to_entry h) j
+onto (e ∷ h) j = onto h (e ∷ j) ∙ turned e h j
 
-pub newest_is : (h : History) → journal_of h ≡ reverse (map to_entry h)
-newest_is h = onto h [] ∙ append-nil (reverse (map to_entry h))
+pub newest_is : (h : History) → journal_of h ≡ reverse h
+newest_is h = onto h [] ∙ append-nil (reverse h)
 
 -- ---- whether a lane has halted
 
@@ -47,11 +41,11 @@ none_after false = refl
 
 halts_along : (h : History) (j : List Entry)
     → (list_any (λ e. is_halt e.call) h || ever (λ _ e. is_halt e.call) j)
-    ≡ ever (λ _ e. is_halt e.call) (fold (λ j e. to_entry e ∷ j) j h)
+    ≡ ever (λ _ e. is_halt e.call) (fold (λ j e. e ∷ j) j h)
 halts_along [] j = refl
 halts_along (e ∷ h) j =
     shuffle (is_halt e.call) (list_any (λ e. is_halt e.call) h) (ever (λ _ e. is_halt e.call) j)
-    ∙ halts_along h (to_entry e ∷ j)
+    ∙ halts_along h (e ∷ j)
 
 pub halted_is : (h : History) → halted (journal_of h) ≡ has_halt h
 unfolding halted
@@ -62,17 +56,17 @@ halted_is h = sym (halts_along h []) ∙ none_after (has_halt h)
 stops_along : (lane : ℕ) (h : History) (j : List Entry)
     → (list_any (λ e. is_stop e.reply) (calls_by lane h)
     || ever (λ _ e. (e.lane == lane) && is_stop e.reply) j)
-    ≡ ever (λ _ e. (e.lane == lane) && is_stop e.reply) (fold (λ j e. to_entry e ∷ j) j h)
+    ≡ ever (λ _ e. (e.lane == lane) && is_stop e.reply) (fold (λ j e. e ∷ j) j h)
 stops_along lane [] j = refl
 stops_along lane (e ∷ h) j = by (lane == e.lane) (e.lane == lane)
-    (flip lane e.lane (lane == e.lane) refl) (stops_along lane h (to_entry e ∷ j))
+    (flip lane e.lane (lane == e.lane) refl) (stops_along lane h (e ∷ j))
   where
     before : Bool
     before = ever (λ _ e. (e.lane == lane) && is_stop e.reply) j
 
     whole : Bool
     whole = ever (λ _ e. (e.lane == lane) && is_stop e.reply)
-        (fold (λ j e. to_entry e ∷ j) (to_entry e ∷ j) h)
+        (fold (λ j e. e ∷ j) (e ∷ j) h)
 
     rest : Bool
     rest = list_any (λ e. is_stop e.reply) (calls_by lane h)

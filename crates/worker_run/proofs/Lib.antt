@@ -4,3 +4,4 @@ pub mod Made
 pub mod Numbered
 pub mod Reading
 pub mod Said
+mod Unsaid

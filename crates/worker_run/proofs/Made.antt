@@ -7,14 +7,16 @@ use Rattle.build_report.specs.declared.fault.Stage.TheVariants as stage
 use Rattle.exec_journal.specs.declared.call.Call.{Call}
 use Rattle.exec_journal.specs.declared.reply.Reply.{Reply}
 use Rattle.lane_deeds.specs.declared.post.Post.{Post}
-use Rattle.lane_runs.specs.Runs.{EndTold, Rooms}
-use Rattle.outside.specs.Told.{BerthTold, FloorTold, Makes, SameFloor}
+use Rattle.lane_deeds.specs.Lines.{Back}
+use Rattle.exec_journal.specs.Entry.{Entry}
+use Rattle.lane_runs.specs.Runs.{EndTold, HasRun, LaidTold, Rooms}
+use Rattle.outside.specs.Told.{BerthTold, FloorTold, Makes, PlaceTold, SameFloor}
 use Rattle.remote_messages.specs.declared.work.WorkAction.{WorkAction}
 use Rattle.run_rules.specs.Moves.{History}
 use Rattle.run_tasks.specs.declared.task.Task.{Task}
 use Rattle.worker_run.specs.Ends.{IsRunEnd, MadeBy}
-use Rattle.worker_run.specs.Lanes.{HasMade, MakesUpTo, WhereWhole}
-use Rattle.worker_run.specs.Seen.{Left, nothing_left, stage_of}
+use Rattle.worker_run.specs.Lanes.{AreNewBerths, HasMade, LanesRan, MakesUpTo, WhereLost, WhereWhole, laid_by}
+use Rattle.worker_run.specs.Seen.{Left, left, nothing_left, stage_of}
 
 -- ---- making
 
@@ -64,16 +66,17 @@ up_to_on b p c q old mid new first second = record {
 -- as many berths come back as there are posts
 pub rooms_length : (rule : History → ℕ → Call → Reply) (work : List WorkAction) (h : History)
     (lines : List EndTold) (w : ℕ) (posts : List Post) (olds news : List BerthTold)
-    → Rooms rule work h lines w posts olds news → length news ≡ length posts
-rooms_length rule work h lines w [] [] [] r = refl
-rooms_length rule work h lines w [] [] (n ∷ ns) r = absurd r
-rooms_length rule work h lines w [] (o ∷ os) [] r = absurd r
-rooms_length rule work h lines w [] (o ∷ os) (n ∷ ns) r = absurd r
-rooms_length rule work h lines w (p ∷ ps) [] [] r = absurd r
-rooms_length rule work h lines w (p ∷ ps) [] (n ∷ ns) r = absurd r
-rooms_length rule work h lines w (p ∷ ps) (o ∷ os) [] r = absurd r
-rooms_length rule work h lines w (p ∷ ps) (o ∷ os) (n ∷ ns) r =
-    ap suc (rooms_length rule work h lines (w + 1) ps os ns r.1)
+    (unsaid : List (Option Back)) → Rooms rule work h lines w posts olds news unsaid
+    → length news ≡ length posts
+rooms_length rule work h lines w [] [] [] [] r = refl
+rooms_length rule work h lines w (p ∷ ps) (o ∷ os) (n ∷ ns) (u ∷ us) r =
+    ap suc (rooms_length rule work h lines (w + 1) ps os ns us r.1)
+rooms_length rule work h lines w [] [] [] (u ∷ us) r = absurd r
+rooms_length rule work h lines w [] [] (n ∷ ns) us r = absurd r
+rooms_length rule work h lines w [] (o ∷ os) ns us r = absurd r
+rooms_length rule work h lines w (p ∷ ps) [] ns us r = absurd r
+rooms_length rule work h lines w (p ∷ ps) (o ∷ os) [] us r = absurd r
+rooms_length rule work h lines w (p ∷ ps) (o ∷ os) (n ∷ ns) [] r = absurd r
 
 pub made_left : (b p : ℕ) (before after : FloorTold) (x : Left) → Makes b p before after
     → length x.berths ≡ b → length x.places ≡ p → HasMade before after x
@@ -82,10 +85,53 @@ made_left b p before after x made berths places = record {
   places = made.places ∙ ap (λ (n : ℕ). before.places + n) (sym places);
 }
 
+-- memory is never wanted behind the lanes
+pub in_time : (when : Option Stage) (P : Type 0) → WhereWhole when P → WhereWhole when (Unit {0})
+in_time None P p = tt
+in_time (Some stage.During) P p = tt
+in_time (Some stage.Before) P p = tt
+in_time (Some stage.After) P p = p
+
+pub never_behind : (when : Option Stage) → WhereWhole when (Unit {0}) → when ≡ Some stage.After → ⊥
+never_behind when has is = subst (λ (s : Option Stage). WhereWhole s (Unit {0})) is has
+
 -- what holds anyway holds where lanes ran
 pub where_whole : (halted : Bool) (P : Type 0) → P → WhereWhole (stage_of halted) P
 where_whole true P p = p
 where_whole false P p = p
+
+pub not_lost : (halted : Bool) (P : Type 0) → WhereLost (stage_of halted) P
+not_lost true P = tt
+not_lost false P = tt
+
+-- whether a lane has halted is told by the fault
+laid_again : (journal : List Entry) (berths : List BerthTold) (lines : List EndTold)
+    (unsaid : List (Option Back)) (places : List PlaceTold) (halted : Bool)
+    → laid_by (stage_of halted) (left journal berths lines unsaid places) ≡ record {
+      journal = journal;
+      berths = berths;
+      lines = lines;
+      unsaid = unsaid;
+      places = places;
+      halted = halted;
+    }
+laid_again journal berths lines unsaid places true = refl
+laid_again journal berths lines unsaid places false = refl
+
+-- what lanes have laid out is left where they ran
+pub ran_whole : (legal : History → Type 0) (rule : History → ℕ → Call → Reply)
+    (outputs : ℕ → List (List ℕ)) (actions : ℕ) (posts : List Post) (work : List WorkAction)
+    (before : List BerthTold) (x : LaidTold) → AreNewBerths (length posts) before
+    → HasRun legal rule outputs actions posts work before x
+    → WhereWhole (stage_of x.halted) (LanesRan legal rule outputs actions posts work
+    (stage_of x.halted) (left x.journal x.berths x.lines x.unsaid x.places))
+ran_whole legal rule outputs actions posts work before x new run =
+    where_whole x.halted _ (record {
+      before = before;
+      new = new;
+      run = subst (λ (y : LaidTold). HasRun legal rule outputs actions posts work before y)
+          (sym (laid_again x.journal x.berths x.lines x.unsaid x.places x.halted)) run;
+    })
 
 -- ---- the end of a run
 
@@ -96,8 +142,7 @@ module _ (before after : FloorTold) (x : Left) where
   by_end (Some fault.SinkFailed) o made few = made
   by_end (Some (fault.NoMemory stage.Before)) o made few = few
   by_end (Some (fault.NoMemory stage.During)) o made few = made
-  by_end (Some (fault.NoMemory stage.After)) None made few = few
-  by_end (Some (fault.NoMemory stage.After)) (Some t) made few = made
+  by_end (Some (fault.NoMemory stage.After)) o made few = made
   by_end (Some fault.Words) o made few = made
   by_end (Some (fault.List y)) o made few = made
   by_end (Some (fault.Flags a y)) o made few = made
@@ -111,10 +156,7 @@ module _ (before after : FloorTold) (x : Left) where
   by_run (Some stage.During) t f o kind made few = by_end f o made few
   by_run (Some stage.Before) t f o kind made few =
       subst (λ (f : Option RunFault). MadeBy f o before after x) (sym kind.0) few
-  by_run (Some stage.After) t f o kind made few =
-      subst (λ (f : Option RunFault). MadeBy f o before after x) (sym kind.0)
-      (subst (λ (o : Option Task). MadeBy (Some (fault.NoMemory stage.After)) o before after x)
-      (sym kind.1) few)
+  by_run (Some stage.After) t f o kind made few = absurd kind
 
 -- the reads before it made nothing
 module _ (before mid after : FloorTold) (same : SameFloor before mid) where
@@ -141,7 +183,7 @@ module _ (before mid after : FloorTold) (same : SameFloor before mid) where
   whole_since None x made = made_since x made
   whole_since (Some stage.During) x made = made_since x made
   whole_since (Some stage.Before) x made = tt
-  whole_since (Some stage.After) x made = tt
+  whole_since (Some stage.After) x made = absurd made
 
   pub task_made : (x : Left) (when : Option Stage) (t : Task) (f : Option RunFault)
       (o : Option Task) → IsRunEnd when t f o → WhereWhole when (HasMade mid after x)

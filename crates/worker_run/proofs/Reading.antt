@@ -67,9 +67,6 @@ module _ (options : Option Options) (before mid : FloorTold) (made : Task × Pla
   its : end.task ≡ Some made.0 → IfSome end.task (λ t. t ≡ made.0)
   its is = subst (λ (o : Option Task). IfSome o (λ t. t ≡ made.0)) (sym is) refl
 
-  no_task : end.task ≡ None → IfSome end.task (λ t. t ≡ made.0)
-  no_task is = subst (λ (o : Option Task). IfSome o (λ t. t ≡ made.0)) (sym is) tt
-
   pub task_course : (when : Option Stage) → IsRunEnd when made.0 end.fault end.task
       → HasCourse options before end
   task_course None kind = report_early end.fault _ kind.0
@@ -79,9 +76,7 @@ module _ (options : Option Options) (before mid : FloorTold) (made : Task × Pla
       (leads (subst IsAfterReading (sym kind.0) tt) (its kind.1))
   task_course (Some stage.Before) kind = subst (λ (f : Option RunFault). UnlessEarly f
       (Reads before end.floor (HasLed options end.fault end.task))) (sym kind.0) tt
-  task_course (Some stage.After) kind = subst (λ (f : Option RunFault). UnlessEarly f
-      (Reads before end.floor (HasLed options end.fault end.task))) (sym kind.0)
-      (leads (subst IsAfterReading (sym kind.0) tt) (no_task kind.1))
+  task_course (Some stage.After) kind = absurd kind
 
 report_told : (f : Option RunFault) (t : Task) (o : Option Task) → IsReportEnd f → o ≡ Some t
     → TellsTask f o
@@ -89,7 +84,7 @@ report_told None t o e is = (t, is)
 report_told (Some fault.SinkFailed) t o e is = (t, is)
 report_told (Some (fault.NoMemory stage.Before)) t o e is = absurd (cc)
 report_told (Some (fault.NoMemory stage.During)) t o e is = (t, is)
-report_told (Some (fault.NoMemory stage.After)) t o e is = tt
+report_told (Some (fault.NoMemory stage.After)) t o e is = (t, is)
 report_told (Some fault.Words) t o e is = absurd e
 report_told (Some (fault.List x)) t o e is = absurd e
 report_told (Some (fault.Flags a x)) t o e is = absurd e
@@ -103,8 +98,7 @@ task_told (Some stage.During) t f o kind =
     subst (λ (f : Option RunFault). TellsTask f o) (sym kind.0) (t, kind.1)
 task_told (Some stage.Before) t f o kind =
     subst (λ (f : Option RunFault). TellsTask f o) (sym kind.0) kind.1
-task_told (Some stage.After) t f o kind =
-    subst (λ (f : Option RunFault). TellsTask f o) (sym kind.0) tt
+task_told (Some stage.After) t f o kind = absurd kind
 
 pub task_nothing : (when : Option Stage) (t : Task) (f : Option RunFault) (o : Option Task)
     (x y : Left) → IsRunEnd when t f o → WhereLost when (x ≡ nothing_left) → y ≡ x
@@ -115,8 +109,7 @@ task_nothing (Some stage.During) t f o x y kind lost is =
     subst (λ (o : Option Task). UnlessRun o (y ≡ nothing_left)) (sym kind.1) tt
 task_nothing (Some stage.Before) t f o x y kind lost is =
     subst (λ (o : Option Task). UnlessRun o (y ≡ nothing_left)) (sym kind.1) (is ∙ lost)
-task_nothing (Some stage.After) t f o x y kind lost is =
-    subst (λ (o : Option Task). UnlessRun o (y ≡ nothing_left)) (sym kind.1) (is ∙ lost)
+task_nothing (Some stage.After) t f o x y kind lost is = absurd kind
 
 -- ---- after the reading the floor doesn't fail
 
@@ -135,7 +128,7 @@ run_no_floor : (when : Option Stage) (t : Task) (f : Option RunFault) (o : Optio
 run_no_floor None t f o kind failed = report_no_floor f kind.0 failed
 run_no_floor (Some stage.During) t f o kind failed = subst IsFloorFailed kind.0 failed
 run_no_floor (Some stage.Before) t f o kind failed = subst IsFloorFailed kind.0 failed
-run_no_floor (Some stage.After) t f o kind failed = subst IsFloorFailed kind.0 failed
+run_no_floor (Some stage.After) t f o kind failed = absurd kind
 
 pub task_floor : (when : Option Stage) (t : Task) (f : Option RunFault) (o : Option Task)
     (old mid new : ℕ) → IsRunEnd when t f o → old ≤ mid → mid ≤ new

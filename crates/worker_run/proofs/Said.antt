@@ -6,7 +6,7 @@ use Rattle.build_report.specs.declared.fault.RunFault.{RunFault}
 use Rattle.build_report.specs.declared.fault.RunFault.TheVariants as fault
 use Rattle.build_report.specs.declared.fault.Stage.{Stage}
 use Rattle.build_report.specs.declared.fault.Stage.TheVariants as stage
-use Rattle.exec_journal.specs.declared.journal.Entry.{Entry}
+use Rattle.exec_journal.specs.Entry.{Entry}
 use Rattle.exec_journal.specs.Clean.{Clean}
 use Rattle.exec_journal.specs.Lawful.{Lawful}
 use Rattle.exec_journal.specs.Legal.{Legal}
@@ -34,9 +34,10 @@ use Rattle.run_rules.specs.Duties.{proxy_lane}
 use Rattle.run_tasks.specs.Tasks.{HasBerths, HasPosts}
 use Rattle.run_tasks.specs.declared.task.Task.{Task}
 use Rattle.script_duties.specs.Owed.{journal_of, outputs_in}
-use Rattle.worker_run.proofs.Histories.{halted_is, history_again, newest_is, stopped_is}
+use Rattle.worker_run.proofs.Histories.{halted_is, newest_is, stopped_is}
+use Rattle.worker_run.proofs.Unsaid.{rooms_unsaid, unsaid_at}
 use Rattle.worker_run.specs.Ends.{IsReportEnd, IsRunEnd, is_halted, status_by}
-use Rattle.worker_run.specs.Headline.{AllSucceed, HaltsAsSaid, HasOuts, HasPipes, HasRace, HasRooms, IsAccounted, IsComplete, IsKept, IsLegal, IsPaired, IsStopped, OnRun, Succeeds, newest_first}
+use Rattle.worker_run.specs.Headline.{AllSucceed, HaltsAsSaid, HasOuts, HasPipes, HasRace, HasRooms, HasUnsaid, IsUnsaid, IsAccounted, IsComplete, IsKept, IsLegal, IsPaired, IsStopped, OnRun, Succeeds, newest_first}
 use Rattle.worker_run.specs.Histories.{history_of}
 use Rattle.worker_run.specs.Lanes.{AreNewBerths, TaskRan, WhereWhole, is_during}
 use Rattle.worker_run.specs.Seen.{EndedTold, Left}
@@ -77,7 +78,7 @@ all_ok p j h = ok_from p j 0 p.actions
 
 module _ (t : Task) (when : Option Stage) (x : Left) (ran : TaskRan t when x) where
   same : history_of x.journal ≡ ran.run.history
-  same = ap history_of ran.run.in_journal ∙ history_again ran.run.history
+  same = ran.run.in_journal
 
   newest : journal_of ran.run.history ≡ newest_first x
   newest = newest_is ran.run.history ∙ ap reverse (sym ran.run.in_journal)
@@ -114,7 +115,17 @@ module _ (t : Task) (when : Option Stage) (x : Left) (ran : TaskRan t when x) wh
       before = ran.before;
       new = subst (λ n. AreNewBerths n ran.before) posts.0 ran.new;
       rooms = subst (λ h. Rooms (answer_after (own_discipline t.plan)) t.work.actions h x.lines 0
-          t.posts.items ran.before x.berths) (sym same) ran.run.rooms;
+          t.posts.items ran.before x.berths x.unsaid) (sym same) ran.run.rooms;
+    }
+
+    pub has_unsaid : HasUnsaid t x
+    has_unsaid = record {
+      as_many = rooms_unsaid (answer_after (own_discipline t.plan)) t.work.actions
+          ran.run.history x.lines 0 t.posts.items ran.before x.berths x.unsaid ran.run.rooms;
+      each = λ w line is. subst (λ h. IsUnsaid h w line) (sym same)
+          (subst (λ v. IsUnsaid ran.run.history v line) (let z : 0 + w ≡ w = omega arith in z)
+          (unsaid_at (answer_after (own_discipline t.plan)) t.work.actions ran.run.history x.lines
+          0 t.posts.items ran.before x.berths x.unsaid ran.run.rooms w line is));
     }
 
     pub is_stopped : IsStopped t x
@@ -167,7 +178,7 @@ on_run None t x end P kind ran left is = told None t x end P kind.1 left (is ran
 on_run (Some stage.During) t x end P kind ran left is =
     told None t x end P kind.1 left (is ran)
 on_run (Some stage.Before) t x end P kind ran left is = untold None t x end P kind.1
-on_run (Some stage.After) t x end P kind ran left is = untold None t x end P kind.1
+on_run (Some stage.After) t x end P kind ran left is = absurd kind
 
 -- no lane halted, and the fault doesn't say so
 late : (f : Option RunFault) → IsReportEnd f → is_halted f ≡ false
@@ -193,8 +204,7 @@ halts_as_said (Some stage.During) t x end kind ran left =
     (halts t (Some stage.During) x ran ∙ sym (ap is_halted kind.0))
 halts_as_said (Some stage.Before) t x end kind ran left =
     untold None t x end (λ t x. has_halt (history_of x.journal) ≡ is_halted end.fault) kind.1
-halts_as_said (Some stage.After) t x end kind ran left =
-    untold None t x end (λ t x. has_halt (history_of x.journal) ≡ is_halted end.fault) kind.1
+halts_as_said (Some stage.After) t x end kind ran left = absurd kind
 
 -- ---- with no fault
 
@@ -227,4 +237,4 @@ module _ (t : Task) (x : Left) (end : EndedTold) (left : end.left ≡ x) (posts 
   )
   succeeds (Some stage.During) kind ran none = absurd (let e = kind.0 in cc)
   succeeds (Some stage.Before) kind ran none = absurd (let e = kind.0 in cc)
-  succeeds (Some stage.After) kind ran none = absurd (let e = kind.0 in cc)
+  succeeds (Some stage.After) kind ran none = absurd kind

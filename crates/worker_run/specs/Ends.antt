@@ -6,7 +6,7 @@ use Rattle.build_report.specs.declared.fault.RunFault.{RunFault}
 use Rattle.build_report.specs.declared.fault.RunFault.TheVariants as fault
 use Rattle.build_report.specs.declared.fault.Stage.{Stage}
 use Rattle.build_report.specs.declared.fault.Stage.TheVariants as stage
-use Rattle.exec_journal.specs.declared.journal.Entry.{Entry}
+use Rattle.exec_journal.specs.Entry.{Entry}
 use Rattle.outside.specs.Lists.{Gives}
 use Rattle.outside.specs.Told.{FloorTold, SinkTold}
 use Rattle.outside.specs.declared.answers.Io.TheVariants as io
@@ -29,13 +29,13 @@ IsAfterReading (Some (fault.NoMemory stage.During)) = Unit {0}
 IsAfterReading (Some (fault.NoMemory stage.After)) = Unit {0}
 IsAfterReading (Some f) = ⊥
 
--- A run is told where there was no fault, where a lane halted, and where the report wasn't put. It
--- may be lost where memory was wanted behind the lanes. With any other fault there was none.
+-- A run is told where there was no fault, where memory was wanted while the lanes were at work or
+-- behind them, and where the report wasn't put. With any other fault there was none.
 abbrev pub TellsTask : Option RunFault → Option Task → Type 0
 TellsTask None task = (t : Task) × (task ≡ Some t)
 TellsTask (Some fault.SinkFailed) task = (t : Task) × (task ≡ Some t)
 TellsTask (Some (fault.NoMemory stage.During)) task = (t : Task) × (task ≡ Some t)
-TellsTask (Some (fault.NoMemory stage.After)) task = Unit {0}
+TellsTask (Some (fault.NoMemory stage.After)) task = (t : Task) × (task ≡ Some t)
 TellsTask (Some f) task = task ≡ None
 
 -- the end of a put
@@ -59,7 +59,9 @@ abbrev pub IsRunEnd : Option Stage → Task → Option RunFault → Option Task 
 IsRunEnd None t end task = IsReportEnd end × (task ≡ Some t)
 IsRunEnd (Some stage.During) t end task =
     (end ≡ Some (fault.NoMemory stage.During)) × (task ≡ Some t)
-IsRunEnd (Some when) t end task = (end ≡ Some (fault.NoMemory when)) × (task ≡ None)
+IsRunEnd (Some stage.Before) t end task =
+    (end ≡ Some (fault.NoMemory stage.Before)) × (task ≡ None)
+IsRunEnd (Some stage.After) t end task = ⊥
 
 -- memory was wanted while the lanes were at work
 abbrev pub is_halted : Option RunFault → Bool
@@ -68,11 +70,10 @@ is_halted _ = false
 
 -- ---- what was made
 
--- All that the floor has made is handed back. Where memory was wanted before the lanes, or behind
--- them and the run is lost, it was no more than a plan may have.
+-- All that the floor has made is handed back. Where memory was wanted before the lanes, it was no more
+-- than a plan may have.
 abbrev pub MadeBy : Option RunFault → Option Task → FloorTold → FloorTold → Left → Type 0
 MadeBy (Some (fault.NoMemory stage.Before)) task before after x = MakesUpTo 64 4096 before after
-MadeBy (Some (fault.NoMemory stage.After)) None before after x = MakesUpTo 64 4096 before after
 MadeBy end task before after x = HasMade before after x
 
 abbrev pub MadeAll : FloorTold → EndedTold → Type 0

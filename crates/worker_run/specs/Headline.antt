@@ -1,6 +1,6 @@
 -- What is said of a run that is told. Each is said of the task that was run and of what is left of
 -- it, and all of them of the one history that its journal is.
-use Rattle.std.specs.Prelude.{◌≡◌, true, false, ℕ, List, [], length, reverse, Option, Some, None, IfSome}
+use Rattle.std.specs.Prelude.{◌≡◌, true, false, ℕ, List, [], length, reverse, slice_get, Option, Some, None, IfSome}
 use Rattle.std.specs.List.{list_all}
 use Rattle.build_report.specs.Report.{is_success}
 use Rattle.exec_journal.specs.Clean.{Clean}
@@ -9,17 +9,21 @@ use Rattle.exec_journal.specs.Kept.{Kept}
 use Rattle.exec_journal.specs.Legal.{Legal}
 use Rattle.exec_journal.specs.Paired.{Paired}
 use Rattle.exec_journal.specs.Race.{Race}
-use Rattle.exec_journal.specs.declared.journal.Entry.{Entry}
+use Rattle.exec_journal.specs.Entry.{Entry}
 use Rattle.history_laws.specs.Disciplines.{own_discipline}
 use Rattle.history_laws.specs.Ruled.{answer_after}
 use Rattle.journal_laws.specs.Finished.{Finished}
+use Rattle.lane_deeds.specs.Lines.{Back, IsKilled}
 use Rattle.lane_runs.specs.Layout.{has_halt}
 use Rattle.lane_runs.specs.Runs.{Outs, Pipes, Rooms, Stops}
 use Rattle.outside.specs.Told.{BerthTold}
 use Rattle.run_plan.specs.Groups.{berths}
 use Rattle.run_plan.specs.Sound.{Sound}
 use Rattle.run_tasks.specs.declared.task.Task.{Task}
+use Rattle.run_rules.specs.Duties.{proxy_lane}
+use Rattle.run_rules.specs.Moves.{History}
 use Rattle.script_duties.specs.Owed.{outputs_in}
+use Rattle.seat_desk.specs.History.{calls_by}
 use Rattle.worker_run.specs.Ends.{is_halted}
 use Rattle.worker_run.specs.Histories.{history_of}
 use Rattle.worker_run.specs.Lanes.{AreNewBerths}
@@ -99,7 +103,19 @@ pub record HasRooms (t : Task) (x : Left) : Type 0 where
   pub before : List BerthTold
   pub new : AreNewBerths (berths t.plan) before
   pub rooms : Rooms (answer_after (own_discipline t.plan)) t.work.actions (history_of x.journal)
-      x.lines 0 t.posts.items before x.berths
+      x.lines 0 t.posts.items before x.berths x.unsaid
+
+-- A line that was started, and not reported: its berth's proxy lane has halted, and the line's child
+-- was killed, once.
+pub record IsUnsaid (h : History) (w : ℕ) (line : Back) : Type 0 where
+  pub halted : has_halt (calls_by (proxy_lane w) h) ≡ true
+  pub killed : IsKilled line.line line.child
+
+-- there is a slot for each berth, and in it such a line of that berth, or nothing
+pub record HasUnsaid (t : Task) (x : Left) : Type 0 where
+  pub as_many : length x.unsaid ≡ length x.berths
+  pub each : (w : ℕ) (line : Back) → slice_get x.unsaid w ≡ Some (Some line)
+      → IsUnsaid (history_of x.journal) w line
 
 -- each action's place was written what was granted and committed, and nothing else
 abbrev pub HasOuts : Task → Left → Type 0

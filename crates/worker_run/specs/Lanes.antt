@@ -48,6 +48,7 @@ laid_by fault x = record {
   journal = x.journal;
   berths = x.berths;
   lines = x.lines;
+  unsaid = x.unsaid;
   places = x.places;
   halted = is_during fault;
 }
@@ -62,19 +63,20 @@ pub record LanesRan (legal : History → Type 0) (rule : History → ℕ → Cal
   pub new : AreNewBerths (length posts) before
   pub run : HasRun legal rule outputs actions posts work before (laid_by fault left)
 
--- Lanes ran, and what they left is there: no memory was wanted, or only while they were at work.
+-- Lanes ran, and what they left is there: no memory was wanted, or only while they were at work. It is
+-- never wanted behind them.
 abbrev pub WhereWhole : Option Stage → Type 0 → Type 0
 WhereWhole None P = P
 WhereWhole (Some stage.During) P = P
 WhereWhole (Some stage.Before) P = Unit {0}
-WhereWhole (Some stage.After) P = Unit {0}
+WhereWhole (Some stage.After) P = ⊥
 
--- No lane was started, or there was no memory for what they left.
+-- No lane was started.
 abbrev pub WhereLost : Option Stage → Type 0 → Type 0
 WhereLost None P = Unit {0}
 WhereLost (Some stage.During) P = Unit {0}
 WhereLost (Some stage.Before) P = P
-WhereLost (Some stage.After) P = P
+WhereLost (Some stage.After) P = Unit {0}
 
 -- the lanes of this task ran by the rules of the journal of its plan
 abbrev pub TaskRan : Task → Option Stage → Left → Type 0

@@ -3,25 +3,33 @@ use Rattle.std.specs.Prelude.{ℕ, Bool, true, false, List, [], Option, Some, No
 use Rattle.build_report.specs.declared.fault.RunFault.{RunFault}
 use Rattle.build_report.specs.declared.fault.Stage.{Stage}
 use Rattle.build_report.specs.declared.fault.Stage.TheVariants as stage
-use Rattle.exec_journal.specs.declared.journal.Entry.{Entry}
+use Rattle.exec_journal.specs.Entry.{Entry}
+use Rattle.lane_deeds.specs.Lines.{Back}
 use Rattle.lane_runs.specs.Runs.{EndTold, LaidTold}
 use Rattle.outside.specs.Told.{FloorTold, BerthTold, PlaceTold}
 use Rattle.run_tasks.specs.declared.task.Task.{Task}
 
 -- what is left of a run's lanes: the journal, whose oldest entry stands first, and what its
--- berths, its lines and its places tell
+-- berths, its lines, the line of each berth that wasn't reported, and its places tell
 pub record Left : Type 0 where
   pub journal : List Entry
   pub berths : List BerthTold
   pub lines : List EndTold
+  pub unsaid : List (Option Back)
   pub places : List PlaceTold
 
-abbrev pub left : List Entry → List BerthTold → List EndTold → List PlaceTold → Left
-left journal berths lines places =
-    record { journal = journal; berths = berths; lines = lines; places = places }
+abbrev pub left : List Entry → List BerthTold → List EndTold → List (Option Back) → List PlaceTold
+    → Left
+left journal berths lines unsaid places = record {
+  journal = journal;
+  berths = berths;
+  lines = lines;
+  unsaid = unsaid;
+  places = places;
+}
 
 abbrev pub nothing_left : Left
-nothing_left = left [] [] [] []
+nothing_left = left [] [] [] [] []
 
 -- a run of lanes over a floor
 pub record RanTold : Type 0 where
@@ -38,7 +46,8 @@ stage_of false = None
 
 -- what lanes have left, with the floor
 abbrev pub ran_by : FloorTold → LaidTold → RanTold
-ran_by floor x = ran_told (stage_of x.halted) floor (left x.journal x.berths x.lines x.places)
+ran_by floor x = ran_told (stage_of x.halted) floor
+    (left x.journal x.berths x.lines x.unsaid x.places)
 
 -- the whole result of a run
 pub record EndedTold : Type 0 where

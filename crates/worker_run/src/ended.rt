@@ -20,6 +20,12 @@ pub type EndedLine<F> = lane_runs::EndedLine<
     <<F as Floor>::Berth as Berth>::Child,
 >;
 
+/// The feed and the child of a line that was started, and not reported.
+pub type UnsaidLine<F> = lane_runs::EndedFeed<
+    <<F as Floor>::Berth as Berth>::Feed,
+    <<F as Floor>::Berth as Berth>::Child,
+>;
+
 /// The feed, the tap and the child of a line.
 pub type Halves<F> = lane_runs::Halves<
     <<F as Floor>::Berth as Berth>::Feed,
@@ -33,8 +39,7 @@ pub struct Ended<F: Floor> {
     /// The exit status: 0 where all actions succeeded, 1 where some didn't, and else by the fault.
     pub status: u8,
     pub fault: Option<RunFault>,
-    /// What was run. `None` where no lane was started, and where there was no memory for what the
-    /// lanes left: then the lists are empty.
+    /// What was run. `None` where no lane was started: then the lists are empty.
     pub task: Option<Task>,
     /// Every call that changed the state, with its reply, in order.
     pub journal: Journal,
@@ -43,13 +48,17 @@ pub struct Ended<F: Floor> {
     pub berths: Vec<F::Berth>,
     /// The lines, one for each launch that was ordered, by their numbers.
     pub lines: Vec<EndedLine<F>>,
+    /// For each berth the line that was started and not reported, since its lane found no memory for
+    /// that and halted. Its child was killed.
+    pub unsaid: Vec<Option<UnsaidLine<F>>>,
     /// The places, by the numbers of their actions.
     pub places: Vec<F::Place>,
 }
 
 impl<F: Floor> Model for Ended<F> {
-    ghost use Rattle.std.specs.Prelude.{map};
+    ghost use Rattle.std.specs.Prelude.{map, option_map};
     ghost use Rattle.lane_runs.specs.Runs.{end_of};
+    ghost use Rattle.lane_steps.specs.Lanes.{back_of};
     ghost use Rattle.worker_run.specs.Seen.{EndedTold, ended_told, left};
 
     ghost Value = { EndedTold };
@@ -57,6 +66,7 @@ impl<F: Floor> Model for Ended<F> {
     ghost view = { λ e. ended_told e.status e.fault (F.told e.floor) e.task (left e.journal
         (map F.Berth.told e.berths.items)
         (map (end_of F.Berth.Feed.told F.Berth.Tap.told F.Berth.Child.told) e.lines.items)
+        (map (option_map (back_of F.Berth.Feed.told F.Berth.Child.told)) e.unsaid.items)
         (map F.Place.told e.places.items)) };
 }
 
@@ -81,6 +91,7 @@ impl<F: Floor> Ended<F> {
             floor,
             berths,
             lines,
+            unsaid,
             places,
         } = ran;
         Ended {
@@ -91,6 +102,7 @@ impl<F: Floor> Ended<F> {
             floor,
             berths,
             lines,
+            unsaid,
             places,
         }
     }

@@ -8,7 +8,7 @@ ghost use Rattle.run_plan.specs.Sound.{Sound};
 ghost use Rattle.run_tasks.specs.Tasks.{HasPosts, HasWork};
 ghost use Rattle.tool_words.specs.Options.{options_of};
 ghost use Rattle.worker_run.specs.Ends.{HasCourse, IsPutEnd, IsReportEnd, IsRunEnd, MadeAll, Puts, Reports, TellsTask, report_by, status_by};
-ghost use Rattle.worker_run.specs.Headline.{HaltsAsSaid, HasOuts, HasPipes, HasRace, HasRooms, IsAccounted, IsComplete, IsKept, IsLegal, IsPaired, IsSound, IsStopped, OnRun, Succeeds, UnlessRun};
+ghost use Rattle.worker_run.specs.Headline.{HaltsAsSaid, HasOuts, HasPipes, HasRace, HasRooms, HasUnsaid, IsAccounted, IsComplete, IsKept, IsLegal, IsPaired, IsSound, IsStopped, OnRun, Succeeds, UnlessRun};
 ghost use Rattle.worker_run.specs.Lanes.{HasMade, MakesUpTo, TaskRan, WhereLost, WhereWhole};
 ghost use Rattle.worker_run.specs.Seen.{nothing_left};
 
@@ -66,6 +66,7 @@ where
     // What each object tells is the journal's.
     ensures pipes { OnRun result HasPipes }
     ensures rooms { OnRun result HasRooms }
+    ensures unsaid { OnRun result HasUnsaid }
     ensures outs { OnRun result HasOuts }
     ensures report { Reports result (O.told out.old) (O.told out.new) }
     // How it ended.
@@ -114,6 +115,7 @@ where
     // What each object tells is the journal's.
     ensures pipes { OnRun result HasPipes }
     ensures rooms { OnRun result HasRooms }
+    ensures unsaid { OnRun result HasUnsaid }
     ensures outs { OnRun result HasOuts }
     ensures report { Reports result (O.told out.old) (O.told out.new) }
     // How it ended.
@@ -173,6 +175,7 @@ where
 // Ends the run: with the report where memory was never wanted.
 fn conclude<F: Floor, O: Sink>(alloc: Global, task: Task, ran: Ran<F>, out: &mut O) -> Ended<F>
     requires sound { Sound task.plan }
+    requires in_time { WhereWhole ran.fault (Unit {0}) }
     ensures kind { IsRunEnd ran.fault task result.fault result.task }
     ensures report { Reports result (O.told out.old) (O.told out.new) }
     ensures status { result.status ≡ status_by result.fault result.task result.left.journal }
@@ -191,7 +194,7 @@ fn conclude<F: Floor, O: Sink>(alloc: Global, task: Task, ran: Ran<F>, out: &mut
             Ended::of(ran, Some(task), Some(fault))
         }
         Some(Stage::Before) => Ended::of(ran, None, Some(RunFault::NoMemory(Stage::Before))),
-        Some(Stage::After) => Ended::of(ran, None, Some(RunFault::NoMemory(Stage::After))),
+        Some(Stage::After) => unreachable!(),
     }
 }
 

@@ -8,13 +8,14 @@ ghost use Rattle.outside.specs.Told.{SameFiles};
 ghost use Rattle.worker_run.specs.Lanes.{HasMade, LanesRan, MakesUpTo, WhereLost, WhereWhole};
 ghost use Rattle.worker_run.specs.Seen.{nothing_left, ran_by, ran_told};
 
-use crate::EndedLine;
 use crate::seats::{Seats, make_seats};
+use crate::{EndedLine, UnsaidLine};
 use build_report::Stage;
 use exec_journal::Journal;
 use lane_deeds::Post;
-use lane_runs::{CrewFault, Laid, LaidOut, run_lanes};
+use lane_runs::{Laid, LaidOut, run_lanes};
 use outside::{Berth, Floor};
+use plain_values::NoMemory;
 use remote_messages::Work;
 use run_rules::Rules;
 use std::alloc::Global;
@@ -25,7 +26,7 @@ use std::thread::Threads;
 /// What a run of lanes leaves.
 #[derive(Drop)]
 pub struct Ran<F: Floor> {
-    /// When memory was wanted, if it was.
+    /// When memory was wanted, if it was: `Before` the lanes, or `During` their work.
     pub fault: Option<Stage>,
     /// Every call that changed the state, with its reply, in order.
     pub journal: Journal,
@@ -34,13 +35,16 @@ pub struct Ran<F: Floor> {
     pub berths: Vec<F::Berth>,
     /// The lines, one for each launch that was ordered, by their numbers.
     pub lines: Vec<EndedLine<F>>,
+    /// For each berth the line that was started and not reported.
+    pub unsaid: Vec<Option<UnsaidLine<F>>>,
     /// The places, by the numbers of their actions.
     pub places: Vec<F::Place>,
 }
 
 impl<F: Floor> Model for Ran<F> {
-    ghost use Rattle.std.specs.Prelude.{map};
+    ghost use Rattle.std.specs.Prelude.{map, option_map};
     ghost use Rattle.lane_runs.specs.Runs.{end_of};
+    ghost use Rattle.lane_steps.specs.Lanes.{back_of};
     ghost use Rattle.worker_run.specs.Seen.{RanTold, left, ran_told};
 
     ghost Value = { RanTold };
@@ -48,6 +52,7 @@ impl<F: Floor> Model for Ran<F> {
     ghost view = { λ r. ran_told r.fault (F.told r.floor) (left r.journal
         (map F.Berth.told r.berths.items)
         (map (end_of F.Berth.Feed.told F.Berth.Tap.told F.Berth.Child.told) r.lines.items)
+        (map (option_map (back_of F.Berth.Feed.told F.Berth.Child.told)) r.unsaid.items)
         (map F.Place.told r.places.items)) };
 }
 
@@ -62,6 +67,7 @@ impl<F: Floor> Ran<F> {
             floor,
             berths: Vec::new(alloc),
             lines: Vec::new(alloc),
+            unsaid: Vec::new(alloc),
             places: Vec::new(alloc),
         }
     }
@@ -75,6 +81,7 @@ impl<F: Floor> Ran<F> {
             journal,
             berths,
             lines,
+            unsaid,
             places,
             halted,
         } = laid;
@@ -85,6 +92,7 @@ impl<F: Floor> Ran<F> {
             floor,
             berths,
             lines,
+            unsaid,
             places,
         }
     }
@@ -94,8 +102,7 @@ impl<F: Floor> Ran<F> {
 /// post, both in order and the places first, and runs the two lanes of each berth on threads.
 ///
 /// The fault says when memory was wanted. With `During` some lane has halted. With `Before` no lane
-/// was started, and with `After` there was no memory for what the lanes left: nothing is left then
-/// but the floor.
+/// was started, and nothing is left but the floor. What lanes left is laid out without memory.
 pub fn run_plan<F: Floor, C: Rules, R: Threads + Wait + Sync>(
     rt: &R,
     alloc: Global,
@@ -138,7 +145,6 @@ where
     let Seats { places, berths } = seats;
     match run_lanes(rt, alloc, core, places, berths, posts, actions) {
         Ok(laid) => Ran::of(floor, laid),
-        Err(CrewFault::Before) => Ran::with_nothing(alloc, floor, Some(Stage::Before)),
-        Err(CrewFault::After) => Ran::with_nothing(alloc, floor, Some(Stage::After)),
+        Err(NoMemory) => Ran::with_nothing(alloc, floor, Some(Stage::Before)),
     }
 }

@@ -4,37 +4,33 @@
 //! they are asked.
 #![tactic(auto)]
 
-mod cures;
-mod happened;
-mod hints;
 mod names;
-mod reasons;
 mod screen;
 
-use crate::reasons::Left;
 use crate::screen::{BehindLine, Screen};
 use outside::{Berth, Floor, Sink};
 use outside_mem::MemFloor;
 use outside_real::{RealFloor, RealSink};
 use plain_values::NoMemory;
+use run_command::{Left, end, end_unread, tell, tell_cures, tell_reasons, words};
 use std::alloc::Global;
-use std::env::Env;
-use std::io::{Eprint, ErrorKind, IsTerminal, Print};
+use std::env::{self, Env};
+use std::io::{Eprint, IsTerminal, Print};
 use std::process::ExitCode;
-use std::rt::Files;
 use std::sync::Wait;
 use std::thread::Threads;
 use std::time::Clock;
-use std::{env, io};
 use tool_words::generated;
-use worker_run::{Ended, RunFault, Stage, fault_line, run_build, run_build_watched};
+use worker_run::{Ended, RunFault, Stage, run_build, run_build_watched};
+
+const PROGRAM: &str = "worker_tool";
 
 fn main(rt: HostRuntime) -> ExitCode {
     let alloc = rt.alloc();
     let on_terminal = rt.stderr().is_terminal() && !is_dumb(&rt);
     let words = match words(&rt, alloc) {
         Ok(words) => words,
-        Err(error) => return end_unread(&rt, alloc, &error),
+        Err(error) => return end_unread(&rt, alloc, PROGRAM, &error),
     };
     if let Some(actions) = generated(&words) {
         return run_generated(rt, alloc, &words, actions, on_terminal);
@@ -53,10 +49,11 @@ fn main(rt: HostRuntime) -> ExitCode {
         mut floor,
         berths,
         lines,
+        unsaid: _,
         places,
     } = run(rt, alloc, &words, floor, screen);
     if let Some(fault) = &fault {
-        tell(&rt, alloc, &words, fault, floor.last_error());
+        tell(&rt, alloc, PROGRAM, &words, fault, floor.last_error());
         tell_cures(&rt, alloc, &words, &mut floor, fault);
     } else if let Some(task) = &task {
         let left = Left {
@@ -71,15 +68,6 @@ fn main(rt: HostRuntime) -> ExitCode {
     ExitCode::from(status)
 }
 
-// Prints why branches came to nothing, if some action has no success, as far as there is memory for it.
-fn tell_reasons<R>(rt: &impl Eprint, alloc: Global, status: u8, left: &Left<'_, R>) {
-    if status != 0
-        && let Ok(lines) = reasons::lines(alloc, left)
-    {
-        let _ = rt.eprint(lines.as_str());
-    }
-}
-
 // Runs a list of so many actions that is generated, in memory.
 fn run_generated<R: Threads + Wait + Clock + Print + Eprint + Copy + Drop + Send + Sync + 'static>(
     rt: R,
@@ -89,7 +77,7 @@ fn run_generated<R: Threads + Wait + Clock + Print + Eprint + Copy + Drop + Send
     on_terminal: bool,
 ) -> ExitCode {
     let Ok(floor) = MemFloor::generated(rt, alloc, actions) else {
-        return end(&rt, alloc, &RunFault::NoMemory(Stage::Before));
+        return end(&rt, alloc, PROGRAM, &RunFault::NoMemory(Stage::Before));
     };
     let screen = if on_terminal {
         screen_of(rt, alloc, Ok(Vec::new(alloc)))
@@ -98,7 +86,7 @@ fn run_generated<R: Threads + Wait + Clock + Print + Eprint + Copy + Drop + Send
     };
     let Ended { status, fault, .. } = run(rt, alloc, words, floor, screen);
     if let Some(fault) = &fault {
-        tell(&rt, alloc, words, fault, None);
+        tell(&rt, alloc, PROGRAM, words, fault, None);
     }
     ExitCode::from(status)
 }
@@ -160,57 +148,4 @@ where
     drop(out);
     screen.close(&rt);
     ended
-}
-
-fn words(rt: &(impl Env + AllocGlobal), alloc: Global) -> io::Result<Vec<String>> {
-    let mut words = Vec::new(alloc);
-    for word in env::args(rt)?.skip(1) {
-        words.push(word)?;
-    }
-    Ok(words)
-}
-
-// The words weren't read: there was no memory for them, or they aren't text, and then they are wrong words.
-fn end_unread(rt: &impl Eprint, alloc: Global, error: &io::Error) -> ExitCode {
-    let fault = match error.kind() {
-        ErrorKind::OutOfMemory => RunFault::NoMemory(Stage::Before),
-        _ => RunFault::Words,
-    };
-    end(rt, alloc, &fault)
-}
-
-// The end of a run that was not begun.
-fn end(rt: &impl Eprint, alloc: Global, fault: &RunFault) -> ExitCode {
-    tell(rt, alloc, &[], fault, None);
-    ExitCode::from(fault.status())
-}
-
-// Prints the fault's line and what to look at, as far as there is memory for them.
-fn tell(
-    rt: &impl Eprint,
-    alloc: Global,
-    words: &[String],
-    fault: &RunFault,
-    last_error: Option<&io::Error>,
-) {
-    if let Ok(line) = fault_line(alloc, fault) {
-        let _ = rt.eprint(line.as_str());
-        let _ = rt.eprint("\n");
-    }
-    if let Ok(lines) = hints::lines(alloc, words, fault, last_error) {
-        let _ = rt.eprint(lines.as_str());
-    }
-}
-
-// Prints what else to look at: which action is meant, and what of it.
-fn tell_cures(
-    rt: &(impl Eprint + Env + Files + AllocGlobal),
-    alloc: Global,
-    words: &[String],
-    floor: &mut impl Floor,
-    fault: &RunFault,
-) {
-    if let Ok(lines) = cures::lines(rt, alloc, words, floor, fault) {
-        let _ = rt.eprint(lines.as_str());
-    }
 }

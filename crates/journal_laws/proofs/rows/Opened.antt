@@ -1,7 +1,7 @@
 -- What the worked journals compute with. Who opens `words` opens all of it. And what a near miss is.
 use Rattle.std.specs.Prelude.{Bool, false, ◌&&◌, not, List, [], ◌∷◌}
 use Rattle.run_plan.specs.declared.plan.Plan.{Plan}
-use Rattle.exec_journal.specs.declared.journal.Entry.{Entry}
+use Rattle.exec_journal.specs.Entry.{Entry}
 use Rattle.exec_journal.specs.Rules.{rule}
 use Rattle.exec_journal.specs.Scripts.{script}
 use Rattle.exec_journal.specs.Words as w

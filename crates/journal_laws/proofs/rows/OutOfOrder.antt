@@ -2,7 +2,7 @@
 use Rattle.std.specs.Prelude.{◌≡◌, refl, true, false, List, [], ◌∷◌, pos}
 use Rattle.run_plan.specs.declared.plan.Branch.TheVariants.{Local}
 use Rattle.run_plan.specs.declared.plan.Plan.{Plan}
-use Rattle.exec_journal.specs.declared.journal.Entry.{Entry}
+use Rattle.exec_journal.specs.Entry.{Entry}
 use Rattle.exec_journal.specs.declared.call.Call.TheVariants as call
 use Rattle.exec_journal.specs.declared.call.Started.TheVariants as start
 use Rattle.exec_journal.specs.declared.call.Written.TheVariants as write

@@ -1,5 +1,5 @@
 use Rattle.std.proofs.Common.{List, length, reverse, ap, sym, ◌∙◌}
-use Rattle.exec_journal.specs.declared.journal.Entry.{Entry}
+use Rattle.exec_journal.specs.Entry.{Entry}
 use Rattle.run_plan.specs.declared.plan.PlanAction.{PlanAction}
 use Rattle.journal_ends.specs.declared.endings.Verdict.{Verdict}
 use Rattle.journal_ends.specs.Endings.{verdicts_from}

@@ -2,7 +2,7 @@ use Rattle.std.proofs.Common.{◌≤◌, List, length, reverse, take, ap, subst,
 use Rattle.std.specs.List.{list_all}
 use Rattle.std.proofs.lemmas.List.{length-take-le}
 use Rattle.run_plan.specs.declared.plan.PlanAction.{PlanAction}
-use Rattle.exec_journal.specs.declared.journal.Entry.{Entry}
+use Rattle.exec_journal.specs.Entry.{Entry}
 use Rattle.journal_ends.specs.Successes.{succeeds, AreChances}
 use Rattle.journal_ends.proofs.Succeeded.{new_table, front_won}
 use Rattle.journal_ends.proofs.successes.is_all_success.Goals as goal

@@ -1,5 +1,5 @@
 use Rattle.std.proofs.Common.{List, get_or, ap, sym, ◌∙◌, reverse}
-use Rattle.exec_journal.specs.declared.journal.Entry.{Entry}
+use Rattle.exec_journal.specs.Entry.{Entry}
 use Rattle.run_plan.specs.declared.plan.PlanAction.{PlanAction}
 use Rattle.exec_journal.specs.Outcomes.{fate_after}
 use Rattle.journal_lookback.proofs.Judged.{fate_read}

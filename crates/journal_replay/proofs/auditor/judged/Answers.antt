@@ -1,5 +1,5 @@
 use Rattle.std.proofs.Common.{◌≡◌, ◌∷◌, ◌++◌, [], List, reverse, subst, sym, ◌∙◌}
-use Rattle.exec_journal.specs.declared.journal.Entry.{Entry}
+use Rattle.exec_journal.specs.Entry.{Entry}
 use Rattle.exec_journal.specs.Legal.{after}
 use Rattle.journal_replay.proofs.Steps.{counted, first_wrong, joins, newest, spelled_more}
 use Rattle.journal_replay.proofs.auditor.judged.Goals as goal

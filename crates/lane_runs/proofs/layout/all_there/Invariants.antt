@@ -1,4 +1,4 @@
-use Rattle.std.proofs.Common.{◌≡◌, ◌++◌, Some, map, length}
+use Rattle.std.proofs.Common.{◌≡◌, ◌++◌, ◌+◌, ◌≤◌, Some, map, length, vec_len, vec_capacity}
 use Rattle.lane_runs.specs.Layout.{AllThere}
 use Rattle.lane_runs.proofs.layout.all_there.Given as goal
 
@@ -7,6 +7,7 @@ abbrev pub invariant-loop-slot : goal.invariant-loop-slot
 invariant-loop-slot g l = record {
   there : AllThere l.rest.items;
   so_far : map Some l.places.items ++ l.rest.items ≡ l.fn.slots.items;
+  room : vec_len l.places + length l.rest.items ≤ vec_capacity l.places;
 }
 
 abbrev pub decreases-loop-slot : goal.decreases-loop-slot

@@ -1,29 +1,55 @@
-use Rattle.std.proofs.Common.{ℕ, ◌<◌, All, count_by, sym, ap, subst, ◌∙◌}
-use Rattle.std.specs.List.{list_any}
-use Rattle.lane_runs.specs.BerthHalves.{all_feed_lines}
-use Rattle.lane_runs.specs.EndedLines.{AreLines}
+use Rattle.std.proofs.Common.{ℕ, ◌<◌, ◌^◌, None, count_by, replicate, sym, ap, subst, ◌∙◌}
+use Rattle.std.specs.List.{list_any, range_with_len}
+use Rattle.run_rules.specs.Laws.{lines_in}
+use Rattle.lane_runs.specs.Apart.{lefts_of}
+use Rattle.lane_runs.specs.BerthHalves.{AreInside}
+use Rattle.lane_runs.specs.Blanks.{HasRoom}
 use Rattle.lane_runs.specs.Layout.{orders_line, tells_halt}
-use Rattle.lane_runs.proofs.Laying.{lines_counted, halts_told}
+use Rattle.lane_runs.proofs.Laying.{lines_counted, lines_placed, halts_told}
+use Rattle.lane_runs.proofs.Matching.{numbered_many}
 use Rattle.lane_runs.proofs.layout.lay_out.Goals as goal
 
-pub lines_of-requires-clause-below : goal.lines_of-requires-clause-below
-lines_of-requires-clause-below g c =
-    subst (λ (n : ℕ). All (λ l. l < n) (all_feed_lines c.in_ok-berths.field-0.lines.items))
-    (sym (lines_counted c.args.history.items c.in_ok-journal.journal c.lines_ordered-count.result
-    c.in_ok-journal.ensures (c.lines_ordered-count.ensures ∙ ap (count_by orders_line) c.entries.ensures)))
-    (c.requires.may c.in_ok-berths.field-0.berths.items c.in_ok-berths.field-0.lines.items
-    c.in_ok-berths.ensures).below
+pub number_lines-requires-clause-room : goal.number_lines-requires-clause-room
+number_lines-requires-clause-room g c =
+    subst (λ (n : ℕ). HasRoom n c.args.blank.lines)
+    (sym (lines_counted c.args.history.items c.of-journal.result c.lines_ordered.result
+    c.of-journal.ensures (c.lines_ordered.ensures ∙ ap (count_by orders_line) c.entries-2.ensures)))
+    c.requires.room.lines_fit
+
+pub number_lines-requires-clause-few : goal.number_lines-requires-clause-few
+number_lines-requires-clause-few g c =
+    subst (λ (n : ℕ). n < 2 ^ 32)
+    (sym (lines_counted c.args.history.items c.of-journal.result c.lines_ordered.result
+    c.of-journal.ensures (c.lines_ordered.ensures ∙ ap (count_by orders_line) c.entries-2.ensures)))
+    c.requires.few
+
+pub lay_berths-requires-clause-inside : goal.lay_berths-requires-clause-inside
+lay_berths-requires-clause-inside g c =
+    let counted = lines_counted c.args.history.items c.of-journal.result c.lines_ordered.result
+    c.of-journal.ensures (c.lines_ordered.ensures ∙ ap (count_by orders_line) c.entries-2.ensures) in
+    let many = numbered_many c.number_lines.new.lines.items c.lines_ordered.result
+    c.number_lines.ensures.numbers in
+    subst (λ (n : ℕ). AreInside n (lefts_of c.args.taps.items c.args.ends.items))
+    (sym (many ∙ counted)) c.requires.fit.inside
 
 pub returns : goal.returns
-returns g c = record {
-  journal = c.in_ok-journal.ensures;
-  left = c.in_ok-berths.field-0.lines.items;
-  apart = c.in_ok-berths.ensures;
-  lines = subst (λ (n : ℕ). AreLines n c.in_ok-berths.field-0.lines.items c.in_ok-lines.lines.items)
-      (lines_counted c.args.history.items c.in_ok-journal.journal c.lines_ordered-count.result
-      c.in_ok-journal.ensures (c.lines_ordered-count.ensures ∙ ap (count_by orders_line) c.entries.ensures))
-      c.in_ok-lines.ensures;
-  places = c.in_ok-places.ensures;
-  halts = halts_told c.args.history.items c.in_ok-journal.journal c.has_halt-halted.result
-      c.in_ok-journal.ensures (c.has_halt-halted.ensures ∙ ap (list_any tells_halt) c.entries-2.ensures);
-}
+returns g c =
+    let counted = lines_counted c.args.history.items c.of-journal.result c.lines_ordered.result
+    c.of-journal.ensures (c.lines_ordered.ensures ∙ ap (count_by orders_line) c.entries-2.ensures) in
+    record {
+      journal = c.of-journal.ensures;
+      berths = c.lay_berths.ensures.berths;
+      lines = record {
+        numbers = c.lay_berths.ensures.numbers
+            ∙ (c.number_lines.ensures.numbers ∙ ap (range_with_len 0) counted);
+        placed = lines_placed (lines_in c.args.history.items)
+            (lefts_of c.args.taps.items c.args.ends.items) c.number_lines.new.lines.items
+            c.lay_berths.new.lines.items c.requires.fit
+            (c.number_lines.ensures.halves ∙ ap (λ (n : ℕ). replicate n None) counted)
+            c.lay_berths.ensures.halves;
+      };
+      unsaid = c.lay_berths.ensures.unsaid;
+      places = c.all_there-places.ensures;
+      halts = halts_told c.args.history.items c.of-journal.result c.has_halt-halted.result
+          c.of-journal.ensures (c.has_halt-halted.ensures ∙ ap (list_any tells_halt) c.entries.ensures);
+    }

@@ -1,25 +1,16 @@
-use Rattle.std.proofs.Common.{◌≡◌, [], length, ap, arith, rules}
-use Rattle.lane_runs.proofs.Matching.{numbers_one, number_is, all_numbered}
+use Rattle.std.proofs.Common.{arith}
+use Rattle.lane_runs.proofs.Matching.{numbers_one}
 use Rattle.lane_runs.proofs.lines.number_lines.Goals as goal
 
-pub overflow_add-number : goal.overflow_add-number
-overflow_add-number g c =
-    let loop = c.loop-halves in
-    let all =
-    number_is loop.lines.items loop.number loop.rest.items c.args.places.items loop.invariant in
-    let next = ap length c.in-Some.ensures.items in
-    omega (arith, all, next, c.requires)
-
-pub loop-halves-preserved : goal.loop-halves-preserved
-loop-halves-preserved g c =
-    let loop = c.loop-halves in
-    rw c.in_ok-push.ensures.items
-    (numbers_one loop.lines.items loop.number loop.rest.items c.pop_front.new.self.items
-    c.args.places.items c.in-Some.halves loop.invariant c.in-Some.ensures.items)
-
-pub returns-clause-numbers : goal.returns-clause-numbers
-returns-clause-numbers g c =
-    let loop = c.loop-halves in
-    let none : c.loop-halves.rest.items ≡ [] = search rules in
-    all_numbered loop.lines.items loop.number loop.rest.items c.args.places.items loop.invariant
-    none
+pub loop-number-preserved : goal.loop-number-preserved
+loop-number-preserved g c =
+    let loop = c.loop-number in
+    let next = numbers_one loop.lines.items loop.number
+    (record { numbers = loop.invariant.numbers; halves = loop.invariant.halves }) in
+    let more = c.push_reserved.ensures in
+    let room = loop.invariant.room in
+    record {
+      numbers = rw more.items next.numbers;
+      halves = rw more.items next.halves;
+      room = omega (arith, room, more.len, more.capacity);
+    }

@@ -23,7 +23,7 @@ returns g c =
       back = record {
         line = c.args.line;
         feed = feed c.in-Some.open.feed;
-        child = child c.kill.new.self;
+        child = child c.end.new.child;
       };
       was = ap (option_map (open_of feed)) was;
       of_line = of;
@@ -31,13 +31,18 @@ returns g c =
         sym of,
         refl,
         record {
-          of_line = subst (λ (o : Option ℕ). IfSome o (λ l. l ≡ c.args.line)) (sym c.kill.ensures.line)
+          of_line = subst (λ (o : Option ℕ). IfSome o (λ l. l ≡ c.args.line)) (sym c.end.ensures.line)
               c.requires.child.of_line;
-          killed = c.kill.ensures.killed;
+          killed = c.end.ensures.killed 0 c.requires.child.not_killed;
         },
       );
       ended = ap (map (back_of feed child)) c.push_reserved.ensures.items
           ∙ map-append (back_of feed child) c.args.hands.now.ended.items
-          (record { line = c.args.line; feed = c.in-Some.open.feed; child = c.kill.new.self } ∷ []);
-      rest = (ap (option_map (open_of feed)) c.take.ensures.after, refl, refl);
+          (record { line = c.args.line; feed = c.in-Some.open.feed; child = c.end.new.child } ∷ []);
+      by_berth = record {
+        log = c.end.ensures.log;
+        later = c.end.ensures.count;
+        same = c.end.ensures.number;
+      };
+      rest = (ap (option_map (open_of feed)) c.take.ensures.after, refl);
     }

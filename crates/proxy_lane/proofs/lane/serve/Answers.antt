@@ -5,6 +5,7 @@ use Rattle.lane_steps.specs.declared.hands.OpenFeed.{OpenFeed}
 use Rattle.lane_steps.specs.Work.{IsWorkOf}
 use Rattle.lane_steps.specs.Lanes.{open_of, open_line, held_of}
 use Rattle.lane_steps.specs.Steps.{open_in}
+use Rattle.lane_steps.proofs.Shelving.{at_half}
 use Rattle.lane_steps.proofs.Serving.{proxy_on, by_rules, goes_on, some_on, halts_on, halts_may, ends_halted, ends_stopped}
 use Rattle.proxy_lane.proofs.lane.serve.Goals as goal
 
@@ -86,6 +87,8 @@ returns-in-Err-clause-ends g c =
     c.in-Err.cause (open_in c.next-in-loop.new.hands)
     (halts_on post actions rule p p1 p2 h h1 h2 i.same c.in-Err.cause i.goes c.in-Err.ensures.halts)
     (line_told g.B.Feed.Feed.told c.next-in-loop.new.hands.open)
+    (at_half c.args.lane p2 (open_in c.next-in-loop.new.hands)
+    (more.1 ∙ (i.same.1 ∙ c.requires.lane.0)) c.next-in-loop.ensures.shelved)
     c.give_up.ensures.halted c.give_up.ensures.laid_by
 
 pub loop-init : goal.loop-init

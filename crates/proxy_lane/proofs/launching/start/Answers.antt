@@ -88,15 +88,19 @@ returns-in-Err-tell_started-clause-halts g c =
     let of = ap (λ k. (child k).line) was in
     unsaid_halts post actions rule p p2 h l c.requires.owes none
     (cause.Refused (call.Launched l start.Done)) x.0 ⊥ (g.B.Berth.told c.launch_line.new.berth) x.2 c.in-Err-tell_started.ensures.refused.1
-    (refl, (refl, refl, x.1))
-    (record { line = l; feed = g.B.Feed.Feed.told c.in-Line.feed; child = child c.kill.new.self }) refl
+    (refl, (refl, refl, x.1)) (g.B.Berth.told c.end.new.self)
+    (record { log = c.end.ensures.log; later = c.end.ensures.count; same = c.end.ensures.number })
+    (record { line = l; feed = g.B.Feed.Feed.told c.in-Line.feed; child = child c.end.new.child }) refl
     (subst (λ (o : Opened g.row.B-Feed.Denot g.row.B-Tap.Denot g.row.B-Child.Denot).
     OnOpened o (λ f t k. IsNewFeed c.args.line (g.B.Feed.Feed.told f))) c.in-Line.is c.in-Ok.ensures.feed)
     (record {
-      of_line = subst (λ (o : Option ℕ). IfSome o (λ n. n ≡ l)) (sym (c.kill.ensures.line ∙ of))
+      of_line = subst (λ (o : Option ℕ). IfSome o (λ n. n ≡ l)) (sym (c.end.ensures.line ∙ of))
           (subst (λ (o : Opened g.row.B-Feed.Denot g.row.B-Tap.Denot g.row.B-Child.Denot).
           OnOpened o (λ f t k. IsNewChild c.args.line (g.B.Child.Child.told k))) c.in-Line.is c.in-Ok.ensures.child).of_line;
-      killed = c.kill.ensures.killed;
+      killed = c.end.ensures.killed 0 (subst (λ (o : Option ℕ). IfSome o (λ n. n ≡ 0))
+          (sym (ap (λ k. (child k).kills) was))
+          (subst (λ (o : Opened g.row.B-Feed.Denot g.row.B-Tap.Denot g.row.B-Child.Denot).
+          OnOpened o (λ f t k. IsNewChild c.args.line (g.B.Child.Child.told k))) c.in-Line.is c.in-Ok.ensures.child).not_killed);
     }) c.requires.new.0 c.requires.new.1 refl
 
 pub returns-in-RoomFault-clause-shelved : goal.returns-in-RoomFault-clause-shelved

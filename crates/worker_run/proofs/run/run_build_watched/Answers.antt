@@ -1,11 +1,17 @@
 -- Where a task was read, what its lanes say is what is told; where a fault was, nothing is.
 use Rattle.std.proofs.Common.{ap, map, string_bytes, ◌∙◌}
 use Rattle.tool_words.specs.Options.{options_of}
-use Rattle.worker_run.proofs.Made.{nothing_made, task_made}
+use Rattle.worker_run.proofs.Made.{in_time, nothing_made, task_made}
 use Rattle.worker_run.proofs.Reading.{fault_course, fault_puts, fault_sink, fault_told, task_course, task_floor, task_nothing, task_told}
-use Rattle.worker_run.proofs.Said.{halts_as_said, has_outs, has_pipes, has_race, has_rooms, is_accounted, is_complete, is_kept, is_legal, is_paired, is_stopped, on_run, succeeds}
-use Rattle.worker_run.specs.Headline.{HasOuts, HasPipes, HasRace, HasRooms, IsAccounted, IsComplete, IsKept, IsLegal, IsPaired, IsSound, IsStopped}
+use Rattle.worker_run.proofs.Said.{halts_as_said, has_outs, has_pipes, has_race, has_rooms, has_unsaid, is_accounted, is_complete, is_kept, is_legal, is_paired, is_stopped, on_run, succeeds}
+use Rattle.worker_run.specs.Headline.{HasOuts, HasPipes, HasRace, HasRooms, HasUnsaid, IsAccounted, IsComplete, IsKept, IsLegal, IsPaired, IsSound, IsStopped}
+use Rattle.worker_run.specs.Lanes.{TaskRan}
 use Rattle.worker_run.proofs.run.run_build_watched.Goals as goal
+
+pub conclude-requires-clause-in_time : goal.conclude-requires-clause-in_time
+conclude-requires-clause-in_time g c =
+    let when = c.run_task-ran.result.fault in
+    in_time when (TaskRan c.in-Ok.made.0 when c.run_task-ran.result.left) c.run_task-ran.ensures.run
 
 pub returns-in-Ok-clause-course : goal.returns-in-Ok-clause-course
 returns-in-Ok-clause-course g c =
@@ -98,6 +104,14 @@ returns-in-Ok-clause-rooms g c =
     let x = c.run_task-ran.result.left in
     on_run when t x c.conclude.result HasRooms c.conclude.ensures.kind c.run_task-ran.ensures.run
     c.conclude.ensures.left (λ ran. has_rooms t when x ran c.in-Ok.ensures.posts)
+
+pub returns-in-Ok-clause-unsaid : goal.returns-in-Ok-clause-unsaid
+returns-in-Ok-clause-unsaid g c =
+    let t = c.in-Ok.made.0 in
+    let when = c.run_task-ran.result.fault in
+    let x = c.run_task-ran.result.left in
+    on_run when t x c.conclude.result HasUnsaid c.conclude.ensures.kind c.run_task-ran.ensures.run
+    c.conclude.ensures.left (λ ran. has_unsaid t when x ran c.in-Ok.ensures.posts)
 
 pub returns-in-Ok-clause-outs : goal.returns-in-Ok-clause-outs
 returns-in-Ok-clause-outs g c =

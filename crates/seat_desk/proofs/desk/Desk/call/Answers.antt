@@ -1,5 +1,5 @@
-use Rattle.std.proofs.Common.{◌≡◌, not, ◌∙◌, refl, ◌++◌, [], ap, sym, subst, append-nil, List, ◌+◌}
-use Rattle.seat_desk.specs.declared.entry.Entry.{Entry}
+use Rattle.std.proofs.Common.{◌≡◌, not, ◌∙◌, refl, ◌++◌, [], ap, sym, subst, append-nil, List}
+use Rattle.plain_values.specs.declared.entry.Entry.{Entry}
 use Rattle.seat_desk.specs.declared.held.Held.{Held}
 use Rattle.seat_desk.specs.History.{entry, after, calls_by, IsReply}
 use Rattle.seat_desk.proofs.Calls.{may_end, made_none, others_only, added, after_is, only_added, calls_after, after_turn, idle_again, same_rules}
@@ -12,20 +12,20 @@ leave-requires g c = let y' : Held g.row.M.Denot g.row.M-Call.Denot g.row.M-Repl
     let s = c.enter-held.ensures.1 in (
       c.enter-held.ensures.0 ∙ c.requires.desk,
       may_end log_of (good_of g.M.Machine) c.args.pass.now.lane c.args.pass.now.seat.me c.enter-held.new.seat.me c.enter-held.result y' [] c.args.pass.now.idle s
-          (good_with_room g.M.Machine c.args.pass.now.seat.me.0.rules c.enter-held.result c.reserve.new.self s.0.0 c.reserve.ensures.items c.reserve.ensures.len c.reserve.ensures.capacity)
+          (good_with_room g.M.Machine c.args.pass.now.seat.me.0.rules c.enter-held.result c.reserve.new.self s.0.0 c.reserve.ensures.items c.reserve.ensures.room)
           (c.reserve.ensures.items ∙ sym (append-nil c.enter-held.result.history.items)) tt,
     )
 
 pub step-reply-requires-clause-good : goal.step-reply-requires-clause-good
 step-reply-requires-clause-good g c =
     good_with_room g.M.Machine (g.M.Machine.rules c.enter-held.result.machine) c.enter-held.result c.reserve.new.self
-    (good_by_own g.M.Machine c.args.pass.now.seat.me.0.rules c.enter-held.result c.enter-held.ensures.1.0.0) c.reserve.ensures.items c.reserve.ensures.len c.reserve.ensures.capacity
+    (good_by_own g.M.Machine c.args.pass.now.seat.me.0.rules c.enter-held.result c.enter-held.ensures.1.0.0) c.reserve.ensures.items c.reserve.ensures.room
 
 pub step-reply-requires-clause-room : goal.step-reply-requires-clause-room
 step-reply-requires-clause-room g c = let good = c.enter-held.ensures.1.0.0 in
     room_of_call g.M.Machine c.enter-held.result c.reserve.new.self c.args.pass.now.lane c.args.call c.owed.result c.saturating_add-room.result c.reserve.result
     (good_by_own g.M.Machine c.args.pass.now.seat.me.0.rules c.enter-held.result good) c.reserve.ensures.items (c.owed.ensures c.enter-held.result.history.items good.0)
-    c.saturating_add-room.ensures (c.is_err.ensures.negation ∙ ap not c.if-is_err.false) c.reserve.ensures.ok
+    c.saturating_add-room.ensures (c.is_err.ensures.negation ∙ ap not c.if-is_err.false) c.reserve.ensures.ok c.reserve.ensures.bounded
 
 pub step-reply-requires-clause-suits : goal.step-reply-requires-clause-suits
 step-reply-requires-clause-suits g c = let idle = c.args.pass.now.idle in let found = c.enter-held.ensures.1.0 in let front = found.1 in
