@@ -104,7 +104,7 @@ fn passes<R>(
     let mut passes = Vec::new(alloc);
     let mut made = 0;
     while made < lanes {
-        passes.push(desk.split(rt, root)?)?;
+        passes.push(desk.split(rt, root))?;
         made += 1;
     }
     Ok(passes)

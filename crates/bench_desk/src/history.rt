@@ -17,7 +17,7 @@ use std::time::{Clock, Instant};
 /// Where there is no memory for the desk, or a clock can't be read.
 pub fn slowest_turn<R: Wait + Clock>(rt: &R, alloc: Global, turns: usize) -> Result<u64, Failure> {
     let (desk, mut root) = Desk::new(alloc, Adder::new())?;
-    let pass = desk.split(rt, &mut root)?;
+    let pass = desk.split(rt, &mut root);
     Ok(slowest_of(rt, &desk, pass, turns)?)
 }
 

@@ -85,7 +85,7 @@ pub fn rest<R: Threads + Wait + Clock + CpuClock + Files + Sync>(
     let hall = Hall::new(bells(alloc, Limit::Second)?, None);
     let (desk, mut root) = Desk::new(alloc, Rounds::idle())?;
     let mut jobs = seats(rt, alloc, &hall, &desk, &mut root)?;
-    let pass = desk.split(rt, &mut root)?;
+    let pass = desk.split(rt, &mut root);
     jobs.push(Job::Rest(pass, millis))?;
     run(rt, &hall, &desk, jobs)?;
     Ok(hall.spent())
@@ -143,10 +143,10 @@ fn open_seat<R: Files>(
     let number = 2 * seat;
     let (from_front, to_worker) = io::pipe(rt)?;
     let (from_worker, to_back) = io::pipe(rt)?;
-    let pass = desk.split(rt, root)?;
+    let pass = desk.split(rt, root);
     jobs.push(Job::Front(Lane { pass, number }, to_worker))?;
     jobs.push(Job::Worker(from_front, to_back))?;
-    let pass = desk.split(rt, root)?;
+    let pass = desk.split(rt, root);
     let number = number + 1;
     jobs.push(Job::Back(Lane { pass, number }, from_worker))?;
     Ok(())

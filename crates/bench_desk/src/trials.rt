@@ -84,7 +84,7 @@ fn tell_two<R: Threads + Wait + Print + Sync>(
 // A counter that has room for one look.
 fn tell_looks<R: Wait + Print>(rt: &R, alloc: Global) -> Result<(), Failure> {
     let (desk, mut root) = Desk::new(alloc, Counter::new(10, 1))?;
-    let pass = desk.split(rt, &mut root)?;
+    let pass = desk.split(rt, &mut root);
     let (mut pass, sum) = add(rt, &desk, pass, 13);
     let seen = look(rt, &desk, &mut pass);
     let again = look(rt, &desk, &mut pass);
@@ -97,7 +97,7 @@ fn tell_looks<R: Wait + Print>(rt: &R, alloc: Global) -> Result<(), Failure> {
 // A lane that leaves a token, stamps it and takes it.
 fn tell_token<R: Wait + Print>(rt: &R, alloc: Global) -> Result<(), Failure> {
     let (desk, mut root) = Desk::new(alloc, Locker::new())?;
-    let mut pass = desk.split(rt, &mut root)?;
+    let mut pass = desk.split(rt, &mut root);
     let token = Token { number: 4 };
     let Ok((Answer::Left, None)) = desk.call(rt, &mut pass, Ask::Leave, Some(token)) else {
         return Err(Failure::NoMemory);

@@ -1,2 +1,2 @@
-mod Seating
+pub mod Seating
 pub mod Running

@@ -7,7 +7,7 @@ use Rattle.lane_deeds.specs.declared.post.Post.{Post}
 use Rattle.remote_messages.specs.declared.work.WorkAction.{WorkAction}
 use Rattle.berth_lanes.specs.declared.proxies.ProxySeat.{ProxySeat}
 use Rattle.berth_lanes.specs.declared.taps.TapSeat.{TapSeat}
-use Rattle.berth_lanes.specs.Seats.{IsProxySeat, IsTapSeat, AreSeats, HasSeats}
+use Rattle.berth_lanes.specs.Seats.{IsProxySeat, IsTapSeat, AreSeats, HasSeats, berths_in}
 
 pub two_more : {X : Type 0} (xs ys zs : List X) (x y : X) → ys ≡ xs ++ x ∷ [] → zs ≡ ys ++ y ∷ []
     → zs ≡ xs ++ x ∷ y ∷ []
@@ -64,3 +64,19 @@ seated_more {B} actions i n b p bs rest rest' ps lanes lanes' has number berths 
     (subst (λ (xs : List B). AreSeats actions i xs (drop i ps) (two ++ more)) (sym berths)
     (subst (λ (ys : List Post). AreSeats actions i (b ∷ rest') ys (two ++ more)) (sym posts)
     (proxy, tap, are))))
+
+-- the berths from which the lanes were made
+pub seated_berths : {B : Type 0} (actions : List WorkAction) (w : ℕ) (bs : List B) (ps : List Post)
+    (lanes : List (OfTwo (ProxySeat B) TapSeat)) → AreSeats actions w bs ps lanes
+    → berths_in lanes ≡ bs
+seated_berths actions w [] [] [] are = refl
+seated_berths actions w [] [] (l ∷ lanes) are = absurd (cc)
+seated_berths actions w (b ∷ bs) (p ∷ ps) (First x ∷ Second y ∷ lanes) are =
+    let rest = seated_berths actions (w + 1) bs ps lanes are.2 in
+    let first : x.berth ≡ b = are.0.0 in cc
+seated_berths actions w (b ∷ bs) (p ∷ ps) [] are = absurd are
+seated_berths actions w (b ∷ bs) (p ∷ ps) (First x ∷ []) are = absurd are
+seated_berths actions w (b ∷ bs) (p ∷ ps) (First x ∷ First y ∷ lanes) are = absurd are
+seated_berths actions w (b ∷ bs) (p ∷ ps) (Second x ∷ lanes) are = absurd are
+seated_berths actions w [] (p ∷ ps) lanes are = absurd are
+seated_berths actions w (b ∷ bs) [] lanes are = absurd are

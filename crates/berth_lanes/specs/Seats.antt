@@ -32,6 +32,12 @@ module _ {B : Type 0} where
       IsProxySeat actions w b p x × IsTapSeat w p y × AreSeats actions (w + 1) bs ps lanes
   AreSeats actions w _ _ _ = ⊥
 
+  -- the berths of these lanes, in order
+  abbrev pub berths_in : List (OfTwo (ProxySeat B) TapSeat) → List B
+  berths_in [] = []
+  berths_in (First x ∷ lanes) = x.berth ∷ berths_in lanes
+  berths_in (Second y ∷ lanes) = berths_in lanes
+
   -- the two lanes of this berth stand behind those before
   pub record HasSeats (actions : List WorkAction) (w : ℕ) (berth : B) (post : Post)
       (old new : List (OfTwo (ProxySeat B) TapSeat)) : Type 0 where

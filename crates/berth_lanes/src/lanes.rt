@@ -1,12 +1,11 @@
 //! The lanes of all berths, in the order of their numbers.
-ghost use Rattle.std.specs.Prelude.{◌≡◌, ◌≤◌, length, IfOk, OnOk};
-ghost use Rattle.berth_lanes.specs.Seats.{AreSeats, HasSeats};
+ghost use Rattle.std.specs.Prelude.{◌≡◌, ◌≤◌, ◌+◌, ◌*◌, [], ◌++◌, length, vec_len, vec_capacity};
+ghost use Rattle.berth_lanes.specs.Seats.{AreSeats, HasSeats, berths_in};
 
 use crate::proxies::ProxySeat;
 use crate::taps::TapSeat;
 use lane_crew::OfTwo;
 use lane_deeds::Post;
-use plain_values::NoMemory;
 use remote_messages::WorkAction;
 use std::alloc::Global;
 use std::collections::VecDeque;
@@ -14,33 +13,32 @@ use std::collections::VecDeque;
 /// A lane of a berth: its proxy lane, or its tap lane.
 pub type BerthLane<'a, B> = OfTwo<ProxySeat<'a, B>, TapSeat>;
 
-/// For each berth, in order, its proxy lane and then its tap lane. Lane `2w` is the proxy lane of the
-/// berth `w`, and lane `2w + 1` its tap lane.
-///
-/// # Errors
-///
-/// `NoMemory`.
+/// For each berth, in order, its proxy lane and then its tap lane, in the room that was made for them.
+/// Lane `2w` is the proxy lane of the berth `w`, and lane `2w + 1` its tap lane. It takes no memory.
 pub fn lanes_of<'a, B: Drop>(
     alloc: Global,
     berths: Vec<B>,
     posts: &'a [Post],
     actions: &'a [WorkAction],
-) -> Result<Vec<BerthLane<'a, B>>, NoMemory>
+    room: Vec<BerthLane<'a, B>>,
+) -> Vec<BerthLane<'a, B>>
     requires many { length berths.items ≡ length posts.now }
     requires few { length posts.now ≤ 64 }
-    ensures { IfOk result (λ lanes. AreSeats actions.now 0 berths.items posts.now lanes.items) }
+    requires empty { room.items ≡ [] }
+    requires room { vec_len room + 2 * length posts.now ≤ vec_capacity room }
+    ensures { AreSeats actions.now 0 berths.items posts.now result.items }
 {
-    let mut lanes = Vec::new(alloc);
+    let mut lanes = room;
     let mut rest = VecDeque::from_vec(berths);
     let mut number = 0;
     for post in posts {
         let Some(berth) = rest.pop_front() else {
             unreachable!()
         };
-        push_seats(alloc, &mut lanes, berth, number, post, actions)?;
+        push_seats(alloc, &mut lanes, berth, number, post, actions);
         number += 1;
     }
-    Ok(lanes)
+    lanes
 }
 
 fn push_seats<'a, B: Drop>(
@@ -50,21 +48,36 @@ fn push_seats<'a, B: Drop>(
     number: u32,
     post: &'a Post,
     actions: &'a [WorkAction],
-) -> Result<(), NoMemory>
-    ensures { OnOk result (HasSeats actions.now number berth post.now lanes.old.items
-        lanes.new.items) }
+)
+    requires room { vec_len lanes.old + 2 ≤ vec_capacity lanes.old }
+    ensures seats { HasSeats actions.now number berth post.now lanes.old.items lanes.new.items }
+    ensures len { vec_len lanes.new ≡ vec_len lanes.old + 2 }
+    ensures capacity { vec_capacity lanes.new ≡ vec_capacity lanes.old }
 {
-    lanes.push(OfTwo::First(ProxySeat {
+    lanes.push_reserved(OfTwo::First(ProxySeat {
         alloc,
         berth,
         number,
         post,
         actions,
-    }))?;
-    lanes.push(OfTwo::Second(TapSeat {
+    }));
+    lanes.push_reserved(OfTwo::Second(TapSeat {
         alloc,
         berth: number,
         speech: post.speech,
-    }))?;
-    Ok(())
+    }));
+}
+
+/// Puts the berths of lanes that have not run into `berths`, which has room for them.
+pub fn berths_of<B: Drop>(lanes: Vec<BerthLane<'_, B>>, berths: &mut Vec<B>)
+    requires { vec_len berths.old + length (berths_in lanes.items) ≤ vec_capacity berths.old }
+    ensures { berths.new.items ≡ berths.old.items ++ berths_in lanes.entry.items }
+{
+    let mut rest = VecDeque::from_vec(lanes);
+    while let Some(lane) = rest.pop_front() {
+        match lane {
+            OfTwo::First(seat) => berths.push_reserved(seat.berth),
+            OfTwo::Second(_) => {}
+        }
+    }
 }

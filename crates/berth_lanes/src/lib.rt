@@ -5,6 +5,6 @@ mod lanes;
 mod proxies;
 mod taps;
 
-pub use lanes::{BerthLane, lanes_of};
+pub use lanes::{BerthLane, berths_of, lanes_of};
 pub use proxies::{ProxyLeft, ProxySeat};
 pub use taps::{TapLeft, TapSeat};

@@ -1,4 +1,4 @@
 -- What the contracts cite.
 pub mod LaneCores
-pub mod Waking
 pub mod Laws
+pub mod News

@@ -9,23 +9,19 @@ ghost use Rattle.core_rules.specs.LaneCores.{no_plan, plan_of, StandsFor};
 ghost use Rattle.history_laws.proofs.OfRules as laws;
 ghost use Rattle.core_rules.specs.Laws as own_laws;
 ghost use Rattle.core_rules.specs.Laws.{own, own_is};
-ghost use Rattle.core_rules.specs.Waking.{stirred, waking};
+ghost use Rattle.core_rules.specs.News.{news_are};
+ghost use Rattle.spawn_core.specs.Outlook.{has_news_by};
 
-use crate::news::{News, bit_of, news_of, waiting_after};
 use exec_journal::{Call, Plan, Reply};
 use run_progress::Notes;
 use run_rules::Rules;
 use spawn_core::Core;
 
-/// The scheduling core, with the count of paid entries that are still to come, and with who waits.
+/// The scheduling core, with the count of paid entries that are still to come.
 #[derive(Drop)]
 pub struct LaneCore {
     core: Core,
     owed: u64,
-    /// The lanes that were told Idle last: bit `k` is lane `k`.
-    waiting: u128,
-    /// Who may have news by the newest call.
-    news: News,
 }
 
 impl LaneCore {
@@ -34,12 +30,7 @@ impl LaneCore {
         ensures { (p : Plan) → Stands p core [] → StandsFor result [] × (plan_of result ≡ p) }
     {
         let owed = 2 * u64::from(core.berths());
-        LaneCore {
-            core,
-            owed,
-            waiting: 0,
-            news: News::Nobody,
-        }
+        LaneCore { core, owed }
     }
 
     /// The core of such a run, which notes there how far the run is.
@@ -49,20 +40,6 @@ impl LaneCore {
         let mut core = core;
         core.watch(notes);
         LaneCore::new(core)
-    }
-
-    // Of the lanes that wait, those that would be told more than Idle.
-    #[tactic(auto, using(crate::proofs::Woken::waking_none, crate::proofs::Woken::waking_next))]
-    fn waiting_with_news(&self) -> u128
-        ensures { result ≡ waking self.now.core self.now.waiting 128 }
-    {
-        let mut lanes = 0;
-        for lane in 0..128 {
-            if self.waiting & bit_of(lane) != 0 && self.core.has_news(lane) {
-                lanes |= bit_of(lane);
-            }
-        }
-        lanes
     }
 }
 
@@ -95,24 +72,18 @@ impl Rules for LaneCore {
 
     ghost makers = { makers_in };
 
-    ghost hints = { λ m lane reply lanes. lanes ≡ stirred m lane };
+    ghost news = { λ m lane. has_news_by m.core.state lane };
 
     fn step(&mut self, lane: u32, call: &Call) -> Reply {
         let before = self.core.lane_owes(lane);
         let reply = self.core.step(lane, call);
         let after = self.core.lane_owes(lane);
         self.owed = self.owed.saturating_sub(before).saturating_add(after);
-        self.waiting = waiting_after(self.waiting, lane, &reply);
-        self.news = news_of(call, &reply);
         reply
     }
 
-    fn stirs(&self, lane: u32, _reply: &Reply) -> u128 {
-        match self.news {
-            News::Nobody => 0,
-            News::Partner => self.waiting & bit_of(lane ^ 1),
-            News::Waiting => self.waiting_with_news(),
-        }
+    fn has_news(&self, lane: u32) -> bool {
+        self.core.has_news(lane)
     }
 
     fn owed(&self) -> u64 {
@@ -156,6 +127,8 @@ impl Rules for LaneCore {
     ghost commits_are_paid = { λ q. laws.commits_are_paid (own q) (own_is q) };
 
     ghost only_hears = { λ q. laws.only_hears (own q) (own_is q) };
+
+    ghost news_are = { news_are };
 
     ghost stands_legal = { own_laws.stands_legal };
 

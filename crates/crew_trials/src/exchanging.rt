@@ -172,7 +172,7 @@ fn lanes_of(alloc: Global, pairs: u32, count: usize) -> Result<Vec<SlotLane>, No
 ///
 /// # Errors
 ///
-/// As of [`run_crew`].
+/// `NoMemory` where [`run_crew`] starts no lane.
 pub fn exchange<R: Threads + Wait + Sync>(
     rt: &R,
     alloc: Global,
@@ -186,6 +186,8 @@ pub fn exchange<R: Threads + Wait + Sync>(
     ensures all { IfOk result (λ c. length c.ends.items ≡ 2 * pairs) }
 {
     let lanes = lanes_of(alloc, pairs, count)?;
-    let crew = run_crew(rt, alloc, Slot::new(), lanes)?;
-    Ok(crew)
+    match run_crew(rt, alloc, Slot::new(), lanes) {
+        Ok(crew) => Ok(crew),
+        Err(_) => Err(NoMemory),
+    }
 }

@@ -116,10 +116,10 @@ pub fn count_by_four<R: Threads + Wait + Sync>(
     ensures sum { IfOk result (λ t. t.closed.machine.sum ≡ added t.closed.history.items % 2 ^ 64) }
 {
     let (desk, mut root) = Desk::new(alloc, Adder::new())?;
-    let a = desk.split(rt, &mut root)?;
-    let b = desk.split(rt, &mut root)?;
-    let c = desk.split(rt, &mut root)?;
-    let d = desk.split(rt, &mut root)?;
+    let a = desk.split(rt, &mut root);
+    let b = desk.split(rt, &mut root);
+    let c = desk.split(rt, &mut root);
+    let d = desk.split(rt, &mut root);
     let ((a, b), (c, d)) = four(rt, &desk, a, b, c, d, count);
     let made = (a.made, b.made, c.made, d.made);
     desk.join_pass(rt, &mut root, a.pass);

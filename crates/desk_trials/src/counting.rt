@@ -93,8 +93,8 @@ pub fn run<R: Threads + Wait + Sync>(
         (Answer.Sum r.2) ∷ []) }
 {
     let (desk, mut root) = Desk::new(alloc, Counter::new(modulus, 0))?;
-    let a = desk.split(rt, &mut root)?;
-    let b = desk.split(rt, &mut root)?;
+    let a = desk.split(rt, &mut root);
+    let b = desk.split(rt, &mut root);
     let ((a, first), (b, second)) = two(rt, &desk, a, b, n);
     let (Some(first), Some(second)) = (first, second) else {
         return Err(NoMemory);

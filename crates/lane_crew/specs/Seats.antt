@@ -1,5 +1,5 @@
 -- Lanes with their passes, before they run and after.
-use Rattle.std.specs.Prelude.{◌≡◌, ℕ, ◌+◌, ◌<◌, List, [], ◌∷◌}
+use Rattle.std.specs.Prelude.{◌≡◌, ℕ, ◌+◌, ◌<◌, List, [], ◌∷◌, length}
 use Rattle.seat_desk.specs.declared.machine.Machine.{Ghosts}
 use Rattle.plain_values.specs.declared.entry.Entry.{Entry}
 use Rattle.seat_desk.specs.declared.desk.Pass.{Pass}
@@ -13,6 +13,17 @@ use Rattle.lane_crew.specs.declared.job.Post.TheVariants.{Ready, Ended}
 use Rattle.lane_crew.specs.declared.seat.Seated.{Seated}
 use Rattle.lane_crew.specs.declared.seat.Risen.{Risen}
 use Rattle.lane_crew.specs.Lanes.{IsFresh, FactBefore, FactOfRun}
+
+module _ {C R : Type 0} where
+  -- lanes in order from the number k on, with no calls
+  abbrev pub IdleFrom : ℕ → List (Joined C R) → Type 0
+  IdleFrom k [] = Unit {0}
+  IdleFrom k (j ∷ js) = (j.lane ≡ k) × (j.calls ≡ []) × IdleFrom (k + 1) js
+
+  -- so many of them
+  pub record AreIdle (k n : ℕ) (js : List (Joined C R)) : Type 0 where
+    pub as_many : length js ≡ n
+    pub each : IdleFrom k js
 
 module _ {M C R G Q : Type 0} {g : Ghosts M C R G Q} where
   -- the root has split no pass, seen nothing and joined nothing
@@ -57,6 +68,11 @@ module _ {M C R G Q : Type 0} {g : Ghosts M C R G Q} where
         IsSeatOf desk q k lane post × SeatedFrom desk q (k + 1) lanes posts
     SeatedFrom desk q k [] (post ∷ posts) = ⊥
     SeatedFrom desk q k (lane ∷ lanes) [] = ⊥
+
+    -- so are some lanes, from the number 0 on
+    abbrev pub AreSeated : Desk M C R G Q → Q
+        → List (Post (Seated M L C R G Q g) (Risen M E C R G Q g)) → Type 0
+    AreSeated desk q posts = (lanes : List L) × SeatedFrom desk q 0 lanes posts
 
     -- a lane of this desk has run at this post
     abbrev pub HasRisen : Desk M C R G Q → Post (Seated M L C R G Q g) (Risen M E C R G Q g)

@@ -1,11 +1,12 @@
 //! A crew: a desk, its lanes on threads, and what they leave.
-ghost use Rattle.std.specs.Prelude.{◌≡◌, ◌+◌, ◌≤◌, [], length, All, IfOk, OnOk, vec_len, vec_capacity};
+ghost use Rattle.std.specs.Prelude.{◌≡◌, ◌≤◌, [], length, All, IfOk, IfErr};
 ghost use Rattle.seat_desk.specs.History.{StandsUnder};
 ghost use Rattle.seat_desk.specs.Turns.{NoneFrom};
 ghost use Rattle.seat_desk.specs.Passes.{IsRootOf, joined, root_rules, root_seen};
-ghost use Rattle.lane_crew.specs.Seats.{MayRunInOrder, KeepsPasses, IsNew, IsMustered, SeatedFrom, HasRisen, HandedOver, EachLane};
+ghost use Rattle.lane_crew.specs.Jobs.{HasRoomFor};
+ghost use Rattle.lane_crew.specs.Seats.{MayRunInOrder, KeepsPasses, IsNew, IsMustered, SeatedFrom, AreSeated, AreIdle, HasRisen, HandedOver, EachLane};
 
-use crate::job::{Post, end_of, run_list};
+use crate::job::{Post, end_of, job_of, run_list};
 use crate::lane::Lane;
 use crate::seat::{Hall, Risen, Seated};
 use lane_bells::Bells;
@@ -27,29 +28,38 @@ pub struct Crew<M: Machine, E> {
     pub ends: Vec<E>,
 }
 
-// Gives each lane a pass, in order.
-fn enlist<M: Machine, L: Lane<Desk<M>, Pass<M>>, R>(
+/// What a crew was to be of, where none has begun.
+#[derive(Drop)]
+pub struct Unstarted<M, L> {
+    /// The machine, which no lane has called.
+    pub machine: M,
+    /// The lanes, as they were.
+    pub lanes: Vec<L>,
+}
+
+// A lane with its pass, or what it left.
+type LanePost<M, L, E> = Post<Seated<M, L>, Risen<M, E>>;
+
+// Gives each lane a pass, in order. It takes no memory.
+fn enlist<M: Machine, L: Drop, E: Drop, R>(
     rt: &R,
-    alloc: Global,
     desk: &Desk<M>,
     root: &mut Root<M>,
     lanes: Vec<L>,
-) -> Result<Vec<Post<Seated<M, L>, Risen<M, L::End>>>, NoMemory>
+    posts: &mut Vec<LanePost<M, L, E>>,
+)
     requires desk { IsRootOf desk.now root.old }
     requires new { IsNew root.old }
     requires few { length lanes.items ≤ 128 }
-    ensures root { OnOk result
-        (IsMustered (root_rules root.old) (length lanes.items) desk.now root.new) }
-    ensures posts { IfOk result (λ v.
-        SeatedFrom desk.now (root_rules root.old) 0 lanes.items v.items) }
+    requires room { HasRoomFor (length lanes.items) posts.old }
+    ensures root { IsMustered (root_rules root.old) (length lanes.items) desk.now root.new }
+    ensures posts { SeatedFrom desk.now (root_rules root.old) 0 lanes.items posts.new.items }
 {
-    let mut posts = Vec::with_capacity(alloc, lanes.len())?;
     let mut rest = VecDeque::from_vec(lanes);
     while let Some(lane) = rest.pop_front() {
-        let pass = desk.split(rt, root)?;
+        let pass = desk.split(rt, root);
         posts.push_reserved(Post::Ready(Seated { lane, pass }));
     }
-    Ok(posts)
 }
 
 // Takes each pass back, and lays the ends side by side. It takes no memory.
@@ -57,14 +67,13 @@ fn collect<M: Machine, L: Drop, E: Drop, R>(
     rt: &R,
     desk: &Desk<M>,
     root: &mut Root<M>,
-    posts: Vec<Post<Seated<M, L>, Risen<M, E>>>,
+    posts: Vec<LanePost<M, L, E>>,
     ends: &mut Vec<E>,
 )
     requires desk { IsRootOf desk.now root.old }
     requires none { joined root.old ≡ [] }
     requires risen { All (HasRisen desk.now) posts.items }
-    requires empty { ends.old.items ≡ [] }
-    requires room { vec_len ends.old + length posts.items ≤ vec_capacity ends.old }
+    requires room { HasRoomFor (length posts.items) ends.old }
     ensures root { IsRootOf desk.now root.new × (root.new.made ≡ root.old.made)
         × (root_rules root.new ≡ root_rules root.old) }
     ensures handed { HandedOver (root_seen root.new) posts.items ends.new.items (joined root.new) }
@@ -77,42 +86,54 @@ fn collect<M: Machine, L: Drop, E: Drop, R>(
     }
 }
 
-// A crew before it runs: all that takes memory is done.
-struct Muster<M: Machine, L: Lane<Desk<M>, Pass<M>>> {
-    hall: Hall<M>,
-    root: Root<M>,
-    posts: Vec<Post<Seated<M, L>, Risen<M, L::End>>>,
-    ends: Vec<L::End>,
+// Takes each pass back from a lane that has not begun, and the lane. It takes no memory.
+fn dismiss<M: Machine, L: Drop, E: Drop, R>(
+    rt: &R,
+    desk: &Desk<M>,
+    root: &mut Root<M>,
+    posts: Vec<LanePost<M, L, E>>,
+    lanes: &mut Vec<L>,
+)
+    requires desk { IsRootOf desk.now root.old }
+    requires none { joined root.old ≡ [] }
+    requires seated { AreSeated desk.now (root_rules root.old) posts.items }
+    requires room { HasRoomFor (length posts.items) lanes.old }
+    ensures root { IsRootOf desk.now root.new × (root.new.made ≡ root.old.made)
+        × (root_rules root.new ≡ root_rules root.old) }
+    ensures idle { AreIdle 0 (length posts.items) (joined root.new) }
+    ensures lanes { SeatedFrom desk.now (root_rules root.old) 0 lanes.new.items posts.items }
+{
+    let mut rest = VecDeque::from_vec(posts);
+    while let Some(post) = rest.pop_front() {
+        let Seated { lane, pass } = job_of(post);
+        desk.join_pass(rt, root, pass);
+        lanes.push_reserved(lane);
+    }
 }
 
-// Makes the desk, the bells, a pass for each lane, and the room for their ends.
-fn make_muster<M: Machine, L: Lane<Desk<M>, Pass<M>>, R>(
-    rt: &R,
-    alloc: Global,
-    machine: M,
+// Room for a crew of so many: all that takes memory beside the desk and the threads.
+struct Room<M: Machine, L, E> {
+    bells: Bells,
+    posts: Vec<LanePost<M, L, E>>,
+    ends: Vec<E>,
     lanes: Vec<L>,
-) -> Result<Muster<M, L>, NoMemory>
-    requires machine { M.stands machine [] }
-    requires few { length lanes.items ≤ 128 }
-    ensures root { IfOk result (λ m.
-        IsMustered (M.rules machine) (length lanes.items) m.hall.desk m.root) }
-    ensures bells { IfOk result (λ m. m.hall.bells ≡ length lanes.items) }
-    ensures posts { IfOk result (λ m.
-        SeatedFrom m.hall.desk (M.rules machine) 0 lanes.items m.posts.items) }
-    ensures ends { IfOk result (λ m. (m.ends.items ≡ []) × (vec_len m.ends ≡ 0)
-        × (length lanes.items ≤ vec_capacity m.ends)) }
+}
+
+fn room_for<M: Machine, L: Drop, E: Drop>(
+    alloc: Global,
+    count: usize,
+) -> Result<Room<M, L, E>, NoMemory>
+    requires few { count ≤ 128 }
+    ensures bells { IfOk result (λ r. r.bells ≡ count) }
+    ensures posts { IfOk result (λ r. HasRoomFor count r.posts) }
+    ensures ends { IfOk result (λ r. HasRoomFor count r.ends) }
+    ensures lanes { IfOk result (λ r. HasRoomFor count r.lanes) }
 {
-    let count = lanes.len();
-    let ends = Vec::with_capacity(alloc, count)?;
-    let bells = Bells::new(alloc, count as u32)?;
-    let (desk, mut root) = Desk::new(alloc, machine)?;
-    let posts = enlist(rt, alloc, &desk, &mut root, lanes)?;
-    let hall = Hall { desk, bells };
-    Ok(Muster {
-        hall,
-        root,
-        posts,
-        ends,
+    Ok(Room {
+        bells: Bells::new(alloc, count as u32)?,
+        posts: Vec::with_capacity(alloc, count)?,
+        ends: Vec::with_capacity(alloc, count)?,
+        lanes: Vec::with_capacity(alloc, count)?,
     })
 }
 
@@ -128,14 +149,14 @@ fn make_muster<M: Machine, L: Lane<Desk<M>, Pass<M>>, R>(
 ///
 /// # Errors
 ///
-/// `NoMemory` if there is no memory before the lanes, or the system starts no thread for one of them.
-/// Then none has begun.
+/// `Unstarted` if there is no memory before the lanes, or the system starts no thread for one of them.
+/// Then none has begun, and the lanes come back with the machine, which stands for the empty history.
 pub fn run_crew<M: Machine + Send, L: Lane<Desk<M>, Pass<M>> + Send, R: Threads + Wait + Sync>(
     rt: &R,
     alloc: Global,
     machine: M,
     lanes: Vec<L>,
-) -> Result<Crew<M, L::End>, NoMemory>
+) -> Result<Crew<M, L::End>, Unstarted<M, L>>
 where
     M::Call: Send,
     M::Reply: Send,
@@ -150,22 +171,46 @@ where
     ensures lanes { IfOk result (λ c.
         EachLane L.has_run (M.rules machine) c.history.items 0 lanes.items c.ends.items) }
     ensures others { IfOk result (λ c. NoneFrom (length lanes.items) c.history.items) }
+    ensures back { IfErr result (λ u. (u.lanes.items ≡ lanes.items)
+        × StandsUnder M.rules M.stands (M.rules machine) u.machine []) }
 {
-    let muster = make_muster(rt, alloc, machine, lanes)?;
-    let Muster {
-        hall,
-        mut root,
-        posts,
+    let Ok(room) = room_for(alloc, lanes.len()) else {
+        return Err(Unstarted { machine, lanes });
+    };
+    let Room {
+        bells,
+        mut posts,
         mut ends,
-    } = muster;
-    let posts = run_list(rt, alloc, &hall, posts)?;
+        lanes: mut back,
+    } = room;
+    let (desk, mut root) = match Desk::new_or_back(alloc, machine) {
+        Ok(opened) => opened,
+        Err(machine) => return Err(Unstarted { machine, lanes }),
+    };
+    enlist(rt, &desk, &mut root, lanes, &mut posts);
+    let hall = Hall { desk, bells };
+    let ran = run_list(rt, alloc, &hall, posts);
     let Hall { desk, bells: _ } = hall;
-    collect(rt, &desk, &mut root, posts, &mut ends);
-    let closed = desk.close(rt, root);
-    let Closed { machine, history } = closed;
-    Ok(Crew {
-        machine,
-        history,
-        ends,
-    })
+    match ran {
+        Ok(posts) => {
+            collect(rt, &desk, &mut root, posts, &mut ends);
+            let Closed { machine, history } = desk.close(rt, root);
+            Ok(Crew {
+                machine,
+                history,
+                ends,
+            })
+        }
+        Err(posts) => {
+            dismiss(rt, &desk, &mut root, posts, &mut back);
+            let Closed {
+                machine,
+                history: _,
+            } = desk.close(rt, root);
+            Err(Unstarted {
+                machine,
+                lanes: back,
+            })
+        }
+    }
 }

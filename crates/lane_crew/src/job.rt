@@ -1,7 +1,7 @@
 //! Jobs, each on a thread of its own.
-ghost use Rattle.std.specs.Prelude.{◌≡◌, ◌+◌, ◌≤◌, [], true, length, vec_len, vec_capacity, All, IfOk};
-ghost use Rattle.std.specs.List.{AllZip};
-ghost use Rattle.lane_crew.specs.Jobs.{CanRun, HasEnd, HasEnded, MayHaveEnded, IsOver, posts_of};
+ghost use Rattle.std.specs.Prelude.{◌≡◌, ◌+◌, ◌≤◌, [], length, vec_len, vec_capacity, All, IfOk, IfErr};
+ghost use Rattle.std.specs.List.{AllZip, list_any};
+ghost use Rattle.lane_crew.specs.Jobs.{CanRun, CanRunIfLeft, EndsAs, HasEnd, HasEnded, MayHaveEnded, IsOver, HasRoomFor, IsReady, has_end, posts_of};
 
 use plain_values::NoMemory;
 use std::alloc::Global;
@@ -49,9 +49,26 @@ pub(crate) fn end_of<J: Drop, E: Drop>(post: Post<J, E>) -> E
     }
 }
 
-// Whether the job of this post has run.
+/// The job of this post, which has not run.
+pub(crate) fn job_of<J: Drop, E: Drop>(post: Post<J, E>) -> J
+    requires { IsReady post }
+    ensures { post ≡ Post.Ready result }
+{
+    match post {
+        Post::Ready(job) => job,
+        Post::Ended(_) => unreachable!(),
+    }
+}
+
+// Whether the job of some post has run.
+fn any_ended<J, E>(posts: &[Post<J, E>]) -> bool
+    ensures { result ≡ list_any has_end posts.now }
+{
+    posts.iter().any(|post| has_end(post))
+}
+
 fn has_end<J, E>(post: &Post<J, E>) -> bool
-    ensures { result ≡ true → HasEnd post.now }
+    ensures { result ≡ has_end post.now }
 {
     matches!(post, Post::Ended(_))
 }
@@ -108,10 +125,11 @@ fn join_all<C, J: Job<C>, R: Threads>(
     threads: Vec<Doing<C, J, J::End>>,
     ends: &mut Vec<Post<J, J::End>>,
 )
-    requires empty { ends.old.items ≡ [] }
-    requires room { vec_len threads + vec_len ends.old ≤ vec_capacity ends.old }
-    ensures { (context : C) → All (IsOver context) threads.items
+    requires room { HasRoomFor (vec_len threads) ends.old }
+    ensures kept { (context : C) → All (IsOver context) threads.items
         → AllZip (MayHaveEnded J.ends context) (posts_of threads.items) ends.new.items }
+    ensures len { vec_len ends.new ≡ vec_len threads }
+    ensures capacity { vec_capacity ends.new ≡ vec_capacity ends.old }
 {
     let mut rest = VecDeque::from_vec(threads);
     while let Some(thread) = rest.pop_front() {
@@ -119,19 +137,48 @@ fn join_all<C, J: Job<C>, R: Threads>(
     }
 }
 
-// The posts, if there are as many as that, each with an end.
-fn all_ended<J: Drop, E: Drop>(
-    posts: Vec<Post<J, E>>,
-    count: usize,
-) -> Result<Vec<Post<J, E>>, NoMemory>
-    ensures { IfOk result (λ ends.
-        (ends ≡ posts) × (length ends.items ≡ count) × All HasEnd ends.items) }
+// Runs the jobs that have not run, one after another. It takes no memory.
+fn run_left<C, J: Job<C>, R: Threads + Wait + Sync>(
+    rt: &R,
+    context: &C,
+    posts: Vec<Post<J, J::End>>,
+    ends: &mut Vec<Post<J, J::End>>,
+)
+    requires left { All (CanRunIfLeft J.can_run context.now) posts.items }
+    requires room { HasRoomFor (length posts.items) ends.old }
+    ensures { AllZip (EndsAs J.ends context.now) posts.items ends.new.items }
 {
-    if posts.len() == count && posts.iter().all(has_end) {
-        Ok(posts)
-    } else {
-        Err(NoMemory)
+    let mut rest = VecDeque::from_vec(posts);
+    while let Some(post) = rest.pop_front() {
+        let end = match post {
+            Post::Ready(job) => job.run(rt, context),
+            Post::Ended(end) => end,
+        };
+        ends.push_reserved(Post::Ended(end));
     }
+}
+
+// Room for the threads of so many posts, for those that no thread has, for all that come back, and for
+// their ends.
+struct Room<C, J: Job<C>> {
+    threads: Vec<Doing<C, J, J::End>>,
+    late: Vec<Post<J, J::End>>,
+    back: Vec<Post<J, J::End>>,
+    ends: Vec<Post<J, J::End>>,
+}
+
+fn room_for<C, J: Job<C>>(alloc: Global, count: usize) -> Result<Room<C, J>, NoMemory>
+    ensures threads { IfOk result (λ r. HasRoomFor count r.threads) }
+    ensures late { IfOk result (λ r. HasRoomFor count r.late) }
+    ensures back { IfOk result (λ r. HasRoomFor count r.back) }
+    ensures ends { IfOk result (λ r. HasRoomFor count r.ends) }
+{
+    Ok(Room {
+        threads: Vec::with_capacity(alloc, count)?,
+        late: Vec::with_capacity(alloc, count)?,
+        back: Vec::with_capacity(alloc, count)?,
+        ends: Vec::with_capacity(alloc, count)?,
+    })
 }
 
 /// Runs the jobs of all posts, each on a thread of its own, and returns once all have ended. The ends
@@ -142,50 +189,76 @@ fn all_ended<J: Drop, E: Drop>(
 ///
 /// # Errors
 ///
-/// `NoMemory` if there is none for this, or the system starts no further thread. Then no job was run.
+/// The posts, as they were, if there is no memory for this, or the system starts no further thread.
+/// Then no job was run.
 pub fn run_list<C: Sync, J: Job<C>, R: Threads + Wait + Sync>(
     rt: &R,
     alloc: Global,
     context: &C,
     posts: Vec<Post<J, J::End>>,
-) -> Result<Vec<Post<J, J::End>>, NoMemory>
+) -> Result<Vec<Post<J, J::End>>, Vec<Post<J, J::End>>>
     requires { All (CanRun J.can_run context.now) posts.items }
-    ensures { IfOk result (λ ends. AllZip (HasEnded J.ends context.now) posts.items ends.items) }
+    ensures ends { IfOk result (λ ends.
+        AllZip (HasEnded J.ends context.now) posts.items ends.items) }
+    ensures back { IfErr result (λ back. back.items ≡ posts.items) }
 {
-    let count = posts.len();
-    let mut threads = Vec::with_capacity(alloc, count)?;
-    let mut ends = Vec::with_capacity(alloc, count)?;
+    let Ok(room) = room_for(alloc, posts.len()) else {
+        return Err(posts);
+    };
+    let Room {
+        mut threads,
+        mut late,
+        mut back,
+        mut ends,
+    } = room;
     let all_there = OnceLock::new();
     let told = &all_there;
     thread::scope(
         thread::scope_env(),
         rt,
-        move |scope| -> Result<Vec<Post<J, J::End>>, NoMemory>
+        move |scope| -> Result<Vec<Post<J, J::End>>, Vec<Post<J, J::End>>>
             requires { All (CanRun J.can_run context.now) posts.items
-                × (count ≡ length posts.items)
-                × (vec_len threads ≡ 0) × (vec_len threads + count ≤ vec_capacity threads)
-                × (vec_len ends ≡ 0) × (vec_len ends + count ≤ vec_capacity ends) }
+                × HasRoomFor (length posts.items) threads × HasRoomFor (length posts.items) late
+                × HasRoomFor (length posts.items) back × HasRoomFor (length posts.items) ends }
             ensures { IfOk result (λ ends.
-                AllZip (HasEnded J.ends context.entry.now) posts.items ends.items) }
+                AllZip (HasEnded J.ends context.entry.now) posts.items ends.items)
+                × IfErr result (λ back. back.items ≡ posts.items) }
         {
             let mut rest = VecDeque::from_vec(posts);
             while let Some(post) = rest.pop_front() {
-                let task = Task {
-                    context: Snapshot::of(context),
-                    post: Snapshot::of(&post),
-                };
-                let run = move || -> Post<J, J::End>
-                    requires { CanRun J.can_run context.now post }
-                    ensures { MayHaveEnded J.ends context.entry.now post result }
-                { run_when_told(rt, context, told, post) };
-                match scope.spawn_with(task, run) {
-                    Ok(thread) => threads.push_reserved(thread),
-                    Err(_) => break,
+                if late.len() > 0 {
+                    late.push_reserved(post);
+                } else {
+                    let task = Task {
+                        context: Snapshot::of(context),
+                        post: Snapshot::of(&post),
+                    };
+                    let run = move || -> Post<J, J::End>
+                        requires { CanRun J.can_run context.now post }
+                        ensures { MayHaveEnded J.ends context.entry.now post result }
+                    { run_when_told(rt, context, told, post) };
+                    match scope.spawn_with(task, run) {
+                        Ok(thread) => threads.push_reserved(thread),
+                        Err(refused) => {
+                            // Told that not all are there, it gives its post back at once.
+                            let _ = told.set(rt, false);
+                            late.push_reserved((refused.value)());
+                        }
+                    }
                 }
             }
-            let _ = told.set(rt, threads.len() == count);
-            join_all(rt, threads, &mut ends);
-            all_ended(ends, count)
+            let _ = told.set(rt, late.len() == 0);
+            join_all(rt, threads, &mut back);
+            let Ok(()) = back.append(&mut late) else {
+                unreachable!()
+            };
+            if any_ended(back.as_slice()) {
+                // All have ended then: none runs before all are told to, and nothing is left to run.
+                run_left(rt, context, back, &mut ends);
+                Ok(ends)
+            } else {
+                Err(back)
+            }
         },
     )
 }

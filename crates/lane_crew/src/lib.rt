@@ -14,7 +14,7 @@ mod pair;
 mod seat;
 
 pub use caller::{Caller, Question};
-pub use crew::{Crew, run_crew};
+pub use crew::{Crew, Unstarted, run_crew};
 pub use job::{Job, Post, run_list};
 pub use lane::Lane;
 pub use pair::OfTwo;

@@ -32,7 +32,7 @@ two_each actions w (b ∷ bs) (p ∷ ps) (Second x ∷ lanes) are = absurd are
 two_each actions w [] (p ∷ ps) lanes are = absurd are
 two_each actions w (b ∷ bs) [] lanes are = absurd are
 
-room_suits : {X : Type 0} (n n' : ℕ) (v : Vec X) → HasRoom n v → n' ≤ n → HasRoom n' v
+pub room_suits : {X : Type 0} (n n' : ℕ) (v : Vec X) → HasRoom n v → n' ≤ n → HasRoom n' v
 room_suits n n' v has less = record {
   empty = has.empty;
   room = let room = has.room in omega (arith, room, less);

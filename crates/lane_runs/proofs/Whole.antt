@@ -19,7 +19,7 @@ use Rattle.run_rules.specs.Shelf.{Spot, Fresh, Away, Back, tap_at, place_at}
 use Rattle.run_rules.specs.Duties.{proxy_lane}
 use Rattle.run_rules.specs.Laws.{tap_lane, lines_in}
 use Rattle.run_bench.specs.Bench.{IsOf, IsTapOf, IsInSpot, IsPlaceOf, TapsLie, PlacesLie}
-use Rattle.run_bench.specs.Objects.{IsPlaceAt}
+use Rattle.run_bench.specs.Objects.{AreFresh, IsPlaceAt}
 use Rattle.lane_deeds.specs.declared.post.Post.{Post}
 use Rattle.lane_steps.specs.declared.hands.EndedFeed.{EndedFeed}
 use Rattle.lane_steps.specs.Lanes.{back_of}
@@ -110,6 +110,33 @@ module _ {P : Type 0} (place : P → PlaceTold) (outputs : ℕ → List (List �
         (subst (λ (o : Option P). IsInSpot (IsPlaceOf place outputs a) (place_at a h) o)
         (ap (λ (l : List (Option P)). get_or l a None) are ∙ got places a x.0 x.1)
         (lie.each a (omega (arith, lt, many, same)))));
+  }
+
+-- the places of a bench that no lane has called
+module _ {P : Type 0} (place : P → PlaceTold) (outputs : ℕ → List (List ℕ)) where
+  pub all_lie : (actions : ℕ) (slots : List (Option P)) → PlacesLie place outputs actions [] slots
+      → AllThere slots
+  all_lie actions slots lie = places_there place outputs [] actions slots lie (λ a fs e. absurd (cc))
+
+  fresh_at : (actions : ℕ) (slots : List (Option P)) (places : List P)
+      → PlacesLie place outputs actions [] slots → slots ≡ map Some places → (a : ℕ) (p : P)
+      → slice_get places a ≡ Some p → IsPlaceAt a (outputs a) Fresh (place p)
+  fresh_at actions slots places lie are a p e =
+      let lt = below place outputs [] places a p e in
+      let many = lie.as_many in
+      let same : length slots ≡ length places = ap length are ∙ length-map places Some in
+      some_tells place outputs [] a Fresh p
+      (subst (λ (o : Option P). IsInSpot (IsPlaceOf place outputs a) Fresh o)
+      (ap (λ (l : List (Option P)). get_or l a None) are ∙ got place outputs [] places a p e)
+      (lie.each a (omega (arith, lt, many, same))))
+
+  pub are_fresh : (actions : ℕ) (slots : List (Option P)) (places : List P)
+      → PlacesLie place outputs actions [] slots → slots ≡ map Some places
+      → AreFresh place actions places
+  are_fresh actions slots places lie are = record {
+    as_many = sym (length-map places Some) ∙ (sym (ap length are) ∙ lie.as_many);
+    numbers = λ a p e. (fresh_at actions slots places lie are a p e).of_action;
+    unwritten = λ a p e. (fresh_at actions slots places lie are a p e).wrote;
   }
 
 -- ---- lines

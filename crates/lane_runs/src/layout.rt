@@ -76,8 +76,8 @@ pub(crate) fn lay_out<B: Drop, D: Drop, T: Drop, K: Drop, P: Drop>(
     }
 }
 
-// The places, all of which lie there.
-fn all_there<P: Drop>(slots: Vec<Option<P>>, kept: Vec<P>) -> Vec<P>
+/// The places, all of which lie there. It takes no memory.
+pub(crate) fn all_there<P: Drop>(slots: Vec<Option<P>>, kept: Vec<P>) -> Vec<P>
     requires there { AllThere slots.items }
     requires room { HasRoom (length slots.items) kept }
     ensures { slots.items ≡ map Some result.items }

@@ -20,4 +20,4 @@ mod run;
 pub use halves::{EndedLine, Halves};
 pub use lane_steps::EndedFeed;
 pub use layout::{Laid, LaidOut};
-pub use run::run_lanes;
+pub use run::{Unrun, run_lanes};

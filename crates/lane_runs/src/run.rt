@@ -1,24 +1,34 @@
 //! The lanes of all berths on threads.
-ghost use Rattle.std.specs.Prelude.{◌≡◌, ◌≤◌, [], length, map, IfOk};
+ghost use Rattle.std.specs.Prelude.{◌≡◌, ◌≤◌, [], length, map, IfOk, IfErr};
 ghost use Rattle.run_bench.specs.Objects.{AreFresh};
-ghost use Rattle.berth_lanes.specs.Seats.{PostsFit};
+ghost use Rattle.berth_lanes.specs.Seats.{PostsFit, berths_in};
 ghost use Rattle.lane_steps.specs.Work.{IsWorkOf};
+ghost use Rattle.lane_runs.specs.Blanks.{HasRoom};
 ghost use Rattle.lane_runs.specs.Runs.{HasRun, laid_told};
 
 use crate::blank::Blank;
 use crate::histories::histories_say;
-use crate::layout::{LaidOut, lay_out};
-use berth_lanes::lanes_of;
-use lane_crew::{Crew, run_crew};
+use crate::layout::{LaidOut, all_there, lay_out};
+use berth_lanes::{BerthLane, berths_of, lanes_of};
+use lane_crew::{Crew, Unstarted, run_crew};
 use lane_deeds::Post;
 use outside::{Berth, Place};
-use plain_values::NoMemory;
 use remote_messages::WorkAction;
 use run_bench::Bench;
 use run_rules::Rules;
+use seat_desk::Machine;
 use std::alloc::Global;
 use std::sync::Wait;
 use std::thread::Threads;
+
+/// What lanes were to work with, where none was started.
+#[derive(Drop)]
+pub struct Unrun<B, P> {
+    /// The berths, as they were.
+    pub berths: Vec<B>,
+    /// The places, to which nothing was written.
+    pub places: Vec<P>,
+}
 
 /// Runs the lanes of these berths, each on a thread of its own, over this core, until each was told
 /// to stop or has halted, and lays out what they leave. The room for that is made before the lanes
@@ -26,7 +36,8 @@ use std::thread::Threads;
 ///
 /// # Errors
 ///
-/// `NoMemory` if there is none before the lanes, and then none was started.
+/// The berths and the places if there is no memory before the lanes. Then none was started, and the
+/// core is dropped.
 pub fn run_lanes<B: Berth, P: Place, C: Rules, R: Threads + Wait + Sync>(
     rt: &R,
     alloc: Global,
@@ -35,7 +46,7 @@ pub fn run_lanes<B: Berth, P: Place, C: Rules, R: Threads + Wait + Sync>(
     berths: Vec<B>,
     posts: &[Post],
     actions: &[WorkAction],
-) -> Result<LaidOut<B, P>, NoMemory>
+) -> Result<LaidOut<B, P>, Unrun<B, P>>
 where
     B: Send,
     P: Send,
@@ -55,17 +66,60 @@ where
         (C.outputs (C.plan core)) (C.actions (C.plan core)) posts.now actions.now
         (map B.told berths.items)
         (laid_told B.told B.Feed.told B.Tap.told B.Child.told P.told laid)) }
+    ensures back { IfErr result (λ u. (u.berths.items ≡ berths.items)
+        × AreFresh P.told (C.actions (C.plan core)) u.places.items) }
 {
     let lines = core.most_lines() as usize;
-    let blank = Blank::new(alloc, berths.len(), lines, places.len())?;
-    let bench = Bench::new(alloc, core, places)?;
-    let lanes = lanes_of(alloc, berths, posts, actions)?;
+    let Ok(blank) = Blank::new(alloc, berths.len(), lines, places.len()) else {
+        return Err(Unrun { berths, places });
+    };
+    let Ok(room) = Vec::with_capacity(alloc, 2 * posts.len()) else {
+        return Err(Unrun { berths, places });
+    };
+    let bench = match Bench::new(alloc, core, places) {
+        Ok(bench) => bench,
+        Err(places) => return Err(Unrun { berths, places }),
+    };
+    let lanes = lanes_of(alloc, berths, posts, actions, room);
     histories_say::<C>();
-    let Crew {
-        machine,
-        history,
-        ends,
-    } = run_crew(rt, alloc, bench, lanes)?;
-    let (_core, taps, places) = machine.into_parts();
-    Ok(lay_out(blank, history, ends, taps, places))
+    match run_crew(rt, alloc, bench, lanes) {
+        Ok(crew) => {
+            let Crew {
+                machine,
+                history,
+                ends,
+            } = crew;
+            let (_core, taps, places) = machine.into_parts();
+            Ok(lay_out(blank, history, ends, taps, places))
+        }
+        Err(unstarted) => Err(take_back(blank, unstarted)),
+    }
+}
+
+// The berths and the places back from a crew that has not begun, in the room for what it would have
+// left. It takes no memory.
+fn take_back<B: Berth, P: Place, C: Rules>(
+    blank: Blank<B, B::Feed, B::Tap, B::Child, P>,
+    unstarted: Unstarted<Bench<B, P, C>, BerthLane<'_, B>>,
+) -> Unrun<B, P>
+    requires stands { ⟦<Bench<B, P, C> as Machine>⟧.stands unstarted.machine [] }
+    requires berths { HasRoom (length (berths_in unstarted.lanes.items)) blank.berths }
+    requires places { HasRoom (C.actions (⟦<Bench<B, P, C> as Machine>⟧.rules unstarted.machine))
+        blank.places }
+    ensures berths { result.berths.items ≡ berths_in unstarted.entry.lanes.items }
+    ensures places { AreFresh P.told
+        (C.actions (⟦<Bench<B, P, C> as Machine>⟧.rules unstarted.entry.machine))
+        result.places.items }
+{
+    let Blank {
+        mut berths,
+        lines: _,
+        unsaid: _,
+        places: kept,
+    } = blank;
+    let Unstarted { machine, lanes } = unstarted;
+    let (_core, _taps, slots) = machine.into_parts();
+    berths_of(lanes, &mut berths);
+    let places = all_there(slots, kept);
+    Unrun { berths, places }
 }

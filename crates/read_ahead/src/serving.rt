@@ -87,7 +87,7 @@ fn open<X: Drop, R>(rt: &R, alloc: Global) -> Result<Opened<X>, NoMemory>
     ensures fresh { IfOk result (λ d. (state_at d.2 ≡ first) × (state_at d.3 ≡ first)) }
 {
     let (desk, mut root) = Desk::new(alloc, Mailbox::new(alloc))?;
-    let reading = desk.split(rt, &mut root)?;
-    let taking = desk.split(rt, &mut root)?;
+    let reading = desk.split(rt, &mut root);
+    let taking = desk.split(rt, &mut root);
     Ok((desk, root, reading, taking))
 }

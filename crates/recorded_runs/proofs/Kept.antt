@@ -11,10 +11,9 @@ use Rattle.run_loading.specs.Reads.{IsFloorFailed, Reads}
 use Rattle.run_tasks.specs.Course.{Made}
 use Rattle.run_tasks.specs.declared.task.Task.{Task}
 use Rattle.tool_words.specs.declared.options.Options.{Options}
-use Rattle.worker_run.specs.Ends.{HasCourse, HasLed, IsLate, LeadsTo, MadeBy, TellsTask, UnlessEarly, is_halted}
-use Rattle.worker_run.specs.Headline.{HasOuts, HasPipes, HasRace, HasRooms, HasUnsaid, IsAccounted, IsComplete, IsKept, IsLegal, IsPaired, IsSound, IsStopped, OnRun}
+use Rattle.worker_run.specs.Ends.{HasCourse, HasLed, IsLate, LeadsTo, LeavesNew, TellsTask, UnlessEarly, is_halted}
+use Rattle.worker_run.specs.Headline.{HasOuts, HasPipes, HasRace, HasRooms, HasUnsaid, IsAccounted, IsComplete, IsKept, IsLegal, IsPaired, IsSound, IsStopped, OnRun, UnlessRun}
 use Rattle.worker_run.specs.Histories.{history_of}
-use Rattle.worker_run.specs.Lanes.{HasMade}
 use Rattle.worker_run.specs.Seen.{EndedTold, Left}
 
 -- what holds of the two late faults holds of each
@@ -68,18 +67,6 @@ module _ (options : Option Options) (before : FloorTold) (end next : EndedTold) 
   told_before : TellsTask None end.task
   told_before = subst (λ (o : Option RunFault). TellsTask o end.task) none was.told
 
-  made_before : MadeBy None end.task before end.floor end.left
-  made_before = subst (λ (o : Option RunFault). MadeBy o end.task before end.floor end.left)
-      none was.made
-
-  made_whole : HasMade before end.floor end.left
-  made_whole = made_before
-
-  made_late : MadeBy (Some f) end.task before end.floor end.left
-  made_late = subst (λ (o : Option Task). MadeBy (Some f) o before end.floor end.left)
-      (sym told_before.1) (by_late (λ g. MadeBy (Some g) (Some told_before.0) before end.floor
-      end.left) f late made_whole made_whole)
-
   course_before : HasCourse options before end
       → UnlessEarly None (Reads before end.floor (HasLed options None end.task))
   course_before course = subst (λ (o : Option RunFault). UnlessEarly o
@@ -98,8 +85,12 @@ module _ (options : Option Options) (before : FloorTold) (end next : EndedTold) 
         late (course_before was.course));
     told = rw (fault_is, task_is) (told_late f end.task late told_before);
     sound = on IsSound was.sound;
-    nothing = rw (task_is, left_is) was.nothing;
-    made = rw (fault_is, task_is, floor_is, left_is) made_late;
+    nothing = subst (λ (o : Option Task). UnlessRun o (LeavesNew next.fault next.left))
+        (sym (task_is ∙ told_before.1)) tt;
+    made = record {
+      left = rw (floor_is, left_is) was.made.left;
+      few = rw (floor_is) was.made.few;
+    };
     legal = on IsLegal was.legal;
     race = on HasRace was.race;
     paired = on IsPaired was.paired;

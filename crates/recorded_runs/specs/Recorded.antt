@@ -16,9 +16,9 @@ use Rattle.run_loading.specs.Reads.{IsFloorFailed}
 use Rattle.run_plan.specs.declared.plan.Plan.{Plan}
 use Rattle.run_tasks.specs.declared.task.Task.{Task}
 use Rattle.tool_words.specs.declared.options.Options.{Options}
-use Rattle.worker_run.specs.Ends.{HasCourse, MadeAll, TellsTask, report_by, status_by}
+use Rattle.worker_run.specs.Ends.{HasCourse, LeavesNew, MadeAll, TellsTask, report_by, status_by}
 use Rattle.worker_run.specs.Headline.{HaltsAsSaid, HasOuts, HasPipes, HasRace, HasRooms, HasUnsaid, IsAccounted, IsComplete, IsKept, IsLegal, IsPaired, IsSound, IsStopped, OnRun, Succeeds, UnlessRun}
-use Rattle.worker_run.specs.Seen.{EndedTold, nothing_left}
+use Rattle.worker_run.specs.Seen.{EndedTold}
 
 -- ---- the run
 
@@ -28,7 +28,7 @@ pub record RunKeeps (options : Option Options) (before : FloorTold) (end : Ended
   pub course : HasCourse options before end
   pub told : TellsTask end.fault end.task
   pub sound : OnRun end IsSound
-  pub nothing : UnlessRun end.task (end.left ≡ nothing_left)
+  pub nothing : UnlessRun end.task (LeavesNew end.fault end.left)
   pub made : MadeAll before end
   pub legal : OnRun end IsLegal
   pub race : OnRun end HasRace

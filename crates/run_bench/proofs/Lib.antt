@@ -3,3 +3,5 @@ pub mod Filling
 pub mod Turns
 pub mod Beginning
 pub mod Own
+pub mod Marking
+pub mod Wakings

@@ -5,3 +5,5 @@ pub mod Objects
 pub mod Bench
 pub mod BenchLaws
 pub mod Replies
+pub mod Marks
+pub mod Waking

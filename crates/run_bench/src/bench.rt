@@ -1,5 +1,5 @@
 //! The bench.
-ghost use Rattle.std.specs.Prelude.{◌≡◌, ◌/◌, true, List, [], IfOk};
+ghost use Rattle.std.specs.Prelude.{◌≡◌, ◌/◌, true, List, [], IfOk, IfErr};
 ghost use Rattle.plain_values.specs.declared.entry.Entry.{Entry};
 ghost use Rattle.exec_journal.specs.declared.call.Call.{Call};
 ghost use Rattle.exec_journal.specs.declared.reply.Reply.{Reply};
@@ -8,14 +8,15 @@ ghost use Rattle.run_rules.specs.Moves.{move_in, shift_for};
 ghost use Rattle.run_rules.specs.Laws.{is_short, says_file, StepReplies, StepStands};
 ghost use Rattle.run_bench.specs.Objects.{AreFresh};
 ghost use Rattle.run_bench.specs.Bench.{Lies, Remains, GoesIn, ComesOut};
+ghost use Rattle.run_bench.specs.Waking.{Hints, LooksRound, Wakes, lanes_of};
 ghost use Rattle.run_bench.specs.Shifts.{children_then, taps_then, places_then, good_then};
 ghost use Rattle.run_bench.specs.BenchLaws.{short_not_kept, noted_not_short, suits_on, pays_one};
 
 use crate::replies::copy_of;
 use crate::shelf::{Good, Shelf};
+use crate::waking::Waking;
 use exec_journal::{Call, Reply};
 use outside::{Berth, Place};
-use plain_values::NoMemory;
 use run_rules::{Rules, shift_of};
 use seat_desk::Machine;
 use std::alloc::Global;
@@ -25,6 +26,7 @@ use std::alloc::Global;
 pub struct Bench<B: Berth, P: Place, C: Rules> {
     core: C,
     shelf: Shelf<B::Child, B::Tap, P>,
+    waking: Waking,
 }
 
 impl<B: Berth, P: Place, C: Rules> Bench<B, P, C> {
@@ -34,16 +36,23 @@ impl<B: Berth, P: Place, C: Rules> Bench<B, P, C> {
     ///
     /// # Errors
     ///
-    /// `NoMemory` if there is none for the slots.
-    pub fn new(alloc: Global, core: C, places: Vec<P>) -> Result<Bench<B, P, C>, NoMemory>
+    /// The places, as they were, if there is no memory for the slots. The core is dropped.
+    pub fn new(alloc: Global, core: C, places: Vec<P>) -> Result<Bench<B, P, C>, Vec<P>>
         requires core { C.stands core [] }
         requires places { AreFresh P.told (C.actions (C.plan core)) places.items }
         ensures stands { IfOk result (λ b. ⟦<Bench<B, P, C> as Machine>⟧.stands b []) }
         ensures rules { IfOk result (λ b.
             ⟦<Bench<B, P, C> as Machine>⟧.rules b ≡ C.plan core) }
+        ensures back { IfErr result (λ back. back.items ≡ places.items) }
     {
-        let shelf = Shelf::new(alloc, core.berths() as usize, places)?;
-        Ok(Bench { core, shelf })
+        match Shelf::new(alloc, core.berths() as usize, places) {
+            Ok(shelf) => Ok(Bench {
+                core,
+                shelf,
+                waking: Waking::new(),
+            }),
+            Err(places) => Err(places),
+        }
     }
 
     /// The core, for each berth the tap that no lane has taken, and for each action its place, if no
@@ -55,7 +64,11 @@ impl<B: Berth, P: Place, C: Rules> Bench<B, P, C> {
             × Remains B.Tap.told P.told (C.outputs (C.plan result.0)) (C.seats (C.plan result.0))
             (C.actions (C.plan result.0)) h result.1.items result.2.items }
     {
-        let Bench { core, shelf } = self;
+        let Bench {
+            core,
+            shelf,
+            waking: _,
+        } = self;
         let Shelf {
             children: _,
             taps,
@@ -80,7 +93,8 @@ impl<B: Berth, P: Place, C: Rules> Machine for Bench<B, P, C> {
 
     ghost stands = { λ m h. C.stands m.core h × Lies B.Child.told B.Tap.told P.told
         (C.outputs (C.plan m.core)) (C.seats (C.plan m.core)) (C.actions (C.plan m.core)) h
-        m.shelf.children.items m.shelf.taps.items m.shelf.places.items };
+        m.shelf.children.items m.shelf.taps.items m.shelf.places.items
+        × Wakes (C.rule (C.plan m.core)) h m.waking };
 
     ghost next = { λ q h lane c. C.rule q h lane c };
 
@@ -100,7 +114,7 @@ impl<B: Berth, P: Place, C: Rules> Machine for Bench<B, P, C> {
 
     ghost owes = { λ q h. C.owes q h };
 
-    ghost hints = { λ m lane r lanes. C.hints m.core lane r lanes };
+    ghost hints = { λ m lane r lanes. Hints (C.rule (C.plan m.core)) m.waking r lanes };
 
     ghost short_is_not_kept = { λ e s. short_not_kept e.reply s };
 
@@ -148,15 +162,19 @@ impl<B: Berth, P: Place, C: Rules> Machine for Bench<B, P, C> {
             self.old.shelf.places.items }
         ensures good { result.1 ≡ good_then (shift_for (move_in lane call.now result.0)) (lane / 2)
             self.old.shelf.children.items self.old.shelf.taps.items self.old.shelf.places.items }
+        ensures waking { LooksRound (C.news self.new.core)
+            (lanes_of (C.seats (C.plan self.new.core))) lane result.0
+            self.old.waking self.new.waking }
     {
         let reply = self.core.step(lane, call);
+        self.waking.look_round(&self.core, lane, &reply);
         let shift = shift_of(lane, call, &reply);
         let good = self.shelf.shift((lane / 2) as usize, shift, put);
         (reply, good)
     }
 
-    fn stirs(&self, lane: u32, reply: &Reply) -> u128 {
-        self.core.stirs(lane, reply)
+    fn stirs(&self, _lane: u32, reply: &Reply) -> u128 {
+        self.waking.stirred_by(reply)
     }
 
     fn owed(&self) -> u64 {

@@ -1,5 +1,5 @@
 //! The shelf.
-ghost use Rattle.std.specs.Prelude.{◌≡◌, IfOk, Some, None, map, replicate};
+ghost use Rattle.std.specs.Prelude.{◌≡◌, ◌≤◌, ◌+◌, [], IfOk, IfErr, Some, None, map, replicate, vec_len, vec_capacity};
 ghost use Rattle.run_bench.specs.Slots.{put_in};
 ghost use Rattle.run_bench.specs.Shifts.{children_then, taps_then, places_then, good_then};
 ghost use Rattle.run_bench.specs.Shifts.{child_put, tap_put, place_put};
@@ -36,19 +36,43 @@ impl<K: Drop, T: Drop, P: Drop> Shelf<K, T, P> {
     ///
     /// # Errors
     ///
-    /// `NoMemory` if there is none for the slots.
+    /// The places, as they were, if there is no memory for the slots.
     pub(crate) fn new(
         alloc: Global,
         berths: usize,
         places: Vec<P>,
-    ) -> Result<Shelf<K, T, P>, NoMemory>
+    ) -> Result<Shelf<K, T, P>, Vec<P>>
         ensures children { IfOk result (λ s. s.children.items ≡ replicate berths None) }
         ensures taps { IfOk result (λ s. s.taps.items ≡ replicate berths None) }
         ensures places { IfOk result (λ s. s.places.items ≡ map Some places.items) }
+        ensures back { IfErr result (λ back. back.items ≡ places.items) }
+    {
+        let Ok(empty) = Shelf::empty(alloc, berths, places.len()) else {
+            return Err(places);
+        };
+        let Shelf {
+            children,
+            taps,
+            places: room,
+        } = empty;
+        let places = full_slots(places, room);
+        Ok(Shelf {
+            children,
+            taps,
+            places,
+        })
+    }
+
+    // A shelf for so many berths, on which nothing lies, with room for so many places.
+    fn empty(alloc: Global, berths: usize, places: usize) -> Result<Shelf<K, T, P>, NoMemory>
+        ensures children { IfOk result (λ s. s.children.items ≡ replicate berths None) }
+        ensures taps { IfOk result (λ s. s.taps.items ≡ replicate berths None) }
+        ensures places { IfOk result (λ s. s.places.items ≡ []) }
+        ensures room { IfOk result (λ s. vec_len s.places + places ≤ vec_capacity s.places) }
     {
         let children = empty_slots(alloc, berths)?;
         let taps = empty_slots(alloc, berths)?;
-        let places = full_slots(alloc, places)?;
+        let places = Vec::with_capacity(alloc, places)?;
         Ok(Shelf {
             children,
             taps,

@@ -1,5 +1,5 @@
 //! Lists of slots, in each of which something lies or nothing does.
-ghost use Rattle.std.specs.Prelude.{◌≡◌, ◌<◌, IfOk, Some, None, map, set, replicate};
+ghost use Rattle.std.specs.Prelude.{◌≡◌, ◌<◌, ◌≤◌, ◌+◌, [], IfOk, Some, None, length, map, set, replicate, vec_len, vec_capacity};
 ghost use Rattle.run_bench.specs.Slots.{lies_in};
 
 use plain_values::NoMemory;
@@ -17,16 +17,19 @@ pub(crate) fn empty_slots<X: Drop>(alloc: Global, count: usize) -> Result<Vec<Op
     Ok(slots)
 }
 
-/// A slot for each of these things, in their order, in which it lies.
-pub(crate) fn full_slots<X: Drop>(alloc: Global, things: Vec<X>) -> Result<Vec<Option<X>>, NoMemory>
-    ensures { IfOk result (λ v. v.items ≡ map Some things.items) }
+/// A slot for each of these things, in their order, in which it lies. It takes no memory: there is room
+/// for them in `room`.
+pub(crate) fn full_slots<X: Drop>(things: Vec<X>, room: Vec<Option<X>>) -> Vec<Option<X>>
+    requires empty { room.items ≡ [] }
+    requires room { vec_len room + length things.items ≤ vec_capacity room }
+    ensures { result.items ≡ map Some things.items }
 {
-    let mut slots = Vec::with_capacity(alloc, things.len())?;
+    let mut slots = room;
     let mut rest = VecDeque::from_vec(things);
     while let Some(thing) = rest.pop_front() {
         slots.push_reserved(Some(thing));
     }
-    Ok(slots)
+    slots
 }
 
 /// Takes what lies in the slot.

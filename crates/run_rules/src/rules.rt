@@ -15,6 +15,7 @@ ghost use Rattle.exec_journal.specs.declared.reply.Reply.TheVariants as reply;
 ghost use Rattle.exec_journal.specs.Entries.{is_kept};
 ghost use Rattle.run_rules.specs.Shelf.{child_at, tap_at, place_at, Fresh, Away};
 ghost use Rattle.run_rules.specs.Laws.{InScript, Fits, tap_lane, hearing_of, may_hear, Hears, Over, tells_of, claimed, says_file, lines_in, is_taken, OrderHolds, StepReplies, StepStands};
+ghost use Rattle.run_rules.specs.News.{SaysNews};
 ghost use Rattle.run_rules.specs.Duties.{Sends, Commits, Left, proxy_lane, duty_of, is_maker, may_do, may_make};
 
 use exec_journal::{Call, Reply};
@@ -68,8 +69,8 @@ pub trait Rules: Sized + Drop {
     // The made inputs of this action.
     ghost makers: { Self.Plan → ℕ → List Maker };
 
-    // The lanes at which the core hints after this lane was answered so, a bit for each.
-    ghost hints: { Self → ℕ → Reply → ℕ → Type 0 };
+    // Whether a lane has news, by what the core keeps.
+    ghost news: { Self → ℕ → Bool };
 
     /// Answers the call of this lane. Where the reply is to be a file, it may say want of memory
     /// instead.
@@ -78,10 +79,10 @@ pub trait Rules: Sized + Drop {
         ensures reply { StepReplies stands (rule (plan self.old)) self.old lane call.now result }
         ensures stands { StepStands stands self.old lane call.now result self.new };
 
-    /// The lanes that may have news after this lane was answered so, a bit for each: bit `k` is
-    /// lane `k`. It is a hint to those who wake lanes that wait.
-    fn stirs(&self, lane: u32, reply: &Reply) -> u128
-        ensures { hints self.now lane reply.now result };
+    /// Whether the lane has news: whether it may ask what a lane asks that owes nothing, and would be
+    /// told more than Idle.
+    fn has_news(&self, lane: u32) -> bool
+        ensures { result ≡ news self.now lane };
 
     /// How many paid entries are still to come.
     fn owed(&self) -> u64
@@ -172,6 +173,10 @@ pub trait Rules: Sized + Drop {
     ghost only_hears: { (q : Self.Plan) (h : List (Entry Call Reply)) (lane : ℕ) (c : Call) (l : ℕ)
         → tells_of l c ≡ true → InScript (rule q) h lane c
         → hearing_of (calls_by lane h) ≡ Hears l };
+
+    // A lane that the core has news for may ask, and is told more than Idle; and no other is.
+    ghost news_are: { (m : Self) (h : List (Entry Call Reply)) (lane : ℕ)
+        → stands m h → SaysNews (rule (plan m)) h lane (news m lane) };
 
     // A history for which a core stands is legal.
     ghost stands_legal: { (m : Self) (h : List (Entry Call Reply))

@@ -1,5 +1,5 @@
 -- What lies in the slot.
-use Rattle.std.specs.Prelude.{◌≡◌, ℕ, ◌+◌, ◌≤◌, ◌⊎◌, List}
+use Rattle.std.specs.Prelude.{◌≡◌, ℕ, ◌+◌, ◌≤◌, ◌⊎◌, List, [], ◌∷◌, Option, Some}
 use Rattle.plain_values.specs.declared.entry.Entry.{Entry}
 use Rattle.seat_desk.specs.declared.held.Held.{Held}
 use Rattle.seat_desk.specs.History.{FactOfCall}
@@ -8,6 +8,10 @@ module _ {M C R : Type 0} where
   -- the history in the slot
   abbrev pub log_of : Held M C R → List (Entry C R)
   log_of y = y.history.items
+
+  -- the machine lies in the one slot
+  abbrev pub LiesAlone : M → List (Option (Held M C R)) → Type 0
+  LiesAlone m slots = (y : Held M C R) × (slots ≡ Some y ∷ []) × (y.machine ≡ m)
 
   -- there is room for the call's entry and for what the machine owes after it: room for three more
   -- than it owes now, or the call was paid for

@@ -1,7 +1,7 @@
 //! The desk, and the calls at it.
-ghost use Rattle.std.specs.Prelude.{ℕ, ◌≡◌, ◌≢◌, ◌<◌, ◌-◌, ◌^◌, false, [], ◌∷◌, ◌++◌, length, IfOk, IfErr, None, Some};
+ghost use Rattle.std.specs.Prelude.{ℕ, ◌≡◌, ◌≢◌, ◌<◌, ◌≤◌, ◌-◌, ◌^◌, false, [], ◌∷◌, ◌++◌, length, vec_len, vec_capacity, IfOk, IfErr, None, Some};
 ghost use Rattle.seat_desk.specs.History.{StandsUnder, StartsWith};
-ghost use Rattle.seat_desk.specs.Helds.{log_of, IsGood};
+ghost use Rattle.seat_desk.specs.Helds.{log_of, IsGood, LiesAlone};
 ghost use Rattle.seat_desk.specs.Turns.{AllJoined, NoneFrom};
 ghost use Rattle.seat_desk.specs.Desks.{IsIdle, IsRoot, Draws, WaitsFor, IsServed, MayEnd, HasEnded};
 
@@ -78,6 +78,36 @@ pub struct Refused<M: Machine> {
     pub put: Option<M::Good>,
 }
 
+/// The slot of a desk, in which nothing lies yet.
+type Slots<M> = Vec<Option<Held<M, <M as Machine>::Call, <M as Machine>::Reply>>>;
+
+// Room for the slot of a desk, and a history with room for so many entries.
+fn room_for<M: Machine>(
+    alloc: Global,
+    owed: u64,
+) -> Result<(Slots<M>, Pieces<HistoryEntry<M>>), NoMemory>
+    ensures slot { IfOk result (λ r. (r.0.items ≡ []) × (vec_len r.0 ≡ 0)
+        × (1 ≤ vec_capacity r.0)) }
+    ensures history { IfOk result (λ r. (r.1.items ≡ []) × (owed ≤ r.1.room)) }
+{
+    let slots = Vec::with_capacity(alloc, 1)?;
+    let mut history = Pieces::new(alloc);
+    history.reserve(owed as usize)?;
+    Ok((slots, history))
+}
+
+// The machine in the one slot.
+fn machine_in<M: Machine>(slots: Slots<M>) -> M
+    requires { (m : M) × LiesAlone m slots.items }
+    ensures { LiesAlone result slots.items }
+{
+    let mut slots = slots;
+    match slots.pop() {
+        Some(Some(held)) => held.machine,
+        _ => unreachable!(),
+    }
+}
+
 impl<M: Machine> Pass<M> {
     /// The lanes that may have news after the last call of this pass, or after its last two if they
     /// were made in one turn, a bit for each: bit `k` is lane `k`. It is the machine's hint
@@ -102,40 +132,53 @@ impl<M: Machine> Desk<M> {
         requires { M.stands machine [] }
         ensures { IfOk result (λ d. IsRootOf d.0 d.1 × IsNewRoot (M.rules machine) d.1) }
     {
-        let mut slots = Vec::with_capacity(alloc, 1)?;
-        let mut history = Pieces::new(alloc);
-        history.reserve(machine.owed() as usize)?;
-        let about = Snapshot::of(&machine);
-        let held = Held { machine, history };
-        slots.push_reserved(Some(held));
-        let Ok((table, seat)) = Table::new(alloc, &[0, 0], slots, &about) else {
-            return Err(NoMemory);
-        };
-        let gate = Mutex::new(());
-        Ok((Desk { table, gate }, Root { made: 0, seat }))
+        match Desk::new_or_back(alloc, machine) {
+            Ok(opened) => Ok(opened),
+            Err(_machine) => Err(NoMemory),
+        }
     }
 
-    /// A pass of a lane of its own, the next from 0 upwards, which has seen what the root has.
+    /// As [`Desk::new`].
     ///
     /// # Errors
     ///
-    /// `NoMemory`, and then the root is unchanged.
-    pub fn split<R>(&self, rt: &R, root: &mut Root<M>) -> Result<Pass<M>, NoMemory>
+    /// The machine, as it was, where `Desk::new` wants memory.
+    pub fn new_or_back(alloc: Global, machine: M) -> Result<(Desk<M>, Root<M>), M>
+        requires { M.stands machine [] }
+        ensures desk { IfOk result (λ d. IsRootOf d.0 d.1 × IsNewRoot (M.rules machine) d.1) }
+        ensures back { IfErr result (λ m. m ≡ machine) }
+    {
+        let Ok((mut slots, history)) = room_for(alloc, machine.owed()) else {
+            return Err(machine);
+        };
+        let about = Snapshot::of(&machine);
+        slots.push_reserved(Some(Held { machine, history }));
+        match Table::new(alloc, &[0, 0], slots, &about) {
+            Ok((table, seat)) => {
+                let gate = Mutex::new(());
+                Ok((Desk { table, gate }, Root { made: 0, seat }))
+            }
+            Err(refused) => Err(machine_in(refused.slots)),
+        }
+    }
+
+    /// A pass of a lane of its own, the next from 0 upwards, which has seen what the root has. It takes
+    /// no memory.
+    pub fn split<R>(&self, rt: &R, root: &mut Root<M>) -> Pass<M>
         requires desk { IsRootOf self.now root.old }
         requires room { root.old.made < 2 ^ 32 - 1 }
-        ensures root { IfOk result (λ p. SplitsOne root.old root.new) }
-        ensures pass { IfOk result (λ p. IsNewPass root.old p) }
-        ensures refused { IfErr result (λ e. root.new ≡ root.old) }
+        ensures root { SplitsOne root.old root.new }
+        ensures pass { IsNewPass root.old result }
     {
         let _ = rt;
         let seat = self.table.shared.split_seat::<Cut>(&mut root.seat);
         let lane = root.made;
         root.made += 1;
-        Ok(Pass {
+        Pass {
             lane,
             stirs: 0,
             seat,
-        })
+        }
     }
 
     /// Makes the call in a turn of its own, and answers the machine's reply with the good that came out.

@@ -1,5 +1,5 @@
 -- What the tables say of a lane before it calls is what the journal says.
-use Rattle.std.proofs.Common.{◌≡◌, ℕ, ◌*◌, ◌+◌, ◌/◌, ◌%◌, ◌<◌, ◌≤◌, ◌==◌, Bool, true, false, cond, not, List, length, Option, Some, None, refl, ap, sym, ◌∙◌, arith, lt-ltb}
+use Rattle.std.proofs.Common.{◌≡◌, ℕ, ◌*◌, ◌+◌, ◌/◌, ◌%◌, ◌<◌, ◌≤◌, ◌==◌, Bool, true, false, cond, ◌&&◌, not, List, length, Option, Some, None, refl, ap, sym, ◌∙◌, arith, lt-ltb}
 use Rattle.std.proofs.Math.Nat.{mul-le-mul_right}
 use Rattle.std.specs.Prelude.{slice_get}
 use Rattle.run_plan.specs.declared.plan.Plan.{Plan}
@@ -18,7 +18,8 @@ use Rattle.exec_journal.proofs.Ruled.{by_bool}
 use Rattle.journal_laws.specs.Paid.{count, lane_owes, may_halt, owes_files, wins_files}
 use Rattle.core_tables.specs.declared.lanes.LaneState.{LaneState}
 use Rattle.core_tables.specs.declared.seat.Seat.{Seat}
-use Rattle.core_tables.specs.Lanes.{is_won, lane_in, said_after, said_of_work, state_by}
+use Rattle.core_tables.specs.Seats.{seat_at}
+use Rattle.core_tables.specs.Lanes.{allows_by, is_won, lane_in, said_after, said_of_work, state_by}
 use Rattle.core_tables.proofs.Lengths.{length_is}
 use Rattle.core_tables.proofs.Seated.{seat_is}
 use Rattle.core_state.specs.declared.state.State.{State}
@@ -29,7 +30,8 @@ use Rattle.core_laws.specs.Stands as tables
 use Rattle.core_laws.proofs.Calls.{reply_is}
 use Rattle.core_laws.proofs.Chosen.{lane_within}
 use Rattle.core_laws.proofs.Read as read
-use Rattle.spawn_core.specs.Outlook.{SaysNews, is_idle, owes_by, told_by}
+use Rattle.spawn_core.specs.Outlook.{has_news, has_news_at, is_idle, owes_by, question, told_by}
+use Rattle.spawn_core.proofs.Stepped.{allowed_is, none_scripted}
 use Rattle.spawn_core.specs.Stands.{HasHistory, Kept}
 use Rattle.core_laws.proofs.AtBerths.{all_of}
 
@@ -104,9 +106,10 @@ question_told p s j lane c st look may =
     let seat = seat_is p (lane / 2) (lane_within p j lane c may) in
     (seat.0, reply_is p s j lane seat.0 c st (all_of p s j st) seat.1.is look may)
 
--- what the tables answer is what the rules do
+-- of a lane that may ask the tables answer what the rules do
 pub told_news : (p : Plan) (s : State) (j : List Entry) (lane : ℕ) → tables.Stands p s j
-    → SaysNews p j lane (not (is_idle (told_by s lane)))
+    → script p j lane (question lane) ≡ true
+    → not (is_idle (told_by s lane)) ≡ not (is_idle (rule p j lane (question lane)))
 told_news p s j lane st = by_bool (lane % 2 == 0)
     (λ b. script p j lane (cond b call.Ask call.Take) ≡ true
     → not (is_idle (cond b (carried_reply s (lane / 2) (chosen s (lane / 2)))
@@ -116,3 +119,30 @@ told_news p s j lane st = by_bool (lane % 2 == 0)
     (question_told p s j lane call.Ask st refl may).1)
     (λ _ may. ap (λ (x : Reply). not (is_idle x))
     (question_told p s j lane call.Take st refl may).1)
+
+-- of a lane of this seat, by what the tables allow
+pub news_at : (p : Plan) (s : State) (j : List Entry) (lane : ℕ) (o : Option Seat)
+    → tables.Stands p s j → seat_at s.plan (lane / 2) ≡ o
+    → has_news_at s lane o ≡ has_news p j lane
+news_at p s j lane None st at =
+    ap (λ (b : Bool). b && not (is_idle (rule p j lane (question lane))))
+    (sym (none_scripted p s j lane (question lane) st at))
+news_at p s j lane (Some seat) st at =
+    let same = allowed_is p s j lane seat (question lane) st at in
+    ap (λ (b : Bool). b && not (is_idle (told_by s lane))) same
+    ∙ by_bool (script p j lane (question lane)) (λ b. script p j lane (question lane) ≡ b
+    → b && not (is_idle (told_by s lane))
+    ≡ b && not (is_idle (rule p j lane (question lane))))
+    (λ _ may. told_news p s j lane st may) (λ _ _. refl) refl
+
+-- a lane that may ask by the tables is one of the plan's, whose berth can be read
+pub reads_asking : (c : Kept) (lane : ℕ) (seat : Seat) → HasHistory c
+    → seat_at c.state.plan (lane / 2) ≡ Some seat
+    → allows_by c.state.plan seat.kind c.state.lanes lane (question lane) ≡ true
+    → Reads c.state (lane / 2)
+reads_asking c lane seat h at may =
+    let st = h.stands.tables in
+    let scripted = sym (allowed_is h.plan c.state h.journal lane seat (question lane) st at) ∙ may in
+    let same : berths c.state.plan ≡ berths h.plan = ap berths st.plan in
+    let within = lane_within h.plan h.journal lane (question lane) scripted in
+    reads_kept c (lane / 2) h (omega (arith, same, within))

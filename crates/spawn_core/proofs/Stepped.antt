@@ -333,13 +333,16 @@ module _ (p : Plan) (s : State) (j : List Entry) (lane : ℕ) (seat : Seat) (c :
     reply_out = inl (ap (λ b. cond b (r.rule p j lane c) reply.Astray) (sym (sym allowed_is ∙ out)))
 
 -- a berth that isn't the plan's
+pub none_scripted : (p : Plan) (s : State) (j : List Entry) (lane : ℕ) (c : Call) → Stands p s j
+    → seat_at s.plan (lane / 2) ≡ None → script p j lane c ≡ false
+none_scripted p s j lane c st at =
+    by_bool (script p j lane c) (λ b. script p j lane c ≡ b → b ≡ false)
+    (λ _ h. absurd (let y = seat_is p (lane / 2) (lane_within p j lane c h) in
+    let z = sym y.1.is ∙ ap (λ (q : Plan). seat_at q (lane / 2)) (sym st.plan) ∙ at in cc))
+    (λ _ _. refl) refl
+
 pub reply_none : (p : Plan) (s : State) (j : List Entry) (lane : ℕ) (c : Call) → Stands p s j
     → seat_at s.plan (lane / 2) ≡ None → Replies (answer p j lane c) reply.Astray
 reply_none p s j lane c st at =
-    inl (ap (λ b. cond b (r.rule p j lane c) reply.Astray) (sym none))
-  where
-    none : script p j lane c ≡ false
-    none = by_bool (script p j lane c) (λ b. script p j lane c ≡ b → b ≡ false)
-        (λ _ h. absurd (let y = seat_is p (lane / 2) (lane_within p j lane c h) in
-        let z = sym y.1.is ∙ ap (λ (q : Plan). seat_at q (lane / 2)) (sym st.plan) ∙ at in cc))
-        (λ _ _. refl) refl
+    inl (ap (λ b. cond b (r.rule p j lane c) reply.Astray)
+    (sym (none_scripted p s j lane c st at)))

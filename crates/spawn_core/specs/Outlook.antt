@@ -1,7 +1,6 @@
 -- What is known of a lane before it calls.
-use Rattle.std.specs.Prelude.{◌≡◌, ℕ, ◌+◌, ◌/◌, ◌%◌, ◌==◌, nat_lt, Bool, true, false, ◌&&◌, not, if◌then◌else◌, List}
+use Rattle.std.specs.Prelude.{ℕ, ◌+◌, ◌/◌, ◌%◌, ◌==◌, Bool, true, false, ◌&&◌, not, if◌then◌else◌, List, Option, Some, None}
 use Rattle.run_plan.specs.declared.plan.Plan.{Plan}
-use Rattle.run_plan.specs.Groups.{berths}
 use Rattle.exec_journal.specs.declared.call.Call.{Call}
 use Rattle.exec_journal.specs.declared.call.Call.TheVariants as call
 use Rattle.exec_journal.specs.Entry.{Entry}
@@ -11,7 +10,9 @@ use Rattle.exec_journal.specs.Rules.{rule}
 use Rattle.exec_journal.specs.Scripts.{script}
 use Rattle.journal_laws.specs.Paid.{count}
 use Rattle.core_tables.specs.declared.lanes.LaneState.{LaneState}
-use Rattle.core_tables.specs.Lanes.{is_won}
+use Rattle.core_tables.specs.declared.seat.Seat.{Seat}
+use Rattle.core_tables.specs.Lanes.{allows_by, is_won}
+use Rattle.core_tables.specs.Seats.{seat_at}
 use Rattle.core_state.specs.declared.state.State.{State}
 use Rattle.core_state.specs.Choices.{chosen}
 use Rattle.core_state.specs.Machine.{carried_reply, take_reply, takeable}
@@ -33,12 +34,17 @@ abbrev pub told_by : State → ℕ → Reply
 told_by s lane = if lane % 2 == 0 then carried_reply s (lane / 2) (chosen s (lane / 2))
     else take_reply s (takeable s (lane / 2))
 
--- the lane is one of the plan, and isn't answered Idle
-abbrev pub has_news_by : State → ℕ → Bool
-has_news_by s lane = nat_lt (lane / 2) (berths s.plan) && not (is_idle (told_by s lane))
+-- of a lane of this seat: it may ask, and isn't answered Idle
+abbrev pub has_news_at : State → ℕ → Option Seat → Bool
+has_news_at s lane None = false
+has_news_at s lane (Some seat) =
+    allows_by s.plan seat.kind s.lanes lane (question lane) && not (is_idle (told_by s lane))
 
--- if the lane may ask after this journal, the answer says whether the rules have more for it than
--- Idle
-abbrev pub SaysNews : Plan → List Entry → ℕ → Bool → Type 0
-SaysNews p j lane news = script p j lane (question lane) ≡ true
-    → news ≡ not (is_idle (rule p j lane (question lane)))
+-- the lane is one of the plan, may ask, and isn't answered Idle
+abbrev pub has_news_by : State → ℕ → Bool
+has_news_by s lane = has_news_at s lane (seat_at s.plan (lane / 2))
+
+-- the lane may ask after this journal, and the rules have more for it than Idle
+abbrev pub has_news : Plan → List Entry → ℕ → Bool
+has_news p j lane =
+    script p j lane (question lane) && not (is_idle (rule p j lane (question lane)))

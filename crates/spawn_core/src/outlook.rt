@@ -3,10 +3,11 @@ ghost use Rattle.std.specs.Prelude.{◌≡◌, ◌/◌, not, is_some};
 ghost use Rattle.journal_laws.specs.Paid.{count};
 ghost use Rattle.core_state.specs.Choices.{Reads};
 ghost use Rattle.core_state.specs.Machine.{takeable};
-ghost use Rattle.spawn_core.specs.Outlook.{owes_by, is_idle, told_by};
+ghost use Rattle.spawn_core.specs.Outlook.{owes_by, is_idle, question, told_by};
 
 use core_state::{Choice, State};
 use core_tables::{LaneState, Said};
+use exec_journal::Call;
 
 /// How many paid entries a lane owes that stands there: its Halt, and the Committed of what it was
 /// granted.
@@ -22,8 +23,15 @@ fn count(is: bool) -> u64
     if is { 1 } else { 0 }
 }
 
+/// What a lane asks that owes nothing: a proxy lane an order, a tap lane a line.
+pub fn question(lane: u32) -> Call
+    ensures { result ≡ question lane }
+{
+    if lane % 2 == 0 { Call::Ask } else { Call::Take }
+}
+
 /// Whether a lane that may ask would be told anything but Idle.
-pub fn has_news(state: &State, lane: u32) -> bool
+pub fn is_awaited(state: &State, lane: u32) -> bool
     requires { Reads state.now (lane / 2) }
     ensures { result ≡ not (is_idle (told_by state.now lane)) }
 {

@@ -12,14 +12,14 @@ ghost use Rattle.journal_laws.specs.Finished.{Finished};
 ghost use Rattle.journal_laws.specs.Paid.{lane_owes};
 ghost use Rattle.spawn_core.specs.Answers.{Replies, answer};
 ghost use Rattle.spawn_core.specs.Orderly.{Complete, Orderly};
-ghost use Rattle.spawn_core.specs.Outlook.{has_news_by, SaysNews};
+ghost use Rattle.spawn_core.specs.Outlook.{has_news, has_news_by};
 ghost use Rattle.spawn_core.specs.Stands.{Stands};
 
-use crate::outlook::{has_news, owes};
+use crate::outlook::{is_awaited, owes, question};
 use crate::tables::{action_tables, lane_tables, line_tables};
 use crate::turn::step;
 use core_state::State;
-use core_tables::Files;
+use core_tables::{Files, seat_of};
 use exec_journal::{Call, Group, Plan, Reply};
 use plain_values::NoMemory;
 use run_progress::Notes;
@@ -138,14 +138,22 @@ impl Core {
         }
     }
 
-    /// Whether there is more for the lane than Idle: whether an Ask of a proxy lane, or a Take of a
-    /// tap lane, would be answered otherwise, if the lane may make it.
+    /// Whether there is more for the lane than Idle: whether it may ask, a proxy lane for an order and
+    /// a tap lane for a line, and would be answered otherwise.
     pub fn has_news(&self, lane: u32) -> bool
         ensures exact { result ≡ has_news_by self.now.state lane }
         ensures news { (p : Plan) (j : List Entry) → Stands p self.now j
-            → SaysNews p j lane result }
+            → result ≡ has_news p j lane }
     {
-        lane / 2 < self.berths() && has_news(&self.state, lane)
+        match seat_of(&self.state.plan, lane / 2) {
+            Some(seat) => {
+                self.state
+                    .lanes
+                    .allows(&self.state.plan, seat.kind, lane, &question(lane))
+                    && is_awaited(&self.state, lane)
+            }
+            None => false,
+        }
     }
 }
 

@@ -68,6 +68,13 @@ module _ {G : Type 0} (rule : History → ℕ → Call → Reply) (comes : Out G
       let x : true ≡ false = sym s.1 ∙ no_file (rule h lane c) fit in cc
       )
 
+  -- a paid call may get no short reply
+  pub not_short : (h : History) (lane : ℕ) (c : Call) (r : Reply)
+      → IsReply rule is_short (λ h lane c. ⊥) h lane c r
+      → IsReply rule is_short (λ h lane c. says_file (rule h lane c) ≡ true) h lane c r
+  not_short h lane c r (inl e) = inl e
+  not_short h lane c r (inr s) = absurd s.1
+
   pub called : {Q : Type 0} (seats lane : ℕ) (v v' : View Call Reply Q) (c : Call) (r : Reply)
       (g : Option G) → NoFile c → ((h : History) → Fits c (rule h lane c))
       → Hearable rule seats c → IsTapLane seats lane → calls_by lane v.seen ≡ v.mine

@@ -1,7 +1,6 @@
 -- What the floor has made, from step to step, and how much of it is left.
-use Rattle.std.proofs.Common.{◌≡◌, ◌≤◌, arith, ℕ, suc, ◌+◌, Bool, true, false, List, [], ◌∷◌, length, Option, Some, None, refl, ap, sym, subst, ◌∙◌}
-use Rattle.build_report.specs.declared.fault.RunFault.{RunFault}
-use Rattle.build_report.specs.declared.fault.RunFault.TheVariants as fault
+use Rattle.std.proofs.Common.{◌≡◌, ◌≤◌, arith, ℕ, suc, ◌+◌, Bool, true, false, List, [], ◌∷◌, length, map, Option, Some, None, refl, ap, sym, subst, ◌∙◌}
+use Rattle.std.proofs.lemmas.List.{length-map}
 use Rattle.build_report.specs.declared.fault.Stage.{Stage}
 use Rattle.build_report.specs.declared.fault.Stage.TheVariants as stage
 use Rattle.exec_journal.specs.declared.call.Call.{Call}
@@ -13,9 +12,9 @@ use Rattle.lane_runs.specs.Runs.{EndTold, HasRun, LaidTold, Rooms}
 use Rattle.outside.specs.Told.{BerthTold, FloorTold, Makes, PlaceTold, SameFloor}
 use Rattle.remote_messages.specs.declared.work.WorkAction.{WorkAction}
 use Rattle.run_rules.specs.Moves.{History}
-use Rattle.run_tasks.specs.declared.task.Task.{Task}
-use Rattle.worker_run.specs.Ends.{IsRunEnd, MadeBy}
-use Rattle.worker_run.specs.Lanes.{AreNewBerths, HasMade, LanesRan, MakesUpTo, WhereLost, WhereWhole, laid_by}
+use Rattle.run_bench.specs.Objects.{AreFresh}
+use Rattle.worker_run.proofs.Numbered.{new_berths, new_places}
+use Rattle.worker_run.specs.Lanes.{AreNewBerths, HasMade, IsUnused, LanesRan, MakesUpTo, WhereLost, WhereWhole, laid_by}
 use Rattle.worker_run.specs.Seen.{Left, left, nothing_left, stage_of}
 
 -- ---- making
@@ -45,20 +44,6 @@ pub up_to : (b p c q : ℕ) (old new : FloorTold) → Makes b p old new → b �
 up_to b p c q old new made few less = record {
   berths = omega (arith, made.berths, few);
   places = omega (arith, made.places, less);
-}
-
-pub up_to_more : (b p c q : ℕ) (old new : FloorTold) → MakesUpTo b p old new → b ≤ c → p ≤ q
-    → MakesUpTo c q old new
-up_to_more b p c q old new made few less = record {
-  berths = omega (arith, made.berths, few);
-  places = omega (arith, made.places, less);
-}
-
-pub up_to_on : (b p c q : ℕ) (old mid new : FloorTold) → Makes b p old mid
-    → MakesUpTo c q mid new → MakesUpTo (b + c) (p + q) old new
-up_to_on b p c q old mid new first second = record {
-  berths = omega (arith, first.berths, second.berths);
-  places = omega (arith, first.places, second.places);
 }
 
 -- ---- what is left
@@ -100,6 +85,27 @@ pub where_whole : (halted : Bool) (P : Type 0) → P → WhereWhole (stage_of ha
 where_whole true P p = p
 where_whole false P p = p
 
+-- new berths and places alone are left where no lane was started
+pub unused : {B P : Type 0} (berth : B → BerthTold) (place : P → PlaceTold) (b p : ℕ) (bs : List B)
+    (ps : List P) → AreNewBerths b (map berth bs) → AreFresh place p ps
+    → IsUnused (left [] (map berth bs) [] [] (map place ps))
+unused berth place b p bs ps berths places = record {
+  berths = new_berths b (map berth bs) berths;
+  places = new_places place p ps places;
+  journal = refl;
+  lines = refl;
+  unsaid = refl;
+}
+
+-- the floor has made those
+pub made_unused : {B P : Type 0} (berth : B → BerthTold) (place : P → PlaceTold) (b p : ℕ)
+    (bs : List B) (ps : List P) (before after : FloorTold) → Makes b p before after
+    → length bs ≡ b → length ps ≡ p
+    → HasMade before after (left [] (map berth bs) [] [] (map place ps))
+made_unused berth place b p bs ps before after made berths places =
+    made_left b p before after (left [] (map berth bs) [] [] (map place ps)) made
+    (length-map bs berth ∙ berths) (length-map ps place ∙ places)
+
 pub not_lost : (halted : Bool) (P : Type 0) → WhereLost (stage_of halted) P
 not_lost true P = tt
 not_lost false P = tt
@@ -135,29 +141,6 @@ ran_whole legal rule outputs actions posts work before x new run =
 
 -- ---- the end of a run
 
-module _ (before after : FloorTold) (x : Left) where
-  by_end : (f : Option RunFault) (o : Option Task) → HasMade before after x
-      → MakesUpTo 64 4096 before after → MadeBy f o before after x
-  by_end None o made few = made
-  by_end (Some fault.SinkFailed) o made few = made
-  by_end (Some (fault.NoMemory stage.Before)) o made few = few
-  by_end (Some (fault.NoMemory stage.During)) o made few = made
-  by_end (Some (fault.NoMemory stage.After)) o made few = made
-  by_end (Some fault.Words) o made few = made
-  by_end (Some (fault.List y)) o made few = made
-  by_end (Some (fault.Flags a y)) o made few = made
-  by_end (Some (fault.Absent at)) o made few = made
-  by_end (Some (fault.FloorFailed at)) o made few = made
-
-  by_run : (when : Option Stage) (t : Task) (f : Option RunFault) (o : Option Task)
-      → IsRunEnd when t f o → WhereWhole when (HasMade before after x)
-      → MakesUpTo 64 4096 before after → MadeBy f o before after x
-  by_run None t f o kind made few = by_end f o made few
-  by_run (Some stage.During) t f o kind made few = by_end f o made few
-  by_run (Some stage.Before) t f o kind made few =
-      subst (λ (f : Option RunFault). MadeBy f o before after x) (sym kind.0) few
-  by_run (Some stage.After) t f o kind made few = absurd kind
-
 -- the reads before it made nothing
 module _ (before mid after : FloorTold) (same : SameFloor before mid) where
   berths_are : mid.berths ≡ before.berths
@@ -166,40 +149,28 @@ module _ (before mid after : FloorTold) (same : SameFloor before mid) where
   places_are : mid.places ≡ before.places
   places_are = ap (λ g. g.places) same
 
-  few_since : MakesUpTo 64 4096 mid after → MakesUpTo 64 4096 before after
+  pub few_since : MakesUpTo 64 4096 mid after → MakesUpTo 64 4096 before after
   few_since few = record {
     berths = subst (λ (n : ℕ). after.berths ≤ n + 64) berths_are few.berths;
     places = subst (λ (n : ℕ). after.places ≤ n + 4096) places_are few.places;
   }
 
-  made_since : (x : Left) → HasMade mid after x → HasMade before after x
+  pub made_since : (x : Left) → HasMade mid after x → HasMade before after x
   made_since x made = record {
     berths = made.berths ∙ ap (λ (n : ℕ). n + length x.berths) berths_are;
     places = made.places ∙ ap (λ (n : ℕ). n + length x.places) places_are;
   }
 
-  whole_since : (when : Option Stage) (x : Left) → WhereWhole when (HasMade mid after x)
-      → WhereWhole when (HasMade before after x)
-  whole_since None x made = made_since x made
-  whole_since (Some stage.During) x made = made_since x made
-  whole_since (Some stage.Before) x made = tt
-  whole_since (Some stage.After) x made = absurd made
-
-  pub task_made : (x : Left) (when : Option Stage) (t : Task) (f : Option RunFault)
-      (o : Option Task) → IsRunEnd when t f o → WhereWhole when (HasMade mid after x)
-      → MakesUpTo 64 4096 mid after → MadeBy f o before after x
-  task_made x when t f o kind made few =
-      by_run before after x when t f o kind (whole_since when x made) (few_since few)
-
 -- where the reads ended it nothing was made
-pub nothing_made : (before after : FloorTold) (f : RunFault) → SameFloor before after
-    → MadeBy (Some f) None before after nothing_left
-nothing_made before after f same = by_end before after nothing_left (Some f) None
-    (record {
-      berths = ap (λ g. g.berths) same ∙ omega arith;
-      places = ap (λ g. g.places) same ∙ omega arith;
-    })
-    (record {
-      berths = subst (λ (n : ℕ). n ≤ before.berths + 64) (sym (ap (λ g. g.berths) same)) (omega arith);
-      places = subst (λ (n : ℕ). n ≤ before.places + 4096) (sym (ap (λ g. g.places) same)) (omega arith);
-    })
+module _ (before after : FloorTold) (same : SameFloor before after) where
+  pub nothing_made : HasMade before after nothing_left
+  nothing_made = record {
+    berths = ap (λ g. g.berths) same ∙ omega arith;
+    places = ap (λ g. g.places) same ∙ omega arith;
+  }
+
+  pub nothing_much : MakesUpTo 64 4096 before after
+  nothing_much = record {
+    berths = subst (λ (n : ℕ). n ≤ before.berths + 64) (sym (ap (λ g. g.berths) same)) (omega arith);
+    places = subst (λ (n : ℕ). n ≤ before.places + 4096) (sym (ap (λ g. g.places) same)) (omega arith);
+  }

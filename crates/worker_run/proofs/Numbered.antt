@@ -1,10 +1,12 @@
 -- One more berth or place behind those that are numbered in their order.
-use Rattle.std.proofs.Common.{◌≡◌, ◌⊎◌, ℕ, ◌+◌, zero, suc, List, [], ◌∷◌, ◌++◌, length, map, Some, inl, inr, refl, ap, sym, subst, ◌∙◌, slice_get}
+use Rattle.std.proofs.Common.{◌≡◌, ◌⊎◌, ℕ, ◌+◌, zero, suc, List, [], ◌∷◌, ◌++◌, length, map, Option, Some, None, inl, inr, refl, ap, sym, subst, ◌∙◌, slice_get}
+use Rattle.std.specs.Prelude.{option_map}
 use Rattle.std.proofs.lemmas.List.{length-append, map-append}
+use Rattle.std.proofs.lemmas.Option.{slice_get-map}
 use Rattle.outside.specs.Lists.{Tells}
 use Rattle.outside.specs.Told.{BerthTold, PlaceTold}
 use Rattle.run_bench.specs.Objects.{AreFresh}
-use Rattle.worker_run.specs.Lanes.{AreNewBerths, IsNewBerth}
+use Rattle.worker_run.specs.Lanes.{AreNewBerths, AreNewPlaces, IsNewBerth, IsNewPlace}
 
 -- what stands in a list with one more is one of the old, or the new one
 found : {X : Type 0} (xs : List X) (x : X) (a : ℕ) (p : X) → slice_get (xs ++ x ∷ []) a ≡ Some p
@@ -71,3 +73,20 @@ module _ {P : Type 0} (told : P → PlaceTold) where
           → Tells (told x).log []
       written_by a x (inl h) = were.unwritten a x h
       written_by a x (inr h) = subst (λ (y : P). Tells (told y).log []) h.1 written
+
+  from_some : (o : Option P) (p : PlaceTold) → option_map told o ≡ Some p
+      → (x : P) × (o ≡ Some x) × (told x ≡ p)
+  from_some None p e = absurd (cc)
+  from_some (Some x) p e = (x, refl, let q : told x ≡ p = cc in q)
+
+  pub new_places : (n : ℕ) (ps : List P) → AreFresh told n ps
+      → AreNewPlaces (length (map told ps)) (map told ps)
+  new_places n ps were = record {
+    as_many = refl;
+    each = λ a p e. let x = from_some (slice_get ps a) p (sym (slice_get-map told ps a) ∙ e) in
+        subst (λ (t : PlaceTold). IsNewPlace a t) x.2
+        (record { of_number = were.numbers a x.0 x.1; unwritten = were.unwritten a x.0 x.1 });
+  }
+
+pub new_berths : (n : ℕ) (bs : List BerthTold) → AreNewBerths n bs → AreNewBerths (length bs) bs
+new_berths n bs were = record { as_many = refl; each = were.each }

@@ -20,9 +20,9 @@ use Rattle.run_plan.specs.declared.plan.Plan.{Plan}
 use Rattle.run_tasks.specs.Course.{Course, ListRead, OptionsRead, TaskRead, most_keys}
 use Rattle.run_tasks.specs.declared.task.Task.{Task}
 use Rattle.tool_words.specs.declared.options.Options.{Options}
-use Rattle.worker_run.specs.Ends.{HasCourse, HasLed, IsAfterReading, IsReportEnd, IsRunEnd, Puts, TellsTask, UnlessEarly}
+use Rattle.worker_run.specs.Ends.{HasCourse, HasLed, IsAfterReading, IsReportEnd, IsRunEnd, LeavesNew, Puts, TellsTask, UnlessEarly}
 use Rattle.worker_run.specs.Headline.{UnlessRun}
-use Rattle.worker_run.specs.Lanes.{WhereLost}
+use Rattle.worker_run.specs.Lanes.{IsUnused, WhereLost}
 use Rattle.worker_run.specs.Seen.{EndedTold, Left, nothing_left}
 
 -- ---- a task was run
@@ -101,15 +101,38 @@ task_told (Some stage.Before) t f o kind =
 task_told (Some stage.After) t f o kind = absurd kind
 
 pub task_nothing : (when : Option Stage) (t : Task) (f : Option RunFault) (o : Option Task)
-    (x y : Left) → IsRunEnd when t f o → WhereLost when (x ≡ nothing_left) → y ≡ x
-    → UnlessRun o (y ≡ nothing_left)
+    (x y : Left) → IsRunEnd when t f o → WhereLost when (IsUnused x) → y ≡ x
+    → UnlessRun o (LeavesNew f y)
 task_nothing None t f o x y kind lost is =
-    subst (λ (o : Option Task). UnlessRun o (y ≡ nothing_left)) (sym kind.1) tt
+    subst (λ (o : Option Task). UnlessRun o (LeavesNew f y)) (sym kind.1) tt
 task_nothing (Some stage.During) t f o x y kind lost is =
-    subst (λ (o : Option Task). UnlessRun o (y ≡ nothing_left)) (sym kind.1) tt
+    subst (λ (o : Option Task). UnlessRun o (LeavesNew f y)) (sym kind.1) tt
 task_nothing (Some stage.Before) t f o x y kind lost is =
-    subst (λ (o : Option Task). UnlessRun o (y ≡ nothing_left)) (sym kind.1) (is ∙ lost)
+    subst (λ (o : Option Task). UnlessRun o (LeavesNew f y)) (sym kind.1)
+    (subst (λ (f : Option RunFault). LeavesNew f y) (sym kind.0)
+    (subst (λ (z : Left). IsUnused z) (sym is) lost))
 task_nothing (Some stage.After) t f o x y kind lost is = absurd kind
+
+pub nothing_unused : IsUnused nothing_left
+nothing_unused = record {
+  berths = record { as_many = refl; each = λ w b e. absurd (cc) };
+  places = record { as_many = refl; each = λ a p e. absurd (cc) };
+  journal = refl;
+  lines = refl;
+  unsaid = refl;
+}
+
+-- where the reads ended the run
+pub fault_nothing : (f : RunFault) → LeavesNew (Some f) nothing_left
+fault_nothing (fault.NoMemory stage.Before) = nothing_unused
+fault_nothing (fault.NoMemory stage.During) = refl
+fault_nothing (fault.NoMemory stage.After) = refl
+fault_nothing fault.SinkFailed = refl
+fault_nothing fault.Words = refl
+fault_nothing (fault.List x) = refl
+fault_nothing (fault.Flags a x) = refl
+fault_nothing (fault.Absent at) = refl
+fault_nothing (fault.FloorFailed at) = refl
 
 -- ---- after the reading the floor doesn't fail
 

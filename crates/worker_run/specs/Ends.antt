@@ -15,8 +15,8 @@ use Rattle.run_loading.specs.Reads.{Reads}
 use Rattle.run_tasks.specs.Course.{Course, Made}
 use Rattle.run_tasks.specs.declared.task.Task.{Task}
 use Rattle.tool_words.specs.declared.options.Options.{Options}
-use Rattle.worker_run.specs.Lanes.{HasMade, MakesUpTo}
-use Rattle.worker_run.specs.Seen.{EndedTold, Left}
+use Rattle.worker_run.specs.Lanes.{HasMade, IsUnused, MakesUpTo}
+use Rattle.worker_run.specs.Seen.{EndedTold, Left, nothing_left}
 
 -- ---- the fault
 
@@ -70,14 +70,17 @@ is_halted _ = false
 
 -- ---- what was made
 
--- All that the floor has made is handed back. Where memory was wanted before the lanes, it was no more
--- than a plan may have.
-abbrev pub MadeBy : Option RunFault → Option Task → FloorTold → FloorTold → Left → Type 0
-MadeBy (Some (fault.NoMemory stage.Before)) task before after x = MakesUpTo 64 4096 before after
-MadeBy end task before after x = HasMade before after x
+-- All that the floor has made is handed back, however the run ended, and it is no more than a plan may
+-- have.
+pub record MadeAll (before : FloorTold) (end : EndedTold) : Type 0 where
+  pub left : HasMade before end.floor end.left
+  pub few : MakesUpTo 64 4096 before end.floor
 
-abbrev pub MadeAll : FloorTold → EndedTold → Type 0
-MadeAll before end = MadeBy end.fault end.task before end.floor end.left
+-- What is left of no run: new berths and places where memory was wanted before the lanes, and nothing
+-- with any other fault.
+abbrev pub LeavesNew : Option RunFault → Left → Type 0
+LeavesNew (Some (fault.NoMemory stage.Before)) x = IsUnused x
+LeavesNew end x = x ≡ nothing_left
 
 -- ---- what led to it
 

@@ -123,7 +123,7 @@ HasOuts t x = Outs (outputs_in t.plan) (length t.plan.actions) (history_of x.jou
 
 -- ---- no run
 
--- nothing is left where no run is told
+-- it holds where no run is told
 abbrev pub UnlessRun : Option Task → Type 0 → Type 0
 UnlessRun None P = P
 UnlessRun (Some t) P = Unit {0}

@@ -9,7 +9,7 @@ use Rattle.history_laws.specs.Ruled.{CameAbout, answer_after}
 use Rattle.lane_deeds.specs.declared.post.Post.{Post}
 use Rattle.lane_runs.specs.Runs.{HasRun, LaidTold}
 use Rattle.outside.specs.Lists.{Tells}
-use Rattle.outside.specs.Told.{BerthTold, FloorTold}
+use Rattle.outside.specs.Told.{BerthTold, FloorTold, PlaceTold}
 use Rattle.remote_messages.specs.declared.work.WorkAction.{WorkAction}
 use Rattle.run_rules.specs.Moves.{History}
 use Rattle.run_tasks.specs.declared.task.Task.{Task}
@@ -26,6 +26,24 @@ pub record IsNewBerth (number : ℕ) (berth : BerthTold) : Type 0 where
 pub record AreNewBerths (count : ℕ) (berths : List BerthTold) : Type 0 where
   pub as_many : length berths ≡ count
   pub each : (w : ℕ) (b : BerthTold) → slice_get berths w ≡ Some b → IsNewBerth w b
+
+-- the place of the action with this number, to which nothing was written
+pub record IsNewPlace (number : ℕ) (place : PlaceTold) : Type 0 where
+  pub of_number : place.number ≡ number
+  pub unwritten : Tells place.log []
+
+-- so many places, numbered in their order from 0, each new
+pub record AreNewPlaces (count : ℕ) (places : List PlaceTold) : Type 0 where
+  pub as_many : length places ≡ count
+  pub each : (a : ℕ) (p : PlaceTold) → slice_get places a ≡ Some p → IsNewPlace a p
+
+-- New berths and places are left, however many, and nothing else: no lane was started.
+pub record IsUnused (x : Left) : Type 0 where
+  pub berths : AreNewBerths (length x.berths) x.berths
+  pub places : AreNewPlaces (length x.places) x.places
+  pub journal : x.journal ≡ []
+  pub lines : x.lines ≡ []
+  pub unsaid : x.unsaid ≡ []
 
 -- the floor has made exactly the berths and the places that are left
 pub record HasMade (before after : FloorTold) (x : Left) : Type 0 where

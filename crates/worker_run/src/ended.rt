@@ -39,7 +39,8 @@ pub struct Ended<F: Floor> {
     /// The exit status: 0 where all actions succeeded, 1 where some didn't, and else by the fault.
     pub status: u8,
     pub fault: Option<RunFault>,
-    /// What was run. `None` where no lane was started: then the lists are empty.
+    /// What was run. `None` where no lane was started: then the lists are empty, but for the berths and
+    /// the places that were made before memory was wanted.
     pub task: Option<Task>,
     /// Every call that changed the state, with its reply, in order.
     pub journal: Journal,

@@ -7,10 +7,9 @@ ghost use Rattle.run_loading.specs.Reads.{IsFloorFailed};
 ghost use Rattle.run_plan.specs.Sound.{Sound};
 ghost use Rattle.run_tasks.specs.Tasks.{HasPosts, HasWork};
 ghost use Rattle.tool_words.specs.Options.{options_of};
-ghost use Rattle.worker_run.specs.Ends.{HasCourse, IsPutEnd, IsReportEnd, IsRunEnd, MadeAll, Puts, Reports, TellsTask, report_by, status_by};
+ghost use Rattle.worker_run.specs.Ends.{HasCourse, IsPutEnd, IsReportEnd, IsRunEnd, LeavesNew, MadeAll, Puts, Reports, TellsTask, report_by, status_by};
 ghost use Rattle.worker_run.specs.Headline.{HaltsAsSaid, HasOuts, HasPipes, HasRace, HasRooms, HasUnsaid, IsAccounted, IsComplete, IsKept, IsLegal, IsPaired, IsSound, IsStopped, OnRun, Succeeds, UnlessRun};
-ghost use Rattle.worker_run.specs.Lanes.{HasMade, MakesUpTo, TaskRan, WhereLost, WhereWhole};
-ghost use Rattle.worker_run.specs.Seen.{nothing_left};
+ghost use Rattle.worker_run.specs.Lanes.{HasMade, IsUnused, MakesUpTo, TaskRan, WhereLost, WhereWhole};
 
 use crate::ended::Ended;
 use crate::running::{Ran, run_plan};
@@ -34,7 +33,8 @@ use std::thread::Threads;
 /// of its own; the report, in one put. An earlier step's fault goes before a later one's.
 ///
 /// Where a run is told (`task` is there), all that is left is what one history says, and that is
-/// the journal. Contents are meant where the objects tell them, and counts always.
+/// the journal. Where memory was wanted before the lanes, new berths and places are left, as many as
+/// were made. Contents are meant where the objects tell them, and counts always.
 pub fn run_build<R: Threads + Wait + Sync, F: Floor, O: Sink>(
     rt: &R,
     alloc: Global,
@@ -52,7 +52,7 @@ where
     ensures course { HasCourse (options_of (map string_bytes words.now)) (F.told floor) result }
     ensures told { TellsTask result.fault result.task }
     ensures sound { OnRun result IsSound }
-    ensures nothing { UnlessRun result.task (result.left ≡ nothing_left) }
+    ensures nothing { UnlessRun result.task (LeavesNew result.fault result.left) }
     ensures made { MadeAll (F.told floor) result }
     // The one journal of the run.
     ensures legal { OnRun result IsLegal }
@@ -101,7 +101,7 @@ where
     ensures course { HasCourse (options_of (map string_bytes words.now)) (F.told floor) result }
     ensures told { TellsTask result.fault result.task }
     ensures sound { OnRun result IsSound }
-    ensures nothing { UnlessRun result.task (result.left ≡ nothing_left) }
+    ensures nothing { UnlessRun result.task (LeavesNew result.fault result.left) }
     ensures made { MadeAll (F.told floor) result }
     // The one journal of the run.
     ensures legal { OnRun result IsLegal }
@@ -158,8 +158,8 @@ where
     requires work { HasWork task.now }
     requires posts { HasPosts task.now }
     ensures run { WhereWhole result.fault (TaskRan task.now result.fault result.left) }
-    ensures lost { WhereLost result.fault (result.left ≡ nothing_left) }
-    ensures made { WhereWhole result.fault (HasMade (F.told floor) result.floor result.left) }
+    ensures lost { WhereLost result.fault (IsUnused result.left) }
+    ensures made { HasMade (F.told floor) result.floor result.left }
     ensures few { MakesUpTo 64 4096 (F.told floor) result.floor }
     ensures files { SameFiles (F.told floor) result.floor }
     ensures log { result.floor.log ≡ (F.told floor).log }

@@ -1,21 +1,20 @@
 // The lanes of a plan, run on threads.
-ghost use Rattle.std.specs.Prelude.{◌≡◌, ◌≤◌, [], length, Some, None};
+ghost use Rattle.std.specs.Prelude.{◌≡◌, ◌≤◌, [], length, map, Some, None};
 ghost use Rattle.berth_lanes.specs.Seats.{PostsFit};
 ghost use Rattle.build_report.specs.declared.fault.Stage.TheVariants as stage;
 ghost use Rattle.lane_steps.specs.Work.{IsWorkOf};
 ghost use Rattle.lane_runs.specs.Runs.{laid_told};
 ghost use Rattle.outside.specs.Told.{SameFiles};
-ghost use Rattle.worker_run.specs.Lanes.{HasMade, LanesRan, MakesUpTo, WhereLost, WhereWhole};
-ghost use Rattle.worker_run.specs.Seen.{nothing_left, ran_by, ran_told};
+ghost use Rattle.worker_run.specs.Lanes.{HasMade, IsUnused, LanesRan, MakesUpTo, WhereLost, WhereWhole};
+ghost use Rattle.worker_run.specs.Seen.{left, nothing_left, ran_by, ran_told};
 
 use crate::seats::{Seats, make_seats};
 use crate::{EndedLine, UnsaidLine};
 use build_report::Stage;
 use exec_journal::Journal;
 use lane_deeds::Post;
-use lane_runs::{Laid, LaidOut, run_lanes};
+use lane_runs::{Laid, LaidOut, Unrun, run_lanes};
 use outside::{Berth, Floor};
-use plain_values::NoMemory;
 use remote_messages::Work;
 use run_rules::Rules;
 use std::alloc::Global;
@@ -61,14 +60,28 @@ impl<F: Floor> Ran<F> {
     pub fn with_nothing(alloc: Global, floor: F, fault: Option<Stage>) -> Ran<F>
         ensures { result ≡ ran_told fault (F.told floor) nothing_left }
     {
+        Ran::unused(alloc, floor, fault, Vec::new(alloc), Vec::new(alloc))
+    }
+
+    // The floor is left, and berths and places with which no lane has worked.
+    fn unused(
+        alloc: Global,
+        floor: F,
+        fault: Option<Stage>,
+        berths: Vec<F::Berth>,
+        places: Vec<F::Place>,
+    ) -> Ran<F>
+        ensures { result ≡ ran_told fault (F.told floor)
+            (left [] (map F.Berth.told berths.items) [] [] (map F.Place.told places.items)) }
+    {
         Ran {
             fault,
             journal: Journal::of(Vec::new(alloc)),
             floor,
-            berths: Vec::new(alloc),
+            berths,
             lines: Vec::new(alloc),
             unsaid: Vec::new(alloc),
-            places: Vec::new(alloc),
+            places,
         }
     }
 
@@ -102,7 +115,7 @@ impl<F: Floor> Ran<F> {
 /// post, both in order and the places first, and runs the two lanes of each berth on threads.
 ///
 /// The fault says when memory was wanted. With `During` some lane has halted. With `Before` no lane
-/// was started, and nothing is left but the floor. What lanes left is laid out without memory.
+/// was started, and what was made is left, new. What lanes left is laid out without memory.
 pub fn run_plan<F: Floor, C: Rules, R: Threads + Wait + Sync>(
     rt: &R,
     alloc: Global,
@@ -129,9 +142,9 @@ where
     ensures run { WhereWhole result.fault (LanesRan (C.legal (C.plan core)) (C.rule (C.plan core))
         (C.outputs (C.plan core)) (C.actions (C.plan core)) posts.now work.now.actions
         result.fault result.left) }
-    ensures lost { WhereLost result.fault (result.left ≡ nothing_left) }
+    ensures lost { WhereLost result.fault (IsUnused result.left) }
     // All that the floor has made is left, and it has never made more than a plan may have.
-    ensures made { WhereWhole result.fault (HasMade (F.told floor) result.floor result.left) }
+    ensures made { HasMade (F.told floor) result.floor result.left }
     ensures few { MakesUpTo 64 4096 (F.told floor) result.floor }
     ensures files { SameFiles (F.told floor) result.floor }
     ensures log { result.floor.log ≡ (F.told floor).log }
@@ -139,12 +152,17 @@ where
 {
     let mut floor = floor;
     let actions = work.actions.as_slice();
-    let Ok(seats) = make_seats(alloc, &mut floor, posts.len(), actions.len()) else {
-        return Ran::with_nothing(alloc, floor, Some(Stage::Before));
-    };
+    let seats = make_seats(alloc, &mut floor, posts.len(), actions.len());
+    let all = seats.has_all(posts.len(), actions.len());
     let Seats { places, berths } = seats;
+    if !all {
+        return Ran::unused(alloc, floor, Some(Stage::Before), berths, places);
+    }
     match run_lanes(rt, alloc, core, places, berths, posts, actions) {
         Ok(laid) => Ran::of(floor, laid),
-        Err(NoMemory) => Ran::with_nothing(alloc, floor, Some(Stage::Before)),
+        Err(unrun) => {
+            let Unrun { berths, places } = unrun;
+            Ran::unused(alloc, floor, Some(Stage::Before), berths, places)
+        }
     }
 }

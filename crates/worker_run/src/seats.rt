@@ -1,11 +1,10 @@
 // A place for each action, and a berth for each post.
-ghost use Rattle.std.specs.Prelude.{◌≡◌, ◌≤◌, IfOk, OnOk, map};
-ghost use Rattle.outside.specs.Told.{Makes, SameFiles};
+ghost use Rattle.std.specs.Prelude.{◌≡◌, ◌≤◌, true, length, map};
+ghost use Rattle.outside.specs.Told.{Makes};
 ghost use Rattle.run_bench.specs.Objects.{AreFresh};
-ghost use Rattle.worker_run.specs.Lanes.{AreNewBerths, MakesUpTo};
+ghost use Rattle.worker_run.specs.Lanes.{AreNewBerths};
 
 use outside::Floor;
-use plain_values::NoMemory;
 use std::alloc::Global;
 
 /// What the lanes of a plan work with.
@@ -15,70 +14,76 @@ pub struct Seats<F: Floor> {
     pub berths: Vec<F::Berth>,
 }
 
-/// Makes so many places and berths, each in the order of their numbers, and the places first.
-///
-/// # Errors
-///
-/// `NoMemory`.
-pub fn make_seats<F: Floor>(
-    alloc: Global,
-    floor: &mut F,
-    berths: usize,
-    actions: usize,
-) -> Result<Seats<F>, NoMemory>
+impl<F: Floor> Seats<F> {
+    /// Whether so many berths and places are there.
+    pub fn has_all(&self, berths: usize, actions: usize) -> bool
+        ensures { result ≡ true → (length self.now.berths.items ≡ berths)
+            × (length self.now.places.items ≡ actions) }
+    {
+        self.berths.len() == berths && self.places.len() == actions
+    }
+}
+
+/// Makes so many places and berths, each in the order of their numbers, and the places first; or of
+/// either as many as there is memory for.
+pub fn make_seats<F: Floor>(alloc: Global, floor: &mut F, berths: usize, actions: usize) -> Seats<F>
     requires berths { berths ≤ 64 }
     requires actions { actions ≤ 4096 }
-    ensures places { IfOk result (λ s. AreFresh F.Place.told actions s.places.items) }
-    ensures berths { IfOk result (λ s. AreNewBerths berths (map F.Berth.told s.berths.items)) }
-    ensures files { SameFiles (F.told floor.old) (F.told floor.new) }
-    ensures made { OnOk result (Makes berths actions (F.told floor.old) (F.told floor.new)) }
-    ensures few { MakesUpTo berths actions (F.told floor.old) (F.told floor.new) }
+    ensures places { AreFresh F.Place.told (length result.places.items) result.places.items }
+    ensures berths { AreNewBerths (length result.berths.items)
+        (map F.Berth.told result.berths.items) }
+    ensures few { (length result.places.items ≤ actions)
+        × (length result.berths.items ≤ berths) }
+    ensures made { Makes (length result.berths.items) (length result.places.items)
+        (F.told floor.old) (F.told floor.new) }
     ensures log { (F.told floor.new).log ≡ (F.told floor.old).log }
     ensures count { (F.told floor.old).faults ≤ (F.told floor.new).faults }
 {
-    let places = make_places(alloc, floor, actions)?;
-    let berths = make_berths(alloc, floor, berths)?;
-    Ok(Seats { places, berths })
+    let places = make_places(alloc, floor, actions);
+    let berths = make_berths(alloc, floor, berths);
+    Seats { places, berths }
 }
 
+// Makes places for the first so many actions, in order; or as many as there is memory for.
 #[tactic(auto, using(crate::proofs::Numbered::no_places, crate::proofs::Numbered::one_more_place))]
-fn make_places<F: Floor>(
-    alloc: Global,
-    floor: &mut F,
-    count: usize,
-) -> Result<Vec<F::Place>, NoMemory>
+fn make_places<F: Floor>(alloc: Global, floor: &mut F, count: usize) -> Vec<F::Place>
     requires { count ≤ 4096 }
-    ensures places { IfOk result (λ places. AreFresh F.Place.told count places.items) }
-    ensures files { SameFiles (F.told floor.old) (F.told floor.new) }
-    ensures made { OnOk result (Makes 0 count (F.told floor.old) (F.told floor.new)) }
-    ensures few { MakesUpTo 0 count (F.told floor.old) (F.told floor.new) }
+    ensures places { AreFresh F.Place.told (length result.items) result.items }
+    ensures few { length result.items ≤ count }
+    ensures made { Makes 0 (length result.items) (F.told floor.old) (F.told floor.new) }
     ensures log { (F.told floor.new).log ≡ (F.told floor.old).log }
     ensures count { (F.told floor.old).faults ≤ (F.told floor.new).faults }
 {
-    let mut places = Vec::with_capacity(alloc, count)?;
+    let Ok(mut places) = Vec::with_capacity(alloc, count) else {
+        return Vec::new(alloc);
+    };
     for action in 0..count as u32 {
-        places.push(floor.make_place(action)?)?;
+        let Ok(place) = floor.make_place(action) else {
+            return places;
+        };
+        places.push_reserved(place);
     }
-    Ok(places)
+    places
 }
 
+// Makes the first so many berths, in order; or as many as there is memory for.
 #[tactic(auto, using(crate::proofs::Numbered::no_berths, crate::proofs::Numbered::one_more_berth))]
-fn make_berths<F: Floor>(
-    alloc: Global,
-    floor: &mut F,
-    count: usize,
-) -> Result<Vec<F::Berth>, NoMemory>
+fn make_berths<F: Floor>(alloc: Global, floor: &mut F, count: usize) -> Vec<F::Berth>
     requires { count ≤ 64 }
-    ensures berths { IfOk result (λ berths. AreNewBerths count (map F.Berth.told berths.items)) }
-    ensures files { SameFiles (F.told floor.old) (F.told floor.new) }
-    ensures made { OnOk result (Makes count 0 (F.told floor.old) (F.told floor.new)) }
-    ensures few { MakesUpTo count 0 (F.told floor.old) (F.told floor.new) }
+    ensures berths { AreNewBerths (length result.items) (map F.Berth.told result.items) }
+    ensures few { length result.items ≤ count }
+    ensures made { Makes (length result.items) 0 (F.told floor.old) (F.told floor.new) }
     ensures log { (F.told floor.new).log ≡ (F.told floor.old).log }
     ensures count { (F.told floor.old).faults ≤ (F.told floor.new).faults }
 {
-    let mut berths = Vec::with_capacity(alloc, count)?;
+    let Ok(mut berths) = Vec::with_capacity(alloc, count) else {
+        return Vec::new(alloc);
+    };
     for number in 0..count as u32 {
-        berths.push(floor.make_berth(number)?)?;
+        let Ok(berth) = floor.make_berth(number) else {
+            return berths;
+        };
+        berths.push_reserved(berth);
     }
-    Ok(berths)
+    berths
 }

@@ -9,5 +9,5 @@ returns-clause-jobs g c = let few = c.requires.seat in let bells = c.requires.be
     let back : 2 * c.args.seat + 1 < c.args.hall.now.bells = omega arith in
     one_more (IsJobOf c.args.desk.now c.args.hall.now) _ _ _
     (one_more (IsJobOf c.args.desk.now c.args.hall.now) _ _ _
-    (one_more (IsJobOf c.args.desk.now c.args.hall.now) _ _ _ c.requires.jobs (c.in_ok-pass.ensures.pass.0 ∙ c.requires.desk, front) c.in_ok-push.ensures.items) tt c.in_ok-push-2.ensures.items)
-    (c.in_ok-pass-2.ensures.pass.0 ∙ (c.in_ok-pass.ensures.root.0 ∙ c.requires.desk), back) c.in_ok-push-3.ensures.items
+    (one_more (IsJobOf c.args.desk.now c.args.hall.now) _ _ _ c.requires.jobs (c.split-pass.ensures.pass.0 ∙ c.requires.desk, front) c.in_ok-push.ensures.items) tt c.in_ok-push-2.ensures.items)
+    (c.split-pass-2.ensures.pass.0 ∙ (c.split-pass.ensures.root.0 ∙ c.requires.desk), back) c.in_ok-push-3.ensures.items

@@ -8,6 +8,10 @@ returns g c =
     c.args.posts.now c.loop-post.lanes.items (omega (arith, c.loop-post-test.false))
     c.loop-post.invariant.as_many c.loop-post.invariant.so_far
 
+pub push_seats-requires : goal.push_seats-requires
+push_seats-requires g c =
+    omega (arith, c.loop-post.invariant.room, c.loop-post-test.true)
+
 pub loop-post-preserved : goal.loop-post-preserved
 loop-post-preserved g c =
     let i = c.loop-post.invariant in
@@ -21,5 +25,12 @@ loop-post-preserved g c =
       so_far = seated_more c.args.actions.now here c.loop-post.number c.in-Some.berth
           c.post-item.result c.args.berths.items c.loop-post.rest.items c.pop_front.new.self.items
           c.args.posts.now c.loop-post.lanes.items c.push_seats.new.lanes.items
-          c.in_ok-push_seats.ensures i.numbered c.in-Some.ensures.items posts i.so_far;
+          c.push_seats.ensures.seats i.numbered c.in-Some.ensures.items posts i.so_far;
+      room = omega (
+        arith,
+        i.room,
+        c.push_seats.ensures.len,
+        c.push_seats.ensures.capacity,
+        c.loop-post-test.true,
+      );
     }

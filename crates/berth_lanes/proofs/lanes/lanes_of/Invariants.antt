@@ -1,4 +1,4 @@
-use Rattle.std.proofs.Common.{◌≡◌, ℕ, List, ◌++◌, length, drop}
+use Rattle.std.proofs.Common.{◌≡◌, ◌≤◌, ℕ, ◌+◌, ◌-◌, ◌*◌, List, ◌++◌, length, drop, vec_len, vec_capacity}
 use Rattle.lane_crew.specs.declared.pair.OfTwo.{OfTwo}
 use Rattle.berth_lanes.specs.declared.proxies.ProxySeat.{ProxySeat}
 use Rattle.berth_lanes.specs.declared.taps.TapSeat.{TapSeat}
@@ -13,4 +13,5 @@ invariant-loop-post g l = record {
   so_far : (more : List (OfTwo (ProxySeat g.row.B.Denot) TapSeat))
       → AreSeats l.fn.actions l.post-index l.rest.items (drop l.post-index l.fn.posts) more
       → AreSeats l.fn.actions 0 l.fn.berths.items l.fn.posts (l.lanes.items ++ more);
+  room : vec_len l.lanes + 2 * (length l.fn.posts - l.post-index) ≤ vec_capacity l.lanes;
 }

@@ -6,8 +6,8 @@ use Rattle.berth_lanes.specs.declared.taps.TapSeat.{TapSeat}
 use Rattle.berth_lanes.proofs.Seating.{two_more}
 use Rattle.berth_lanes.proofs.lanes.push_seats.Goals as goal
 
-pub returns : goal.returns
-returns g c =
+pub returns-clause-seats : goal.returns-clause-seats
+returns-clause-seats g c =
     record {
       proxy = record {
         alloc = c.args.alloc;
@@ -23,6 +23,7 @@ returns g c =
       };
       is_proxy = (refl, refl, refl, refl);
       is_tap = (refl, refl);
-      grown = two_more c.args.lanes.now.items c.push.new.self.items c.push-2.new.self.items _ _
-          c.in_ok-push.ensures.items c.in_ok-push-2.ensures.items;
+      grown = two_more c.args.lanes.now.items c.push_reserved.new.self.items
+          c.push_reserved-2.new.self.items _ _ c.push_reserved.ensures.items
+          c.push_reserved-2.ensures.items;
     }

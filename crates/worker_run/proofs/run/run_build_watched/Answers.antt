@@ -1,8 +1,8 @@
 -- Where a task was read, what its lanes say is what is told; where a fault was, nothing is.
 use Rattle.std.proofs.Common.{ap, map, string_bytes, ◌∙◌}
 use Rattle.tool_words.specs.Options.{options_of}
-use Rattle.worker_run.proofs.Made.{in_time, nothing_made, task_made}
-use Rattle.worker_run.proofs.Reading.{fault_course, fault_puts, fault_sink, fault_told, task_course, task_floor, task_nothing, task_told}
+use Rattle.worker_run.proofs.Made.{few_since, in_time, made_since, nothing_made, nothing_much}
+use Rattle.worker_run.proofs.Reading.{fault_course, fault_nothing, fault_puts, fault_sink, fault_told, task_course, task_floor, task_nothing, task_told}
 use Rattle.worker_run.proofs.Said.{halts_as_said, has_outs, has_pipes, has_race, has_rooms, has_unsaid, is_accounted, is_complete, is_kept, is_legal, is_paired, is_stopped, on_run, succeeds}
 use Rattle.worker_run.specs.Headline.{HasOuts, HasPipes, HasRace, HasRooms, HasUnsaid, IsAccounted, IsComplete, IsKept, IsLegal, IsPaired, IsSound, IsStopped}
 use Rattle.worker_run.specs.Lanes.{TaskRan}
@@ -155,15 +155,27 @@ returns-in-Ok-clause-sound g c =
 pub returns-in-Ok-clause-made : goal.returns-in-Ok-clause-made
 returns-in-Ok-clause-made g c =
     let e = c.conclude.ensures in
-    rw (e.floor, e.left) (task_made (g.F.Floor.told c.args.floor)
-    (g.F.Floor.told c.read_task.new.floor) c.run_task-ran.result.floor c.in-Ok.ensures.files
-    c.run_task-ran.result.left c.run_task-ran.result.fault c.in-Ok.made.0 c.conclude.result.fault
-    c.conclude.result.task e.kind c.run_task-ran.ensures.made c.run_task-ran.ensures.few)
+    let told = g.F.Floor.told in
+    record {
+      left = rw (e.floor, e.left) (made_since (told c.args.floor) (told c.read_task.new.floor)
+          c.run_task-ran.result.floor c.in-Ok.ensures.files c.run_task-ran.result.left
+          c.run_task-ran.ensures.made);
+      few = rw (e.floor) (few_since (told c.args.floor) (told c.read_task.new.floor)
+          c.run_task-ran.result.floor c.in-Ok.ensures.files c.run_task-ran.ensures.few);
+    }
 
 pub returns-in-Err-clause-made : goal.returns-in-Err-clause-made
 returns-in-Err-clause-made g c =
-    rw (c.with_no_lane.ensures) (nothing_made (g.F.Floor.told c.args.floor)
-    (g.F.Floor.told c.read_task.new.floor) c.in-Err.fault c.in-Err.ensures.files)
+    let told = g.F.Floor.told in
+    record {
+      left = rw (c.with_no_lane.ensures) (nothing_made (told c.args.floor)
+          (told c.read_task.new.floor) c.in-Err.ensures.files);
+      few = rw (c.with_no_lane.ensures) (nothing_much (told c.args.floor)
+          (told c.read_task.new.floor) c.in-Err.ensures.files);
+    }
+
+pub returns-in-Err-clause-nothing : goal.returns-in-Err-clause-nothing
+returns-in-Err-clause-nothing g c = rw (c.with_no_lane.ensures) (fault_nothing c.in-Err.fault)
 
 pub returns-in-Ok-clause-success : goal.returns-in-Ok-clause-success
 returns-in-Ok-clause-success g c =

@@ -1,7 +1,8 @@
 -- The core stands for the task's plan.
-use Rattle.std.proofs.Common.{◌∙◌}
+use Rattle.std.proofs.Common.{◌∙◌, arith}
 use Rattle.run_plan.specs.Groups.{is_remote, kind_of}
 use Rattle.worker_run.proofs.Fits.{fits}
+use Rattle.worker_run.proofs.Reading.{nothing_unused}
 use Rattle.worker_run.proofs.run.run_task.Goals as goal
 
 pub run_plan-requires-clause-posts : goal.run_plan-requires-clause-posts
@@ -14,3 +15,10 @@ pub run_plan-requires-clause-work : goal.run_plan-requires-clause-work
 run_plan-requires-clause-work g c κs within =
     let is = (c.watched-core.ensures c.args.twin c.in-Ok.ensures).1 ∙ c.requires.twin in
     rw (is) c.requires.work
+
+pub returns-in_default-clause-lost : goal.returns-in_default-clause-lost
+returns-in_default-clause-lost g c = rw (c.with_nothing.ensures) nothing_unused
+
+pub returns-in_default-clause-made : goal.returns-in_default-clause-made
+returns-in_default-clause-made g c =
+    rw (c.with_nothing.ensures) (record { berths = omega arith; places = omega arith })

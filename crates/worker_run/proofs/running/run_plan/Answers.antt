@@ -1,36 +1,77 @@
--- What the lanes leave is all that the floor has made.
-use Rattle.std.proofs.Common.{List, ap, sym, ◌∙◌, length, map, subst}
+-- What the lanes leave is all that the floor has made, and so is what they were to work with.
+use Rattle.std.proofs.Common.{ℕ, List, ap, sym, ◌∙◌, length, map, refl, subst}
 use Rattle.lane_runs.specs.Runs.{HasRun, laid_told}
+use Rattle.outside.specs.Told.{BerthTold}
 use Rattle.remote_messages.specs.declared.work.WorkAction.{WorkAction}
-use Rattle.worker_run.proofs.Made.{made_left, not_lost, ran_whole, rooms_length, where_whole}
+use Rattle.run_bench.specs.Objects.{AreFresh}
+use Rattle.worker_run.specs.Lanes.{AreNewBerths}
+use Rattle.worker_run.proofs.Made.{made_left, made_unused, not_lost, ran_whole, rooms_length, unused}
 use Rattle.worker_run.proofs.running.run_plan.Goals as goal
 
-pub returns-in-Ok-run_lanes-clause-made : goal.returns-in-Ok-run_lanes-clause-made
-returns-in-Ok-run_lanes-clause-made g c =
-    let run = c.in-Ok-run_lanes.ensures.run in
-    let laid = laid_told g.F.Berth.Berth.told g.F.Berth.Feed.Feed.told g.F.Berth.Tap.Tap.told
-    g.F.Berth.Child.Child.told g.F.Place.Place.told c.in-Ok-run_lanes.laid in
+pub run_lanes-requires-clause-places : goal.run_lanes-requires-clause-places
+run_lanes-requires-clause-places g c =
     let as_slice = ap (λ (xs : List WorkAction). length xs) c.as_slice-actions.ensures in
-    rw (c.of.ensures) (where_whole laid.halted _ (made_left (length c.args.posts.now)
-    (length c.as_slice-actions.result.now) (g.F.Floor.told c.args.floor)
-    (g.F.Floor.told c.make_seats.new.floor) _ c.in-Ok.ensures.made
-    (rooms_length _ _ _ _ 0 c.args.posts.now _ _ _ run.rooms)
-    (run.outs.as_many ∙ (sym c.requires.work.as_many ∙ sym as_slice))))
+    λ _. subst (λ (n : ℕ). AreFresh g.F.Place.Place.told n c.make_seats-seats.result.places.items)
+    ((c.has_all-all.ensures c.if-not-all.false).1 ∙ (as_slice ∙ c.requires.work.as_many))
+    c.make_seats-seats.ensures.places
 
-pub returns-in-Ok-run_lanes-clause-run : goal.returns-in-Ok-run_lanes-clause-run
-returns-in-Ok-run_lanes-clause-run g c =
+pub returns-then-not-all-clause-lost : goal.returns-then-not-all-clause-lost
+returns-then-not-all-clause-lost g c =
+    rw (c.unused.ensures) (unused g.F.Berth.Berth.told g.F.Place.Place.told _ _
+    c.make_seats-seats.result.berths.items c.make_seats-seats.result.places.items
+    c.make_seats-seats.ensures.berths c.make_seats-seats.ensures.places)
+
+pub returns-then-not-all-clause-made : goal.returns-then-not-all-clause-made
+returns-then-not-all-clause-made g c =
+    rw (c.unused.ensures) (made_unused g.F.Berth.Berth.told g.F.Place.Place.told _ _
+    c.make_seats-seats.result.berths.items c.make_seats-seats.result.places.items
+    (g.F.Floor.told c.args.floor) (g.F.Floor.told c.make_seats-seats.new.floor)
+    c.make_seats-seats.ensures.made refl refl)
+
+pub returns-in-Ok-clause-made : goal.returns-in-Ok-clause-made
+returns-in-Ok-clause-made g c =
+    let run = c.in-Ok.ensures.run in
+    let all = c.has_all-all.ensures c.if-not-all.false in
+    let as_slice = ap (λ (xs : List WorkAction). length xs) c.as_slice-actions.ensures in
+    rw (c.of.ensures) (made_left (length c.make_seats-seats.result.berths.items)
+    (length c.make_seats-seats.result.places.items) (g.F.Floor.told c.args.floor)
+    (g.F.Floor.told c.make_seats-seats.new.floor) _ c.make_seats-seats.ensures.made
+    (rooms_length _ _ _ _ 0 c.args.posts.now _ _ _ run.rooms ∙ sym all.0)
+    (run.outs.as_many ∙ (sym c.requires.work.as_many ∙ (sym as_slice ∙ sym all.1))))
+
+pub returns-in-Ok-clause-run : goal.returns-in-Ok-clause-run
+returns-in-Ok-clause-run g c =
     let r = g.C.Rules in
     let p = g.C.Rules.plan c.args.core in
     let laid = laid_told g.F.Berth.Berth.told g.F.Berth.Feed.Feed.told g.F.Berth.Tap.Tap.told
-    g.F.Berth.Child.Child.told g.F.Place.Place.told c.in-Ok-run_lanes.laid in
-    let before = map g.F.Berth.Berth.told c.in-Ok.seats.berths.items in
+    g.F.Berth.Child.Child.told g.F.Place.Place.told c.in-Ok.laid in
+    let before = map g.F.Berth.Berth.told c.make_seats-seats.result.berths.items in
+    let new = subst (λ (n : ℕ). AreNewBerths n before) (c.has_all-all.ensures c.if-not-all.false).0
+    c.make_seats-seats.ensures.berths in
     let run = subst (λ (ws : List WorkAction). HasRun (r.legal p) (r.rule p) (r.outputs p) (r.actions p)
-    c.args.posts.now ws before laid) c.as_slice-actions.ensures c.in-Ok-run_lanes.ensures.run in
+    c.args.posts.now ws before laid) c.as_slice-actions.ensures c.in-Ok.ensures.run in
     rw (c.of.ensures) (ran_whole (r.legal p) (r.rule p) (r.outputs p) (r.actions p) c.args.posts.now
-    c.args.work.now.actions before laid c.in-Ok.ensures.berths run)
+    c.args.work.now.actions before laid new run)
 
-pub returns-in-Ok-run_lanes-clause-lost : goal.returns-in-Ok-run_lanes-clause-lost
-returns-in-Ok-run_lanes-clause-lost g c =
+pub returns-in-Ok-clause-lost : goal.returns-in-Ok-clause-lost
+returns-in-Ok-clause-lost g c =
     let laid = laid_told g.F.Berth.Berth.told g.F.Berth.Feed.Feed.told g.F.Berth.Tap.Tap.told
-    g.F.Berth.Child.Child.told g.F.Place.Place.told c.in-Ok-run_lanes.laid in
+    g.F.Berth.Child.Child.told g.F.Place.Place.told c.in-Ok.laid in
     rw (c.of.ensures) (not_lost laid.halted _)
+
+pub returns-in-Err-clause-lost : goal.returns-in-Err-clause-lost
+returns-in-Err-clause-lost g c =
+    let berths = subst (λ (bs : List g.row.F-Berth.Denot). AreNewBerths (length c.make_seats-seats.result.berths.items)
+    (map g.F.Berth.Berth.told bs)) (sym c.in-Err.ensures.back.0) c.make_seats-seats.ensures.berths in
+    rw (c.unused-in-Err.ensures) (unused g.F.Berth.Berth.told g.F.Place.Place.told _ _
+    c.in-Err.unrun.berths.items c.in-Err.unrun.places.items berths c.in-Err.ensures.back.1)
+
+pub returns-in-Err-clause-made : goal.returns-in-Err-clause-made
+returns-in-Err-clause-made g c =
+    let all = c.has_all-all.ensures c.if-not-all.false in
+    let as_slice = ap (λ (xs : List WorkAction). length xs) c.as_slice-actions.ensures in
+    rw (c.unused-in-Err.ensures) (made_unused g.F.Berth.Berth.told g.F.Place.Place.told _ _
+    c.in-Err.unrun.berths.items c.in-Err.unrun.places.items (g.F.Floor.told c.args.floor)
+    (g.F.Floor.told c.make_seats-seats.new.floor) c.make_seats-seats.ensures.made
+    (ap length c.in-Err.ensures.back.0)
+    (c.in-Err.ensures.back.1.as_many ∙ (sym c.requires.work.as_many ∙ (sym as_slice ∙ sym all.1))))

@@ -7,8 +7,6 @@ returns-clause-stands c = λ h st.
     stands_next c.args.self.now (record {
       core = c.step-reply.new.self;
       owed = c.saturating_add-self.result;
-      waiting = c.waiting_after-self.result;
-      news = c.news_of-self.result;
     }) c.args.lane c.args.call.now c.step-reply.result c.lane_owes-before.result
     c.lane_owes-after.result c.step-reply.ensures.plan c.step-reply.ensures.stands
     (record { owed = c.lane_owes-before.ensures.owes; none = c.lane_owes-before.ensures.none })

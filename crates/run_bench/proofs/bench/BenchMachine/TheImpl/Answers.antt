@@ -4,7 +4,9 @@ use Rattle.run_rules.specs.Laws.{says_file, lines_in, OrderHolds}
 use Rattle.run_rules.specs.Moves.{History}
 use Rattle.run_rules.specs.Shelf.{child_at}
 use Rattle.run_bench.specs.Bench.{Lies, GoesIn, ComesOut}
+use Rattle.run_bench.specs.Waking.{Wakes}
 use Rattle.run_bench.proofs.Turns.{LawsAt, History_after, turns}
+use Rattle.run_bench.proofs.Wakings.{wakes_next}
 use Rattle.run_bench.proofs.bench.BenchMachine.TheImpl.Goals as goal
 
 pub turn-tells : goal.turn-tells
@@ -45,6 +47,21 @@ turn-tells g _ _ _ _ c =
     (g.C.Rules.seats q) (g.C.Rules.actions q) h lane (at h s) c.args.call.now c.result.0 c.args.put
     _ _ _ _ _ _ c.result.1 (c.ensures.reply h s) goes lies
     c.ensures.children c.ensures.taps c.ensures.places c.ensures.good in
+    let later = c.new.self.now.core in
+    let wakes = λ (h : History) (s : g.C.Rules.stands core h
+    × Lies g.B.Child.Child.told g.B.Tap.Tap.told g.P.Place.told (g.C.Rules.outputs q)
+    (g.C.Rules.seats q) (g.C.Rules.actions q) h
+    c.args.self.now.shelf.children.items c.args.self.now.shelf.taps.items
+    c.args.self.now.shelf.places.items
+    × Wakes (g.C.Rules.rule q) h c.args.self.now.waking).
+    wakes_next (g.C.Rules.rule (g.C.Rules.plan later)) (g.C.Rules.news later)
+    (g.C.Rules.seats (g.C.Rules.plan later))
+    (λ k l x n. law.lanes_are_known (g.C.Rules.plan later) k l x n) h lane c.args.call.now
+    c.result.0 c.args.self.now.waking c.new.self.now.waking c.ensures.waking
+    (subst (λ (p : g.row.C-Plan.Denot). Wakes (g.C.Rules.rule p) h c.args.self.now.waking)
+    (sym c.ensures.plan) s.2)
+    (λ l. law.news_are later (History_after h lane c.args.call.now c.result.0) l
+    (c.ensures.stands h s.0)) in
     record {
       rules = c.ensures.plan;
       reply = λ h s goes. c.ensures.reply h s.0;
@@ -57,6 +74,7 @@ turn-tells g _ _ _ _ c =
             c.new.self.now.shelf.children.items c.new.self.now.shelf.taps.items
             c.new.self.now.shelf.places.items)
             (sym c.ensures.plan) (turn h s.0 s.1 goes).1,
+        wakes h s,
       );
       good = λ h s goes. (turn h s.0 s.1 goes).0;
     }

@@ -1,18 +1,40 @@
-use Rattle.std.proofs.Common.{◌∙◌, ◌/◌, ap, arith, subst, sym}
-use Rattle.run_plan.specs.Groups.{berths}
+use Rattle.std.proofs.Common.{◌≡◌, ◌/◌, ◌∙◌, Bool, ◌&&◌, not, Some, None, ap, subst, sym}
+use Rattle.exec_journal.specs.declared.call.Call.{Call}
+use Rattle.core_tables.specs.Lanes.{allows_by}
+use Rattle.spawn_core.specs.Outlook.{is_idle, question, told_by}
 use Rattle.spawn_core.specs.Stands.{Kept, Stands}
-use Rattle.spawn_core.proofs.Outlooks.{reads_kept, told_news}
+use Rattle.spawn_core.proofs.Outlooks.{news_at, reads_asking}
 use Rattle.spawn_core.proofs.scheduler.Core.has_news.Goals as goal
 
-pub has_news-requires : goal.has_news-requires
-has_news-requires c =
-    let view = ap (λ (k : Kept). berths k.state.plan) c.self.view_is in
-    let known = c.berths.ensures in
-    let below = c.if-lane-berths.true in
-    reads_kept (record { state = c.self.inside.state; files = c.self.inside.files })
-    (c.args.lane / 2) c.self.invariant (omega (arith, view, known, below))
+pub is_awaited-requires : goal.is_awaited-requires
+is_awaited-requires c = let s = c.self.inside.state in
+    reads_asking (record { state = s; files = c.self.inside.files }) c.args.lane c.in-Some.seat
+    c.self.invariant (sym c.seat_of.ensures ∙ c.in-Some.is)
+    (ap (λ (q : Call). allows_by s.plan c.in-Some.seat.kind s.lanes c.args.lane q)
+    (sym c.question.ensures) ∙ (sym c.allows.ensures ∙ c.if-allows.true))
 
-pub returns-then-lane-berths-clause-news : goal.returns-then-lane-berths-clause-news
-returns-then-lane-berths-clause-news c = λ p j st may.
+pub returns-then-allows-clause-news : goal.returns-then-allows-clause-news
+returns-then-allows-clause-news c = λ p j st. let s = c.self.inside.state in
     let here = subst (λ (k : Kept). Stands p k j) (sym c.self.view_is) st in
-    c.has_news.ensures ∙ told_news p c.self.inside.state j c.args.lane here.tables may
+    let may = ap (λ (q : Call). allows_by s.plan c.in-Some.seat.kind s.lanes c.args.lane q)
+    (sym c.question.ensures) ∙ (sym c.allows.ensures ∙ c.if-allows.true) in
+    c.is_awaited.ensures
+    ∙ (ap (λ (b : Bool). b && not (is_idle (told_by s c.args.lane))) (sym may)
+    ∙ news_at p s j c.args.lane (Some c.in-Some.seat) here.tables
+    (sym c.seat_of.ensures ∙ c.in-Some.is))
+
+pub returns-else-allows-clause-news : goal.returns-else-allows-clause-news
+returns-else-allows-clause-news c = λ p j st. let s = c.self.inside.state in
+    let here = subst (λ (k : Kept). Stands p k j) (sym c.self.view_is) st in
+    let may = ap (λ (q : Call). allows_by s.plan c.in-Some.seat.kind s.lanes c.args.lane q)
+    (sym c.question.ensures) ∙ (sym c.allows.ensures ∙ c.if-allows.false) in
+    c.if-allows.false
+    ∙ (ap (λ (b : Bool). b && not (is_idle (told_by s c.args.lane))) (sym may)
+    ∙ news_at p s j c.args.lane (Some c.in-Some.seat) here.tables
+    (sym c.seat_of.ensures ∙ c.in-Some.is))
+
+pub returns-in-None-clause-news : goal.returns-in-None-clause-news
+returns-in-None-clause-news c = λ p j st.
+    let here = subst (λ (k : Kept). Stands p k j) (sym c.self.view_is) st in
+    news_at p c.self.inside.state j c.args.lane None here.tables
+    (sym c.seat_of.ensures ∙ c.in-None.is)

@@ -1,30 +1,98 @@
-use Rattle.std.proofs.Common.{List, length, ap, arith, rules, sym, subst, ◌∙◌}
-use Rattle.std.specs.List.{AllZip}
-use Rattle.std.proofs.lemmas.Result.{IfOk-weaker}
+use Rattle.std.proofs.Common.{◌≡◌, false, List, [], length, ap, arith, rules, sym, refl, subst, ◌∙◌, All}
+use Rattle.std.specs.List.{AllZip, list_any}
+use Rattle.std.proofs.lemmas.List.{nil_from_length}
+use Rattle.std.proofs.lemmas.List.Elements.{All-same}
 use Rattle.lane_crew.specs.declared.job.Post.{Post}
-use Rattle.lane_crew.specs.Jobs.{HasEnded, MayHaveEnded, posts_of}
-use Rattle.lane_crew.proofs.Starts.{starts_one, all_given}
+use Rattle.lane_crew.specs.Jobs.{CanRun, HasEnded, has_end}
+use Rattle.lane_crew.proofs.Starts.{starts, starts_one, one_late, next_can, as_it_was, all_back, all_left_can, all_ended_by, all_as_they_were}
 use Rattle.lane_crew.proofs.job.fn.run_list.scope.Goals as goal
+
+pub loop-post-init : goal.loop-post-init
+loop-post-init g c =
+    let same = c.from_vec-rest.ensures.items in
+    let many = ap length same in
+    let threads = c.requires.1 in
+    let late = c.requires.2 in (
+      starts g.J.Job.can_run g.J.Job.ends c.captures.context.now c.from_vec-rest.result.items c.from_vec-rest.result.items c.captures.threads.items c.captures.late.items
+          refl threads.empty late.empty (All-same (CanRun g.J.Job.can_run c.captures.context.now) c.from_vec-rest.result.items c.captures.posts.items same c.requires.0),
+      omega (arith, threads.none, late.none),
+      omega (arith, many, threads.room),
+      omega (arith, many, late.room),
+    )
+
+pub loop-post-preserved-then-len-gt0 : goal.loop-post-preserved-then-len-gt0
+loop-post-preserved-then-len-gt0 g c =
+    let before = c.loop-post.invariant in
+    let fewer = ap length c.in-Some.ensures.items in (
+      one_late g.J.Job.can_run g.J.Job.ends c.captures.context.now c.from_vec-rest.result.items c.loop-post.rest.items c.pop_front.new.self.items c.loop-post.threads.items c.loop-post.late.items c.push_reserved.new.self.items
+          c.in-Some.post c.in-Some.post before.0 c.in-Some.ensures.items c.push_reserved.ensures.items
+          (as_it_was g.J.Job.can_run g.J.Job.ends c.captures.context.now c.from_vec-rest.result.items c.loop-post.rest.items c.pop_front.new.self.items c.loop-post.threads.items c.loop-post.late.items c.in-Some.post before.0 c.in-Some.ensures.items),
+      omega (arith, fewer, before.1, c.push_reserved.ensures.len),
+      before.2,
+      omega (arith, before.3, c.push_reserved.ensures.capacity),
+    )
+
+pub spawn_with-requires-clause-runs : goal.spawn_with-requires-clause-runs
+spawn_with-requires-clause-runs g c κs within = (
+  next_can g.J.Job.can_run g.J.Job.ends c.captures.context.now c.from_vec-rest.result.items c.loop-post.rest.items c.pop_front.new.self.items c.loop-post.threads.items c.loop-post.late.items c.in-Some.post
+      c.loop-post.invariant.0 c.in-Some.ensures.items,
+  (let bounds = c.requires-raw.1.1.1.1 in (
+    record { owned = bounds.0.owned; leaving = search rules },
+    record { owned = bounds.1.0.owned; leaving = search rules },
+    record { shared = bounds.1.1.0.shared },
+    record { shared = bounds.1.1.1.0.shared },
+  )),
+)
+
+pub loop-post-preserved-in-Ok : goal.loop-post-preserved-in-Ok
+loop-post-preserved-in-Ok g c =
+    let before = c.loop-post.invariant in
+    let fewer = ap length c.in-Some.ensures.items in
+    let ok = c.loop-post.late.ok in
+    let none : c.loop-post.late.items ≡ [] = nil_from_length c.loop-post.late.items (omega (arith, c.if-len-gt0.false, c.len.ensures, ok)) in (
+      starts_one g.J.Job.can_run g.J.Job.ends c.captures.context.now c.from_vec-rest.result.items c.loop-post.rest.items c.pop_front.new.self.items c.loop-post.threads.items c.push_reserved-in-Ok.new.self.items c.loop-post.late.items
+          c.in-Some.post c.in-Ok.thread before.0 none c.in-Some.ensures.items c.push_reserved-in-Ok.ensures.items (search rules) (search rules),
+      omega (arith, fewer, before.1, c.push_reserved-in-Ok.ensures.len),
+      omega (arith, before.2, c.push_reserved-in-Ok.ensures.capacity),
+      before.3,
+    )
 
 pub loop-post-preserved : goal.loop-post-preserved
 loop-post-preserved g c =
     let before = c.loop-post.invariant in
     let fewer = ap length c.in-Some.ensures.items in (
-      starts_one g.J.Job.can_run c.captures.context.now c.from_vec-rest.result.items c.loop-post.rest.items c.pop_front.new.self.items c.loop-post.threads.items c.push_reserved.new.self.items
-          c.in-Some.post c.in-Ok.thread before.0 c.in-Some.ensures.items c.push_reserved.ensures.items (search rules) (search rules),
-      omega (arith, fewer, before.1, c.push_reserved.ensures.len),
-      omega (arith, before.2, c.push_reserved.ensures.capacity),
+      one_late g.J.Job.can_run g.J.Job.ends c.captures.context.now c.from_vec-rest.result.items c.loop-post.rest.items c.pop_front.new.self.items c.loop-post.threads.items c.loop-post.late.items c.push_reserved-in-Err.new.self.items
+          c.in-Some.post c.run.result before.0 c.in-Some.ensures.items c.push_reserved-in-Err.ensures.items
+          (rw c.in-Err.ensures.err at c.run.ensures),
+      omega (arith, fewer, before.1, c.push_reserved-in-Err.ensures.len),
+      before.2,
+      omega (arith, before.3, c.push_reserved-in-Err.ensures.capacity),
     )
 
-pub returns : goal.returns
-returns g c =
+pub run_left-requires-clause-left : goal.run_left-requires-clause-left
+run_left-requires-clause-left g c κs within =
     let was = c.loop-post.invariant.0 in
-    let from = c.from_vec-rest.ensures.items in
-    let kept = c.join_all.ensures c.captures.context.now was.over in
-    IfOk-weaker c.all_ended.result _ _
-    (λ ends is.
-    let back = subst (λ (ps : List (Post g.row.J.Denot g.row.J-End.Denot)). AllZip (MayHaveEnded g.J.Job.ends c.captures.context.now) (posts_of c.loop-post.threads.items) ps) (sym (ap (λ v. v.items) is.0)) kept in
-    let given = all_given g.J.Job.can_run g.J.Job.ends c.captures.context.now c.from_vec-rest.result.items c.loop-post.rest.items c.loop-post.threads.items ends.items
-    was back (is.1 ∙ (c.requires.1 ∙ sym (ap length from))) is.2 in
-    subst (λ (ps : List (Post g.row.J.Denot g.row.J-End.Denot)). AllZip (HasEnded g.J.Job.ends c.captures.context.now) ps ends.items) from given)
-    c.all_ended.ensures
+    let all = All-same (CanRun g.J.Job.can_run c.captures.context.now) c.from_vec-rest.result.items c.captures.posts.items c.from_vec-rest.ensures.items c.requires.0 in
+    all_left_can g.J.Job.can_run g.J.Job.ends c.captures.context.now c.from_vec-rest.result.items c.append.new.self.items all
+    (all_back g.J.Job.can_run g.J.Job.ends c.captures.context.now c.from_vec-rest.result.items c.loop-post.rest.items c.loop-post.threads.items c.loop-post.late.items c.join_all.new.ends.items c.append.new.self.items
+    was (search rules) (c.join_all.ensures.kept c.captures.context.now was.over) c.in-Ok-append.ensures.items)
+
+pub returns-then-any_ended : goal.returns-then-any_ended
+returns-then-any_ended g c =
+    let was = c.loop-post.invariant.0 in
+    let back = all_back g.J.Job.can_run g.J.Job.ends c.captures.context.now c.from_vec-rest.result.items c.loop-post.rest.items c.loop-post.threads.items c.loop-post.late.items c.join_all.new.ends.items c.append.new.self.items
+    was (search rules) (c.join_all.ensures.kept c.captures.context.now was.over) c.in-Ok-append.ensures.items in (
+      subst (λ (ps : List (Post g.row.J.Denot g.row.J-End.Denot)). AllZip (HasEnded g.J.Job.ends c.captures.context.now) ps c.run_left.new.ends.items) c.from_vec-rest.ensures.items
+          (all_ended_by g.J.Job.ends c.captures.context.now c.from_vec-rest.result.items c.append.new.self.items c.run_left.new.ends.items back c.run_left.ensures),
+      tt,
+    )
+
+pub returns-else-any_ended : goal.returns-else-any_ended
+returns-else-any_ended g c =
+    let was = c.loop-post.invariant.0 in
+    let back = all_back g.J.Job.can_run g.J.Job.ends c.captures.context.now c.from_vec-rest.result.items c.loop-post.rest.items c.loop-post.threads.items c.loop-post.late.items c.join_all.new.ends.items c.append.new.self.items
+    was (search rules) (c.join_all.ensures.kept c.captures.context.now was.over) c.in-Ok-append.ensures.items in
+    let none : list_any has_end c.append.new.self.items ≡ false = ap (list_any has_end) (sym c.as_slice.ensures.value) ∙ (sym c.any_ended.ensures ∙ c.if-any_ended.false) in (
+      tt,
+      all_as_they_were g.J.Job.ends c.captures.context.now c.from_vec-rest.result.items c.append.new.self.items back none ∙ c.from_vec-rest.ensures.items,
+    )
