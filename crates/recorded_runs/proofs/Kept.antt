@@ -6,13 +6,12 @@ use Rattle.build_report.specs.declared.fault.RunFault.{RunFault}
 use Rattle.build_report.specs.declared.fault.Stage.TheVariants as stage
 use Rattle.lane_runs.specs.Layout.{has_halt}
 use Rattle.outside.specs.Told.{FloorTold}
-use Rattle.recorded_runs.specs.Recorded.{RunKeeps}
 use Rattle.run_loading.specs.Reads.{IsFloorFailed, Reads}
 use Rattle.run_tasks.specs.Course.{Made}
 use Rattle.run_tasks.specs.declared.task.Task.{Task}
 use Rattle.tool_words.specs.declared.options.Options.{Options}
 use Rattle.worker_run.specs.Ends.{HasCourse, HasLed, IsLate, LeadsTo, LeavesNew, TellsTask, UnlessEarly, is_halted}
-use Rattle.worker_run.specs.Headline.{HasOuts, HasPipes, HasRace, HasRooms, HasUnsaid, IsAccounted, IsComplete, IsKept, IsLegal, IsPaired, IsSound, IsStopped, OnRun, UnlessRun}
+use Rattle.worker_run.specs.Headline.{HasOuts, HasPipes, HasRace, HasRooms, HasUnsaid, IsAccounted, IsComplete, IsKept, IsLegal, IsPaired, IsSound, IsStopped, OnRun, RunKeeps, UnlessRun}
 use Rattle.worker_run.specs.Histories.{history_of}
 use Rattle.worker_run.specs.Seen.{EndedTold, Left}
 

@@ -8,44 +8,14 @@ use Rattle.exec_journal.specs.Entry.{Entry}
 use Rattle.journal_replay.specs.Verdicts.{Judges}
 use Rattle.journal_replay.specs.declared.verdict.Verdict.TheVariants as verdict
 use Rattle.journal_text.specs.Lines.{text_of}
-use Rattle.outside.specs.Causes.{Counts}
 use Rattle.outside.specs.Lists.{Gives}
-use Rattle.outside.specs.Told.{FloorTold, SameFiles, SinkTold}
+use Rattle.outside.specs.Told.{SinkTold}
 use Rattle.outside.specs.declared.answers.Io.TheVariants as io
-use Rattle.run_loading.specs.Reads.{IsFloorFailed}
 use Rattle.run_plan.specs.declared.plan.Plan.{Plan}
 use Rattle.run_tasks.specs.declared.task.Task.{Task}
-use Rattle.tool_words.specs.declared.options.Options.{Options}
-use Rattle.worker_run.specs.Ends.{HasCourse, LeavesNew, MadeAll, TellsTask, report_by, status_by}
-use Rattle.worker_run.specs.Headline.{HaltsAsSaid, HasOuts, HasPipes, HasRace, HasRooms, HasUnsaid, IsAccounted, IsComplete, IsKept, IsLegal, IsPaired, IsSound, IsStopped, OnRun, Succeeds, UnlessRun}
+use Rattle.worker_run.specs.Ends.{report_by}
+use Rattle.worker_run.specs.Headline.{OnRun}
 use Rattle.worker_run.specs.Seen.{EndedTold}
-
--- ---- the run
-
--- What `run_build` promises of a run with these options over this floor, but for what it puts: a
--- field for each of its clauses, by the clause's name.
-pub record RunKeeps (options : Option Options) (before : FloorTold) (end : EndedTold) : Type 0 where
-  pub course : HasCourse options before end
-  pub told : TellsTask end.fault end.task
-  pub sound : OnRun end IsSound
-  pub nothing : UnlessRun end.task (LeavesNew end.fault end.left)
-  pub made : MadeAll before end
-  pub legal : OnRun end IsLegal
-  pub race : OnRun end HasRace
-  pub paired : OnRun end IsPaired
-  pub kept : OnRun end IsKept
-  pub halts : HaltsAsSaid end
-  pub stopped : OnRun end IsStopped
-  pub accounted : OnRun end IsAccounted
-  pub complete : OnRun end IsComplete
-  pub pipes : OnRun end HasPipes
-  pub rooms : OnRun end HasRooms
-  pub outs : OnRun end HasOuts
-  pub unsaid : OnRun end HasUnsaid
-  pub success : Succeeds end
-  pub status : end.status ≡ status_by end.fault end.task end.left.journal
-  pub floor : Counts before.faults end.floor.faults (IsFloorFailed end.fault)
-  pub files : SameFiles before end.floor
 
 -- ---- what is put
 

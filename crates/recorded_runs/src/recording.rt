@@ -7,8 +7,9 @@ ghost use Rattle.build_report.specs.declared.fault.RunFault.TheVariants as fault
 ghost use Rattle.journal_text.specs.Lines.{text_of};
 ghost use Rattle.run_plan.specs.Sound.{Sound};
 ghost use Rattle.tool_words.specs.Options.{options_of};
-ghost use Rattle.recorded_runs.specs.Recorded.{IsJudgedYes, Records, RunKeeps, WherePut, YesIfPut};
+ghost use Rattle.recorded_runs.specs.Recorded.{IsJudgedYes, Records, WherePut, YesIfPut};
 ghost use Rattle.worker_run.specs.Ends.{IsReportEnd, Puts};
+ghost use Rattle.worker_run.specs.Headline.{RunKeeps};
 
 use exec_journal::{Journal, Plan};
 use journal_audit::legal_texts_are_judged;

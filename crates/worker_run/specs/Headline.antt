@@ -16,7 +16,9 @@ use Rattle.journal_laws.specs.Finished.{Finished}
 use Rattle.lane_deeds.specs.Lines.{Back, IsKilled}
 use Rattle.lane_runs.specs.Layout.{has_halt}
 use Rattle.lane_runs.specs.Runs.{Outs, Pipes, Rooms, Stops}
-use Rattle.outside.specs.Told.{BerthTold}
+use Rattle.outside.specs.Causes.{Counts}
+use Rattle.outside.specs.Told.{BerthTold, FloorTold, SameFiles}
+use Rattle.run_loading.specs.Reads.{IsFloorFailed}
 use Rattle.run_plan.specs.Groups.{berths}
 use Rattle.run_plan.specs.Sound.{Sound}
 use Rattle.run_tasks.specs.declared.task.Task.{Task}
@@ -24,7 +26,8 @@ use Rattle.run_rules.specs.Duties.{proxy_lane}
 use Rattle.run_rules.specs.Moves.{History}
 use Rattle.script_duties.specs.Owed.{outputs_in}
 use Rattle.seat_desk.specs.History.{calls_by}
-use Rattle.worker_run.specs.Ends.{is_halted}
+use Rattle.tool_words.specs.declared.options.Options.{Options}
+use Rattle.worker_run.specs.Ends.{HasCourse, LeavesNew, MadeAll, TellsTask, is_halted, status_by}
 use Rattle.worker_run.specs.Histories.{history_of}
 use Rattle.worker_run.specs.Lanes.{AreNewBerths}
 use Rattle.worker_run.specs.Seen.{EndedTold, Left}
@@ -127,3 +130,34 @@ HasOuts t x = Outs (outputs_in t.plan) (length t.plan.actions) (history_of x.jou
 abbrev pub UnlessRun : Option Task → Type 0 → Type 0
 UnlessRun None P = P
 UnlessRun (Some t) P = Unit {0}
+
+-- ---- all of it
+
+-- What a run with these options keeps over this floor, but for what it puts: where it is told, all of one
+-- history, which is the journal.
+pub record RunKeeps (options : Option Options) (before : FloorTold) (end : EndedTold) : Type 0 where
+  -- what was read led to the task that was run, or to the fault
+  pub course : HasCourse options before end
+  pub told : TellsTask end.fault end.task
+  pub sound : OnRun end IsSound
+  pub nothing : UnlessRun end.task (LeavesNew end.fault end.left)
+  pub made : MadeAll before end
+  -- the one journal of the run
+  pub legal : OnRun end IsLegal
+  pub race : OnRun end HasRace
+  pub paired : OnRun end IsPaired
+  pub kept : OnRun end IsKept
+  pub halts : HaltsAsSaid end
+  pub stopped : OnRun end IsStopped
+  pub accounted : OnRun end IsAccounted
+  pub complete : OnRun end IsComplete
+  -- what each object tells is the journal's
+  pub pipes : OnRun end HasPipes
+  pub rooms : OnRun end HasRooms
+  pub unsaid : OnRun end HasUnsaid
+  pub outs : OnRun end HasOuts
+  -- how it ended
+  pub success : Succeeds end
+  pub status : end.status ≡ status_by end.fault end.task end.left.journal
+  pub floor : Counts before.faults end.floor.faults (IsFloorFailed end.fault)
+  pub files : SameFiles before end.floor

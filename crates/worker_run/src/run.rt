@@ -3,12 +3,11 @@ ghost use Rattle.std.specs.Prelude.{◌≡◌, ◌≤◌, Some, None, map, strin
 ghost use Rattle.build_report.specs.Report.{report_of};
 ghost use Rattle.outside.specs.Causes.{Counts};
 ghost use Rattle.outside.specs.Told.{SameFiles};
-ghost use Rattle.run_loading.specs.Reads.{IsFloorFailed};
 ghost use Rattle.run_plan.specs.Sound.{Sound};
 ghost use Rattle.run_tasks.specs.Tasks.{HasPosts, HasWork};
 ghost use Rattle.tool_words.specs.Options.{options_of};
-ghost use Rattle.worker_run.specs.Ends.{HasCourse, IsPutEnd, IsReportEnd, IsRunEnd, LeavesNew, MadeAll, Puts, Reports, TellsTask, report_by, status_by};
-ghost use Rattle.worker_run.specs.Headline.{HaltsAsSaid, HasOuts, HasPipes, HasRace, HasRooms, HasUnsaid, IsAccounted, IsComplete, IsKept, IsLegal, IsPaired, IsSound, IsStopped, OnRun, Succeeds, UnlessRun};
+ghost use Rattle.worker_run.specs.Ends.{IsPutEnd, IsReportEnd, IsRunEnd, Puts, Reports, report_by, status_by};
+ghost use Rattle.worker_run.specs.Headline.{RunKeeps};
 ghost use Rattle.worker_run.specs.Lanes.{HasMade, IsUnused, MakesUpTo, TaskRan, WhereLost, WhereWhole};
 
 use crate::ended::Ended;
@@ -48,33 +47,9 @@ where
     <F::Berth as Berth>::Feed: Send,
     <F::Berth as Berth>::Tap: Send,
     <F::Berth as Berth>::Child: Send,
-    // What was read led to the task that was run, or to the fault.
-    ensures course { HasCourse (options_of (map string_bytes words.now)) (F.told floor) result }
-    ensures told { TellsTask result.fault result.task }
-    ensures sound { OnRun result IsSound }
-    ensures nothing { UnlessRun result.task (LeavesNew result.fault result.left) }
-    ensures made { MadeAll (F.told floor) result }
-    // The one journal of the run.
-    ensures legal { OnRun result IsLegal }
-    ensures race { OnRun result HasRace }
-    ensures paired { OnRun result IsPaired }
-    ensures kept { OnRun result IsKept }
-    ensures halts { HaltsAsSaid result }
-    ensures stopped { OnRun result IsStopped }
-    ensures accounted { OnRun result IsAccounted }
-    ensures complete { OnRun result IsComplete }
-    // What each object tells is the journal's.
-    ensures pipes { OnRun result HasPipes }
-    ensures rooms { OnRun result HasRooms }
-    ensures unsaid { OnRun result HasUnsaid }
-    ensures outs { OnRun result HasOuts }
+    // All that one history says, and how the run ended: a field for each.
+    ensures run { RunKeeps (options_of (map string_bytes words.now)) (F.told floor) result }
     ensures report { Reports result (O.told out.old) (O.told out.new) }
-    // How it ended.
-    ensures success { Succeeds result }
-    ensures status { result.status ≡ status_by result.fault result.task result.left.journal }
-    ensures floor { Counts (F.told floor).faults result.floor.faults
-        (IsFloorFailed result.fault) }
-    ensures files { SameFiles (F.told floor) result.floor }
     ensures sink { Counts (O.told out.old).faults (O.told out.new).faults
         (result.fault ≡ Some RunFault.SinkFailed) }
 {
@@ -97,33 +72,8 @@ where
     <F::Berth as Berth>::Feed: Send,
     <F::Berth as Berth>::Tap: Send,
     <F::Berth as Berth>::Child: Send,
-    // What was read led to the task that was run, or to the fault.
-    ensures course { HasCourse (options_of (map string_bytes words.now)) (F.told floor) result }
-    ensures told { TellsTask result.fault result.task }
-    ensures sound { OnRun result IsSound }
-    ensures nothing { UnlessRun result.task (LeavesNew result.fault result.left) }
-    ensures made { MadeAll (F.told floor) result }
-    // The one journal of the run.
-    ensures legal { OnRun result IsLegal }
-    ensures race { OnRun result HasRace }
-    ensures paired { OnRun result IsPaired }
-    ensures kept { OnRun result IsKept }
-    ensures halts { HaltsAsSaid result }
-    ensures stopped { OnRun result IsStopped }
-    ensures accounted { OnRun result IsAccounted }
-    ensures complete { OnRun result IsComplete }
-    // What each object tells is the journal's.
-    ensures pipes { OnRun result HasPipes }
-    ensures rooms { OnRun result HasRooms }
-    ensures unsaid { OnRun result HasUnsaid }
-    ensures outs { OnRun result HasOuts }
+    ensures run { RunKeeps (options_of (map string_bytes words.now)) (F.told floor) result }
     ensures report { Reports result (O.told out.old) (O.told out.new) }
-    // How it ended.
-    ensures success { Succeeds result }
-    ensures status { result.status ≡ status_by result.fault result.task result.left.journal }
-    ensures floor { Counts (F.told floor).faults result.floor.faults
-        (IsFloorFailed result.fault) }
-    ensures files { SameFiles (F.told floor) result.floor }
     ensures sink { Counts (O.told out.old).faults (O.told out.new).faults
         (result.fault ≡ Some RunFault.SinkFailed) }
 {

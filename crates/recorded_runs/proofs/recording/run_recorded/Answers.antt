@@ -29,29 +29,7 @@ returns-in-Some-put_text-clause-run g c =
     let none = sym same ∙ none_of c.ended.inside.fault (sym c.is_some.ensures
     ∙ c.if-is_some.false) in
     keeps_late (options_of (map string_bytes c.args.words.now)) (g.F.Floor.told c.args.floor)
-    b.result c.end_late.result c.in-Some-put_text.fault c.in-Some-put_text.ensures.kind (record {
-      course = is.course;
-      told = is.told;
-      sound = is.sound;
-      nothing = is.nothing;
-      made = is.made;
-      legal = is.legal;
-      race = is.race;
-      paired = is.paired;
-      kept = is.kept;
-      halts = is.halts;
-      stopped = is.stopped;
-      accounted = is.accounted;
-      complete = is.complete;
-      pipes = is.pipes;
-      rooms = is.rooms;
-      outs = is.outs;
-      unsaid = is.unsaid;
-      success = is.success;
-      status = is.status;
-      floor = is.floor;
-      files = is.files;
-    }) none e.fault e.status e.task e.left e.floor
+    b.result c.end_late.result c.in-Some-put_text.fault c.in-Some-put_text.ensures.kind is.run none e.fault e.status e.task e.left e.floor
 
 pub returns-in-Some-put_text-clause-report : goal.returns-in-Some-put_text-clause-report
 returns-in-Some-put_text-clause-report g c =
@@ -131,7 +109,7 @@ returns-in-None-clause-report g c =
     let none = sym same ∙ none_of c.ended.inside.fault (sym c.is_some.ensures
     ∙ c.if-is_some.false) in
     let untold : b.result.task ≡ None = cc (c.in-None.is, ap (λ (e : EndedTold). e.task) view) in
-    absurd (never_untold b.result.fault b.result.task b.ensures.told none untold)
+    absurd (never_untold b.result.fault b.result.task b.ensures.run.told none untold)
 
 pub returns-in-None-clause-judged : goal.returns-in-None-clause-judged
 returns-in-None-clause-judged g c =
@@ -142,4 +120,4 @@ returns-in-None-clause-judged g c =
     let none = sym same ∙ none_of c.ended.inside.fault (sym c.is_some.ensures
     ∙ c.if-is_some.false) in
     let untold : b.result.task ≡ None = cc (c.in-None.is, ap (λ (e : EndedTold). e.task) view) in
-    absurd (never_untold b.result.fault b.result.task b.ensures.told none untold)
+    absurd (never_untold b.result.fault b.result.task b.ensures.run.told none untold)

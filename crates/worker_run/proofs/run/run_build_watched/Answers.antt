@@ -1,5 +1,5 @@
 -- Where a task was read, what its lanes say is what is told; where a fault was, nothing is.
-use Rattle.std.proofs.Common.{ap, map, string_bytes, ◌∙◌}
+use Rattle.std.proofs.Common.{ap, map, refl, string_bytes, ◌∙◌}
 use Rattle.tool_words.specs.Options.{options_of}
 use Rattle.worker_run.proofs.Made.{few_since, in_time, made_since, nothing_made, nothing_much}
 use Rattle.worker_run.proofs.Reading.{fault_course, fault_nothing, fault_puts, fault_sink, fault_told, task_course, task_floor, task_nothing, task_told}
@@ -13,191 +13,88 @@ conclude-requires-clause-in_time g c =
     let when = c.run_task-ran.result.fault in
     in_time when (TaskRan c.in-Ok.made.0 when c.run_task-ran.result.left) c.run_task-ran.ensures.run
 
-pub returns-in-Ok-clause-course : goal.returns-in-Ok-clause-course
-returns-in-Ok-clause-course g c =
+pub returns-in-Ok-clause-run : goal.returns-in-Ok-clause-run
+returns-in-Ok-clause-run g c =
+    let t = c.in-Ok.made.0 in
+    let ran = c.run_task-ran.result in
+    let when = ran.fault in
+    let x = ran.left in
+    let end = c.conclude.result in
     let e = c.conclude.ensures in
-    task_course (options_of (map string_bytes c.args.words.now)) (g.F.Floor.told c.args.floor)
-    (g.F.Floor.told c.read_task.new.floor) c.in-Ok.made c.conclude.result c.in-Ok.ensures.course
-    (rw (e.floor) c.run_task-ran.ensures.log) c.run_task-ran.result.fault e.kind
-
-pub returns-in-Ok-clause-told : goal.returns-in-Ok-clause-told
-returns-in-Ok-clause-told g c =
-    task_told c.run_task-ran.result.fault c.in-Ok.made.0 c.conclude.result.fault
-    c.conclude.result.task c.conclude.ensures.kind
-
-pub returns-in-Ok-clause-nothing : goal.returns-in-Ok-clause-nothing
-returns-in-Ok-clause-nothing g c =
-    task_nothing c.run_task-ran.result.fault c.in-Ok.made.0 c.conclude.result.fault
-    c.conclude.result.task c.run_task-ran.result.left c.conclude.result.left
-    c.conclude.ensures.kind c.run_task-ran.ensures.lost c.conclude.ensures.left
-
-pub returns-in-Ok-clause-legal : goal.returns-in-Ok-clause-legal
-returns-in-Ok-clause-legal g c =
-    let t = c.in-Ok.made.0 in
-    let when = c.run_task-ran.result.fault in
-    let x = c.run_task-ran.result.left in
-    on_run when t x c.conclude.result IsLegal c.conclude.ensures.kind c.run_task-ran.ensures.run
-    c.conclude.ensures.left (λ ran. is_legal t when x ran)
-
-pub returns-in-Ok-clause-race : goal.returns-in-Ok-clause-race
-returns-in-Ok-clause-race g c =
-    let t = c.in-Ok.made.0 in
-    let when = c.run_task-ran.result.fault in
-    let x = c.run_task-ran.result.left in
-    on_run when t x c.conclude.result HasRace c.conclude.ensures.kind c.run_task-ran.ensures.run
-    c.conclude.ensures.left (λ ran. has_race t when x ran)
-
-pub returns-in-Ok-clause-paired : goal.returns-in-Ok-clause-paired
-returns-in-Ok-clause-paired g c =
-    let t = c.in-Ok.made.0 in
-    let when = c.run_task-ran.result.fault in
-    let x = c.run_task-ran.result.left in
-    on_run when t x c.conclude.result IsPaired c.conclude.ensures.kind c.run_task-ran.ensures.run
-    c.conclude.ensures.left (λ ran. is_paired t when x ran)
-
-pub returns-in-Ok-clause-kept : goal.returns-in-Ok-clause-kept
-returns-in-Ok-clause-kept g c =
-    let t = c.in-Ok.made.0 in
-    let when = c.run_task-ran.result.fault in
-    let x = c.run_task-ran.result.left in
-    on_run when t x c.conclude.result IsKept c.conclude.ensures.kind c.run_task-ran.ensures.run
-    c.conclude.ensures.left (λ ran. is_kept t when x ran)
-
-pub returns-in-Ok-clause-stopped : goal.returns-in-Ok-clause-stopped
-returns-in-Ok-clause-stopped g c =
-    let t = c.in-Ok.made.0 in
-    let when = c.run_task-ran.result.fault in
-    let x = c.run_task-ran.result.left in
-    on_run when t x c.conclude.result IsStopped c.conclude.ensures.kind c.run_task-ran.ensures.run
-    c.conclude.ensures.left (λ ran. is_stopped t when x ran c.in-Ok.ensures.posts)
-
-pub returns-in-Ok-clause-accounted : goal.returns-in-Ok-clause-accounted
-returns-in-Ok-clause-accounted g c =
-    let t = c.in-Ok.made.0 in
-    let when = c.run_task-ran.result.fault in
-    let x = c.run_task-ran.result.left in
-    on_run when t x c.conclude.result IsAccounted c.conclude.ensures.kind c.run_task-ran.ensures.run
-    c.conclude.ensures.left (λ ran. is_accounted t when x ran c.in-Ok.ensures.posts
-    c.in-Ok.ensures.berths)
-
-pub returns-in-Ok-clause-complete : goal.returns-in-Ok-clause-complete
-returns-in-Ok-clause-complete g c =
-    let t = c.in-Ok.made.0 in
-    let when = c.run_task-ran.result.fault in
-    let x = c.run_task-ran.result.left in
-    on_run when t x c.conclude.result IsComplete c.conclude.ensures.kind c.run_task-ran.ensures.run
-    c.conclude.ensures.left (λ ran. is_complete t when x ran c.in-Ok.ensures.posts
-    c.in-Ok.ensures.berths)
-
-pub returns-in-Ok-clause-pipes : goal.returns-in-Ok-clause-pipes
-returns-in-Ok-clause-pipes g c =
-    let t = c.in-Ok.made.0 in
-    let when = c.run_task-ran.result.fault in
-    let x = c.run_task-ran.result.left in
-    on_run when t x c.conclude.result HasPipes c.conclude.ensures.kind c.run_task-ran.ensures.run
-    c.conclude.ensures.left (λ ran. has_pipes t when x ran)
-
-pub returns-in-Ok-clause-rooms : goal.returns-in-Ok-clause-rooms
-returns-in-Ok-clause-rooms g c =
-    let t = c.in-Ok.made.0 in
-    let when = c.run_task-ran.result.fault in
-    let x = c.run_task-ran.result.left in
-    on_run when t x c.conclude.result HasRooms c.conclude.ensures.kind c.run_task-ran.ensures.run
-    c.conclude.ensures.left (λ ran. has_rooms t when x ran c.in-Ok.ensures.posts)
-
-pub returns-in-Ok-clause-unsaid : goal.returns-in-Ok-clause-unsaid
-returns-in-Ok-clause-unsaid g c =
-    let t = c.in-Ok.made.0 in
-    let when = c.run_task-ran.result.fault in
-    let x = c.run_task-ran.result.left in
-    on_run when t x c.conclude.result HasUnsaid c.conclude.ensures.kind c.run_task-ran.ensures.run
-    c.conclude.ensures.left (λ ran. has_unsaid t when x ran c.in-Ok.ensures.posts)
-
-pub returns-in-Ok-clause-outs : goal.returns-in-Ok-clause-outs
-returns-in-Ok-clause-outs g c =
-    let t = c.in-Ok.made.0 in
-    let when = c.run_task-ran.result.fault in
-    let x = c.run_task-ran.result.left in
-    on_run when t x c.conclude.result HasOuts c.conclude.ensures.kind c.run_task-ran.ensures.run
-    c.conclude.ensures.left (λ ran. has_outs t when x ran)
-
-pub returns-in-Ok-clause-halts : goal.returns-in-Ok-clause-halts
-returns-in-Ok-clause-halts g c =
-    halts_as_said c.run_task-ran.result.fault c.in-Ok.made.0 c.run_task-ran.result.left
-    c.conclude.result c.conclude.ensures.kind c.run_task-ran.ensures.run c.conclude.ensures.left
-
-pub returns-in-Ok-clause-floor : goal.returns-in-Ok-clause-floor
-returns-in-Ok-clause-floor g c =
+    let kind = e.kind in
+    let run = c.run_task-ran.ensures.run in
+    let posts = c.in-Ok.ensures.posts in
+    let berths = c.in-Ok.ensures.berths in
     let told = g.F.Floor.told in
-    let e = c.conclude.ensures in
-    task_floor c.run_task-ran.result.fault c.in-Ok.made.0 c.conclude.result.fault
-    c.conclude.result.task (told c.args.floor).faults (told c.read_task.new.floor).faults
-    c.conclude.result.floor.faults e.kind c.in-Ok.ensures.floor.later
-    (rw (e.floor) c.run_task-ran.ensures.count)
-
-pub returns-in-Ok-clause-files : goal.returns-in-Ok-clause-files
-returns-in-Ok-clause-files g c =
-    rw (c.conclude.ensures.floor) (c.run_task-ran.ensures.files
-    ∙ ap (λ g. g.files) c.in-Ok.ensures.files)
-
-pub returns-in-Err-clause-files : goal.returns-in-Err-clause-files
-returns-in-Err-clause-files g c =
-    rw (c.with_no_lane.ensures) (ap (λ g. g.files) c.in-Err.ensures.files)
-
-pub returns-in-Ok-clause-sound : goal.returns-in-Ok-clause-sound
-returns-in-Ok-clause-sound g c =
-    let t = c.in-Ok.made.0 in
-    let when = c.run_task-ran.result.fault in
-    let x = c.run_task-ran.result.left in
-    on_run when t x c.conclude.result IsSound c.conclude.ensures.kind c.run_task-ran.ensures.run
-    c.conclude.ensures.left (λ ran. c.in-Ok.ensures.sound.0)
-
-pub returns-in-Ok-clause-made : goal.returns-in-Ok-clause-made
-returns-in-Ok-clause-made g c =
-    let e = c.conclude.ensures in
-    let told = g.F.Floor.told in
+    let before = told c.args.floor in
+    let mid = told c.read_task.new.floor in
     record {
-      left = rw (e.floor, e.left) (made_since (told c.args.floor) (told c.read_task.new.floor)
-          c.run_task-ran.result.floor c.in-Ok.ensures.files c.run_task-ran.result.left
-          c.run_task-ran.ensures.made);
-      few = rw (e.floor) (few_since (told c.args.floor) (told c.read_task.new.floor)
-          c.run_task-ran.result.floor c.in-Ok.ensures.files c.run_task-ran.ensures.few);
+      course = task_course (options_of (map string_bytes c.args.words.now)) before mid c.in-Ok.made end
+          c.in-Ok.ensures.course (rw (e.floor) c.run_task-ran.ensures.log) when kind;
+      told = task_told when t end.fault end.task kind;
+      sound = on_run when t x end IsSound kind run e.left (λ _. c.in-Ok.ensures.sound.0);
+      nothing = task_nothing when t end.fault end.task x end.left kind c.run_task-ran.ensures.lost e.left;
+      made = record {
+        left = rw (e.floor, e.left) (made_since before mid ran.floor c.in-Ok.ensures.files x
+            c.run_task-ran.ensures.made);
+        few = rw (e.floor) (few_since before mid ran.floor c.in-Ok.ensures.files
+            c.run_task-ran.ensures.few);
+      };
+      legal = on_run when t x end IsLegal kind run e.left (λ r. is_legal t when x r);
+      race = on_run when t x end HasRace kind run e.left (λ r. has_race t when x r);
+      paired = on_run when t x end IsPaired kind run e.left (λ r. is_paired t when x r);
+      kept = on_run when t x end IsKept kind run e.left (λ r. is_kept t when x r);
+      halts = halts_as_said when t x end kind run e.left;
+      stopped = on_run when t x end IsStopped kind run e.left (λ r. is_stopped t when x r posts);
+      accounted = on_run when t x end IsAccounted kind run e.left
+          (λ r. is_accounted t when x r posts berths);
+      complete = on_run when t x end IsComplete kind run e.left
+          (λ r. is_complete t when x r posts berths);
+      pipes = on_run when t x end HasPipes kind run e.left (λ r. has_pipes t when x r);
+      rooms = on_run when t x end HasRooms kind run e.left (λ r. has_rooms t when x r posts);
+      unsaid = on_run when t x end HasUnsaid kind run e.left (λ r. has_unsaid t when x r posts);
+      outs = on_run when t x end HasOuts kind run e.left (λ r. has_outs t when x r);
+      success = succeeds t x end e.left posts berths e.status when kind run;
+      status = e.status;
+      floor = task_floor when t end.fault end.task before.faults mid.faults end.floor.faults kind
+          c.in-Ok.ensures.floor.later (rw (e.floor) c.run_task-ran.ensures.count);
+      files = rw (e.floor) (c.run_task-ran.ensures.files ∙ ap (λ f. f.files) c.in-Ok.ensures.files);
     }
 
-pub returns-in-Err-clause-made : goal.returns-in-Err-clause-made
-returns-in-Err-clause-made g c =
+pub returns-in-Err-clause-run : goal.returns-in-Err-clause-run
+returns-in-Err-clause-run g c =
+    let f = c.in-Err.fault in
+    let options = options_of (map string_bytes c.args.words.now) in
     let told = g.F.Floor.told in
-    record {
-      left = rw (c.with_no_lane.ensures) (nothing_made (told c.args.floor)
-          (told c.read_task.new.floor) c.in-Err.ensures.files);
-      few = rw (c.with_no_lane.ensures) (nothing_much (told c.args.floor)
-          (told c.read_task.new.floor) c.in-Err.ensures.files);
-    }
-
-pub returns-in-Err-clause-nothing : goal.returns-in-Err-clause-nothing
-returns-in-Err-clause-nothing g c = rw (c.with_no_lane.ensures) (fault_nothing c.in-Err.fault)
-
-pub returns-in-Ok-clause-success : goal.returns-in-Ok-clause-success
-returns-in-Ok-clause-success g c =
-    succeeds c.in-Ok.made.0 c.run_task-ran.result.left c.conclude.result c.conclude.ensures.left
-    c.in-Ok.ensures.posts c.in-Ok.ensures.berths c.conclude.ensures.status
-    c.run_task-ran.result.fault c.conclude.ensures.kind c.run_task-ran.ensures.run
-
-pub returns-in-Err-clause-success : goal.returns-in-Err-clause-success
-returns-in-Err-clause-success g c =
-    rw (c.with_no_lane.ensures) (λ none. absurd (cc))
-
-pub returns-in-Err-clause-course : goal.returns-in-Err-clause-course
-returns-in-Err-clause-course g c =
-    rw (c.with_no_lane.ensures) (fault_course (options_of (map string_bytes c.args.words.now))
-    (g.F.Floor.told c.args.floor) (g.F.Floor.told c.read_task.new.floor) c.in-Err.fault
-    c.in-Err.ensures.course)
-
-pub returns-in-Err-clause-told : goal.returns-in-Err-clause-told
-returns-in-Err-clause-told g c =
-    rw (c.with_no_lane.ensures) (fault_told (options_of (map string_bytes c.args.words.now))
-    (g.F.Floor.told c.args.floor) (g.F.Floor.told c.read_task.new.floor) c.in-Err.fault
-    c.in-Err.ensures.course)
+    let before = told c.args.floor in
+    let mid = told c.read_task.new.floor in
+    let files = c.in-Err.ensures.files in
+    rw (c.with_no_lane.ensures) (record {
+      course = fault_course options before mid f c.in-Err.ensures.course;
+      told = fault_told options before mid f c.in-Err.ensures.course;
+      sound = tt;
+      nothing = fault_nothing f;
+      made = record {
+        left = nothing_made before mid files;
+        few = nothing_much before mid files;
+      };
+      legal = tt;
+      race = tt;
+      paired = tt;
+      kept = tt;
+      halts = tt;
+      stopped = tt;
+      accounted = tt;
+      complete = tt;
+      pipes = tt;
+      rooms = tt;
+      unsaid = tt;
+      outs = tt;
+      success = λ none. absurd (cc);
+      status = refl;
+      floor = c.in-Err.ensures.floor;
+      files = ap (λ f. f.files) files;
+    })
 
 pub returns-in-Err-clause-report : goal.returns-in-Err-clause-report
 returns-in-Err-clause-report g c =
