@@ -12,7 +12,7 @@ use Rattle.journal_laws.specs.Paid.{lane_owes, owes}
 use Rattle.seat_desk.specs.History as history
 use Rattle.seat_desk.specs.History.{entry, IsReply}
 use Rattle.run_rules.specs.Moves.{History}
-use Rattle.script_duties.specs.Owed.{journal_of}
+use Rattle.history_laws.specs.Owed.{journal_of}
 use Rattle.spawn_core.specs.Stands.{Kept, Stands}
 use Rattle.history_laws.proofs.Counting.{counted, owes_most, uncounted}
 use Rattle.history_laws.proofs.Growing.{journal_after}

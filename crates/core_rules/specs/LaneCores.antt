@@ -3,7 +3,7 @@ use Rattle.std.specs.Prelude.{◌≡◌, []}
 use Rattle.run_plan.specs.declared.plan.Plan.{Plan}
 use Rattle.journal_laws.specs.Paid.{owes}
 use Rattle.run_rules.specs.Moves.{History}
-use Rattle.script_duties.specs.Owed.{journal_of}
+use Rattle.history_laws.specs.Owed.{journal_of}
 use Rattle.spawn_core.specs.Stands.{Stands}
 use Rattle.core_rules.specs.declared.lane_core.LaneCore.{LaneCore}
 

@@ -9,7 +9,7 @@ use Rattle.exec_journal.specs.Scripts.{script}
 use Rattle.exec_journal.proofs.Ruled.{by_bool}
 use Rattle.run_rules.specs.Moves.{History}
 use Rattle.run_rules.specs.News.{question, HasNews, SaysNews}
-use Rattle.script_duties.specs.Owed.{journal_of}
+use Rattle.history_laws.specs.Owed.{journal_of}
 use Rattle.spawn_core.specs.Outlook.{has_news, has_news_by, is_idle}
 use Rattle.spawn_core.proofs.Outlooks.{news_at}
 use Rattle.core_tables.specs.Seats.{seat_at}

@@ -2,7 +2,7 @@
 ghost use Rattle.std.specs.Prelude.{◌≡◌, ◌*◌, [], length};
 ghost use Rattle.run_plan.specs.declared.plan.Plan.{Plan};
 ghost use Rattle.run_plan.specs.Groups.{berths, kind_of, is_remote};
-ghost use Rattle.script_duties.specs.Owed.{outputs_in, makers_in};
+ghost use Rattle.history_laws.specs.Owed.{outputs_in, makers_in};
 ghost use Rattle.spawn_core.specs.Stands.{Stands};
 ghost use Rattle.history_laws.specs.Ruled.{answer_after, IsPaidAfter, owes_after, CameAbout};
 ghost use Rattle.core_rules.specs.LaneCores.{no_plan, plan_of, StandsFor};

@@ -11,7 +11,7 @@ use Rattle.exec_journal.specs.Legal.{after}
 use Rattle.exec_journal.specs.Words.{last_work, stopped, has_halted}
 use Rattle.std.specs.Prelude.{◌&&◌, ◌||◌, not}
 use Rattle.journal_laws.specs.Paid.{count, lane_owes, lanes_owe, may_halt, owes, owes_files}
-use Rattle.script_duties.proofs.Going.{then}
+use Rattle.history_laws.proofs.Going.{then}
 
 other_lane : (e : Entry) (j : List Entry) (lane : ℕ) → (e.lane == lane) ≡ false
     → lane_owes (e ∷ j) lane ≡ lane_owes j lane

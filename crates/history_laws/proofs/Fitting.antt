@@ -16,7 +16,7 @@ use Rattle.exec_journal.proofs.Reasons as u
 use Rattle.exec_journal.proofs.Ruled.{by_bool}
 use Rattle.run_rules.specs.Laws.{fits, Fits, InScript}
 use Rattle.run_rules.specs.Moves.{History}
-use Rattle.script_duties.specs.Owed.{journal_of}
+use Rattle.history_laws.specs.Owed.{journal_of}
 use Rattle.std.proofs.lemmas.Bool.{and_parts, and_from, or_cases, or_left, or_right}
 use Rattle.journal_laws.proofs.Ours as ours
 use Rattle.history_laws.specs.Disciplines.{Discipline, IsDiscipline, LegalBy, LegalEntryBy, script_of, berth_script}

@@ -31,8 +31,8 @@ use Rattle.run_rules.specs.Laws.{InScript, claimed_by, claimed}
 use Rattle.run_rules.specs.Moves.{History, Nothing, move_of, move_in, proxy_move, tap_move}
 use Rattle.run_rules.specs.Shelf.{Fresh, Away, place_at, place_then}
 use Rattle.seat_desk.specs.History.{calls_by}
-use Rattle.script_duties.specs.Owed.{journal_of}
-use Rattle.script_duties.proofs.Going.{flip}
+use Rattle.history_laws.specs.Owed.{journal_of}
+use Rattle.history_laws.proofs.Going.{flip}
 use Rattle.history_laws.specs.Ruled.{answer_after, CameAbout}
 use Rattle.history_laws.proofs.Along.{after_all, own_then, along, along_own}
 use Rattle.history_laws.proofs.Fitting.{anywhere, lawful, scripted_so}

@@ -9,7 +9,7 @@ use Rattle.exec_journal.specs.Legal as legal
 use Rattle.run_rules.specs.Moves.{Past, History}
 use Rattle.seat_desk.specs.History as history
 use Rattle.seat_desk.specs.History.{entry}
-use Rattle.script_duties.specs.Owed.{journal_of}
+use Rattle.history_laws.specs.Owed.{journal_of}
 use Rattle.history_laws.specs.Ruled.{answer_after, CameAbout}
 use Rattle.history_laws.proofs.Along.{journal_next}
 use Rattle.history_laws.proofs.Fitting.{answer_is}

@@ -44,9 +44,9 @@ use Rattle.run_rules.specs.Duties.{Duty, Sends, duty_of, duty_of_claim, is_maker
 use Rattle.run_rules.specs.Laws.{says_file}
 use Rattle.run_rules.specs.Moves.{History}
 use Rattle.seat_desk.specs.History.{calls_by}
-use Rattle.script_duties.specs.Owed.{journal_of, has_left, duty_of_work, owed_by, outputs_in, makers_in}
-use Rattle.script_duties.proofs.Doing.{duty_is_scripted}
-use Rattle.script_duties.proofs.Going.{duty_is}
+use Rattle.history_laws.specs.Owed.{journal_of, has_left, duty_of_work, owed_by, outputs_in, makers_in}
+use Rattle.history_laws.proofs.Doing.{duty_is_scripted}
+use Rattle.history_laws.proofs.Going.{duty_is}
 use Rattle.history_laws.specs.Ruled.{answer_after, CameAbout}
 use Rattle.history_laws.proofs.Fitting.{answer_is, lawful, in_seats, seated_so}
 use Rattle.history_laws.proofs.Granting.{granted_files}

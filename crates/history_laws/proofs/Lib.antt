@@ -1,3 +1,8 @@
+pub mod Going
+pub mod Dues
+pub mod Doing
+pub mod Staying
+pub mod Only
 pub mod Along
 pub mod Fitting
 pub mod Hearing

@@ -15,10 +15,10 @@ use Rattle.run_rules.specs.Duties.{Sends, Commits, Left, proxy_lane, duty_of, is
 use Rattle.run_rules.specs.Laws.{InScript, Fits, tap_lane, hearing_of, may_hear, Hears, Over, tells_of, claimed, says_file, lines_in, is_taken, OrderHolds}
 use Rattle.run_rules.specs.Moves.{Past, History}
 use Rattle.run_rules.specs.Shelf.{child_at, tap_at, place_at, Fresh, Away}
-use Rattle.script_duties.specs.Owed.{journal_of, outputs_in, makers_in}
+use Rattle.history_laws.specs.Owed.{journal_of, outputs_in, makers_in}
 use Rattle.journal_calls.proofs.Reports.{few_lines}
-use Rattle.script_duties.proofs.Doing.{duty_is_scripted}
-use Rattle.script_duties.proofs.Paying as paying
+use Rattle.history_laws.proofs.Doing.{duty_is_scripted}
+use Rattle.history_laws.proofs.Dues as paying
 use Rattle.history_laws.specs.Ruled.{answer_after, IsPaidAfter, owes_after, CameAbout}
 use Rattle.history_laws.proofs.Bridging.{lines_are}
 use Rattle.history_laws.proofs.Fitting.{in_script, lawful, scripted_as, scripted_so, seated_so, replies_fit}

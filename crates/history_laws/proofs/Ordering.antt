@@ -30,7 +30,7 @@ use Rattle.journal_calls.proofs.LastLines as last
 use Rattle.run_rules.specs.Laws.{OrderHolds, InScript, lines_in, is_taken}
 use Rattle.run_rules.specs.Moves.{History}
 use Rattle.run_rules.specs.Shelf.{child_at, tap_at}
-use Rattle.script_duties.specs.Owed.{journal_of}
+use Rattle.history_laws.specs.Owed.{journal_of}
 use Rattle.history_laws.specs.Ruled.{answer_after, CameAbout}
 use Rattle.history_laws.proofs.Bridging.{child_is, tap_is, lines_are, taken_is}
 use Rattle.history_laws.proofs.Fitting.{answer_is, anywhere, lawful, scripted_so}

@@ -17,8 +17,8 @@ use Rattle.journal_laws.proofs.Debts as debts
 use Rattle.journal_laws.proofs.Allowed.{paid_allowed}
 use Rattle.run_rules.specs.Moves.{History}
 use Rattle.seat_desk.specs.History.{entry, calls_by}
-use Rattle.script_duties.specs.Owed.{journal_of}
-use Rattle.script_duties.proofs.Going.{flip}
+use Rattle.history_laws.specs.Owed.{journal_of}
+use Rattle.history_laws.proofs.Going.{flip}
 use Rattle.history_laws.specs.Ruled.{answer_after, IsPaidAfter, owes_after, CameAbout}
 use Rattle.history_laws.proofs.Along.{journal_more, journal_next}
 use Rattle.history_laws.proofs.Fitting.{answer_is, lawful, seated_so}

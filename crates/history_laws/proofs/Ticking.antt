@@ -9,11 +9,11 @@ use Rattle.run_plan.specs.declared.plan.Maker.{Maker}
 use Rattle.run_rules.specs.Duties.{Asks, Duty, duty_of, may_make, proxy_lane}
 use Rattle.run_rules.specs.Laws.{Free, Hearing, Hears, Over, hearing_of, may_hear, tap_lane, tells_of}
 use Rattle.run_rules.specs.Moves.{History}
-use Rattle.script_duties.proofs.Doing.{duty_is_scripted}
-use Rattle.script_duties.proofs.Only.{script_is_duty}
-use Rattle.script_duties.proofs.Paying.{commit_is_paid, halt_is_paid}
-use Rattle.script_duties.proofs.Staying.{lane_is_known, script_stays}
-use Rattle.script_duties.specs.Owed.{journal_of, makers_in, outputs_in}
+use Rattle.history_laws.proofs.Doing.{duty_is_scripted}
+use Rattle.history_laws.proofs.Only.{script_is_duty}
+use Rattle.history_laws.proofs.Dues.{commit_is_paid, halt_is_paid}
+use Rattle.history_laws.proofs.Staying.{lane_is_known, script_stays}
+use Rattle.history_laws.specs.Owed.{journal_of, makers_in, outputs_in}
 use Rattle.seat_desk.specs.History.{calls_by}
 use Rattle.std.proofs.Common.{Bool, List, None, [], refl, true, ℕ, ◌&&◌, ◌++◌, ◌/◌, ◌<◌, ◌||◌, ◌∙◌, ◌≡◌}
 use Rattle.exec_journal.specs.declared.call.Call.TheVariants as call

@@ -7,7 +7,7 @@ use Rattle.exec_journal.specs.declared.reply.Reply.TheVariants as reply
 use Rattle.journal_laws.specs.Paid.{seat_paid, seats_owe}
 use Rattle.history_laws.specs.Disciplines.{Discipline, LegalBy, script_of}
 use Rattle.run_rules.specs.Moves.{History}
-use Rattle.script_duties.specs.Owed.{journal_of}
+use Rattle.history_laws.specs.Owed.{journal_of}
 
 -- the reply to a call: outside its lane's script Astray, else the discipline's
 abbrev pub answer_after : Discipline → History → ℕ → Call → Reply

@@ -16,9 +16,16 @@ ghost use Rattle.run_plan.specs.Groups.{is_remote};
 ghost use Rattle.run_rules.specs.Laws.{InScript, Fits, tap_lane, hearing_of, may_hear, Hears, Over, tells_of, OrderHolds, claimed, lines_in, is_taken, says_file};
 ghost use Rattle.run_rules.specs.Shelf.{child_at, tap_at, place_at, Fresh, Away};
 ghost use Rattle.run_rules.specs.Duties.{proxy_lane, duty_of, is_maker, may_do, may_make, Sends, Commits, Left};
-ghost use Rattle.script_duties.specs.Owed.{outputs_in, makers_in};
+ghost use Rattle.history_laws.specs.Owed.{DutyIs, journal_of, outputs_in, makers_in};
 ghost use Rattle.history_laws.specs.Disciplines.{Discipline, IsDiscipline};
 ghost use Rattle.history_laws.specs.Ruled.{answer_after, IsPaidAfter, owes_after, CameAbout};
+
+/// By the journal of any history, a lane has left exactly if it was told to stop or has halted; and
+/// else it owes what its newest work asks of it.
+pub fn duties_are_newest_works()
+    ensures { (h : List (Entry Call Reply)) (lane : ℕ)
+        → DutyIs (duty_of (calls_by lane h)) (journal_of h) lane }
+{}
 
 /// A call in its lane's script is answered by a reply of its kind.
 pub fn replies_fit()

@@ -8,8 +8,8 @@ use Rattle.std.proofs.lemmas.List.FromFn.{get_or-range_with_len}
 use Rattle.lane_steps.specs.declared.hands.EndedFeed.{EndedFeed}
 use Rattle.tap_lane.specs.declared.ends.EndedTap.{EndedTap}
 use Rattle.lane_runs.specs.Placed.{Numbered}
-use Rattle.ending_laws.specs.Numbers.{In}
-use Rattle.ending_laws.proofs.Ins.{in_either}
+use Rattle.lane_laws.specs.Numbers.{In}
+use Rattle.lane_laws.proofs.Ins.{in_either}
 use Rattle.lane_runs.specs.BerthHalves.{BerthLines, IsMatched, all_feed_lines, all_halves, halves_of, halves_with, taps_left}
 use Rattle.lane_runs.specs.declared.halves.EndedLine.{EndedLine}
 use Rattle.lane_runs.specs.declared.halves.Halves.{Halves}

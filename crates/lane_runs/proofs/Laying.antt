@@ -6,7 +6,7 @@ use Rattle.exec_journal.specs.Entry.{Entry}
 use Rattle.exec_journal.specs.Entries.{is_halt, launch_in}
 use Rattle.run_rules.specs.Moves.{History}
 use Rattle.run_rules.specs.Laws.{lines_in}
-use Rattle.ending_laws.specs.Numbers.{Distinct}
+use Rattle.lane_laws.specs.Numbers.{Distinct}
 use Rattle.lane_runs.specs.declared.halves.EndedLine.{EndedLine}
 use Rattle.lane_runs.specs.BerthHalves.{BerthLines, all_halves}
 use Rattle.lane_runs.specs.Layout.{AllThere, AreFit, has_halt, orders_line, tells_halt}

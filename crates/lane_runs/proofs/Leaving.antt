@@ -9,7 +9,7 @@ use Rattle.lane_crew.specs.declared.pair.OfTwo.{OfTwo}
 use Rattle.lane_crew.specs.declared.pair.OfTwo.TheVariants.{First, Second}
 use Rattle.outside.specs.Told.{BerthTold, FeedTold, TapTold, ChildTold}
 use Rattle.remote_messages.specs.declared.work.WorkAction.{WorkAction}
-use Rattle.ending_laws.specs.Numbers.{concat}
+use Rattle.lane_laws.specs.Numbers.{concat}
 use Rattle.run_rules.specs.Moves.{History}
 use Rattle.run_rules.specs.Duties.{proxy_lane}
 use Rattle.run_rules.specs.Laws.{tap_lane}
@@ -29,9 +29,9 @@ use Rattle.berth_lanes.specs.declared.proxies.ProxyLeft.{ProxyLeft}
 use Rattle.berth_lanes.specs.declared.taps.TapLeft.{TapLeft}
 use Rattle.berth_lanes.specs.Ran.{BerthRan, EachBerthRan}
 use Rattle.lane_runs.specs.BerthHalves.{BerthLines, IsMatched, all_feed_lines, feed_lines}
-use Rattle.ending_laws.specs.Taps.{started_at, taken_in}
-use Rattle.ending_laws.specs.Lines.{started_from}
-use Rattle.ending_laws.specs.Lanes.{TakenAreTapped}
+use Rattle.lane_laws.specs.Taps.{started_at, taken_in}
+use Rattle.lane_laws.specs.Lines.{started_from}
+use Rattle.lane_laws.specs.Lanes.{TakenAreTapped}
 use Rattle.lane_runs.specs.Apart.{Alternate, lines_left, berths_of, lefts_of, unsaid_of}
 
 -- a berth by what it goes by, the berth before and after, what is left of its lines, and the line that

@@ -3,8 +3,8 @@ use Rattle.std.proofs.Common.{◌≡◌, ℕ, zero, suc, ◌+◌, ◌<◌, ◌�
 use Rattle.std.proofs.lemmas.List.{length-replicate}
 use Rattle.std.proofs.lemmas.List.Elements.{All-head, All-tail}
 use Rattle.std.proofs.lemmas.Bool.{cases_eq}
-use Rattle.ending_laws.proofs.Ins.{in_front, in_back, in_either}
-use Rattle.ending_laws.specs.Numbers.{In, Distinct}
+use Rattle.lane_laws.proofs.Ins.{in_front, in_back, in_either}
+use Rattle.lane_laws.specs.Numbers.{In, Distinct}
 use Rattle.lane_runs.specs.Placed.{Numbered, IsPlaced, placed_all}
 
 module _ {T : Type 0} where

@@ -15,14 +15,14 @@ use Rattle.run_plan.specs.declared.plan.Speech.{Speech}
 use Rattle.run_plan.specs.declared.plan.Speech.TheVariants as speech
 use Rattle.answer_reader.specs.Says.{SaysFirst}
 use Rattle.lane_runs.specs.Placed.{Numbered}
-use Rattle.ending_laws.specs.Numbers.{In}
-use Rattle.ending_laws.proofs.Ins.{in_front, in_back}
+use Rattle.lane_laws.specs.Numbers.{In}
+use Rattle.lane_laws.proofs.Ins.{in_front, in_back}
 use Rattle.run_rules.specs.Moves.{History}
 use Rattle.run_rules.specs.Shelf.{tap_at}
 use Rattle.run_rules.specs.Duties.{proxy_lane}
 use Rattle.run_rules.specs.Laws.{tap_lane}
 use Rattle.run_bench.specs.Bench.{IsOf, IsTapOf}
-use Rattle.tap_laws.specs.Pipes.{PipeOf, Each, said_on, end_on}
+use Rattle.lane_laws.specs.Pipes.{PipeOf, Each, said_on, end_on}
 use Rattle.tap_lane.specs.declared.ends.EndedTap.{EndedTap}
 use Rattle.tap_lane.specs.declared.ends.Want.{Want}
 use Rattle.tap_lane.specs.Heard.{back_by, SaysTo, EndedBy}
@@ -42,9 +42,9 @@ use Rattle.lane_runs.specs.BerthHalves.{IsMatched, taps_left, halves_with, halve
 use Rattle.lane_runs.specs.LineFacts.{HasFacts, EachHasFacts}
 use Rattle.lane_runs.proofs.FactsAt.{of_more}
 use Rattle.lane_runs.proofs.Matching.{as_many_taps}
-use Rattle.ending_laws.specs.Taps.{started_at, taken_in}
-use Rattle.ending_laws.specs.Lanes.{TakenAreTapped, EndedHaveLeft, WasStopped}
-use Rattle.ending_laws.specs.Halts.{EndsTellHalts, HaltsAreByLanes, has_halt}
+use Rattle.lane_laws.specs.Taps.{started_at, taken_in}
+use Rattle.lane_laws.specs.Lanes.{TakenAreTapped, EndedHaveLeft, WasStopped}
+use Rattle.lane_laws.specs.Halts.{EndsTellHalts, HaltsAreByLanes, has_halt}
 use Rattle.lane_runs.specs.Runs.{EndTold, end_of, line_at, back_in, backs_at, IsStopped, AreStopped, Room, Rooms}
 use Rattle.lane_runs.proofs.Leaving.{Seen, BerthLeft, EachLeft, feeds_are_started, matched}
 

@@ -10,10 +10,10 @@ use Rattle.outside.specs.Told.{BerthTold, FeedTold, TapTold, ChildTold, PlaceTol
 use Rattle.remote_messages.specs.declared.work.WorkAction.{WorkAction}
 use Rattle.lane_crew.specs.declared.pair.OfTwo.{OfTwo}
 use Rattle.lane_crew.specs.declared.pair.OfTwo.TheVariants.{First, Second}
-use Rattle.ending_laws.specs.Lanes.{EndedHaveLeft}
+use Rattle.lane_laws.specs.Lanes.{EndedHaveLeft}
 use Rattle.lane_runs.specs.Placed.{Numbered}
-use Rattle.ending_laws.specs.Numbers.{In, Distinct}
-use Rattle.ending_laws.specs.Numbers.{concat}
+use Rattle.lane_laws.specs.Numbers.{In, Distinct}
+use Rattle.lane_laws.specs.Numbers.{concat}
 use Rattle.run_rules.specs.Moves.{History}
 use Rattle.run_rules.specs.Shelf.{Spot, Fresh, Away, Back, tap_at, place_at}
 use Rattle.run_rules.specs.Duties.{proxy_lane}
@@ -31,11 +31,11 @@ use Rattle.lane_runs.specs.declared.halves.EndedLine.{EndedLine}
 use Rattle.lane_runs.specs.declared.halves.Halves.{Halves}
 use Rattle.lane_runs.specs.EndedLines as ended
 use Rattle.lane_runs.proofs.FactsAt.{facts_at}
-use Rattle.ending_laws.specs.Lines.{started_from}
-use Rattle.ending_laws.specs.Places.{HasLeft}
-use Rattle.ending_laws.specs.Taps.{started_at, taken_in}
+use Rattle.lane_laws.specs.Lines.{started_from}
+use Rattle.lane_laws.specs.Places.{HasLeft}
+use Rattle.lane_laws.specs.Taps.{started_at, taken_in}
 use Rattle.lane_deeds.specs.Lines.{listed}
-use Rattle.tap_laws.specs.Pipes.{PipeOf, Each, said_on, end_on}
+use Rattle.lane_laws.specs.Pipes.{PipeOf, Each, said_on, end_on}
 use Rattle.tap_lane.specs.declared.ends.Want.{Want}
 use Rattle.tap_lane.specs.Lane.{LaneEnds}
 use Rattle.run_plan.specs.declared.plan.Speech.{Speech}

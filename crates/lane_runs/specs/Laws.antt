@@ -2,12 +2,12 @@
 use Rattle.std.specs.Prelude.{ℕ, ◌≤◌}
 use Rattle.run_rules.specs.Laws.{lines_in}
 use Rattle.run_rules.specs.Moves.{History}
-use Rattle.tap_laws.specs.Pipes.{SaysWhatTapsTell, SilentUnlessGiven}
-use Rattle.ending_laws.specs.Places.{PlacesAreBack}
-use Rattle.ending_laws.specs.Taps.{StartedAreTapped, ShelvedAreUntaken}
-use Rattle.ending_laws.specs.Lines.{StartedAreApart}
-use Rattle.ending_laws.specs.Lanes.{OnlyKnownLanesSpeak, TakenAreTapped, EndedHaveLeft}
-use Rattle.ending_laws.specs.Halts.{EndsTellHalts, HaltsAreByLanes}
+use Rattle.lane_laws.specs.Pipes.{SaysWhatTapsTell, SilentUnlessGiven}
+use Rattle.lane_laws.specs.Places.{PlacesAreBack}
+use Rattle.lane_laws.specs.Taps.{StartedAreTapped, ShelvedAreUntaken}
+use Rattle.lane_laws.specs.Lines.{StartedAreApart}
+use Rattle.lane_laws.specs.Lanes.{OnlyKnownLanesSpeak, TakenAreTapped, EndedHaveLeft}
+use Rattle.lane_laws.specs.Halts.{EndsTellHalts, HaltsAreByLanes}
 
 -- a history that a core stands for is legal
 abbrev pub StandLegal : {S Q : Type 0} → (S → History → Type 0) → (S → Q)

@@ -4,7 +4,7 @@ use Rattle.std.specs.List.{list_any}
 use Rattle.exec_journal.specs.Entries.{is_halt, launch_in}
 use Rattle.exec_journal.specs.Entry.{Entry}
 use Rattle.lane_crew.specs.declared.pair.OfTwo.{OfTwo}
-use Rattle.ending_laws.specs.Numbers.{Distinct}
+use Rattle.lane_laws.specs.Numbers.{Distinct}
 use Rattle.run_rules.specs.Moves.{History}
 use Rattle.run_rules.specs.Laws.{lines_in}
 use Rattle.berth_lanes.specs.declared.proxies.ProxyLeft.{ProxyLeft}

@@ -4,7 +4,7 @@ use Rattle.exec_journal.specs.Entry.{Entry}
 use Rattle.exec_journal.specs.Facts.{IsOfBerth}
 use Rattle.lane_steps.specs.declared.hands.EndedFeed.{EndedFeed}
 use Rattle.tap_lane.specs.declared.ends.EndedTap.{EndedTap}
-use Rattle.ending_laws.specs.Numbers.{In, Distinct}
+use Rattle.lane_laws.specs.Numbers.{In, Distinct}
 use Rattle.lane_runs.specs.BerthHalves.{BerthLines, feed_lines}
 use Rattle.lane_runs.specs.declared.halves.EndedLine.{EndedLine}
 use Rattle.lane_runs.specs.declared.halves.Halves.{Halves}

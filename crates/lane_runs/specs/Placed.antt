@@ -1,6 +1,6 @@
 -- Things with the numbers of their lines, and the places of these lines.
 use Rattle.std.specs.Prelude.{◌≡◌, ℕ, List, [], ◌∷◌, length, Option, Some, None, slice_index_or, slice_set}
-use Rattle.ending_laws.specs.Numbers.{In}
+use Rattle.lane_laws.specs.Numbers.{In}
 
 -- a thing of a line
 pub record Numbered (T : Type 0) : Type 0 where

@@ -13,8 +13,8 @@ use Rattle.run_rules.specs.Shelf.{place_at}
 use Rattle.run_rules.specs.Duties.{proxy_lane}
 use Rattle.run_rules.specs.Laws.{tap_lane, lines_in}
 use Rattle.run_bench.specs.Objects.{IsPlaceAt}
-use Rattle.ending_laws.specs.Numbers.{In}
-use Rattle.tap_laws.specs.Pipes.{PipeOf}
+use Rattle.lane_laws.specs.Numbers.{In}
+use Rattle.lane_laws.specs.Pipes.{PipeOf}
 use Rattle.lane_deeds.specs.declared.post.Post.{Post}
 use Rattle.lane_deeds.specs.declared.cause.Cause.{Cause}
 use Rattle.lane_deeds.specs.Lines.{Back, started_in}

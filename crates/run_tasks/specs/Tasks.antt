@@ -9,7 +9,7 @@ use Rattle.lane_steps.specs.Work.{IsWorkOf}
 use Rattle.run_plan.specs.Groups.{berths, is_remote, kind_of}
 use Rattle.run_plan.specs.Sound.{Sound}
 use Rattle.run_plan.specs.declared.plan.Plan.{Plan}
-use Rattle.script_duties.specs.Owed.{makers_in, outputs_in}
+use Rattle.history_laws.specs.Owed.{makers_in, outputs_in}
 use Rattle.tool_words.specs.declared.options.Options.{Options}
 use Rattle.run_tasks.specs.declared.task.Task.{Task}
 

@@ -33,7 +33,7 @@ use Rattle.run_plan.specs.declared.plan.PlanAction.{PlanAction}
 use Rattle.run_rules.specs.Duties.{proxy_lane}
 use Rattle.run_tasks.specs.Tasks.{HasBerths, HasPosts}
 use Rattle.run_tasks.specs.declared.task.Task.{Task}
-use Rattle.script_duties.specs.Owed.{journal_of, outputs_in}
+use Rattle.history_laws.specs.Owed.{journal_of, outputs_in}
 use Rattle.worker_run.proofs.Histories.{halted_is, newest_is, stopped_is}
 use Rattle.worker_run.proofs.Unsaid.{rooms_unsaid, unsaid_at}
 use Rattle.worker_run.specs.Ends.{IsReportEnd, IsRunEnd, is_halted, status_by}

@@ -1,7 +1,7 @@
 -- Lines that were started and not reported, berth by berth.
 use Rattle.std.proofs.Common.{◌≡◌, ℕ, zero, suc, ◌+◌, true, List, [], ◌∷◌, length, slice_get, Option, Some, None, refl, ap, subst, arith, All}
 use Rattle.std.proofs.lemmas.List.Elements.{All-head}
-use Rattle.ending_laws.proofs.Halting.{ends_tell}
+use Rattle.lane_laws.proofs.Halting.{ends_tell}
 use Rattle.exec_journal.specs.declared.call.Call.{Call}
 use Rattle.exec_journal.specs.declared.reply.Reply.{Reply}
 use Rattle.lane_deeds.specs.declared.cause.Cause.{Cause}

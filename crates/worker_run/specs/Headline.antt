@@ -24,7 +24,7 @@ use Rattle.run_plan.specs.Sound.{Sound}
 use Rattle.run_tasks.specs.declared.task.Task.{Task}
 use Rattle.run_rules.specs.Duties.{proxy_lane}
 use Rattle.run_rules.specs.Moves.{History}
-use Rattle.script_duties.specs.Owed.{outputs_in}
+use Rattle.history_laws.specs.Owed.{outputs_in}
 use Rattle.seat_desk.specs.History.{calls_by}
 use Rattle.tool_words.specs.declared.options.Options.{Options}
 use Rattle.worker_run.specs.Ends.{HasCourse, LeavesNew, MadeAll, TellsTask, is_halted, status_by}

@@ -13,7 +13,7 @@ use Rattle.outside.specs.Told.{BerthTold, FloorTold, PlaceTold}
 use Rattle.remote_messages.specs.declared.work.WorkAction.{WorkAction}
 use Rattle.run_rules.specs.Moves.{History}
 use Rattle.run_tasks.specs.declared.task.Task.{Task}
-use Rattle.script_duties.specs.Owed.{outputs_in}
+use Rattle.history_laws.specs.Owed.{outputs_in}
 use Rattle.worker_run.specs.Seen.{Left}
 
 -- the berth with this number, of which nothing was asked yet, and which hasn't failed

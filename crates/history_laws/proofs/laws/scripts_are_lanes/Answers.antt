@@ -6,8 +6,8 @@ use Rattle.exec_journal.specs.Lawful.{may_tick}
 use Rattle.seat_desk.specs.History.{calls_by}
 use Rattle.run_rules.specs.Moves.{History}
 use Rattle.history_laws.specs.Disciplines.{Discipline, script_of}
-use Rattle.script_duties.specs.Owed.{journal_of}
-use Rattle.script_duties.proofs.Staying.{lane_is_known, script_stays}
+use Rattle.history_laws.specs.Owed.{journal_of}
+use Rattle.history_laws.proofs.Staying.{lane_is_known, script_stays}
 use Rattle.history_laws.proofs.Ticking.{known, stays}
 use Rattle.history_laws.proofs.Fitting.{in_script, scripted_so, scripted_as, Scripted, Ticks, Seated}
 use Rattle.history_laws.proofs.laws.scripts_are_lanes.Goals as goal

@@ -6,7 +6,7 @@ use Rattle.seat_desk.specs.History.{calls_by}
 use Rattle.run_rules.specs.Moves.{History}
 use Rattle.history_laws.specs.Disciplines.{Discipline}
 use Rattle.run_rules.specs.Laws.{tap_lane, may_hear, hearing_of, tells_of, Hearing, Free, Hears, Over}
-use Rattle.script_duties.specs.Owed.{journal_of}
+use Rattle.history_laws.specs.Owed.{journal_of}
 use Rattle.history_laws.proofs.Ticking.{only_hears, telling}
 use Rattle.history_laws.proofs.Fitting.{in_script, lawful, scripted_so, scripted_as, seated_so, Scripted, Ticks, Seated}
 use Rattle.history_laws.proofs.Hearing.{hearing_is_scripted, script_is_hearing, tap_halt_is_paid, tells_hears}

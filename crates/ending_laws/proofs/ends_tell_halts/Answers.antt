@@ -1,5 +1,0 @@
-use Rattle.ending_laws.proofs.Halting.{ends_tell}
-use Rattle.ending_laws.proofs.ends_tell_halts.Goals as goal
-
-pub returns : goal.returns
-returns c = ends_tell

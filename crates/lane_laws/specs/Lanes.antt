@@ -1,0 +1,44 @@
+-- Who speaks in a history, and how its lanes have ended.
+use Rattle.std.specs.Prelude.{◌≡◌, ℕ, ◌*◌, ◌<◌, false, List, [], ◌∷◌, ◌++◌, map, All, Option, None}
+use Rattle.std.specs.List.{list_any}
+use Rattle.outside.specs.Told.{TapTold}
+use Rattle.run_plan.specs.declared.plan.Speech.{Speech}
+use Rattle.exec_journal.specs.declared.reply.Reply.TheVariants as reply
+use Rattle.exec_journal.specs.Entries.{is_halt}
+use Rattle.remote_messages.specs.declared.work.WorkAction.{WorkAction}
+use Rattle.run_rules.specs.Moves.{Past, History}
+use Rattle.tap_lane.specs.declared.ends.Want.{Want}
+use Rattle.tap_lane.specs.Lane.{LaneEnds}
+use Rattle.lane_deeds.specs.declared.post.Post.{Post}
+use Rattle.lane_deeds.specs.declared.cause.Cause.{Cause}
+use Rattle.lane_deeds.specs.Deeds.{Deed}
+use Rattle.lane_deeds.specs.Ends.{Ends}
+use Rattle.lane_laws.specs.Taps.{taken_in}
+use Rattle.lane_laws.specs.Places.{HasLeft}
+
+-- Each entry is by one of the two lanes of a berth.
+abbrev pub OnlyKnownLanesSpeak : {Q : Type 0} → (Q → History → Type 0) → (Q → ℕ) → Type 0
+OnlyKnownLanesSpeak {Q} legal seats =
+    (q : Q) (h : History) → legal q h → All (λ e. e.lane < 2 * seats q) h
+
+-- Where these entries are what a tap lane leaves with these taps, the lines that it took are those
+-- of the taps, in order.
+abbrev pub TakenAreTapped : Type 0
+TakenAreTapped =
+    (s : Speech) (lane : ℕ) (halted : Option Want) (taps : List (ℕ × TapTold)) (own : History)
+    → LaneEnds s lane halted taps own → taken_in own ≡ map (λ t. t.0) taps
+
+-- the lane made no Halt, and was told to stop by its last reply
+pub record WasStopped (own : History) : Type 0 where
+  pub no_halt : list_any (λ e. is_halt e.call) own ≡ false
+  pub front : History
+  pub last : Past
+  pub are : own ≡ front ++ last ∷ []
+  pub stop : last.reply ≡ reply.Stop
+
+-- Where a proxy lane has ended so, it has left, and where it didn't halt, it was told to stop.
+abbrev pub EndedHaveLeft : Type 0
+EndedHaveLeft =
+    (post : Post) (actions : List WorkAction) (lane : ℕ) (own : History) (deeds : List Deed)
+    → ((halted : Option Cause) → Ends post actions lane halted own deeds → HasLeft own)
+    × (Ends post actions lane None own deeds → WasStopped own)

@@ -1,5 +1,0 @@
-pub mod Going
-pub mod Paying
-pub mod Doing
-pub mod Staying
-pub mod Only

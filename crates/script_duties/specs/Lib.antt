@@ -1,2 +1,0 @@
--- What the law cites.
-pub mod Owed

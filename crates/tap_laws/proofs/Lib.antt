@@ -1,2 +1,0 @@
-mod Tellers
-mod Pipelines

@@ -1,2 +1,0 @@
--- What contracts cite of the lines of tap lanes.
-pub mod Pipes
