@@ -45,6 +45,14 @@ pub struct ActionFact {
     pub remote: BranchFact,
 }
 
+/// An entry that joins a journal: the entries before it, the newest work of its lane among them, and itself.
+#[derive(Clone, Copy)]
+struct Joining<'a> {
+    before: &'a [Entry],
+    order: Option<&'a Entry>,
+    entry: &'a Entry,
+}
+
 impl BranchFact {
     pub const NEW: BranchFact = BranchFact {
         commit: None,
@@ -149,9 +157,14 @@ fn note(
     let late = is_late(actions, before, order, entry);
     let by_reply = action_of_reply(&entry.reply);
     let by_call = action_of_call(order, &entry.call);
-    note_action(actions, lines, limit, before, by_reply, order, entry);
+    let joining = Joining {
+        before,
+        order,
+        entry,
+    };
+    note_action(actions, lines, limit, by_reply, &joining);
     if by_call != by_reply {
-        note_action(actions, lines, limit, before, by_call, order, entry);
+        note_action(actions, lines, limit, by_call, &joining);
     }
     note_line(lines, late, line_of_call(&entry.call), entry);
 }
@@ -262,19 +275,18 @@ fn note_action(
     actions: &mut [ActionFact],
     lines: &[LineFact],
     limit: u32,
-    before: &[Entry],
     action: Option<u32>,
-    order: Option<&Entry>,
-    entry: &Entry,
+    joining: &Joining<'_>,
 )
-    requires { AreLines lines.now (reverse before.now) }
-    ensures { actions.new ≡ update_if (action_after (reverse before.now) limit
-        (unwrap_or action 0) (option_copied order.entry) entry.now) actions.old action }
+    requires { AreLines lines.now (reverse joining.now.before.now) }
+    ensures { actions.new ≡ update_if (action_after (reverse joining.now.before.now) limit
+        (unwrap_or action 0) (option_copied joining.now.order) joining.now.entry.now)
+        actions.old action }
 {
     if let Some(action) = action {
         let at = action as usize;
         if at < actions.len() {
-            actions[at] = action_next(&actions[at], lines, limit, before, action, order, entry);
+            actions[at] = action_next(&actions[at], lines, limit, action, joining);
         }
     }
 }
@@ -283,15 +295,18 @@ fn action_next(
     fact: &ActionFact,
     lines: &[LineFact],
     limit: u32,
-    before: &[Entry],
     action: u32,
-    order: Option<&Entry>,
-    entry: &Entry,
+    joining: &Joining<'_>,
 ) -> ActionFact
-    requires { AreLines lines.now (reverse before.now) }
-    ensures { result ≡ action_after (reverse before.now) limit action
-        (option_copied order.entry) entry.now fact.now }
+    requires { AreLines lines.now (reverse joining.now.before.now) }
+    ensures { result ≡ action_after (reverse joining.now.before.now) limit action
+        (option_copied joining.now.order) joining.now.entry.now fact.now }
 {
+    let Joining {
+        before,
+        order,
+        entry,
+    } = *joining;
     let won = fact.grant.is_some();
     let local = Attempt {
         action,
