@@ -2,7 +2,8 @@
 ghost use Rattle.std.specs.Prelude.{◌≡◌, ◌≤◌, ◌+◌, length, IfOk, OnOk, map};
 ghost use Rattle.list_order.specs.Answers.{Settles};
 ghost use Rattle.action_list.specs.Checks.{has_local, has_remote};
-ghost use Rattle.action_list.specs.Keys.{key_bytes, keys_check, keys_of, list_key, mode_of, named_variable, unread_tool, with_bytes, with_key, worker_words};
+ghost use Rattle.action_list.specs.Keys.{key_bytes, keys_check, keys_of, list_key, mode_of, named_variable, unread_tool, with_key, worker_words};
+ghost use Rattle.action_list.specs.Plans.{local_key};
 ghost use Rattle.list_order.specs.Order.{is_among};
 
 use crate::checks::check_count;
@@ -13,43 +14,66 @@ use plain_values::{Blob, Items, NoMemory, Text};
 use std::alloc::Global;
 use worker_key::{Mode, Named, WorkerKey};
 
+/// The keys of the actions with a local branch. Each is seen by the bytes that stand for it alone.
+#[derive(Drop)]
+pub struct Keys {
+    /// Each action's, where it has a local branch.
+    pub held: Items<Option<Blob>>,
+    /// The different ones, in the order of their first actions.
+    pub keys: Items<Blob>,
+}
+
 /// Looks whether the actions with a local branch have at most so many keys.
 pub fn check_keys(alloc: Global, limit: usize, actions: &[ListAction]) -> Result<(), ListRefusal>
     ensures { Settles result (keys_check limit actions.now) }
 {
-    let keys = keys_of(alloc, actions)?;
-    check_count(What::Keys, limit, keys.as_slice().len())
+    let made = keys_of(alloc, actions)?;
+    check_count(What::Keys, limit, made.keys.as_slice().len())
 }
 
-/// The keys of the actions with a local branch, in the order of their first actions. Each is seen by
-/// the bytes that stand for it alone.
-pub fn keys_of(alloc: Global, actions: &[ListAction]) -> Result<Items<Blob>, NoMemory>
-    ensures keys { IfOk result (λ k. k ≡ keys_of actions.now) }
-    ensures few { IfOk result (λ k. length k ≤ length actions.now) }
+/// The keys of these actions. Each action's key is made once.
+///
+/// # Errors
+///
+/// `NoMemory`.
+pub fn keys_of(alloc: Global, actions: &[ListAction]) -> Result<Keys, NoMemory>
+    ensures held { IfOk result (λ made. made.held ≡ map local_key actions.now) }
+    ensures keys { IfOk result (λ made. made.keys ≡ keys_of actions.now) }
+    ensures few { IfOk result (λ made. length made.keys ≤ length actions.now) }
 {
+    let mut held = Vec::with_capacity(alloc, actions.len())?;
     let mut keys = Vec::new(alloc);
     for action in actions {
-        add_key(alloc, &mut keys, action)?;
+        held.push(add_key(alloc, &mut keys, action)?)?;
     }
-    Ok(Items::of(keys))
+    Ok(Keys {
+        held: Items::of(held),
+        keys: Items::of(keys),
+    })
 }
 
-fn add_key(alloc: Global, keys: &mut Vec<Blob>, action: &ListAction) -> Result<(), NoMemory>
+// The key of the action, where it has a local branch. It is added, unless it is there.
+fn add_key(
+    alloc: Global,
+    keys: &mut Vec<Blob>,
+    action: &ListAction,
+) -> Result<Option<Blob>, NoMemory>
+    ensures key { IfOk result (λ key. key ≡ local_key action.now) }
     ensures added { OnOk result (keys.new.items ≡ with_key keys.old.items action.now) }
     ensures few { OnOk result (length keys.new.items ≤ length keys.old.items + 1) }
 {
     if !has_local(action.strategy) {
-        return Ok(());
+        return Ok(None);
     }
-    let bytes = key_bytes(alloc, action)?;
-    if !is_among(keys.as_slice(), bytes.as_slice()) {
-        keys.push(Blob::of(alloc, bytes)?)?;
+    let key = Blob::of(alloc, key_bytes(alloc, action)?)?;
+    if !is_among(keys.as_slice(), key.bytes()) {
+        keys.push(key.again()?)?;
     }
-    Ok(())
+    Ok(Some(key))
 }
 
-/// These bytes are one of them.
-pub fn is_among(keys: &[Blob], bytes: &[u8]) -> bool
+// These bytes are one of them.
+fn is_among(keys: &[Blob], bytes: &[u8]) -> bool
     ensures { result ≡ is_among keys.now bytes.now }
 {
     keys.iter().any(|key| key.bytes() == bytes)
@@ -77,7 +101,7 @@ pub fn has_remote(strategy: Strategy) -> bool
 
 /// The bytes that stand for the key of an action's worker.
 #[tactic(auto, unfolding(crate::specs::Keys::key_bytes))]
-pub fn key_bytes(alloc: Global, action: &ListAction) -> Result<Vec<u8>, NoMemory>
+fn key_bytes(alloc: Global, action: &ListAction) -> Result<Vec<u8>, NoMemory>
     ensures { IfOk result (λ v. v.items ≡ key_bytes action.now) }
 {
     list_key(alloc, action)?.canonical_bytes(alloc)

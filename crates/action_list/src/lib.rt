@@ -10,6 +10,7 @@ mod needs;
 mod parts;
 mod planning;
 mod top;
+mod twin;
 
 ghost use Rattle.list_order.specs.Answers.{Answers};
 ghost use Rattle.action_list.specs.Lists.{list_of};
@@ -23,6 +24,7 @@ pub use list_order::{
 pub use parts::{GroupPart, group_parts};
 pub use planning::plan;
 use std::alloc::Global;
+pub use twin::plan_again;
 
 /// The most worker keys that a list may have.
 const MAX_KEYS: usize = 48;

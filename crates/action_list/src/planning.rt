@@ -1,14 +1,14 @@
 // The plan of a list.
-ghost use Rattle.std.specs.Prelude.{◌≡◌, ◌≤◌, ◌++◌, ◌∷◌, [], List, length, map, position, IfOk, IfSome, OnOk, ◌<◌};
+ghost use Rattle.std.specs.Prelude.{◌≡◌, ◌≤◌, ◌++◌, ◌∷◌, [], List, length, map, position, slice_get, Some, IfOk, IfSome, OnOk, ◌<◌};
 ghost use Rattle.std.specs.Option.{option_copied};
 ghost use Rattle.std.specs.Str.{bytes_eq};
 ghost use Rattle.list_order.specs.declared.types.ListAction.{ListAction};
 ghost use Rattle.action_list.specs.Keys.{keys_of};
-ghost use Rattle.action_list.specs.Plans.{berths_at, executor_groups, first_user, groups_of, is_key, key_group, kind_by, kind_of, local_key, local_of, number_of, plan_action, plan_actions, plan_of, remote_of, remote_users, share, users};
+ghost use Rattle.action_list.specs.Plans.{berths_at, executor_groups, first_user, groups_of, is_key, key_group, kind_by, kind_of, local_key, number_of, plan_action, plan_actions, plan_of, remote_of, remote_users, share, users};
 ghost use Rattle.list_order.specs.Whole.{IsWhole, KnowsProducers};
 ghost use Rattle.run_plan.specs.Sound.{Sound};
 
-use crate::keys::{has_local, has_remote, key_bytes, keys_of, mode_of};
+use crate::keys::{has_remote, keys_of, mode_of};
 use crate::{ActionList, ListAction, Producers};
 use plain_values::{Blob, Items, NoMemory, Text, texts_again};
 use run_plan::{Group, Kind, Plan, PlanAction};
@@ -40,27 +40,6 @@ fn berths_at(counts: &[u32], each: u32) -> u32
         berths += each.min(*count);
     }
     berths
-}
-
-/// The keys of the actions with a local branch.
-fn local_keys(alloc: Global, actions: &[ListAction]) -> Result<Items<Option<Blob>>, NoMemory>
-    ensures { IfOk result (λ h. h ≡ map local_key actions.now) }
-{
-    let mut held = Vec::new(alloc);
-    for action in actions {
-        held.push(local_key(alloc, action)?)?;
-    }
-    Ok(Items::of(held))
-}
-
-fn local_key(alloc: Global, action: &ListAction) -> Result<Option<Blob>, NoMemory>
-    ensures { IfOk result (λ k. k ≡ local_key action.now) }
-{
-    if !has_local(action.strategy) {
-        return Ok(None);
-    }
-    let bytes = key_bytes(alloc, action)?;
-    Ok(Some(Blob::of(alloc, bytes)?))
 }
 
 fn is_key(key: &[u8], held: &Option<Blob>) -> bool
@@ -221,8 +200,10 @@ fn push_executor(groups: &mut Vec<Group>, berths: u32) -> Result<(), NoMemory>
 fn plan_actions(
     alloc: Global,
     actions: &[ListAction],
+    held: &[Option<Blob>],
     keys: &[Blob],
 ) -> Result<Items<PlanAction>, NoMemory>
+    requires held { held.now ≡ map local_key actions.now }
     requires keys { length keys.now ≤ 4096 }
     requires whole { IsWhole actions.now }
     ensures { IfOk result (λ p. p ≡ plan_actions keys.now [] actions.now) }
@@ -231,11 +212,23 @@ fn plan_actions(
     let mut planned = Vec::new(alloc);
     let mut number = 0;
     for action in actions {
-        planned.push(plan_action(alloc, keys, &producers, action)?)?;
+        let key = held_at(held, number);
+        planned.push(plan_action(alloc, keys, &producers, action, key)?)?;
         note_outputs(alloc, &mut producers, number, action)?;
         number += 1;
     }
     Ok(Items::of(planned))
+}
+
+// The key of the action with this number.
+fn held_at(held: &[Option<Blob>], number: u32) -> &Option<Blob>
+    requires { number < length held.now }
+    ensures { slice_get held.now number ≡ Some result.now }
+{
+    match held.get(number as usize) {
+        Some(key) => key,
+        None => unreachable!(),
+    }
 }
 
 fn note_outputs(
@@ -257,8 +250,10 @@ fn plan_action(
     keys: &[Blob],
     producers: &Producers,
     action: &ListAction,
+    held: &Option<Blob>,
 ) -> Result<PlanAction, NoMemory>
-    requires { length keys.now ≤ 4096 }
+    requires held { held.now ≡ local_key action.now }
+    requires keys { length keys.now ≤ 4096 }
     ensures { (before : List ListAction) → KnowsProducers producers.now before
         → IfOk result (λ p. p ≡ plan_action keys.now before action.now) }
 {
@@ -266,17 +261,9 @@ fn plan_action(
         name: Text::copy_of(alloc, action.name.as_str())?,
         outputs: texts_again(alloc, action.outputs.as_slice())?,
         makers: producers.makers_of(alloc, action.inputs.as_slice())?,
-        local: local_of(alloc, keys, action)?,
+        local: number_of(keys, held),
         remote: remote_of(keys, action),
     })
-}
-
-fn local_of(alloc: Global, keys: &[Blob], action: &ListAction) -> Result<Option<u32>, NoMemory>
-    requires { length keys.now ≤ 4096 }
-    ensures { IfOk result (λ l. l ≡ local_of keys.now action.now) }
-{
-    let held = local_key(alloc, action)?;
-    Ok(number_of(keys, &held))
 }
 
 fn number_of(keys: &[Blob], held: &Option<Blob>) -> Option<u32>
@@ -345,18 +332,12 @@ pub fn plan(
     ensures sound { IfOk result Sound }
 {
     let actions = list.actions.as_slice();
-    let keys = keys_of(alloc, actions)?;
-    let held = local_keys(alloc, actions)?;
+    let made = keys_of(alloc, actions)?;
+    let held = made.held.as_slice();
+    let keys = made.keys.as_slice();
     Ok(Plan {
-        actions: plan_actions(alloc, actions, keys.as_slice())?,
-        groups: groups_of(
-            alloc,
-            actions,
-            held.as_slice(),
-            keys.as_slice(),
-            instances,
-            remote,
-        )?,
+        actions: plan_actions(alloc, actions, held, keys)?,
+        groups: groups_of(alloc, actions, held, keys, instances, remote)?,
         limit: retries + 1,
     })
 }

@@ -1,6 +1,6 @@
 ghost use Rattle.std.specs.Prelude.{◌≡◌, IfOk};
 ghost use Rattle.remote_branch.specs.Jobs.{job_for, cancel_for};
-ghost use Rattle.due_frames.specs.Requests.{request_for, cancelling};
+ghost use Rattle.due_frames.specs.Requests.{AreFrom, request_for, cancelling};
 ghost use Rattle.due_frames.specs.Frames.{send_due, cancel_due, framed_request, request_line, framed_job, due_job};
 
 use crate::requests::{cancelling, request_of};
@@ -39,6 +39,7 @@ pub fn send_frame(
     inputs: &[NamedFile],
     verbose: bool,
 ) -> Result<Due, NoMemory>
+    requires { AreFrom action.now.inputs inputs.now }
     ensures { IfOk result (λ due. due ≡ send_due speech
         (request_for number action.now inputs.now verbose room)
         (job_for number action.now inputs.now)) }
@@ -79,6 +80,7 @@ fn request_frame(
     inputs: &[NamedFile],
     verbose: bool,
 ) -> Result<Items<u8>, NoMemory>
+    requires { AreFrom action.now.inputs inputs.now }
     ensures { IfOk result (λ frame.
         frame ≡ framed_request (request_for number action.now inputs.now verbose room)) }
 {
@@ -94,6 +96,7 @@ fn json_request(
     inputs: &[NamedFile],
     verbose: bool,
 ) -> Result<Items<u8>, NoMemory>
+    requires { AreFrom action.now.inputs inputs.now }
     ensures { IfOk result (λ line.
         line ≡ request_line (request_for number action.now inputs.now verbose room)) }
 {

@@ -1,6 +1,7 @@
-ghost use Rattle.std.specs.Prelude.{◌≡◌, IfOk, map};
+ghost use Rattle.std.specs.Prelude.{◌≡◌, IfOk, map, slice_get, Some};
+ghost use Rattle.remote_messages.specs.declared.work.WorkInput.{WorkInput};
 ghost use Rattle.worker_key.specs.Keys.{digest_text};
-ghost use Rattle.due_frames.specs.Requests.{input_of, request_for, cancelling, room_for, sandbox_for};
+ghost use Rattle.due_frames.specs.Requests.{AreFrom, IsFrom, input_of, request_for, cancelling, room_for, sandbox_for};
 
 use plain_values::{Items, NoMemory, Text, texts_again};
 use remote_messages::{NamedFile, Origin, WorkAction, WorkInput};
@@ -24,7 +25,7 @@ pub fn room_of(kind: Kind, number: i32) -> Room
     }
 }
 
-/// The request of a Send.
+/// The request of a Send. A source's digest is taken from the source.
 ///
 /// # Errors
 ///
@@ -37,6 +38,7 @@ pub fn request_of(
     inputs: &[NamedFile],
     verbose: bool,
 ) -> Result<WorkRequest, NoMemory>
+    requires { AreFrom action.now.inputs inputs.now }
     ensures { IfOk result
         (λ request. request ≡ request_for number action.now inputs.now verbose room) }
 {
@@ -76,36 +78,49 @@ fn sandbox_of(alloc: Global, room: Room) -> Result<Text, NoMemory>
     }
 }
 
-// The sources, in the order of the files, are asked for digests that they know.
+// A source, in the order of the files, is asked for its digest.
 fn inputs_of(
     alloc: Global,
     sources: &[WorkInput],
     files: &[NamedFile],
 ) -> Result<Items<Input>, NoMemory>
+    requires { AreFrom sources.now files.now }
     ensures { IfOk result (λ inputs. inputs ≡ map input_of files.now) }
 {
     let mut inputs = Vec::new(alloc);
     for (at, file) in files.iter().enumerate() {
         inputs.push(Input {
             path: Text::copy_of(alloc, file.path.as_str())?,
-            digest: digits_of(alloc, sources.get(at), file.content.bytes())?,
+            digest: digits_at(alloc, sources, at, file)?,
         })?;
     }
     Ok(Items::of(inputs))
 }
 
-// The digits of these bytes, which a source that has them needs to compute only once.
-fn digits_of(alloc: Global, input: Option<&WorkInput>, bytes: &[u8]) -> Result<Items<u8>, NoMemory>
-    ensures { IfOk result (λ digits. digits ≡ digest_text bytes.now) }
+// The digits of the file's bytes. A source at its place has them, and the bytes aren't looked at.
+fn digits_at(
+    alloc: Global,
+    sources: &[WorkInput],
+    at: usize,
+    file: &NamedFile,
+) -> Result<Items<u8>, NoMemory>
+    requires { (x : WorkInput) → slice_get sources.now at ≡ Some x
+        → IsFrom x.origin file.now.content }
+    ensures { IfOk result (λ digits. digits ≡ digest_text file.now.content) }
 {
-    match input {
-        Some(
-            WorkInput {
-                origin: Origin::Source(source),
-                ..
-            },
-        ) => source.digits_of(alloc, bytes),
-        _ => digest_text(alloc, bytes),
+    match sources.get(at) {
+        Some(input) => digits_from(alloc, &input.origin, file),
+        None => digest_text(alloc, file.content.bytes()),
+    }
+}
+
+fn digits_from(alloc: Global, origin: &Origin, file: &NamedFile) -> Result<Items<u8>, NoMemory>
+    requires { IsFrom origin.now file.now.content }
+    ensures { IfOk result (λ digits. digits ≡ digest_text file.now.content) }
+{
+    match origin {
+        Origin::Source(source) => source.digits(alloc),
+        Origin::Made { .. } => digest_text(alloc, file.content.bytes()),
     }
 }
 

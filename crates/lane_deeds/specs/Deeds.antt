@@ -24,7 +24,7 @@ use Rattle.sandbox_rooms.specs.Rooms.{prepare_asks, gather_asks, gathered_in, ga
 use Rattle.remote_branch.specs.Jobs.{job_for}
 use Rattle.due_frames.specs.declared.frames.Due.{Due}
 use Rattle.due_frames.specs.declared.frames.Due.TheVariants as due
-use Rattle.due_frames.specs.Requests.{room_for, request_for}
+use Rattle.due_frames.specs.Requests.{room_for, IsFrom, request_for}
 use Rattle.due_frames.specs.Frames.{send_due, cancel_due}
 use Rattle.order_acts.specs.Acts.{GivenBy, LaunchedBy, SentBy, found_as}
 use Rattle.run_rules.specs.Moves.{History}
@@ -46,11 +46,6 @@ pub record Deed : Type 0 where
   pub given : List ℕ
 
 -- ---- the inputs of a request
-
--- a source's bytes are its own; those of a made input are what a Look told
-abbrev pub IsFrom : Origin → List ℕ → Type 0
-IsFrom (origin.Source bytes) content = content ≡ bytes
-IsFrom (origin.Made a o) content = Unit {0}
 
 abbrev pub look_at : Origin → List ℕ → List Looked
 look_at (origin.Source bytes) content = []

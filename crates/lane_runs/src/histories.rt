@@ -2,12 +2,11 @@
 ghost use Rattle.lane_runs.specs.Laws.{HistoryLaws, LinesFit, StandLegal};
 
 use lane_laws::{
-    ended_lanes_have_left, ends_tell_halts, halts_are_by_lanes, only_known_lanes_speak,
-    places_are_back, shelved_taps_are_untaken, started_lines_are_apart, started_lines_have_taps,
-    taken_lines_have_taps,
+    ended_lanes_have_left, ends_tell_halts, halts_are_by_lanes, history_says_what_taps_tell,
+    lines_not_given_are_silent, only_known_lanes_speak, places_are_back, shelved_taps_are_untaken,
+    started_lines_are_apart, started_lines_have_taps, taken_lines_have_taps,
 };
 use run_rules::Rules;
-use lane_laws::{history_says_what_taps_tell, lines_not_given_are_silent};
 
 /// What the laws of lanes that have ended, and of their taps, say of this kind of core.
 pub(crate) fn histories_say<C: Rules>()

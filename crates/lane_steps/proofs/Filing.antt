@@ -7,7 +7,8 @@ use Rattle.exec_journal.specs.declared.reply.Reply.{Reply}
 use Rattle.remote_messages.specs.declared.file.NamedFile.{NamedFile}
 use Rattle.remote_messages.specs.declared.work.WorkInput.{WorkInput}
 use Rattle.run_rules.specs.Moves.{History}
-use Rattle.lane_deeds.specs.Deeds.{Looked, IsFrom, AreInputs, look_at, looks_of, looks_from, lacks}
+use Rattle.due_frames.specs.Requests.{IsFrom}
+use Rattle.lane_deeds.specs.Deeds.{Looked, AreInputs, look_at, looks_of, looks_from, lacks}
 use Rattle.lane_deeds.specs.Told.{IsTold, AreTold}
 use Rattle.lane_deeds.proofs.Growing.{are_told_later, told_more}
 

@@ -1,19 +1,21 @@
 //! The inputs of a request, with their bytes.
 ghost use Rattle.std.specs.Prelude.{◌≡◌, All, IfOk, take};
 ghost use Rattle.seat_desk.specs.Passes.{IsSamePass, mine, rules, seen};
-ghost use Rattle.lane_deeds.specs.Deeds.{AreInputs, IsFrom, look_at, looks_of};
+ghost use Rattle.due_frames.specs.Requests.{IsFrom};
+ghost use Rattle.lane_deeds.specs.Deeds.{AreInputs, look_at, looks_of};
 ghost use Rattle.lane_deeds.specs.Told.{AreTold};
 ghost use Rattle.proxy_calls.specs.Calls.{IsProxyOf, MakesNone};
 ghost use Rattle.proxy_calls.specs.Looks.{OwesSend};
 ghost use Rattle.lane_steps.specs.Work.{IsMadeBy};
 
+use crate::hands::is_executor;
 use lane_crew::Caller;
 use outside::{Berth, Place};
 use plain_values::{Blob, NoMemory, Text};
 use proxy_calls::look_made;
 use remote_messages::{NamedFile, Origin, WorkInput};
 use run_bench::Bench;
-use run_plan::Maker;
+use run_plan::{Kind, Maker};
 use run_rules::Rules;
 use std::alloc::Global;
 use std::sync::Wait;
@@ -81,4 +83,28 @@ fn content_of<B: Berth, P: Place, C: Rules, R: Wait>(
             look_made(rt, caller, berth, action, maker)
         }
     }
+}
+
+/// Computes the digests of the sources among the inputs of a request, unless they are known. Where
+/// several lanes come to a source at once, one computes its digest and the others wait. The executor is
+/// given no digests.
+///
+/// # Errors
+///
+/// `NoMemory`.
+pub(crate) fn know_digests<R: Wait>(
+    rt: &R,
+    alloc: Global,
+    kind: Kind,
+    inputs: &[WorkInput],
+) -> Result<(), NoMemory> {
+    if is_executor(kind) {
+        return Ok(());
+    }
+    for input in inputs {
+        if let Origin::Source(source) = &input.origin {
+            source.know_digest(rt, alloc)?;
+        }
+    }
+    Ok(())
 }

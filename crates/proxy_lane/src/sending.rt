@@ -8,10 +8,11 @@ ghost use Rattle.lane_steps.specs.Lanes.{held_of};
 ghost use Rattle.lane_steps.specs.Steps.{open_in, SameShelf, Goes, Halts, OwesWrote, TellsWrote, IsCauseOf};
 ghost use Rattle.lane_steps.specs.Work.{IsWork, IsWorkOf};
 ghost use Rattle.due_frames.specs.declared.frames.Due.TheVariants.{Frame};
+ghost use Rattle.due_frames.specs.Requests.{AreFrom};
 ghost use Rattle.lane_deeds.specs.Deeds.{send_asks, due_for};
 
 use crate::hands::{action_at, is_executor};
-use crate::inputs::inputs_of;
+use crate::inputs::{inputs_of, know_digests};
 use due_frames::{Due, cancel_frame, room_of, send_frame};
 use exec_journal::{Call, Written};
 use lane_crew::Caller;
@@ -60,14 +61,15 @@ pub(crate) fn act_send<B: Berth, P: Place, C: Rules, R: Wait>(
     match inputs_of(rt, alloc, caller, lane, action, sources) {
         Ok(inputs) => {
             let files = inputs.as_slice();
-            write(alloc, post, work, berth, feed, number, files)
+            write(rt, alloc, post, work, berth, feed, number, files)
         }
         Err(no_memory) => Err(no_memory),
     }
 }
 
 // Makes the room ready, and writes what is due.
-fn write<B: Berth>(
+fn write<B: Berth, R: Wait>(
+    rt: &R,
     alloc: Global,
     post: &Post,
     work: &WorkAction,
@@ -76,10 +78,14 @@ fn write<B: Berth>(
     number: i32,
     inputs: &[NamedFile],
 ) -> Result<Written, NoMemory>
+    requires { AreFrom work.now.inputs inputs.now }
     ensures { Writes (send_asks post.now number work.now inputs.now)
         (due_for post.now number work.now inputs.now) result
         (B.told berth.old) (B.told berth.new) (B.Feed.told feed.old) (B.Feed.told feed.new) }
 {
+    if let Err(no_memory) = know_digests(rt, alloc, post.kind, work.inputs.as_slice()) {
+        return Err(no_memory);
+    }
     let room = room_of(post.kind, number);
     let due = match send_frame(alloc, post.speech, room, number, work, inputs, post.verbose) {
         Ok(due) => due,

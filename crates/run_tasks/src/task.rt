@@ -6,7 +6,7 @@ ghost use Rattle.tool_words.specs.Options.{AreInLimits};
 ghost use Rattle.run_tasks.specs.Tasks.{HasPosts, HasSoundPlans, IsTaskOf, plan_by};
 
 use crate::posts::posts_of;
-use action_list::{ActionList, group_parts, plan};
+use action_list::{ActionList, group_parts, plan, plan_again};
 use lane_deeds::Post;
 use plain_values::NoMemory;
 use remote_messages::Work;
@@ -55,7 +55,7 @@ pub fn task_of(
         options.executor.as_str(),
     )?;
     let posts = posts_of(alloc, &plan, parts.as_slice(), options.verbose)?;
-    let twin = plan_of(alloc, options, list)?;
+    let twin = plan_again(alloc, &plan)?;
     let task = Task {
         plan,
         posts,

@@ -2,6 +2,9 @@
 #![tactic(auto)]
 
 mod digest;
+mod slot;
 mod source;
+#[cfg(test)]
+mod tests;
 
 pub use source::Source;

@@ -1,25 +1,36 @@
-ghost use Rattle.std.specs.Prelude.{◌≡◌, List, ℕ, IfOk, IfSome};
+ghost use Rattle.std.specs.Prelude.{◌≡◌, List, ℕ, IfOk};
+ghost use Rattle.std.specs.Arc.{arc_value};
 ghost use Rattle.worker_key.specs.Keys.{digest_text};
 
-use crate::digest::{Digest, digits_of};
+use crate::digest::{Digits, digits_of};
+use crate::slot::DigitSlot;
 use plain_values::{Blob, Items, NoMemory};
 use std::alloc::Global;
 use std::marker::Model;
-use std::sync::{Arc, OnceLock};
+use std::sync::{Arc, Mutex, Wait};
 
-/// The contents of a source file, with their digest from when it was first asked for. Copies share
-/// both. A contract sees the list of the bytes.
+/// The contents of a source file, with their digest once it is known. Copies share both. A contract
+/// sees the list of the bytes.
 #[derive(Drop)]
 pub struct Source {
     content: Blob,
-    // What a cell holds is known by its type alone, so the digest stands beside what it is of.
-    digest: Arc<OnceLock<Digest>>,
+    known: Arc<Known>,
+}
+
+/// The digits, and who may compute them.
+#[derive(Drop)]
+struct Known {
+    // Held by the one that computes the digits.
+    computing: Mutex<()>,
+    digits: DigitSlot,
 }
 
 impl Model for Source {
     ghost Value = { List ℕ };
 
     ghost view = { λ s. s.content };
+
+    ghost invariant = { λ s. (arc_value s.known).digits.slot ≡ s.content };
 }
 
 impl Source {
@@ -31,9 +42,13 @@ impl Source {
     pub fn of(alloc: Global, content: Blob) -> Result<Source, NoMemory>
         ensures { IfOk result (λ s. s ≡ content) }
     {
+        let known = Known {
+            computing: Mutex::new(()),
+            digits: DigitSlot::of(&content),
+        };
         Ok(Source {
             content,
-            digest: Arc::new(alloc, OnceLock::new())?,
+            known: Arc::new(alloc, known)?,
         })
     }
 
@@ -58,38 +73,45 @@ impl Source {
     {
         Ok(Source {
             content: self.content.again()?,
-            digest: Arc::try_clone(&self.digest)?,
+            known: Arc::try_clone(&self.known)?,
         })
     }
 
-    /// The 64 lower-case hexadecimal digits of the SHA-256 of these bytes. Where they are the
-    /// contents, they are computed once for all copies; else each time.
+    /// Computes the digest, unless a copy has done so. One of several that come at once computes it, and
+    /// the others wait.
     ///
     /// # Errors
     ///
     /// `NoMemory`.
-    pub fn digits_of(&self, alloc: Global, bytes: &[u8]) -> Result<Items<u8>, NoMemory>
-        ensures { IfOk result (λ digits. digits ≡ digest_text bytes.now) }
+    pub fn know_digest<R: Wait>(&self, rt: &R, alloc: Global) -> Result<(), NoMemory> {
+        if self.known.digits.is_filled() {
+            return Ok(());
+        }
+        let _guard = self.known.computing.lock(rt);
+        if !self.known.digits.is_filled() {
+            self.compute(alloc)?;
+        }
+        Ok(())
+    }
+
+    /// The 64 lower-case hexadecimal digits of the SHA-256 of the contents. They are computed here where
+    /// they aren't known.
+    ///
+    /// # Errors
+    ///
+    /// `NoMemory`.
+    pub fn digits(&self, alloc: Global) -> Result<Items<u8>, NoMemory>
+        ensures { IfOk result (λ digits. digits ≡ digest_text self.now) }
     {
-        match self.known(alloc, bytes)? {
-            Some(digits) => Ok(Items::of(digits.to_vec(alloc)?)),
-            None => digits_of(alloc, bytes),
+        match self.known.digits.digits(alloc)? {
+            Some(digits) => Ok(digits),
+            None => digits_of(alloc, self.content.bytes()),
         }
     }
 
-    // The digits of these bytes, if they are the contents. Two that ask first at once both compute.
-    fn known(&self, alloc: Global, bytes: &[u8]) -> Result<Option<&[u8]>, NoMemory>
-        ensures { IfOk result (λ known. IfSome known (λ digits.
-            digits.now ≡ digest_text bytes.now)) }
-    {
-        if self.digest.get().is_none() && self.content.bytes() == bytes {
-            let _ = self
-                .digest
-                .try_set(Digest::of(alloc, self.content.again()?)?);
-        }
-        match self.digest.get() {
-            Some(digest) => Ok(digest.digits_of(bytes)),
-            None => Ok(None),
-        }
+    fn compute(&self, alloc: Global) -> Result<(), NoMemory> {
+        let digits = digits_of(alloc, self.content.bytes())?;
+        self.known.digits.put(Digits { digits });
+        Ok(())
     }
 }

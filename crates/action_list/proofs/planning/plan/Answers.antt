@@ -4,12 +4,15 @@ use Rattle.action_list.proofs.PlanLemmas.{plan_of-planned, whole_plan}
 use Rattle.action_list.proofs.SoundActions.{planned, sound_plan}
 use Rattle.action_list.proofs.planning.plan.Goals as goal
 
-made : (c : goal.After-drop-keys-inside-2)
+made : (c : goal.After-drop-made-3)
     → record { actions = c.in_ok-plan_actions.field-0; groups = c.in_ok-groups_of.field-0; limit = c.args.retries + 1 } ≡ planned c.args.list.now.actions c.args.instances c.args.remote c.args.retries
 made c =
-    whole_plan c.args.list.now.actions c.args.instances c.args.remote c.args.retries _ _
-    (rw (c.as_slice.ensures, c.in_ok-keys.ensures.keys, c.as_slice-actions.ensures) at c.in_ok-plan_actions.ensures)
-    (rw (c.as_slice-2.ensures, c.in_ok-held.ensures, c.as_slice-3.ensures, c.in_ok-keys.ensures.keys, c.as_slice-actions.ensures) at c.in_ok-groups_of.ensures)
+    whole_plan c.args.list.now.actions c.args.instances c.args.remote c.args.retries
+    c.as_slice-held.result.now c.as_slice-keys.result.now _ _
+    (c.as_slice-held.ensures ∙ (rw c.as_slice-actions.ensures at c.in_ok-made.ensures.held))
+    (c.as_slice-keys.ensures ∙ (rw c.as_slice-actions.ensures at c.in_ok-made.ensures.keys))
+    (rw c.as_slice-actions.ensures at c.in_ok-plan_actions.ensures)
+    (rw c.as_slice-actions.ensures at c.in_ok-groups_of.ensures)
 
 pub returns-clause-plan : goal.returns-clause-plan
 returns-clause-plan c = made c ∙ plan_of-planned c.args.list.now.actions c.args.instances c.args.remote c.args.retries

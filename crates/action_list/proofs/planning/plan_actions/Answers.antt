@@ -1,9 +1,22 @@
-use Rattle.std.proofs.Common.{◌≡◌, ◌++◌, ◌∷◌, [], ◌+◌, take, drop, length, sym, ap, subst, ◌∙◌, append_assoc, arith}
-use Rattle.std.proofs.lemmas.List.{length-take-le}
-use Rattle.action_list.specs.Plans.{plan_action, plan_actions}
+use Rattle.std.proofs.Common.{◌≡◌, ◌++◌, ◌∷◌, [], ◌+◌, take, drop, length, Some, sym, ap, subst, ◌∙◌, append_assoc, arith}
+use Rattle.std.specs.Prelude.{slice_get}
+use Rattle.std.proofs.lemmas.List.{length-map, length-take-le}
+use Rattle.action_list.specs.Plans.{local_key, plan_action, plan_actions}
 use Rattle.list_order.specs.Whole.{KnowsProducers}
 use Rattle.list_order.proofs.Orders.{take_this, drop_this}
+use Rattle.action_list.proofs.Maps.{mapped_at}
 use Rattle.action_list.proofs.planning.plan_actions.Goals as goal
+
+pub held_at-key-requires : goal.held_at-key-requires
+held_at-key-requires c = rw c.requires.held (omega (arith, length-map c.args.actions.now local_key))
+
+pub plan_action-requires-clause-held : goal.plan_action-requires-clause-held
+plan_action-requires-clause-held c =
+    let key = c.held_at-key.result.now in
+    mapped_at local_key c.args.actions.now c.loop-action.action-index c.action-item.result key
+    c.loop-action-test.true c.action-item.is
+    (subst (λ hs. slice_get hs c.loop-action.action-index ≡ Some key) c.requires.held
+    (subst (λ n. slice_get c.args.held.now n ≡ Some key) c.loop-action.invariant.counted c.held_at-key.ensures))
 
 pub loop-action-preserved : goal.loop-action-preserved
 loop-action-preserved c =

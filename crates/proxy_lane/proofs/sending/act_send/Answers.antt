@@ -7,11 +7,19 @@ use Rattle.remote_messages.specs.declared.file.NamedFile.{NamedFile}
 use Rattle.remote_messages.specs.declared.work.WorkInput.{WorkInput}
 use Rattle.lane_deeds.specs.Deeds.{AreInputs, looks_of, send_asks, due_for}
 use Rattle.lane_deeds.specs.Told.{AreTold}
+use Rattle.lane_deeds.proofs.Inputs.{are_from}
 use Rattle.lane_steps.proofs.Acting.{send_acts, no_inputs}
 use Rattle.proxy_lane.proofs.sending.act_send.Goals as goal
 
 pub inputs_of-requires-clause-owes : goal.inputs_of-requires-clause-owes
 inputs_of-requires-clause-owes g c = (c.args.line, c.args.number, c.requires.owes)
+
+pub write-requires : goal.write-requires
+write-requires g c =
+    let items = c.in-Ok.inputs.items in
+    are_from c.args.work.now.inputs c.as_slice-files.result.now
+    (subst (λ (fs : List NamedFile). AreInputs c.args.work.now.inputs fs) (sym c.as_slice-files.ensures.value)
+    (subst (λ (ys : List WorkInput). AreInputs ys items) c.as_slice-sources.ensures c.in-Ok.ensures.inputs))
 
 pub returns-in-Ok-clause-acts : goal.returns-in-Ok-clause-acts
 returns-in-Ok-clause-acts g c =
