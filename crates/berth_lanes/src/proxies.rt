@@ -14,7 +14,7 @@ use lane_crew::Lane;
 use lane_deeds::{Cause, Post};
 use lane_steps::EndedFeed;
 use outside::{Berth, Place};
-use proxy_lane::LaneEnd;
+use proxy_lane::{LaneEnd, Site};
 use remote_messages::WorkAction;
 use run_bench::Bench;
 use run_rules::Rules;
@@ -76,13 +76,20 @@ impl<'a, B: Berth, P: Place, C: Rules> Lane<Desk<Bench<B, P, C>>, Pass<Bench<B, 
             post,
             actions,
         } = self;
+        let site = Site {
+            rt,
+            alloc,
+            berth: number,
+            post,
+            actions,
+        };
         let LaneEnd {
             pass,
             berth,
             feeds,
             unsaid,
             halted,
-        } = proxy_lane::run(rt, alloc, desk, bells, pass, berth, number, post, actions);
+        } = proxy_lane::run(&site, desk, bells, pass, berth);
         let left = ProxyLeft {
             berth,
             feeds,

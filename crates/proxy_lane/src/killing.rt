@@ -1,23 +1,25 @@
 //! What a proxy lane does for a Kill, and where it halts.
-ghost use Rattle.std.specs.Prelude.{◌≡◌, true, None, Some, OnOk, IfErr};
+ghost use Rattle.std.specs.Prelude.{◌≡◌, true, None, Some};
 ghost use Rattle.seat_desk.specs.Passes.{IsSamePass, mine};
 ghost use Rattle.outside.specs.Launches.{IsNewChild};
-ghost use Rattle.run_rules.specs.Duties.{Asks, Kills, duty_of};
+ghost use Rattle.run_rules.specs.Duties.{duty_of};
 ghost use Rattle.lane_deeds.specs.Ends.{may_halt};
 ghost use Rattle.exec_journal.specs.declared.call.Call.TheVariants as call;
 ghost use Rattle.exec_journal.specs.declared.reply.Reply.TheVariants as reply;
-ghost use Rattle.proxy_calls.specs.Calls.{IsProxyOf, MakesOne};
+ghost use Rattle.proxy_calls.specs.declared.asking.Order.TheVariants as order;
+ghost use Rattle.proxy_calls.specs.Calls.{MakesOne};
 ghost use Rattle.lane_steps.specs.Lanes.{held_of};
-ghost use Rattle.lane_steps.specs.Steps.{open_in, HasRoom, IsShelved, Goes, Halts, IsLaidBy, AreLaidBy};
+ghost use Rattle.proxy_lane.specs.Sites.{IsSite, IsOrdered, IsTidy, Obeys};
+ghost use Rattle.lane_steps.specs.Steps.{open_in, HasRoom, IsShelved, IsLaidBy, AreLaidBy};
 
 use crate::hands::open_line;
+use crate::site::Site;
 use exec_journal::Call;
 use lane_crew::Caller;
-use lane_deeds::{Cause, Post};
+use lane_deeds::Cause;
 use lane_steps::{EndedFeed, Hands, OpenFeed};
 use outside::{Berth, Place};
 use proxy_calls::{halt, tell};
-use remote_messages::WorkAction;
 use run_bench::Bench;
 use run_rules::Rules;
 use std::sync::Wait;
@@ -28,36 +30,24 @@ use std::sync::Wait;
 ///
 /// Why the lane is to halt.
 pub(crate) fn kill<B: Berth, P: Place, C: Rules, R: Wait>(
-    rt: &R,
-    post: &Post,
-    actions: &[WorkAction],
+    site: &Site<'_, R>,
     caller: &mut Caller<'_, Bench<B, P, C>>,
-    lane: u32,
     hands: &mut Hands<B, B::Feed, B::Child>,
     line: u32,
     child: B::Child,
 ) -> Result<(), Cause>
-    requires lane { IsProxyOf C.seats lane caller.old.pass }
-    requires owes { duty_of (mine caller.old.pass) ≡ Kills line }
-    requires shelved { IsShelved lane caller.old.pass None }
-    requires open { open_in hands.old ≡ Some line }
-    requires child { IsNewChild line (B.Child.told child) }
+    requires site { IsSite C.seats C.remote C.actions C.outputs C.makers site.now caller.old.pass }
+    requires order { IsOrdered site.now B.Child.told (order.Kill line child)
+        caller.old.pass hands.old }
     requires room { HasRoom hands.old }
     ensures same { IsSamePass caller.old.pass caller.new.pass }
-    ensures shelved { IsShelved lane caller.new.pass None }
+    ensures shelved { IsShelved site.now.berth caller.new.pass None }
     ensures closed { open_in hands.new ≡ None }
-    ensures goes { OnOk result ((duty_of (mine caller.new.pass) ≡ Asks)
-        × Goes post.now actions.now C.rule
-        caller.old.pass (held_of B.told B.Feed.told B.Child.told hands.old)
-        caller.new.pass (held_of B.told B.Feed.told B.Child.told hands.new)) }
-    ensures halts { IfErr result (λ cause. Halts post.now actions.now C.rule cause
-        caller.old.pass (held_of B.told B.Feed.told B.Child.told hands.old)
-        caller.new.pass (held_of B.told B.Feed.told B.Child.told hands.new)) }
+    ensures obeys { Obeys site.now C.rule (held_of B.told B.Feed.told B.Child.told) result
+        caller.old.pass hands.old caller.new.pass hands.new }
 {
-    let _ = post;
-    let _ = actions;
     lay_by::<B>(hands, line, child);
-    match tell(rt, caller, lane, Call::Killed { line }) {
+    match tell(site.rt, caller, site.berth, Call::Killed { line }) {
         Ok(()) => Ok(()),
         Err(call) => Err(Cause::Refused(call)),
     }
@@ -84,22 +74,20 @@ fn lay_by<B: Berth>(hands: &mut Hands<B, B::Feed, B::Child>, line: u32, child: B
 
 /// Halts. If a line is open, its child comes off the shelf, and the berth ends it.
 pub(crate) fn give_up<B: Berth, P: Place, C: Rules, R: Wait>(
-    rt: &R,
+    site: &Site<'_, R>,
     caller: &mut Caller<'_, Bench<B, P, C>>,
-    lane: u32,
     hands: &mut Hands<B, B::Feed, B::Child>,
 )
-    requires lane { IsProxyOf C.seats lane caller.old.pass }
+    requires site { IsSite C.seats C.remote C.actions C.outputs C.makers site.now caller.old.pass }
     requires may { may_halt (duty_of (mine caller.old.pass)) ≡ true }
-    requires shelved { IsShelved lane caller.old.pass (open_in hands.old) }
-    requires room { HasRoom hands.old }
+    requires tidy { IsTidy site.now caller.old.pass hands.old }
     ensures same { IsSamePass caller.old.pass caller.new.pass }
     ensures halted { MakesOne call.Halt reply.Noted caller.old.pass caller.new.pass }
     ensures laid_by { AreLaidBy (open_in hands.old)
         (held_of B.told B.Feed.told B.Child.told hands.old)
         (held_of B.told B.Feed.told B.Child.told hands.new) }
 {
-    let child = halt(rt, caller, lane);
+    let child = halt(site.rt, caller, site.berth);
     match child {
         Some(child) => match open_line(hands) {
             Some(line) => lay_by::<B>(hands, line, child),

@@ -1,29 +1,25 @@
 //! The whole lane: round after round, to its end.
-ghost use Rattle.std.specs.Prelude.{◌≡◌, ◌<◌, [], length, map, option_map, OnOk, IfOk, IfErr};
-ghost use Rattle.seat_desk.specs.Passes.{IsPassOf, IsSamePass, mine, rules};
-ghost use Rattle.run_plan.specs.Groups.{is_remote};
-ghost use Rattle.run_rules.specs.Duties.{Asks, duty_of};
-ghost use Rattle.proxy_calls.specs.Calls.{IsProxyOf};
-ghost use Rattle.lane_steps.specs.Work.{IsWorkOf};
+ghost use Rattle.std.specs.Prelude.{◌≡◌, ◌<◌, [], map, option_map};
+ghost use Rattle.seat_desk.specs.Passes.{IsPassOf, IsSamePass, mine};
 ghost use Rattle.lane_steps.specs.Lanes.{held_of, back_of};
-ghost use Rattle.lane_steps.specs.Steps.{open_in, HasRoom, IsShelved, Goes, GoesTo, Halts, MayObey, SomeKeeps, Finishes, IsServedBy};
+ghost use Rattle.proxy_lane.specs.Sites.{IsSite, IsOrdered, IsTidy, IsReady, Obeys, Rounds};
+ghost use Rattle.lane_steps.specs.Steps.{HasRoom, Finishes, IsServedBy};
 
 use crate::gathering::gather;
 use crate::killing::{give_up, kill};
 use crate::launching::launch;
 use crate::sending::{cancel, send};
+use crate::site::{Answer, Site};
 use exec_journal::Call;
 use lane_bells::Bells;
 use lane_crew::Caller;
-use lane_deeds::{Cause, Post};
+use lane_deeds::Cause;
 use lane_steps::{EndedFeed, Hands};
 use outside::{Berth, Place};
 use proxy_calls::{Order, ask};
-use remote_messages::WorkAction;
 use run_bench::Bench;
 use run_rules::Rules;
 use seat_desk::{Desk, Pass};
-use std::alloc::Global;
 use std::sync::Wait;
 
 /// What a proxy lane leaves. The type has no bound: [`ProxyEnd`] names it by the outside and the
@@ -48,43 +44,37 @@ pub type ProxyEnd<B, P, C> = LaneEnd<
     <B as Berth>::Child,
 >;
 
-/// Serves the berth of this number: asks for orders, carries each out and reports how that went,
-/// until the lane is told to stop. Where there is no memory for an order, or for its report, the
-/// lane halts, and the child of the line that is open is killed. While there is nothing to do it
-/// rests.
+/// Serves this berth, which is the site's: asks for orders, carries each out and reports how that
+/// went, until the lane is told to stop. Where there is no memory for an order, or for its report,
+/// the lane halts, and the child of the line that is open is killed. While there is nothing to do
+/// it rests.
 pub fn run<B: Berth, P: Place, C: Rules, R: Wait>(
-    rt: &R,
-    alloc: Global,
+    site: &Site<'_, R>,
     desk: &Desk<Bench<B, P, C>>,
     bells: &Bells,
     pass: Pass<Bench<B, P, C>>,
     berth: B,
-    number: u32,
-    post: &Post,
-    actions: &[WorkAction],
 ) -> ProxyEnd<B, P, C>
     requires desk { IsPassOf desk.now pass }
-    requires lane { IsProxyOf C.seats number pass }
+    requires site { IsSite C.seats C.remote C.actions C.outputs C.makers site.now pass }
     requires bell { pass.lane < bells.now }
     requires fresh { mine pass ≡ [] }
-    requires remote { C.remote (rules pass) number ≡ is_remote post.now.kind }
-    requires work { IsWorkOf (C.actions (rules pass)) (C.outputs (rules pass))
-        (C.makers (rules pass)) actions.now }
     ensures desk { IsPassOf desk.now result.pass }
     ensures same { IsSamePass pass result.pass }
-    ensures served { IsServedBy post.now actions.now C.rule (B.told berth) (B.told result.berth)
+    ensures served { IsServedBy site.now.post.now site.now.actions.now C.rule
+        (B.told berth) (B.told result.berth)
         (map (back_of B.Feed.told B.Child.told) result.feeds.items)
         (option_map (back_of B.Feed.told B.Child.told) result.unsaid)
         result.halted result.pass }
 {
-    let mut caller = Caller::new(desk, bells, pass, 2 * number);
+    let mut caller = Caller::new(desk, bells, pass, 2 * site.berth);
     let mut hands = Hands {
         berth,
         open: None,
-        ended: Vec::new(alloc),
+        ended: Vec::new(site.alloc),
         unsaid: None,
     };
-    let halted = serve(rt, alloc, post, actions, &mut caller, number, &mut hands);
+    let halted = serve(site, &mut caller, &mut hands);
     let Hands {
         berth,
         open: _,
@@ -102,34 +92,24 @@ pub fn run<B: Berth, P: Place, C: Rules, R: Wait>(
 
 // Carries out orders until the lane is told to stop, or halts. It gives why it halted.
 fn serve<B: Berth, P: Place, C: Rules, R: Wait>(
-    rt: &R,
-    alloc: Global,
-    post: &Post,
-    actions: &[WorkAction],
+    site: &Site<'_, R>,
     caller: &mut Caller<'_, Bench<B, P, C>>,
-    lane: u32,
     hands: &mut Hands<B, B::Feed, B::Child>,
 ) -> Option<Cause>
-    requires lane { IsProxyOf C.seats lane caller.old.pass }
-    requires asks { duty_of (mine caller.old.pass) ≡ Asks }
-    requires remote { C.remote (rules caller.old.pass) lane ≡ is_remote post.now.kind }
-    requires work { IsWorkOf (C.actions (rules caller.old.pass))
-        (C.outputs (rules caller.old.pass)) (C.makers (rules caller.old.pass)) actions.now }
-    requires shelved { IsShelved lane caller.old.pass (open_in hands.old) }
-    requires room { HasRoom hands.old }
-    requires kept { SomeKeeps post.now actions.now C.rule caller.old.pass
-        (held_of B.told B.Feed.told B.Child.told hands.old) }
+    requires site { IsSite C.seats C.remote C.actions C.outputs C.makers site.now caller.old.pass }
+    requires ready { IsReady site.now C.rule (held_of B.told B.Feed.told B.Child.told)
+        caller.old.pass hands.old }
     ensures same { IsSamePass caller.old.pass caller.new.pass }
-    ensures ends { Finishes post.now actions.now C.rule result
+    ensures ends { Finishes site.now.post.now site.now.actions.now C.rule result
         caller.old.pass (held_of B.told B.Feed.told B.Child.told hands.old)
         caller.new.pass (held_of B.told B.Feed.told B.Child.told hands.new) }
 {
-    for _ in rt.forever() {
-        match next(rt, alloc, post, actions, caller, lane, hands) {
+    for _ in site.rt.forever() {
+        match next(site, caller, hands) {
             Ok(true) => {}
             Ok(false) => return None,
             Err(cause) => {
-                give_up(rt, caller, lane, hands);
+                give_up(site, caller, hands);
                 return Some(cause);
             }
         }
@@ -139,35 +119,20 @@ fn serve<B: Berth, P: Place, C: Rules, R: Wait>(
 
 // One round: asks, and carries out what is ordered. It gives `false` if the lane was told to stop.
 fn next<B: Berth, P: Place, C: Rules, R: Wait>(
-    rt: &R,
-    alloc: Global,
-    post: &Post,
-    actions: &[WorkAction],
+    site: &Site<'_, R>,
     caller: &mut Caller<'_, Bench<B, P, C>>,
-    lane: u32,
     hands: &mut Hands<B, B::Feed, B::Child>,
 ) -> Result<bool, Cause>
-    requires lane { IsProxyOf C.seats lane caller.old.pass }
-    requires asks { duty_of (mine caller.old.pass) ≡ Asks }
-    requires remote { C.remote (rules caller.old.pass) lane ≡ is_remote post.now.kind }
-    requires work { IsWorkOf (C.actions (rules caller.old.pass))
-        (C.outputs (rules caller.old.pass)) (C.makers (rules caller.old.pass)) actions.now }
-    requires shelved { IsShelved lane caller.old.pass (open_in hands.old) }
-    requires room { HasRoom hands.old }
-    requires kept { SomeKeeps post.now actions.now C.rule caller.old.pass
-        (held_of B.told B.Feed.told B.Child.told hands.old) }
+    requires site { IsSite C.seats C.remote C.actions C.outputs C.makers site.now caller.old.pass }
+    requires ready { IsReady site.now C.rule (held_of B.told B.Feed.told B.Child.told)
+        caller.old.pass hands.old }
     ensures same { IsSamePass caller.old.pass caller.new.pass }
-    ensures shelved { IsShelved lane caller.new.pass (open_in hands.new) }
-    ensures room { HasRoom hands.new }
-    ensures goes { IfOk result (λ more. GoesTo post.now actions.now C.rule more
-        caller.old.pass (held_of B.told B.Feed.told B.Child.told hands.old)
-        caller.new.pass (held_of B.told B.Feed.told B.Child.told hands.new)) }
-    ensures halts { IfErr result (λ cause. Halts post.now actions.now C.rule cause
-        caller.old.pass (held_of B.told B.Feed.told B.Child.told hands.old)
-        caller.new.pass (held_of B.told B.Feed.told B.Child.told hands.new)) }
+    ensures tidy { IsTidy site.now caller.new.pass hands.new }
+    ensures rounds { Rounds site.now C.rule (held_of B.told B.Feed.told B.Child.told) result
+        caller.old.pass hands.old caller.new.pass hands.new }
 {
-    match ask(rt, caller, lane) {
-        Ok(Some(order)) => match obey(rt, alloc, post, actions, caller, lane, hands, order) {
+    match ask(site.rt, caller, site.berth) {
+        Ok(Some(order)) => match obey(site, caller, hands, order) {
             Ok(()) => Ok(true),
             Err(cause) => Err(cause),
         },
@@ -178,54 +143,43 @@ fn next<B: Berth, P: Place, C: Rules, R: Wait>(
 
 // Carries out an order.
 fn obey<B: Berth, P: Place, C: Rules, R: Wait>(
-    rt: &R,
-    alloc: Global,
-    post: &Post,
-    actions: &[WorkAction],
+    site: &Site<'_, R>,
     caller: &mut Caller<'_, Bench<B, P, C>>,
-    lane: u32,
     hands: &mut Hands<B, B::Feed, B::Child>,
     order: Order<B::Child>,
 ) -> Result<(), Cause>
-    requires lane { IsProxyOf C.seats lane caller.old.pass }
-    requires order { MayObey (length actions.now) B.Child.told lane order
-        caller.old.pass (open_in hands.old) }
-    requires remote { C.remote (rules caller.old.pass) lane ≡ is_remote post.now.kind }
-    requires work { IsWorkOf (C.actions (rules caller.old.pass))
-        (C.outputs (rules caller.old.pass)) (C.makers (rules caller.old.pass)) actions.now }
+    requires site { IsSite C.seats C.remote C.actions C.outputs C.makers site.now caller.old.pass }
+    requires order { IsOrdered site.now B.Child.told order caller.old.pass hands.old }
     requires room { HasRoom hands.old }
     ensures same { IsSamePass caller.old.pass caller.new.pass }
-    ensures shelved { IsShelved lane caller.new.pass (open_in hands.new) }
-    ensures room { HasRoom hands.new }
-    ensures goes { OnOk result ((duty_of (mine caller.new.pass) ≡ Asks)
-        × Goes post.now actions.now C.rule
-        caller.old.pass (held_of B.told B.Feed.told B.Child.told hands.old)
-        caller.new.pass (held_of B.told B.Feed.told B.Child.told hands.new)) }
-    ensures halts { IfErr result (λ cause. Halts post.now actions.now C.rule cause
-        caller.old.pass (held_of B.told B.Feed.told B.Child.told hands.old)
-        caller.new.pass (held_of B.told B.Feed.told B.Child.told hands.new)) }
+    ensures tidy { IsTidy site.now caller.new.pass hands.new }
+    ensures obeys { Obeys site.now C.rule (held_of B.told B.Feed.told B.Child.told) result
+        caller.old.pass hands.old caller.new.pass hands.new }
 {
     match order {
-        Order::Launch { line } => launch(rt, post, actions, caller, lane, hands, line),
+        Order::Launch { line } => launch(site, caller, hands, line),
         Order::Send {
             line,
             number,
             action,
-        } => send(
-            rt, alloc, post, actions, caller, lane, hands, line, number, action,
-        ),
-        Order::Cancel { line, number } => {
-            cancel(rt, alloc, post, actions, caller, lane, hands, line, number)
-        }
+        } => send(site, caller, hands, line, number, action),
+        Order::Cancel { line, number } => { cancel(site, caller, hands, line, number) }
         Order::Gather {
             line,
             number,
             attempt,
             exit,
             refused,
-        } => gather(
-            rt, alloc, post, actions, caller, lane, hands, line, number, attempt, exit, refused,
-        ),
-        Order::Kill { line, child } => { kill(rt, post, actions, caller, lane, hands, line, child) }
+        } => {
+            let answer = Answer {
+                line,
+                number,
+                attempt,
+                exit,
+                refused,
+            };
+            gather(site, caller, hands, &answer)
+        }
+        Order::Kill { line, child } => { kill(site, caller, hands, line, child) }
     }
 }

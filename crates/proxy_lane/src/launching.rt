@@ -1,23 +1,24 @@
 //! What a proxy lane does for a Launch.
-ghost use Rattle.std.specs.Prelude.{◌≡◌, ◌<◌, vec_len, vec_capacity, false, None, OnOk, IfErr};
+ghost use Rattle.std.specs.Prelude.{◌≡◌, ◌<◌, vec_len, vec_capacity, false, OnOk, IfErr};
 ghost use Rattle.seat_desk.specs.Passes.{IsSamePass, mine};
 ghost use Rattle.run_rules.specs.Duties.{Asks, Launches, duty_of};
 ghost use Rattle.exec_journal.specs.declared.call.Call.TheVariants as call;
 ghost use Rattle.exec_journal.specs.declared.reply.Reply.TheVariants as reply;
 ghost use Rattle.exec_journal.specs.Entries.{is_done};
 ghost use Rattle.lane_deeds.specs.declared.cause.Cause.TheVariants.{Refused};
-ghost use Rattle.proxy_calls.specs.Calls.{IsProxyOf, MakesNone, MakesOne};
+ghost use Rattle.proxy_calls.specs.declared.asking.Order.TheVariants as order;
+ghost use Rattle.proxy_calls.specs.Calls.{MakesNone, MakesOne};
 ghost use Rattle.lane_steps.specs.Lanes.{held_of};
-ghost use Rattle.lane_steps.specs.Steps.{open_in, HasRoom, IsShelved, IsNewLine, Goes, Halts};
+ghost use Rattle.proxy_lane.specs.Sites.{IsSite, IsOrdered, IsTidy, Obeys};
 
+use crate::site::Site;
 use exec_journal::{Call, Started};
 use lane_crew::Caller;
-use lane_deeds::{Cause, Post};
+use lane_deeds::Cause;
 use lane_steps::{EndedFeed, Hands, OpenFeed};
 use order_acts::{Opened, launch_line};
 use outside::{Berth, Place};
 use proxy_calls::{Unsaid, tell, tell_started};
-use remote_messages::WorkAction;
 use run_bench::Bench;
 use run_rules::Rules;
 use std::sync::Wait;
@@ -28,71 +29,46 @@ use std::sync::Wait;
 ///
 /// Why the lane is to halt. A child that was started by then is killed.
 pub(crate) fn launch<B: Berth, P: Place, C: Rules, R: Wait>(
-    rt: &R,
-    post: &Post,
-    actions: &[WorkAction],
+    site: &Site<'_, R>,
     caller: &mut Caller<'_, Bench<B, P, C>>,
-    lane: u32,
     hands: &mut Hands<B, B::Feed, B::Child>,
     line: u32,
 ) -> Result<(), Cause>
-    requires lane { IsProxyOf C.seats lane caller.old.pass }
-    requires owes { duty_of (mine caller.old.pass) ≡ Launches line }
-    requires shelved { IsShelved lane caller.old.pass None }
-    requires open { open_in hands.old ≡ None }
-    requires new { IsNewLine line caller.old.pass }
+    requires site { IsSite C.seats C.remote C.actions C.outputs C.makers site.now caller.old.pass }
+    requires order { IsOrdered site.now B.Child.told (order.Launch line) caller.old.pass hands.old }
     ensures same { IsSamePass caller.old.pass caller.new.pass }
-    ensures shelved { IsShelved lane caller.new.pass (open_in hands.new) }
-    ensures room { HasRoom hands.new }
-    ensures goes { OnOk result ((duty_of (mine caller.new.pass) ≡ Asks)
-        × Goes post.now actions.now C.rule
-        caller.old.pass (held_of B.told B.Feed.told B.Child.told hands.old)
-        caller.new.pass (held_of B.told B.Feed.told B.Child.told hands.new)) }
-    ensures halts { IfErr result (λ cause. Halts post.now actions.now C.rule cause
-        caller.old.pass (held_of B.told B.Feed.told B.Child.told hands.old)
-        caller.new.pass (held_of B.told B.Feed.told B.Child.told hands.new)) }
+    ensures tidy { IsTidy site.now caller.new.pass hands.new }
+    ensures obeys { Obeys site.now C.rule (held_of B.told B.Feed.told B.Child.told) result
+        caller.old.pass hands.old caller.new.pass hands.new }
 {
     match hands.ended.reserve(1) {
-        Ok(()) => start(rt, post, actions, caller, lane, hands, line),
+        Ok(()) => start(site, caller, hands, line),
         Err(_) => Err(Cause::NoMemory),
     }
 }
 
 // The same, where there is room for the line when it ends.
 fn start<B: Berth, P: Place, C: Rules, R: Wait>(
-    rt: &R,
-    post: &Post,
-    actions: &[WorkAction],
+    site: &Site<'_, R>,
     caller: &mut Caller<'_, Bench<B, P, C>>,
-    lane: u32,
     hands: &mut Hands<B, B::Feed, B::Child>,
     line: u32,
 ) -> Result<(), Cause>
-    requires lane { IsProxyOf C.seats lane caller.old.pass }
-    requires owes { duty_of (mine caller.old.pass) ≡ Launches line }
-    requires shelved { IsShelved lane caller.old.pass None }
-    requires open { open_in hands.old ≡ None }
+    requires site { IsSite C.seats C.remote C.actions C.outputs C.makers site.now caller.old.pass }
+    requires order { IsOrdered site.now B.Child.told (order.Launch line) caller.old.pass hands.old }
     requires space { vec_len hands.old.ended < vec_capacity hands.old.ended }
-    requires new { IsNewLine line caller.old.pass }
     ensures same { IsSamePass caller.old.pass caller.new.pass }
-    ensures shelved { IsShelved lane caller.new.pass (open_in hands.new) }
-    ensures room { HasRoom hands.new }
-    ensures goes { OnOk result ((duty_of (mine caller.new.pass) ≡ Asks)
-        × Goes post.now actions.now C.rule
-        caller.old.pass (held_of B.told B.Feed.told B.Child.told hands.old)
-        caller.new.pass (held_of B.told B.Feed.told B.Child.told hands.new)) }
-    ensures halts { IfErr result (λ cause. Halts post.now actions.now C.rule cause
-        caller.old.pass (held_of B.told B.Feed.told B.Child.told hands.old)
-        caller.new.pass (held_of B.told B.Feed.told B.Child.told hands.new)) }
+    ensures tidy { IsTidy site.now caller.new.pass hands.new }
+    ensures obeys { Obeys site.now C.rule (held_of B.told B.Feed.told B.Child.told) result
+        caller.old.pass hands.old caller.new.pass hands.new }
 {
-    let _ = actions;
-    let opened = match launch_line(&mut hands.berth, line, &post.command) {
+    let opened = match launch_line(&mut hands.berth, line, &site.post.command) {
         Ok(opened) => opened,
         Err(_) => return Err(Cause::NoMemory),
     };
     match opened {
         Opened::Line(feed, tap, child) => {
-            match tell_started(rt, caller, lane, line, child, tap) {
+            match tell_started(site.rt, caller, site.berth, line, child, tap) {
                 Ok(()) => {
                     hands.open = Some(OpenFeed { line, feed });
                     Ok(())
@@ -108,20 +84,19 @@ fn start<B: Berth, P: Place, C: Rules, R: Wait>(
                 }
             }
         }
-        Opened::RoomFault => not_started(rt, caller, lane, line, Started::RoomFault),
-        Opened::LaunchFault => not_started(rt, caller, lane, line, Started::LaunchFault),
+        Opened::RoomFault => not_started(site, caller, line, Started::RoomFault),
+        Opened::LaunchFault => not_started(site, caller, line, Started::LaunchFault),
     }
 }
 
 // Reports that the line wasn't started.
 fn not_started<B: Berth, P: Place, C: Rules, R: Wait>(
-    rt: &R,
+    site: &Site<'_, R>,
     caller: &mut Caller<'_, Bench<B, P, C>>,
-    lane: u32,
     line: u32,
     how: Started,
 ) -> Result<(), Cause>
-    requires lane { IsProxyOf C.seats lane caller.old.pass }
+    requires site { IsSite C.seats C.remote C.actions C.outputs C.makers site.now caller.old.pass }
     requires owes { duty_of (mine caller.old.pass) ≡ Launches line }
     requires fault { is_done how ≡ false }
     ensures same { IsSamePass caller.old.pass caller.new.pass }
@@ -130,7 +105,7 @@ fn not_started<B: Berth, P: Place, C: Rules, R: Wait>(
     ensures refused { IfErr result (λ cause. (cause ≡ Refused (call.Launched line how))
         × MakesNone caller.old.pass caller.new.pass) }
 {
-    match tell(rt, caller, lane, Call::Launched { line, how }) {
+    match tell(site.rt, caller, site.berth, Call::Launched { line, how }) {
         Ok(()) => Ok(()),
         Err(call) => Err(Cause::Refused(call)),
     }

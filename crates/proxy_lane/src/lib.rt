@@ -12,5 +12,7 @@ mod killing;
 mod lane;
 mod launching;
 mod sending;
+mod site;
 
 pub use lane::{LaneEnd, ProxyEnd, run};
+pub use site::Site;

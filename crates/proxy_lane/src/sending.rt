@@ -1,31 +1,33 @@
 //! What is done for a Send and for a Cancel.
-ghost use Rattle.std.specs.Prelude.{◌≡◌, ◌<◌, length, Some, OnOk, IfErr};
+ghost use Rattle.std.specs.Prelude.{◌≡◌, OnOk, IfErr};
 ghost use Rattle.seat_desk.specs.Passes.{IsSamePass, mine, rules, seen};
-ghost use Rattle.run_rules.specs.Duties.{Asks, Sends, Cancels, duty_of};
-ghost use Rattle.proxy_calls.specs.Calls.{IsProxyOf, MakesNone};
+ghost use Rattle.run_rules.specs.Duties.{Asks, duty_of};
+ghost use Rattle.proxy_calls.specs.declared.asking.Order.TheVariants as order;
+ghost use Rattle.proxy_calls.specs.Calls.{MakesNone};
 ghost use Rattle.lane_steps.specs.Acts.{Writes, SendActs, CancelActs};
 ghost use Rattle.lane_steps.specs.Lanes.{held_of};
-ghost use Rattle.lane_steps.specs.Steps.{open_in, SameShelf, Goes, Halts, OwesWrote, TellsWrote, IsCauseOf};
-ghost use Rattle.lane_steps.specs.Work.{IsWork, IsWorkOf};
+ghost use Rattle.proxy_lane.specs.Sites.{IsSite, IsOrdered, sends, Obeys};
+ghost use Rattle.lane_steps.specs.Steps.{SameShelf, OwesWrote, TellsWrote, IsCauseOf};
+ghost use Rattle.lane_steps.specs.Work.{IsWork};
 ghost use Rattle.due_frames.specs.declared.frames.Due.TheVariants.{Frame};
 ghost use Rattle.due_frames.specs.Requests.{AreFrom};
 ghost use Rattle.lane_deeds.specs.Deeds.{send_asks, due_for};
 
 use crate::hands::{action_at, is_executor};
 use crate::inputs::{inputs_of, know_digests};
+use crate::site::{Request, Site};
 use due_frames::{Due, cancel_frame, room_of, send_frame};
 use exec_journal::{Call, Written};
 use lane_crew::Caller;
-use lane_deeds::{Cause, Post};
+use lane_deeds::Cause;
 use lane_steps::{Hands, OpenFeed};
 use order_acts::{give, send_line};
 use outside::{Berth, Feed, Place};
 use plain_values::NoMemory;
 use proxy_calls::tell;
-use remote_messages::{NamedFile, WorkAction};
+use remote_messages::NamedFile;
 use run_bench::Bench;
 use run_rules::Rules;
-use std::alloc::Global;
 use std::sync::Wait;
 
 /// For a Send: takes the inputs together, makes the room ready, and writes the request to the line.
@@ -35,33 +37,34 @@ use std::sync::Wait;
 ///
 /// `NoMemory`, and then nothing was given.
 pub(crate) fn act_send<B: Berth, P: Place, C: Rules, R: Wait>(
-    rt: &R,
-    alloc: Global,
-    post: &Post,
-    work: &WorkAction,
+    site: &Site<'_, R>,
     caller: &mut Caller<'_, Bench<B, P, C>>,
-    lane: u32,
     berth: &mut B,
     feed: &mut B::Feed,
-    line: u32,
-    number: i32,
-    action: u32,
+    request: &Request<'_>,
 ) -> Result<Written, NoMemory>
-    requires lane { IsProxyOf C.seats lane caller.old.pass }
-    requires owes { duty_of (mine caller.old.pass) ≡ Sends line number action }
-    requires work { IsWork (C.outputs (rules caller.old.pass) action)
-        (C.makers (rules caller.old.pass) action) work.now }
+    requires site { IsSite C.seats C.remote C.actions C.outputs C.makers site.now caller.old.pass }
+    requires owes { duty_of (mine caller.old.pass) ≡ sends request.now }
+    requires work { IsWork (C.outputs (rules caller.old.pass) request.now.action)
+        (C.makers (rules caller.old.pass) request.now.action) request.now.work.now }
     ensures same { IsSamePass caller.old.pass caller.new.pass }
     ensures none { MakesNone caller.old.pass caller.new.pass }
-    ensures acts { SendActs post.now (C.rule (rules caller.old.pass)) caller.old.pass.lane
-        line number work.now result (seen caller.new.pass)
+    ensures acts { SendActs site.now.post.now (C.rule (rules caller.old.pass)) caller.old.pass.lane
+        request.now.line request.now.number request.now.work.now result (seen caller.new.pass)
         (B.told berth.old) (B.told berth.new) (B.Feed.told feed.old) (B.Feed.told feed.new) }
 {
-    let sources = work.inputs.as_slice();
-    match inputs_of(rt, alloc, caller, lane, action, sources) {
+    let sources = request.work.inputs.as_slice();
+    match inputs_of(
+        site.rt,
+        site.alloc,
+        caller,
+        site.berth,
+        request.action,
+        sources,
+    ) {
         Ok(inputs) => {
             let files = inputs.as_slice();
-            write(rt, alloc, post, work, berth, feed, number, files)
+            write(site, berth, feed, request, files)
         }
         Err(no_memory) => Err(no_memory),
     }
@@ -69,25 +72,34 @@ pub(crate) fn act_send<B: Berth, P: Place, C: Rules, R: Wait>(
 
 // Makes the room ready, and writes what is due.
 fn write<B: Berth, R: Wait>(
-    rt: &R,
-    alloc: Global,
-    post: &Post,
-    work: &WorkAction,
+    site: &Site<'_, R>,
     berth: &mut B,
     feed: &mut B::Feed,
-    number: i32,
+    request: &Request<'_>,
     inputs: &[NamedFile],
 ) -> Result<Written, NoMemory>
-    requires { AreFrom work.now.inputs inputs.now }
-    ensures { Writes (send_asks post.now number work.now inputs.now)
-        (due_for post.now number work.now inputs.now) result
+    requires { AreFrom request.now.work.now.inputs inputs.now }
+    ensures { Writes
+        (send_asks site.now.post.now request.now.number request.now.work.now inputs.now)
+        (due_for site.now.post.now request.now.number request.now.work.now inputs.now) result
         (B.told berth.old) (B.told berth.new) (B.Feed.told feed.old) (B.Feed.told feed.new) }
 {
-    if let Err(no_memory) = know_digests(rt, alloc, post.kind, work.inputs.as_slice()) {
+    let post = site.post;
+    let work = request.work;
+    let number = request.number;
+    if let Err(no_memory) = know_digests(site.rt, site.alloc, post.kind, work.inputs.as_slice()) {
         return Err(no_memory);
     }
     let room = room_of(post.kind, number);
-    let due = match send_frame(alloc, post.speech, room, number, work, inputs, post.verbose) {
+    let due = match send_frame(
+        site.alloc,
+        post.speech,
+        room,
+        number,
+        work,
+        inputs,
+        post.verbose,
+    ) {
         Ok(due) => due,
         Err(no_memory) => return Err(no_memory),
     };
@@ -95,31 +107,31 @@ fn write<B: Berth, R: Wait>(
         Due::TooLarge => Ok(Written::TooLarge),
         Due::Frame(frame) => {
             let bytes = frame.as_slice();
-            write_frame(alloc, post, work, berth, feed, number, inputs, bytes)
+            write_frame(site, berth, feed, request, inputs, bytes)
         }
     }
 }
 
 // Makes the room ready, where the line has one, and writes the frame.
-fn write_frame<B: Berth>(
-    alloc: Global,
-    post: &Post,
-    work: &WorkAction,
+fn write_frame<B: Berth, R>(
+    site: &Site<'_, R>,
     berth: &mut B,
     feed: &mut B::Feed,
-    number: i32,
+    request: &Request<'_>,
     inputs: &[NamedFile],
     frame: &[u8],
 ) -> Result<Written, NoMemory>
-    ensures { Writes (send_asks post.now number work.now inputs.now) (Frame frame.now) result
+    ensures { Writes
+        (send_asks site.now.post.now request.now.number request.now.work.now inputs.now)
+        (Frame frame.now) result
         (B.told berth.old) (B.told berth.new) (B.Feed.told feed.old) (B.Feed.told feed.new) }
 {
-    if is_executor(post.kind) {
+    if is_executor(site.post.kind) {
         return Ok(give(feed, frame));
     }
-    let room = room_of(post.kind, number);
-    let outputs = work.outputs.as_slice();
-    send_line(alloc, berth, feed, room, inputs, outputs, frame)
+    let room = room_of(site.post.kind, request.number);
+    let outputs = request.work.outputs.as_slice();
+    send_line(site.alloc, berth, feed, room, inputs, outputs, frame)
 }
 
 /// For a Cancel: writes to the line that the request is to be given up.
@@ -127,15 +139,14 @@ fn write_frame<B: Berth>(
 /// # Errors
 ///
 /// `NoMemory`, and then nothing was given.
-pub(crate) fn act_cancel<D: Feed>(
-    alloc: Global,
-    post: &Post,
+pub(crate) fn act_cancel<D: Feed, R>(
+    site: &Site<'_, R>,
     feed: &mut D,
     number: i32,
 ) -> Result<Written, NoMemory>
-    ensures { CancelActs post.now number result (D.told feed.old) (D.told feed.new) }
+    ensures { CancelActs site.now.post.now number result (D.told feed.old) (D.told feed.new) }
 {
-    match cancel_frame(alloc, post.speech, number) {
+    match cancel_frame(site.alloc, site.post.speech, number) {
         Ok(frame) => {
             let bytes = frame.as_slice();
             Ok(give(feed, bytes))
@@ -150,32 +161,20 @@ pub(crate) fn act_cancel<D: Feed>(
 ///
 /// Why the lane is to halt.
 pub(crate) fn send<B: Berth, P: Place, C: Rules, R: Wait>(
-    rt: &R,
-    alloc: Global,
-    post: &Post,
-    actions: &[WorkAction],
+    site: &Site<'_, R>,
     caller: &mut Caller<'_, Bench<B, P, C>>,
-    lane: u32,
     hands: &mut Hands<B, B::Feed, B::Child>,
     line: u32,
     number: i32,
     action: u32,
 ) -> Result<(), Cause>
-    requires lane { IsProxyOf C.seats lane caller.old.pass }
-    requires owes { duty_of (mine caller.old.pass) ≡ Sends line number action }
-    requires work { IsWorkOf (C.actions (rules caller.old.pass))
-        (C.outputs (rules caller.old.pass)) (C.makers (rules caller.old.pass)) actions.now }
-    requires action { action < length actions.now }
-    requires open { open_in hands.old ≡ Some line }
+    requires site { IsSite C.seats C.remote C.actions C.outputs C.makers site.now caller.old.pass }
+    requires order { IsOrdered site.now B.Child.told (order.Send line number action)
+        caller.old.pass hands.old }
     ensures same { IsSamePass caller.old.pass caller.new.pass }
-    ensures shelf { SameShelf lane caller.old.pass hands.old caller.new.pass hands.new }
-    ensures goes { OnOk result ((duty_of (mine caller.new.pass) ≡ Asks)
-        × Goes post.now actions.now C.rule
-        caller.old.pass (held_of B.told B.Feed.told B.Child.told hands.old)
-        caller.new.pass (held_of B.told B.Feed.told B.Child.told hands.new)) }
-    ensures halts { IfErr result (λ cause. Halts post.now actions.now C.rule cause
-        caller.old.pass (held_of B.told B.Feed.told B.Child.told hands.old)
-        caller.new.pass (held_of B.told B.Feed.told B.Child.told hands.new)) }
+    ensures shelf { SameShelf site.now.berth caller.old.pass hands.old caller.new.pass hands.new }
+    ensures obeys { Obeys site.now C.rule (held_of B.told B.Feed.told B.Child.told) result
+        caller.old.pass hands.old caller.new.pass hands.new }
 {
     match hands.open.take() {
         Some(open) => {
@@ -183,25 +182,20 @@ pub(crate) fn send<B: Berth, P: Place, C: Rules, R: Wait>(
                 line: open_line,
                 mut feed,
             } = open;
-            let work = action_at(actions, action);
-            let wrote = act_send(
-                rt,
-                alloc,
-                post,
-                work,
-                caller,
-                lane,
-                &mut hands.berth,
-                &mut feed,
+            let work = action_at(site.actions, action);
+            let request = Request {
                 line,
                 number,
                 action,
-            );
+                work,
+            };
+            let berth = &mut hands.berth;
+            let wrote = act_send(site, caller, berth, &mut feed, &request);
             hands.open = Some(OpenFeed {
                 line: open_line,
                 feed,
             });
-            report(rt, caller, lane, line, number, wrote)
+            report(site, caller, line, number, wrote)
         }
         None => unreachable!(),
     }
@@ -213,42 +207,32 @@ pub(crate) fn send<B: Berth, P: Place, C: Rules, R: Wait>(
 ///
 /// Why the lane is to halt.
 pub(crate) fn cancel<B: Berth, P: Place, C: Rules, R: Wait>(
-    rt: &R,
-    alloc: Global,
-    post: &Post,
-    actions: &[WorkAction],
+    site: &Site<'_, R>,
     caller: &mut Caller<'_, Bench<B, P, C>>,
-    lane: u32,
     hands: &mut Hands<B, B::Feed, B::Child>,
     line: u32,
     number: i32,
 ) -> Result<(), Cause>
-    requires lane { IsProxyOf C.seats lane caller.old.pass }
-    requires owes { duty_of (mine caller.old.pass) ≡ Cancels line number }
-    requires open { open_in hands.old ≡ Some line }
+    requires site { IsSite C.seats C.remote C.actions C.outputs C.makers site.now caller.old.pass }
+    requires order { IsOrdered site.now B.Child.told (order.Cancel line number)
+        caller.old.pass hands.old }
     ensures same { IsSamePass caller.old.pass caller.new.pass }
-    ensures shelf { SameShelf lane caller.old.pass hands.old caller.new.pass hands.new }
-    ensures goes { OnOk result ((duty_of (mine caller.new.pass) ≡ Asks)
-        × Goes post.now actions.now C.rule
-        caller.old.pass (held_of B.told B.Feed.told B.Child.told hands.old)
-        caller.new.pass (held_of B.told B.Feed.told B.Child.told hands.new)) }
-    ensures halts { IfErr result (λ cause. Halts post.now actions.now C.rule cause
-        caller.old.pass (held_of B.told B.Feed.told B.Child.told hands.old)
-        caller.new.pass (held_of B.told B.Feed.told B.Child.told hands.new)) }
+    ensures shelf { SameShelf site.now.berth caller.old.pass hands.old caller.new.pass hands.new }
+    ensures obeys { Obeys site.now C.rule (held_of B.told B.Feed.told B.Child.told) result
+        caller.old.pass hands.old caller.new.pass hands.new }
 {
-    let _ = actions;
     match hands.open.take() {
         Some(open) => {
             let OpenFeed {
                 line: open_line,
                 mut feed,
             } = open;
-            let wrote = act_cancel(alloc, post, &mut feed, number);
+            let wrote = act_cancel(site, &mut feed, number);
             hands.open = Some(OpenFeed {
                 line: open_line,
                 feed,
             });
-            report(rt, caller, lane, line, number, wrote)
+            report(site, caller, line, number, wrote)
         }
         None => unreachable!(),
     }
@@ -256,14 +240,13 @@ pub(crate) fn cancel<B: Berth, P: Place, C: Rules, R: Wait>(
 
 // Reports what was written, if there was memory to write it.
 fn report<B: Berth, P: Place, C: Rules, R: Wait>(
-    rt: &R,
+    site: &Site<'_, R>,
     caller: &mut Caller<'_, Bench<B, P, C>>,
-    lane: u32,
     line: u32,
     number: i32,
     wrote: Result<Written, NoMemory>,
 ) -> Result<(), Cause>
-    requires lane { IsProxyOf C.seats lane caller.old.pass }
+    requires site { IsSite C.seats C.remote C.actions C.outputs C.makers site.now caller.old.pass }
     requires owes { OwesWrote line number wrote (mine caller.old.pass) }
     ensures same { IsSamePass caller.old.pass caller.new.pass }
     ensures told { OnOk result ((duty_of (mine caller.new.pass) ≡ Asks)
@@ -272,7 +255,12 @@ fn report<B: Berth, P: Place, C: Rules, R: Wait>(
         × IsCauseOf line number wrote cause) }
 {
     match wrote {
-        Ok(how) => match tell(rt, caller, lane, Call::Wrote { line, number, how }) {
+        Ok(how) => match tell(
+            site.rt,
+            caller,
+            site.berth,
+            Call::Wrote { line, number, how },
+        ) {
             Ok(()) => Ok(()),
             Err(call) => Err(Cause::Refused(call)),
         },

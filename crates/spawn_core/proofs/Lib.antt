@@ -5,3 +5,5 @@ pub mod Looked
 pub mod Turned
 pub mod Promised
 pub mod Outlooks
+pub mod Counted
+pub mod Histories

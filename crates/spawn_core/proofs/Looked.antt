@@ -41,7 +41,7 @@ use Rattle.core_tables.specs.Slots.{Filled, Tells, Told, outputs_at, outputs_on,
 use Rattle.core_tables.specs.Stands.{RowsStand, answer_file}
 use Rattle.spawn_core.specs.Answers.{Replies, answer, is_file}
 use Rattle.spawn_core.specs.Looks.{ToldGather, ToldLook}
-use Rattle.spawn_core.specs.Stands.{Stands}
+use Rattle.spawn_core.specs.Stands.{TablesStand}
 use Rattle.spawn_core.proofs.Newest.{gathered_match, gathering_going, gathering_ordered, newest_of}
 
 -- ---- a slot that tells of a content
@@ -183,7 +183,7 @@ may_look q kind even (Some x) w h =
 may_look q kind even None w h = absurd (cc)
 
 module _ (p : Plan) (s : State) (f : slots.Facts) (j : List Entry) (lane : ℕ) (kind : Kind)
-    (st : Stands p (record { state = s; files = f }) j) where
+    (st : TablesStand p s f j) where
   order_is : (w : Wanted) → script p j lane (call.Look w) ≡ true
       → order_at s lane ≡ order_of_work (last_work j lane)
   unfolding lane_in

@@ -1,10 +1,11 @@
--- A new state stands for the empty journal.
-use Rattle.std.proofs.Common.{◌≡◌, ℕ, ◌*◌, nat_lt, false, cond, [], Some, None, ap, ◌∙◌}
+-- A new core stands for the empty journal.
+use Rattle.std.proofs.Common.{◌≡◌, ℕ, ◌*◌, nat_lt, false, cond, [], Some, None, ap, sym, ◌∙◌}
 use Rattle.std.specs.Prelude.{slice_get, replicate}
 use Rattle.run_plan.specs.declared.plan.Plan.{Plan}
 use Rattle.run_plan.specs.Groups.{berths}
 use Rattle.run_plan.specs.Sound.{Sound}
 use Rattle.exec_journal.specs.Words.{halted, last_work, stopped, has_halted, last_line}
+use Rattle.journal_laws.proofs.Debts.{owes_first}
 use Rattle.list_lemmas.proofs.Updates.{get_replicate}
 use Rattle.worker_pool.specs.Stands as pools
 use Rattle.request_table.specs.Stands as asks
@@ -21,7 +22,7 @@ use Rattle.journal_calls.specs.Matches.{recent}
 use Rattle.core_laws.specs.Stands as tables
 use Rattle.core_tables.specs.Slots.{Facts, IsNewFiles}
 use Rattle.core_tables.proofs.Kept as kept
-use Rattle.spawn_core.specs.Stands.{HasHistory, Stands}
+use Rattle.spawn_core.specs.Stands.{Stands}
 
 module _ (p : Plan) (s : State) (sound : Sound p) (plan : s.plan ≡ p) (m n : ℕ)
     (m_is : m ≡ 2 * berths p) (n_is : n ≡ berths p)
@@ -55,8 +56,10 @@ module _ (p : Plan) (s : State) (sound : Sound p) (plan : s.plan ≡ p) (m n : �
     halted = unhalted;
   }
 
-  pub new_stands : Stands p (record { state = s; files = f }) []
-  new_stands = record { tables = new_tables; kept = kept.new_stands p f files }
-
-  pub has_history : HasHistory (record { state = s; files = f })
-  has_history = record { plan = p; journal = []; stands = new_stands }
+  -- each lane owes its Halt
+  pub new_stands : (owed : ℕ) → owed ≡ 2 * berths p
+      → Stands p (record { state = s; files = f; owed = owed }) []
+  new_stands owed all = record {
+    both = record { tables = new_tables; kept = kept.new_stands p f files };
+    owed = all ∙ sym (owes_first (berths p));
+  }

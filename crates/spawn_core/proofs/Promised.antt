@@ -11,7 +11,6 @@ use Rattle.exec_journal.specs.Legal.{Legal}
 use Rattle.exec_journal.specs.Lawful.{Told}
 use Rattle.exec_journal.specs.Rules.{rule}
 use Rattle.exec_journal.specs.Scripts.{script}
-use Rattle.exec_journal.specs.Settled.{all_settled}
 use Rattle.exec_journal.specs.Words.{halted}
 use Rattle.journal_laws.specs.Finished.{Finished}
 use Rattle.journal_laws.proofs.Cleaned.{complete}

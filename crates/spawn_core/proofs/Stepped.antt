@@ -1,7 +1,7 @@
 -- One call of a lane, and the journal after it.
-use Rattle.std.proofs.Common.{◌≡◌, ℕ, ◌*◌, ◌/◌, ◌%◌, ◌<◌, ◌==◌, nat_lt, Bool, true, false, ◌&&◌, not, cond, List, ◌∷◌, length, Option, Some, None, inl, ℤ, refl, ap, sym, subst, ◌∙◌, arith}
+use Rattle.std.proofs.Common.{◌≡◌, ℕ, ◌/◌, ◌<◌, nat_lt, Bool, true, false, cond, List, ◌∷◌, length, Option, Some, None, inl, ℤ, refl, ap, sym, subst, ◌∙◌}
 use Rattle.std.specs.Prelude.{slice_get}
-use Rattle.std.proofs.lemmas.Bool.{ltb-true, lt-ltb}
+use Rattle.std.proofs.lemmas.Bool.{lt-ltb}
 use Rattle.std.proofs.lemmas.Option.{slice_get_within}
 use Rattle.run_plan.specs.declared.plan.Plan.{Plan}
 use Rattle.exec_journal.specs.declared.attempt.Attempt.{Attempt}
@@ -20,10 +20,9 @@ use Rattle.exec_journal.specs.declared.reply.Reply.TheVariants as reply
 use Rattle.exec_journal.specs.Entries.{attempt_of, is_done, is_kept, is_look}
 use Rattle.exec_journal.specs.Legal.{after}
 use Rattle.exec_journal.specs.Rules as r
-use Rattle.exec_journal.specs.Scripts.{script, is_owed_commit, allowed}
-use Rattle.run_plan.specs.Groups.{berths, kind_of, is_single}
+use Rattle.exec_journal.specs.Scripts.{script}
+use Rattle.run_plan.specs.Groups.{berths, is_single}
 use Rattle.exec_journal.specs.Words.{last_line, last_work, stopped, has_halted}
-use Rattle.exec_journal.proofs.Ruled.{by_bool}
 use Rattle.worker_pool.specs.Rows as rows
 use Rattle.request_table.specs.declared.Matching.{Matching}
 use Rattle.request_table.specs.declared.Matching.TheVariants as match
@@ -36,20 +35,19 @@ use Rattle.core_state.specs.Choices.{chosen, row_at}
 use Rattle.core_tables.specs.declared.greetings.Greeting.{Greeting}
 use Rattle.core_tables.specs.declared.lanes.LaneState.{LaneState}
 use Rattle.core_tables.specs.Greetings.{greeting_in, greeting_of}
-use Rattle.core_tables.specs.Lanes.{allows_by, lane_in, may_some, state_by}
+use Rattle.core_tables.specs.Lanes.{allows_by, lane_in, state_by}
 use Rattle.core_state.specs.Machine as m
 use Rattle.lawful_facts.specs.Moments.{LawfulMore}
 use Rattle.core_state.specs.Noted.{noted_after, noted_if_kept}
 use Rattle.core_state.specs.Reports as reports
 use Rattle.core_tables.specs.Seats.{seat_at}
 use Rattle.core_laws.specs.Stands.{Stands}
+use Rattle.spawn_core.specs.Allowed.{allowed_is, none_scripted, seated}
 use Rattle.spawn_core.specs.Answers.{Replies, answer}
 use Rattle.core_state.specs.Steps.{CanMake, made, made_reply}
 use Rattle.core_laws.proofs.Calls.{reply_is, call_stands}
 use Rattle.core_laws.proofs.Can.{can_make}
 use Rattle.core_laws.proofs.Rowed.{lane_inside}
-use Rattle.core_laws.proofs.Scripted.{script_is}
-use Rattle.core_tables.proofs.Seated.{seat_is}
 use Rattle.core_laws.proofs.Chosen.{lane_within}
 
 -- ---- a call in its script changes neither the plan nor what is noted of its lane and its berth's
@@ -260,40 +258,16 @@ module _ (s : State) where
 -- what the check of a call says
 module _ (p : Plan) (s : State) (j : List Entry) (lane : ℕ) (seat : Seat) (c : Call)
     (st : Stands p s j) (at : seat_at s.plan (lane / 2) ≡ Some seat) where
-  pub seated : seat_at p (lane / 2) ≡ Some seat
-  seated = ap (λ (q : Plan). seat_at q (lane / 2)) (sym st.plan) ∙ at
+  placed : seat_at p (lane / 2) ≡ Some seat
+  placed = seated p s j lane seat c st at
 
-  kind_by : lane / 2 < berths p → seat.kind ≡ kind_of p (lane / 2)
-  kind_by lt =
-      let y = seat_is p (lane / 2) lt in
-      let same : y.0 ≡ seat = (let z = sym y.1.is ∙ seated in cc) in
-      sym (y.1.kind ∙ ap (λ (x : Seat). x.kind) same)
-
-  outside : nat_lt lane (2 * berths p) ≡ false → allows_by p seat.kind s.lanes lane c
-      ≡ script p j lane c
-  unfolding lane_in
-  outside h =
-      ap (λ o. may_some p seat.kind (lane % 2 == 0) o c)
-      (st.lanes lane ∙ ap (λ b. cond b (Some (state_by (last_work j lane) (stopped j lane)
-      (has_halted j lane))) None) h)
-      ∙ ap (λ b. b && (not (stopped j lane) && cond (has_halted j lane)
-      (is_owed_commit c (last_work j lane)) (allowed p (kind_of p (lane / 2)) (lane % 2 == 0)
-      (last_work j lane) c))) (sym h)
-
-  pub allowed_is : allows_by s.plan seat.kind s.lanes lane c ≡ script p j lane c
-  allowed_is =
-      ap (λ (q : Plan). allows_by q seat.kind s.lanes lane c) st.plan
-      ∙ by_bool (nat_lt lane (2 * berths p)) (λ b. nat_lt lane (2 * berths p) ≡ b
-      → allows_by p seat.kind s.lanes lane c ≡ script p j lane c)
-      (λ yes _. let l = ltb-true lane (2 * berths p) yes in
-      ap (λ k. allows_by p k s.lanes lane c) (kind_by (omega arith))
-      ∙ script_is p j s.lanes lane c (st.lanes lane))
-      (λ _ h. outside h) refl
+  allows_is : allows_by s.plan seat.kind s.lanes lane c ≡ script p j lane c
+  allows_is = allowed_is p s j lane seat c st at
 
   module _ (all : LawfulMore p j) (look : is_look c ≡ false)
       (may : allows_by s.plan seat.kind s.lanes lane c ≡ true) where
     pub script_here : script p j lane c ≡ true
-    script_here = sym allowed_is ∙ may
+    script_here = sym allows_is ∙ may
 
     pub can_here : CanMake s lane seat c
     can_here = can_make p s j lane seat c st all script_here
@@ -310,7 +284,7 @@ module _ (p : Plan) (s : State) (j : List Entry) (lane : ℕ) (seat : Seat) (c :
     plan_here = ap (λ (o : Own). o.0) (made_lanes s lane seat c)
 
     pub reply_here : Replies (answer p j lane c) (made_reply s lane seat c)
-    reply_here = inl (reply_is p s j lane seat c st all seated look script_here
+    reply_here = inl (reply_is p s j lane seat c st all placed look script_here
         ∙ ap (λ b. cond b (r.rule p j lane c) reply.Astray) (sym script_here))
 
     -- whether the reply is kept
@@ -321,7 +295,7 @@ module _ (p : Plan) (s : State) (j : List Entry) (lane : ℕ) (seat : Seat) (c :
           call = c;
           reply = made_reply s lane seat c;
         } ∷ j) j)
-    kept_by true h = call_stands p s j lane seat c st all seated look script_here h
+    kept_by true h = call_stands p s j lane seat c st all placed look script_here h
     kept_by false h = subst (λ x. Stands p x j) (sym (unkept s lane seat c look h)) st
 
     pub stands_here : Stands p (noted_if_kept (made s lane seat c) lane c
@@ -330,16 +304,7 @@ module _ (p : Plan) (s : State) (j : List Entry) (lane : ℕ) (seat : Seat) (c :
 
   module _ (out : allows_by s.plan seat.kind s.lanes lane c ≡ false) where
     pub reply_out : Replies (answer p j lane c) reply.Astray
-    reply_out = inl (ap (λ b. cond b (r.rule p j lane c) reply.Astray) (sym (sym allowed_is ∙ out)))
-
--- a berth that isn't the plan's
-pub none_scripted : (p : Plan) (s : State) (j : List Entry) (lane : ℕ) (c : Call) → Stands p s j
-    → seat_at s.plan (lane / 2) ≡ None → script p j lane c ≡ false
-none_scripted p s j lane c st at =
-    by_bool (script p j lane c) (λ b. script p j lane c ≡ b → b ≡ false)
-    (λ _ h. absurd (let y = seat_is p (lane / 2) (lane_within p j lane c h) in
-    let z = sym y.1.is ∙ ap (λ (q : Plan). seat_at q (lane / 2)) (sym st.plan) ∙ at in cc))
-    (λ _ _. refl) refl
+    reply_out = inl (ap (λ b. cond b (r.rule p j lane c) reply.Astray) (sym (sym allows_is ∙ out)))
 
 pub reply_none : (p : Plan) (s : State) (j : List Entry) (lane : ℕ) (c : Call) → Stands p s j
     → seat_at s.plan (lane / 2) ≡ None → Replies (answer p j lane c) reply.Astray

@@ -20,17 +20,19 @@ use Rattle.core_state.specs.declared.state.State.{State}
 use Rattle.core_state.specs.Noted.{noted_if_kept}
 use Rattle.core_state.specs.Steps.{CanMake, made, made_reply}
 use Rattle.lawful_facts.specs.Moments.{LawfulMore}
+use Rattle.core_laws.specs.Stands as tables
 use Rattle.core_laws.proofs.Calls.{reply_is}
 use Rattle.core_tables.specs.Slots as slots
 use Rattle.core_tables.specs.Slots.{Follows, FoundFiles}
 use Rattle.core_tables.specs.Stands as files
 use Rattle.core_tables.proofs.Kept.{follows}
+use Rattle.spawn_core.specs.Allowed.{allowed_is, seated}
 use Rattle.spawn_core.specs.Answers.{Replies, answer}
 use Rattle.spawn_core.specs.Looks.{ToldLook}
-use Rattle.spawn_core.specs.Stands.{Stands}
+use Rattle.spawn_core.specs.Stands.{TablesStand}
 use Rattle.core_laws.proofs.AtBerths.{all_of, at_entry}
 use Rattle.spawn_core.proofs.Looked.{look_told, look_unkept}
-use Rattle.spawn_core.proofs.Stepped.{allowed_is, script_here, seated, can_here, lane_here, berth_here, plan_here, reply_here, stands_here}
+use Rattle.spawn_core.proofs.Stepped.{script_here, can_here, lane_here, berth_here, plan_here, reply_here, stands_here}
 
 -- a reply that isn't kept leaves no file
 unkept_files : (p : Plan) (c : Call) (r : Reply) (f g : slots.Facts) → is_kept r ≡ false
@@ -41,57 +43,55 @@ unkept_files p (call.Answer l x) (reply.Matched a b n) f g h k = absurd (cc)
 unkept_files p (call.Answer l x) _ f g h k = k
 unkept_files p _ r f g h k = k
 
-module _ (p : Plan) (s : State) (f : slots.Facts) (j : List Entry) (lane : ℕ) (seat : Seat)
-    (c : Call) (st : Stands p (record { state = s; files = f }) j)
-    (at : seat_at s.plan (lane / 2) ≡ Some seat) (look : is_look c ≡ false)
-    (may : allows_by s.plan seat.kind s.lanes lane c ≡ true) where
+module _ (p : Plan) (s : State) (j : List Entry) (lane : ℕ) (seat : Seat) (c : Call)
+    (st : tables.Stands p s j) (at : seat_at s.plan (lane / 2) ≡ Some seat)
+    (look : is_look c ≡ false) (may : allows_by s.plan seat.kind s.lanes lane c ≡ true) where
   abbrev all : LawfulMore p j
-  all = all_of p s j st.tables
+  all = all_of p s j st
 
   abbrev told : Reply
   told = made_reply s lane seat c
 
   pub can_turn : CanMake s lane seat c
-  can_turn = can_here p s j lane seat c st.tables at all look may
+  can_turn = can_here p s j lane seat c st at all look may
 
   pub lane_turn : lane < length (made s lane seat c).lanes
-  lane_turn = lane_here p s j lane seat c st.tables at all look may
+  lane_turn = lane_here p s j lane seat c st at all look may
 
   pub berth_turn : lane / 2 < length (made s lane seat c).greetings
-  berth_turn = berth_here p s j lane seat c st.tables at all look may
+  berth_turn = berth_here p s j lane seat c st at all look may
 
   pub reply_turn : Replies (answer p j lane c) told
-  reply_turn = reply_here p s j lane seat c st.tables at all look may
+  reply_turn = reply_here p s j lane seat c st at all look may
 
   abbrev entry : Entry
   entry = record { lane = lane; call = c; reply = told }
 
   legal : is_kept told ≡ true → LegalEntry p j entry
   legal kept = record {
-    scripted = script_here p s j lane seat c st.tables at all look may;
-    replied = reply_is p s j lane seat c st.tables all
-        (seated p s j lane seat c st.tables at) look (script_here p s j lane seat c st.tables at all
+    scripted = script_here p s j lane seat c st at all look may;
+    replied = reply_is p s j lane seat c st all
+        (seated p s j lane seat c st at) look (script_here p s j lane seat c st at all
         look may);
     kept = kept;
   }
 
-  module _ (g : slots.Facts) (h : Follows (made s lane seat c).plan c told f g) where
+  module _ (f g : slots.Facts) (kept : files.Stands p f j)
+      (h : Follows (made s lane seat c).plan c told f g) where
     followed : Follows p c told f g
     followed = subst (λ (q : Plan). Follows q c told f g)
-        (plan_here p s j lane seat c st.tables at all look may ∙ st.tables.plan) h
+        (plan_here p s j lane seat c st at all look may ∙ st.plan) h
 
     files_turn : (b : Bool) → is_kept told ≡ b → files.Stands p g (cond b (entry ∷ j) j)
-    files_turn true kept = follows p f g j lane st.kept c told
-        (λ x is. ((at_entry p j st.tables.legal all entry (legal kept)).grants x is).ungranted) followed
-    files_turn false kept = subst (λ (k : slots.Facts). files.Stands p k j)
-        (sym (unkept_files p c told f g kept followed)) st.kept
+    files_turn true new = follows p f g j lane kept c told
+        (λ x is. ((at_entry p j st.legal all entry (legal new)).grants x is).ungranted) followed
+    files_turn false old = subst (λ (k : slots.Facts). files.Stands p k j)
+        (sym (unkept_files p c told f g old followed)) kept
 
-    pub stands_turn : Stands p (record {
-      state = noted_if_kept (made s lane seat c) lane c told;
-      files = g;
-    }) (after j lane c told)
+    pub stands_turn : TablesStand p (noted_if_kept (made s lane seat c) lane c told) g
+        (after j lane c told)
     stands_turn = record {
-      tables = stands_here p s j lane seat c st.tables at all look may;
+      tables = stands_here p s j lane seat c st at all look may;
       kept = files_turn (is_kept told) refl;
     }
 
@@ -102,7 +102,7 @@ unlook (call.Look w) h = absurd (h w refl)
 unlook _ h = refl
 
 module _ (p : Plan) (s : State) (f : slots.Facts) (j : List Entry) (lane : ℕ) (seat : Seat)
-    (c : Call) (w : Wanted) (y : Reply) (st : Stands p (record { state = s; files = f }) j)
+    (c : Call) (w : Wanted) (y : Reply) (st : TablesStand p s f j)
     (at : seat_at s.plan (lane / 2) ≡ Some seat) (may : allows_by s.plan seat.kind s.lanes lane c
     ≡ true) (is : c ≡ call.Look w) (told : ToldLook s f lane w y) where
   allowed_look : allows_by s.plan seat.kind s.lanes lane (call.Look w) ≡ true
@@ -117,8 +117,8 @@ module _ (p : Plan) (s : State) (f : slots.Facts) (j : List Entry) (lane : ℕ) 
       (subst (λ (q : Plan). allows_by q seat.kind s.lanes lane (call.Look w) ≡ true) st.tables.plan
       allowed_look) told)
 
-  pub look_stands : Stands p (record { state = s; files = f }) (after j lane c y)
-  look_stands = subst (λ (b : Bool). Stands p (record { state = s; files = f })
+  pub look_stands : TablesStand p s f (after j lane c y)
+  look_stands = subst (λ (b : Bool). TablesStand p s f
       (cond b (record { lane = lane; call = c; reply = y } ∷ j) j))
       (sym (look_unkept s f lane w y told)) st
 

@@ -3,3 +3,7 @@ pub mod Answers
 pub mod Looks
 pub mod Orderly
 pub mod Outlook
+pub mod Histories
+pub mod Laws
+pub mod Allowed
+pub mod News

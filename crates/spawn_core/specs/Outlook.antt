@@ -1,8 +1,6 @@
 -- What is known of a lane before it calls.
 use Rattle.std.specs.Prelude.{ℕ, ◌+◌, ◌/◌, ◌%◌, ◌==◌, Bool, true, false, ◌&&◌, not, if◌then◌else◌, List, Option, Some, None}
 use Rattle.run_plan.specs.declared.plan.Plan.{Plan}
-use Rattle.exec_journal.specs.declared.call.Call.{Call}
-use Rattle.exec_journal.specs.declared.call.Call.TheVariants as call
 use Rattle.exec_journal.specs.Entry.{Entry}
 use Rattle.exec_journal.specs.declared.reply.Reply.{Reply}
 use Rattle.exec_journal.specs.declared.reply.Reply.TheVariants as reply
@@ -16,6 +14,7 @@ use Rattle.core_tables.specs.Seats.{seat_at}
 use Rattle.core_state.specs.declared.state.State.{State}
 use Rattle.core_state.specs.Choices.{chosen}
 use Rattle.core_state.specs.Machine.{carried_reply, take_reply, takeable}
+use Rattle.run_rules.specs.News.{question}
 
 -- its Halt, unless it was told to stop or has halted, and the Committed of what it was granted
 abbrev pub owes_by : LaneState → ℕ
@@ -25,11 +24,7 @@ abbrev pub is_idle : Reply → Bool
 is_idle reply.Idle = true
 is_idle _ = false
 
--- what a lane asks that owes nothing: a proxy lane an order, a tap lane a line
-abbrev pub question : ℕ → Call
-question lane = if lane % 2 == 0 then call.Ask else call.Take
-
--- what the tables answer it
+-- what the tables answer a lane that owes nothing, and so asks
 abbrev pub told_by : State → ℕ → Reply
 told_by s lane = if lane % 2 == 0 then carried_reply s (lane / 2) (chosen s (lane / 2))
     else take_reply s (takeable s (lane / 2))

@@ -1,27 +1,12 @@
 // What is known of a lane before it calls.
 ghost use Rattle.std.specs.Prelude.{◌≡◌, ◌/◌, not, is_some};
-ghost use Rattle.journal_laws.specs.Paid.{count};
 ghost use Rattle.core_state.specs.Choices.{Reads};
 ghost use Rattle.core_state.specs.Machine.{takeable};
-ghost use Rattle.spawn_core.specs.Outlook.{owes_by, is_idle, question, told_by};
+ghost use Rattle.run_rules.specs.News.{question};
+ghost use Rattle.spawn_core.specs.Outlook.{is_idle, told_by};
 
 use core_state::{Choice, State};
-use core_tables::{LaneState, Said};
 use exec_journal::Call;
-
-/// How many paid entries a lane owes that stands there: its Halt, and the Committed of what it was
-/// granted.
-pub fn owes(lane: LaneState) -> u64
-    ensures { result ≡ owes_by lane }
-{
-    count(!lane.stopped && !lane.halted) + count(matches!(lane.said, Said::Won { .. }))
-}
-
-fn count(is: bool) -> u64
-    ensures { result ≡ count is }
-{
-    if is { 1 } else { 0 }
-}
 
 /// What a lane asks that owes nothing: a proxy lane an order, a tap lane a line.
 pub fn question(lane: u32) -> Call

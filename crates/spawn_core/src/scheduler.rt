@@ -1,7 +1,7 @@
 // The core as its callers see it: it always stands for some journal.
-ghost use Rattle.std.specs.Prelude.{◌≡◌, ◌≤◌, ◌<◌, ◌*◌, List, [], length, IfOk, false, sum_by};
+ghost use Rattle.std.specs.Prelude.{◌≡◌, ◌*◌, List, [], length, IfOk, false};
 ghost use Rattle.run_plan.specs.declared.plan.Plan.{Plan};
-ghost use Rattle.run_plan.specs.Groups.{berths};
+ghost use Rattle.run_plan.specs.Groups.{berths, kind_of, is_remote};
 ghost use Rattle.run_plan.specs.Sound.{Sound};
 ghost use Rattle.exec_journal.specs.Entry.{Entry};
 ghost use Rattle.exec_journal.specs.declared.reply.Reply.TheVariants as reply;
@@ -9,20 +9,28 @@ ghost use Rattle.exec_journal.specs.Clean.{Clean};
 ghost use Rattle.exec_journal.specs.Legal.{after};
 ghost use Rattle.exec_journal.specs.Words.{halted};
 ghost use Rattle.journal_laws.specs.Finished.{Finished};
-ghost use Rattle.journal_laws.specs.Paid.{lane_owes};
+ghost use Rattle.history_laws.specs.Owed.{outputs_in, makers_in};
+ghost use Rattle.history_laws.specs.Ruled.{answer_after, IsPaidAfter, owes_after, CameAbout};
+ghost use Rattle.history_laws.proofs.OfRules as laws;
 ghost use Rattle.spawn_core.specs.Answers.{Replies, answer};
+ghost use Rattle.spawn_core.specs.Histories.{no_plan, plan_of, StandsFor};
+ghost use Rattle.spawn_core.specs.Laws as own_laws;
+ghost use Rattle.spawn_core.specs.Laws.{own, own_is};
+ghost use Rattle.spawn_core.specs.News.{news_are};
 ghost use Rattle.spawn_core.specs.Orderly.{Complete, Orderly};
 ghost use Rattle.spawn_core.specs.Outlook.{has_news, has_news_by};
 ghost use Rattle.spawn_core.specs.Stands.{Stands};
 
-use crate::outlook::{is_awaited, owes, question};
+use crate::lanes::{all_berths, lane_owes};
+use crate::outlook::{is_awaited, question};
 use crate::tables::{action_tables, lane_tables, line_tables};
 use crate::turn::step;
 use core_state::State;
 use core_tables::{Files, seat_of};
-use exec_journal::{Call, Group, Plan, Reply};
+use exec_journal::{Call, Plan, Reply};
 use plain_values::NoMemory;
 use run_progress::Notes;
+use run_rules::Rules;
 use std::alloc::Global;
 use std::marker::Model;
 
@@ -31,6 +39,8 @@ use std::marker::Model;
 pub struct Core {
     state: State,
     files: Files,
+    // How many paid entries are still to come.
+    owed: u64,
 }
 
 impl Model for Core {
@@ -41,11 +51,13 @@ impl Model for Core {
     ghost view = { λ a. record {
       state = a.state;
       files = a.files;
+      owed = a.owed;
     } };
 
     ghost invariant = { λ a. HasHistory (record {
       state = a.state;
       files = a.files;
+      owed = a.owed;
     }) };
 }
 
@@ -79,7 +91,8 @@ impl Core {
             matches,
             halted: false,
         };
-        Ok(Core { state, files })
+        let owed = 2 * berths as u64;
+        Ok(Core { state, files, owed })
     }
 
     /// The reply to a lane's call: the rules', or Astray where the call isn't in its lane's script.
@@ -99,7 +112,11 @@ impl Core {
         ensures complete { (p : Plan) (j : List Entry) → Stands p self.old j
             → result ≡ reply.Stop → halted j ≡ false → Clean j → Complete p j }
     {
-        step(&mut self.state, &mut self.files, lane, call)
+        let before = lane_owes(&self.state, lane);
+        let reply = step(&mut self.state, &mut self.files, lane, call);
+        let after = lane_owes(&self.state, lane);
+        self.owed = self.owed - before + after;
+        reply
     }
 
     /// From now on notes there how far the run is. No reply knows of it.
@@ -108,39 +125,45 @@ impl Core {
     {
         self.state.ready.watch(notes);
     }
+}
 
-    /// The number of berths.
-    pub fn berths(&self) -> u32
-        ensures { result ≡ berths self.now.state.plan }
-    {
-        all_berths(self.state.plan.groups.as_slice())
+impl Rules for Core {
+    type Plan = Plan;
+
+    ghost plan = { plan_of };
+
+    ghost blank = { no_plan };
+
+    ghost stands = { StandsFor };
+
+    ghost legal = { λ q. CameAbout (own q) };
+
+    ghost rule = { λ q. answer_after (own q) };
+
+    ghost paid = { λ q. IsPaidAfter (own q) };
+
+    ghost owes = { λ q. owes_after (own q) };
+
+    ghost seats = { berths };
+
+    ghost remote = { λ q w. is_remote (kind_of q w) };
+
+    ghost line_room = { λ q. 2 * length q.actions * q.limit };
+
+    ghost actions = { λ q. length q.actions };
+
+    ghost outputs = { outputs_in };
+
+    ghost makers = { makers_in };
+
+    ghost news = { λ m lane. has_news_by m.state lane };
+
+    // The core's own step, whose clauses speak of journals.
+    fn step(&mut self, lane: u32, call: &Call) -> Reply {
+        Core::step(self, lane, call)
     }
 
-    /// The most lines that may be launched: one for each attempt of either branch of each action.
-    pub fn most_lines(&self) -> u32
-        ensures { result ≡ 2 * length self.now.state.plan.actions * self.now.state.plan.limit }
-    {
-        let actions = self.state.plan.actions.as_slice().len() as u32;
-        2 * actions * self.state.plan.limit
-    }
-
-    /// How many paid entries the lane still owes: its Halt, and the Committed of what it was
-    /// granted. A lane that isn't the plan's owes none.
-    pub fn lane_owes(&self, lane: u32) -> u64
-        ensures owes { (p : Plan) (j : List Entry) → Stands p self.now j → lane < 2 * berths p
-            → result ≡ lane_owes j lane }
-        ensures none { 2 * berths self.now.state.plan ≤ lane → result ≡ 0 }
-    {
-        if lane / 2 < self.berths() {
-            owes(self.state.lanes.state(lane))
-        } else {
-            0
-        }
-    }
-
-    /// Whether there is more for the lane than Idle: whether it may ask, a proxy lane for an order and
-    /// a tap lane for a line, and would be answered otherwise.
-    pub fn has_news(&self, lane: u32) -> bool
+    fn has_news(&self, lane: u32) -> bool
         ensures exact { result ≡ has_news_by self.now.state lane }
         ensures news { (p : Plan) (j : List Entry) → Stands p self.now j
             → result ≡ has_news p j lane }
@@ -155,15 +178,70 @@ impl Core {
             None => false,
         }
     }
-}
 
-fn all_berths(groups: &[Group]) -> u32
-    requires { sum_by (λ g. g.berths) groups.now ≤ 64 }
-    ensures { result ≡ sum_by (λ g. g.berths) groups.now }
-{
-    let mut berths = 0;
-    for group in groups {
-        berths += group.berths;
+    fn owed(&self) -> u64 {
+        self.owed
     }
-    berths
+
+    fn berths(&self) -> u32 {
+        all_berths(self.state.plan.groups.as_slice())
+    }
+
+    // One for each attempt of either branch of each action.
+    fn most_lines(&self) -> u32 {
+        let actions = self.state.plan.actions.as_slice().len() as u32;
+        2 * actions * self.state.plan.limit
+    }
+
+    ghost paid_is_noted = { own_laws.paid_is_noted };
+
+    ghost paid_stays = { own_laws.paid_stays };
+
+    ghost owes_less = { own_laws.owes_less };
+
+    ghost owes_more = { own_laws.owes_more };
+
+    ghost replies = { λ q. laws.replies (own q) (own_is q) };
+
+    ghost lanes_are_known = { λ q. laws.lanes_are_known (own q) (own_is q) };
+
+    ghost script_stays = { λ q. laws.script_stays (own q) (own_is q) };
+
+    ghost taps_hear = { λ q. laws.taps_hear (own q) (own_is q) };
+
+    ghost taps_hear_only = { λ q. laws.taps_hear_only (own q) (own_is q) };
+
+    ghost taps_may_halt = { λ q. laws.taps_may_halt (own q) (own_is q) };
+
+    ghost proxies_do = { λ q. laws.proxies_do (own q) (own_is q) };
+
+    ghost proxies_do_only = { λ q. laws.proxies_do_only (own q) (own_is q) };
+
+    ghost proxies_may_halt = { λ q. laws.proxies_may_halt (own q) (own_is q) };
+
+    ghost commits_are_paid = { λ q. laws.commits_are_paid (own q) (own_is q) };
+
+    ghost only_hears = { λ q. laws.only_hears (own q) (own_is q) };
+
+    ghost news_are = { news_are };
+
+    ghost stands_legal = { own_laws.stands_legal };
+
+    ghost legal_before = { λ q. laws.legal_before (own q) (own_is q) };
+
+    ghost orders_hold = { λ q. laws.orders_hold (own q) (own_is q) };
+
+    ghost lines_fit = { λ q. laws.lines_fit (own q) (own_is q) };
+
+    ghost inputs_are_there = { λ q. laws.inputs_are_there (own q) (own_is q) };
+
+    ghost lines_find_room = { λ q. laws.lines_find_room (own q) (own_is q) };
+
+    ghost takes_there = { λ q. laws.takes_there (own q) (own_is q) };
+
+    ghost takes_once = { λ q. laws.takes_once (own q) (own_is q) };
+
+    ghost grants_once = { λ q. laws.grants_once (own q) (own_is q) };
+
+    ghost commits_own = { λ q. laws.commits_own (own q) (own_is q) };
 }

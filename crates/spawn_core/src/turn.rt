@@ -7,22 +7,19 @@ ghost use Rattle.core_tables.specs.Lanes.{allows_by};
 ghost use Rattle.core_tables.specs.Seats.{seat_at};
 ghost use Rattle.spawn_core.specs.Answers.{Replies, answer};
 ghost use Rattle.spawn_core.specs.Looks.{ToldLook};
-ghost use Rattle.spawn_core.specs.Stands.{Stands, HasHistory};
+ghost use Rattle.spawn_core.specs.Stands.{HasJournal, TablesStand};
 
 use core_state::State;
 use core_tables::{Files, Order, Seat, seat_of};
 use exec_journal::{Call, Reply, Wanted};
 
-/// The reply to a lane's call, and what it makes of what is kept.
+/// The reply to a lane's call, and what it makes of the tables.
 pub fn step(state: &mut State, files: &mut Files, lane: u32, call: &Call) -> Reply
-    requires { HasHistory (record { state = state.old; files = files.old }) }
-    ensures reply { (p : Plan) (j : List Entry)
-        → Stands p (record { state = state.old; files = files.old }) j
+    requires { HasJournal state.old }
+    ensures reply { (p : Plan) (j : List Entry) → TablesStand p state.old files.old j
         → Replies (answer p j lane call.now) result }
-    ensures stands { (p : Plan) (j : List Entry)
-        → Stands p (record { state = state.old; files = files.old }) j
-        → Stands p (record { state = state.new; files = files.new })
-        (after j lane call.now result) }
+    ensures stands { (p : Plan) (j : List Entry) → TablesStand p state.old files.old j
+        → TablesStand p state.new files.new (after j lane call.now result) }
 {
     match seat_of(&state.plan, lane / 2) {
         Some(seat) if state.lanes.allows(&state.plan, seat.kind, lane, call) => {
@@ -34,16 +31,13 @@ pub fn step(state: &mut State, files: &mut Files, lane: u32, call: &Call) -> Rep
 
 // A call that is in its lane's script.
 fn in_script(state: &mut State, files: &mut Files, lane: u32, seat: Seat, call: &Call) -> Reply
-    requires history { HasHistory (record { state = state.old; files = files.old }) }
+    requires journal { HasJournal state.old }
     requires seated { seat_at state.old.plan (lane / 2) ≡ Some seat }
     requires allowed { allows_by state.old.plan seat.kind state.old.lanes lane call.now ≡ true }
-    ensures reply { (p : Plan) (j : List Entry)
-        → Stands p (record { state = state.old; files = files.old }) j
+    ensures reply { (p : Plan) (j : List Entry) → TablesStand p state.old files.old j
         → Replies (answer p j lane call.now) result }
-    ensures stands { (p : Plan) (j : List Entry)
-        → Stands p (record { state = state.old; files = files.old }) j
-        → Stands p (record { state = state.new; files = files.new })
-        (after j lane call.now result) }
+    ensures stands { (p : Plan) (j : List Entry) → TablesStand p state.old files.old j
+        → TablesStand p state.new files.new (after j lane call.now result) }
 {
     if let Call::Look(wanted) = call {
         return look(state, files, lane, wanted);

@@ -13,7 +13,6 @@ ghost use Rattle.worker_run.specs.Lanes.{HasMade, IsUnused, MakesUpTo, TaskRan, 
 use crate::ended::Ended;
 use crate::running::{Ran, run_plan};
 use build_report::{RunFault, Stage, report};
-use core_rules::LaneCore;
 use exec_journal::{Journal, Plan};
 use outside::{Berth, Floor, Io, Sink};
 use plain_values::NoMemory;
@@ -115,10 +114,10 @@ where
     ensures log { result.floor.log ≡ (F.told floor).log }
     ensures count { (F.told floor).faults ≤ result.floor.faults }
 {
-    let Ok(core) = Core::new(alloc, twin) else {
+    let Ok(mut core) = Core::new(alloc, twin) else {
         return Ran::with_nothing(alloc, floor, Some(Stage::Before));
     };
-    let core = LaneCore::watched(core, notes);
+    core.watch(notes);
     run_plan(rt, alloc, core, task.posts.as_slice(), &task.work, floor)
 }
 

@@ -1,4 +1,4 @@
-use Rattle.std.proofs.Common.{w32, to_z, of_z, ℕ, ℤ, Bool, true, false, List, length, [], refl, ap, sym, subst, ◌∙◌}
+use Rattle.std.proofs.Common.{w32, to_z, of_z, ℕ, ℤ, Bool, true, false, List, length, [], refl, ap, sym, subst, ◌∙◌, SFits, rules as facts}
 use Rattle.std.specs.Prelude.{IfOk}
 use Rattle.std.proofs.Math.Facts.{to_z-of_z}
 use Rattle.exec_journal.specs.declared.call.Found.TheVariants as found
@@ -27,52 +27,50 @@ refused_in : (r : Bool) (asks : List Asked) (outputs l : ℕ) (n : ℤ)
 refused_in true asks outputs l n = (refl, refl, refl)
 refused_in false asks outputs l n = (refl, refl, refl)
 
-pub returns-then-exit-ne0-clause-acts : goal.returns-then-exit-ne0-clause-acts
-returns-then-exit-ne0-clause-acts g c =
+pub returns-then-answer-ne0-clause-acts : goal.returns-then-answer-ne0-clause-acts
+returns-then-answer-ne0-clause-acts g c =
     let p = c.args.caller.now.pass in
-    let post = c.args.post.now in
+    let post = c.args.site.now.post.now in
     let work = c.args.work.now in
     let b = g.B.Berth.told c.args.berth.now in
-    gather_none post (g.C.Rules.rule (rules p)) p.lane c.args.line c.args.number work (seen p)
-    (found.Exit (to_z w32 (of_z w32 c.args.exit))) b
-    (exit_in (is_remote post.kind) (look_asks post c.args.number work) (length work.outputs) c.args.line
-    c.args.number (to_z w32 (of_z w32 c.args.exit))) (made_none b)
+    gather_none post (g.C.Rules.rule (rules p)) p.lane c.args.answer.now.line c.args.answer.now.number work (seen p)
+    (found.Exit (to_z w32 (of_z w32 c.args.answer.now.exit))) b
+    (exit_in (is_remote post.kind) (look_asks post c.args.answer.now.number work) (length work.outputs) c.args.answer.now.line
+    c.args.answer.now.number (to_z w32 (of_z w32 c.args.answer.now.exit))) (made_none b)
 
-pub returns-then-refused-clause-acts : goal.returns-then-refused-clause-acts
-returns-then-refused-clause-acts g c =
+pub returns-then-answer-clause-acts : goal.returns-then-answer-clause-acts
+returns-then-answer-clause-acts g c =
     let p = c.args.caller.now.pass in
-    let post = c.args.post.now in
+    let post = c.args.site.now.post.now in
     let work = c.args.work.now in
     let b = g.B.Berth.told c.args.berth.now in
-    gather_none post (g.C.Rules.rule (rules p)) p.lane c.args.line c.args.number work (seen p)
+    gather_none post (g.C.Rules.rule (rules p)) p.lane c.args.answer.now.line c.args.answer.now.number work (seen p)
     found.Refused b
-    (refused_in (is_remote post.kind) (look_asks post c.args.number work) (length work.outputs)
-    c.args.line c.args.number) (made_none b)
+    (refused_in (is_remote post.kind) (look_asks post c.args.answer.now.number work) (length work.outputs)
+    c.args.answer.now.line c.args.answer.now.number) (made_none b)
 
 pub returns-then-is_executor-clause-acts : goal.returns-then-is_executor-clause-acts
 returns-then-is_executor-clause-acts g c =
     let p = c.args.caller.now.pass in
-    let post = c.args.post.now in
+    let post = c.args.site.now.post.now in
     let work = c.args.work.now in
     let later = seen c.answered.new.caller.pass in
     let rule = g.C.Rules.rule (rules p) in
-    gather_answered post rule p.lane c.args.line c.args.number work later c.answered.result
+    gather_answered post rule p.lane c.args.answer.now.line c.args.answer.now.number work later c.answered.result
     (g.B.Berth.told c.args.berth.now) (sym c.is_executor.ensures ∙ c.if-is_executor.true)
-    (subst (λ xs. IfOk c.answered.result (λ f. IsAnswered rule p.lane c.args.line c.args.number
-    (length xs) f later)) c.as_slice-outputs.ensures
-    (subst (λ (m : ℤ). IfOk c.answered.result (λ f. IsAnswered rule p.lane c.args.line m
-    (length c.as_slice-outputs.result.now) f later)) (to_z-of_z c.ranges.number)
-    c.answered.ensures.answered))
+    (subst (λ xs. IfOk c.answered.result (λ f. IsAnswered rule p.lane c.args.answer.now.line c.args.answer.now.number
+    (length xs) f later)) c.as_slice-outputs.ensures c.answered.ensures.answered)
 
 pub returns-clause-acts : goal.returns-clause-acts
 returns-clause-acts g c =
+    let fits : SFits w32 c.args.answer.now.number = search facts in
     let p = c.args.caller.now.pass in
-    let post = c.args.post.now in
+    let post = c.args.site.now.post.now in
     let work = c.args.work.now in
     let old = g.B.Berth.told c.args.berth.now in
     let new = g.B.Berth.told c.gather_line.new.berth in
-    let room = c.room_of-room.ensures ∙ ap (room_for post.kind) (to_z-of_z c.ranges.number) in
-    gather_looked post (g.C.Rules.rule (rules p)) p.lane c.args.line c.args.number work (seen p)
+    let room = c.room_of-room.ensures ∙ ap (room_for post.kind) (to_z-of_z fits) in
+    gather_looked post (g.C.Rules.rule (rules p)) p.lane c.args.answer.now.line c.args.answer.now.number work (seen p)
     c.gather_line.result old new (sym c.is_executor.ensures ∙ c.if-is_executor.false)
     (subst (λ (r : Room). ReportsLooks (gather_asks r work.outputs) c.gather_line.result old new) room
     (subst (λ xs. ReportsLooks (gather_asks c.room_of-room.result xs) c.gather_line.result old new)

@@ -1,4 +1,4 @@
-use Rattle.std.proofs.Common.{◌≡◌, ℕ, ℤ, ◌+◌, Option, Some, List, [], ◌∷◌, ◌++◌, length, refl, ap, sym, subst, ◌∙◌, append-nil, arith}
+use Rattle.std.proofs.Common.{◌≡◌, ℕ, ℤ, ◌+◌, Option, Some, List, [], ◌∷◌, ◌++◌, length, refl, ap, sym, subst, ◌∙◌, append-nil, arith, w32, SFits, rules as facts}
 use Rattle.std.proofs.Math.Facts.{to_z-of_z}
 use Rattle.seat_desk.specs.Passes.{rules, seen}
 use Rattle.exec_journal.specs.declared.call.Wanted.TheVariants as wanted
@@ -17,12 +17,9 @@ loop-output-init g c = record {
   same = (refl, refl, refl);
   none = (([], sym (append-nil (seen c.args.caller.now.pass))), refl);
   files = ap length c.in_ok-files.ensures.items;
-  told = subst (λ (m : ℤ). AreTold (g.C.Rules.rule (rules c.args.caller.now.pass))
+  told = subst (λ (fs : List (List ℕ)). AreTold (g.C.Rules.rule (rules c.args.caller.now.pass))
       c.args.caller.now.pass.lane (seen c.args.caller.now.pass)
-      (looks_from c.args.line m 0 c.in_ok-files.files.items)) (sym (to_z-of_z c.ranges.number))
-      (subst (λ (fs : List (List ℕ)). AreTold (g.C.Rules.rule (rules c.args.caller.now.pass))
-      c.args.caller.now.pass.lane (seen c.args.caller.now.pass)
-      (looks_from c.args.line c.args.number 0 fs)) (sym c.in_ok-files.ensures.items) tt);
+      (looks_from c.args.answer.now.line c.args.answer.now.number 0 fs)) (sym c.in_ok-files.ensures.items) tt;
 }
 
 pub returns-in_err-bytes-clause-none : goal.returns-in_err-bytes-clause-none
@@ -48,55 +45,53 @@ returns-in-None-clause-none g c = (
 
 pub returns-in-None-clause-answered : goal.returns-in-None-clause-answered
 returns-in-None-clause-answered g c =
+    let fits : SFits w32 c.args.answer.now.number = search facts in
     let p = c.args.caller.now.pass in
     let p1 = c.loop-output.caller.pass in
     let p2 = c.look.new.caller.pass in
     let rule = g.C.Rules.rule in
     let inv = c.loop-output.invariant in
     let out = c.loop-output.output in
-    let l = c.args.line in
-    let n = c.args.number in
-    let told = subst (λ (m : ℤ). AreTold (rule (rules p)) p.lane (seen p1)
-    (looks_from l m 0 c.loop-output.files.items)) (to_z-of_z c.ranges.number) inv.told in
+    let l = c.args.answer.now.line in
+    let n = c.args.answer.now.number in
     let one = subst (λ q. IsTold (rule q) p.lane (seen p2) (lacks l n out)) inv.same.2
     (subst (λ (k : ℕ). IsTold (rule (rules p1)) k (seen p2) (lacks l n out)) inv.same.1
     (subst (λ (o : Option (List ℕ)). IsTold (rule (rules p1)) p1.lane (seen p2)
     (record { wanted = wanted.Answered l n out; found = o })) c.in-None.is
     (subst (λ (m : ℤ). IsTold (rule (rules p1)) p1.lane (seen p2)
     (record { wanted = wanted.Answered l m out; found = c.in_ok-bytes.field-0 }))
-    (to_z-of_z c.ranges.number) c.in_ok-bytes.ensures.told))) in (
+    (to_z-of_z fits) c.in_ok-bytes.ensures.told))) in (
       (search rules),
       (
         c.loop-output.files.items,
         inv.files,
         output_told (rule (rules p)) p.lane (seen p1) (seen p2)
-            c.look.ensures.none.0 l n c.loop-output.files.items out (lacks l n out) inv.files told one,
+            c.look.ensures.none.0 l n c.loop-output.files.items out (lacks l n out) inv.files inv.told one,
       ),
     )
 
 pub loop-output-preserved : goal.loop-output-preserved
 loop-output-preserved g c =
+    let fits : SFits w32 c.args.answer.now.number = search facts in
     let p = c.args.caller.now.pass in
     let p1 = c.loop-output.caller.pass in
     let p2 = c.look.new.caller.pass in
     let rule = g.C.Rules.rule in
     let inv = c.loop-output.invariant in
     let out = c.loop-output.output in
-    let l = c.args.line in
-    let n = c.args.number in
+    let l = c.args.answer.now.line in
+    let n = c.args.answer.now.number in
     let items = c.loop-output.files.items in
     let bytes = c.in-Some.bytes in
     let x : Looked = record { wanted = wanted.Answered l n out; found = Some bytes } in
     let pushed = c.in_ok-push-in-Some.ensures.items in
-    let told = subst (λ (m : ℤ). AreTold (rule (rules p)) p.lane (seen p1)
-    (looks_from l m 0 c.loop-output.files.items)) (to_z-of_z c.ranges.number) inv.told in
     let one = subst (λ q. IsTold (rule q) p.lane (seen p2) x) inv.same.2
     (subst (λ (k : ℕ). IsTold (rule (rules p1)) k (seen p2) x) inv.same.1
     (subst (λ (o : Option (List ℕ)). IsTold (rule (rules p1)) p1.lane (seen p2)
     (record { wanted = wanted.Answered l n out; found = o })) c.in-Some.is
     (subst (λ (m : ℤ). IsTold (rule (rules p1)) p1.lane (seen p2)
     (record { wanted = wanted.Answered l m out; found = c.in_ok-bytes.field-0 }))
-    (to_z-of_z c.ranges.number) c.in_ok-bytes.ensures.told))) in
+    (to_z-of_z fits) c.in_ok-bytes.ensures.told))) in
     let same = c.look.ensures.same in
     record {
       same = (same.0 ∙ inv.same.0, same.1 ∙ inv.same.1, same.2 ∙ inv.same.2);
@@ -105,14 +100,12 @@ loop-output-preserved g c =
         c.look.ensures.none.1 ∙ inv.none.1,
       );
       files = ap length pushed ∙ (length_on items bytes ∙ ap (λ (k : ℕ). k + 1) inv.files);
-      told = subst (λ (m : ℤ). AreTold (rule (rules p)) p.lane (seen p2)
-          (looks_from l m 0 c.push.new.self.items)) (sym (to_z-of_z c.ranges.number))
-          (subst (λ (fs : List (List ℕ)). AreTold (rule (rules p)) p.lane (seen p2)
+      told = subst (λ (fs : List (List ℕ)). AreTold (rule (rules p)) p.lane (seen p2)
           (looks_from l n 0 fs)) (sym pushed)
           (subst (λ (ls : List Looked). AreTold (rule (rules p)) p.lane (seen p2) ls)
           (sym (looks_on l n items bytes out inv.files))
           (output_told (rule (rules p)) p.lane (seen p1) (seen p2) c.look.ensures.none.0 l n items out x
-          inv.files told one)));
+          inv.files inv.told one));
     }
 
 pub returns-in_err-files-clause-same : goal.returns-in_err-files-clause-same

@@ -11,5 +11,5 @@ invariant-loop-output g l = record {
   none : MakesNone l.fn.caller.pass l.caller.pass;
   files : length l.files.items ≡ l.output;
   told : AreTold (g.C.Rules.rule (rules l.fn.caller.pass)) l.fn.caller.pass.lane (seen l.caller.pass)
-      (looks_from l.line l.number 0 l.files.items);
+      (looks_from l.answer.line l.answer.number 0 l.files.items);
 }

@@ -91,14 +91,14 @@ granted_fits told outputs makers remote s t place found.RoomFault r own x may = 
 granted_fits told outputs makers remote s t place found.Refused r own x may = absurd x
 
 pub claim-requires-clause-lane : goal.claim-requires-clause-lane
-claim-requires-clause-lane g c = c.requires.lane
+claim-requires-clause-lane g c = c.requires.site.lane
 
 pub claim-requires-clause-may : goal.claim-requires-clause-may
 claim-requires-clause-may g c = c.requires.may
 
 pub commit_files-requires-clause-lane : goal.commit_files-requires-clause-lane
-commit_files-requires-clause-lane g c = proxy_on g.C.Rules.seats c.args.lane
-    c.args.caller.now.pass c.claim.new.caller.pass c.claim.ensures.same c.requires.lane
+commit_files-requires-clause-lane g c = proxy_on g.C.Rules.seats c.args.site.now.berth
+    c.args.caller.now.pass c.claim.new.caller.pass c.claim.ensures.same c.requires.site.lane
 
 pub commit_files-requires-clause-outputs : goal.commit_files-requires-clause-outputs
 commit_files-requires-clause-outputs g c =
@@ -216,7 +216,7 @@ commit_files-requires-clause-fits g c =
     (g.C.Rules.outputs q t.action) t o c.args.found claimed.reply own) c.in-Ok-Some.field-0-is
     claimed.granted in
     let fits = granted_fits g.P.Place.told (g.C.Rules.outputs q) (g.C.Rules.makers q)
-    (g.C.Rules.remote q c.args.lane) (duty_of (mine p)) t c.in-Ok-Some.place c.args.found
+    (g.C.Rules.remote q c.args.site.now.berth) (duty_of (mine p)) t c.in-Ok-Some.place c.args.found
     claimed.reply own granted c.requires.may in
     ap length (c.as_slice.ensures.value ∙ c.in-Ok.ensures.ok)
     ∙ (fits ∙ ap length (c.requires.outputs ∙ sym c.as_slice-outputs.ensures))

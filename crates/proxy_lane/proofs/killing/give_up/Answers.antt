@@ -11,9 +11,9 @@ lay_by-requires-clause-open g c = sym c.open_line.ensures ∙ c.in-Some-open_lin
 
 pub lay_by-requires-clause-child : goal.lay_by-requires-clause-child
 lay_by-requires-clause-child g c =
-    some_there g.B.Child.Child.told (child_at c.args.lane (mine c.args.caller.now.pass))
+    some_there g.B.Child.Child.told (child_at c.args.site.now.berth (mine c.args.caller.now.pass))
     c.in-Some-open_line.line c.halt-child.result c.in-Some.child c.halt-child.ensures.child
-    (c.requires.shelved ∙ (sym c.open_line.ensures ∙ c.in-Some-open_line.is)) c.in-Some.is
+    (c.requires.tidy.0 ∙ (sym c.open_line.ensures ∙ c.in-Some-open_line.is)) c.in-Some.is
 
 pub returns-in-Some-open_line-clause-laid_by : goal.returns-in-Some-open_line-clause-laid_by
 returns-in-Some-open_line-clause-laid_by g c =
@@ -28,6 +28,6 @@ returns-in-None-open_line-clause-laid_by g c =
 pub returns-in-None-clause-laid_by : goal.returns-in-None-clause-laid_by
 returns-in-None-clause-laid_by g c =
     let h = held_of g.B.Berth.told g.B.Feed.Feed.told g.B.Child.Child.told c.args.hands.now in
-    let none = none_there g.B.Child.Child.told (child_at c.args.lane (mine c.args.caller.now.pass))
+    let none = none_there g.B.Child.Child.told (child_at c.args.site.now.berth (mine c.args.caller.now.pass))
     c.halt-child.result c.halt-child.ensures.child c.in-None.is in
-    subst (λ (o : Option ℕ). AreLaidBy o h h) (sym (sym c.requires.shelved ∙ none)) refl
+    subst (λ (o : Option ℕ). AreLaidBy o h h) (sym (sym c.requires.tidy.0 ∙ none)) refl

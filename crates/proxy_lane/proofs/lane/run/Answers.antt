@@ -1,30 +1,39 @@
-use Rattle.std.proofs.Common.{List, None, map, ap, sym, subst, ◌∙◌}
+use Rattle.std.proofs.Common.{◌≡◌, List, Some, None, map, ap, sym, subst, ◌∙◌}
 use Rattle.seat_desk.specs.Passes.{mine, rules, seen}
+use Rattle.run_rules.specs.Shelf.{child_at}
+use Rattle.run_rules.specs.Duties.{duty_of}
 use Rattle.lane_deeds.specs.Lines.{Back}
 use Rattle.lane_steps.specs.Lanes.{back_of, held_of, Keeps}
 use Rattle.lane_steps.specs.Steps.{Finishes}
 use Rattle.lane_steps.proofs.Serving.{first_keeps, served_by}
 use Rattle.proxy_lane.proofs.lane.run.Goals as goal
 
-pub serve-halted-requires-clause-kept : goal.serve-halted-requires-clause-kept
-serve-halted-requires-clause-kept g c =
-    let post = c.args.post.now in
-    let actions = c.args.actions.now in
+pub serve-halted-requires-clause-ready : goal.serve-halted-requires-clause-ready
+serve-halted-requires-clause-ready g c =
+    let post = c.args.site.now.post.now in
+    let actions = c.args.site.now.actions.now in
     let rule = g.C.Rules.rule in
     let p = c.new-caller.result.pass in
     let b = g.B.Berth.told c.args.berth in
     let none = ap (map (back_of g.B.Feed.Feed.told g.B.Child.Child.told)) c.new.ensures.items in
-    let fresh = ap mine c.new-caller.ensures.pass ∙ c.requires.fresh in (
-      b,
-      subst (λ (backs : List Back). Keeps (rule (rules p)) p.lane post actions (mine p) (seen p) b
-          (record { berth = b; opened = None; ended = backs; unsaid = None })) (sym none)
-          (first_keeps post actions rule p b fresh),
-    )
+    let fresh = ap mine c.new-caller.ensures.pass ∙ c.requires.fresh in record {
+      asks = ap duty_of fresh;
+      tidy = (
+        ap (child_at c.args.site.now.berth) fresh,
+        λ l is. absurd (let none : None ≡ Some l = is in cc),
+      );
+      kept = (
+        b,
+        subst (λ (backs : List Back). Keeps (rule (rules p)) p.lane post actions (mine p) (seen p) b
+            (record { berth = b; opened = None; ended = backs; unsaid = None })) (sym none)
+            (first_keeps post actions rule p b fresh),
+      );
+    }
 
 pub returns-clause-served : goal.returns-clause-served
 returns-clause-served g c =
-    let post = c.args.post.now in
-    let actions = c.args.actions.now in
+    let post = c.args.site.now.post.now in
+    let actions = c.args.site.now.actions.now in
     let rule = g.C.Rules.rule in
     let p = c.new-caller.result.pass in
     let p2 = c.serve-halted.new.caller.pass in

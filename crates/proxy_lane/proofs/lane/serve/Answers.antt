@@ -1,12 +1,11 @@
 use Rattle.std.proofs.Common.{◌≡◌, Option, Some, None, option_map, refl, ◌∙◌}
 use Rattle.outside.specs.Told.{FeedTold}
-use Rattle.run_plan.specs.Groups.{is_remote}
 use Rattle.lane_steps.specs.declared.hands.OpenFeed.{OpenFeed}
-use Rattle.lane_steps.specs.Work.{IsWorkOf}
 use Rattle.lane_steps.specs.Lanes.{open_of, open_line, held_of}
 use Rattle.lane_steps.specs.Steps.{open_in}
 use Rattle.lane_steps.proofs.Shelving.{at_half}
-use Rattle.lane_steps.proofs.Serving.{proxy_on, by_rules, goes_on, some_on, halts_on, halts_may, ends_halted, ends_stopped}
+use Rattle.lane_steps.proofs.Serving.{goes_on, some_on, halts_on, halts_may, ends_halted, ends_stopped}
+use Rattle.proxy_lane.proofs.Siting.{site_on}
 use Rattle.proxy_lane.proofs.lane.serve.Goals as goal
 
 -- which line is open, what is held tells too
@@ -15,26 +14,16 @@ line_told : {D : Type 0} (feed : D → FeedTold) (o : Option (OpenFeed D))
 line_told feed None = refl
 line_told feed (Some x) = refl
 
-pub next-requires-in-loop-clause-lane : goal.next-requires-in-loop-clause-lane
-next-requires-in-loop-clause-lane g c =
-    proxy_on g.C.Rules.seats c.args.lane c.args.caller.now.pass c.loop.caller.pass
-    c.loop.invariant.same c.requires.lane
-
-pub next-requires-in-loop-clause-remote : goal.next-requires-in-loop-clause-remote
-next-requires-in-loop-clause-remote g c =
-    by_rules (λ q. g.C.Rules.remote q c.args.lane ≡ is_remote c.args.post.now.kind)
-    c.args.caller.now.pass c.loop.caller.pass c.loop.invariant.same c.requires.remote
-
-pub next-requires-in-loop-clause-work : goal.next-requires-in-loop-clause-work
-next-requires-in-loop-clause-work g c =
-    by_rules (λ q. IsWorkOf (g.C.Rules.actions q) (g.C.Rules.outputs q) (g.C.Rules.makers q)
-    c.args.actions.now) c.args.caller.now.pass c.loop.caller.pass c.loop.invariant.same
-    c.requires.work
+pub next-requires-in-loop-clause-site : goal.next-requires-in-loop-clause-site
+next-requires-in-loop-clause-site g c =
+    site_on g.C.Rules.seats g.C.Rules.remote g.C.Rules.actions g.C.Rules.outputs g.C.Rules.makers
+    c.args.site.now c.args.caller.now.pass c.loop.caller.pass c.loop.invariant.same
+    c.requires.site
 
 pub returns-in-Ok-false-clause-ends : goal.returns-in-Ok-false-clause-ends
 returns-in-Ok-false-clause-ends g c =
-    let post = c.args.post.now in
-    let actions = c.args.actions.now in
+    let post = c.args.site.now.post.now in
+    let actions = c.args.site.now.actions.now in
     let rule = g.C.Rules.rule in
     let p = c.args.caller.now.pass in
     let p1 = c.loop.caller.pass in
@@ -45,15 +34,15 @@ returns-in-Ok-false-clause-ends g c =
     let h2 = held c.next-in-loop.new.hands in
     let i = c.loop.invariant in
     let more = c.next-in-loop.ensures.same in
-    let went = rw c.in-Ok-false.field-0-test at c.in-Ok-false.ensures.goes in
+    let went = rw c.in-Ok-false.field-0-test at c.in-Ok-false.ensures.rounds in
     ends_stopped post actions rule p p2 p2 h h2 h2
     (more.0 ∙ i.same.0, more.1 ∙ i.same.1, more.2 ∙ i.same.2)
     (goes_on post actions rule p p1 p2 h h1 h2 i.same i.goes went.2) went.0 went.1
 
 pub give_up-requires-clause-may : goal.give_up-requires-clause-may
 give_up-requires-clause-may g c =
-    let post = c.args.post.now in
-    let actions = c.args.actions.now in
+    let post = c.args.site.now.post.now in
+    let actions = c.args.site.now.actions.now in
     let rule = g.C.Rules.rule in
     let p = c.args.caller.now.pass in
     let p1 = c.loop.caller.pass in
@@ -64,12 +53,12 @@ give_up-requires-clause-may g c =
     let h2 = held c.next-in-loop.new.hands in
     let i = c.loop.invariant in
     let more = c.next-in-loop.ensures.same in
-    halts_may post actions rule p1 p2 p2 h1 h2 h2 more c.in-Err.cause i.kept c.in-Err.ensures.halts
+    halts_may post actions rule p1 p2 p2 h1 h2 h2 more c.in-Err.cause i.ready.kept c.in-Err.ensures.rounds
 
 pub returns-in-Err-clause-ends : goal.returns-in-Err-clause-ends
 returns-in-Err-clause-ends g c =
-    let post = c.args.post.now in
-    let actions = c.args.actions.now in
+    let post = c.args.site.now.post.now in
+    let actions = c.args.site.now.actions.now in
     let rule = g.C.Rules.rule in
     let p = c.args.caller.now.pass in
     let p1 = c.loop.caller.pass in
@@ -85,33 +74,21 @@ returns-in-Err-clause-ends g c =
     ends_halted post actions rule p p2 p3 h h2 h3
     (more.0 ∙ i.same.0, more.1 ∙ i.same.1, more.2 ∙ i.same.2)
     c.in-Err.cause (open_in c.next-in-loop.new.hands)
-    (halts_on post actions rule p p1 p2 h h1 h2 i.same c.in-Err.cause i.goes c.in-Err.ensures.halts)
+    (halts_on post actions rule p p1 p2 h h1 h2 i.same c.in-Err.cause i.goes c.in-Err.ensures.rounds)
     (line_told g.B.Feed.Feed.told c.next-in-loop.new.hands.open)
-    (at_half c.args.lane p2 (open_in c.next-in-loop.new.hands)
-    (more.1 ∙ (i.same.1 ∙ c.requires.lane.0)) c.next-in-loop.ensures.shelved)
+    (at_half c.args.site.now.berth p2 (open_in c.next-in-loop.new.hands)
+    (more.1 ∙ (i.same.1 ∙ c.requires.site.lane.0)) c.next-in-loop.ensures.tidy.0)
     c.give_up.ensures.halted c.give_up.ensures.laid_by
 
 pub loop-init : goal.loop-init
 loop-init g c = record {
   same = (refl, refl, refl);
-  asks = c.requires.asks;
-  shelved = c.requires.shelved;
-  room = c.requires.room;
+  ready = c.requires.ready;
   goes = λ first k. k;
-  kept = c.requires.kept;
 }
 
-pub next-requires-in-loop-clause-asks : goal.next-requires-in-loop-clause-asks
-next-requires-in-loop-clause-asks g c = c.loop.invariant.asks
-
-pub next-requires-in-loop-clause-shelved : goal.next-requires-in-loop-clause-shelved
-next-requires-in-loop-clause-shelved g c = c.loop.invariant.shelved
-
-pub next-requires-in-loop-clause-room : goal.next-requires-in-loop-clause-room
-next-requires-in-loop-clause-room g c = c.loop.invariant.room
-
-pub next-requires-in-loop-clause-kept : goal.next-requires-in-loop-clause-kept
-next-requires-in-loop-clause-kept g c = c.loop.invariant.kept
+pub next-requires-in-loop-clause-ready : goal.next-requires-in-loop-clause-ready
+next-requires-in-loop-clause-ready g c = c.loop.invariant.ready
 
 pub returns-in-Ok-false-clause-same : goal.returns-in-Ok-false-clause-same
 returns-in-Ok-false-clause-same g c =
@@ -119,18 +96,16 @@ returns-in-Ok-false-clause-same g c =
     let more = c.next-in-loop.ensures.same in
     (more.0 ∙ i.0, more.1 ∙ i.1, more.2 ∙ i.2)
 
-pub give_up-requires-clause-lane : goal.give_up-requires-clause-lane
-give_up-requires-clause-lane g c =
+pub give_up-requires-clause-site : goal.give_up-requires-clause-site
+give_up-requires-clause-site g c =
     let i = c.loop.invariant.same in
     let more = c.next-in-loop.ensures.same in
-    proxy_on g.C.Rules.seats c.args.lane c.args.caller.now.pass c.next-in-loop.new.caller.pass
-    (more.0 ∙ i.0, more.1 ∙ i.1, more.2 ∙ i.2) c.requires.lane
+    site_on g.C.Rules.seats g.C.Rules.remote g.C.Rules.actions g.C.Rules.outputs g.C.Rules.makers
+    c.args.site.now c.args.caller.now.pass c.next-in-loop.new.caller.pass
+    (more.0 ∙ i.0, more.1 ∙ i.1, more.2 ∙ i.2) c.requires.site
 
-pub give_up-requires-clause-shelved : goal.give_up-requires-clause-shelved
-give_up-requires-clause-shelved g c = c.next-in-loop.ensures.shelved
-
-pub give_up-requires-clause-room : goal.give_up-requires-clause-room
-give_up-requires-clause-room g c = c.next-in-loop.ensures.room
+pub give_up-requires-clause-tidy : goal.give_up-requires-clause-tidy
+give_up-requires-clause-tidy g c = c.next-in-loop.ensures.tidy
 
 pub returns-in-Err-clause-same : goal.returns-in-Err-clause-same
 returns-in-Err-clause-same g c =
@@ -141,8 +116,8 @@ returns-in-Err-clause-same g c =
 
 pub loop-preserved : goal.loop-preserved
 loop-preserved g c =
-    let post = c.args.post.now in
-    let actions = c.args.actions.now in
+    let post = c.args.site.now.post.now in
+    let actions = c.args.site.now.actions.now in
     let rule = g.C.Rules.rule in
     let p = c.args.caller.now.pass in
     let p1 = c.loop.caller.pass in
@@ -153,12 +128,13 @@ loop-preserved g c =
     let h2 = held c.next-in-loop.new.hands in
     let i = c.loop.invariant in
     let more = c.next-in-loop.ensures.same in
-    let went = rw c.in-Ok-true.field-0-test at c.in-Ok-true.ensures.goes in
+    let went = rw c.in-Ok-true.field-0-test at c.in-Ok-true.ensures.rounds in
     record {
       same = (more.0 ∙ i.same.0, more.1 ∙ i.same.1, more.2 ∙ i.same.2);
-      asks = went.0;
-      shelved = c.next-in-loop.ensures.shelved;
-      room = c.next-in-loop.ensures.room;
+      ready = record {
+        asks = went.0;
+        tidy = c.next-in-loop.ensures.tidy;
+        kept = some_on post actions rule p1 p2 p2 h1 h2 h2 more i.ready.kept went.1;
+      };
       goes = goes_on post actions rule p p1 p2 h h1 h2 i.same i.goes went.1;
-      kept = some_on post actions rule p1 p2 p2 h1 h2 h2 more i.kept went.1;
     }

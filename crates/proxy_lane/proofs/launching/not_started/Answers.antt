@@ -13,7 +13,7 @@ pub tell-requires-clause-may : goal.tell-requires-clause-may
 tell-requires-clause-may g c =
     let p = c.args.caller.now.pass in
     let q = p.seat.me.0.rules in
-    may_launch (g.C.Rules.outputs q) (g.C.Rules.makers q) (g.C.Rules.remote q c.args.lane)
+    may_launch (g.C.Rules.outputs q) (g.C.Rules.makers q) (g.C.Rules.remote q c.args.site.now.berth)
     (duty_of p.seat.me.0.mine) c.args.line c.args.how c.requires.owes
 
 pub returns-in-Err-clause-refused : goal.returns-in-Err-clause-refused

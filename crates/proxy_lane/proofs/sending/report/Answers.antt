@@ -18,9 +18,9 @@ pub tell-requires-clause-may : goal.tell-requires-clause-may
 tell-requires-clause-may g c =
     let p = c.args.caller.now.pass in
     let q = p.seat.me.0.rules in
-    subst (λ (n : ℤ). may_do (g.C.Rules.outputs q) (g.C.Rules.makers q) (g.C.Rules.remote q c.args.lane)
+    subst (λ (n : ℤ). may_do (g.C.Rules.outputs q) (g.C.Rules.makers q) (g.C.Rules.remote q c.args.site.now.berth)
     (duty_of p.seat.me.0.mine) (call.Wrote c.args.line n c.in-Ok.how) ≡ true) (sym (to_z-of_z c.ranges.number))
-    (may_wrote (g.C.Rules.outputs q) (g.C.Rules.makers q) (g.C.Rules.remote q c.args.lane)
+    (may_wrote (g.C.Rules.outputs q) (g.C.Rules.makers q) (g.C.Rules.remote q c.args.site.now.berth)
     p.seat.me.0.mine c.args.line c.args.number c.in-Ok.how
     (subst (λ (r : Result Written NoMemory). OwesWrote c.args.line c.args.number r p.seat.me.0.mine)
     c.in-Ok.is c.requires.owes))

@@ -6,7 +6,7 @@ use Rattle.core_state.specs.Noted.{noted_if_kept}
 use Rattle.core_state.specs.Steps.{made, made_reply}
 use Rattle.core_tables.specs.Slots.{Follows}
 use Rattle.spawn_core.specs.Answers.{Replies, answer}
-use Rattle.spawn_core.specs.Stands.{Stands}
+use Rattle.spawn_core.specs.Stands.{TablesStand}
 use Rattle.spawn_core.proofs.Turned.{can_turn, lane_turn, berth_turn, reply_turn, stands_turn, unlook, look_reply, look_stands}
 use Rattle.spawn_core.proofs.turn.in_script.Goals as goal
 
@@ -24,21 +24,21 @@ returns-in-Look-clause-stands c = λ p j st.
 
 pub make-reply-requires : goal.make-reply-requires
 make-reply-requires c =
-    let h = c.requires.history in
+    let h = c.requires.journal in
     let quiet = unlook c.args.call.now c.in_default.not-Look in
     record {
-      can = can_turn h.plan c.args.state.now c.args.files.now h.journal c.args.lane
+      can = can_turn h.plan c.args.state.now h.journal c.args.lane
           c.args.seat c.args.call.now h.stands c.requires.seated quiet c.requires.allowed;
       no_look = quiet;
     }
 
 pub note-requires : goal.note-requires
 note-requires c =
-    let h = c.requires.history in
+    let h = c.requires.journal in
     let quiet = unlook c.args.call.now c.in_default.not-Look in
-    let lane = lane_turn h.plan c.args.state.now c.args.files.now h.journal c.args.lane c.args.seat
+    let lane = lane_turn h.plan c.args.state.now h.journal c.args.lane c.args.seat
     c.args.call.now h.stands c.requires.seated quiet c.requires.allowed in
-    let berth = berth_turn h.plan c.args.state.now c.args.files.now h.journal c.args.lane
+    let berth = berth_turn h.plan c.args.state.now h.journal c.args.lane
     c.args.seat c.args.call.now h.stands c.requires.seated quiet c.requires.allowed in
     let state = sym c.make-reply.ensures.state in
     record {
@@ -58,20 +58,17 @@ returns c =
     c.keep.new.self) state c.keep.ensures) in
     record {
       reply = λ p j st. subst (Replies (answer p j c.args.lane c.args.call.now)) (sym reply)
-          (reply_turn p c.args.state.now c.args.files.now j c.args.lane c.args.seat c.args.call.now
-          st c.requires.seated quiet c.requires.allowed);
+          (reply_turn p c.args.state.now j c.args.lane c.args.seat c.args.call.now st.tables
+          c.requires.seated quiet c.requires.allowed);
       stands = λ p j st.
-          subst (λ (x : State). Stands p (record { state = x; files = c.keep.new.self })
+          subst (λ (x : State). TablesStand p x c.keep.new.self
           (after j c.args.lane c.args.call.now c.make-reply.result))
           (sym (c.note.ensures ∙ (λ i. noted_if_kept (state i) c.args.lane c.args.call.now
           (reply i))))
-          (subst (λ (y : Reply). Stands p (record {
-            state = noted_if_kept
-                (made c.args.state.now c.args.lane c.args.seat c.args.call.now) c.args.lane
-                c.args.call.now told;
-            files = c.keep.new.self;
-          }) (after j c.args.lane c.args.call.now
-          y)) (sym reply)
-          (stands_turn p c.args.state.now c.args.files.now j c.args.lane c.args.seat c.args.call.now
-          st c.requires.seated quiet c.requires.allowed c.keep.new.self followed));
+          (subst (λ (y : Reply). TablesStand p (noted_if_kept
+          (made c.args.state.now c.args.lane c.args.seat c.args.call.now) c.args.lane
+          c.args.call.now told) c.keep.new.self (after j c.args.lane c.args.call.now y)) (sym reply)
+          (stands_turn p c.args.state.now j c.args.lane c.args.seat c.args.call.now st.tables
+          c.requires.seated quiet c.requires.allowed c.args.files.now c.keep.new.self st.kept
+          followed));
     }

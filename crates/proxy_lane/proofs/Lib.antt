@@ -1,0 +1,2 @@
+-- What several of the lane's proofs use.
+mod Siting

@@ -1,0 +1,2 @@
+-- What contracts cite of a proxy lane.
+pub mod Sites

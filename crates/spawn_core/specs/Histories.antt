@@ -1,0 +1,16 @@
+-- When a core stands for a history, whose oldest entry stands first.
+use Rattle.std.specs.Prelude.{[]}
+use Rattle.run_plan.specs.declared.plan.Plan.{Plan}
+use Rattle.run_rules.specs.Moves.{History}
+use Rattle.history_laws.specs.Owed.{journal_of}
+use Rattle.spawn_core.specs.Stands.{Kept, Stands}
+
+abbrev pub no_plan : Plan
+no_plan = record { actions = []; groups = []; limit = 0 }
+
+abbrev pub plan_of : Kept → Plan
+plan_of m = m.state.plan
+
+-- by its own plan it stands for the history's journal
+abbrev pub StandsFor : Kept → History → Type 0
+StandsFor m h = Stands (plan_of m) m (journal_of h)
