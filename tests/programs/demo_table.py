@@ -86,7 +86,7 @@ def flag_files() -> Iterator[Row]:
 
 
 def requests() -> Iterator[Row]:
-    """As a worker, in one piece, cut inside a frame, and byte by byte."""
+    """As a worker, in one piece, cut inside a frame, and byte by byte. Requests are answered at once, so none needs another's output."""
     first, second = framed_request(3, "--in=a", "--out=o"), framed_request(4, "--in=b", "--in=a", "--out=p", "--exit=9")
     said, there = framed_response(3) + framed_response(4, 9), {"o": b"one\n", "p": b"two\none\n"}
     yield Row(WORKER)
@@ -94,16 +94,11 @@ def requests() -> Iterator[Row]:
     yield Row(WORKER, 0, said, there, [first + second])
     yield Row(WORKER, 0, said, there, [first[:5], first[5:] + second[:1], second[1:]])
     yield Row(WORKER, 0, said, there, [bytes([byte]) for byte in first + second])
-    yield Row(WORKER, 0, framed_response(1) + framed_response(2), {"b": b"one\n"},
-              [framed_request(1, "--in=a", "--out=o") + framed_request(2, "--in=o", "--out=b")])
     # Its own other words are passed over, and so are a request's inputs and its words of files.
     yield Row(f"--exit=5 @gone {WORKER} --in=gone --out=q", 0, framed_response(0, 2), {"o": b"", "q": None},
               [framed_request(0, "@gone", "--out=o", "--exit=2", WORKER, "--json", inputs=[(b"gone", b"abc")], verbosity=10)])
     numbers = [0, 2**31 - 1, -1, -1, -(2**31), 128, 16384]
     yield Row(WORKER, 0, b"".join(map(framed_response, numbers)), {}, [b"".join(map(framed_request, numbers))])
-    # A request that cancels another has no response, and nothing is done for it.
-    yield Row(WORKER, 0, framed_response(3) + framed_response(5), {"p": None},
-              [first + framed_request(3, cancel=True) + framed_request(4, "--in=b", "--out=p", cancel=True) + framed_request(5)])
     # A request with a folder of its own: inputs and outputs lie there, and texts say so.
     files = {**FILES, "__sandbox/7/a": b"seven\n"}
     yield Row(WORKER, 0, framed_response(7) + framed_response(8, 1, "missing: __sandbox/8/a"),
@@ -139,6 +134,11 @@ def lines() -> Iterator[Row]:
     yield Row("--json " + WORKER)
     yield Row(LINES, 0, said, there, [first + b"\n \t\r\n" + second])
     yield Row(LINES, 0, said, there, [bytes([byte]) for byte in first + second])
+    # One after another: the second reads what the first has made, and a cancel behind a request comes too late.
+    yield Row(LINES, 0, line(requestId=1) + line(requestId=2), {"c": b"one\n"},
+              [line(arguments=["--in=a", "--out=o"], requestId=1) + line(arguments=["--in=o", "--out=c"], requestId=2)])
+    yield Row(LINES, 0, line(requestId=3) + line(requestId=5), {"o": b"one\n", "p": None},
+              [first + line(cancel=True, requestId=3) + line(cancel=True, requestId=4, arguments=["--in=b", "--out=p"]) + line(requestId=5)])
     # A cancel, a folder of its own, verbosity, inputs, a null, a key that isn't known, and a text that isn't plain.
     yield Row(LINES, 0, line() + line(exitCode=1, output='missing: s/q"\u00e9\x1f\U0001f600', requestId=-2), {"s/o": None, "o": None},
               [line(cancel=True, requestId=1, arguments=["--in=a"])
@@ -193,11 +193,17 @@ def fed(programs: Programs, folder: pathlib.Path, row: Row) -> play.Ended:
             return play.Ended(demo.returncode, out, err)
 
 
+def answers(words: str, put: bytes) -> bytes | list[bytes]:
+    """What was put; where requests are answered at once the responses in the order of their bytes, since they come in any."""
+    return sorted(wire.messages(put)) if WORKER in words.split() and "--json" not in words.split() else put
+
+
 def played(row: Row) -> Case:
     def case(programs: Programs, folder: pathlib.Path) -> None:
         fill(folder, row.files)
         ended = fed(programs, folder, row)
-        compare(row, (row.status, row.put, b""), (ended.status, ended.out, ended.err))
+        wanted, got = answers(row.words, row.put), answers(row.words, ended.out)
+        compare(row, (row.status, wanted, b""), (ended.status, got, ended.err))
         compare(row, dict(row.there), {path: found(folder, path) for path in row.there})
     return Case(f"demo {row.words[:60]} {b''.join(row.pieces)[:40].hex()}", case)
 
@@ -218,10 +224,10 @@ def failing_input(programs: Programs, folder: pathlib.Path) -> None:
 
 
 def failing_output(programs: Programs, folder: pathlib.Path) -> None:
-    """What is put can't be written: what was asked for is done, and the next request isn't."""
+    """What is put can't be written: what was asked for is done, and of lines the next isn't."""
     fill(folder, FILES)
-    rows = [("--in=gone", b""), (WORKER, framed_request(2, "--in=a", "--out=o") + framed_request(3, "--out=p")),
-            (LINES, line(arguments=["--in=a", "--out=o"]) + line(arguments=["--out=p"]))]
+    rows = [("--in=gone", b""), (WORKER, framed_request(2, "--in=a", "--out=o") + framed_request(3, "--in=b", "--exit=3")),
+            (LINES, line(arguments=["--in=a", "--out=q"]) + line(arguments=["--out=p"]))]
     for words, given in rows:
         full = os.open("/dev/full", os.O_WRONLY)
         try:
@@ -229,7 +235,32 @@ def failing_output(programs: Programs, folder: pathlib.Path) -> None:
         finally:
             os.close(full)
         compare((words, given), (6, b""), (ended.status, ended.err))
-    compare("what was done", (b"one\n", None), (found(folder, "o"), found(folder, "p")))
+    compare("what was done", (b"one\n", b"one\n", None), tuple(found(folder, path) for path in ["o", "q", "p"]))
+
+
+def cancelled(programs: Programs, folder: pathlib.Path) -> None:
+    """A request that cancels has no response, and nothing is done for it; the one that it cancels is done, or is said to be cancelled."""
+    for number in range(20):
+        room = folder / str(number)
+        fill(room, FILES)
+        given = framed_request(3, "--in=a", "--out=o") + framed_request(3, cancel=True)
+        ended = run([programs.demo_tool, WORKER], room, given + framed_request(4, "--in=b", "--out=p", cancel=True) + framed_request(5))
+        done = found(room, "o")
+        compare("what stands there", (None, True), (found(room, "p"), done in (None, b"one\n")))
+        wanted = sorted([response(3, cancelled=done is None), response(5)])
+        compare(done, (0, wanted, b""), (ended.status, sorted(wire.messages(ended.out)), ended.err))
+
+
+def asked_again(programs: Programs, folder: pathlib.Path) -> None:
+    """A request that comes once the one before is answered finds what that has made."""
+    fill(folder, FILES)
+    with subprocess.Popen([programs.demo_tool, WORKER], cwd=folder, stdin=subprocess.PIPE, stdout=subprocess.PIPE) as demo:
+        assert demo.stdin is not None and demo.stdout is not None
+        demo.stdin.write(framed_request(1, "--in=a", "--out=o"))
+        demo.stdin.flush()
+        compare("the first response", framed_response(1), demo.stdout.read(len(framed_response(1))))
+        out, _ = demo.communicate(framed_request(2, "--in=o", "--out=c"), timeout=play.MOST_SECONDS)
+    compare("the second", (0, framed_response(2), b"one\n"), (demo.returncode, out, found(folder, "c")))
 
 
 def links(programs: Programs, folder: pathlib.Path) -> None:
@@ -252,5 +283,5 @@ def odd_word(programs: Programs, folder: pathlib.Path) -> None:
 def cases() -> Iterator[Case]:
     for rows in [once, flag_files, requests, faulty_requests, lines, vectors]:
         yield from map(played, rows())
-    for case in [failing_input, failing_output, links, odd_word]:
+    for case in [failing_input, failing_output, cancelled, asked_again, links, odd_word]:
         yield Case(f"demo: {case.__name__.replace('_', ' ')}", case)

@@ -23,6 +23,10 @@ WRONG_WORDS = [
 ]
 
 
+# Within so many seconds eight jobs of a second end that are run at once, also beside other tests on two processors.
+MOST_AT_ONCE = 4
+
+
 def meeting(folder: str, count: int) -> bytes:
     """A command that ends once so many are in this folder at once."""
     return f"mkdir -p {folder}; : >{folder}/$$; while test $(ls {folder} | wc -l) -lt {count}; do sleep 0.01; done".encode()
@@ -136,6 +140,16 @@ def with_the_tool(programs: Programs, folder: pathlib.Path) -> None:
     compare("eight actions", (0, play.report(*lines, ok=8)), (ended.status, ended.out))
 
 
+def eight_seconds(programs: Programs, folder: pathlib.Path) -> None:
+    """Eight actions of one executor, of a second each: one after another they would take eight."""
+    actions = [action(f"a{it}", strategy="remote", requirements={}, argv=["/bin/sh", "-c", "sleep 1; echo >$0", f"o{it}"], outputs=[f"o{it}"],
+                      env={"PATH": "/usr/bin:/bin"}) for it in range(8)]
+    begun = time.monotonic()
+    ended = exchange(programs, folder, actions, ["--remote=1", f"--executor={programs.job_pool}"])
+    seconds = time.monotonic() - begun
+    compare("eight actions", (0, True), (ended.status, 1 <= seconds < MOST_AT_ONCE))
+
+
 def streams(programs: Programs, folder: pathlib.Path) -> None:
     """Other words, a frame that spells no job, an input that ends inside one or can't be read, and an output that takes nothing."""
     room, first = rooms(folder), framed(job(1, [*SHELL, b":"]))
@@ -160,5 +174,5 @@ def streams(programs: Programs, folder: pathlib.Path) -> None:
 
 
 def cases() -> Iterator[Case]:
-    for case in [results, side_by_side, as_they_end, given_up, crowd, with_the_tool, streams]:
+    for case in [results, side_by_side, as_they_end, given_up, crowd, with_the_tool, eight_seconds, streams]:
         yield Case(f"pool: {case.__name__.replace('_', ' ')}", case)

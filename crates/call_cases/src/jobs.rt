@@ -81,7 +81,7 @@ fn executed<R: Threads + Wait + Sync, S: Shop + Send + Drop>(
 
 /// An input that gives a byte a read, and says when it has answered `End`.
 #[derive(Drop)]
-struct SlowInput<'a> {
+pub struct SlowInput<'a> {
     bytes: &'a [u8],
     given: usize,
     has_ended: &'a AtomicBool,
@@ -89,7 +89,7 @@ struct SlowInput<'a> {
 
 impl<'a> SlowInput<'a> {
     /// An input with these bytes.
-    fn new(bytes: &'a [u8], has_ended: &'a AtomicBool) -> SlowInput<'a> {
+    pub fn new(bytes: &'a [u8], has_ended: &'a AtomicBool) -> SlowInput<'a> {
         SlowInput {
             bytes,
             given: 0,

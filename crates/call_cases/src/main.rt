@@ -11,15 +11,17 @@
 //! | `key` | the length of a worker key's canonical bytes, and its name |
 //! | `execute BYTES` | the executor's status, and what it put, given these jobs and a shop some of whose calls fail |
 //! | `meanwhile BYTES` | the same with a shop whose runs wait until all jobs have been read |
+//! | `shared BYTES` | the demonstration worker's status, given these requests at once, its responses sorted, and what its shop then finds at `o` |
 //!
 //! Other lines are printed as they are. `tools/wire-vectors` writes the cases of requests and responses, with the written
-//! forms that protoc gives, and `tools/shop-vectors` those of pieces, of generated lists and of the executor, into `stdin` and `stdout`.
+//! forms that protoc gives, and `tools/shop-vectors` those of pieces, of generated lists, of the executor and of shared shops, into `stdin` and `stdout`.
 #![tactic(auto)]
 
 mod jobs;
 mod keys;
 mod messages;
 mod pieces;
+mod sharing;
 
 use action_list::{ListRefusal, read_list};
 use generated_list::generated_list;
@@ -60,6 +62,7 @@ fn told<R: Threads + Wait + Sync>(rt: &R, alloc: Global, line: &str) -> Result<S
         "key" => keys::key(alloc),
         "execute" => jobs::one_after_another(rt, alloc, rest),
         "meanwhile" => jobs::meanwhile(rt, alloc, rest),
+        "shared" => sharing::shared(rt, alloc, rest),
         _ => Ok(String::from_str(alloc, line)?),
     }
 }

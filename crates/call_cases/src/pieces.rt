@@ -6,7 +6,7 @@ use std::alloc::Global;
 use worker_key::digest_of;
 
 /// The largest frame, as for messages.
-const LARGEST: u64 = 67_108_864;
+pub const LARGEST: u64 = 67_108_864;
 
 /// How long a piece is, where a case doesn't say it.
 const SMALLEST: usize = 1;

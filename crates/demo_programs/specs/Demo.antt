@@ -3,7 +3,7 @@ use Rattle.std.specs.Prelude.{◌≡◌, ℕ, Bool, true, false, List, [], codes
 use Rattle.std.specs.Prelude.{Result, Ok, Err}
 use Rattle.std.specs.List.{list_any}
 use Rattle.std.specs.Str.{bytes_eq}
-use Rattle.outside.specs.Told.{SinkTold, ShopTold}
+use Rattle.outside.specs.Told.{TapTold, SinkTold, ShopTold}
 use Rattle.outside.specs.declared.shop.ShopCall.{ShopCall}
 use Rattle.delimited_framing.specs.Frame.{delimited_form}
 use Rattle.json_framing.specs.Lines.{line_form}
@@ -15,19 +15,39 @@ use Rattle.message_service.specs.Ends.{status_of, PutAll, PutFront}
 use Rattle.message_service.specs.Serves.{Outside, Serves}
 use Rattle.demo_worker.specs.declared.running.Answer.{Answer}
 use Rattle.demo_worker.specs.Once as once
-use Rattle.demo_worker.specs.Answers.{Answers, framed, as_line, SpellsLine}
-use Rattle.demo_programs.specs.declared.demonstrating.DemoEnd.{DemoEnd}
+use Rattle.worker_kit.specs.Responses.{framed}
+use Rattle.work_lanes.specs.Serves as lanes
+use Rattle.worker_kit.specs.Serves as kit
+use Rattle.demo_worker.specs.Answers.{Answers, as_line, SpellsLine}
+use Rattle.demo_worker.specs.Shared.{IsHandled}
+use Rattle.demo_programs.specs.declared.site.DemoEnd.{DemoEnd}
+use Rattle.demo_programs.specs.declared.site.DemoSite.{DemoSite}
 
 abbrev pub is_word : List ℕ → List (List ℕ) → Bool
 is_word wanted words = list_any (λ word. bytes_eq word wanted) words
 
+-- what the input, the output and the shop tell at one moment
+abbrev pub told_at : {T O S : Type 0} → (T → TapTold) → (O → SinkTold) → (S → ShopTold)
+    → DemoSite T O S → Outside
+told_at tap_told sink_told shop_told site =
+    record { input = tap_told site.input; out = sink_told site.out; shop = shop_told site.shop }
+
 -- ---- as a worker
 
--- The bytes taken are lines, or frames, that spell requests. What was put is, request by request
--- in order, the responses that the shop's answers give, and its log is the calls for these requests.
+abbrev pub streams_of : Outside → lanes.Outside
+streams_of o = record { tap = o.input; sink = o.out }
+
+-- As lines: the bytes taken are lines that spell requests. What was put is, request by request in
+-- order, the responses that the shop's answers give, and its log is the calls for these requests.
+--
+-- As messages: the bytes taken are frames that spell requests. What was put are responses, each whole
+-- and under its request's number: by some calls of the request's words and their answers, the exit code
+-- and the text are what these give; or the request was cancelled. Of the shop nothing is said: its log
+-- is what the commands make of it that share it.
 abbrev pub Works : Bool → Finish → Outside → Outside → Type 0
 Works true f old new = Serves line_form SpellsLine (Answers as_line) f [] old new
-Works false f old new = Serves delimited_form SpellsRequest (Answers framed) f [] old new
+Works false f old new = kit.Serves delimited_form SpellsRequest IsHandled framed f (streams_of old)
+    (streams_of new)
 
 -- ---- once
 
@@ -57,14 +77,22 @@ abbrev pub exited : Result ℕ Finish → DemoEnd
 exited (Ok exit) = record { status = exit; exit = Some exit }
 exited (Err f) = ended f
 
+-- the words were done once, and nothing was read
+abbrev pub DoesOnceAt : List (List ℕ) → DemoEnd → Outside → Outside → Type 0
+DoesOnceAt words end old new = (r : Result ℕ Finish) × (end ≡ exited r)
+    × (new.input ≡ old.input) × DoesOnce words r old.out new.out old.shop new.shop
+
 abbrev pub DemonstratesAs : Bool → List (List ℕ) → DemoEnd → Outside → Outside → Type 0
 DemonstratesAs true words end old new =
     (f : Finish) × (end ≡ ended f) × Works (is_word (codes "--json") words) f old new
-DemonstratesAs false words end old new =
-    (r : Result ℕ Finish) × (end ≡ exited r) × (new.input ≡ old.input)
-    × DoesOnce words r old.out new.out old.shop new.shop
+DemonstratesAs false words end old new = DoesOnceAt words end old new
 
 -- It is a worker exactly where it is told so.
 abbrev pub Demonstrates : List (List ℕ) → DemoEnd → Outside → Outside → Type 0
 Demonstrates words end old new =
     DemonstratesAs (is_word (codes "--persistent_worker") words) words end old new
+
+-- many requests share the shop
+abbrev pub SharesShop : List (List ℕ) → Type 0
+SharesShop words = (is_word (codes "--persistent_worker") words ≡ true)
+    × (is_word (codes "--json") words ≡ false)

@@ -1,80 +1,125 @@
 // The demonstration worker, as a worker or once.
-ghost use Rattle.std.specs.Prelude.{◌≡◌, map, string_bytes};
-ghost use Rattle.demo_programs.specs.Demo.{Demonstrates, DoesOnce, Works, ended, is_word};
+ghost use Rattle.std.specs.Prelude.{◌≡◌, true, false, IfOk, IfErr, map, string_bytes};
+ghost use Rattle.demo_programs.specs.Demo.{Demonstrates, DoesOnce, DoesOnceAt, SharesShop, Works, ended, is_word, told_at};
 
-use demo_worker::{Answer, DelimitedRequests, RequestLines, run_once};
+use crate::site::{DemoEnd, DemoLeft, DemoSite};
+use demo_worker::{Answer, RequestLines, SharedShop, run_once};
 use message_service::{Finish, serve};
 use outside::{Io, Shop, Sink, Tap};
 use plain_values::NoMemory;
 use std::alloc::Global;
 use std::sync::Wait;
+use std::thread::Threads;
+use worker_kit::{Delimited, KitEnded, Size, Streams};
 
-/// How the demonstration worker ends.
-#[derive(Clone, Copy, PartialEq, Eq)]
-pub struct DemoEnd {
-    /// The status with which the program ends.
-    pub status: u8,
-    /// The exit code of the command that was done once, where its text was put whole.
-    pub exit: Option<u8>,
-}
+/// How many requests are answered at once, and how many may wait.
+const SIZE: Size = Size {
+    handlers: 4,
+    depth: 64,
+};
 
-/// Copies files of the shop as it is told. With `--persistent_worker` among the words the input
-/// brings commands as requests, one after another, in the binary form of Protocol Buffers behind
-/// their lengths, or with `--json` as lines; each is answered by a response. Without it the words
-/// themselves are one command, and its text is put.
-pub fn demo<T: Tap, O: Sink, S: Shop, R: Wait>(
+/// Copies files of the shop as it is told. Without `--persistent_worker` among the words the words
+/// themselves are one command, and its text is put. With it the input brings commands as requests, and
+/// each is answered by a response:
+///
+/// - with `--json` as lines, one after another in order;
+/// - else in the binary form of Protocol Buffers behind their lengths, four at once, in any order. The
+///   four share the shop, each for a whole command.
+///
+/// # Errors
+///
+/// `NoMemory`, only where requests share the shop: before the input is read, or once all have ended.
+/// Any other want of memory is told by the status.
+pub fn demo<T: Tap + Send, O: Sink + Send, S: Shop + Send, R: Threads + Wait + Sync>(
     rt: &R,
     alloc: Global,
     words: &[String],
-    input: &mut T,
-    out: &mut O,
-    shop: &mut S,
-) -> DemoEnd
-    ensures { Demonstrates (map string_bytes words.now) result
-        (record { input = T.told input.old; out = O.told out.old; shop = S.told shop.old })
-        (record { input = T.told input.new; out = O.told out.new; shop = S.told shop.new }) }
+    site: DemoSite<T, O, S>,
+) -> Result<DemoLeft<T, O, S>, NoMemory>
+    ensures does { IfOk result (λ left. Demonstrates (map string_bytes words.now) left.end
+        (told_at T.told O.told S.told site) (told_at T.told O.told S.told left.site)) }
+    ensures refused { IfErr result (λ e. SharesShop (map string_bytes words.now)) }
 {
-    if is_word("--persistent_worker", words) {
-        DemoEnd::of(work(rt, alloc, is_word("--json", words), input, out, shop))
+    if !is_word("--persistent_worker", words) {
+        return Ok(once_at(alloc, words, site));
+    }
+    if is_word("--json", words) {
+        Ok(in_order(rt, alloc, site))
     } else {
-        match once(alloc, words, out, shop) {
-            Ok(exit) => DemoEnd {
-                status: exit,
-                exit: Some(exit),
-            },
-            Err(finish) => DemoEnd::of(finish),
-        }
+        at_once(rt, alloc, site)
     }
 }
 
-impl DemoEnd {
-    fn of(finish: Finish) -> DemoEnd
-        ensures { result ≡ ended finish }
-    {
-        DemoEnd {
-            status: finish.status(),
-            exit: None,
-        }
-    }
-}
-
-// Answers requests to the end of the input.
-fn work<T: Tap, O: Sink, S: Shop, R: Wait>(
+// Answers the lines of the input, one after another.
+fn in_order<T: Tap, O: Sink, S: Shop, R: Wait>(
     rt: &R,
     alloc: Global,
-    in_json: bool,
-    input: &mut T,
-    out: &mut O,
-    shop: &mut S,
-) -> Finish
-    ensures { Works in_json result
-        (record { input = T.told input.old; out = O.told out.old; shop = S.told shop.old })
-        (record { input = T.told input.new; out = O.told out.new; shop = S.told shop.new }) }
+    site: DemoSite<T, O, S>,
+) -> DemoLeft<T, O, S>
+    ensures { (f : Finish) × (result.end ≡ ended f) × Works true f
+        (told_at T.told O.told S.told site) (told_at T.told O.told S.told result.site) }
 {
-    if in_json {
-        serve(rt, alloc, &RequestLines, input, out, shop)
-    } else {
-        serve(rt, alloc, &DelimitedRequests, input, out, shop)
+    let DemoSite { input, out, shop } = site;
+    let mut input = input;
+    let mut out = out;
+    let mut shop = shop;
+    let finish = serve(rt, alloc, &RequestLines, &mut input, &mut out, &mut shop);
+    DemoLeft {
+        end: DemoEnd::of(finish),
+        site: DemoSite { input, out, shop },
+    }
+}
+
+// Answers the messages of the input, many at once.
+fn at_once<T: Tap + Send, O: Sink + Send, S: Shop + Send, R: Threads + Wait + Sync>(
+    rt: &R,
+    alloc: Global,
+    site: DemoSite<T, O, S>,
+) -> Result<DemoLeft<T, O, S>, NoMemory>
+    ensures { IfOk result (λ left. (f : Finish) × (left.end ≡ ended f) × Works false f
+        (told_at T.told O.told S.told site) (told_at T.told O.told S.told left.site)) }
+{
+    let DemoSite { input, out, shop } = site;
+    let shared = SharedShop::of(shop);
+    let streams = Streams {
+        tap: input,
+        sink: out,
+    };
+    let KitEnded { end, tap, sink } = worker_kit::serve(
+        rt, alloc, &Delimited, streams, SIZE, &shared,
+    )?;
+    Ok(DemoLeft {
+        end: DemoEnd::of_kit(end),
+        site: DemoSite {
+            input: tap,
+            out: sink,
+            shop: shared.into_shop(),
+        },
+    })
+}
+
+// Does the words once.
+fn once_at<T: Tap, O: Sink, S: Shop>(
+    alloc: Global,
+    words: &[String],
+    site: DemoSite<T, O, S>,
+) -> DemoLeft<T, O, S>
+    ensures { DoesOnceAt (map string_bytes words.now) result.end
+        (told_at T.told O.told S.told site) (told_at T.told O.told S.told result.site) }
+{
+    let DemoSite { input, out, shop } = site;
+    let mut out = out;
+    let mut shop = shop;
+    let end = match once(alloc, words, &mut out, &mut shop) {
+        Ok(exit) => DemoEnd {
+            status: exit,
+            exit: Some(exit),
+        },
+        Err(finish) => DemoEnd::of(finish),
+    };
+    DemoLeft {
+        end,
+        site: DemoSite { input, out, shop },
     }
 }
 

@@ -3,7 +3,9 @@
 
 mod demonstrating;
 mod executing;
+mod site;
 
-pub use demonstrating::{DemoEnd, demo};
+pub use demonstrating::demo;
 pub use executing::execute;
 pub use message_service::Finish;
+pub use site::{DemoEnd, DemoLeft, DemoSite};

@@ -2,8 +2,9 @@
 //! the requests on its standard input say.
 #![tactic(auto)]
 
-use demo_programs::demo;
+use demo_programs::{DemoSite, demo};
 use outside_real::{RealInput, RealShop, RealSink};
+use plain_values::NoMemory;
 use std::alloc::Global;
 use std::env::{self, Env};
 use std::io::{self, ErrorKind};
@@ -12,7 +13,7 @@ use std::process::ExitCode;
 /// The status where the words aren't text.
 const WRONG_WORDS: u8 = 2;
 
-/// The status where there is no memory for the words.
+/// The status where there is no memory, for the words or for what is to be done at first.
 const NO_MEMORY: u8 = 3;
 
 const USAGE: &str = "demo_tool: words are not accepted
@@ -26,11 +27,15 @@ fn main(rt: HostRuntime) -> ExitCode {
         Ok(words) => words,
         Err(error) => return end_unread(&rt, &error),
     };
-    let mut input = RealInput::new(rt.stdin());
-    let mut out = RealSink::new(rt);
-    let mut shop = RealShop::new(rt, alloc);
-    let end = demo(&rt, alloc, &words, &mut input, &mut out, &mut shop);
-    ExitCode::from(end.status)
+    let site = DemoSite {
+        input: RealInput::new(rt.stdin()),
+        out: RealSink::new(rt),
+        shop: RealShop::new(rt, alloc),
+    };
+    match demo(&rt, alloc, &words, site) {
+        Ok(left) => ExitCode::from(left.end.status),
+        Err(NoMemory) => ExitCode::from(NO_MEMORY),
+    }
 }
 
 fn words(rt: &(impl Env + AllocGlobal), alloc: Global) -> io::Result<Vec<String>> {

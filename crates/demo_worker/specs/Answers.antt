@@ -3,10 +3,8 @@ use Rattle.std.specs.Prelude.{◌≡◌, ℕ, pos, List, [], ◌∷◌, ◌++◌
 use Rattle.std.specs.Prelude.{Result, Ok, Err}
 use Rattle.plain_values.specs.declared.no_memory.NoMemory.{NoMemory}
 use Rattle.outside.specs.declared.shop.ShopCall.{ShopCall}
-use Rattle.wire_fields.specs.Spelling.{delimited}
 use Rattle.wire_messages.specs.declared.request.WorkRequest.{WorkRequest}
 use Rattle.wire_messages.specs.declared.response.WorkResponse.{WorkResponse}
-use Rattle.wire_messages.specs.Response.{response_spelling}
 use Rattle.json_messages.specs.Messages.{request_of}
 use Rattle.json_messages.specs.Writing.{response_text}
 use Rattle.demo_worker.specs.declared.running.Answer.{Answer}
@@ -39,10 +37,6 @@ Answers form m behind calls (Ok None) = Responds m (Ok None) calls
 Answers form m behind calls (Ok (Some bytes)) =
     (r : WorkResponse) × Responds m (Ok (Some r)) calls × (bytes ≡ form r)
 Answers form m behind calls (Err e) = Responds m (Err e) calls
-
--- the bytes of a response behind their length
-abbrev pub framed : WorkResponse → List ℕ
-framed r = delimited (response_spelling r)
 
 -- a response as a line, with its line feed
 abbrev pub as_line : WorkResponse → List ℕ

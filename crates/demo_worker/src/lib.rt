@@ -10,9 +10,11 @@ mod folders;
 mod looking;
 mod requests;
 mod running;
+mod sharing;
 mod stop;
 mod words;
 
 pub use flags::run_once;
-pub use requests::{DelimitedRequests, RequestLines};
+pub use requests::RequestLines;
 pub use running::{Answer, run_words};
+pub use sharing::SharedShop;

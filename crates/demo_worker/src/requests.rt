@@ -1,10 +1,9 @@
-// Requests that bring commands.
+// Requests that bring commands, one after another.
 ghost use Rattle.std.specs.Prelude.{◌≡◌, List, IfOk, Some};
 ghost use Rattle.outside.specs.declared.shop.ShopCall.{ShopCall};
 ghost use Rattle.json_framing.specs.declared.cutter.Framing.TheVariants as framing;
 ghost use Rattle.message_service.specs.Calls.{Made};
-ghost use Rattle.wire_messages.specs.Request.{SpellsRequest};
-ghost use Rattle.demo_worker.specs.Answers.{Answers, Responds, SpellsLine, as_line, framed, response_to};
+ghost use Rattle.demo_worker.specs.Answers.{Answers, Responds, SpellsLine, as_line, response_to};
 
 use crate::folders::run_in;
 use crate::running::Answer;
@@ -14,52 +13,11 @@ use message_service::Service;
 use outside::Shop;
 use plain_values::{Items, NoMemory};
 use std::alloc::Global;
-use wire_messages::{MessageFault, WorkRequest, WorkResponse, decode_request, encode_delimited};
-
-/// Answers requests in the binary form of Protocol Buffers, each behind its length.
-#[derive(Clone, Copy)]
-pub struct DelimitedRequests;
+use wire_messages::{MessageFault, WorkRequest, WorkResponse};
 
 /// Answers requests that are JSON lines.
 #[derive(Clone, Copy)]
 pub struct RequestLines;
-
-impl<S: Shop> Service<S> for DelimitedRequests {
-    type Message = WorkRequest;
-
-    ghost framing = { framing.Delimited };
-
-    ghost spells = { SpellsRequest };
-
-    ghost answers = { Answers framed };
-
-    fn framing(&self) -> Framing {
-        Framing::Delimited
-    }
-
-    fn read(&self, alloc: Global, frame: &[u8]) -> Result<Option<WorkRequest>, NoMemory> {
-        match decode_request(alloc, frame) {
-            Ok(request) => Ok(Some(request)),
-            Err(fault) => match fault {
-                MessageFault::NoMemory => Err(NoMemory),
-                _ => Ok(None),
-            },
-        }
-    }
-
-    fn answer(
-        &self,
-        alloc: Global,
-        shop: &mut S,
-        message: &WorkRequest,
-        _behind: &[WorkRequest],
-    ) -> Result<Option<Items<u8>>, NoMemory> {
-        match respond(alloc, shop, message)? {
-            Some(response) => framed(alloc, &response),
-            None => Ok(None),
-        }
-    }
-}
 
 impl<S: Shop> Service<S> for RequestLines {
     type Message = WorkRequest;
@@ -124,13 +82,6 @@ fn response_to(request: &WorkRequest, answer: Answer) -> WorkResponse
         request_id: request.request_id,
         was_cancelled: false,
     }
-}
-
-// The response behind its length.
-fn framed(alloc: Global, response: &WorkResponse) -> Result<Option<Items<u8>>, NoMemory>
-    ensures { IfOk result (λ reply. reply ≡ Some (framed response.now)) }
-{
-    Ok(Some(Items::of(encode_delimited(alloc, response)?)))
 }
 
 // The response as a line.

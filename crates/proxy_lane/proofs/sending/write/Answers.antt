@@ -47,3 +47,11 @@ returns-in-Err g c =
     let files = c.args.inputs.now in
     cut_writes (send_asks post c.args.request.now.number work files) (due_for post c.args.request.now.number work files)
     c.in-Err.no_memory (g.B.Berth.told c.args.berth.now) (g.B.Feed.Feed.told c.args.feed.now)
+
+pub returns-in-Err-send_frame : goal.returns-in-Err-send_frame
+returns-in-Err-send_frame g c =
+    let post = c.args.site.now.post.now in
+    let work = c.args.request.now.work.now in
+    let files = c.args.inputs.now in
+    cut_writes (send_asks post c.args.request.now.number work files) (due_for post c.args.request.now.number work files)
+    c.in-Err-send_frame.no_memory (g.B.Berth.told c.args.berth.now) (g.B.Feed.Feed.told c.args.feed.now)

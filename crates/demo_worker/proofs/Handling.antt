@@ -1,0 +1,15 @@
+-- From what is done on the shop to what is made of the request.
+use Rattle.std.specs.Prelude.{List, Result, Ok, Err, IfOk}
+use Rattle.plain_values.specs.declared.no_memory.NoMemory.{NoMemory}
+use Rattle.outside.specs.Told.{ShopTold}
+use Rattle.outside.specs.declared.shop.ShopCall.{ShopCall}
+use Rattle.message_service.specs.Calls.{Made}
+use Rattle.wire_messages.specs.declared.request.WorkRequest.{WorkRequest}
+use Rattle.worker_kit.specs.declared.handler.Handled.{Handled}
+use Rattle.demo_worker.specs.Shared.{Handles, IsHandled}
+
+pub handled : (m : WorkRequest) (r : Result Handled NoMemory) (old new : ShopTold)
+    → ((calls : List ShopCall) × Handles m r calls × Made calls old new)
+    → IfOk r (IsHandled m)
+handled m (Ok h) old new done = (done.0, done.1)
+handled m (Err e) old new done = tt
