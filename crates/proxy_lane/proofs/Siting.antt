@@ -17,7 +17,7 @@ use Rattle.lane_steps.specs.Lanes.{Held}
 use Rattle.lane_steps.specs.Steps.{Goes, Halts}
 use Rattle.lane_steps.proofs.Serving.{proxy_on, by_rules}
 use Rattle.proxy_lane.specs.declared.site.Site.{Site}
-use Rattle.proxy_lane.specs.Sites.{IsSite, Obeys}
+use Rattle.proxy_lane.specs.Sites.{IsSite, Obeyed}
 
 -- what holds of the site holds of it later
 pub site_on : {M G Q R : Type 0} {g : Ghosts M Call Reply G Q} (seats : Q → ℕ)
@@ -41,16 +41,16 @@ module _ {M G Q R B D K A : Type 0} {g : Ghosts M Call Reply G Q} (site : Site R
       × Goes site.post.now site.actions.now rule p (held h) p' (held h'))
       → ((by : Cause) → Unsaid by
       → Halts site.post.now site.actions.now rule by p (held h) p' (held h'))
-      → OnOk r Told → IfErr r Unsaid → Obeys site rule held r p h p' h'
+      → OnOk r Told → IfErr r Unsaid → Obeyed site rule held r p h p' h'
   obeys_by Told Unsaid goes halts told unsaid = elim r as (λ (x : Result A Cause).
-      OnOk x Told → IfErr x Unsaid → Obeys site rule held x p h p' h')
+      OnOk x Told → IfErr x Unsaid → Obeyed site rule held x p h p' h')
       [ Ok u ↦ λ t n. goes t | Err by ↦ λ t n. halts by n ] told unsaid
 
   -- so does what is said of hands that hold the same
-  pub obeys_from : (h0 : Hands B D K) → held h0 ≡ held h → Obeys site rule held r p h0 p' h'
-      → Obeys site rule held r p h p' h'
+  pub obeys_from : (h0 : Hands B D K) → held h0 ≡ held h → Obeyed site rule held r p h0 p' h'
+      → Obeyed site rule held r p h p' h'
   obeys_from h0 same x = elim r as (λ (y : Result A Cause).
-      Obeys site rule held y p h0 p' h' → Obeys site rule held y p h p' h') [
+      Obeyed site rule held y p h0 p' h' → Obeyed site rule held y p h p' h') [
         | Ok u ↦ λ z. (
           z.0,
           subst (λ (o : Held).

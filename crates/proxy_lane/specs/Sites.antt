@@ -2,7 +2,7 @@
 use Rattle.std.specs.Prelude.{◌≡◌, ℕ, Bool, List, length, Result, Ok, Err}
 use Rattle.seat_desk.specs.declared.machine.Machine.{Ghosts}
 use Rattle.seat_desk.specs.declared.desk.Pass.{Pass}
-use Rattle.seat_desk.specs.Passes.{mine, rules}
+use Rattle.seat_desk.specs.Passes.{IsSamePass, mine, rules}
 use Rattle.run_plan.specs.declared.plan.Maker.{Maker}
 use Rattle.run_plan.specs.Groups.{is_remote}
 use Rattle.exec_journal.specs.declared.call.Call.{Call}
@@ -55,18 +55,31 @@ module _ {M G Q R B D K : Type 0} {g : Ghosts M Call Reply G Q} (site : Site R)
     pub tidy : IsTidy site p h
     pub kept : SomeKeeps site.post.now site.actions.now rule p (held h)
 
-  -- An order was carried out and reported, and the lane is to ask again; or it is to halt.
-  abbrev pub Obeys : {A : Type 0} → Result A Cause → Pass M Call Reply G Q g → Hands B D K
+  -- The order was carried out and reported, and the lane is to ask again; or it is to halt.
+  abbrev pub Obeyed : {A : Type 0} → Result A Cause → Pass M Call Reply G Q g → Hands B D K
       → Pass M Call Reply G Q g → Hands B D K → Type 0
-  Obeys (Ok done) p h p' h' = (duty_of (mine p') ≡ Asks)
+  Obeyed (Ok done) p h p' h' = (duty_of (mine p') ≡ Asks)
       × Goes site.post.now site.actions.now rule p (held h) p' (held h')
-  Obeys (Err cause) p h p' h' =
+  Obeyed (Err cause) p h p' h' =
       Halts site.post.now site.actions.now rule cause p (held h) p' (held h')
 
+  -- what an order leaves
+  pub record Obeys {A : Type 0} (result : Result A Cause) (p : Pass M Call Reply G Q g)
+      (h : Hands B D K) (p' : Pass M Call Reply G Q g) (h' : Hands B D K) : Type 0 where
+    pub same : IsSamePass p p'
+    pub goes : Obeyed result p h p' h'
+
   -- so it is after a round, where the lane may have been told to stop
-  abbrev pub Rounds : Result Bool Cause → Pass M Call Reply G Q g → Hands B D K
+  abbrev pub Rounded : Result Bool Cause → Pass M Call Reply G Q g → Hands B D K
       → Pass M Call Reply G Q g → Hands B D K → Type 0
-  Rounds (Ok more) p h p' h' =
+  Rounded (Ok more) p h p' h' =
       GoesTo site.post.now site.actions.now rule more p (held h) p' (held h')
-  Rounds (Err cause) p h p' h' =
+  Rounded (Err cause) p h p' h' =
       Halts site.post.now site.actions.now rule cause p (held h) p' (held h')
+
+  -- what a round leaves
+  pub record Rounds (result : Result Bool Cause) (p : Pass M Call Reply G Q g) (h : Hands B D K)
+      (p' : Pass M Call Reply G Q g) (h' : Hands B D K) : Type 0 where
+    pub same : IsSamePass p p'
+    pub tidy : IsTidy site p' h'
+    pub goes : Rounded result p h p' h'

@@ -42,7 +42,6 @@ pub(crate) fn gather<B: Berth, P: Place, C: Rules, R: Wait>(
     requires site { IsSite C.seats C.remote C.actions C.outputs C.makers site.now caller.old.pass }
     requires owes { duty_of (mine caller.old.pass) ≡ gathers answer.now }
     requires action { answer.now.attempt.action < length site.now.actions.now }
-    ensures same { IsSamePass caller.old.pass caller.new.pass }
     ensures shelf { SameShelf site.now.berth caller.old.pass hands.old caller.new.pass hands.new }
     ensures obeys { Obeys site.now C.rule (held_of B.told B.Feed.told B.Child.told) result
         caller.old.pass hands.old caller.new.pass hands.new }

@@ -40,7 +40,6 @@ pub(crate) fn kill<B: Berth, P: Place, C: Rules, R: Wait>(
     requires order { IsOrdered site.now B.Child.told (order.Kill line child)
         caller.old.pass hands.old }
     requires room { HasRoom hands.old }
-    ensures same { IsSamePass caller.old.pass caller.new.pass }
     ensures shelved { IsShelved site.now.berth caller.new.pass None }
     ensures closed { open_in hands.new ≡ None }
     ensures obeys { Obeys site.now C.rule (held_of B.told B.Feed.told B.Child.told) result

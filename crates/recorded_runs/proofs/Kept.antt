@@ -1,5 +1,5 @@
 -- A run that had no fault, and ends late with one: all that was promised of it is promised still.
-use Rattle.std.proofs.Common.{◌≡◌, Option, Some, None, Ok, Err, refl, sym, subst}
+use Rattle.std.proofs.Common.{◌≡◌, ◌∙◌, Option, Some, None, Ok, Err, refl, sym, subst}
 use Rattle.build_report.specs.Faults.{fault_status}
 use Rattle.build_report.specs.declared.fault.RunFault.TheVariants as fault
 use Rattle.build_report.specs.declared.fault.RunFault.{RunFault}

@@ -1,5 +1,5 @@
 // How many berths there are, and what each of their lanes owes.
-ghost use Rattle.std.specs.Prelude.{◌≡◌, ◌≤◌, ◌<◌, ◌*◌, List, not, sum_by};
+ghost use Rattle.std.specs.Prelude.{◌≡◌, ◌≤◌, ◌<◌, ◌*◌, List, sum_by};
 ghost use Rattle.run_plan.specs.declared.plan.Plan.{Plan};
 ghost use Rattle.run_plan.specs.Groups.{berths};
 ghost use Rattle.exec_journal.specs.Entry.{Entry};

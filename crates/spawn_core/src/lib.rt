@@ -1,6 +1,6 @@
 //! The scheduling core: the reply to each call of a lane is the rules', and what the core keeps
-//! stands for the journal of the calls so far. It keeps the laws of `Rules`, by which the bench and the
-//! lanes know a core.
+//! stands for the journal of the calls so far. It keeps the laws of `Rules`, by which the bench and
+//! the lanes know a core.
 #![tactic(auto)]
 
 mod lanes;

@@ -61,7 +61,7 @@ returns-in-None-clause-answered g c =
     (subst (λ (m : ℤ). IsTold (rule (rules p1)) p1.lane (seen p2)
     (record { wanted = wanted.Answered l m out; found = c.in_ok-bytes.field-0 }))
     (to_z-of_z fits) c.in_ok-bytes.ensures.told))) in (
-      (search rules),
+      (search facts),
       (
         c.loop-output.files.items,
         inv.files,

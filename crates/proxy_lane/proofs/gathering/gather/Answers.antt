@@ -58,9 +58,12 @@ returns-in-Err-clause-obeys g c =
     let of = c.action_at-work.ensures in
     let new = g.B.Berth.told c.act_gather.new.berth in
     let then = record h { berth = new } in
-    gather_cut post actions rule p p1 p1 h c.args.answer.now.line c.args.answer.now.number t c.args.answer.now.exit c.args.answer.now.refused
-    c.requires.owes work of none same.1 new c.in-Err.field-0
-    c.in-Err.ensures.acts (([], sym (append-nil (seen p1))), refl)
+    record {
+      same = c.act_gather.ensures.same;
+      goes = gather_cut post actions rule p p1 p1 h c.args.answer.now.line c.args.answer.now.number t c.args.answer.now.exit c.args.answer.now.refused
+          c.requires.owes work of none same.1 new c.in-Err.field-0
+          c.in-Err.ensures.acts (([], sym (append-nil (seen p1))), refl);
+    }
 
 pub returns-in-Ok-clause-obeys : goal.returns-in-Ok-clause-obeys
 returns-in-Ok-clause-obeys g c =
@@ -78,19 +81,23 @@ returns-in-Ok-clause-obeys g c =
     let of = c.action_at-work.ensures in
     let new = g.B.Berth.told c.act_gather.new.berth in
     let then = record h { berth = new } in
-    obeys_by c.args.site.now rule (held_of g.B.Berth.told g.B.Feed.Feed.told g.B.Child.Child.told)
-    c.claim_found.result p c.args.hands.now p2 _
-    ((duty_of (mine p2) ≡ Asks) × ClaimsFound t c.in-Ok.found p1 p2)
-    (λ by. MakesNone p1 p2 × IsCauseOfClaim t c.in-Ok.found by)
-    (λ x. (
-      x.0,
-      gather_goes post actions rule p p1 p2 h c.args.answer.now.line c.args.answer.now.number t c.args.answer.now.exit c.args.answer.now.refused
-          c.requires.owes work of none same.1 new c.in-Ok.found c.in-Ok.ensures.acts x.1,
-    ))
-    (λ by x. claim_halts post actions rule p p1 p2 h c.args.answer.now.line c.args.answer.now.number t c.args.answer.now.exit c.args.answer.now.refused
-    c.requires.owes work of none same.1 new c.in-Ok.found by c.in-Ok.ensures.acts x.0 x.1)
-    c.claim_found.ensures.claims
-    c.claim_found.ensures.refused
+    let later = c.claim_found.ensures.same in
+    record {
+      same = (later.0 ∙ same.0, later.1 ∙ same.1, later.2 ∙ same.2);
+      goes = obeys_by c.args.site.now rule (held_of g.B.Berth.told g.B.Feed.Feed.told g.B.Child.Child.told)
+          c.claim_found.result p c.args.hands.now p2 _
+          ((duty_of (mine p2) ≡ Asks) × ClaimsFound t c.in-Ok.found p1 p2)
+          (λ by. MakesNone p1 p2 × IsCauseOfClaim t c.in-Ok.found by)
+          (λ x. (
+            x.0,
+            gather_goes post actions rule p p1 p2 h c.args.answer.now.line c.args.answer.now.number t c.args.answer.now.exit c.args.answer.now.refused
+                c.requires.owes work of none same.1 new c.in-Ok.found c.in-Ok.ensures.acts x.1,
+          ))
+          (λ by x. claim_halts post actions rule p p1 p2 h c.args.answer.now.line c.args.answer.now.number t c.args.answer.now.exit c.args.answer.now.refused
+          c.requires.owes work of none same.1 new c.in-Ok.found by c.in-Ok.ensures.acts x.0 x.1)
+          c.claim_found.ensures.claims
+          c.claim_found.ensures.refused;
+    }
 
 -- a Claim and a Committed leave the child on the shelf
 claimed_shelved : {M G Q A : Type 0} {g : Ghosts M Call Reply G Q} (w : ℕ) (t : Attempt) (f : Found)
@@ -115,15 +122,6 @@ act_gather-requires-clause-owes g c = c.requires.owes
 
 pub claim_found-requires-clause-may : goal.claim_found-requires-clause-may
 claim_found-requires-clause-may g c = c.in-Ok.ensures.may
-
-pub returns-in-Err-clause-same : goal.returns-in-Err-clause-same
-returns-in-Err-clause-same g c = c.act_gather.ensures.same
-
-pub returns-in-Ok-clause-same : goal.returns-in-Ok-clause-same
-returns-in-Ok-clause-same g c =
-    let first = c.act_gather.ensures.same in
-    let later = c.claim_found.ensures.same in
-    (later.0 ∙ first.0, later.1 ∙ first.1, later.2 ∙ first.2)
 
 pub returns-in-Ok-clause-shelf : goal.returns-in-Ok-clause-shelf
 returns-in-Ok-clause-shelf g c = (

@@ -44,11 +44,15 @@ returns-in-Ok-clause-obeys g c =
     let rule = g.C.Rules.rule in
     let p = c.args.caller.now.pass in
     let h = held_of g.B.Berth.told g.B.Feed.Feed.told g.B.Child.Child.told c.args.hands.now in
-    let h1 = held_of g.B.Berth.told g.B.Feed.Feed.told g.B.Child.Child.told c.lay_by.new.hands in (
-      c.in-Ok.ensures.told.1,
-      kill_goes post actions rule p c.tell.new.caller.pass h h1 c.args.line c.requires.order.0 c.lay_by.ensures
-          c.in-Ok.ensures.told.0,
-    )
+    let h1 = held_of g.B.Berth.told g.B.Feed.Feed.told g.B.Child.Child.told c.lay_by.new.hands in
+    record {
+      same = c.tell.ensures.same;
+      goes = (
+        c.in-Ok.ensures.told.1,
+        kill_goes post actions rule p c.tell.new.caller.pass h h1 c.args.line c.requires.order.0 c.lay_by.ensures
+            c.in-Ok.ensures.told.0,
+      );
+    }
 
 pub returns-in-Err-clause-obeys : goal.returns-in-Err-clause-obeys
 returns-in-Err-clause-obeys g c =
@@ -58,6 +62,9 @@ returns-in-Err-clause-obeys g c =
     let p = c.args.caller.now.pass in
     let h = held_of g.B.Berth.told g.B.Feed.Feed.told g.B.Child.Child.told c.args.hands.now in
     let h1 = held_of g.B.Berth.told g.B.Feed.Feed.told g.B.Child.Child.told c.lay_by.new.hands in
-    kill_halts post actions rule p c.tell.new.caller.pass h h1 c.args.line c.requires.order.0 c.lay_by.ensures
-    (cause.Refused c.in-Err.call) c.in-Err.ensures.refused.1
-    (ap (λ (x : Call). cause.Refused x) c.in-Err.ensures.refused.0)
+    record {
+      same = c.tell.ensures.same;
+      goes = kill_halts post actions rule p c.tell.new.caller.pass h h1 c.args.line c.requires.order.0 c.lay_by.ensures
+          (cause.Refused c.in-Err.call) c.in-Err.ensures.refused.1
+          (ap (λ (x : Call). cause.Refused x) c.in-Err.ensures.refused.0);
+    }

@@ -32,24 +32,8 @@ obey-requires-clause-order g c =
     c.requires.ready.kept.1.holds.below
     c.in-Ok-Some.order x)
 
-pub returns-in-Ok-clause-rounds : goal.returns-in-Ok-clause-rounds
-returns-in-Ok-clause-rounds g c =
-    let post = c.args.site.now.post.now in
-    let actions = c.args.site.now.actions.now in
-    let rule = g.C.Rules.rule in
-    let p = c.args.caller.now.pass in
-    let h = held_of g.B.Berth.told g.B.Feed.Feed.told g.B.Child.Child.told c.args.hands.now in
-    let p1 = c.ask.new.caller.pass in
-    let x = rw c.in-Ok-Some.field-0-is at c.in-Ok-Some.ensures.ordered in
-    let p2 = c.obey.new.caller.pass in
-    let h2 = held_of g.B.Berth.told g.B.Feed.Feed.told g.B.Child.Child.told c.obey.new.hands in (
-      c.in-Ok.ensures.obeys.0,
-      goes_on post actions rule p p1 p2 h h h2 c.ask.ensures.same
-          (ask_goes post actions rule p p1 h c.requires.ready.asks x.reply x.made) c.in-Ok.ensures.obeys.1,
-    )
-
-pub returns-in-Err-obey-clause-rounds : goal.returns-in-Err-obey-clause-rounds
-returns-in-Err-obey-clause-rounds g c =
+pub returns-in-Ok : goal.returns-in-Ok
+returns-in-Ok g c =
     let post = c.args.site.now.post.now in
     let actions = c.args.site.now.actions.now in
     let rule = g.C.Rules.rule in
@@ -59,26 +43,40 @@ returns-in-Err-obey-clause-rounds g c =
     let x = rw c.in-Ok-Some.field-0-is at c.in-Ok-Some.ensures.ordered in
     let p2 = c.obey.new.caller.pass in
     let h2 = held_of g.B.Berth.told g.B.Feed.Feed.told g.B.Child.Child.told c.obey.new.hands in
-    halts_on post actions rule p p1 p2 h h h2 c.ask.ensures.same c.in-Err-obey.cause
-    (ask_goes post actions rule p p1 h c.requires.ready.asks x.reply x.made) c.in-Err-obey.ensures.obeys
+    let first = c.ask.ensures.same in
+    let later = c.obey.ensures.obeys.same in
+    record {
+      same = (later.0 ∙ first.0, later.1 ∙ first.1, later.2 ∙ first.2);
+      tidy = c.obey.ensures.tidy;
+      goes = (
+        c.in-Ok.ensures.obeys.goes.0,
+        goes_on post actions rule p p1 p2 h h h2 c.ask.ensures.same
+            (ask_goes post actions rule p p1 h c.requires.ready.asks x.reply x.made) c.in-Ok.ensures.obeys.goes.1,
+      );
+    }
 
-pub returns-in-Ok-None-clause-tidy : goal.returns-in-Ok-None-clause-tidy
-returns-in-Ok-None-clause-tidy g c =
+pub returns-in-Err-obey : goal.returns-in-Err-obey
+returns-in-Err-obey g c =
     let post = c.args.site.now.post.now in
     let actions = c.args.site.now.actions.now in
     let rule = g.C.Rules.rule in
     let p = c.args.caller.now.pass in
     let h = held_of g.B.Berth.told g.B.Feed.Feed.told g.B.Child.Child.told c.args.hands.now in
     let p1 = c.ask.new.caller.pass in
-    let x = rw c.in-Ok-None.field-0-is at c.in-Ok-None.ensures.ordered in (
-      (stopped post actions rule p p1 h c.requires.ready.asks (g.C.Rules.actions (rules p))
-          g.B.Child.Child.told c.args.site.now.berth (open_in c.args.hands.now) c.requires.site.lane.0 c.requires.ready.tidy.0
-          c.requires.ready.kept.1.holds.below x).2,
-      c.requires.ready.tidy.1,
-    )
+    let x = rw c.in-Ok-Some.field-0-is at c.in-Ok-Some.ensures.ordered in
+    let p2 = c.obey.new.caller.pass in
+    let h2 = held_of g.B.Berth.told g.B.Feed.Feed.told g.B.Child.Child.told c.obey.new.hands in
+    let first = c.ask.ensures.same in
+    let later = c.obey.ensures.obeys.same in
+    record {
+      same = (later.0 ∙ first.0, later.1 ∙ first.1, later.2 ∙ first.2);
+      tidy = c.obey.ensures.tidy;
+      goes = halts_on post actions rule p p1 p2 h h h2 c.ask.ensures.same c.in-Err-obey.cause
+          (ask_goes post actions rule p p1 h c.requires.ready.asks x.reply x.made) c.in-Err-obey.ensures.obeys.goes;
+    }
 
-pub returns-in-Ok-None-clause-rounds : goal.returns-in-Ok-None-clause-rounds
-returns-in-Ok-None-clause-rounds g c =
+pub returns-in-Ok-None : goal.returns-in-Ok-None
+returns-in-Ok-None g c =
     let post = c.args.site.now.post.now in
     let actions = c.args.site.now.actions.now in
     let rule = g.C.Rules.rule in
@@ -86,25 +84,34 @@ returns-in-Ok-None-clause-rounds g c =
     let h = held_of g.B.Berth.told g.B.Feed.Feed.told g.B.Child.Child.told c.args.hands.now in
     let p1 = c.ask.new.caller.pass in
     let x = rw c.in-Ok-None.field-0-is at c.in-Ok-None.ensures.ordered in
-    let y = stopped post actions rule p p1 h c.requires.ready.asks (g.C.Rules.actions (rules p))
-    g.B.Child.Child.told c.args.site.now.berth (open_in c.args.hands.now) c.requires.site.lane.0 c.requires.ready.tidy.0
-    c.requires.ready.kept.1.holds.below x in (
-      y.0,
-      none_open g.B.Feed.Feed.told c.args.hands.now.open y.1,
-      ask_goes post actions rule p p1 h c.requires.ready.asks x.reply x.made,
-    )
+    let y = stopped post actions rule p p1 h c.requires.ready.asks (g.C.Rules.actions (rules p)) g.B.Child.Child.told c.args.site.now.berth (open_in c.args.hands.now) c.requires.site.lane.0 c.requires.ready.tidy.0 c.requires.ready.kept.1.holds.below x in
+    record {
+      same = c.ask.ensures.same;
+      tidy = (
+        (stopped post actions rule p p1 h c.requires.ready.asks (g.C.Rules.actions (rules p))
+            g.B.Child.Child.told c.args.site.now.berth (open_in c.args.hands.now) c.requires.site.lane.0 c.requires.ready.tidy.0
+            c.requires.ready.kept.1.holds.below x).2,
+        c.requires.ready.tidy.1,
+      );
+      goes = (
+        y.0,
+        none_open g.B.Feed.Feed.told c.args.hands.now.open y.1,
+        ask_goes post actions rule p p1 h c.requires.ready.asks x.reply x.made,
+      );
+    }
 
-pub returns-in-Err-clause-tidy : goal.returns-in-Err-clause-tidy
-returns-in-Err-clause-tidy g c = (
-  ap (child_at c.args.site.now.berth) c.in-Err.ensures.refused.1 ∙ c.requires.ready.tidy.0,
-  c.requires.ready.tidy.1,
-)
-
-pub returns-in-Err-clause-rounds : goal.returns-in-Err-clause-rounds
-returns-in-Err-clause-rounds g c =
+pub returns-in-Err : goal.returns-in-Err
+returns-in-Err g c =
     let post = c.args.site.now.post.now in
     let actions = c.args.site.now.actions.now in
     let rule = g.C.Rules.rule in
     let p = c.args.caller.now.pass in
     let h = held_of g.B.Berth.told g.B.Feed.Feed.told g.B.Child.Child.told c.args.hands.now in
-    ask_halts post actions rule p c.ask.new.caller.pass h c.requires.ready.asks c.in-Err.ensures.refused
+    record {
+      same = c.ask.ensures.same;
+      tidy = (
+        ap (child_at c.args.site.now.berth) c.in-Err.ensures.refused.1 ∙ c.requires.ready.tidy.0,
+        c.requires.ready.tidy.1,
+      );
+      goes = ask_halts post actions rule p c.ask.new.caller.pass h c.requires.ready.asks c.in-Err.ensures.refused;
+    }

@@ -34,7 +34,7 @@ returns-in-Ok-false-clause-ends g c =
     let h2 = held c.next-in-loop.new.hands in
     let i = c.loop.invariant in
     let more = c.next-in-loop.ensures.same in
-    let went = rw c.in-Ok-false.field-0-test at c.in-Ok-false.ensures.rounds in
+    let went = rw c.in-Ok-false.field-0-test at c.in-Ok-false.ensures.goes in
     ends_stopped post actions rule p p2 p2 h h2 h2
     (more.0 ∙ i.same.0, more.1 ∙ i.same.1, more.2 ∙ i.same.2)
     (goes_on post actions rule p p1 p2 h h1 h2 i.same i.goes went.2) went.0 went.1
@@ -53,7 +53,7 @@ give_up-requires-clause-may g c =
     let h2 = held c.next-in-loop.new.hands in
     let i = c.loop.invariant in
     let more = c.next-in-loop.ensures.same in
-    halts_may post actions rule p1 p2 p2 h1 h2 h2 more c.in-Err.cause i.ready.kept c.in-Err.ensures.rounds
+    halts_may post actions rule p1 p2 p2 h1 h2 h2 more c.in-Err.cause i.ready.kept c.in-Err.ensures.goes
 
 pub returns-in-Err-clause-ends : goal.returns-in-Err-clause-ends
 returns-in-Err-clause-ends g c =
@@ -74,7 +74,7 @@ returns-in-Err-clause-ends g c =
     ends_halted post actions rule p p2 p3 h h2 h3
     (more.0 ∙ i.same.0, more.1 ∙ i.same.1, more.2 ∙ i.same.2)
     c.in-Err.cause (open_in c.next-in-loop.new.hands)
-    (halts_on post actions rule p p1 p2 h h1 h2 i.same c.in-Err.cause i.goes c.in-Err.ensures.rounds)
+    (halts_on post actions rule p p1 p2 h h1 h2 i.same c.in-Err.cause i.goes c.in-Err.ensures.goes)
     (line_told g.B.Feed.Feed.told c.next-in-loop.new.hands.open)
     (at_half c.args.site.now.berth p2 (open_in c.next-in-loop.new.hands)
     (more.1 ∙ (i.same.1 ∙ c.requires.site.lane.0)) c.next-in-loop.ensures.tidy.0)
@@ -128,7 +128,7 @@ loop-preserved g c =
     let h2 = held c.next-in-loop.new.hands in
     let i = c.loop.invariant in
     let more = c.next-in-loop.ensures.same in
-    let went = rw c.in-Ok-true.field-0-test at c.in-Ok-true.ensures.rounds in
+    let went = rw c.in-Ok-true.field-0-test at c.in-Ok-true.ensures.goes in
     record {
       same = (more.0 ∙ i.same.0, more.1 ∙ i.same.1, more.2 ∙ i.same.2);
       ready = record {

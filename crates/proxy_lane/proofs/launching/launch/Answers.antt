@@ -21,9 +21,12 @@ returns-in-Ok-clause-obeys g c =
     let held = held_of g.B.Berth.told g.B.Feed.Feed.told g.B.Child.Child.told in
     let h = held c.args.hands.now in
     let same = ap (map (back_of g.B.Feed.Feed.told g.B.Child.Child.told)) c.reserve.ensures.items in
-    obeys_from c.args.site.now g.C.Rules.rule held c.start.result p c.args.hands.now
-    c.start.new.caller.pass c.start.new.hands _ (ap (λ (x : List Back). record h { ended = x }) same)
-    c.start.ensures.obeys
+    record {
+      same = c.start.ensures.obeys.same;
+      goes = obeys_from c.args.site.now g.C.Rules.rule held c.start.result p c.args.hands.now
+          c.start.new.caller.pass c.start.new.hands _ (ap (λ (x : List Back). record h { ended = x }) same)
+          c.start.ensures.obeys.goes;
+    }
 
 pub returns-in-Err-clause-tidy : goal.returns-in-Err-clause-tidy
 returns-in-Err-clause-tidy g c = (
@@ -40,7 +43,10 @@ returns-in-Err-clause-obeys g c =
     let l = c.args.line in
     let h = held_of g.B.Berth.told g.B.Feed.Feed.told g.B.Child.Child.told c.args.hands.now in
     let same = ap (map (back_of g.B.Feed.Feed.told g.B.Child.Child.told)) c.reserve.ensures.items in
-    subst (λ (x : List Back). Halts post actions rule cause.NoMemory p h p (record h { ended = x })) (sym same)
-    (launch_halts post actions rule p p h l c.requires.order.0
-    (none_open g.B.Feed.Feed.told c.args.hands.now.open c.requires.order.1) cause.NoMemory [] ⊥ h.berth
-    (made_none h.berth) (([], sym (append-nil (seen p))), refl) (refl, inl refl) refl)
+    record {
+      same = (refl, refl, refl);
+      goes = subst (λ (x : List Back). Halts post actions rule cause.NoMemory p h p (record h { ended = x })) (sym same)
+          (launch_halts post actions rule p p h l c.requires.order.0
+          (none_open g.B.Feed.Feed.told c.args.hands.now.open c.requires.order.1) cause.NoMemory [] ⊥ h.berth
+          (made_none h.berth) (([], sym (append-nil (seen p))), refl) (refl, inl refl) refl);
+    }

@@ -50,16 +50,18 @@ returns-in-Ok-tell_started-clause-obeys g c =
     let l = c.args.line in
     let h = held_of g.B.Berth.told g.B.Feed.Feed.told g.B.Child.Child.told c.args.hands.now in
     let p2 = c.tell_started.new.caller.pass in
-    let x = subst (λ (o : Opened g.row.B-Feed.Denot g.row.B-Tap.Denot g.row.B-Child.Denot).
-    acts.Launches c.args.line c.args.site.now.post.now.command (Result.Ok o) (g.B.Berth.told c.args.hands.now.berth)
-    (g.B.Berth.told c.launch_line.new.berth)) c.in-Line.is c.in-Ok.ensures.calls in
-    let none = none_open g.B.Feed.Feed.told c.args.hands.now.open c.requires.order.1 in (
-      c.in-Ok-tell_started.ensures.told.1,
-      started_goes post actions rule p p2 h l c.requires.order.0 none start.Done x.0 ⊥ (g.B.Berth.told c.launch_line.new.berth) x.2 x.1
-          c.in-Ok-tell_started.ensures.told.0 refl (g.B.Feed.Feed.told c.in-Line.feed) (subst (λ (o : Opened g.row.B-Feed.Denot g.row.B-Tap.Denot g.row.B-Child.Denot).
-          OnOpened o (λ f t k. IsNewFeed c.args.line (g.B.Feed.Feed.told f))) c.in-Line.is c.in-Ok.ensures.feed)
-          c.requires.order.3.0 c.requires.order.3.1,
-    )
+    let x = subst (λ (o : Opened g.row.B-Feed.Denot g.row.B-Tap.Denot g.row.B-Child.Denot). acts.Launches c.args.line c.args.site.now.post.now.command (Result.Ok o) (g.B.Berth.told c.args.hands.now.berth) (g.B.Berth.told c.launch_line.new.berth)) c.in-Line.is c.in-Ok.ensures.calls in
+    let none = none_open g.B.Feed.Feed.told c.args.hands.now.open c.requires.order.1 in
+    record {
+      same = c.tell_started.ensures.same;
+      goes = (
+        c.in-Ok-tell_started.ensures.told.1,
+        started_goes post actions rule p p2 h l c.requires.order.0 none start.Done x.0 ⊥ (g.B.Berth.told c.launch_line.new.berth) x.2 x.1
+            c.in-Ok-tell_started.ensures.told.0 refl (g.B.Feed.Feed.told c.in-Line.feed) (subst (λ (o : Opened g.row.B-Feed.Denot g.row.B-Tap.Denot g.row.B-Child.Denot).
+            OnOpened o (λ f t k. IsNewFeed c.args.line (g.B.Feed.Feed.told f))) c.in-Line.is c.in-Ok.ensures.feed)
+            c.requires.order.3.0 c.requires.order.3.1,
+      );
+    }
 
 pub returns-in-Err-tell_started-clause-tidy : goal.returns-in-Err-tell_started-clause-tidy
 returns-in-Err-tell_started-clause-tidy g c = (
@@ -77,29 +79,30 @@ returns-in-Err-tell_started-clause-obeys g c =
     let l = c.args.line in
     let h = held_of g.B.Berth.told g.B.Feed.Feed.told g.B.Child.Child.told c.args.hands.now in
     let p2 = c.tell_started.new.caller.pass in
-    let x = subst (λ (o : Opened g.row.B-Feed.Denot g.row.B-Tap.Denot g.row.B-Child.Denot).
-    acts.Launches c.args.line c.args.site.now.post.now.command (Result.Ok o) (g.B.Berth.told c.args.hands.now.berth)
-    (g.B.Berth.told c.launch_line.new.berth)) c.in-Line.is c.in-Ok.ensures.calls in
+    let x = subst (λ (o : Opened g.row.B-Feed.Denot g.row.B-Tap.Denot g.row.B-Child.Denot). acts.Launches c.args.line c.args.site.now.post.now.command (Result.Ok o) (g.B.Berth.told c.args.hands.now.berth) (g.B.Berth.told c.launch_line.new.berth)) c.in-Line.is c.in-Ok.ensures.calls in
     let none = none_open g.B.Feed.Feed.told c.args.hands.now.open c.requires.order.1 in
     let child = g.B.Child.Child.told in
     let was = c.in-Err-tell_started.ensures.refused.0 in
     let of = ap (λ k. (child k).line) was in
-    unsaid_halts post actions rule p p2 h l c.requires.order.0 none
-    (cause.Refused (call.Launched l start.Done)) x.0 ⊥ (g.B.Berth.told c.launch_line.new.berth) x.2 c.in-Err-tell_started.ensures.refused.1
-    (refl, (refl, refl, x.1)) (g.B.Berth.told c.end.new.self)
-    (record { log = c.end.ensures.log; later = c.end.ensures.count; same = c.end.ensures.number })
-    (record { line = l; feed = g.B.Feed.Feed.told c.in-Line.feed; child = child c.end.new.child }) refl
-    (subst (λ (o : Opened g.row.B-Feed.Denot g.row.B-Tap.Denot g.row.B-Child.Denot).
-    OnOpened o (λ f t k. IsNewFeed c.args.line (g.B.Feed.Feed.told f))) c.in-Line.is c.in-Ok.ensures.feed)
-    (record {
-      of_line = subst (λ (o : Option ℕ). IfSome o (λ n. n ≡ l)) (sym (c.end.ensures.line ∙ of))
+    record {
+      same = c.tell_started.ensures.same;
+      goes = unsaid_halts post actions rule p p2 h l c.requires.order.0 none
+          (cause.Refused (call.Launched l start.Done)) x.0 ⊥ (g.B.Berth.told c.launch_line.new.berth) x.2 c.in-Err-tell_started.ensures.refused.1
+          (refl, (refl, refl, x.1)) (g.B.Berth.told c.end.new.self)
+          (record { log = c.end.ensures.log; later = c.end.ensures.count; same = c.end.ensures.number })
+          (record { line = l; feed = g.B.Feed.Feed.told c.in-Line.feed; child = child c.end.new.child }) refl
           (subst (λ (o : Opened g.row.B-Feed.Denot g.row.B-Tap.Denot g.row.B-Child.Denot).
-          OnOpened o (λ f t k. IsNewChild c.args.line (g.B.Child.Child.told k))) c.in-Line.is c.in-Ok.ensures.child).of_line;
-      killed = c.end.ensures.killed 0 (subst (λ (o : Option ℕ). IfSome o (λ n. n ≡ 0))
-          (sym (ap (λ k. (child k).kills) was))
-          (subst (λ (o : Opened g.row.B-Feed.Denot g.row.B-Tap.Denot g.row.B-Child.Denot).
-          OnOpened o (λ f t k. IsNewChild c.args.line (g.B.Child.Child.told k))) c.in-Line.is c.in-Ok.ensures.child).not_killed);
-    }) c.requires.order.3.0 c.requires.order.3.1 refl
+          OnOpened o (λ f t k. IsNewFeed c.args.line (g.B.Feed.Feed.told f))) c.in-Line.is c.in-Ok.ensures.feed)
+          (record {
+            of_line = subst (λ (o : Option ℕ). IfSome o (λ n. n ≡ l)) (sym (c.end.ensures.line ∙ of))
+                (subst (λ (o : Opened g.row.B-Feed.Denot g.row.B-Tap.Denot g.row.B-Child.Denot).
+                OnOpened o (λ f t k. IsNewChild c.args.line (g.B.Child.Child.told k))) c.in-Line.is c.in-Ok.ensures.child).of_line;
+            killed = c.end.ensures.killed 0 (subst (λ (o : Option ℕ). IfSome o (λ n. n ≡ 0))
+                (sym (ap (λ k. (child k).kills) was))
+                (subst (λ (o : Opened g.row.B-Feed.Denot g.row.B-Tap.Denot g.row.B-Child.Denot).
+                OnOpened o (λ f t k. IsNewChild c.args.line (g.B.Child.Child.told k))) c.in-Line.is c.in-Ok.ensures.child).not_killed);
+          }) c.requires.order.3.0 c.requires.order.3.1 refl;
+    }
 
 pub returns-in-RoomFault-clause-tidy : goal.returns-in-RoomFault-clause-tidy
 returns-in-RoomFault-clause-tidy g c =
@@ -119,24 +122,25 @@ returns-in-RoomFault-clause-obeys g c =
     let l = c.args.line in
     let h = held_of g.B.Berth.told g.B.Feed.Feed.told g.B.Child.Child.told c.args.hands.now in
     let p2 = c.not_started.new.caller.pass in
-    let x = subst (λ (o : Opened g.row.B-Feed.Denot g.row.B-Tap.Denot g.row.B-Child.Denot).
-    acts.Launches c.args.line c.args.site.now.post.now.command (Result.Ok o) (g.B.Berth.told c.args.hands.now.berth)
-    (g.B.Berth.told c.launch_line.new.berth)) c.in-RoomFault.is c.in-Ok.ensures.calls in
+    let x = subst (λ (o : Opened g.row.B-Feed.Denot g.row.B-Tap.Denot g.row.B-Child.Denot). acts.Launches c.args.line c.args.site.now.post.now.command (Result.Ok o) (g.B.Berth.told c.args.hands.now.berth) (g.B.Berth.told c.launch_line.new.berth)) c.in-RoomFault.is c.in-Ok.ensures.calls in
     let new = g.B.Berth.told c.launch_line.new.berth in
     let none = none_open g.B.Feed.Feed.told c.args.hands.now.open c.requires.order.1 in
-    obeys_by c.args.site.now rule (held_of g.B.Berth.told g.B.Feed.Feed.told g.B.Child.Child.told)
-    c.not_started.result p c.args.hands.now p2 _
-    (MakesOne (call.Launched l start.RoomFault) reply.Noted p p2 × (duty_of (mine p2) ≡ Asks))
-    (λ by. (by ≡ cause.Refused (call.Launched l start.RoomFault)) × MakesNone p p2)
-    (λ y. (
-      y.1,
-      fault_goes post actions rule p p2 h l c.requires.order.0 none start.RoomFault x.0 (Unit {0}) new x.2 x.1 y.0
-          refl tt,
-    ))
-    (λ by y. launch_halts post actions rule p p2 h l c.requires.order.0 none by x.0 (Unit {0}) new x.2 y.1
-    (subst (λ (z : Cause). HaltsBy post actions z (Launches l) (calls_deed x.0)) (sym y.0)
-    (refl, (refl, refl, x.1))) (ap (λ (z : Cause). unsaid_by (Some z)) y.0))
-    c.not_started.ensures.told c.not_started.ensures.refused
+    record {
+      same = c.not_started.ensures.same;
+      goes = obeys_by c.args.site.now rule (held_of g.B.Berth.told g.B.Feed.Feed.told g.B.Child.Child.told)
+          c.not_started.result p c.args.hands.now p2 _
+          (MakesOne (call.Launched l start.RoomFault) reply.Noted p p2 × (duty_of (mine p2) ≡ Asks))
+          (λ by. (by ≡ cause.Refused (call.Launched l start.RoomFault)) × MakesNone p p2)
+          (λ y. (
+            y.1,
+            fault_goes post actions rule p p2 h l c.requires.order.0 none start.RoomFault x.0 (Unit {0}) new x.2 x.1 y.0
+                refl tt,
+          ))
+          (λ by y. launch_halts post actions rule p p2 h l c.requires.order.0 none by x.0 (Unit {0}) new x.2 y.1
+          (subst (λ (z : Cause). HaltsBy post actions z (Launches l) (calls_deed x.0)) (sym y.0)
+          (refl, (refl, refl, x.1))) (ap (λ (z : Cause). unsaid_by (Some z)) y.0))
+          c.not_started.ensures.told c.not_started.ensures.refused;
+    }
 
 pub returns-in-LaunchFault-clause-tidy : goal.returns-in-LaunchFault-clause-tidy
 returns-in-LaunchFault-clause-tidy g c =
@@ -156,24 +160,25 @@ returns-in-LaunchFault-clause-obeys g c =
     let l = c.args.line in
     let h = held_of g.B.Berth.told g.B.Feed.Feed.told g.B.Child.Child.told c.args.hands.now in
     let p2 = c.not_started-in-LaunchFault.new.caller.pass in
-    let x = subst (λ (o : Opened g.row.B-Feed.Denot g.row.B-Tap.Denot g.row.B-Child.Denot).
-    acts.Launches c.args.line c.args.site.now.post.now.command (Result.Ok o) (g.B.Berth.told c.args.hands.now.berth)
-    (g.B.Berth.told c.launch_line.new.berth)) c.in-LaunchFault.is c.in-Ok.ensures.calls in
+    let x = subst (λ (o : Opened g.row.B-Feed.Denot g.row.B-Tap.Denot g.row.B-Child.Denot). acts.Launches c.args.line c.args.site.now.post.now.command (Result.Ok o) (g.B.Berth.told c.args.hands.now.berth) (g.B.Berth.told c.launch_line.new.berth)) c.in-LaunchFault.is c.in-Ok.ensures.calls in
     let new = g.B.Berth.told c.launch_line.new.berth in
     let none = none_open g.B.Feed.Feed.told c.args.hands.now.open c.requires.order.1 in
-    obeys_by c.args.site.now rule (held_of g.B.Berth.told g.B.Feed.Feed.told g.B.Child.Child.told)
-    c.not_started-in-LaunchFault.result p c.args.hands.now p2 _
-    (MakesOne (call.Launched l start.LaunchFault) reply.Noted p p2 × (duty_of (mine p2) ≡ Asks))
-    (λ by. (by ≡ cause.Refused (call.Launched l start.LaunchFault)) × MakesNone p p2)
-    (λ y. (
-      y.1,
-      fault_goes post actions rule p p2 h l c.requires.order.0 none start.LaunchFault x.0 (Unit {0}) new x.2 x.1 y.0
-          refl tt,
-    ))
-    (λ by y. launch_halts post actions rule p p2 h l c.requires.order.0 none by x.0 (Unit {0}) new x.2 y.1
-    (subst (λ (z : Cause). HaltsBy post actions z (Launches l) (calls_deed x.0)) (sym y.0)
-    (refl, (refl, refl, x.1))) (ap (λ (z : Cause). unsaid_by (Some z)) y.0))
-    c.not_started-in-LaunchFault.ensures.told c.not_started-in-LaunchFault.ensures.refused
+    record {
+      same = c.not_started-in-LaunchFault.ensures.same;
+      goes = obeys_by c.args.site.now rule (held_of g.B.Berth.told g.B.Feed.Feed.told g.B.Child.Child.told)
+          c.not_started-in-LaunchFault.result p c.args.hands.now p2 _
+          (MakesOne (call.Launched l start.LaunchFault) reply.Noted p p2 × (duty_of (mine p2) ≡ Asks))
+          (λ by. (by ≡ cause.Refused (call.Launched l start.LaunchFault)) × MakesNone p p2)
+          (λ y. (
+            y.1,
+            fault_goes post actions rule p p2 h l c.requires.order.0 none start.LaunchFault x.0 (Unit {0}) new x.2 x.1 y.0
+                refl tt,
+          ))
+          (λ by y. launch_halts post actions rule p p2 h l c.requires.order.0 none by x.0 (Unit {0}) new x.2 y.1
+          (subst (λ (z : Cause). HaltsBy post actions z (Launches l) (calls_deed x.0)) (sym y.0)
+          (refl, (refl, refl, x.1))) (ap (λ (z : Cause). unsaid_by (Some z)) y.0))
+          c.not_started-in-LaunchFault.ensures.told c.not_started-in-LaunchFault.ensures.refused;
+    }
 
 pub returns-in-Err-clause-tidy : goal.returns-in-Err-clause-tidy
 returns-in-Err-clause-tidy g c = (
@@ -190,6 +195,9 @@ returns-in-Err-clause-obeys g c =
     let l = c.args.line in
     let h = held_of g.B.Berth.told g.B.Feed.Feed.told g.B.Child.Child.told c.args.hands.now in
     let x = c.in-Err.ensures.calls in
-    launch_halts post actions rule p p h l c.requires.order.0
-    (none_open g.B.Feed.Feed.told c.args.hands.now.open c.requires.order.1) cause.NoMemory x.0 ⊥
-    (g.B.Berth.told c.launch_line.new.berth) x.2 (([], sym (append-nil (seen p))), refl) (refl, inr x.1) refl
+    record {
+      same = (refl, refl, refl);
+      goes = launch_halts post actions rule p p h l c.requires.order.0
+          (none_open g.B.Feed.Feed.told c.args.hands.now.open c.requires.order.1) cause.NoMemory x.0 ⊥
+          (g.B.Berth.told c.launch_line.new.berth) x.2 (([], sym (append-nil (seen p))), refl) (refl, inr x.1) refl;
+    }

@@ -77,18 +77,21 @@ returns-clause-obeys g c =
     let new = g.B.Berth.told c.args.hands.now.berth in
     let after = feed c.act_cancel-wrote.new.feed in
     let then = record h { berth = new; opened = Some (record { line = o.line; feed = after }) } in
-    obeys_by c.args.site.now rule (held_of g.B.Berth.told feed g.B.Child.Child.told) c.report.result p
-    c.args.hands.now p2 _
-    ((duty_of (mine p2) ≡ Asks) × TellsWrote c.args.line c.args.number result p1 p2)
-    (λ by. MakesNone p1 p2 × IsCauseOf c.args.line c.args.number result by)
-    (λ x. (
-      x.0,
-      cancel_goes post actions rule p p1 p2 h o is_open c.args.line c.args.number of none lane new after
-          c.requires.order.0 refl result (subst (λ (n : ℤ). CancelActs post n result o.feed after) (to_z-of_z c.ranges.number) c.act_cancel-wrote.ensures) x.1,
-    ))
-    (λ by x. cancel_halts post actions rule p p1 p2 h o is_open c.args.line c.args.number of none lane new after
-    c.requires.order.0 refl result by (subst (λ (n : ℤ). CancelActs post n result o.feed after) (to_z-of_z c.ranges.number) c.act_cancel-wrote.ensures) x.0 x.1)
-    (subst (λ (n : ℤ). OnOk c.report.result ((duty_of (mine p2) ≡ Asks)
-    × TellsWrote c.args.line n result p1 p2)) (to_z-of_z c.ranges.number) c.report.ensures.told)
-    (subst (λ (n : ℤ). IfErr c.report.result (λ by. MakesNone p1 p2
-    × IsCauseOf c.args.line n result by)) (to_z-of_z c.ranges.number) c.report.ensures.refused)
+    record {
+      same = c.report.ensures.same;
+      goes = obeys_by c.args.site.now rule (held_of g.B.Berth.told feed g.B.Child.Child.told) c.report.result p
+          c.args.hands.now p2 _
+          ((duty_of (mine p2) ≡ Asks) × TellsWrote c.args.line c.args.number result p1 p2)
+          (λ by. MakesNone p1 p2 × IsCauseOf c.args.line c.args.number result by)
+          (λ x. (
+            x.0,
+            cancel_goes post actions rule p p1 p2 h o is_open c.args.line c.args.number of none lane new after
+                c.requires.order.0 refl result (subst (λ (n : ℤ). CancelActs post n result o.feed after) (to_z-of_z c.ranges.number) c.act_cancel-wrote.ensures) x.1,
+          ))
+          (λ by x. cancel_halts post actions rule p p1 p2 h o is_open c.args.line c.args.number of none lane new after
+          c.requires.order.0 refl result by (subst (λ (n : ℤ). CancelActs post n result o.feed after) (to_z-of_z c.ranges.number) c.act_cancel-wrote.ensures) x.0 x.1)
+          (subst (λ (n : ℤ). OnOk c.report.result ((duty_of (mine p2) ≡ Asks)
+          × TellsWrote c.args.line n result p1 p2)) (to_z-of_z c.ranges.number) c.report.ensures.told)
+          (subst (λ (n : ℤ). IfErr c.report.result (λ by. MakesNone p1 p2
+          × IsCauseOf c.args.line n result by)) (to_z-of_z c.ranges.number) c.report.ensures.refused);
+    }

@@ -83,20 +83,25 @@ returns-clause-obeys g c =
     let new = g.B.Berth.told c.act_send-wrote.new.berth in
     let after = feed c.act_send-wrote.new.feed in
     let then = record h { berth = new; opened = Some (record { line = o.line; feed = after }) } in
-    obeys_by c.args.site.now rule (held_of g.B.Berth.told feed g.B.Child.Child.told) c.report.result p
-    c.args.hands.now p2 _
-    ((duty_of (mine p2) ≡ Asks) × TellsWrote c.args.line c.args.number result p1 p2)
-    (λ by. MakesNone p1 p2 × IsCauseOf c.args.line c.args.number result by)
-    (λ x. (
-      x.0,
-      send_goes post actions rule p p1 p2 h o is_open c.args.line c.args.number of none lane new after
-          c.args.action c.requires.order.0 c.action_at-work.result.now c.action_at-work.ensures result (subst (λ (n : ℤ). SendActs post (rule (rules p)) p.lane c.args.line n c.action_at-work.result.now
-          result (seen p1) h.berth new o.feed after) (to_z-of_z c.ranges.number) c.act_send-wrote.ensures.acts) x.1,
-    ))
-    (λ by x. send_halts post actions rule p p1 p2 h o is_open c.args.line c.args.number of none lane new after
-    c.args.action c.requires.order.0 c.action_at-work.result.now c.action_at-work.ensures result by (subst (λ (n : ℤ). SendActs post (rule (rules p)) p.lane c.args.line n c.action_at-work.result.now
-    result (seen p1) h.berth new o.feed after) (to_z-of_z c.ranges.number) c.act_send-wrote.ensures.acts) x.0 x.1)
-    (subst (λ (n : ℤ). OnOk c.report.result ((duty_of (mine p2) ≡ Asks)
-    × TellsWrote c.args.line n result p1 p2)) (to_z-of_z c.ranges.number) c.report.ensures.told)
-    (subst (λ (n : ℤ). IfErr c.report.result (λ by. MakesNone p1 p2
-    × IsCauseOf c.args.line n result by)) (to_z-of_z c.ranges.number) c.report.ensures.refused)
+    let first = c.act_send-wrote.ensures.same in
+    let later = c.report.ensures.same in
+    record {
+      same = (later.0 ∙ first.0, later.1 ∙ first.1, later.2 ∙ first.2);
+      goes = obeys_by c.args.site.now rule (held_of g.B.Berth.told feed g.B.Child.Child.told) c.report.result p
+          c.args.hands.now p2 _
+          ((duty_of (mine p2) ≡ Asks) × TellsWrote c.args.line c.args.number result p1 p2)
+          (λ by. MakesNone p1 p2 × IsCauseOf c.args.line c.args.number result by)
+          (λ x. (
+            x.0,
+            send_goes post actions rule p p1 p2 h o is_open c.args.line c.args.number of none lane new after
+                c.args.action c.requires.order.0 c.action_at-work.result.now c.action_at-work.ensures result (subst (λ (n : ℤ). SendActs post (rule (rules p)) p.lane c.args.line n c.action_at-work.result.now
+                result (seen p1) h.berth new o.feed after) (to_z-of_z c.ranges.number) c.act_send-wrote.ensures.acts) x.1,
+          ))
+          (λ by x. send_halts post actions rule p p1 p2 h o is_open c.args.line c.args.number of none lane new after
+          c.args.action c.requires.order.0 c.action_at-work.result.now c.action_at-work.ensures result by (subst (λ (n : ℤ). SendActs post (rule (rules p)) p.lane c.args.line n c.action_at-work.result.now
+          result (seen p1) h.berth new o.feed after) (to_z-of_z c.ranges.number) c.act_send-wrote.ensures.acts) x.0 x.1)
+          (subst (λ (n : ℤ). OnOk c.report.result ((duty_of (mine p2) ≡ Asks)
+          × TellsWrote c.args.line n result p1 p2)) (to_z-of_z c.ranges.number) c.report.ensures.told)
+          (subst (λ (n : ℤ). IfErr c.report.result (λ by. MakesNone p1 p2
+          × IsCauseOf c.args.line n result by)) (to_z-of_z c.ranges.number) c.report.ensures.refused);
+    }

@@ -9,9 +9,9 @@ use Rattle.worker_run.proofs.Made.{made_left, made_unused, not_lost, ran_whole, 
 use Rattle.worker_run.proofs.running.run_plan.Goals as goal
 
 pub run_lanes-requires-clause-places : goal.run_lanes-requires-clause-places
-run_lanes-requires-clause-places g c =
+run_lanes-requires-clause-places g c κs within =
     let as_slice = ap (λ (xs : List WorkAction). length xs) c.as_slice-actions.ensures in
-    λ _. subst (λ (n : ℕ). AreFresh g.F.Place.Place.told n c.make_seats-seats.result.places.items)
+    subst (λ (n : ℕ). AreFresh g.F.Place.Place.told n c.make_seats-seats.result.places.items)
     ((c.has_all-all.ensures c.if-not-all.false).1 ∙ (as_slice ∙ c.requires.work.as_many))
     c.make_seats-seats.ensures.places
 
