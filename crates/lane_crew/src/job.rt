@@ -202,6 +202,9 @@ pub fn run_list<C: Sync, J: Job<C>, R: Threads + Wait + Sync>(
         AllZip (HasEnded J.ends context.now) posts.items ends.items) }
     ensures back { IfErr result (λ back. back.items ≡ posts.items) }
 {
+    if posts.len() == 0 {
+        return Ok(posts);
+    }
     let Ok(room) = room_for(alloc, posts.len()) else {
         return Err(posts);
     };
