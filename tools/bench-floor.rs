@@ -288,8 +288,9 @@ fn drive(program: &str, own: &[Action], mut room: Room, speech: Speech) {
             room.folder("out");
             requests.write_all(&action.frame(speech)).unwrap();
         }
+        // A worker that takes several answers them in any order.
+        group.iter().for_each(|_| read_answer(&mut answers, speech));
         for action in group {
-            read_answer(&mut answers, speech);
             let content = room.get(&action.output());
             match room.calls {
                 Calls::Plain => write_beside(&action.output(), &content),
