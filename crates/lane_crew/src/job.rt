@@ -205,9 +205,28 @@ pub fn run_list<C: Sync, J: Job<C>, R: Threads + Wait + Sync>(
     if posts.len() == 0 {
         return Ok(posts);
     }
-    let Ok(room) = room_for(alloc, posts.len()) else {
-        return Err(posts);
-    };
+    match room_for(alloc, posts.len()) {
+        Ok(room) => run_in(rt, context, posts, room),
+        Err(NoMemory) => Err(posts),
+    }
+}
+
+// Runs them in this room, which is enough for all.
+fn run_in<C: Sync, J: Job<C>, R: Threads + Wait + Sync>(
+    rt: &R,
+    context: &C,
+    posts: Vec<Post<J, J::End>>,
+    room: Room<C, J>,
+) -> Result<Vec<Post<J, J::End>>, Vec<Post<J, J::End>>>
+    requires run { All (CanRun J.can_run context.now) posts.items }
+    requires threads { HasRoomFor (length posts.items) room.threads }
+    requires late { HasRoomFor (length posts.items) room.late }
+    requires back { HasRoomFor (length posts.items) room.back }
+    requires ends { HasRoomFor (length posts.items) room.ends }
+    ensures ends { IfOk result (λ ends.
+        AllZip (HasEnded J.ends context.now) posts.items ends.items) }
+    ensures back { IfErr result (λ back. back.items ≡ posts.items) }
+{
     let Room {
         mut threads,
         mut late,

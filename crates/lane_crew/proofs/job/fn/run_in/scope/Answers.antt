@@ -1,11 +1,11 @@
-use Rattle.std.proofs.Common.{◌≡◌, false, List, [], length, ap, arith, rules, sym, refl, subst, ◌∙◌, All}
+use Rattle.std.proofs.Common.{◌≡◌, false, List, [], length, ap, arith, rules, sym, refl, subst, ◌∙◌}
 use Rattle.std.specs.List.{AllZip, list_any}
 use Rattle.std.proofs.lemmas.List.{nil_from_length}
 use Rattle.std.proofs.lemmas.List.Elements.{All-same}
 use Rattle.lane_crew.specs.declared.job.Post.{Post}
 use Rattle.lane_crew.specs.Jobs.{CanRun, HasEnded, has_end}
 use Rattle.lane_crew.proofs.Starts.{starts, starts_one, one_late, next_can, as_it_was, all_back, all_left_can, all_ended_by, all_as_they_were}
-use Rattle.lane_crew.proofs.job.fn.run_list.scope.Goals as goal
+use Rattle.lane_crew.proofs.job.fn.run_in.scope.Goals as goal
 
 pub loop-post-init : goal.loop-post-init
 loop-post-init g c =

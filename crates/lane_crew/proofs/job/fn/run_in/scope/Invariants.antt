@@ -1,6 +1,6 @@
 use Rattle.std.proofs.Common.{◌≡◌, ◌≤◌, ◌+◌, length, vec_len, vec_capacity}
 use Rattle.lane_crew.proofs.Starts.{Starting}
-use Rattle.lane_crew.proofs.job.fn.run_list.scope.Given as goal
+use Rattle.lane_crew.proofs.job.fn.run_in.scope.Given as goal
 
 abbrev pub invariant-loop-post : goal.invariant-loop-post
 invariant-loop-post g l =
