@@ -6,7 +6,7 @@ use Rattle.seat_desk.specs.declared.machine.Machine.{Ghosts}
 use Rattle.seat_desk.specs.declared.desk.Pass.{Pass}
 use Rattle.seat_desk.specs.declared.desk.Desk.{Desk}
 use Rattle.seat_desk.specs.History.{calls_by, StartsWith}
-use Rattle.seat_desk.specs.Passes.{IsPassOf, IsSamePass, mine, rules, seen}
+use Rattle.seat_desk.specs.Passes.{IsPassOf, IsSamePass, mine, basis, seen}
 use Rattle.exec_journal.specs.declared.call.Call.{Call}
 use Rattle.exec_journal.specs.declared.reply.Reply.{Reply}
 use Rattle.lane_crew.specs.declared.pair.OfTwo.{OfTwo}
@@ -19,15 +19,15 @@ use Rattle.run_plan.specs.declared.plan.Maker.{Maker}
 use Rattle.run_plan.specs.Groups.{is_remote}
 use Rattle.run_plan.specs.declared.plan.Speech.{Speech}
 use Rattle.remote_messages.specs.declared.work.WorkAction.{WorkAction}
-use Rattle.run_rules.specs.Moves.{History}
-use Rattle.run_rules.specs.Duties.{proxy_lane}
-use Rattle.run_rules.specs.Laws.{tap_lane}
+use Rattle.core_contract.specs.Moves.{History}
+use Rattle.core_contract.specs.Duties.{proxy_lane}
+use Rattle.core_contract.specs.Laws.{tap_lane}
 use Rattle.proxy_calls.specs.Calls.{IsProxyOf}
-use Rattle.lane_deeds.specs.declared.post.Post.{Post}
-use Rattle.lane_deeds.proofs.Growing.{all_told_later}
-use Rattle.lane_steps.specs.Lanes.{back_of}
-use Rattle.lane_steps.specs.Steps.{Ended, IsServedBy}
-use Rattle.lane_steps.specs.Work.{IsWorkOf}
+use Rattle.proxy_deeds.specs.declared.post.Post.{Post}
+use Rattle.proxy_deeds.proofs.Growing.{all_told_later}
+use Rattle.proxy_steps.specs.Lanes.{back_of}
+use Rattle.proxy_steps.specs.Steps.{Ended, IsServedBy}
+use Rattle.proxy_steps.specs.Work.{IsWorkOf}
 use Rattle.tap_lane.specs.Heard.{back_by}
 use Rattle.tap_lane.specs.Lane as tap
 use Rattle.berth_lanes.specs.declared.proxies.ProxySeat.{ProxySeat}
@@ -46,12 +46,12 @@ module _ {M G Q : Type 0} (g : Ghosts M Call Reply G Q) {B D T K : Type 0}
   abbrev pub MayProxy : ProxySeat B → Desk M Call Reply G Q → ℕ → Pass M Call Reply G Q g → Type 0
   MayProxy seat desk bells pass = IsPassOf desk pass × IsFresh pass
       × IsProxyOf seats seat.number pass × ((pass.lane < bells) × (seat.number < 64))
-      × (remote (rules pass) seat.number ≡ is_remote seat.post.now.kind)
-      × IsWorkOf (count (rules pass)) (outputs (rules pass)) (makers (rules pass)) seat.actions.now
+      × (remote (basis pass) seat.number ≡ is_remote seat.post.now.kind)
+      × IsWorkOf (count (basis pass)) (outputs (basis pass)) (makers (basis pass)) seat.actions.now
 
   abbrev pub MayTap : TapSeat → Desk M Call Reply G Q → ℕ → Pass M Call Reply G Q g → Type 0
   MayTap seat desk bells pass = IsPassOf desk pass × IsFresh pass
-      × (pass.lane ≡ tap_lane seat.berth) × (seat.berth < seats (rules pass)) × (pass.lane < bells)
+      × (pass.lane ≡ tap_lane seat.berth) × (seat.berth < seats (basis pass)) × (pass.lane < bells)
 
   abbrev pub ProxyRan : ProxySeat B → Pass M Call Reply G Q g → ProxyLeft B D K
       → Pass M Call Reply G Q g → Type 0
@@ -145,15 +145,15 @@ module _ {M G Q : Type 0} (g : Ghosts M Call Reply G Q) {B D T K : Type 0}
       (berth u.berth) (map (back_of feed child) u.feeds.items)
       (option_map (back_of feed child) u.unsaid) u.halted
   served q h actions w b p x u is r =
-      let by : rules r.after ≡ q = r.same.2 ∙ r.by in
+      let by : basis r.after ≡ q = r.same.2 ∙ r.by in
       let lane : r.after.lane ≡ proxy_lane w = r.same.1 ∙ r.number in
       let end = r.ran.1 in
-      let late : Ended x.post.now x.actions.now (rule (rules r.after)) r.after.lane (mine r.after) h
+      let late : Ended x.post.now x.actions.now (rule (basis r.after)) r.after.lane (mine r.after) h
       (berth x.berth) (berth u.berth) (map (back_of feed child) u.feeds.items)
       (option_map (back_of feed child) u.unsaid) u.halted = record {
         deeds = end.deeds;
         ends = end.ends;
-        told = all_told_later (rule (rules r.after)) r.after.lane (seen r.after) h r.saw end.deeds end.told;
+        told = all_told_later (rule (basis r.after)) r.after.lane (seen r.after) h r.saw end.deeds end.told;
         berth = end.berth;
         lines = end.lines;
       } in
@@ -164,8 +164,8 @@ module _ {M G Q : Type 0} (g : Ghosts M Call Reply G Q) {B D T K : Type 0}
       (subst (λ (o : History). Of p actions q (proxy_lane w) o x.berth) r.made
       (subst (λ (o : ℕ). Of p actions q o (mine r.after) x.berth) lane
       (subst (λ (o : Q). Of p actions o r.after.lane (mine r.after) x.berth) by
-      (subst (λ (o : List WorkAction). Of p o (rules r.after) r.after.lane (mine r.after) x.berth) is.3
-      (subst (λ (o : Post). Of o x.actions.now (rules r.after) r.after.lane (mine r.after) x.berth) is.2
+      (subst (λ (o : List WorkAction). Of p o (basis r.after) r.after.lane (mine r.after) x.berth) is.3
+      (subst (λ (o : Post). Of o x.actions.now (basis r.after) r.after.lane (mine r.after) x.berth) is.2
       late)))))
 
   told : (q : Q) (h : History) (w : ℕ) (p : Post) (y : TapSeat) (v : TapLeft T)

@@ -7,12 +7,12 @@ use Rattle.lane_crew.specs.declared.pair.OfTwo.{OfTwo}
 use Rattle.lane_crew.specs.declared.pair.OfTwo.TheVariants.{First, Second}
 use Rattle.outside.specs.Told.{BerthTold, FeedTold, TapTold, ChildTold}
 use Rattle.remote_messages.specs.declared.work.WorkAction.{WorkAction}
-use Rattle.run_rules.specs.Moves.{History}
-use Rattle.run_rules.specs.Duties.{proxy_lane}
-use Rattle.run_rules.specs.Laws.{tap_lane}
-use Rattle.lane_deeds.specs.declared.post.Post.{Post}
-use Rattle.lane_steps.specs.Lanes.{back_of}
-use Rattle.lane_steps.specs.Steps.{Ended}
+use Rattle.core_contract.specs.Moves.{History}
+use Rattle.core_contract.specs.Duties.{proxy_lane}
+use Rattle.core_contract.specs.Laws.{tap_lane}
+use Rattle.proxy_deeds.specs.declared.post.Post.{Post}
+use Rattle.proxy_steps.specs.Lanes.{back_of}
+use Rattle.proxy_steps.specs.Steps.{Ended}
 use Rattle.tap_lane.specs.Heard.{back_by}
 use Rattle.tap_lane.specs.Lane.{LaneEnds}
 use Rattle.berth_lanes.specs.declared.proxies.ProxyLeft.{ProxyLeft}

@@ -3,7 +3,7 @@ use Rattle.std.specs.Prelude.{◌≡◌, ℕ, ◌+◌, Bool, List, [], ◌∷◌
 use Rattle.lane_crew.specs.declared.pair.OfTwo.{OfTwo}
 use Rattle.lane_crew.specs.declared.pair.OfTwo.TheVariants.{First, Second}
 use Rattle.run_plan.specs.Groups.{is_remote}
-use Rattle.lane_deeds.specs.declared.post.Post.{Post}
+use Rattle.proxy_deeds.specs.declared.post.Post.{Post}
 use Rattle.remote_messages.specs.declared.work.WorkAction.{WorkAction}
 use Rattle.berth_lanes.specs.declared.proxies.ProxySeat.{ProxySeat}
 use Rattle.berth_lanes.specs.declared.taps.TapSeat.{TapSeat}

@@ -5,7 +5,7 @@ ghost use Rattle.berth_lanes.specs.Seats.{AreSeats, HasSeats, berths_in};
 use crate::proxies::ProxySeat;
 use crate::taps::TapSeat;
 use lane_crew::OfTwo;
-use lane_deeds::Post;
+use proxy_deeds::Post;
 use remote_messages::WorkAction;
 use std::alloc::Global;
 use std::collections::VecDeque;

@@ -1,23 +1,23 @@
 //! The proxy lane of a berth.
 ghost use Rattle.std.specs.Prelude.{◌≡◌, ◌<◌, map};
 ghost use Rattle.std.specs.Option.{option_map};
-ghost use Rattle.seat_desk.specs.Passes.{IsPassOf, IsSamePass, rules};
+ghost use Rattle.seat_desk.specs.Passes.{IsPassOf, IsSamePass, basis};
 ghost use Rattle.lane_crew.specs.Lanes.{IsFresh};
 ghost use Rattle.run_plan.specs.Groups.{is_remote};
 ghost use Rattle.proxy_calls.specs.Calls.{IsProxyOf};
-ghost use Rattle.lane_steps.specs.Lanes.{back_of};
-ghost use Rattle.lane_steps.specs.Steps.{IsServedBy};
-ghost use Rattle.lane_steps.specs.Work.{IsWorkOf};
+ghost use Rattle.proxy_steps.specs.Lanes.{back_of};
+ghost use Rattle.proxy_steps.specs.Steps.{IsServedBy};
+ghost use Rattle.proxy_steps.specs.Work.{IsWorkOf};
 
 use lane_bells::Bells;
 use lane_crew::Lane;
-use lane_deeds::{Cause, Post};
-use lane_steps::EndedFeed;
+use proxy_deeds::{Cause, Post};
+use proxy_steps::EndedFeed;
 use outside::{Berth, Place};
 use proxy_lane::{LaneEnd, Site};
 use remote_messages::WorkAction;
-use run_bench::Bench;
-use run_rules::Rules;
+use core_bench::Bench;
+use core_contract::Rules;
 use seat_desk::{Desk, Pass};
 use std::alloc::Global;
 use std::sync::Wait;
@@ -53,8 +53,8 @@ impl<'a, B: Berth, P: Place, C: Rules> Lane<Desk<Bench<B, P, C>>, Pass<Bench<B, 
 
     ghost may_run = { λ self desk bells pass. IsPassOf desk pass × IsFresh pass
         × IsProxyOf C.seats self.number pass × ((pass.lane < bells) × (self.number < 64))
-        × (C.remote (rules pass) self.number ≡ is_remote self.post.now.kind)
-        × IsWorkOf (C.actions (rules pass)) (C.outputs (rules pass)) (C.makers (rules pass))
+        × (C.remote (basis pass) self.number ≡ is_remote self.post.now.kind)
+        × IsWorkOf (C.actions (basis pass)) (C.outputs (basis pass)) (C.makers (basis pass))
         self.actions.now };
 
     ghost has_run = { λ self pass left after. IsSamePass pass after

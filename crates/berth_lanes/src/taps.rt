@@ -1,17 +1,17 @@
 //! The tap lane of a berth.
 ghost use Rattle.std.specs.Prelude.{◌≡◌, ◌<◌, map};
-ghost use Rattle.seat_desk.specs.Passes.{IsPassOf, IsSamePass, mine, rules};
+ghost use Rattle.seat_desk.specs.Passes.{IsPassOf, IsSamePass, mine, basis};
 ghost use Rattle.lane_crew.specs.Lanes.{IsFresh};
-ghost use Rattle.run_rules.specs.Laws.{tap_lane};
+ghost use Rattle.core_contract.specs.Laws.{tap_lane};
 ghost use Rattle.tap_lane.specs.Heard.{back_by};
 ghost use Rattle.tap_lane.specs.Lane.{LaneEnds};
 
 use lane_bells::Bells;
 use lane_crew::Lane;
 use outside::{Berth, Place};
-use run_bench::Bench;
+use core_bench::Bench;
 use run_plan::Speech;
-use run_rules::Rules;
+use core_contract::Rules;
 use seat_desk::{Desk, Pass};
 use std::alloc::Global;
 use std::sync::Wait;
@@ -41,7 +41,7 @@ impl<B: Berth, P: Place, C: Rules> Lane<Desk<Bench<B, P, C>>, Pass<Bench<B, P, C
     type End = TapLeft<B::Tap>;
 
     ghost may_run = { λ self desk bells pass. IsPassOf desk pass × IsFresh pass
-        × (pass.lane ≡ tap_lane self.berth) × (self.berth < C.seats (rules pass))
+        × (pass.lane ≡ tap_lane self.berth) × (self.berth < C.seats (basis pass))
         × (pass.lane < bells) };
 
     ghost has_run = { λ self pass left after. IsSamePass pass after

@@ -31,7 +31,7 @@ use Rattle.request_table.proofs.Lists.{reverse_front, map_reverse, map_map, each
 use Rattle.request_table.proofs.Sent.{open_is}
 use Rattle.worker_pool.specs.Entries.{is_of}
 use Rattle.core_tables.specs.declared.seat.Seat.{Seat}
-use Rattle.journal_calls.specs.Moments.{BranchOf}
+use Rattle.call_laws.specs.Moments.{BranchOf}
 use Rattle.core_laws.proofs.AtBerths.{SentAtBerth}
 use Rattle.core_state.specs.Reports.{branch_of_group, branch_in, attempt_in, is_open_for}
 use Rattle.ready_order.proofs.AllSettled.{sound_at}

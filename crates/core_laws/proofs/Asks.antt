@@ -36,7 +36,7 @@ use Rattle.core_tables.specs.declared.seat.Seat.{Seat}
 use Rattle.core_state.specs.declared.state.State.{State}
 use Rattle.core_state.specs.Choices as c
 use Rattle.lawful_facts.specs.Moments.{JournalFacts}
-use Rattle.journal_calls.specs.Moments.{BranchOf}
+use Rattle.call_laws.specs.Moments.{BranchOf}
 use Rattle.core_state.specs.Machine.{carried, carried_reply, number_of, launched_for, sent}
 use Rattle.core_state.specs.Noted.{noted_after}
 use Rattle.core_tables.specs.Seats.{seat_at}

@@ -17,7 +17,7 @@ use Rattle.exec_journal.specs.Settled.{bound}
 use Rattle.exec_journal.specs.Words.{last_line, sends, pending, has_cancel}
 use Rattle.journal_laws.proofs.Lanes.{here_own}
 use Rattle.journal_laws.proofs.Ours as ours
-use Rattle.journal_calls.specs.Moments.{BranchOf}
+use Rattle.call_laws.specs.Moments.{BranchOf}
 use Rattle.request_table.specs.Entries.{EachOf}
 use Rattle.request_table.specs.Stands.{Numbered}
 use Rattle.core_state.specs.declared.state.State.{State}

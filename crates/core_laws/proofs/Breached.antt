@@ -38,7 +38,7 @@ use Rattle.core_state.specs.Noted.{noted_after}
 use Rattle.core_laws.specs.Stands.{Stands}
 use Rattle.core_laws.proofs.Own.{lanes_kept, last_kept, matches_kept, IsQuiet, SpendsNone, ready_kept, race_kept, attempts_kept}
 use Rattle.core_state.specs.Reports.{breached}
-use Rattle.journal_calls.specs.Matches.{is_faulty}
+use Rattle.call_laws.specs.Matches.{is_faulty}
 use Rattle.core_laws.proofs.Greeted.{quiet_greetings, answer_greetings}
 
 module _ (p : Plan) (s : State) (j : List Entry) (lane l : ℕ) (st : Stands p s j) where

@@ -54,13 +54,13 @@ use Rattle.core_state.specs.declared.choice.Choice.TheVariants as choice
 use Rattle.core_tables.specs.declared.seat.Seat.{Seat}
 use Rattle.core_state.specs.declared.state.State.{State}
 use Rattle.core_state.specs.Choices.{chosen, row_at, attempt_on}
-use Rattle.journal_calls.specs.Moments.{BranchOf}
+use Rattle.call_laws.specs.Moments.{BranchOf}
 use Rattle.core_tables.specs.Lanes.{lane_in, state_by}
 use Rattle.core_tables.specs.Last.{fed_of, last_in, row_of}
 use Rattle.core_state.specs.Machine.{CanEnd, CanEndOf, EndFits, CanCarry, CanCancel, CanSend, CanLaunch, CanClaim, carried_reply, launch_by, number_of, order_at, end_of_some, counts_after, states_after, states_ended, ends_yet, uses_branch, other_branch}
 use Rattle.core_tables.specs.declared.matches.Match.{Match}
 use Rattle.core_tables.specs.Matches.{matches_of, matches_on, matches_in, match_in}
-use Rattle.journal_calls.specs.Matches.{recent}
+use Rattle.call_laws.specs.Matches.{recent}
 use Rattle.lawful_facts.specs.Moments.{LawfulMore}
 use Rattle.core_state.specs.Reports.{CanEndSome, CanWrite, CanHear, CanHearBy, CanAnswer, CanEndPlaces, CanEndAll, attempt_in, is_pending_at, sent_in, end_all, fed_on, bound_on, places_counts, places_states, place_counts, place_states}
 use Rattle.core_laws.specs.Stands.{Stands}

@@ -44,13 +44,13 @@ use Rattle.core_tables.specs.declared.seat.Seat.{Seat}
 use Rattle.core_state.specs.declared.state.State.{State}
 use Rattle.core_state.specs.Choices as c
 use Rattle.lawful_facts.specs.Moments.{JournalFacts}
-use Rattle.journal_calls.specs.Matches.{waits_yet}
-use Rattle.journal_calls.specs.Moments.{BranchOf}
+use Rattle.call_laws.specs.Matches.{waits_yet}
+use Rattle.call_laws.specs.Moments.{BranchOf}
 use Rattle.core_tables.specs.Greetings.{greeting_in, greeting_of}
 use Rattle.core_tables.specs.Last.{last_in, row_of}
 use Rattle.core_state.specs.Machine.{carried_reply, sent_reply}
 use Rattle.core_tables.specs.Matches.{matches_of, matches_on, matches_in, match_in, is_waiting}
-use Rattle.journal_calls.specs.Matches.{recent}
+use Rattle.call_laws.specs.Matches.{recent}
 use Rattle.core_tables.specs.Seats.{seat_at}
 use Rattle.core_laws.specs.Stands.{Stands}
 use Rattle.core_laws.proofs.Earliest.{earliest_of_is}

@@ -47,7 +47,7 @@ use Rattle.core_state.specs.Choices.{row_at}
 use Rattle.lawful_facts.specs.Moments.{JournalFacts, AreUsed}
 use Rattle.core_tables.specs.Last.{last_in, row_of, row_by, fed_of, set_cause, set_fed}
 use Rattle.core_state.specs.Machine.{states_after}
-use Rattle.journal_calls.specs.Matches.{is_faulty}
+use Rattle.call_laws.specs.Matches.{is_faulty}
 use Rattle.core_state.specs.Noted.{noted_after}
 use Rattle.core_laws.specs.Premises.{EndsTogether}
 use Rattle.core_state.specs.Reports.{broken_by_feed, fed_attempt, fed_by, ended_if, wrote_with}

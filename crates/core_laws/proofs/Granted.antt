@@ -44,7 +44,7 @@ use Rattle.core_state.specs.declared.state.State.{State}
 use Rattle.core_tables.specs.Last.{last_in, row_of}
 use Rattle.core_state.specs.Machine.{unbound_line, unbound_for, is_of_action, row_or_none, granted_with}
 use Rattle.core_tables.specs.Matches.{match_in, matches_in, spend_won, won_row, with_won}
-use Rattle.journal_calls.specs.Matches.{Matched, recent, is_spent, is_faulty}
+use Rattle.call_laws.specs.Matches.{Matched, recent, is_spent, is_faulty}
 use Rattle.core_state.specs.Noted.{noted_after}
 use Rattle.core_laws.specs.Stands.{Stands}
 use Rattle.core_tables.proofs.Lengths.{length_is}

@@ -25,7 +25,7 @@ use Rattle.cancel_rules.proofs.Followed as marks
 use Rattle.core_tables.specs.declared.matches.Match.{Match}
 use Rattle.core_state.specs.declared.state.State.{State}
 use Rattle.core_tables.specs.Matches.{match_in, matches_in, with_match, on_row}
-use Rattle.journal_calls.specs.Matches.{Matched, recent, is_spent}
+use Rattle.call_laws.specs.Matches.{Matched, recent, is_spent}
 use Rattle.core_state.specs.Noted.{noted_after}
 use Rattle.core_state.specs.Reports.{new_match, heard_late, heard_match}
 use Rattle.core_laws.specs.Stands.{Stands}

@@ -49,7 +49,7 @@ use Rattle.lawful_facts.specs.Moments.{JournalFacts}
 use Rattle.core_tables.specs.Last.{last_in, row_of, row_by, fed_of, set_launched}
 use Rattle.core_state.specs.Machine.{carried, launched_for}
 use Rattle.core_tables.specs.Matches.{match_in, matches_in, spend_if, spent_row, with_spent}
-use Rattle.journal_calls.specs.Matches.{Matched, recent, is_faulty}
+use Rattle.call_laws.specs.Matches.{Matched, recent, is_faulty}
 use Rattle.core_tables.specs.Greetings.{greeting_in, with_said}
 use Rattle.core_state.specs.Noted.{noted_after}
 use Rattle.core_laws.specs.Stands.{Stands}

@@ -32,7 +32,7 @@ use Rattle.core_tables.specs.declared.last.LastLine.{LastLine}
 use Rattle.core_tables.specs.Lanes.{worked, noted, state_by, lane_in, is_work, order_after, said_after, order_of_work, said_of_work}
 use Rattle.core_tables.specs.Last.{fed_of, row_of, row_by, last_in}
 use Rattle.core_tables.specs.Matches.{match_in, matches_in}
-use Rattle.journal_calls.specs.Matches.{Matched, recent, is_spent, matched_by}
+use Rattle.call_laws.specs.Matches.{Matched, recent, is_spent, matched_by}
 
 -- ---- lanes, after any entry
 

@@ -30,7 +30,7 @@ use Rattle.lawful_facts.specs.Moments.{JournalFacts}
 use Rattle.core_tables.specs.Greetings.{greeting_in, greeting_of}
 use Rattle.core_tables.specs.Last.{last_in, row_of}
 use Rattle.core_tables.specs.Matches.{matches_in, match_in}
-use Rattle.journal_calls.specs.Matches.{recent}
+use Rattle.call_laws.specs.Matches.{recent}
 use Rattle.core_laws.specs.Stands.{Stands}
 use Rattle.retry_rules.proofs.Told.{ended_at}
 use Rattle.core_tables.proofs.Lengths.{length_is, length_as}

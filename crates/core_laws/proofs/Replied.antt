@@ -44,7 +44,7 @@ use Rattle.core_tables.specs.declared.seat.Seat.{Seat}
 use Rattle.core_state.specs.declared.state.State.{State}
 use Rattle.core_state.specs.Choices.{row_at, is_over}
 use Rattle.lawful_facts.specs.Moments.{JournalFacts, ConsumesOne}
-use Rattle.journal_calls.specs.Moments.{BranchOf}
+use Rattle.call_laws.specs.Moments.{BranchOf}
 use Rattle.core_tables.specs.Greetings.{greeting_in, greeting_of}
 use Rattle.core_tables.specs.Last.{last_in, row_of}
 use Rattle.core_state.specs.Machine.{takeable, takes_line, take_reply, taken_on}

@@ -42,11 +42,11 @@ use Rattle.retry_rules.proofs.Counted as tallies
 use Rattle.core_tables.specs.declared.matches.Match.{Match}
 use Rattle.core_state.specs.declared.state.State.{State}
 use Rattle.lawful_facts.specs.Moments.{JournalFacts}
-use Rattle.journal_calls.specs.Moments.{BranchOf}
+use Rattle.call_laws.specs.Moments.{BranchOf}
 use Rattle.core_tables.specs.Last.{last_in, row_of, row_by, fed_of}
 use Rattle.core_state.specs.Machine.{sent}
 use Rattle.core_tables.specs.Matches.{match_in, matches_in, with_clear, on_row}
-use Rattle.journal_calls.specs.Matches.{Matched, recent}
+use Rattle.call_laws.specs.Matches.{Matched, recent}
 use Rattle.core_state.specs.Noted.{noted_after}
 use Rattle.core_laws.specs.Stands.{Stands}
 use Rattle.core_laws.proofs.Own.{lanes_kept, map_matches}

@@ -49,11 +49,11 @@ use Rattle.ready_order.specs.Stands as queue-stands
 use Rattle.core_tables.specs.declared.matches.Match.{Match}
 use Rattle.core_state.specs.declared.state.State.{State}
 use Rattle.lawful_facts.specs.Moments.{JournalFacts, AreUsed}
-use Rattle.journal_calls.specs.Moments.{BranchOf}
+use Rattle.call_laws.specs.Moments.{BranchOf}
 use Rattle.core_tables.specs.Last.{row_of, row_by, fed_of, set_cause}
 use Rattle.core_state.specs.Machine.{with_end, states_after, order_at}
 use Rattle.core_tables.specs.Matches.{match_in, matches_in, spend_if, spent_row, with_spent}
-use Rattle.journal_calls.specs.Matches.{Matched, recent, is_faulty}
+use Rattle.call_laws.specs.Matches.{Matched, recent, is_faulty}
 use Rattle.core_state.specs.Noted.{noted_after}
 use Rattle.core_laws.specs.Premises.{EndsTogether}
 use Rattle.core_laws.proofs.AtBerths.{SentAtBerth}

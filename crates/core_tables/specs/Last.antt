@@ -7,7 +7,7 @@ use Rattle.exec_journal.specs.Entry.{Entry}
 use Rattle.list_lemmas.specs.Options.{or_else}
 use Rattle.exec_journal.specs.Words.{last_line, launch_of, was_taken, line_cause}
 use Rattle.run_plan.specs.Groups.{berths}
-use Rattle.journal_calls.specs.Moments.{fed_on}
+use Rattle.call_laws.specs.Moments.{fed_on}
 use Rattle.core_tables.specs.declared.last.LastLine.{LastLine}
 
 abbrev pub no_line : LastLine

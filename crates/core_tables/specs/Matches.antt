@@ -6,7 +6,7 @@ use Rattle.run_plan.specs.declared.plan.Branch.TheVariants.{Local}
 use Rattle.exec_journal.specs.declared.attempt.Attempt.{Attempt}
 use Rattle.exec_journal.specs.Entry.{Entry}
 use Rattle.exec_journal.specs.Entries.{attempt_of, same_attempt}
-use Rattle.journal_calls.specs.Matches.{Matched, recent, is_spent}
+use Rattle.call_laws.specs.Matches.{Matched, recent, is_spent}
 use Rattle.run_plan.specs.Groups.{berths}
 use Rattle.list_lemmas.specs.Places.{update}
 use Rattle.core_tables.specs.declared.matches.Match.{Match}

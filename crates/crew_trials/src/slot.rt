@@ -1,6 +1,6 @@
 //! A machine with one slot, which is filled and emptied in turn.
 ghost use Rattle.std.specs.Prelude.{◌≡◌, ◌+◌, ℕ, List, true, false, if◌then◌else◌};
-ghost use Rattle.std.proofs.Common.{rules};
+ghost use Rattle.std.proofs.Common.{basis};
 ghost use Rattle.crew_trials.specs.Slots.{full_after, answer_to, is_done, fills};
 
 use seat_desk::Machine;
@@ -49,9 +49,9 @@ impl Machine for Slot {
 
     type Good = Nothing;
 
-    type Rules = Nothing;
+    type Basis = Nothing;
 
-    ghost rules = { λ m. record {} };
+    ghost basis = { λ m. record {} };
 
     ghost blank = { record {} };
 

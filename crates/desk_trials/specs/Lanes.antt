@@ -5,7 +5,7 @@ use Rattle.seat_desk.specs.declared.machine.Machine.{Ghosts}
 use Rattle.seat_desk.specs.declared.desk.Pass.{Pass}
 use Rattle.seat_desk.specs.declared.desk.Desk.{Desk}
 use Rattle.seat_desk.specs.History.{entry, calls_by, StartsWith}
-use Rattle.seat_desk.specs.Passes.{IsPassOf, mine, rules, seen}
+use Rattle.seat_desk.specs.Passes.{IsPassOf, mine, basis, seen}
 use Rattle.desk_trials.specs.declared.counter.Ask.{Ask}
 use Rattle.desk_trials.specs.declared.counter.Ask.TheVariants.{Add}
 use Rattle.desk_trials.specs.declared.counter.Answer.{Answer}
@@ -30,5 +30,5 @@ module _ {M G : Type 0} {g : Ghosts M Ask Answer G ℕ} where
   -- newest
   abbrev pub HasAdded : ℕ → Pass M Ask Answer G ℕ g → Pass M Ask Answer G ℕ g → ℕ → Type 0
   HasAdded n before after sum = ((h : List (Entry Ask Answer)) × StartsWith h (seen before)
-      × (sum ≡ (added h + n) % rules before))
+      × (sum ≡ (added h + n) % basis before))
       × (mine after ≡ mine before ++ entry before.lane (Add n) (Sum sum) ∷ [])

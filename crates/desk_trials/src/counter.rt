@@ -1,7 +1,7 @@
 //! A machine that adds modulo a number that is known at run time alone.
 ghost use Rattle.std.specs.Prelude.{◌≡◌, ◌+◌, ◌%◌, ◌<◌, true, false, List, [], ℕ};
 ghost use Rattle.plain_values.specs.declared.entry.Entry.{Entry};
-ghost use Rattle.std.proofs.Common.{rules};
+ghost use Rattle.std.proofs.Common.{basis};
 ghost use Rattle.desk_trials.specs.CounterSums.{sum_so_far, stays, is_short, MayBeShort, IsSum, IsTurn};
 ghost use Rattle.desk_trials.specs.CounterLaws.{short_goes};
 
@@ -43,9 +43,9 @@ impl Machine for Counter {
 
     type Good = Nothing;
 
-    type Rules = u64;
+    type Basis = u64;
 
-    ghost rules = { λ m. m.modulus };
+    ghost basis = { λ m. m.modulus };
 
     ghost blank = { 0 };
 
@@ -95,7 +95,7 @@ impl Machine for Counter {
 
     fn turn(&mut self, _lane: u32, call: &Ask, put: Option<Nothing>) -> (Answer, Option<Nothing>)
         requires { 0 < self.old.modulus }
-        ensures rules { self.new.modulus ≡ self.old.modulus }
+        ensures basis { self.new.modulus ≡ self.old.modulus }
         ensures turn { IsTurn self.old.modulus self.old.sum call.now result.0 self.new.sum }
     {
         match *call {

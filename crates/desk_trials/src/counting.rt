@@ -1,6 +1,6 @@
 //! Lanes that add modulo a number, on two threads.
 ghost use Rattle.std.specs.Prelude.{◌≡◌, ◌+◌, ◌<◌, ◌%◌, [], ◌∷◌, ◌++◌, IfOk, IfSome};
-ghost use Rattle.seat_desk.specs.Passes.{IsPassOf, IsSamePass, rules, seen};
+ghost use Rattle.seat_desk.specs.Passes.{IsPassOf, IsSamePass, basis, seen};
 ghost use Rattle.seat_desk.specs.History.{entry, calls_by, StartsWith};
 ghost use Rattle.desk_trials.specs.CounterSums.{added, CountsFrom};
 ghost use Rattle.desk_trials.specs.Lanes.{HasAdded};
@@ -22,7 +22,7 @@ pub fn add<R: Wait>(
 ) -> (Pass<Counter>, Option<u64>)
     requires { IsPassOf desk.now pass }
     ensures same { IsPassOf desk.now result.0 × (result.0.lane ≡ pass.lane)
-        × (rules result.0 ≡ rules pass) }
+        × (basis result.0 ≡ basis pass) }
     ensures added { IfSome result.1 (HasAdded n pass result.0) }
 {
     match desk.call(rt, &mut pass, Ask::Add(n), None) {
@@ -37,7 +37,7 @@ pub fn look<R: Wait>(rt: &R, desk: &Desk<Counter>, pass: &mut Pass<Counter>) -> 
     requires { IsPassOf desk.now pass.old }
     ensures same { IsPassOf desk.now pass.new × IsSamePass pass.old pass.new }
     ensures sum { IfSome result (λ r. (h : _) × StartsWith h (seen pass.old)
-        × (r ≡ added h % rules pass.old)) }
+        × (r ≡ added h % basis pass.old)) }
 {
     match desk.call(rt, pass, Ask::Look, None) {
         Ok((Answer::Sum(sum), _)) => Some(sum),

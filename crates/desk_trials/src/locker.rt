@@ -72,9 +72,9 @@ impl Machine for Locker {
 
     type Good = Token;
 
-    type Rules = Nothing;
+    type Basis = Nothing;
 
-    ghost rules = { λ m. record {} };
+    ghost basis = { λ m. record {} };
 
     ghost blank = { record {} };
 

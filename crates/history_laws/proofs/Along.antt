@@ -4,7 +4,7 @@ use Rattle.std.proofs.Common.{◌≡◌, ℕ, ◌==◌, Bool, true, false, cond,
 use Rattle.std.specs.List.{fold}
 use Rattle.std.proofs.lemmas.Grind.{fold-append}
 use Rattle.exec_journal.specs.Entry.{Entry}
-use Rattle.run_rules.specs.Moves.{Past, History}
+use Rattle.core_contract.specs.Moves.{Past, History}
 use Rattle.seat_desk.specs.History.{calls_by}
 use Rattle.history_laws.specs.Owed.{journal_of}
 

@@ -7,9 +7,9 @@ use Rattle.exec_journal.specs.Entries.{launch_in, takes}
 use Rattle.exec_journal.specs.History.{each, ever}
 use Rattle.exec_journal.specs.Words.{line_count, was_taken}
 use Rattle.list_lemmas.specs.Options.{and_more}
-use Rattle.run_rules.specs.Laws.{lines_in, is_taken}
-use Rattle.run_rules.specs.Moves.{History}
-use Rattle.run_rules.specs.Shelf.{child_at, child_then, tap_at, tap_then}
+use Rattle.core_contract.specs.Laws.{lines_in, is_taken}
+use Rattle.core_contract.specs.Moves.{History}
+use Rattle.core_contract.specs.Shelf.{child_at, child_then, tap_at, tap_then}
 use Rattle.history_laws.specs.Owed.{journal_of}
 use Rattle.history_laws.proofs.Along.{along}
 use Rattle.history_laws.proofs.Lying.{child_entry, tap_entry, child_in, tap_in}

@@ -19,8 +19,8 @@ use Rattle.exec_journal.specs.Entry.{Entry}
 use Rattle.exec_journal.specs.Entries.{attempt_of, same_attempt}
 use Rattle.exec_journal.specs.Words.{last_work, stopped, has_halted}
 use Rattle.exec_journal.specs.Scripts.{is_made, is_owed_commit, may_find, allowed, seat_script}
-use Rattle.run_rules.specs.Moves.{History}
-use Rattle.run_rules.specs.Duties.{Duty, Asks, Launches, Sends, Cancels, Gathers, Commits, Kills, Left, ordered, duty_of_claim, duty_of, proxy_lane, may_do}
+use Rattle.core_contract.specs.Moves.{History}
+use Rattle.core_contract.specs.Duties.{Duty, Asks, Launches, Sends, Cancels, Gathers, Commits, Kills, Left, ordered, duty_of_claim, duty_of, proxy_lane, may_do}
 use Rattle.seat_desk.specs.History.{calls_by}
 use Rattle.history_laws.specs.Owed.{journal_of, has_left, duty_of_work, owed_by, outputs_in, makers_in}
 use Rattle.history_laws.proofs.Going.{duty_is}

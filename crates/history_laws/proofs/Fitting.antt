@@ -14,8 +14,8 @@ use Rattle.exec_journal.specs.Words.{stopped, has_halted, last_work}
 use Rattle.exec_journal.specs.Lawful.{Lawful}
 use Rattle.exec_journal.proofs.Reasons as u
 use Rattle.exec_journal.proofs.Ruled.{by_bool}
-use Rattle.run_rules.specs.Laws.{fits, Fits, InScript}
-use Rattle.run_rules.specs.Moves.{History}
+use Rattle.core_contract.specs.Laws.{fits, Fits, InScript}
+use Rattle.core_contract.specs.Moves.{History}
 use Rattle.history_laws.specs.Owed.{journal_of}
 use Rattle.std.proofs.lemmas.Bool.{and_parts, and_from, or_cases, or_left, or_right}
 use Rattle.journal_laws.proofs.Ours as ours

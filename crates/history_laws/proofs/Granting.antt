@@ -26,10 +26,10 @@ use Rattle.journal_laws.proofs.Granted as granted
 use Rattle.journal_laws.proofs.Offered as offered
 use Rattle.journal_laws.proofs.Owed as owed
 use Rattle.journal_laws.proofs.Owed.{is_work}
-use Rattle.journal_calls.proofs.Calls as calls
-use Rattle.run_rules.specs.Laws.{InScript, claimed_by, claimed}
-use Rattle.run_rules.specs.Moves.{History, Nothing, move_of, move_in, proxy_move, tap_move}
-use Rattle.run_rules.specs.Shelf.{Fresh, Away, place_at, place_then}
+use Rattle.call_laws.proofs.Calls as calls
+use Rattle.core_contract.specs.Laws.{InScript, claimed_by, claimed}
+use Rattle.core_contract.specs.Moves.{History, Nothing, move_of, move_in, proxy_move, tap_move}
+use Rattle.core_contract.specs.Shelf.{Fresh, Away, place_at, place_then}
 use Rattle.seat_desk.specs.History.{calls_by}
 use Rattle.history_laws.specs.Owed.{journal_of}
 use Rattle.history_laws.proofs.Going.{flip}

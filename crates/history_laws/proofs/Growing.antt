@@ -6,7 +6,7 @@ use Rattle.exec_journal.specs.declared.call.Call.{Call}
 use Rattle.exec_journal.specs.declared.reply.Reply.{Reply}
 use Rattle.exec_journal.specs.Entries.{is_kept}
 use Rattle.exec_journal.specs.Legal as legal
-use Rattle.run_rules.specs.Moves.{Past, History}
+use Rattle.core_contract.specs.Moves.{Past, History}
 use Rattle.seat_desk.specs.History as history
 use Rattle.seat_desk.specs.History.{entry}
 use Rattle.history_laws.specs.Owed.{journal_of}

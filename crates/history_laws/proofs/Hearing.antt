@@ -17,8 +17,8 @@ use Rattle.exec_journal.specs.Words.{last_work, stopped, has_halted}
 use Rattle.exec_journal.specs.Scripts.{seat_script, allowed, hears, hears_after, may_take, is_owed_commit, is_commit_of}
 use Rattle.exec_journal.proofs.Ruled.{by_bool, not_true}
 use Rattle.journal_laws.specs.Paid.{seat_paid}
-use Rattle.run_rules.specs.Laws.{Hearing, Free, Hears, Over, leads_by_call, leads_by_line, hearing_from, hearing_by, hearing_then, hearing_of, may_hear, tells_of, tap_lane}
-use Rattle.run_rules.specs.Moves.{History}
+use Rattle.core_contract.specs.Laws.{Hearing, Free, Hears, Over, leads_by_call, leads_by_line, hearing_from, hearing_by, hearing_then, hearing_of, may_hear, tells_of, tap_lane}
+use Rattle.core_contract.specs.Moves.{History}
 use Rattle.seat_desk.specs.History.{calls_by}
 use Rattle.history_laws.specs.Owed.{journal_of}
 use Rattle.history_laws.proofs.Going.{then, flip}

@@ -40,9 +40,9 @@ use Rattle.journal_laws.proofs.Firm as firm
 use Rattle.journal_laws.proofs.Granted as granted
 use Rattle.journal_laws.proofs.Owed as owed
 use Rattle.journal_laws.proofs.Owed.{is_work}
-use Rattle.run_rules.specs.Duties.{Duty, Sends, duty_of, duty_of_claim, is_maker, may_do, ordered, proxy_lane}
-use Rattle.run_rules.specs.Laws.{says_file}
-use Rattle.run_rules.specs.Moves.{History}
+use Rattle.core_contract.specs.Duties.{Duty, Sends, duty_of, duty_of_claim, is_maker, may_do, ordered, proxy_lane}
+use Rattle.core_contract.specs.Laws.{says_file}
+use Rattle.core_contract.specs.Moves.{History}
 use Rattle.seat_desk.specs.History.{calls_by}
 use Rattle.history_laws.specs.Owed.{journal_of, has_left, duty_of_work, owed_by, outputs_in, makers_in}
 use Rattle.history_laws.proofs.Doing.{duty_is_scripted}

@@ -31,10 +31,10 @@ use Rattle.journal_laws.proofs.Lanes as lanes
 use Rattle.journal_laws.proofs.Owed as owed
 use Rattle.journal_laws.proofs.Taps as taps
 use Rattle.journal_laws.proofs.Vacant as vacant
-use Rattle.journal_calls.proofs.LastLines as last
-use Rattle.run_rules.specs.Duties.{proxy_lane}
-use Rattle.run_rules.specs.Moves.{Move, move_in, PutLine, TakeTap, TakeChild, Nothing, proxy_move, tap_move}
-use Rattle.run_rules.specs.Shelf.{child_by, tap_by}
+use Rattle.call_laws.proofs.LastLines as last
+use Rattle.core_contract.specs.Duties.{proxy_lane}
+use Rattle.core_contract.specs.Moves.{Move, move_in, PutLine, TakeTap, TakeChild, Nothing, proxy_move, tap_move}
+use Rattle.core_contract.specs.Shelf.{child_by, tap_by}
 use Rattle.history_laws.proofs.Along.{after_all}
 use Rattle.history_laws.proofs.Steps.{StepOf, Launches, Starts, Kills, Takes, Halts, Quiet, step, ask_even, launched_even, take_odd}
 

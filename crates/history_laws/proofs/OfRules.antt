@@ -11,12 +11,12 @@ use Rattle.exec_journal.specs.declared.call.Wanted.TheVariants as wanted
 use Rattle.exec_journal.specs.declared.reply.Reply.TheVariants as reply
 use Rattle.exec_journal.specs.Entries.{is_kept}
 use Rattle.seat_desk.specs.History.{entry, calls_by}
-use Rattle.run_rules.specs.Duties.{Sends, Commits, Left, proxy_lane, duty_of, is_maker, may_do, may_make}
-use Rattle.run_rules.specs.Laws.{InScript, Fits, tap_lane, hearing_of, may_hear, Hears, Over, tells_of, claimed, says_file, lines_in, is_taken, OrderHolds}
-use Rattle.run_rules.specs.Moves.{Past, History}
-use Rattle.run_rules.specs.Shelf.{child_at, tap_at, place_at, Fresh, Away}
+use Rattle.core_contract.specs.Duties.{Sends, Commits, Left, proxy_lane, duty_of, is_maker, may_do, may_make}
+use Rattle.core_contract.specs.Laws.{InScript, Fits, tap_lane, hearing_of, may_hear, Hears, Over, tells_of, claimed, says_file, lines_in, is_taken, OrderHolds}
+use Rattle.core_contract.specs.Moves.{Past, History}
+use Rattle.core_contract.specs.Shelf.{child_at, tap_at, place_at, Fresh, Away}
 use Rattle.history_laws.specs.Owed.{journal_of, outputs_in, makers_in}
-use Rattle.journal_calls.proofs.Reports.{few_lines}
+use Rattle.call_laws.proofs.Reports.{few_lines}
 use Rattle.history_laws.proofs.Doing.{duty_is_scripted}
 use Rattle.history_laws.proofs.Dues as paying
 use Rattle.history_laws.specs.Ruled.{answer_after, IsPaidAfter, owes_after, CameAbout}

@@ -21,8 +21,8 @@ use Rattle.exec_journal.specs.Entry.{Entry}
 use Rattle.exec_journal.specs.Entries.{is_stop, attempt_of, same_attempt, same_branch}
 use Rattle.exec_journal.specs.Words.{last_work, stopped, has_halted}
 use Rattle.exec_journal.specs.Scripts.{is_made, may_find, is_commit_of, is_owed, is_owed_commit, may_look, allowed, seat_script}
-use Rattle.run_rules.specs.Moves.{History}
-use Rattle.run_rules.specs.Duties.{Duty, Asks, Launches, Sends, Cancels, Gathers, Commits, Kills, ordered, duty_of, proxy_lane, may_make}
+use Rattle.core_contract.specs.Moves.{History}
+use Rattle.core_contract.specs.Duties.{Duty, Asks, Launches, Sends, Cancels, Gathers, Commits, Kills, ordered, duty_of, proxy_lane, may_make}
 use Rattle.seat_desk.specs.History.{calls_by}
 use Rattle.history_laws.specs.Owed.{journal_of, has_left, duty_of_work, owed_by, outputs_in, makers_in}
 use Rattle.history_laws.proofs.Going.{duty_is, left_is, by_bool}

@@ -25,11 +25,11 @@ use Rattle.exec_journal.proofs.Ruled.{by_bool, not_true}
 use Rattle.journal_laws.proofs.Claims.{clash, false_by}
 use Rattle.journal_laws.proofs.Given as given
 use Rattle.journal_laws.proofs.Lanes as lanes
-use Rattle.journal_calls.proofs.Calls as calls
-use Rattle.journal_calls.proofs.LastLines as last
-use Rattle.run_rules.specs.Laws.{OrderHolds, InScript, lines_in, is_taken}
-use Rattle.run_rules.specs.Moves.{History}
-use Rattle.run_rules.specs.Shelf.{child_at, tap_at}
+use Rattle.call_laws.proofs.Calls as calls
+use Rattle.call_laws.proofs.LastLines as last
+use Rattle.core_contract.specs.Laws.{OrderHolds, InScript, lines_in, is_taken}
+use Rattle.core_contract.specs.Moves.{History}
+use Rattle.core_contract.specs.Shelf.{child_at, tap_at}
 use Rattle.history_laws.specs.Owed.{journal_of}
 use Rattle.history_laws.specs.Ruled.{answer_after, CameAbout}
 use Rattle.history_laws.proofs.Bridging.{child_is, tap_is, lines_are, taken_is}

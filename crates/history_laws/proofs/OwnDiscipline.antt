@@ -12,7 +12,7 @@ use Rattle.exec_journal.specs.Lawful.{Told, plain_reply}
 use Rattle.exec_journal.specs.Rules.{rule}
 use Rattle.exec_journal.proofs.Ruled as ru
 use Rattle.journal_laws.proofs.Ours as ours
-use Rattle.run_rules.specs.Laws.{fits}
+use Rattle.core_contract.specs.Laws.{fits}
 use Rattle.history_laws.specs.Disciplines.{Discipline, IsDiscipline, LegalBy, LegalEntryBy, script_of, is_plain, own_discipline}
 
 pub own_legal : (p : Plan) (j : List Entry) → LegalBy (own_discipline p) j → Legal p j

@@ -15,7 +15,7 @@ use Rattle.exec_journal.proofs.Ruled.{by_bool}
 use Rattle.journal_laws.specs.Paid.{seat_paid, seats_owe}
 use Rattle.journal_laws.proofs.Debts as debts
 use Rattle.journal_laws.proofs.Allowed.{paid_allowed}
-use Rattle.run_rules.specs.Moves.{History}
+use Rattle.core_contract.specs.Moves.{History}
 use Rattle.seat_desk.specs.History.{entry, calls_by}
 use Rattle.history_laws.specs.Owed.{journal_of}
 use Rattle.history_laws.proofs.Going.{flip}

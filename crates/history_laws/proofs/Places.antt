@@ -28,8 +28,8 @@ use Rattle.journal_laws.proofs.Granted as granted
 use Rattle.journal_laws.proofs.Offered as offered
 use Rattle.journal_laws.proofs.Over.{entry_ruled}
 use Rattle.journal_laws.proofs.Owed as owed
-use Rattle.run_rules.specs.Moves.{Move, move_in, proxy_move, tap_move, claim_moves, PutPlace}
-use Rattle.run_rules.specs.Shelf.{Spot, Fresh, Away, Back, files_of_spot, place_by}
+use Rattle.core_contract.specs.Moves.{Move, move_in, proxy_move, tap_move, claim_moves, PutPlace}
+use Rattle.core_contract.specs.Shelf.{Spot, Fresh, Away, Back, files_of_spot, place_by}
 use Rattle.history_laws.proofs.Along.{after_all}
 use Rattle.history_laws.proofs.Steps.{claim_even}
 

@@ -11,7 +11,7 @@ use Rattle.exec_journal.specs.Entry.{Entry}
 use Rattle.exec_journal.specs.Entries.{is_stop, is_halt, is_look}
 use Rattle.exec_journal.specs.Words.{last_work, stopped, has_halted}
 use Rattle.exec_journal.specs.Scripts.{is_owed_commit, allowed, seat_script}
-use Rattle.run_rules.specs.Moves.{Past, History}
+use Rattle.core_contract.specs.Moves.{Past, History}
 use Rattle.history_laws.specs.Owed.{journal_of}
 use Rattle.history_laws.proofs.Going.{then, flip}
 

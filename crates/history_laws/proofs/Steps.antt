@@ -24,8 +24,8 @@ use Rattle.exec_journal.proofs.Reasons as u
 use Rattle.exec_journal.proofs.Ruled.{by_bool, not_true}
 use Rattle.journal_laws.proofs.Over.{entry_ruled}
 use Rattle.journal_laws.proofs.Owed.{scripted}
-use Rattle.run_rules.specs.Moves.{Move, Nothing, claim_moves, proxy_move, tap_move, move_in}
-use Rattle.run_rules.specs.Shelf.{child_by, tap_by}
+use Rattle.core_contract.specs.Moves.{Move, Nothing, claim_moves, proxy_move, tap_move, move_in}
+use Rattle.core_contract.specs.Shelf.{child_by, tap_by}
 
 -- it leaves children and taps where they lie
 record IsStill (m : Move) : Type 0 where

@@ -6,9 +6,9 @@ use Rattle.history_laws.proofs.Hearing.{hearing_is_scripted, script_is_hearing, 
 use Rattle.history_laws.specs.Disciplines.{Discipline, script_of}
 use Rattle.run_plan.specs.Groups.{is_remote}
 use Rattle.run_plan.specs.declared.plan.Maker.{Maker}
-use Rattle.run_rules.specs.Duties.{Asks, Duty, duty_of, may_make, proxy_lane}
-use Rattle.run_rules.specs.Laws.{Free, Hearing, Hears, Over, hearing_of, may_hear, tap_lane, tells_of}
-use Rattle.run_rules.specs.Moves.{History}
+use Rattle.core_contract.specs.Duties.{Asks, Duty, duty_of, may_make, proxy_lane}
+use Rattle.core_contract.specs.Laws.{Free, Hearing, Hears, Over, hearing_of, may_hear, tap_lane, tells_of}
+use Rattle.core_contract.specs.Moves.{History}
 use Rattle.history_laws.proofs.Doing.{duty_is_scripted}
 use Rattle.history_laws.proofs.Only.{script_is_duty}
 use Rattle.history_laws.proofs.Dues.{commit_is_paid, halt_is_paid}

@@ -12,7 +12,7 @@ use Rattle.exec_journal.specs.Lawful.{Told, plain_reply, may_tick}
 use Rattle.exec_journal.specs.Rules.{rule}
 use Rattle.exec_journal.specs.Scripts.{seat_script}
 use Rattle.run_plan.specs.Groups.{berths, kind_of}
-use Rattle.run_rules.specs.Laws.{fits}
+use Rattle.core_contract.specs.Laws.{fits}
 
 -- its plan, its berths with the kind of each one's lines, the lanes that make Ticks, and its reply
 -- to each call in a script

@@ -7,8 +7,8 @@ use Rattle.exec_journal.specs.Entry.{Entry}
 use Rattle.exec_journal.specs.Words.{last_work, stopped, has_halted}
 use Rattle.run_plan.specs.declared.plan.Plan.{Plan}
 use Rattle.run_plan.specs.declared.plan.Maker.{Maker}
-use Rattle.run_rules.specs.Moves.{Past, History}
-use Rattle.run_rules.specs.Duties.{Duty, Asks, Launches, Sends, Cancels, Gathers, Commits, Kills, Left, ordered, duty_of_claim}
+use Rattle.core_contract.specs.Moves.{Past, History}
+use Rattle.core_contract.specs.Duties.{Duty, Asks, Launches, Sends, Cancels, Gathers, Commits, Kills, Left, ordered, duty_of_claim}
 
 -- the journal of a history, whose newest entry stands first
 abbrev pub journal_of : History → List Entry

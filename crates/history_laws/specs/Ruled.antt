@@ -6,7 +6,7 @@ use Rattle.exec_journal.specs.declared.reply.Reply.{Reply}
 use Rattle.exec_journal.specs.declared.reply.Reply.TheVariants as reply
 use Rattle.journal_laws.specs.Paid.{seat_paid, seats_owe}
 use Rattle.history_laws.specs.Disciplines.{Discipline, LegalBy, script_of}
-use Rattle.run_rules.specs.Moves.{History}
+use Rattle.core_contract.specs.Moves.{History}
 use Rattle.history_laws.specs.Owed.{journal_of}
 
 -- the reply to a call: outside its lane's script Astray, else the discipline's

@@ -5,7 +5,7 @@ use Rattle.plain_values.specs.declared.entry.Entry.{Entry}
 use Rattle.seat_desk.specs.declared.desk.Pass.{Pass}
 use Rattle.seat_desk.specs.History.{entry, calls_by, after, GoesOn, StandsUnder}
 use Rattle.seat_desk.specs.Desks.{Answers}
-use Rattle.seat_desk.specs.Passes.{IsSamePass, MakesCall, MakesNoCall, mine, rules, seen}
+use Rattle.seat_desk.specs.Passes.{IsSamePass, MakesCall, MakesNoCall, mine, basis, seen}
 
 module _ {C R : Type 0} where
   none_of_both : (b : Bool) (x : Entry C R) (xs ys : List (Entry C R)) → cond b (x ∷ xs) xs ≡ [] → (xs ≡ [] → ys ≡ []) → cond b (x ∷ ys) ys ≡ []
@@ -30,8 +30,8 @@ module _ {M C R G Q : Type 0} {g : Ghosts M C R G Q} where
 
   pub called_later : (p p' p2 : Pass M C R G Q g) (c : C) (r : R) (good : Option G) → NothingKept p p' → MakesCall p' c r good p2 → MakesCall p c r good p2
   called_later p p' p2 c r good k call =
-      let By : Q → ℕ → Type 0 = λ q n. Answers (StandsUnder g.rules g.stands q) (g.next q) g.short (g.may_be_short q) g.keeps (g.comes_out q) n p'.seat.me.0 c r good p2.seat.me.0 in
-      let at : By (rules p) p.lane = subst (λ (n : ℕ). By (rules p) n) k.0.1 (subst (λ (q : Q). By q p'.lane) k.0.2 call) in
+      let By : Q → ℕ → Type 0 = λ q n. Answers (StandsUnder g.basis g.stands q) (g.next q) g.short (g.may_be_short q) g.keeps (g.comes_out q) n p'.seat.me.0 c r good p2.seat.me.0 in
+      let at : By (basis p) p.lane = subst (λ (n : ℕ). By (basis p) n) k.0.1 (subst (λ (q : Q). By q p'.lane) k.0.2 call) in
       (at.0, goes_further p.lane (seen p) (seen p') at.0 k.1.0 at.1, at.2, (at.3.0, at.3.1 ∙ ap (λ (xs : List (Entry C R)). after g.keeps xs (entry p.lane c r)) k.1.1), at.4, at.5)
 
   same_later : (p p' p2 : Pass M C R G Q g) → IsSamePass p p' → IsSamePass p' p2 → IsSamePass p p2

@@ -7,7 +7,7 @@ use Rattle.seat_desk.specs.declared.desk.Desk.{Desk}
 use Rattle.seat_desk.specs.declared.desk.Root.{Root}
 use Rattle.seat_desk.specs.declared.view.Joined.{Joined}
 use Rattle.seat_desk.specs.History.{StartsWith, calls_by}
-use Rattle.seat_desk.specs.Passes.{IsPassOf, IsRootOf, IsSamePass, mine, rules, seen, root_rules, root_seen, joined}
+use Rattle.seat_desk.specs.Passes.{IsPassOf, IsRootOf, IsSamePass, mine, basis, seen, root_basis, root_seen, joined}
 use Rattle.lane_crew.specs.declared.job.Post.{Post}
 use Rattle.lane_crew.specs.declared.job.Post.TheVariants.{Ready, Ended}
 use Rattle.lane_crew.specs.declared.seat.Seated.{Seated}
@@ -33,7 +33,7 @@ module _ {M C R G Q : Type 0} {g : Ghosts M C R G Q} where
   -- the root is this desk's, by these rules; it has split so many passes, and joined none
   abbrev pub IsMustered : Q → ℕ → Desk M C R G Q → Root M C R G Q g → Type 0
   IsMustered q count desk r =
-      IsRootOf desk r × (r.made ≡ count) × (joined r ≡ []) × (root_rules r ≡ q)
+      IsRootOf desk r × (r.made ≡ count) × (joined r ≡ []) × (root_basis r ≡ q)
 
   module _ {L : Type 0} where
     -- the lane of the number k may run at any desk that has bells enough and whose machine has
@@ -41,7 +41,7 @@ module _ {M C R G Q : Type 0} {g : Ghosts M C R G Q} where
     abbrev pub MayRun : FactBefore L (Desk M C R G Q) (Pass M C R G Q g) → Q → ℕ → L → Type 0
     MayRun may_run q k lane =
         (desk : Desk M C R G Q) (bells : ℕ) (pass : Pass M C R G Q g) → IsPassOf desk pass
-        → IsFresh pass → pass.lane ≡ k → k < bells → rules pass ≡ q → may_run lane desk bells pass
+        → IsFresh pass → pass.lane ≡ k → k < bells → basis pass ≡ q → may_run lane desk bells pass
 
     -- so may these lanes, in order from the number k on
     abbrev pub MayRunInOrder : FactBefore L (Desk M C R G Q) (Pass M C R G Q g) → Q → ℕ → List L
@@ -57,7 +57,7 @@ module _ {M C R G Q : Type 0} {g : Ghosts M C R G Q} where
         → Post (Seated M L C R G Q g) (Risen M E C R G Q g) → Type 0
     IsSeatOf desk q k lane (Ready seat) =
         (seat.lane ≡ lane) × IsPassOf desk seat.pass × IsFresh seat.pass × (seat.pass.lane ≡ k)
-        × (rules seat.pass ≡ q)
+        × (basis seat.pass ≡ q)
     IsSeatOf desk q k lane (Ended risen) = ⊥
 
     -- the lanes are at these posts, in order from the number k on
@@ -112,7 +112,7 @@ module _ {M C R G Q : Type 0} {g : Ghosts M C R G Q} where
       pub after : Pass M C R G Q g
       pub fresh : IsFresh before
       pub number : before.lane ≡ k
-      pub by : rules before ≡ q
+      pub by : basis before ≡ q
       pub same : IsSamePass before after
       -- what its kind says of it
       pub ran : has_run lane before end after

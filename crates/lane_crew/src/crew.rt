@@ -2,7 +2,7 @@
 ghost use Rattle.std.specs.Prelude.{◌≡◌, ◌≤◌, [], length, All, IfOk, IfErr};
 ghost use Rattle.seat_desk.specs.History.{StandsUnder};
 ghost use Rattle.seat_desk.specs.Turns.{NoneFrom};
-ghost use Rattle.seat_desk.specs.Passes.{IsRootOf, joined, root_rules, root_seen};
+ghost use Rattle.seat_desk.specs.Passes.{IsRootOf, joined, root_basis, root_seen};
 ghost use Rattle.lane_crew.specs.Jobs.{HasRoomFor};
 ghost use Rattle.lane_crew.specs.Seats.{MayRunInOrder, KeepsPasses, IsNew, IsMustered, SeatedFrom, AreSeated, AreIdle, HasRisen, HandedOver, EachLane};
 
@@ -52,8 +52,8 @@ fn enlist<M: Machine, L: Drop, E: Drop, R>(
     requires new { IsNew root.old }
     requires few { length lanes.items ≤ 128 }
     requires room { HasRoomFor (length lanes.items) posts.old }
-    ensures root { IsMustered (root_rules root.old) (length lanes.items) desk.now root.new }
-    ensures posts { SeatedFrom desk.now (root_rules root.old) 0 lanes.items posts.new.items }
+    ensures root { IsMustered (root_basis root.old) (length lanes.items) desk.now root.new }
+    ensures posts { SeatedFrom desk.now (root_basis root.old) 0 lanes.items posts.new.items }
 {
     let mut rest = VecDeque::from_vec(lanes);
     while let Some(lane) = rest.pop_front() {
@@ -75,7 +75,7 @@ fn collect<M: Machine, L: Drop, E: Drop, R>(
     requires risen { All (HasRisen desk.now) posts.items }
     requires room { HasRoomFor (length posts.items) ends.old }
     ensures root { IsRootOf desk.now root.new × (root.new.made ≡ root.old.made)
-        × (root_rules root.new ≡ root_rules root.old) }
+        × (root_basis root.new ≡ root_basis root.old) }
     ensures handed { HandedOver (root_seen root.new) posts.items ends.new.items (joined root.new) }
 {
     let mut rest = VecDeque::from_vec(posts);
@@ -96,12 +96,12 @@ fn dismiss<M: Machine, L: Drop, E: Drop, R>(
 )
     requires desk { IsRootOf desk.now root.old }
     requires none { joined root.old ≡ [] }
-    requires seated { AreSeated desk.now (root_rules root.old) posts.items }
+    requires seated { AreSeated desk.now (root_basis root.old) posts.items }
     requires room { HasRoomFor (length posts.items) lanes.old }
     ensures root { IsRootOf desk.now root.new × (root.new.made ≡ root.old.made)
-        × (root_rules root.new ≡ root_rules root.old) }
+        × (root_basis root.new ≡ root_basis root.old) }
     ensures idle { AreIdle 0 (length posts.items) (joined root.new) }
-    ensures lanes { SeatedFrom desk.now (root_rules root.old) 0 lanes.new.items posts.items }
+    ensures lanes { SeatedFrom desk.now (root_basis root.old) 0 lanes.new.items posts.items }
 {
     let mut rest = VecDeque::from_vec(posts);
     while let Some(post) = rest.pop_front() {
@@ -164,15 +164,15 @@ where
     L::End: Send,
     requires machine { M.stands machine [] }
     requires few { length lanes.items ≤ 128 }
-    requires may_run { MayRunInOrder L.may_run (M.rules machine) 0 lanes.items }
+    requires may_run { MayRunInOrder L.may_run (M.basis machine) 0 lanes.items }
     requires same { KeepsPasses L.has_run }
     ensures stands { IfOk result (λ c.
-        StandsUnder M.rules M.stands (M.rules machine) c.machine c.history.items) }
+        StandsUnder M.basis M.stands (M.basis machine) c.machine c.history.items) }
     ensures lanes { IfOk result (λ c.
-        EachLane L.has_run (M.rules machine) c.history.items 0 lanes.items c.ends.items) }
+        EachLane L.has_run (M.basis machine) c.history.items 0 lanes.items c.ends.items) }
     ensures others { IfOk result (λ c. NoneFrom (length lanes.items) c.history.items) }
     ensures back { IfErr result (λ u. (u.lanes.items ≡ lanes.items)
-        × StandsUnder M.rules M.stands (M.rules machine) u.machine []) }
+        × StandsUnder M.basis M.stands (M.basis machine) u.machine []) }
 {
     let Ok(room) = room_for(alloc, lanes.len()) else {
         return Err(Unstarted { machine, lanes });

@@ -10,7 +10,7 @@ use Rattle.exec_journal.specs.declared.call.Call.{Call}
 use Rattle.exec_journal.specs.declared.call.Call.TheVariants as call
 use Rattle.exec_journal.specs.declared.reply.Reply.TheVariants as reply
 use Rattle.exec_journal.specs.Entries.{is_halt}
-use Rattle.run_rules.specs.Moves.{Past, History}
+use Rattle.core_contract.specs.Moves.{Past, History}
 use Rattle.tap_lane.specs.Heard.{AreAnswers}
 use Rattle.tap_lane.specs.Lane.{Whole, Runs, LaneEnds}
 use Rattle.lane_laws.specs.Lanes.{WasStopped}

@@ -19,18 +19,18 @@ use Rattle.exec_journal.specs.declared.reply.Reply.{Reply}
 use Rattle.exec_journal.specs.declared.reply.Reply.TheVariants as reply
 use Rattle.exec_journal.specs.Entries.{is_kept, is_halt, is_look}
 use Rattle.remote_messages.specs.declared.work.WorkAction.{WorkAction}
-use Rattle.run_rules.specs.Moves.{Past, History}
-use Rattle.run_rules.specs.Laws.{Fits, InScript}
-use Rattle.run_rules.specs.Duties.{Duty, Asks, Commits, Left, ordered, duty_of_claim, duty_by_call, duty_from, duty_by, duty_then, duty_of}
+use Rattle.core_contract.specs.Moves.{Past, History}
+use Rattle.core_contract.specs.Laws.{Fits, InScript}
+use Rattle.core_contract.specs.Duties.{Duty, Asks, Commits, Left, ordered, duty_of_claim, duty_by_call, duty_from, duty_by, duty_then, duty_of}
 use Rattle.tap_lane.specs.declared.ends.Want.{Want}
 use Rattle.tap_lane.specs.declared.ends.Want.TheVariants as want
 use Rattle.tap_lane.specs.Heard.{AreAnswers}
 use Rattle.tap_lane.specs.Lane.{Whole, Runs, CutShort, RunsUntil, LaneEnds}
-use Rattle.lane_deeds.specs.declared.post.Post.{Post}
-use Rattle.lane_deeds.specs.declared.cause.Cause.{Cause}
-use Rattle.lane_deeds.specs.declared.cause.Cause.TheVariants as cause
-use Rattle.lane_deeds.specs.Deeds.{Deed, DeedOf, Acts}
-use Rattle.lane_deeds.specs.Ends.{HaltsBy, Halts, Stops, Ends}
+use Rattle.proxy_deeds.specs.declared.post.Post.{Post}
+use Rattle.proxy_deeds.specs.declared.cause.Cause.{Cause}
+use Rattle.proxy_deeds.specs.declared.cause.Cause.TheVariants as cause
+use Rattle.proxy_deeds.specs.Deeds.{Deed, DeedOf, Acts}
+use Rattle.proxy_deeds.specs.Ends.{HaltsBy, Halts, Stops, Ends}
 use Rattle.lane_laws.specs.Places.{owes_commit, halts_owing_from, halts_owing, HasLeft}
 use Rattle.lane_laws.specs.Taps.{taken_by, taken_in}
 use Rattle.lane_laws.specs.Lanes.{WasStopped}

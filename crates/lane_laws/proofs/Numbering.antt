@@ -14,12 +14,12 @@ use Rattle.exec_journal.specs.declared.call.Started.TheVariants as start
 use Rattle.exec_journal.specs.declared.reply.Reply.{Reply}
 use Rattle.exec_journal.specs.declared.reply.Reply.TheVariants as reply
 use Rattle.exec_journal.specs.Entries.{is_kept, launch_in}
-use Rattle.run_rules.specs.Moves.{Past, History}
-use Rattle.run_rules.specs.Laws.{fits, Fits, InScript, OrderHolds, lines_in}
-use Rattle.run_rules.specs.Duties.{Duty, Asks, Launches, Sends, Cancels, Gathers, Commits, Kills, Left, duty_from, duty_by, duty_of, proxy_lane, may_make}
-use Rattle.run_rules.specs.Shelf.{child_at}
-use Rattle.lane_deeds.specs.Lines.{started_by, started_in}
-use Rattle.lane_deeds.proofs.Growing.{started_more}
+use Rattle.core_contract.specs.Moves.{Past, History}
+use Rattle.core_contract.specs.Laws.{fits, Fits, InScript, OrderHolds, lines_in}
+use Rattle.core_contract.specs.Duties.{Duty, Asks, Launches, Sends, Cancels, Gathers, Commits, Kills, Left, duty_from, duty_by, duty_of, proxy_lane, may_make}
+use Rattle.core_contract.specs.Shelf.{child_at}
+use Rattle.proxy_deeds.specs.Lines.{started_by, started_in}
+use Rattle.proxy_deeds.proofs.Growing.{started_more}
 use Rattle.lane_laws.specs.Numbers.{In, Distinct}
 use Rattle.lane_laws.specs.Numbers.{concat}
 use Rattle.lane_laws.proofs.Ins.{in_front, in_either}

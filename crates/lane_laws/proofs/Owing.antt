@@ -14,10 +14,10 @@ use Rattle.exec_journal.specs.declared.call.Started.TheVariants as start
 use Rattle.exec_journal.specs.declared.reply.Reply.{Reply}
 use Rattle.exec_journal.specs.declared.reply.Reply.TheVariants as reply
 use Rattle.exec_journal.specs.Entries.{is_kept, is_halt, same_branch}
-use Rattle.run_rules.specs.Moves.{Past, History, Move, PutLine, TakeTap, TakeChild, GiveUp, TakePlace, PutPlace, Nothing, claim_moves, noted_moves, proxy_move, tap_move, move_of}
-use Rattle.run_rules.specs.Laws.{fits, Fits, InScript}
-use Rattle.run_rules.specs.Duties.{Duty, Asks, Commits, Left, duty_by, duty_then, duty_of, proxy_lane, may_make}
-use Rattle.run_rules.specs.Shelf.{Spot, Fresh, Away, Back, place_by, place_at}
+use Rattle.core_contract.specs.Moves.{Past, History, Move, PutLine, TakeTap, TakeChild, GiveUp, TakePlace, PutPlace, Nothing, claim_moves, noted_moves, proxy_move, tap_move, move_of}
+use Rattle.core_contract.specs.Laws.{fits, Fits, InScript}
+use Rattle.core_contract.specs.Duties.{Duty, Asks, Commits, Left, duty_by, duty_then, duty_of, proxy_lane, may_make}
+use Rattle.core_contract.specs.Shelf.{Spot, Fresh, Away, Back, place_by, place_at}
 use Rattle.tap_lane.proofs.Replies.{is_noted}
 use Rattle.lane_laws.specs.Places.{owes_commit, halts_owing_from, halts_owing, HasLeft}
 use Rattle.lane_laws.proofs.Steps as steps

@@ -14,8 +14,8 @@ use Rattle.exec_journal.specs.declared.call.HowEnded.TheVariants as end
 use Rattle.exec_journal.specs.declared.reply.Reply.TheVariants as reply
 use Rattle.exec_journal.specs.Entries.{takes}
 use Rattle.answer_reader.specs.Says.{SaysFirst, SaysAll, SaysBadly}
-use Rattle.run_rules.specs.Moves.{Past, History}
-use Rattle.run_rules.specs.Laws.{tells_of}
+use Rattle.core_contract.specs.Moves.{Past, History}
+use Rattle.core_contract.specs.Laws.{tells_of}
 use Rattle.tap_lane.specs.declared.ends.Want.{Want}
 use Rattle.tap_lane.specs.declared.ends.Want.TheVariants as want
 use Rattle.tap_lane.specs.Heard.{AreAnswers, SaysTo, EndedBy, HeardOf}

@@ -8,9 +8,9 @@ use Rattle.exec_journal.specs.declared.call.Found.TheVariants as found
 use Rattle.exec_journal.specs.declared.call.HowEnded.TheVariants as end
 use Rattle.exec_journal.specs.declared.call.Started.TheVariants as start
 use Rattle.exec_journal.specs.declared.reply.Reply.TheVariants as reply
-use Rattle.run_rules.specs.Moves.{History}
-use Rattle.run_rules.specs.Duties.{Left, duty_of}
-use Rattle.run_rules.specs.Shelf.{Away, Back, place_at}
+use Rattle.core_contract.specs.Moves.{History}
+use Rattle.core_contract.specs.Duties.{Left, duty_of}
+use Rattle.core_contract.specs.Shelf.{Away, Back, place_at}
 use Rattle.lane_laws.specs.Numbers.{concat}
 use Rattle.lane_laws.specs.Places.{halts_owing}
 use Rattle.lane_laws.specs.Taps.{taken_in}

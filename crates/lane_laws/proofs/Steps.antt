@@ -9,10 +9,10 @@ use Rattle.exec_journal.specs.declared.call.Call.{Call}
 use Rattle.exec_journal.specs.declared.reply.Reply.{Reply}
 use Rattle.exec_journal.specs.declared.reply.Reply.TheVariants as reply
 use Rattle.exec_journal.specs.Entries.{is_kept}
-use Rattle.run_rules.specs.Moves.{Past, History}
-use Rattle.run_rules.specs.Laws.{fits, Fits, InScript}
-use Rattle.run_rules.specs.Duties.{Asks, duty_then, duty_of, proxy_lane}
-use Rattle.run_rules.specs.Shelf.{Fresh, tap_at, tap_then, place_at, place_then}
+use Rattle.core_contract.specs.Moves.{Past, History}
+use Rattle.core_contract.specs.Laws.{fits, Fits, InScript}
+use Rattle.core_contract.specs.Duties.{Asks, duty_then, duty_of, proxy_lane}
+use Rattle.core_contract.specs.Shelf.{Fresh, tap_at, tap_then, place_at, place_then}
 use Rattle.std.specs.Prelude.{None}
 
 -- ---- one entry more

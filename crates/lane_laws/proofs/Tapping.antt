@@ -10,12 +10,12 @@ use Rattle.exec_journal.specs.declared.call.Started.TheVariants as start
 use Rattle.exec_journal.specs.declared.reply.Reply.{Reply}
 use Rattle.exec_journal.specs.declared.reply.Reply.TheVariants as reply
 use Rattle.exec_journal.specs.Entries.{is_kept}
-use Rattle.run_rules.specs.Moves.{Past, History, proxy_move, tap_move, move_of}
-use Rattle.run_rules.specs.Laws.{fits, Fits, InScript, tap_lane}
-use Rattle.run_rules.specs.Duties.{proxy_lane}
-use Rattle.run_rules.specs.Shelf.{child_at, tap_by, tap_at}
-use Rattle.lane_deeds.specs.Lines.{started_by, started_in, listed}
-use Rattle.lane_deeds.proofs.Growing.{started_more}
+use Rattle.core_contract.specs.Moves.{Past, History, proxy_move, tap_move, move_of}
+use Rattle.core_contract.specs.Laws.{fits, Fits, InScript, tap_lane}
+use Rattle.core_contract.specs.Duties.{proxy_lane}
+use Rattle.core_contract.specs.Shelf.{child_at, tap_by, tap_at}
+use Rattle.proxy_deeds.specs.Lines.{started_by, started_in, listed}
+use Rattle.proxy_deeds.proofs.Growing.{started_more}
 use Rattle.lane_laws.specs.Taps.{taken_by, taken_in, started_at}
 use Rattle.lane_laws.proofs.Steps as steps
 use Rattle.lane_laws.proofs.Steps.{own_call, other_call, tap_more, proxy_even}

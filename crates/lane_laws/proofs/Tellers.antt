@@ -8,8 +8,8 @@ use Rattle.exec_journal.specs.declared.call.Call.TheVariants as call
 use Rattle.exec_journal.specs.declared.reply.Reply.{Reply}
 use Rattle.exec_journal.specs.declared.reply.Reply.TheVariants as reply
 use Rattle.exec_journal.specs.Entries.{is_kept, takes}
-use Rattle.run_rules.specs.Moves.{Past, History}
-use Rattle.run_rules.specs.Laws.{fits, Fits, InScript, Hearing, Free, Hears, Over, leads_by_call, leads_by_line, hearing_from, hearing_by, hearing_of, tells_of, is_taken}
+use Rattle.core_contract.specs.Moves.{Past, History}
+use Rattle.core_contract.specs.Laws.{fits, Fits, InScript, Hearing, Free, Hears, Over, leads_by_call, leads_by_line, hearing_from, hearing_by, hearing_of, tells_of, is_taken}
 use Rattle.tap_lane.proofs.Entries.{hearing_more}
 use Rattle.lane_laws.specs.Pipes.{Each}
 

@@ -6,13 +6,13 @@ use Rattle.outside.specs.Told.{TapTold}
 use Rattle.run_plan.specs.declared.plan.Speech.{Speech}
 use Rattle.exec_journal.specs.Entries.{is_halt}
 use Rattle.remote_messages.specs.declared.work.WorkAction.{WorkAction}
-use Rattle.run_rules.specs.Moves.{History}
+use Rattle.core_contract.specs.Moves.{History}
 use Rattle.tap_lane.specs.declared.ends.Want.{Want}
 use Rattle.tap_lane.specs.Lane.{LaneEnds}
-use Rattle.lane_deeds.specs.declared.post.Post.{Post}
-use Rattle.lane_deeds.specs.declared.cause.Cause.{Cause}
-use Rattle.lane_deeds.specs.Deeds.{Deed}
-use Rattle.lane_deeds.specs.Ends.{Ends}
+use Rattle.proxy_deeds.specs.declared.post.Post.{Post}
+use Rattle.proxy_deeds.specs.declared.cause.Cause.{Cause}
+use Rattle.proxy_deeds.specs.Deeds.{Deed}
+use Rattle.proxy_deeds.specs.Ends.{Ends}
 use Rattle.lane_laws.specs.Lanes.{WasStopped}
 
 -- one of the entries is a Halt

@@ -1,7 +1,7 @@
 -- The numbers of the lines that were started.
 use Rattle.std.specs.Prelude.{◌≡◌, ℕ, zero, suc, ◌+◌, ◌<◌, List, [], ◌∷◌, All}
-use Rattle.run_rules.specs.Moves.{History}
-use Rattle.run_rules.specs.Laws.{lines_in}
+use Rattle.core_contract.specs.Moves.{History}
+use Rattle.core_contract.specs.Laws.{lines_in}
 use Rattle.lane_laws.specs.Numbers.{In, Distinct}
 use Rattle.lane_laws.specs.Numbers.{concat}
 use Rattle.lane_laws.specs.Taps.{started_at}

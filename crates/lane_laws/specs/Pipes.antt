@@ -7,8 +7,8 @@ use Rattle.exec_journal.specs.declared.call.Answer.{Answer}
 use Rattle.exec_journal.specs.declared.call.Call.{Call}
 use Rattle.exec_journal.specs.declared.call.Call.TheVariants as call
 use Rattle.exec_journal.specs.declared.call.HowEnded.{HowEnded}
-use Rattle.run_rules.specs.Moves.{History}
-use Rattle.run_rules.specs.Laws.{is_taken}
+use Rattle.core_contract.specs.Moves.{History}
+use Rattle.core_contract.specs.Laws.{is_taken}
 use Rattle.tap_lane.specs.declared.ends.Want.{Want}
 use Rattle.tap_lane.specs.Heard.{SaysTo, EndedBy}
 use Rattle.tap_lane.specs.Lane.{LaneEnds}

@@ -2,9 +2,9 @@
 use Rattle.std.specs.Prelude.{◌≡◌, ℕ, ◌<◌, Bool, true, false, ◌&&◌, ◌||◌, List, [], ◌∷◌}
 use Rattle.seat_desk.specs.History.{calls_by}
 use Rattle.exec_journal.specs.Entries.{is_halt}
-use Rattle.run_rules.specs.Moves.{History}
-use Rattle.run_rules.specs.Shelf.{place_at, Away}
-use Rattle.run_rules.specs.Duties.{Duty, Asks, Launches, Sends, Cancels, Gathers, Commits, Kills, Left, duty_then, duty_of, proxy_lane}
+use Rattle.core_contract.specs.Moves.{History}
+use Rattle.core_contract.specs.Shelf.{place_at, Away}
+use Rattle.core_contract.specs.Duties.{Duty, Asks, Launches, Sends, Cancels, Gathers, Commits, Kills, Left, duty_then, duty_of, proxy_lane}
 
 -- the lane owes a Committed
 abbrev pub owes_commit : Duty → Bool

@@ -5,11 +5,11 @@ use Rattle.exec_journal.specs.declared.call.Call.{Call}
 use Rattle.exec_journal.specs.declared.call.Call.TheVariants as call
 use Rattle.exec_journal.specs.declared.reply.Reply.{Reply}
 use Rattle.exec_journal.specs.declared.reply.Reply.TheVariants as reply
-use Rattle.run_rules.specs.Moves.{History}
-use Rattle.run_rules.specs.Laws.{tap_lane, is_taken}
-use Rattle.run_rules.specs.Duties.{proxy_lane}
-use Rattle.run_rules.specs.Shelf.{tap_at}
-use Rattle.lane_deeds.specs.Lines.{started_in, listed}
+use Rattle.core_contract.specs.Moves.{History}
+use Rattle.core_contract.specs.Laws.{tap_lane, is_taken}
+use Rattle.core_contract.specs.Duties.{proxy_lane}
+use Rattle.core_contract.specs.Shelf.{tap_at}
+use Rattle.proxy_deeds.specs.Lines.{started_in, listed}
 
 -- the line that a Take was answered with
 abbrev pub taken_by : Call → Reply → List ℕ

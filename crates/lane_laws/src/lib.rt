@@ -9,7 +9,7 @@ ghost use Rattle.lane_laws.specs.Lanes.{OnlyKnownLanesSpeak, TakenAreTapped, End
 ghost use Rattle.lane_laws.specs.Halts.{EndsTellHalts, HaltsAreByLanes};
 ghost use Rattle.lane_laws.specs.Pipes.{SaysWhatTapsTell, SilentUnlessGiven};
 
-use run_rules::Rules;
+use core_contract::Rules;
 
 /// Where all proxy lanes have left, and none of them halted before a Committed that it owed, the
 /// place of each action is back.

@@ -9,9 +9,9 @@ use Rattle.lane_crew.specs.declared.pair.OfTwo.{OfTwo}
 use Rattle.lane_crew.specs.declared.pair.OfTwo.TheVariants.{First, Second}
 use Rattle.outside.specs.Told.{BerthTold, FeedTold, TapTold, ChildTold, PlaceTold}
 use Rattle.remote_messages.specs.declared.work.WorkAction.{WorkAction}
-use Rattle.run_rules.specs.Moves.{History}
-use Rattle.run_bench.specs.Bench.{TapsLie, PlacesLie}
-use Rattle.lane_deeds.specs.declared.post.Post.{Post}
+use Rattle.core_contract.specs.Moves.{History}
+use Rattle.core_bench.specs.Bench.{TapsLie, PlacesLie}
+use Rattle.proxy_deeds.specs.declared.post.Post.{Post}
 use Rattle.berth_lanes.specs.declared.proxies.ProxySeat.{ProxySeat}
 use Rattle.berth_lanes.specs.declared.proxies.ProxyLeft.{ProxyLeft}
 use Rattle.berth_lanes.specs.declared.taps.TapSeat.{TapSeat}

@@ -4,8 +4,8 @@ use Rattle.std.specs.List.{list_any}
 use Rattle.std.proofs.lemmas.List.Sums.{length-filter, count_by_more_yes, count_by_more_no}
 use Rattle.exec_journal.specs.Entry.{Entry}
 use Rattle.exec_journal.specs.Entries.{is_halt, launch_in}
-use Rattle.run_rules.specs.Moves.{History}
-use Rattle.run_rules.specs.Laws.{lines_in}
+use Rattle.core_contract.specs.Moves.{History}
+use Rattle.core_contract.specs.Laws.{lines_in}
 use Rattle.lane_laws.specs.Numbers.{Distinct}
 use Rattle.lane_runs.specs.declared.halves.EndedLine.{EndedLine}
 use Rattle.lane_runs.specs.BerthHalves.{BerthLines, all_halves}

@@ -10,17 +10,17 @@ use Rattle.lane_crew.specs.declared.pair.OfTwo.TheVariants.{First, Second}
 use Rattle.outside.specs.Told.{BerthTold, FeedTold, TapTold, ChildTold}
 use Rattle.remote_messages.specs.declared.work.WorkAction.{WorkAction}
 use Rattle.lane_laws.specs.Numbers.{concat}
-use Rattle.run_rules.specs.Moves.{History}
-use Rattle.run_rules.specs.Duties.{proxy_lane}
-use Rattle.run_rules.specs.Laws.{tap_lane}
-use Rattle.run_rules.specs.Shelf.{tap_at}
-use Rattle.run_bench.specs.Bench.{IsOf, IsTapOf}
-use Rattle.lane_deeds.specs.declared.post.Post.{Post}
-use Rattle.lane_deeds.specs.declared.cause.Cause.{Cause}
-use Rattle.lane_deeds.specs.Lines.{lines_of, listed}
-use Rattle.lane_steps.specs.declared.hands.EndedFeed.{EndedFeed}
-use Rattle.lane_steps.specs.Lanes.{back_of}
-use Rattle.lane_steps.specs.Steps.{Ended}
+use Rattle.core_contract.specs.Moves.{History}
+use Rattle.core_contract.specs.Duties.{proxy_lane}
+use Rattle.core_contract.specs.Laws.{tap_lane}
+use Rattle.core_contract.specs.Shelf.{tap_at}
+use Rattle.core_bench.specs.Bench.{IsOf, IsTapOf}
+use Rattle.proxy_deeds.specs.declared.post.Post.{Post}
+use Rattle.proxy_deeds.specs.declared.cause.Cause.{Cause}
+use Rattle.proxy_deeds.specs.Lines.{lines_of, listed}
+use Rattle.proxy_steps.specs.declared.hands.EndedFeed.{EndedFeed}
+use Rattle.proxy_steps.specs.Lanes.{back_of}
+use Rattle.proxy_steps.specs.Steps.{Ended}
 use Rattle.tap_lane.specs.declared.ends.EndedTap.{EndedTap}
 use Rattle.tap_lane.specs.declared.ends.Want.{Want}
 use Rattle.tap_lane.specs.Heard.{back_by}

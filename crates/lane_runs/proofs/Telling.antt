@@ -17,25 +17,25 @@ use Rattle.answer_reader.specs.Says.{SaysFirst}
 use Rattle.lane_runs.specs.Placed.{Numbered}
 use Rattle.lane_laws.specs.Numbers.{In}
 use Rattle.lane_laws.proofs.Ins.{in_front, in_back}
-use Rattle.run_rules.specs.Moves.{History}
-use Rattle.run_rules.specs.Shelf.{tap_at}
-use Rattle.run_rules.specs.Duties.{proxy_lane}
-use Rattle.run_rules.specs.Laws.{tap_lane}
-use Rattle.run_bench.specs.Bench.{IsOf, IsTapOf}
+use Rattle.core_contract.specs.Moves.{History}
+use Rattle.core_contract.specs.Shelf.{tap_at}
+use Rattle.core_contract.specs.Duties.{proxy_lane}
+use Rattle.core_contract.specs.Laws.{tap_lane}
+use Rattle.core_bench.specs.Bench.{IsOf, IsTapOf}
 use Rattle.lane_laws.specs.Pipes.{PipeOf, Each, said_on, end_on}
 use Rattle.tap_lane.specs.declared.ends.EndedTap.{EndedTap}
 use Rattle.tap_lane.specs.declared.ends.Want.{Want}
 use Rattle.tap_lane.specs.Heard.{back_by, SaysTo, EndedBy}
 use Rattle.tap_lane.specs.Lane.{LaneEnds}
-use Rattle.lane_deeds.specs.declared.post.Post.{Post}
-use Rattle.lane_deeds.specs.declared.cause.Cause.{Cause}
-use Rattle.lane_deeds.specs.Deeds.{Deed}
-use Rattle.lane_deeds.specs.Ends.{Ends}
-use Rattle.lane_deeds.specs.Lines as deeds
-use Rattle.lane_deeds.specs.Lines.{started_in, listed}
-use Rattle.lane_steps.specs.declared.hands.EndedFeed.{EndedFeed}
-use Rattle.lane_steps.specs.Lanes.{back_of}
-use Rattle.lane_steps.specs.Steps.{Ended}
+use Rattle.proxy_deeds.specs.declared.post.Post.{Post}
+use Rattle.proxy_deeds.specs.declared.cause.Cause.{Cause}
+use Rattle.proxy_deeds.specs.Deeds.{Deed}
+use Rattle.proxy_deeds.specs.Ends.{Ends}
+use Rattle.proxy_deeds.specs.Lines as deeds
+use Rattle.proxy_deeds.specs.Lines.{started_in, listed}
+use Rattle.proxy_steps.specs.declared.hands.EndedFeed.{EndedFeed}
+use Rattle.proxy_steps.specs.Lanes.{back_of}
+use Rattle.proxy_steps.specs.Steps.{Ended}
 use Rattle.lane_runs.specs.declared.halves.EndedLine.{EndedLine}
 use Rattle.lane_runs.specs.declared.halves.Halves.{Halves}
 use Rattle.lane_runs.specs.BerthHalves.{IsMatched, taps_left, halves_with, halves_of, all_halves}

@@ -14,15 +14,15 @@ use Rattle.lane_laws.specs.Lanes.{EndedHaveLeft}
 use Rattle.lane_runs.specs.Placed.{Numbered}
 use Rattle.lane_laws.specs.Numbers.{In, Distinct}
 use Rattle.lane_laws.specs.Numbers.{concat}
-use Rattle.run_rules.specs.Moves.{History}
-use Rattle.run_rules.specs.Shelf.{Spot, Fresh, Away, Back, tap_at, place_at}
-use Rattle.run_rules.specs.Duties.{proxy_lane}
-use Rattle.run_rules.specs.Laws.{tap_lane, lines_in}
-use Rattle.run_bench.specs.Bench.{IsOf, IsTapOf, IsInSpot, IsPlaceOf, TapsLie, PlacesLie}
-use Rattle.run_bench.specs.Objects.{AreFresh, IsPlaceAt}
-use Rattle.lane_deeds.specs.declared.post.Post.{Post}
-use Rattle.lane_steps.specs.declared.hands.EndedFeed.{EndedFeed}
-use Rattle.lane_steps.specs.Lanes.{back_of}
+use Rattle.core_contract.specs.Moves.{History}
+use Rattle.core_contract.specs.Shelf.{Spot, Fresh, Away, Back, tap_at, place_at}
+use Rattle.core_contract.specs.Duties.{proxy_lane}
+use Rattle.core_contract.specs.Laws.{tap_lane, lines_in}
+use Rattle.core_bench.specs.Bench.{IsOf, IsTapOf, IsInSpot, IsPlaceOf, TapsLie, PlacesLie}
+use Rattle.core_bench.specs.Objects.{AreFresh, IsPlaceAt}
+use Rattle.proxy_deeds.specs.declared.post.Post.{Post}
+use Rattle.proxy_steps.specs.declared.hands.EndedFeed.{EndedFeed}
+use Rattle.proxy_steps.specs.Lanes.{back_of}
 use Rattle.berth_lanes.specs.declared.proxies.ProxyLeft.{ProxyLeft}
 use Rattle.berth_lanes.specs.declared.taps.TapLeft.{TapLeft}
 use Rattle.berth_lanes.specs.Ran.{EachBerthRan}
@@ -34,7 +34,7 @@ use Rattle.lane_runs.proofs.FactsAt.{facts_at}
 use Rattle.lane_laws.specs.Lines.{started_from}
 use Rattle.lane_laws.specs.Places.{HasLeft}
 use Rattle.lane_laws.specs.Taps.{started_at, taken_in}
-use Rattle.lane_deeds.specs.Lines.{listed}
+use Rattle.proxy_deeds.specs.Lines.{listed}
 use Rattle.lane_laws.specs.Pipes.{PipeOf, Each, said_on, end_on}
 use Rattle.tap_lane.specs.declared.ends.Want.{Want}
 use Rattle.tap_lane.specs.Lane.{LaneEnds}

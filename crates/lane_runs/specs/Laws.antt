@@ -1,7 +1,7 @@
 -- What every history of a core says, in one record.
 use Rattle.std.specs.Prelude.{ℕ, ◌≤◌}
-use Rattle.run_rules.specs.Laws.{lines_in}
-use Rattle.run_rules.specs.Moves.{History}
+use Rattle.core_contract.specs.Laws.{lines_in}
+use Rattle.core_contract.specs.Moves.{History}
 use Rattle.lane_laws.specs.Pipes.{SaysWhatTapsTell, SilentUnlessGiven}
 use Rattle.lane_laws.specs.Places.{PlacesAreBack}
 use Rattle.lane_laws.specs.Taps.{StartedAreTapped, ShelvedAreUntaken}

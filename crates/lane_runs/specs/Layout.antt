@@ -5,8 +5,8 @@ use Rattle.exec_journal.specs.Entries.{is_halt, launch_in}
 use Rattle.exec_journal.specs.Entry.{Entry}
 use Rattle.lane_crew.specs.declared.pair.OfTwo.{OfTwo}
 use Rattle.lane_laws.specs.Numbers.{Distinct}
-use Rattle.run_rules.specs.Moves.{History}
-use Rattle.run_rules.specs.Laws.{lines_in}
+use Rattle.core_contract.specs.Moves.{History}
+use Rattle.core_contract.specs.Laws.{lines_in}
 use Rattle.berth_lanes.specs.declared.proxies.ProxyLeft.{ProxyLeft}
 use Rattle.berth_lanes.specs.declared.taps.TapLeft.{TapLeft}
 use Rattle.lane_runs.specs.BerthHalves.{AreInside, BerthLines, all_feed_lines}

@@ -8,18 +8,18 @@ use Rattle.exec_journal.specs.declared.reply.Reply.TheVariants as reply
 use Rattle.exec_journal.specs.Entry.{Entry}
 use Rattle.outside.specs.Told.{BerthTold, PlaceTold, FeedTold, TapTold, ChildTold, LineTold, line_told}
 use Rattle.remote_messages.specs.declared.work.WorkAction.{WorkAction}
-use Rattle.run_rules.specs.Moves.{Past, History}
-use Rattle.run_rules.specs.Shelf.{place_at}
-use Rattle.run_rules.specs.Duties.{proxy_lane}
-use Rattle.run_rules.specs.Laws.{tap_lane, lines_in}
-use Rattle.run_bench.specs.Objects.{IsPlaceAt}
+use Rattle.core_contract.specs.Moves.{Past, History}
+use Rattle.core_contract.specs.Shelf.{place_at}
+use Rattle.core_contract.specs.Duties.{proxy_lane}
+use Rattle.core_contract.specs.Laws.{tap_lane, lines_in}
+use Rattle.core_bench.specs.Objects.{IsPlaceAt}
 use Rattle.lane_laws.specs.Numbers.{In}
 use Rattle.lane_laws.specs.Pipes.{PipeOf}
-use Rattle.lane_deeds.specs.declared.post.Post.{Post}
-use Rattle.lane_deeds.specs.declared.cause.Cause.{Cause}
-use Rattle.lane_deeds.specs.Lines.{Back, started_in}
-use Rattle.lane_steps.specs.Lanes.{back_of}
-use Rattle.lane_steps.specs.Steps.{Ended}
+use Rattle.proxy_deeds.specs.declared.post.Post.{Post}
+use Rattle.proxy_deeds.specs.declared.cause.Cause.{Cause}
+use Rattle.proxy_deeds.specs.Lines.{Back, started_in}
+use Rattle.proxy_steps.specs.Lanes.{back_of}
+use Rattle.proxy_steps.specs.Steps.{Ended}
 use Rattle.lane_runs.specs.declared.halves.EndedLine.{EndedLine}
 use Rattle.lane_runs.specs.Layout.{has_halt}
 use Rattle.lane_runs.specs.declared.layout.Laid.{Laid}

@@ -10,7 +10,7 @@ use crate::halves::EndedLine;
 use crate::lines::put_halves;
 use berth_lanes::{ProxyLeft, TapLeft};
 use lane_crew::OfTwo;
-use lane_steps::EndedFeed;
+use proxy_steps::EndedFeed;
 use std::collections::VecDeque;
 
 /// Lays the ends of the lanes by, which stand berth by berth, with the tap that was left on the shelf

@@ -3,7 +3,7 @@ ghost use Rattle.std.specs.Prelude.{IfOk};
 ghost use Rattle.lane_runs.specs.Blanks.{IsBlankFor};
 
 use crate::halves::EndedLine;
-use lane_steps::EndedFeed;
+use proxy_steps::EndedFeed;
 use plain_values::NoMemory;
 use std::alloc::Global;
 

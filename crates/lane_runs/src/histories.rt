@@ -6,7 +6,7 @@ use lane_laws::{
     lines_not_given_are_silent, only_known_lanes_speak, places_are_back, shelved_taps_are_untaken,
     started_lines_are_apart, started_lines_have_taps, taken_lines_have_taps,
 };
-use run_rules::Rules;
+use core_contract::Rules;
 
 /// What the laws of lanes that have ended, and of their taps, say of this kind of core.
 pub(crate) fn histories_say<C: Rules>()

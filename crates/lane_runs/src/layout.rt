@@ -1,6 +1,6 @@
 //! What a run leaves, laid out by number.
 ghost use Rattle.std.specs.Prelude.{◌≡◌, ◌<◌, ◌^◌, length, map, Some};
-ghost use Rattle.run_rules.specs.Laws.{lines_in};
+ghost use Rattle.core_contract.specs.Laws.{lines_in};
 ghost use Rattle.lane_runs.specs.Apart.{Alternate, lefts_of};
 ghost use Rattle.lane_runs.specs.Layout.{AllThere, AreFit, IsLaid};
 ghost use Rattle.lane_runs.specs.Blanks.{HasRoom, IsBlankFor};
@@ -13,7 +13,7 @@ use crate::lines::number_lines;
 use berth_lanes::{ProxyLeft, TapLeft};
 use exec_journal::{Entry, Journal};
 use lane_crew::OfTwo;
-use lane_steps::EndedFeed;
+use proxy_steps::EndedFeed;
 use outside::Berth;
 use std::collections::VecDeque;
 

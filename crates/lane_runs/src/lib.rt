@@ -18,6 +18,6 @@ mod lines;
 mod run;
 
 pub use halves::{EndedLine, Halves};
-pub use lane_steps::EndedFeed;
+pub use proxy_steps::EndedFeed;
 pub use layout::{Laid, LaidOut};
 pub use run::{Unrun, run_lanes};

@@ -1,8 +1,8 @@
 //! The lanes of all berths on threads.
 ghost use Rattle.std.specs.Prelude.{◌≡◌, ◌≤◌, [], length, map, IfOk, IfErr};
-ghost use Rattle.run_bench.specs.Objects.{AreFresh};
+ghost use Rattle.core_bench.specs.Objects.{AreFresh};
 ghost use Rattle.berth_lanes.specs.Seats.{PostsFit, berths_in};
-ghost use Rattle.lane_steps.specs.Work.{IsWorkOf};
+ghost use Rattle.proxy_steps.specs.Work.{IsWorkOf};
 ghost use Rattle.lane_runs.specs.Blanks.{HasRoom};
 ghost use Rattle.lane_runs.specs.Runs.{HasRun, laid_told};
 
@@ -11,11 +11,11 @@ use crate::histories::histories_say;
 use crate::layout::{LaidOut, all_there, lay_out};
 use berth_lanes::{BerthLane, berths_of, lanes_of};
 use lane_crew::{Crew, Unstarted, run_crew};
-use lane_deeds::Post;
+use proxy_deeds::Post;
 use outside::{Berth, Place};
 use remote_messages::WorkAction;
-use run_bench::Bench;
-use run_rules::Rules;
+use core_bench::Bench;
+use core_contract::Rules;
 use seat_desk::Machine;
 use std::alloc::Global;
 use std::sync::Wait;
@@ -104,11 +104,11 @@ fn take_back<B: Berth, P: Place, C: Rules>(
 ) -> Unrun<B, P>
     requires stands { ⟦<Bench<B, P, C> as Machine>⟧.stands unstarted.machine [] }
     requires berths { HasRoom (length (berths_in unstarted.lanes.items)) blank.berths }
-    requires places { HasRoom (C.actions (⟦<Bench<B, P, C> as Machine>⟧.rules unstarted.machine))
+    requires places { HasRoom (C.actions (⟦<Bench<B, P, C> as Machine>⟧.basis unstarted.machine))
         blank.places }
     ensures berths { result.berths.items ≡ berths_in unstarted.entry.lanes.items }
     ensures places { AreFresh P.told
-        (C.actions (⟦<Bench<B, P, C> as Machine>⟧.rules unstarted.entry.machine))
+        (C.actions (⟦<Bench<B, P, C> as Machine>⟧.basis unstarted.entry.machine))
         result.places.items }
 {
     let Blank {

@@ -41,18 +41,18 @@ use Rattle.journal_laws.proofs.Places as pl
 use Rattle.journal_laws.proofs.Counted as co
 use Rattle.journal_laws.proofs.Lanes as la
 use Rattle.ready_order.specs.Entries.{is_among}
-use Rattle.journal_calls.specs.Moments.{fed_on, stands_on}
-use Rattle.journal_facts.proofs.Bridge as br
-use Rattle.journal_calls.proofs.Calls as ca
-use Rattle.journal_calls.proofs.Ended as ed
-use Rattle.journal_calls.proofs.LastLines as ll
-use Rattle.journal_calls.proofs.LineEnds as le
-use Rattle.journal_calls.proofs.Requested as re
-use Rattle.journal_calls.specs.Moments.{BranchOf}
-use Rattle.journal_calls.proofs.Recent.{room_for_match}
+use Rattle.call_laws.specs.Moments.{fed_on, stands_on}
+use Rattle.table_laws.proofs.Bridge as br
+use Rattle.call_laws.proofs.Calls as ca
+use Rattle.call_laws.proofs.Ended as ed
+use Rattle.call_laws.proofs.LastLines as ll
+use Rattle.call_laws.proofs.LineEnds as le
+use Rattle.call_laws.proofs.Requested as re
+use Rattle.call_laws.specs.Moments.{BranchOf}
+use Rattle.call_laws.proofs.Recent.{room_for_match}
 use Rattle.exec_journal.specs.Words.{has_greeted, lines_of, live, sends}
 use Rattle.journal_laws.proofs.Requests as q
-use Rattle.journal_calls.proofs.Gathers.{gathers}
+use Rattle.call_laws.proofs.Gathers.{gathers}
 use Rattle.run_plan.specs.Groups.{has_cancellation, is_remote, is_single}
 use Rattle.exec_journal.specs.Lawful as lw
 use Rattle.exec_journal.specs.Lawful.{Lawful}

@@ -30,8 +30,8 @@ use Rattle.ready_order.specs.Entries.{IsOpen, WonFiles, is_among}
 use Rattle.request_table.specs.Entries.{EachOf, IsKnownBy}
 use Rattle.request_table.specs.Stands.{Numbered}
 use Rattle.worker_pool.specs.Entries.{WantedStays, CarriesItsBound, IsPendingOn}
-use Rattle.journal_calls.specs.Matches.{gather_of, recent, waits_yet, is_spent}
-use Rattle.journal_calls.specs.Moments.{BranchOf}
+use Rattle.call_laws.specs.Matches.{gather_of, recent, waits_yet, is_spent}
+use Rattle.call_laws.specs.Moments.{BranchOf}
 use Rattle.core_tables.specs.Last.{fed_of}
 
 -- its action is one of the plan, and uses its branch

@@ -141,9 +141,9 @@ impl<X: Drop> Machine for Mailbox<X> {
 
     type Good = Vec<X>;
 
-    type Rules = Nothing;
+    type Basis = Nothing;
 
-    ghost rules = { λ m. record {} };
+    ghost basis = { λ m. record {} };
 
     ghost blank = { record {} };
 

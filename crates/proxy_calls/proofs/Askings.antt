@@ -10,14 +10,14 @@ use Rattle.exec_journal.specs.declared.reply.Reply.TheVariants as reply
 use Rattle.exec_journal.specs.Entries.{is_kept, launch_in}
 use Rattle.outside.specs.Told.{ChildTold, TapTold, PlaceTold}
 use Rattle.run_plan.specs.declared.plan.Maker.{Maker}
-use Rattle.run_rules.specs.Moves.{Past, History, Move, ask_moves, proxy_move}
-use Rattle.run_rules.specs.Shelf.{child_at}
-use Rattle.run_rules.specs.Laws.{OrderHolds, lines_in}
-use Rattle.run_rules.specs.Duties.{Duty, Asks, proxy_lane, may_do}
-use Rattle.run_bench.specs.declared.shelf.Good.{Good}
-use Rattle.run_bench.specs.declared.shelf.Good.TheVariants as good
-use Rattle.run_bench.proofs.Own.{child_is_own}
-use Rattle.run_bench.specs.Bench.{IsChild, Comes, ComesOut}
+use Rattle.core_contract.specs.Moves.{Past, History, Move, ask_moves, proxy_move}
+use Rattle.core_contract.specs.Shelf.{child_at}
+use Rattle.core_contract.specs.Laws.{OrderHolds, lines_in}
+use Rattle.core_contract.specs.Duties.{Duty, Asks, proxy_lane, may_do}
+use Rattle.core_bench.specs.declared.shelf.Good.{Good}
+use Rattle.core_bench.specs.declared.shelf.Good.TheVariants as good
+use Rattle.core_bench.proofs.Own.{child_is_own}
+use Rattle.core_bench.specs.Bench.{IsChild, Comes, ComesOut}
 use Rattle.proxy_calls.specs.Goods.{IsChildThere, child_good}
 use Rattle.proxy_calls.specs.Orders.{is_idle, GivesChild, lines_with}
 use Rattle.proxy_calls.proofs.Replies.{order_is_kept}

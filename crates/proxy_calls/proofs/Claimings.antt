@@ -19,13 +19,13 @@ use Rattle.exec_journal.specs.declared.reply.Reply.{Reply}
 use Rattle.exec_journal.specs.declared.reply.Reply.TheVariants as reply
 use Rattle.exec_journal.specs.Entries.{is_kept, same_branch}
 use Rattle.outside.specs.Told.{ChildTold, TapTold, PlaceTold}
-use Rattle.run_rules.specs.Moves.{Past, History, Move, Nothing, claim_moves}
-use Rattle.run_rules.specs.Shelf.{Fresh}
-use Rattle.run_rules.specs.Laws.{fits_claim, claimed, claimed_by}
-use Rattle.run_rules.specs.Duties.{Duty, Asks, Commits, ordered, duty_of_claim, duty_from, duty_by, duty_of, proxy_lane, may_do}
-use Rattle.run_bench.specs.declared.shelf.Good.{Good}
-use Rattle.run_bench.specs.declared.shelf.Good.TheVariants as good
-use Rattle.run_bench.specs.Bench.{IsPlace, Comes, ComesOut}
+use Rattle.core_contract.specs.Moves.{Past, History, Move, Nothing, claim_moves}
+use Rattle.core_contract.specs.Shelf.{Fresh}
+use Rattle.core_contract.specs.Laws.{fits_claim, claimed, claimed_by}
+use Rattle.core_contract.specs.Duties.{Duty, Asks, Commits, ordered, duty_of_claim, duty_from, duty_by, duty_of, proxy_lane, may_do}
+use Rattle.core_bench.specs.declared.shelf.Good.{Good}
+use Rattle.core_bench.specs.declared.shelf.Good.TheVariants as good
+use Rattle.core_bench.specs.Bench.{IsPlace, Comes, ComesOut}
 use Rattle.proxy_calls.specs.Goods.{place_good}
 use Rattle.proxy_calls.specs.Claims.{claim_of, OwesCommit, IsGranted}
 use Rattle.proxy_calls.proofs.Replies.{is_noted, claim_is_kept}

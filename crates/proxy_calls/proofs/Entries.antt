@@ -5,15 +5,15 @@ use Rattle.seat_desk.specs.declared.view.View.{View}
 use Rattle.seat_desk.specs.History.{entry, after, calls_by, GoesOn, StartsWith, IsReply, StandsUnder, SomeStands}
 use Rattle.seat_desk.specs.declared.machine.Machine.{Ghosts}
 use Rattle.seat_desk.specs.declared.desk.Pass.{Pass}
-use Rattle.seat_desk.specs.Passes.{rules}
+use Rattle.seat_desk.specs.Passes.{basis}
 use Rattle.seat_desk.specs.Desks.{Grows}
 use Rattle.exec_journal.specs.declared.call.Call.{Call}
 use Rattle.exec_journal.specs.declared.reply.Reply.{Reply}
 use Rattle.exec_journal.specs.Entries.{is_kept}
-use Rattle.run_rules.specs.Moves.{Past, History, tap_move, proxy_move, move_in}
-use Rattle.run_rules.specs.Laws.{is_short, says_file, fits, Fits, InScript, claimed, claimed_by}
-use Rattle.run_rules.specs.Duties.{Duty, proxy_lane, duty_then, duty_of, Asks}
-use Rattle.run_bench.specs.BenchLaws.{calls_stay}
+use Rattle.core_contract.specs.Moves.{Past, History, tap_move, proxy_move, move_in}
+use Rattle.core_contract.specs.Laws.{is_short, says_file, fits, Fits, InScript, claimed, claimed_by}
+use Rattle.core_contract.specs.Duties.{Duty, proxy_lane, duty_then, duty_of, Asks}
+use Rattle.core_bench.specs.BenchLaws.{calls_stay}
 
 -- an entry joins the history
 abbrev pub keeps : Past → Bool
@@ -93,8 +93,8 @@ module _ {Q : Type 0} (rule : History → ℕ → Call → Reply) (lane w : ℕ)
 -- the history at which a call was answered is legal
 pub legal_at : {M G Q : Type 0} {g : Ghosts M Call Reply G Q} (p : Pass M Call Reply G Q g)
     (h : History) (legal : Q → History → Type 0)
-    → SomeStands (StandsUnder g.rules g.stands (rules p)) h
-    → ((m : M) (k : History) → g.stands m k → legal (g.rules m) k) → legal (rules p) h
+    → SomeStands (StandsUnder g.basis g.stands (basis p)) h
+    → ((m : M) (k : History) → g.stands m k → legal (g.basis m) k) → legal (basis p) h
 legal_at {M} {G} {Q} {g} p h legal some law =
     subst (λ (q : Q). legal q h) some.1.1 (law some.0 h some.1.0)
 

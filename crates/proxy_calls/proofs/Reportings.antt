@@ -7,12 +7,12 @@ use Rattle.exec_journal.specs.declared.call.Started.TheVariants as start
 use Rattle.exec_journal.specs.declared.reply.Reply.{Reply}
 use Rattle.exec_journal.specs.declared.reply.Reply.TheVariants as reply
 use Rattle.outside.specs.Told.{ChildTold, TapTold, PlaceTold}
-use Rattle.run_rules.specs.Moves.{History}
-use Rattle.run_rules.specs.Laws.{says_file, fits, fits_noted}
-use Rattle.run_rules.specs.Duties.{Duty, Asks, Launches, Sends, Cancels, Gathers, Commits, Kills, Left, duty_from, duty_by, duty_of, may_do}
-use Rattle.run_bench.specs.Bench.{GoesIn}
+use Rattle.core_contract.specs.Moves.{History}
+use Rattle.core_contract.specs.Laws.{says_file, fits, fits_noted}
+use Rattle.core_contract.specs.Duties.{Duty, Asks, Launches, Sends, Cancels, Gathers, Commits, Kills, Left, duty_from, duty_by, duty_of, may_do}
+use Rattle.core_bench.specs.Bench.{GoesIn}
 use Rattle.exec_journal.specs.declared.call.Started.{Started}
-use Rattle.lane_deeds.specs.Ends.{may_halt}
+use Rattle.proxy_deeds.specs.Ends.{may_halt}
 use Rattle.proxy_calls.specs.Reports.{is_report}
 use Rattle.seat_desk.specs.History.{entry, StartsWith}
 use Rattle.proxy_calls.proofs.Replies.{never_noted}

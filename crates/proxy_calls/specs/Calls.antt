@@ -3,22 +3,22 @@ use Rattle.std.specs.Prelude.{◌≡◌, ℕ, ◌<◌, Bool, true, List, [], ◌
 use Rattle.seat_desk.specs.declared.machine.Machine.{Ghosts}
 use Rattle.seat_desk.specs.declared.desk.Pass.{Pass}
 use Rattle.seat_desk.specs.History.{entry, StartsWith}
-use Rattle.seat_desk.specs.Passes.{mine, rules, seen}
+use Rattle.seat_desk.specs.Passes.{mine, basis, seen}
 use Rattle.run_plan.specs.declared.plan.Maker.{Maker}
 use Rattle.exec_journal.specs.declared.call.Call.{Call}
 use Rattle.exec_journal.specs.declared.reply.Reply.{Reply}
-use Rattle.run_rules.specs.Duties.{proxy_lane, duty_of, may_do}
+use Rattle.core_contract.specs.Duties.{proxy_lane, duty_of, may_do}
 
 module _ {M G Q : Type 0} {g : Ghosts M Call Reply G Q} where
   -- the pass is that of the proxy lane of the berth w, one of so many as the rules say
   abbrev pub IsProxyOf : (Q → ℕ) → ℕ → Pass M Call Reply G Q g → Type 0
-  IsProxyOf seats w p = (p.lane ≡ proxy_lane w) × (w < seats (rules p))
+  IsProxyOf seats w p = (p.lane ≡ proxy_lane w) × (w < seats (basis p))
 
   -- by its own entries the lane may make the call
   abbrev pub MayMake : (Q → ℕ → List (List ℕ)) → (Q → ℕ → List Maker) → (Q → ℕ → Bool) → ℕ
       → Pass M Call Reply G Q g → Call → Type 0
   MayMake outputs makers remote w p c =
-      may_do (outputs (rules p)) (makers (rules p)) (remote (rules p) w) (duty_of (mine p)) c ≡ true
+      may_do (outputs (basis p)) (makers (basis p)) (remote (basis p) w) (duty_of (mine p)) c ≡ true
 
   -- the lane made no entry
   abbrev pub MakesNone : Pass M Call Reply G Q g → Pass M Call Reply G Q g → Type 0

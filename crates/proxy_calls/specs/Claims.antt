@@ -12,11 +12,11 @@ use Rattle.exec_journal.specs.declared.call.Found.TheVariants as found
 use Rattle.exec_journal.specs.declared.reply.Reply.{Reply}
 use Rattle.exec_journal.specs.declared.reply.Reply.TheVariants as reply
 use Rattle.outside.specs.Told.{PlaceTold}
-use Rattle.run_rules.specs.Moves.{History}
-use Rattle.run_rules.specs.Shelf.{Fresh}
-use Rattle.run_rules.specs.Duties.{Asks, Commits, duty_of}
-use Rattle.run_rules.specs.Laws.{claimed}
-use Rattle.run_bench.specs.Objects.{IsPlaceAt}
+use Rattle.core_contract.specs.Moves.{History}
+use Rattle.core_contract.specs.Shelf.{Fresh}
+use Rattle.core_contract.specs.Duties.{Asks, Commits, duty_of}
+use Rattle.core_contract.specs.Laws.{claimed}
+use Rattle.core_bench.specs.Objects.{IsPlaceAt}
 use Rattle.proxy_calls.specs.Calls.{MakesOne}
 
 abbrev pub claim_of : Attempt → Found → Call

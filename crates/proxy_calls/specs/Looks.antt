@@ -3,9 +3,9 @@ use Rattle.std.specs.Prelude.{◌≡◌, ℕ, ℤ, List, Option, Some}
 use Rattle.run_plan.specs.declared.plan.Maker.{Maker}
 use Rattle.exec_journal.specs.declared.call.Wanted.{Wanted}
 use Rattle.exec_journal.specs.declared.call.Wanted.TheVariants as wanted
-use Rattle.run_rules.specs.Moves.{History}
-use Rattle.run_rules.specs.Duties.{Sends, duty_of}
-use Rattle.lane_deeds.specs.Deeds.{Looked}
+use Rattle.core_contract.specs.Moves.{History}
+use Rattle.core_contract.specs.Duties.{Sends, duty_of}
+use Rattle.proxy_deeds.specs.Deeds.{Looked}
 
 abbrev pub told_as : Wanted → Option (List ℕ) → Looked
 told_as wanted found = record { wanted = wanted; found = found }

@@ -13,9 +13,9 @@ use Rattle.exec_journal.specs.declared.reply.Why.{Why}
 use Rattle.exec_journal.specs.Entries.{is_kept, launch_in}
 use Rattle.outside.specs.Launches.{IsNewChild}
 use Rattle.outside.specs.Told.{ChildTold}
-use Rattle.run_rules.specs.Shelf.{child_at}
-use Rattle.run_rules.specs.Laws.{OrderHolds, lines_in}
-use Rattle.run_bench.specs.declared.shelf.Good.{Good}
+use Rattle.core_contract.specs.Shelf.{child_at}
+use Rattle.core_contract.specs.Laws.{OrderHolds, lines_in}
+use Rattle.core_bench.specs.declared.shelf.Good.{Good}
 use Rattle.proxy_calls.specs.declared.asking.Order.{Order}
 use Rattle.proxy_calls.specs.declared.asking.Order.TheVariants as order
 use Rattle.proxy_calls.specs.Calls.{MakesOne}

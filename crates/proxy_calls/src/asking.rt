@@ -1,9 +1,9 @@
 //! What a proxy lane is ordered.
 ghost use Rattle.std.specs.Prelude.{◌≡◌, ◌<◌, false, true, IfOk, OnErr};
-ghost use Rattle.seat_desk.specs.Passes.{IsSamePass, mine, rules};
+ghost use Rattle.seat_desk.specs.Passes.{IsSamePass, mine, basis};
 ghost use Rattle.exec_journal.specs.declared.call.Call.TheVariants as call;
-ghost use Rattle.run_rules.specs.Laws.{fits_ask};
-ghost use Rattle.run_rules.specs.Duties.{Asks, duty_of};
+ghost use Rattle.core_contract.specs.Laws.{fits_ask};
+ghost use Rattle.core_contract.specs.Duties.{Asks, duty_of};
 ghost use Rattle.proxy_calls.specs.Calls.{IsProxyOf, MakesNone};
 ghost use Rattle.proxy_calls.specs.Orders.{is_idle, idle_not_kept, GivesChild, IsOrdered, HasAsked};
 
@@ -12,8 +12,8 @@ use exec_journal::{Attempt, Call, Reply};
 use lane_crew::{Caller, Question};
 use outside::{Berth, Place};
 use plain_values::NoMemory;
-use run_bench::{Bench, Good};
-use run_rules::Rules;
+use core_bench::{Bench, Good};
+use core_contract::Rules;
 use std::sync::Wait;
 
 /// What a lane is ordered.
@@ -83,7 +83,7 @@ pub fn ask<B: Berth, P: Place, C: Rules, R: Wait>(
     requires lane { IsProxyOf C.seats berth caller.old.pass }
     requires asks { duty_of (mine caller.old.pass) ≡ Asks }
     ensures same { IsSamePass caller.old.pass caller.new.pass }
-    ensures ordered { IfOk result (λ order. HasAsked (C.actions (rules caller.old.pass))
+    ensures ordered { IfOk result (λ order. HasAsked (C.actions (basis caller.old.pass))
         B.Child.told berth order caller.old.pass caller.new.pass) }
     ensures refused { OnErr result (MakesNone caller.old.pass caller.new.pass) }
 {

@@ -1,9 +1,9 @@
 //! The Claim of what was found for an answer, and the commit of files that were granted.
 ghost use Rattle.std.specs.Prelude.{◌≡◌, ◌<◌, ◌^◌, true, length, IfOk, IfErr};
-ghost use Rattle.seat_desk.specs.Passes.{IsSamePass, mine, rules};
-ghost use Rattle.run_rules.specs.Shelf.{Fresh, Back};
-ghost use Rattle.run_rules.specs.Duties.{Asks, duty_of};
-ghost use Rattle.run_bench.specs.Objects.{IsPlaceAt};
+ghost use Rattle.seat_desk.specs.Passes.{IsSamePass, mine, basis};
+ghost use Rattle.core_contract.specs.Shelf.{Fresh, Back};
+ghost use Rattle.core_contract.specs.Duties.{Asks, duty_of};
+ghost use Rattle.core_bench.specs.Objects.{IsPlaceAt};
 ghost use Rattle.proxy_calls.specs.Calls.{IsProxyOf, MakesNone, MayMake};
 ghost use Rattle.proxy_calls.specs.Claims.{claim_of, HasClaimed, HasCommitted, OwesCommit};
 
@@ -13,8 +13,8 @@ use lane_crew::Caller;
 use output_commit::{Committed, commit};
 use outside::{Berth, Place};
 use plain_values::{Blob, Text};
-use run_bench::{Bench, Good};
-use run_rules::Rules;
+use core_bench::{Bench, Good};
+use core_contract::Rules;
 use seat_desk::Refused;
 use std::sync::Wait;
 
@@ -36,7 +36,7 @@ pub fn claim<B: Berth, P: Place, C: Rules, R: Wait>(
         (claim_of attempt found) }
     ensures same { IsSamePass caller.old.pass caller.new.pass }
     ensures claimed { IfOk result (λ place. HasClaimed P.told
-        (C.outputs (rules caller.old.pass) attempt.action) attempt found place
+        (C.outputs (basis caller.old.pass) attempt.action) attempt found place
         caller.old.pass caller.new.pass) }
     ensures refused { IfErr result (λ call. (call ≡ claim_of attempt found)
         × MakesNone caller.old.pass caller.new.pass) }
@@ -69,7 +69,7 @@ pub fn commit_files<B: Berth, P: Place, C: Rules, R: Wait>(
 )
     requires lane { IsProxyOf C.seats berth caller.old.pass }
     requires owes { OwesCommit attempt files.now (mine caller.old.pass) }
-    requires outputs { C.outputs (rules caller.old.pass) attempt.action ≡ outputs.now }
+    requires outputs { C.outputs (basis caller.old.pass) attempt.action ≡ outputs.now }
     requires fits { length files.now ≡ length outputs.now }
     requires few { length outputs.now < 2 ^ 32 }
     requires place { IsPlaceAt attempt.action outputs.now Fresh (P.told place) }

@@ -3,9 +3,9 @@ ghost use Rattle.std.specs.Prelude.{◌≡◌, true};
 ghost use Rattle.seat_desk.specs.Passes.{IsSamePass, mine};
 ghost use Rattle.exec_journal.specs.declared.call.Call.TheVariants as call;
 ghost use Rattle.exec_journal.specs.declared.reply.Reply.TheVariants as reply;
-ghost use Rattle.run_rules.specs.Duties.{duty_of};
-ghost use Rattle.run_rules.specs.Shelf.{child_at};
-ghost use Rattle.lane_deeds.specs.Ends.{may_halt};
+ghost use Rattle.core_contract.specs.Duties.{duty_of};
+ghost use Rattle.core_contract.specs.Shelf.{child_at};
+ghost use Rattle.proxy_deeds.specs.Ends.{may_halt};
 ghost use Rattle.proxy_calls.specs.Calls.{IsProxyOf, MakesOne};
 ghost use Rattle.proxy_calls.specs.Goods.{IsChildThere};
 
@@ -13,8 +13,8 @@ use crate::goods::child_in;
 use exec_journal::Call;
 use lane_crew::Caller;
 use outside::{Berth, Place};
-use run_bench::Bench;
-use run_rules::Rules;
+use core_bench::Bench;
+use core_contract::Rules;
 use std::sync::Wait;
 
 /// Halts, and gives the berth's child if it lies on the shelf. It takes no memory.

@@ -1,19 +1,19 @@
 //! Looks at made inputs, and at the outputs of an answer.
 ghost use Rattle.std.specs.Prelude.{◌≡◌, true, IfOk};
-ghost use Rattle.seat_desk.specs.Passes.{IsSamePass, mine, rules, seen};
+ghost use Rattle.seat_desk.specs.Passes.{IsSamePass, mine, basis, seen};
 ghost use Rattle.exec_journal.specs.declared.call.Call.TheVariants as call;
-ghost use Rattle.lane_deeds.specs.Told.{IsTold};
+ghost use Rattle.proxy_deeds.specs.Told.{IsTold};
 ghost use Rattle.proxy_calls.specs.Calls.{IsProxyOf, MakesNone, MayMake};
-ghost use Rattle.run_rules.specs.Duties.{is_maker};
+ghost use Rattle.core_contract.specs.Duties.{is_maker};
 ghost use Rattle.proxy_calls.specs.Looks.{told_as, made_as, OwesSend};
 
 use exec_journal::{Call, Reply, Wanted};
 use lane_crew::Caller;
 use outside::{Berth, Place};
 use plain_values::{Blob, NoMemory};
-use run_bench::Bench;
+use core_bench::Bench;
 use run_plan::Maker;
-use run_rules::Rules;
+use core_contract::Rules;
 use std::sync::Wait;
 
 /// The bytes that the core has of what is wanted, or `None` if it has none.
@@ -31,7 +31,7 @@ pub fn look<B: Berth, P: Place, C: Rules, R: Wait>(
     requires may { MayMake C.outputs C.makers C.remote berth caller.old.pass
         (call.Look wanted) }
     ensures same { IsSamePass caller.old.pass caller.new.pass }
-    ensures told { IfOk result (λ found. IsTold (C.rule (rules caller.old.pass))
+    ensures told { IfOk result (λ found. IsTold (C.rule (basis caller.old.pass))
         caller.old.pass.lane (seen caller.new.pass) (told_as wanted found)) }
     ensures none { MakesNone caller.old.pass caller.new.pass }
 {
@@ -62,10 +62,10 @@ pub fn look_made<B: Berth, P: Place, C: Rules, R: Wait>(
 ) -> Result<Blob, NoMemory>
     requires lane { IsProxyOf C.seats berth caller.old.pass }
     requires owes { OwesSend action (mine caller.old.pass) }
-    requires made { is_maker (C.makers (rules caller.old.pass) action) maker.action maker.output
+    requires made { is_maker (C.makers (basis caller.old.pass) action) maker.action maker.output
         ≡ true }
     ensures same { IsSamePass caller.old.pass caller.new.pass }
-    ensures told { IfOk result (λ bytes. IsTold (C.rule (rules caller.old.pass))
+    ensures told { IfOk result (λ bytes. IsTold (C.rule (basis caller.old.pass))
         caller.old.pass.lane (seen caller.new.pass) (made_as maker bytes)) }
     ensures none { MakesNone caller.old.pass caller.new.pass }
 {

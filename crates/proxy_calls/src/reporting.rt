@@ -5,7 +5,7 @@ ghost use Rattle.exec_journal.specs.declared.call.Call.TheVariants as call;
 ghost use Rattle.exec_journal.specs.declared.call.Started.TheVariants as start;
 ghost use Rattle.exec_journal.specs.declared.reply.Reply.TheVariants as reply;
 ghost use Rattle.outside.specs.Launches.{IsNewTap, IsNewChild};
-ghost use Rattle.run_rules.specs.Duties.{Asks, Launches, duty_of};
+ghost use Rattle.core_contract.specs.Duties.{Asks, Launches, duty_of};
 ghost use Rattle.proxy_calls.specs.Calls.{IsProxyOf, MakesNone, MakesOne, MayMake};
 ghost use Rattle.proxy_calls.specs.Reports.{is_report};
 
@@ -13,8 +13,8 @@ use crate::goods::child_back;
 use exec_journal::{Call, Started};
 use lane_crew::Caller;
 use outside::{Berth, Place};
-use run_bench::{Bench, Good};
-use run_rules::Rules;
+use core_bench::{Bench, Good};
+use core_contract::Rules;
 use seat_desk::Refused;
 use std::sync::Wait;
 

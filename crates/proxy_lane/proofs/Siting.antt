@@ -8,14 +8,14 @@ use Rattle.run_plan.specs.declared.plan.Maker.{Maker}
 use Rattle.run_plan.specs.Groups.{is_remote}
 use Rattle.exec_journal.specs.declared.call.Call.{Call}
 use Rattle.exec_journal.specs.declared.reply.Reply.{Reply}
-use Rattle.run_rules.specs.Moves.{History}
-use Rattle.run_rules.specs.Duties.{Asks, duty_of}
-use Rattle.lane_deeds.specs.declared.cause.Cause.{Cause}
-use Rattle.lane_steps.specs.declared.hands.Hands.{Hands}
-use Rattle.lane_steps.specs.Work.{IsWorkOf}
-use Rattle.lane_steps.specs.Lanes.{Held}
-use Rattle.lane_steps.specs.Steps.{Goes, Halts}
-use Rattle.lane_steps.proofs.Serving.{proxy_on, by_rules}
+use Rattle.core_contract.specs.Moves.{History}
+use Rattle.core_contract.specs.Duties.{Asks, duty_of}
+use Rattle.proxy_deeds.specs.declared.cause.Cause.{Cause}
+use Rattle.proxy_steps.specs.declared.hands.Hands.{Hands}
+use Rattle.proxy_steps.specs.Work.{IsWorkOf}
+use Rattle.proxy_steps.specs.Lanes.{Held}
+use Rattle.proxy_steps.specs.Steps.{Goes, Halts}
+use Rattle.proxy_steps.proofs.Serving.{proxy_on, by_rules}
 use Rattle.proxy_lane.specs.declared.site.Site.{Site}
 use Rattle.proxy_lane.specs.Sites.{IsSite, Obeyed}
 

@@ -2,21 +2,21 @@
 use Rattle.std.specs.Prelude.{◌≡◌, ℕ, Bool, List, length, Result, Ok, Err}
 use Rattle.seat_desk.specs.declared.machine.Machine.{Ghosts}
 use Rattle.seat_desk.specs.declared.desk.Pass.{Pass}
-use Rattle.seat_desk.specs.Passes.{IsSamePass, mine, rules}
+use Rattle.seat_desk.specs.Passes.{IsSamePass, mine, basis}
 use Rattle.run_plan.specs.declared.plan.Maker.{Maker}
 use Rattle.run_plan.specs.Groups.{is_remote}
 use Rattle.exec_journal.specs.declared.call.Call.{Call}
 use Rattle.exec_journal.specs.declared.reply.Reply.{Reply}
-use Rattle.run_rules.specs.Moves.{History}
-use Rattle.run_rules.specs.Duties.{Duty, Asks, Sends, Gathers, duty_of}
-use Rattle.lane_deeds.specs.declared.cause.Cause.{Cause}
+use Rattle.core_contract.specs.Moves.{History}
+use Rattle.core_contract.specs.Duties.{Duty, Asks, Sends, Gathers, duty_of}
+use Rattle.proxy_deeds.specs.declared.cause.Cause.{Cause}
 use Rattle.outside.specs.Told.{ChildTold}
 use Rattle.proxy_calls.specs.declared.asking.Order.{Order}
 use Rattle.proxy_calls.specs.Calls.{IsProxyOf}
-use Rattle.lane_steps.specs.declared.hands.Hands.{Hands}
-use Rattle.lane_steps.specs.Work.{IsWorkOf}
-use Rattle.lane_steps.specs.Lanes.{Held}
-use Rattle.lane_steps.specs.Steps.{open_in, HasRoom, IsShelved, MayObey, Goes, GoesTo, Halts, SomeKeeps}
+use Rattle.proxy_steps.specs.declared.hands.Hands.{Hands}
+use Rattle.proxy_steps.specs.Work.{IsWorkOf}
+use Rattle.proxy_steps.specs.Lanes.{Held}
+use Rattle.proxy_steps.specs.Steps.{open_in, HasRoom, IsShelved, MayObey, Goes, GoesTo, Halts, SomeKeeps}
 use Rattle.proxy_lane.specs.declared.site.Site.{Site}
 use Rattle.proxy_lane.specs.declared.site.Request.{Request}
 use Rattle.proxy_lane.specs.declared.site.Answer.{Answer}
@@ -35,8 +35,8 @@ pub record IsSite {M G Q R : Type 0} {g : Ghosts M Call Reply G Q} (seats : Q �
     (remote : Q → ℕ → Bool) (actions : Q → ℕ) (outputs : Q → ℕ → List (List ℕ))
     (makers : Q → ℕ → List Maker) (site : Site R) (p : Pass M Call Reply G Q g) : Type 0 where
   pub lane : IsProxyOf seats site.berth p
-  pub kind : remote (rules p) site.berth ≡ is_remote site.post.now.kind
-  pub work : IsWorkOf (actions (rules p)) (outputs (rules p)) (makers (rules p)) site.actions.now
+  pub kind : remote (basis p) site.berth ≡ is_remote site.post.now.kind
+  pub work : IsWorkOf (actions (basis p)) (outputs (basis p)) (makers (basis p)) site.actions.now
 
 module _ {M G Q R B D K : Type 0} {g : Ghosts M Call Reply G Q} (site : Site R) where
   -- what holds where the lane is ordered so

@@ -1,29 +1,29 @@
 //! What a proxy lane does for a Gather.
 ghost use Rattle.std.specs.Prelude.{◌≡◌, ◌<◌, ◌^◌, false, length, pos, IfOk, OnOk, OnErr, IfErr};
-ghost use Rattle.seat_desk.specs.Passes.{IsSamePass, mine, rules, seen};
+ghost use Rattle.seat_desk.specs.Passes.{IsSamePass, mine, basis, seen};
 ghost use Rattle.exec_journal.specs.declared.call.Found.TheVariants as found;
-ghost use Rattle.run_rules.specs.Duties.{Asks, Gathers, duty_of};
+ghost use Rattle.core_contract.specs.Duties.{Asks, Gathers, duty_of};
 ghost use Rattle.proxy_calls.specs.Calls.{MakesNone};
-ghost use Rattle.lane_steps.specs.Work.{IsWork};
-ghost use Rattle.lane_steps.specs.Acts.{GatherActs, IsAnswered};
-ghost use Rattle.lane_steps.specs.Lanes.{held_of};
+ghost use Rattle.proxy_steps.specs.Work.{IsWork};
+ghost use Rattle.proxy_steps.specs.Acts.{GatherActs, IsAnswered};
+ghost use Rattle.proxy_steps.specs.Lanes.{held_of};
 ghost use Rattle.proxy_lane.specs.Sites.{IsSite, gathers, Obeys};
-ghost use Rattle.lane_steps.specs.Steps.{SameShelf, OwesClaim, ClaimsFound, IsCauseOfClaim, files_in, HasFiles};
+ghost use Rattle.proxy_steps.specs.Steps.{SameShelf, OwesClaim, ClaimsFound, IsCauseOfClaim, files_in, HasFiles};
 
 use crate::hands::{action_at, is_executor};
 use crate::site::{Answer, Site};
 use due_frames::room_of;
 use exec_journal::{Attempt, Found, Wanted};
 use lane_crew::Caller;
-use lane_deeds::Cause;
-use lane_steps::Hands;
+use proxy_deeds::Cause;
+use proxy_steps::Hands;
 use order_acts::gather_line;
 use outside::{Berth, Place};
 use plain_values::{Blob, Items, NoMemory};
 use proxy_calls::{claim, commit_files, look};
 use remote_messages::WorkAction;
-use run_bench::Bench;
-use run_rules::Rules;
+use core_bench::Bench;
+use core_contract::Rules;
 use std::alloc::Global;
 use std::sync::Wait;
 
@@ -66,11 +66,11 @@ fn act_gather<B: Berth, P: Place, C: Rules, R: Wait>(
 ) -> Result<Found, NoMemory>
     requires site { IsSite C.seats C.remote C.actions C.outputs C.makers site.now caller.old.pass }
     requires owes { duty_of (mine caller.old.pass) ≡ gathers answer.now }
-    requires work { IsWork (C.outputs (rules caller.old.pass) answer.now.attempt.action)
-        (C.makers (rules caller.old.pass) answer.now.attempt.action) work.now }
+    requires work { IsWork (C.outputs (basis caller.old.pass) answer.now.attempt.action)
+        (C.makers (basis caller.old.pass) answer.now.attempt.action) work.now }
     ensures same { IsSamePass caller.old.pass caller.new.pass }
     ensures none { MakesNone caller.old.pass caller.new.pass }
-    ensures acts { GatherActs site.now.post.now (C.rule (rules caller.old.pass))
+    ensures acts { GatherActs site.now.post.now (C.rule (basis caller.old.pass))
         caller.old.pass.lane answer.now.line answer.now.number work.now result
         (seen caller.new.pass) (B.told berth.old) (B.told berth.new) }
     ensures may { IfOk result (λ found. OwesClaim C.outputs C.makers C.remote site.now.berth
@@ -100,12 +100,12 @@ fn answered<B: Berth, P: Place, C: Rules, R: Wait>(
     requires site { IsSite C.seats C.remote C.actions C.outputs C.makers site.now caller.old.pass }
     requires owes { duty_of (mine caller.old.pass) ≡ Gathers answer.now.line answer.now.number
         answer.now.attempt (pos 0) false }
-    requires outputs { length (C.outputs (rules caller.old.pass) answer.now.attempt.action)
+    requires outputs { length (C.outputs (basis caller.old.pass) answer.now.attempt.action)
         ≡ outputs }
     requires few { outputs < 2 ^ 32 }
     ensures same { IsSamePass caller.old.pass caller.new.pass }
     ensures none { MakesNone caller.old.pass caller.new.pass }
-    ensures answered { IfOk result (λ found. IsAnswered (C.rule (rules caller.old.pass))
+    ensures answered { IfOk result (λ found. IsAnswered (C.rule (basis caller.old.pass))
         caller.old.pass.lane answer.now.line answer.now.number outputs found
         (seen caller.new.pass)) }
 {
@@ -136,7 +136,7 @@ fn claim_found<B: Berth, P: Place, C: Rules, R: Wait>(
     requires site { IsSite C.seats C.remote C.actions C.outputs C.makers site.now caller.old.pass }
     requires may { OwesClaim C.outputs C.makers C.remote site.now.berth attempt found
         caller.old.pass }
-    requires outputs { C.outputs (rules caller.old.pass) attempt.action ≡ work.now.outputs }
+    requires outputs { C.outputs (basis caller.old.pass) attempt.action ≡ work.now.outputs }
     requires few { length work.now.outputs < 2 ^ 32 }
     ensures same { IsSamePass caller.old.pass caller.new.pass }
     ensures claims { OnOk result ((duty_of (mine caller.new.pass) ≡ Asks)

@@ -1,9 +1,9 @@
 //! The lane's hands, and the work of an action.
 ghost use Rattle.std.specs.Prelude.{◌≡◌, ◌<◌, length, slice_get, Some};
 ghost use Rattle.run_plan.specs.Groups.{is_remote};
-ghost use Rattle.lane_steps.specs.Steps.{open_in};
+ghost use Rattle.proxy_steps.specs.Steps.{open_in};
 
-use lane_steps::Hands;
+use proxy_steps::Hands;
 use remote_messages::WorkAction;
 use run_plan::Kind;
 

@@ -1,12 +1,12 @@
 //! The inputs of a request, with their bytes.
 ghost use Rattle.std.specs.Prelude.{◌≡◌, All, IfOk, take};
-ghost use Rattle.seat_desk.specs.Passes.{IsSamePass, mine, rules, seen};
+ghost use Rattle.seat_desk.specs.Passes.{IsSamePass, mine, basis, seen};
 ghost use Rattle.due_frames.specs.Requests.{IsFrom};
-ghost use Rattle.lane_deeds.specs.Deeds.{AreInputs, look_at, looks_of};
-ghost use Rattle.lane_deeds.specs.Told.{AreTold};
+ghost use Rattle.proxy_deeds.specs.Deeds.{AreInputs, look_at, looks_of};
+ghost use Rattle.proxy_deeds.specs.Told.{AreTold};
 ghost use Rattle.proxy_calls.specs.Calls.{IsProxyOf, MakesNone};
 ghost use Rattle.proxy_calls.specs.Looks.{OwesSend};
-ghost use Rattle.lane_steps.specs.Work.{IsMadeBy};
+ghost use Rattle.proxy_steps.specs.Work.{IsMadeBy};
 
 use crate::hands::is_executor;
 use lane_crew::Caller;
@@ -14,9 +14,9 @@ use outside::{Berth, Place};
 use plain_values::{Blob, NoMemory, Text};
 use proxy_calls::look_made;
 use remote_messages::{NamedFile, Origin, WorkInput};
-use run_bench::Bench;
+use core_bench::Bench;
 use run_plan::{Kind, Maker};
-use run_rules::Rules;
+use core_contract::Rules;
 use std::alloc::Global;
 use std::sync::Wait;
 
@@ -36,12 +36,12 @@ pub(crate) fn inputs_of<B: Berth, P: Place, C: Rules, R: Wait>(
 ) -> Result<Vec<NamedFile>, NoMemory>
     requires lane { IsProxyOf C.seats berth caller.old.pass }
     requires owes { OwesSend action (mine caller.old.pass) }
-    requires made { All (λ input. IsMadeBy (C.makers (rules caller.old.pass) action) input.origin)
+    requires made { All (λ input. IsMadeBy (C.makers (basis caller.old.pass) action) input.origin)
         inputs.now }
     ensures same { IsSamePass caller.old.pass caller.new.pass }
     ensures none { MakesNone caller.old.pass caller.new.pass }
     ensures inputs { IfOk result (λ files. AreInputs inputs.now files.items) }
-    ensures told { IfOk result (λ files. AreTold (C.rule (rules caller.old.pass))
+    ensures told { IfOk result (λ files. AreTold (C.rule (basis caller.old.pass))
         caller.old.pass.lane (seen caller.new.pass) (looks_of inputs.now files.items)) }
 {
     let mut files = Vec::with_capacity(alloc, inputs.len())?;
@@ -63,11 +63,11 @@ fn content_of<B: Berth, P: Place, C: Rules, R: Wait>(
 ) -> Result<Blob, NoMemory>
     requires lane { IsProxyOf C.seats berth caller.old.pass }
     requires owes { OwesSend action (mine caller.old.pass) }
-    requires made { IsMadeBy (C.makers (rules caller.old.pass) action) origin.now }
+    requires made { IsMadeBy (C.makers (basis caller.old.pass) action) origin.now }
     ensures same { IsSamePass caller.old.pass caller.new.pass }
     ensures none { MakesNone caller.old.pass caller.new.pass }
     ensures from { IfOk result (λ bytes. IsFrom origin.now bytes) }
-    ensures told { IfOk result (λ bytes. AreTold (C.rule (rules caller.old.pass))
+    ensures told { IfOk result (λ bytes. AreTold (C.rule (basis caller.old.pass))
         caller.old.pass.lane (seen caller.new.pass) (look_at origin.now bytes)) }
 {
     match origin {

@@ -2,26 +2,26 @@
 ghost use Rattle.std.specs.Prelude.{◌≡◌, true, None, Some};
 ghost use Rattle.seat_desk.specs.Passes.{IsSamePass, mine};
 ghost use Rattle.outside.specs.Launches.{IsNewChild};
-ghost use Rattle.run_rules.specs.Duties.{duty_of};
-ghost use Rattle.lane_deeds.specs.Ends.{may_halt};
+ghost use Rattle.core_contract.specs.Duties.{duty_of};
+ghost use Rattle.proxy_deeds.specs.Ends.{may_halt};
 ghost use Rattle.exec_journal.specs.declared.call.Call.TheVariants as call;
 ghost use Rattle.exec_journal.specs.declared.reply.Reply.TheVariants as reply;
 ghost use Rattle.proxy_calls.specs.declared.asking.Order.TheVariants as order;
 ghost use Rattle.proxy_calls.specs.Calls.{MakesOne};
-ghost use Rattle.lane_steps.specs.Lanes.{held_of};
+ghost use Rattle.proxy_steps.specs.Lanes.{held_of};
 ghost use Rattle.proxy_lane.specs.Sites.{IsSite, IsOrdered, IsTidy, Obeys};
-ghost use Rattle.lane_steps.specs.Steps.{open_in, HasRoom, IsShelved, IsLaidBy, AreLaidBy};
+ghost use Rattle.proxy_steps.specs.Steps.{open_in, HasRoom, IsShelved, IsLaidBy, AreLaidBy};
 
 use crate::hands::open_line;
 use crate::site::Site;
 use exec_journal::Call;
 use lane_crew::Caller;
-use lane_deeds::Cause;
-use lane_steps::{EndedFeed, Hands, OpenFeed};
+use proxy_deeds::Cause;
+use proxy_steps::{EndedFeed, Hands, OpenFeed};
 use outside::{Berth, Place};
 use proxy_calls::{halt, tell};
-use run_bench::Bench;
-use run_rules::Rules;
+use core_bench::Bench;
+use core_contract::Rules;
 use std::sync::Wait;
 
 /// Has the berth end the open line's child, which is laid by with the line's feed, and reports it.

@@ -1,9 +1,9 @@
 //! The whole lane: round after round, to its end.
 ghost use Rattle.std.specs.Prelude.{◌≡◌, ◌<◌, [], map, option_map};
 ghost use Rattle.seat_desk.specs.Passes.{IsPassOf, IsSamePass, mine};
-ghost use Rattle.lane_steps.specs.Lanes.{held_of, back_of};
+ghost use Rattle.proxy_steps.specs.Lanes.{held_of, back_of};
 ghost use Rattle.proxy_lane.specs.Sites.{IsSite, IsOrdered, IsTidy, IsReady, Obeys, Rounds};
-ghost use Rattle.lane_steps.specs.Steps.{HasRoom, Finishes, IsServedBy};
+ghost use Rattle.proxy_steps.specs.Steps.{HasRoom, Finishes, IsServedBy};
 
 use crate::gathering::gather;
 use crate::killing::{give_up, kill};
@@ -13,12 +13,12 @@ use crate::site::{Answer, Site};
 use exec_journal::Call;
 use lane_bells::Bells;
 use lane_crew::Caller;
-use lane_deeds::Cause;
-use lane_steps::{EndedFeed, Hands};
+use proxy_deeds::Cause;
+use proxy_steps::{EndedFeed, Hands};
 use outside::{Berth, Place};
 use proxy_calls::{Order, ask};
-use run_bench::Bench;
-use run_rules::Rules;
+use core_bench::Bench;
+use core_contract::Rules;
 use seat_desk::{Desk, Pass};
 use std::sync::Wait;
 

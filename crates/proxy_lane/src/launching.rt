@@ -1,26 +1,26 @@
 //! What a proxy lane does for a Launch.
 ghost use Rattle.std.specs.Prelude.{◌≡◌, ◌<◌, vec_len, vec_capacity, false, OnOk, IfErr};
 ghost use Rattle.seat_desk.specs.Passes.{IsSamePass, mine};
-ghost use Rattle.run_rules.specs.Duties.{Asks, Launches, duty_of};
+ghost use Rattle.core_contract.specs.Duties.{Asks, Launches, duty_of};
 ghost use Rattle.exec_journal.specs.declared.call.Call.TheVariants as call;
 ghost use Rattle.exec_journal.specs.declared.reply.Reply.TheVariants as reply;
 ghost use Rattle.exec_journal.specs.Entries.{is_done};
-ghost use Rattle.lane_deeds.specs.declared.cause.Cause.TheVariants.{Refused};
+ghost use Rattle.proxy_deeds.specs.declared.cause.Cause.TheVariants.{Refused};
 ghost use Rattle.proxy_calls.specs.declared.asking.Order.TheVariants as order;
 ghost use Rattle.proxy_calls.specs.Calls.{MakesNone, MakesOne};
-ghost use Rattle.lane_steps.specs.Lanes.{held_of};
+ghost use Rattle.proxy_steps.specs.Lanes.{held_of};
 ghost use Rattle.proxy_lane.specs.Sites.{IsSite, IsOrdered, IsTidy, Obeys};
 
 use crate::site::Site;
 use exec_journal::{Call, Started};
 use lane_crew::Caller;
-use lane_deeds::Cause;
-use lane_steps::{EndedFeed, Hands, OpenFeed};
+use proxy_deeds::Cause;
+use proxy_steps::{EndedFeed, Hands, OpenFeed};
 use order_acts::{Opened, launch_line};
 use outside::{Berth, Place};
 use proxy_calls::{Unsaid, tell, tell_started};
-use run_bench::Bench;
-use run_rules::Rules;
+use core_bench::Bench;
+use core_contract::Rules;
 use std::sync::Wait;
 
 /// Starts a line, and reports how that went.

@@ -1,17 +1,17 @@
 //! What is done for a Send and for a Cancel.
 ghost use Rattle.std.specs.Prelude.{◌≡◌, OnOk, IfErr};
-ghost use Rattle.seat_desk.specs.Passes.{IsSamePass, mine, rules, seen};
-ghost use Rattle.run_rules.specs.Duties.{Asks, duty_of};
+ghost use Rattle.seat_desk.specs.Passes.{IsSamePass, mine, basis, seen};
+ghost use Rattle.core_contract.specs.Duties.{Asks, duty_of};
 ghost use Rattle.proxy_calls.specs.declared.asking.Order.TheVariants as order;
 ghost use Rattle.proxy_calls.specs.Calls.{MakesNone};
-ghost use Rattle.lane_steps.specs.Acts.{Writes, SendActs, CancelActs};
-ghost use Rattle.lane_steps.specs.Lanes.{held_of};
+ghost use Rattle.proxy_steps.specs.Acts.{Writes, SendActs, CancelActs};
+ghost use Rattle.proxy_steps.specs.Lanes.{held_of};
 ghost use Rattle.proxy_lane.specs.Sites.{IsSite, IsOrdered, sends, Obeys};
-ghost use Rattle.lane_steps.specs.Steps.{SameShelf, OwesWrote, TellsWrote, IsCauseOf};
-ghost use Rattle.lane_steps.specs.Work.{IsWork};
+ghost use Rattle.proxy_steps.specs.Steps.{SameShelf, OwesWrote, TellsWrote, IsCauseOf};
+ghost use Rattle.proxy_steps.specs.Work.{IsWork};
 ghost use Rattle.due_frames.specs.declared.frames.Due.TheVariants.{Frame};
 ghost use Rattle.due_frames.specs.Requests.{AreFrom};
-ghost use Rattle.lane_deeds.specs.Deeds.{send_asks, due_for};
+ghost use Rattle.proxy_deeds.specs.Deeds.{send_asks, due_for};
 
 use crate::hands::{action_at, is_executor};
 use crate::inputs::{inputs_of, know_digests};
@@ -19,15 +19,15 @@ use crate::site::{Request, Site};
 use due_frames::{Due, cancel_frame, room_of, send_frame};
 use exec_journal::{Call, Written};
 use lane_crew::Caller;
-use lane_deeds::Cause;
-use lane_steps::{Hands, OpenFeed};
+use proxy_deeds::Cause;
+use proxy_steps::{Hands, OpenFeed};
 use order_acts::{give, send_line};
 use outside::{Berth, Feed, Place};
 use plain_values::NoMemory;
 use proxy_calls::tell;
 use remote_messages::NamedFile;
-use run_bench::Bench;
-use run_rules::Rules;
+use core_bench::Bench;
+use core_contract::Rules;
 use std::sync::Wait;
 
 /// For a Send: takes the inputs together, makes the room ready, and writes the request to the line.
@@ -45,11 +45,11 @@ pub(crate) fn act_send<B: Berth, P: Place, C: Rules, R: Wait>(
 ) -> Result<Written, NoMemory>
     requires site { IsSite C.seats C.remote C.actions C.outputs C.makers site.now caller.old.pass }
     requires owes { duty_of (mine caller.old.pass) ≡ sends request.now }
-    requires work { IsWork (C.outputs (rules caller.old.pass) request.now.action)
-        (C.makers (rules caller.old.pass) request.now.action) request.now.work.now }
+    requires work { IsWork (C.outputs (basis caller.old.pass) request.now.action)
+        (C.makers (basis caller.old.pass) request.now.action) request.now.work.now }
     ensures same { IsSamePass caller.old.pass caller.new.pass }
     ensures none { MakesNone caller.old.pass caller.new.pass }
-    ensures acts { SendActs site.now.post.now (C.rule (rules caller.old.pass)) caller.old.pass.lane
+    ensures acts { SendActs site.now.post.now (C.rule (basis caller.old.pass)) caller.old.pass.lane
         request.now.line request.now.number request.now.work.now result (seen caller.new.pass)
         (B.told berth.old) (B.told berth.new) (B.Feed.told feed.old) (B.Feed.told feed.new) }
 {

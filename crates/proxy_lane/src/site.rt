@@ -1,7 +1,7 @@
 //! Where a proxy lane works, and what an order of it names.
 
 use exec_journal::Attempt;
-use lane_deeds::Post;
+use proxy_deeds::Post;
 use remote_messages::WorkAction;
 use std::alloc::Global;
 

@@ -9,8 +9,8 @@ use Rattle.list_order.specs.declared.types.ListAction.{ListAction}
 use Rattle.run_tasks.proofs.Posted.{posts_law}
 use Rattle.run_tasks.proofs.Spoken.{parts_law}
 use Rattle.run_tasks.specs.Posts.{posts_for}
-use Rattle.lane_deeds.specs.declared.post.Post.{Post}
-use Rattle.lane_steps.specs.Work.{IsWorkOf}
+use Rattle.proxy_deeds.specs.declared.post.Post.{Post}
+use Rattle.proxy_steps.specs.Work.{IsWorkOf}
 use Rattle.outside.specs.Told.{FloorTold}
 use Rattle.remote_messages.specs.declared.work.Work.{Work}
 use Rattle.remote_messages.specs.declared.work.WorkAction.{WorkAction}

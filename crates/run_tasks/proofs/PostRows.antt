@@ -5,7 +5,7 @@ use Rattle.run_plan.specs.declared.plan.Plan.{Plan}
 use Rattle.run_plan.specs.declared.plan.Speech.TheVariants as speech
 use Rattle.action_list.specs.declared.parts.GroupPart.{GroupPart}
 use Rattle.outside.specs.declared.command.Command.{Command}
-use Rattle.lane_deeds.specs.declared.post.Post.{Post}
+use Rattle.proxy_deeds.specs.declared.post.Post.{Post}
 use Rattle.run_tasks.specs.Posts.{part_at, post_at, posts_for}
 
 abbrev two_groups : Plan

@@ -8,7 +8,7 @@ use Rattle.run_plan.specs.declared.plan.Group.{Group}
 use Rattle.run_plan.specs.declared.plan.Plan.{Plan}
 use Rattle.run_plan.specs.Groups.{group_from, berth_group, berths, kind_of}
 use Rattle.action_list.specs.declared.parts.GroupPart.{GroupPart}
-use Rattle.lane_deeds.specs.declared.post.Post.{Post}
+use Rattle.proxy_deeds.specs.declared.post.Post.{Post}
 use Rattle.run_tasks.specs.Posts.{post_for, group_posts}
 use Rattle.run_tasks.specs.Laws.{HasPost, PostsLaw}
 

@@ -2,7 +2,7 @@
 use Rattle.std.proofs.Common.{true, false, [], ◌∷◌, None, Err, refl}
 use Rattle.build_report.specs.declared.fault.RunFault.TheVariants as fault
 use Rattle.outside.specs.declared.command.Command.{Command}
-use Rattle.lane_deeds.specs.declared.post.Post.{Post}
+use Rattle.proxy_deeds.specs.declared.post.Post.{Post}
 use Rattle.run_plan.specs.Groups.{is_remote, kind_of}
 use Rattle.run_plan.specs.declared.plan.Kind.TheVariants as kind
 use Rattle.run_plan.specs.declared.plan.Plan.{Plan}

@@ -11,7 +11,7 @@ use Rattle.run_plan.specs.Groups.{is_remote}
 use Rattle.action_list.specs.declared.parts.GroupPart.{GroupPart}
 use Rattle.list_order.specs.declared.types.ListAction.{ListAction}
 use Rattle.action_list.specs.Parts.{executor_part, user_part, user_of, part_of, parts_from}
-use Rattle.lane_deeds.specs.declared.post.Post.{Post}
+use Rattle.proxy_deeds.specs.declared.post.Post.{Post}
 use Rattle.run_tasks.specs.Posts.{post_for}
 use Rattle.run_tasks.specs.Laws.{PartsLaw, SpeaksAsItIs, SpeechLaw}
 use Rattle.run_tasks.proofs.Posted.{by_test, get_front, get_behind, posts}

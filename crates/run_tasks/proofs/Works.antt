@@ -12,7 +12,7 @@ use Rattle.outside.specs.declared.floor.SourceFile.{SourceFile}
 use Rattle.remote_messages.specs.declared.work.WorkAction.{WorkAction}
 use Rattle.remote_messages.specs.declared.work.WorkInput.{WorkInput}
 use Rattle.exec_journal.specs.Scripts.{is_made}
-use Rattle.run_rules.specs.Duties.{is_maker}
+use Rattle.core_contract.specs.Duties.{is_maker}
 use Rattle.list_order.specs.declared.types.ListAction.{ListAction}
 use Rattle.list_order.specs.Answers.{Check, first}
 use Rattle.list_order.specs.Order.{first_again, is_among, made_later, made_twice, name_twice, order_check, orders_check, outputs_of}
@@ -20,7 +20,7 @@ use Rattle.list_order.specs.Made.{maker_of, producer_from, producer_in}
 use Rattle.action_list.specs.Plans.{plan_action, plan_actions}
 use Rattle.list_order.proofs.Late.{is_among-append}
 use Rattle.run_loading.specs.Works.{bytes_at, due_work, due_words, origin_of, with_words, work_action, work_input, work_inputs}
-use Rattle.lane_steps.specs.Work.{IsMadeBy, IsWork, IsWorkOf}
+use Rattle.proxy_steps.specs.Work.{IsMadeBy, IsWork, IsWorkOf}
 
 -- ---- who makes a path
 

@@ -7,7 +7,7 @@ use Rattle.run_plan.specs.Groups.{berths}
 use Rattle.action_list.specs.declared.parts.GroupPart.{GroupPart}
 use Rattle.list_order.specs.declared.types.ListAction.{ListAction}
 use Rattle.action_list.specs.Parts.{parts_of}
-use Rattle.lane_deeds.specs.declared.post.Post.{Post}
+use Rattle.proxy_deeds.specs.declared.post.Post.{Post}
 use Rattle.run_tasks.specs.Posts.{part_at, post_at, posts_for}
 
 -- the berth w has a post: that of its kind and its group's part

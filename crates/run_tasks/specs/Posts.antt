@@ -4,7 +4,7 @@ use Rattle.run_plan.specs.declared.plan.Group.{Group}
 use Rattle.run_plan.specs.declared.plan.Plan.{Plan}
 use Rattle.run_plan.specs.Groups.{berth_group, kind_of}
 use Rattle.action_list.specs.declared.parts.GroupPart.{GroupPart}
-use Rattle.lane_deeds.specs.declared.post.Post.{Post}
+use Rattle.proxy_deeds.specs.declared.post.Post.{Post}
 
 -- a post at a berth of this group, of which this is the part
 abbrev pub post_for : Group → GroupPart → Bool → Post

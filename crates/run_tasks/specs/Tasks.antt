@@ -4,8 +4,8 @@ use Rattle.action_list.specs.Parts.{parts_of}
 use Rattle.action_list.specs.Plans.{plan_of}
 use Rattle.list_order.specs.declared.types.ListAction.{ListAction}
 use Rattle.run_tasks.specs.Posts.{posts_for}
-use Rattle.lane_deeds.specs.declared.post.Post.{Post}
-use Rattle.lane_steps.specs.Work.{IsWorkOf}
+use Rattle.proxy_deeds.specs.declared.post.Post.{Post}
+use Rattle.proxy_steps.specs.Work.{IsWorkOf}
 use Rattle.run_plan.specs.Groups.{berths, is_remote, kind_of}
 use Rattle.run_plan.specs.Sound.{Sound}
 use Rattle.run_plan.specs.declared.plan.Plan.{Plan}

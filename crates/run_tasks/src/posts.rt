@@ -3,7 +3,7 @@ ghost use Rattle.std.specs.Prelude.{◌≡◌, ◌++◌, IfOk, OnOk, length};
 ghost use Rattle.run_tasks.specs.Posts.{group_posts, post_for, posts_for};
 
 use action_list::GroupPart;
-use lane_deeds::Post;
+use proxy_deeds::Post;
 use plain_values::NoMemory;
 use run_plan::{Group, Plan};
 use std::alloc::Global;

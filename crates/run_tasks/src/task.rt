@@ -7,7 +7,7 @@ ghost use Rattle.run_tasks.specs.Tasks.{HasPosts, HasSoundPlans, IsTaskOf, plan_
 
 use crate::posts::posts_of;
 use action_list::{ActionList, group_parts, plan, plan_again};
-use lane_deeds::Post;
+use proxy_deeds::Post;
 use plain_values::NoMemory;
 use remote_messages::Work;
 use run_plan::Plan;

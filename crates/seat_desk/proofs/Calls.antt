@@ -62,14 +62,14 @@ module _ {H C R Q : Type 0} (log_of : H → List (Entry C R)) (good : Q → H �
         ap (λ (k : SeatState H C R Q). k.1) now ∙ ap (λ (c : List (ℕ × Slot)). (0, None) ∷ rest c) s.1.2,
       )
 
-  pub may_end : (lane : ℕ) (m m1 : SeatState H C R Q) (y y' : H) (news : List (Entry C R)) → IsIdle lane m → IsServed log_of good m y (λ c. c ≡ (0, None) ∷ []) m1 → good m.0.rules y'
+  pub may_end : (lane : ℕ) (m m1 : SeatState H C R Q) (y y' : H) (news : List (Entry C R)) → IsIdle lane m → IsServed log_of good m y (λ c. c ≡ (0, None) ∷ []) m1 → good m.0.basis y'
       → (log_of y') ≡ (log_of y) ++ news → Only lane news → (k : ℕ) × MayEnd log_of good k m1 y'
   may_end lane m m1 y y' news idle s fine added only = (
     lane,
     (
       ap (λ (v : View C R Q). v.role) s.1.1 ∙ idle.0,
       s.2,
-      subst (λ (q : Q). good q y') (ap (λ (v : View C R Q). v.rules) (sym s.1.1)) fine,
+      subst (λ (q : Q). good q y') (ap (λ (v : View C R Q). v.basis) (sym s.1.1)) fine,
       (s.1.0, ap (λ (v : View C R Q). v.stage) s.1.1),
       (news, added ∙ ap (λ (v : View C R Q). v.seen ++ news) (sym s.1.1), only),
     ),
@@ -163,6 +163,6 @@ module _ {H C R Q : Type 0} (log_of : H → List (Entry C R)) (good : Q → H �
 -- The pass after a turn that began and ended in these states
 module _ {H C R Q : Type 0} where
   -- its seat's rules are those that it had
-  pub same_rules : (lane : ℕ) (m m1 m2 : SeatState H C R Q) (h h' : List (Entry C R)) → IsIdle lane m → ((t : ℕ) × (m1.0 ≡ view_in_turn m.0 t h)) → HasEnded m1 h' m2 → m2.0.rules ≡ m.0.rules
+  pub same_rules : (lane : ℕ) (m m1 m2 : SeatState H C R Q) (h h' : List (Entry C R)) → IsIdle lane m → ((t : ℕ) × (m1.0 ≡ view_in_turn m.0 t h)) → HasEnded m1 h' m2 → m2.0.basis ≡ m.0.basis
   same_rules lane m m1 m2 h h' idle s has_ended =
-      ap (λ (x : SeatState H C R Q). x.0.rules) (after_turn lane m m1 m2 h h' idle s has_ended) ∙ ap (λ (v : View C R Q). v.rules) s.1
+      ap (λ (x : SeatState H C R Q). x.0.basis) (after_turn lane m m1 m2 h h' idle s has_ended) ∙ ap (λ (v : View C R Q). v.basis) s.1

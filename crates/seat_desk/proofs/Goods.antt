@@ -8,7 +8,7 @@ use Rattle.seat_desk.specs.Logs.{Log}
 
 -- what holds of the machine and its history in the slot, where its rules are these
 abbrev pub good_of : {M C R G Q : Type 0} → Ghosts M C R G Q → Q → Held M C R → Type 0
-good_of g = IsGood g.rules g.stands g.owes
+good_of g = IsGood g.basis g.stands g.owes
 
 holds_at_ok : {T E P : Type 0} (r : Result T E) → is_ok r ≡ true → OnOk r P → P
 holds_at_ok (Ok x) e p = p
@@ -16,7 +16,7 @@ holds_at_ok (Err x) e p = absurd (let h : false ≡ true = e in cc)
 
 module _ {M C R G Q : Type 0} (g : Ghosts M C R G Q) where
   -- it is good under the machine's own rules too
-  pub good_by_own : (q : Q) (y : Held M C R) → good_of g q y → good_of g (g.rules y.machine) y
+  pub good_by_own : (q : Q) (y : Held M C R) → good_of g q y → good_of g (g.basis y.machine) y
   good_by_own q y good = subst (λ (r : Q). good_of g r y) (sym good.2) good
 
   -- it stays good where the history gets more room
@@ -30,8 +30,8 @@ module _ {M C R G Q : Type 0} (g : Ghosts M C R G Q) where
 
   -- it has room for a call's entry where the history found room for it and for what the machine owes
   pub room_of_call : {E : Type 0} (y : Held M C R) (h : Log (Entry C R)) (lane : ℕ) (call : C) (owed room : ℕ) (r : Result (Unit {0}) E)
-      → good_of g (g.rules y.machine) y → h.items ≡ y.history.items → owed ≡ g.owes (g.rules y.machine) y.history.items
+      → good_of g (g.basis y.machine) y → h.items ≡ y.history.items → owed ≡ g.owes (g.basis y.machine) y.history.items
       → room ≡ min (owed + 3) (2 ^ 64 - 1) → is_ok r ≡ true → OnOk r (room ≤ h.room) → h.room < 2 ^ 63
-      → HasRoom (g.owes (g.rules y.machine)) (g.paid (g.rules y.machine)) lane call (record { machine = y.machine; history = h })
+      → HasRoom (g.owes (g.basis y.machine)) (g.paid (g.basis y.machine)) lane call (record { machine = y.machine; history = h })
   room_of_call y h lane call owed room r good same is_owed is_room ok fits bounded =
-      inl (let owes = ap (g.owes (g.rules y.machine)) same in let found = holds_at_ok r ok fits in omega arith)
+      inl (let owes = ap (g.owes (g.basis y.machine)) same in let found = holds_at_ok r ok fits in omega arith)

@@ -47,7 +47,7 @@ module _ {H C R Q : Type 0} (log_of : H → List (Entry C R)) (good : Q → H �
 
   pub starts : (q : Q) (y : H) → (log_of y) ≡ [] → good q y → Rule (opening (0 ∷ 0 ∷ []) (Some y ∷ []) (first_view q))
   starts q y empty good = record {
-    rules = q;
+    basis = q;
     log = [];
     done = 0;
     drawn = 0;
@@ -82,7 +82,7 @@ module _ {H C R Q : Type 0} (log_of : H → List (Entry C R)) (good : Q → H �
         keeps,
         tt,
         record {
-          rules = r.rules;
+          basis = r.basis;
           log = r.log;
           done = r.done;
           drawn = r.drawn + 1;
@@ -98,8 +98,8 @@ module _ {H C R Q : Type 0} (log_of : H → List (Entry C R)) (good : Q → H �
               ((let c = r.count in omega arith), omega arith, put_here r.owner r.drawn id, λ b e. (let l : r.done < r.drawn = r.turn b in absurd (omega arith)))
               (λ j v other there. draw_other r.log r.done r.drawn id r.owner r.busy j v.seen v.stage r.turn (r.lines j v there));
           fronts = seats_stay (λ j (v : V). StartsWith r.log v.seen × StartsWith r.log v.told) s.views id w (r.fronts id me.0 at) (λ j v other there. r.fronts j v there);
-          roles = subst (λ (k : ℕ). (j : ℕ) (v : V) → get_elem? (set s.views id w) j ≡ maybe.some v → Plays r.rules r.log r.joined k j v v.role) (sym n)
-              (seats_stay (λ j (v : V). Plays r.rules r.log r.joined (length s.views) j v v.role) s.views id w (restaged r.rules r.log r.joined (length s.views) id me.0 (Waits r.drawn) me.0.role lives (r.roles id me.0 at)) (λ j v other there. r.roles j v there));
+          roles = subst (λ (k : ℕ). (j : ℕ) (v : V) → get_elem? (set s.views id w) j ≡ maybe.some v → Plays r.basis r.log r.joined k j v v.role) (sym n)
+              (seats_stay (λ j (v : V). Plays r.basis r.log r.joined (length s.views) j v v.role) s.views id w (restaged r.basis r.log r.joined (length s.views) id me.0 (Waits r.drawn) me.0.role lives (r.roles id me.0 at)) (λ j v other there. r.roles j v there));
           ends = r.ends;
           below = subst (λ (k : ℕ). Below k r.joined) (sym n) r.below;
           passes = ap (λ (k : ℕ). k + length r.joined + 1) (opens_same s.views id me.0 w at refl) ∙ (r.passes ∙ sym n);
@@ -108,10 +108,10 @@ module _ {H C R Q : Type 0} (log_of : H → List (Entry C R)) (good : Q → H �
         (refl, (r.drawn, drawn_word s.words r.drawn r.done r.words, refl)),
       )
     where
-      restaged : (rules : Q) (log : List (Entry C R)) (joined : List (Joined C R)) (n seat : ℕ) (v : V) (x : Stage) (role : Role) → role ≢ Gone → Plays rules log joined n seat v role → Plays rules log joined n seat (view_at v x) role
-      restaged rules log joined n seat v x (Root made) lives p = p
-      restaged rules log joined n seat v x (Lane k) lives p = p
-      restaged rules log joined n seat v x Gone lives p = absurd (lives refl)
+      restaged : (basis : Q) (log : List (Entry C R)) (joined : List (Joined C R)) (n seat : ℕ) (v : V) (x : Stage) (role : Role) → role ≢ Gone → Plays basis log joined n seat v role → Plays basis log joined n seat (view_at v x) role
+      restaged basis log joined n seat v x (Root made) lives p = p
+      restaged basis log joined n seat v x (Lane k) lives p = p
+      restaged basis log joined n seat v x Gone lives p = absurd (lives refl)
 
       drawn_word : (ws : List ℕ) (a d : ℕ) → ws ≡ a % 2 ^ 64 ∷ d % 2 ^ 64 ∷ [] → a % 2 ^ 64 ≡ get_or ws 0 0
       drawn_word ws a d e = sym (ap (λ (l : List ℕ). get_or l 0 0) e)
@@ -127,15 +127,15 @@ module _ {H C R Q : Type 0} (log_of : H → List (Entry C R)) (good : Q → H �
   rests : (s : St) (r : Rule s) (id : ℕ) (v : V) → get_elem? s.views id ≡ maybe.some v → Rule record { words = set s.words 1 (get_or s.words 1 0); homes = s.homes; views = set s.views id v }
   rests s r id v at = subst (λ (x : List ℕ × List V). Rule record { words = x.0; homes = s.homes; views = x.1 }) (λ i. (sym (set-get_or s.words 1 0) i, sym (set_again s.views id v at) i)) r
 
-  finds : (rules : Q) (log : List (Entry C R)) (joined : List (Joined C R)) (n seat : ℕ) (v : V) (k : ℕ) (role : Role) → Plays rules log joined n seat v role → role ≡ Lane k → calls_by k log ≡ v.mine
-  finds rules log joined n seat v k (Root made) p e = absurd (cc)
-  finds rules log joined n seat v k (Lane j) p e = let same : j ≡ k = cc in ap (λ (x : ℕ). calls_by x log) (sym same) ∙ p.1
-  finds rules log joined n seat v k Gone p e = absurd (cc)
+  finds : (basis : Q) (log : List (Entry C R)) (joined : List (Joined C R)) (n seat : ℕ) (v : V) (k : ℕ) (role : Role) → Plays basis log joined n seat v role → role ≡ Lane k → calls_by k log ≡ v.mine
+  finds basis log joined n seat v k (Root made) p e = absurd (cc)
+  finds basis log joined n seat v k (Lane j) p e = let same : j ≡ k = cc in ap (λ (x : ℕ). calls_by x log) (sym same) ∙ p.1
+  finds basis log joined n seat v k Gone p e = absurd (cc)
 
-  served_role : (rules : Q) (log : List (Entry C R)) (joined : List (Joined C R)) (n seat : ℕ) (v : V) (t : ℕ) (role : Role) → v.stage ≡ Waits t → Plays rules log joined n seat v role → Plays rules log joined n seat (view_in_turn v t log) role
-  served_role rules log joined n seat v t (Root made) waits p = p
-  served_role rules log joined n seat v t (Lane k) waits p = p
-  served_role rules log joined n seat v t Gone waits p = absurd (cc)
+  served_role : (basis : Q) (log : List (Entry C R)) (joined : List (Joined C R)) (n seat : ℕ) (v : V) (t : ℕ) (role : Role) → v.stage ≡ Waits t → Plays basis log joined n seat v role → Plays basis log joined n seat (view_in_turn v t log) role
+  served_role basis log joined n seat v t (Root made) waits p = p
+  served_role basis log joined n seat v t (Lane k) waits p = p
+  served_role basis log joined n seat v t Gone waits p = absurd (cc)
 
   -- the slot is taken
   serves : (s : St) (r : Rule s) (id t : ℕ) (v : V) → get_elem? s.views id ≡ maybe.some v → v.stage ≡ Waits t → t ≡ r.done
@@ -147,7 +147,7 @@ module _ {H C R Q : Type 0} (log_of : H → List (Entry C R)) (good : Q → H �
       let free : r.busy ≡ false = not_busy r.busy (λ b. line.3 b now) in
       let outs' : tickets_out (set s.views id w) + 1 ≡ tickets_out s.views + 1 = ap (λ (x : Stage). tickets_out (set s.views id w) + tickets_at x) (sym waits) ∙ outs_set s.views id v w at in
       let count = r.count in let l : t < r.drawn = line.1 in let front = r.fronts id v at in record {
-        rules = r.rules;
+        basis = r.basis;
         log = r.log;
         done = r.done;
         drawn = r.drawn;
@@ -162,8 +162,8 @@ module _ {H C R Q : Type 0} (log_of : H → List (Entry C R)) (good : Q → H �
         lines = seats_stay (λ j (v : V). Queued r.log r.done r.drawn r.owner true j v.seen v.stage) s.views id w (now, line.2, refl, refl)
             (λ j v other there. look_other r.log r.done r.drawn id r.owner r.busy j v.seen v.stage mine other free (r.lines j v there));
         fronts = seats_stay (λ j (v : V). StartsWith r.log v.seen × StartsWith r.log v.told) s.views id w (whole r.log, front.1) (λ j v other there. r.fronts j v there);
-        roles = subst (λ (k : ℕ). (j : ℕ) (v : V) → get_elem? (set s.views id w) j ≡ maybe.some v → Plays r.rules r.log r.joined k j v v.role) (sym n)
-            (seats_stay (λ j (v : V). Plays r.rules r.log r.joined (length s.views) j v v.role) s.views id w (served_role r.rules r.log r.joined (length s.views) id v t v.role waits (r.roles id v at)) (λ j v other there. r.roles j v there));
+        roles = subst (λ (k : ℕ). (j : ℕ) (v : V) → get_elem? (set s.views id w) j ≡ maybe.some v → Plays r.basis r.log r.joined k j v v.role) (sym n)
+            (seats_stay (λ j (v : V). Plays r.basis r.log r.joined (length s.views) j v v.role) s.views id w (served_role r.basis r.log r.joined (length s.views) id v t v.role waits (r.roles id v at)) (λ j v other there. r.roles j v there));
         ends = r.ends;
         below = subst (λ (k : ℕ). Below k r.joined) (sym n) r.below;
         passes = ap (λ (k : ℕ). k + length r.joined + 1) (opens_same s.views id v w at refl) ∙ (r.passes ∙ sym n);
@@ -175,13 +175,13 @@ module _ {H C R Q : Type 0} (log_of : H → List (Entry C R)) (good : Q → H �
       not_busy false n = refl
 
   -- a seat that isn't idle has the rules of the machine
-  goes_by : (rules : Q) (log : List (Entry C R)) (joined : List (Joined C R)) (n seat : ℕ) (v : V) (role : Role) → v.stage ≢ Idle → Plays rules log joined n seat v role → v.rules ≡ rules
-  goes_by rules log joined n seat v (Root made) busy p = p.3
-  goes_by rules log joined n seat v (Lane k) busy p = p.3
-  goes_by rules log joined n seat v Gone busy p = absurd (busy p)
+  goes_by : (basis : Q) (log : List (Entry C R)) (joined : List (Joined C R)) (n seat : ℕ) (v : V) (role : Role) → v.stage ≢ Idle → Plays basis log joined n seat v role → v.basis ≡ basis
+  goes_by basis log joined n seat v (Root made) busy p = p.3
+  goes_by basis log joined n seat v (Lane k) busy p = p.3
+  goes_by basis log joined n seat v Gone busy p = absurd (busy p)
 
   -- a look, where the ticket is served
-  hits : (slots id t : ℕ) (me : SeatState) (s : St) (r : Rule s) → get_elem? s.views id ≡ maybe.some me.0 → me.0.stage ≡ Waits t → t ≡ r.done → (b : Bool) → r.busy ≡ b → Lies log_of good r.rules b r.log s.homes
+  hits : (slots id t : ℕ) (me : SeatState) (s : St) (r : Rule s) → get_elem? s.views id ≡ maybe.some me.0 → me.0.stage ≡ Waits t → t ≡ r.done → (b : Bool) → r.busy ≡ b → Lies log_of good r.basis b r.log s.homes
       → (w : V) × (a : Act Slot) × Valid s.homes me.1 a × Rule (stepped s 1 (get_or s.words 1 0) id me.1 w a)
       × TellsLook log_of good me (get_or s.words 1 0) (w, carried_after me.1 a)
   hits slots id t me s r at waits now true busy lies = let line : Queued r.log r.done r.drawn r.owner r.busy id me.0.seen (Waits t) = subst (Queued r.log r.done r.drawn r.owner r.busy id me.0.seen) waits (r.lines id me.0 at) in
@@ -196,9 +196,9 @@ module _ {H C R Q : Type 0} (log_of : H → List (Entry C R)) (good : Q → H �
           λ hit. (
             y,
             (
-              subst (λ (q : Q). good q y) (sym (goes_by r.rules r.log r.joined (length s.views) id me.0 me.0.role (λ idle. (let x : Waits t ≡ Idle = sym waits ∙ idle in cc)) (r.roles id me.0 at))) lies.3,
+              subst (λ (q : Q). good q y) (sym (goes_by r.basis r.log r.joined (length s.views) id me.0 me.0.role (λ idle. (let x : Waits t ≡ Idle = sym waits ∙ idle in cc)) (r.roles id me.0 at))) lies.3,
               subst (λ (l : List (Entry C R)). StartsWith l me.0.seen) (sym is_log) (r.fronts id me.0 at).0,
-              λ k lane. ap (λ (l : List (Entry C R)). calls_by k l) is_log ∙ finds r.rules r.log r.joined (length s.views) id me.0 k me.0.role (r.roles id me.0 at) lane,
+              λ k lane. ap (λ (l : List (Entry C R)). calls_by k l) is_log ∙ finds r.basis r.log r.joined (length s.views) id me.0 k me.0.role (r.roles id me.0 at) lane,
             ),
             (λ i. view_in_turn me.0 (same i) (sym is_log i)),
             refl,
@@ -219,14 +219,14 @@ module _ {H C R Q : Type 0} (log_of : H → List (Entry C R)) (good : Q → H �
           sym (one_turn r.done t (2 ^ 64) below (omega arith) (sym (served_word s.words r.drawn r.done r.words) ∙ hit))
 
   -- ending a turn that added these entries
-  pub ends : (slots id t k : ℕ) (me : SeatState) (y : H) (news : List (Entry C R)) → me.0.stage ≡ Turn t → me.0.role ≡ Lane k → me.1 ≡ (0, Some y) ∷ [] → good me.0.rules y
+  pub ends : (slots id t k : ℕ) (me : SeatState) (y : H) (news : List (Entry C R)) → me.0.stage ≡ Turn t → me.0.role ≡ Lane k → me.1 ≡ (0, Some y) ∷ [] → good me.0.basis y
       → (log_of y) ≡ me.0.seen ++ news → Only k news → Allows Rule slots id me 1 (λ n. (n + 1) % 2 ^ 64) (TellsEnd log_of good me)
   ends slots id t k me y news turn lane carried fine added only s r deep at fits = let log' : List (Entry C R) = (log_of y) in let w : V = view_after_turn me.0 k log' in
       let n : length (set s.views id w) ≡ length s.views = length-set s.views id w in
       let line : Queued r.log r.done r.drawn r.owner r.busy id me.0.seen (Turn t) = subst (Queued r.log r.done r.drawn r.owner r.busy id me.0.seen) turn (r.lines id me.0 at) in
       let mine : r.owner r.done ≡ id = ap r.owner (sym line.0) ∙ line.1 in
       let grew : log' ≡ r.log ++ news = added ∙ ap (λ (l : List (Entry C R)). l ++ news) line.3 in
-      let role : Plays r.rules r.log r.joined (length s.views) id me.0 (Lane k) = subst (Plays r.rules r.log r.joined (length s.views) id me.0) lane (r.roles id me.0 at) in
+      let role : Plays r.basis r.log r.joined (length s.views) id me.0 (Lane k) = subst (Plays r.basis r.log r.joined (length s.views) id me.0) lane (r.roles id me.0 at) in
       let away : s.homes ≡ maybe.none ∷ [] = lent r.busy line.2 s.homes r.lies in
       let outs' : tickets_out (set s.views id w) + 1 ≡ tickets_out s.views + 0 = ap (λ (x : Stage). tickets_out (set s.views id w) + tickets_at x) (sym turn) ∙ outs_set s.views id me.0 w at in
       let count = r.count in let below : id < length s.views = at_below s.views id me.0 at in let seat : id ≡ k + 1 = role.0 in (
@@ -234,7 +234,7 @@ module _ {H C R Q : Type 0} (log_of : H → List (Entry C R)) (good : Q → H �
         gives,
         tt,
         record {
-          rules = r.rules;
+          basis = r.basis;
           log = log';
           done = r.done + 1;
           drawn = r.drawn;
@@ -250,9 +250,9 @@ module _ {H C R Q : Type 0} (log_of : H → List (Entry C R)) (good : Q → H �
               (λ j v other there. end_other r.log log' r.done r.drawn id r.owner r.busy j v.seen v.stage mine other (r.lines j v there));
           fronts = seats_stay (λ j (v : V). StartsWith log' v.seen × StartsWith log' v.told) s.views id w (whole log', grown me.0.told grew (r.fronts id me.0 at).1)
               (λ j v other there. (grown v.seen grew (r.fronts j v there).0, grown v.told grew (r.fronts j v there).1));
-          roles = subst (λ (m : ℕ). (j : ℕ) (v : V) → get_elem? (set s.views id w) j ≡ maybe.some v → Plays r.rules log' r.joined m j v v.role) (sym n)
-              (seats_stay (λ j (v : V). Plays r.rules log' r.joined (length s.views) j v v.role) s.views id w
-              (subst (Plays r.rules log' r.joined (length s.views) id w) (sym lane) (seat, refl, role.2, role.3))
+          roles = subst (λ (m : ℕ). (j : ℕ) (v : V) → get_elem? (set s.views id w) j ≡ maybe.some v → Plays r.basis log' r.joined m j v v.role) (sym n)
+              (seats_stay (λ j (v : V). Plays r.basis log' r.joined (length s.views) j v v.role) s.views id w
+              (subst (Plays r.basis log' r.joined (length s.views) id w) (sym lane) (seat, refl, role.2, role.3))
               (λ j v other there. other_role grew seat j other v v.role (r.roles j v there)));
           ends = subst (λ (l : List (Entry C R)). AllJoined l r.joined) (sym grew) (joined_stay k r.log news r.joined only role.2 r.ends);
           below = subst (λ (k : ℕ). Below k r.joined) (sym n) r.below;
@@ -263,14 +263,14 @@ module _ {H C R Q : Type 0} (log_of : H → List (Entry C R)) (good : Q → H �
         (ap rest carried, λ k' y' lane' carried'. (let same : k ≡ k' = cc in let one : y ≡ y' = ap (held_in y) (sym carried ∙ carried') in λ i. view_after_turn me.0 (same i) (log_of (one i)))),
       )
     where
-      lent : (b : Bool) → b ≡ true → (homes : Homes) → Lies log_of good r.rules b r.log homes → homes ≡ maybe.none ∷ []
+      lent : (b : Bool) → b ≡ true → (homes : Homes) → Lies log_of good r.basis b r.log homes → homes ≡ maybe.none ∷ []
       lent true e homes l = l
       lent false e homes l = absurd (true_not_false (sym e))
 
       grown : (v : List (Entry C R)) → (log_of y) ≡ r.log ++ news → StartsWith r.log v → StartsWith (log_of y) v
       grown v grew front = subst (λ (l : List (Entry C R)). StartsWith l v) (sym grew) (longer r.log news v front)
 
-      other_role : (log_of y) ≡ r.log ++ news → id ≡ k + 1 → (j : ℕ) → j ≢ id → (v : V) (role : Role) → Plays r.rules r.log r.joined (length s.views) j v role → Plays r.rules (log_of y) r.joined (length s.views) j v role
+      other_role : (log_of y) ≡ r.log ++ news → id ≡ k + 1 → (j : ℕ) → j ≢ id → (v : V) (role : Role) → Plays r.basis r.log r.joined (length s.views) j v role → Plays r.basis (log_of y) r.joined (length s.views) j v role
       other_role grew seat j other v (Root made) p = p
       other_role grew seat j other v (Lane i) p = let at_i : j ≡ i + 1 = p.0 in let at_k : id ≡ k + 1 = seat in
           (p.0, ap (calls_by i) grew ∙ (calls_stay k i r.log news only (λ e. other (at_i ∙ (ap (λ (x : ℕ). x + 1) e ∙ sym at_k))) ∙ p.1), p.2, p.3)

@@ -42,7 +42,7 @@ module _ {H C R Q : Type 0} where
 
     -- the seat is in its turn of the lane, with an empty slot, and may put y back
     abbrev pub MayEnd : ℕ → SeatState H C R Q → H → Type 0
-    MayEnd lane m y = (m.0.role ≡ Lane lane) × (m.1 ≡ (0, None) ∷ []) × good m.0.rules y
+    MayEnd lane m y = (m.0.role ≡ Lane lane) × (m.1 ≡ (0, None) ∷ []) × good m.0.basis y
         × ((t : ℕ) × (m.0.stage ≡ Turn t))
         × ((news : List (Entry C R)) × (log_of y ≡ m.0.seen ++ news) × Only lane news)
 

@@ -24,7 +24,7 @@ module _ {M C R : Type 0} where
   -- owes
   abbrev pub IsGood : {Q : Type 0} → (M → Q) → (M → List (Entry C R) → Type 0)
       → (Q → List (Entry C R) → ℕ) → Q → Held M C R → Type 0
-  IsGood {Q} rules stands owes q y =
+  IsGood {Q} basis stands owes q y =
       stands y.machine y.history.items
       × (owes q y.history.items ≤ y.history.room)
-      × (rules y.machine ≡ q)
+      × (basis y.machine ≡ q)

@@ -89,7 +89,7 @@ Owes {S} {C} {R} stands owes m n = (h : List (Entry C R)) → stands m h → n �
 -- the machine has the rules q and stands for the history
 abbrev pub StandsUnder : {S C R Q : Type 0} → (S → Q) → (S → List (Entry C R) → Type 0) → Q → S
     → List (Entry C R) → Type 0
-StandsUnder {S} {C} {R} {Q} rules stands q m h = stands m h × (rules m ≡ q)
+StandsUnder {S} {C} {R} {Q} basis stands q m h = stands m h × (basis m ≡ q)
 
 -- a hint of a machine after a lane was answered so
 abbrev pub FactOfHint : Type 0 → Type 0 → Type 1

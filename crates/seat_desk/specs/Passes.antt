@@ -20,12 +20,12 @@ module _ {M C R G Q : Type 0} {g : Ghosts M C R G Q} where
   mine p = p.seat.me.0.mine
 
   -- what the machine of the pass's desk goes by
-  abbrev pub rules : Pass M C R G Q g → Q
-  rules p = p.seat.me.0.rules
+  abbrev pub basis : Pass M C R G Q g → Q
+  basis p = p.seat.me.0.basis
 
   -- what the machine of the root's desk goes by
-  abbrev pub root_rules : Root M C R G Q g → Q
-  root_rules r = r.seat.me.0.rules
+  abbrev pub root_basis : Root M C R G Q g → Q
+  root_basis r = r.seat.me.0.basis
 
   -- what the root has seen: a front of the one history
   abbrev pub root_seen : Root M C R G Q g → List (Entry C R)
@@ -45,17 +45,17 @@ module _ {M C R G Q : Type 0} {g : Ghosts M C R G Q} where
 
   -- the pass has the desk, the lane and the rules that it had
   abbrev pub IsSamePass : Pass M C R G Q g → Pass M C R G Q g → Type 0
-  IsSamePass p p' = (p'.seat.table_id ≡ p.seat.table_id) × (p'.lane ≡ p.lane) × (rules p' ≡ rules p)
+  IsSamePass p p' = (p'.seat.table_id ≡ p.seat.table_id) × (p'.lane ≡ p.lane) × (basis p' ≡ basis p)
 
   -- the root has the desk, the number of passes and the rules that it had
   abbrev pub IsSameRoot : Root M C R G Q g → Root M C R G Q g → Type 0
   IsSameRoot r r' =
-      (r'.seat.table_id ≡ r.seat.table_id) × (r'.made ≡ r.made) × (root_rules r' ≡ root_rules r)
+      (r'.seat.table_id ≡ r.seat.table_id) × (r'.made ≡ r.made) × (root_basis r' ≡ root_basis r)
 
   -- the root of a desk whose machine has these rules: it has split no pass, seen nothing and joined
   -- nothing
   abbrev pub IsNewRoot : Q → Root M C R G Q g → Type 0
-  IsNewRoot rules r = (r.made ≡ 0) × (r.seat.me.0 ≡ first_view rules)
+  IsNewRoot basis r = (r.made ≡ 0) × (r.seat.me.0 ≡ first_view basis)
 
   -- the root has split one pass more, and is else as it was
   abbrev pub SplitsOne : Root M C R G Q g → Root M C R G Q g → Type 0
@@ -72,31 +72,31 @@ module _ {M C R G Q : Type 0} {g : Ghosts M C R G Q} where
 
   -- this may go in with the call, a good or none, after what the pass has seen
   abbrev pub Suits : Pass M C R G Q g → C → Option G → Type 0
-  Suits p call put = g.goes_in (rules p) (seen p) p.lane call put
+  Suits p call put = g.goes_in (basis p) (seen p) p.lane call put
 
   -- what the pass has seen pays for the call
   abbrev pub IsPaidFor : Pass M C R G Q g → C → Type 0
-  IsPaidFor p call = g.paid (rules p) (seen p) p.lane call
+  IsPaidFor p call = g.paid (basis p) (seen p) p.lane call
 
   -- the call was made in one turn, by the rules of the machine: the reply is its reply at a point
   -- of the history that begins with all that the pass had seen, and for which some machine stands
   abbrev pub MakesCall : Pass M C R G Q g → C → R → Option G → Pass M C R G Q g → Type 0
   MakesCall p call reply good p' =
-      Answers (StandsUnder g.rules g.stands (rules p)) (g.next (rules p)) g.short
-      (g.may_be_short (rules p)) g.keeps (g.comes_out (rules p)) p.lane p.seat.me.0 call reply good
+      Answers (StandsUnder g.basis g.stands (basis p)) (g.next (basis p)) g.short
+      (g.may_be_short (basis p)) g.keeps (g.comes_out (basis p)) p.lane p.seat.me.0 call reply good
       p'.seat.me.0
 
   -- the same, and the reply is not short
   abbrev pub MakesPaidCall : Pass M C R G Q g → C → R → Option G → Pass M C R G Q g → Type 0
   MakesPaidCall p call reply good p' =
-      Answers (StandsUnder g.rules g.stands (rules p)) (g.next (rules p)) g.short
+      Answers (StandsUnder g.basis g.stands (basis p)) (g.next (basis p)) g.short
       (λ _ _ _. ⊥) g.keeps
-      (g.comes_out (rules p)) p.lane p.seat.me.0 call reply good p'.seat.me.0
+      (g.comes_out (basis p)) p.lane p.seat.me.0 call reply good p'.seat.me.0
 
   -- the pass stirs the lanes at which the machine hints after this reply
   abbrev pub Stirs : Pass M C R G Q g → R → Pass M C R G Q g → Type 0
   Stirs p reply p' =
-      SomeHints (StandsUnder g.rules g.stands (rules p)) g.hints (seen p') p.lane reply p'.stirs
+      SomeHints (StandsUnder g.basis g.stands (basis p)) g.hints (seen p') p.lane reply p'.stirs
 
   -- no call was made: the history that the pass has seen may have grown by calls of other lanes,
   -- and its own list stays
@@ -107,9 +107,9 @@ module _ {M C R G Q : Type 0} {g : Ghosts M C R G Q} where
   -- and its good suits there
   abbrev pub MayMakeThen : {W : Type 0} → FactOfWork W C R G → Pass M C R G Q g → C → W → Type 0
   MayMakeThen meets p call work =
-      MayThen meets (StandsUnder g.rules g.stands (rules p)) (g.next (rules p)) g.short
-      (g.may_be_short (rules p)) g.keeps (g.paid (rules p)) (g.goes_in (rules p))
-      (g.comes_out (rules p))
+      MayThen meets (StandsUnder g.basis g.stands (basis p)) (g.next (basis p)) g.short
+      (g.may_be_short (basis p)) g.keeps (g.paid (basis p)) (g.goes_in (basis p))
+      (g.comes_out (basis p))
       p.lane (seen p) call work
 
   -- The call, and the one that the work answered, were made in one turn, at such a point of the
@@ -117,7 +117,7 @@ module _ {M C R G Q : Type 0} {g : Ghosts M C R G Q} where
   abbrev pub MakesCallThen : {W : Type 0} → FactOfWork W C R G → Pass M C R G Q g → C → W → R
       → Option G → W → Pass M C R G Q g → Type 0
   MakesCallThen meets p call work reply good work' p' =
-      AnswersThen meets (StandsUnder g.rules g.stands (rules p)) (g.next (rules p)) g.short
-      (g.may_be_short (rules p)) g.keeps
-      (g.comes_out (rules p)) g.hints p.lane p.seat.me.0 call work
+      AnswersThen meets (StandsUnder g.basis g.stands (basis p)) (g.next (basis p)) g.short
+      (g.may_be_short (basis p)) g.keeps
+      (g.comes_out (basis p)) g.hints p.lane p.seat.me.0 call work
       reply good work' p'.seat.me.0 p'.stirs

@@ -55,7 +55,7 @@ module _ {C R Q : Type 0} where
   first_view q =
       record {
         role = Root 0;
-        rules = q;
+        basis = q;
         stage = Idle;
         seen = [];
         told = [];
@@ -68,7 +68,7 @@ module _ {C R Q : Type 0} where
   view_at v stage =
       record {
         role = v.role;
-        rules = v.rules;
+        basis = v.basis;
         stage = stage;
         seen = v.seen;
         told = v.told;
@@ -81,7 +81,7 @@ module _ {C R Q : Type 0} where
   view_in_turn v t h =
       record {
         role = v.role;
-        rules = v.rules;
+        basis = v.basis;
         stage = Turn t;
         seen = h;
         told = v.told;
@@ -94,7 +94,7 @@ module _ {C R Q : Type 0} where
   view_after_turn v k h =
       record {
         role = v.role;
-        rules = v.rules;
+        basis = v.basis;
         stage = Idle;
         seen = h;
         told = v.told;
@@ -107,7 +107,7 @@ module _ {C R Q : Type 0} where
   view_with v h =
       record {
         role = v.role;
-        rules = v.rules;
+        basis = v.basis;
         stage = v.stage;
         seen = h;
         told = v.told;
@@ -121,7 +121,7 @@ module _ {C R Q : Type 0} where
       record {
         role = Root
             (passes_made v.role + 1);
-        rules = v.rules;
+        basis = v.basis;
         stage = v.stage;
         seen = v.seen;
         told = v.told;
@@ -135,7 +135,7 @@ module _ {C R Q : Type 0} where
       record {
         role = Lane
             (passes_made v.role);
-        rules = v.rules;
+        basis = v.basis;
         stage = Idle;
         seen = v.seen;
         told = [];
@@ -152,7 +152,7 @@ module _ {C R Q : Type 0} where
   root_after_join v w =
       record {
         role = v.role;
-        rules = v.rules;
+        basis = v.basis;
         stage = v.stage;
         seen = v.seen;
         told = w.seen;
@@ -164,7 +164,7 @@ module _ {C R Q : Type 0} where
   -- what is left of a pass that was joined
   abbrev pub view_gone : Q → View C R Q
   view_gone q =
-      record { role = Gone; rules = q; stage = Idle; seen = []; told = []; mine = []; joined = [] }
+      record { role = Gone; basis = q; stage = Idle; seen = []; told = []; mine = []; joined = [] }
 
 module _ {C R : Type 0} where
   -- the joined lanes are among the first n seats
@@ -200,11 +200,11 @@ module _ {C R : Type 0} (log : List (Entry C R)) (done drawn : ℕ) (owner : ℕ
   Queued (Turn t) = (t ≡ done) × (owner t ≡ seat) × (busy ≡ true) × (seen ≡ log)
 
 -- what a seat knows by its role, among n seats
-module _ {C R Q : Type 0} (rules : Q) (log : List (Entry C R)) (joined : List (Joined C R))
+module _ {C R Q : Type 0} (basis : Q) (log : List (Entry C R)) (joined : List (Joined C R))
     (n seat : ℕ) (v : View C R Q) where
   abbrev pub Plays : Role → Type 0
-  Plays (Root made) = (seat ≡ 0) × (n ≡ made + 1) × (v.joined ≡ joined) × (v.rules ≡ rules)
-  Plays (Lane k) = (seat ≡ k + 1) × (calls_by k log ≡ v.mine) × Apart k joined × (v.rules ≡ rules)
+  Plays (Root made) = (seat ≡ 0) × (n ≡ made + 1) × (v.joined ≡ joined) × (v.basis ≡ basis)
+  Plays (Lane k) = (seat ≡ k + 1) × (calls_by k log ≡ v.mine) × Apart k joined × (v.basis ≡ basis)
   Plays Gone = v.stage ≡ Idle
 
 -- H is what lies in the slot, log_of its history, and good what holds of it under the rules of the
@@ -212,15 +212,15 @@ module _ {C R Q : Type 0} (rules : Q) (log : List (Entry C R)) (joined : List (J
 module _ {H C R Q : Type 0} (log_of : H → List (Entry C R)) (good : Q → H → Type 0) where
   -- the slot is out with the seat that is served (busy), or at home with the history so far
   abbrev pub Lies : Q → Bool → List (Entry C R) → List (maybe.Option (Option (H))) → Type 0
-  Lies rules true log homes = homes ≡ maybe.none ∷ []
-  Lies rules false log homes =
-      (y : H) × (homes ≡ maybe.some (Some y) ∷ []) × (log_of y ≡ log) × good rules y
+  Lies basis true log homes = homes ≡ maybe.none ∷ []
+  Lies basis false log homes =
+      (y : H) × (homes ≡ maybe.some (Some y) ∷ []) × (log_of y ≡ log) × good basis y
 
   -- the rule: there are a history, numbers of tickets and an owner of each ticket for which all of
   -- this holds
   pub record Kept (s : State (Option (H)) (View C R Q)) : Type 0 where
     -- what the machine goes by
-    pub rules : Q
+    pub basis : Q
     -- the one history
     pub log : List (Entry C R)
     -- how many turns have ended
@@ -237,13 +237,13 @@ module _ {H C R Q : Type 0} (log_of : H → List (Entry C R)) (good : Q → H �
     pub count : done + tickets_out s.views ≡ drawn
     pub few : length s.views ≤ 2 ^ 32
     pub turn : busy ≡ true → done < drawn
-    pub lies : Lies rules busy log s.homes
+    pub lies : Lies basis busy log s.homes
     pub lines : (j : ℕ) (v : View C R Q) → get_elem? s.views j ≡ maybe.some v
         → Queued log done drawn owner busy j v.seen v.stage
     pub fronts : (j : ℕ) (v : View C R Q) → get_elem? s.views j ≡ maybe.some v
         → StartsWith log v.seen × StartsWith log v.told
     pub roles : (j : ℕ) (v : View C R Q) → get_elem? s.views j ≡ maybe.some v
-        → Plays rules log joined (length s.views) j v v.role
+        → Plays basis log joined (length s.views) j v v.role
     pub ends : AllJoined log joined
     pub below : Below (length s.views) joined
     pub passes : passes_open s.views + length joined + 1 ≡ length s.views
@@ -261,7 +261,7 @@ module _ {H C R Q : Type 0} (log_of : H → List (Entry C R)) (good : Q → H �
   -- has just its own calls
   abbrev pub Finds : View C R Q → H → Type 0
   Finds v y =
-      good v.rules y × StartsWith (log_of y) v.seen
+      good v.basis y × StartsWith (log_of y) v.seen
       × ((k : ℕ) → v.role ≡ Lane k → calls_by k (log_of y) ≡ v.mine)
 
   -- looking at the served word: where it is the seat's ticket, the slot is taken, and else nothing

@@ -31,7 +31,7 @@ const ROOM_OF_A_CALL: u64 = 3;
 pub struct Pass<M: Machine> {
     lane: u32,
     stirs: u128,
-    seat: Seat<Option<Held<M, M::Call, M::Reply>>, View<M::Call, M::Reply, M::Rules>>,
+    seat: Seat<Option<Held<M, M::Call, M::Reply>>, View<M::Call, M::Reply, M::Basis>>,
     pub ghost idle: { IsIdle lane seat.me },
 }
 
@@ -39,7 +39,7 @@ pub struct Pass<M: Machine> {
 #[derive(Drop)]
 pub struct Root<M: Machine> {
     made: u32,
-    seat: Seat<Option<Held<M, M::Call, M::Reply>>, View<M::Call, M::Reply, M::Rules>>,
+    seat: Seat<Option<Held<M, M::Call, M::Reply>>, View<M::Call, M::Reply, M::Basis>>,
     pub ghost idle: { IsRoot made seat.me },
 }
 
@@ -60,7 +60,7 @@ pub struct Closed<M: Machine> {
 pub struct Desk<M: Machine> {
     table: Table<
         Option<Held<M, M::Call, M::Reply>>,
-        View<M::Call, M::Reply, M::Rules>,
+        View<M::Call, M::Reply, M::Basis>,
         Snapshot<M>,
         Turns<M>,
         Global,
@@ -120,7 +120,7 @@ impl<M: Machine> Pass<M> {
 }
 
 impl<M: Machine> Desk<M> {
-    ghost use Rattle.seat_desk.specs.Passes.{IsPassOf, IsRootOf, IsSamePass, IsSameRoot, IsNewRoot, IsNewPass, SplitsOne, Suits, IsPaidFor, MakesCall, MakesPaidCall, MakesNoCall, MayMakeThen, MakesCallThen, Stirs, joined, mine, seen, root_rules, root_seen};
+    ghost use Rattle.seat_desk.specs.Passes.{IsPassOf, IsRootOf, IsSamePass, IsSameRoot, IsNewRoot, IsNewPass, SplitsOne, Suits, IsPaidFor, MakesCall, MakesPaidCall, MakesNoCall, MayMakeThen, MakesCallThen, Stirs, joined, mine, seen, root_basis, root_seen};
 
     /// A desk with this machine, which stands for the empty history, and its root.
     ///
@@ -130,7 +130,7 @@ impl<M: Machine> Desk<M> {
     /// first.
     pub fn new(alloc: Global, machine: M) -> Result<(Desk<M>, Root<M>), NoMemory>
         requires { M.stands machine [] }
-        ensures { IfOk result (λ d. IsRootOf d.0 d.1 × IsNewRoot (M.rules machine) d.1) }
+        ensures { IfOk result (λ d. IsRootOf d.0 d.1 × IsNewRoot (M.basis machine) d.1) }
     {
         match Desk::new_or_back(alloc, machine) {
             Ok(opened) => Ok(opened),
@@ -145,7 +145,7 @@ impl<M: Machine> Desk<M> {
     /// The machine, as it was, where `Desk::new` wants memory.
     pub fn new_or_back(alloc: Global, machine: M) -> Result<(Desk<M>, Root<M>), M>
         requires { M.stands machine [] }
-        ensures desk { IfOk result (λ d. IsRootOf d.0 d.1 × IsNewRoot (M.rules machine) d.1) }
+        ensures desk { IfOk result (λ d. IsRootOf d.0 d.1 × IsNewRoot (M.basis machine) d.1) }
         ensures back { IfErr result (λ m. m ≡ machine) }
     {
         let Ok((mut slots, history)) = room_for(alloc, machine.owed()) else {
@@ -310,7 +310,7 @@ impl<M: Machine> Desk<M> {
     pub fn close<R>(self, rt: &R, root: Root<M>) -> Closed<M>
         requires desk { IsRootOf self root }
         requires all { length (joined root) ≡ root.made }
-        ensures stands { StandsUnder M.rules M.stands (root_rules root) result.machine
+        ensures stands { StandsUnder M.basis M.stands (root_basis root) result.machine
             result.history.items }
         ensures seen { StartsWith result.history.items (root_seen root) }
         ensures joined { AllJoined result.history.items (joined root) }
@@ -330,7 +330,7 @@ impl<M: Machine> Desk<M> {
     // Draws a ticket. In all private functions the seat is one of this desk's table.
     fn draw(
         &self,
-        seat: &mut Seat<Option<Held<M, M::Call, M::Reply>>, View<M::Call, M::Reply, M::Rules>>,
+        seat: &mut Seat<Option<Held<M, M::Call, M::Reply>>, View<M::Call, M::Reply, M::Basis>>,
     ) -> u64
         requires { (seat.old.table_id ≡ self.now.table.shared.table_id)
             × (seat.old.me.0.stage ≡ Stage.Idle) × (seat.old.me.0.role ≢ Role.Gone) }
@@ -343,13 +343,13 @@ impl<M: Machine> Desk<M> {
     fn wait<R: Wait>(
         &self,
         rt: &R,
-        seat: &mut Seat<Option<Held<M, M::Call, M::Reply>>, View<M::Call, M::Reply, M::Rules>>,
+        seat: &mut Seat<Option<Held<M, M::Call, M::Reply>>, View<M::Call, M::Reply, M::Basis>>,
         ticket: u64,
     )
         requires { (seat.old.table_id ≡ self.now.table.shared.table_id)
             × WaitsFor seat.old.me ticket }
         ensures { (seat.new.table_id ≡ seat.old.table_id)
-            × ((y : _) × IsServed log_of (IsGood M.rules M.stands M.owes) seat.old.me y
+            × ((y : _) × IsServed log_of (IsGood M.basis M.stands M.owes) seat.old.me y
             (λ c. c ≡ (0, Some y) ∷ []) seat.new.me) }
     {
         for _ in rt.forever() {
@@ -364,13 +364,13 @@ impl<M: Machine> Desk<M> {
     fn enter<R: Wait>(
         &self,
         rt: &R,
-        seat: &mut Seat<Option<Held<M, M::Call, M::Reply>>, View<M::Call, M::Reply, M::Rules>>,
+        seat: &mut Seat<Option<Held<M, M::Call, M::Reply>>, View<M::Call, M::Reply, M::Basis>>,
     ) -> Held<M, M::Call, M::Reply>
         requires { (seat.old.table_id ≡ self.now.table.shared.table_id)
             × (seat.old.me.0.stage ≡ Stage.Idle) × (seat.old.me.1 ≡ [])
             × (seat.old.me.0.role ≢ Role.Gone) }
         ensures { (seat.new.table_id ≡ seat.old.table_id)
-            × IsServed log_of (IsGood M.rules M.stands M.owes) seat.old.me result
+            × IsServed log_of (IsGood M.basis M.stands M.owes) seat.old.me result
             (λ c. c ≡ (0, None) ∷ []) seat.new.me }
     {
         let ticket = self.draw(seat);
@@ -381,11 +381,11 @@ impl<M: Machine> Desk<M> {
     // Ends the turn: the machine is put back, and the next ticket is served.
     fn leave(
         &self,
-        seat: &mut Seat<Option<Held<M, M::Call, M::Reply>>, View<M::Call, M::Reply, M::Rules>>,
+        seat: &mut Seat<Option<Held<M, M::Call, M::Reply>>, View<M::Call, M::Reply, M::Basis>>,
         held: Held<M, M::Call, M::Reply>,
     )
         requires { (seat.old.table_id ≡ self.now.table.shared.table_id)
-            × ((lane : ℕ) × MayEnd log_of (IsGood M.rules M.stands M.owes) lane seat.old.me held) }
+            × ((lane : ℕ) × MayEnd log_of (IsGood M.basis M.stands M.owes) lane seat.old.me held) }
         ensures { (seat.new.table_id ≡ seat.old.table_id)
             × HasEnded seat.old.me held.history.items seat.new.me }
     {

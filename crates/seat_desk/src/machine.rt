@@ -23,42 +23,42 @@ pub trait Machine: Sized + Drop {
     type Good: Drop;
 
     /// What a machine goes by. It never changes, and no value of it is made at run time.
-    type Rules;
+    type Basis;
 
     // What this machine goes by.
-    ghost rules: { Self → Self.Rules };
+    ghost basis: { Self → Self.Basis };
 
     // Some rules, for the seat of a pass that was joined.
-    ghost blank: { Self.Rules };
+    ghost blank: { Self.Basis };
 
     // The machine may have come about by these calls: it stands for this history.
     ghost stands: { Self → List (Entry Self.Call Self.Reply) → Type 0 };
 
     // The reply to this lane's call after a history.
-    ghost next: { Self.Rules → List (Entry Self.Call Self.Reply) → ℕ → Self.Call → Self.Reply };
+    ghost next: { Self.Basis → List (Entry Self.Call Self.Reply) → ℕ → Self.Call → Self.Reply };
 
     // Whether the entry joins the history.
     ghost keeps: { Entry Self.Call Self.Reply → Bool };
 
     // The calls of a lane that a history has paid for.
-    ghost paid: { Self.Rules → List (Entry Self.Call Self.Reply) → ℕ → Self.Call → Type 0 };
+    ghost paid: { Self.Basis → List (Entry Self.Call Self.Reply) → ℕ → Self.Call → Type 0 };
 
     // The replies that say want of memory.
     ghost short: { Self.Reply → Bool };
 
     // The calls of a lane that may get a short reply after a history.
-    ghost may_be_short: { Self.Rules → List (Entry Self.Call Self.Reply) → ℕ → Self.Call → Type 0 };
+    ghost may_be_short: { Self.Basis → List (Entry Self.Call Self.Reply) → ℕ → Self.Call → Type 0 };
 
     // What may go in with a call after a history: a good, or none.
-    ghost goes_in: { Self.Rules → List (Entry Self.Call Self.Reply) → ℕ → Self.Call
+    ghost goes_in: { Self.Basis → List (Entry Self.Call Self.Reply) → ℕ → Self.Call
         → Option Self.Good → Type 0 };
 
     // What may come out with the reply of a call that was made after a history: a good, or none.
-    ghost comes_out: { Self.Rules → List (Entry Self.Call Self.Reply) → ℕ → Self.Call
+    ghost comes_out: { Self.Basis → List (Entry Self.Call Self.Reply) → ℕ → Self.Call
         → Self.Reply → Option Self.Good → Type 0 };
 
     // How many paid entries are still to come after a history.
-    ghost owes: { Self.Rules → List (Entry Self.Call Self.Reply) → ℕ };
+    ghost owes: { Self.Basis → List (Entry Self.Call Self.Reply) → ℕ };
 
     // The lanes at which the machine hints after this lane was answered so, a bit for each.
     ghost hints: { Self → ℕ → Self.Reply → ℕ → Type 0 };
@@ -82,14 +82,14 @@ pub trait Machine: Sized + Drop {
         call: &Self::Call,
         put: Option<Self::Good>,
     ) -> (Self::Reply, Option<Self::Good>)
-        requires { Ready stands (goes_in (rules self.old)) self.old lane call.now put }
-        ensures rules { rules self.new ≡ rules self.old }
-        ensures reply { Replies stands (goes_in (rules self.old)) (next (rules self.old)) short
-            (may_be_short (rules self.old)) self.old lane call.now put result.0 }
+        requires { Ready stands (goes_in (basis self.old)) self.old lane call.now put }
+        ensures basis { basis self.new ≡ basis self.old }
+        ensures reply { Replies stands (goes_in (basis self.old)) (next (basis self.old)) short
+            (may_be_short (basis self.old)) self.old lane call.now put result.0 }
         ensures stands { Stands stands (goes_in
-            (rules self.old)) keeps self.old lane call.now put result.0 self.new }
-        ensures good { ComesOut stands (goes_in (rules self.old)) (comes_out
-            (rules self.old)) self.old lane call.now put result.0 result.1 };
+            (basis self.old)) keeps self.old lane call.now put result.0 self.new }
+        ensures good { ComesOut stands (goes_in (basis self.old)) (comes_out
+            (basis self.old)) self.old lane call.now put result.0 result.1 };
 
     /// The lanes that may have news after this lane was answered so, a bit for each: bit `k` is
     /// lane `k`. It is a hint to those who wake lanes that wait.
@@ -98,7 +98,7 @@ pub trait Machine: Sized + Drop {
 
     /// How many paid entries are still to come.
     fn owed(&self) -> u64
-        ensures { Owes stands (owes (rules self.now)) self.now result };
+        ensures { Owes stands (owes (basis self.now)) self.now result };
 
     // A short reply is not kept.
     ghost short_is_not_kept: { (e : Entry Self.Call Self.Reply) → short e.reply ≡ true
@@ -106,31 +106,31 @@ pub trait Machine: Sized + Drop {
 
     // A paid call gets none, and may get none.
     ghost paid_is_not_short: { (m : Self) (h : List (Entry Self.Call Self.Reply)) (lane : ℕ)
-        (c : Self.Call) → stands m h → paid (rules m) h lane c → (may_be_short (rules m) h lane c
-        → ⊥) × (short (next (rules m) h lane c) ≡ false) };
+        (c : Self.Call) → stands m h → paid (basis m) h lane c → (may_be_short (basis m) h lane c
+        → ⊥) × (short (next (basis m) h lane c) ≡ false) };
 
     // What a history pays for stays paid for after entries of other lanes.
     ghost paid_stays: { (m : Self) (h more : List (Entry Self.Call Self.Reply)) (lane : ℕ)
         (c : Self.Call) → stands m (h ++ more) → calls_by lane more ≡ []
-        → paid (rules m) h lane c → paid (rules m) (h ++ more) lane c };
+        → paid (basis m) h lane c → paid (basis m) (h ++ more) lane c };
 
     // A paid call whose entry is kept pays one of what is owed.
     ghost owes_less: { (m : Self) (h : List (Entry Self.Call Self.Reply)) (lane : ℕ)
-        (c : Self.Call) → stands m h → paid (rules m) h lane c
-        → keeps (entry lane c (next (rules m) h lane c)) ≡ true
-        → owes (rules m) (h ++ entry lane c (next (rules m) h lane c) ∷ []) + 1 ≡ owes
-        (rules m) h };
+        (c : Self.Call) → stands m h → paid (basis m) h lane c
+        → keeps (entry lane c (next (basis m) h lane c)) ≡ true
+        → owes (basis m) (h ++ entry lane c (next (basis m) h lane c) ∷ []) + 1 ≡ owes
+        (basis m) h };
 
     // Any call raises it by two at most.
     ghost owes_more: { (m : Self) (h : List (Entry Self.Call Self.Reply)) (lane : ℕ)
-        (c : Self.Call) → stands m h → keeps (entry lane c (next (rules m) h lane c)) ≡ true
-        → owes (rules m) (h ++ entry lane c (next (rules m) h lane c) ∷ []) ≤ owes
-        (rules m) h + 2 };
+        (c : Self.Call) → stands m h → keeps (entry lane c (next (basis m) h lane c)) ≡ true
+        → owes (basis m) (h ++ entry lane c (next (basis m) h lane c) ∷ []) ≤ owes
+        (basis m) h + 2 };
 
     // What suits a call still suits it after entries of other lanes.
     ghost suits_still: { (m : Self) (h more : List (Entry Self.Call Self.Reply)) (lane : ℕ)
         (c : Self.Call) (g : Option Self.Good) → stands m (h ++ more) → calls_by lane more ≡ []
-        → goes_in (rules m) h lane c g → goes_in (rules m) (h ++ more) lane c g };
+        → goes_in (basis m) h lane c g → goes_in (basis m) (h ++ more) lane c g };
 }
 
 /// What a lane does between two calls of one turn.

@@ -13,9 +13,9 @@ pub(crate) struct Draw<M> {
     machine: PhantomData<M>,
 }
 
-impl<M: Machine> Play<Option<Held<M, M::Call, M::Reply>>, View<M::Call, M::Reply, M::Rules>>
+impl<M: Machine> Play<Option<Held<M, M::Call, M::Reply>>, View<M::Call, M::Reply, M::Basis>>
     for Draw<M> {
-    ghost then = { λ _. TellsDraw log_of (IsGood M.rules M.stands M.owes) };
+    ghost then = { λ _. TellsDraw log_of (IsGood M.basis M.stands M.owes) };
 }
 
 /// Looks whether the ticket is served, and takes the slot if it is.
@@ -23,9 +23,9 @@ pub(crate) struct Look<M> {
     machine: PhantomData<M>,
 }
 
-impl<M: Machine> Play<Option<Held<M, M::Call, M::Reply>>, View<M::Call, M::Reply, M::Rules>>
+impl<M: Machine> Play<Option<Held<M, M::Call, M::Reply>>, View<M::Call, M::Reply, M::Basis>>
     for Look<M> {
-    ghost then = { λ _. TellsLook log_of (IsGood M.rules M.stands M.owes) };
+    ghost then = { λ _. TellsLook log_of (IsGood M.basis M.stands M.owes) };
 }
 
 /// Ends the turn: the next ticket is served.
@@ -33,9 +33,9 @@ pub(crate) struct End<M> {
     machine: PhantomData<M>,
 }
 
-impl<M: Machine> Play<Option<Held<M, M::Call, M::Reply>>, View<M::Call, M::Reply, M::Rules>>
+impl<M: Machine> Play<Option<Held<M, M::Call, M::Reply>>, View<M::Call, M::Reply, M::Basis>>
     for End<M> {
-    ghost then = { λ _. TellsEnd log_of (IsGood M.rules M.stands M.owes) };
+    ghost then = { λ _. TellsEnd log_of (IsGood M.basis M.stands M.owes) };
 }
 
 /// The root looks at the history so far.
@@ -43,9 +43,9 @@ pub(crate) struct Gather<M> {
     machine: PhantomData<M>,
 }
 
-impl<M: Machine> Play<Option<Held<M, M::Call, M::Reply>>, View<M::Call, M::Reply, M::Rules>>
+impl<M: Machine> Play<Option<Held<M, M::Call, M::Reply>>, View<M::Call, M::Reply, M::Basis>>
     for Gather<M> {
-    ghost then = { λ _. TellsGather log_of (IsGood M.rules M.stands M.owes) };
+    ghost then = { λ _. TellsGather log_of (IsGood M.basis M.stands M.owes) };
 }
 
 /// Splits the seat of a new pass from that of the root.
@@ -62,7 +62,7 @@ pub(crate) struct Glue<M> {
     machine: PhantomData<M>,
 }
 
-impl<M: Machine> Join<View<M::Call, M::Reply, M::Rules>> for Glue<M> {
+impl<M: Machine> Join<View<M::Call, M::Reply, M::Basis>> for Glue<M> {
     ghost both = { root_after_join };
 
     ghost spent = { view_gone M.blank };

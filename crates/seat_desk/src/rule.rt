@@ -18,10 +18,10 @@ pub struct Turns<M> {
 
 impl<M: Machine> TableRule<
     Option<Held<M, M::Call, M::Reply>>,
-    View<M::Call, M::Reply, M::Rules>,
+    View<M::Call, M::Reply, M::Basis>,
     Snapshot<M>,
 > for Turns<M> {
-    ghost holds = { λ _. Kept log_of (IsGood M.rules M.stands M.owes) };
+    ghost holds = { λ _. Kept log_of (IsGood M.basis M.stands M.owes) };
 
-    ghost first = { λ key. first_view (M.rules key.value) };
+    ghost first = { λ key. first_view (M.basis key.value) };
 }

@@ -36,20 +36,20 @@ pub(crate) fn step<M: Machine>(
     call: M::Call,
     put: Option<M::Good>,
 ) -> (M::Reply, Option<M::Good>)
-    requires good { IsGood M.rules M.stands M.owes (M.rules held.old.machine) held.old }
-    requires room { HasRoom (M.owes (M.rules held.old.machine)) (M.paid (M.rules held.old.machine))
+    requires good { IsGood M.basis M.stands M.owes (M.basis held.old.machine) held.old }
+    requires room { HasRoom (M.owes (M.basis held.old.machine)) (M.paid (M.basis held.old.machine))
         lane call held.old }
-    requires suits { M.goes_in (M.rules held.old.machine) held.old.history.items lane call put }
+    requires suits { M.goes_in (M.basis held.old.machine) held.old.history.items lane call put }
     ensures history { held.new.history.items ≡ after M.keeps held.old.history.items
         (entry lane call result.0) }
-    ensures good { IsGood M.rules M.stands M.owes (M.rules held.old.machine) held.new }
-    ensures reply { IsReply (M.next (M.rules held.old.machine)) M.short
-        (M.may_be_short (M.rules held.old.machine)) held.old.history.items lane call result.0 }
-    ensures paid { M.paid (M.rules held.old.machine) held.old.history.items lane call
-        → (result.0 ≡ M.next (M.rules held.old.machine) held.old.history.items lane call)
+    ensures good { IsGood M.basis M.stands M.owes (M.basis held.old.machine) held.new }
+    ensures reply { IsReply (M.next (M.basis held.old.machine)) M.short
+        (M.may_be_short (M.basis held.old.machine)) held.old.history.items lane call result.0 }
+    ensures paid { M.paid (M.basis held.old.machine) held.old.history.items lane call
+        → (result.0 ≡ M.next (M.basis held.old.machine) held.old.history.items lane call)
         × (M.short result.0 ≡ false) }
     ensures comes { M.comes_out
-        (M.rules held.old.machine) held.old.history.items lane call result.0 result.1 }
+        (M.basis held.old.machine) held.old.history.items lane call result.0 result.1 }
 {
     let (reply, good) = held.machine.turn(lane, &call, put);
     write::<M>(&mut held.history, lane, call, &reply);
@@ -64,13 +64,13 @@ pub(crate) fn follow<M: Machine, W: Then<M>>(
     good: Option<M::Good>,
     work: &mut W,
 ) -> (M::Reply, Option<M::Good>)
-    requires good { IsGood M.rules M.stands M.owes (M.rules held.old.machine) held.old }
-    requires may { MayFollow W.meets (M.paid (M.rules held.old.machine)) (M.goes_in
-        (M.rules held.old.machine))
+    requires good { IsGood M.basis M.stands M.owes (M.basis held.old.machine) held.old }
+    requires may { MayFollow W.meets (M.paid (M.basis held.old.machine)) (M.goes_in
+        (M.basis held.old.machine))
         lane held.old.history.items work.old reply good }
-    ensures good { IsGood M.rules M.stands M.owes (M.rules held.old.machine) held.new }
-    ensures follows { Follows W.meets (M.next (M.rules held.old.machine)) M.short M.keeps
-        (M.comes_out (M.rules held.old.machine)) lane held.old.history.items work.old reply good
+    ensures good { IsGood M.basis M.stands M.owes (M.basis held.old.machine) held.new }
+    ensures follows { Follows W.meets (M.next (M.basis held.old.machine)) M.short M.keeps
+        (M.comes_out (M.basis held.old.machine)) lane held.old.history.items work.old reply good
         result.0 result.1 work.new held.new.history.items }
 {
     match work.then(&reply, good) {

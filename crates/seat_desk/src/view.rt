@@ -36,7 +36,7 @@ pub struct View<C, R, Q> {
     /// Whose it is.
     pub role: Role,
     /// The rules of the machine that the table has.
-    pub rules: Q,
+    pub basis: Q,
     /// Where it stands in the line.
     pub stage: Stage,
     /// A front of the one history.

@@ -8,7 +8,7 @@ use Rattle.exec_journal.specs.Entries.{is_kept}
 use Rattle.exec_journal.specs.Legal.{after}
 use Rattle.seat_desk.specs.History as history
 use Rattle.seat_desk.specs.History.{entry}
-use Rattle.run_rules.specs.Moves.{History}
+use Rattle.core_contract.specs.Moves.{History}
 use Rattle.history_laws.specs.Owed.{journal_of}
 use Rattle.history_laws.proofs.Growing.{journal_after}
 use Rattle.spawn_core.specs.Histories.{plan_of, StandsFor}

@@ -18,7 +18,7 @@ use Rattle.core_tables.specs.Lanes.{no_work, lane_in}
 use Rattle.core_tables.specs.Greetings.{silent, greeting_in}
 use Rattle.core_tables.specs.Last.{no_line, last_in}
 use Rattle.core_tables.specs.Matches.{no_matches, matches_in}
-use Rattle.journal_calls.specs.Matches.{recent}
+use Rattle.call_laws.specs.Matches.{recent}
 use Rattle.core_laws.specs.Stands as tables
 use Rattle.core_tables.specs.Slots.{Facts, IsNewFiles}
 use Rattle.core_tables.proofs.Kept as kept

@@ -23,7 +23,7 @@ use Rattle.core_laws.specs.Stands as tables
 use Rattle.core_laws.proofs.AtBerths.{all_of}
 use Rattle.core_laws.proofs.Chosen.{lane_within}
 use Rattle.core_laws.proofs.Read as read
-use Rattle.run_rules.specs.News.{question}
+use Rattle.core_contract.specs.News.{question}
 use Rattle.spawn_core.specs.Allowed.{allowed_is}
 use Rattle.spawn_core.specs.Outlook.{owes_by}
 use Rattle.spawn_core.specs.Stands.{HasHistory, HasJournal, Kept}

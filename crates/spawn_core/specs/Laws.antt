@@ -5,7 +5,7 @@ use Rattle.exec_journal.specs.declared.call.Call.{Call}
 use Rattle.exec_journal.specs.declared.reply.Reply.TheVariants as reply
 use Rattle.exec_journal.specs.Entries.{is_kept}
 use Rattle.seat_desk.specs.History.{entry, calls_by}
-use Rattle.run_rules.specs.Moves.{History}
+use Rattle.core_contract.specs.Moves.{History}
 use Rattle.history_laws.specs.Owed.{journal_of}
 use Rattle.history_laws.specs.Disciplines.{Discipline, IsDiscipline, own_discipline}
 use Rattle.history_laws.proofs.OfRules as laws

@@ -22,8 +22,8 @@ use Rattle.core_laws.specs.Stands as tables
 use Rattle.core_laws.proofs.AtBerths.{all_of}
 use Rattle.core_laws.proofs.Calls.{reply_is}
 use Rattle.core_laws.proofs.Chosen.{lane_within}
-use Rattle.run_rules.specs.Moves.{History}
-use Rattle.run_rules.specs.News.{question, HasNews, SaysNews}
+use Rattle.core_contract.specs.Moves.{History}
+use Rattle.core_contract.specs.News.{question, HasNews, SaysNews}
 use Rattle.history_laws.specs.Owed.{journal_of}
 use Rattle.history_laws.specs.Ruled.{answer_after}
 use Rattle.history_laws.proofs.Fitting.{in_script}

@@ -14,7 +14,7 @@ use Rattle.core_tables.specs.Seats.{seat_at}
 use Rattle.core_state.specs.declared.state.State.{State}
 use Rattle.core_state.specs.Choices.{chosen}
 use Rattle.core_state.specs.Machine.{carried_reply, take_reply, takeable}
-use Rattle.run_rules.specs.News.{question}
+use Rattle.core_contract.specs.News.{question}
 
 -- its Halt, unless it was told to stop or has halted, and the Committed of what it was granted
 abbrev pub owes_by : LaneState → ℕ

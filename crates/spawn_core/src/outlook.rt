@@ -2,7 +2,7 @@
 ghost use Rattle.std.specs.Prelude.{◌≡◌, ◌/◌, not, is_some};
 ghost use Rattle.core_state.specs.Choices.{Reads};
 ghost use Rattle.core_state.specs.Machine.{takeable};
-ghost use Rattle.run_rules.specs.News.{question};
+ghost use Rattle.core_contract.specs.News.{question};
 ghost use Rattle.spawn_core.specs.Outlook.{is_idle, told_by};
 
 use core_state::{Choice, State};

@@ -30,7 +30,7 @@ use core_tables::{Files, seat_of};
 use exec_journal::{Call, Plan, Reply};
 use plain_values::NoMemory;
 use run_progress::Notes;
-use run_rules::Rules;
+use core_contract::Rules;
 use std::alloc::Global;
 use std::marker::Model;
 

@@ -12,12 +12,12 @@ use Rattle.exec_journal.specs.declared.call.HowEnded.{HowEnded}
 use Rattle.exec_journal.specs.declared.reply.Reply.{Reply}
 use Rattle.exec_journal.specs.declared.reply.Reply.TheVariants as reply
 use Rattle.exec_journal.specs.Entries.{is_kept}
-use Rattle.run_rules.specs.Moves.{Past, History, proxy_move, tap_move}
-use Rattle.run_rules.specs.Laws.{is_short, says_file, fits, Fits, InScript, tap_lane, Hearing, Free, Hears, Over, hearing_then, hearing_of, may_hear}
-use Rattle.run_bench.specs.declared.shelf.Good.{Good}
-use Rattle.run_bench.specs.declared.shelf.Good.TheVariants as good
-use Rattle.run_bench.specs.Bench.{IsTap, IsTapOf, Comes, ComesOut}
-use Rattle.run_bench.specs.BenchLaws.{calls_stay}
+use Rattle.core_contract.specs.Moves.{Past, History, proxy_move, tap_move}
+use Rattle.core_contract.specs.Laws.{is_short, says_file, fits, Fits, InScript, tap_lane, Hearing, Free, Hears, Over, hearing_then, hearing_of, may_hear}
+use Rattle.core_bench.specs.declared.shelf.Good.{Good}
+use Rattle.core_bench.specs.declared.shelf.Good.TheVariants as good
+use Rattle.core_bench.specs.Bench.{IsTap, IsTapOf, Comes, ComesOut}
+use Rattle.core_bench.specs.BenchLaws.{calls_stay}
 use Rattle.tap_lane.specs.Heard.{IsTapLane, IsAnswer}
 use Rattle.tap_lane.specs.Taking.{tap_good}
 use Rattle.tap_lane.proofs.Replies.{answer_leads, is_noted}

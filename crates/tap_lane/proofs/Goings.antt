@@ -4,7 +4,7 @@ use Rattle.std.specs.Result.{IsErr, IsErrAnd}
 use Rattle.std.proofs.Common.{◌≡◌, ℕ, Result, List, [], ◌∷◌, ◌++◌, ap, sym, ◌∙◌, subst, append_assoc, append-nil}
 use Rattle.std.proofs.lemmas.Bool.{false≢true}
 use Rattle.exec_journal.specs.declared.call.Answer.{Answer}
-use Rattle.run_rules.specs.Moves.{Past, History}
+use Rattle.core_contract.specs.Moves.{Past, History}
 use Rattle.tap_lane.specs.Heard.{IsAnswer, AreAnswers, Went}
 
 pub answers_more : (l : ℕ) (es fs : History) (xs ys : List Answer) → AreAnswers l es xs

@@ -7,7 +7,7 @@ use Rattle.outside.specs.Told.{TapTold}
 use Rattle.run_plan.specs.declared.plan.Speech.{Speech}
 use Rattle.exec_journal.specs.declared.call.Answer.{Answer}
 use Rattle.exec_journal.specs.declared.call.HowEnded.{HowEnded}
-use Rattle.run_rules.specs.Moves.{History}
+use Rattle.core_contract.specs.Moves.{History}
 use Rattle.tap_lane.specs.Heard.{AreAnswers, SaysTo, StandsAt, HasHeard}
 
 pub told_so : {X : Type 0} (o : Option (List X)) (xs : List X) (P : List X → Type 0) → Tells o xs

@@ -6,7 +6,7 @@ use Rattle.exec_journal.specs.declared.reply.Reply.{Reply}
 use Rattle.exec_journal.specs.declared.reply.Reply.TheVariants as reply
 use Rattle.exec_journal.specs.Entries.{is_kept, takes}
 use Rattle.tap_lane.specs.Taking.{is_idle}
-use Rattle.run_rules.specs.Laws.{says_file, fits_answer, fits_take, fits_noted, Hears, hearing_from}
+use Rattle.core_contract.specs.Laws.{says_file, fits_answer, fits_take, fits_noted, Hears, hearing_from}
 
 -- an answer's reply is kept, is no file, leads on to the same line, and gives none
 abbrev pub LeadsOn : ℕ → Answer → Reply → Type 0

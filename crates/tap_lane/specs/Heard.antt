@@ -10,8 +10,8 @@ use Rattle.exec_journal.specs.declared.call.HowEnded.TheVariants as end
 use Rattle.exec_journal.specs.declared.reply.Reply.TheVariants as reply
 use Rattle.answer_reader.specs.Says.{Hears, SaysFirst, SaysAll, SaysBadly}
 use Rattle.answer_reader.specs.declared.reader.AnswerReader.{AnswerReader}
-use Rattle.run_rules.specs.Moves.{Past, History}
-use Rattle.run_rules.specs.Laws.{tap_lane, fits_answer}
+use Rattle.core_contract.specs.Moves.{Past, History}
+use Rattle.core_contract.specs.Laws.{tap_lane, fits_answer}
 use Rattle.tap_lane.specs.declared.ends.EndedTap.{EndedTap}
 
 -- the lane is the tap lane of a berth, of so many

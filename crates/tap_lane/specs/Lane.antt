@@ -6,8 +6,8 @@ use Rattle.run_plan.specs.declared.plan.Speech.{Speech}
 use Rattle.exec_journal.specs.declared.call.Call.TheVariants as call
 use Rattle.exec_journal.specs.declared.call.HowEnded.{HowEnded}
 use Rattle.exec_journal.specs.declared.reply.Reply.TheVariants as reply
-use Rattle.run_rules.specs.Moves.{History}
-use Rattle.run_rules.specs.Laws.{hearing_of, Over}
+use Rattle.core_contract.specs.Moves.{History}
+use Rattle.core_contract.specs.Laws.{hearing_of, Over}
 use Rattle.tap_lane.specs.declared.ends.Want.{Want}
 use Rattle.tap_lane.specs.declared.ends.Want.TheVariants as want
 use Rattle.tap_lane.specs.Heard.{HeardOf, HasHeard}

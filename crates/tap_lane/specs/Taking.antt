@@ -6,10 +6,10 @@ use Rattle.exec_journal.specs.declared.call.Call.TheVariants as call
 use Rattle.exec_journal.specs.declared.reply.Reply.{Reply}
 use Rattle.exec_journal.specs.declared.reply.Reply.TheVariants as reply
 use Rattle.exec_journal.specs.Entries.{is_kept}
-use Rattle.run_rules.specs.Moves.{History}
-use Rattle.run_rules.specs.Laws.{hearing_of, Hears}
-use Rattle.run_bench.specs.declared.shelf.Good.{Good}
-use Rattle.run_bench.specs.declared.shelf.Good.TheVariants as good
+use Rattle.core_contract.specs.Moves.{History}
+use Rattle.core_contract.specs.Laws.{hearing_of, Hears}
+use Rattle.core_bench.specs.declared.shelf.Good.{Good}
+use Rattle.core_bench.specs.declared.shelf.Good.TheVariants as good
 use Rattle.tap_lane.specs.declared.calls.Took.{Took}
 use Rattle.tap_lane.specs.declared.calls.Took.TheVariants as took
 

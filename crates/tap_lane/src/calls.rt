@@ -1,12 +1,12 @@
 //! The calls of a tap lane, one by one.
 ghost use Rattle.std.specs.Prelude.{◌≡◌, ◌≢◌, ◌++◌, ◌∷◌, [], IfOk, OnOk, OnErr};
-ghost use Rattle.seat_desk.specs.Passes.{IsSamePass, rules, mine};
+ghost use Rattle.seat_desk.specs.Passes.{IsSamePass, basis, mine};
 ghost use Rattle.seat_desk.specs.History.{entry};
 ghost use Rattle.exec_journal.specs.declared.call.Call.TheVariants as call;
 ghost use Rattle.exec_journal.specs.declared.reply.Reply.TheVariants as reply;
-ghost use Rattle.run_rules.specs.Moves.{Past};
-ghost use Rattle.run_rules.specs.Laws.{hearing_of, Free, Hears, Over};
-ghost use Rattle.run_bench.specs.Bench.{IsTapOf};
+ghost use Rattle.core_contract.specs.Moves.{Past};
+ghost use Rattle.core_contract.specs.Laws.{hearing_of, Free, Hears, Over};
+ghost use Rattle.core_bench.specs.Bench.{IsTapOf};
 ghost use Rattle.tap_lane.specs.Heard.{IsTapLane, IsAnswer};
 ghost use Rattle.tap_lane.specs.Taking.{HasTaken, tap_good, is_idle, idle_not_kept};
 
@@ -14,8 +14,8 @@ use exec_journal::{Answer, Call, HowEnded, Reply};
 use lane_crew::{Caller, Question};
 use outside::{Berth, Place};
 use plain_values::NoMemory;
-use run_bench::{Bench, Good};
-use run_rules::Rules;
+use core_bench::{Bench, Good};
+use core_contract::Rules;
 use std::sync::Wait;
 
 /// What a Take was answered.
@@ -54,7 +54,7 @@ pub(crate) fn take<B: Berth, P: Place, C: Rules, R: Wait>(
     rt: &R,
     caller: &mut Caller<Bench<B, P, C>>,
 ) -> Result<Took<B::Tap>, NoMemory>
-    requires lane { IsTapLane (C.seats (rules caller.old.pass)) caller.old.pass.lane }
+    requires lane { IsTapLane (C.seats (basis caller.old.pass)) caller.old.pass.lane }
     requires free { hearing_of (mine caller.old.pass) ≡ Free }
     ensures same { IsSamePass caller.old.pass caller.new.pass }
     ensures ok { IfOk result (λ took. HasTaken (IsTapOf B.Tap.told) caller.old.pass.lane
@@ -97,7 +97,7 @@ pub(crate) fn tell_answer<B: Berth, P: Place, C: Rules, R: Wait>(
     line: u32,
     answer: Answer,
 ) -> Result<(), NoMemory>
-    requires lane { IsTapLane (C.seats (rules caller.old.pass)) caller.old.pass.lane }
+    requires lane { IsTapLane (C.seats (basis caller.old.pass)) caller.old.pass.lane }
     requires hears { hearing_of (mine caller.old.pass) ≡ Hears line }
     ensures same { IsSamePass caller.old.pass caller.new.pass }
     ensures ok { OnOk result ((e : Past) × IsAnswer line answer e
@@ -122,7 +122,7 @@ pub(crate) fn tell_end<B: Berth, P: Place, C: Rules, R: Wait>(
     line: u32,
     how: HowEnded,
 ) -> Result<(), NoMemory>
-    requires lane { IsTapLane (C.seats (rules caller.old.pass)) caller.old.pass.lane }
+    requires lane { IsTapLane (C.seats (basis caller.old.pass)) caller.old.pass.lane }
     requires hears { hearing_of (mine caller.old.pass) ≡ Hears line }
     ensures same { IsSamePass caller.old.pass caller.new.pass }
     ensures ok { OnOk result ((mine caller.new.pass ≡ mine caller.old.pass
@@ -141,7 +141,7 @@ pub(crate) fn halt<B: Berth, P: Place, C: Rules, R: Wait>(
     rt: &R,
     caller: &mut Caller<Bench<B, P, C>>,
 )
-    requires lane { IsTapLane (C.seats (rules caller.old.pass)) caller.old.pass.lane }
+    requires lane { IsTapLane (C.seats (basis caller.old.pass)) caller.old.pass.lane }
     requires goes_on { hearing_of (mine caller.old.pass) ≢ Over }
     ensures same { IsSamePass caller.old.pass caller.new.pass }
     ensures halted { mine caller.new.pass ≡ mine caller.old.pass

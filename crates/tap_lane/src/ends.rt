@@ -1,7 +1,7 @@
 //! What a tap lane leaves.
 use exec_journal::HowEnded;
 use outside::Berth;
-use run_bench::Bench;
+use core_bench::Bench;
 use seat_desk::Pass;
 
 /// A tap that a lane took, with the line of which it took it.

@@ -1,12 +1,12 @@
 //! One line, from its Take to its end.
 ghost use Rattle.std.specs.Prelude.{◌≡◌, ◌<◌, ◌++◌, [], List, ℕ, length, IfOk, OnOk, IfErr, OnErr, Some, None};
-ghost use Rattle.seat_desk.specs.Passes.{IsSamePass, rules, mine};
+ghost use Rattle.seat_desk.specs.Passes.{IsSamePass, basis, mine};
 ghost use Rattle.run_plan.specs.declared.plan.Speech.{Speech};
 ghost use Rattle.exec_journal.specs.declared.call.Answer.{Answer};
 ghost use Rattle.answer_reader.specs.Says.{Hears, SaysFirst};
-ghost use Rattle.run_rules.specs.Laws.{hearing_of};
-ghost use Rattle.run_rules.specs.Laws as laws;
-ghost use Rattle.run_bench.specs.Bench.{IsTapOf};
+ghost use Rattle.core_contract.specs.Laws.{hearing_of};
+ghost use Rattle.core_contract.specs.Laws as laws;
+ghost use Rattle.core_bench.specs.Bench.{IsTapOf};
 ghost use Rattle.tap_lane.specs.Heard.{IsTapLane, Went, AfterAll, HasHeard, HeardWhole};
 ghost use Rattle.tap_lane.specs.Lane.{HeardUntil};
 
@@ -17,9 +17,9 @@ use exec_journal::HowEnded;
 use lane_crew::Caller;
 use outside::{Berth, Place, Taken, Tap};
 use plain_values::NoMemory;
-use run_bench::Bench;
+use core_bench::Bench;
 use run_plan::Speech;
-use run_rules::Rules;
+use core_contract::Rules;
 use std::alloc::Global;
 use std::sync::Wait;
 
@@ -41,7 +41,7 @@ pub(crate) fn hear<B: Berth, P: Place, C: Rules, R: Wait>(
     piece: &mut [u8],
     tap: &mut B::Tap,
 ) -> Result<(), Want>
-    requires lane { IsTapLane (C.seats (rules caller.old.pass)) caller.old.pass.lane }
+    requires lane { IsTapLane (C.seats (basis caller.old.pass)) caller.old.pass.lane }
     requires hears { hearing_of (mine caller.old.pass) ≡ laws.Hears line }
     requires piece { 0 < length piece.old }
     requires tap { IsTapOf B.Tap.told line tap.old }
@@ -74,7 +74,7 @@ fn listen<B: Berth, P: Place, C: Rules, R: Wait>(
     piece: &mut [u8],
     tap: &mut B::Tap,
 ) -> Result<HowEnded, NoMemory>
-    requires lane { IsTapLane (C.seats (rules caller.old.pass)) caller.old.pass.lane }
+    requires lane { IsTapLane (C.seats (basis caller.old.pass)) caller.old.pass.lane }
     requires hears { hearing_of (mine caller.old.pass) ≡ laws.Hears line }
     requires piece { 0 < length piece.old }
     requires tap { IsTapOf B.Tap.told line tap.old }
@@ -110,7 +110,7 @@ fn tell_all<B: Berth, P: Place, C: Rules, R: Wait>(
     line: u32,
     reader: &mut AnswerReader,
 ) -> Result<bool, NoMemory>
-    requires lane { IsTapLane (C.seats (rules caller.old.pass)) caller.old.pass.lane }
+    requires lane { IsTapLane (C.seats (basis caller.old.pass)) caller.old.pass.lane }
     requires hears { hearing_of (mine caller.old.pass) ≡ laws.Hears line }
     ensures same { IsSamePass caller.old.pass caller.new.pass }
     ensures hears { hearing_of (mine caller.new.pass) ≡ laws.Hears line }

@@ -1,7 +1,7 @@
 //! The whole lane.
 ghost use Rattle.std.specs.Prelude.{◌≡◌, ◌<◌, [], map, length, OnOk, IfErr, None};
-ghost use Rattle.seat_desk.specs.Passes.{IsPassOf, IsSamePass, rules, mine};
-ghost use Rattle.run_rules.specs.Laws.{tap_lane};
+ghost use Rattle.seat_desk.specs.Passes.{IsPassOf, IsSamePass, basis, mine};
+ghost use Rattle.core_contract.specs.Laws.{tap_lane};
 ghost use Rattle.tap_lane.specs.Heard.{IsTapLane, back_by};
 ghost use Rattle.tap_lane.specs.Lane.{LaneEnds, ToHalt};
 
@@ -12,9 +12,9 @@ use lane_bells::Bells;
 use lane_crew::Caller;
 use outside::{Berth, Place};
 use plain_values::NoMemory;
-use run_bench::Bench;
+use core_bench::Bench;
 use run_plan::Speech;
-use run_rules::Rules;
+use core_contract::Rules;
 use seat_desk::{Desk, Pass};
 use std::alloc::Global;
 use std::sync::Wait;
@@ -35,7 +35,7 @@ pub fn run<B: Berth, P: Place, C: Rules, R: Wait>(
     speech: Speech,
 ) -> TapEnd<B, P, C>
     requires desk { IsPassOf desk.now pass }
-    requires lane { (pass.lane ≡ tap_lane berth) × (berth < C.seats (rules pass)) }
+    requires lane { (pass.lane ≡ tap_lane berth) × (berth < C.seats (basis pass)) }
     requires bell { pass.lane < bells.now }
     requires fresh { mine pass ≡ [] }
     ensures same { IsSamePass pass result.pass }
@@ -65,7 +65,7 @@ fn hear_lines<B: Berth, P: Place, C: Rules, R: Wait>(
     piece: &mut [u8],
     taps: &mut Vec<EndedTap<B::Tap>>,
 ) -> Result<(), Want>
-    requires lane { IsTapLane (C.seats (rules caller.old.pass)) caller.old.pass.lane }
+    requires lane { IsTapLane (C.seats (basis caller.old.pass)) caller.old.pass.lane }
     requires fresh { (mine caller.old.pass ≡ []) × (taps.old.items ≡ []) }
     requires piece { 0 < length piece.old }
     ensures same { IsSamePass caller.old.pass caller.new.pass }

@@ -245,9 +245,9 @@ impl<O: Sink, X: Drop, Y, K: Kind<X, Y>> Machine for WorkQueue<O, X, Y, K> {
 
     type Good = Load<X>;
 
-    type Rules = Start<O>;
+    type Basis = Start<O>;
 
-    ghost rules = { λ m. record { sink = Some m.outlet.start } };
+    ghost basis = { λ m. record { sink = Some m.outlet.start } };
 
     ghost blank = { record { sink = None } };
 

@@ -1,7 +1,7 @@
 -- Posts that fit a task's berths fit those of its lanes.
 use Rattle.std.specs.Prelude.{ℕ, ◌+◌, Bool, List, [], ◌∷◌}
 use Rattle.berth_lanes.specs.Seats as lanes
-use Rattle.lane_deeds.specs.declared.post.Post.{Post}
+use Rattle.proxy_deeds.specs.declared.post.Post.{Post}
 use Rattle.run_tasks.specs.Tasks as tasks
 
 pub fits : (remote : ℕ → Bool) (w : ℕ) (ps : List Post) → tasks.PostsFit remote w ps

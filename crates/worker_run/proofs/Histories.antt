@@ -8,7 +8,7 @@ use Rattle.exec_journal.specs.History.{ever}
 use Rattle.exec_journal.specs.Words.{halted, stopped}
 use Rattle.lane_runs.specs.Layout.{has_halt}
 use Rattle.lane_runs.specs.Runs.{IsStopped}
-use Rattle.run_rules.specs.Moves.{Past, History}
+use Rattle.core_contract.specs.Moves.{Past, History}
 use Rattle.history_laws.proofs.Going.{flip}
 use Rattle.history_laws.specs.Owed.{journal_of}
 use Rattle.seat_desk.specs.History.{calls_by}

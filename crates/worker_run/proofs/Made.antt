@@ -5,14 +5,14 @@ use Rattle.build_report.specs.declared.fault.Stage.{Stage}
 use Rattle.build_report.specs.declared.fault.Stage.TheVariants as stage
 use Rattle.exec_journal.specs.declared.call.Call.{Call}
 use Rattle.exec_journal.specs.declared.reply.Reply.{Reply}
-use Rattle.lane_deeds.specs.declared.post.Post.{Post}
-use Rattle.lane_deeds.specs.Lines.{Back}
+use Rattle.proxy_deeds.specs.declared.post.Post.{Post}
+use Rattle.proxy_deeds.specs.Lines.{Back}
 use Rattle.exec_journal.specs.Entry.{Entry}
 use Rattle.lane_runs.specs.Runs.{EndTold, HasRun, LaidTold, Rooms}
 use Rattle.outside.specs.Told.{BerthTold, FloorTold, Makes, PlaceTold, SameFloor}
 use Rattle.remote_messages.specs.declared.work.WorkAction.{WorkAction}
-use Rattle.run_rules.specs.Moves.{History}
-use Rattle.run_bench.specs.Objects.{AreFresh}
+use Rattle.core_contract.specs.Moves.{History}
+use Rattle.core_bench.specs.Objects.{AreFresh}
 use Rattle.worker_run.proofs.Numbered.{new_berths, new_places}
 use Rattle.worker_run.specs.Lanes.{AreNewBerths, HasMade, IsUnused, LanesRan, MakesUpTo, WhereLost, WhereWhole, laid_by}
 use Rattle.worker_run.specs.Seen.{Left, left, nothing_left, stage_of}

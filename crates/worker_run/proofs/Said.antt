@@ -30,7 +30,7 @@ use Rattle.run_plan.specs.Groups.{berths}
 use Rattle.run_plan.specs.Sound.{Sound}
 use Rattle.run_plan.specs.declared.plan.Plan.{Plan}
 use Rattle.run_plan.specs.declared.plan.PlanAction.{PlanAction}
-use Rattle.run_rules.specs.Duties.{proxy_lane}
+use Rattle.core_contract.specs.Duties.{proxy_lane}
 use Rattle.run_tasks.specs.Tasks.{HasBerths, HasPosts}
 use Rattle.run_tasks.specs.declared.task.Task.{Task}
 use Rattle.history_laws.specs.Owed.{journal_of, outputs_in}

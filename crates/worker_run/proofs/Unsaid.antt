@@ -4,16 +4,16 @@ use Rattle.std.proofs.lemmas.List.Elements.{All-head}
 use Rattle.lane_laws.proofs.Halting.{ends_tell}
 use Rattle.exec_journal.specs.declared.call.Call.{Call}
 use Rattle.exec_journal.specs.declared.reply.Reply.{Reply}
-use Rattle.lane_deeds.specs.declared.cause.Cause.{Cause}
-use Rattle.lane_deeds.specs.declared.post.Post.{Post}
-use Rattle.lane_deeds.specs.Lines.{Back, IsBack, started_in}
+use Rattle.proxy_deeds.specs.declared.cause.Cause.{Cause}
+use Rattle.proxy_deeds.specs.declared.post.Post.{Post}
+use Rattle.proxy_deeds.specs.Lines.{Back, IsBack, started_in}
 use Rattle.lane_runs.specs.Layout.{has_halt}
 use Rattle.lane_runs.specs.Runs.{EndTold, Rooms, backs_at}
-use Rattle.lane_steps.specs.Steps.{Ended}
+use Rattle.proxy_steps.specs.Steps.{Ended}
 use Rattle.outside.specs.Told.{BerthTold}
 use Rattle.remote_messages.specs.declared.work.WorkAction.{WorkAction}
-use Rattle.run_rules.specs.Duties.{proxy_lane}
-use Rattle.run_rules.specs.Moves.{History}
+use Rattle.core_contract.specs.Duties.{proxy_lane}
+use Rattle.core_contract.specs.Moves.{History}
 use Rattle.seat_desk.specs.History.{calls_by}
 use Rattle.worker_run.specs.Headline.{IsUnsaid}
 

@@ -13,7 +13,7 @@ use Rattle.exec_journal.specs.Entry.{Entry}
 use Rattle.history_laws.specs.Disciplines.{own_discipline}
 use Rattle.history_laws.specs.Ruled.{answer_after}
 use Rattle.journal_laws.specs.Finished.{Finished}
-use Rattle.lane_deeds.specs.Lines.{Back, IsKilled}
+use Rattle.proxy_deeds.specs.Lines.{Back, IsKilled}
 use Rattle.lane_runs.specs.Layout.{has_halt}
 use Rattle.lane_runs.specs.Runs.{Outs, Pipes, Rooms, Stops}
 use Rattle.outside.specs.Causes.{Counts}
@@ -22,8 +22,8 @@ use Rattle.run_loading.specs.Reads.{IsFloorFailed}
 use Rattle.run_plan.specs.Groups.{berths}
 use Rattle.run_plan.specs.Sound.{Sound}
 use Rattle.run_tasks.specs.declared.task.Task.{Task}
-use Rattle.run_rules.specs.Duties.{proxy_lane}
-use Rattle.run_rules.specs.Moves.{History}
+use Rattle.core_contract.specs.Duties.{proxy_lane}
+use Rattle.core_contract.specs.Moves.{History}
 use Rattle.history_laws.specs.Owed.{outputs_in}
 use Rattle.seat_desk.specs.History.{calls_by}
 use Rattle.tool_words.specs.declared.options.Options.{Options}

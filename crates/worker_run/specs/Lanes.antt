@@ -6,12 +6,12 @@ use Rattle.exec_journal.specs.declared.call.Call.{Call}
 use Rattle.exec_journal.specs.declared.reply.Reply.{Reply}
 use Rattle.history_laws.specs.Disciplines.{own_discipline}
 use Rattle.history_laws.specs.Ruled.{CameAbout, answer_after}
-use Rattle.lane_deeds.specs.declared.post.Post.{Post}
+use Rattle.proxy_deeds.specs.declared.post.Post.{Post}
 use Rattle.lane_runs.specs.Runs.{HasRun, LaidTold}
 use Rattle.outside.specs.Lists.{Tells}
 use Rattle.outside.specs.Told.{BerthTold, FloorTold, PlaceTold}
 use Rattle.remote_messages.specs.declared.work.WorkAction.{WorkAction}
-use Rattle.run_rules.specs.Moves.{History}
+use Rattle.core_contract.specs.Moves.{History}
 use Rattle.run_tasks.specs.declared.task.Task.{Task}
 use Rattle.history_laws.specs.Owed.{outputs_in}
 use Rattle.worker_run.specs.Seen.{Left}

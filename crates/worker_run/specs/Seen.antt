@@ -4,7 +4,7 @@ use Rattle.build_report.specs.declared.fault.RunFault.{RunFault}
 use Rattle.build_report.specs.declared.fault.Stage.{Stage}
 use Rattle.build_report.specs.declared.fault.Stage.TheVariants as stage
 use Rattle.exec_journal.specs.Entry.{Entry}
-use Rattle.lane_deeds.specs.Lines.{Back}
+use Rattle.proxy_deeds.specs.Lines.{Back}
 use Rattle.lane_runs.specs.Runs.{EndTold, LaidTold}
 use Rattle.outside.specs.Told.{FloorTold, BerthTold, PlaceTold}
 use Rattle.run_tasks.specs.declared.task.Task.{Task}

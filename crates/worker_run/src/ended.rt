@@ -59,7 +59,7 @@ pub struct Ended<F: Floor> {
 impl<F: Floor> Model for Ended<F> {
     ghost use Rattle.std.specs.Prelude.{map, option_map};
     ghost use Rattle.lane_runs.specs.Runs.{end_of};
-    ghost use Rattle.lane_steps.specs.Lanes.{back_of};
+    ghost use Rattle.proxy_steps.specs.Lanes.{back_of};
     ghost use Rattle.worker_run.specs.Seen.{EndedTold, ended_told, left};
 
     ghost Value = { EndedTold };

@@ -2,7 +2,7 @@
 ghost use Rattle.std.specs.Prelude.{◌≡◌, ◌≤◌, [], length, map, Some, None};
 ghost use Rattle.berth_lanes.specs.Seats.{PostsFit};
 ghost use Rattle.build_report.specs.declared.fault.Stage.TheVariants as stage;
-ghost use Rattle.lane_steps.specs.Work.{IsWorkOf};
+ghost use Rattle.proxy_steps.specs.Work.{IsWorkOf};
 ghost use Rattle.lane_runs.specs.Runs.{laid_told};
 ghost use Rattle.outside.specs.Told.{SameFiles};
 ghost use Rattle.worker_run.specs.Lanes.{HasMade, IsUnused, LanesRan, MakesUpTo, WhereLost, WhereWhole};
@@ -12,11 +12,11 @@ use crate::seats::{Seats, make_seats};
 use crate::{EndedLine, UnsaidLine};
 use build_report::Stage;
 use exec_journal::Journal;
-use lane_deeds::Post;
+use proxy_deeds::Post;
 use lane_runs::{Laid, LaidOut, Unrun, run_lanes};
 use outside::{Berth, Floor};
 use remote_messages::Work;
-use run_rules::Rules;
+use core_contract::Rules;
 use std::alloc::Global;
 use std::marker::Model;
 use std::sync::Wait;
@@ -43,7 +43,7 @@ pub struct Ran<F: Floor> {
 impl<F: Floor> Model for Ran<F> {
     ghost use Rattle.std.specs.Prelude.{map, option_map};
     ghost use Rattle.lane_runs.specs.Runs.{end_of};
-    ghost use Rattle.lane_steps.specs.Lanes.{back_of};
+    ghost use Rattle.proxy_steps.specs.Lanes.{back_of};
     ghost use Rattle.worker_run.specs.Seen.{RanTold, left, ran_told};
 
     ghost Value = { RanTold };

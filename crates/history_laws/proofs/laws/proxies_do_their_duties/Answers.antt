@@ -4,8 +4,8 @@ use Rattle.run_plan.specs.Groups.{is_remote}
 use Rattle.exec_journal.specs.declared.call.Call.{Call}
 use Rattle.exec_journal.specs.declared.call.Call.TheVariants as call
 use Rattle.seat_desk.specs.History.{calls_by}
-use Rattle.run_rules.specs.Duties.{proxy_lane, Duty, Asks, may_make, duty_of}
-use Rattle.run_rules.specs.Moves.{History}
+use Rattle.core_contract.specs.Duties.{proxy_lane, Duty, Asks, may_make, duty_of}
+use Rattle.core_contract.specs.Moves.{History}
 use Rattle.history_laws.specs.Owed.{journal_of, outputs_in, makers_in}
 use Rattle.history_laws.specs.Disciplines.{Discipline}
 use Rattle.history_laws.proofs.Doing.{duty_is_scripted}

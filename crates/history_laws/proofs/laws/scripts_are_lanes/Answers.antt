@@ -4,7 +4,7 @@ use Rattle.exec_journal.specs.declared.call.Call.TheVariants as call
 use Rattle.exec_journal.specs.Entry.{Entry}
 use Rattle.exec_journal.specs.Lawful.{may_tick}
 use Rattle.seat_desk.specs.History.{calls_by}
-use Rattle.run_rules.specs.Moves.{History}
+use Rattle.core_contract.specs.Moves.{History}
 use Rattle.history_laws.specs.Disciplines.{Discipline, script_of}
 use Rattle.history_laws.specs.Owed.{journal_of}
 use Rattle.history_laws.proofs.Staying.{lane_is_known, script_stays}

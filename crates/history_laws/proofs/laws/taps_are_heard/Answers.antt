@@ -3,9 +3,9 @@ use Rattle.exec_journal.specs.declared.call.Call.{Call}
 use Rattle.exec_journal.specs.declared.call.Call.TheVariants as call
 use Rattle.exec_journal.specs.Lawful.{Lawful}
 use Rattle.seat_desk.specs.History.{calls_by}
-use Rattle.run_rules.specs.Moves.{History}
+use Rattle.core_contract.specs.Moves.{History}
 use Rattle.history_laws.specs.Disciplines.{Discipline}
-use Rattle.run_rules.specs.Laws.{tap_lane, may_hear, hearing_of, tells_of, Hearing, Free, Hears, Over}
+use Rattle.core_contract.specs.Laws.{tap_lane, may_hear, hearing_of, tells_of, Hearing, Free, Hears, Over}
 use Rattle.history_laws.specs.Owed.{journal_of}
 use Rattle.history_laws.proofs.Ticking.{only_hears, telling}
 use Rattle.history_laws.proofs.Fitting.{in_script, lawful, scripted_so, scripted_as, seated_so, Scripted, Ticks, Seated}

@@ -1,6 +1,6 @@
 use Rattle.std.proofs.Common.{ℕ, ◌<◌, ◌^◌, None, count_by, replicate, sym, ap, subst, ◌∙◌}
 use Rattle.std.specs.List.{list_any, range_with_len}
-use Rattle.run_rules.specs.Laws.{lines_in}
+use Rattle.core_contract.specs.Laws.{lines_in}
 use Rattle.lane_runs.specs.Apart.{lefts_of}
 use Rattle.lane_runs.specs.BerthHalves.{AreInside}
 use Rattle.lane_runs.specs.Blanks.{HasRoom}

@@ -1,10 +1,10 @@
 use Rattle.std.proofs.Common.{◌≡◌, ◌+◌, ◌≤◌, ◌∙◌, List, length, refl, ap, sym, subst, rules, arith}
 use Rattle.lane_crew.specs.declared.pair.OfTwo.{OfTwo}
-use Rattle.run_bench.specs.Objects.{AreFresh}
+use Rattle.core_bench.specs.Objects.{AreFresh}
 use Rattle.berth_lanes.specs.declared.proxies.ProxySeat.{ProxySeat}
 use Rattle.berth_lanes.specs.declared.taps.TapSeat.{TapSeat}
 use Rattle.berth_lanes.specs.Seats.{PostsFit, berths_in}
-use Rattle.lane_steps.specs.Work.{IsWorkOf}
+use Rattle.proxy_steps.specs.Work.{IsWorkOf}
 use Rattle.berth_lanes.proofs.Running.{all_may, each_berth}
 use Rattle.berth_lanes.proofs.Seating.{seated_berths}
 use Rattle.lane_runs.proofs.Crewed.{two_each, at_plan, blank_suits, room_suits}
@@ -21,18 +21,18 @@ run_crew-requires-clause-few g c κs within =
 pub run_crew-requires-clause-may_run : goal.run_crew-requires-clause-may_run
 run_crew-requires-clause-may_run g c κs within =
     let r = g.C.Rules in
-    let rules = sym c.in-Ok-new.ensures.rules in
+    let basis = sym c.in-Ok-new.ensures.basis in
     let seats = c.requires.seats in
     let few = c.requires.few in
     all_may _ r.seats r.remote r.actions r.outputs r.makers r.rule g.B.Berth.told g.B.Feed.Feed.told
     g.B.Tap.Tap.told g.B.Child.Child.told _ c.args.actions.now 0 c.args.berths.items
     c.args.posts.now c.lanes_of-lanes.result.items c.lanes_of-lanes.ensures
-    (subst (λ (q : g.row.C-Plan.Denot). 0 + length c.args.posts.now ≤ r.seats q) rules
+    (subst (λ (q : g.row.C-Plan.Denot). 0 + length c.args.posts.now ≤ r.seats q) basis
     (omega (arith, seats)))
-    (subst (λ (q : g.row.C-Plan.Denot). r.seats q ≤ 64) rules (omega (arith, seats, few)))
-    (subst (λ (q : g.row.C-Plan.Denot). PostsFit (r.remote q) 0 c.args.posts.now) rules c.requires.posts)
+    (subst (λ (q : g.row.C-Plan.Denot). r.seats q ≤ 64) basis (omega (arith, seats, few)))
+    (subst (λ (q : g.row.C-Plan.Denot). PostsFit (r.remote q) 0 c.args.posts.now) basis c.requires.posts)
     (subst (λ (q : g.row.C-Plan.Denot). IsWorkOf (r.actions q) (r.outputs q) (r.makers q)
-    c.args.actions.now) rules c.requires.work)
+    c.args.actions.now) basis c.requires.work)
 
 pub lay_out-requires-clause-alternate : goal.lay_out-requires-clause-alternate
 lay_out-requires-clause-alternate g c =
@@ -48,8 +48,8 @@ lay_out-requires-clause-alternate g c =
     (r.plan c.in-Ok-new.bench.core) (r.plan c.in-Ok-run_crew.crew.machine.core)
     (r.plan c.into_parts-core.result.0) h c.args.posts.now c.args.actions.now
     c.args.berths.items c.in-Ok-run_crew.crew.ends.items c.into_parts-core.result.1.items
-    c.into_parts-core.result.2.items c.in-Ok-new.ensures.rules c.in-Ok-run_crew.ensures.stands.1
-    c.into_parts-core.ensures.rules c.requires.seats
+    c.into_parts-core.result.2.items c.in-Ok-new.ensures.basis c.in-Ok-run_crew.ensures.stands.1
+    c.into_parts-core.ensures.basis c.requires.seats
     (c.histories_say.ensures.stands c.into_parts-core.result.0 h parts.0) parts.1.taps parts.1.places ran in
     in_turn r.legal r.seats r.rule r.outputs r.actions g.B.Berth.told g.B.Feed.Feed.told
     g.B.Tap.Tap.told g.B.Child.Child.told g.P.Place.told c.histories_say.ensures.laws (r.plan c.args.core) h
@@ -70,8 +70,8 @@ lay_out-requires-clause-fit g c =
     (r.plan c.in-Ok-new.bench.core) (r.plan c.in-Ok-run_crew.crew.machine.core)
     (r.plan c.into_parts-core.result.0) h c.args.posts.now c.args.actions.now
     c.args.berths.items c.in-Ok-run_crew.crew.ends.items c.into_parts-core.result.1.items
-    c.into_parts-core.result.2.items c.in-Ok-new.ensures.rules c.in-Ok-run_crew.ensures.stands.1
-    c.into_parts-core.ensures.rules c.requires.seats
+    c.into_parts-core.result.2.items c.in-Ok-new.ensures.basis c.in-Ok-run_crew.ensures.stands.1
+    c.into_parts-core.ensures.basis c.requires.seats
     (c.histories_say.ensures.stands c.into_parts-core.result.0 h parts.0) parts.1.taps parts.1.places ran in
     are_fit r.legal r.seats r.rule r.outputs r.actions g.B.Berth.told g.B.Feed.Feed.told
     g.B.Tap.Tap.told g.B.Child.Child.told g.P.Place.told c.histories_say.ensures.laws (r.plan c.args.core) h
@@ -92,8 +92,8 @@ returns-in-Ok-run_crew-clause-run g c =
     (r.plan c.in-Ok-new.bench.core) (r.plan c.in-Ok-run_crew.crew.machine.core)
     (r.plan c.into_parts-core.result.0) h c.args.posts.now c.args.actions.now
     c.args.berths.items c.in-Ok-run_crew.crew.ends.items c.into_parts-core.result.1.items
-    c.into_parts-core.result.2.items c.in-Ok-new.ensures.rules c.in-Ok-run_crew.ensures.stands.1
-    c.into_parts-core.ensures.rules c.requires.seats
+    c.into_parts-core.result.2.items c.in-Ok-new.ensures.basis c.in-Ok-run_crew.ensures.stands.1
+    c.into_parts-core.ensures.basis c.requires.seats
     (c.histories_say.ensures.stands c.into_parts-core.result.0 h parts.0) parts.1.taps parts.1.places ran in
     has_run r.legal r.seats r.rule r.outputs r.actions g.B.Berth.told g.B.Feed.Feed.told
     g.B.Tap.Tap.told g.B.Child.Child.told g.P.Place.told c.histories_say.ensures.laws (r.plan c.args.core) h
@@ -115,8 +115,8 @@ lay_out-requires-clause-there g c =
     (r.plan c.in-Ok-new.bench.core) (r.plan c.in-Ok-run_crew.crew.machine.core)
     (r.plan c.into_parts-core.result.0) h c.args.posts.now c.args.actions.now
     c.args.berths.items c.in-Ok-run_crew.crew.ends.items c.into_parts-core.result.1.items
-    c.into_parts-core.result.2.items c.in-Ok-new.ensures.rules c.in-Ok-run_crew.ensures.stands.1
-    c.into_parts-core.ensures.rules c.requires.seats
+    c.into_parts-core.result.2.items c.in-Ok-new.ensures.basis c.in-Ok-run_crew.ensures.stands.1
+    c.into_parts-core.ensures.basis c.requires.seats
     (c.histories_say.ensures.stands c.into_parts-core.result.0 h parts.0) parts.1.taps parts.1.places ran in
     places_are_there r.legal r.seats r.rule r.outputs r.actions g.B.Berth.told g.B.Feed.Feed.told
     g.B.Tap.Tap.told g.B.Child.Child.told g.P.Place.told c.histories_say.ensures.laws (r.plan c.args.core) h
@@ -138,8 +138,8 @@ lay_out-requires-clause-room g c =
     (r.plan c.in-Ok-new.bench.core) (r.plan c.in-Ok-run_crew.crew.machine.core)
     (r.plan c.into_parts-core.result.0) h c.args.posts.now c.args.actions.now
     c.args.berths.items c.in-Ok-run_crew.crew.ends.items c.into_parts-core.result.1.items
-    c.into_parts-core.result.2.items c.in-Ok-new.ensures.rules c.in-Ok-run_crew.ensures.stands.1
-    c.into_parts-core.ensures.rules c.requires.seats
+    c.into_parts-core.result.2.items c.in-Ok-new.ensures.basis c.in-Ok-run_crew.ensures.stands.1
+    c.into_parts-core.ensures.basis c.requires.seats
     (c.histories_say.ensures.stands c.into_parts-core.result.0 h parts.0) parts.1.taps parts.1.places ran in
     let taps = at.lie.as_many in
     let many = at.many in
@@ -168,8 +168,8 @@ lay_out-requires-clause-few g c =
     (r.plan c.in-Ok-new.bench.core) (r.plan c.in-Ok-run_crew.crew.machine.core)
     (r.plan c.into_parts-core.result.0) h c.args.posts.now c.args.actions.now
     c.args.berths.items c.in-Ok-run_crew.crew.ends.items c.into_parts-core.result.1.items
-    c.into_parts-core.result.2.items c.in-Ok-new.ensures.rules c.in-Ok-run_crew.ensures.stands.1
-    c.into_parts-core.ensures.rules c.requires.seats
+    c.into_parts-core.result.2.items c.in-Ok-new.ensures.basis c.in-Ok-run_crew.ensures.stands.1
+    c.into_parts-core.ensures.basis c.requires.seats
     (c.histories_say.ensures.stands c.into_parts-core.result.0 h parts.0) parts.1.taps parts.1.places ran in
     let lines = c.histories_say.ensures.fit (r.plan c.args.core) h at.good in
     let most = c.most_lines-lines.ensures in
@@ -200,7 +200,7 @@ take_back-requires-clause-berths g c =
 pub take_back-requires-clause-places : goal.take_back-requires-clause-places
 take_back-requires-clause-places g c =
     let fresh = c.requires.places.as_many in
-    let same = ap g.C.Rules.actions (c.in-Err-run_crew.ensures.back.1.1 ∙ c.in-Ok-new.ensures.rules) in
+    let same = ap g.C.Rules.actions (c.in-Err-run_crew.ensures.back.1.1 ∙ c.in-Ok-new.ensures.basis) in
     let places_len : c.len-2.result ≡ length c.args.places.items = search rules in
     room_suits c.len-2.result _ c.in-Ok.blank.places c.in-Ok.ensures.places_fit
     (omega (arith, fresh, same, places_len))
@@ -212,5 +212,5 @@ returns-in-Err-run_crew-clause-back g c = (
       c.lanes_of-lanes.result.items c.lanes_of-lanes.ensures),
   subst (λ (q : g.row.C-Plan.Denot). AreFresh g.P.Place.told (g.C.Rules.actions q)
       c.take_back.result.places.items)
-      (c.in-Err-run_crew.ensures.back.1.1 ∙ c.in-Ok-new.ensures.rules) c.take_back.ensures.places,
+      (c.in-Err-run_crew.ensures.back.1.1 ∙ c.in-Ok-new.ensures.basis) c.take_back.ensures.places,
 )

@@ -1,8 +1,8 @@
 use Rattle.exec_journal.specs.declared.call.Call.{Call}
 use Rattle.exec_journal.specs.declared.call.Call.TheVariants as call
-use Rattle.run_rules.specs.Duties.{may_do, duty_of}
-use Rattle.run_bench.proofs.Own.{child_is_own}
-use Rattle.run_rules.specs.Laws.{lines_in}
+use Rattle.core_contract.specs.Duties.{may_do, duty_of}
+use Rattle.core_bench.proofs.Own.{child_is_own}
+use Rattle.core_contract.specs.Laws.{lines_in}
 use Rattle.proxy_calls.proofs.Replies.{never_asked}
 use Rattle.proxy_calls.proofs.Entries.{called, legal_at}
 use Rattle.proxy_calls.proofs.Askings.{asked, lines_before, lines_after, order_holds, ask_may, gives_child}
@@ -11,7 +11,7 @@ use Rattle.proxy_calls.proofs.asking.ask.Goals as goal
 pub order_of-requires-clause-fits : goal.order_of-requires-clause-fits
 order_of-requires-clause-fits g c =
     let p = c.args.caller.now.pass in
-    let q = p.seat.me.0.rules in
+    let q = p.seat.me.0.basis in
     let w = c.args.berth in
     let law = g.met.C.Rules in
     let rule = g.C.Rules.rule q in
@@ -30,13 +30,13 @@ order_of-requires-clause-child g c =
     let p = c.args.caller.now.pass in
     let a = c.in-Ok.ensures.answer.0 in
     gives_child g.B.Child.Child.told g.B.Tap.Tap.told g.P.Place.told
-    (g.C.Rules.outputs p.seat.me.0.rules) a.0 p.lane c.args.berth c.in-Ok.answer.0 c.in-Ok.answer.1
+    (g.C.Rules.outputs p.seat.me.0.basis) a.0 p.lane c.args.berth c.in-Ok.answer.0 c.in-Ok.answer.1
     c.requires.lane.0 a.4
 
 pub returns-in-Ok-clause-ordered : goal.returns-in-Ok-clause-ordered
 returns-in-Ok-clause-ordered g c =
     let p = c.args.caller.now.pass in
-    let q = p.seat.me.0.rules in
+    let q = p.seat.me.0.basis in
     let w = c.args.berth in
     let law = g.met.C.Rules in
     let rule = g.C.Rules.rule q in

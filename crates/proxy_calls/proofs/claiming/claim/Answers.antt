@@ -1,6 +1,6 @@
 use Rattle.std.proofs.Common.{Option, sym, subst}
 use Rattle.exec_journal.specs.declared.call.Call.{Call}
-use Rattle.run_rules.specs.Duties.{may_do}
+use Rattle.core_contract.specs.Duties.{may_do}
 use Rattle.proxy_calls.specs.Claims.{claim_of, IsGranted}
 use Rattle.proxy_calls.proofs.Replies.{never_claimed}
 use Rattle.proxy_calls.proofs.Entries.{called}
@@ -10,7 +10,7 @@ use Rattle.proxy_calls.proofs.claiming.claim.Goals as goal
 pub returns-in-Ok-clause-claimed : goal.returns-in-Ok-clause-claimed
 returns-in-Ok-clause-claimed g c =
     let p = c.args.caller.now.pass in
-    let q = p.seat.me.0.rules in
+    let q = p.seat.me.0.basis in
     let w = c.args.berth in
     let law = g.met.C.Rules in
     let rule = g.C.Rules.rule q in

@@ -2,11 +2,11 @@ use Rattle.std.proofs.Common.{◌≡◌, ℕ, List, ap, sym, subst, ◌∙◌}
 use Rattle.seat_desk.specs.History.{calls_by}
 use Rattle.exec_journal.specs.declared.call.Call.{Call}
 use Rattle.exec_journal.specs.declared.call.Call.TheVariants as call
-use Rattle.run_rules.specs.Duties.{may_do, duty_of, proxy_lane}
-use Rattle.run_rules.specs.Duties.{Commits}
-use Rattle.run_rules.specs.Shelf.{Back}
-use Rattle.run_rules.specs.Laws.{InScript, claimed}
-use Rattle.run_bench.specs.Objects.{IsPlaceAt}
+use Rattle.core_contract.specs.Duties.{may_do, duty_of, proxy_lane}
+use Rattle.core_contract.specs.Duties.{Commits}
+use Rattle.core_contract.specs.Shelf.{Back}
+use Rattle.core_contract.specs.Laws.{InScript, claimed}
+use Rattle.core_bench.specs.Objects.{IsPlaceAt}
 use Rattle.proxy_calls.proofs.Entries.{called_paid}
 use Rattle.proxy_calls.proofs.Claimings.{may_commit, commit_made, commit_asks}
 use Rattle.proxy_calls.proofs.claiming.commit_files.Goals as goal
@@ -14,7 +14,7 @@ use Rattle.proxy_calls.proofs.claiming.commit_files.Goals as goal
 pub call_paid-answer-requires-clause-paid : goal.call_paid-answer-requires-clause-paid
 call_paid-answer-requires-clause-paid g c =
     let p = c.args.caller.now.pass in
-    let q = p.seat.me.0.rules in
+    let q = p.seat.me.0.basis in
     let v = p.seat.me.0 in
     let t = c.args.attempt in
     let fs = c.args.files.now in
@@ -29,7 +29,7 @@ call_paid-answer-requires-clause-paid g c =
 pub call_paid-answer-requires-clause-suits : goal.call_paid-answer-requires-clause-suits
 call_paid-answer-requires-clause-suits g c =
     let p = c.args.caller.now.pass in
-    let q = p.seat.me.0.rules in
+    let q = p.seat.me.0.basis in
     let v = p.seat.me.0 in
     let t = c.args.attempt in
     let fs = c.args.files.now in
@@ -54,7 +54,7 @@ call_paid-answer-requires-clause-suits g c =
 pub returns-clause-committed : goal.returns-clause-committed
 returns-clause-committed g c =
     let p = c.args.caller.now.pass in
-    let q = p.seat.me.0.rules in
+    let q = p.seat.me.0.basis in
     let w = c.args.berth in
     let law = g.met.C.Rules in
     let rule = g.C.Rules.rule q in
@@ -75,7 +75,7 @@ returns-clause-committed g c =
 pub returns-clause-asks : goal.returns-clause-asks
 returns-clause-asks g c =
     let p = c.args.caller.now.pass in
-    let q = p.seat.me.0.rules in
+    let q = p.seat.me.0.basis in
     let w = c.args.berth in
     let law = g.met.C.Rules in
     let rule = g.C.Rules.rule q in

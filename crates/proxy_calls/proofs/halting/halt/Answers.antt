@@ -2,8 +2,8 @@ use Rattle.std.proofs.Common.{◌≡◌, ℕ, Option, ap, sym, subst, ◌∙◌}
 use Rattle.seat_desk.specs.History.{calls_by}
 use Rattle.exec_journal.specs.declared.call.Call.{Call}
 use Rattle.exec_journal.specs.declared.call.Call.TheVariants as call
-use Rattle.run_rules.specs.Duties.{may_do, duty_of, proxy_lane}
-use Rattle.run_rules.specs.Shelf.{child_at}
+use Rattle.core_contract.specs.Duties.{may_do, duty_of, proxy_lane}
+use Rattle.core_contract.specs.Shelf.{child_at}
 use Rattle.proxy_calls.specs.Goods.{IsChildThere}
 use Rattle.proxy_calls.proofs.Replies.{is_noted}
 use Rattle.proxy_calls.proofs.Entries.{called_paid}
@@ -14,7 +14,7 @@ use Rattle.proxy_calls.proofs.halting.halt.Goals as goal
 pub call_paid-answer-requires-clause-paid : goal.call_paid-answer-requires-clause-paid
 call_paid-answer-requires-clause-paid g c =
     let p = c.args.caller.now.pass in
-    let q = p.seat.me.0.rules in
+    let q = p.seat.me.0.basis in
     let v = p.seat.me.0 in
     let own : duty_of (calls_by (proxy_lane c.args.berth) v.seen) ≡ duty_of v.mine =
     ap (λ (n : ℕ). duty_of (calls_by n v.seen)) (sym c.requires.lane.0) ∙ ap duty_of p.idle.3 in
@@ -25,7 +25,7 @@ call_paid-answer-requires-clause-paid g c =
 pub returns-clause-halted : goal.returns-clause-halted
 returns-clause-halted g c =
     let p = c.args.caller.now.pass in
-    let q = p.seat.me.0.rules in
+    let q = p.seat.me.0.basis in
     let w = c.args.berth in
     let law = g.met.C.Rules in
     let rule = g.C.Rules.rule q in
@@ -43,7 +43,7 @@ returns-clause-halted g c =
 pub returns-clause-child : goal.returns-clause-child
 returns-clause-child g c =
     let p = c.args.caller.now.pass in
-    let q = p.seat.me.0.rules in
+    let q = p.seat.me.0.basis in
     let w = c.args.berth in
     let law = g.met.C.Rules in
     let rule = g.C.Rules.rule q in

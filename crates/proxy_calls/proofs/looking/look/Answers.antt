@@ -1,14 +1,14 @@
 use Rattle.std.proofs.Common.{Some, None}
 use Rattle.exec_journal.specs.declared.call.Call.{Call}
 use Rattle.exec_journal.specs.declared.call.Call.TheVariants as call
-use Rattle.run_rules.specs.Duties.{may_do}
+use Rattle.core_contract.specs.Duties.{may_do}
 use Rattle.proxy_calls.proofs.Lookings.{looks_none, looks_told}
 use Rattle.proxy_calls.proofs.looking.look.Goals as goal
 
 pub returns-in-File-clause-told : goal.returns-in-File-clause-told
 returns-in-File-clause-told g c =
     let p = c.args.caller.now.pass in
-    let q = p.seat.me.0.rules in
+    let q = p.seat.me.0.basis in
     let w = c.args.berth in
     let law = g.met.C.Rules in
     let rule = g.C.Rules.rule q in
@@ -24,7 +24,7 @@ returns-in-File-clause-told g c =
 pub returns-in-NoFile-clause-told : goal.returns-in-NoFile-clause-told
 returns-in-NoFile-clause-told g c =
     let p = c.args.caller.now.pass in
-    let q = p.seat.me.0.rules in
+    let q = p.seat.me.0.basis in
     let w = c.args.berth in
     let law = g.met.C.Rules in
     let rule = g.C.Rules.rule q in
@@ -40,7 +40,7 @@ returns-in-NoFile-clause-told g c =
 pub returns-in-File-clause-none : goal.returns-in-File-clause-none
 returns-in-File-clause-none g c =
     let p = c.args.caller.now.pass in
-    let q = p.seat.me.0.rules in
+    let q = p.seat.me.0.basis in
     let w = c.args.berth in
     let law = g.met.C.Rules in
     let rule = g.C.Rules.rule q in
@@ -56,7 +56,7 @@ returns-in-File-clause-none g c =
 pub returns-in-NoFile-clause-none : goal.returns-in-NoFile-clause-none
 returns-in-NoFile-clause-none g c =
     let p = c.args.caller.now.pass in
-    let q = p.seat.me.0.rules in
+    let q = p.seat.me.0.basis in
     let w = c.args.berth in
     let law = g.met.C.Rules in
     let rule = g.C.Rules.rule q in
@@ -72,7 +72,7 @@ returns-in-NoFile-clause-none g c =
 pub returns-in-Ok-clause-none : goal.returns-in-Ok-clause-none
 returns-in-Ok-clause-none g c =
     let p = c.args.caller.now.pass in
-    let q = p.seat.me.0.rules in
+    let q = p.seat.me.0.basis in
     let w = c.args.berth in
     let law = g.met.C.Rules in
     let rule = g.C.Rules.rule q in

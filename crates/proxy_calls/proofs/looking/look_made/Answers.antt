@@ -2,8 +2,8 @@ use Rattle.std.proofs.Common.{◌≡◌, ℕ, Some, true, sym, subst}
 use Rattle.exec_journal.specs.declared.call.Call.{Call}
 use Rattle.exec_journal.specs.declared.call.Call.TheVariants as call
 use Rattle.exec_journal.specs.declared.call.Wanted.TheVariants as wanted
-use Rattle.run_rules.specs.Laws.{says_file}
-use Rattle.run_rules.specs.Duties.{may_do}
+use Rattle.core_contract.specs.Laws.{says_file}
+use Rattle.core_contract.specs.Duties.{may_do}
 use Rattle.proxy_calls.proofs.Entries.{legal_at, own_at}
 use Rattle.proxy_calls.proofs.Lookings.{looks_none, looks_told, looks_found, may_look_made, duty_there}
 use Rattle.proxy_calls.proofs.looking.look_made.Goals as goal
@@ -11,7 +11,7 @@ use Rattle.proxy_calls.proofs.looking.look_made.Goals as goal
 pub returns-in-File-clause-told : goal.returns-in-File-clause-told
 returns-in-File-clause-told g c =
     let p = c.args.caller.now.pass in
-    let q = p.seat.me.0.rules in
+    let q = p.seat.me.0.basis in
     let w = c.args.berth in
     let law = g.met.C.Rules in
     let rule = g.C.Rules.rule q in
@@ -28,7 +28,7 @@ returns-in-File-clause-told g c =
 pub returns-in-File-clause-none : goal.returns-in-File-clause-none
 returns-in-File-clause-none g c =
     let p = c.args.caller.now.pass in
-    let q = p.seat.me.0.rules in
+    let q = p.seat.me.0.basis in
     let w = c.args.berth in
     let law = g.met.C.Rules in
     let rule = g.C.Rules.rule q in
@@ -45,7 +45,7 @@ returns-in-File-clause-none g c =
 pub returns-in-Ok-clause-none : goal.returns-in-Ok-clause-none
 returns-in-Ok-clause-none g c =
     let p = c.args.caller.now.pass in
-    let q = p.seat.me.0.rules in
+    let q = p.seat.me.0.basis in
     let w = c.args.berth in
     let law = g.met.C.Rules in
     let rule = g.C.Rules.rule q in
@@ -62,7 +62,7 @@ returns-in-Ok-clause-none g c =
 pub unreachable-requires : goal.unreachable-requires
 unreachable-requires g c =
     let p = c.args.caller.now.pass in
-    let q = p.seat.me.0.rules in
+    let q = p.seat.me.0.basis in
     let w = c.args.berth in
     let law = g.met.C.Rules in
     let rule = g.C.Rules.rule q in

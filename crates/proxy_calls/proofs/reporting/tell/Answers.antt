@@ -1,6 +1,6 @@
 use Rattle.std.proofs.Common.{sym, ◌∙◌}
 use Rattle.exec_journal.specs.declared.call.Call.{Call}
-use Rattle.run_rules.specs.Duties.{may_do, duty_of}
+use Rattle.core_contract.specs.Duties.{may_do, duty_of}
 use Rattle.proxy_calls.proofs.Replies.{is_noted}
 use Rattle.proxy_calls.proofs.Entries.{called}
 use Rattle.proxy_calls.proofs.Reportings.{report_fits, never_reported, by_report, noted_made, noted_asks}
@@ -9,7 +9,7 @@ use Rattle.proxy_calls.proofs.reporting.tell.Goals as goal
 pub returns-in-Ok-clause-told : goal.returns-in-Ok-clause-told
 returns-in-Ok-clause-told g c =
     let p = c.args.caller.now.pass in
-    let q = p.seat.me.0.rules in
+    let q = p.seat.me.0.basis in
     let w = c.args.berth in
     let law = g.met.C.Rules in
     let rule = g.C.Rules.rule q in

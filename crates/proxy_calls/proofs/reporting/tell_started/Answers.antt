@@ -3,8 +3,8 @@ use Rattle.exec_journal.specs.declared.call.Call.{Call}
 use Rattle.exec_journal.specs.declared.call.Call.TheVariants as call
 use Rattle.exec_journal.specs.declared.call.Started.TheVariants as start
 use Rattle.exec_journal.specs.declared.reply.Reply.TheVariants as reply
-use Rattle.run_rules.specs.Duties.{may_do, duty_of}
-use Rattle.run_rules.specs.Duties.{Duty, duty_by}
+use Rattle.core_contract.specs.Duties.{may_do, duty_of}
+use Rattle.core_contract.specs.Duties.{Duty, duty_by}
 use Rattle.proxy_calls.proofs.Replies.{is_noted, never_noted}
 use Rattle.proxy_calls.proofs.Entries.{called}
 use Rattle.proxy_calls.proofs.Reportings.{noted_made, noted_asks, may_launch}
@@ -13,7 +13,7 @@ use Rattle.proxy_calls.proofs.reporting.tell_started.Goals as goal
 pub returns-in-Ok-clause-told : goal.returns-in-Ok-clause-told
 returns-in-Ok-clause-told g c =
     let p = c.args.caller.now.pass in
-    let q = p.seat.me.0.rules in
+    let q = p.seat.me.0.basis in
     let w = c.args.berth in
     let law = g.met.C.Rules in
     let rule = g.C.Rules.rule q in

@@ -9,10 +9,10 @@ use Rattle.sandbox_rooms.proofs.Runs.{made_none}
 use Rattle.order_acts.specs.Acts.{ReportsLooks}
 use Rattle.run_plan.specs.Groups.{is_remote}
 use Rattle.due_frames.specs.Requests.{room_for}
-use Rattle.seat_desk.specs.Passes.{rules, seen}
-use Rattle.lane_deeds.specs.Deeds.{FoundIn, look_asks}
-use Rattle.lane_steps.specs.Acts.{IsAnswered}
-use Rattle.lane_steps.proofs.Acting.{gather_none, gather_answered, gather_looked}
+use Rattle.seat_desk.specs.Passes.{basis, seen}
+use Rattle.proxy_deeds.specs.Deeds.{FoundIn, look_asks}
+use Rattle.proxy_steps.specs.Acts.{IsAnswered}
+use Rattle.proxy_steps.proofs.Acting.{gather_none, gather_answered, gather_looked}
 use Rattle.proxy_lane.proofs.gathering.act_gather.Goals as goal
 
 exit_in : (r : Bool) (asks : List Asked) (outputs l : ℕ) (n x : ℤ)
@@ -33,7 +33,7 @@ returns-then-answer-ne0-clause-acts g c =
     let post = c.args.site.now.post.now in
     let work = c.args.work.now in
     let b = g.B.Berth.told c.args.berth.now in
-    gather_none post (g.C.Rules.rule (rules p)) p.lane c.args.answer.now.line c.args.answer.now.number work (seen p)
+    gather_none post (g.C.Rules.rule (basis p)) p.lane c.args.answer.now.line c.args.answer.now.number work (seen p)
     (found.Exit (to_z w32 (of_z w32 c.args.answer.now.exit))) b
     (exit_in (is_remote post.kind) (look_asks post c.args.answer.now.number work) (length work.outputs) c.args.answer.now.line
     c.args.answer.now.number (to_z w32 (of_z w32 c.args.answer.now.exit))) (made_none b)
@@ -44,7 +44,7 @@ returns-then-answer-clause-acts g c =
     let post = c.args.site.now.post.now in
     let work = c.args.work.now in
     let b = g.B.Berth.told c.args.berth.now in
-    gather_none post (g.C.Rules.rule (rules p)) p.lane c.args.answer.now.line c.args.answer.now.number work (seen p)
+    gather_none post (g.C.Rules.rule (basis p)) p.lane c.args.answer.now.line c.args.answer.now.number work (seen p)
     found.Refused b
     (refused_in (is_remote post.kind) (look_asks post c.args.answer.now.number work) (length work.outputs)
     c.args.answer.now.line c.args.answer.now.number) (made_none b)
@@ -55,7 +55,7 @@ returns-then-is_executor-clause-acts g c =
     let post = c.args.site.now.post.now in
     let work = c.args.work.now in
     let later = seen c.answered.new.caller.pass in
-    let rule = g.C.Rules.rule (rules p) in
+    let rule = g.C.Rules.rule (basis p) in
     gather_answered post rule p.lane c.args.answer.now.line c.args.answer.now.number work later c.answered.result
     (g.B.Berth.told c.args.berth.now) (sym c.is_executor.ensures ∙ c.if-is_executor.true)
     (subst (λ xs. IfOk c.answered.result (λ f. IsAnswered rule p.lane c.args.answer.now.line c.args.answer.now.number
@@ -70,7 +70,7 @@ returns-clause-acts g c =
     let old = g.B.Berth.told c.args.berth.now in
     let new = g.B.Berth.told c.gather_line.new.berth in
     let room = c.room_of-room.ensures ∙ ap (room_for post.kind) (to_z-of_z fits) in
-    gather_looked post (g.C.Rules.rule (rules p)) p.lane c.args.answer.now.line c.args.answer.now.number work (seen p)
+    gather_looked post (g.C.Rules.rule (basis p)) p.lane c.args.answer.now.line c.args.answer.now.number work (seen p)
     c.gather_line.result old new (sym c.is_executor.ensures ∙ c.if-is_executor.false)
     (subst (λ (r : Room). ReportsLooks (gather_asks r work.outputs) c.gather_line.result old new) room
     (subst (λ xs. ReportsLooks (gather_asks c.room_of-room.result xs) c.gather_line.result old new)

@@ -1,11 +1,11 @@
 use Rattle.std.proofs.Common.{◌≡◌, ℕ, ℤ, ◌+◌, Option, Some, List, [], ◌∷◌, ◌++◌, length, refl, ap, sym, subst, ◌∙◌, append-nil, arith, w32, SFits, rules as facts}
 use Rattle.std.proofs.Math.Facts.{to_z-of_z}
-use Rattle.seat_desk.specs.Passes.{rules, seen}
+use Rattle.seat_desk.specs.Passes.{basis, seen}
 use Rattle.exec_journal.specs.declared.call.Wanted.TheVariants as wanted
-use Rattle.lane_deeds.specs.Deeds.{Looked, looks_from, lacks}
-use Rattle.lane_deeds.specs.Told.{IsTold, AreTold}
-use Rattle.lane_steps.proofs.Filing.{output_told, looks_on}
-use Rattle.lane_steps.proofs.Sends.{starts_later}
+use Rattle.proxy_deeds.specs.Deeds.{Looked, looks_from, lacks}
+use Rattle.proxy_deeds.specs.Told.{IsTold, AreTold}
+use Rattle.proxy_steps.proofs.Filing.{output_told, looks_on}
+use Rattle.proxy_steps.proofs.Sends.{starts_later}
 use Rattle.proxy_lane.proofs.gathering.answered.Goals as goal
 
 length_on : (fs : List (List ℕ)) (f : List ℕ) → length (fs ++ f ∷ []) ≡ length fs + 1
@@ -17,7 +17,7 @@ loop-output-init g c = record {
   same = (refl, refl, refl);
   none = (([], sym (append-nil (seen c.args.caller.now.pass))), refl);
   files = ap length c.in_ok-files.ensures.items;
-  told = subst (λ (fs : List (List ℕ)). AreTold (g.C.Rules.rule (rules c.args.caller.now.pass))
+  told = subst (λ (fs : List (List ℕ)). AreTold (g.C.Rules.rule (basis c.args.caller.now.pass))
       c.args.caller.now.pass.lane (seen c.args.caller.now.pass)
       (looks_from c.args.answer.now.line c.args.answer.now.number 0 fs)) (sym c.in_ok-files.ensures.items) tt;
 }
@@ -55,17 +55,17 @@ returns-in-None-clause-answered g c =
     let l = c.args.answer.now.line in
     let n = c.args.answer.now.number in
     let one = subst (λ q. IsTold (rule q) p.lane (seen p2) (lacks l n out)) inv.same.2
-    (subst (λ (k : ℕ). IsTold (rule (rules p1)) k (seen p2) (lacks l n out)) inv.same.1
-    (subst (λ (o : Option (List ℕ)). IsTold (rule (rules p1)) p1.lane (seen p2)
+    (subst (λ (k : ℕ). IsTold (rule (basis p1)) k (seen p2) (lacks l n out)) inv.same.1
+    (subst (λ (o : Option (List ℕ)). IsTold (rule (basis p1)) p1.lane (seen p2)
     (record { wanted = wanted.Answered l n out; found = o })) c.in-None.is
-    (subst (λ (m : ℤ). IsTold (rule (rules p1)) p1.lane (seen p2)
+    (subst (λ (m : ℤ). IsTold (rule (basis p1)) p1.lane (seen p2)
     (record { wanted = wanted.Answered l m out; found = c.in_ok-bytes.field-0 }))
     (to_z-of_z fits) c.in_ok-bytes.ensures.told))) in (
       (search facts),
       (
         c.loop-output.files.items,
         inv.files,
-        output_told (rule (rules p)) p.lane (seen p1) (seen p2)
+        output_told (rule (basis p)) p.lane (seen p1) (seen p2)
             c.look.ensures.none.0 l n c.loop-output.files.items out (lacks l n out) inv.files inv.told one,
       ),
     )
@@ -86,10 +86,10 @@ loop-output-preserved g c =
     let x : Looked = record { wanted = wanted.Answered l n out; found = Some bytes } in
     let pushed = c.in_ok-push-in-Some.ensures.items in
     let one = subst (λ q. IsTold (rule q) p.lane (seen p2) x) inv.same.2
-    (subst (λ (k : ℕ). IsTold (rule (rules p1)) k (seen p2) x) inv.same.1
-    (subst (λ (o : Option (List ℕ)). IsTold (rule (rules p1)) p1.lane (seen p2)
+    (subst (λ (k : ℕ). IsTold (rule (basis p1)) k (seen p2) x) inv.same.1
+    (subst (λ (o : Option (List ℕ)). IsTold (rule (basis p1)) p1.lane (seen p2)
     (record { wanted = wanted.Answered l n out; found = o })) c.in-Some.is
-    (subst (λ (m : ℤ). IsTold (rule (rules p1)) p1.lane (seen p2)
+    (subst (λ (m : ℤ). IsTold (rule (basis p1)) p1.lane (seen p2)
     (record { wanted = wanted.Answered l m out; found = c.in_ok-bytes.field-0 }))
     (to_z-of_z fits) c.in_ok-bytes.ensures.told))) in
     let same = c.look.ensures.same in
@@ -100,11 +100,11 @@ loop-output-preserved g c =
         c.look.ensures.none.1 ∙ inv.none.1,
       );
       files = ap length pushed ∙ (length_on items bytes ∙ ap (λ (k : ℕ). k + 1) inv.files);
-      told = subst (λ (fs : List (List ℕ)). AreTold (rule (rules p)) p.lane (seen p2)
+      told = subst (λ (fs : List (List ℕ)). AreTold (rule (basis p)) p.lane (seen p2)
           (looks_from l n 0 fs)) (sym pushed)
-          (subst (λ (ls : List Looked). AreTold (rule (rules p)) p.lane (seen p2) ls)
+          (subst (λ (ls : List Looked). AreTold (rule (basis p)) p.lane (seen p2) ls)
           (sym (looks_on l n items bytes out inv.files))
-          (output_told (rule (rules p)) p.lane (seen p1) (seen p2) c.look.ensures.none.0 l n items out x
+          (output_told (rule (basis p)) p.lane (seen p1) (seen p2) c.look.ensures.none.0 l n items out x
           inv.files inv.told one));
     }
 

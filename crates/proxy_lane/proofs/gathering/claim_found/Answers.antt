@@ -1,6 +1,6 @@
 use Rattle.std.proofs.Common.{◌≡◌, inl, inr, ℕ, ◌<◌, ◌^◌, ◌==◌, Bool, true, false, not, ◌&&◌, int_eq, length, Option, Some, List, [], ◌∷◌, ◌++◌, refl, ap, sym, subst, ◌∙◌, append-nil}
 use Rattle.seat_desk.specs.History.{entry}
-use Rattle.seat_desk.specs.Passes.{mine, rules, seen}
+use Rattle.seat_desk.specs.Passes.{mine, basis, seen}
 use Rattle.exec_journal.specs.declared.call.Call.TheVariants as call
 use Rattle.exec_journal.specs.declared.reply.Reply.TheVariants as reply
 use Rattle.exec_journal.specs.declared.reply.Reply.{Reply}
@@ -8,18 +8,18 @@ use Rattle.exec_journal.specs.declared.attempt.Attempt.{Attempt}
 use Rattle.exec_journal.specs.declared.call.Found.{Found}
 use Rattle.exec_journal.specs.declared.call.Found.TheVariants as found
 use Rattle.outside.specs.Told.{PlaceTold}
-use Rattle.run_rules.specs.Moves.{History}
-use Rattle.run_rules.specs.Shelf.{Fresh}
+use Rattle.core_contract.specs.Moves.{History}
+use Rattle.core_contract.specs.Shelf.{Fresh}
 use Rattle.std.specs.Prelude.{if◌then◌else◌, pos}
 use Rattle.std.proofs.lemmas.Bool.{eqb-true}
 use Rattle.run_plan.specs.declared.plan.Maker.{Maker}
 use Rattle.exec_journal.specs.Entries.{same_attempt}
-use Rattle.run_rules.specs.Duties.{Duty, Asks, Launches, Sends, Cancels, Gathers, Commits, Kills, Left, duty_of, may_do}
-use Rattle.run_bench.specs.Objects.{IsPlaceAt}
+use Rattle.core_contract.specs.Duties.{Duty, Asks, Launches, Sends, Cancels, Gathers, Commits, Kills, Left, duty_of, may_do}
+use Rattle.core_bench.specs.Objects.{IsPlaceAt}
 use Rattle.proxy_calls.specs.Claims.{claim_of, IsGranted, OwesCommit}
-use Rattle.lane_steps.specs.Steps.{files_in}
-use Rattle.lane_steps.proofs.Sends.{starts_later}
-use Rattle.lane_steps.proofs.Serving.{proxy_on, by_rules}
+use Rattle.proxy_steps.specs.Steps.{files_in}
+use Rattle.proxy_steps.proofs.Sends.{starts_later}
+use Rattle.proxy_steps.proofs.Serving.{proxy_on, by_rules}
 use Rattle.proxy_lane.proofs.gathering.claim_found.Goals as goal
 
 -- what is granted is files, which are to be committed to the place
@@ -120,9 +120,9 @@ returns-in-Ok-Some-clause-claims g c =
     let t = c.args.attempt in
     let claimed = c.in-Ok-Some.ensures.claimed in
     let granted = subst (λ (o : Option g.row.P.Denot). IsGranted g.P.Place.told
-    (g.C.Rules.outputs (rules p) t.action) t o c.args.found claimed.reply (mine p1))
+    (g.C.Rules.outputs (basis p) t.action) t o c.args.found claimed.reply (mine p1))
     c.in-Ok-Some.field-0-is claimed.granted in
-    let owes = some_granted g.P.Place.told (g.C.Rules.outputs (rules p) t.action) t
+    let owes = some_granted g.P.Place.told (g.C.Rules.outputs (basis p) t.action) t
     c.in-Ok-Some.place c.args.found claimed.reply (mine p1) granted in
     let done = c.commit_files.ensures.committed in
     let made = subst (λ (n : ℕ). mine p2 ≡ mine p1
@@ -147,7 +147,7 @@ returns-in-Ok-None-clause-claims g c =
     let p1 = c.claim.new.caller.pass in
     let claimed = c.in-Ok-None.ensures.claimed in
     let granted = subst (λ (o : Option g.row.P.Denot). IsGranted g.P.Place.told
-    (g.C.Rules.outputs (rules p) c.args.attempt.action) c.args.attempt o c.args.found claimed.reply
+    (g.C.Rules.outputs (basis p) c.args.attempt.action) c.args.attempt o c.args.found claimed.reply
     (mine p1)) c.in-Ok-None.field-0-is claimed.granted in
     (granted, (claimed.made.0, (claimed.reply, mine p1, claimed.made.1, inl refl)))
 
@@ -180,9 +180,9 @@ commit_files-requires-clause-owes g c =
     let t = c.args.attempt in
     let claimed = c.in-Ok-Some.ensures.claimed in
     let granted = subst (λ (o : Option g.row.P.Denot). IsGranted g.P.Place.told
-    (g.C.Rules.outputs (rules p) t.action) t o c.args.found claimed.reply (mine p1))
+    (g.C.Rules.outputs (basis p) t.action) t o c.args.found claimed.reply (mine p1))
     c.in-Ok-Some.field-0-is claimed.granted in
-    let owes = some_granted g.P.Place.told (g.C.Rules.outputs (rules p) t.action) t
+    let owes = some_granted g.P.Place.told (g.C.Rules.outputs (basis p) t.action) t
     c.in-Ok-Some.place c.args.found claimed.reply (mine p1) granted in
     subst (λ (fs : List (List ℕ)). OwesCommit t fs (mine p1))
     (sym (c.as_slice.ensures.value ∙ c.in-Ok.ensures.ok)) owes.0
@@ -194,9 +194,9 @@ commit_files-requires-clause-place g c =
     let t = c.args.attempt in
     let claimed = c.in-Ok-Some.ensures.claimed in
     let granted = subst (λ (o : Option g.row.P.Denot). IsGranted g.P.Place.told
-    (g.C.Rules.outputs (rules p) t.action) t o c.args.found claimed.reply (mine p1))
+    (g.C.Rules.outputs (basis p) t.action) t o c.args.found claimed.reply (mine p1))
     c.in-Ok-Some.field-0-is claimed.granted in
-    let owes = some_granted g.P.Place.told (g.C.Rules.outputs (rules p) t.action) t
+    let owes = some_granted g.P.Place.told (g.C.Rules.outputs (basis p) t.action) t
     c.in-Ok-Some.place c.args.found claimed.reply (mine p1) granted in
     subst (λ (xs : List (List ℕ)). IsPlaceAt t.action xs Fresh (g.P.Place.told c.in-Ok-Some.place))
     (c.requires.outputs ∙ sym c.as_slice-outputs.ensures) owes.1
@@ -208,7 +208,7 @@ commit_files-requires-clause-few g c = subst (λ (xs : List (List ℕ)). length 
 pub commit_files-requires-clause-fits : goal.commit_files-requires-clause-fits
 commit_files-requires-clause-fits g c =
     let p = c.args.caller.now.pass in
-    let q = rules p in
+    let q = basis p in
     let t = c.args.attempt in
     let own = mine c.claim.new.caller.pass in
     let claimed = c.in-Ok-Some.ensures.claimed in

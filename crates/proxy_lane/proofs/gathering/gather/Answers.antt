@@ -6,16 +6,16 @@ use Rattle.exec_journal.specs.declared.attempt.Attempt.{Attempt}
 use Rattle.exec_journal.specs.declared.call.Call.{Call}
 use Rattle.exec_journal.specs.declared.call.Found.{Found}
 use Rattle.exec_journal.specs.declared.reply.Reply.{Reply}
-use Rattle.lane_deeds.specs.declared.cause.Cause.{Cause}
+use Rattle.proxy_deeds.specs.declared.cause.Cause.{Cause}
 use Rattle.seat_desk.specs.Passes.{mine, seen}
-use Rattle.run_rules.specs.Shelf.{child_at}
-use Rattle.run_rules.specs.Duties.{Asks, duty_of, proxy_lane}
+use Rattle.core_contract.specs.Shelf.{child_at}
+use Rattle.core_contract.specs.Duties.{Asks, duty_of, proxy_lane}
 use Rattle.proxy_calls.specs.Calls.{MakesNone}
-use Rattle.lane_steps.specs.Lanes.{held_of}
-use Rattle.lane_steps.specs.Steps.{ClaimsFound, IsCauseOfClaim}
-use Rattle.lane_steps.proofs.Shelving.{claim_shelved}
-use Rattle.lane_steps.proofs.Serving.{by_rules}
-use Rattle.lane_steps.proofs.Founds.{gather_goes, gather_cut, claim_halts}
+use Rattle.proxy_steps.specs.Lanes.{held_of}
+use Rattle.proxy_steps.specs.Steps.{ClaimsFound, IsCauseOfClaim}
+use Rattle.proxy_steps.proofs.Shelving.{claim_shelved}
+use Rattle.proxy_steps.proofs.Serving.{by_rules}
+use Rattle.proxy_steps.proofs.Founds.{gather_goes, gather_cut, claim_halts}
 use Rattle.proxy_lane.proofs.Siting.{site_on, obeys_by}
 use Rattle.proxy_lane.proofs.gathering.gather.Goals as goal
 

@@ -1,16 +1,16 @@
 use Rattle.std.proofs.Common.{ℕ, ◌+◌, ◌<◌, length, List, [], ◌∷◌, ◌++◌, refl, ap, sym, subst, ◌∙◌, append-nil, take, arith}
 use Rattle.std.proofs.lemmas.List.{take_all}
 use Rattle.std.proofs.lemmas.List.Elements.{All-get_or}
-use Rattle.seat_desk.specs.Passes.{rules, seen}
+use Rattle.seat_desk.specs.Passes.{basis, seen}
 use Rattle.remote_messages.specs.declared.file.NamedFile.{NamedFile}
 use Rattle.remote_messages.specs.declared.work.WorkInput.{WorkInput}
-use Rattle.lane_deeds.specs.Deeds.{AreInputs, look_at, looks_of}
-use Rattle.lane_deeds.specs.Told.{AreTold}
-use Rattle.run_rules.specs.Duties.{duty_of}
-use Rattle.lane_steps.specs.Work.{IsMadeBy}
-use Rattle.lane_steps.proofs.Sends.{starts_later}
-use Rattle.lane_steps.proofs.Serving.{proxy_on, by_rules}
-use Rattle.lane_steps.proofs.Filing.{inputs_more, input_told, take_next}
+use Rattle.proxy_deeds.specs.Deeds.{AreInputs, look_at, looks_of}
+use Rattle.proxy_deeds.specs.Told.{AreTold}
+use Rattle.core_contract.specs.Duties.{duty_of}
+use Rattle.proxy_steps.specs.Work.{IsMadeBy}
+use Rattle.proxy_steps.proofs.Sends.{starts_later}
+use Rattle.proxy_steps.proofs.Serving.{proxy_on, by_rules}
+use Rattle.proxy_steps.proofs.Filing.{inputs_more, input_told, take_next}
 use Rattle.proxy_lane.proofs.inputs.inputs_of.Goals as goal
 
 pub loop-input-init : goal.loop-input-init
@@ -38,7 +38,7 @@ loop-input-preserved g c =
     let one = c.in_ok-content.ensures in
     let told_one = subst (λ (q : g.row.C-Plan.Denot). AreTold (rule q) p.lane (seen p2)
     (look_at x.origin f.content)) inv.same.2
-    (subst (λ (n : ℕ). AreTold (rule (rules p1)) n (seen p2) (look_at x.origin f.content)) inv.same.1
+    (subst (λ (n : ℕ). AreTold (rule (basis p1)) n (seen p2) (look_at x.origin f.content)) inv.same.1
     one.told) in
     let at : (P : List WorkInput → List NamedFile → Type 0) → P (xs ++ x ∷ []) (items ++ f ∷ [])
     → P (take (c.loop-input.input-index + 1) c.args.inputs.now) c.push.new.self.items =
@@ -49,8 +49,8 @@ loop-input-preserved g c =
       none = (starts_later (seen p) (seen p1) (seen p2) inv.none.0 one.none.0, one.none.1 ∙ inv.none.1);
       inputs = at (λ ys fs. AreInputs ys fs)
           (inputs_more xs items x f inv.inputs (c.in_ok-path.ensures ∙ c.as_str.ensures) one.from);
-      told = at (λ ys fs. AreTold (rule (rules p)) p.lane (seen p2) (looks_of ys fs))
-          (input_told (rule (rules p)) p.lane (seen p1) (seen p2) one.none.0 xs items x f inv.inputs
+      told = at (λ ys fs. AreTold (rule (basis p)) p.lane (seen p2) (looks_of ys fs))
+          (input_told (rule (basis p)) p.lane (seen p1) (seen p2) one.none.0 xs items x f inv.inputs
           inv.told told_one);
     }
 
@@ -71,9 +71,9 @@ content_of-requires-clause-made g c =
     let x = c.input-item.result in
     by_rules (λ q. IsMadeBy (g.C.Rules.makers q c.args.action) x.origin) p c.loop-input.caller.pass
     c.loop-input.invariant.same
-    (subst (λ (i : WorkInput). IsMadeBy (g.C.Rules.makers (rules p) c.args.action) i.origin)
+    (subst (λ (i : WorkInput). IsMadeBy (g.C.Rules.makers (basis p) c.args.action) i.origin)
     (sym c.input-item.is)
-    (All-get_or (λ (i : WorkInput). IsMadeBy (g.C.Rules.makers (rules p) c.args.action) i.origin)
+    (All-get_or (λ (i : WorkInput). IsMadeBy (g.C.Rules.makers (basis p) c.args.action) i.origin)
     c.args.inputs.now c.loop-input.input-index x c.loop-input-test.true c.requires.made))
 
 pub returns-in_err-files-clause-same : goal.returns-in_err-files-clause-same
@@ -131,6 +131,6 @@ returns-clause-inputs g c = subst (λ (xs : List WorkInput). AreInputs xs c.loop
 pub returns-clause-told : goal.returns-clause-told
 returns-clause-told g c =
     let p = c.args.caller.now.pass in
-    subst (λ (xs : List WorkInput). AreTold (g.C.Rules.rule (rules p)) p.lane
+    subst (λ (xs : List WorkInput). AreTold (g.C.Rules.rule (basis p)) p.lane
     (seen c.loop-input.caller.pass) (looks_of xs c.loop-input.files.items))
     (take_all c.loop-input.input-index c.args.inputs.now (omega arith)) c.loop-input.invariant.told

@@ -1,7 +1,7 @@
 use Rattle.std.proofs.Common.{take}
-use Rattle.seat_desk.specs.Passes.{IsSamePass, rules, seen}
-use Rattle.lane_deeds.specs.Deeds.{AreInputs, looks_of}
-use Rattle.lane_deeds.specs.Told.{AreTold}
+use Rattle.seat_desk.specs.Passes.{IsSamePass, basis, seen}
+use Rattle.proxy_deeds.specs.Deeds.{AreInputs, looks_of}
+use Rattle.proxy_deeds.specs.Told.{AreTold}
 use Rattle.proxy_calls.specs.Calls.{MakesNone}
 use Rattle.proxy_lane.proofs.inputs.inputs_of.Given as goal
 
@@ -10,6 +10,6 @@ invariant-loop-input g l = record {
   same : IsSamePass l.fn.caller.pass l.caller.pass;
   none : MakesNone l.fn.caller.pass l.caller.pass;
   inputs : AreInputs (take l.input-index l.inputs) l.files.items;
-  told : AreTold (g.C.Rules.rule (rules l.fn.caller.pass)) l.fn.caller.pass.lane (seen l.caller.pass)
+  told : AreTold (g.C.Rules.rule (basis l.fn.caller.pass)) l.fn.caller.pass.lane (seen l.caller.pass)
       (looks_of (take l.input-index l.inputs) l.files.items);
 }

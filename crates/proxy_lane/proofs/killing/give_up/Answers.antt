@@ -1,9 +1,9 @@
 use Rattle.std.proofs.Common.{ℕ, Option, refl, sym, subst, ◌∙◌}
 use Rattle.seat_desk.specs.Passes.{mine}
-use Rattle.run_rules.specs.Shelf.{child_at}
-use Rattle.lane_steps.specs.Lanes.{held_of}
-use Rattle.lane_steps.specs.Steps.{AreLaidBy}
-use Rattle.lane_steps.proofs.Acting.{none_there, some_there}
+use Rattle.core_contract.specs.Shelf.{child_at}
+use Rattle.proxy_steps.specs.Lanes.{held_of}
+use Rattle.proxy_steps.specs.Steps.{AreLaidBy}
+use Rattle.proxy_steps.proofs.Acting.{none_there, some_there}
 use Rattle.proxy_lane.proofs.killing.give_up.Goals as goal
 
 pub lay_by-requires-clause-open : goal.lay_by-requires-clause-open

@@ -3,18 +3,18 @@ use Rattle.seat_desk.specs.Passes.{mine}
 use Rattle.exec_journal.specs.declared.call.Call.{Call}
 use Rattle.exec_journal.specs.declared.call.Call.TheVariants as call
 use Rattle.exec_journal.specs.declared.reply.Reply.TheVariants as reply
-use Rattle.run_rules.specs.Shelf.{child_at}
-use Rattle.run_rules.specs.Duties.{Duty, may_do}
-use Rattle.lane_deeds.specs.declared.cause.Cause.TheVariants as cause
-use Rattle.lane_steps.specs.Lanes.{held_of}
-use Rattle.lane_steps.proofs.Acting.{closed_line}
-use Rattle.lane_steps.proofs.Shelving.{child_more}
-use Rattle.lane_steps.proofs.Ending.{kill_goes, kill_halts}
+use Rattle.core_contract.specs.Shelf.{child_at}
+use Rattle.core_contract.specs.Duties.{Duty, may_do}
+use Rattle.proxy_deeds.specs.declared.cause.Cause.TheVariants as cause
+use Rattle.proxy_steps.specs.Lanes.{held_of}
+use Rattle.proxy_steps.proofs.Acting.{closed_line}
+use Rattle.proxy_steps.proofs.Shelving.{child_more}
+use Rattle.proxy_steps.proofs.Ending.{kill_goes, kill_halts}
 use Rattle.proxy_lane.proofs.killing.kill.Goals as goal
 
 pub tell-requires-clause-may : goal.tell-requires-clause-may
 tell-requires-clause-may g c =
-    let q = c.args.caller.now.pass.seat.me.0.rules in
+    let q = c.args.caller.now.pass.seat.me.0.basis in
     ap (λ (s : Duty). may_do (g.C.Rules.outputs q) (g.C.Rules.makers q) (g.C.Rules.remote q c.args.site.now.berth) s
     (call.Killed c.args.line)) c.requires.order.0 ∙ eq-eqb c.args.line c.args.line refl
 

@@ -1,8 +1,8 @@
 use Rattle.std.proofs.Common.{◌≡◌, ℕ, Option, [], ◌∷◌, refl, ap, sym, subst, ◌∙◌}
 use Rattle.std.specs.Prelude.{option_map, map, IfSome}
 use Rattle.std.proofs.lemmas.List.{map-append}
-use Rattle.lane_steps.specs.Lanes.{open_of, back_of}
-use Rattle.lane_steps.proofs.Acting.{line_is, no_line}
+use Rattle.proxy_steps.specs.Lanes.{open_of, back_of}
+use Rattle.proxy_steps.proofs.Acting.{line_is, no_line}
 use Rattle.proxy_lane.proofs.killing.lay_by.Goals as goal
 
 pub push_reserved-requires : goal.push_reserved-requires

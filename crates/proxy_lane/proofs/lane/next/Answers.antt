@@ -1,11 +1,11 @@
 use Rattle.std.proofs.Common.{ℕ, ap, sym, subst, ◌∙◌}
-use Rattle.seat_desk.specs.Passes.{rules}
-use Rattle.run_rules.specs.Shelf.{child_at}
-use Rattle.lane_steps.specs.Lanes.{held_of}
-use Rattle.lane_steps.specs.Steps.{MayObey, open_in}
-use Rattle.lane_steps.proofs.Acting.{none_open}
-use Rattle.lane_steps.proofs.Rounds.{ask_goes, ask_halts, may_obey, stopped}
-use Rattle.lane_steps.proofs.Serving.{goes_on, halts_on}
+use Rattle.seat_desk.specs.Passes.{basis}
+use Rattle.core_contract.specs.Shelf.{child_at}
+use Rattle.proxy_steps.specs.Lanes.{held_of}
+use Rattle.proxy_steps.specs.Steps.{MayObey, open_in}
+use Rattle.proxy_steps.proofs.Acting.{none_open}
+use Rattle.proxy_steps.proofs.Rounds.{ask_goes, ask_halts, may_obey, stopped}
+use Rattle.proxy_steps.proofs.Serving.{goes_on, halts_on}
 use Rattle.proxy_lane.proofs.Siting.{site_on}
 use Rattle.proxy_lane.proofs.lane.next.Goals as goal
 
@@ -24,7 +24,7 @@ obey-requires-clause-order g c =
     let h = held_of g.B.Berth.told g.B.Feed.Feed.told g.B.Child.Child.told c.args.hands.now in
     let p1 = c.ask.new.caller.pass in
     let x = rw c.in-Ok-Some.field-0-is at c.in-Ok-Some.ensures.ordered in
-    let q = rules p in
+    let q = basis p in
     subst (λ (n : ℕ). MayObey n g.B.Child.Child.told c.args.site.now.berth c.in-Ok-Some.order p1
     (open_in c.args.hands.now)) (sym c.requires.site.work.as_many)
     (may_obey post actions rule p p1 h c.requires.ready.asks (g.C.Rules.actions q) g.B.Child.Child.told
@@ -84,11 +84,11 @@ returns-in-Ok-None g c =
     let h = held_of g.B.Berth.told g.B.Feed.Feed.told g.B.Child.Child.told c.args.hands.now in
     let p1 = c.ask.new.caller.pass in
     let x = rw c.in-Ok-None.field-0-is at c.in-Ok-None.ensures.ordered in
-    let y = stopped post actions rule p p1 h c.requires.ready.asks (g.C.Rules.actions (rules p)) g.B.Child.Child.told c.args.site.now.berth (open_in c.args.hands.now) c.requires.site.lane.0 c.requires.ready.tidy.0 c.requires.ready.kept.1.holds.below x in
+    let y = stopped post actions rule p p1 h c.requires.ready.asks (g.C.Rules.actions (basis p)) g.B.Child.Child.told c.args.site.now.berth (open_in c.args.hands.now) c.requires.site.lane.0 c.requires.ready.tidy.0 c.requires.ready.kept.1.holds.below x in
     record {
       same = c.ask.ensures.same;
       tidy = (
-        (stopped post actions rule p p1 h c.requires.ready.asks (g.C.Rules.actions (rules p))
+        (stopped post actions rule p p1 h c.requires.ready.asks (g.C.Rules.actions (basis p))
             g.B.Child.Child.told c.args.site.now.berth (open_in c.args.hands.now) c.requires.site.lane.0 c.requires.ready.tidy.0
             c.requires.ready.kept.1.holds.below x).2,
         c.requires.ready.tidy.1,

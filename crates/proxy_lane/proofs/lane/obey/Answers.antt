@@ -1,9 +1,9 @@
 use Rattle.std.proofs.Common.{w32, to_z, of_z, SFits, rules, ◌≡◌, ℤ, Some, None, sym, subst, ◌∙◌}
 use Rattle.std.proofs.Math.Facts.{to_z-of_z}
 use Rattle.seat_desk.specs.Passes.{mine}
-use Rattle.run_rules.specs.Duties.{Gathers, duty_of}
+use Rattle.core_contract.specs.Duties.{Gathers, duty_of}
 use Rattle.proxy_calls.specs.declared.asking.Order.TheVariants as asked
-use Rattle.lane_steps.proofs.Serving.{still_shelved, still_room}
+use Rattle.proxy_steps.proofs.Serving.{still_shelved, still_room}
 use Rattle.proxy_lane.specs.Sites.{IsOrdered}
 use Rattle.proxy_lane.proofs.lane.obey.Goals as goal
 

@@ -1,11 +1,11 @@
 use Rattle.std.proofs.Common.{◌≡◌, List, Some, None, map, ap, sym, subst, ◌∙◌}
-use Rattle.seat_desk.specs.Passes.{mine, rules, seen}
-use Rattle.run_rules.specs.Shelf.{child_at}
-use Rattle.run_rules.specs.Duties.{duty_of}
-use Rattle.lane_deeds.specs.Lines.{Back}
-use Rattle.lane_steps.specs.Lanes.{back_of, held_of, Keeps}
-use Rattle.lane_steps.specs.Steps.{Finishes}
-use Rattle.lane_steps.proofs.Serving.{first_keeps, served_by}
+use Rattle.seat_desk.specs.Passes.{mine, basis, seen}
+use Rattle.core_contract.specs.Shelf.{child_at}
+use Rattle.core_contract.specs.Duties.{duty_of}
+use Rattle.proxy_deeds.specs.Lines.{Back}
+use Rattle.proxy_steps.specs.Lanes.{back_of, held_of, Keeps}
+use Rattle.proxy_steps.specs.Steps.{Finishes}
+use Rattle.proxy_steps.proofs.Serving.{first_keeps, served_by}
 use Rattle.proxy_lane.proofs.lane.run.Goals as goal
 
 pub serve-halted-requires-clause-ready : goal.serve-halted-requires-clause-ready
@@ -24,7 +24,7 @@ serve-halted-requires-clause-ready g c =
       );
       kept = (
         b,
-        subst (λ (backs : List Back). Keeps (rule (rules p)) p.lane post actions (mine p) (seen p) b
+        subst (λ (backs : List Back). Keeps (rule (basis p)) p.lane post actions (mine p) (seen p) b
             (record { berth = b; opened = None; ended = backs; unsaid = None })) (sym none)
             (first_keeps post actions rule p b fresh),
       );

@@ -1,10 +1,10 @@
 use Rattle.std.proofs.Common.{◌≡◌, Option, Some, None, option_map, refl, ◌∙◌}
 use Rattle.outside.specs.Told.{FeedTold}
-use Rattle.lane_steps.specs.declared.hands.OpenFeed.{OpenFeed}
-use Rattle.lane_steps.specs.Lanes.{open_of, open_line, held_of}
-use Rattle.lane_steps.specs.Steps.{open_in}
-use Rattle.lane_steps.proofs.Shelving.{at_half}
-use Rattle.lane_steps.proofs.Serving.{goes_on, some_on, halts_on, halts_may, ends_halted, ends_stopped}
+use Rattle.proxy_steps.specs.declared.hands.OpenFeed.{OpenFeed}
+use Rattle.proxy_steps.specs.Lanes.{open_of, open_line, held_of}
+use Rattle.proxy_steps.specs.Steps.{open_in}
+use Rattle.proxy_steps.proofs.Shelving.{at_half}
+use Rattle.proxy_steps.proofs.Serving.{goes_on, some_on, halts_on, halts_may, ends_halted, ends_stopped}
 use Rattle.proxy_lane.proofs.Siting.{site_on}
 use Rattle.proxy_lane.proofs.lane.serve.Goals as goal
 

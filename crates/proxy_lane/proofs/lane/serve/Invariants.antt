@@ -1,6 +1,6 @@
 use Rattle.seat_desk.specs.Passes.{IsSamePass}
-use Rattle.lane_steps.specs.Lanes.{held_of}
-use Rattle.lane_steps.specs.Steps.{Goes}
+use Rattle.proxy_steps.specs.Lanes.{held_of}
+use Rattle.proxy_steps.specs.Steps.{Goes}
 use Rattle.proxy_lane.specs.Sites.{IsReady}
 use Rattle.proxy_lane.proofs.lane.serve.Given as goal
 

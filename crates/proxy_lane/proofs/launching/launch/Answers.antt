@@ -1,14 +1,14 @@
 use Rattle.std.proofs.Common.{◌≡◌, Some, None, List, [], refl, ap, sym, subst, ◌∙◌, arith, append-nil}
 use Rattle.std.specs.Prelude.{map}
 use Rattle.seat_desk.specs.Passes.{seen}
-use Rattle.lane_deeds.specs.declared.cause.Cause.TheVariants as cause
-use Rattle.lane_steps.specs.Lanes.{back_of, held_of}
+use Rattle.proxy_deeds.specs.declared.cause.Cause.TheVariants as cause
+use Rattle.proxy_steps.specs.Lanes.{back_of, held_of}
 use Rattle.std.proofs.Common.{inl}
-use Rattle.lane_deeds.specs.Lines.{Back}
+use Rattle.proxy_deeds.specs.Lines.{Back}
 use Rattle.sandbox_rooms.proofs.Runs.{made_none}
-use Rattle.lane_steps.specs.Steps.{Halts}
-use Rattle.lane_steps.proofs.Acting.{none_open}
-use Rattle.lane_steps.proofs.Starts.{launch_halts}
+use Rattle.proxy_steps.specs.Steps.{Halts}
+use Rattle.proxy_steps.proofs.Acting.{none_open}
+use Rattle.proxy_steps.proofs.Starts.{launch_halts}
 use Rattle.proxy_lane.proofs.Siting.{obeys_from}
 use Rattle.proxy_lane.proofs.launching.launch.Goals as goal
 

@@ -3,20 +3,20 @@ use Rattle.seat_desk.specs.Passes.{mine, seen}
 use Rattle.exec_journal.specs.declared.call.Call.TheVariants as call
 use Rattle.exec_journal.specs.declared.call.Started.TheVariants as start
 use Rattle.exec_journal.specs.declared.reply.Reply.TheVariants as reply
-use Rattle.run_rules.specs.Shelf.{child_at}
-use Rattle.run_rules.specs.Duties.{Asks, duty_of}
-use Rattle.lane_deeds.specs.declared.cause.Cause.{Cause}
-use Rattle.lane_deeds.specs.declared.cause.Cause.TheVariants as cause
+use Rattle.core_contract.specs.Shelf.{child_at}
+use Rattle.core_contract.specs.Duties.{Asks, duty_of}
+use Rattle.proxy_deeds.specs.declared.cause.Cause.{Cause}
+use Rattle.proxy_deeds.specs.declared.cause.Cause.TheVariants as cause
 use Rattle.proxy_calls.specs.Calls.{MakesNone, MakesOne}
-use Rattle.lane_steps.specs.Lanes.{held_of}
-use Rattle.run_rules.specs.Duties.{Launches}
-use Rattle.lane_deeds.specs.Lines.{unsaid_by}
-use Rattle.lane_deeds.specs.Ends.{HaltsBy}
-use Rattle.lane_steps.proofs.Acting.{none_open}
-use Rattle.lane_steps.proofs.Shelving.{child_more, not_started_shelved}
+use Rattle.proxy_steps.specs.Lanes.{held_of}
+use Rattle.core_contract.specs.Duties.{Launches}
+use Rattle.proxy_deeds.specs.Lines.{unsaid_by}
+use Rattle.proxy_deeds.specs.Ends.{HaltsBy}
+use Rattle.proxy_steps.proofs.Acting.{none_open}
+use Rattle.proxy_steps.proofs.Shelving.{child_more, not_started_shelved}
 use Rattle.std.proofs.Common.{inr}
 use Rattle.std.specs.Prelude.{IfSome}
-use Rattle.lane_steps.proofs.Starts.{calls_deed, launch_halts, unsaid_halts, fault_goes, started_goes}
+use Rattle.proxy_steps.proofs.Starts.{calls_deed, launch_halts, unsaid_halts, fault_goes, started_goes}
 use Rattle.outside.specs.Launches.{IsNewFeed, IsNewTap, IsNewChild}
 use Rattle.order_acts.specs.declared.launching.Opened.{Opened}
 use Rattle.order_acts.specs.Acts.{OnOpened}

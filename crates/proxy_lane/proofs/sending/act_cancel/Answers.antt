@@ -2,7 +2,7 @@ use Rattle.due_frames.specs.Frames.{cancel_due}
 use Rattle.std.proofs.Math.Facts.{to_z-of_z}
 use Rattle.std.specs.Prelude.{ℤ}
 use Rattle.std.proofs.Common.{ap, ◌∙◌}
-use Rattle.lane_steps.proofs.Acting.{gives_cancel, no_cancel}
+use Rattle.proxy_steps.proofs.Acting.{gives_cancel, no_cancel}
 use Rattle.proxy_lane.proofs.sending.act_cancel.Goals as goal
 
 pub returns-in-Ok : goal.returns-in-Ok

@@ -2,10 +2,10 @@ use Rattle.std.proofs.Common.{List, sym, subst}
 use Rattle.seat_desk.specs.Passes.{seen}
 use Rattle.remote_messages.specs.declared.file.NamedFile.{NamedFile}
 use Rattle.remote_messages.specs.declared.work.WorkInput.{WorkInput}
-use Rattle.lane_deeds.specs.Deeds.{AreInputs, looks_of}
-use Rattle.lane_deeds.specs.Told.{AreTold}
-use Rattle.lane_deeds.proofs.Inputs.{are_from}
-use Rattle.lane_steps.proofs.Acting.{send_acts, no_inputs}
+use Rattle.proxy_deeds.specs.Deeds.{AreInputs, looks_of}
+use Rattle.proxy_deeds.specs.Told.{AreTold}
+use Rattle.proxy_deeds.proofs.Inputs.{are_from}
+use Rattle.proxy_steps.proofs.Acting.{send_acts, no_inputs}
 use Rattle.proxy_lane.proofs.sending.act_send.Goals as goal
 
 pub inputs_of-requires-clause-owes : goal.inputs_of-requires-clause-owes
@@ -21,7 +21,7 @@ write-requires g c =
 pub returns-in-Ok-clause-acts : goal.returns-in-Ok-clause-acts
 returns-in-Ok-clause-acts g c =
     let p = c.args.caller.now.pass in
-    let rule = g.C.Rules.rule p.seat.me.0.rules in
+    let rule = g.C.Rules.rule p.seat.me.0.basis in
     let work = c.args.request.now.work.now in
     let later = seen c.inputs_of.new.caller.pass in
     let xs = c.as_slice-sources.result.now in
@@ -40,6 +40,6 @@ returns-in-Ok-clause-acts g c =
 pub returns-in-Err-clause-acts : goal.returns-in-Err-clause-acts
 returns-in-Err-clause-acts g c =
     let p = c.args.caller.now.pass in
-    no_inputs c.args.site.now.post.now (g.C.Rules.rule p.seat.me.0.rules) p.lane c.args.request.now.line c.args.request.now.number
+    no_inputs c.args.site.now.post.now (g.C.Rules.rule p.seat.me.0.basis) p.lane c.args.request.now.line c.args.request.now.number
     c.args.request.now.work.now (seen c.inputs_of.new.caller.pass) c.in-Err.no_memory
     (g.B.Berth.told c.args.berth.now) (g.B.Feed.Feed.told c.args.feed.now)

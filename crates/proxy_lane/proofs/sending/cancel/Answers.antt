@@ -2,16 +2,16 @@ use Rattle.std.proofs.Math.Facts.{to_z-of_z}
 use Rattle.std.specs.Prelude.{ℤ}
 use Rattle.std.proofs.Common.{◌≡◌, Some, refl, ap, sym, subst, ◌∙◌}
 use Rattle.std.specs.Prelude.{option_map, OnOk, IfErr}
-use Rattle.lane_steps.specs.Acts.{CancelActs}
+use Rattle.proxy_steps.specs.Acts.{CancelActs}
 use Rattle.seat_desk.specs.Passes.{mine, seen}
-use Rattle.run_rules.specs.Duties.{Asks, duty_of}
+use Rattle.core_contract.specs.Duties.{Asks, duty_of}
 use Rattle.proxy_calls.specs.Calls.{MakesNone}
-use Rattle.lane_steps.specs.Lanes.{open_of, held_of}
+use Rattle.proxy_steps.specs.Lanes.{open_of, held_of}
 use Rattle.std.proofs.Common.{[], append-nil}
-use Rattle.lane_steps.specs.Steps.{OwesWrote, TellsWrote, IsCauseOf}
-use Rattle.lane_steps.proofs.Acting.{line_is, no_line, same_line, cancel_owed}
-use Rattle.lane_steps.proofs.Shelving.{wrote_shelved}
-use Rattle.lane_steps.proofs.Sends.{cancel_goes, cancel_halts}
+use Rattle.proxy_steps.specs.Steps.{OwesWrote, TellsWrote, IsCauseOf}
+use Rattle.proxy_steps.proofs.Acting.{line_is, no_line, same_line, cancel_owed}
+use Rattle.proxy_steps.proofs.Shelving.{wrote_shelved}
+use Rattle.proxy_steps.proofs.Sends.{cancel_goes, cancel_halts}
 use Rattle.proxy_lane.proofs.Siting.{obeys_by}
 use Rattle.proxy_lane.proofs.sending.cancel.Goals as goal
 

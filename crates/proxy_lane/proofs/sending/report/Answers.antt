@@ -1,5 +1,5 @@
 use Rattle.std.specs.Prelude.{true}
-use Rattle.run_rules.specs.Duties.{duty_of, may_do}
+use Rattle.core_contract.specs.Duties.{duty_of, may_do}
 use Rattle.proxy_calls.specs.Calls.{MakesOne}
 use Rattle.exec_journal.specs.declared.call.Call.TheVariants as call
 use Rattle.exec_journal.specs.declared.reply.Reply.TheVariants as reply
@@ -9,15 +9,15 @@ use Rattle.std.proofs.Common.{◌≡◌, ◌∙◌, Result, ap, sym, subst}
 use Rattle.plain_values.specs.declared.no_memory.NoMemory.{NoMemory}
 use Rattle.exec_journal.specs.declared.call.Call.{Call}
 use Rattle.exec_journal.specs.declared.call.Written.{Written}
-use Rattle.lane_deeds.specs.declared.cause.Cause.TheVariants.{Refused}
-use Rattle.lane_steps.specs.Steps.{OwesWrote, TellsWrote, IsCauseOf}
-use Rattle.lane_steps.proofs.Acting.{may_wrote}
+use Rattle.proxy_deeds.specs.declared.cause.Cause.TheVariants.{Refused}
+use Rattle.proxy_steps.specs.Steps.{OwesWrote, TellsWrote, IsCauseOf}
+use Rattle.proxy_steps.proofs.Acting.{may_wrote}
 use Rattle.proxy_lane.proofs.sending.report.Goals as goal
 
 pub tell-requires-clause-may : goal.tell-requires-clause-may
 tell-requires-clause-may g c =
     let p = c.args.caller.now.pass in
-    let q = p.seat.me.0.rules in
+    let q = p.seat.me.0.basis in
     subst (λ (n : ℤ). may_do (g.C.Rules.outputs q) (g.C.Rules.makers q) (g.C.Rules.remote q c.args.site.now.berth)
     (duty_of p.seat.me.0.mine) (call.Wrote c.args.line n c.in-Ok.how) ≡ true) (sym (to_z-of_z c.ranges.number))
     (may_wrote (g.C.Rules.outputs q) (g.C.Rules.makers q) (g.C.Rules.remote q c.args.site.now.berth)

@@ -2,15 +2,15 @@ use Rattle.std.proofs.Math.Facts.{to_z-of_z}
 use Rattle.std.specs.Prelude.{ℤ}
 use Rattle.std.proofs.Common.{◌≡◌, Some, refl, ap, sym, subst, ◌∙◌}
 use Rattle.std.specs.Prelude.{option_map, OnOk, IfErr}
-use Rattle.lane_steps.specs.Acts.{SendActs}
-use Rattle.seat_desk.specs.Passes.{mine, rules, seen}
-use Rattle.run_rules.specs.Duties.{Asks, duty_of}
+use Rattle.proxy_steps.specs.Acts.{SendActs}
+use Rattle.seat_desk.specs.Passes.{mine, basis, seen}
+use Rattle.core_contract.specs.Duties.{Asks, duty_of}
 use Rattle.proxy_calls.specs.Calls.{MakesNone}
-use Rattle.lane_steps.specs.Lanes.{open_of, held_of}
-use Rattle.lane_steps.specs.Steps.{OwesWrote, TellsWrote, IsCauseOf}
-use Rattle.lane_steps.proofs.Acting.{line_is, no_line, same_line, wrote_owed}
-use Rattle.lane_steps.proofs.Shelving.{wrote_shelved}
-use Rattle.lane_steps.proofs.Sends.{send_goes, send_halts}
+use Rattle.proxy_steps.specs.Lanes.{open_of, held_of}
+use Rattle.proxy_steps.specs.Steps.{OwesWrote, TellsWrote, IsCauseOf}
+use Rattle.proxy_steps.proofs.Acting.{line_is, no_line, same_line, wrote_owed}
+use Rattle.proxy_steps.proofs.Shelving.{wrote_shelved}
+use Rattle.proxy_steps.proofs.Sends.{send_goes, send_halts}
 use Rattle.proxy_lane.proofs.Siting.{site_on, obeys_by}
 use Rattle.proxy_lane.proofs.sending.send.Goals as goal
 
@@ -94,11 +94,11 @@ returns-clause-obeys g c =
           (λ x. (
             x.0,
             send_goes post actions rule p p1 p2 h o is_open c.args.line c.args.number of none lane new after
-                c.args.action c.requires.order.0 c.action_at-work.result.now c.action_at-work.ensures result (subst (λ (n : ℤ). SendActs post (rule (rules p)) p.lane c.args.line n c.action_at-work.result.now
+                c.args.action c.requires.order.0 c.action_at-work.result.now c.action_at-work.ensures result (subst (λ (n : ℤ). SendActs post (rule (basis p)) p.lane c.args.line n c.action_at-work.result.now
                 result (seen p1) h.berth new o.feed after) (to_z-of_z c.ranges.number) c.act_send-wrote.ensures.acts) x.1,
           ))
           (λ by x. send_halts post actions rule p p1 p2 h o is_open c.args.line c.args.number of none lane new after
-          c.args.action c.requires.order.0 c.action_at-work.result.now c.action_at-work.ensures result by (subst (λ (n : ℤ). SendActs post (rule (rules p)) p.lane c.args.line n c.action_at-work.result.now
+          c.args.action c.requires.order.0 c.action_at-work.result.now c.action_at-work.ensures result by (subst (λ (n : ℤ). SendActs post (rule (basis p)) p.lane c.args.line n c.action_at-work.result.now
           result (seen p1) h.berth new o.feed after) (to_z-of_z c.ranges.number) c.act_send-wrote.ensures.acts) x.0 x.1)
           (subst (λ (n : ℤ). OnOk c.report.result ((duty_of (mine p2) ≡ Asks)
           × TellsWrote c.args.line n result p1 p2)) (to_z-of_z c.ranges.number) c.report.ensures.told)

@@ -6,8 +6,8 @@ use Rattle.std.specs.Prelude.{ℤ}
 use Rattle.std.proofs.Common.{ap, sym, ◌∙◌, w32, SFits, rules as facts}
 use Rattle.due_frames.specs.declared.frames.Due.TheVariants.{Frame, TooLarge}
 use Rattle.std.specs.Prelude.{ℕ, List}
-use Rattle.lane_deeds.specs.Deeds.{send_asks, due_for}
-use Rattle.lane_steps.proofs.Acting.{due_writes, large_writes, cut_writes, due_is}
+use Rattle.proxy_deeds.specs.Deeds.{send_asks, due_for}
+use Rattle.proxy_steps.proofs.Acting.{due_writes, large_writes, cut_writes, due_is}
 use Rattle.proxy_lane.proofs.sending.write.Goals as goal
 
 pub returns-in-TooLarge : goal.returns-in-TooLarge

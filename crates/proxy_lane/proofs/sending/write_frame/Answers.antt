@@ -3,8 +3,8 @@ use Rattle.std.proofs.Math.Facts.{to_z-of_z}
 use Rattle.std.specs.Prelude.{ℤ}
 use Rattle.std.proofs.Common.{ap, sym, ◌∙◌, w32, SFits, rules as facts}
 use Rattle.sandbox_rooms.specs.Rooms.{prepare_asks}
-use Rattle.lane_deeds.specs.Deeds.{send_asks}
-use Rattle.lane_steps.proofs.Acting.{gives_writes, send_writes, executor_asks, local_asks}
+use Rattle.proxy_deeds.specs.Deeds.{send_asks}
+use Rattle.proxy_steps.proofs.Acting.{gives_writes, send_writes, executor_asks, local_asks}
 use Rattle.proxy_lane.proofs.sending.write_frame.Goals as goal
 
 pub returns-then-is_executor : goal.returns-then-is_executor

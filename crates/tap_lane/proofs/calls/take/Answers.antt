@@ -2,9 +2,9 @@ use Rattle.std.proofs.Common.{ℕ, Option}
 use Rattle.exec_journal.specs.declared.call.Call.{Call}
 use Rattle.exec_journal.specs.declared.call.Call.TheVariants as call
 use Rattle.exec_journal.specs.declared.reply.Reply.{Reply}
-use Rattle.run_rules.specs.Moves.{History}
-use Rattle.run_bench.specs.declared.shelf.Good.{Good}
-use Rattle.run_bench.specs.Bench.{ComesOut}
+use Rattle.core_contract.specs.Moves.{History}
+use Rattle.core_bench.specs.declared.shelf.Good.{Good}
+use Rattle.core_bench.specs.Bench.{ComesOut}
 use Rattle.tap_lane.proofs.Replies.{of_take, no_other, take_no_file}
 use Rattle.tap_lane.proofs.Entries.{called, take_may}
 use Rattle.tap_lane.proofs.calls.take.Goals as goal
@@ -12,7 +12,7 @@ use Rattle.tap_lane.proofs.calls.take.Goals as goal
 pub unreachable-requires-in_default : goal.unreachable-requires-in_default
 unreachable-requires-in_default g c =
     let pass = c.args.caller.now.pass in
-    let q = pass.seat.me.0.rules in
+    let q = pass.seat.me.0.basis in
     let law = g.met.C.Rules in
     let comes : History → ℕ → Call → Reply
     → Option (Good g.row.B-Child.Denot g.row.B-Tap.Denot g.row.P.Denot) → Type 0

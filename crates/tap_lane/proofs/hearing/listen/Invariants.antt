@@ -4,9 +4,9 @@ use Rattle.outside.specs.Lists.{Tells}
 use Rattle.seat_desk.specs.Passes.{IsSamePass, mine}
 use Rattle.exec_journal.specs.declared.call.Answer.{Answer}
 use Rattle.answer_reader.specs.Says.{Hears, SaysAll}
-use Rattle.run_rules.specs.Moves.{History}
-use Rattle.run_rules.specs.Laws.{hearing_of}
-use Rattle.run_rules.specs.Laws as laws
+use Rattle.core_contract.specs.Moves.{History}
+use Rattle.core_contract.specs.Laws.{hearing_of}
+use Rattle.core_contract.specs.Laws as laws
 use Rattle.tap_lane.specs.Heard.{AreAnswers, IsOpen}
 use Rattle.tap_lane.proofs.hearing.listen.Given as goal
 

@@ -3,8 +3,8 @@ use Rattle.seat_desk.specs.Passes.{IsSamePass, mine}
 use Rattle.exec_journal.specs.declared.call.Answer.{Answer}
 use Rattle.run_plan.specs.declared.plan.Speech.{Speech}
 use Rattle.answer_reader.specs.Says.{Hears}
-use Rattle.run_rules.specs.Laws.{hearing_of}
-use Rattle.run_rules.specs.Laws as laws
+use Rattle.core_contract.specs.Laws.{hearing_of}
+use Rattle.core_contract.specs.Laws as laws
 use Rattle.tap_lane.specs.Heard.{Went}
 use Rattle.tap_lane.proofs.hearing.tell_all.Given as goal
 

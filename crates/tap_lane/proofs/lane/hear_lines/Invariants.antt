@@ -1,7 +1,7 @@
 use Rattle.std.proofs.Common.{◌≡◌, map, length}
 use Rattle.seat_desk.specs.Passes.{IsSamePass, mine}
-use Rattle.run_rules.specs.Laws.{hearing_of}
-use Rattle.run_rules.specs.Laws as laws
+use Rattle.core_contract.specs.Laws.{hearing_of}
+use Rattle.core_contract.specs.Laws as laws
 use Rattle.tap_lane.specs.Heard.{back_by}
 use Rattle.tap_lane.specs.Lane.{Runs}
 use Rattle.tap_lane.proofs.lane.hear_lines.Given as goal

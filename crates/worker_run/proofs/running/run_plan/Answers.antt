@@ -3,7 +3,7 @@ use Rattle.std.proofs.Common.{ℕ, List, ap, sym, ◌∙◌, length, map, refl, 
 use Rattle.lane_runs.specs.Runs.{HasRun, laid_told}
 use Rattle.outside.specs.Told.{BerthTold}
 use Rattle.remote_messages.specs.declared.work.WorkAction.{WorkAction}
-use Rattle.run_bench.specs.Objects.{AreFresh}
+use Rattle.core_bench.specs.Objects.{AreFresh}
 use Rattle.worker_run.specs.Lanes.{AreNewBerths}
 use Rattle.worker_run.proofs.Made.{made_left, made_unused, not_lost, ran_whole, rooms_length, unused}
 use Rattle.worker_run.proofs.running.run_plan.Goals as goal

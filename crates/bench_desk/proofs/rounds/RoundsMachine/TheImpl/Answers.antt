@@ -11,7 +11,7 @@ done_or_short Over = inr (refl, tt)
 
 pub turn-tells : goal.turn-tells
 turn-tells _ _ _ _ c = record {
-  rules = refl;
+  basis = refl;
   reply = λ h s g. done_or_short c.result.0;
   stands = λ h s g. tt;
   good = λ h s g. tt;

@@ -13,35 +13,35 @@ leave-requires g c = let y' : Held g.row.M.Denot g.row.M-Call.Denot g.row.M-Repl
     let s = c.enter-held.ensures.1 in (
       c.enter-held.ensures.0 ∙ c.requires.desk,
       may_end log_of (good_of g.M.Machine) c.args.pass.now.lane c.args.pass.now.seat.me c.enter-held.new.seat.me c.enter-held.result y' [] c.args.pass.now.idle s
-          (good_with_room g.M.Machine c.args.pass.now.seat.me.0.rules c.enter-held.result c.reserve.new.self s.0.0 c.reserve.ensures.items c.reserve.ensures.room)
+          (good_with_room g.M.Machine c.args.pass.now.seat.me.0.basis c.enter-held.result c.reserve.new.self s.0.0 c.reserve.ensures.items c.reserve.ensures.room)
           (c.reserve.ensures.items ∙ sym (append-nil c.enter-held.result.history.items)) tt,
     )
 
 pub step-reply-requires-clause-good : goal.step-reply-requires-clause-good
 step-reply-requires-clause-good g c =
-    good_with_room g.M.Machine (g.M.Machine.rules c.enter-held.result.machine) c.enter-held.result c.reserve.new.self
-    (good_by_own g.M.Machine c.args.pass.now.seat.me.0.rules c.enter-held.result c.enter-held.ensures.1.0.0) c.reserve.ensures.items c.reserve.ensures.room
+    good_with_room g.M.Machine (g.M.Machine.basis c.enter-held.result.machine) c.enter-held.result c.reserve.new.self
+    (good_by_own g.M.Machine c.args.pass.now.seat.me.0.basis c.enter-held.result c.enter-held.ensures.1.0.0) c.reserve.ensures.items c.reserve.ensures.room
 
 pub step-reply-requires-clause-room : goal.step-reply-requires-clause-room
 step-reply-requires-clause-room g c = let good = c.enter-held.ensures.1.0.0 in
     room_of_call g.M.Machine c.enter-held.result c.reserve.new.self c.args.pass.now.lane c.args.call c.owed.result c.saturating_add-room.result c.reserve.result
-    (good_by_own g.M.Machine c.args.pass.now.seat.me.0.rules c.enter-held.result good) c.reserve.ensures.items (c.owed.ensures c.enter-held.result.history.items good.0)
+    (good_by_own g.M.Machine c.args.pass.now.seat.me.0.basis c.enter-held.result good) c.reserve.ensures.items (c.owed.ensures c.enter-held.result.history.items good.0)
     c.saturating_add-room.ensures (c.is_err.ensures.negation ∙ ap not c.if-is_err.false) c.reserve.ensures.ok c.reserve.ensures.bounded
 
 pub step-reply-requires-clause-suits : goal.step-reply-requires-clause-suits
 step-reply-requires-clause-suits g c = let law = g.met.M.Machine in let same : c.reserve.new.self.items ≡ c.enter-held.result.history.items = c.reserve.ensures.items in
     let b = between log_of (good_of g.M.Machine) c.args.pass.now.lane c.args.pass.now.seat.me c.enter-held.result c.args.pass.now.idle c.enter-held.ensures.1.0 in
-    subst (λ (h : List (Entry g.row.M-Call.Denot g.row.M-Reply.Denot)). g.M.Machine.goes_in (g.M.Machine.rules c.enter-held.result.machine) h c.args.pass.now.lane c.args.call None) (sym (same ∙ b.1))
-    (law.suits_still c.enter-held.result.machine c.args.pass.now.seat.me.0.seen b.0 c.args.pass.now.lane c.args.call None (subst (g.M.Machine.stands c.enter-held.result.machine) b.1 c.enter-held.ensures.1.0.0.0) b.2 (subst (λ (q : g.row.M-Rules.Denot). g.M.Machine.goes_in q c.args.pass.now.seat.me.0.seen c.args.pass.now.lane c.args.call None) (sym c.enter-held.ensures.1.0.0.2) c.requires.suits))
+    subst (λ (h : List (Entry g.row.M-Call.Denot g.row.M-Reply.Denot)). g.M.Machine.goes_in (g.M.Machine.basis c.enter-held.result.machine) h c.args.pass.now.lane c.args.call None) (sym (same ∙ b.1))
+    (law.suits_still c.enter-held.result.machine c.args.pass.now.seat.me.0.seen b.0 c.args.pass.now.lane c.args.call None (subst (g.M.Machine.stands c.enter-held.result.machine) b.1 c.enter-held.ensures.1.0.0.0) b.2 (subst (λ (q : g.row.M-Basis.Denot). g.M.Machine.goes_in q c.args.pass.now.seat.me.0.seen c.args.pass.now.lane c.args.call None) (sym c.enter-held.ensures.1.0.0.2) c.requires.suits))
 
 pub follow-reply-requires-clause-may : goal.follow-reply-requires-clause-may
 follow-reply-requires-clause-may g c = let same : c.reserve.new.self.items ≡ c.enter-held.result.history.items = c.reserve.ensures.items in
     let b = between log_of (good_of g.M.Machine) c.args.pass.now.lane c.args.pass.now.seat.me c.enter-held.result c.args.pass.now.idle c.enter-held.ensures.1.0 in
     let e : Entry g.row.M-Call.Denot g.row.M-Reply.Denot = entry c.args.pass.now.lane c.args.call c.step-reply.result.0 in
-    let reply = subst (λ (q : g.row.M-Rules.Denot). IsReply (g.M.Machine.next q) g.M.Machine.short (g.M.Machine.may_be_short q) c.reserve.new.self.items c.args.pass.now.lane c.args.call c.step-reply.result.0) c.enter-held.ensures.1.0.0.2 c.step-reply.ensures.reply in
-    let comes = subst (λ (q : g.row.M-Rules.Denot). g.M.Machine.comes_out q c.reserve.new.self.items c.args.pass.now.lane c.args.call c.step-reply.result.0 c.step-reply.result.1) c.enter-held.ensures.1.0.0.2 c.step-reply.ensures.comes in
-    subst (λ (q : g.row.M-Rules.Denot). MayFollow g.W.Then.meets (g.M.Machine.paid q) (g.M.Machine.goes_in q) c.args.pass.now.lane c.step-reply.new.held.history.items c.args.work.now c.step-reply.result.0 c.step-reply.result.1) (sym (c.step-reply.ensures.good.2 ∙ c.enter-held.ensures.1.0.0.2))
-    (subst (λ (h : List (Entry g.row.M-Call.Denot g.row.M-Reply.Denot)). MayFollow g.W.Then.meets (g.M.Machine.paid c.args.pass.now.seat.me.0.rules) (g.M.Machine.goes_in c.args.pass.now.seat.me.0.rules) c.args.pass.now.lane h c.args.work.now c.step-reply.result.0 c.step-reply.result.1) (sym c.step-reply.ensures.history)
+    let reply = subst (λ (q : g.row.M-Basis.Denot). IsReply (g.M.Machine.next q) g.M.Machine.short (g.M.Machine.may_be_short q) c.reserve.new.self.items c.args.pass.now.lane c.args.call c.step-reply.result.0) c.enter-held.ensures.1.0.0.2 c.step-reply.ensures.reply in
+    let comes = subst (λ (q : g.row.M-Basis.Denot). g.M.Machine.comes_out q c.reserve.new.self.items c.args.pass.now.lane c.args.call c.step-reply.result.0 c.step-reply.result.1) c.enter-held.ensures.1.0.0.2 c.step-reply.ensures.comes in
+    subst (λ (q : g.row.M-Basis.Denot). MayFollow g.W.Then.meets (g.M.Machine.paid q) (g.M.Machine.goes_in q) c.args.pass.now.lane c.step-reply.new.held.history.items c.args.work.now c.step-reply.result.0 c.step-reply.result.1) (sym (c.step-reply.ensures.good.2 ∙ c.enter-held.ensures.1.0.0.2))
+    (subst (λ (h : List (Entry g.row.M-Call.Denot g.row.M-Reply.Denot)). MayFollow g.W.Then.meets (g.M.Machine.paid c.args.pass.now.seat.me.0.basis) (g.M.Machine.goes_in c.args.pass.now.seat.me.0.basis) c.args.pass.now.lane h c.args.work.now c.step-reply.result.0 c.step-reply.result.1) (sym c.step-reply.ensures.history)
     (c.requires.may c.reserve.new.self.items b.0 c.step-reply.new.held.machine c.step-reply.result.0 c.step-reply.result.1 (same ∙ b.1) b.2
     (subst (g.M.Machine.stands c.step-reply.new.held.machine) c.step-reply.ensures.history c.step-reply.ensures.good.0, (c.step-reply.ensures.good.2 ∙ c.enter-held.ensures.1.0.0.2)) reply comes))
 
@@ -49,7 +49,7 @@ pub leave-requires-2 : goal.leave-requires-2
 leave-requires-2 g c = let same : c.reserve.new.self.items ≡ c.enter-held.result.history.items = c.reserve.ensures.items in
     let b = between log_of (good_of g.M.Machine) c.args.pass.now.lane c.args.pass.now.seat.me c.enter-held.result c.args.pass.now.idle c.enter-held.ensures.1.0 in
     let e : Entry g.row.M-Call.Denot g.row.M-Reply.Denot = entry c.args.pass.now.lane c.args.call c.step-reply.result.0 in
-    let more = followed g.W.Then.meets (g.M.Machine.next (g.M.Machine.rules c.step-reply.new.held.machine)) g.M.Machine.short g.M.Machine.keeps (g.M.Machine.comes_out (g.M.Machine.rules c.step-reply.new.held.machine)) c.args.pass.now.lane c.step-reply.new.held.history.items c.args.work.now c.step-reply.result.0 c.step-reply.result.1
+    let more = followed g.W.Then.meets (g.M.Machine.next (g.M.Machine.basis c.step-reply.new.held.machine)) g.M.Machine.short g.M.Machine.keeps (g.M.Machine.comes_out (g.M.Machine.basis c.step-reply.new.held.machine)) c.args.pass.now.lane c.step-reply.new.held.history.items c.args.work.now c.step-reply.result.0 c.step-reply.result.1
     c.follow-reply.result.0 c.follow-reply.result.1 c.follow-reply.new.work c.follow-reply.new.held.history.items c.follow-reply.ensures.follows in
     let news : List (Entry g.row.M-Call.Denot g.row.M-Reply.Denot) = added g.M.Machine.keeps e ++ more.0 in
     let all : c.follow-reply.new.held.history.items ≡ c.enter-held.result.history.items ++ news =
@@ -58,14 +58,14 @@ leave-requires-2 g c = let same : c.reserve.new.self.items ≡ c.enter-held.resu
     let only = only_both c.args.pass.now.lane (added g.M.Machine.keeps e) more.0 (only_added g.M.Machine.keeps e) more.2 in (
       c.enter-held.ensures.0 ∙ c.requires.desk,
       may_end log_of (good_of g.M.Machine) c.args.pass.now.lane c.args.pass.now.seat.me c.enter-held.new.seat.me c.enter-held.result c.follow-reply.new.held news
-          c.args.pass.now.idle c.enter-held.ensures.1 (subst (λ (q : g.row.M-Rules.Denot). good_of g.M.Machine q c.follow-reply.new.held) (c.step-reply.ensures.good.2 ∙ c.enter-held.ensures.1.0.0.2) c.follow-reply.ensures.good) all only,
+          c.args.pass.now.idle c.enter-held.ensures.1 (subst (λ (q : g.row.M-Basis.Denot). good_of g.M.Machine q c.follow-reply.new.held) (c.step-reply.ensures.good.2 ∙ c.enter-held.ensures.1.0.0.2) c.follow-reply.ensures.good) all only,
     )
 
 pub returns-clause-answer : goal.returns-clause-answer
 returns-clause-answer g c = let same : c.reserve.new.self.items ≡ c.enter-held.result.history.items = c.reserve.ensures.items in
     let b = between log_of (good_of g.M.Machine) c.args.pass.now.lane c.args.pass.now.seat.me c.enter-held.result c.args.pass.now.idle c.enter-held.ensures.1.0 in
     let e : Entry g.row.M-Call.Denot g.row.M-Reply.Denot = entry c.args.pass.now.lane c.args.call c.step-reply.result.0 in
-    let more = followed g.W.Then.meets (g.M.Machine.next (g.M.Machine.rules c.step-reply.new.held.machine)) g.M.Machine.short g.M.Machine.keeps (g.M.Machine.comes_out (g.M.Machine.rules c.step-reply.new.held.machine)) c.args.pass.now.lane c.step-reply.new.held.history.items c.args.work.now c.step-reply.result.0 c.step-reply.result.1
+    let more = followed g.W.Then.meets (g.M.Machine.next (g.M.Machine.basis c.step-reply.new.held.machine)) g.M.Machine.short g.M.Machine.keeps (g.M.Machine.comes_out (g.M.Machine.basis c.step-reply.new.held.machine)) c.args.pass.now.lane c.step-reply.new.held.history.items c.args.work.now c.step-reply.result.0 c.step-reply.result.1
     c.follow-reply.result.0 c.follow-reply.result.1 c.follow-reply.new.work c.follow-reply.new.held.history.items c.follow-reply.ensures.follows in
     let news : List (Entry g.row.M-Call.Denot g.row.M-Reply.Denot) = added g.M.Machine.keeps e ++ more.0 in
     let all : c.follow-reply.new.held.history.items ≡ c.enter-held.result.history.items ++ news =
@@ -78,11 +78,11 @@ returns-clause-answer g c = let same : c.reserve.new.self.items ≡ c.enter-held
       c.step-reply.result.0,
       c.step-reply.result.1,
       (b.0, same ∙ b.1, b.2),
-      subst (λ (q : g.row.M-Rules.Denot). IsReply (g.M.Machine.next q) g.M.Machine.short (g.M.Machine.may_be_short q) c.reserve.new.self.items c.args.pass.now.lane c.args.call c.step-reply.result.0) c.enter-held.ensures.1.0.0.2 c.step-reply.ensures.reply,
-      subst (λ (q : g.row.M-Rules.Denot). g.M.Machine.comes_out q c.reserve.new.self.items c.args.pass.now.lane c.args.call c.step-reply.result.0 c.step-reply.result.1) c.enter-held.ensures.1.0.0.2 c.step-reply.ensures.comes,
-      subst (λ (h : List (Entry g.row.M-Call.Denot g.row.M-Reply.Denot)). Follows g.W.Then.meets (g.M.Machine.next c.args.pass.now.seat.me.0.rules) g.M.Machine.short g.M.Machine.keeps (g.M.Machine.comes_out c.args.pass.now.seat.me.0.rules) c.args.pass.now.lane h c.args.work.now c.step-reply.result.0 c.step-reply.result.1 c.follow-reply.result.0 c.follow-reply.result.1 c.follow-reply.new.work c.leave-2.new.seat.me.0.seen) c.step-reply.ensures.history
-          (subst (λ (q : g.row.M-Rules.Denot). Follows g.W.Then.meets (g.M.Machine.next q) g.M.Machine.short g.M.Machine.keeps (g.M.Machine.comes_out q) c.args.pass.now.lane c.step-reply.new.held.history.items c.args.work.now c.step-reply.result.0 c.step-reply.result.1 c.follow-reply.result.0 c.follow-reply.result.1 c.follow-reply.new.work c.leave-2.new.seat.me.0.seen) (c.step-reply.ensures.good.2 ∙ c.enter-held.ensures.1.0.0.2)
-          (subst (λ (h : List (Entry g.row.M-Call.Denot g.row.M-Reply.Denot)). Follows g.W.Then.meets (g.M.Machine.next (g.M.Machine.rules c.step-reply.new.held.machine)) g.M.Machine.short g.M.Machine.keeps (g.M.Machine.comes_out (g.M.Machine.rules c.step-reply.new.held.machine)) c.args.pass.now.lane c.step-reply.new.held.history.items c.args.work.now c.step-reply.result.0 c.step-reply.result.1 c.follow-reply.result.0 c.follow-reply.result.1 c.follow-reply.new.work h) (all ∙ sym grew.0) c.follow-reply.ensures.follows)),
+      subst (λ (q : g.row.M-Basis.Denot). IsReply (g.M.Machine.next q) g.M.Machine.short (g.M.Machine.may_be_short q) c.reserve.new.self.items c.args.pass.now.lane c.args.call c.step-reply.result.0) c.enter-held.ensures.1.0.0.2 c.step-reply.ensures.reply,
+      subst (λ (q : g.row.M-Basis.Denot). g.M.Machine.comes_out q c.reserve.new.self.items c.args.pass.now.lane c.args.call c.step-reply.result.0 c.step-reply.result.1) c.enter-held.ensures.1.0.0.2 c.step-reply.ensures.comes,
+      subst (λ (h : List (Entry g.row.M-Call.Denot g.row.M-Reply.Denot)). Follows g.W.Then.meets (g.M.Machine.next c.args.pass.now.seat.me.0.basis) g.M.Machine.short g.M.Machine.keeps (g.M.Machine.comes_out c.args.pass.now.seat.me.0.basis) c.args.pass.now.lane h c.args.work.now c.step-reply.result.0 c.step-reply.result.1 c.follow-reply.result.0 c.follow-reply.result.1 c.follow-reply.new.work c.leave-2.new.seat.me.0.seen) c.step-reply.ensures.history
+          (subst (λ (q : g.row.M-Basis.Denot). Follows g.W.Then.meets (g.M.Machine.next q) g.M.Machine.short g.M.Machine.keeps (g.M.Machine.comes_out q) c.args.pass.now.lane c.step-reply.new.held.history.items c.args.work.now c.step-reply.result.0 c.step-reply.result.1 c.follow-reply.result.0 c.follow-reply.result.1 c.follow-reply.new.work c.leave-2.new.seat.me.0.seen) (c.step-reply.ensures.good.2 ∙ c.enter-held.ensures.1.0.0.2)
+          (subst (λ (h : List (Entry g.row.M-Call.Denot g.row.M-Reply.Denot)). Follows g.W.Then.meets (g.M.Machine.next (g.M.Machine.basis c.step-reply.new.held.machine)) g.M.Machine.short g.M.Machine.keeps (g.M.Machine.comes_out (g.M.Machine.basis c.step-reply.new.held.machine)) c.args.pass.now.lane c.step-reply.new.held.history.items c.args.work.now c.step-reply.result.0 c.step-reply.result.1 c.follow-reply.result.0 c.follow-reply.result.1 c.follow-reply.new.work h) (all ∙ sym grew.0) c.follow-reply.ensures.follows)),
       grew.2,
       (news, grew.0 ∙ ap (λ (h : List (Entry g.row.M-Call.Denot g.row.M-Reply.Denot)). h ++ news) (sym same), grew.1),
       (c.enter-held.result.machine, (subst (g.M.Machine.stands c.enter-held.result.machine) (sym same) c.enter-held.ensures.1.0.0.0, c.enter-held.ensures.1.0.0.2)),
@@ -121,4 +121,4 @@ returns-clause-same g c = (
 )
 
 pub follow-reply-requires-clause-good : goal.follow-reply-requires-clause-good
-follow-reply-requires-clause-good g c = good_by_own g.M.Machine (g.M.Machine.rules c.enter-held.result.machine) c.step-reply.new.held c.step-reply.ensures.good
+follow-reply-requires-clause-good g c = good_by_own g.M.Machine (g.M.Machine.basis c.enter-held.result.machine) c.step-reply.new.held c.step-reply.ensures.good

@@ -1,0 +1,183 @@
+//! The bench.
+ghost use Rattle.std.specs.Prelude.{◌≡◌, ◌/◌, true, List, [], IfOk, IfErr};
+ghost use Rattle.plain_values.specs.declared.entry.Entry.{Entry};
+ghost use Rattle.exec_journal.specs.declared.call.Call.{Call};
+ghost use Rattle.exec_journal.specs.declared.reply.Reply.{Reply};
+ghost use Rattle.exec_journal.specs.Entries.{is_kept};
+ghost use Rattle.core_contract.specs.Moves.{move_in, shift_for};
+ghost use Rattle.core_contract.specs.Laws.{is_short, says_file, StepReplies, StepStands};
+ghost use Rattle.core_bench.specs.Objects.{AreFresh};
+ghost use Rattle.core_bench.specs.Bench.{Lies, Remains, GoesIn, ComesOut};
+ghost use Rattle.core_bench.specs.Waking.{Hints, LooksRound, Wakes, lanes_of};
+ghost use Rattle.core_bench.specs.Shifts.{children_then, taps_then, places_then, good_then};
+ghost use Rattle.core_bench.specs.BenchLaws.{short_not_kept, noted_not_short, suits_on, pays_one};
+
+use crate::replies::copy_of;
+use crate::shelf::{Good, Shelf};
+use crate::waking::Waking;
+use exec_journal::{Call, Reply};
+use outside::{Berth, Place};
+use core_contract::{Rules, shift_of};
+use seat_desk::Machine;
+use std::alloc::Global;
+
+/// A scheduling core with a shelf, as the machine of a desk.
+#[derive(Drop)]
+pub struct Bench<B: Berth, P: Place, C: Rules> {
+    core: C,
+    shelf: Shelf<B::Child, B::Tap, P>,
+    waking: Waking,
+}
+
+impl<B: Berth, P: Place, C: Rules> Bench<B, P, C> {
+    /// A bench of this core, on whose shelf the places of all actions lie, in the order of the
+    /// actions, and nothing else. All slots of the shelf are made here, so that a turn only moves
+    /// what is there.
+    ///
+    /// # Errors
+    ///
+    /// The places, as they were, if there is no memory for the slots. The core is dropped.
+    pub fn new(alloc: Global, core: C, places: Vec<P>) -> Result<Bench<B, P, C>, Vec<P>>
+        requires core { C.stands core [] }
+        requires places { AreFresh P.told (C.actions (C.plan core)) places.items }
+        ensures stands { IfOk result (λ b. ⟦<Bench<B, P, C> as Machine>⟧.stands b []) }
+        ensures basis { IfOk result (λ b.
+            ⟦<Bench<B, P, C> as Machine>⟧.basis b ≡ C.plan core) }
+        ensures back { IfErr result (λ back. back.items ≡ places.items) }
+    {
+        match Shelf::new(alloc, core.berths() as usize, places) {
+            Ok(shelf) => Ok(Bench {
+                core,
+                shelf,
+                waking: Waking::new(),
+            }),
+            Err(places) => Err(places),
+        }
+    }
+
+    /// The core, for each berth the tap that no lane has taken, and for each action its place, if no
+    /// lane has it. It takes no memory.
+    pub fn into_parts(self) -> (C, Vec<Option<B::Tap>>, Vec<Option<P>>)
+        ensures basis { C.plan result.0 ≡ ⟦<Bench<B, P, C> as Machine>⟧.basis self }
+        ensures parts { (h : List (Entry Call Reply))
+            → ⟦<Bench<B, P, C> as Machine>⟧.stands self h → C.stands result.0 h
+            × Remains B.Tap.told P.told (C.outputs (C.plan result.0)) (C.seats (C.plan result.0))
+            (C.actions (C.plan result.0)) h result.1.items result.2.items }
+    {
+        let Bench {
+            core,
+            shelf,
+            waking: _,
+        } = self;
+        let Shelf {
+            children: _,
+            taps,
+            places,
+        } = shelf;
+        (core, taps, places)
+    }
+}
+
+impl<B: Berth, P: Place, C: Rules> Machine for Bench<B, P, C> {
+    type Call = Call;
+
+    type Reply = Reply;
+
+    type Good = Good<B::Child, B::Tap, P>;
+
+    type Basis = C::Plan;
+
+    ghost basis = { λ m. C.plan m.core };
+
+    ghost blank = { C.blank };
+
+    ghost stands = { λ m h. C.stands m.core h × Lies B.Child.told B.Tap.told P.told
+        (C.outputs (C.plan m.core)) (C.seats (C.plan m.core)) (C.actions (C.plan m.core)) h
+        m.shelf.children.items m.shelf.taps.items m.shelf.places.items
+        × Wakes (C.rule (C.plan m.core)) h m.waking };
+
+    ghost next = { λ q h lane c. C.rule q h lane c };
+
+    ghost keeps = { λ e. is_kept e.reply };
+
+    ghost paid = { λ q h lane c. C.paid q h lane c };
+
+    ghost short = { is_short };
+
+    ghost may_be_short = { λ q h lane c. says_file (C.rule q h lane c) ≡ true };
+
+    ghost goes_in = { λ q h lane c g. GoesIn B.Child.told B.Tap.told P.told (C.outputs q) (C.rule q)
+        h lane c g };
+
+    ghost comes_out = { λ q h lane c r g. ComesOut B.Child.told B.Tap.told P.told (C.outputs q)
+        h lane c r g };
+
+    ghost owes = { λ q h. C.owes q h };
+
+    ghost hints = { λ m lane r lanes. Hints (C.rule (C.plan m.core)) m.waking r lanes };
+
+    ghost short_is_not_kept = { λ e s. short_not_kept e.reply s };
+
+    ghost paid_is_not_short = { λ m h lane c s p. noted_not_short (C.rule (C.plan m.core) h lane c)
+        (C.paid_is_noted m.core h lane c s.0 p) };
+
+    ghost paid_stays = { λ m h more lane c s none p. C.paid_stays m.core h more lane c s.0 none p };
+
+    ghost owes_less = { λ m h lane c s p k. pays_one (C.owes (C.plan m.core)) h lane c
+        (C.rule (C.plan m.core) h lane c) (C.paid_is_noted m.core h lane c s.0 p)
+        (C.owes_less m.core h lane c s.0 p) };
+
+    ghost owes_more = { λ m h lane c s k. C.owes_more m.core h lane c s.0 k };
+
+    ghost suits_still = { λ m h more lane c g s none i. suits_on B.Child.told B.Tap.told P.told
+        (C.outputs (C.plan m.core)) (C.rule (C.plan m.core)) h more lane c g none
+        (C.script_stays (C.plan m.core) h more lane c none) i };
+
+    fn is_kept(_lane: u32, _call: &Call, reply: &Reply) -> bool {
+        reply.is_kept()
+    }
+
+    fn copy(reply: &Reply) -> Reply {
+        copy_of(reply)
+    }
+
+    fn turn(
+        &mut self,
+        lane: u32,
+        call: &Call,
+        put: Option<Good<B::Child, B::Tap, P>>,
+    ) -> (Reply, Option<Good<B::Child, B::Tap, P>>)
+        ensures plan { C.plan self.new.core ≡ C.plan self.old.core }
+        ensures reply { StepReplies C.stands (C.rule (C.plan self.old.core)) self.old.core lane
+            call.now result.0 }
+        ensures stands { StepStands C.stands self.old.core lane call.now result.0 self.new.core }
+        ensures children { self.new.shelf.children.items
+            ≡ children_then (shift_for (move_in lane call.now result.0)) (lane / 2) put
+            self.old.shelf.children.items }
+        ensures taps { self.new.shelf.taps.items
+            ≡ taps_then (shift_for (move_in lane call.now result.0)) (lane / 2) put
+            self.old.shelf.taps.items }
+        ensures places { self.new.shelf.places.items
+            ≡ places_then (shift_for (move_in lane call.now result.0)) put
+            self.old.shelf.places.items }
+        ensures good { result.1 ≡ good_then (shift_for (move_in lane call.now result.0)) (lane / 2)
+            self.old.shelf.children.items self.old.shelf.taps.items self.old.shelf.places.items }
+        ensures waking { LooksRound (C.news self.new.core)
+            (lanes_of (C.seats (C.plan self.new.core))) lane result.0
+            self.old.waking self.new.waking }
+    {
+        let reply = self.core.step(lane, call);
+        self.waking.look_round(&self.core, lane, &reply);
+        let shift = shift_of(lane, call, &reply);
+        let good = self.shelf.shift((lane / 2) as usize, shift, put);
+        (reply, good)
+    }
+
+    fn stirs(&self, _lane: u32, reply: &Reply) -> u128 {
+        self.waking.stirred_by(reply)
+    }
+
+    fn owed(&self) -> u64 {
+        self.core.owed()
+    }
+}

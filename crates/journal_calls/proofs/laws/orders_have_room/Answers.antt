@@ -1,5 +1,0 @@
-use Rattle.journal_calls.proofs.Orders.{is_send, is_launch}
-use Rattle.journal_calls.proofs.laws.orders_have_room.Goals as goal
-
-pub returns : goal.returns
-returns c = record { sends = is_send; launches = is_launch }

@@ -1,0 +1,155 @@
+-- What a Launch makes of what the lane has done so far.
+use Rattle.std.proofs.Common.{◌≡◌, ◌⊎◌, inl, inr, ℕ, ◌<◌, List, [], ◌∷◌, ◌++◌, ◌≤◌, Option, Some, None, Result, refl, ap, sym, subst, ◌∙◌, arith}
+use Rattle.std.specs.Prelude.{All, true, false}
+use Rattle.seat_desk.specs.declared.machine.Machine.{Ghosts}
+use Rattle.seat_desk.specs.declared.desk.Pass.{Pass}
+use Rattle.seat_desk.specs.Passes.{mine, basis, seen}
+use Rattle.seat_desk.specs.History.{entry, StartsWith}
+use Rattle.plain_values.specs.declared.no_memory.NoMemory.{NoMemory}
+use Rattle.outside.specs.Launches.{IsNewFeed}
+use Rattle.outside.specs.Told.{BerthTold, FeedTold}
+use Rattle.outside.specs.declared.answers.Io.TheVariants as io
+use Rattle.outside.specs.declared.berth.BerthCall.{BerthCall}
+use Rattle.outside.specs.declared.berth.BerthCall.TheVariants as berth
+use Rattle.exec_journal.specs.declared.call.Call.{Call}
+use Rattle.exec_journal.specs.declared.call.Call.TheVariants as call
+use Rattle.exec_journal.specs.declared.call.Started.{Started}
+use Rattle.exec_journal.specs.declared.call.Started.TheVariants as start
+use Rattle.exec_journal.specs.declared.reply.Reply.{Reply}
+use Rattle.exec_journal.specs.declared.reply.Reply.TheVariants as reply
+use Rattle.exec_journal.specs.Entries.{is_done}
+use Rattle.remote_messages.specs.declared.work.WorkAction.{WorkAction}
+use Rattle.sandbox_rooms.specs.Calls.{Made}
+use Rattle.order_acts.specs.Acts.{LaunchedBy}
+use Rattle.core_contract.specs.Moves.{Past, History}
+use Rattle.core_contract.specs.Laws.{lines_in}
+use Rattle.core_contract.specs.Duties.{Duty, Launches, duty_of}
+use Rattle.proxy_deeds.specs.declared.post.Post.{Post}
+use Rattle.proxy_deeds.specs.declared.cause.Cause.{Cause}
+use Rattle.proxy_deeds.specs.declared.cause.Cause.TheVariants as cause
+use Rattle.proxy_deeds.specs.Deeds.{Deed, DeedOf, IsCut, with_end}
+use Rattle.proxy_deeds.specs.Lines.{Back, EndsLine, IsFed, IsKilled, RoseBy, room_fault, started_by, started_in, lines_of, listed, unsaid_by}
+use Rattle.proxy_deeds.specs.Ends.{HaltsBy, may_halt}
+use Rattle.proxy_calls.specs.Calls.{MakesNone, MakesOne}
+use Rattle.proxy_steps.specs.Lanes.{Open, Held, Holds, Keeps, Halting}
+use Rattle.proxy_deeds.proofs.Growing.{adds_more}
+use Rattle.proxy_steps.specs.Steps.{Goes, Halts}
+use Rattle.proxy_steps.proofs.Holding.{Touches, IsQuiet, holds_quiet, holds_started, holds_unsaid}
+use Rattle.proxy_steps.proofs.Keeping.{touches_quiet, rose_none, rose_one, keeps_more, halting_more, halting_with}
+
+abbrev pub calls_deed : List BerthCall → Deed
+calls_deed calls = record { line = 0; looks = []; calls = calls; given = [] }
+
+rose_over : (before mid now : ℕ) → before ≤ mid → mid ≤ now → RoseBy 0 before now
+rose_over before mid now first second = omega arith
+
+new_fed : (l : ℕ) (feed : FeedTold) → IsNewFeed l feed → IsFed [] [] l feed
+new_fed l feed new =
+    record { of_line = new.of_line; given = new.nothing_given; faults = omega arith }
+
+module _ {M G Q : Type 0} {g : Ghosts M Call Reply G Q} (post : Post) (actions : List WorkAction)
+    (rule : Q → History → ℕ → Call → Reply) (p p2 : Pass M Call Reply G Q g) (h : Held) (l : ℕ)
+    (duty : duty_of (mine p) ≡ Launches l) (none : h.opened ≡ None) where
+  -- a Halt, whatever was called went on the berth
+  module _ (by : Cause) (calls : List BerthCall) (F : Type 0) (new : BerthTold)
+      (made : Made calls F h.berth new) (no_entry : MakesNone p p2)
+      (did : HaltsBy post actions by (Launches l) (calls_deed calls)) where
+    abbrev e : Past
+    e = entry p.lane call.Halt reply.Noted
+
+    abbrev halt_touches : Touches e (calls_deed calls) h.berth new
+    halt_touches =
+        touches_quiet p.lane reply.Noted (calls_deed calls) h.berth new call.Halt F refl made
+
+    by_duty : HaltsBy post actions by (duty_of (mine p)) (calls_deed calls)
+    by_duty = subst (λ (s : Duty). HaltsBy post actions by s (calls_deed calls)) (sym duty) did
+
+    -- no process was started
+    pub launch_halts : unsaid_by (Some by) ≡ [] → Halts post actions rule by p h p2 (record h { berth = new })
+    launch_halts not_started = λ first k.
+        halting_more (rule (basis p)) p.lane post actions (mine p) (seen p) first h k by (mine p2) (seen p2)
+        (record h { berth = new }) (calls_deed calls) no_entry.1 by_duty
+        (holds_quiet (rule (basis p)) p.lane (mine p) k.deeds (seen p) first h k.holds e (calls_deed calls)
+        (seen p2) no_entry.0 tt new halt_touches
+        (record { starts = refl; gives = refl; feeds = λ n. refl }))
+        k.all_said not_started
+
+    -- one was, and the berth has ended its child
+    module _ (then : BerthTold) (ended : EndsLine l new then) (back : Back) (of : back.line ≡ l) (feed : IsNewFeed l back.feed)
+        (killed : IsKilled l back.child) (fresh : All (λ n. n < l) (started_in (mine p)))
+        (ordered : l < lines_in (seen p)) where
+      ended_touches : Touches e (with_end l (calls_deed calls)) h.berth then
+      ended_touches = record {
+        log = adds_more calls (berth.End l ∷ []) (calls ++ berth.End l ∷ []) h.berth.log new.log
+            then.log refl made.log ended.log;
+        faults = rose_over h.berth.faults new.faults then.faults made.count.later ended.later;
+        same = ended.same ∙ made.same;
+      }
+
+      pub unsaid_halts : unsaid_by (Some by) ≡ l ∷ []
+          → Halts post actions rule by p h p2 (record h { berth = then; unsaid = Some back })
+      unsaid_halts is_started = λ first k.
+          halting_with (rule (basis p)) p.lane post actions (mine p) (seen p) first h k by (mine p2)
+          (seen p2) (record h { berth = then; unsaid = Some back }) (calls_deed calls) (l ∷ [])
+          no_entry.1 by_duty
+          (holds_unsaid (rule (basis p)) p.lane (mine p) k.deeds (seen p) first h k.holds e
+          (with_end l (calls_deed calls)) (seen p2) no_entry.0 tt then ended_touches l refl (λ n. refl)
+          none fresh ordered back (new_fed l back.feed feed, killed) of refl)
+          (λ i. of i ∷ []) is_started
+
+  -- ---- a report
+
+  module _ (how : Started) (calls : List BerthCall) (F : Type 0) (new : BerthTold)
+      (made : Made calls F h.berth new) (did : LaunchedBy l post.command how calls)
+      (told : MakesOne (call.Launched l how) reply.Noted p p2) where
+    abbrev report : Past
+    report = entry p.lane (call.Launched l how) reply.Noted
+
+    deed_is : DeedOf post actions (duty_of (mine p)) (call.Launched l how) (calls_deed calls)
+    deed_is = subst (λ (s : Duty). DeedOf post actions s (call.Launched l how) (calls_deed calls))
+        (sym duty) (refl, refl, did)
+
+    -- no process was started
+    pub fault_goes : is_done how ≡ false → F → Goes post actions rule p h p2 (record h { berth = new })
+    fault_goes fault failed = λ first k.
+        keeps_more (rule (basis p)) p.lane post actions (mine p) (seen p) first h k (mine p2) (seen p2)
+        (record h { berth = new }) report (calls_deed calls) told.1 deed_is
+        (holds_quiet (rule (basis p)) p.lane (mine p) k.deeds (seen p) first h k.holds report
+        (calls_deed calls) (seen p2) told.0 tt new (touches how fault)
+        (quiet how fault)) k.all_said
+      where
+        touches : (s : Started) → is_done s ≡ false
+            → Touches (entry p.lane (call.Launched l s) reply.Noted) (calls_deed calls) h.berth new
+        touches start.Done is = absurd (cc)
+        touches start.RoomFault is = record {
+          log = made.log;
+          faults = rose_one F h.berth.faults new.faults made.count failed;
+          same = made.same;
+        }
+        touches start.LaunchFault is = record {
+          log = made.log;
+          faults = rose_one F h.berth.faults new.faults made.count failed;
+          same = made.same;
+        }
+
+        quiet : (s : Started) → is_done s ≡ false
+            → IsQuiet (entry p.lane (call.Launched l s) reply.Noted) (calls_deed calls)
+        quiet start.Done is = absurd (cc)
+        quiet start.RoomFault is = record { starts = refl; gives = refl; feeds = λ n. refl }
+        quiet start.LaunchFault is = record { starts = refl; gives = refl; feeds = λ n. refl }
+
+    -- one was
+    pub started_goes : how ≡ start.Done → (feed : FeedTold) → IsNewFeed l feed
+        → All (λ n. n < l) (started_in (mine p)) → l < lines_in (seen p)
+        → Goes post actions rule p h p2
+        (record h { berth = new; opened = Some (record { line = l; feed = feed }) })
+    started_goes is feed fed fresh ordered = λ first k.
+        keeps_more (rule (basis p)) p.lane post actions (mine p) (seen p) first h k (mine p2) (seen p2)
+        (record h { berth = new; opened = Some (record { line = l; feed = feed }) }) report
+        (calls_deed calls) told.1 deed_is
+        (holds_started (rule (basis p)) p.lane (mine p) k.deeds (seen p) first h k.holds report
+        (calls_deed calls) (seen p2) told.0 tt new
+        (touches_quiet p.lane reply.Noted (calls_deed calls) h.berth new (call.Launched l how) F
+        (ap (λ (s : Started). room_fault (call.Launched l s)) is) made) l refl
+        (λ n. refl) none fresh ordered feed (new_fed l feed fed)
+        (ap (λ (s : Started). started_by (call.Launched l s)) is)) k.all_said
