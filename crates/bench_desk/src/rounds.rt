@@ -1,7 +1,7 @@
 //! The machine of the traffic: seats that each go round eight steps, three of one lane and then three
 //! of another, and then two of the first again.
 ghost use Rattle.std.specs.Prelude.{◌≡◌, ◌+◌, ℕ, List, true, false};
-ghost use Rattle.std.proofs.Common.{basis};
+ghost use Rattle.std.proofs.Common.{rules};
 ghost use Rattle.bench_desk.specs.Answers.{is_done, is_short, not_kept};
 
 use desk_trials::Nothing;

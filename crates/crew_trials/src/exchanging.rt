@@ -69,31 +69,25 @@ pub enum SlotLane {
 }
 
 impl SlotLane {
-    // Asks so many times, each until it is done, and answers how many were done with the pass.
-    fn run_until<R: Wait>(
+    // Asks so many times, each until it is done, and answers how many were done.
+    fn ask_until<R: Wait>(
         rt: &R,
-        desk: &Desk<Slot>,
-        bells: &Bells,
-        pass: Pass<Slot>,
-        number: u32,
-        ask: Ask,
+        caller: &mut Caller<'_, Slot>,
+        question: &Until,
         count: usize,
-    ) -> (usize, Pass<Slot>)
-        requires desk { IsPassOf desk.now pass }
-        requires fresh { IsFresh pass }
-        requires bell { number < bells.now }
-        ensures { IsSamePass pass result.1 × HasMade count (mine result.1) result.0 }
+    ) -> usize
+        requires { IsFresh caller.old.pass }
+        ensures { IsSamePass caller.old.pass caller.new.pass
+            × HasMade count (mine caller.new.pass) result }
     {
-        let question = Until { ask };
-        let mut caller = Caller::new(desk, bells, pass, number);
         let mut made = 0;
         while made < count {
-            if caller.ask(rt, &question).is_err() {
+            if caller.ask(rt, question).is_err() {
                 break;
             }
             made += 1;
         }
-        (made, caller.into_pass())
+        made
     }
 }
 
@@ -124,28 +118,16 @@ impl Lane<Desk<Slot>, Pass<Slot>> for SlotLane {
     ) -> (SlotEnd, Pass<Slot>) {
         match self {
             SlotLane::Fills(Filler { number, count }) => {
-                let (made, pass) = SlotLane::run_until(
-                    rt,
-                    desk,
-                    bells,
-                    pass,
-                    number,
-                    Ask::Fill,
-                    count,
-                );
-                (SlotEnd::Filled(made), pass)
+                let mut caller = Caller::new(desk, bells, pass, number);
+                let question = Until { ask: Ask::Fill };
+                let made = SlotLane::ask_until(rt, &mut caller, &question, count);
+                (SlotEnd::Filled(made), caller.into_pass())
             }
             SlotLane::Empties(Emptier { number, count }) => {
-                let (made, pass) = SlotLane::run_until(
-                    rt,
-                    desk,
-                    bells,
-                    pass,
-                    number,
-                    Ask::Empty,
-                    count,
-                );
-                (SlotEnd::Emptied(made), pass)
+                let mut caller = Caller::new(desk, bells, pass, number);
+                let question = Until { ask: Ask::Empty };
+                let made = SlotLane::ask_until(rt, &mut caller, &question, count);
+                (SlotEnd::Emptied(made), caller.into_pass())
             }
         }
     }

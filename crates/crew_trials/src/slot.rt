@@ -1,11 +1,11 @@
 //! A machine with one slot, which is filled and emptied in turn.
 ghost use Rattle.std.specs.Prelude.{◌≡◌, ◌+◌, ℕ, List, true, false, if◌then◌else◌};
-ghost use Rattle.std.proofs.Common.{basis};
+ghost use Rattle.std.proofs.Common.{rules};
 ghost use Rattle.crew_trials.specs.Slots.{full_after, answer_to, is_done, fills};
 
 use seat_desk::Machine;
 
-/// A good that no call takes and no reply gives, or the rules of a machine that goes by none.
+/// A good that no call takes and no reply gives, or the basis of a machine that goes by none.
 #[derive(Drop)]
 pub struct Nothing;
 

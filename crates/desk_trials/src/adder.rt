@@ -1,6 +1,6 @@
 //! A machine that adds.
 ghost use Rattle.std.specs.Prelude.{◌≡◌, ◌+◌, ◌%◌, ◌^◌, true, false, List, ℕ};
-ghost use Rattle.std.proofs.Common.{basis};
+ghost use Rattle.std.proofs.Common.{rules};
 ghost use Rattle.desk_trials.specs.AdderSums.{added, SumsFrom};
 
 use crate::nothing::Nothing;

@@ -40,28 +40,35 @@ pub fn adds<R: Wait>(rt: &R, desk: &Desk<Adder>, mut pass: Pass<Adder>, count: u
     Done { pass, made }
 }
 
+/// The passes of two lanes.
+#[derive(Drop)]
+pub struct Pair {
+    pub first: Pass<Adder>,
+    pub second: Pass<Adder>,
+}
+
 /// Two lanes at once.
 pub fn two<R: Threads + Wait + Sync>(
     rt: &R,
     desk: &Desk<Adder>,
-    a: Pass<Adder>,
-    b: Pass<Adder>,
+    pair: Pair,
     count: usize,
 ) -> (Done, Done)
-    requires { IsPassOf desk.now a × IsPassOf desk.now b }
-    ensures first { HasMade count desk.now a result.0.pass result.0.made }
-    ensures second { HasMade count desk.now b result.1.pass result.1.made }
+    requires { IsPassOf desk.now pair.first × IsPassOf desk.now pair.second }
+    ensures first { HasMade count desk.now pair.first result.0.pass result.0.made }
+    ensures second { HasMade count desk.now pair.second result.1.pass result.1.made }
 {
+    let Pair { first, second } = pair;
     join(
         rt,
         move || -> Done
-            requires { IsPassOf desk.now a }
-            ensures { HasMade count desk.entry.now a result.pass result.made }
-        { adds(rt, desk, a, count) },
+            requires { IsPassOf desk.now first }
+            ensures { HasMade count desk.entry.now first result.pass result.made }
+        { adds(rt, desk, first, count) },
         move || -> Done
-            requires { IsPassOf desk.now b }
-            ensures { HasMade count desk.entry.now b result.pass result.made }
-        { adds(rt, desk, b, count) },
+            requires { IsPassOf desk.now second }
+            ensures { HasMade count desk.entry.now second result.pass result.made }
+        { adds(rt, desk, second, count) },
     )
 }
 
@@ -69,31 +76,29 @@ pub fn two<R: Threads + Wait + Sync>(
 pub fn four<R: Threads + Wait + Sync>(
     rt: &R,
     desk: &Desk<Adder>,
-    a: Pass<Adder>,
-    b: Pass<Adder>,
-    c: Pass<Adder>,
-    d: Pass<Adder>,
+    front: Pair,
+    back: Pair,
     count: usize,
 ) -> ((Done, Done), (Done, Done))
-    requires first_two { IsPassOf desk.now a × IsPassOf desk.now b }
-    requires last_two { IsPassOf desk.now c × IsPassOf desk.now d }
-    ensures first { HasMade count desk.now a result.0.0.pass result.0.0.made }
-    ensures second { HasMade count desk.now b result.0.1.pass result.0.1.made }
-    ensures third { HasMade count desk.now c result.1.0.pass result.1.0.made }
-    ensures fourth { HasMade count desk.now d result.1.1.pass result.1.1.made }
+    requires front { IsPassOf desk.now front.first × IsPassOf desk.now front.second }
+    requires back { IsPassOf desk.now back.first × IsPassOf desk.now back.second }
+    ensures first { HasMade count desk.now front.first result.0.0.pass result.0.0.made }
+    ensures second { HasMade count desk.now front.second result.0.1.pass result.0.1.made }
+    ensures third { HasMade count desk.now back.first result.1.0.pass result.1.0.made }
+    ensures fourth { HasMade count desk.now back.second result.1.1.pass result.1.1.made }
 {
     join(
         rt,
         move || -> (Done, Done)
-            requires { IsPassOf desk.now a × IsPassOf desk.now b }
-            ensures { HasMade count desk.entry.now a result.0.pass result.0.made
-                × HasMade count desk.entry.now b result.1.pass result.1.made }
-        { two(rt, desk, a, b, count) },
+            requires { IsPassOf desk.now front.first × IsPassOf desk.now front.second }
+            ensures { HasMade count desk.entry.now front.first result.0.pass result.0.made
+                × HasMade count desk.entry.now front.second result.1.pass result.1.made }
+        { two(rt, desk, front, count) },
         move || -> (Done, Done)
-            requires { IsPassOf desk.now c × IsPassOf desk.now d }
-            ensures { HasMade count desk.entry.now c result.0.pass result.0.made
-                × HasMade count desk.entry.now d result.1.pass result.1.made }
-        { two(rt, desk, c, d, count) },
+            requires { IsPassOf desk.now back.first × IsPassOf desk.now back.second }
+            ensures { HasMade count desk.entry.now back.first result.0.pass result.0.made
+                × HasMade count desk.entry.now back.second result.1.pass result.1.made }
+        { two(rt, desk, back, count) },
     )
 }
 
@@ -116,11 +121,15 @@ pub fn count_by_four<R: Threads + Wait + Sync>(
     ensures sum { IfOk result (λ t. t.closed.machine.sum ≡ added t.closed.history.items % 2 ^ 64) }
 {
     let (desk, mut root) = Desk::new(alloc, Adder::new())?;
-    let a = desk.split(rt, &mut root);
-    let b = desk.split(rt, &mut root);
-    let c = desk.split(rt, &mut root);
-    let d = desk.split(rt, &mut root);
-    let ((a, b), (c, d)) = four(rt, &desk, a, b, c, d, count);
+    let front = Pair {
+        first: desk.split(rt, &mut root),
+        second: desk.split(rt, &mut root),
+    };
+    let back = Pair {
+        first: desk.split(rt, &mut root),
+        second: desk.split(rt, &mut root),
+    };
+    let ((a, b), (c, d)) = four(rt, &desk, front, back, count);
     let made = (a.made, b.made, c.made, d.made);
     desk.join_pass(rt, &mut root, a.pass);
     desk.join_pass(rt, &mut root, b.pass);

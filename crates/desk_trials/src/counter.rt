@@ -1,7 +1,7 @@
 //! A machine that adds modulo a number that is known at run time alone.
 ghost use Rattle.std.specs.Prelude.{◌≡◌, ◌+◌, ◌%◌, ◌<◌, true, false, List, [], ℕ};
 ghost use Rattle.plain_values.specs.declared.entry.Entry.{Entry};
-ghost use Rattle.std.proofs.Common.{basis};
+ghost use Rattle.std.proofs.Common.{rules};
 ghost use Rattle.desk_trials.specs.CounterSums.{sum_so_far, stays, is_short, MayBeShort, IsSum, IsTurn};
 ghost use Rattle.desk_trials.specs.CounterLaws.{short_goes};
 

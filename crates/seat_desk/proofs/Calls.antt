@@ -162,7 +162,7 @@ module _ {H C R Q : Type 0} (log_of : H → List (Entry C R)) (good : Q → H �
 
 -- The pass after a turn that began and ended in these states
 module _ {H C R Q : Type 0} where
-  -- its seat's rules are those that it had
-  pub same_rules : (lane : ℕ) (m m1 m2 : SeatState H C R Q) (h h' : List (Entry C R)) → IsIdle lane m → ((t : ℕ) × (m1.0 ≡ view_in_turn m.0 t h)) → HasEnded m1 h' m2 → m2.0.basis ≡ m.0.basis
-  same_rules lane m m1 m2 h h' idle s has_ended =
+  -- its seat's basis is the one that it had
+  pub same_basis : (lane : ℕ) (m m1 m2 : SeatState H C R Q) (h h' : List (Entry C R)) → IsIdle lane m → ((t : ℕ) × (m1.0 ≡ view_in_turn m.0 t h)) → HasEnded m1 h' m2 → m2.0.basis ≡ m.0.basis
+  same_basis lane m m1 m2 h h' idle s has_ended =
       ap (λ (x : SeatState H C R Q). x.0.basis) (after_turn lane m m1 m2 h h' idle s has_ended) ∙ ap (λ (v : View C R Q). v.basis) s.1

@@ -6,7 +6,7 @@ use Rattle.seat_desk.specs.declared.held.Held.{Held}
 use Rattle.seat_desk.specs.Helds.{IsGood, HasRoom}
 use Rattle.seat_desk.specs.Logs.{Log}
 
--- what holds of the machine and its history in the slot, where its rules are these
+-- what holds of the machine and its history in the slot, where its basis is this
 abbrev pub good_of : {M C R G Q : Type 0} → Ghosts M C R G Q → Q → Held M C R → Type 0
 good_of g = IsGood g.basis g.stands g.owes
 
@@ -15,7 +15,7 @@ holds_at_ok (Ok x) e p = p
 holds_at_ok (Err x) e p = absurd (let h : false ≡ true = e in cc)
 
 module _ {M C R G Q : Type 0} (g : Ghosts M C R G Q) where
-  -- it is good under the machine's own rules too
+  -- it is good under the machine's own basis too
   pub good_by_own : (q : Q) (y : Held M C R) → good_of g q y → good_of g (g.basis y.machine) y
   good_by_own q y good = subst (λ (r : Q). good_of g r y) (sym good.2) good
 

@@ -174,7 +174,7 @@ module _ {H C R Q : Type 0} (log_of : H → List (Entry C R)) (good : Q → H �
       not_busy true n = absurd (n refl)
       not_busy false n = refl
 
-  -- a seat that isn't idle has the rules of the machine
+  -- a seat that isn't idle has the basis of the machine
   goes_by : (basis : Q) (log : List (Entry C R)) (joined : List (Joined C R)) (n seat : ℕ) (v : V) (role : Role) → v.stage ≢ Idle → Plays basis log joined n seat v role → v.basis ≡ basis
   goes_by basis log joined n seat v (Root made) busy p = p.3
   goes_by basis log joined n seat v (Lane k) busy p = p.3

@@ -20,7 +20,7 @@ module _ {M C R : Type 0} where
       (owes y.history.items + 3 ≤ y.history.room)
       ⊎ (paid y.history.items lane call)
 
-  -- the machine has the rules q and stands for the history, which has room for what the machine
+  -- the machine has the basis q and stands for the history, which has room for what the machine
   -- owes
   abbrev pub IsGood : {Q : Type 0} → (M → Q) → (M → List (Entry C R) → Type 0)
       → (Q → List (Entry C R) → ℕ) → Q → Held M C R → Type 0

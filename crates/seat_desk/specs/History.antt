@@ -86,7 +86,7 @@ abbrev pub Owes : {S C R : Type 0} → (S → List (Entry C R) → Type 0) → (
     → Type 0
 Owes {S} {C} {R} stands owes m n = (h : List (Entry C R)) → stands m h → n ≡ owes h
 
--- the machine has the rules q and stands for the history
+-- the machine has the basis q and stands for the history
 abbrev pub StandsUnder : {S C R Q : Type 0} → (S → Q) → (S → List (Entry C R) → Type 0) → Q → S
     → List (Entry C R) → Type 0
 StandsUnder {S} {C} {R} {Q} basis stands q m h = stands m h × (basis m ≡ q)

@@ -43,16 +43,16 @@ module _ {M C R G Q : Type 0} {g : Ghosts M C R G Q} where
   abbrev pub IsRootOf : Desk M C R G Q → Root M C R G Q g → Type 0
   IsRootOf d r = r.seat.table_id ≡ d.table.shared.table_id
 
-  -- the pass has the desk, the lane and the rules that it had
+  -- the pass has the desk, the lane and the basis that it had
   abbrev pub IsSamePass : Pass M C R G Q g → Pass M C R G Q g → Type 0
   IsSamePass p p' = (p'.seat.table_id ≡ p.seat.table_id) × (p'.lane ≡ p.lane) × (basis p' ≡ basis p)
 
-  -- the root has the desk, the number of passes and the rules that it had
+  -- the root has the desk, the number of passes and the basis that it had
   abbrev pub IsSameRoot : Root M C R G Q g → Root M C R G Q g → Type 0
   IsSameRoot r r' =
       (r'.seat.table_id ≡ r.seat.table_id) × (r'.made ≡ r.made) × (root_basis r' ≡ root_basis r)
 
-  -- the root of a desk whose machine has these rules: it has split no pass, seen nothing and joined
+  -- the root of a desk whose machine has this basis: it has split no pass, seen nothing and joined
   -- nothing
   abbrev pub IsNewRoot : Q → Root M C R G Q g → Type 0
   IsNewRoot basis r = (r.made ≡ 0) × (r.seat.me.0 ≡ first_view basis)
@@ -78,7 +78,7 @@ module _ {M C R G Q : Type 0} {g : Ghosts M C R G Q} where
   abbrev pub IsPaidFor : Pass M C R G Q g → C → Type 0
   IsPaidFor p call = g.paid (basis p) (seen p) p.lane call
 
-  -- the call was made in one turn, by the rules of the machine: the reply is its reply at a point
+  -- the call was made in one turn, by the basis of the machine: the reply is its reply at a point
   -- of the history that begins with all that the pass had seen, and for which some machine stands
   abbrev pub MakesCall : Pass M C R G Q g → C → R → Option G → Pass M C R G Q g → Type 0
   MakesCall p call reply good p' =

@@ -50,7 +50,7 @@ module _ {C R Q : Type 0} where
   tickets_out [] = 0
   tickets_out (v ∷ vs) = tickets_at v.stage + tickets_out vs
 
-  -- the first seat, at a machine of the rules q
+  -- the first seat, at a machine of the basis q
   abbrev pub first_view : Q → View C R Q
   first_view q =
       record {
@@ -207,8 +207,7 @@ module _ {C R Q : Type 0} (basis : Q) (log : List (Entry C R)) (joined : List (J
   Plays (Lane k) = (seat ≡ k + 1) × (calls_by k log ≡ v.mine) × Apart k joined × (v.basis ≡ basis)
   Plays Gone = v.stage ≡ Idle
 
--- H is what lies in the slot, log_of its history, and good what holds of it under the rules of the
--- machine
+-- H is what lies in the slot, log_of its history, and good what holds of it under the basis of the machine
 module _ {H C R Q : Type 0} (log_of : H → List (Entry C R)) (good : Q → H → Type 0) where
   -- the slot is out with the seat that is served (busy), or at home with the history so far
   abbrev pub Lies : Q → Bool → List (Entry C R) → List (maybe.Option (Option (H))) → Type 0

@@ -28,7 +28,7 @@ pub trait Machine: Sized + Drop {
     // What this machine goes by.
     ghost basis: { Self → Self.Basis };
 
-    // Some rules, for the seat of a pass that was joined.
+    // Some basis, for the seat of a pass that was joined.
     ghost blank: { Self.Basis };
 
     // The machine may have come about by these calls: it stands for this history.

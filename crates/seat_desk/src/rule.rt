@@ -11,7 +11,7 @@ use std::marker::PhantomData;
 use std::snapshot::Snapshot;
 
 /// The rule. Its key is the machine that first goes into the slot, from which the root's first view
-/// takes the rules.
+/// takes the basis.
 pub struct Turns<M> {
     machine: PhantomData<M>,
 }

@@ -35,7 +35,7 @@ pub struct Joined<C, R> {
 pub struct View<C, R, Q> {
     /// Whose it is.
     pub role: Role,
-    /// The rules of the machine that the table has.
+    /// The basis of the machine that the table has.
     pub basis: Q,
     /// Where it stands in the line.
     pub stage: Stage,

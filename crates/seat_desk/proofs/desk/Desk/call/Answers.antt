@@ -2,7 +2,7 @@ use Rattle.std.proofs.Common.{◌≡◌, not, ◌∙◌, refl, ◌++◌, [], ap,
 use Rattle.plain_values.specs.declared.entry.Entry.{Entry}
 use Rattle.seat_desk.specs.declared.held.Held.{Held}
 use Rattle.seat_desk.specs.History.{entry, after, calls_by, IsReply}
-use Rattle.seat_desk.proofs.Calls.{may_end, made_none, others_only, added, after_is, only_added, calls_after, after_turn, idle_again, same_rules}
+use Rattle.seat_desk.proofs.Calls.{may_end, made_none, others_only, added, after_is, only_added, calls_after, after_turn, idle_again, same_basis}
 use Rattle.seat_desk.specs.Helds.{log_of}
 use Rattle.seat_desk.proofs.Goods.{good_of, good_by_own, good_with_room, room_of_call}
 use Rattle.seat_desk.proofs.desk.Desk.call.Goals as goal
@@ -83,12 +83,12 @@ pub returns-then-is_err-clause-same : goal.returns-then-is_err-clause-same
 returns-then-is_err-clause-same g c = (
   (c.leave.ensures.0 ∙ c.enter-held.ensures.0),
   refl,
-  same_rules c.args.pass.now.lane c.args.pass.now.seat.me c.enter-held.new.seat.me c.leave.new.seat.me c.enter-held.result.history.items _ c.args.pass.now.idle c.enter-held.ensures.1.1 c.leave.ensures.1,
+  same_basis c.args.pass.now.lane c.args.pass.now.seat.me c.enter-held.new.seat.me c.leave.new.seat.me c.enter-held.result.history.items _ c.args.pass.now.idle c.enter-held.ensures.1.1 c.leave.ensures.1,
 )
 
 pub returns-clause-same : goal.returns-clause-same
 returns-clause-same g c = (
   (c.leave-2.ensures.0 ∙ c.enter-held.ensures.0),
   refl,
-  same_rules c.args.pass.now.lane c.args.pass.now.seat.me c.enter-held.new.seat.me c.leave-2.new.seat.me c.enter-held.result.history.items _ c.args.pass.now.idle c.enter-held.ensures.1.1 c.leave-2.ensures.1,
+  same_basis c.args.pass.now.lane c.args.pass.now.seat.me c.enter-held.new.seat.me c.leave-2.new.seat.me c.enter-held.result.history.items _ c.args.pass.now.idle c.enter-held.ensures.1.1 c.leave-2.ensures.1,
 )

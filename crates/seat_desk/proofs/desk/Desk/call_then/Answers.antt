@@ -5,7 +5,7 @@ use Rattle.seat_desk.specs.History.{entry, IsReply}
 use Rattle.seat_desk.specs.Helds.{log_of}
 use Rattle.seat_desk.proofs.Goods.{good_of, good_by_own, good_with_room, room_of_call}
 use Rattle.seat_desk.specs.Desks.{MayFollow, Follows}
-use Rattle.seat_desk.proofs.Calls.{may_end, made_none, between, grew_by, added, after_is, only_added, only_both, followed, after_turn, idle_again, same_rules}
+use Rattle.seat_desk.proofs.Calls.{may_end, made_none, between, grew_by, added, after_is, only_added, only_both, followed, after_turn, idle_again, same_basis}
 use Rattle.seat_desk.proofs.desk.Desk.call_then.Goals as goal
 
 pub leave-requires : goal.leave-requires
@@ -110,14 +110,14 @@ pub returns-then-is_err-clause-same : goal.returns-then-is_err-clause-same
 returns-then-is_err-clause-same g c = (
   (c.leave.ensures.0 ∙ c.enter-held.ensures.0),
   refl,
-  same_rules c.args.pass.now.lane c.args.pass.now.seat.me c.enter-held.new.seat.me c.leave.new.seat.me c.enter-held.result.history.items _ c.args.pass.now.idle c.enter-held.ensures.1.1 c.leave.ensures.1,
+  same_basis c.args.pass.now.lane c.args.pass.now.seat.me c.enter-held.new.seat.me c.leave.new.seat.me c.enter-held.result.history.items _ c.args.pass.now.idle c.enter-held.ensures.1.1 c.leave.ensures.1,
 )
 
 pub returns-clause-same : goal.returns-clause-same
 returns-clause-same g c = (
   (c.leave-2.ensures.0 ∙ c.enter-held.ensures.0),
   refl,
-  same_rules c.args.pass.now.lane c.args.pass.now.seat.me c.enter-held.new.seat.me c.leave-2.new.seat.me c.enter-held.result.history.items _ c.args.pass.now.idle c.enter-held.ensures.1.1 c.leave-2.ensures.1,
+  same_basis c.args.pass.now.lane c.args.pass.now.seat.me c.enter-held.new.seat.me c.leave-2.new.seat.me c.enter-held.result.history.items _ c.args.pass.now.idle c.enter-held.ensures.1.1 c.leave-2.ensures.1,
 )
 
 pub follow-reply-requires-clause-good : goal.follow-reply-requires-clause-good
