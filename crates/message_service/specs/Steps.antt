@@ -1,5 +1,5 @@
 -- What the steps of such a program do.
-use Rattle.std.specs.Prelude.{◌≡◌, ℕ, List, [], ◌∷◌, ◌++◌, true, Option, Some, None, Result, Ok}
+use Rattle.std.specs.Prelude.{◌≡◌, ℕ, List, ◌∷◌, ◌++◌, true, Option, Some, None, Result, Ok}
 use Rattle.std.specs.Prelude.{Err}
 use Rattle.plain_values.specs.declared.no_memory.NoMemory.{NoMemory}
 use Rattle.outside.specs.Told.{SinkTold, ShopTold}

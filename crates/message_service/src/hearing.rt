@@ -1,8 +1,8 @@
 // What has come of the input, as messages.
-ghost use Rattle.std.specs.Prelude.{◌≡◌, ◌++◌, List, ℕ, IfOk};
+ghost use Rattle.std.specs.Prelude.{◌≡◌, ◌++◌, List, ℕ, IfOk, IfErr};
 ghost use Rattle.delimited_framing.specs.Splitter.{Held};
 ghost use Rattle.json_framing.specs.Cutter.{form_of, framing_of, held};
-ghost use Rattle.message_service.specs.Stream.{Heard, HeardAll};
+ghost use Rattle.message_service.specs.Stream.{Begins, Heard, HeardAll};
 
 use crate::Service;
 use delimited_framing::Next;
@@ -20,12 +20,40 @@ pub struct Come<M> {
     pub goes_on: bool,
 }
 
-/// Gives all messages that have come whole, up to what spells none.
+/// Hears one piece more of the input, and gives all messages that have come whole with it, up to what
+/// spells none.
 ///
 /// # Errors
 ///
-/// `NoMemory`.
-pub fn hear_all<S: Shop, V: Service<S>, R: Wait>(
+/// `NoMemory`. What was heard before the piece still begins the input.
+pub fn hear_piece<S: Shop, V: Service<S>, R: Wait>(
+    rt: &R,
+    alloc: Global,
+    service: &V,
+    cutter: &mut Cutter,
+    piece: &[u8],
+) -> Result<Come<V::Message>, NoMemory>
+    requires { framing_of cutter.old ≡ V.framing }
+    ensures framing { framing_of cutter.new ≡ V.framing }
+    ensures ok { IfOk result (λ come. (fed : List ℕ) (heard : List V.Message)
+        → Heard (form_of V.framing) V.spells fed heard (held cutter.old)
+        → HeardAll (form_of V.framing) V.spells come.goes_on (fed ++ piece.now)
+        (heard ++ come.messages.items) (held cutter.new)) }
+    ensures err { IfErr result (λ _. (fed : List ℕ) (heard : List V.Message)
+        → Heard (form_of V.framing) V.spells fed heard (held cutter.old)
+        → Begins (form_of V.framing) V.spells (fed ++ piece.now) heard) }
+{
+    let Ok(()) = cutter.feed(piece) else {
+        return Err(NoMemory);
+    };
+    match hear_all(rt, alloc, service, cutter) {
+        Ok(come) => Ok(come),
+        Err(NoMemory) => Err(NoMemory),
+    }
+}
+
+// Gives all messages that have come whole, up to what spells none.
+fn hear_all<S: Shop, V: Service<S>, R: Wait>(
     rt: &R,
     alloc: Global,
     service: &V,

@@ -2,7 +2,7 @@
 //!
 //! What kind of messages they are, and how each is answered, is a [`Service`]. [`serve`] does the
 //! rest: it reads whatever has come, deals with these messages one after another, and reads on, up
-//! to the end of the input. [`hear_all`] and [`answer_one`] are for those who read while messages
+//! to the end of the input. [`hear_piece`] and [`answer_one`] are for those who read while messages
 //! are dealt with.
 #![tactic(auto)]
 
@@ -14,6 +14,6 @@ mod serving;
 
 pub use answering::answer_one;
 pub use finish::Finish;
-pub use hearing::{Come, hear_all};
+pub use hearing::{Come, hear_piece};
 pub use service::Service;
 pub use serving::serve;

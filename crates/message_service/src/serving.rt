@@ -1,12 +1,13 @@
 // From the start of the input to its end.
-ghost use Rattle.std.specs.Prelude.{◌≡◌, ◌++◌, [], List, ℕ, IfErr};
-ghost use Rattle.json_framing.specs.Cutter.{form_of, framing_of, held};
-ghost use Rattle.message_service.specs.Stream.{Heard};
+ghost use Rattle.std.specs.Prelude.{◌++◌, [], List, ℕ, IfErr};
+ghost use Rattle.delimited_framing.specs.Splitter.{Held};
+ghost use Rattle.json_framing.specs.Cutter.{form_of};
+ghost use Rattle.message_service.specs.Stream.{HeardAll};
 ghost use Rattle.message_service.specs.Serves.{Serves};
 ghost use Rattle.message_service.specs.Steps.{Round, StopsReading};
 
 use crate::answering::answer_all;
-use crate::hearing::hear_all;
+use crate::hearing::{Come, hear_piece};
 use crate::{Finish, Service};
 use json_framing::Cutter;
 use outside::{Shop, Sink, Taken, Tap};
@@ -45,8 +46,11 @@ pub fn serve<T: Tap, O: Sink, S: Shop, V: Service<S>, R: Wait>(
     for _ in 0..READS {
         match input.read(&mut piece) {
             Taken::Bytes(count) => {
-                let round = round(rt, alloc, service, &mut cutter, &piece[..count], out, shop);
-                if let Err(finish) = round {
+                let come = match hear_piece(rt, alloc, service, &mut cutter, &piece[..count]) {
+                    Ok(come) => come,
+                    Err(NoMemory) => return Finish::NoMemory,
+                };
+                if let Err(finish) = round(alloc, service, &come, out, shop) {
                     return finish;
                 }
             }
@@ -57,37 +61,25 @@ pub fn serve<T: Tap, O: Sink, S: Shop, V: Service<S>, R: Wait>(
     Finish::TooLong
 }
 
-// Hears one piece more, and answers what has come with it.
-fn round<O: Sink, S: Shop, V: Service<S>, R: Wait>(
-    rt: &R,
+// Answers what has come with one piece more.
+fn round<O: Sink, S: Shop, V: Service<S>>(
     alloc: Global,
     service: &V,
-    cutter: &mut Cutter,
-    piece: &[u8],
+    come: &Come<V::Message>,
     out: &mut O,
     shop: &mut S,
 ) -> Result<(), Finish>
-    requires { framing_of cutter.old ≡ V.framing }
-    ensures framing { framing_of cutter.new ≡ V.framing }
-    ensures round { (fed : List ℕ) (heard : List V.Message)
-        → Heard (form_of V.framing) V.spells fed heard (held cutter.old)
-        → Round (form_of V.framing) V.spells V.answers result (fed ++ piece.now) heard
-        (held cutter.new) (O.told out.old) (O.told out.new) (S.told shop.old)
-        (S.told shop.new) }
+    ensures round { (fed : List ℕ) (heard : List V.Message) (s : Held)
+        → HeardAll (form_of V.framing) V.spells come.now.goes_on fed
+        (heard ++ come.now.messages.items) s
+        → Round (form_of V.framing) V.spells V.answers result fed heard s (O.told out.old)
+        (O.told out.new) (S.told shop.old) (S.told shop.new) }
     ensures err { IfErr result StopsReading }
 {
-    let Ok(()) = cutter.feed(piece) else {
-        return Err(Finish::NoMemory);
-    };
-    match hear_all(rt, alloc, service, cutter) {
-        Ok(come) => {
-            answer_all(alloc, service, &come.messages, out, shop)?;
-            if come.goes_on {
-                Ok(())
-            } else {
-                Err(Finish::BadInput)
-            }
-        }
-        Err(NoMemory) => Err(Finish::NoMemory),
+    answer_all(alloc, service, &come.messages, out, shop)?;
+    if come.goes_on {
+        Ok(())
+    } else {
+        Err(Finish::BadInput)
     }
 }

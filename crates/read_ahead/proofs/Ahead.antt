@@ -82,6 +82,12 @@ module _ {M : Type 0} where
   put_done more offered.Done s s' is h = h.0
   put_done more offered.Gone s s' is h = absurd (not_done is)
 
+  -- none of these does, where nobody takes them any more
+  pub put_gone : (more : List M) (o : Offered) (s s' : State M) → o ≡ offered.Gone
+      → HasPut more o s s' → put_in s' ≡ put_in s
+  put_gone more offered.Gone s s' is h = h.0.0
+  put_gone more offered.Done s s' is h = absurd (not_done (sym is))
+
   -- what it said stays said
   pub said_still : (why : Pause) (s s' : State M) → SaidBy why s → ReaderStands s s'
       → s'.left ≡ true → SaidBy why s'

@@ -8,7 +8,7 @@ ghost use Rattle.message_box.specs.Sides.{state_at};
 ghost use Rattle.read_ahead.specs.Reading.{finish_of};
 ghost use Rattle.read_ahead.specs.Working.{ToldBy, Refills, DealsFirst};
 
-use crate::backlog::Backlog;
+use crate::lanes::Hall;
 use lane_bells::Bells;
 use lane_crew::Caller;
 use message_box::{Mailbox, Stop, Took, take, take_waiting};
@@ -22,16 +22,13 @@ use std::sync::Wait;
 /// sight that had been put in by its turn. It answers with the cause of its end.
 pub(crate) fn work<O: Sink, S: Shop, V: Service<S>, R: Wait>(
     rt: &R,
-    alloc: Global,
-    service: &V,
-    bells: &Bells,
-    backlog: &Backlog,
+    hall: &Hall<'_, V>,
     caller: &mut Caller<Mailbox<V::Message>>,
     out: &mut O,
     shop: &mut S,
 ) -> Finish
     requires lane { caller.old.pass.lane ≡ taker }
-    requires bell { taker < bells.now }
+    requires bell { taker < hall.now.bells.now }
     requires fresh { state_at caller.old.pass ≡ first }
     ensures same { IsSamePass caller.old.pass caller.new.pass }
     ensures here { (state_at caller.new.pass).left ≡ false }
@@ -39,16 +36,16 @@ pub(crate) fn work<O: Sink, S: Shop, V: Service<S>, R: Wait>(
     ensures answered { Answered V.answers (Some result) [] (state_at caller.new.pass).taken
         (O.told out.old) (O.told out.new) (S.told shop.old) (S.told shop.new) }
 {
-    let mut queue = Vec::new(alloc);
+    let mut queue = Vec::new(hall.alloc);
     for _ in rt.forever() {
-        if let Err(finish) = refill(rt, alloc, bells, caller, &mut queue) {
+        if let Err(finish) = refill(rt, hall.alloc, hall.bells, caller, &mut queue) {
             return finish;
         }
-        backlog.note(bells, queue.len());
+        hall.backlog.note(hall.bells, queue.len());
         if queue.is_empty() {
             continue;
         }
-        if let Err(finish) = answer_first(alloc, service, &mut queue, out, shop) {
+        if let Err(finish) = answer_first(hall.alloc, hall.service, &mut queue, out, shop) {
             return finish;
         }
     }

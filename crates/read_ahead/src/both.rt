@@ -39,6 +39,12 @@ pub(crate) trait Works<O, S, C> {
         ensures { has_worked caller.old out.old shop.old result caller.new out.new shop.new };
 }
 
+/// By whom the reader and the worker call their machine.
+pub(crate) struct Callers<C> {
+    pub(crate) reading: C,
+    pub(crate) working: C,
+}
+
 /// Lets both do their part at once, the reader on a thread of its own, and returns once both have
 /// ended.
 pub(crate) fn run_both<
@@ -51,19 +57,20 @@ pub(crate) fn run_both<
 >(
     rt: &R,
     hall: &H,
-    reading: &mut C,
+    callers: &mut Callers<C>,
     input: &mut T,
-    working: &mut C,
     out: &mut O,
     shop: &mut S,
 ) -> (H::Pause, H::Finish)
 where
     H::Pause: Send,
-    requires { H.can_read hall.now reading.old × H.can_work hall.now working.old }
-    ensures read { H.has_read reading.old input.old result.0 reading.new input.new }
-    ensures worked { H.has_worked working.old out.old shop.old result.1 working.new out.new
-        shop.new }
+    requires read { H.can_read hall.now callers.old.reading }
+    requires work { H.can_work hall.now callers.old.working }
+    ensures read { H.has_read callers.old.reading input.old result.0 callers.new.reading input.new }
+    ensures worked { H.has_worked callers.old.working out.old shop.old result.1
+        callers.new.working out.new shop.new }
 {
+    let Callers { reading, working } = callers;
     join_mut(
         rt,
         &mut || -> H::Pause

@@ -51,15 +51,7 @@ impl<'a, T: Tap, S: Shop, V: Service<S>> Reads<T, S, Caller<'a, Mailbox<V::Messa
         if !self.start.begin(rt, self.bells) {
             return stay_out::<S, V, R>(rt, self.bells, caller);
         }
-        read_lane(
-            rt,
-            self.alloc,
-            self.service,
-            self.bells,
-            self.backlog,
-            caller,
-            input,
-        )
+        read_lane(rt, self, caller, input)
     }
 }
 
@@ -85,16 +77,7 @@ impl<'a, O: Sink, S: Shop, V: Service<S>> Works<O, S, Caller<'a, Mailbox<V::Mess
         if !self.start.await_reader(rt, self.bells) {
             return call_off::<S, V, R>(rt, caller);
         }
-        work_lane(
-            rt,
-            self.alloc,
-            self.service,
-            self.bells,
-            self.backlog,
-            caller,
-            out,
-            shop,
-        )
+        work_lane(rt, self, caller, out, shop)
     }
 }
 
@@ -134,23 +117,20 @@ fn call_off<S: Shop, V: Service<S>, R: Wait>(
 // The reader's lane: it reads, says how it has stopped, and waits until the taker has left.
 fn read_lane<T: Tap, S: Shop, V: Service<S>, R: Wait>(
     rt: &R,
-    alloc: Global,
-    service: &V,
-    bells: &Bells,
-    backlog: &Backlog,
+    hall: &Hall<'_, V>,
     caller: &mut Caller<Mailbox<V::Message>>,
     input: &mut T,
 ) -> Pause
     requires lane { caller.old.pass.lane ≡ reader }
-    requires bell { reader < bells.now }
+    requires bell { reader < hall.now.bells.now }
     requires fresh { state_at caller.old.pass ≡ first }
     ensures same { IsSamePass caller.old.pass caller.new.pass }
     ensures leaves { ReaderLeaves (form_of V.framing) V.spells result (state_at caller.new.pass)
         (T.told input.old) (T.told input.new) }
 {
-    let pause = read_all(rt, alloc, service, bells, backlog, caller, input);
+    let pause = read_all(rt, hall, caller, input);
     say_end(rt, caller, pause);
-    await_leave(rt, bells, caller);
+    await_leave(rt, hall.bells, caller);
     pause
 }
 
@@ -170,22 +150,19 @@ fn say_end<X: Drop, R: Wait>(rt: &R, caller: &mut Caller<Mailbox<X>>, pause: Pau
 // The worker's lane: it works, and leaves.
 fn work_lane<O: Sink, S: Shop, V: Service<S>, R: Wait>(
     rt: &R,
-    alloc: Global,
-    service: &V,
-    bells: &Bells,
-    backlog: &Backlog,
+    hall: &Hall<'_, V>,
     caller: &mut Caller<Mailbox<V::Message>>,
     out: &mut O,
     shop: &mut S,
 ) -> Finish
     requires lane { caller.old.pass.lane ≡ taker }
-    requires bell { taker < bells.now }
+    requires bell { taker < hall.now.bells.now }
     requires fresh { state_at caller.old.pass ≡ first }
     ensures same { IsSamePass caller.old.pass caller.new.pass }
     ensures leaves { WorkerLeaves V.answers result (state_at caller.new.pass) (O.told out.old)
         (O.told out.new) (S.told shop.old) (S.told shop.new) }
 {
-    let finish = work(rt, alloc, service, bells, backlog, caller, out, shop);
+    let finish = work(rt, hall, caller, out, shop);
     leave(rt, caller);
     finish
 }

@@ -7,12 +7,11 @@ ghost use Rattle.message_box.specs.States.{reader, put_in, first};
 ghost use Rattle.message_box.specs.Sides.{state_at, ReaderStands};
 ghost use Rattle.read_ahead.specs.Reading.{HasRead, HandsOn, BreaksOff};
 
-use crate::backlog::Backlog;
+use crate::lanes::Hall;
 use json_framing::Cutter;
-use lane_bells::Bells;
 use lane_crew::Caller;
 use message_box::{Mailbox, Offered, READER, Stop, await_room, put};
-use message_service::{Service, hear_all};
+use message_service::{Service, hear_piece};
 use outside::{Shop, Taken, Tap};
 use plain_values::NoMemory;
 use std::alloc::Global;
@@ -40,30 +39,27 @@ pub(crate) enum Pause {
 /// the input or to what spells no message, or until nobody takes them any more.
 pub(crate) fn read_all<T: Tap, S: Shop, V: Service<S>, R: Wait>(
     rt: &R,
-    alloc: Global,
-    service: &V,
-    bells: &Bells,
-    backlog: &Backlog,
+    hall: &Hall<'_, V>,
     caller: &mut Caller<Mailbox<V::Message>>,
     input: &mut T,
 ) -> Pause
     requires lane { caller.old.pass.lane ≡ reader }
-    requires bell { reader < bells.now }
+    requires bell { reader < hall.now.bells.now }
     requires fresh { state_at caller.old.pass ≡ first }
     ensures same { IsSamePass caller.old.pass caller.new.pass }
     ensures open { (state_at caller.new.pass).stop ≡ None }
     ensures read { HasRead (form_of V.framing) V.spells result
         (put_in (state_at caller.new.pass)) (T.told input.old) (T.told input.new) }
 {
-    let mut cutter = Cutter::new(alloc, service.framing(), LARGEST);
+    let mut cutter = Cutter::new(hall.alloc, hall.service.framing(), LARGEST);
     let mut piece = [0u8; PIECE];
     for _ in 0..READS {
-        if let Offered::Gone = await_ease(rt, bells, backlog, caller) {
+        if let Offered::Gone = await_ease(rt, hall, caller) {
             return Pause::Gone;
         }
         match input.read(&mut piece) {
             Taken::Bytes(count) => {
-                let handed = hand_on(rt, alloc, service, &mut cutter, caller, &piece[..count]);
+                let handed = hand_on(rt, hall, &mut cutter, caller, &piece[..count]);
                 if let Err(pause) = handed {
                     return pause;
                 }
@@ -77,20 +73,19 @@ pub(crate) fn read_all<T: Tap, S: Shop, V: Service<S>, R: Wait>(
 
 // Waits until there is room for more and not much is to be done, or nobody takes any more what is
 // read.
-fn await_ease<X: Drop, R: Wait>(
+fn await_ease<V, X: Drop, R: Wait>(
     rt: &R,
-    bells: &Bells,
-    backlog: &Backlog,
+    hall: &Hall<'_, V>,
     caller: &mut Caller<Mailbox<X>>,
 ) -> Offered
     requires lane { caller.old.pass.lane ≡ reader }
-    requires bell { reader < bells.now }
+    requires bell { reader < hall.now.bells.now }
     ensures same { IsSamePass caller.old.pass caller.new.pass }
     ensures stands { ReaderStands (state_at caller.old.pass) (state_at caller.new.pass) }
 {
     for _ in rt.forever() {
-        match await_room(rt, bells, caller) {
-            Offered::Done if backlog.is_long() => bells.rest(rt, READER),
+        match await_room(rt, hall.bells, caller) {
+            Offered::Done if hall.backlog.is_long() => hall.bells.rest(rt, READER),
             offered => return offered,
         }
     }
@@ -100,8 +95,7 @@ fn await_ease<X: Drop, R: Wait>(
 // Hears one piece more, and puts in the messages that have come with it.
 fn hand_on<S: Shop, V: Service<S>, R: Wait>(
     rt: &R,
-    alloc: Global,
-    service: &V,
+    hall: &Hall<'_, V>,
     cutter: &mut Cutter,
     caller: &mut Caller<Mailbox<V::Message>>,
     piece: &[u8],
@@ -119,11 +113,9 @@ fn hand_on<S: Shop, V: Service<S>, R: Wait>(
         (put_in (state_at caller.new.pass)) (held cutter.new) }
     ensures err { IfErr result BreaksOff }
 {
-    let Ok(()) = cutter.feed(piece) else {
-        return Err(Pause::Stopped(Stop::NoMemory));
-    };
-    let Ok(come) = hear_all(rt, alloc, service, cutter) else {
-        return Err(Pause::Stopped(Stop::NoMemory));
+    let come = match hear_piece(rt, hall.alloc, hall.service, cutter, piece) {
+        Ok(come) => come,
+        Err(NoMemory) => return Err(Pause::Stopped(Stop::NoMemory)),
     };
     let goes_on = come.goes_on;
     match put(rt, caller, come.messages) {

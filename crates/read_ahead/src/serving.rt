@@ -7,7 +7,7 @@ ghost use Rattle.json_framing.specs.Cutter.{form_of};
 ghost use Rattle.message_service.specs.Serves.{Serves};
 
 use crate::backlog::Backlog;
-use crate::both::run_both;
+use crate::both::{Callers, run_both};
 use crate::lanes::Hall;
 use crate::start::Start;
 use lane_bells::Bells;
@@ -62,9 +62,12 @@ where
         backlog: &backlog,
         start: &start,
     };
-    let mut reading = Caller::new(&desk, &bells, reading, READER);
-    let mut working = Caller::new(&desk, &bells, taking, TAKER);
-    let (_, finish) = run_both(rt, &hall, &mut reading, input, &mut working, out, shop);
+    let mut callers = Callers {
+        reading: Caller::new(&desk, &bells, reading, READER),
+        working: Caller::new(&desk, &bells, taking, TAKER),
+    };
+    let (_, finish) = run_both(rt, &hall, &mut callers, input, out, shop);
+    let Callers { reading, working } = callers;
     let reading = reading.into_pass();
     let working = working.into_pass();
     settle(rt, desk, root, reading, working);

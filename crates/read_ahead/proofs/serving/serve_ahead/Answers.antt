@@ -34,7 +34,7 @@ returns g c =
     } in
     serves_so g.V.Service.framing g.V.Service.spells g.V.Service.answers
     c.run_both-finish.result.1 c.run_both-finish.result.0
-    (state_at c.run_both-finish.new.reading.pass) (state_at c.run_both-finish.new.working.pass)
+    (state_at c.run_both-finish.new.callers.reading.pass) (state_at c.run_both-finish.new.callers.working.pass)
     old new
     (ap state_at (sym c.into_pass-reading.ensures) ∙ c.settle.ensures
     ∙ ap state_at c.into_pass-working.ensures)
