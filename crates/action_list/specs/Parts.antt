@@ -45,17 +45,17 @@ abbrev pub user_part : List (List ℕ) → Option ListAction → GroupPart
 user_part extra None = unused_part
 user_part extra (Some x) = worker_part extra x
 
-abbrev pub part_of : List ListAction → List PlanAction → List (List ℕ) → List ℕ → ℕ → Group
-    → GroupPart
-part_of xs ys extra executor number group =
-    if is_remote group.kind then executor_part executor else user_part extra (user_of xs ys number)
+-- the part of a group, by the first action that uses it
+abbrev pub part_of : Group → Option ListAction → List (List ℕ) → List ℕ → GroupPart
+part_of group user extra executor =
+    if is_remote group.kind then executor_part executor else user_part extra user
 
 -- the parts of the groups from this number on
 abbrev pub parts_from : List ListAction → List PlanAction → List (List ℕ) → List ℕ → ℕ → List Group
     → List GroupPart
 parts_from xs ys extra executor number [] = []
 parts_from xs ys extra executor number (g ∷ gs) =
-    part_of xs ys extra executor number g ∷ parts_from xs ys extra executor (number + 1) gs
+    part_of g (user_of xs ys number) extra executor ∷ parts_from xs ys extra executor (number + 1) gs
 
 abbrev pub parts_of : List ListAction → Plan → List (List ℕ) → List ℕ → List GroupPart
 parts_of xs p extra executor = parts_from xs p.actions extra executor 0 p.groups

@@ -42,36 +42,28 @@ pub fn group_parts(
     let mut parts = Vec::new(alloc);
     let mut number = 0;
     for group in plan.groups.as_slice() {
-        parts.push(part_of(
-            alloc,
-            list.actions.as_slice(),
-            plan.actions.as_slice(),
-            extra,
-            executor,
-            number,
-            group,
-        )?)?;
+        let user = user_of(list.actions.as_slice(), plan.actions.as_slice(), number);
+        parts.push(part_of(alloc, group, user, extra, executor)?)?;
         number += 1;
     }
     Ok(parts)
 }
 
+// The part of a group that this action is the first to use.
 fn part_of(
     alloc: Global,
-    actions: &[ListAction],
-    planned: &[PlanAction],
+    group: &Group,
+    user: Option<&ListAction>,
     extra: &[Text],
     executor: &str,
-    number: u32,
-    group: &Group,
 ) -> Result<GroupPart, NoMemory>
     ensures { IfOk result
-        (λ p. p ≡ part_of actions.now planned.now extra.now executor.now number group.now) }
+        (λ p. p ≡ part_of group.now (option_copied user.entry) extra.now executor.now) }
 {
     if is_remote(group.kind) {
         return executor_part(alloc, executor);
     }
-    match user_of(actions, planned, number) {
+    match user {
         None => Ok(unused_part(alloc)),
         Some(action) => worker_part(alloc, extra, action),
     }
