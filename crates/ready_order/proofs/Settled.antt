@@ -1,5 +1,5 @@
 -- What a settled action leaves of what is noted: its users' producers have another success than before.
-use Rattle.std.proofs.Common.{◌≡◌, ℕ, ◌<◌, ◌≢◌, Bool, true, false, not, cond, List, [], length, get_or, Option, Some, None, option_map, inl, inr, refl, ap, sym, subst, ◌∙◌, arith}
+use Rattle.std.proofs.Common.{◌≡◌, ℕ, zero, suc, ◌<◌, ◌≢◌, Bool, true, false, not, cond, List, [], ◌∷◌, length, get_or, Option, Some, None, option_map, inl, inr, refl, ap, sym, subst, ◌∙◌, arith}
 use Rattle.std.specs.Prelude.{slice_get}
 use Rattle.std.specs.Bool.{beq}
 use Rattle.std.proofs.lemmas.Bool.{cases_eq}
@@ -11,7 +11,7 @@ use Rattle.list_lemmas.specs.Places.{update}
 use Rattle.ready_order.specs.declared.ActionState.{ActionState}
 use Rattle.ready_order.specs.Facts.{Facts}
 use Rattle.ready_order.specs.Queue.{has_success, settled_state}
-use Rattle.ready_order.specs.Board.{AreKnown, Fits, IsNoted, RightAt, SameOf, Shape, is_in, shape_of, shapes}
+use Rattle.ready_order.specs.Board.{AreKnown, Fits, IsNoted, RightAt, SameOf, Shape, affected, is_in, shape_of, shapes}
 use Rattle.ready_order.proofs.Fronts.{front_same, front_more}
 use Rattle.ready_order.proofs.Told.{right_known, same_right, same_supplied}
 use Rattle.ready_order.proofs.States.{shapes_kept, update_beside, update_here, right_kept}
@@ -27,6 +27,12 @@ settled_success : (s : Bool) (x : ActionState) → is_success (option_map (λ y.
     (settled_state s) (Some x))) ≡ s
 settled_success true x = refl
 settled_success false x = refl
+
+settled_at : (s : Bool) (states : List ActionState) (a : ℕ) → a < length states
+    → is_success (option_map (λ y. y.own) (option_map (settled_state s) (slice_get states a))) ≡ s
+settled_at s [] a lt = absurd (omega arith)
+settled_at s (x ∷ xs) zero lt = settled_success s x
+settled_at s (x ∷ xs) (suc a) lt = settled_at s xs a (omega arith)
 
 -- whose state it was before
 origin : (g : ActionState → ActionState) → ((x : ActionState) → shape_of (g x) ≡ shape_of x)
@@ -52,20 +58,21 @@ origin g same states a c y here = by (slice_get states c) refl
         (x, e, sym (ap (λ s. s.producers) k))
 
 module _ (s : Bool) (states : List ActionState) (users : List (List ℕ)) (f : Facts) (a : ℕ)
-    (n : IsNoted states users f) (x : ActionState) (here : slice_get states a ≡ Some x)
-    (us : List ℕ)
-    (are : us ≡ cond (not (beq (has_success states a) s)) (get_or users a []) []) where
+    (n : IsNoted states users f) (lt : a < length states) (before : List ActionState)
+    (seen : before ≡ states) (us : List ℕ) (are : us ≡ affected before users a s) where
   abbrev now : List ActionState
   now = update (settled_state s) states a
+
+  affects : us ≡ affected states users a s
+  affects = are ∙ ap (λ (ss : List ActionState). affected ss users a s) seen
 
   kept : (y : ActionState) → shape_of (settled_state s y) ≡ shape_of y
   kept y = refl
 
   success_here : has_success now a ≡ s
   success_here =
-      ap (λ o. is_success (option_map (λ y. y.own) o)) (update_here (settled_state s) states a ∙ ap
-      (option_map (settled_state s)) here)
-      ∙ settled_success s x
+      ap (λ o. is_success (option_map (λ y. y.own) o)) (update_here (settled_state s) states a)
+      ∙ settled_at s states a lt
 
   success_beside : (q : ℕ) → q ≢ a → has_success now q ≡ has_success states q
   success_beside q apart =
@@ -80,7 +87,8 @@ module _ (s : Bool) (states : List ActionState) (users : List (List ℕ)) (f : F
       rw (length_update (settled_state s) states a)
       (by_bool (beq (has_success states a) s)
       (λ b. is_in c (cond (not b) (get_or users a []) []) ≡ true → c < length states)
-      (λ same none. absurd (cc)) (λ other hit. n.linked.known a c hit) (sym (ap (is_in c) are) ∙ m))
+      (λ same none. absurd (cc)) (λ other hit. n.linked.known a c hit)
+      (sym (ap (is_in c) affects) ∙ m))
 
   -- an action that isn't followed has the same producers with success
   unaffected : (c : ℕ) (y : ActionState) → slice_get states c ≡ Some y → is_in c us ≡ false →
@@ -98,12 +106,11 @@ module _ (s : Bool) (states : List ActionState) (users : List (List ℕ)) (f : F
             let shape : slice_get (shapes states) c ≡ Some (shape_of y) =
             slice_get-map shape_of states c ∙ ap (option_map shape_of) at in
             let size = length-map states shape_of in
-            let low = slice_get_within states a x here in
             let m' : is_in a y.producers ≡ true = rw same at m in
             let hit = n.linked.among a c (shape_of y) (slice_get_within states c y at) shape
             (omega arith) m' in
             absurd (cc))
-            refl (sym (ap (is_in c) are) ∙ out))
+            refl (sym (ap (is_in c) affects) ∙ out))
         | inr apart ↦ success_beside q apart
       ]
 

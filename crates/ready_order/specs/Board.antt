@@ -1,5 +1,6 @@
 -- When what is noted beside the states is right.
-use Rattle.std.specs.Prelude.{◌≡◌, ℕ, ◌==◌, ◌<◌, ◌≤◌, ◌^◌, Bool, true, false, ◌&&◌, ◌||◌, is_some, unwrap_or, option_map, option_and_then, Option, Some, None, if◌then◌else◌, List, [], length, map, slice_get, slice_set, get_or}
+use Rattle.std.specs.Prelude.{◌≡◌, ℕ, ◌==◌, ◌<◌, ◌≤◌, ◌^◌, Bool, true, false, ◌&&◌, ◌||◌, not, is_some, unwrap_or, option_map, option_and_then, Option, Some, None, if◌then◌else◌, List, [], length, map, slice_get, slice_set, get_or}
+use Rattle.std.specs.Bool.{beq}
 use Rattle.std.specs.List.{list_any, prefix_len}
 use Rattle.run_plan.specs.declared.plan.Branch.{Branch}
 use Rattle.run_plan.specs.declared.plan.Branch.TheVariants.{Local, Remote}
@@ -45,6 +46,11 @@ pub record IsAdded (producers : List ℕ) (user : ℕ) (old new : List (List ℕ
       → is_in c (get_or new a []) ≡ (is_in c (get_or old a []) || (is_in a producers && user == c))
 
 -- ---- what changes
+
+-- the users of an action that is to have this success, where it has had another
+abbrev pub affected : List ActionState → List (List ℕ) → ℕ → Bool → List ℕ
+affected states users a success =
+    if not (beq (has_success states a) success) then get_or users a [] else []
 
 -- how many of the producers, from the first on, have success
 abbrev pub supplied_by : List ActionState → List ℕ → ℕ

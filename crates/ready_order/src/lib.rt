@@ -2,8 +2,10 @@
 #![tactic(auto)]
 
 ghost use Rattle.std.specs.Prelude.{◌≡◌, ◌<◌, ◌≤◌, ◌^◌, ◌&&◌, not, true, IfOk, if◌then◌else◌, [], length};
+ghost use Rattle.exec_journal.specs.declared.ends.Standing.TheVariants.{Succeeded, Unsuccessful};
 ghost use Rattle.exec_journal.specs.Settled.{is_settled};
-ghost use Rattle.ready_order.specs.Queue.{earliest_in, none_waits, new_standing, new_state, new_states, is_of, is_open, has_success, IsEarliest, state_with, with_taken, with_again, with_unwanted, with_settled};
+ghost use Rattle.list_lemmas.specs.Places.{update};
+ghost use Rattle.ready_order.specs.Queue.{earliest_in, granted_state, none_waits, new_standing, new_state, new_states, is_of, is_open, has_success, IsEarliest, settled_state, state_with, with_taken, with_again, with_unwanted, with_settled};
 ghost use Rattle.ready_order.specs.Board.{queued_if};
 ghost use Rattle.ready_order.specs.Stands.{Stands};
 
@@ -104,14 +106,10 @@ impl Ready {
         ensures { self.new ≡ with_settled self.old action success }
     {
         let number = action as usize;
-        let had_success = has_success(self.actions.as_slice(), action);
-        let state = &mut self.actions[number];
-        state.own = if success {
-            Standing::Succeeded
-        } else {
-            Standing::Unsuccessful
-        };
-        let users = all_or_none(self.users.of_action(number), had_success != success);
+        let users = self
+            .users
+            .affected(self.actions.as_slice(), action, success);
+        self.actions[number].settle(success);
         self.board.follow(self.actions.as_slice(), users, success);
         self.board.refresh(self.actions.as_slice(), number);
         self.notes.settled(action, success);
@@ -143,10 +141,7 @@ impl Ready {
         requires { action < length self.old }
         ensures { self.new ≡ with_taken self.old action branch }
     {
-        let number = action as usize;
-        let state = &mut self.actions[number];
-        state.set_free(branch, false);
-        self.board.refresh(self.actions.as_slice(), number);
+        self.set_free(action, branch, false);
         self.notes.began(action, branch);
     }
 
@@ -155,10 +150,7 @@ impl Ready {
         requires { action < length self.old }
         ensures { self.new ≡ with_again self.old action branch }
     {
-        let number = action as usize;
-        let state = &mut self.actions[number];
-        state.set_free(branch, true);
-        self.board.refresh(self.actions.as_slice(), number);
+        self.set_free(action, branch, true);
         self.notes.ended(action, branch);
     }
 
@@ -173,8 +165,17 @@ impl Ready {
         ensures { self.new ≡ with_unwanted self.old action }
     {
         let number = action as usize;
-        let state = &mut self.actions[number];
-        state.granted = true;
+        self.actions[number].grant();
+        self.board.refresh(self.actions.as_slice(), number);
+    }
+
+    // Notes whether the branch may begin an attempt.
+    fn set_free(&mut self, action: u32, branch: Branch, free: bool)
+        requires { action < length self.old }
+        ensures { self.new ≡ update (state_with branch free) self.old action }
+    {
+        let number = action as usize;
+        self.actions[number].set_free(branch, free);
         self.board.refresh(self.actions.as_slice(), number);
     }
 }
@@ -218,6 +219,18 @@ impl ActionState {
             Branch::Local => self.local.free = free,
             Branch::Remote => self.remote.free = free,
         }
+    }
+
+    fn grant(&mut self)
+        ensures { self.new ≡ granted_state self.old }
+    {
+        self.granted = true;
+    }
+
+    fn settle(&mut self, success: bool)
+        ensures { self.new ≡ settled_state success self.old }
+    {
+        self.own = standing_by(success);
     }
 
     // The branch of the action that is queued in the group, where its producers are ready: the local one, where both are.
@@ -264,11 +277,14 @@ fn standing_at_start(work: &PlanAction) -> Standing
     }
 }
 
-// The users, where what they take has changed.
-fn all_or_none(users: &[u32], changed: bool) -> &[u32]
-    ensures { result.now ≡ (if changed then users.now else []) }
+fn standing_by(success: bool) -> Standing
+    ensures { result ≡ (if success then Succeeded else Unsuccessful) }
 {
-    if changed { users } else { &[] }
+    if success {
+        Standing::Succeeded
+    } else {
+        Standing::Unsuccessful
+    }
 }
 
 fn has_success(actions: &[ActionState], action: u32) -> bool

@@ -1,8 +1,8 @@
 // Which actions take an input from an action.
 ghost use Rattle.std.specs.Prelude.{◌≡◌, ◌<◌, ◌≤◌, ◌^◌, IfOk, length, map, replicate, slice_index_or, []};
-ghost use Rattle.ready_order.specs.Board.{AreUsers, IsAdded, shapes};
+ghost use Rattle.ready_order.specs.Board.{affected, AreUsers, IsAdded, shapes};
 
-use crate::ActionState;
+use crate::{ActionState, has_success};
 use plain_values::NoMemory;
 use std::alloc::Global;
 use std::marker::Model;
@@ -38,6 +38,18 @@ impl Users {
         ensures { result.now ≡ slice_index_or self.now number [] }
     {
         self.lists[number].as_slice()
+    }
+
+    // The users of the action, where it has had another success: what they take is about to change.
+    pub fn affected(&self, actions: &[ActionState], action: u32, success: bool) -> &[u32]
+        requires { action < length self.now }
+        ensures { result.now ≡ affected actions.now self.now action success }
+    {
+        if has_success(actions, action) != success {
+            self.of_action(action as usize)
+        } else {
+            &[]
+        }
     }
 }
 

@@ -7,7 +7,9 @@ use Rattle.message_service.specs.declared.finish.Finish.TheVariants as finish
 use Rattle.work_queue.specs.declared.queue.How.{How}
 use Rattle.work_queue.specs.declared.queue.How.TheVariants as how
 use Rattle.work_lanes.specs.declared.reading.Reader.{Reader}
+use Rattle.work_lanes.specs.declared.reading.ReaderLeft.{ReaderLeft}
 use Rattle.work_lanes.specs.declared.handling.Hands.{Hands}
+use Rattle.work_lanes.specs.declared.handling.HandsLeft.{HandsLeft}
 
 abbrev pub finish_by : How → Finish → Finish
 finish_by how.Failed f = finish.OutputFault
@@ -27,3 +29,12 @@ module _ {T H : Type 0} where
   AreLanes input n [] = ⊥
   AreLanes input n (First r ∷ lanes) = (r.input ≡ input) × AreHands 1 n lanes
   AreLanes input n (Second h ∷ lanes) = ⊥
+
+module _ {T : Type 0} where
+  -- the reader's end stands first, and the reader has left this
+  abbrev pub IsReaderFirst : ReaderLeft T → List (OfTwo (ReaderLeft T) HandsLeft) → Type 0
+  IsReaderFirst left ends =
+      (rest : List (OfTwo (ReaderLeft T) HandsLeft)) × (ends ≡ First left ∷ rest)
+
+  abbrev pub HasReaderFirst : List (OfTwo (ReaderLeft T) HandsLeft) → Type 0
+  HasReaderFirst ends = (left : ReaderLeft T) × IsReaderFirst left ends

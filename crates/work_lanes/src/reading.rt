@@ -142,6 +142,27 @@ fn hand_on<O: Sink, X: Drop, Y: Drop, H: Answerer<X, Y>, R: Wait>(
     let Ok(()) = cutter.feed(piece) else {
         return Err(Finish::NoMemory);
     };
+    hear_all(rt, alloc, caller, cutter)
+}
+
+// Lets the queue hear the requests that have come whole.
+fn hear_all<O: Sink, X: Drop, Y: Drop, H: Answerer<X, Y>, R: Wait>(
+    rt: &R,
+    alloc: Global,
+    caller: &mut Caller<WorkQueue<O, X, Y, H>>,
+    cutter: &mut Cutter,
+) -> Result<(), Finish>
+    requires lane { caller.old.pass.lane ≡ reader }
+    requires framing { framing_of cutter.old ≡ H.framing }
+    ensures framing { framing_of cutter.new ≡ H.framing }
+    ensures same { IsSamePass caller.old.pass caller.new.pass }
+    ensures hands { (fed : List ℕ)
+        → Heard (form_of H.framing) H.spells fed (heard_at H.number H.cancels caller.old.pass)
+        (held cutter.old)
+        → HandsOn (form_of H.framing) H.spells result fed
+        (heard_at H.number H.cancels caller.new.pass) (held cutter.new) }
+    ensures err { IfErr result BreaksOff }
+{
     for _ in rt.forever() {
         match next_request::<X, Y, H>(alloc, cutter) {
             Ok(Come::Request(request)) => {

@@ -2,10 +2,10 @@
 ghost use Rattle.std.specs.Prelude.{◌≡◌, ◌<◌, [], length, IfOk};
 ghost use Rattle.json_framing.specs.Cutter.{form_of};
 ghost use Rattle.work_lanes.specs.Serves.{AreHandlers, IsDepth, Serves, told_by};
-ghost use Rattle.work_lanes.specs.Crews.{AreLanes, finish_by};
+ghost use Rattle.work_lanes.specs.Crews.{AreLanes, HasReaderFirst, IsReaderFirst, finish_by};
 
 use crate::answerer::Answerer;
-use crate::handling::Hands;
+use crate::handling::{Hands, HandsLeft};
 use crate::reading::{Reader, ReaderLeft};
 use lane_crew::{Crew, OfTwo, run_crew};
 use message_service::Finish;
@@ -77,14 +77,24 @@ pub fn run_lanes<
         history: _,
         ends,
     } = crew;
+    let ReaderLeft { input, finish } = reader_left(ends);
+    let (sink, how) = machine.into_end();
+    let finish = finish_by(how, finish);
+    let tap = input;
+    Ok(LanesEnded { finish, tap, sink })
+}
+
+/// What the lane that reads ends with, or one that answers.
+type WorkEnd<T> = OfTwo<ReaderLeft<T>, HandsLeft>;
+
+// What the reader's lane has left: it is the first of all.
+fn reader_left<T: Drop>(ends: Vec<WorkEnd<T>>) -> ReaderLeft<T>
+    requires { HasReaderFirst ends.items }
+    ensures { IsReaderFirst result ends.items }
+{
     let mut ends = ends;
     match ends.remove(0) {
-        OfTwo::First(ReaderLeft { input, finish }) => {
-            let (sink, how) = machine.into_end();
-            let finish = finish_by(how, finish);
-            let tap = input;
-            Ok(LanesEnded { finish, tap, sink })
-        }
+        OfTwo::First(left) => left,
         OfTwo::Second(_) => unreachable!(),
     }
 }

@@ -8,46 +8,37 @@ use Rattle.ready_order.proofs.Ready.unwanted.Goals as goal
 
 pub refresh-requires-clause-fits : goal.refresh-requires-clause-fits
 refresh-requires-clause-fits c =
-    let states = c.self.inside.actions.items in
-    let a = c.args.action in
-    let g = granted_state in
-    let x = c.index_mut-state.result.now in
-    let lt : a < length states = rw c.self.view_is c.requires in
-    let is = written g states states a x _ refl lt c.index_mut-state.ensures.value refl in
+    let lt : c.args.action < length c.self.inside.actions.items = rw c.self.view_is c.requires in
+    let is = written granted_state _ _ c.args.action c.index_mut.result.now _ refl lt
+    c.index_mut.ensures.value c.grant.ensures in
     rw (c.as_slice.ensures.value, is)
-    (fits_kept g (λ y. refl)
-    (λ y. refl) states c.self.inside.users c.self.inside.board a c.self.invariant)
+    (fits_kept granted_state (λ y. refl) (λ y. refl) c.self.inside.actions.items
+    c.self.inside.users c.self.inside.board c.args.action c.self.invariant)
 
 pub refresh-requires-clause-low : goal.refresh-requires-clause-low
 refresh-requires-clause-low c =
-    let states = c.self.inside.actions.items in
-    let a = c.args.action in
-    let g = granted_state in
-    let x = c.index_mut-state.result.now in
-    let lt : a < length states = rw c.self.view_is c.requires in
-    let is = written g states states a x _ refl lt c.index_mut-state.ensures.value refl in
+    let lt : c.args.action < length c.self.inside.actions.items = rw c.self.view_is c.requires in
+    let is = written granted_state _ _ c.args.action c.index_mut.result.now _ refl lt
+    c.index_mut.ensures.value c.grant.ensures in
     rw (c.as_slice.ensures.value, is)
-    (known_kept g (λ y. refl)
-    (λ y. refl) states c.self.inside.users c.self.inside.board a c.self.invariant)
+    (known_kept granted_state (λ y. refl) (λ y. refl) c.self.inside.actions.items
+    c.self.inside.users c.self.inside.board c.args.action c.self.invariant)
 
 pub invariant_of-self : goal.invariant_of-self
 invariant_of-self c =
-    let states = c.self.inside.actions.items in
-    let a = c.args.action in
-    let g = granted_state in
-    let x = c.index_mut-state.result.now in
-    let lt : a < length states = rw c.self.view_is c.requires in
-    let is = written g states states a x _ refl lt c.index_mut-state.ensures.value refl in
+    let lt : c.args.action < length c.self.inside.actions.items = rw c.self.view_is c.requires in
+    let is = written granted_state _ _ c.args.action c.index_mut.result.now _ refl lt
+    c.index_mut.ensures.value c.grant.ensures in
     let whole = c.as_slice.ensures.value ∙ is in
     let h = c.refresh.new.self in
     rw is
-    (noted_again g (λ y. refl)
-    (λ y. refl) states c.self.inside.users c.self.inside.board a c.self.invariant h
+    (noted_again granted_state (λ y. refl) (λ y. refl) c.self.inside.actions.items
+    c.self.inside.users c.self.inside.board c.args.action c.self.invariant h
     (subst (λ (ss : List ActionState). Fits (shapes ss) h) whole c.refresh.ensures.fits)
-    (subst (λ (ss : List ActionState). RightAt ss h a) whole c.refresh.ensures.right)
+    (subst (λ (ss : List ActionState). RightAt ss h c.args.action) whole c.refresh.ensures.right)
     c.refresh.ensures.others)
 
 pub returns : goal.returns
 returns c =
-    written granted_state _ _ c.args.action c.index_mut-state.result.now _ c.self.view_is
-    c.requires c.index_mut-state.ensures.value refl
+    written granted_state _ _ c.args.action c.index_mut.result.now _ c.self.view_is
+    c.requires c.index_mut.ensures.value c.grant.ensures

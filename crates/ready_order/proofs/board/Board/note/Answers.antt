@@ -13,49 +13,36 @@ use Rattle.ready_order.proofs.board.Board.note.Goals as goal
 
 pub post-requires : goal.post-requires
 post-requires c =
-    let states = c.args.actions.now in
     let x = c.index-actions-number.result in
-    let here = slice_get_read states
-    (length states) c.args.number x refl c.requires.known c.index-actions-number.is in
-    let f : Facts = record {
-      supplied = c.self.inside.supplied.items;
-      waiting =
-          c.self.inside.waiting;
-      queues = c.self.inside.queues.items;
-    } in
-    let fits = subst (Fits (shapes states)) (sym c.self.view_is) c.requires.fits in
-    rw c.deref_mut.ensures.value
-    (has_room states f c.args.number x here fits f.queues fits.queues refl x.local.group
-    (local_named states f c.args.number x here fits))
+    let here = slice_get_read c.args.actions.now
+    (length c.args.actions.now) c.args.number x refl c.requires.known c.index-actions-number.is in
+    rw (c.deref_mut.ensures.value, ap (λ (h : Facts). h.queues) c.self.view_is)
+    (has_room c.args.actions.now c.args.self.now c.args.number x here c.requires.fits
+    c.args.self.now.queues c.requires.fits.queues refl x.local.group
+    (local_named c.args.actions.now c.args.self.now c.args.number x here c.requires.fits))
 
 pub post-requires-2 : goal.post-requires-2
 post-requires-2 c =
-    let states = c.args.actions.now in
     let x = c.index-actions-number.result in
-    let here = slice_get_read states
-    (length states) c.args.number x refl c.requires.known c.index-actions-number.is in
-    let f : Facts = record {
-      supplied = c.self.inside.supplied.items;
-      waiting =
-          c.self.inside.waiting;
-      queues = c.self.inside.queues.items;
-    } in
-    let fits = subst (Fits (shapes states)) (sym c.self.view_is) c.requires.fits in
+    let here = slice_get_read c.args.actions.now
+    (length c.args.actions.now) c.args.number x refl c.requires.known c.index-actions-number.is in
     let ready = nat_eq c.supplied_from-supplied.result (length c.as_slice-producers.result.now) in
     let first = c.deref_mut.ensures.value in
-    let groups : length c.post.new.queues ≡ length f.queues = rw (c.post.ensures, first)
-    (posted_groups c.args.number x ready f.queues x.local.group) in
+    let was : c.deref_mut.result.now ≡ c.args.self.now.queues = first
+    ∙ ap (λ (h : Facts). h.queues) c.self.view_is in
+    let groups : length c.post.new.queues ≡ length c.args.self.now.queues =
+    rw (c.post.ensures, was)
+    (posted_groups c.args.number x ready c.args.self.now.queues x.local.group) in
     let sizes : (g : ℕ) (q : List ℕ) → slice_get c.post.new.queues g ≡ Some q → length q ≡ length
-    (shapes states) =
-    rw (c.post.ensures, first) (posted_sizes c.args.number x ready f.queues x.local.group (length
-    (shapes states)) fits.queues) in
-    let len : length c.post.new.queues ≡ c.self.inside.queues.len = groups ∙ sym (ap length first)
+    (shapes c.args.actions.now) =
+    rw (c.post.ensures, was) (posted_sizes c.args.number x ready c.args.self.now.queues
+    x.local.group (length (shapes c.args.actions.now)) c.requires.fits.queues) in
+    let len : length c.post.new.queues ≡ c.self.inside.queues.len = groups ∙ sym (ap length was)
     ∙ c.deref_mut.ensures.len in
-    let second : c.deref_mut-2.result.now ≡ c.post.new.queues = c.deref_mut-2.ensures.value
-    ∙ with_items_is c.self.inside.queues c.post.new.queues len in
-    rw second
-    (has_room states f c.args.number x here fits c.post.new.queues sizes groups x.remote.group
-    (remote_named states f c.args.number x here fits))
+    rw (c.deref_mut-2.ensures.value, with_items_is c.self.inside.queues c.post.new.queues len)
+    (has_room c.args.actions.now c.args.self.now c.args.number x here c.requires.fits
+    c.post.new.queues sizes groups x.remote.group
+    (remote_named c.args.actions.now c.args.self.now c.args.number x here c.requires.fits))
 
 pub returns : goal.returns
 returns c =

@@ -4,7 +4,7 @@ use Rattle.json_framing.specs.Cutter.{form_of, framing_of, held}
 use Rattle.message_service.specs.Stream.{Heard}
 use Rattle.work_queue.specs.States.{reader}
 use Rattle.work_lanes.specs.Calls.{heard_at}
-use Rattle.work_lanes.proofs.reading.hand_on.Given as goal
+use Rattle.work_lanes.proofs.reading.hear_all.Given as goal
 
 -- The requests that were heard so far are those that the cutter gave.
 abbrev pub invariant-loop : goal.invariant-loop
