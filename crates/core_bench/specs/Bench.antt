@@ -7,6 +7,7 @@ use Rattle.exec_journal.specs.declared.call.Started.TheVariants as start
 use Rattle.exec_journal.specs.declared.reply.Reply.{Reply}
 use Rattle.outside.specs.Launches.{IsNewTap, IsNewChild}
 use Rattle.outside.specs.Told.{ChildTold, TapTold, PlaceTold}
+use Rattle.core_contract.specs.Terms.{Terms}
 use Rattle.core_contract.specs.Moves.{History, Move, PutLine, TakeTap, TakeChild, GiveUp, TakePlace, PutPlace, Nothing, move_in}
 use Rattle.core_contract.specs.Shelf.{Spot, Fresh, Away, Back, child_at, tap_at, place_at}
 use Rattle.core_contract.specs.Laws.{InScript, claimed}
@@ -35,33 +36,32 @@ IsChildOf told l k = IsNewChild l (told k)
 abbrev pub IsTapOf : {T : Type 0} → (T → TapTold) → ℕ → T → Type 0
 IsTapOf told l t = IsNewTap l (told t)
 
--- the place of this action in this spot, where these are the outputs of each action
-abbrev pub IsPlaceOf : {P : Type 0} → (P → PlaceTold) → (ℕ → List (List ℕ)) → ℕ → Spot → P → Type 0
-IsPlaceOf told outputs a s p = IsPlaceAt a (outputs a) s (told p)
+-- the place of this action in this spot, by the terms
+abbrev pub IsPlaceOf : {P : Type 0} → (P → PlaceTold) → Terms → ℕ → Spot → P → Type 0
+IsPlaceOf told terms a s p = IsPlaceAt a (terms.outputs a) s (told p)
 
 -- ---- what lies in the slots after the history
 
-abbrev pub ChildrenLie : {K : Type 0} → (K → ChildTold) → ℕ → History → List (Option K) → Type 0
-ChildrenLie told berths h slots =
-    Hold berths (λ w o. IsOf (IsChildOf told) (child_at w h) o) slots
+abbrev pub ChildrenLie : {K : Type 0} → (K → ChildTold) → Terms → History → List (Option K) → Type 0
+ChildrenLie told terms h slots =
+    Hold terms.berths (λ w o. IsOf (IsChildOf told) (child_at w h) o) slots
 
-abbrev pub TapsLie : {T : Type 0} → (T → TapTold) → ℕ → History → List (Option T) → Type 0
-TapsLie told berths h slots = Hold berths (λ w o. IsOf (IsTapOf told) (tap_at w h) o) slots
+abbrev pub TapsLie : {T : Type 0} → (T → TapTold) → Terms → History → List (Option T) → Type 0
+TapsLie told terms h slots = Hold terms.berths (λ w o. IsOf (IsTapOf told) (tap_at w h) o) slots
 
-abbrev pub PlacesLie : {P : Type 0} → (P → PlaceTold) → (ℕ → List (List ℕ)) → ℕ → History
-    → List (Option P) → Type 0
-PlacesLie told outputs actions h slots =
-    Hold actions (λ a o. IsInSpot (IsPlaceOf told outputs a) (place_at a h) o) slots
+abbrev pub PlacesLie : {P : Type 0} → (P → PlaceTold) → Terms → History → List (Option P) → Type 0
+PlacesLie told terms h slots =
+    Hold terms.actions (λ a o. IsInSpot (IsPlaceOf told terms a) (place_at a h) o) slots
 
--- by what children, taps and places tell, where these are the outputs of each action
+-- by what children, taps and places tell, and by the terms
 module _ {K T P : Type 0} (child : K → ChildTold) (tap : T → TapTold) (place : P → PlaceTold)
-    (outputs : ℕ → List (List ℕ)) where
-  -- on the shelf of so many berths and actions, after the history
-  pub record Lies (berths actions : ℕ) (h : History) (child_slots : List (Option K))
+    (terms : Terms) where
+  -- on the shelf of all berths and actions, after the history
+  pub record Lies (h : History) (child_slots : List (Option K))
       (tap_slots : List (Option T)) (place_slots : List (Option P)) : Type 0 where
-    pub children : ChildrenLie child berths h child_slots
-    pub taps : TapsLie tap berths h tap_slots
-    pub places : PlacesLie place outputs actions h place_slots
+    pub children : ChildrenLie child terms h child_slots
+    pub taps : TapsLie tap terms h tap_slots
+    pub places : PlacesLie place terms h place_slots
 
   -- ---- goods
 
@@ -80,7 +80,7 @@ module _ {K T P : Type 0} (child : K → ChildTold) (tap : T → TapTold) (place
   IsChild (Some l) _ = ⊥
 
   abbrev pub IsPlace : ℕ → Spot → Option (Good K T P) → Type 0
-  IsPlace a s (Some (good.Place p)) = IsPlaceOf place outputs a s p
+  IsPlace a s (Some (good.Place p)) = IsPlaceOf place terms a s p
   IsPlace a s _ = ⊥
 
   -- What goes in, where the call is in its lane's script: the child and the tap of a line that was
@@ -111,7 +111,7 @@ module _ {K T P : Type 0} (child : K → ChildTold) (tap : T → TapTold) (place
 
 -- what is left on the shelf: the taps that no lane has taken, and the places that no lane has
 pub record Remains {T P : Type 0} (tap : T → TapTold) (place : P → PlaceTold)
-    (outputs : ℕ → List (List ℕ)) (berths actions : ℕ) (h : History)
-    (tap_slots : List (Option T)) (place_slots : List (Option P)) : Type 0 where
-  pub taps : TapsLie tap berths h tap_slots
-  pub places : PlacesLie place outputs actions h place_slots
+    (terms : Terms) (h : History) (tap_slots : List (Option T)) (place_slots : List (Option P))
+    : Type 0 where
+  pub taps : TapsLie tap terms h tap_slots
+  pub places : PlacesLie place terms h place_slots

@@ -10,6 +10,7 @@ use Rattle.exec_journal.specs.declared.reply.Reply.{Reply}
 use Rattle.exec_journal.specs.declared.reply.Reply.TheVariants as reply
 use Rattle.exec_journal.specs.Entries.{is_kept}
 use Rattle.outside.specs.Told.{ChildTold, TapTold, PlaceTold}
+use Rattle.core_contract.specs.Terms.{Terms}
 use Rattle.core_contract.specs.Moves.{History}
 use Rattle.core_contract.specs.Shelf.{Back}
 use Rattle.core_contract.specs.Laws.{InScript, is_short, says_file, claimed}
@@ -70,18 +71,18 @@ calls_stay {C} {R} lane (e ∷ es) more others = elim (lane == e.lane) as (λ b.
 
 -- what suits a call still suits it
 module _ {K T P : Type 0} (child : K → ChildTold) (tap : T → TapTold) (place : P → PlaceTold)
-    (outputs : ℕ → List (List ℕ)) where
+    (terms : Terms) where
   pub suits_on : (rule : History → ℕ → Call → Reply) (h more : History) (lane : ℕ) (c : Call)
       (g : Option (Good K T P)) → calls_by lane more ≡ []
       → (InScript rule h lane c → InScript rule (h ++ more) lane c)
-      → GoesIn child tap place outputs rule h lane c g
-      → GoesIn child tap place outputs rule (h ++ more) lane c g
+      → GoesIn child tap place terms rule h lane c g
+      → GoesIn child tap place terms rule (h ++ more) lane c g
   suits_on rule h more lane (call.Launched l start.Done) g others stays i = (stays i.0, i.1)
   suits_on rule h more lane (call.Launched l start.RoomFault) g others stays i = i
   suits_on rule h more lane (call.Launched l start.LaunchFault) g others stays i = i
   suits_on rule h more lane (call.Committed a b how) g others stays i = (
     stays i.0,
-    subst (λ (own : History). IsPlace child tap place outputs a (Back (claimed own) how) g)
+    subst (λ (own : History). IsPlace child tap place terms a (Back (claimed own) how) g)
         (sym (calls_stay lane h more others)) i.1,
   )
   suits_on rule h more lane call.Ask g others stays i = i

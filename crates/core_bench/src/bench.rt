@@ -15,9 +15,9 @@ ghost use Rattle.core_bench.specs.BenchLaws.{short_not_kept, noted_not_short, su
 use crate::replies::copy_of;
 use crate::shelf::{Good, Shelf};
 use crate::waking::Waking;
+use core_contract::{Rules, shift_of};
 use exec_journal::{Call, Reply};
 use outside::{Berth, Place};
-use core_contract::{Rules, shift_of};
 use seat_desk::Machine;
 use std::alloc::Global;
 
@@ -39,7 +39,7 @@ impl<B: Berth, P: Place, C: Rules> Bench<B, P, C> {
     /// The places, as they were, if there is no memory for the slots. The core is dropped.
     pub fn new(alloc: Global, core: C, places: Vec<P>) -> Result<Bench<B, P, C>, Vec<P>>
         requires core { C.stands core [] }
-        requires places { AreFresh P.told (C.actions (C.plan core)) places.items }
+        requires places { AreFresh P.told (C.terms (C.plan core)).actions places.items }
         ensures stands { IfOk result (λ b. ⟦<Bench<B, P, C> as Machine>⟧.stands b []) }
         ensures basis { IfOk result (λ b.
             ⟦<Bench<B, P, C> as Machine>⟧.basis b ≡ C.plan core) }
@@ -61,8 +61,8 @@ impl<B: Berth, P: Place, C: Rules> Bench<B, P, C> {
         ensures basis { C.plan result.0 ≡ ⟦<Bench<B, P, C> as Machine>⟧.basis self }
         ensures parts { (h : List (Entry Call Reply))
             → ⟦<Bench<B, P, C> as Machine>⟧.stands self h → C.stands result.0 h
-            × Remains B.Tap.told P.told (C.outputs (C.plan result.0)) (C.seats (C.plan result.0))
-            (C.actions (C.plan result.0)) h result.1.items result.2.items }
+            × Remains B.Tap.told P.told (C.terms (C.plan result.0)) h
+            result.1.items result.2.items }
     {
         let Bench {
             core,
@@ -92,8 +92,7 @@ impl<B: Berth, P: Place, C: Rules> Machine for Bench<B, P, C> {
     ghost blank = { C.blank };
 
     ghost stands = { λ m h. C.stands m.core h × Lies B.Child.told B.Tap.told P.told
-        (C.outputs (C.plan m.core)) (C.seats (C.plan m.core)) (C.actions (C.plan m.core)) h
-        m.shelf.children.items m.shelf.taps.items m.shelf.places.items
+        (C.terms (C.plan m.core)) h m.shelf.children.items m.shelf.taps.items m.shelf.places.items
         × Wakes (C.rule (C.plan m.core)) h m.waking };
 
     ghost next = { λ q h lane c. C.rule q h lane c };
@@ -106,10 +105,10 @@ impl<B: Berth, P: Place, C: Rules> Machine for Bench<B, P, C> {
 
     ghost may_be_short = { λ q h lane c. says_file (C.rule q h lane c) ≡ true };
 
-    ghost goes_in = { λ q h lane c g. GoesIn B.Child.told B.Tap.told P.told (C.outputs q) (C.rule q)
+    ghost goes_in = { λ q h lane c g. GoesIn B.Child.told B.Tap.told P.told (C.terms q) (C.rule q)
         h lane c g };
 
-    ghost comes_out = { λ q h lane c r g. ComesOut B.Child.told B.Tap.told P.told (C.outputs q)
+    ghost comes_out = { λ q h lane c r g. ComesOut B.Child.told B.Tap.told P.told (C.terms q)
         h lane c r g };
 
     ghost owes = { λ q h. C.owes q h };
@@ -130,7 +129,7 @@ impl<B: Berth, P: Place, C: Rules> Machine for Bench<B, P, C> {
     ghost owes_more = { λ m h lane c s k. C.owes_more m.core h lane c s.0 k };
 
     ghost suits_still = { λ m h more lane c g s none i. suits_on B.Child.told B.Tap.told P.told
-        (C.outputs (C.plan m.core)) (C.rule (C.plan m.core)) h more lane c g none
+        (C.terms (C.plan m.core)) (C.rule (C.plan m.core)) h more lane c g none
         (C.script_stays (C.plan m.core) h more lane c none) i };
 
     fn is_kept(_lane: u32, _call: &Call, reply: &Reply) -> bool {
@@ -163,7 +162,7 @@ impl<B: Berth, P: Place, C: Rules> Machine for Bench<B, P, C> {
         ensures good { result.1 ≡ good_then (shift_for (move_in lane call.now result.0)) (lane / 2)
             self.old.shelf.children.items self.old.shelf.taps.items self.old.shelf.places.items }
         ensures waking { LooksRound (C.news self.new.core)
-            (lanes_of (C.seats (C.plan self.new.core))) lane result.0
+            (lanes_of (C.terms (C.plan self.new.core)).berths) lane result.0
             self.old.waking self.new.waking }
     {
         let reply = self.core.step(lane, call);

@@ -5,8 +5,8 @@ ghost use Rattle.core_bench.specs.Shifts.{children_then, taps_then, places_then,
 ghost use Rattle.core_bench.specs.Shifts.{child_put, tap_put, place_put};
 
 use crate::slots::{empty_slots, full_slots, put_at, take_at};
-use plain_values::NoMemory;
 use core_contract::Shift;
+use plain_values::NoMemory;
 use std::alloc::Global;
 
 /// What goes in with a call of a lane, and comes out with its reply. The type has no bound, so that

@@ -6,8 +6,8 @@ ghost use Rattle.core_contract.specs.Moves.{History};
 ghost use Rattle.core_bench.specs.Waking.{Hints, LooksRound, Wakes, lanes_of};
 
 use crate::marks::{is_stirred, mark};
-use exec_journal::Reply;
 use core_contract::Rules;
+use exec_journal::Reply;
 
 /// The most lanes of which a hint speaks, a bit for each.
 const MOST_LANES: u32 = 128;
@@ -35,8 +35,8 @@ impl Waking {
     /// After a call of this lane that was answered so: if its entry is kept, looks which lanes the
     /// core has news for, and which of them had none before.
     pub(crate) fn look_round<C: Rules>(&mut self, core: &C, caller: u32, reply: &Reply)
-        ensures { LooksRound (C.news core.now) (lanes_of (C.seats (C.plan core.now))) caller
-            reply.now self.old self.new }
+        ensures { LooksRound (C.news core.now) (lanes_of (C.terms (C.plan core.now)).berths)
+            caller reply.now self.old self.new }
     {
         if !reply.is_kept() {
             return;
@@ -63,7 +63,7 @@ impl Waking {
 
 // How many lanes the core's plan has, of those that a hint speaks of.
 fn lanes_of<C: Rules>(core: &C) -> u32
-    ensures all { result ≡ lanes_of (C.seats (C.plan core.now)) }
+    ensures all { result ≡ lanes_of (C.terms (C.plan core.now)).berths }
     ensures most { result ≤ 128 }
 {
     let berths = core.berths();

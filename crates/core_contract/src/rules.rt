@@ -3,7 +3,6 @@ ghost use Rattle.std.specs.Prelude.{◌≡◌, ◌≤◌, ◌<◌, ◌+◌, ◌/
 ghost use Rattle.plain_values.specs.declared.entry.Entry.{Entry};
 ghost use Rattle.seat_desk.specs.History.{entry, calls_by, Owes};
 ghost use Rattle.run_plan.specs.declared.plan.Branch.{Branch};
-ghost use Rattle.run_plan.specs.declared.plan.Maker.{Maker};
 ghost use Rattle.exec_journal.specs.declared.call.Call.{Call};
 ghost use Rattle.exec_journal.specs.declared.call.Call.TheVariants as call;
 ghost use Rattle.exec_journal.specs.declared.call.Started.TheVariants as start;
@@ -13,6 +12,7 @@ ghost use Rattle.exec_journal.specs.declared.call.Wanted.TheVariants as wanted;
 ghost use Rattle.exec_journal.specs.declared.reply.Reply.{Reply};
 ghost use Rattle.exec_journal.specs.declared.reply.Reply.TheVariants as reply;
 ghost use Rattle.exec_journal.specs.Entries.{is_kept};
+ghost use Rattle.core_contract.specs.Terms.{Terms};
 ghost use Rattle.core_contract.specs.Shelf.{child_at, tap_at, place_at, Fresh, Away};
 ghost use Rattle.core_contract.specs.Laws.{InScript, Fits, tap_lane, hearing_of, may_hear, Hears, Over, tells_of, claimed, says_file, lines_in, is_taken, OrderHolds, StepReplies, StepStands};
 ghost use Rattle.core_contract.specs.News.{SaysNews};
@@ -51,23 +51,8 @@ pub trait Rules: Sized + Drop {
     // How many paid entries are still to come after a history.
     ghost owes: { Self.Plan → List (Entry Call Reply) → ℕ };
 
-    // The number of berths.
-    ghost seats: { Self.Plan → ℕ };
-
-    // The process of this berth is an executor.
-    ghost remote: { Self.Plan → ℕ → Bool };
-
-    // The most lines that may be ordered.
-    ghost line_room: { Self.Plan → ℕ };
-
-    // The number of actions.
-    ghost actions: { Self.Plan → ℕ };
-
-    // The paths of this action's outputs.
-    ghost outputs: { Self.Plan → ℕ → List (List ℕ) };
-
-    // The made inputs of this action.
-    ghost makers: { Self.Plan → ℕ → List Maker };
+    // What lanes and the bench go by of the plan.
+    ghost terms: { Self.Plan → Terms };
 
     // Whether a lane has news, by what the core keeps.
     ghost news: { Self → ℕ → Bool };
@@ -90,11 +75,11 @@ pub trait Rules: Sized + Drop {
 
     /// The number of berths.
     fn berths(&self) -> u32
-        ensures { result ≡ seats (plan self.now) };
+        ensures { result ≡ (terms (plan self.now)).berths };
 
     /// The most lines that may be ordered.
     fn most_lines(&self) -> u32
-        ensures { result ≡ line_room (plan self.now) };
+        ensures { result ≡ (terms (plan self.now)).line_room };
 
     // A paid call is answered Noted, and so never by want of memory.
     ghost paid_is_noted: { (m : Self) (h : List (Entry Call Reply)) (lane : ℕ) (c : Call)
@@ -122,7 +107,7 @@ pub trait Rules: Sized + Drop {
 
     // A call in a script is one of a lane of the plan.
     ghost lanes_are_known: { (q : Self.Plan) (h : List (Entry Call Reply)) (lane : ℕ) (c : Call)
-        → InScript (rule q) h lane c → lane / 2 < seats q };
+        → InScript (rule q) h lane c → lane / 2 < (terms q).berths };
 
     // It stays in the script after entries of other lanes.
     ghost script_stays: { (q : Self.Plan) (h more : List (Entry Call Reply)) (lane : ℕ) (c : Call)
@@ -131,7 +116,7 @@ pub trait Rules: Sized + Drop {
 
     // Which calls are in a tap lane's script, its own entries say alone.
     ghost taps_hear: { (q : Self.Plan) (h : List (Entry Call Reply)) (w : ℕ) (c : Call)
-        → w < seats q → may_hear (hearing_of (calls_by (tap_lane w) h)) c ≡ true
+        → w < (terms q).berths → may_hear (hearing_of (calls_by (tap_lane w) h)) c ≡ true
         → InScript (rule q) h (tap_lane w) c };
 
     // After a history that came about no other call is.
@@ -141,32 +126,30 @@ pub trait Rules: Sized + Drop {
 
     // Its Halt is paid for, until it was told to stop or has halted.
     ghost taps_may_halt: { (q : Self.Plan) (h : List (Entry Call Reply)) (w : ℕ)
-        → w < seats q → (hearing_of (calls_by (tap_lane w) h) ≡ Over → ⊥)
+        → w < (terms q).berths → (hearing_of (calls_by (tap_lane w) h) ≡ Over → ⊥)
         → paid q h (tap_lane w) call.Halt };
 
     // Which calls are in a proxy lane's script, its own entries say alone.
     ghost proxies_do: { (q : Self.Plan) (h : List (Entry Call Reply)) (w : ℕ) (c : Call)
-        → w < seats q
-        → may_do (outputs q) (makers q) (remote q w)
-        (duty_of (calls_by (proxy_lane w) h)) c ≡ true
+        → w < (terms q).berths
+        → may_do (terms q) w (duty_of (calls_by (proxy_lane w) h)) c ≡ true
         → InScript (rule q) h (proxy_lane w) c };
 
     // No other call is, but a Halt of a lane that owes a Committed, and a Committed of one that has
     // left.
     ghost proxies_do_only: { (q : Self.Plan) (h : List (Entry Call Reply)) (w : ℕ) (c : Call)
         → InScript (rule q) h (proxy_lane w) c
-        → may_make (outputs q) (makers q) (remote q w)
-        (duty_of (calls_by (proxy_lane w) h)) c ≡ true };
+        → may_make (terms q) w (duty_of (calls_by (proxy_lane w) h)) c ≡ true };
 
     // Its Halt is paid for, until it was told to stop or has halted.
     ghost proxies_may_halt: { (q : Self.Plan) (h : List (Entry Call Reply)) (w : ℕ)
-        → w < seats q → (duty_of (calls_by (proxy_lane w) h) ≡ Left → ⊥)
+        → w < (terms q).berths → (duty_of (calls_by (proxy_lane w) h) ≡ Left → ⊥)
         → paid q h (proxy_lane w) call.Halt };
 
     // So is the Committed of an action's branch that it was granted files of.
     ghost commits_are_paid: { (q : Self.Plan) (h : List (Entry Call Reply)) (w a : ℕ) (b : Branch)
         (fs : List (List ℕ)) (how : CommitEnd)
-        → w < seats q → duty_of (calls_by (proxy_lane w) h) ≡ Commits a b fs
+        → w < (terms q).berths → duty_of (calls_by (proxy_lane w) h) ≡ Commits a b fs
         → paid q h (proxy_lane w) (call.Committed a b how) };
 
     // An Answer and an Ended come from the tap lane that hears the line.
@@ -190,17 +173,18 @@ pub trait Rules: Sized + Drop {
     // What an order says holds: which line it names, which action, and what lies on the shelf then.
     ghost orders_hold: { (q : Self.Plan) (h : List (Entry Call Reply)) (lane : ℕ)
         → legal q h
-        → OrderHolds (actions q) (child_at (lane / 2) h) (lines_in h) (rule q h lane call.Ask) };
+        → OrderHolds (terms q).actions (child_at (lane / 2) h) (lines_in h)
+        (rule q h lane call.Ask) };
 
     // No more lines are ordered than there may be.
     ghost lines_fit: { (q : Self.Plan) (h : List (Entry Call Reply))
-        → legal q h → lines_in h ≤ line_room q };
+        → legal q h → lines_in h ≤ (terms q).line_room };
 
     // The made inputs of a request that was ordered are there when its lane looks at them.
     ghost inputs_are_there: { (q : Self.Plan) (h : List (Entry Call Reply)) (w l : ℕ) (n : ℤ)
         (a c o : ℕ)
         → legal q h → duty_of (calls_by (proxy_lane w) h) ≡ Sends l n a
-        → is_maker (makers q a) c o ≡ true
+        → is_maker ((terms q).makers a) c o ≡ true
         → says_file (rule q h (proxy_lane w) (call.Look (wanted.Made c o))) ≡ true };
 
     // Nothing lies on the shelf for the berth where a line is put there.
@@ -220,7 +204,7 @@ pub trait Rules: Sized + Drop {
     ghost grants_once: { (q : Self.Plan) (h : List (Entry Call Reply)) (lane a : ℕ) (b : Branch)
         (t : ℕ) (fs : List (List ℕ))
         → legal q h → rule q h lane (call.Claim a b t (found.Files fs)) ≡ reply.Granted
-        → (a < actions q) × (place_at a h ≡ Fresh) };
+        → (a < (terms q).actions) × (place_at a h ≡ Fresh) };
 
     // A Committed comes from the lane that was granted the action's files, and the files are those
     // of its last grant.

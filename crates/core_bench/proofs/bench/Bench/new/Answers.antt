@@ -6,9 +6,7 @@ pub returns-in-Ok-clause-stands : goal.returns-in-Ok-clause-stands
 returns-in-Ok-clause-stands g c = (
   c.requires.core,
   begins g.B.Child.Child.told g.B.Tap.Tap.told g.P.Place.told
-      (g.C.Rules.outputs (g.C.Rules.plan c.args.core)) (g.C.Rules.seats
-      (g.C.Rules.plan c.args.core))
-      (g.C.Rules.actions (g.C.Rules.plan c.args.core)) c.in-Ok.shelf.children.items
+      (g.C.Rules.terms (g.C.Rules.plan c.args.core)) c.in-Ok.shelf.children.items
       c.in-Ok.shelf.taps.items c.in-Ok.shelf.places.items c.args.places.items
       c.requires.places
       (subst (λ (n : ℕ). c.in-Ok.shelf.children.items ≡ replicate n None) c.berths.ensures

@@ -16,46 +16,42 @@ turn-tells g _ _ _ _ c =
     let lane = c.args.lane in
     let law = g.met.C.Rules in
     let at : (h : History) → g.C.Rules.stands core h
-    → LawsAt (g.C.Rules.rule q) (g.C.Rules.seats q)
-    (g.C.Rules.actions q) h lane = λ h s. record {
+    → LawsAt (g.C.Rules.rule q) (g.C.Rules.terms q) h lane = λ h s. record {
       known = λ x n. law.lanes_are_known q h lane x n;
       takes = λ l e. law.takes_there q h lane l (law.stands_legal core h s) e;
-      kills = λ l y e. subst (OrderHolds (g.C.Rules.actions q) (child_at (lane / 2) h)
+      kills = λ l y e. subst (OrderHolds (g.C.Rules.terms q).actions (child_at (lane / 2) h)
           (lines_in h)) e
           (law.orders_hold q h lane (law.stands_legal core h s));
       grants = λ a b t fs e. law.grants_once q h lane a b t fs (law.stands_legal core h s) e;
       commits = λ a b how n. law.commits_own q h lane a b how (law.stands_legal core h s) n;
     } in
     let turn : (h : History) → g.C.Rules.stands core h
-    → Lies g.B.Child.Child.told g.B.Tap.Tap.told g.P.Place.told (g.C.Rules.outputs q)
-    (g.C.Rules.seats q) (g.C.Rules.actions q) h
+    → Lies g.B.Child.Child.told g.B.Tap.Tap.told g.P.Place.told (g.C.Rules.terms q) h
     c.args.self.now.shelf.children.items c.args.self.now.shelf.taps.items
     c.args.self.now.shelf.places.items
-    → GoesIn g.B.Child.Child.told g.B.Tap.Tap.told g.P.Place.told (g.C.Rules.outputs q)
+    → GoesIn g.B.Child.Child.told g.B.Tap.Tap.told g.P.Place.told (g.C.Rules.terms q)
     (g.C.Rules.rule q) h lane c.args.call.now c.args.put
     → ComesOut g.B.Child.Child.told g.B.Tap.Tap.told g.P.Place.told
-    (g.C.Rules.outputs q) h lane c.args.call.now c.result.0 c.result.1
-    × Lies g.B.Child.Child.told g.B.Tap.Tap.told g.P.Place.told (g.C.Rules.outputs q)
-    (g.C.Rules.seats q) (g.C.Rules.actions q)
+    (g.C.Rules.terms q) h lane c.args.call.now c.result.0 c.result.1
+    × Lies g.B.Child.Child.told g.B.Tap.Tap.told g.P.Place.told (g.C.Rules.terms q)
     (History_after h lane c.args.call.now c.result.0)
     c.new.self.now.shelf.children.items c.new.self.now.shelf.taps.items
     c.new.self.now.shelf.places.items
     = λ h s lies goes.
-    turns g.B.Child.Child.told g.B.Tap.Tap.told g.P.Place.told (g.C.Rules.outputs q)
+    turns g.B.Child.Child.told g.B.Tap.Tap.told g.P.Place.told (g.C.Rules.terms q)
     (g.C.Rules.rule q)
     (λ (h : History) (lane : ℕ) (c : Call). says_file (g.C.Rules.rule q h lane c) ≡ true)
-    (g.C.Rules.seats q) (g.C.Rules.actions q) h lane (at h s) c.args.call.now c.result.0 c.args.put
+    h lane (at h s) c.args.call.now c.result.0 c.args.put
     _ _ _ _ _ _ c.result.1 (c.ensures.reply h s) goes lies
     c.ensures.children c.ensures.taps c.ensures.places c.ensures.good in
     let later = c.new.self.now.core in
     let wakes = λ (h : History) (s : g.C.Rules.stands core h
-    × Lies g.B.Child.Child.told g.B.Tap.Tap.told g.P.Place.told (g.C.Rules.outputs q)
-    (g.C.Rules.seats q) (g.C.Rules.actions q) h
+    × Lies g.B.Child.Child.told g.B.Tap.Tap.told g.P.Place.told (g.C.Rules.terms q) h
     c.args.self.now.shelf.children.items c.args.self.now.shelf.taps.items
     c.args.self.now.shelf.places.items
     × Wakes (g.C.Rules.rule q) h c.args.self.now.waking).
     wakes_next (g.C.Rules.rule (g.C.Rules.plan later)) (g.C.Rules.news later)
-    (g.C.Rules.seats (g.C.Rules.plan later))
+    (g.C.Rules.terms (g.C.Rules.plan later)).berths
     (λ k l x n. law.lanes_are_known (g.C.Rules.plan later) k l x n) h lane c.args.call.now
     c.result.0 c.args.self.now.waking c.new.self.now.waking c.ensures.waking
     (subst (λ (p : g.row.C-Plan.Denot). Wakes (g.C.Rules.rule p) h c.args.self.now.waking)
@@ -68,8 +64,7 @@ turn-tells g _ _ _ _ c =
       stands = λ h s goes. (
         c.ensures.stands h s.0,
         subst (λ (p : g.row.C-Plan.Denot).
-            Lies g.B.Child.Child.told g.B.Tap.Tap.told g.P.Place.told (g.C.Rules.outputs p)
-            (g.C.Rules.seats p) (g.C.Rules.actions p)
+            Lies g.B.Child.Child.told g.B.Tap.Tap.told g.P.Place.told (g.C.Rules.terms p)
             (History_after h lane c.args.call.now c.result.0)
             c.new.self.now.shelf.children.items c.new.self.now.shelf.taps.items
             c.new.self.now.shelf.places.items)
