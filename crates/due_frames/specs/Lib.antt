@@ -1,2 +1,3 @@
 pub mod Requests
 pub mod Frames
+pub mod Due

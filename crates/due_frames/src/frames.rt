@@ -1,13 +1,14 @@
 ghost use Rattle.std.specs.Prelude.{◌≡◌, IfOk};
-ghost use Rattle.remote_branch.specs.Jobs.{job_for, cancel_for};
-ghost use Rattle.due_frames.specs.Requests.{AreFrom, request_for, cancelling};
+ghost use Rattle.remote_branch.specs.Jobs.{cancel_for};
+ghost use Rattle.due_frames.specs.Requests.{cancelling};
+ghost use Rattle.due_frames.specs.Due.{HasSources, request_due, job_due};
 ghost use Rattle.due_frames.specs.Frames.{send_due, cancel_due, framed_request, request_line, framed_job, due_job};
 
-use crate::requests::{cancelling, request_of};
+use crate::requests::{DueWork, cancelling, request_of};
 use json_messages::request_line;
 use plain_values::{Items, NoMemory};
 use remote_branch::{cancel_of, job_of};
-use remote_messages::{NamedFile, WorkAction, job_length};
+use remote_messages::job_length;
 use run_plan::Speech;
 use sandbox_rooms::Room;
 use std::alloc::Global;
@@ -25,7 +26,7 @@ pub enum Due {
     TooLarge,
 }
 
-/// What is due for a Send of the action, as the request, or the job, with this number.
+/// What is due for a Send of this work: the request, or the job.
 ///
 /// # Errors
 ///
@@ -34,26 +35,23 @@ pub fn send_frame(
     alloc: Global,
     speech: Speech,
     room: Room,
-    number: i32,
-    action: &WorkAction,
-    inputs: &[NamedFile],
+    work: &DueWork<'_>,
     verbose: bool,
 ) -> Result<Due, NoMemory>
-    requires { AreFrom action.now.inputs inputs.now }
-    ensures { IfOk result (λ due. due ≡ send_due speech
-        (request_for number action.now inputs.now verbose room)
-        (job_for number action.now inputs.now)) }
+    requires { HasSources work.now }
+    ensures { IfOk result (λ due.
+        due ≡ send_due speech (request_due work.now verbose room) (job_due work.now)) }
 {
     match speech {
         Speech::Proto => {
-            let frame = request_frame(alloc, room, number, action, inputs, verbose)?;
+            let frame = request_frame(alloc, room, work, verbose)?;
             Ok(Due::Frame(frame))
         }
         Speech::Json => {
-            let line = json_request(alloc, room, number, action, inputs, verbose)?;
+            let line = json_request(alloc, room, work, verbose)?;
             Ok(Due::Frame(line))
         }
-        Speech::Remote => job_frame(alloc, number, action, inputs),
+        Speech::Remote => job_frame(alloc, work),
     }
 }
 
@@ -75,32 +73,26 @@ pub fn cancel_frame(alloc: Global, speech: Speech, number: i32) -> Result<Items<
 fn request_frame(
     alloc: Global,
     room: Room,
-    number: i32,
-    action: &WorkAction,
-    inputs: &[NamedFile],
+    work: &DueWork<'_>,
     verbose: bool,
 ) -> Result<Items<u8>, NoMemory>
-    requires { AreFrom action.now.inputs inputs.now }
-    ensures { IfOk result (λ frame.
-        frame ≡ framed_request (request_for number action.now inputs.now verbose room)) }
+    requires { HasSources work.now }
+    ensures { IfOk result (λ frame. frame ≡ framed_request (request_due work.now verbose room)) }
 {
-    let request = request_of(alloc, room, number, action, inputs, verbose)?;
+    let request = request_of(alloc, room, work, verbose)?;
     Ok(Items::of(encode_delimited(alloc, &request)?))
 }
 
 fn json_request(
     alloc: Global,
     room: Room,
-    number: i32,
-    action: &WorkAction,
-    inputs: &[NamedFile],
+    work: &DueWork<'_>,
     verbose: bool,
 ) -> Result<Items<u8>, NoMemory>
-    requires { AreFrom action.now.inputs inputs.now }
-    ensures { IfOk result (λ line.
-        line ≡ request_line (request_for number action.now inputs.now verbose room)) }
+    requires { HasSources work.now }
+    ensures { IfOk result (λ line. line ≡ request_line (request_due work.now verbose room)) }
 {
-    let request = request_of(alloc, room, number, action, inputs, verbose)?;
+    let request = request_of(alloc, room, work, verbose)?;
     Ok(Items::of(request_line(alloc, &request)?))
 }
 
@@ -116,15 +108,10 @@ fn cancelling_line(alloc: Global, number: i32) -> Result<Items<u8>, NoMemory>
     Ok(Items::of(request_line(alloc, &cancelling(alloc, number))?))
 }
 
-fn job_frame(
-    alloc: Global,
-    number: i32,
-    action: &WorkAction,
-    inputs: &[NamedFile],
-) -> Result<Due, NoMemory>
-    ensures { IfOk result (λ due. due ≡ due_job (job_for number action.now inputs.now)) }
+fn job_frame(alloc: Global, work: &DueWork<'_>) -> Result<Due, NoMemory>
+    ensures { IfOk result (λ due. due ≡ due_job (job_due work.now)) }
 {
-    let job = job_of(alloc, number, action, inputs)?;
+    let job = job_of(alloc, work.number, work.action, work.inputs)?;
     if job_length(&job) > LARGEST {
         return Ok(Due::TooLarge);
     }

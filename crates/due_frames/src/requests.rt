@@ -1,7 +1,8 @@
 ghost use Rattle.std.specs.Prelude.{◌≡◌, IfOk, map, slice_get, Some};
 ghost use Rattle.remote_messages.specs.declared.work.WorkInput.{WorkInput};
 ghost use Rattle.worker_key.specs.Keys.{digest_text};
-ghost use Rattle.due_frames.specs.Requests.{AreFrom, IsFrom, input_of, request_for, cancelling, room_for, sandbox_for};
+ghost use Rattle.due_frames.specs.Requests.{AreFrom, IsFrom, input_of, cancelling, room_for, sandbox_for};
+ghost use Rattle.due_frames.specs.Due.{HasSources, request_due};
 
 use plain_values::{Items, NoMemory, Text, texts_again};
 use remote_messages::{NamedFile, Origin, WorkAction, WorkInput};
@@ -25,6 +26,15 @@ pub fn room_of(kind: Kind, number: i32) -> Room
     }
 }
 
+/// What is due on a line: the work of an action, with the files of its inputs in their order, under
+/// this number.
+#[derive(Drop)]
+pub struct DueWork<'a> {
+    pub number: i32,
+    pub action: &'a WorkAction,
+    pub inputs: &'a [NamedFile],
+}
+
 /// The request of a Send. A source's digest is taken from the source.
 ///
 /// # Errors
@@ -33,19 +43,17 @@ pub fn room_of(kind: Kind, number: i32) -> Room
 pub fn request_of(
     alloc: Global,
     room: Room,
-    number: i32,
-    action: &WorkAction,
-    inputs: &[NamedFile],
+    work: &DueWork<'_>,
     verbose: bool,
 ) -> Result<WorkRequest, NoMemory>
-    requires { AreFrom action.now.inputs inputs.now }
-    ensures { IfOk result
-        (λ request. request ≡ request_for number action.now inputs.now verbose room) }
+    requires { HasSources work.now }
+    ensures { IfOk result (λ request. request ≡ request_due work.now verbose room) }
 {
+    let action = work.action;
     Ok(WorkRequest {
         arguments: texts_again(alloc, action.request_words.as_slice())?,
-        inputs: inputs_of(alloc, action.inputs.as_slice(), inputs)?,
-        request_id: number,
+        inputs: inputs_of(alloc, action.inputs.as_slice(), work.inputs)?,
+        request_id: work.number,
         cancel: false,
         verbosity: if verbose { VERBOSE } else { 0 },
         sandbox_dir: sandbox_of(alloc, room)?,

@@ -7,4 +7,4 @@ mod sending;
 
 pub use gathering::gather_line;
 pub use launching::{Opened, launch_line};
-pub use sending::{give, send_line};
+pub use sending::{RoomFiles, give, send_line};

@@ -1,6 +1,6 @@
 ghost use Rattle.std.specs.Prelude.{◌≡◌};
-ghost use Rattle.sandbox_rooms.specs.Rooms.{prepare_asks};
 ghost use Rattle.order_acts.specs.Acts.{GivesFrame, Sends};
+ghost use Rattle.order_acts.specs.Files.{preparing};
 
 use exec_journal::Written;
 use outside::{Berth, Feed, Io};
@@ -8,6 +8,15 @@ use plain_values::{NoMemory, Text};
 use remote_messages::NamedFile;
 use sandbox_rooms::{Room, prepare};
 use std::alloc::Global;
+
+/// The files of a local line's room: the inputs that are put there for a request, and the paths of
+/// the outputs that are looked for.
+#[derive(Drop)]
+pub struct RoomFiles<'a> {
+    pub room: Room,
+    pub inputs: &'a [NamedFile],
+    pub outputs: &'a [Text],
+}
 
 /// For a Send to a local line: makes the room ready, and gives the frame to the line.
 ///
@@ -18,15 +27,13 @@ pub fn send_line<B: Berth>(
     alloc: Global,
     berth: &mut B,
     feed: &mut B::Feed,
-    room: Room,
-    inputs: &[NamedFile],
-    outputs: &[Text],
+    files: &RoomFiles<'_>,
     frame: &[u8],
 ) -> Result<Written, NoMemory>
-    ensures { Sends (prepare_asks room outputs.now inputs.now) frame.now result
+    ensures { Sends (preparing files.now) frame.now result
         (B.told berth.old) (B.told berth.new) (B.Feed.told feed.old) (B.Feed.told feed.new) }
 {
-    match prepare(alloc, berth, room, inputs, outputs)? {
+    match prepare(alloc, berth, files.room, files.inputs, files.outputs)? {
         Io::Done => Ok(give(feed, frame)),
         Io::Failed => Ok(Written::RoomFault),
     }
