@@ -4,3 +4,4 @@ pub mod Askings
 pub mod Reportings
 pub mod Lookings
 pub mod Claimings
+pub mod Making

@@ -1,12 +1,12 @@
 -- Reports that are answered Noted.
-use Rattle.std.proofs.Common.{◌≡◌, ℕ, Bool, true, false, List, [], ◌∷◌, ◌++◌, None, refl, ap, sym, subst, ◌∙◌, eq-eqb}
-use Rattle.run_plan.specs.declared.plan.Maker.{Maker}
+use Rattle.std.proofs.Common.{◌≡◌, ℕ, true, false, [], ◌∷◌, ◌++◌, None, refl, ap, sym, subst, ◌∙◌, eq-eqb}
 use Rattle.exec_journal.specs.declared.call.Call.{Call}
 use Rattle.exec_journal.specs.declared.call.Call.TheVariants as call
 use Rattle.exec_journal.specs.declared.call.Started.TheVariants as start
 use Rattle.exec_journal.specs.declared.reply.Reply.{Reply}
 use Rattle.exec_journal.specs.declared.reply.Reply.TheVariants as reply
 use Rattle.outside.specs.Told.{ChildTold, TapTold, PlaceTold}
+use Rattle.core_contract.specs.Terms.{Terms}
 use Rattle.core_contract.specs.Moves.{History}
 use Rattle.core_contract.specs.Laws.{says_file, fits, fits_noted}
 use Rattle.core_contract.specs.Duties.{Duty, Asks, Launches, Sends, Cancels, Gathers, Commits, Kills, Left, duty_from, duty_by, duty_of, may_do}
@@ -40,10 +40,10 @@ never_reported c r rep fit x = never_noted r (sym (report_fits c r rep) ∙ fit)
 
 -- nothing goes in with it
 module _ {K T P : Type 0} (child : K → ChildTold) (tap : T → TapTold) (place : P → PlaceTold)
-    (outputs : ℕ → List (List ℕ)) where
+    (terms : Terms) where
   pub goes_plain : (rule : History → ℕ → Call → Reply) (h : History) (lane : ℕ) (c : Call)
       → is_report c ≡ true
-      → GoesIn child tap place outputs rule h lane c None
+      → GoesIn child tap place terms rule h lane c None
   goes_plain rule h lane call.Ask e = absurd (cc)
   goes_plain rule h lane (call.Launched l start.Done) e = absurd (cc)
   goes_plain rule h lane (call.Launched l start.RoomFault) e = refl
@@ -61,9 +61,9 @@ module _ {K T P : Type 0} (child : K → ChildTold) (tap : T → TapTold) (place
 
 -- ---- what is owed then: nothing
 
-module _ (outputs : ℕ → List (List ℕ)) (makers : ℕ → List Maker) (remote : Bool) where
+module _ (terms : Terms) (w : ℕ) where
   abbrev May : Duty → Call → Type 0
-  May s c = may_do outputs makers remote s c ≡ true
+  May s c = may_do terms w s c ≡ true
 
   never_left : (c : Call) → May Left c → ⊥
   never_left call.Ask e = cc
@@ -130,14 +130,14 @@ module _ (rule : History → ℕ → Call → Reply) (lane : ℕ) (then seen own
 
 -- ---- what a lane may make
 
-module _ (outputs : ℕ → List (List ℕ)) (makers : ℕ → List Maker) (remote : Bool) where
+module _ (terms : Terms) (w : ℕ) where
   pub may_launch : (s : Duty) (l : ℕ) (how : Started) → s ≡ Launches l
-      → may_do outputs makers remote s (call.Launched l how) ≡ true
+      → may_do terms w s (call.Launched l how) ≡ true
   may_launch s l how is =
-      ap (λ (x : Duty). may_do outputs makers remote x (call.Launched l how)) is ∙ eq-eqb l l refl
+      ap (λ (x : Duty). may_do terms w x (call.Launched l how)) is ∙ eq-eqb l l refl
 
   pub may_make_halt : (s : Duty) → may_halt s ≡ true
-      → may_do outputs makers remote s call.Halt ≡ true
+      → may_do terms w s call.Halt ≡ true
   may_make_halt Asks e = refl
   may_make_halt (Launches l) e = refl
   may_make_halt (Sends l n a) e = refl

@@ -1,24 +1,22 @@
 -- What a call of a proxy lane asks of its pass, and what it leaves.
-use Rattle.std.specs.Prelude.{◌≡◌, ℕ, ◌<◌, Bool, true, List, [], ◌∷◌, ◌++◌}
+use Rattle.std.specs.Prelude.{◌≡◌, ℕ, ◌<◌, true, [], ◌∷◌, ◌++◌}
 use Rattle.seat_desk.specs.declared.machine.Machine.{Ghosts}
 use Rattle.seat_desk.specs.declared.desk.Pass.{Pass}
 use Rattle.seat_desk.specs.History.{entry, StartsWith}
-use Rattle.seat_desk.specs.Passes.{mine, basis, seen}
-use Rattle.run_plan.specs.declared.plan.Maker.{Maker}
+use Rattle.seat_desk.specs.Passes.{IsSamePass, mine, basis, seen}
 use Rattle.exec_journal.specs.declared.call.Call.{Call}
 use Rattle.exec_journal.specs.declared.reply.Reply.{Reply}
+use Rattle.core_contract.specs.Terms.{Terms}
 use Rattle.core_contract.specs.Duties.{proxy_lane, duty_of, may_do}
 
 module _ {M G Q : Type 0} {g : Ghosts M Call Reply G Q} where
-  -- the pass is that of the proxy lane of the berth w, one of so many as the rules say
-  abbrev pub IsProxyOf : (Q → ℕ) → ℕ → Pass M Call Reply G Q g → Type 0
-  IsProxyOf seats w p = (p.lane ≡ proxy_lane w) × (w < seats (basis p))
+  -- the pass is that of the proxy lane of the berth w, one of the terms' berths
+  abbrev pub IsProxyOf : (Q → Terms) → ℕ → Pass M Call Reply G Q g → Type 0
+  IsProxyOf terms w p = (p.lane ≡ proxy_lane w) × (w < (terms (basis p)).berths)
 
   -- by its own entries the lane may make the call
-  abbrev pub MayMake : (Q → ℕ → List (List ℕ)) → (Q → ℕ → List Maker) → (Q → ℕ → Bool) → ℕ
-      → Pass M Call Reply G Q g → Call → Type 0
-  MayMake outputs makers remote w p c =
-      may_do (outputs (basis p)) (makers (basis p)) (remote (basis p) w) (duty_of (mine p)) c ≡ true
+  abbrev pub MayMake : (Q → Terms) → ℕ → Pass M Call Reply G Q g → Call → Type 0
+  MayMake terms w p c = may_do (terms (basis p)) w (duty_of (mine p)) c ≡ true
 
   -- the lane made no entry
   abbrev pub MakesNone : Pass M Call Reply G Q g → Pass M Call Reply G Q g → Type 0
@@ -28,3 +26,8 @@ module _ {M G Q : Type 0} {g : Ghosts M Call Reply G Q} where
   abbrev pub MakesOne : Call → Reply → Pass M Call Reply G Q g → Pass M Call Reply G Q g → Type 0
   MakesOne c r p p' =
       StartsWith (seen p') (seen p) × (mine p' ≡ mine p ++ entry p.lane c r ∷ [])
+
+  -- the pass is the same, and the lane made no entry
+  pub record Stays (p p' : Pass M Call Reply G Q g) : Type 0 where
+    pub same : IsSamePass p p'
+    pub none : MakesNone p p'

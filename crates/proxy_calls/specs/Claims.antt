@@ -2,7 +2,7 @@
 use Rattle.std.specs.Prelude.{◌≡◌, ℕ, List, Option, Some, None}
 use Rattle.seat_desk.specs.declared.machine.Machine.{Ghosts}
 use Rattle.seat_desk.specs.declared.desk.Pass.{Pass}
-use Rattle.seat_desk.specs.Passes.{mine}
+use Rattle.seat_desk.specs.Passes.{mine, basis}
 use Rattle.exec_journal.specs.declared.attempt.Attempt.{Attempt}
 use Rattle.exec_journal.specs.declared.call.Call.{Call}
 use Rattle.exec_journal.specs.declared.call.Call.TheVariants as call
@@ -12,6 +12,7 @@ use Rattle.exec_journal.specs.declared.call.Found.TheVariants as found
 use Rattle.exec_journal.specs.declared.reply.Reply.{Reply}
 use Rattle.exec_journal.specs.declared.reply.Reply.TheVariants as reply
 use Rattle.outside.specs.Told.{PlaceTold}
+use Rattle.core_contract.specs.Terms.{Terms}
 use Rattle.core_contract.specs.Moves.{History}
 use Rattle.core_contract.specs.Shelf.{Fresh}
 use Rattle.core_contract.specs.Duties.{Asks, Commits, duty_of}
@@ -38,11 +39,11 @@ IsGranted told outputs t (Some place) f r own = ⊥
 
 module _ {M G Q : Type 0} {g : Ghosts M Call Reply G Q} where
   -- the Claim was made, and answered so
-  pub record HasClaimed {P : Type 0} (told : P → PlaceTold) (outputs : List (List ℕ)) (t : Attempt)
+  pub record HasClaimed {P : Type 0} (told : P → PlaceTold) (terms : Q → Terms) (t : Attempt)
       (f : Found) (place : Option P) (p p' : Pass M Call Reply G Q g) : Type 0 where
     pub reply : Reply
     pub made : MakesOne (claim_of t f) reply p p'
-    pub granted : IsGranted told outputs t place f reply (mine p')
+    pub granted : IsGranted told ((terms (basis p)).outputs t.action) t place f reply (mine p')
 
   -- the Committed of the attempt's branch was made
   abbrev pub HasCommitted : Attempt → Pass M Call Reply G Q g → Pass M Call Reply G Q g → Type 0

@@ -5,3 +5,4 @@ pub mod Orders
 pub mod Reports
 pub mod Looks
 pub mod Claims
+pub mod Grants

@@ -3,7 +3,7 @@ use Rattle.std.proofs.Common.{refl}
 use Rattle.std.specs.Prelude.{◌≡◌, ◌≤◌, ℕ, ◌+◌, Bool, true, false, is_some, if◌then◌else◌, Option, Some, None}
 use Rattle.seat_desk.specs.declared.machine.Machine.{Ghosts}
 use Rattle.seat_desk.specs.declared.desk.Pass.{Pass}
-use Rattle.seat_desk.specs.Passes.{mine, seen}
+use Rattle.seat_desk.specs.Passes.{mine, basis, seen}
 use Rattle.run_plan.specs.declared.plan.Branch.{Branch}
 use Rattle.exec_journal.specs.declared.call.Call.{Call}
 use Rattle.exec_journal.specs.declared.call.Call.TheVariants as call
@@ -13,6 +13,7 @@ use Rattle.exec_journal.specs.declared.reply.Why.{Why}
 use Rattle.exec_journal.specs.Entries.{is_kept, launch_in}
 use Rattle.outside.specs.Launches.{IsNewChild}
 use Rattle.outside.specs.Told.{ChildTold}
+use Rattle.core_contract.specs.Terms.{Terms}
 use Rattle.core_contract.specs.Shelf.{child_at}
 use Rattle.core_contract.specs.Laws.{OrderHolds, lines_in}
 use Rattle.core_bench.specs.declared.shelf.Good.{Good}
@@ -63,8 +64,8 @@ module _ {K : Type 0} (told : K → ChildTold) where
       (a : ℕ) × (b : Branch) × (t : ℕ) × (r ≡ reply.Launch l a b t)
   IsOrdered r (Some (order.Send l n a)) = (b : Branch) × (t : ℕ) × (r ≡ reply.Send l n a b t)
   IsOrdered r (Some (order.Cancel l n)) = r ≡ reply.Cancel l n
-  IsOrdered r (Some (order.Gather l n t exit refused)) =
-      r ≡ reply.Gather l n t.action t.branch t.number exit refused
+  IsOrdered r (Some (order.Gather x)) = r ≡ reply.Gather x.line x.number x.attempt.action
+      x.attempt.branch x.attempt.number x.exit x.refused
   IsOrdered r (Some (order.Kill l k)) =
       ((y : Why) × (r ≡ reply.Kill l y)) × IsNewChild l (told k)
 
@@ -73,13 +74,13 @@ abbrev pub lines_with : Reply → ℕ → ℕ
 lines_with r lines = if is_some (launch_in r) then lines + 1 else lines
 
 -- The Ask was answered so, when so many lines had been ordered. What the order says holds.
-pub record HasAsked {M G Q K : Type 0} {g : Ghosts M Call Reply G Q} (actions : ℕ)
+pub record HasAsked {M G Q K : Type 0} {g : Ghosts M Call Reply G Q} (terms : Q → Terms)
     (told : K → ChildTold) (berth : ℕ) (order : Option (Order K))
     (p p' : Pass M Call Reply G Q g) : Type 0 where
   pub reply : Reply
   pub lines : ℕ
   pub is_ordered : IsOrdered told reply order
   pub made : MakesOne call.Ask reply p p'
-  pub holds : OrderHolds actions (child_at berth (mine p)) lines reply
+  pub holds : OrderHolds (terms (basis p)).actions (child_at berth (mine p)) lines reply
   pub later : lines_in (seen p) ≤ lines
   pub lines_then : lines_in (seen p') ≡ lines_with reply lines

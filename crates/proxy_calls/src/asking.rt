@@ -1,52 +1,45 @@
 //! What a proxy lane is ordered.
-ghost use Rattle.std.specs.Prelude.{◌≡◌, ◌<◌, false, true, IfOk, OnErr};
-ghost use Rattle.seat_desk.specs.Passes.{IsSamePass, mine, basis};
+ghost use Rattle.std.specs.Prelude.{◌≡◌, ◌<◌, false, true, IfOk, IfErr};
+ghost use Rattle.seat_desk.specs.Passes.{IsSamePass, mine};
 ghost use Rattle.exec_journal.specs.declared.call.Call.TheVariants as call;
+ghost use Rattle.proxy_deeds.specs.declared.cause.Cause.TheVariants as cause;
 ghost use Rattle.core_contract.specs.Laws.{fits_ask};
 ghost use Rattle.core_contract.specs.Duties.{Asks, duty_of};
 ghost use Rattle.proxy_calls.specs.Calls.{IsProxyOf, MakesNone};
 ghost use Rattle.proxy_calls.specs.Orders.{is_idle, idle_not_kept, GivesChild, IsOrdered, HasAsked};
 
 use crate::goods::child_in;
+use core_bench::{Bench, Good};
+use core_contract::Rules;
 use exec_journal::{Attempt, Call, Reply};
 use lane_crew::{Caller, Question};
 use outside::{Berth, Place};
-use plain_values::NoMemory;
-use core_bench::{Bench, Good};
-use core_contract::Rules;
+use proxy_deeds::Cause;
 use std::sync::Wait;
+
+/// An answer to a request of a line, that is to be gathered, and the attempt that it is of.
+#[derive(Drop)]
+pub struct Answered {
+    pub line: u32,
+    pub number: i32,
+    pub attempt: Attempt,
+    pub exit: i32,
+    pub refused: bool,
+}
 
 /// What a lane is ordered.
 #[derive(Drop)]
 pub enum Order<K> {
     /// To start a line.
-    Launch {
-        line: u32,
-    },
+    Launch { line: u32 },
     /// To write a request of the action to the line.
-    Send {
-        line: u32,
-        number: i32,
-        action: u32,
-    },
+    Send { line: u32, number: i32, action: u32 },
     /// To give a request up.
-    Cancel {
-        line: u32,
-        number: i32,
-    },
-    /// To look at what came of an answer, and claim it.
-    Gather {
-        line: u32,
-        number: i32,
-        attempt: Attempt,
-        exit: i32,
-        refused: bool,
-    },
+    Cancel { line: u32, number: i32 },
+    /// To look at what came of this answer, and claim it.
+    Gather(Answered),
     /// To kill this child, which is the line's.
-    Kill {
-        line: u32,
-        child: K,
-    },
+    Kill { line: u32, child: K },
 }
 
 /// The question for the next order.
@@ -74,22 +67,23 @@ impl<B: Berth, P: Place, C: Rules> Question<Bench<B, P, C>> for NextOrder {
 ///
 /// # Errors
 ///
-/// `NoMemory`, if the desk had none for the entry. Then nothing was asked.
+/// The Ask, if the desk had no memory for its entry. Then nothing was asked.
 pub fn ask<B: Berth, P: Place, C: Rules, R: Wait>(
     rt: &R,
     caller: &mut Caller<'_, Bench<B, P, C>>,
     berth: u32,
-) -> Result<Option<Order<B::Child>>, NoMemory>
-    requires lane { IsProxyOf C.seats berth caller.old.pass }
+) -> Result<Option<Order<B::Child>>, Cause>
+    requires lane { IsProxyOf C.terms berth caller.old.pass }
     requires asks { duty_of (mine caller.old.pass) ≡ Asks }
     ensures same { IsSamePass caller.old.pass caller.new.pass }
-    ensures ordered { IfOk result (λ order. HasAsked (C.actions (basis caller.old.pass))
-        B.Child.told berth order caller.old.pass caller.new.pass) }
-    ensures refused { OnErr result (MakesNone caller.old.pass caller.new.pass) }
+    ensures ordered { IfOk result (λ order. HasAsked C.terms B.Child.told berth order
+        caller.old.pass caller.new.pass) }
+    ensures refused { IfErr result (λ by. (by ≡ cause.Refused call.Ask)
+        × MakesNone caller.old.pass caller.new.pass) }
 {
     match caller.ask(rt, &NextOrder) {
         Ok(answer) => Ok(order_of::<B, P>(answer.0, answer.1)),
-        Err(_refused) => Err(NoMemory),
+        Err(_refused) => Err(Cause::Refused(Call::Ask)),
     }
 }
 
@@ -124,7 +118,7 @@ fn order_of<B: Berth, P: Place>(
             attempt,
             exit,
             refused,
-        } => Some(Order::Gather {
+        } => Some(Order::Gather(Answered {
             line,
             number,
             attempt: Attempt {
@@ -134,7 +128,7 @@ fn order_of<B: Berth, P: Place>(
             },
             exit,
             refused,
-        }),
+        })),
         Reply::Kill { line, why: _ } => match child_in(good) {
             Some(child) => Some(Order::Kill { line, child }),
             None => unreachable!(),

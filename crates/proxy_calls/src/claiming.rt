@@ -4,17 +4,20 @@ ghost use Rattle.seat_desk.specs.Passes.{IsSamePass, mine, basis};
 ghost use Rattle.core_contract.specs.Shelf.{Fresh, Back};
 ghost use Rattle.core_contract.specs.Duties.{Asks, duty_of};
 ghost use Rattle.core_bench.specs.Objects.{IsPlaceAt};
+ghost use Rattle.proxy_deeds.specs.declared.cause.Cause.TheVariants as cause;
 ghost use Rattle.proxy_calls.specs.Calls.{IsProxyOf, MakesNone, MayMake};
-ghost use Rattle.proxy_calls.specs.Claims.{claim_of, HasClaimed, HasCommitted, OwesCommit};
+ghost use Rattle.proxy_calls.specs.Claims.{claim_of, HasClaimed, HasCommitted};
+ghost use Rattle.proxy_calls.specs.Grants.{MayCommit};
 
 use crate::goods::place_in;
+use core_bench::{Bench, Good};
+use core_contract::Rules;
 use exec_journal::{Attempt, Call, CommitEnd, Found};
 use lane_crew::Caller;
 use output_commit::{Committed, commit};
 use outside::{Berth, Place};
 use plain_values::{Blob, Text};
-use core_bench::{Bench, Good};
-use core_contract::Rules;
+use proxy_deeds::Cause;
 use seat_desk::Refused;
 use std::sync::Wait;
 
@@ -23,22 +26,20 @@ use std::sync::Wait;
 ///
 /// # Errors
 ///
-/// The Claim itself, if the desk had no memory for its entry. Then it was not made.
+/// The Claim, if the desk had no memory for its entry. Then it was not made.
 pub fn claim<B: Berth, P: Place, C: Rules, R: Wait>(
     rt: &R,
     caller: &mut Caller<'_, Bench<B, P, C>>,
     berth: u32,
     attempt: Attempt,
     found: Found,
-) -> Result<Option<P>, Call>
-    requires lane { IsProxyOf C.seats berth caller.old.pass }
-    requires may { MayMake C.outputs C.makers C.remote berth caller.old.pass
-        (claim_of attempt found) }
+) -> Result<Option<P>, Cause>
+    requires lane { IsProxyOf C.terms berth caller.old.pass }
+    requires may { MayMake C.terms berth caller.old.pass (claim_of attempt found) }
     ensures same { IsSamePass caller.old.pass caller.new.pass }
-    ensures claimed { IfOk result (λ place. HasClaimed P.told
-        (C.outputs (basis caller.old.pass) attempt.action) attempt found place
+    ensures claimed { IfOk result (λ place. HasClaimed P.told C.terms attempt found place
         caller.old.pass caller.new.pass) }
-    ensures refused { IfErr result (λ call. (call ≡ claim_of attempt found)
+    ensures refused { IfErr result (λ by. (by ≡ cause.Refused (claim_of attempt found))
         × MakesNone caller.old.pass caller.new.pass) }
 {
     let call = Call::Claim {
@@ -51,9 +52,19 @@ pub fn claim<B: Berth, P: Place, C: Rules, R: Wait>(
         Ok(answer) => Ok(place_in(answer.1)),
         Err(refused) => {
             let Refused { call, put: _ } = refused;
-            Err(call)
+            Err(Cause::Refused(call))
         }
     }
+}
+
+/// What an attempt was granted: that these files, one for each of its action's outputs, are written
+/// to the action's place.
+#[derive(Drop)]
+pub struct Grant<'a, P> {
+    pub attempt: Attempt,
+    pub files: &'a [Blob],
+    pub outputs: &'a [Text],
+    pub place: P,
 }
 
 /// Writes the files that were granted to the action's place, and reports how that ended. The place
@@ -62,21 +73,20 @@ pub fn commit_files<B: Berth, P: Place, C: Rules, R: Wait>(
     rt: &R,
     caller: &mut Caller<'_, Bench<B, P, C>>,
     berth: u32,
-    attempt: Attempt,
-    files: &[Blob],
-    outputs: &[Text],
-    place: P,
+    grant: Grant<'_, P>,
 )
-    requires lane { IsProxyOf C.seats berth caller.old.pass }
-    requires owes { OwesCommit attempt files.now (mine caller.old.pass) }
-    requires outputs { C.outputs (basis caller.old.pass) attempt.action ≡ outputs.now }
-    requires fits { length files.now ≡ length outputs.now }
-    requires few { length outputs.now < 2 ^ 32 }
-    requires place { IsPlaceAt attempt.action outputs.now Fresh (P.told place) }
+    requires lane { IsProxyOf C.terms berth caller.old.pass }
+    requires may { MayCommit P.told C.terms grant caller.old.pass }
     ensures same { IsSamePass caller.old.pass caller.new.pass }
-    ensures committed { HasCommitted attempt caller.old.pass caller.new.pass }
+    ensures committed { HasCommitted grant.entry.attempt caller.old.pass caller.new.pass }
     ensures asks { duty_of (mine caller.new.pass) ≡ Asks }
 {
+    let Grant {
+        attempt,
+        files,
+        outputs,
+        place,
+    } = grant;
     let mut place = place;
     let how = write_out(&mut place, attempt.action, outputs, files);
     let call = Call::Committed {

@@ -10,11 +10,11 @@ ghost use Rattle.proxy_calls.specs.Calls.{IsProxyOf, MakesOne};
 ghost use Rattle.proxy_calls.specs.Goods.{IsChildThere};
 
 use crate::goods::child_in;
+use core_bench::Bench;
+use core_contract::Rules;
 use exec_journal::Call;
 use lane_crew::Caller;
 use outside::{Berth, Place};
-use core_bench::Bench;
-use core_contract::Rules;
 use std::sync::Wait;
 
 /// Halts, and gives the berth's child if it lies on the shelf. It takes no memory.
@@ -23,7 +23,7 @@ pub fn halt<B: Berth, P: Place, C: Rules, R: Wait>(
     caller: &mut Caller<'_, Bench<B, P, C>>,
     berth: u32,
 ) -> Option<B::Child>
-    requires lane { IsProxyOf C.seats berth caller.old.pass }
+    requires lane { IsProxyOf C.terms berth caller.old.pass }
     requires may { may_halt (duty_of (mine caller.old.pass)) ≡ true }
     ensures same { IsSamePass caller.old.pass caller.new.pass }
     ensures halted { MakesOne call.Halt reply.Noted caller.old.pass caller.new.pass }

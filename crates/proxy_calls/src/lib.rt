@@ -9,8 +9,8 @@ mod halting;
 mod looking;
 mod reporting;
 
-pub use asking::{Order, ask};
-pub use claiming::{claim, commit_files};
+pub use asking::{Answered, Order, ask};
+pub use claiming::{Grant, claim, commit_files};
 pub use halting::halt;
 pub use looking::{look, look_made};
 pub use reporting::{Unsaid, tell, tell_started};

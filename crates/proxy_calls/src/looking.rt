@@ -1,19 +1,19 @@
 //! Looks at made inputs, and at the outputs of an answer.
 ghost use Rattle.std.specs.Prelude.{◌≡◌, true, IfOk};
-ghost use Rattle.seat_desk.specs.Passes.{IsSamePass, mine, basis, seen};
+ghost use Rattle.seat_desk.specs.Passes.{mine, basis, seen};
 ghost use Rattle.exec_journal.specs.declared.call.Call.TheVariants as call;
-ghost use Rattle.proxy_deeds.specs.Told.{IsTold};
-ghost use Rattle.proxy_calls.specs.Calls.{IsProxyOf, MakesNone, MayMake};
+ghost use Rattle.proxy_deeds.specs.Told.{IsTold, reply_for};
+ghost use Rattle.proxy_calls.specs.Calls.{IsProxyOf, MayMake, Stays};
 ghost use Rattle.core_contract.specs.Duties.{is_maker};
 ghost use Rattle.proxy_calls.specs.Looks.{told_as, made_as, OwesSend};
 
+use core_bench::Bench;
+use core_contract::Rules;
 use exec_journal::{Call, Reply, Wanted};
 use lane_crew::Caller;
 use outside::{Berth, Place};
 use plain_values::{Blob, NoMemory};
-use core_bench::Bench;
 use run_plan::Maker;
-use core_contract::Rules;
 use std::sync::Wait;
 
 /// The bytes that the core has of what is wanted, or `None` if it has none.
@@ -27,24 +27,26 @@ pub fn look<B: Berth, P: Place, C: Rules, R: Wait>(
     berth: u32,
     wanted: Wanted,
 ) -> Result<Option<Blob>, NoMemory>
-    requires lane { IsProxyOf C.seats berth caller.old.pass }
-    requires may { MayMake C.outputs C.makers C.remote berth caller.old.pass
-        (call.Look wanted) }
-    ensures same { IsSamePass caller.old.pass caller.new.pass }
+    requires lane { IsProxyOf C.terms berth caller.old.pass }
+    requires may { MayMake C.terms berth caller.old.pass (call.Look wanted) }
     ensures told { IfOk result (λ found. IsTold (C.rule (basis caller.old.pass))
         caller.old.pass.lane (seen caller.new.pass) (told_as wanted found)) }
-    ensures none { MakesNone caller.old.pass caller.new.pass }
+    ensures stays { Stays caller.old.pass caller.new.pass }
 {
     match caller.call(rt, Call::Look(wanted), None) {
-        Ok(answer) => {
-            let (reply, _good) = answer;
-            match reply {
-                Reply::File(bytes) => Ok(Some(bytes)),
-                Reply::NoFile => Ok(None),
-                _ => Err(NoMemory),
-            }
-        }
+        Ok(answer) => found_in(answer.0),
         Err(_refused) => Err(NoMemory),
+    }
+}
+
+// The bytes that a Look told, or `None` where it told that there are none.
+fn found_in(reply: Reply) -> Result<Option<Blob>, NoMemory>
+    ensures { IfOk result (λ found. reply ≡ reply_for found) }
+{
+    match reply {
+        Reply::File(bytes) => Ok(Some(bytes)),
+        Reply::NoFile => Ok(None),
+        _ => Err(NoMemory),
     }
 }
 
@@ -60,14 +62,13 @@ pub fn look_made<B: Berth, P: Place, C: Rules, R: Wait>(
     action: u32,
     maker: Maker,
 ) -> Result<Blob, NoMemory>
-    requires lane { IsProxyOf C.seats berth caller.old.pass }
+    requires lane { IsProxyOf C.terms berth caller.old.pass }
     requires owes { OwesSend action (mine caller.old.pass) }
-    requires made { is_maker (C.makers (basis caller.old.pass) action) maker.action maker.output
-        ≡ true }
-    ensures same { IsSamePass caller.old.pass caller.new.pass }
+    requires made { is_maker ((C.terms (basis caller.old.pass)).makers action)
+        maker.action maker.output ≡ true }
     ensures told { IfOk result (λ bytes. IsTold (C.rule (basis caller.old.pass))
         caller.old.pass.lane (seen caller.new.pass) (made_as maker bytes)) }
-    ensures none { MakesNone caller.old.pass caller.new.pass }
+    ensures stays { Stays caller.old.pass caller.new.pass }
 {
     let _ = action;
     let wanted = Wanted::Made {

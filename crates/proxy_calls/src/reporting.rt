@@ -7,14 +7,15 @@ ghost use Rattle.exec_journal.specs.declared.reply.Reply.TheVariants as reply;
 ghost use Rattle.outside.specs.Launches.{IsNewTap, IsNewChild};
 ghost use Rattle.core_contract.specs.Duties.{Asks, Launches, duty_of};
 ghost use Rattle.proxy_calls.specs.Calls.{IsProxyOf, MakesNone, MakesOne, MayMake};
-ghost use Rattle.proxy_calls.specs.Reports.{is_report};
+ghost use Rattle.proxy_calls.specs.Reports.{is_report, Reports};
 
 use crate::goods::child_back;
+use core_bench::{Bench, Good};
+use core_contract::Rules;
 use exec_journal::{Call, Started};
 use lane_crew::Caller;
 use outside::{Berth, Place};
-use core_bench::{Bench, Good};
-use core_contract::Rules;
+use proxy_deeds::Cause;
 use seat_desk::Refused;
 use std::sync::Wait;
 
@@ -22,27 +23,23 @@ use std::sync::Wait;
 ///
 /// # Errors
 ///
-/// The report itself, if the desk had no memory for its entry. Then it was not made.
+/// The report, if the desk had no memory for its entry. Then it was not made.
 pub fn tell<B: Berth, P: Place, C: Rules, R: Wait>(
     rt: &R,
     caller: &mut Caller<'_, Bench<B, P, C>>,
     berth: u32,
     report: Call,
-) -> Result<(), Call>
-    requires lane { IsProxyOf C.seats berth caller.old.pass }
+) -> Result<(), Cause>
+    requires lane { IsProxyOf C.terms berth caller.old.pass }
     requires report { is_report report ≡ true }
-    requires may { MayMake C.outputs C.makers C.remote berth caller.old.pass report }
-    ensures same { IsSamePass caller.old.pass caller.new.pass }
-    ensures told { OnOk result (MakesOne report reply.Noted caller.old.pass caller.new.pass
-        × (duty_of (mine caller.new.pass) ≡ Asks)) }
-    ensures refused { IfErr result (λ call. (call ≡ report)
-        × MakesNone caller.old.pass caller.new.pass) }
+    requires may { MayMake C.terms berth caller.old.pass report }
+    ensures { Reports report result caller.old.pass caller.new.pass }
 {
     match caller.call(rt, report, None) {
         Ok(_answer) => Ok(()),
         Err(refused) => {
             let Refused { call, put: _ } = refused;
-            Err(call)
+            Err(Cause::Refused(call))
         }
     }
 }
@@ -66,7 +63,7 @@ pub fn tell_started<B: Berth, P: Place, C: Rules, R: Wait>(
     child: B::Child,
     tap: B::Tap,
 ) -> Result<(), Unsaid<B::Child>>
-    requires lane { IsProxyOf C.seats berth caller.old.pass }
+    requires lane { IsProxyOf C.terms berth caller.old.pass }
     requires child { IsNewChild line (B.Child.told child) }
     requires tap { IsNewTap line (B.Tap.told tap) }
     requires owes { duty_of (mine caller.old.pass) ≡ Launches line }

@@ -1,10 +1,9 @@
 -- What is done outside for a Send, a Cancel and a Gather.
-use Rattle.std.proofs.Common.{◌≡◌, ◌⊎◌, inl, inr, ℕ, ℤ, Bool, true, false, cond, List, [], ◌∷◌, ◌++◌, length, Option, Some, None, Result, refl, ap, sym, subst, ◌∙◌, arith, ◌&&◌, ◌<◌, pos, eq-eqb, lt-ltb}
+use Rattle.std.proofs.Common.{◌≡◌, inl, inr, ℕ, ℤ, Bool, true, false, cond, List, [], ◌∷◌, ◌++◌, length, Option, Some, None, Result, refl, ap, sym, subst, ◌∙◌, arith, ◌&&◌, ◌<◌, pos, eq-eqb, lt-ltb}
 use Rattle.std.specs.Ordering.{int_eq}
 use Rattle.std.proofs.lemmas.Cmp.{int_eq_equiv}
 use Rattle.run_plan.specs.declared.plan.Branch.{Branch}
 use Rattle.run_plan.specs.declared.plan.Branch.TheVariants.{Local, Remote}
-use Rattle.run_plan.specs.declared.plan.Maker.{Maker}
 use Rattle.exec_journal.specs.declared.attempt.Attempt.{Attempt}
 use Rattle.exec_journal.specs.declared.call.Call.TheVariants as call
 use Rattle.exec_journal.specs.declared.call.Started.{Started}
@@ -13,6 +12,7 @@ use Rattle.exec_journal.specs.declared.call.Wanted.TheVariants as wanted
 use Rattle.exec_journal.specs.Entries.{attempt_of, same_attempt, same_branch, is_done}
 use Rattle.exec_journal.specs.Scripts.{may_find}
 use Rattle.core_contract.specs.Duties as duties
+use Rattle.core_contract.specs.Terms.{Terms}
 use Rattle.core_contract.specs.Duties.{Duty, Cancels, Gathers, duty_of, may_do}
 use Rattle.proxy_calls.specs.Claims.{claim_of}
 use Rattle.proxy_calls.specs.Reports.{is_report}
@@ -22,7 +22,6 @@ use Rattle.run_plan.specs.Groups.{is_remote}
 use Rattle.outside.specs.Launches.{IsNewChild}
 use Rattle.outside.specs.Told.{BerthTold, FeedTold, ChildTold}
 use Rattle.proxy_calls.specs.Goods.{IsChildThere}
-use Rattle.outside.specs.declared.berth.BerthCall.{BerthCall}
 use Rattle.exec_journal.specs.declared.call.Call.{Call}
 use Rattle.exec_journal.specs.declared.call.Written.{Written}
 use Rattle.exec_journal.specs.declared.call.Written.TheVariants as write
@@ -33,7 +32,7 @@ use Rattle.remote_messages.specs.declared.file.NamedFile.{NamedFile}
 use Rattle.remote_messages.specs.declared.work.WorkAction.{WorkAction}
 use Rattle.sandbox_rooms.specs.declared.gathering.Gathered.{Gathered}
 use Rattle.sandbox_rooms.specs.declared.gathering.Gathered.TheVariants as gathered
-use Rattle.sandbox_rooms.specs.Calls.{Asked, Whole, Stopped, Cut, Runs, Made}
+use Rattle.sandbox_rooms.specs.Calls.{Asked, Made}
 use Rattle.sandbox_rooms.specs.Rooms.{MakesLooks}
 use Rattle.sandbox_rooms.proofs.Runs.{made_none}
 use Rattle.due_frames.specs.declared.frames.Due.{Due}
@@ -46,13 +45,13 @@ use Rattle.remote_branch.specs.Jobs.{job_for}
 use Rattle.due_frames.specs.Requests.{room_for, request_for}
 use Rattle.proxy_steps.specs.declared.hands.OpenFeed.{OpenFeed}
 use Rattle.proxy_steps.specs.Lanes.{open_of}
-use Rattle.order_acts.specs.Acts.{GivenBy, GivesFrame, Gave, RoomFailed, FeedFailed, IsFeedFault, Sends, ReportsLooks, FoundFits, found_as}
+use Rattle.order_acts.specs.Acts.{GivenBy, GivesFrame, Gave, Sends, ReportsLooks, FoundFits, found_as}
 use Rattle.core_contract.specs.Moves.{History}
 use Rattle.proxy_deeds.specs.declared.post.Post.{Post}
-use Rattle.proxy_deeds.specs.Deeds.{Looked, Deed, AreInputs, looks_of, looks_from, lacks, send_asks, due_for, look_asks, FoundIn}
+use Rattle.proxy_deeds.specs.Deeds.{AreInputs, looks_of, looks_from, lacks, send_asks, due_for, look_asks, FoundIn}
 use Rattle.proxy_deeds.specs.Told.{AreTold}
 use Rattle.proxy_deeds.proofs.Growing.{adds_none}
-use Rattle.proxy_steps.specs.Acts.{WriteDone, Writes, SendDone, SendActs, CancelDone, CancelActs, IsRoomFault, GatherDone, GatherActs, IsAnswered}
+use Rattle.proxy_steps.specs.Acts.{Writes, SendActs, CancelActs, IsRoomFault, GatherActs, IsAnswered}
 
 gave_none : (told : FeedTold) → Gave [] ⊥ told told
 gave_none told = record {
@@ -269,14 +268,14 @@ same_try : (t : Attempt) → same_attempt (attempt_of t.action t.branch t.number
 same_try t = (λ i. eq-eqb t.action t.action refl i
     && (same_side t.branch i && eq-eqb t.number t.number refl i))
 
-pub may_wrote : (outputs : ℕ → List (List ℕ)) (makers : ℕ → List Maker) (remote : Bool)
+pub may_wrote : (terms : Terms) (w : ℕ)
     (own : History) (l : ℕ) (n : ℤ) (how : Written) → OwesWrote l n (Result.Ok how) own
-    → may_do outputs makers remote (duty_of own) (call.Wrote l n how) ≡ true
-may_wrote outputs makers remote own l n how (inl x) =
-    ap (λ (s : Duty). may_do outputs makers remote s (call.Wrote l n how)) x.1
+    → may_do terms w (duty_of own) (call.Wrote l n how) ≡ true
+may_wrote terms w own l n how (inl x) =
+    ap (λ (s : Duty). may_do terms w s (call.Wrote l n how)) x.1
     ∙ (λ i. eq-eqb l l refl i && same_number n i)
-may_wrote outputs makers remote own l n how (inr x) =
-    ap (λ (s : Duty). may_do outputs makers remote s (call.Wrote l n how)) x.0
+may_wrote terms w own l n how (inr x) =
+    ap (λ (s : Duty). may_do terms w s (call.Wrote l n how)) x.0
     ∙ (λ i. eq-eqb l l refl i && (same_number n i && x.1 i))
 
 pub fault_report : (l : ℕ) (how : Started) → is_done how ≡ false
@@ -286,23 +285,23 @@ fault_report l start.RoomFault e = refl
 fault_report l start.LaunchFault e = refl
 
 -- a Claim of what was found
-pub may_claim_found : (outputs : ℕ → List (List ℕ)) (makers : ℕ → List Maker) (remote : Bool)
+pub may_claim_found : (terms : Terms) (w : ℕ)
     (own : History) (l : ℕ) (n : ℤ) (t : Attempt) (exit : ℤ) (refused : Bool) (f : Found)
     → duty_of own ≡ Gathers l n t exit refused
-    → may_find (length (outputs t.action)) remote exit refused f ≡ true
-    → may_do outputs makers remote (duty_of own) (claim_of t f) ≡ true
-may_claim_found outputs makers remote own l n t exit refused f duty fits =
-    ap (λ (s : Duty). may_do outputs makers remote s (claim_of t f)) duty
+    → may_find (length (terms.outputs t.action)) (terms.remote w) exit refused f ≡ true
+    → may_do terms w (duty_of own) (claim_of t f) ≡ true
+may_claim_found terms w own l n t exit refused f duty fits =
+    ap (λ (s : Duty). may_do terms w s (claim_of t f)) duty
     ∙ (λ i. same_try t i && fits i)
 
 -- a Look at an output of the answer
-pub may_look_at : (outputs : ℕ → List (List ℕ)) (makers : ℕ → List Maker) (remote : Bool)
+pub may_look_at : (terms : Terms) (w : ℕ)
     (own : History) (l : ℕ) (n : ℤ) (t : Attempt) (k : ℕ)
-    → duty_of own ≡ Gathers l n t (pos 0) false → k < length (outputs t.action)
-    → may_do outputs makers remote (duty_of own) (call.Look (wanted.Answered l n k)) ≡ true
-may_look_at outputs makers remote own l n t k duty below =
-    ap (λ (s : Duty). may_do outputs makers remote s (call.Look (wanted.Answered l n k))) duty
-    ∙ (λ i. (eq-eqb l l refl i && same_number n i) && lt-ltb k (length (outputs t.action)) below i)
+    → duty_of own ≡ Gathers l n t (pos 0) false → k < length (terms.outputs t.action)
+    → may_do terms w (duty_of own) (call.Look (wanted.Answered l n k)) ≡ true
+may_look_at terms w own l n t k duty below =
+    ap (λ (s : Duty). may_do terms w s (call.Look (wanted.Answered l n k))) duty
+    ∙ (λ i. (eq-eqb l l refl i && same_number n i) && lt-ltb k (length (terms.outputs t.action)) below i)
 
 -- what fits an answer
 pub answered_fits : (rule : History → ℕ → Call → Reply) (lane l : ℕ) (n : ℤ) (outputs : ℕ) (f : Found)

@@ -1,6 +1,6 @@
 -- How the lane ends: told to stop, or halted, or with a line's end on the way.
-use Rattle.std.proofs.Common.{◌≡◌, ℕ, ◌/◌, ◌≤◌, List, [], ◌∷◌, ◌++◌, Option, Some, None, option_map, refl, ap, sym, subst, ◌∙◌, append-nil, arith}
-use Rattle.std.specs.Prelude.{All, true}
+use Rattle.std.proofs.Common.{◌≡◌, ℕ, ◌/◌, ◌≤◌, List, [], ◌∷◌, ◌++◌, Option, Some, None, refl, ap, sym, subst, ◌∙◌, append-nil, arith}
+use Rattle.std.specs.Prelude.{true}
 use Rattle.seat_desk.specs.declared.machine.Machine.{Ghosts}
 use Rattle.seat_desk.specs.declared.desk.Pass.{Pass}
 use Rattle.seat_desk.specs.Passes.{mine, basis, seen}
@@ -18,12 +18,12 @@ use Rattle.core_contract.specs.Duties.{Duty, Asks, Launches, Sends, Cancels, Gat
 use Rattle.proxy_deeds.specs.declared.post.Post.{Post}
 use Rattle.proxy_deeds.specs.declared.cause.Cause.{Cause}
 use Rattle.proxy_deeds.specs.declared.cause.Cause.TheVariants as cause
-use Rattle.proxy_deeds.specs.Deeds.{Deed, DeedOf, IsCut, Acts, with_end, with_ends}
-use Rattle.proxy_deeds.specs.Lines.{Back, EndsLine, RoseBy, feed_fault, room_fault, IsServed, AreBack, started_by, started_in, lines_of, listed, unsaid_by}
+use Rattle.proxy_deeds.specs.Deeds.{Deed, DeedOf, with_end, with_ends}
+use Rattle.proxy_deeds.specs.Lines.{Back, EndsLine, RoseBy, feed_fault, room_fault, AreBack, started_by, lines_of, listed, unsaid_by}
 use Rattle.proxy_deeds.specs.Ends.{HaltsBy, lines_to_end, may_halt}
 use Rattle.proxy_deeds.proofs.Growing.{all_told_later, adds_none, with_ends_on}
 use Rattle.proxy_calls.specs.Calls.{MakesNone, MakesOne}
-use Rattle.proxy_steps.specs.Lanes.{Open, Held, open_line, Holds, Keeps, Halting}
+use Rattle.proxy_steps.specs.Lanes.{Held, open_line, Holds, Keeps, Halting}
 use Rattle.proxy_steps.specs.Steps.{Goes, Halts, IsLaidBy, AreLaidBy, Ended}
 use Rattle.proxy_steps.proofs.Holding.{Touches, holds_ended, holds_quiet, holds_laid}
 use Rattle.proxy_steps.proofs.Keeping.{keeps_more, halting_more}

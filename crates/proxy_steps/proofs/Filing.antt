@@ -8,7 +8,7 @@ use Rattle.remote_messages.specs.declared.file.NamedFile.{NamedFile}
 use Rattle.remote_messages.specs.declared.work.WorkInput.{WorkInput}
 use Rattle.core_contract.specs.Moves.{History}
 use Rattle.due_frames.specs.Requests.{IsFrom}
-use Rattle.proxy_deeds.specs.Deeds.{Looked, AreInputs, look_at, looks_of, looks_from, lacks}
+use Rattle.proxy_deeds.specs.Deeds.{Looked, AreInputs, look_at, looks_of, looks_from}
 use Rattle.proxy_deeds.specs.Told.{IsTold, AreTold}
 use Rattle.proxy_deeds.proofs.Growing.{are_told_later, told_more}
 

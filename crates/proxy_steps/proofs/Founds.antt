@@ -1,5 +1,5 @@
 -- What a Gather makes of what the lane has done so far.
-use Rattle.std.proofs.Common.{◌≡◌, ◌⊎◌, inl, inr, ⊎_elim, ℕ, ℤ, Bool, List, [], ◌∷◌, ◌++◌, Option, Some, None, Result, refl, ap, sym, subst, ◌∙◌, arith, append-nil}
+use Rattle.std.proofs.Common.{◌≡◌, ◌⊎◌, inl, inr, ⊎_elim, ℕ, ℤ, Bool, List, [], ◌∷◌, ◌++◌, Some, Result, refl, ap, sym, subst, ◌∙◌, arith, append-nil}
 use Rattle.std.specs.Prelude.{slice_get, length, true, false}
 use Rattle.seat_desk.specs.declared.machine.Machine.{Ghosts}
 use Rattle.seat_desk.specs.declared.desk.Pass.{Pass}
@@ -19,26 +19,25 @@ use Rattle.exec_journal.specs.declared.reply.Reply.TheVariants as reply
 use Rattle.remote_messages.specs.declared.work.WorkAction.{WorkAction}
 use Rattle.sandbox_rooms.specs.declared.gathering.Gathered.{Gathered}
 use Rattle.sandbox_rooms.specs.declared.gathering.Gathered.TheVariants as gathered
-use Rattle.sandbox_rooms.specs.Calls.{Asked, Whole, Cut, Runs, Made, went_well, asked, GoesOn}
+use Rattle.sandbox_rooms.specs.Calls.{Asked, Whole, Cut, Runs, Made, went_well, GoesOn}
 use Rattle.sandbox_rooms.specs.Rooms.{gather_end}
 use Rattle.order_acts.specs.Acts.{found_as}
 use Rattle.core_contract.specs.Moves.{Past, History}
-use Rattle.core_contract.specs.Duties.{Duty, Gathers, Commits, duty_of}
+use Rattle.core_contract.specs.Duties.{Duty, Gathers, duty_of}
 use Rattle.proxy_deeds.specs.declared.post.Post.{Post}
 use Rattle.proxy_deeds.specs.declared.cause.Cause.{Cause}
 use Rattle.proxy_deeds.specs.declared.cause.Cause.TheVariants as cause
-use Rattle.proxy_deeds.specs.Deeds.{Deed, DeedOf, IsCut, FoundIn, FoundBy, look_asks}
-use Rattle.proxy_deeds.specs.Told.{AreTold}
-use Rattle.proxy_deeds.specs.Lines.{Back, RoseBy, lines_of, listed, unsaid_by}
+use Rattle.proxy_deeds.specs.Deeds.{Deed, DeedOf, IsCut, FoundIn, look_asks}
+use Rattle.proxy_deeds.specs.Lines.{unsaid_by}
 use Rattle.proxy_deeds.specs.Ends.{HaltsBy, may_halt}
 use Rattle.proxy_deeds.proofs.Growing.{are_told_later, adds_none}
 use Rattle.proxy_calls.specs.Calls.{MakesNone}
 use Rattle.proxy_calls.specs.Claims.{claim_of}
 use Rattle.proxy_steps.specs.Acts.{IsRoomFault, GatherDone, GatherActs}
-use Rattle.proxy_steps.specs.Lanes.{Open, Held, Holds, Keeps, Halting}
-use Rattle.proxy_steps.specs.Steps.{Goes, Halts, HasFiles, HasCommitted, ClaimsFound, IsCauseOfClaim, files_in}
-use Rattle.proxy_steps.proofs.Holding.{Touches, IsQuiet, holds_quiet}
-use Rattle.proxy_steps.proofs.Keeping.{touches_quiet, rose_none, rose_one, keeps_more, halting_more}
+use Rattle.proxy_steps.specs.Lanes.{Held, Keeps}
+use Rattle.proxy_steps.specs.Steps.{Goes, Halts, HasCommitted, ClaimsFound, IsCauseOfClaim}
+use Rattle.proxy_steps.proofs.Holding.{Touches, holds_quiet}
+use Rattle.proxy_steps.proofs.Keeping.{touches_quiet, rose_one, keeps_more, halting_more}
 use Rattle.proxy_steps.proofs.Sends.{starts_later}
 
 -- ---- looks that all found their outputs

@@ -1,30 +1,21 @@
 -- One entry more, with its deed, and what the lane has in its hands.
-use Rattle.std.proofs.Common.{◌≡◌, ◌⊎◌, inl, inr, ℕ, ◌+◌, ◌-◌, ◌^◌, ◌<◌, ◌≤◌, ◌==◌, min, Bool, true, false, cond, zero, suc, ne_eqb, List, [], ◌∷◌, ◌++◌, length, Option, Some, None, option_map, refl, ap, sym, subst, ◌∙◌, append_assoc, append-nil, arith}
-use Rattle.std.specs.Prelude.{All, slice_index_or, map}
+use Rattle.std.proofs.Common.{◌≡◌, ℕ, ◌<◌, Bool, cond, suc, ne_eqb, List, [], ◌∷◌, ◌++◌, Option, Some, None, refl, ap, sym, subst, ◌∙◌, append-nil, arith}
+use Rattle.std.specs.Prelude.{All, slice_index_or}
 use Rattle.std.proofs.lemmas.List.Elements.{All-append, All-cons, All-nil}
 use Rattle.std.proofs.lemmas.List.{map-append}
-use Rattle.seat_desk.specs.History.{entry, StartsWith}
-use Rattle.outside.specs.Causes.{Counts}
+use Rattle.seat_desk.specs.History.{StartsWith}
 use Rattle.outside.specs.Lists.{Tells, Adds}
 use Rattle.outside.specs.Told.{BerthTold, SameBerth, FeedTold, SameFeed}
-use Rattle.outside.specs.declared.berth.BerthCall.{BerthCall}
 use Rattle.exec_journal.specs.declared.call.Call.{Call}
-use Rattle.exec_journal.specs.declared.call.Call.TheVariants as call
 use Rattle.exec_journal.specs.declared.reply.Reply.{Reply}
-use Rattle.exec_journal.specs.declared.reply.Reply.TheVariants as reply
-use Rattle.remote_messages.specs.declared.work.WorkAction.{WorkAction}
 use Rattle.core_contract.specs.Moves.{Past, History}
 use Rattle.core_contract.specs.Laws.{lines_in}
-use Rattle.core_contract.specs.Duties.{Asks, duty_of}
-use Rattle.proxy_deeds.specs.declared.post.Post.{Post}
-use Rattle.proxy_deeds.specs.declared.cause.Cause.{Cause}
-use Rattle.proxy_deeds.specs.Deeds.{Deed, DeedOf, Acts, given_by, given_to, with_end}
+use Rattle.proxy_deeds.specs.Deeds.{Deed, given_by, given_to, with_end}
 use Rattle.proxy_deeds.specs.Told.{AreTold, AllTold}
 use Rattle.proxy_deeds.specs.Lines.{started_by, started_in, room_fault, feed_fault, feed_faults, RoseBy, Back, EndsLine, IsFed, IsBack, IsKilled, IsServed, lines_of, listed}
-use Rattle.proxy_deeds.specs.Ends.{HaltsBy}
-use Rattle.proxy_deeds.proofs.Growing.{acts_more, all_told_later, all_told_more, started_more, served_none, served_more, given_more, feed_more, fed_more, fed_still, LeavesFeed, backs_still, leaves_all, gives_other, gives_own, told_with_end, given_with_end, served_with_end, fed_with_end, backs_with_end}
+use Rattle.proxy_deeds.proofs.Growing.{all_told_later, all_told_more, started_more, served_none, served_more, given_more, feed_more, fed_more, fed_still, LeavesFeed, backs_still, leaves_all, gives_other, gives_own, told_with_end, given_with_end, served_with_end, fed_with_end, backs_with_end}
 use Rattle.proxy_calls.proofs.Askings.{lines_later}
-use Rattle.proxy_steps.specs.Lanes.{Open, Held, open_line, IsAfter, IsOpenFed, Holds, Keeps, Halting}
+use Rattle.proxy_steps.specs.Lanes.{Open, Held, open_line, IsAfter, IsOpenFed, Holds}
 
 all_last : {X : Type 0} (P : X → Type 0) (xs : List X) (y : X) → All P (xs ++ y ∷ []) → P y
 all_last P [] y a = a 0 y (omega arith)

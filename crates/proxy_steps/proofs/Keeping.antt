@@ -1,13 +1,8 @@
 -- What a step makes of what the lane has done so far.
-use Rattle.std.proofs.Common.{◌≡◌, ◌⊎◌, inl, inr, ⊎_elim, ℕ, ◌+◌, ◌-◌, ◌^◌, ◌<◌, ◌≤◌, ◌==◌, ℤ, min, Bool, true, false, cond, zero, suc, List, [], ◌∷◌, ◌++◌, Option, Some, None, Result, refl, ap, sym, subst, ◌∙◌, arith, append-nil, ne_eqb}
-use Rattle.std.specs.Prelude.{All}
-use Rattle.std.specs.List.{fold}
-use Rattle.seat_desk.specs.History.{entry, StartsWith}
-use Rattle.plain_values.specs.declared.no_memory.NoMemory.{NoMemory}
+use Rattle.std.proofs.Common.{◌≡◌, ℕ, ◌+◌, ◌-◌, ◌^◌, ◌≤◌, ◌==◌, ℤ, min, Bool, true, false, cond, List, [], ◌∷◌, ◌++◌, Option, Some, None, Result, refl, ap, sym, subst, ◌∙◌, arith, ne_eqb}
+use Rattle.seat_desk.specs.History.{entry}
 use Rattle.outside.specs.Causes.{Counts}
-use Rattle.outside.specs.Lists.{Adds}
-use Rattle.outside.specs.Told.{BerthTold, FeedTold}
-use Rattle.outside.specs.declared.berth.BerthCall.{BerthCall}
+use Rattle.outside.specs.Told.{BerthTold}
 use Rattle.exec_journal.specs.declared.call.Call.{Call}
 use Rattle.exec_journal.specs.declared.call.Call.TheVariants as call
 use Rattle.exec_journal.specs.declared.call.Written.{Written}
@@ -16,17 +11,16 @@ use Rattle.exec_journal.specs.declared.reply.Reply.{Reply}
 use Rattle.exec_journal.specs.declared.reply.Reply.TheVariants as reply
 use Rattle.remote_messages.specs.declared.work.WorkAction.{WorkAction}
 use Rattle.sandbox_rooms.specs.Calls.{Made}
-use Rattle.order_acts.specs.Acts.{Gave, IsFeedFault, RoomFailed, FeedFailed}
+use Rattle.order_acts.specs.Acts.{IsFeedFault, RoomFailed}
 use Rattle.core_contract.specs.Moves.{Past, History}
-use Rattle.core_contract.specs.Duties.{Duty, Asks, duty_of}
+use Rattle.core_contract.specs.Duties.{Asks, duty_of}
 use Rattle.proxy_deeds.specs.declared.post.Post.{Post}
 use Rattle.proxy_deeds.specs.declared.cause.Cause.{Cause}
 use Rattle.proxy_deeds.specs.Deeds.{Deed, DeedOf, Acts, with_ends}
-use Rattle.proxy_deeds.specs.Told.{AreTold}
 use Rattle.proxy_deeds.specs.Lines.{Back, RoseBy, room_fault, feed_fault, lines_of, listed, unsaid_by}
 use Rattle.proxy_deeds.specs.Ends.{HaltsBy}
 use Rattle.proxy_deeds.proofs.Growing.{acts_more}
-use Rattle.proxy_steps.specs.Lanes.{Open, Held, Holds, Keeps, Halting}
+use Rattle.proxy_steps.specs.Lanes.{Held, Holds, Keeps, Halting}
 use Rattle.proxy_steps.proofs.Holding.{Touches}
 
 -- ---- counts

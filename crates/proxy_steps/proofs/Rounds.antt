@@ -1,35 +1,34 @@
 -- One round: an Ask, and what holds where the lane is ordered so.
-use Rattle.std.proofs.Common.{◌≡◌, ℕ, ◌+◌, ◌*◌, ◌<◌, ◌≤◌, ℤ, Bool, true, false, List, [], ◌∷◌, ◌++◌, length, Option, Some, None, refl, ap, sym, subst, ◌∙◌, append-nil, arith}
-use Rattle.std.specs.Prelude.{All, slice_index_or}
+use Rattle.std.proofs.Common.{◌≡◌, ℕ, ◌<◌, ◌≤◌, List, Option, Some, None, refl, ap, sym, subst, ◌∙◌, append-nil, arith}
+use Rattle.std.specs.Prelude.{All}
 use Rattle.seat_desk.specs.declared.machine.Machine.{Ghosts}
 use Rattle.seat_desk.specs.declared.desk.Pass.{Pass}
 use Rattle.seat_desk.specs.Passes.{mine, basis, seen}
-use Rattle.seat_desk.specs.History.{entry, StartsWith}
-use Rattle.outside.specs.Told.{BerthTold, ChildTold}
+use Rattle.seat_desk.specs.History.{entry}
+use Rattle.outside.specs.Told.{ChildTold}
 use Rattle.run_plan.specs.declared.plan.Branch.{Branch}
-use Rattle.exec_journal.specs.declared.attempt.Attempt.{Attempt}
 use Rattle.exec_journal.specs.declared.call.Call.{Call}
 use Rattle.exec_journal.specs.declared.call.Call.TheVariants as call
 use Rattle.exec_journal.specs.declared.reply.Reply.{Reply}
 use Rattle.exec_journal.specs.declared.reply.Reply.TheVariants as reply
 use Rattle.remote_messages.specs.declared.work.WorkAction.{WorkAction}
+use Rattle.core_contract.specs.Terms.{Terms}
 use Rattle.core_contract.specs.Moves.{Past, History, ask_moves}
 use Rattle.core_contract.specs.Shelf.{child_at, child_by}
 use Rattle.core_contract.specs.Laws.{OrderHolds, lines_in}
-use Rattle.core_contract.specs.Duties.{Duty, Asks, Launches, Sends, Cancels, Gathers, Kills, Left, duty_by, duty_of, proxy_lane}
+use Rattle.core_contract.specs.Duties.{Duty, Asks, Launches, Left, duty_by, duty_of, proxy_lane}
 use Rattle.proxy_deeds.specs.declared.post.Post.{Post}
-use Rattle.proxy_deeds.specs.declared.cause.Cause.{Cause}
 use Rattle.proxy_deeds.specs.declared.cause.Cause.TheVariants as cause
-use Rattle.proxy_deeds.specs.Deeds.{Deed, DeedOf}
-use Rattle.proxy_deeds.specs.Lines.{Back, started_in, lines_of, listed}
+use Rattle.proxy_deeds.specs.Deeds.{DeedOf}
+use Rattle.proxy_deeds.specs.Lines.{started_in}
 use Rattle.proxy_deeds.specs.Ends.{HaltsBy}
 use Rattle.proxy_deeds.proofs.Growing.{started_more}
 use Rattle.proxy_calls.specs.declared.asking.Order.{Order}
 use Rattle.proxy_calls.specs.declared.asking.Order.TheVariants as order
 use Rattle.proxy_calls.specs.Calls.{MakesNone, MakesOne}
-use Rattle.proxy_calls.specs.Orders.{IsOrdered, lines_with, HasAsked}
+use Rattle.proxy_calls.specs.Orders.{lines_with, HasAsked}
 use Rattle.proxy_calls.proofs.Entries.{duty_more}
-use Rattle.proxy_steps.specs.Lanes.{Held, Holds, Keeps, Halting}
+use Rattle.proxy_steps.specs.Lanes.{Held}
 use Rattle.proxy_steps.specs.Steps.{Goes, Halts, IsShelved, IsNewLine, MayObey}
 use Rattle.proxy_steps.proofs.Holding.{holds_quiet}
 use Rattle.proxy_steps.proofs.Keeping.{keeps_more, halting_more}
@@ -63,7 +62,7 @@ module _ {M G Q : Type 0} {g : Ghosts M Call Reply G Q} (post : Post) (actions :
 
   -- ---- what holds of an order
 
-  module _ {K : Type 0} (count : ℕ) (told : K → ChildTold) (w : ℕ) (opened : Option ℕ)
+  module _ {K : Type 0} (terms : Q → Terms) (told : K → ChildTold) (w : ℕ) (opened : Option ℕ)
       (lane : p.lane ≡ proxy_lane w) (shelved : IsShelved w p opened)
       (below : All (λ l. l < lines_in (seen p)) (started_in (mine p))) where
     -- what is owed, and what lies on the shelf then
@@ -81,11 +80,11 @@ module _ {M G Q : Type 0} {g : Ghosts M Call Reply G Q} (post : Post) (actions :
           ∙ append-nil (started_in (mine p)))
 
     by_launch : (r : Reply) (l a : ℕ) (b : Branch) (t lines : ℕ) → r ≡ reply.Launch l a b t
-        → MakesOne call.Ask r p p1 → OrderHolds count (child_at w (mine p)) lines r
+        → MakesOne call.Ask r p p1 → OrderHolds (terms (basis p)).actions (child_at w (mine p)) lines r
         → lines_in (seen p) ≤ lines → lines_in (seen p1) ≡ lines_with r lines
         → (duty_of (mine p1) ≡ Launches l) × (opened ≡ None) × IsShelved w p1 opened × IsNewLine l p1
     by_launch r l a b t lines is made holds later then =
-        let so = subst (λ (x : Reply). OrderHolds count (child_at w (mine p)) lines x) is holds in
+        let so = subst (λ (x : Reply). OrderHolds (terms (basis p)).actions (child_at w (mine p)) lines x) is holds in
         let more = then ∙ ap (λ (x : Reply). lines_with x lines) is in
         let first : l ≡ lines = so.0 in (
           duty_is r made ∙ ap (duty_by Asks call.Ask) is,
@@ -98,13 +97,13 @@ module _ {M G Q : Type 0} {g : Ghosts M Call Reply G Q} (post : Post) (actions :
           ),
         )
 
-    pub may_obey : (o : Order K) → HasAsked count told w (Some o) p p1
-        → MayObey count told w o p1 opened
+    pub may_obey : (o : Order K) → HasAsked terms told w (Some o) p p1
+        → MayObey (terms (basis p)).actions told w o p1 opened
     may_obey (order.Launch l) x = by_launch x.reply l x.is_ordered.0 x.is_ordered.1 x.is_ordered.2 x.lines
         x.is_ordered.3 x.made x.holds x.later x.lines_then
     may_obey (order.Send l n a) x =
         let is = x.is_ordered.2 in
-        let so = subst (λ (y : Reply). OrderHolds count (child_at w (mine p)) x.lines y) is x.holds in (
+        let so = subst (λ (y : Reply). OrderHolds (terms (basis p)).actions (child_at w (mine p)) x.lines y) is x.holds in (
           duty_is x.reply x.made ∙ ap (duty_by Asks call.Ask) is,
           sym shelved ∙ so.1,
           child_is x.reply x.made ∙ ap (λ (y : Reply). child_by opened (ask_moves y)) is,
@@ -112,21 +111,21 @@ module _ {M G Q : Type 0} {g : Ghosts M Call Reply G Q} (post : Post) (actions :
         )
     may_obey (order.Cancel l n) x =
         let is = x.is_ordered in
-        let so = subst (λ (y : Reply). OrderHolds count (child_at w (mine p)) x.lines y) is x.holds in (
+        let so = subst (λ (y : Reply). OrderHolds (terms (basis p)).actions (child_at w (mine p)) x.lines y) is x.holds in (
           duty_is x.reply x.made ∙ ap (duty_by Asks call.Ask) is,
           sym shelved ∙ so,
           child_is x.reply x.made ∙ ap (λ (y : Reply). child_by opened (ask_moves y)) is,
         )
-    may_obey (order.Gather l n t exit refused) x =
+    may_obey (order.Gather y) x =
         let is = x.is_ordered in
-        let so = subst (λ (y : Reply). OrderHolds count (child_at w (mine p)) x.lines y) is x.holds in (
+        let so = subst (λ (y : Reply). OrderHolds (terms (basis p)).actions (child_at w (mine p)) x.lines y) is x.holds in (
           duty_is x.reply x.made ∙ ap (duty_by Asks call.Ask) is,
           child_is x.reply x.made ∙ ap (λ (y : Reply). child_by opened (ask_moves y)) is,
           so,
         )
     may_obey (order.Kill l k) x =
         let is = x.is_ordered.0.1 in
-        let so = subst (λ (y : Reply). OrderHolds count (child_at w (mine p)) x.lines y) is x.holds in (
+        let so = subst (λ (y : Reply). OrderHolds (terms (basis p)).actions (child_at w (mine p)) x.lines y) is x.holds in (
           duty_is x.reply x.made ∙ ap (duty_by Asks call.Ask) is,
           sym shelved ∙ so,
           child_is x.reply x.made ∙ ap (λ (y : Reply). child_by opened (ask_moves y)) is,
@@ -134,11 +133,11 @@ module _ {M G Q : Type 0} {g : Ghosts M Call Reply G Q} (post : Post) (actions :
         )
 
     -- where it was told to stop
-    pub stopped : HasAsked {K = K} count told w None p p1
+    pub stopped : HasAsked {K = K} terms told w None p p1
         → (duty_of (mine p1) ≡ Left) × (opened ≡ None) × IsShelved w p1 opened
     stopped x =
         let is = x.is_ordered in
-        let so = subst (λ (y : Reply). OrderHolds count (child_at w (mine p)) x.lines y) is x.holds in (
+        let so = subst (λ (y : Reply). OrderHolds (terms (basis p)).actions (child_at w (mine p)) x.lines y) is x.holds in (
           duty_is x.reply x.made ∙ ap (duty_by Asks call.Ask) is,
           sym shelved ∙ so,
           child_is x.reply x.made ∙ ap (λ (y : Reply). child_by opened (ask_moves y)) is,

@@ -1,6 +1,6 @@
 -- What a Send and a Cancel make of what the lane has done so far.
-use Rattle.std.proofs.Common.{◌≡◌, ◌⊎◌, inl, inr, ⊎_elim, ℕ, ◌<◌, ◌==◌, ℤ, List, [], ◌∷◌, ◌++◌, Option, Some, None, Result, refl, ap, sym, subst, ◌∙◌, arith, append_assoc}
-use Rattle.std.specs.Prelude.{slice_get, true}
+use Rattle.std.proofs.Common.{◌≡◌, inl, inr, ⊎_elim, ℕ, ℤ, List, [], ◌∷◌, ◌++◌, Some, Result, refl, ap, sym, subst, ◌∙◌, arith, append_assoc}
+use Rattle.std.specs.Prelude.{slice_get}
 use Rattle.seat_desk.specs.declared.machine.Machine.{Ghosts}
 use Rattle.seat_desk.specs.declared.desk.Pass.{Pass}
 use Rattle.seat_desk.specs.Passes.{mine, basis, seen}
@@ -16,21 +16,20 @@ use Rattle.exec_journal.specs.declared.reply.Reply.TheVariants as reply
 use Rattle.remote_messages.specs.declared.work.WorkAction.{WorkAction}
 use Rattle.sandbox_rooms.specs.Calls.{Made}
 use Rattle.order_acts.specs.Acts.{Gave, IsFeedFault, RoomFailed, FeedFailed}
-use Rattle.core_contract.specs.Moves.{Past, History}
+use Rattle.core_contract.specs.Moves.{History}
 use Rattle.core_contract.specs.Duties.{Duty, Sends, Cancels, duty_of}
 use Rattle.proxy_deeds.specs.declared.post.Post.{Post}
 use Rattle.proxy_deeds.specs.declared.cause.Cause.{Cause}
-use Rattle.proxy_deeds.specs.declared.cause.Cause.TheVariants as cause
 use Rattle.proxy_deeds.specs.Deeds.{Deed, DeedOf, IsCut}
 use Rattle.proxy_deeds.specs.Told.{AreTold}
-use Rattle.proxy_deeds.specs.Lines.{Back, RoseBy, feed_fault, lines_of, listed, unsaid_by}
+use Rattle.proxy_deeds.specs.Lines.{RoseBy, feed_fault, unsaid_by}
 use Rattle.proxy_deeds.specs.Ends.{HaltsBy, may_halt}
 use Rattle.proxy_deeds.proofs.Growing.{are_told_later, adds_none}
 use Rattle.proxy_calls.specs.Calls.{MakesNone}
 use Rattle.proxy_steps.specs.Acts.{SendDone, SendActs, CancelDone, CancelActs}
 use Rattle.proxy_steps.specs.Lanes.{Open, Held, Holds, Keeps, Halting}
 use Rattle.proxy_steps.specs.Steps.{Goes, Halts, TellsWrote, IsCauseOf}
-use Rattle.proxy_steps.proofs.Holding.{Touches, holds_given}
+use Rattle.proxy_steps.proofs.Holding.{holds_given}
 use Rattle.proxy_steps.proofs.Keeping.{touches_wrote, touches_quiet, feed_rose, feed_other, rose_none, keeps_more, halting_more}
 
 pub starts_later : (a b c : History) → StartsWith b a → StartsWith c b → StartsWith c a

@@ -1,5 +1,5 @@
 -- Round after round, to the lane's end.
-use Rattle.std.proofs.Common.{◌≡◌, ℕ, ◌/◌, Bool, List, [], ◌∷◌, ◌++◌, Option, Some, None, option_map, vec_len, vec_capacity, ◌<◌, refl, ap, sym, subst, ◌∙◌, arith}
+use Rattle.std.proofs.Common.{◌≡◌, ℕ, ◌/◌, List, [], Option, Some, None, vec_len, vec_capacity, ◌<◌, refl, ap, sym, subst, ◌∙◌, arith}
 use Rattle.std.specs.Prelude.{true}
 use Rattle.seat_desk.specs.declared.machine.Machine.{Ghosts}
 use Rattle.seat_desk.specs.declared.desk.Pass.{Pass}
@@ -10,6 +10,7 @@ use Rattle.exec_journal.specs.declared.call.Call.TheVariants as call
 use Rattle.exec_journal.specs.declared.reply.Reply.{Reply}
 use Rattle.exec_journal.specs.declared.reply.Reply.TheVariants as reply
 use Rattle.remote_messages.specs.declared.work.WorkAction.{WorkAction}
+use Rattle.core_contract.specs.Terms.{Terms}
 use Rattle.core_contract.specs.Moves.{History}
 use Rattle.core_contract.specs.Shelf.{child_at}
 use Rattle.core_contract.specs.Duties.{Left, duty_of}
@@ -117,10 +118,10 @@ module _ {M G Q B D K : Type 0} {g : Ghosts M Call Reply G Q} (w : ℕ)
       omega arith
 
 -- what holds of a pass holds of it later
-pub proxy_on : {M G Q : Type 0} {g : Ghosts M Call Reply G Q} (seats : Q → ℕ) (w : ℕ)
-    (p p' : Pass M Call Reply G Q g) → IsSamePass p p' → IsProxyOf seats w p → IsProxyOf seats w p'
-proxy_on {M} {G} {Q} seats w p p' same x =
-    (same.1 ∙ x.0, subst (λ (q : Q). w < seats q) (sym same.2) x.1)
+pub proxy_on : {M G Q : Type 0} {g : Ghosts M Call Reply G Q} (terms : Q → Terms) (w : ℕ)
+    (p p' : Pass M Call Reply G Q g) → IsSamePass p p' → IsProxyOf terms w p → IsProxyOf terms w p'
+proxy_on {M} {G} {Q} terms w p p' same x =
+    (same.1 ∙ x.0, subst (λ (q : Q). w < (terms q).berths) (sym same.2) x.1)
 
 pub by_rules : {M G Q : Type 0} {g : Ghosts M Call Reply G Q} (F : Q → Type 0)
     (p p' : Pass M Call Reply G Q g) → IsSamePass p p' → F (basis p) → F (basis p')

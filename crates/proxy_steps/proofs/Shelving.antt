@@ -1,5 +1,5 @@
 -- Which child lies on the shelf after an entry of the proxy lane.
-use Rattle.std.proofs.Common.{◌≡◌, ℕ, ℤ, Result, ◌*◌, ◌/◌, ◌==◌, Bool, true, false, cond, List, [], ◌∷◌, ◌++◌, Option, Some, None, refl, ap, sym, ◌∙◌, eq-eqb, ⊎_elim}
+use Rattle.std.proofs.Common.{◌≡◌, ℕ, ℤ, Result, ◌/◌, ◌==◌, Bool, true, cond, List, [], ◌∷◌, ◌++◌, Option, None, refl, ap, ◌∙◌, eq-eqb, ⊎_elim}
 use Rattle.std.proofs.lemmas.Grind.{fold-append}
 use Rattle.std.specs.Prelude.{OnOk, IfErr}
 use Rattle.seat_desk.specs.declared.machine.Machine.{Ghosts}
@@ -13,17 +13,14 @@ use Rattle.exec_journal.specs.declared.attempt.Attempt.{Attempt}
 use Rattle.exec_journal.specs.declared.call.Found.{Found}
 use Rattle.exec_journal.specs.declared.call.Found.TheVariants as found
 use Rattle.proxy_calls.specs.Claims.{claim_of}
-use Rattle.exec_journal.specs.declared.call.Started.{Started}
-use Rattle.exec_journal.specs.declared.call.Started.TheVariants as start
-use Rattle.exec_journal.specs.Entries.{is_done}
 use Rattle.proxy_deeds.specs.declared.cause.Cause.{Cause}
-use Rattle.proxy_deeds.specs.declared.cause.Cause.TheVariants as cause
-use Rattle.proxy_calls.specs.Calls.{MakesNone, MakesOne}
+use Rattle.proxy_calls.specs.Calls.{MakesNone}
+use Rattle.proxy_calls.specs.Reports.{Told}
 use Rattle.proxy_steps.specs.Steps.{TellsWrote, IsCauseOf, ClaimsFound}
 use Rattle.seat_desk.specs.History.{entry}
 use Rattle.exec_journal.specs.declared.call.Call.{Call}
 use Rattle.exec_journal.specs.declared.reply.Reply.{Reply}
-use Rattle.core_contract.specs.Moves.{History, Move, claim_moves, proxy_move, move_in}
+use Rattle.core_contract.specs.Moves.{History, claim_moves, proxy_move, move_in}
 use Rattle.core_contract.specs.Shelf.{child_by, child_then, child_at}
 use Rattle.core_contract.specs.Duties.{Asks, duty_of, proxy_lane}
 use Rattle.proxy_calls.proofs.Entries.{move_is, halved}
@@ -59,23 +56,15 @@ wrote_shelved w l n (Result.Err e) p p1 p2 (Result.Ok u) is none lane told refus
 wrote_shelved w l n wrote p p1 p2 (Result.Err by) is none lane told refused =
     ap (child_at w) (refused.0.1 ∙ none.1)
 
--- so does the report of a line that wasn't started
-pub not_started_shelved : {M G Q A : Type 0} {g : Ghosts M Call Reply G Q} (w l : ℕ) (how : Started)
+-- so does a report by which nothing is moved
+pub told_shelved : {M G Q A : Type 0} {g : Ghosts M Call Reply G Q} (w : ℕ) (c : Call)
     (p p2 : Pass M Call Reply G Q g) (r : Result A Cause) → p.lane ≡ proxy_lane w
-    → is_done how ≡ false
-    → OnOk r (MakesOne (call.Launched l how) reply.Noted p p2 × (duty_of (mine p2) ≡ Asks))
-    → IfErr r (λ by. (by ≡ cause.Refused (call.Launched l how)) × MakesNone p p2)
+    → ((o : Option ℕ) → child_by o (proxy_move c reply.Noted) ≡ o) → Told c r p p2
     → child_at w (mine p2) ≡ child_at w (mine p)
-not_started_shelved w l how p p2 (Result.Ok u) is fault told refused =
-    ap (child_at w) told.0.1 ∙ (child_more w p.lane (mine p) (call.Launched l how) reply.Noted is
-    ∙ by_how how fault)
-  where
-    by_how : (s : Started) → is_done s ≡ false
-        → child_by (child_at w (mine p)) (proxy_move (call.Launched l s) reply.Noted) ≡ child_at w (mine p)
-    by_how start.Done e = absurd (cc)
-    by_how start.RoomFault e = refl
-    by_how start.LaunchFault e = refl
-not_started_shelved w l how p p2 (Result.Err by) is fault told refused = ap (child_at w) refused.1.1
+told_shelved w c p p2 (Result.Ok u) is still told =
+    ap (child_at w) told.0.1 ∙ (child_more w p.lane (mine p) c reply.Noted is
+    ∙ still (child_at w (mine p)))
+told_shelved w c p p2 (Result.Err by) is still told = ap (child_at w) told.1.1
 
 -- so do a Claim and a Committed
 files_leave : (o : Option ℕ) (k : ℕ) (fs : List (List ℕ)) (r : Reply)

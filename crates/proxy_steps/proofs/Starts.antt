@@ -1,14 +1,12 @@
 -- What a Launch makes of what the lane has done so far.
-use Rattle.std.proofs.Common.{◌≡◌, ◌⊎◌, inl, inr, ℕ, ◌<◌, List, [], ◌∷◌, ◌++◌, ◌≤◌, Option, Some, None, Result, refl, ap, sym, subst, ◌∙◌, arith}
-use Rattle.std.specs.Prelude.{All, true, false}
+use Rattle.std.proofs.Common.{◌≡◌, ℕ, ◌<◌, List, [], ◌∷◌, ◌++◌, ◌≤◌, Some, None, refl, ap, sym, subst, ◌∙◌, arith}
+use Rattle.std.specs.Prelude.{All, false}
 use Rattle.seat_desk.specs.declared.machine.Machine.{Ghosts}
 use Rattle.seat_desk.specs.declared.desk.Pass.{Pass}
 use Rattle.seat_desk.specs.Passes.{mine, basis, seen}
-use Rattle.seat_desk.specs.History.{entry, StartsWith}
-use Rattle.plain_values.specs.declared.no_memory.NoMemory.{NoMemory}
+use Rattle.seat_desk.specs.History.{entry}
 use Rattle.outside.specs.Launches.{IsNewFeed}
 use Rattle.outside.specs.Told.{BerthTold, FeedTold}
-use Rattle.outside.specs.declared.answers.Io.TheVariants as io
 use Rattle.outside.specs.declared.berth.BerthCall.{BerthCall}
 use Rattle.outside.specs.declared.berth.BerthCall.TheVariants as berth
 use Rattle.exec_journal.specs.declared.call.Call.{Call}
@@ -26,16 +24,15 @@ use Rattle.core_contract.specs.Laws.{lines_in}
 use Rattle.core_contract.specs.Duties.{Duty, Launches, duty_of}
 use Rattle.proxy_deeds.specs.declared.post.Post.{Post}
 use Rattle.proxy_deeds.specs.declared.cause.Cause.{Cause}
-use Rattle.proxy_deeds.specs.declared.cause.Cause.TheVariants as cause
-use Rattle.proxy_deeds.specs.Deeds.{Deed, DeedOf, IsCut, with_end}
-use Rattle.proxy_deeds.specs.Lines.{Back, EndsLine, IsFed, IsKilled, RoseBy, room_fault, started_by, started_in, lines_of, listed, unsaid_by}
-use Rattle.proxy_deeds.specs.Ends.{HaltsBy, may_halt}
+use Rattle.proxy_deeds.specs.Deeds.{Deed, DeedOf, with_end}
+use Rattle.proxy_deeds.specs.Lines.{Back, EndsLine, IsFed, IsKilled, RoseBy, room_fault, started_by, started_in, unsaid_by}
+use Rattle.proxy_deeds.specs.Ends.{HaltsBy}
 use Rattle.proxy_calls.specs.Calls.{MakesNone, MakesOne}
-use Rattle.proxy_steps.specs.Lanes.{Open, Held, Holds, Keeps, Halting}
+use Rattle.proxy_steps.specs.Lanes.{Held}
 use Rattle.proxy_deeds.proofs.Growing.{adds_more}
 use Rattle.proxy_steps.specs.Steps.{Goes, Halts}
 use Rattle.proxy_steps.proofs.Holding.{Touches, IsQuiet, holds_quiet, holds_started, holds_unsaid}
-use Rattle.proxy_steps.proofs.Keeping.{touches_quiet, rose_none, rose_one, keeps_more, halting_more, halting_with}
+use Rattle.proxy_steps.proofs.Keeping.{touches_quiet, rose_one, keeps_more, halting_more, halting_with}
 
 abbrev pub calls_deed : List BerthCall → Deed
 calls_deed calls = record { line = 0; looks = []; calls = calls; given = [] }

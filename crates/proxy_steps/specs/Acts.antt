@@ -1,5 +1,5 @@
 -- What is done outside for an order, before it is reported.
-use Rattle.std.specs.Prelude.{◌≡◌, ◌⊎◌, ◌<◌, ℕ, ℤ, Bool, List, [], ◌∷◌, ◌++◌, length, Result, Ok, Err}
+use Rattle.std.specs.Prelude.{◌≡◌, ◌⊎◌, ◌<◌, ℕ, ℤ, List, [], ◌∷◌, ◌++◌, length, Result, Ok, Err}
 use Rattle.plain_values.specs.declared.no_memory.NoMemory.{NoMemory}
 use Rattle.run_plan.specs.Groups.{is_remote}
 use Rattle.exec_journal.specs.declared.call.Call.{Call}
@@ -14,10 +14,10 @@ use Rattle.remote_messages.specs.declared.work.WorkAction.{WorkAction}
 use Rattle.sandbox_rooms.specs.Calls.{Asked, Cut, Runs, Made}
 use Rattle.due_frames.specs.declared.frames.Due.{Due}
 use Rattle.due_frames.specs.Frames.{cancel_due}
-use Rattle.order_acts.specs.Acts.{GivenBy, Gave, IsFeedFault, RoomFailed, FeedFailed}
+use Rattle.order_acts.specs.Acts.{GivenBy, Gave, RoomFailed, FeedFailed}
 use Rattle.core_contract.specs.Moves.{History}
 use Rattle.proxy_deeds.specs.declared.post.Post.{Post}
-use Rattle.proxy_deeds.specs.Deeds.{Looked, Deed, AreInputs, looks_of, looks_from, lacks, SentAs, FoundIn, send_asks, due_for, look_asks}
+use Rattle.proxy_deeds.specs.Deeds.{Deed, AreInputs, looks_of, looks_from, lacks, SentAs, FoundIn, send_asks, due_for, look_asks}
 use Rattle.proxy_deeds.specs.Told.{AreTold}
 
 -- what was called and given, by what is reported; where memory was wanted, nothing failed

@@ -1,9 +1,6 @@
 -- What a proxy lane has done so far, and what it has in its hands.
 use Rattle.std.specs.Prelude.{◌≡◌, ◌<◌, ℕ, List, [], ◌∷◌, ◌++◌, map, All, Option, Some, None, option_map}
-use Rattle.seat_desk.specs.declared.machine.Machine.{Ghosts}
-use Rattle.seat_desk.specs.declared.desk.Pass.{Pass}
 use Rattle.seat_desk.specs.History.{entry}
-use Rattle.seat_desk.specs.Passes.{mine, basis, seen}
 use Rattle.exec_journal.specs.declared.call.Call.{Call}
 use Rattle.exec_journal.specs.declared.call.Call.TheVariants as call
 use Rattle.exec_journal.specs.declared.reply.Reply.{Reply}
@@ -11,7 +8,6 @@ use Rattle.exec_journal.specs.declared.reply.Reply.TheVariants as reply
 use Rattle.outside.specs.Told.{BerthTold, FeedTold, ChildTold}
 use Rattle.remote_messages.specs.declared.work.WorkAction.{WorkAction}
 use Rattle.core_contract.specs.Moves.{History}
-use Rattle.core_contract.specs.Shelf.{child_at}
 use Rattle.core_contract.specs.Laws.{lines_in}
 use Rattle.core_contract.specs.Duties.{Asks, duty_of}
 use Rattle.proxy_deeds.specs.declared.post.Post.{Post}

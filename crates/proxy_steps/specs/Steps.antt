@@ -12,13 +12,13 @@ use Rattle.exec_journal.specs.Scripts.{is_whole_or_fault}
 use Rattle.plain_values.specs.declared.no_memory.NoMemory.{NoMemory}
 use Rattle.outside.specs.Launches.{IsNewChild}
 use Rattle.outside.specs.Told.{BerthTold, ChildTold}
-use Rattle.run_plan.specs.declared.plan.Maker.{Maker}
 use Rattle.exec_journal.specs.declared.attempt.Attempt.{Attempt}
 use Rattle.exec_journal.specs.declared.call.CommitEnd.{CommitEnd}
 use Rattle.exec_journal.specs.declared.call.Found.{Found}
 use Rattle.exec_journal.specs.declared.call.Found.TheVariants as found
 use Rattle.seat_desk.specs.History.{entry, StartsWith}
 use Rattle.remote_messages.specs.declared.work.WorkAction.{WorkAction}
+use Rattle.core_contract.specs.Terms.{Terms}
 use Rattle.core_contract.specs.Moves.{History}
 use Rattle.core_contract.specs.Shelf.{child_at}
 use Rattle.core_contract.specs.Laws.{lines_in}
@@ -28,7 +28,8 @@ use Rattle.proxy_deeds.specs.declared.cause.Cause.TheVariants as cause
 use Rattle.proxy_deeds.specs.Deeds.{Deed}
 use Rattle.proxy_deeds.specs.Told.{AllTold}
 use Rattle.proxy_deeds.specs.Ends.{Ends}
-use Rattle.core_contract.specs.Duties.{Asks, Launches, Sends, Cancels, Gathers, Commits, Kills, Left, duty_of}
+use Rattle.core_contract.specs.Duties.{Duty, Asks, Launches, Sends, Cancels, Gathers, Commits, Kills, Left, duty_of}
+use Rattle.proxy_calls.specs.declared.asking.Answered.{Answered}
 use Rattle.proxy_calls.specs.declared.asking.Order.{Order}
 use Rattle.proxy_calls.specs.declared.asking.Order.TheVariants as order
 use Rattle.proxy_calls.specs.Calls.{MakesOne, MayMake}
@@ -96,6 +97,10 @@ abbrev pub IsCauseOf : ℕ → ℤ → Result Written NoMemory → Cause → Typ
 IsCauseOf l n (Ok how) by = by ≡ cause.Refused (call.Wrote l n how)
 IsCauseOf l n (Err e) by = by ≡ cause.NoMemory
 
+-- what the lane owes where this answer is to be gathered
+abbrev pub gathers : Answered → Duty
+gathers x = Gathers x.line x.number x.attempt x.exit x.refused
+
 module _ {B D K : Type 0} where
   -- the line that is open
   abbrev pub open_in : Hands B D K → Option ℕ
@@ -148,9 +153,8 @@ module _ {M G Q : Type 0} {g : Ghosts M Call Reply G Q} where
 
   -- ---- the Claim of what was found
 
-  abbrev pub OwesClaim : (Q → ℕ → List (List ℕ)) → (Q → ℕ → List Maker) → (Q → ℕ → Bool) → ℕ
-      → Attempt → Found → Pass M Call Reply G Q g → Type 0
-  OwesClaim outputs makers remote w t f p = MayMake outputs makers remote w p (claim_of t f)
+  abbrev pub OwesClaim : (Q → Terms) → ℕ → Attempt → Found → Pass M Call Reply G Q g → Type 0
+  OwesClaim terms w t f p = MayMake terms w p (claim_of t f)
 
   -- The Claim was made, and where files were granted, their Committed after it.
   abbrev pub ClaimsFound : Attempt → Found → Pass M Call Reply G Q g → Pass M Call Reply G Q g
@@ -170,8 +174,8 @@ module _ {M G Q : Type 0} {g : Ghosts M Call Reply G Q} where
       (duty_of (mine p) ≡ Sends l n a) × (line ≡ Some l) × IsShelved w p line × (a < actions)
   MayObey actions told w (order.Cancel l n) p line =
       (duty_of (mine p) ≡ Cancels l n) × (line ≡ Some l) × IsShelved w p line
-  MayObey actions told w (order.Gather l n t exit refused) p line =
-      (duty_of (mine p) ≡ Gathers l n t exit refused) × IsShelved w p line × (t.action < actions)
+  MayObey actions told w (order.Gather x) p line =
+      (duty_of (mine p) ≡ gathers x) × IsShelved w p line × (x.attempt.action < actions)
   MayObey actions told w (order.Kill l k) p line =
       (duty_of (mine p) ≡ Kills l) × (line ≡ Some l) × IsShelved w p None × IsNewChild l (told k)
 

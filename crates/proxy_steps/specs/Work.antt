@@ -4,6 +4,7 @@ use Rattle.run_plan.specs.declared.plan.Maker.{Maker}
 use Rattle.remote_messages.specs.declared.work.Origin.{Origin}
 use Rattle.remote_messages.specs.declared.work.Origin.TheVariants as origin
 use Rattle.remote_messages.specs.declared.work.WorkAction.{WorkAction}
+use Rattle.core_contract.specs.Terms.{Terms}
 use Rattle.core_contract.specs.Duties.{is_maker}
 
 -- an input that another action makes is one of these
@@ -17,9 +18,8 @@ pub record IsWork (outputs : List (List ℕ)) (makers : List Maker) (action : Wo
   pub few : length action.outputs < 2 ^ 32
   pub made : All (λ input. IsMadeBy makers input.origin) action.inputs
 
--- the work of each of so many actions, with these outputs and made inputs
-pub record IsWorkOf (count : ℕ) (outputs : ℕ → List (List ℕ)) (makers : ℕ → List Maker)
-    (actions : List WorkAction) : Type 0 where
-  pub as_many : length actions ≡ count
+-- the work of each action, by the terms
+pub record IsWorkOf (terms : Terms) (actions : List WorkAction) : Type 0 where
+  pub as_many : length actions ≡ terms.actions
   pub each : (a : ℕ) (x : WorkAction) → slice_get actions a ≡ Some x
-      → IsWork (outputs a) (makers a) x
+      → IsWork (terms.outputs a) (terms.makers a) x

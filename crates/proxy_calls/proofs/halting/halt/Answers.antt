@@ -1,14 +1,13 @@
 use Rattle.std.proofs.Common.{◌≡◌, ℕ, Option, ap, sym, subst, ◌∙◌}
 use Rattle.seat_desk.specs.History.{calls_by}
-use Rattle.exec_journal.specs.declared.call.Call.{Call}
 use Rattle.exec_journal.specs.declared.call.Call.TheVariants as call
-use Rattle.core_contract.specs.Duties.{may_do, duty_of, proxy_lane}
+use Rattle.core_contract.specs.Duties.{duty_of, proxy_lane}
 use Rattle.core_contract.specs.Shelf.{child_at}
 use Rattle.proxy_calls.specs.Goods.{IsChildThere}
 use Rattle.proxy_calls.proofs.Replies.{is_noted}
-use Rattle.proxy_calls.proofs.Entries.{called_paid}
 use Rattle.proxy_calls.proofs.Askings.{halted_child}
 use Rattle.proxy_calls.proofs.Reportings.{noted_made, may_make_halt, not_left}
+use Rattle.proxy_calls.proofs.Making.{makes_paid}
 use Rattle.proxy_calls.proofs.halting.halt.Goals as goal
 
 pub call_paid-answer-requires-clause-paid : goal.call_paid-answer-requires-clause-paid
@@ -26,40 +25,29 @@ pub returns-clause-halted : goal.returns-clause-halted
 returns-clause-halted g c =
     let p = c.args.caller.now.pass in
     let q = p.seat.me.0.basis in
-    let w = c.args.berth in
     let law = g.met.C.Rules in
-    let rule = g.C.Rules.rule q in
-    let may = may_do (g.C.Rules.outputs q) (g.C.Rules.makers q) (g.C.Rules.remote q w) in
     let v = p.seat.me.0 in
     let v' = c.call_paid-answer.new.self.pass.seat.me.0 in
     let a = c.call_paid-answer.ensures.answer in
-    let asks : Call = call.Halt in
-    let k = called_paid rule p.lane w may v v' asks c.call_paid-answer.result.0 a.0 a.1 a.3 p.idle.3 c.requires.lane.0 (may_make_halt (g.C.Rules.outputs q) (g.C.Rules.makers q)
-    (g.C.Rules.remote q w) (duty_of v.mine) c.requires.may)
-    (λ h. law.replies q h p.lane asks) (λ h. law.proxies_do q h w asks c.requires.lane.1) a.2 in
-    noted_made rule p.lane a.0 v.seen v.mine v'.seen v'.mine asks c.call_paid-answer.result.0 k
-    (is_noted c.call_paid-answer.result.0 k.fitting)
+    let r = c.call_paid-answer.result.0 in
+    let k = makes_paid g.C.Rules.terms g.C.Rules.rule law.replies law.proxies_do c.args.berth p
+    c.call_paid-answer.new.self.pass a.0 c.requires.lane call.Halt r
+    (may_make_halt (g.C.Rules.terms q) c.args.berth (duty_of v.mine) c.requires.may) (a.1, a.2, a.3) in
+    noted_made (g.C.Rules.rule q) p.lane a.0 v.seen v.mine v'.seen v'.mine call.Halt r k (is_noted r k.fitting)
 
 pub returns-clause-child : goal.returns-clause-child
 returns-clause-child g c =
     let p = c.args.caller.now.pass in
     let q = p.seat.me.0.basis in
-    let w = c.args.berth in
     let law = g.met.C.Rules in
-    let rule = g.C.Rules.rule q in
-    let may = may_do (g.C.Rules.outputs q) (g.C.Rules.makers q) (g.C.Rules.remote q w) in
     let v = p.seat.me.0 in
-    let v' = c.call_paid-answer.new.self.pass.seat.me.0 in
     let a = c.call_paid-answer.ensures.answer in
-    let asks : Call = call.Halt in
-    let k = called_paid rule p.lane w may v v' asks c.call_paid-answer.result.0 a.0 a.1 a.3 p.idle.3 c.requires.lane.0 (may_make_halt (g.C.Rules.outputs q) (g.C.Rules.makers q)
-    (g.C.Rules.remote q w) (duty_of v.mine) c.requires.may)
-    (λ h. law.replies q h p.lane asks) (λ h. law.proxies_do q h w asks c.requires.lane.1) a.2 in
+    let r = c.call_paid-answer.result.0 in
+    let k = makes_paid g.C.Rules.terms g.C.Rules.rule law.replies law.proxies_do c.args.berth p
+    c.call_paid-answer.new.self.pass a.0 c.requires.lane call.Halt r
+    (may_make_halt (g.C.Rules.terms q) c.args.berth (duty_of v.mine) c.requires.may) (a.1, a.2, a.3) in
     let child = g.B.Child.Child.told in
-    let tap = g.B.Tap.Tap.told in
-    let place = g.P.Place.told in
-    let outputs = g.C.Rules.outputs q in
-    subst (λ (o : Option g.row.B-Child.Denot). IsChildThere child (child_at w v.mine) o) (sym c.child_in.ensures)
-    (halted_child child tap place outputs a.0 p.lane w v.mine c.call_paid-answer.result.0
-    c.call_paid-answer.result.1 c.requires.lane.0 k.own_then
-    (is_noted c.call_paid-answer.result.0 k.fitting) a.4)
+    subst (λ (o : Option g.row.B-Child.Denot). IsChildThere child (child_at c.args.berth v.mine) o)
+    (sym c.child_in.ensures)
+    (halted_child child g.B.Tap.Tap.told g.P.Place.told (g.C.Rules.terms q) a.0 p.lane c.args.berth v.mine r
+    c.call_paid-answer.result.1 c.requires.lane.0 k.own_then (is_noted r k.fitting) a.4)
