@@ -1,50 +1,139 @@
--- The site after a call, and what an order leaves by how it was reported.
-use Rattle.std.proofs.Common.{◌≡◌, ℕ, Bool, List, Result, Ok, Err, subst}
+-- The site and what is asked there after a call, and what an order leaves by how it was reported.
+use Rattle.std.proofs.Common.{◌≡◌, ◌<◌, ℕ, ℤ, [], Option, Some, Result, Ok, Err, vec_len, vec_capacity, refl, ap, sym, subst, ◌∙◌, append-nil}
 use Rattle.std.specs.Prelude.{OnOk, IfErr}
+use Rattle.plain_values.specs.declared.no_memory.NoMemory.{NoMemory}
 use Rattle.seat_desk.specs.declared.machine.Machine.{Ghosts}
 use Rattle.seat_desk.specs.declared.desk.Pass.{Pass}
-use Rattle.seat_desk.specs.Passes.{IsSamePass, mine}
-use Rattle.run_plan.specs.declared.plan.Maker.{Maker}
+use Rattle.seat_desk.specs.Passes.{IsSamePass, mine, seen}
 use Rattle.run_plan.specs.Groups.{is_remote}
 use Rattle.exec_journal.specs.declared.call.Call.{Call}
+use Rattle.exec_journal.specs.declared.call.Call.TheVariants as call
+use Rattle.exec_journal.specs.declared.call.Written.{Written}
 use Rattle.exec_journal.specs.declared.reply.Reply.{Reply}
+use Rattle.exec_journal.specs.declared.reply.Reply.TheVariants as reply
+use Rattle.remote_messages.specs.declared.work.WorkAction.{WorkAction}
+use Rattle.core_contract.specs.Terms.{Terms}
 use Rattle.core_contract.specs.Moves.{History}
+use Rattle.core_contract.specs.Shelf.{child_at}
 use Rattle.core_contract.specs.Duties.{Asks, duty_of}
 use Rattle.proxy_deeds.specs.declared.cause.Cause.{Cause}
+use Rattle.proxy_deeds.specs.declared.cause.Cause.TheVariants as cause
+use Rattle.proxy_calls.specs.Calls.{MakesNone, MakesOne, Stays}
+use Rattle.proxy_calls.specs.Reports.{Told}
 use Rattle.proxy_steps.specs.declared.hands.Hands.{Hands}
-use Rattle.proxy_steps.specs.Work.{IsWorkOf}
+use Rattle.proxy_steps.specs.Work.{IsWork, IsWorkOf}
 use Rattle.proxy_steps.specs.Lanes.{Held}
-use Rattle.proxy_steps.specs.Steps.{Goes, Halts}
+use Rattle.proxy_steps.specs.Steps.{open_in, HasRoom, IsShelved, Goes, Halts, TellsWrote, IsCauseOf}
+use Rattle.proxy_steps.proofs.Sends.{starts_later}
 use Rattle.proxy_steps.proofs.Serving.{proxy_on, by_rules}
 use Rattle.proxy_lane.specs.declared.site.Site.{Site}
-use Rattle.proxy_lane.specs.Sites.{IsSite, Obeyed}
+use Rattle.proxy_lane.specs.declared.site.Request.{Request}
+use Rattle.proxy_lane.specs.Sites.{IsSite, IsDue, IsWorkAt, Obeyed, ReportsWrote}
 
--- what holds of the site holds of it later
-pub site_on : {M G Q R : Type 0} {g : Ghosts M Call Reply G Q} (seats : Q → ℕ)
-    (remote : Q → ℕ → Bool) (actions : Q → ℕ) (outputs : Q → ℕ → List (List ℕ))
-    (makers : Q → ℕ → List Maker) (site : Site R) (p p' : Pass M Call Reply G Q g)
-    → IsSamePass p p' → IsSite seats remote actions outputs makers site p
-    → IsSite seats remote actions outputs makers site p'
-site_on seats remote actions outputs makers site p p' same x = record {
-  lane = proxy_on seats site.berth p p' same x.lane;
-  kind = by_rules (λ q. remote q site.berth ≡ is_remote site.post.now.kind) p p' same x.kind;
-  work = by_rules (λ q. IsWorkOf (actions q) (outputs q) (makers q) site.actions.now) p p' same x.work;
-}
+-- ---- after a call
+
+module _ {M G Q : Type 0} {g : Ghosts M Call Reply G Q} where
+  pub same_on : (p p1 p2 : Pass M Call Reply G Q g) → IsSamePass p p1 → IsSamePass p1 p2
+      → IsSamePass p p2
+  same_on p p1 p2 x y = (y.0 ∙ x.0, y.1 ∙ x.1, y.2 ∙ x.2)
+
+  pub stays_at : (p : Pass M Call Reply G Q g) → Stays p p
+  stays_at p = record {
+    same = (refl, refl, refl);
+    none = (([], sym (append-nil (seen p))), refl);
+  }
+
+  pub stays_on : (p p1 p2 : Pass M Call Reply G Q g) → Stays p p1 → Stays p1 p2 → Stays p p2
+  stays_on p p1 p2 x y = record {
+    same = same_on p p1 p2 x.same y.same;
+    none = (
+      starts_later (seen p) (seen p1) (seen p2) x.none.0 y.none.0,
+      y.none.1 ∙ x.none.1,
+    );
+  }
+
+module _ {M G Q R : Type 0} {g : Ghosts M Call Reply G Q} (terms : Q → Terms) (site : Site R)
+    (p p' : Pass M Call Reply G Q g) where
+  -- what holds of the site holds of it later
+  pub site_on : IsSamePass p p' → IsSite terms site p → IsSite terms site p'
+  site_on same x = record {
+    lane = proxy_on terms site.berth p p' same x.lane;
+    kind = by_rules (λ q. (terms q).remote site.berth ≡ is_remote site.post.now.kind) p p' same
+        x.kind;
+    work = by_rules (λ q. IsWorkOf (terms q) site.actions.now) p p' same x.work;
+  }
+
+  -- so does what holds of an action's work
+  pub work_on : (a : ℕ) (work : WorkAction) → IsSamePass p p' → IsWorkAt terms site p a work
+      → IsWorkAt terms site p' a work
+  work_on a work same x = by_rules (λ q. IsWork ((terms q).outputs a) ((terms q).makers a) work)
+      p p' same x
+
+  -- and of a request that is due
+  pub due_on : (request : Request) → Stays p p' → IsDue terms site p request
+      → IsDue terms site p' request
+  due_on request stays x = record {
+    at_site = site_on stays.same x.at_site;
+    owes = ap duty_of stays.none.1 ∙ x.owes;
+    of_action = work_on request.action request.work.now stays.same x.of_action;
+  }
+
+-- where the child on the shelf and the open line are as they were
+pub still_tidy : {M G Q R B D K : Type 0} {g : Ghosts M Call Reply G Q} (site : Site R)
+    (p p' : Pass M Call Reply G Q g) (h : Hands B D K) (line : Option ℕ)
+    → child_at site.berth (mine p') ≡ child_at site.berth (mine p) → line ≡ open_in h
+    → IsShelved site.berth p (open_in h) → HasRoom h → (child_at site.berth (mine p') ≡ line)
+    × ((l : ℕ) → line ≡ Some l → vec_len h.ended < vec_capacity h.ended)
+still_tidy site p p' h line child same shelved room =
+    (child ∙ (shelved ∙ sym same), λ l is. room l (sym same ∙ is))
+
+-- ---- by a report
+
+-- what was told of a Wrote
+pub reports_wrote : {M G Q A : Type 0} {g : Ghosts M Call Reply G Q} (l : ℕ) (n : ℤ)
+    (how : Written) (wrote : Result Written NoMemory) (r : Result A Cause)
+    (p p' : Pass M Call Reply G Q g) → wrote ≡ Ok how → IsSamePass p p'
+    → Told (call.Wrote l n how) r p p' → ReportsWrote r p p' l n wrote
+reports_wrote {M} {G} {Q} {A} {g} l n how wrote r p p' is same told =
+    subst (λ (w : Result Written NoMemory). ReportsWrote r p p' l n w) (sym is) (record {
+      same = same;
+      told = elim r as (λ (x : Result A Cause). Told (call.Wrote l n how) x p p'
+          → OnOk x ((duty_of (mine p') ≡ Asks) × TellsWrote l n (Ok how) p p')) [
+            | Ok u ↦ λ t. (t.1, t.0)
+            | Err by ↦ λ t. tt
+          ] told;
+      refused = elim r as (λ (x : Result A Cause). Told (call.Wrote l n how) x p p'
+          → IfErr x (λ by. MakesNone p p' × IsCauseOf l n (Ok how) by)) [
+            | Ok u ↦ λ t. tt
+            | Err by ↦ λ t. (t.1, t.0)
+          ] told;
+    })
 
 module _ {M G Q R B D K A : Type 0} {g : Ghosts M Call Reply G Q} (site : Site R)
     (rule : Q → History → ℕ → Call → Reply) (held : Hands B D K → Held) (r : Result A Cause)
     (p : Pass M Call Reply G Q g) (h : Hands B D K) (p' : Pass M Call Reply G Q g)
     (h' : Hands B D K) where
   -- what each outcome of a report says comes to what is said of the order
-  pub obeys_by : (Told : Type 0) (Unsaid : Cause → Type 0)
-      → (Told → (duty_of (mine p') ≡ Asks)
+  pub obeys_by : (Said : Type 0) (Unsaid : Cause → Type 0)
+      → (Said → (duty_of (mine p') ≡ Asks)
       × Goes site.post.now site.actions.now rule p (held h) p' (held h'))
       → ((by : Cause) → Unsaid by
       → Halts site.post.now site.actions.now rule by p (held h) p' (held h'))
-      → OnOk r Told → IfErr r Unsaid → Obeyed site rule held r p h p' h'
-  obeys_by Told Unsaid goes halts told unsaid = elim r as (λ (x : Result A Cause).
-      OnOk x Told → IfErr x Unsaid → Obeyed site rule held x p h p' h')
-      [ Ok u ↦ λ t n. goes t | Err by ↦ λ t n. halts by n ] told unsaid
+      → OnOk r Said → IfErr r Unsaid → Obeyed site rule held r p h p' h'
+  obeys_by Said Unsaid goes halts said unsaid = elim r as (λ (x : Result A Cause).
+      OnOk x Said → IfErr x Unsaid → Obeyed site rule held x p h p' h')
+      [ Ok u ↦ λ t n. goes t | Err by ↦ λ t n. halts by n ] said unsaid
+
+  -- so does the report itself
+  pub obeys_told : (report : Call)
+      → (MakesOne report reply.Noted p p'
+      → Goes site.post.now site.actions.now rule p (held h) p' (held h'))
+      → ((by : Cause) → by ≡ cause.Refused report → MakesNone p p'
+      → Halts site.post.now site.actions.now rule by p (held h) p' (held h'))
+      → Told report r p p' → Obeyed site rule held r p h p' h'
+  obeys_told report goes halts told = elim r as (λ (x : Result A Cause).
+      Told report x p p' → Obeyed site rule held x p h p' h')
+      [ Ok u ↦ λ t. (t.1, goes t.0) | Err by ↦ λ t. halts by t.0 t.1 ] told
 
   -- so does what is said of hands that hold the same
   pub obeys_from : (h0 : Hands B D K) → held h0 ≡ held h → Obeyed site rule held r p h0 p' h'

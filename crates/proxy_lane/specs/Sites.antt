@@ -1,60 +1,149 @@
--- Where a proxy lane works, and what it leaves for an order.
-use Rattle.std.specs.Prelude.{◌≡◌, ℕ, Bool, List, length, Result, Ok, Err}
+-- Where a proxy lane works, what is asked of it there, and what it leaves.
+use Rattle.std.specs.Prelude.{◌≡◌, ℕ, ℤ, pos, Bool, true, false, List, length, OnOk, IfErr, Option, Result, Ok, Err}
+use Rattle.plain_values.specs.declared.no_memory.NoMemory.{NoMemory}
 use Rattle.seat_desk.specs.declared.machine.Machine.{Ghosts}
 use Rattle.seat_desk.specs.declared.desk.Pass.{Pass}
-use Rattle.seat_desk.specs.Passes.{IsSamePass, mine, basis}
-use Rattle.run_plan.specs.declared.plan.Maker.{Maker}
+use Rattle.seat_desk.specs.Passes.{IsSamePass, mine, basis, seen}
 use Rattle.run_plan.specs.Groups.{is_remote}
+use Rattle.exec_journal.specs.declared.attempt.Attempt.{Attempt}
 use Rattle.exec_journal.specs.declared.call.Call.{Call}
+use Rattle.exec_journal.specs.declared.call.Call.TheVariants as call
+use Rattle.exec_journal.specs.declared.call.Found.{Found}
+use Rattle.exec_journal.specs.declared.call.Written.{Written}
 use Rattle.exec_journal.specs.declared.reply.Reply.{Reply}
+use Rattle.exec_journal.specs.declared.reply.Reply.TheVariants as reply
+use Rattle.remote_messages.specs.declared.work.WorkAction.{WorkAction}
+use Rattle.core_contract.specs.Terms.{Terms}
 use Rattle.core_contract.specs.Moves.{History}
-use Rattle.core_contract.specs.Duties.{Duty, Asks, Sends, Gathers, duty_of}
+use Rattle.core_contract.specs.Duties.{Duty, Asks, Sends, duty_of}
 use Rattle.proxy_deeds.specs.declared.cause.Cause.{Cause}
-use Rattle.outside.specs.Told.{ChildTold}
+use Rattle.proxy_deeds.specs.Deeds.{Looked}
+use Rattle.proxy_deeds.specs.Ends.{may_halt}
+use Rattle.proxy_deeds.specs.Told.{AreTold}
+use Rattle.outside.specs.Told.{BerthTold, ChildTold, FeedTold}
+use Rattle.proxy_calls.specs.declared.asking.Answered.{Answered}
 use Rattle.proxy_calls.specs.declared.asking.Order.{Order}
-use Rattle.proxy_calls.specs.Calls.{IsProxyOf}
+use Rattle.proxy_calls.specs.Calls.{IsProxyOf, MakesNone, MakesOne}
 use Rattle.proxy_steps.specs.declared.hands.Hands.{Hands}
-use Rattle.proxy_steps.specs.Work.{IsWorkOf}
+use Rattle.proxy_steps.specs.Work.{IsWork, IsWorkOf}
+use Rattle.proxy_steps.specs.Acts.{GatherActs, IsAnswered, SendActs}
 use Rattle.proxy_steps.specs.Lanes.{Held}
-use Rattle.proxy_steps.specs.Steps.{open_in, HasRoom, IsShelved, MayObey, Goes, GoesTo, Halts, SomeKeeps}
+use Rattle.proxy_steps.specs.Steps.{open_in, gathers, HasRoom, IsShelved, MayObey, Goes, GoesTo, Halts, Finishes, SomeKeeps, AreLaidBy, OwesClaim, ClaimsFound, IsCauseOfClaim, TellsWrote, IsCauseOf}
 use Rattle.proxy_lane.specs.declared.site.Site.{Site}
 use Rattle.proxy_lane.specs.declared.site.Request.{Request}
-use Rattle.proxy_lane.specs.declared.site.Answer.{Answer}
 
 -- what the lane owes where this request is due
 abbrev pub sends : Request → Duty
 sends x = Sends x.line x.number x.action
 
--- what it owes where this answer is to be gathered
-abbrev pub gathers : Answer → Duty
-gathers x = Gathers x.line x.number x.attempt x.exit x.refused
+-- its exit code is 0, and it wasn't refused
+abbrev pub IsGood : Answered → Type 0
+IsGood x = (x.exit ≡ pos 0) × (x.refused ≡ false)
+
+-- ---- what is asked of a lane
 
 -- The lane is that of the site's berth. The post says truly whether the berth's lines are the
 -- executor's, and the work is that of all actions.
-pub record IsSite {M G Q R : Type 0} {g : Ghosts M Call Reply G Q} (seats : Q → ℕ)
-    (remote : Q → ℕ → Bool) (actions : Q → ℕ) (outputs : Q → ℕ → List (List ℕ))
-    (makers : Q → ℕ → List Maker) (site : Site R) (p : Pass M Call Reply G Q g) : Type 0 where
-  pub lane : IsProxyOf seats site.berth p
-  pub kind : remote (basis p) site.berth ≡ is_remote site.post.now.kind
-  pub work : IsWorkOf (actions (basis p)) (outputs (basis p)) (makers (basis p)) site.actions.now
+pub record IsSite {M G Q R : Type 0} {g : Ghosts M Call Reply G Q} (terms : Q → Terms)
+    (site : Site R) (p : Pass M Call Reply G Q g) : Type 0 where
+  pub lane : IsProxyOf terms site.berth p
+  pub kind : (terms (basis p)).remote site.berth ≡ is_remote site.post.now.kind
+  pub work : IsWorkOf (terms (basis p)) site.actions.now
 
-module _ {M G Q R B D K : Type 0} {g : Ghosts M Call Reply G Q} (site : Site R) where
-  -- what holds where the lane is ordered so
-  abbrev pub IsOrdered : (K → ChildTold) → Order K → Pass M Call Reply G Q g → Hands B D K → Type 0
-  IsOrdered told order p h = MayObey (length site.actions.now) told site.berth order p (open_in h)
+module _ {M G Q R : Type 0} {g : Ghosts M Call Reply G Q} (terms : Q → Terms) (site : Site R)
+    (p : Pass M Call Reply G Q g) where
+  -- this is the work of the action with this number
+  abbrev pub IsWorkAt : ℕ → WorkAction → Type 0
+  IsWorkAt a work = IsWork ((terms (basis p)).outputs a) ((terms (basis p)).makers a) work
 
-  -- The child of the open line lies on the shelf, and there is room for the line when it ends.
-  abbrev pub IsTidy : Pass M Call Reply G Q g → Hands B D K → Type 0
-  IsTidy p h = IsShelved site.berth p (open_in h) × HasRoom h
+  -- the request is due, and its work is that of its action
+  pub record IsDue (request : Request) : Type 0 where
+    pub at_site : IsSite terms site p
+    pub owes : duty_of (mine p) ≡ sends request
+    pub of_action : IsWorkAt request.action request.work.now
 
-module _ {M G Q R B D K : Type 0} {g : Ghosts M Call Reply G Q} (site : Site R)
-    (rule : Q → History → ℕ → Call → Reply) (held : Hands B D K → Held) where
+  -- the answer is to be gathered, and this is the work of its action
+  pub record IsToGather (answer : Answered) (work : WorkAction) : Type 0 where
+    pub at_site : IsSite terms site p
+    pub owes : duty_of (mine p) ≡ gathers answer
+    pub of_action : IsWorkAt answer.attempt.action work
+
+  -- what was found for the attempt may be claimed, and this is the work of its action
+  pub record MayClaim (attempt : Attempt) (work : WorkAction) (found : Found) : Type 0 where
+    pub at_site : IsSite terms site p
+    pub may : OwesClaim terms site.berth attempt found p
+    pub of_action : IsWorkAt attempt.action work
+
+-- The child of the open line lies on the shelf, and there is room for the line when it ends.
+abbrev pub IsTidy : {M G Q R B D K : Type 0} {g : Ghosts M Call Reply G Q} → Site R
+    → Pass M Call Reply G Q g → Hands B D K → Type 0
+IsTidy site p h = IsShelved site.berth p (open_in h) × HasRoom h
+
+module _ {M G Q R B D K : Type 0} {g : Ghosts M Call Reply G Q} (terms : Q → Terms)
+    (site : Site R) where
+  -- the lane is ordered so, and there is room for the open line when it ends
+  pub record IsOrdered (told : K → ChildTold) (order : Order K) (p : Pass M Call Reply G Q g)
+      (h : Hands B D K) : Type 0 where
+    pub at_site : IsSite terms site p
+    pub may : MayObey (length site.actions.now) told site.berth order p (open_in h)
+    pub room : HasRoom h
+
+  -- the lane may halt
+  pub record MayGiveUp (p : Pass M Call Reply G Q g) (h : Hands B D K) : Type 0 where
+    pub at_site : IsSite terms site p
+    pub may : may_halt (duty_of (mine p)) ≡ true
+    pub tidy : IsTidy site p h
+
   -- The lane is to ask for an order, and what it has done so far holds of what it has in its hands.
-  pub record IsReady (p : Pass M Call Reply G Q g) (h : Hands B D K) : Type 0 where
+  pub record IsReady (rule : Q → History → ℕ → Call → Reply) (held : Hands B D K → Held)
+      (p : Pass M Call Reply G Q g) (h : Hands B D K) : Type 0 where
+    pub at_site : IsSite terms site p
     pub asks : duty_of (mine p) ≡ Asks
     pub tidy : IsTidy site p h
     pub kept : SomeKeeps site.post.now site.actions.now rule p (held h)
 
+-- ---- what a lane leaves
+
+module _ {M G Q : Type 0} {g : Ghosts M Call Reply G Q} (rule : Q → History → ℕ → Call → Reply)
+  where
+    -- Looks that were made by then told this
+    abbrev pub WereTold : List Looked → Pass M Call Reply G Q g → Pass M Call Reply G Q g → Type 0
+    WereTold looks p p' = AreTold (rule (basis p)) p.lane (seen p') looks
+
+    -- what was done for a request, by the berth and the feed
+    abbrev pub SendsAt : {R : Type 0} → Site R → Request → Result Written NoMemory → Pass M Call Reply G Q g
+        → Pass M Call Reply G Q g → BerthTold → BerthTold → FeedTold → FeedTold → Type 0
+    SendsAt site x result p p' old new before after = SendActs site.post.now (rule (basis p)) p.lane
+        x.line x.number x.work.now result (seen p') old new before after
+
+    -- what the Looks at the outputs of an executor's answer gave
+    abbrev pub HasAnswered : Answered → WorkAction → Found → Pass M Call Reply G Q g
+        → Pass M Call Reply G Q g → Type 0
+    HasAnswered x work found p p' = IsAnswered (rule (basis p)) p.lane x.line x.number
+        (length work.outputs) found (seen p')
+
+    -- what was done for an answer, by the berth
+    abbrev pub GathersAt : {R : Type 0} → Site R → Answered → WorkAction → Result Found NoMemory
+        → Pass M Call Reply G Q g → Pass M Call Reply G Q g → BerthTold → BerthTold → Type 0
+    GathersAt site x work result p p' old new = GatherActs site.post.now (rule (basis p)) p.lane
+        x.line x.number work result (seen p') old new
+
+module _ {M G Q A : Type 0} {g : Ghosts M Call Reply G Q} (result : Result A Cause)
+    (p p' : Pass M Call Reply G Q g) where
+  -- what was written was reported, or the lane is to halt
+  pub record ReportsWrote (line : ℕ) (number : ℤ) (wrote : Result Written NoMemory) : Type 0 where
+    pub same : IsSamePass p p'
+    pub told : OnOk result ((duty_of (mine p') ≡ Asks) × TellsWrote line number wrote p p')
+    pub refused : IfErr result (λ cause. MakesNone p p' × IsCauseOf line number wrote cause)
+
+  -- what was found was claimed, and committed where it was granted; or the lane is to halt
+  pub record Claims (attempt : Attempt) (found : Found) : Type 0 where
+    pub same : IsSamePass p p'
+    pub claims : OnOk result ((duty_of (mine p') ≡ Asks) × ClaimsFound attempt found p p')
+    pub refused : IfErr result (λ cause. MakesNone p p' × IsCauseOfClaim attempt found cause)
+
+module _ {M G Q R B D K : Type 0} {g : Ghosts M Call Reply G Q} (site : Site R)
+    (rule : Q → History → ℕ → Call → Reply) (held : Hands B D K → Held) where
   -- The order was carried out and reported, and the lane is to ask again; or it is to halt.
   abbrev pub Obeyed : {A : Type 0} → Result A Cause → Pass M Call Reply G Q g → Hands B D K
       → Pass M Call Reply G Q g → Hands B D K → Type 0
@@ -67,6 +156,7 @@ module _ {M G Q R B D K : Type 0} {g : Ghosts M Call Reply G Q} (site : Site R)
   pub record Obeys {A : Type 0} (result : Result A Cause) (p : Pass M Call Reply G Q g)
       (h : Hands B D K) (p' : Pass M Call Reply G Q g) (h' : Hands B D K) : Type 0 where
     pub same : IsSamePass p p'
+    pub tidy : IsTidy site p' h'
     pub goes : Obeyed result p h p' h'
 
   -- so it is after a round, where the lane may have been told to stop
@@ -83,3 +173,17 @@ module _ {M G Q R B D K : Type 0} {g : Ghosts M Call Reply G Q} (site : Site R)
     pub same : IsSamePass p p'
     pub tidy : IsTidy site p' h'
     pub goes : Rounded result p h p' h'
+
+  -- what all rounds leave
+  pub record Serves (halted : Option Cause) (p : Pass M Call Reply G Q g) (h : Hands B D K)
+      (p' : Pass M Call Reply G Q g) (h' : Hands B D K) : Type 0 where
+    pub same : IsSamePass p p'
+    pub ends : Finishes site.post.now site.actions.now rule halted p (held h) p' (held h')
+
+-- it halted, and the line that was open was laid by
+pub record GivesUp {M G Q B D K : Type 0} {g : Ghosts M Call Reply G Q} (held : Hands B D K → Held)
+    (p : Pass M Call Reply G Q g) (h : Hands B D K) (p' : Pass M Call Reply G Q g)
+    (h' : Hands B D K) : Type 0 where
+  pub same : IsSamePass p p'
+  pub halted : MakesOne call.Halt reply.Noted p p'
+  pub laid_by : AreLaidBy (open_in h) (held h) (held h')

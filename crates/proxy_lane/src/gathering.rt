@@ -1,29 +1,25 @@
 //! What a proxy lane does for a Gather.
-ghost use Rattle.std.specs.Prelude.{◌≡◌, ◌<◌, ◌^◌, false, length, pos, IfOk, OnOk, OnErr, IfErr};
-ghost use Rattle.seat_desk.specs.Passes.{IsSamePass, mine, basis, seen};
-ghost use Rattle.exec_journal.specs.declared.call.Found.TheVariants as found;
-ghost use Rattle.core_contract.specs.Duties.{Asks, Gathers, duty_of};
-ghost use Rattle.proxy_calls.specs.Calls.{MakesNone};
-ghost use Rattle.proxy_steps.specs.Work.{IsWork};
-ghost use Rattle.proxy_steps.specs.Acts.{GatherActs, IsAnswered};
+ghost use Rattle.std.specs.Prelude.{◌≡◌, IfOk, OnErr};
+ghost use Rattle.proxy_calls.specs.declared.asking.Order.TheVariants as order;
+ghost use Rattle.proxy_calls.specs.Calls.{Stays};
 ghost use Rattle.proxy_steps.specs.Lanes.{held_of};
-ghost use Rattle.proxy_lane.specs.Sites.{IsSite, gathers, Obeys};
-ghost use Rattle.proxy_steps.specs.Steps.{SameShelf, OwesClaim, ClaimsFound, IsCauseOfClaim, files_in, HasFiles};
+ghost use Rattle.proxy_steps.specs.Steps.{OwesClaim, files_in, HasFiles};
+ghost use Rattle.proxy_lane.specs.Sites.{IsOrdered, IsToGather, IsGood, MayClaim, HasAnswered, GathersAt, Claims, Obeys};
 
 use crate::hands::{action_at, is_executor};
-use crate::site::{Answer, Site};
+use crate::site::Site;
+use core_bench::Bench;
+use core_contract::Rules;
 use due_frames::room_of;
 use exec_journal::{Attempt, Found, Wanted};
 use lane_crew::Caller;
-use proxy_deeds::Cause;
-use proxy_steps::Hands;
 use order_acts::gather_line;
 use outside::{Berth, Place};
 use plain_values::{Blob, Items, NoMemory};
-use proxy_calls::{claim, commit_files, look};
+use proxy_calls::{Answered, Grant, claim, commit_files, look};
+use proxy_deeds::Cause;
+use proxy_steps::Hands;
 use remote_messages::WorkAction;
-use core_bench::Bench;
-use core_contract::Rules;
 use std::alloc::Global;
 use std::sync::Wait;
 
@@ -37,13 +33,11 @@ pub(crate) fn gather<B: Berth, P: Place, C: Rules, R: Wait>(
     site: &Site<'_, R>,
     caller: &mut Caller<'_, Bench<B, P, C>>,
     hands: &mut Hands<B, B::Feed, B::Child>,
-    answer: &Answer,
+    answer: &Answered,
 ) -> Result<(), Cause>
-    requires site { IsSite C.seats C.remote C.actions C.outputs C.makers site.now caller.old.pass }
-    requires owes { duty_of (mine caller.old.pass) ≡ gathers answer.now }
-    requires action { answer.now.attempt.action < length site.now.actions.now }
-    ensures shelf { SameShelf site.now.berth caller.old.pass hands.old caller.new.pass hands.new }
-    ensures obeys { Obeys site.now C.rule (held_of B.told B.Feed.told B.Child.told) result
+    requires { IsOrdered C.terms site.now B.Child.told (order.Gather answer.now)
+        caller.old.pass hands.old }
+    ensures { Obeys site.now C.rule (held_of B.told B.Feed.told B.Child.told) result
         caller.old.pass hands.old caller.new.pass hands.new }
 {
     let work = action_at(site.actions, answer.attempt.action);
@@ -62,19 +56,14 @@ fn act_gather<B: Berth, P: Place, C: Rules, R: Wait>(
     work: &WorkAction,
     caller: &mut Caller<'_, Bench<B, P, C>>,
     berth: &mut B,
-    answer: &Answer,
+    answer: &Answered,
 ) -> Result<Found, NoMemory>
-    requires site { IsSite C.seats C.remote C.actions C.outputs C.makers site.now caller.old.pass }
-    requires owes { duty_of (mine caller.old.pass) ≡ gathers answer.now }
-    requires work { IsWork (C.outputs (basis caller.old.pass) answer.now.attempt.action)
-        (C.makers (basis caller.old.pass) answer.now.attempt.action) work.now }
-    ensures same { IsSamePass caller.old.pass caller.new.pass }
-    ensures none { MakesNone caller.old.pass caller.new.pass }
-    ensures acts { GatherActs site.now.post.now (C.rule (basis caller.old.pass))
-        caller.old.pass.lane answer.now.line answer.now.number work.now result
-        (seen caller.new.pass) (B.told berth.old) (B.told berth.new) }
-    ensures may { IfOk result (λ found. OwesClaim C.outputs C.makers C.remote site.now.berth
-        answer.now.attempt found caller.new.pass) }
+    requires { IsToGather C.terms site.now caller.old.pass answer.now work.now }
+    ensures stays { Stays caller.old.pass caller.new.pass }
+    ensures acts { GathersAt C.rule site.now answer.now work.now result
+        caller.old.pass caller.new.pass (B.told berth.old) (B.told berth.new) }
+    ensures may { IfOk result (λ found. OwesClaim C.terms site.now.berth answer.now.attempt found
+        caller.new.pass) }
 {
     if answer.exit != 0 {
         return Ok(Found::Exit(answer.exit));
@@ -82,33 +71,27 @@ fn act_gather<B: Berth, P: Place, C: Rules, R: Wait>(
     if answer.refused {
         return Ok(Found::Refused);
     }
-    let outputs = work.outputs.as_slice();
     if is_executor(site.post.kind) {
-        return answered(site, caller, answer, outputs.len());
+        return answered(site, work, caller, answer);
     }
     let room = room_of(site.post.kind, answer.number);
-    gather_line(site.alloc, berth, room, outputs)
+    gather_line(site.alloc, berth, room, work.outputs.as_slice())
 }
 
-// The files that an executor's answer has of so many outputs, or the first that it lacks.
+// The files that an executor's answer has of the outputs, or the first that it lacks.
 fn answered<B: Berth, P: Place, C: Rules, R: Wait>(
     site: &Site<'_, R>,
+    work: &WorkAction,
     caller: &mut Caller<'_, Bench<B, P, C>>,
-    answer: &Answer,
-    outputs: usize,
+    answer: &Answered,
 ) -> Result<Found, NoMemory>
-    requires site { IsSite C.seats C.remote C.actions C.outputs C.makers site.now caller.old.pass }
-    requires owes { duty_of (mine caller.old.pass) ≡ Gathers answer.now.line answer.now.number
-        answer.now.attempt (pos 0) false }
-    requires outputs { length (C.outputs (basis caller.old.pass) answer.now.attempt.action)
-        ≡ outputs }
-    requires few { outputs < 2 ^ 32 }
-    ensures same { IsSamePass caller.old.pass caller.new.pass }
-    ensures none { MakesNone caller.old.pass caller.new.pass }
-    ensures answered { IfOk result (λ found. IsAnswered (C.rule (basis caller.old.pass))
-        caller.old.pass.lane answer.now.line answer.now.number outputs found
-        (seen caller.new.pass)) }
+    requires gather { IsToGather C.terms site.now caller.old.pass answer.now work.now }
+    requires good { IsGood answer.now }
+    ensures stays { Stays caller.old.pass caller.new.pass }
+    ensures answered { IfOk result (λ found. HasAnswered C.rule answer.now work.now found
+        caller.old.pass caller.new.pass) }
 {
+    let outputs = work.outputs.as_slice().len();
     let mut files = Vec::with_capacity(site.alloc, outputs)?;
     for output in 0..outputs as u32 {
         let wanted = Wanted::Answered {
@@ -133,34 +116,23 @@ fn claim_found<B: Berth, P: Place, C: Rules, R: Wait>(
     attempt: Attempt,
     found: Found,
 ) -> Result<(), Cause>
-    requires site { IsSite C.seats C.remote C.actions C.outputs C.makers site.now caller.old.pass }
-    requires may { OwesClaim C.outputs C.makers C.remote site.now.berth attempt found
-        caller.old.pass }
-    requires outputs { C.outputs (basis caller.old.pass) attempt.action ≡ work.now.outputs }
-    requires few { length work.now.outputs < 2 ^ 32 }
-    ensures same { IsSamePass caller.old.pass caller.new.pass }
-    ensures claims { OnOk result ((duty_of (mine caller.new.pass) ≡ Asks)
-        × ClaimsFound attempt found caller.old.pass caller.new.pass) }
-    ensures refused { IfErr result (λ cause. MakesNone caller.old.pass caller.new.pass
-        × IsCauseOfClaim attempt found cause) }
+    requires { MayClaim C.terms site.now caller.old.pass attempt work.now found }
+    ensures { Claims result caller.old.pass caller.new.pass attempt found }
 {
     match copies_of(site.alloc, &found) {
         Ok(copies) => match claim(site.rt, caller, site.berth, attempt, found) {
             Ok(Some(place)) => {
-                let outputs = work.outputs.as_slice();
-                commit_files(
-                    site.rt,
-                    caller,
-                    site.berth,
+                let grant = Grant {
                     attempt,
-                    copies.as_slice(),
-                    outputs,
+                    files: copies.as_slice(),
+                    outputs: work.outputs.as_slice(),
                     place,
-                );
+                };
+                commit_files(site.rt, caller, site.berth, grant);
                 Ok(())
             }
             Ok(None) => Ok(()),
-            Err(call) => Err(Cause::Refused(call)),
+            Err(cause) => Err(cause),
         },
         Err(_) => Err(Cause::NoMemory),
     }

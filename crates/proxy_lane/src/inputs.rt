@@ -1,53 +1,47 @@
 //! The inputs of a request, with their bytes.
-ghost use Rattle.std.specs.Prelude.{◌≡◌, All, IfOk, take};
-ghost use Rattle.seat_desk.specs.Passes.{IsSamePass, mine, basis, seen};
+ghost use Rattle.std.specs.Prelude.{◌≡◌, IfOk};
+ghost use Rattle.seat_desk.specs.Passes.{basis};
 ghost use Rattle.due_frames.specs.Requests.{IsFrom};
 ghost use Rattle.proxy_deeds.specs.Deeds.{AreInputs, look_at, looks_of};
-ghost use Rattle.proxy_deeds.specs.Told.{AreTold};
-ghost use Rattle.proxy_calls.specs.Calls.{IsProxyOf, MakesNone};
-ghost use Rattle.proxy_calls.specs.Looks.{OwesSend};
+ghost use Rattle.proxy_calls.specs.Calls.{Stays};
 ghost use Rattle.proxy_steps.specs.Work.{IsMadeBy};
+ghost use Rattle.proxy_lane.specs.Sites.{IsDue, WereTold};
 
 use crate::hands::is_executor;
+use crate::site::{Request, Site};
+use core_bench::Bench;
+use core_contract::Rules;
 use lane_crew::Caller;
 use outside::{Berth, Place};
 use plain_values::{Blob, NoMemory, Text};
 use proxy_calls::look_made;
 use remote_messages::{NamedFile, Origin, WorkInput};
-use core_bench::Bench;
 use run_plan::{Kind, Maker};
-use core_contract::Rules;
 use std::alloc::Global;
 use std::sync::Wait;
 
-/// The files of an action's inputs, in order. The core is asked for those that other actions made;
+/// The files of a request's inputs, in order. The core is asked for those that other actions made;
 /// their contents are shared.
 ///
 /// # Errors
 ///
 /// `NoMemory`.
 pub(crate) fn inputs_of<B: Berth, P: Place, C: Rules, R: Wait>(
-    rt: &R,
-    alloc: Global,
+    site: &Site<'_, R>,
     caller: &mut Caller<'_, Bench<B, P, C>>,
-    berth: u32,
-    action: u32,
-    inputs: &[WorkInput],
+    request: &Request<'_>,
 ) -> Result<Vec<NamedFile>, NoMemory>
-    requires lane { IsProxyOf C.seats berth caller.old.pass }
-    requires owes { OwesSend action (mine caller.old.pass) }
-    requires made { All (λ input. IsMadeBy (C.makers (basis caller.old.pass) action) input.origin)
-        inputs.now }
-    ensures same { IsSamePass caller.old.pass caller.new.pass }
-    ensures none { MakesNone caller.old.pass caller.new.pass }
-    ensures inputs { IfOk result (λ files. AreInputs inputs.now files.items) }
-    ensures told { IfOk result (λ files. AreTold (C.rule (basis caller.old.pass))
-        caller.old.pass.lane (seen caller.new.pass) (looks_of inputs.now files.items)) }
+    requires { IsDue C.terms site.now caller.old.pass request.now }
+    ensures stays { Stays caller.old.pass caller.new.pass }
+    ensures inputs { IfOk result (λ files. AreInputs request.now.work.now.inputs files.items) }
+    ensures told { IfOk result (λ files. WereTold C.rule
+        (looks_of request.now.work.now.inputs files.items) caller.old.pass caller.new.pass) }
 {
-    let mut files = Vec::with_capacity(alloc, inputs.len())?;
+    let inputs = request.work.inputs.as_slice();
+    let mut files = Vec::with_capacity(site.alloc, inputs.len())?;
     for input in inputs {
-        let path = Text::copy_of(alloc, input.path.as_str())?;
-        let content = content_of(rt, caller, berth, action, &input.origin)?;
+        let path = Text::copy_of(site.alloc, input.path.as_str())?;
+        let content = content_of(site, caller, request, &input.origin)?;
         files.push(NamedFile { path, content })?;
     }
     Ok(files)
@@ -55,20 +49,18 @@ pub(crate) fn inputs_of<B: Berth, P: Place, C: Rules, R: Wait>(
 
 // The bytes of one input.
 fn content_of<B: Berth, P: Place, C: Rules, R: Wait>(
-    rt: &R,
+    site: &Site<'_, R>,
     caller: &mut Caller<'_, Bench<B, P, C>>,
-    berth: u32,
-    action: u32,
+    request: &Request<'_>,
     origin: &Origin,
 ) -> Result<Blob, NoMemory>
-    requires lane { IsProxyOf C.seats berth caller.old.pass }
-    requires owes { OwesSend action (mine caller.old.pass) }
-    requires made { IsMadeBy (C.makers (basis caller.old.pass) action) origin.now }
-    ensures same { IsSamePass caller.old.pass caller.new.pass }
-    ensures none { MakesNone caller.old.pass caller.new.pass }
+    requires due { IsDue C.terms site.now caller.old.pass request.now }
+    requires made { IsMadeBy ((C.terms (basis caller.old.pass)).makers request.now.action)
+        origin.now }
+    ensures stays { Stays caller.old.pass caller.new.pass }
     ensures from { IfOk result (λ bytes. IsFrom origin.now bytes) }
-    ensures told { IfOk result (λ bytes. AreTold (C.rule (basis caller.old.pass))
-        caller.old.pass.lane (seen caller.new.pass) (look_at origin.now bytes)) }
+    ensures told { IfOk result (λ bytes. WereTold C.rule (look_at origin.now bytes)
+        caller.old.pass caller.new.pass) }
 {
     match origin {
         Origin::Source(source) => source.content(),
@@ -80,7 +72,7 @@ fn content_of<B: Berth, P: Place, C: Rules, R: Wait>(
                 action: *made,
                 output: *output,
             };
-            look_made(rt, caller, berth, action, maker)
+            look_made(site.rt, caller, site.berth, request.action, maker)
         }
     }
 }

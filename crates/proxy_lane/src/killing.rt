@@ -1,27 +1,21 @@
 //! What a proxy lane does for a Kill, and where it halts.
-ghost use Rattle.std.specs.Prelude.{◌≡◌, true, None, Some};
-ghost use Rattle.seat_desk.specs.Passes.{IsSamePass, mine};
+ghost use Rattle.std.specs.Prelude.{◌≡◌, Some};
 ghost use Rattle.outside.specs.Launches.{IsNewChild};
-ghost use Rattle.core_contract.specs.Duties.{duty_of};
-ghost use Rattle.proxy_deeds.specs.Ends.{may_halt};
-ghost use Rattle.exec_journal.specs.declared.call.Call.TheVariants as call;
-ghost use Rattle.exec_journal.specs.declared.reply.Reply.TheVariants as reply;
 ghost use Rattle.proxy_calls.specs.declared.asking.Order.TheVariants as order;
-ghost use Rattle.proxy_calls.specs.Calls.{MakesOne};
 ghost use Rattle.proxy_steps.specs.Lanes.{held_of};
-ghost use Rattle.proxy_lane.specs.Sites.{IsSite, IsOrdered, IsTidy, Obeys};
-ghost use Rattle.proxy_steps.specs.Steps.{open_in, HasRoom, IsShelved, IsLaidBy, AreLaidBy};
+ghost use Rattle.proxy_steps.specs.Steps.{open_in, HasRoom, IsLaidBy};
+ghost use Rattle.proxy_lane.specs.Sites.{IsOrdered, MayGiveUp, GivesUp, Obeys};
 
 use crate::hands::open_line;
 use crate::site::Site;
-use exec_journal::Call;
-use lane_crew::Caller;
-use proxy_deeds::Cause;
-use proxy_steps::{EndedFeed, Hands, OpenFeed};
-use outside::{Berth, Place};
-use proxy_calls::{halt, tell};
 use core_bench::Bench;
 use core_contract::Rules;
+use exec_journal::Call;
+use lane_crew::Caller;
+use outside::{Berth, Place};
+use proxy_calls::{halt, tell};
+use proxy_deeds::Cause;
+use proxy_steps::{EndedFeed, Hands, OpenFeed};
 use std::sync::Wait;
 
 /// Has the berth end the open line's child, which is laid by with the line's feed, and reports it.
@@ -36,20 +30,13 @@ pub(crate) fn kill<B: Berth, P: Place, C: Rules, R: Wait>(
     line: u32,
     child: B::Child,
 ) -> Result<(), Cause>
-    requires site { IsSite C.seats C.remote C.actions C.outputs C.makers site.now caller.old.pass }
-    requires order { IsOrdered site.now B.Child.told (order.Kill line child)
+    requires { IsOrdered C.terms site.now B.Child.told (order.Kill line child)
         caller.old.pass hands.old }
-    requires room { HasRoom hands.old }
-    ensures shelved { IsShelved site.now.berth caller.new.pass None }
-    ensures closed { open_in hands.new ≡ None }
-    ensures obeys { Obeys site.now C.rule (held_of B.told B.Feed.told B.Child.told) result
+    ensures { Obeys site.now C.rule (held_of B.told B.Feed.told B.Child.told) result
         caller.old.pass hands.old caller.new.pass hands.new }
 {
     lay_by::<B>(hands, line, child);
-    match tell(site.rt, caller, site.berth, Call::Killed { line }) {
-        Ok(()) => Ok(()),
-        Err(call) => Err(Cause::Refused(call)),
-    }
+    tell(site.rt, caller, site.berth, Call::Killed { line })
 }
 
 // Has the berth end the child, and puts it with the open line's feed behind the lines that ended.
@@ -77,14 +64,9 @@ pub(crate) fn give_up<B: Berth, P: Place, C: Rules, R: Wait>(
     caller: &mut Caller<'_, Bench<B, P, C>>,
     hands: &mut Hands<B, B::Feed, B::Child>,
 )
-    requires site { IsSite C.seats C.remote C.actions C.outputs C.makers site.now caller.old.pass }
-    requires may { may_halt (duty_of (mine caller.old.pass)) ≡ true }
-    requires tidy { IsTidy site.now caller.old.pass hands.old }
-    ensures same { IsSamePass caller.old.pass caller.new.pass }
-    ensures halted { MakesOne call.Halt reply.Noted caller.old.pass caller.new.pass }
-    ensures laid_by { AreLaidBy (open_in hands.old)
-        (held_of B.told B.Feed.told B.Child.told hands.old)
-        (held_of B.told B.Feed.told B.Child.told hands.new) }
+    requires { MayGiveUp C.terms site.now caller.old.pass hands.old }
+    ensures { GivesUp (held_of B.told B.Feed.told B.Child.told)
+        caller.old.pass hands.old caller.new.pass hands.new }
 {
     let child = halt(site.rt, caller, site.berth);
     match child {

@@ -2,23 +2,22 @@
 ghost use Rattle.std.specs.Prelude.{◌≡◌, ◌<◌, [], map, option_map};
 ghost use Rattle.seat_desk.specs.Passes.{IsPassOf, IsSamePass, mine};
 ghost use Rattle.proxy_steps.specs.Lanes.{held_of, back_of};
-ghost use Rattle.proxy_lane.specs.Sites.{IsSite, IsOrdered, IsTidy, IsReady, Obeys, Rounds};
-ghost use Rattle.proxy_steps.specs.Steps.{HasRoom, Finishes, IsServedBy};
+ghost use Rattle.proxy_steps.specs.Steps.{IsServedBy};
+ghost use Rattle.proxy_lane.specs.Sites.{IsSite, IsOrdered, IsReady, Obeys, Rounds, Serves};
 
 use crate::gathering::gather;
 use crate::killing::{give_up, kill};
 use crate::launching::launch;
 use crate::sending::{cancel, send};
-use crate::site::{Answer, Site};
-use exec_journal::Call;
-use lane_bells::Bells;
-use lane_crew::Caller;
-use proxy_deeds::Cause;
-use proxy_steps::{EndedFeed, Hands};
-use outside::{Berth, Place};
-use proxy_calls::{Order, ask};
+use crate::site::Site;
 use core_bench::Bench;
 use core_contract::Rules;
+use lane_bells::Bells;
+use lane_crew::Caller;
+use outside::{Berth, Place};
+use proxy_calls::{Order, ask};
+use proxy_deeds::Cause;
+use proxy_steps::{EndedFeed, Hands};
 use seat_desk::{Desk, Pass};
 use std::sync::Wait;
 
@@ -56,7 +55,7 @@ pub fn run<B: Berth, P: Place, C: Rules, R: Wait>(
     berth: B,
 ) -> ProxyEnd<B, P, C>
     requires desk { IsPassOf desk.now pass }
-    requires site { IsSite C.seats C.remote C.actions C.outputs C.makers site.now pass }
+    requires site { IsSite C.terms site.now pass }
     requires bell { pass.lane < bells.now }
     requires fresh { mine pass ≡ [] }
     ensures desk { IsPassOf desk.now result.pass }
@@ -96,13 +95,10 @@ fn serve<B: Berth, P: Place, C: Rules, R: Wait>(
     caller: &mut Caller<'_, Bench<B, P, C>>,
     hands: &mut Hands<B, B::Feed, B::Child>,
 ) -> Option<Cause>
-    requires site { IsSite C.seats C.remote C.actions C.outputs C.makers site.now caller.old.pass }
-    requires ready { IsReady site.now C.rule (held_of B.told B.Feed.told B.Child.told)
+    requires { IsReady C.terms site.now C.rule (held_of B.told B.Feed.told B.Child.told)
         caller.old.pass hands.old }
-    ensures same { IsSamePass caller.old.pass caller.new.pass }
-    ensures ends { Finishes site.now.post.now site.now.actions.now C.rule result
-        caller.old.pass (held_of B.told B.Feed.told B.Child.told hands.old)
-        caller.new.pass (held_of B.told B.Feed.told B.Child.told hands.new) }
+    ensures { Serves site.now C.rule (held_of B.told B.Feed.told B.Child.told) result
+        caller.old.pass hands.old caller.new.pass hands.new }
 {
     for _ in site.rt.forever() {
         match next(site, caller, hands) {
@@ -123,8 +119,7 @@ fn next<B: Berth, P: Place, C: Rules, R: Wait>(
     caller: &mut Caller<'_, Bench<B, P, C>>,
     hands: &mut Hands<B, B::Feed, B::Child>,
 ) -> Result<bool, Cause>
-    requires site { IsSite C.seats C.remote C.actions C.outputs C.makers site.now caller.old.pass }
-    requires ready { IsReady site.now C.rule (held_of B.told B.Feed.told B.Child.told)
+    requires { IsReady C.terms site.now C.rule (held_of B.told B.Feed.told B.Child.told)
         caller.old.pass hands.old }
     ensures { Rounds site.now C.rule (held_of B.told B.Feed.told B.Child.told) result
         caller.old.pass hands.old caller.new.pass hands.new }
@@ -135,7 +130,7 @@ fn next<B: Berth, P: Place, C: Rules, R: Wait>(
             Err(cause) => Err(cause),
         },
         Ok(None) => Ok(false),
-        Err(_) => Err(Cause::Refused(Call::Ask)),
+        Err(cause) => Err(cause),
     }
 }
 
@@ -146,11 +141,8 @@ fn obey<B: Berth, P: Place, C: Rules, R: Wait>(
     hands: &mut Hands<B, B::Feed, B::Child>,
     order: Order<B::Child>,
 ) -> Result<(), Cause>
-    requires site { IsSite C.seats C.remote C.actions C.outputs C.makers site.now caller.old.pass }
-    requires order { IsOrdered site.now B.Child.told order caller.old.pass hands.old }
-    requires room { HasRoom hands.old }
-    ensures tidy { IsTidy site.now caller.new.pass hands.new }
-    ensures obeys { Obeys site.now C.rule (held_of B.told B.Feed.told B.Child.told) result
+    requires { IsOrdered C.terms site.now B.Child.told order caller.old.pass hands.old }
+    ensures { Obeys site.now C.rule (held_of B.told B.Feed.told B.Child.told) result
         caller.old.pass hands.old caller.new.pass hands.new }
 {
     match order {
@@ -161,22 +153,7 @@ fn obey<B: Berth, P: Place, C: Rules, R: Wait>(
             action,
         } => send(site, caller, hands, line, number, action),
         Order::Cancel { line, number } => { cancel(site, caller, hands, line, number) }
-        Order::Gather {
-            line,
-            number,
-            attempt,
-            exit,
-            refused,
-        } => {
-            let answer = Answer {
-                line,
-                number,
-                attempt,
-                exit,
-                refused,
-            };
-            gather(site, caller, hands, &answer)
-        }
+        Order::Gather(answer) => gather(site, caller, hands, &answer),
         Order::Kill { line, child } => { kill(site, caller, hands, line, child) }
     }
 }

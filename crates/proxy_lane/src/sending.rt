@@ -1,33 +1,29 @@
 //! What is done for a Send and for a Cancel.
-ghost use Rattle.std.specs.Prelude.{◌≡◌, OnOk, IfErr};
-ghost use Rattle.seat_desk.specs.Passes.{IsSamePass, mine, basis, seen};
-ghost use Rattle.core_contract.specs.Duties.{Asks, duty_of};
+ghost use Rattle.seat_desk.specs.Passes.{mine};
 ghost use Rattle.proxy_calls.specs.declared.asking.Order.TheVariants as order;
-ghost use Rattle.proxy_calls.specs.Calls.{MakesNone};
-ghost use Rattle.proxy_steps.specs.Acts.{Writes, SendActs, CancelActs};
+ghost use Rattle.proxy_calls.specs.Calls.{Stays};
+ghost use Rattle.proxy_steps.specs.Acts.{Writes, CancelActs};
 ghost use Rattle.proxy_steps.specs.Lanes.{held_of};
-ghost use Rattle.proxy_lane.specs.Sites.{IsSite, IsOrdered, sends, Obeys};
-ghost use Rattle.proxy_steps.specs.Steps.{SameShelf, OwesWrote, TellsWrote, IsCauseOf};
-ghost use Rattle.proxy_steps.specs.Work.{IsWork};
+ghost use Rattle.proxy_steps.specs.Steps.{OwesWrote};
 ghost use Rattle.due_frames.specs.declared.frames.Due.TheVariants.{Frame};
-ghost use Rattle.due_frames.specs.Requests.{AreFrom};
-ghost use Rattle.proxy_deeds.specs.Deeds.{send_asks, due_for};
+ghost use Rattle.due_frames.specs.Due.{HasSources};
+ghost use Rattle.proxy_lane.specs.Sites.{IsSite, IsDue, IsOrdered, SendsAt, ReportsWrote, Obeys};
+ghost use Rattle.proxy_lane.specs.Writing.{asks_of, due_of};
 
 use crate::hands::{action_at, is_executor};
 use crate::inputs::{inputs_of, know_digests};
 use crate::site::{Request, Site};
-use due_frames::{Due, cancel_frame, room_of, send_frame};
+use core_bench::Bench;
+use core_contract::Rules;
+use due_frames::{Due, DueWork, cancel_frame, room_of, send_frame};
 use exec_journal::{Call, Written};
 use lane_crew::Caller;
-use proxy_deeds::Cause;
-use proxy_steps::{Hands, OpenFeed};
-use order_acts::{give, send_line};
+use order_acts::{RoomFiles, give, send_line};
 use outside::{Berth, Feed, Place};
 use plain_values::NoMemory;
 use proxy_calls::tell;
-use remote_messages::NamedFile;
-use core_bench::Bench;
-use core_contract::Rules;
+use proxy_deeds::Cause;
+use proxy_steps::{Hands, OpenFeed};
 use std::sync::Wait;
 
 /// For a Send: takes the inputs together, makes the room ready, and writes the request to the line.
@@ -43,28 +39,20 @@ pub(crate) fn act_send<B: Berth, P: Place, C: Rules, R: Wait>(
     feed: &mut B::Feed,
     request: &Request<'_>,
 ) -> Result<Written, NoMemory>
-    requires site { IsSite C.seats C.remote C.actions C.outputs C.makers site.now caller.old.pass }
-    requires owes { duty_of (mine caller.old.pass) ≡ sends request.now }
-    requires work { IsWork (C.outputs (basis caller.old.pass) request.now.action)
-        (C.makers (basis caller.old.pass) request.now.action) request.now.work.now }
-    ensures same { IsSamePass caller.old.pass caller.new.pass }
-    ensures none { MakesNone caller.old.pass caller.new.pass }
-    ensures acts { SendActs site.now.post.now (C.rule (basis caller.old.pass)) caller.old.pass.lane
-        request.now.line request.now.number request.now.work.now result (seen caller.new.pass)
+    requires { IsDue C.terms site.now caller.old.pass request.now }
+    ensures stays { Stays caller.old.pass caller.new.pass }
+    ensures acts { SendsAt C.rule site.now request.now result caller.old.pass caller.new.pass
         (B.told berth.old) (B.told berth.new) (B.Feed.told feed.old) (B.Feed.told feed.new) }
 {
-    let sources = request.work.inputs.as_slice();
-    match inputs_of(
-        site.rt,
-        site.alloc,
-        caller,
-        site.berth,
-        request.action,
-        sources,
-    ) {
+    match inputs_of(site, caller, request) {
         Ok(inputs) => {
             let files = inputs.as_slice();
-            write(site, berth, feed, request, files)
+            let work = DueWork {
+                number: request.number,
+                action: request.work,
+                inputs: files,
+            };
+            write(site, berth, feed, &work)
         }
         Err(no_memory) => Err(no_memory),
     }
@@ -75,31 +63,19 @@ fn write<B: Berth, R: Wait>(
     site: &Site<'_, R>,
     berth: &mut B,
     feed: &mut B::Feed,
-    request: &Request<'_>,
-    inputs: &[NamedFile],
+    work: &DueWork<'_>,
 ) -> Result<Written, NoMemory>
-    requires { AreFrom request.now.work.now.inputs inputs.now }
-    ensures { Writes
-        (send_asks site.now.post.now request.now.number request.now.work.now inputs.now)
-        (due_for site.now.post.now request.now.number request.now.work.now inputs.now) result
+    requires { HasSources work.now }
+    ensures { Writes (asks_of site.now.post.now work.now) (due_of site.now.post.now work.now) result
         (B.told berth.old) (B.told berth.new) (B.Feed.told feed.old) (B.Feed.told feed.new) }
 {
     let post = site.post;
-    let work = request.work;
-    let number = request.number;
-    if let Err(no_memory) = know_digests(site.rt, site.alloc, post.kind, work.inputs.as_slice()) {
+    let sources = work.action.inputs.as_slice();
+    if let Err(no_memory) = know_digests(site.rt, site.alloc, post.kind, sources) {
         return Err(no_memory);
     }
-    let room = room_of(post.kind, number);
-    let due = match send_frame(
-        site.alloc,
-        post.speech,
-        room,
-        number,
-        work,
-        inputs,
-        post.verbose,
-    ) {
+    let room = room_of(post.kind, work.number);
+    let due = match send_frame(site.alloc, post.speech, room, work, post.verbose) {
         Ok(due) => due,
         Err(no_memory) => return Err(no_memory),
     };
@@ -107,7 +83,7 @@ fn write<B: Berth, R: Wait>(
         Due::TooLarge => Ok(Written::TooLarge),
         Due::Frame(frame) => {
             let bytes = frame.as_slice();
-            write_frame(site, berth, feed, request, inputs, bytes)
+            write_frame(site, berth, feed, work, bytes)
         }
     }
 }
@@ -117,21 +93,23 @@ fn write_frame<B: Berth, R>(
     site: &Site<'_, R>,
     berth: &mut B,
     feed: &mut B::Feed,
-    request: &Request<'_>,
-    inputs: &[NamedFile],
+    work: &DueWork<'_>,
     frame: &[u8],
 ) -> Result<Written, NoMemory>
-    ensures { Writes
-        (send_asks site.now.post.now request.now.number request.now.work.now inputs.now)
-        (Frame frame.now) result
+    ensures { Writes (asks_of site.now.post.now work.now) (Frame frame.now) result
         (B.told berth.old) (B.told berth.new) (B.Feed.told feed.old) (B.Feed.told feed.new) }
 {
     if is_executor(site.post.kind) {
         return Ok(give(feed, frame));
     }
-    let room = room_of(site.post.kind, request.number);
-    let outputs = request.work.outputs.as_slice();
-    send_line(site.alloc, berth, feed, room, inputs, outputs, frame)
+    let room = room_of(site.post.kind, work.number);
+    let outputs = work.action.outputs.as_slice();
+    let files = RoomFiles {
+        room,
+        inputs: work.inputs,
+        outputs,
+    };
+    send_line(site.alloc, berth, feed, &files, frame)
 }
 
 /// For a Cancel: writes to the line that the request is to be given up.
@@ -168,11 +146,9 @@ pub(crate) fn send<B: Berth, P: Place, C: Rules, R: Wait>(
     number: i32,
     action: u32,
 ) -> Result<(), Cause>
-    requires site { IsSite C.seats C.remote C.actions C.outputs C.makers site.now caller.old.pass }
-    requires order { IsOrdered site.now B.Child.told (order.Send line number action)
+    requires { IsOrdered C.terms site.now B.Child.told (order.Send line number action)
         caller.old.pass hands.old }
-    ensures shelf { SameShelf site.now.berth caller.old.pass hands.old caller.new.pass hands.new }
-    ensures obeys { Obeys site.now C.rule (held_of B.told B.Feed.told B.Child.told) result
+    ensures { Obeys site.now C.rule (held_of B.told B.Feed.told B.Child.told) result
         caller.old.pass hands.old caller.new.pass hands.new }
 {
     match hands.open.take() {
@@ -212,11 +188,9 @@ pub(crate) fn cancel<B: Berth, P: Place, C: Rules, R: Wait>(
     line: u32,
     number: i32,
 ) -> Result<(), Cause>
-    requires site { IsSite C.seats C.remote C.actions C.outputs C.makers site.now caller.old.pass }
-    requires order { IsOrdered site.now B.Child.told (order.Cancel line number)
+    requires { IsOrdered C.terms site.now B.Child.told (order.Cancel line number)
         caller.old.pass hands.old }
-    ensures shelf { SameShelf site.now.berth caller.old.pass hands.old caller.new.pass hands.new }
-    ensures obeys { Obeys site.now C.rule (held_of B.told B.Feed.told B.Child.told) result
+    ensures { Obeys site.now C.rule (held_of B.told B.Feed.told B.Child.told) result
         caller.old.pass hands.old caller.new.pass hands.new }
 {
     match hands.open.take() {
@@ -244,24 +218,15 @@ fn report<B: Berth, P: Place, C: Rules, R: Wait>(
     number: i32,
     wrote: Result<Written, NoMemory>,
 ) -> Result<(), Cause>
-    requires site { IsSite C.seats C.remote C.actions C.outputs C.makers site.now caller.old.pass }
+    requires site { IsSite C.terms site.now caller.old.pass }
     requires owes { OwesWrote line number wrote (mine caller.old.pass) }
-    ensures same { IsSamePass caller.old.pass caller.new.pass }
-    ensures told { OnOk result ((duty_of (mine caller.new.pass) ≡ Asks)
-        × TellsWrote line number wrote caller.old.pass caller.new.pass) }
-    ensures refused { IfErr result (λ cause. MakesNone caller.old.pass caller.new.pass
-        × IsCauseOf line number wrote cause) }
+    ensures { ReportsWrote result caller.old.pass caller.new.pass line number wrote }
 {
     match wrote {
-        Ok(how) => match tell(
-            site.rt,
-            caller,
-            site.berth,
-            Call::Wrote { line, number, how },
-        ) {
-            Ok(()) => Ok(()),
-            Err(call) => Err(Cause::Refused(call)),
-        },
+        Ok(how) => {
+            let report = Call::Wrote { line, number, how };
+            tell(site.rt, caller, site.berth, report)
+        }
         Err(_) => Err(Cause::NoMemory),
     }
 }

@@ -1,6 +1,5 @@
-//! Where a proxy lane works, and what an order of it names.
+//! Where a proxy lane works, and a request that is due there.
 
-use exec_journal::Attempt;
 use proxy_deeds::Post;
 use remote_messages::WorkAction;
 use std::alloc::Global;
@@ -24,14 +23,4 @@ pub(crate) struct Request<'a> {
     pub number: i32,
     pub action: u32,
     pub work: &'a WorkAction,
-}
-
-/// The answer to a request of a line, and the attempt that it is of.
-#[derive(Drop)]
-pub(crate) struct Answer {
-    pub line: u32,
-    pub number: i32,
-    pub attempt: Attempt,
-    pub exit: i32,
-    pub refused: bool,
 }

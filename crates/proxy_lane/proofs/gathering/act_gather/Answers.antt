@@ -1,5 +1,4 @@
 use Rattle.std.proofs.Common.{w32, to_z, of_z, ℕ, ℤ, Bool, true, false, List, length, [], refl, ap, sym, subst, ◌∙◌, SFits, rules as facts}
-use Rattle.std.specs.Prelude.{IfOk}
 use Rattle.std.proofs.Math.Facts.{to_z-of_z}
 use Rattle.exec_journal.specs.declared.call.Found.TheVariants as found
 use Rattle.sandbox_rooms.specs.declared.room.Room.{Room}
@@ -11,7 +10,6 @@ use Rattle.run_plan.specs.Groups.{is_remote}
 use Rattle.due_frames.specs.Requests.{room_for}
 use Rattle.seat_desk.specs.Passes.{basis, seen}
 use Rattle.proxy_deeds.specs.Deeds.{FoundIn, look_asks}
-use Rattle.proxy_steps.specs.Acts.{IsAnswered}
 use Rattle.proxy_steps.proofs.Acting.{gather_none, gather_answered, gather_looked}
 use Rattle.proxy_lane.proofs.gathering.act_gather.Goals as goal
 
@@ -54,12 +52,9 @@ returns-then-is_executor-clause-acts g c =
     let p = c.args.caller.now.pass in
     let post = c.args.site.now.post.now in
     let work = c.args.work.now in
-    let later = seen c.answered.new.caller.pass in
-    let rule = g.C.Rules.rule (basis p) in
-    gather_answered post rule p.lane c.args.answer.now.line c.args.answer.now.number work later c.answered.result
+    gather_answered post (g.C.Rules.rule (basis p)) p.lane c.args.answer.now.line c.args.answer.now.number work (seen c.answered.new.caller.pass) c.answered.result
     (g.B.Berth.told c.args.berth.now) (sym c.is_executor.ensures ∙ c.if-is_executor.true)
-    (subst (λ xs. IfOk c.answered.result (λ f. IsAnswered rule p.lane c.args.answer.now.line c.args.answer.now.number
-    (length xs) f later)) c.as_slice-outputs.ensures c.answered.ensures.answered)
+    c.answered.ensures.answered
 
 pub returns-clause-acts : goal.returns-clause-acts
 returns-clause-acts g c =
@@ -74,4 +69,4 @@ returns-clause-acts g c =
     c.gather_line.result old new (sym c.is_executor.ensures ∙ c.if-is_executor.false)
     (subst (λ (r : Room). ReportsLooks (gather_asks r work.outputs) c.gather_line.result old new) room
     (subst (λ xs. ReportsLooks (gather_asks c.room_of-room.result xs) c.gather_line.result old new)
-    c.as_slice-outputs.ensures c.gather_line.ensures.looks))
+    c.as_slice.ensures c.gather_line.ensures.looks))

@@ -1,14 +1,13 @@
 use Rattle.std.proofs.Common.{◌≡◌, length}
-use Rattle.seat_desk.specs.Passes.{IsSamePass, basis, seen}
+use Rattle.seat_desk.specs.Passes.{basis, seen}
 use Rattle.proxy_deeds.specs.Deeds.{looks_from}
 use Rattle.proxy_deeds.specs.Told.{AreTold}
-use Rattle.proxy_calls.specs.Calls.{MakesNone}
+use Rattle.proxy_calls.specs.Calls.{Stays}
 use Rattle.proxy_lane.proofs.gathering.answered.Given as goal
 
 abbrev pub invariant-loop-output : goal.invariant-loop-output
 invariant-loop-output g l = record {
-  same : IsSamePass l.fn.caller.pass l.caller.pass;
-  none : MakesNone l.fn.caller.pass l.caller.pass;
+  stays : Stays l.fn.caller.pass l.caller.pass;
   files : length l.files.items ≡ l.output;
   told : AreTold (g.C.Rules.rule (basis l.fn.caller.pass)) l.fn.caller.pass.lane (seen l.caller.pass)
       (looks_from l.answer.line l.answer.number 0 l.files.items);

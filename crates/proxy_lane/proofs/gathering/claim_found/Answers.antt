@@ -1,4 +1,4 @@
-use Rattle.std.proofs.Common.{◌≡◌, inl, inr, ℕ, ◌<◌, ◌^◌, ◌==◌, Bool, true, false, not, ◌&&◌, int_eq, length, Option, Some, List, [], ◌∷◌, ◌++◌, refl, ap, sym, subst, ◌∙◌, append-nil}
+use Rattle.std.proofs.Common.{◌≡◌, inl, inr, ℕ, ◌<◌, ◌^◌, ◌==◌, Bool, true, false, not, ◌&&◌, int_eq, length, Option, Some, List, [], ◌∷◌, ◌++◌, refl, ap, sym, subst, ◌∙◌}
 use Rattle.seat_desk.specs.History.{entry}
 use Rattle.seat_desk.specs.Passes.{mine, basis, seen}
 use Rattle.exec_journal.specs.declared.call.Call.TheVariants as call
@@ -12,14 +12,16 @@ use Rattle.core_contract.specs.Moves.{History}
 use Rattle.core_contract.specs.Shelf.{Fresh}
 use Rattle.std.specs.Prelude.{if◌then◌else◌, pos}
 use Rattle.std.proofs.lemmas.Bool.{eqb-true}
-use Rattle.run_plan.specs.declared.plan.Maker.{Maker}
+use Rattle.core_contract.specs.Terms.{Terms}
 use Rattle.exec_journal.specs.Entries.{same_attempt}
 use Rattle.core_contract.specs.Duties.{Duty, Asks, Launches, Sends, Cancels, Gathers, Commits, Kills, Left, duty_of, may_do}
 use Rattle.core_bench.specs.Objects.{IsPlaceAt}
 use Rattle.proxy_calls.specs.Claims.{claim_of, IsGranted, OwesCommit}
-use Rattle.proxy_steps.specs.Steps.{files_in}
+use Rattle.proxy_deeds.specs.declared.cause.Cause.{Cause}
+use Rattle.proxy_steps.specs.Steps.{files_in, IsCauseOfClaim}
 use Rattle.proxy_steps.proofs.Sends.{starts_later}
 use Rattle.proxy_steps.proofs.Serving.{proxy_on, by_rules}
+use Rattle.proxy_lane.proofs.Siting.{same_on, stays_at}
 use Rattle.proxy_lane.proofs.gathering.claim_found.Goals as goal
 
 -- what is granted is files, which are to be committed to the place
@@ -64,159 +66,128 @@ files_fit n outputs true false e = eqb-true n outputs e
 files_fit n outputs true true e = absurd (cc)
 files_fit n outputs false refused e = absurd (cc)
 
-claim_fits : (outputs : ℕ → List (List ℕ)) (makers : ℕ → List Maker) (remote : Bool) (s : Duty)
-    (t : Attempt) (fs : List (List ℕ)) → may_do outputs makers remote s (claim_of t (found.Files fs)) ≡ true
-    → length fs ≡ length (outputs t.action)
-claim_fits outputs makers remote (Gathers l n u exit refused) t fs e =
-    files_fit (length fs) (length (outputs t.action)) (int_eq exit (pos 0)) refused
+claim_fits : (terms : Terms) (w : ℕ) (s : Duty) (t : Attempt) (fs : List (List ℕ))
+    → may_do terms w s (claim_of t (found.Files fs)) ≡ true
+    → length fs ≡ length (terms.outputs t.action)
+claim_fits terms w (Gathers l n u exit refused) t fs e =
+    files_fit (length fs) (length (terms.outputs t.action)) (int_eq exit (pos 0)) refused
     (second (same_attempt t u) _ e)
-claim_fits outputs makers remote Asks t fs e = absurd (cc)
-claim_fits outputs makers remote Left t fs e = absurd (cc)
-claim_fits outputs makers remote (Launches l) t fs e = absurd (cc)
-claim_fits outputs makers remote (Sends l n a) t fs e = absurd (cc)
-claim_fits outputs makers remote (Cancels l n) t fs e = absurd (cc)
-claim_fits outputs makers remote (Commits a b gs) t fs e = absurd (cc)
-claim_fits outputs makers remote (Kills l) t fs e = absurd (cc)
+claim_fits terms w Asks t fs e = absurd (cc)
+claim_fits terms w Left t fs e = absurd (cc)
+claim_fits terms w (Launches l) t fs e = absurd (cc)
+claim_fits terms w (Sends l n a) t fs e = absurd (cc)
+claim_fits terms w (Cancels l n) t fs e = absurd (cc)
+claim_fits terms w (Commits a b gs) t fs e = absurd (cc)
+claim_fits terms w (Kills l) t fs e = absurd (cc)
 
-granted_fits : {P : Type 0} (told : P → PlaceTold) (outputs : ℕ → List (List ℕ))
-    (makers : ℕ → List Maker) (remote : Bool) (s : Duty) (t : Attempt) (place : P) (f : Found) (r : Reply)
-    (own : History) → IsGranted told (outputs t.action) t (Some place) f r own
-    → may_do outputs makers remote s (claim_of t f) ≡ true
-    → length (files_in f) ≡ length (outputs t.action)
-granted_fits told outputs makers remote s t place (found.Files fs) r own x may =
-    claim_fits outputs makers remote s t fs may
-granted_fits told outputs makers remote s t place (found.Exit y) r own x may = absurd x
-granted_fits told outputs makers remote s t place (found.Missing n) r own x may = absurd x
-granted_fits told outputs makers remote s t place found.RoomFault r own x may = absurd x
-granted_fits told outputs makers remote s t place found.Refused r own x may = absurd x
+granted_fits : {P : Type 0} (told : P → PlaceTold) (terms : Terms) (w : ℕ) (s : Duty) (t : Attempt)
+    (place : P) (f : Found) (r : Reply) (own : History)
+    → IsGranted told (terms.outputs t.action) t (Some place) f r own
+    → may_do terms w s (claim_of t f) ≡ true
+    → length (files_in f) ≡ length (terms.outputs t.action)
+granted_fits told terms w s t place (found.Files fs) r own x may = claim_fits terms w s t fs may
+granted_fits told terms w s t place (found.Exit y) r own x may = absurd x
+granted_fits told terms w s t place (found.Missing n) r own x may = absurd x
+granted_fits told terms w s t place found.RoomFault r own x may = absurd x
+granted_fits told terms w s t place found.Refused r own x may = absurd x
 
 pub claim-requires-clause-lane : goal.claim-requires-clause-lane
-claim-requires-clause-lane g c = c.requires.site.lane
+claim-requires-clause-lane g c = c.requires.at_site.lane
 
 pub claim-requires-clause-may : goal.claim-requires-clause-may
 claim-requires-clause-may g c = c.requires.may
 
 pub commit_files-requires-clause-lane : goal.commit_files-requires-clause-lane
-commit_files-requires-clause-lane g c = proxy_on g.C.Rules.seats c.args.site.now.berth
-    c.args.caller.now.pass c.claim.new.caller.pass c.claim.ensures.same c.requires.site.lane
+commit_files-requires-clause-lane g c = proxy_on g.C.Rules.terms c.args.site.now.berth
+    c.args.caller.now.pass c.claim.new.caller.pass c.claim.ensures.same c.requires.at_site.lane
 
-pub commit_files-requires-clause-outputs : goal.commit_files-requires-clause-outputs
-commit_files-requires-clause-outputs g c =
-    by_rules (λ q. g.C.Rules.outputs q c.args.attempt.action ≡ c.args.work.now.outputs)
-    c.args.caller.now.pass c.claim.new.caller.pass c.claim.ensures.same c.requires.outputs
-    ∙ sym c.as_slice-outputs.ensures
+pub commit_files-requires-clause-may : goal.commit_files-requires-clause-may
+commit_files-requires-clause-may g c =
+    let p = c.args.caller.now.pass in
+    let p1 = c.claim.new.caller.pass in
+    let t = c.args.attempt in
+    let f = c.args.found in
+    let told = g.P.Place.told in
+    let terms = g.C.Rules.terms (basis p) in
+    let outputs = terms.outputs t.action in
+    let work = c.args.work.now.outputs in
+    let paths = c.as_slice-in-Ok-Some.ensures in
+    let claimed = c.in-Ok-Some.ensures.claimed in
+    let granted = subst (λ (o : Option g.row.P.Denot). IsGranted told outputs t o f claimed.reply (mine p1))
+    c.in-Ok-Some.field-0-is claimed.granted in
+    let owes = some_granted told outputs t c.in-Ok-Some.place f claimed.reply (mine p1) granted in
+    let copies = c.as_slice.ensures.value ∙ c.in-Ok.ensures.ok in
+    let of : outputs ≡ work = sym c.requires.of_action.same_outputs in
+    record {
+      owes = subst (λ (fs : List (List ℕ)). OwesCommit t fs (mine p1)) (sym copies) owes.0;
+      outputs = by_rules (λ q. (g.C.Rules.terms q).outputs t.action ≡ work) p p1 c.claim.ensures.same of
+          ∙ sym paths;
+      fits = ap length copies
+          ∙ (granted_fits told terms c.args.site.now.berth (duty_of (mine p)) t c.in-Ok-Some.place f claimed.reply
+          (mine p1) granted c.requires.may ∙ ap length (of ∙ sym paths));
+      few = subst (λ (xs : List (List ℕ)). length xs < 2 ^ 32) (sym paths) c.requires.of_action.few;
+      place = subst (λ (xs : List (List ℕ)). IsPlaceAt t.action xs Fresh (told c.in-Ok-Some.place))
+          (of ∙ sym paths) owes.1;
+    }
 
-pub returns-in-Ok-Some-clause-same : goal.returns-in-Ok-Some-clause-same
-returns-in-Ok-Some-clause-same g c =
-    let first = c.claim.ensures.same in
-    let later = c.commit_files.ensures.same in
-    (later.0 ∙ first.0, later.1 ∙ first.1, later.2 ∙ first.2)
-
-pub returns-in-Ok-Some-clause-claims : goal.returns-in-Ok-Some-clause-claims
-returns-in-Ok-Some-clause-claims g c =
+pub returns-in-Ok-Some : goal.returns-in-Ok-Some
+returns-in-Ok-Some g c =
     let p = c.args.caller.now.pass in
     let p1 = c.claim.new.caller.pass in
     let p2 = c.commit_files.new.caller.pass in
     let t = c.args.attempt in
+    let f = c.args.found in
+    let told = g.P.Place.told in
+    let outputs = (g.C.Rules.terms (basis p)).outputs t.action in
     let claimed = c.in-Ok-Some.ensures.claimed in
-    let granted = subst (λ (o : Option g.row.P.Denot). IsGranted g.P.Place.told
-    (g.C.Rules.outputs (basis p) t.action) t o c.args.found claimed.reply (mine p1))
+    let granted = subst (λ (o : Option g.row.P.Denot). IsGranted told outputs t o f claimed.reply (mine p1))
     c.in-Ok-Some.field-0-is claimed.granted in
-    let owes = some_granted g.P.Place.told (g.C.Rules.outputs (basis p) t.action) t
-    c.in-Ok-Some.place c.args.found claimed.reply (mine p1) granted in
+    let owes = some_granted told outputs t c.in-Ok-Some.place f claimed.reply (mine p1) granted in
     let done = c.commit_files.ensures.committed in
     let made = subst (λ (n : ℕ). mine p2 ≡ mine p1
     ++ entry n (call.Committed t.action t.branch done.0) reply.Noted ∷ []) c.claim.ensures.same.1
-    done.1.1 in (
-      c.commit_files.ensures.asks,
-      (
-        starts_later (seen p) (seen p1) (seen p2) claimed.made.0 done.1.0,
-        (claimed.reply, mine p1, claimed.made.1, inr (owes.0.duty, (done.0, made))),
-      ),
-    )
+    done.1.1 in
+    record {
+      same = same_on p p1 p2 c.claim.ensures.same c.commit_files.ensures.same;
+      claims = (
+        c.commit_files.ensures.asks,
+        (
+          starts_later (seen p) (seen p1) (seen p2) claimed.made.0 done.1.0,
+          (claimed.reply, mine p1, claimed.made.1, inr (owes.0.duty, (done.0, made))),
+        ),
+      );
+      refused = tt;
+    }
 
-pub returns-in-Ok-Some-clause-refused : goal.returns-in-Ok-Some-clause-refused
-returns-in-Ok-Some-clause-refused g c = tt
-
-pub returns-in-Ok-None-clause-same : goal.returns-in-Ok-None-clause-same
-returns-in-Ok-None-clause-same g c = c.claim.ensures.same
-
-pub returns-in-Ok-None-clause-claims : goal.returns-in-Ok-None-clause-claims
-returns-in-Ok-None-clause-claims g c =
+pub returns-in-Ok-None : goal.returns-in-Ok-None
+returns-in-Ok-None g c =
     let p = c.args.caller.now.pass in
     let p1 = c.claim.new.caller.pass in
+    let t = c.args.attempt in
     let claimed = c.in-Ok-None.ensures.claimed in
-    let granted = subst (λ (o : Option g.row.P.Denot). IsGranted g.P.Place.told
-    (g.C.Rules.outputs (basis p) c.args.attempt.action) c.args.attempt o c.args.found claimed.reply
-    (mine p1)) c.in-Ok-None.field-0-is claimed.granted in
-    (granted, (claimed.made.0, (claimed.reply, mine p1, claimed.made.1, inl refl)))
+    record {
+      same = c.claim.ensures.same;
+      claims = (
+        subst (λ (o : Option g.row.P.Denot). IsGranted g.P.Place.told ((g.C.Rules.terms (basis p)).outputs t.action)
+            t o c.args.found claimed.reply (mine p1)) c.in-Ok-None.field-0-is claimed.granted,
+        (claimed.made.0, (claimed.reply, mine p1, claimed.made.1, inl refl)),
+      );
+      refused = tt;
+    }
 
-pub returns-in-Ok-None-clause-refused : goal.returns-in-Ok-None-clause-refused
-returns-in-Ok-None-clause-refused g c = tt
+pub returns-in-Ok : goal.returns-in-Ok
+returns-in-Ok g c =
+    let x = c.in-Err-claim.ensures.refused in
+    record {
+      same = c.claim.ensures.same;
+      claims = tt;
+      refused = (
+        x.1,
+        subst (λ (by : Cause). IsCauseOfClaim c.args.attempt c.args.found by) (sym x.0) refl,
+      );
+    }
 
-pub returns-in-Ok-clause-same : goal.returns-in-Ok-clause-same
-returns-in-Ok-clause-same g c = c.claim.ensures.same
-
-pub returns-in-Ok-clause-claims : goal.returns-in-Ok-clause-claims
-returns-in-Ok-clause-claims g c = tt
-
-pub returns-in-Ok-clause-refused : goal.returns-in-Ok-clause-refused
-returns-in-Ok-clause-refused g c = (c.in-Err-claim.ensures.refused.1, c.in-Err-claim.ensures.refused.0)
-
-pub returns-clause-same : goal.returns-clause-same
-returns-clause-same g c = (refl, refl, refl)
-
-pub returns-clause-claims : goal.returns-clause-claims
-returns-clause-claims g c = tt
-
-pub returns-clause-refused : goal.returns-clause-refused
-returns-clause-refused g c =
-    ((([], sym (append-nil (seen c.args.caller.now.pass))), refl), c.in-Err.ensures.err)
-
-pub commit_files-requires-clause-owes : goal.commit_files-requires-clause-owes
-commit_files-requires-clause-owes g c =
-    let p = c.args.caller.now.pass in
-    let p1 = c.claim.new.caller.pass in
-    let t = c.args.attempt in
-    let claimed = c.in-Ok-Some.ensures.claimed in
-    let granted = subst (λ (o : Option g.row.P.Denot). IsGranted g.P.Place.told
-    (g.C.Rules.outputs (basis p) t.action) t o c.args.found claimed.reply (mine p1))
-    c.in-Ok-Some.field-0-is claimed.granted in
-    let owes = some_granted g.P.Place.told (g.C.Rules.outputs (basis p) t.action) t
-    c.in-Ok-Some.place c.args.found claimed.reply (mine p1) granted in
-    subst (λ (fs : List (List ℕ)). OwesCommit t fs (mine p1))
-    (sym (c.as_slice.ensures.value ∙ c.in-Ok.ensures.ok)) owes.0
-
-pub commit_files-requires-clause-place : goal.commit_files-requires-clause-place
-commit_files-requires-clause-place g c =
-    let p = c.args.caller.now.pass in
-    let p1 = c.claim.new.caller.pass in
-    let t = c.args.attempt in
-    let claimed = c.in-Ok-Some.ensures.claimed in
-    let granted = subst (λ (o : Option g.row.P.Denot). IsGranted g.P.Place.told
-    (g.C.Rules.outputs (basis p) t.action) t o c.args.found claimed.reply (mine p1))
-    c.in-Ok-Some.field-0-is claimed.granted in
-    let owes = some_granted g.P.Place.told (g.C.Rules.outputs (basis p) t.action) t
-    c.in-Ok-Some.place c.args.found claimed.reply (mine p1) granted in
-    subst (λ (xs : List (List ℕ)). IsPlaceAt t.action xs Fresh (g.P.Place.told c.in-Ok-Some.place))
-    (c.requires.outputs ∙ sym c.as_slice-outputs.ensures) owes.1
-
-pub commit_files-requires-clause-few : goal.commit_files-requires-clause-few
-commit_files-requires-clause-few g c = subst (λ (xs : List (List ℕ)). length xs < 2 ^ 32)
-    (sym c.as_slice-outputs.ensures) c.requires.few
-
-pub commit_files-requires-clause-fits : goal.commit_files-requires-clause-fits
-commit_files-requires-clause-fits g c =
-    let p = c.args.caller.now.pass in
-    let q = basis p in
-    let t = c.args.attempt in
-    let own = mine c.claim.new.caller.pass in
-    let claimed = c.in-Ok-Some.ensures.claimed in
-    let granted = subst (λ (o : Option g.row.P.Denot). IsGranted g.P.Place.told
-    (g.C.Rules.outputs q t.action) t o c.args.found claimed.reply own) c.in-Ok-Some.field-0-is
-    claimed.granted in
-    let fits = granted_fits g.P.Place.told (g.C.Rules.outputs q) (g.C.Rules.makers q)
-    (g.C.Rules.remote q c.args.site.now.berth) (duty_of (mine p)) t c.in-Ok-Some.place c.args.found
-    claimed.reply own granted c.requires.may in
-    ap length (c.as_slice.ensures.value ∙ c.in-Ok.ensures.ok)
-    ∙ (fits ∙ ap length (c.requires.outputs ∙ sym c.as_slice-outputs.ensures))
+pub returns : goal.returns
+returns g c =
+    let stays = stays_at c.args.caller.now.pass in
+    record { same = stays.same; claims = tt; refused = (stays.none, c.in-Err.ensures.err) }

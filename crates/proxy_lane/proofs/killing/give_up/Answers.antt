@@ -15,19 +15,33 @@ lay_by-requires-clause-child g c =
     c.in-Some-open_line.line c.halt-child.result c.in-Some.child c.halt-child.ensures.child
     (c.requires.tidy.0 ∙ (sym c.open_line.ensures ∙ c.in-Some-open_line.is)) c.in-Some.is
 
-pub returns-in-Some-open_line-clause-laid_by : goal.returns-in-Some-open_line-clause-laid_by
-returns-in-Some-open_line-clause-laid_by g c =
-    subst (λ (o : Option ℕ). AreLaidBy o (held_of g.B.Berth.told g.B.Feed.Feed.told g.B.Child.Child.told c.args.hands.now)
-    (held_of g.B.Berth.told g.B.Feed.Feed.told g.B.Child.Child.told c.lay_by.new.hands)) (sym (sym c.open_line.ensures ∙ c.in-Some-open_line.is)) c.lay_by.ensures
+pub returns-in-Some-open_line : goal.returns-in-Some-open_line
+returns-in-Some-open_line g c =
+    let held = held_of g.B.Berth.told g.B.Feed.Feed.told g.B.Child.Child.told in
+    record {
+      same = c.halt-child.ensures.same;
+      halted = c.halt-child.ensures.halted;
+      laid_by = subst (λ (o : Option ℕ). AreLaidBy o (held c.args.hands.now) (held c.lay_by.new.hands))
+          (sym (sym c.open_line.ensures ∙ c.in-Some-open_line.is)) c.lay_by.ensures;
+    }
 
-pub returns-in-None-open_line-clause-laid_by : goal.returns-in-None-open_line-clause-laid_by
-returns-in-None-open_line-clause-laid_by g c =
+pub returns-in-None-open_line : goal.returns-in-None-open_line
+returns-in-None-open_line g c =
     let h = held_of g.B.Berth.told g.B.Feed.Feed.told g.B.Child.Child.told c.args.hands.now in
-    subst (λ (o : Option ℕ). AreLaidBy o h h) (sym (sym c.open_line.ensures ∙ c.in-None-open_line.is)) refl
+    record {
+      same = c.halt-child.ensures.same;
+      halted = c.halt-child.ensures.halted;
+      laid_by = subst (λ (o : Option ℕ). AreLaidBy o h h)
+          (sym (sym c.open_line.ensures ∙ c.in-None-open_line.is)) refl;
+    }
 
-pub returns-in-None-clause-laid_by : goal.returns-in-None-clause-laid_by
-returns-in-None-clause-laid_by g c =
+pub returns-in-None : goal.returns-in-None
+returns-in-None g c =
     let h = held_of g.B.Berth.told g.B.Feed.Feed.told g.B.Child.Child.told c.args.hands.now in
     let none = none_there g.B.Child.Child.told (child_at c.args.site.now.berth (mine c.args.caller.now.pass))
     c.halt-child.result c.halt-child.ensures.child c.in-None.is in
-    subst (λ (o : Option ℕ). AreLaidBy o h h) (sym (sym c.requires.tidy.0 ∙ none)) refl
+    record {
+      same = c.halt-child.ensures.same;
+      halted = c.halt-child.ensures.halted;
+      laid_by = subst (λ (o : Option ℕ). AreLaidBy o h h) (sym (sym c.requires.tidy.0 ∙ none)) refl;
+    }

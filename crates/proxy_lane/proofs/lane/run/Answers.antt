@@ -8,8 +8,8 @@ use Rattle.proxy_steps.specs.Steps.{Finishes}
 use Rattle.proxy_steps.proofs.Serving.{first_keeps, served_by}
 use Rattle.proxy_lane.proofs.lane.run.Goals as goal
 
-pub serve-halted-requires-clause-ready : goal.serve-halted-requires-clause-ready
-serve-halted-requires-clause-ready g c =
+pub serve-halted-requires : goal.serve-halted-requires
+serve-halted-requires g c =
     let post = c.args.site.now.post.now in
     let actions = c.args.site.now.actions.now in
     let rule = g.C.Rules.rule in
@@ -17,6 +17,7 @@ serve-halted-requires-clause-ready g c =
     let b = g.B.Berth.told c.args.berth in
     let none = ap (map (back_of g.B.Feed.Feed.told g.B.Child.Child.told)) c.new.ensures.items in
     let fresh = ap mine c.new-caller.ensures.pass ∙ c.requires.fresh in record {
+      at_site = rw (sym c.new-caller.ensures.pass) at c.requires.site;
       asks = ap duty_of fresh;
       tidy = (
         ap (child_at c.args.site.now.berth) fresh,

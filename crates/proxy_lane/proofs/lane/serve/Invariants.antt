@@ -10,7 +10,7 @@ invariant-loop g l =
     let held = held_of g.B.Berth.told g.B.Feed.Feed.told g.B.Child.Child.told in
     record {
       same : IsSamePass l.fn.caller.pass l.caller.pass;
-      ready : IsReady l.site g.C.Rules.rule held l.caller.pass l.hands;
+      ready : IsReady g.C.Rules.terms l.site g.C.Rules.rule held l.caller.pass l.hands;
       goes : Goes l.site.post.now l.site.actions.now g.C.Rules.rule l.fn.caller.pass (held l.fn.hands)
           l.caller.pass (held l.hands);
     }

@@ -1,6 +1,4 @@
-use Rattle.remote_branch.specs.Jobs.{job_for}
-use Rattle.due_frames.specs.Requests.{room_for, request_for}
-use Rattle.due_frames.specs.Frames.{send_due}
+use Rattle.due_frames.specs.Requests.{room_for}
 use Rattle.std.proofs.Math.Facts.{to_z-of_z}
 use Rattle.std.specs.Prelude.{ℤ}
 use Rattle.std.proofs.Common.{ap, sym, ◌∙◌, w32, SFits, rules as facts}
@@ -12,46 +10,44 @@ use Rattle.proxy_lane.proofs.sending.write.Goals as goal
 
 pub returns-in-TooLarge : goal.returns-in-TooLarge
 returns-in-TooLarge g c =
-    let fits : SFits w32 c.args.request.now.number = search facts in
+    let fits : SFits w32 c.args.work.now.number = search facts in
     let post = c.args.site.now.post.now in
-    let work = c.args.request.now.work.now in
-    let files = c.args.inputs.now in
-    large_writes (send_asks post c.args.request.now.number work files) (due_for post c.args.request.now.number work files)
+    let work = c.args.work.now.action.now in
+    let files = c.args.work.now.inputs.now in
+    large_writes (send_asks post c.args.work.now.number work files) (due_for post c.args.work.now.number work files)
     (g.B.Berth.told c.args.berth.now) (g.B.Feed.Feed.told c.args.feed.now)
-    (sym (due_is post c.args.request.now.number work files c.room_of-room.result TooLarge (c.room_of-room.ensures
+    (sym (due_is post c.args.work.now.number work files c.room_of-room.result TooLarge (c.room_of-room.ensures
     ∙ ap (λ (n : ℤ). room_for c.args.site.now.post.now.kind n) (to_z-of_z fits))
-    (sym c.in-TooLarge.is ∙ (c.in-Ok.ensures ∙ ap (λ (n : ℤ). send_due post.speech
-    (request_for n work files post.verbose c.room_of-room.result) (job_for n work files)) (to_z-of_z fits)))))
+    (sym c.in-TooLarge.is ∙ c.in-Ok.ensures)))
 
 pub returns-in-Frame : goal.returns-in-Frame
 returns-in-Frame g c =
-    let fits : SFits w32 c.args.request.now.number = search facts in
+    let fits : SFits w32 c.args.work.now.number = search facts in
     let post = c.args.site.now.post.now in
-    let work = c.args.request.now.work.now in
-    let files = c.args.inputs.now in
-    due_writes (send_asks post c.args.request.now.number work files) (due_for post c.args.request.now.number work files)
+    let work = c.args.work.now.action.now in
+    let files = c.args.work.now.inputs.now in
+    due_writes (send_asks post c.args.work.now.number work files) (due_for post c.args.work.now.number work files)
     (Frame c.as_slice-bytes.result.now) c.write_frame.result
     (g.B.Berth.told c.args.berth.now) (g.B.Berth.told c.write_frame.new.berth)
     (g.B.Feed.Feed.told c.args.feed.now) (g.B.Feed.Feed.told c.write_frame.new.feed)
     (ap (λ (bs : List ℕ). Frame bs) c.as_slice-bytes.ensures
-    ∙ due_is post c.args.request.now.number work files c.room_of-room.result (Frame c.in-Frame.frame)
+    ∙ due_is post c.args.work.now.number work files c.room_of-room.result (Frame c.in-Frame.frame)
     (c.room_of-room.ensures
-    ∙ ap (λ (n : ℤ). room_for c.args.site.now.post.now.kind n) (to_z-of_z fits)) (sym c.in-Frame.is ∙ (c.in-Ok.ensures ∙ ap (λ (n : ℤ). send_due post.speech
-    (request_for n work files post.verbose c.room_of-room.result) (job_for n work files)) (to_z-of_z fits))))
+    ∙ ap (λ (n : ℤ). room_for c.args.site.now.post.now.kind n) (to_z-of_z fits)) (sym c.in-Frame.is ∙ c.in-Ok.ensures))
     c.write_frame.ensures
 
 pub returns-in-Err : goal.returns-in-Err
 returns-in-Err g c =
     let post = c.args.site.now.post.now in
-    let work = c.args.request.now.work.now in
-    let files = c.args.inputs.now in
-    cut_writes (send_asks post c.args.request.now.number work files) (due_for post c.args.request.now.number work files)
+    let work = c.args.work.now.action.now in
+    let files = c.args.work.now.inputs.now in
+    cut_writes (send_asks post c.args.work.now.number work files) (due_for post c.args.work.now.number work files)
     c.in-Err.no_memory (g.B.Berth.told c.args.berth.now) (g.B.Feed.Feed.told c.args.feed.now)
 
 pub returns-in-Err-send_frame : goal.returns-in-Err-send_frame
 returns-in-Err-send_frame g c =
     let post = c.args.site.now.post.now in
-    let work = c.args.request.now.work.now in
-    let files = c.args.inputs.now in
-    cut_writes (send_asks post c.args.request.now.number work files) (due_for post c.args.request.now.number work files)
+    let work = c.args.work.now.action.now in
+    let files = c.args.work.now.inputs.now in
+    cut_writes (send_asks post c.args.work.now.number work files) (due_for post c.args.work.now.number work files)
     c.in-Err-send_frame.no_memory (g.B.Berth.told c.args.berth.now) (g.B.Feed.Feed.told c.args.feed.now)

@@ -10,25 +10,25 @@ use Rattle.proxy_lane.proofs.sending.write_frame.Goals as goal
 pub returns-then-is_executor : goal.returns-then-is_executor
 returns-then-is_executor g c =
     let post = c.args.site.now.post.now in
-    let work = c.args.request.now.work.now in
-    let files = c.args.inputs.now in
-    gives_writes (send_asks post c.args.request.now.number work files) c.args.frame.now c.give.result
+    let work = c.args.work.now.action.now in
+    let files = c.args.work.now.inputs.now in
+    gives_writes (send_asks post c.args.work.now.number work files) c.args.frame.now c.give.result
     (g.B.Berth.told c.args.berth.now) (g.B.Feed.Feed.told c.args.feed.now)
     (g.B.Feed.Feed.told c.give.new.feed)
-    (executor_asks post c.args.request.now.number work files (sym c.is_executor.ensures ∙ c.if-is_executor.true))
+    (executor_asks post c.args.work.now.number work files (sym c.is_executor.ensures ∙ c.if-is_executor.true))
     c.give.ensures
 
 pub returns : goal.returns
 returns g c =
-    let fits : SFits w32 c.args.request.now.number = search facts in
+    let fits : SFits w32 c.args.work.now.number = search facts in
     let post = c.args.site.now.post.now in
-    let work = c.args.request.now.work.now in
-    let files = c.args.inputs.now in
-    send_writes (send_asks post c.args.request.now.number work files)
+    let work = c.args.work.now.action.now in
+    let files = c.args.work.now.inputs.now in
+    send_writes (send_asks post c.args.work.now.number work files)
     (prepare_asks c.room_of-room.result c.as_slice-outputs.result.now files) c.args.frame.now
     c.send_line.result (g.B.Berth.told c.args.berth.now) (g.B.Berth.told c.send_line.new.berth)
     (g.B.Feed.Feed.told c.args.feed.now) (g.B.Feed.Feed.told c.send_line.new.feed)
-    (local_asks post c.args.request.now.number work files c.room_of-room.result c.as_slice-outputs.result.now
+    (local_asks post c.args.work.now.number work files c.room_of-room.result c.as_slice-outputs.result.now
     (sym c.is_executor.ensures ∙ c.if-is_executor.false) (c.room_of-room.ensures
     ∙ ap (λ (n : ℤ). room_for c.args.site.now.post.now.kind n) (to_z-of_z fits)) c.as_slice-outputs.ensures)
     c.send_line.ensures
