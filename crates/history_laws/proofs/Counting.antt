@@ -6,25 +6,19 @@ use Rattle.run_plan.specs.Groups.{berths}
 use Rattle.exec_journal.specs.declared.call.Call.{Call}
 use Rattle.exec_journal.specs.Entry.{Entry}
 use Rattle.exec_journal.specs.declared.reply.Reply.{Reply}
-use Rattle.exec_journal.specs.Entries.{is_kept, is_halt, is_look, is_stop}
+use Rattle.exec_journal.specs.Entries.{is_kept}
 use Rattle.exec_journal.specs.Legal.{after}
-use Rattle.exec_journal.specs.Words.{last_work, stopped, has_halted}
-use Rattle.std.specs.Prelude.{◌&&◌, ◌||◌, not}
+use Rattle.exec_journal.specs.Words.{last_work}
+use Rattle.std.specs.Prelude.{◌&&◌, not}
 use Rattle.journal_laws.specs.Paid.{count, lane_owes, lanes_owe, may_halt, owes, owes_files}
-use Rattle.history_laws.proofs.Going.{then}
+use Rattle.history_laws.proofs.Going.{elsewhere}
 
 other_lane : (e : Entry) (j : List Entry) (lane : ℕ) → (e.lane == lane) ≡ false
     → lane_owes (e ∷ j) lane ≡ lane_owes j lane
 unfolding lane_owes
 other_lane e j lane other =
-    let t = then e j lane in
-    let stops : stopped (e ∷ j) lane ≡ stopped j lane = t.stops
-    ∙ ap (λ (b : Bool). (b && is_stop e.reply) || stopped j lane) other in
-    let halts : has_halted (e ∷ j) lane ≡ has_halted j lane = t.halts
-    ∙ ap (λ (b : Bool). (b && is_halt e.call) || has_halted j lane) other in
-    let works : last_work (e ∷ j) lane ≡ last_work j lane =
-    t.other (ap (λ (b : Bool). b && (not (is_look e.call) && not (is_halt e.call))) other) in
-    (λ i. count (not (stops i) && not (halts i)) + count (owes_files (works i)))
+    let same = elsewhere e j lane other in
+    (λ i. count (not (same.stops i) && not (same.halts i)) + count (owes_files (same.works i)))
 
 lanes_before : (e : Entry) (j : List Entry) (n : ℕ) → n ≤ e.lane
     → lanes_owe (e ∷ j) n ≡ lanes_owe j n

@@ -1,8 +1,7 @@
 -- The rules answer each call by a reply of its kind, so a call is in its lane's script exactly if
 -- it isn't answered Astray.
-use Rattle.std.proofs.Common.{◌≡◌, ℕ, ◌*◌, ◌/◌, ◌%◌, ◌==◌, nat_lt, Bool, true, false, ◌&&◌, ◌||◌, not, cond, List, [], ◌∷◌, Option, Some, None, ◌⊎◌, inl, inr, refl, sym, ap, subst, ◌∙◌}
+use Rattle.std.proofs.Common.{◌≡◌, ℕ, ◌*◌, ◌/◌, ◌%◌, ◌==◌, nat_lt, Bool, true, false, ◌&&◌, ◌||◌, not, cond, List, [], ◌∷◌, Option, Some, None, inl, inr, refl, sym, ap, subst, ◌∙◌}
 use Rattle.run_plan.specs.declared.plan.Kind.TheVariants as kind
-use Rattle.run_plan.specs.declared.plan.Plan.{Plan}
 use Rattle.exec_journal.specs.declared.call.Call.{Call}
 use Rattle.exec_journal.specs.declared.call.Call.TheVariants as call
 use Rattle.exec_journal.specs.Entry.{Entry}
@@ -12,14 +11,13 @@ use Rattle.exec_journal.specs.Lawful as lw
 use Rattle.exec_journal.specs.Scripts as sc
 use Rattle.exec_journal.specs.Words.{stopped, has_halted, last_work}
 use Rattle.exec_journal.specs.Lawful.{Lawful}
-use Rattle.exec_journal.proofs.Reasons as u
 use Rattle.exec_journal.proofs.Ruled.{by_bool}
 use Rattle.core_contract.specs.Laws.{fits, Fits, InScript}
 use Rattle.core_contract.specs.Moves.{History}
 use Rattle.history_laws.specs.Owed.{journal_of}
 use Rattle.std.proofs.lemmas.Bool.{and_parts, and_from, or_cases, or_left, or_right}
 use Rattle.journal_laws.proofs.Ours as ours
-use Rattle.history_laws.specs.Disciplines.{Discipline, IsDiscipline, LegalBy, LegalEntryBy, script_of, berth_script}
+use Rattle.core_contract.specs.Disciplines.{Discipline, IsDiscipline, LegalBy, LegalEntryBy, script_of, berth_script}
 use Rattle.history_laws.specs.Ruled.{answer_after}
 
 unfit : (c : Call) → fits c reply.Astray ≡ false

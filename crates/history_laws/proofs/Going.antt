@@ -299,20 +299,30 @@ module _ (s : Duty) (e : Past) (j : List Entry) (lane : ℕ) (own : (e.lane == l
   own_entry true gone = was_gone gone
   own_entry false here = by_stop here (is_stop e.reply) refl
 
--- an entry of another lane
+-- an entry of another lane leaves this one as it was
+pub record Elsewhere (e : Entry) (j : List Entry) (lane : ℕ) : Type 0 where
+  pub stops : stopped (e ∷ j) lane ≡ stopped j lane
+  pub halts : has_halted (e ∷ j) lane ≡ has_halted j lane
+  pub works : last_work (e ∷ j) lane ≡ last_work j lane
+
+pub elsewhere : (e : Entry) (j : List Entry) (lane : ℕ) → (e.lane == lane) ≡ false
+    → Elsewhere e j lane
+elsewhere e j lane other =
+    let t = then e j lane in
+    record {
+      stops = t.stops ∙ ap (λ (b : Bool). (b && is_stop e.reply) || stopped j lane) other;
+      halts = t.halts ∙ ap (λ (b : Bool). (b && is_halt e.call) || has_halted j lane) other;
+      works = t.other
+          (ap (λ (b : Bool). b && (not (is_look e.call) && not (is_halt e.call))) other);
+    }
+
 other_entry : (s : Duty) (e : Past) (j : List Entry) (lane : ℕ) → (e.lane == lane) ≡ false
     → DutyIs s j lane → DutyIs s (e ∷ j) lane
 other_entry s e j lane other is =
-    let t = then e j lane in
-    let stops : stopped (e ∷ j) lane ≡ stopped j lane = t.stops
-    ∙ ap (λ (b : Bool). (b && is_stop e.reply) || stopped j lane) other in
-    let halts : has_halted (e ∷ j) lane ≡ has_halted j lane = t.halts
-    ∙ ap (λ (b : Bool). (b && is_halt e.call) || has_halted j lane) other in
-    let works : last_work (e ∷ j) lane ≡ last_work j lane =
-    t.other (ap (λ (b : Bool). b && (not (is_look e.call) && not (is_halt e.call))) other) in
+    let same = elsewhere e j lane other in
     record {
-      gone = is.gone ∙ sym (λ i. stops i || halts i);
-      owed = λ h. is.owed h ∙ ap owed_by (sym works);
+      gone = is.gone ∙ sym (λ i. same.stops i || same.halts i);
+      owed = λ h. is.owed h ∙ ap owed_by (sym same.works);
     }
 
 pub flip : (a b : ℕ) (c : Bool) → (a == b) ≡ c → (b == a) ≡ c

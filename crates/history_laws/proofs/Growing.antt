@@ -1,7 +1,6 @@
 -- A legal history is one entry longer than another, by an entry as the rules make it.
 use Rattle.std.proofs.Common.{◌≡◌, ℕ, Bool, true, false, cond, [], ◌∷◌, ◌++◌, refl, sym, subst, ◌∙◌}
-use Rattle.run_plan.specs.declared.plan.Plan.{Plan}
-use Rattle.history_laws.specs.Disciplines.{Discipline, LegalBy}
+use Rattle.core_contract.specs.Disciplines.{Discipline, LegalBy}
 use Rattle.exec_journal.specs.declared.call.Call.{Call}
 use Rattle.exec_journal.specs.declared.reply.Reply.{Reply}
 use Rattle.exec_journal.specs.Entries.{is_kept}

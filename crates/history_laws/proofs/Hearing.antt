@@ -21,7 +21,7 @@ use Rattle.core_contract.specs.Laws.{Hearing, Free, Hears, Over, leads_by_call, 
 use Rattle.core_contract.specs.Moves.{History}
 use Rattle.seat_desk.specs.History.{calls_by}
 use Rattle.history_laws.specs.Owed.{journal_of}
-use Rattle.history_laws.proofs.Going.{then, flip}
+use Rattle.history_laws.proofs.Going.{then, flip, elsewhere}
 use Rattle.history_laws.proofs.Dues.{neither_left}
 use Rattle.history_laws.proofs.Along.{after_all, own_then, along_own}
 
@@ -226,16 +226,10 @@ module _ (s : Hearing) (e : Entry) (j : List Entry) (lane : ℕ) (own : (e.lane 
 other_entry : (s : Hearing) (e : Entry) (j : List Entry) (lane : ℕ) → (e.lane == lane) ≡ false
     → HearingIs s j lane → HearingIs s (e ∷ j) lane
 other_entry s e j lane other is =
-    let t = then e j lane in
-    let stops : stopped (e ∷ j) lane ≡ stopped j lane = t.stops
-    ∙ ap (λ (b : Bool). (b && is_stop e.reply) || stopped j lane) other in
-    let halts : has_halted (e ∷ j) lane ≡ has_halted j lane = t.halts
-    ∙ ap (λ (b : Bool). (b && is_halt e.call) || has_halted j lane) other in
-    let works : last_work (e ∷ j) lane ≡ last_work j lane =
-    t.other (ap (λ (b : Bool). b && (not (is_look e.call) && not (is_halt e.call))) other) in
+    let same = elsewhere e j lane other in
     record {
-      gone = is.gone ∙ sym (λ i. stops i || halts i);
-      owed = λ h. is.owed h ∙ ap heard_by (sym works);
+      gone = is.gone ∙ sym (λ i. same.stops i || same.halts i);
+      owed = λ h. is.owed h ∙ ap heard_by (sym same.works);
     }
 
 -- ---- all entries

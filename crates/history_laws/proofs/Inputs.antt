@@ -1,6 +1,6 @@
 -- What a request's lane may look at was made: the producer was granted files and committed them,
 -- and it has a file for each of its outputs.
-use Rattle.std.proofs.Common.{◌≡◌, ℕ, ℤ, zero, suc, ◌+◌, ◌*◌, ◌/◌, ◌%◌, ◌^◌, ◌<◌, ◌==◌, nat_lt, Bool, true, false, cond, ◌&&◌, ◌||◌, not, List, [], ◌∷◌, length, Option, Some, None, option_map, unwrap_or, ◌⊎◌, inl, inr, refl, ap, sym, subst, ◌∙◌, pos, arith}
+use Rattle.std.proofs.Common.{◌≡◌, ℕ, ℤ, zero, suc, ◌+◌, ◌*◌, ◌%◌, ◌^◌, ◌<◌, ◌==◌, nat_lt, Bool, true, false, cond, ◌&&◌, ◌||◌, not, List, [], ◌∷◌, length, Option, Some, None, option_map, unwrap_or, ◌⊎◌, inl, inr, refl, ap, sym, subst, ◌∙◌, pos, arith}
 use Rattle.std.specs.Prelude.{slice_get}
 use Rattle.std.specs.List.{list_all, list_any}
 use Rattle.std.specs.Ordering.{int_eq}
@@ -28,7 +28,7 @@ use Rattle.exec_journal.specs.Entries.{attempt_of, granted_in, same_attempt}
 use Rattle.exec_journal.specs.Lawful.{Lawful}
 use Rattle.exec_journal.specs.Rules as r
 use Rattle.exec_journal.specs.Lawful as lw
-use Rattle.history_laws.specs.Disciplines.{Discipline, IsDiscipline, LegalBy}
+use Rattle.core_contract.specs.Disciplines.{Discipline, IsDiscipline, LegalBy}
 use Rattle.exec_journal.specs.Scripts.{is_made, is_owed, is_owed_after, may_find, outputs_of}
 use Rattle.exec_journal.specs.Settled.{all_dropped, by_grant, is_starved, is_success, ready, standings}
 use Rattle.exec_journal.specs.Words.{last_work, grant_of}
@@ -44,7 +44,7 @@ use Rattle.core_contract.specs.Duties.{Duty, Sends, duty_of, duty_of_claim, is_m
 use Rattle.core_contract.specs.Laws.{says_file}
 use Rattle.core_contract.specs.Moves.{History}
 use Rattle.seat_desk.specs.History.{calls_by}
-use Rattle.history_laws.specs.Owed.{journal_of, has_left, duty_of_work, owed_by, outputs_in, makers_in}
+use Rattle.history_laws.specs.Owed.{journal_of, has_left, duty_of_work, owed_by, makers_in, terms_for}
 use Rattle.history_laws.proofs.Doing.{duty_is_scripted}
 use Rattle.history_laws.proofs.Going.{duty_is}
 use Rattle.history_laws.specs.Ruled.{answer_after, CameAbout}
@@ -298,7 +298,7 @@ inputs_are_there q is h w l n a c o came owes maker =
     let order = owes_wrote h lane l n a owes in
     let inside = worker_within q j lane order.order came.legal order.newest in
     let may = duty_is_scripted q.seats q.kinds p h w (call.Look (wanted.Made c o)) (omega (arith, inside))
-    (ap (λ (s : Duty). may_do (outputs_in p) (makers_in p) (is_remote (q.kinds w)) s
+    (ap (λ (s : Duty). may_do (terms_for p q.seats q.kinds) w s
     (call.Look (wanted.Made c o))) owes ∙ maker) in
     let t = attempt_of a order.sends.branch order.sends.number in
     let fits : owed.is_send t order.order ≡ true =

@@ -15,11 +15,11 @@ use Rattle.core_contract.specs.Duties.{Sends, Commits, Left, proxy_lane, duty_of
 use Rattle.core_contract.specs.Laws.{InScript, Fits, tap_lane, hearing_of, may_hear, Hears, Over, tells_of, claimed, says_file, lines_in, is_taken, OrderHolds}
 use Rattle.core_contract.specs.Moves.{Past, History}
 use Rattle.core_contract.specs.Shelf.{child_at, tap_at, place_at, Fresh, Away}
-use Rattle.history_laws.specs.Owed.{journal_of, outputs_in, makers_in}
+use Rattle.history_laws.specs.Owed.{journal_of, makers_in}
 use Rattle.call_laws.proofs.Reports.{few_lines}
 use Rattle.history_laws.proofs.Doing.{duty_is_scripted}
 use Rattle.history_laws.proofs.Dues as paying
-use Rattle.history_laws.specs.Ruled.{answer_after, IsPaidAfter, owes_after, CameAbout}
+use Rattle.history_laws.specs.Ruled.{answer_after, IsPaidAfter, owes_after, CameAbout, terms_in}
 use Rattle.history_laws.proofs.Bridging.{lines_are}
 use Rattle.history_laws.proofs.Fitting.{in_script, lawful, scripted_as, scripted_so, seated_so, replies_fit}
 use Rattle.history_laws.proofs.Ticking as ticking
@@ -29,8 +29,7 @@ use Rattle.history_laws.proofs.Hearing as hearing
 use Rattle.history_laws.proofs.Inputs as inputs
 use Rattle.history_laws.proofs.Ordering as ordering
 use Rattle.history_laws.proofs.Paying as paid
-use Rattle.run_plan.specs.Groups.{is_remote}
-use Rattle.history_laws.specs.Disciplines.{Discipline, IsDiscipline}
+use Rattle.core_contract.specs.Disciplines.{Discipline, IsDiscipline}
 
 module _ (q : Discipline) (is : IsDiscipline q) where
   pub legal_before : (h : History) (e : Past) → CameAbout q (h ++ e ∷ [])
@@ -98,8 +97,7 @@ module _ (q : Discipline) (is : IsDiscipline q) where
       (scripted_as q (journal_of h) lane c (scripted_so q h lane c fit))
 
   pub proxies_do : (h : History) (w : ℕ) (c : Call) → w < q.seats
-      → may_do (outputs_in q.plan) (makers_in q.plan) (is_remote (q.kinds w))
-      (duty_of (calls_by (proxy_lane w) h)) c ≡ true
+      → may_do (terms_in q) w (duty_of (calls_by (proxy_lane w) h)) c ≡ true
       → InScript (answer_after q) h (proxy_lane w) c
   proxies_do h w c lt may = in_script q is h (proxy_lane w) c
       (seated_so q (journal_of h) (proxy_lane w) c
@@ -107,8 +105,7 @@ module _ (q : Discipline) (is : IsDiscipline q) where
 
   pub proxies_do_only : (h : History) (w : ℕ) (c : Call)
       → InScript (answer_after q) h (proxy_lane w) c
-      → may_make (outputs_in q.plan) (makers_in q.plan) (is_remote (q.kinds w))
-      (duty_of (calls_by (proxy_lane w) h)) c ≡ true
+      → may_make (terms_in q) w (duty_of (calls_by (proxy_lane w) h)) c ≡ true
   proxies_do_only h w c fit =
       ticking.only_makes q h w c
       (scripted_as q (journal_of h) (proxy_lane w) c (scripted_so q h (proxy_lane w) c fit))

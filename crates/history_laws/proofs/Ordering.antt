@@ -1,5 +1,5 @@
 -- What holds where a lane is ordered so, where a line is started, and where it is given.
-use Rattle.std.proofs.Common.{◌∷◌, ◌≡◌, ℕ, ◌/◌, ◌%◌, ◌==◌, ◌*◌, nat_lt, true, false, cond, ◌&&◌, ◌||◌, not, List, length, Option, Some, None, refl, ap, sym, subst, ◌∙◌}
+use Rattle.std.proofs.Common.{◌∷◌, ◌≡◌, ℕ, ◌/◌, ◌%◌, ◌==◌, true, false, cond, ◌&&◌, ◌||◌, not, List, length, Option, Some, None, refl, ap, sym, subst, ◌∙◌}
 use Rattle.std.proofs.lemmas.Bool.{and_parts}
 use Rattle.run_plan.specs.declared.plan.Plan.{Plan}
 use Rattle.run_plan.specs.declared.plan.Kind.TheVariants as kind
@@ -10,12 +10,12 @@ use Rattle.exec_journal.specs.Entry.{Entry}
 use Rattle.exec_journal.specs.declared.reply.Reply.{Reply}
 use Rattle.exec_journal.specs.declared.reply.Reply.TheVariants as reply
 use Rattle.exec_journal.specs.declared.reply.Why.TheVariants as why
-use Rattle.exec_journal.specs.Entries.{Request, attempt_of, gather_in, is_kept, send_in}
+use Rattle.exec_journal.specs.Entries.{Request, attempt_of, is_kept}
 use Rattle.exec_journal.specs.Lawful.{Lawful}
 use Rattle.exec_journal.specs.Rules as r
 use Rattle.exec_journal.specs.Lawful as lw
 use Rattle.exec_journal.specs.Seated.{line_kind}
-use Rattle.history_laws.specs.Disciplines.{Discipline, IsDiscipline, script_of}
+use Rattle.core_contract.specs.Disciplines.{Discipline, IsDiscipline, script_of}
 use Rattle.exec_journal.specs.Scripts.{allowed, is_owed_commit}
 use Rattle.exec_journal.specs.Words.{last_work, last_line, started, was_killed, kill_ordered, live, broke, has_halted, stopped, line_count, was_taken, pending}
 use Rattle.exec_journal.proofs.Histories.{all_filter, all_oldest}

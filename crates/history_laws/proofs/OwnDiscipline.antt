@@ -1,19 +1,18 @@
 -- The rules of berths that groups have of their own are a discipline.
-use Rattle.std.proofs.Common.{◌≡◌, ℕ, ◌/◌, Bool, true, false, cond, List, [], ◌∷◌, refl, sym, ap, subst, ◌∙◌}
+use Rattle.std.proofs.Common.{◌≡◌, ℕ, true, List, [], ◌∷◌, refl}
 use Rattle.run_plan.specs.declared.plan.Plan.{Plan}
-use Rattle.run_plan.specs.Groups.{berths, kind_of}
 use Rattle.exec_journal.specs.declared.call.Call.{Call}
 use Rattle.exec_journal.specs.declared.call.Call.TheVariants as call
 use Rattle.exec_journal.specs.Entry.{Entry}
 use Rattle.exec_journal.specs.declared.reply.Reply.{Reply}
 use Rattle.exec_journal.specs.declared.reply.Reply.TheVariants as reply
 use Rattle.exec_journal.specs.Legal.{Legal}
-use Rattle.exec_journal.specs.Lawful.{Told, plain_reply}
+use Rattle.exec_journal.specs.Lawful.{plain_reply}
 use Rattle.exec_journal.specs.Rules.{rule}
 use Rattle.exec_journal.proofs.Ruled as ru
 use Rattle.journal_laws.proofs.Ours as ours
 use Rattle.core_contract.specs.Laws.{fits}
-use Rattle.history_laws.specs.Disciplines.{Discipline, IsDiscipline, LegalBy, LegalEntryBy, script_of, is_plain, own_discipline}
+use Rattle.core_contract.specs.Disciplines.{IsDiscipline, LegalBy, is_plain, own_discipline}
 
 pub own_legal : (p : Plan) (j : List Entry) → LegalBy (own_discipline p) j → Legal p j
 own_legal p [] legal = tt

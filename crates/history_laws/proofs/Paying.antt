@@ -1,7 +1,6 @@
 -- What a history pays for: it is answered Noted, stays paid for, and is counted.
 use Rattle.std.proofs.Common.{◌≡◌, ℕ, ◌+◌, ◌==◌, ◌≤◌, ◌*◌, nat_lt, Bool, true, false, cond, List, [], ◌∷◌, ◌++◌, refl, ap, sym, ◌∙◌, arith}
 use Rattle.std.specs.List.{fold}
-use Rattle.run_plan.specs.declared.plan.Plan.{Plan}
 use Rattle.exec_journal.specs.declared.call.Call.{Call}
 use Rattle.exec_journal.specs.declared.call.Call.TheVariants as call
 use Rattle.exec_journal.specs.Entry.{Entry}
@@ -10,8 +9,7 @@ use Rattle.exec_journal.specs.declared.reply.Reply.TheVariants as reply
 use Rattle.exec_journal.specs.Entries.{is_kept}
 use Rattle.exec_journal.specs.Legal.{after}
 use Rattle.std.proofs.lemmas.Bool.{and_parts}
-use Rattle.history_laws.specs.Disciplines.{Discipline, IsDiscipline, is_plain}
-use Rattle.exec_journal.proofs.Ruled.{by_bool}
+use Rattle.core_contract.specs.Disciplines.{Discipline, IsDiscipline, is_plain}
 use Rattle.journal_laws.specs.Paid.{seat_paid, seats_owe}
 use Rattle.journal_laws.proofs.Debts as debts
 use Rattle.journal_laws.proofs.Allowed.{paid_allowed}

@@ -2,32 +2,31 @@
 use Rattle.exec_journal.specs.Lawful.{Lawful, may_tick}
 use Rattle.exec_journal.specs.declared.call.Call.{Call}
 use Rattle.exec_journal.specs.Entry.{Entry}
-use Rattle.history_laws.proofs.Hearing.{hearing_is_scripted, script_is_hearing, tap_halt_is_paid, tells_hears}
-use Rattle.history_laws.specs.Disciplines.{Discipline, script_of}
-use Rattle.run_plan.specs.Groups.{is_remote}
-use Rattle.run_plan.specs.declared.plan.Maker.{Maker}
+use Rattle.history_laws.proofs.Hearing.{script_is_hearing, tells_hears}
+use Rattle.core_contract.specs.Disciplines.{Discipline, script_of}
 use Rattle.core_contract.specs.Duties.{Asks, Duty, duty_of, may_make, proxy_lane}
 use Rattle.core_contract.specs.Laws.{Free, Hearing, Hears, Over, hearing_of, may_hear, tap_lane, tells_of}
 use Rattle.core_contract.specs.Moves.{History}
-use Rattle.history_laws.proofs.Doing.{duty_is_scripted}
 use Rattle.history_laws.proofs.Only.{script_is_duty}
-use Rattle.history_laws.proofs.Dues.{commit_is_paid, halt_is_paid}
 use Rattle.history_laws.proofs.Staying.{lane_is_known, script_stays}
-use Rattle.history_laws.specs.Owed.{journal_of, makers_in, outputs_in}
+use Rattle.history_laws.specs.Owed.{journal_of}
+use Rattle.history_laws.specs.Ruled.{terms_in}
+use Rattle.core_contract.specs.Terms.{Terms}
 use Rattle.seat_desk.specs.History.{calls_by}
-use Rattle.std.proofs.Common.{Bool, List, None, [], refl, true, ℕ, ◌&&◌, ◌++◌, ◌/◌, ◌<◌, ◌||◌, ◌∙◌, ◌≡◌}
+use Rattle.std.proofs.Common.{List, None, [], refl, true, ℕ, ◌&&◌, ◌++◌, ◌/◌, ◌<◌, ◌||◌, ◌≡◌}
 use Rattle.exec_journal.specs.declared.call.Call.TheVariants as call
-use Rattle.history_laws.proofs.Fitting.{scripted_as, Scripted, Ticks, Seated}
+use Rattle.history_laws.proofs.Fitting.{Scripted, Ticks, Seated}
 
-asks_make : (outputs : ℕ → List (List ℕ)) (makers : ℕ → List Maker) (remote : Bool) (s : Duty) → may_make outputs makers remote s call.Ask ≡ true → may_make outputs makers remote s call.Tick ≡ true
-asks_make outputs makers remote Asks h = refl
-asks_make outputs makers remote _ h = absurd (cc)
+asks_make : (terms : Terms) (w : ℕ) (s : Duty) → may_make terms w s call.Ask ≡ true
+    → may_make terms w s call.Tick ≡ true
+asks_make terms w Asks h = refl
+asks_make terms w _ h = absurd (cc)
 
 pub only_makes : (q : Discipline) (h : History) (w : ℕ) (d : Call) → Scripted q (journal_of h) (proxy_lane w) d
-    → may_make (outputs_in q.plan) (makers_in q.plan) (is_remote (q.kinds w)) (duty_of (calls_by (proxy_lane w) h)) d ≡ true
+    → may_make (terms_in q) w (duty_of (calls_by (proxy_lane w) h)) d ≡ true
 only_makes q h w d (Seated _ seat) = script_is_duty q.seats q.kinds q.plan h w d seat
 only_makes q h w d (Ticks ask) =
-    asks_make (outputs_in q.plan) (makers_in q.plan) (is_remote (q.kinds w)) (duty_of (calls_by (proxy_lane w) h))
+    asks_make (terms_in q) w (duty_of (calls_by (proxy_lane w) h))
     (script_is_duty q.seats q.kinds q.plan h w call.Ask ask)
 
 pub known : (q : Discipline) (j : List Entry) (lane : ℕ) (d : Call) → Scripted q j lane d → lane / 2 < q.seats

@@ -1,13 +1,16 @@
 -- The duty that a lane's newest work leaves.
-use Rattle.std.specs.Prelude.{◌≡◌, ℕ, Bool, true, false, ◌||◌, List, [], ◌∷◌, Option, Some, None, fold, slice_get, unwrap_or, option_map}
+use Rattle.std.specs.Prelude.{◌≡◌, ℕ, ◌*◌, Bool, true, false, ◌||◌, List, [], ◌∷◌, length, Option, Some, None, fold, slice_get, unwrap_or, option_map}
 use Rattle.exec_journal.specs.declared.call.Call.{Call}
 use Rattle.exec_journal.specs.declared.call.Call.TheVariants as call
 use Rattle.exec_journal.specs.declared.reply.Reply.{Reply}
 use Rattle.exec_journal.specs.Entry.{Entry}
 use Rattle.exec_journal.specs.Words.{last_work, stopped, has_halted}
+use Rattle.run_plan.specs.declared.plan.Kind.{Kind}
 use Rattle.run_plan.specs.declared.plan.Plan.{Plan}
 use Rattle.run_plan.specs.declared.plan.Maker.{Maker}
-use Rattle.core_contract.specs.Moves.{Past, History}
+use Rattle.run_plan.specs.Groups.{is_remote}
+use Rattle.core_contract.specs.Terms.{Terms}
+use Rattle.core_contract.specs.Moves.{History}
 use Rattle.core_contract.specs.Duties.{Duty, Asks, Launches, Sends, Cancels, Gathers, Commits, Kills, Left, ordered, duty_of_claim}
 
 -- the journal of a history, whose newest entry stands first
@@ -45,3 +48,15 @@ outputs_in p a = unwrap_or (option_map (λ x. x.outputs) (slice_get p.actions a)
 
 abbrev pub makers_in : Plan → ℕ → List Maker
 makers_in p a = unwrap_or (option_map (λ x. x.makers) (slice_get p.actions a)) []
+
+-- what lanes and the bench go by, on this many berths of these kinds
+abbrev pub terms_for : Plan → ℕ → (ℕ → Kind) → Terms
+terms_for p seats kinds = record {
+  berths = seats;
+  remote = λ w. is_remote (kinds w);
+  -- one line for each attempt of either branch of each action
+  line_room = 2 * length p.actions * p.limit;
+  actions = length p.actions;
+  outputs = outputs_in p;
+  makers = makers_in p;
+}

@@ -5,9 +5,14 @@ use Rattle.exec_journal.specs.declared.call.Call.{Call}
 use Rattle.exec_journal.specs.declared.reply.Reply.{Reply}
 use Rattle.exec_journal.specs.declared.reply.Reply.TheVariants as reply
 use Rattle.journal_laws.specs.Paid.{seat_paid, seats_owe}
-use Rattle.history_laws.specs.Disciplines.{Discipline, LegalBy, script_of}
+use Rattle.core_contract.specs.Disciplines.{Discipline, LegalBy, script_of}
 use Rattle.core_contract.specs.Moves.{History}
-use Rattle.history_laws.specs.Owed.{journal_of}
+use Rattle.core_contract.specs.Terms.{Terms}
+use Rattle.history_laws.specs.Owed.{journal_of, terms_for}
+
+-- what lanes and the bench go by of it
+abbrev pub terms_in : Discipline → Terms
+terms_in q = terms_for q.plan q.seats q.kinds
 
 -- the reply to a call: outside its lane's script Astray, else the discipline's
 abbrev pub answer_after : Discipline → History → ℕ → Call → Reply

@@ -12,13 +12,12 @@ ghost use Rattle.exec_journal.specs.declared.reply.Reply.{Reply};
 ghost use Rattle.exec_journal.specs.declared.reply.Reply.TheVariants as reply;
 ghost use Rattle.exec_journal.specs.Entries.{is_kept};
 ghost use Rattle.run_plan.specs.declared.plan.Branch.{Branch};
-ghost use Rattle.run_plan.specs.Groups.{is_remote};
 ghost use Rattle.core_contract.specs.Laws.{InScript, Fits, tap_lane, hearing_of, may_hear, Hears, Over, tells_of, OrderHolds, claimed, lines_in, is_taken, says_file};
 ghost use Rattle.core_contract.specs.Shelf.{child_at, tap_at, place_at, Fresh, Away};
 ghost use Rattle.core_contract.specs.Duties.{proxy_lane, duty_of, is_maker, may_do, may_make, Sends, Commits, Left};
-ghost use Rattle.history_laws.specs.Owed.{DutyIs, journal_of, outputs_in, makers_in};
-ghost use Rattle.history_laws.specs.Disciplines.{Discipline, IsDiscipline};
-ghost use Rattle.history_laws.specs.Ruled.{answer_after, IsPaidAfter, owes_after, CameAbout};
+ghost use Rattle.history_laws.specs.Owed.{DutyIs, journal_of, makers_in};
+ghost use Rattle.core_contract.specs.Disciplines.{Discipline, IsDiscipline};
+ghost use Rattle.history_laws.specs.Ruled.{answer_after, IsPaidAfter, owes_after, CameAbout, terms_in};
 
 /// By the journal of any history, a lane has left exactly if it was told to stop or has halted; and
 /// else it owes what its newest work asks of it.
@@ -51,14 +50,12 @@ pub fn scripts_are_lanes()
 pub fn proxies_do_their_duties()
     ensures does { (q : Discipline) → IsDiscipline q
         → (h : List (Entry Call Reply)) (w : ℕ) (c : Call) → w < q.seats
-        → may_do (outputs_in q.plan) (makers_in q.plan) (is_remote (q.kinds w))
-        (duty_of (calls_by (proxy_lane w) h)) c ≡ true
+        → may_do (terms_in q) w (duty_of (calls_by (proxy_lane w) h)) c ≡ true
         → InScript (answer_after q) h (proxy_lane w) c }
     ensures does_only { (q : Discipline) → IsDiscipline q
         → (h : List (Entry Call Reply)) (w : ℕ) (c : Call)
         → InScript (answer_after q) h (proxy_lane w) c
-        → may_make (outputs_in q.plan) (makers_in q.plan) (is_remote (q.kinds w))
-        (duty_of (calls_by (proxy_lane w) h)) c ≡ true }
+        → may_make (terms_in q) w (duty_of (calls_by (proxy_lane w) h)) c ≡ true }
     ensures halts { (q : Discipline) → IsDiscipline q
         → (h : List (Entry Call Reply)) (w : ℕ) → w < q.seats
         → (duty_of (calls_by (proxy_lane w) h) ≡ Left → ⊥)

@@ -1,18 +1,9 @@
-use Rattle.std.proofs.Common.{◌≡◌, ℕ, Bool, true, List, refl}
-use Rattle.run_plan.specs.declared.plan.Maker.{Maker}
-use Rattle.run_plan.specs.Groups.{is_remote}
-use Rattle.exec_journal.specs.declared.call.Call.{Call}
-use Rattle.exec_journal.specs.declared.call.Call.TheVariants as call
-use Rattle.seat_desk.specs.History.{calls_by}
-use Rattle.core_contract.specs.Duties.{proxy_lane, Duty, Asks, may_make, duty_of}
-use Rattle.core_contract.specs.Moves.{History}
-use Rattle.history_laws.specs.Owed.{journal_of, outputs_in, makers_in}
-use Rattle.history_laws.specs.Disciplines.{Discipline}
+use Rattle.core_contract.specs.Duties.{proxy_lane}
+use Rattle.history_laws.specs.Owed.{journal_of}
 use Rattle.history_laws.proofs.Doing.{duty_is_scripted}
-use Rattle.history_laws.proofs.Only.{script_is_duty}
 use Rattle.history_laws.proofs.Dues.{halt_is_paid, commit_is_paid}
 use Rattle.history_laws.proofs.Ticking.{only_makes}
-use Rattle.history_laws.proofs.Fitting.{in_script, scripted_so, scripted_as, seated_so, Scripted, Ticks, Seated}
+use Rattle.history_laws.proofs.Fitting.{in_script, scripted_so, scripted_as, seated_so}
 use Rattle.history_laws.proofs.laws.proxies_do_their_duties.Goals as goal
 
 pub returns : goal.returns

@@ -1,15 +1,7 @@
-use Rattle.std.proofs.Common.{◌≡◌, ℕ, ◌/◌, ◌<◌, ◌&&◌, ◌||◌, List, [], None, ◌∙◌, ◌++◌}
-use Rattle.exec_journal.specs.declared.call.Call.{Call}
-use Rattle.exec_journal.specs.declared.call.Call.TheVariants as call
-use Rattle.exec_journal.specs.Entry.{Entry}
-use Rattle.exec_journal.specs.Lawful.{may_tick}
-use Rattle.seat_desk.specs.History.{calls_by}
-use Rattle.core_contract.specs.Moves.{History}
-use Rattle.history_laws.specs.Disciplines.{Discipline, script_of}
+use Rattle.std.proofs.Common.{◌∙◌, ◌++◌}
 use Rattle.history_laws.specs.Owed.{journal_of}
-use Rattle.history_laws.proofs.Staying.{lane_is_known, script_stays}
 use Rattle.history_laws.proofs.Ticking.{known, stays}
-use Rattle.history_laws.proofs.Fitting.{in_script, scripted_so, scripted_as, Scripted, Ticks, Seated}
+use Rattle.history_laws.proofs.Fitting.{in_script, scripted_so, scripted_as}
 use Rattle.history_laws.proofs.laws.scripts_are_lanes.Goals as goal
 
 pub returns : goal.returns

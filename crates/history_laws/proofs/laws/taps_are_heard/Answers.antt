@@ -1,15 +1,8 @@
-use Rattle.std.proofs.Common.{◌≡◌, ℕ, true}
-use Rattle.exec_journal.specs.declared.call.Call.{Call}
-use Rattle.exec_journal.specs.declared.call.Call.TheVariants as call
-use Rattle.exec_journal.specs.Lawful.{Lawful}
-use Rattle.seat_desk.specs.History.{calls_by}
-use Rattle.core_contract.specs.Moves.{History}
-use Rattle.history_laws.specs.Disciplines.{Discipline}
-use Rattle.core_contract.specs.Laws.{tap_lane, may_hear, hearing_of, tells_of, Hearing, Free, Hears, Over}
+use Rattle.core_contract.specs.Laws.{tap_lane}
 use Rattle.history_laws.specs.Owed.{journal_of}
 use Rattle.history_laws.proofs.Ticking.{only_hears, telling}
-use Rattle.history_laws.proofs.Fitting.{in_script, lawful, scripted_so, scripted_as, seated_so, Scripted, Ticks, Seated}
-use Rattle.history_laws.proofs.Hearing.{hearing_is_scripted, script_is_hearing, tap_halt_is_paid, tells_hears}
+use Rattle.history_laws.proofs.Fitting.{in_script, lawful, scripted_so, scripted_as, seated_so}
+use Rattle.history_laws.proofs.Hearing.{hearing_is_scripted, tap_halt_is_paid}
 use Rattle.history_laws.proofs.laws.taps_are_heard.Goals as goal
 
 pub returns : goal.returns
