@@ -6,7 +6,6 @@ use Rattle.std.proofs.lemmas.List.Elements.{All-nil, All-cons, filter-append}
 use Rattle.std.proofs.lemmas.List.{length-append}
 use Rattle.seat_desk.specs.History.{calls_by}
 use Rattle.run_plan.specs.declared.plan.Branch.{Branch}
-use Rattle.run_plan.specs.declared.plan.Maker.{Maker}
 use Rattle.exec_journal.specs.declared.call.Call.{Call}
 use Rattle.exec_journal.specs.declared.call.Call.TheVariants as call
 use Rattle.exec_journal.specs.declared.call.Found.TheVariants as found
@@ -14,6 +13,7 @@ use Rattle.exec_journal.specs.declared.call.Started.TheVariants as start
 use Rattle.exec_journal.specs.declared.reply.Reply.{Reply}
 use Rattle.exec_journal.specs.declared.reply.Reply.TheVariants as reply
 use Rattle.exec_journal.specs.Entries.{is_kept, launch_in}
+use Rattle.core_contract.specs.Terms.{Terms}
 use Rattle.core_contract.specs.Moves.{Past, History}
 use Rattle.core_contract.specs.Laws.{fits, Fits, InScript, OrderHolds, lines_in}
 use Rattle.core_contract.specs.Duties.{Duty, Asks, Launches, Sends, Cancels, Gathers, Commits, Kills, Left, duty_from, duty_by, duty_of, proxy_lane, may_make}
@@ -143,17 +143,17 @@ module _ (legal : History → Type 0) (rule : History → ℕ → Call → Reply
     (before : (h : History) (e : Past) → legal (h ++ e ∷ [])
     → legal h × (e.reply ≡ rule h e.lane e.call) × (is_kept e.reply ≡ true))
     (fitting : (h : History) (lane : ℕ) (c : Call) → Fits c (rule h lane c))
-    (actions : ℕ) (outputs : ℕ → List (List ℕ)) (makers : ℕ → List Maker) (remote : ℕ → Bool)
+    (terms : Terms)
     (do_only : (h : History) (w : ℕ) (c : Call) → InScript rule h (proxy_lane w) c
-    → may_make outputs makers (remote w) (duty_of (calls_by (proxy_lane w) h)) c ≡ true)
+    → may_make terms w (duty_of (calls_by (proxy_lane w) h)) c ≡ true)
     (orders : (h : History) (lane : ℕ) → legal h
-    → OrderHolds actions (child_at (lane / 2) h) (lines_in h) (rule h lane call.Ask)) where
+    → OrderHolds terms.actions (child_at (lane / 2) h) (lines_in h) (rule h lane call.Ask)) where
   abbrev Step : History → Past → Type 0
   Step h e = steps.Step legal rule before fitting h e
 
   module _ (w : ℕ) where
     abbrev May : Duty → Call → Type 0
-    May s c = may_make outputs makers (remote w) s c ≡ true
+    May s c = may_make terms w s c ≡ true
 
     course : (s : Duty) (c : Call) (r : Reply) → May s c → fits c r ≡ true → Course s c r
     course Asks call.Ask (reply.Launch l a b t) may f = Orders l a b t refl refl refl refl
@@ -257,7 +257,7 @@ module _ (legal : History → Type 0) (rule : History → ℕ → Call → Reply
       next : (l a : ℕ) (b : Branch) (t : ℕ) → e.call ≡ call.Ask → e.reply ≡ reply.Launch l a b t
           → l ≡ lines_in h
       next l a b t ask launch = (subst (λ (r : Reply).
-          OrderHolds actions (child_at (e.lane / 2) h) (lines_in h) r)
+          OrderHolds terms.actions (child_at (e.lane / 2) h) (lines_in h) r)
           (ap (rule h e.lane) (sym ask) ∙ (sym s.ruled ∙ launch)) (orders h e.lane s.good)).0
 
       counted : (l a : ℕ) (b : Branch) (t : ℕ) → e.reply ≡ reply.Launch l a b t

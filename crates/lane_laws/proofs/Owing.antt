@@ -4,7 +4,6 @@ use Rattle.std.specs.List.{fold}
 use Rattle.std.proofs.lemmas.Bool.{eqb-true, and_parts}
 use Rattle.seat_desk.specs.History.{calls_by}
 use Rattle.run_plan.specs.declared.plan.Branch.{Branch}
-use Rattle.run_plan.specs.declared.plan.Maker.{Maker}
 use Rattle.exec_journal.specs.declared.call.Call.{Call}
 use Rattle.exec_journal.specs.declared.call.Call.TheVariants as call
 use Rattle.exec_journal.specs.declared.call.CommitEnd.{CommitEnd}
@@ -14,6 +13,7 @@ use Rattle.exec_journal.specs.declared.call.Started.TheVariants as start
 use Rattle.exec_journal.specs.declared.reply.Reply.{Reply}
 use Rattle.exec_journal.specs.declared.reply.Reply.TheVariants as reply
 use Rattle.exec_journal.specs.Entries.{is_kept, is_halt, same_branch}
+use Rattle.core_contract.specs.Terms.{Terms}
 use Rattle.core_contract.specs.Moves.{Past, History, Move, PutLine, TakeTap, TakeChild, GiveUp, TakePlace, PutPlace, Nothing, claim_moves, noted_moves, proxy_move, tap_move, move_of}
 use Rattle.core_contract.specs.Laws.{fits, Fits, InScript}
 use Rattle.core_contract.specs.Duties.{Duty, Asks, Commits, Left, duty_by, duty_then, duty_of, proxy_lane, may_make}
@@ -140,22 +140,22 @@ module _ (legal : History → Type 0) (rule : History → ℕ → Call → Reply
     (before : (h : History) (e : Past) → legal (h ++ e ∷ [])
     → legal h × (e.reply ≡ rule h e.lane e.call) × (is_kept e.reply ≡ true))
     (fitting : (h : History) (lane : ℕ) (c : Call) → Fits c (rule h lane c))
-    (seats : ℕ) (outputs : ℕ → List (List ℕ)) (makers : ℕ → List Maker) (remote : ℕ → Bool)
-    (known : (h : History) (lane : ℕ) (c : Call) → InScript rule h lane c → lane / 2 < seats)
+    (terms : Terms)
+    (known : (h : History) (lane : ℕ) (c : Call) → InScript rule h lane c → lane / 2 < terms.berths)
     (do_only : (h : History) (w : ℕ) (c : Call) → InScript rule h (proxy_lane w) c
-    → may_make outputs makers (remote w) (duty_of (calls_by (proxy_lane w) h)) c ≡ true) where
+    → may_make terms w (duty_of (calls_by (proxy_lane w) h)) c ≡ true) where
   abbrev Step : History → Past → Type 0
   Step h e = steps.Step legal rule before fitting h e
 
   -- what is granted files is owed from then on
   grants : (w : ℕ) (s : Duty) (a : ℕ) (b : Branch) (t : ℕ) (files : List (List ℕ))
-      → may_make outputs makers (remote w) s (call.Claim a b t (found.Files files)) ≡ true
+      → may_make terms w s (call.Claim a b t (found.Files files)) ≡ true
       → duty_by s (call.Claim a b t (found.Files files)) reply.Granted ≡ Commits a b files
   grants w Left a b t files may = absurd (cc)
   grants w s a b t files may = refl
 
   commits_only : (w a : ℕ) (b : Branch) (files : List (List ℕ)) (c : Call)
-      → may_make outputs makers (remote w) (Commits a b files) c ≡ true
+      → may_make terms w (Commits a b files) c ≡ true
       → (c ≡ call.Halt) ⊎ ((d : Branch) × (how : CommitEnd) × (c ≡ call.Committed a d how))
   commits_only w a b files call.Halt may = inl refl
   commits_only w a b files (call.Committed x d how) may =
@@ -166,7 +166,7 @@ module _ (legal : History → Type 0) (rule : History → ℕ → Call → Reply
   commits_only w a b files _ may = absurd (cc)
 
   abbrev Holder : ℕ → List (List ℕ) → History → Type 0
-  Holder a files h = (w : ℕ) × (w < seats) × Holds a files (calls_by (proxy_lane w) h)
+  Holder a files h = (w : ℕ) × (w < terms.berths) × Holds a files (calls_by (proxy_lane w) h)
 
   abbrev AllHeld : History → Type 0
   AllHeld h = (a : ℕ) (files : List (List ℕ)) → place_at a h ≡ Away files → Holder a files h
@@ -182,7 +182,7 @@ module _ (legal : History → Type 0) (rule : History → ℕ → Call → Reply
         let may = do_only h w e.call
         (subst (λ (n : ℕ). InScript rule h n e.call) (sym lane) s.scripted) in
         let claim = subst (λ (c : Call).
-        may_make outputs makers (remote w) (duty_of own) c ≡ true) t.1.2 may in
+        may_make terms w (duty_of own) c ≡ true) t.1.2 may in
         let owes : duty_of (calls_by (proxy_lane w) (h ++ e ∷ [])) ≡ Commits a b files =
         ap duty_of (own_call (proxy_lane w) h e (eq-eqb (proxy_lane w) e.lane lane))
         ∙ (duty_more own e ∙ ((λ i. duty_by (duty_of own) (t.1.2 i) (t.1.3 i))
@@ -228,7 +228,7 @@ module _ (legal : History → Type 0) (rule : History → ℕ → Call → Reply
           (λ halt. inr (halts_now owes.0 owes.1 halt))
           (λ put. absurd (not_put put.1 (puts put.0 put.1 put.2)))
           (commits_only w a owes.0 files e.call
-          (subst (λ (x : Duty). may_make outputs makers (remote w) x e.call ≡ true) owes.1 may))
+          (subst (λ (x : Duty). may_make terms w x e.call ≡ true) owes.1 may))
 
     stayed_by : (w : ℕ) (mine : Bool) → (proxy_lane w == e.lane) ≡ mine
         → ((how : CommitEnd) → move_of e ≡ PutPlace a how → ⊥)
@@ -253,7 +253,7 @@ module _ (legal : History → Type 0) (rule : History → ℕ → Call → Reply
       (away_after a files (place_at a h) (move_of e) (sym (place_more a h e) ∙ away)))
 
   pub places_back : (h : History) → legal h
-      → ((w : ℕ) → w < seats → HasLeft (calls_by (proxy_lane w) h))
+      → ((w : ℕ) → w < terms.berths → HasLeft (calls_by (proxy_lane w) h))
       → (a : ℕ) (files : List (List ℕ)) → place_at a h ≡ Away files → ⊥
   places_back h good left a files away =
       let x = all_held h good a files away in

@@ -5,12 +5,12 @@ use Rattle.std.proofs.lemmas.List.Folds.{list_any-append}
 use Rattle.std.proofs.Math.Nat.{div-add-mod}
 use Rattle.seat_desk.specs.History.{calls_by}
 use Rattle.seat_desk.proofs.Lines.{calls-append}
-use Rattle.run_plan.specs.declared.plan.Maker.{Maker}
 use Rattle.exec_journal.specs.declared.call.Call.{Call}
 use Rattle.exec_journal.specs.declared.call.Call.TheVariants as call
 use Rattle.exec_journal.specs.declared.reply.Reply.{Reply}
 use Rattle.exec_journal.specs.declared.reply.Reply.TheVariants as reply
 use Rattle.exec_journal.specs.Entries.{is_kept, takes}
+use Rattle.core_contract.specs.Terms.{Terms}
 use Rattle.core_contract.specs.Moves.{Past, History}
 use Rattle.core_contract.specs.Laws.{fits, Fits, InScript, tap_lane, is_taken}
 use Rattle.core_contract.specs.Duties.{Duty, Commits, Asks, Left, duty_of, proxy_lane, may_make}
@@ -67,10 +67,10 @@ module _ (legal : History → Type 0) (rule : History → ℕ → Call → Reply
     (before : (h : History) (e : Past) → legal (h ++ e ∷ [])
     → legal h × (e.reply ≡ rule h e.lane e.call) × (is_kept e.reply ≡ true))
     (fitting : (h : History) (lane : ℕ) (c : Call) → Fits c (rule h lane c))
-    (outputs : ℕ → List (List ℕ)) (makers : ℕ → List Maker) (remote : ℕ → Bool)
+    (terms : Terms)
     (do_only : (h : History) (w : ℕ) (c : Call) → InScript rule h (proxy_lane w) c
-    → may_make outputs makers (remote w) (duty_of (calls_by (proxy_lane w) h)) c ≡ true) where
-  no_proxy_takes : (w : ℕ) (s : Duty) → may_make outputs makers (remote w) s call.Take ≡ true → ⊥
+    → may_make terms w (duty_of (calls_by (proxy_lane w) h)) c ≡ true) where
+  no_proxy_takes : (w : ℕ) (s : Duty) → may_make terms w s call.Take ≡ true → ⊥
   no_proxy_takes w (Commits a b fs) may = absurd (cc)
   no_proxy_takes w Left may = absurd (cc)
   no_proxy_takes w Asks may = absurd (cc)
@@ -89,7 +89,7 @@ module _ (legal : History → Type 0) (rule : History → ℕ → Call → Reply
           (subst (λ (n : ℕ). InScript rule h n e.call) (sym (even_lane e.lane even)) s.scripted) in
           let duty = duty_of (calls_by (proxy_lane (e.lane / 2)) h) in
           no_proxy_takes (e.lane / 2) duty
-          (subst (λ (c : Call). may_make outputs makers (remote (e.lane / 2)) duty c ≡ true)
+          (subst (λ (c : Call). may_make terms (e.lane / 2) duty c ≡ true)
           take may))
 
       by_tap_lane : tap_lane (e.lane / 2) ≡ e.lane

@@ -2,6 +2,7 @@
 use Rattle.std.specs.Prelude.{◌≡◌, ℕ, ◌<◌, Bool, true, false, ◌&&◌, ◌||◌, List, [], ◌∷◌}
 use Rattle.seat_desk.specs.History.{calls_by}
 use Rattle.exec_journal.specs.Entries.{is_halt}
+use Rattle.core_contract.specs.Terms.{Terms}
 use Rattle.core_contract.specs.Moves.{History}
 use Rattle.core_contract.specs.Shelf.{place_at, Away}
 use Rattle.core_contract.specs.Duties.{Duty, Asks, Launches, Sends, Cancels, Gathers, Commits, Kills, Left, duty_then, duty_of, proxy_lane}
@@ -34,8 +35,8 @@ pub record HasLeft (own : History) : Type 0 where
   pub paid : halts_owing own ≡ false
 
 -- Where all proxy lanes have left so, no action's place is away.
-abbrev pub PlacesAreBack : {Q : Type 0} → (Q → History → Type 0) → (Q → ℕ) → Type 0
-PlacesAreBack {Q} legal seats =
+abbrev pub PlacesAreBack : {Q : Type 0} → (Q → History → Type 0) → (Q → Terms) → Type 0
+PlacesAreBack {Q} legal terms =
     (q : Q) (h : History) → legal q h
-    → ((w : ℕ) → w < seats q → HasLeft (calls_by (proxy_lane w) h))
+    → ((w : ℕ) → w < (terms q).berths → HasLeft (calls_by (proxy_lane w) h))
     → (a : ℕ) (files : List (List ℕ)) → place_at a h ≡ Away files → ⊥

@@ -14,7 +14,7 @@ use core_contract::Rules;
 /// Where all proxy lanes have left, and none of them halted before a Committed that it owed, the
 /// place of each action is back.
 pub fn places_are_back<C: Rules>()
-    ensures { PlacesAreBack C.legal C.seats }
+    ensures { PlacesAreBack C.legal C.terms }
 {}
 
 /// The lines that a proxy lane started are those that the tap lane of its berth took, in order, and
@@ -25,7 +25,7 @@ pub fn started_lines_have_taps<C: Rules>()
 
 /// No line was started twice, and each has a number below that of the lines that were ordered.
 pub fn started_lines_are_apart<C: Rules>()
-    ensures { StartedAreApart C.legal C.seats }
+    ensures { StartedAreApart C.legal C.terms }
 {}
 
 /// The line whose tap lies on the shelf was given to no tap lane.
@@ -35,7 +35,7 @@ pub fn shelved_taps_are_untaken<C: Rules>()
 
 /// Each entry is one of a lane of the plan.
 pub fn only_known_lanes_speak<C: Rules>()
-    ensures { OnlyKnownLanesSpeak C.legal C.seats }
+    ensures { OnlyKnownLanesSpeak C.legal C.terms }
 {}
 
 /// The lines that a tap lane took are those of the taps that it leaves.

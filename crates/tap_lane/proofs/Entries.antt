@@ -1,7 +1,10 @@
 -- What a call of a tap lane makes of its own entries.
 use Rattle.std.proofs.Common.{◌≡◌, ◌≢◌, inl, inr, ℕ, ◌+◌, ◌*◌, ◌%◌, ◌/◌, ◌==◌, ◌<◌, Bool, true, false, cond, List, [], ◌∷◌, ◌++◌, Option, Some, None, refl, ap, sym, subst, ◌∙◌, arith, eq-eqb, ne_eqb}
 use Rattle.std.proofs.lemmas.Grind.{fold-append}
+use Rattle.seat_desk.specs.declared.machine.Machine.{Ghosts}
 use Rattle.seat_desk.specs.declared.view.View.{View}
+use Rattle.seat_desk.specs.declared.desk.Pass.{Pass}
+use Rattle.seat_desk.specs.Passes.{mine, basis, seen}
 use Rattle.seat_desk.specs.History.{entry, after, calls_by, GoesOn, IsReply}
 use Rattle.seat_desk.specs.Desks.{Grows}
 use Rattle.outside.specs.Told.{ChildTold, TapTold, PlaceTold}
@@ -12,6 +15,7 @@ use Rattle.exec_journal.specs.declared.call.HowEnded.{HowEnded}
 use Rattle.exec_journal.specs.declared.reply.Reply.{Reply}
 use Rattle.exec_journal.specs.declared.reply.Reply.TheVariants as reply
 use Rattle.exec_journal.specs.Entries.{is_kept}
+use Rattle.core_contract.specs.Terms.{Terms}
 use Rattle.core_contract.specs.Moves.{Past, History, proxy_move, tap_move}
 use Rattle.core_contract.specs.Laws.{is_short, says_file, fits, Fits, InScript, tap_lane, Hearing, Free, Hears, Over, hearing_then, hearing_of, may_hear}
 use Rattle.core_bench.specs.declared.shelf.Good.{Good}
@@ -20,7 +24,7 @@ use Rattle.core_bench.specs.Bench.{IsTap, IsTapOf, Comes, ComesOut}
 use Rattle.core_bench.specs.BenchLaws.{calls_stay}
 use Rattle.tap_lane.specs.Heard.{IsTapLane, IsAnswer}
 use Rattle.tap_lane.specs.Taking.{tap_good}
-use Rattle.tap_lane.proofs.Replies.{answer_leads, is_noted}
+use Rattle.tap_lane.proofs.Replies.{answer_leads, is_noted, noted_no_file}
 
 abbrev kept : Past → Bool
 kept e = is_kept e.reply
@@ -69,13 +73,13 @@ module _ {G : Type 0} (rule : History → ℕ → Call → Reply) (comes : Out G
       )
 
   -- a paid call may get no short reply
-  pub not_short : (h : History) (lane : ℕ) (c : Call) (r : Reply)
+  not_short : (h : History) (lane : ℕ) (c : Call) (r : Reply)
       → IsReply rule is_short (λ h lane c. ⊥) h lane c r
       → IsReply rule is_short (λ h lane c. says_file (rule h lane c) ≡ true) h lane c r
   not_short h lane c r (inl e) = inl e
   not_short h lane c r (inr s) = absurd s.1
 
-  pub called : {Q : Type 0} (seats lane : ℕ) (v v' : View Call Reply Q) (c : Call) (r : Reply)
+  called : {Q : Type 0} (seats lane : ℕ) (v v' : View Call Reply Q) (c : Call) (r : Reply)
       (g : Option G) → NoFile c → ((h : History) → Fits c (rule h lane c))
       → Hearable rule seats c → IsTapLane seats lane → calls_by lane v.seen ≡ v.mine
       → MayHear v.mine c → Met lane v c r g v' → Called lane v.mine v'.mine c r g
@@ -117,7 +121,7 @@ grown_by lane own own' c r x is grown =
 
 module _ {G : Type 0} (rule : History → ℕ → Call → Reply) (comes : Out G) (lane : ℕ)
     (own own' : History) (g : Option G) where
-  pub answered : (l : ℕ) (x : Answer) (r : Reply)
+  answered : (l : ℕ) (x : Answer) (r : Reply)
       → Called rule comes lane own own' (call.Answer l x) r g → hearing_of own ≡ Hears l
       → (e : Past) × IsAnswer l x e × (own' ≡ own ++ e ∷ []) × (hearing_of own' ≡ Hears l)
   answered l x r k hears =
@@ -126,7 +130,7 @@ module _ {G : Type 0} (rule : History → ℕ → Call → Reply) (comes : Out G
       let grown : own' ≡ own ++ e ∷ [] = k.grown ∙ kept_after own e leads.0 in
       (e, (refl, k.fitting), grown, hears_then own own' e (Hears l) (Hears l) hears grown leads.2)
 
-  pub ended : (l : ℕ) (how : HowEnded) (r : Reply)
+  ended : (l : ℕ) (how : HowEnded) (r : Reply)
       → Called rule comes lane own own' (call.Ended l how) r g → hearing_of own ≡ Hears l
       → (own' ≡ own ++ entry lane (call.Ended l how) reply.Noted ∷ [])
       × (hearing_of own' ≡ Free)
@@ -152,17 +156,17 @@ module _ {G : Type 0} (rule : History → ℕ → Call → Reply) (comes : Out G
       → own' ≡ own ++ entry lane call.Take reply.Stop ∷ []
   took_stop r k is = grown_by lane own own' call.Take r reply.Stop is k.grown
 
-  pub has_halted : (r : Reply) → Called rule comes lane own own' call.Halt r g
+  has_halted : (r : Reply) → Called rule comes lane own own' call.Halt r g
       → own' ≡ own ++ entry lane call.Halt reply.Noted ∷ []
   has_halted r k = grown_by lane own own' call.Halt r reply.Noted (is_noted r k.fitting) k.grown
 
 -- ---- what it may call
 
-pub answer_may : (own : History) (l : ℕ) (x : Answer) → hearing_of own ≡ Hears l
+answer_may : (own : History) (l : ℕ) (x : Answer) → hearing_of own ≡ Hears l
     → MayHear own (call.Answer l x)
 answer_may own l x e = ap (λ (s : Hearing). may_hear s (call.Answer l x)) e ∙ eq-eqb l l refl
 
-pub end_may : (own : History) (l : ℕ) (how : HowEnded) → hearing_of own ≡ Hears l
+end_may : (own : History) (l : ℕ) (how : HowEnded) → hearing_of own ≡ Hears l
     → MayHear own (call.Ended l how)
 end_may own l how e = ap (λ (s : Hearing). may_hear s (call.Ended l how)) e ∙ eq-eqb l l refl
 
@@ -174,8 +178,56 @@ halt_by Free n = refl
 halt_by (Hears l) n = refl
 halt_by Over n = absurd (n refl)
 
-pub halt_may : (own : History) → hearing_of own ≢ Over → MayHear own call.Halt
+halt_may : (own : History) → hearing_of own ≢ Over → MayHear own call.Halt
 halt_may own n = halt_by (hearing_of own) n
+
+-- ---- the calls of a lane's pass, by a core's laws
+
+module _ {M G Q : Type 0} {g : Ghosts M Call Reply G Q} (rule : Q → History → ℕ → Call → Reply)
+    (seats : Q → ℕ)
+    (replies : (q : Q) (h : History) (lane : ℕ) (c : Call) → Fits c (rule q h lane c))
+    (hear : (q : Q) (h : History) (w : ℕ) (c : Call) → w < seats q
+    → MayHear (calls_by (tap_lane w) h) c → InScript (rule q) h (tap_lane w) c)
+    (comes : Q → Out G) (p p' : Pass M Call Reply G Q g) (is : IsTapLane (seats (basis p)) p.lane)
+    (r : Reply) (good : Option G) where
+  -- so the call was answered, and this came out
+  abbrev pub IsAnswered : Call → Type 0
+  IsAnswered c = Met (rule (basis p)) (comes (basis p)) p.lane p.seat.me.0 c r good p'.seat.me.0
+
+  pub called_by : (c : Call) → NoFile c → MayHear (mine p) c → IsAnswered c
+      → Called (rule (basis p)) (comes (basis p)) p.lane (mine p) (mine p') c r good
+  called_by c no_file may a =
+      called (rule (basis p)) (comes (basis p)) (seats (basis p)) p.lane p.seat.me.0 p'.seat.me.0 c
+      r good no_file (λ h. replies (basis p) h p.lane c)
+      (λ h w below here. hear (basis p) h w c below here) is p.idle.3 may a
+
+  pub told_answer : (l : ℕ) (x : Answer) → hearing_of (mine p) ≡ Hears l
+      → IsAnswered (call.Answer l x)
+      → (e : Past) × IsAnswer l x e × (mine p' ≡ mine p ++ e ∷ []) × (hearing_of (mine p') ≡ Hears l)
+  told_answer l x hears a =
+      answered (rule (basis p)) (comes (basis p)) p.lane (mine p) (mine p') good l x r
+      (called_by (call.Answer l x) (λ s fit. (answer_leads l x s fit).1)
+      (answer_may (mine p) l x hears) a) hears
+
+  pub told_end : (l : ℕ) (how : HowEnded) → hearing_of (mine p) ≡ Hears l
+      → IsAnswered (call.Ended l how)
+      → (mine p' ≡ mine p ++ entry p.lane (call.Ended l how) reply.Noted ∷ [])
+      × (hearing_of (mine p') ≡ Free)
+  told_end l how hears a =
+      ended (rule (basis p)) (comes (basis p)) p.lane (mine p) (mine p') good l how r
+      (called_by (call.Ended l how) noted_no_file (end_may (mine p) l how hears) a) hears
+
+  -- so is a call that was paid for, whose reply isn't short
+  pub told_halt : hearing_of (mine p) ≢ Over
+      → (h : History) × GoesOn p.lane (seen p) h
+      × IsReply (rule (basis p)) is_short (λ h lane c. ⊥) h p.lane call.Halt r
+      × Grows kept p.lane p.seat.me.0 h (entry p.lane call.Halt r) p'.seat.me.0
+      × comes (basis p) h p.lane call.Halt r good
+      → mine p' ≡ mine p ++ entry p.lane call.Halt reply.Noted ∷ []
+  told_halt goes_on a =
+      let reply_is = not_short (rule (basis p)) (comes (basis p)) a.0 p.lane call.Halt r a.2 in
+      has_halted (rule (basis p)) (comes (basis p)) p.lane (mine p) (mine p') good r
+      (called_by call.Halt noted_no_file (halt_may (mine p) goes_on) (a.0, a.1, reply_is, a.3, a.4))
 
 -- ---- what comes out of a Take
 
@@ -183,8 +235,8 @@ odd : (w : ℕ) → ((2 * w + 1) % 2 == 0) ≡ false
 odd w = ne_eqb ((2 * w + 1) % 2) 0 (λ e. omega arith)
 
 module _ {K T P : Type 0} (child : K → ChildTold) (tap : T → TapTold) (place : P → PlaceTold)
-    (outputs : ℕ → List (List ℕ)) where
-  tap_is : (l : ℕ) (g : Option (Good K T P)) (t : T) → IsTap child tap place outputs l g
+    (terms : Terms) where
+  tap_is : (l : ℕ) (g : Option (Good K T P)) (t : T) → IsTap child tap place terms l g
       → tap_good g ≡ Some t → IsTapOf tap l t
   tap_is l (Some (good.Tap u)) t is e = subst (IsTapOf tap l) (cc) is
   tap_is l (Some (good.Line k u)) t is e = absurd is
@@ -192,7 +244,7 @@ module _ {K T P : Type 0} (child : K → ChildTold) (tap : T → TapTold) (place
   tap_is l (Some (good.Place p)) t is e = absurd is
   tap_is l None t is e = absurd is
 
-  no_tap : (l : ℕ) (g : Option (Good K T P)) → IsTap child tap place outputs l g
+  no_tap : (l : ℕ) (g : Option (Good K T P)) → IsTap child tap place terms l g
       → tap_good g ≡ None → ⊥
   no_tap l (Some (good.Tap u)) is e = cc
   no_tap l (Some (good.Line k u)) is e = is
@@ -202,25 +254,25 @@ module _ {K T P : Type 0} (child : K → ChildTold) (tap : T → TapTold) (place
 
   out_is : (h : History) (lane w l : ℕ) (r : Reply) (g : Option (Good K T P))
       → lane ≡ tap_lane w → r ≡ reply.Line l
-      → ComesOut child tap place outputs h lane call.Take r g → IsTap child tap place outputs l g
+      → ComesOut child tap place terms h lane call.Take r g → IsTap child tap place terms l g
   out_is h lane w l r g lane_is is out =
       let line : Reply = reply.Line l in
-      let at : ComesOut child tap place outputs h (tap_lane w) call.Take line g =
-      subst (λ (k : ℕ). ComesOut child tap place outputs h k call.Take line g) lane_is
-      (subst (λ (x : Reply). ComesOut child tap place outputs h lane call.Take x g) is out) in
-      subst (λ (b : Bool). Comes child tap place outputs h (tap_lane w / 2)
+      let at : ComesOut child tap place terms h (tap_lane w) call.Take line g =
+      subst (λ (k : ℕ). ComesOut child tap place terms h k call.Take line g) lane_is
+      (subst (λ (x : Reply). ComesOut child tap place terms h lane call.Take x g) is out) in
+      subst (λ (b : Bool). Comes child tap place terms h (tap_lane w / 2)
       (cond b (proxy_move call.Take line) (tap_move call.Take line)) g) (odd w) at
 
   -- with the line that a Take was answered its tap came out
   pub tap_out : (h : History) (lane w l : ℕ) (r : Reply) (g : Option (Good K T P)) (o : Option T)
       (t : T) → lane ≡ tap_lane w → r ≡ reply.Line l
-      → ComesOut child tap place outputs h lane call.Take r g → o ≡ tap_good g → o ≡ Some t
+      → ComesOut child tap place terms h lane call.Take r g → o ≡ tap_good g → o ≡ Some t
       → IsTapOf tap l t
   tap_out h lane w l r g o t lane_is is out e s =
       tap_is l g t (out_is h lane w l r g lane_is is out) (sym e ∙ s)
 
   pub tap_must : (h : History) (lane w l : ℕ) (r : Reply) (g : Option (Good K T P)) (o : Option T)
       → lane ≡ tap_lane w → r ≡ reply.Line l
-      → ComesOut child tap place outputs h lane call.Take r g → o ≡ tap_good g → o ≡ None → ⊥
+      → ComesOut child tap place terms h lane call.Take r g → o ≡ tap_good g → o ≡ None → ⊥
   tap_must h lane w l r g o lane_is is out e s =
       no_tap l g (out_is h lane w l r g lane_is is out) (sym e ∙ s)

@@ -1,10 +1,13 @@
 -- What a lane leaves, line after line.
 use Rattle.std.proofs.Common.{◌≡◌, ℕ, List, [], ◌∷◌, ◌++◌, map, Option, Some, None, refl, ap, sym, ◌∙◌, subst, append_assoc, append-nil}
+use Rattle.seat_desk.specs.declared.machine.Machine.{Ghosts}
 use Rattle.seat_desk.specs.History.{entry}
 use Rattle.outside.specs.Told.{TapTold}
 use Rattle.run_plan.specs.declared.plan.Speech.{Speech}
+use Rattle.exec_journal.specs.declared.call.Call.{Call}
 use Rattle.exec_journal.specs.declared.call.Call.TheVariants as call
 use Rattle.exec_journal.specs.declared.call.HowEnded.{HowEnded}
+use Rattle.exec_journal.specs.declared.reply.Reply.{Reply}
 use Rattle.exec_journal.specs.declared.reply.Reply.TheVariants as reply
 use Rattle.core_contract.specs.Moves.{Past, History}
 use Rattle.core_contract.specs.Laws.{hearing_of, Free, Hears, Over}
@@ -13,6 +16,8 @@ use Rattle.tap_lane.specs.declared.ends.Want.{Want}
 use Rattle.tap_lane.specs.declared.ends.Want.TheVariants as want
 use Rattle.tap_lane.specs.Heard.{HasHeard, HeardWhole}
 use Rattle.tap_lane.specs.Lane.{Whole, Runs, CutShort, RunsUntil, HeardUntil, LaneEnds, ToHalt}
+use Rattle.tap_lane.specs.Working.{IsSameLane, own, number}
+use Rattle.tap_lane.specs.declared.lane.TapLane.{TapLane}
 
 -- how the line has ended was told
 pub heard_whole : (s : Speech) (lane lane' l : ℕ) (t : TapTold) (how : HowEnded)
@@ -112,7 +117,7 @@ module _ (s : Speech) (lane : ℕ) where
         ∙ map_push back taps x
 
     -- one line more was heard to its end
-    pub runs_line : (l : ℕ) (t : TapTold) (taps taps' taps'' : List (EndedTap T)) (x : EndedTap T)
+    runs_line : (l : ℕ) (t : TapTold) (taps taps' taps'' : List (EndedTap T)) (x : EndedTap T)
         (own own' own'' : History) (first second : ℕ) → back x ≡ (l, t) → taps' ≡ taps
         → taps'' ≡ taps' ++ x ∷ [] → first ≡ lane → second ≡ lane
         → Runs s lane (map back taps) own
@@ -128,7 +133,7 @@ module _ (s : Speech) (lane : ℕ) where
         (runs_more (map back taps) own w.0 (l, t) runs w.1))
 
     -- or not to its end
-    pub halts_line : (w : Want) (l : ℕ) (t : TapTold) (taps taps' taps'' : List (EndedTap T))
+    halts_line : (w : Want) (l : ℕ) (t : TapTold) (taps taps' taps'' : List (EndedTap T))
         (x : EndedTap T) (own own' own'' : History) (first : ℕ) → back x ≡ (l, t)
         → taps' ≡ taps → taps'' ≡ taps' ++ x ∷ [] → first ≡ lane
         → Runs s lane (map back taps) own
@@ -145,7 +150,7 @@ module _ (s : Speech) (lane : ℕ) where
         )
 
     -- or no line more was taken
-    pub halts_free : (taps taps' : List (EndedTap T)) (own own' : History) → taps' ≡ taps
+    halts_free : (taps taps' : List (EndedTap T)) (own own' : History) → taps' ≡ taps
         → own' ≡ own → hearing_of own ≡ Free → Runs s lane (map back taps) own
         → ToHalt s lane (map back taps') own' want.Line
     halts_free taps taps' own own' same still free runs = (
@@ -155,7 +160,7 @@ module _ (s : Speech) (lane : ℕ) where
     )
 
     -- or the lane was told to stop
-    pub stops : (taps taps' : List (EndedTap T)) (own own' : History) (first : ℕ) → taps' ≡ taps
+    stops : (taps taps' : List (EndedTap T)) (own own' : History) (first : ℕ) → taps' ≡ taps
         → first ≡ lane → own' ≡ own ++ entry first call.Take reply.Stop ∷ []
         → Runs s lane (map back taps) own → LaneEnds s lane None (map back taps') own'
     stops taps taps' own own' first same is stopped runs = (
@@ -165,7 +170,7 @@ module _ (s : Speech) (lane : ℕ) where
     )
 
   -- a lane that was to halt has halted
-  pub halted_now : (w : Want) (first : ℕ) (ts : List (ℕ × TapTold)) (own own' : History)
+  halted_now : (w : Want) (first : ℕ) (ts : List (ℕ × TapTold)) (own own' : History)
       → first ≡ lane → ToHalt s lane ts own w
       → own' ≡ own ++ entry first call.Halt reply.Noted ∷ []
       → LaneEnds s lane (Some w) ts own'
@@ -174,3 +179,40 @@ module _ (s : Speech) (lane : ℕ) where
     h.0,
     subst (λ (k : ℕ). own' ≡ own ++ entry k call.Halt reply.Noted ∷ []) is halted,
   )
+
+-- ---- the same, of the lane as it was at first, before the line, with the line taken, and behind it
+
+module _ {M G Q : Type 0} {g : Ghosts M Call Reply G Q} {T : Type 0}
+    (back : EndedTap T → ℕ × TapTold) (x0 x : TapLane M Call Reply G Q g)
+    (taps taps' : List (EndedTap T)) (so_far : IsSameLane x0 x) (same : taps' ≡ taps)
+    (runs : Runs x0.speech (number x0) (map back taps) (own x)) where
+  module _ (x' x'' : TapLane M Call Reply G Q g) (first : IsSameLane x x')
+      (taps'' : List (EndedTap T)) (y : EndedTap T) (more : taps'' ≡ taps' ++ y ∷ []) (l : ℕ)
+      (t : TapTold) (is : back y ≡ (l, t))
+      (took : own x' ≡ own x ++ entry (number x) call.Take (reply.Line l) ∷ []) where
+    pub one_heard : HeardWhole x'.speech (number x') l t (own x') (own x'')
+        → Runs x0.speech (number x0) (map back taps'') (own x'')
+    one_heard heard =
+        runs_line x0.speech (number x0) back l t taps taps' taps'' y (own x) (own x') (own x'')
+        (number x) (number x') is same more so_far.same.1 (first.same.1 ∙ so_far.same.1) runs took
+        (subst (λ (s : Speech). HeardWhole s (number x') l t (own x') (own x''))
+        (first.speech ∙ so_far.speech) heard)
+
+    pub one_cut : (w : Want) → HeardUntil w x'.speech l t (own x') (own x'')
+        → hearing_of (own x'') ≡ Hears l
+        → ToHalt x0.speech (number x0) (map back taps'') (own x'') w
+    one_cut w heard hears =
+        halts_line x0.speech (number x0) back w l t taps taps' taps'' y (own x) (own x') (own x'')
+        (number x) is same more so_far.same.1 runs took
+        (subst (λ (s : Speech). HeardUntil w s l t (own x') (own x''))
+        (first.speech ∙ so_far.speech) heard) hears
+
+  pub none_taken : (h : History) → h ≡ own x → hearing_of (own x) ≡ Free
+      → ToHalt x0.speech (number x0) (map back taps') h want.Line
+  none_taken h still free =
+      halts_free x0.speech (number x0) back taps taps' (own x) h same still free runs
+
+  pub told_to_stop : (h : History) → h ≡ own x ++ entry (number x) call.Take reply.Stop ∷ []
+      → LaneEnds x0.speech (number x0) None (map back taps') h
+  told_to_stop h stopped =
+      stops x0.speech (number x0) back taps taps' (own x) h (number x) same so_far.same.1 stopped runs

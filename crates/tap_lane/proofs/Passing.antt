@@ -1,20 +1,38 @@
--- What stays of a pass from call to call.
-use Rattle.std.proofs.Common.{ℕ, ◌<◌, ◌∙◌, sym, subst}
+-- What stays of a lane from call to call.
+use Rattle.std.proofs.Common.{◌≡◌, ℕ, ◌<◌, ◌∙◌, refl, sym, subst}
 use Rattle.seat_desk.specs.declared.machine.Machine.{Ghosts}
-use Rattle.seat_desk.specs.declared.desk.Pass.{Pass}
-use Rattle.seat_desk.specs.Passes.{IsSamePass, basis}
-use Rattle.tap_lane.specs.Heard.{IsTapLane}
+use Rattle.exec_journal.specs.declared.call.Call.{Call}
+use Rattle.exec_journal.specs.declared.reply.Reply.{Reply}
+use Rattle.core_contract.specs.Terms.{Terms}
+use Rattle.core_contract.specs.Laws.{Hearing, hearing_of}
+use Rattle.tap_lane.specs.declared.lane.TapLane.{TapLane}
+use Rattle.tap_lane.specs.Working.{IsOfBerth, IsAt, IsSameLane, own}
 
-module _ {M C R G Q : Type 0} {g : Ghosts M C R G Q} where
-  pub same_then : (p p' p'' : Pass M C R G Q g) → IsSamePass p p' → IsSamePass p' p''
-      → IsSamePass p p''
-  same_then p p' p'' first second =
-      (second.0 ∙ first.0, second.1 ∙ first.1, second.2 ∙ first.2)
+module _ {M G Q : Type 0} {g : Ghosts M Call Reply G Q} where
+  pub same_now : (x : TapLane M Call Reply G Q g) → IsSameLane x x
+  same_now x = record { same = (refl, refl, refl); speech = refl }
 
-  pub lane_still : (seats : Q → ℕ) (p p' : Pass M C R G Q g) → IsSamePass p p'
-      → IsTapLane (seats (basis p)) p.lane → IsTapLane (seats (basis p')) p'.lane
-  lane_still seats p p' same is = (
+  pub same_then : (x x' x'' : TapLane M Call Reply G Q g) → IsSameLane x x' → IsSameLane x' x''
+      → IsSameLane x x''
+  same_then x x' x'' first second = record {
+    same = (
+      second.same.0 ∙ first.same.0,
+      second.same.1 ∙ first.same.1,
+      second.same.2 ∙ first.same.2,
+    );
+    speech = second.speech ∙ first.speech;
+  }
+
+  pub still_of : (terms : Q → Terms) (x x' : TapLane M Call Reply G Q g) → IsSameLane x x'
+      → IsOfBerth terms x → IsOfBerth terms x'
+  still_of terms x x' kept is = (
     is.0,
-    same.1 ∙ is.1,
-    subst (λ (q : Q). is.0 < seats q) (sym same.2) is.2,
+    kept.same.1 ∙ is.1,
+    subst (λ (q : Q). is.0 < (terms q).berths) (sym kept.same.2) is.2,
   )
+
+  -- it hears this now
+  pub now_at : (terms : Q → Terms) (before now : Hearing) (x x' : TapLane M Call Reply G Q g)
+      → IsSameLane x x' → IsAt terms before x → hearing_of (own x') ≡ now → IsAt terms now x'
+  now_at terms before now x x' kept at hears =
+      record { lane = still_of terms x x' kept at.lane; hears = hears }

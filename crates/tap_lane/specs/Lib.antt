@@ -2,3 +2,4 @@
 pub mod Heard
 pub mod Taking
 pub mod Lane
+pub mod Working

@@ -1,21 +1,22 @@
 //! The calls of a tap lane, one by one.
 ghost use Rattle.std.specs.Prelude.{◌≡◌, ◌≢◌, ◌++◌, ◌∷◌, [], IfOk, OnOk, OnErr};
-ghost use Rattle.seat_desk.specs.Passes.{IsSamePass, basis, mine};
 ghost use Rattle.seat_desk.specs.History.{entry};
 ghost use Rattle.exec_journal.specs.declared.call.Call.TheVariants as call;
 ghost use Rattle.exec_journal.specs.declared.reply.Reply.TheVariants as reply;
 ghost use Rattle.core_contract.specs.Moves.{Past};
 ghost use Rattle.core_contract.specs.Laws.{hearing_of, Free, Hears, Over};
 ghost use Rattle.core_bench.specs.Bench.{IsTapOf};
-ghost use Rattle.tap_lane.specs.Heard.{IsTapLane, IsAnswer};
+ghost use Rattle.tap_lane.specs.Heard.{IsAnswer};
 ghost use Rattle.tap_lane.specs.Taking.{HasTaken, tap_good, is_idle, idle_not_kept};
+ghost use Rattle.tap_lane.specs.Working.{IsOfBerth, IsAt, IsSameLane, own, number};
 
-use exec_journal::{Answer, Call, HowEnded, Reply};
-use lane_crew::{Caller, Question};
-use outside::{Berth, Place};
-use plain_values::NoMemory;
+use crate::lane::TapLane;
 use core_bench::{Bench, Good};
 use core_contract::Rules;
+use exec_journal::{Answer, Call, HowEnded, Reply};
+use lane_crew::Question;
+use outside::{Berth, Place};
+use plain_values::NoMemory;
 use std::sync::Wait;
 
 /// What a Take was answered.
@@ -45,32 +46,88 @@ impl<B: Berth, P: Place, C: Rules> Question<Bench<B, P, C>> for NextLine {
     }
 }
 
-/// Takes the next line.
-///
-/// # Errors
-///
-/// `NoMemory`, and then no line was taken.
-pub(crate) fn take<B: Berth, P: Place, C: Rules, R: Wait>(
-    rt: &R,
-    caller: &mut Caller<Bench<B, P, C>>,
-) -> Result<Took<B::Tap>, NoMemory>
-    requires lane { IsTapLane (C.seats (basis caller.old.pass)) caller.old.pass.lane }
-    requires free { hearing_of (mine caller.old.pass) ≡ Free }
-    ensures same { IsSamePass caller.old.pass caller.new.pass }
-    ensures ok { IfOk result (λ took. HasTaken (IsTapOf B.Tap.told) caller.old.pass.lane
-        (mine caller.old.pass) took (mine caller.new.pass)) }
-    ensures err { OnErr result (mine caller.new.pass ≡ mine caller.old.pass) }
-{
-    match caller.ask(rt, &NextLine) {
-        Ok((reply, good)) => match reply {
-            Reply::Line { line } => match tap_in(good) {
-                Some(tap) => Ok(Took::Line(line, tap)),
-                None => unreachable!(),
+impl<'a, B: Berth, P: Place, C: Rules> TapLane<'a, Bench<B, P, C>> {
+    /// Takes the next line.
+    ///
+    /// # Errors
+    ///
+    /// `NoMemory`, and then no line was taken.
+    pub(crate) fn take<R: Wait>(&mut self, rt: &R) -> Result<Took<B::Tap>, NoMemory>
+        requires { IsAt C.terms Free self.old }
+        ensures same { IsSameLane self.old self.new }
+        ensures ok { IfOk result (λ took. HasTaken (IsTapOf B.Tap.told) (number self.old)
+            (own self.old) took (own self.new)) }
+        ensures err { OnErr result (own self.new ≡ own self.old) }
+    {
+        match self.caller.ask(rt, &NextLine) {
+            Ok((reply, good)) => match reply {
+                Reply::Line { line } => match tap_in(good) {
+                    Some(tap) => Ok(Took::Line(line, tap)),
+                    None => unreachable!(),
+                },
+                Reply::Stop => Ok(Took::Stop),
+                _ => unreachable!(),
             },
-            Reply::Stop => Ok(Took::Stop),
-            _ => unreachable!(),
-        },
-        Err(_) => Err(NoMemory),
+            Err(_) => Err(NoMemory),
+        }
+    }
+
+    /// Tells an answer of the line.
+    ///
+    /// # Errors
+    ///
+    /// `NoMemory`, and then it wasn't told.
+    pub(crate) fn tell_answer<R: Wait>(
+        &mut self,
+        rt: &R,
+        line: u32,
+        answer: Answer,
+    ) -> Result<(), NoMemory>
+        requires { IsAt C.terms (Hears line) self.old }
+        ensures same { IsSameLane self.old self.new }
+        ensures ok { OnOk result ((e : Past) × IsAnswer line answer e
+            × (own self.new ≡ own self.old ++ e ∷ []) × (hearing_of (own self.new) ≡ Hears line)) }
+        ensures err { OnErr result (own self.new ≡ own self.old) }
+    {
+        match self.caller.call(rt, Call::Answer { line, answer }, None) {
+            Ok(_) => Ok(()),
+            Err(_) => Err(NoMemory),
+        }
+    }
+
+    /// Tells how the line has ended.
+    ///
+    /// # Errors
+    ///
+    /// `NoMemory`, and then it wasn't told.
+    pub(crate) fn tell_end<R: Wait>(
+        &mut self,
+        rt: &R,
+        line: u32,
+        how: HowEnded,
+    ) -> Result<(), NoMemory>
+        requires { IsAt C.terms (Hears line) self.old }
+        ensures same { IsSameLane self.old self.new }
+        ensures ok { OnOk result ((own self.new ≡ own self.old
+            ++ entry (number self.old) (call.Ended line how) reply.Noted ∷ [])
+            × (hearing_of (own self.new) ≡ Free)) }
+        ensures err { OnErr result (own self.new ≡ own self.old) }
+    {
+        match self.caller.call(rt, Call::Ended { line, how }, None) {
+            Ok(_) => Ok(()),
+            Err(_) => Err(NoMemory),
+        }
+    }
+
+    /// Halts. It takes no memory.
+    pub(crate) fn halt<R: Wait>(&mut self, rt: &R)
+        requires lane { IsOfBerth C.terms self.old }
+        requires goes_on { hearing_of (own self.old) ≢ Over }
+        ensures same { IsSameLane self.old self.new }
+        ensures halted { own self.new ≡ own self.old
+            ++ entry (number self.old) call.Halt reply.Noted ∷ [] }
+    {
+        self.caller.call_paid(rt, Call::Halt, None);
     }
 }
 
@@ -84,68 +141,4 @@ fn tap_in<K: Drop, T: Drop, P: Drop>(good: Option<Good<K, T, P>>) -> Option<T>
         Some(Good::Place(_place)) => None,
         None => None,
     }
-}
-
-/// Tells an answer of the line.
-///
-/// # Errors
-///
-/// `NoMemory`, and then it wasn't told.
-pub(crate) fn tell_answer<B: Berth, P: Place, C: Rules, R: Wait>(
-    rt: &R,
-    caller: &mut Caller<Bench<B, P, C>>,
-    line: u32,
-    answer: Answer,
-) -> Result<(), NoMemory>
-    requires lane { IsTapLane (C.seats (basis caller.old.pass)) caller.old.pass.lane }
-    requires hears { hearing_of (mine caller.old.pass) ≡ Hears line }
-    ensures same { IsSamePass caller.old.pass caller.new.pass }
-    ensures ok { OnOk result ((e : Past) × IsAnswer line answer e
-        × (mine caller.new.pass ≡ mine caller.old.pass ++ e ∷ [])
-        × (hearing_of (mine caller.new.pass) ≡ Hears line)) }
-    ensures err { OnErr result (mine caller.new.pass ≡ mine caller.old.pass) }
-{
-    match caller.call(rt, Call::Answer { line, answer }, None) {
-        Ok(_) => Ok(()),
-        Err(_) => Err(NoMemory),
-    }
-}
-
-/// Tells how the line has ended.
-///
-/// # Errors
-///
-/// `NoMemory`, and then it wasn't told.
-pub(crate) fn tell_end<B: Berth, P: Place, C: Rules, R: Wait>(
-    rt: &R,
-    caller: &mut Caller<Bench<B, P, C>>,
-    line: u32,
-    how: HowEnded,
-) -> Result<(), NoMemory>
-    requires lane { IsTapLane (C.seats (basis caller.old.pass)) caller.old.pass.lane }
-    requires hears { hearing_of (mine caller.old.pass) ≡ Hears line }
-    ensures same { IsSamePass caller.old.pass caller.new.pass }
-    ensures ok { OnOk result ((mine caller.new.pass ≡ mine caller.old.pass
-        ++ entry caller.old.pass.lane (call.Ended line how) reply.Noted ∷ [])
-        × (hearing_of (mine caller.new.pass) ≡ Free)) }
-    ensures err { OnErr result (mine caller.new.pass ≡ mine caller.old.pass) }
-{
-    match caller.call(rt, Call::Ended { line, how }, None) {
-        Ok(_) => Ok(()),
-        Err(_) => Err(NoMemory),
-    }
-}
-
-/// Halts. It takes no memory.
-pub(crate) fn halt<B: Berth, P: Place, C: Rules, R: Wait>(
-    rt: &R,
-    caller: &mut Caller<Bench<B, P, C>>,
-)
-    requires lane { IsTapLane (C.seats (basis caller.old.pass)) caller.old.pass.lane }
-    requires goes_on { hearing_of (mine caller.old.pass) ≢ Over }
-    ensures same { IsSamePass caller.old.pass caller.new.pass }
-    ensures halted { mine caller.new.pass ≡ mine caller.old.pass
-        ++ entry caller.old.pass.lane call.Halt reply.Noted ∷ [] }
-{
-    caller.call_paid(rt, Call::Halt, None);
 }

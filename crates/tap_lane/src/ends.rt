@@ -1,8 +1,5 @@
 //! What a tap lane leaves.
 use exec_journal::HowEnded;
-use outside::Berth;
-use core_bench::Bench;
-use seat_desk::Pass;
 
 /// A tap that a lane took, with the line of which it took it.
 #[derive(Drop)]
@@ -24,17 +21,11 @@ pub enum Want {
     End(HowEnded),
 }
 
-/// What a lane leaves: its pass, the taps that it took, in the order of their lines, and why it has
-/// halted, where it has. Else it was told to stop. [`TapEnd`] names it by the outside and the core.
+/// What a lane leaves, beside its pass.
 #[derive(Drop)]
-pub struct LaneEnd<S, T> {
-    /// The lane's pass.
-    pub pass: S,
-    /// The taps that it took.
+pub struct TapLeft<T> {
+    /// The taps that it took, in the order of their lines.
     pub taps: Vec<EndedTap<T>>,
-    /// Why it has halted.
+    /// Why it has halted, if it wasn't told to stop.
     pub halted: Option<Want>,
 }
-
-/// What the tap lane of a bench leaves.
-pub type TapEnd<B, P, C> = LaneEnd<Pass<Bench<B, P, C>>, <B as Berth>::Tap>;

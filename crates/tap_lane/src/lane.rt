@@ -1,92 +1,74 @@
-//! The whole lane.
-ghost use Rattle.std.specs.Prelude.{◌≡◌, ◌<◌, [], map, length, OnOk, IfErr, None};
-ghost use Rattle.seat_desk.specs.Passes.{IsPassOf, IsSamePass, basis, mine};
-ghost use Rattle.core_contract.specs.Laws.{tap_lane};
-ghost use Rattle.tap_lane.specs.Heard.{IsTapLane, back_by};
+//! The lane at work.
+ghost use Rattle.std.specs.Prelude.{◌≡◌, [], map, OnOk, IfErr, None};
+ghost use Rattle.core_contract.specs.Laws.{Free};
+ghost use Rattle.tap_lane.specs.Heard.{back_by};
 ghost use Rattle.tap_lane.specs.Lane.{LaneEnds, ToHalt};
+ghost use Rattle.tap_lane.specs.Working.{IsAt, IsSameLane, own, number};
 
-use crate::calls::{Took, halt, take};
-use crate::ends::{EndedTap, LaneEnd, TapEnd, Want};
-use crate::hearing::hear;
-use lane_bells::Bells;
+use crate::calls::Took;
+use crate::ends::{EndedTap, TapLeft, Want};
+use core_bench::Bench;
+use core_contract::Rules;
 use lane_crew::Caller;
 use outside::{Berth, Place};
 use plain_values::NoMemory;
-use core_bench::Bench;
 use run_plan::Speech;
-use core_contract::Rules;
-use seat_desk::{Desk, Pass};
+use seat_desk::Machine;
 use std::alloc::Global;
 use std::sync::Wait;
 
-/// The most bytes of one read.
-const PIECE: usize = 65_536;
-
-/// Hears the lines of a berth, one after the other, until the core says Stop, or memory is wanted.
-/// Then it halts. `mine` of the pass that it gives back has, line after line, its Take, the answers
-/// that the bytes of its tap spell in this speech, in order, and its Ended.
-pub fn run<B: Berth, P: Place, C: Rules, R: Wait>(
-    rt: &R,
-    alloc: Global,
-    desk: &Desk<Bench<B, P, C>>,
-    bells: &Bells,
-    pass: Pass<Bench<B, P, C>>,
-    berth: u32,
-    speech: Speech,
-) -> TapEnd<B, P, C>
-    requires desk { IsPassOf desk.now pass }
-    requires lane { (pass.lane ≡ tap_lane berth) × (berth < C.seats (basis pass)) }
-    requires bell { pass.lane < bells.now }
-    requires fresh { mine pass ≡ [] }
-    ensures same { IsSamePass pass result.pass }
-    ensures ends { LaneEnds speech pass.lane result.halted
-        (map (back_by B.Tap.told) result.taps.items) (mine result.pass) }
-{
-    let mut caller = Caller::new(desk, bells, pass, 2 * berth + 1);
-    let mut taps = Vec::new(alloc);
-    let mut piece = [0u8; PIECE];
-    let halted = match hear_lines(rt, alloc, &mut caller, speech, &mut piece, &mut taps) {
-        Ok(()) => None,
-        Err(want) => {
-            halt(rt, &mut caller);
-            Some(want)
-        }
-    };
-    let pass = caller.into_pass();
-    LaneEnd { pass, taps, halted }
+/// The tap lane of a berth, from its first call to its last.
+pub(crate) struct TapLane<'a, M: Machine> {
+    pub(crate) alloc: Global,
+    /// What the berth's lines speak.
+    pub(crate) speech: Speech,
+    pub(crate) caller: Caller<'a, M>,
 }
 
-// Hears line after line, until the lane is told to stop.
-fn hear_lines<B: Berth, P: Place, C: Rules, R: Wait>(
-    rt: &R,
-    alloc: Global,
-    caller: &mut Caller<Bench<B, P, C>>,
-    speech: Speech,
-    piece: &mut [u8],
-    taps: &mut Vec<EndedTap<B::Tap>>,
-) -> Result<(), Want>
-    requires lane { IsTapLane (C.seats (basis caller.old.pass)) caller.old.pass.lane }
-    requires fresh { (mine caller.old.pass ≡ []) × (taps.old.items ≡ []) }
-    requires piece { 0 < length piece.old }
-    ensures same { IsSamePass caller.old.pass caller.new.pass }
-    ensures ok { OnOk result (LaneEnds speech caller.old.pass.lane None
-        (map (back_by B.Tap.told) taps.new.items) (mine caller.new.pass)) }
-    ensures err { IfErr result (ToHalt speech caller.old.pass.lane
-        (map (back_by B.Tap.told) taps.new.items) (mine caller.new.pass)) }
-{
-    for _ in rt.forever() {
-        if taps.reserve(1).is_err() {
-            return Err(Want::Line);
-        }
-        match take(rt, caller) {
-            Ok(Took::Line(line, mut tap)) => {
-                let heard = hear(rt, alloc, caller, line, speech, piece, &mut tap);
-                taps.push_reserved(EndedTap { line, tap });
-                heard?;
+impl<'a, B: Berth, P: Place, C: Rules> TapLane<'a, Bench<B, P, C>> {
+    /// Hears line after line, until the lane is told to stop, or memory is wanted. Then it halts.
+    pub(crate) fn hear_all<R: Wait>(&mut self, rt: &R) -> TapLeft<B::Tap>
+        requires free { IsAt C.terms Free self.old }
+        requires fresh { own self.old ≡ [] }
+        ensures same { IsSameLane self.old self.new }
+        ensures ends { LaneEnds self.old.speech (number self.old) result.halted
+            (map (back_by B.Tap.told) result.taps.items) (own self.new) }
+    {
+        let mut taps = Vec::new(self.alloc);
+        let halted = match self.hear_lines(rt, &mut taps) {
+            Ok(()) => None,
+            Err(want) => {
+                self.halt(rt);
+                Some(want)
             }
-            Ok(Took::Stop) => return Ok(()),
-            Err(NoMemory) => return Err(Want::Line),
-        }
+        };
+        TapLeft { taps, halted }
     }
-    unreachable!()
+
+    // Hears line after line, until the lane is told to stop.
+    fn hear_lines<R: Wait>(&mut self, rt: &R, taps: &mut Vec<EndedTap<B::Tap>>) -> Result<(), Want>
+        requires free { IsAt C.terms Free self.old }
+        requires fresh { (own self.old ≡ []) × (taps.old.items ≡ []) }
+        ensures same { IsSameLane self.old self.new }
+        ensures ok { OnOk result (LaneEnds self.old.speech (number self.old) None
+            (map (back_by B.Tap.told) taps.new.items) (own self.new)) }
+        ensures err { IfErr result (ToHalt self.old.speech (number self.old)
+            (map (back_by B.Tap.told) taps.new.items) (own self.new)) }
+    {
+        for _ in rt.forever() {
+            if taps.reserve(1).is_err() {
+                return Err(Want::Line);
+            }
+            match self.take(rt) {
+                Ok(Took::Line(line, mut tap)) => {
+                    let heard = self.hear(rt, line, &mut tap);
+                    taps.push_reserved(EndedTap { line, tap });
+                    heard?;
+                }
+                Ok(Took::Stop) => return Ok(()),
+                Err(NoMemory) => return Err(Want::Line),
+            }
+        }
+        unreachable!()
+    }
 }

@@ -8,6 +8,7 @@ mod calls;
 mod ends;
 mod hearing;
 mod lane;
+mod seat;
 
-pub use ends::{EndedTap, LaneEnd, TapEnd, Want};
-pub use lane::run;
+pub use ends::{EndedTap, TapLeft, Want};
+pub use seat::TapSeat;

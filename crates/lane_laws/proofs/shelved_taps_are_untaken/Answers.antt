@@ -8,13 +8,13 @@ returns g c q h w l good there =
     let law = g.met.C.Rules in
     untaken (g.C.Rules.legal q) (g.C.Rules.rule q)
     (λ h e l. law.legal_before q h e l) (λ h lane c. law.replies q h lane c)
-    (g.C.Rules.outputs q) (g.C.Rules.makers q) (g.C.Rules.remote q)
-    (λ h w c scripted. law.proxies_do_only q h w c scripted) (g.C.Rules.seats q) h good
+    (g.C.Rules.terms q)
+    (λ h w c scripted. law.proxies_do_only q h w c scripted) (g.C.Rules.terms q).berths h good
     (started_apart (g.C.Rules.legal q) (g.C.Rules.rule q)
     (λ h e l. law.legal_before q h e l) (λ h lane c. law.replies q h lane c)
-    (g.C.Rules.actions q) (g.C.Rules.outputs q) (g.C.Rules.makers q) (g.C.Rules.remote q)
+    (g.C.Rules.terms q)
     (λ h w c scripted. law.proxies_do_only q h w c scripted)
-    (λ h lane good. law.orders_hold q h lane good) (g.C.Rules.seats q) h good)
+    (λ h lane good. law.orders_hold q h lane good) (g.C.Rules.terms q).berths h good)
     (λ v. tapped (g.C.Rules.legal q) (g.C.Rules.rule q)
     (λ h e l. law.legal_before q h e l) (λ h lane c. law.replies q h lane c)
     (λ h lane l good scripted. law.lines_find_room q h lane l good scripted)

@@ -2,15 +2,16 @@ use Rattle.std.proofs.Common.{refl, List, true, false}
 use Rattle.exec_journal.specs.declared.call.Answer.{Answer}
 use Rattle.answer_reader.specs.Says.{Hears, SaysFirst}
 use Rattle.answer_reader.proofs.Speeches.{says_first}
+use Rattle.core_contract.specs.Laws as laws
 use Rattle.tap_lane.specs.Heard.{AfterAll}
 use Rattle.tap_lane.proofs.Goings.{went_none, went_so, went_one, always_err, not_ok}
-use Rattle.tap_lane.proofs.Passing.{same_then, lane_still}
-use Rattle.tap_lane.proofs.hearing.tell_all.Goals as goal
+use Rattle.tap_lane.proofs.Passing.{same_now, same_then, now_at}
+use Rattle.tap_lane.proofs.hearing.TapLane+Bench+B+P+C.tell_all.Goals as goal
 
 pub loop-init : goal.loop-init
 loop-init g c = record {
-  same = (refl, refl, refl);
-  hears = c.requires.hears;
+  same = same_now c.args.self.now;
+  hears = c.requires;
   went = λ s fed answers x. went_none c.args.line answers _ _ _ refl x;
 }
 
@@ -27,9 +28,10 @@ loop-preserved-in-Continue-branch-3 g c =
     let told = c.in_ok-tell_answer-in-Answer.ensures.ok in
     let gave = rw (c.in-Answer.is) at (c.in_ok-answer.ensures.ok) in
     record {
-      same = same_then c.args.caller.now.pass c.loop.caller.pass c.tell_answer.new.caller.pass i.same
+      same = same_then c.args.self.now c.loop.self c.tell_answer.new.self i.same
           c.tell_answer.ensures.same;
-      hears = told.3;
+      hears = now_at g.C.Rules.terms (laws.Hears c.args.line) (laws.Hears c.args.line) c.loop.self
+          c.tell_answer.new.self c.tell_answer.ensures.same i.hears told.3;
       went = λ s fed answers x. went_one c.args.line answers _ _ _
           (λ (xs : List Answer). Hears s fed xs c.loop.reader) _ told.0 c.in-Answer.answer told.2
           told.1 (λ xs y. gave s fed xs y) (i.went s fed answers x);
@@ -72,19 +74,14 @@ returns-in_err-tell_answer-in-Answer-clause-ok g c =
     let given = c.from_residual-in_err-tell_answer-in-Answer in
     not_ok given.result _ given.ensures.0
 
-pub tell_answer-requires-clause-lane : goal.tell_answer-requires-clause-lane
-tell_answer-requires-clause-lane g c =
-    lane_still g.C.Rules.seats c.args.caller.now.pass c.loop.caller.pass c.loop.invariant.same
-    c.requires.lane
-
-pub tell_answer-requires-clause-hears : goal.tell_answer-requires-clause-hears
-tell_answer-requires-clause-hears g c = c.loop.invariant.hears
+pub tell_answer-requires : goal.tell_answer-requires
+tell_answer-requires g c = c.loop.invariant.hears
 
 pub returns-in_err-tell_answer-in-Answer-clause-same :
     goal.returns-in_err-tell_answer-in-Answer-clause-same
 returns-in_err-tell_answer-in-Answer-clause-same g c =
-    same_then c.args.caller.now.pass c.loop.caller.pass c.tell_answer.new.caller.pass
-    c.loop.invariant.same c.tell_answer.ensures.same
+    same_then c.args.self.now c.loop.self c.tell_answer.new.self c.loop.invariant.same
+    c.tell_answer.ensures.same
 
 pub returns-in-NotYet-clause-ok : goal.returns-in-NotYet-clause-ok
 returns-in-NotYet-clause-ok g c =
