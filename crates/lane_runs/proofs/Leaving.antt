@@ -25,9 +25,9 @@ use Rattle.tap_lane.specs.declared.ends.EndedTap.{EndedTap}
 use Rattle.tap_lane.specs.declared.ends.Want.{Want}
 use Rattle.tap_lane.specs.Heard.{back_by}
 use Rattle.tap_lane.specs.Lane.{LaneEnds}
-use Rattle.berth_lanes.specs.declared.proxies.ProxyLeft.{ProxyLeft}
-use Rattle.berth_lanes.specs.declared.taps.TapLeft.{TapLeft}
-use Rattle.berth_lanes.specs.Ran.{BerthRan, EachBerthRan}
+use Rattle.lane_runs.specs.Seats.{ProxyLeft}
+use Rattle.tap_lane.specs.declared.ends.TapLeft.{TapLeft}
+use Rattle.lane_runs.specs.Ran.{EachBerthRan}
 use Rattle.lane_runs.specs.BerthHalves.{BerthLines, IsMatched, all_feed_lines, feed_lines}
 use Rattle.lane_laws.specs.Taps.{started_at, taken_in}
 use Rattle.lane_laws.specs.Lines.{started_from}

@@ -1,3 +1,5 @@
+mod Seating
+mod Running
 mod Parting
 mod Laying
 mod Leaving

@@ -1,14 +1,14 @@
 -- The ends of one berth more.
-use Rattle.std.proofs.Common.{◌≡◌, ℕ, ◌<◌, length, map, drop, arith, List, [], ◌∷◌, ◌++◌, Option, refl, sym, ap, subst, ◌∙◌, append_assoc, append-nil, All}
+use Rattle.std.proofs.Common.{◌≡◌, ℕ, ◌<◌, length, drop, arith, List, [], ◌∷◌, ◌++◌, Option, refl, sym, ap, subst, ◌∙◌, append_assoc, append-nil, All}
 use Rattle.std.proofs.lemmas.List.Elements.{All-nil, All-cons, All-head, All-tail}
 use Rattle.lane_crew.specs.declared.pair.OfTwo.{OfTwo}
 use Rattle.lane_crew.specs.declared.pair.OfTwo.TheVariants.{First, Second}
 use Rattle.proxy_steps.specs.declared.hands.EndedFeed.{EndedFeed}
-use Rattle.berth_lanes.specs.declared.proxies.ProxyLeft.{ProxyLeft}
-use Rattle.berth_lanes.specs.declared.taps.TapLeft.{TapLeft}
+use Rattle.lane_runs.specs.Seats.{ProxyLeft}
+use Rattle.tap_lane.specs.declared.ends.TapLeft.{TapLeft}
 use Rattle.lane_runs.specs.declared.halves.EndedLine.{EndedLine}
 use Rattle.lane_runs.specs.declared.halves.Halves.{Halves}
-use Rattle.lane_runs.specs.BerthHalves.{AreInside, BerthLines, IsMatched, feed_lines, halves_of, all_halves, all_feed_lines}
+use Rattle.lane_runs.specs.BerthHalves.{AreInside, BerthLines, IsInside, IsMatched, feed_lines, halves_of, all_halves, all_feed_lines}
 use Rattle.lane_runs.specs.Apart.{Alternate, BeginsWithTwo, lines_left, berths_of, lefts_of, unsaid_of}
 use Rattle.lane_runs.specs.Placed.{Numbered, placed_all}
 use Rattle.lane_runs.proofs.Matching.{halves_at, numbers_at, same_many}
@@ -97,13 +97,13 @@ module _ {B D T K : Type 0} where
     now = subst (λ (o : List (OfTwo (ProxyLeft B D K) (TapLeft T))). Parting every (s ∷ slots') all o berths unsaid before lines) f
         (subst (λ (o : List (Option T)). Parting every o all ends berths unsaid before lines) e was)
 
-    pub next_matched : IsMatched here
-    next_matched = All-head IsMatched here rest now.inside.matched
-
-    pub next_below : All (λ l. l < length lines) (feed_lines here)
-    next_below = subst (λ (n : ℕ). All (λ l. l < n) (feed_lines here))
-        (sym (same_many before lines now.numbers))
-        (all_front (λ l. l < length before) (feed_lines here) (all_feed_lines rest) now.inside.below)
+    pub next_fits : IsInside (length lines) here
+    next_fits = record {
+      matched = All-head IsMatched here rest now.inside.matched;
+      below = subst (λ (n : ℕ). All (λ l. l < n) (feed_lines here))
+          (sym (same_many before lines now.numbers))
+          (all_front (λ l. l < length before) (feed_lines here) (all_feed_lines rest) now.inside.below);
+    }
 
     pub parts_one : (berths' : List B) (unsaid' : List (Option (EndedFeed D K)))
         (lines' : List (EndedLine D T K)) → berths' ≡ berths ++ x.berth ∷ []

@@ -32,7 +32,7 @@ use Rattle.proxy_deeds.specs.declared.cause.Cause.{Cause}
 use Rattle.proxy_deeds.specs.Deeds.{Deed}
 use Rattle.proxy_deeds.specs.Ends.{Ends}
 use Rattle.proxy_deeds.specs.Lines as deeds
-use Rattle.proxy_deeds.specs.Lines.{started_in, listed}
+use Rattle.proxy_deeds.specs.Lines.{listed}
 use Rattle.proxy_steps.specs.declared.hands.EndedFeed.{EndedFeed}
 use Rattle.proxy_steps.specs.Lanes.{back_of}
 use Rattle.proxy_steps.specs.Steps.{Ended}

@@ -1,5 +1,5 @@
 -- From what the lanes leave to the whole run.
-use Rattle.std.proofs.Common.{◌≡◌, ℕ, zero, suc, ◌+◌, ◌<◌, List, [], ◌∷◌, ◌++◌, length, map, Option, Some, None, refl, sym, ap, subst, ◌∙◌, arith, All}
+use Rattle.std.proofs.Common.{◌≡◌, ℕ, zero, suc, ◌+◌, ◌^◌, ◌<◌, Bool, List, [], ◌∷◌, ◌++◌, length, map, Option, Some, None, refl, sym, ap, subst, ◌∙◌, arith, All}
 use Rattle.std.specs.Prelude.{option_map, get_or, slice_get, slice_index_or}
 use Rattle.std.proofs.lemmas.List.{length-map}
 use Rattle.std.proofs.lemmas.Option.{slice_get-map}
@@ -14,6 +14,7 @@ use Rattle.lane_laws.specs.Lanes.{EndedHaveLeft}
 use Rattle.lane_runs.specs.Placed.{Numbered}
 use Rattle.lane_laws.specs.Numbers.{In, Distinct}
 use Rattle.lane_laws.specs.Numbers.{concat}
+use Rattle.core_contract.specs.Terms.{Terms}
 use Rattle.core_contract.specs.Moves.{History}
 use Rattle.core_contract.specs.Shelf.{Spot, Fresh, Away, Back, tap_at, place_at}
 use Rattle.core_contract.specs.Duties.{proxy_lane}
@@ -23,9 +24,9 @@ use Rattle.core_bench.specs.Objects.{AreFresh, IsPlaceAt}
 use Rattle.proxy_deeds.specs.declared.post.Post.{Post}
 use Rattle.proxy_steps.specs.declared.hands.EndedFeed.{EndedFeed}
 use Rattle.proxy_steps.specs.Lanes.{back_of}
-use Rattle.berth_lanes.specs.declared.proxies.ProxyLeft.{ProxyLeft}
-use Rattle.berth_lanes.specs.declared.taps.TapLeft.{TapLeft}
-use Rattle.berth_lanes.specs.Ran.{EachBerthRan}
+use Rattle.lane_runs.specs.Seats.{AreSeats, ProxyLeft}
+use Rattle.tap_lane.specs.declared.ends.TapLeft.{TapLeft}
+use Rattle.lane_runs.specs.Ran.{EachBerthRan}
 use Rattle.lane_runs.specs.BerthHalves.{BerthLines, IsMatched, all_feed_lines, all_halves}
 use Rattle.lane_runs.specs.declared.halves.EndedLine.{EndedLine}
 use Rattle.lane_runs.specs.declared.halves.Halves.{Halves}
@@ -42,25 +43,33 @@ use Rattle.run_plan.specs.declared.plan.Speech.{Speech}
 use Rattle.lane_runs.specs.declared.layout.Laid.{Laid}
 use Rattle.lane_runs.specs.Apart.{Alternate, lefts_of}
 use Rattle.lane_runs.specs.Laws.{HistoryLaws}
-use Rattle.lane_runs.specs.Layout.{AllThere, AreFit, IsLaid}
+use Rattle.lane_runs.specs.Layout.{AllThere, AreFit, IsLaid, MayBeLaid}
+use Rattle.lane_runs.specs.Blanks.{IsBlankFor}
+use Rattle.lane_runs.specs.declared.blank.Blank.{Blank}
+use Rattle.lane_runs.specs.declared.proxies.ProxySeat.{ProxySeat}
+use Rattle.tap_lane.specs.declared.seat.TapSeat.{TapSeat}
+use Rattle.run_plan.specs.declared.plan.Maker.{Maker}
+use Rattle.seat_desk.specs.declared.machine.Machine.{Ghosts}
+use Rattle.lane_crew.specs.Seats.{EachLane}
+use Rattle.lane_runs.proofs.Running.{HasRan, each_berth}
 use Rattle.lane_runs.specs.Runs.{EndTold, end_of, line_at, laid_told, Pipe, Outs, Rooms, AreStopped, HasRun}
 use Rattle.lane_runs.proofs.Leaving.{Seen, Gathered, SlotsFrom, slots_from, gather, alternate, all_matched, all_started}
 use Rattle.lane_runs.proofs.Telling as telling
 
 -- ---- places
 
-module _ {P : Type 0} (place : P → PlaceTold) (outputs : ℕ → List (List ℕ)) (h : History) where
+module _ {P : Type 0} (place : P → PlaceTold) (terms : Terms) (h : History) where
   -- an empty slot is that of a place that is away
   none_is_away : (a : ℕ) (s : Spot) (o : Option P) → o ≡ None
-      → IsInSpot (IsPlaceOf place outputs a) s o → (fs : List (List ℕ)) × (s ≡ Away fs)
+      → IsInSpot (IsPlaceOf place terms a) s o → (fs : List (List ℕ)) × (s ≡ Away fs)
   none_is_away a (Away fs) o e is = (fs, refl)
   none_is_away a Fresh None e is = absurd is
   none_is_away a Fresh (Some p) e is = absurd (cc)
   none_is_away a (Back fs how) None e is = absurd is
   none_is_away a (Back fs how) (Some p) e is = absurd (cc)
 
-  some_tells : (a : ℕ) (s : Spot) (p : P) → IsInSpot (IsPlaceOf place outputs a) s (Some p)
-      → IsPlaceAt a (outputs a) s (place p)
+  some_tells : (a : ℕ) (s : Spot) (p : P) → IsInSpot (IsPlaceOf place terms a) s (Some p)
+      → IsPlaceAt a (terms.outputs a) s (place p)
   some_tells a (Away fs) p is = absurd (cc)
   some_tells a Fresh p is = is
   some_tells a (Back fs how) p is = is
@@ -72,10 +81,10 @@ module _ {P : Type 0} (place : P → PlaceTold) (outputs : ℕ → List (List �
       all_there slots (λ i lt e. f (suc i) (omega (arith, lt)) e)
   all_there (None ∷ slots) f = absurd (f 0 (omega arith) refl)
 
-  pub places_there : (actions : ℕ) (slots : List (Option P))
-      → PlacesLie place outputs actions h slots
+  pub places_there : (slots : List (Option P))
+      → PlacesLie place terms h slots
       → ((a : ℕ) (fs : List (List ℕ)) → place_at a h ≡ Away fs → ⊥) → AllThere slots
-  places_there actions slots lie back = all_there slots (λ i lt e.
+  places_there slots lie back = all_there slots (λ i lt e.
       let x = none_is_away i (place_at i h) (get_or slots i None) e
       (lie.each i (let many = lie.as_many in omega (arith, many, lt))) in
       back i x.0 x.1)
@@ -95,48 +104,48 @@ module _ {P : Type 0} (place : P → PlaceTold) (outputs : ℕ → List (List �
   from_some None p e = absurd (cc)
   from_some (Some x) p e = (x, refl, let q : place x ≡ p = cc in q)
 
-  pub outs : (actions : ℕ) (slots : List (Option P)) (places : List P)
-      → PlacesLie place outputs actions h slots → slots ≡ map Some places
-      → Outs outputs actions h (map place places)
-  outs actions slots places lie are = record {
+  pub outs : (slots : List (Option P)) (places : List P)
+      → PlacesLie place terms h slots → slots ≡ map Some places
+      → Outs terms.outputs terms.actions h (map place places)
+  outs slots places lie are = record {
     as_many = length-map places place ∙ (sym (length-map places Some) ∙ (sym (ap length are) ∙ lie.as_many));
     each = λ a p e.
         let x = from_some (slice_get places a) p (sym (slice_get-map place places a) ∙ e) in
         let lt = below places a x.0 x.1 in
         let many = lie.as_many in
         let same : length slots ≡ length places = ap length are ∙ length-map places Some in
-        subst (λ (t : PlaceTold). IsPlaceAt a (outputs a) (place_at a h) t) x.2
+        subst (λ (t : PlaceTold). IsPlaceAt a (terms.outputs a) (place_at a h) t) x.2
         (some_tells a (place_at a h) x.0
-        (subst (λ (o : Option P). IsInSpot (IsPlaceOf place outputs a) (place_at a h) o)
+        (subst (λ (o : Option P). IsInSpot (IsPlaceOf place terms a) (place_at a h) o)
         (ap (λ (l : List (Option P)). get_or l a None) are ∙ got places a x.0 x.1)
         (lie.each a (omega (arith, lt, many, same)))));
   }
 
 -- the places of a bench that no lane has called
-module _ {P : Type 0} (place : P → PlaceTold) (outputs : ℕ → List (List ℕ)) where
-  pub all_lie : (actions : ℕ) (slots : List (Option P)) → PlacesLie place outputs actions [] slots
+module _ {P : Type 0} (place : P → PlaceTold) (terms : Terms) where
+  pub all_lie : (slots : List (Option P)) → PlacesLie place terms [] slots
       → AllThere slots
-  all_lie actions slots lie = places_there place outputs [] actions slots lie (λ a fs e. absurd (cc))
+  all_lie slots lie = places_there place terms [] slots lie (λ a fs e. absurd (cc))
 
-  fresh_at : (actions : ℕ) (slots : List (Option P)) (places : List P)
-      → PlacesLie place outputs actions [] slots → slots ≡ map Some places → (a : ℕ) (p : P)
-      → slice_get places a ≡ Some p → IsPlaceAt a (outputs a) Fresh (place p)
-  fresh_at actions slots places lie are a p e =
-      let lt = below place outputs [] places a p e in
+  fresh_at : (slots : List (Option P)) (places : List P)
+      → PlacesLie place terms [] slots → slots ≡ map Some places → (a : ℕ) (p : P)
+      → slice_get places a ≡ Some p → IsPlaceAt a (terms.outputs a) Fresh (place p)
+  fresh_at slots places lie are a p e =
+      let lt = below place terms [] places a p e in
       let many = lie.as_many in
       let same : length slots ≡ length places = ap length are ∙ length-map places Some in
-      some_tells place outputs [] a Fresh p
-      (subst (λ (o : Option P). IsInSpot (IsPlaceOf place outputs a) Fresh o)
-      (ap (λ (l : List (Option P)). get_or l a None) are ∙ got place outputs [] places a p e)
+      some_tells place terms [] a Fresh p
+      (subst (λ (o : Option P). IsInSpot (IsPlaceOf place terms a) Fresh o)
+      (ap (λ (l : List (Option P)). get_or l a None) are ∙ got place terms [] places a p e)
       (lie.each a (omega (arith, lt, many, same))))
 
-  pub are_fresh : (actions : ℕ) (slots : List (Option P)) (places : List P)
-      → PlacesLie place outputs actions [] slots → slots ≡ map Some places
-      → AreFresh place actions places
-  are_fresh actions slots places lie are = record {
+  pub are_fresh : (slots : List (Option P)) (places : List P)
+      → PlacesLie place terms [] slots → slots ≡ map Some places
+      → AreFresh place terms.actions places
+  are_fresh slots places lie are = record {
     as_many = sym (length-map places Some) ∙ (sym (ap length are) ∙ lie.as_many);
-    numbers = λ a p e. (fresh_at actions slots places lie are a p e).of_action;
-    unwritten = λ a p e. (fresh_at actions slots places lie are a p e).wrote;
+    numbers = λ a p e. (fresh_at slots places lie are a p e).of_action;
+    unwritten = λ a p e. (fresh_at slots places lie are a p e).wrote;
   }
 
 -- ---- lines
@@ -178,15 +187,15 @@ module _ {B D T K : Type 0} (berth : B → BerthTold) (feed : D → FeedTold) (t
   ran_left left w [] (p ∷ ps) ends ran i lt = absurd ran
   ran_left left w (b ∷ bs) [] ends ran i lt = absurd ran
 
-module _ {Q B D T K P : Type 0} (legal : Q → History → Type 0) (seats : Q → ℕ)
-    (rule : Q → History → ℕ → Call → Reply) (outputs : Q → ℕ → List (List ℕ)) (actions : Q → ℕ)
+module _ {Q B D T K P : Type 0} (legal : Q → History → Type 0) (terms : Q → Terms)
+    (rule : Q → History → ℕ → Call → Reply)
     (berth : B → BerthTold) (feed : D → FeedTold) (tap : T → TapTold) (child : K → ChildTold)
-    (place : P → PlaceTold) (laws : HistoryLaws legal seats) (q : Q) (h : History)
+    (place : P → PlaceTold) (laws : HistoryLaws legal terms) (q : Q) (h : History)
     (good : legal q h) (posts : List Post) (work : List WorkAction) (olds : List B)
     (ends : List (OfTwo (ProxyLeft B D K) (TapLeft T))) (slots : List (Option T))
-    (many : length posts ≡ seats q)
+    (many : length posts ≡ (terms q).berths)
     (ran : EachBerthRan berth feed tap child (rule q) work h 0 olds posts ends)
-    (lie : TapsLie tap (seats q) h slots) where
+    (lie : TapsLie tap (terms q) h slots) where
   in_slots : SlotsFrom berth feed tap child (rule q) work h 0 slots
   in_slots = slots_from berth feed tap child (rule q) work h 0 slots (λ i lt.
       subst (λ (v : ℕ). IsOf (IsTapOf tap) (tap_at v h) (get_or slots i None)) (let e : i ≡ 0 + i = omega arith in e)
@@ -202,7 +211,7 @@ module _ {Q B D T K P : Type 0} (legal : Q → History → Type 0) (seats : Q �
   gathered = gather berth feed tap child (rule q) work h 0 olds posts ends slots ran in_slots as_many
 
   as_many_seen : (g : Gathered berth feed tap child (rule q) work h 0 posts olds slots ends)
-      → length g.seen ≡ seats q
+      → length g.seen ≡ (terms q).berths
   as_many_seen g =
       sym (length-map g.seen (λ (s : Seen B D T K). s.post)) ∙ (sym (ap length g.posts_are) ∙ many)
 
@@ -220,7 +229,7 @@ module _ {Q B D T K P : Type 0} (legal : Q → History → Type 0) (seats : Q �
   are_fit =
       let g = gathered in
       let apart_all = laws.apart q h good in
-      let started : all_feed_lines (lefts_of slots ends) ≡ concat (started_from h 0 (seats q)) =
+      let started : all_feed_lines (lefts_of slots ends) ≡ concat (started_from h 0 (terms q).berths) =
       ap all_feed_lines g.lines_are
       ∙ (all_started berth feed tap child (rule q) work h 0 g.seen g.each
       ∙ ap (λ (n : ℕ). concat (started_from h 0 n)) (as_many_seen g)) in
@@ -236,17 +245,17 @@ module _ {Q B D T K P : Type 0} (legal : Q → History → Type 0) (seats : Q �
 
   -- all places lie there, as the proxy lanes have left
   pub places_are_there : (places : List (Option P))
-      → PlacesLie place (outputs q) (actions q) h places → AllThere places
+      → PlacesLie place (terms q) h places → AllThere places
   places_are_there places lying =
-      places_there place (outputs q) h (actions q) places lying
+      places_there place (terms q) h places lying
       (laws.places q h good (λ w lt.
       subst (λ (v : ℕ). HasLeft (calls_by (proxy_lane v) h)) (let z : 0 + w ≡ w = omega arith in z)
       (ran_left berth feed tap child (rule q) work h laws.left 0 olds posts ends ran w
       (omega (arith, lt, many)))))
 
   pub has_run : (places : List (Option P)) (laid : Laid B D T K P)
-      → PlacesLie place (outputs q) (actions q) h places → IsLaid h ends slots places laid
-      → HasRun (legal q) (rule q) (outputs q) (actions q) posts work (map berth olds)
+      → PlacesLie place (terms q) h places → IsLaid h ends slots places laid
+      → HasRun (legal q) (rule q) (terms q) posts work (map berth olds)
       (laid_told berth feed tap child place laid)
   has_run places laid lying is =
       let g = gathered in
@@ -299,7 +308,7 @@ module _ {Q B D T K P : Type 0} (legal : Q → History → Type 0) (seats : Q �
                 heard = f.2.2;
               });
         };
-        outs = outs place (outputs q) h (actions q) places laid.places.items lying is.places;
+        outs = outs place (terms q) h places laid.places.items lying is.places;
         halts = is.halts;
         stops = λ none w lt.
             let seen_many = as_many_seen g in
@@ -307,3 +316,65 @@ module _ {Q B D T K P : Type 0} (legal : Q → History → Type 0) (seats : Q �
             (telling.all_stopped berth feed tap child (rule q) work h laws.halts laws.by_lanes laws.left 0
             seen g.each none w (omega (arith, lt, many, seen_many)));
       }
+
+-- ---- at the plan of the core that was handed in
+
+module _ {M G Q B D T K P : Type 0} (g : Ghosts M Call Reply G Q) (legal : Q → History → Type 0)
+    (terms : Q → Terms) (rule : Q → History → ℕ → Call → Reply) (berth : B → BerthTold)
+    (feed : D → FeedTold) (tap : T → TapTold) (child : K → ChildTold) (place : P → PlaceTold)
+    (laws : HistoryLaws legal terms) where
+  -- what the crew leaves may be laid out, and then it is what the run leaves
+  pub record Crewed (q : Q) (h : History) (posts : List Post) (work : List WorkAction)
+      (olds : List B) (ends : List (OfTwo (ProxyLeft B D K) (TapLeft T))) (taps : List (Option T))
+      (places : List (Option P)) : Type 0 where
+    pub good : legal q h
+    pub as_many : length taps ≡ length posts
+    pub all_places : length places ≡ (terms q).actions
+    pub may : (blank : Blank B D T K P)
+        → IsBlankFor (length taps) (lines_in h) (length places) blank → lines_in h < 2 ^ 32
+        → MayBeLaid h ends taps places blank
+    pub run : (laid : Laid B D T K P) → IsLaid h ends taps places laid
+        → HasRun (legal q) (rule q) (terms q) posts work (map berth olds)
+        (laid_told berth feed tap child place laid)
+
+  crewed_at : (q : Q) (h : History) (posts : List Post) (work : List WorkAction) (olds : List B)
+      (ends : List (OfTwo (ProxyLeft B D K) (TapLeft T))) (taps : List (Option T))
+      (places : List (Option P)) → legal q h → length posts ≡ (terms q).berths
+      → EachBerthRan berth feed tap child (rule q) work h 0 olds posts ends
+      → TapsLie tap (terms q) h taps → PlacesLie place (terms q) h places
+      → Crewed q h posts work olds ends taps places
+  crewed_at q h posts work olds ends taps places good many ran lie lying = record {
+    good = good;
+    as_many = lie.as_many ∙ sym many;
+    all_places = lying.as_many;
+    may = λ blank room few. record {
+      room = room;
+      few = few;
+      alternate = in_turn legal terms rule berth feed tap child place laws q h good
+          posts work olds ends taps many ran lie;
+      fit = are_fit legal terms rule berth feed tap child place laws q h good posts
+          work olds ends taps many ran lie;
+      there = places_are_there legal terms rule berth feed tap child place laws q h
+          good posts work olds ends taps many ran lie places lying;
+    };
+    run = λ laid is. has_run legal terms rule berth feed tap child place laws q h
+        good posts work olds ends taps many ran lie places laid lying is;
+  }
+
+  -- the plan that the core has in the end is the one that it had
+  pub crewed : {q bench machine last : Q} {h : History} {posts : List Post} {work : List WorkAction}
+      {olds : List B} {ends : List (OfTwo (ProxyLeft B D K) (TapLeft T))} {taps : List (Option T)}
+      {places : List (Option P)} (lanes : List (OfTwo (ProxySeat B) TapSeat)) → bench ≡ q → machine ≡ bench → last ≡ machine
+      → length posts ≡ (terms q).berths → legal last h → TapsLie tap (terms last) h taps
+      → PlacesLie place (terms last) h places → AreSeats work 0 olds posts lanes
+      → EachLane (HasRan g terms rule berth feed tap child) bench h 0
+      lanes ends → Crewed q h posts work olds ends taps places
+  crewed {q} {bench} {machine} {last} {h} {posts} {work} {olds} {ends} {taps} {places} lanes e f k many good lie lying are ran =
+      let same : last ≡ q = k ∙ (f ∙ e) in
+      let each = each_berth g terms rule berth feed tap child bench h
+      work 0 olds posts lanes ends are ran in
+      crewed_at q h posts work olds ends taps places
+      (subst (λ (r : Q). legal r h) same good) many
+      (subst (λ (r : Q). EachBerthRan berth feed tap child (rule r) work h 0 olds posts ends) e each)
+      (subst (λ (r : Q). TapsLie tap (terms r) h taps) same lie)
+      (subst (λ (r : Q). PlacesLie place (terms r) h places) same lying)

@@ -2,8 +2,8 @@
 use Rattle.std.specs.Prelude.{◌≡◌, List, [], ◌∷◌, Option}
 use Rattle.lane_crew.specs.declared.pair.OfTwo.{OfTwo}
 use Rattle.lane_crew.specs.declared.pair.OfTwo.TheVariants.{First, Second}
-use Rattle.berth_lanes.specs.declared.proxies.ProxyLeft.{ProxyLeft}
-use Rattle.berth_lanes.specs.declared.taps.TapLeft.{TapLeft}
+use Rattle.lane_runs.specs.Seats.{ProxyLeft}
+use Rattle.tap_lane.specs.declared.ends.TapLeft.{TapLeft}
 use Rattle.proxy_steps.specs.declared.hands.EndedFeed.{EndedFeed}
 use Rattle.lane_runs.specs.BerthHalves.{BerthLines, berth_lines}
 

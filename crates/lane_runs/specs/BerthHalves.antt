@@ -52,6 +52,11 @@ module _ {D T K : Type 0} where
   abbrev pub all_feed_lines : List (BerthLines D T K) → List ℕ
   all_feed_lines berths = flat_map feed_lines berths
 
+  -- the berth's feeds have their taps, and its lines are among so many
+  pub record IsInside (count : ℕ) (b : BerthLines D T K) : Type 0 where
+    pub matched : IsMatched b
+    pub below : All (λ line. line < count) (feed_lines b)
+
   -- each berth's feeds have their taps, and all lines are among so many
   pub record AreInside (count : ℕ) (lines : List (BerthLines D T K)) : Type 0 where
     pub matched : All IsMatched lines

@@ -1,5 +1,6 @@
 -- What every history of a core says, in one record.
 use Rattle.std.specs.Prelude.{ℕ, ◌≤◌}
+use Rattle.core_contract.specs.Terms.{Terms}
 use Rattle.core_contract.specs.Laws.{lines_in}
 use Rattle.core_contract.specs.Moves.{History}
 use Rattle.lane_laws.specs.Pipes.{SaysWhatTapsTell, SilentUnlessGiven}
@@ -15,16 +16,16 @@ abbrev pub StandLegal : {S Q : Type 0} → (S → History → Type 0) → (S →
 StandLegal {S} {Q} stands plan legal = (m : S) (h : History) → stands m h → legal (plan m) h
 
 -- a legal history orders no more lines than there may be
-abbrev pub LinesFit : {Q : Type 0} → (Q → History → Type 0) → (Q → ℕ) → Type 0
-LinesFit {Q} legal line_room = (q : Q) (h : History) → legal q h → lines_in h ≤ line_room q
+abbrev pub LinesFit : {Q : Type 0} → (Q → History → Type 0) → (Q → Terms) → Type 0
+LinesFit {Q} legal terms = (q : Q) (h : History) → legal q h → lines_in h ≤ (terms q).line_room
 
 -- what the lanes' laws say of all of its histories
-pub record HistoryLaws {Q : Type 0} (legal : Q → History → Type 0) (seats : Q → ℕ) : Type 0 where
-  pub places : PlacesAreBack legal seats
+pub record HistoryLaws {Q : Type 0} (legal : Q → History → Type 0) (terms : Q → Terms) : Type 0 where
+  pub places : PlacesAreBack legal terms
   pub tapped : StartedAreTapped legal
   pub untaken : ShelvedAreUntaken legal
-  pub apart : StartedAreApart legal seats
-  pub known : OnlyKnownLanesSpeak legal seats
+  pub apart : StartedAreApart legal terms
+  pub known : OnlyKnownLanesSpeak legal terms
   pub says : SaysWhatTapsTell legal
   pub silent : SilentUnlessGiven legal
   pub taken : TakenAreTapped

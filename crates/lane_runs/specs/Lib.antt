@@ -1,4 +1,6 @@
 -- What contracts cite of a run of lanes.
+pub mod Seats
+pub mod Ran
 pub mod Placed
 pub mod Apart
 pub mod Blanks

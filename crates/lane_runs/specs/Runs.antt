@@ -8,6 +8,7 @@ use Rattle.exec_journal.specs.declared.reply.Reply.TheVariants as reply
 use Rattle.exec_journal.specs.Entry.{Entry}
 use Rattle.outside.specs.Told.{BerthTold, PlaceTold, FeedTold, TapTold, ChildTold, LineTold, line_told}
 use Rattle.remote_messages.specs.declared.work.WorkAction.{WorkAction}
+use Rattle.core_contract.specs.Terms.{Terms}
 use Rattle.core_contract.specs.Moves.{Past, History}
 use Rattle.core_contract.specs.Shelf.{place_at}
 use Rattle.core_contract.specs.Duties.{proxy_lane}
@@ -131,13 +132,13 @@ Stops berths h = has_halt h ≡ false → (w : ℕ) → w < berths → AreStoppe
 -- The one history of the run, by the rule of a core, and what its objects tell: whatever the lanes
 -- did is in it, and what is in it they did.
 pub record HasRun (legal : History → Type 0) (rule : History → ℕ → Call → Reply)
-    (outputs : ℕ → List (List ℕ)) (actions : ℕ) (posts : List Post) (work : List WorkAction)
+    (terms : Terms) (posts : List Post) (work : List WorkAction)
     (before : List BerthTold) (laid : LaidTold) : Type 0 where
   pub history : History
   pub in_journal : laid.journal ≡ history
   pub is_legal : legal history
   pub rooms : Rooms rule work history laid.lines 0 posts before laid.berths laid.unsaid
   pub pipes : Pipes posts history laid.lines
-  pub outs : Outs outputs actions history laid.places
+  pub outs : Outs terms.outputs terms.actions history laid.places
   pub halts : laid.halted ≡ has_halt history
   pub stops : Stops (length posts) history

@@ -8,10 +8,12 @@ ghost use Rattle.lane_runs.specs.Blanks.{HasRoom};
 
 use crate::halves::EndedLine;
 use crate::lines::put_halves;
-use berth_lanes::{ProxyLeft, TapLeft};
+use crate::proxies::ProxyLeft;
 use lane_crew::OfTwo;
+use proxy_lane::LaneEnd;
 use proxy_steps::EndedFeed;
 use std::collections::VecDeque;
+use tap_lane::TapLeft;
 
 /// Lays the ends of the lanes by, which stand berth by berth, with the tap that was left on the shelf
 /// for each: the berths, the lines that weren't reported, and the halves of all others at their
@@ -38,12 +40,14 @@ pub(crate) fn lay_berths<B: Drop, D: Drop, T: Drop, K: Drop>(
     let mut slots = VecDeque::from_vec(shelved);
     while let Some(slot) = slots.pop_front() {
         let (proxy, heard) = next_two(&mut rest);
-        let ProxyLeft {
+        let LaneEnd {
+            pass: _,
             berth,
             feeds,
             unsaid: line,
-            halted: _,
+            halted,
         } = proxy;
+        drop(halted);
         let TapLeft { taps, halted: _ } = heard;
         berths.push_reserved(berth);
         unsaid.push_reserved(line);

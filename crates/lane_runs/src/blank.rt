@@ -3,8 +3,8 @@ ghost use Rattle.std.specs.Prelude.{IfOk};
 ghost use Rattle.lane_runs.specs.Blanks.{IsBlankFor};
 
 use crate::halves::EndedLine;
-use proxy_steps::EndedFeed;
 use plain_values::NoMemory;
+use proxy_steps::EndedFeed;
 use std::alloc::Global;
 
 /// Empty lists, with room for what a run leaves. It is made before the lanes begin, so that what they

@@ -1,18 +1,18 @@
 //! What every history of a core says. The function does nothing: it is a law.
 ghost use Rattle.lane_runs.specs.Laws.{HistoryLaws, LinesFit, StandLegal};
 
+use core_contract::Rules;
 use lane_laws::{
     ended_lanes_have_left, ends_tell_halts, halts_are_by_lanes, history_says_what_taps_tell,
     lines_not_given_are_silent, only_known_lanes_speak, places_are_back, shelved_taps_are_untaken,
     started_lines_are_apart, started_lines_have_taps, taken_lines_have_taps,
 };
-use core_contract::Rules;
 
 /// What the laws of lanes that have ended, and of their taps, say of this kind of core.
 pub(crate) fn histories_say<C: Rules>()
-    ensures laws { HistoryLaws C.legal C.seats }
+    ensures laws { HistoryLaws C.legal C.terms }
     ensures stands { StandLegal C.stands C.plan C.legal }
-    ensures fit { LinesFit C.legal C.line_room }
+    ensures fit { LinesFit C.legal C.terms }
 {
     places_are_back::<C>();
     started_lines_have_taps::<C>();

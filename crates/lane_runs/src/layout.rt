@@ -1,21 +1,20 @@
 //! What a run leaves, laid out by number.
-ghost use Rattle.std.specs.Prelude.{◌≡◌, ◌<◌, ◌^◌, length, map, Some};
-ghost use Rattle.core_contract.specs.Laws.{lines_in};
-ghost use Rattle.lane_runs.specs.Apart.{Alternate, lefts_of};
-ghost use Rattle.lane_runs.specs.Layout.{AllThere, AreFit, IsLaid};
-ghost use Rattle.lane_runs.specs.Blanks.{HasRoom, IsBlankFor};
+ghost use Rattle.std.specs.Prelude.{◌≡◌, length, map, Some};
+ghost use Rattle.lane_runs.specs.Layout.{AllThere, IsLaid, MayBeLaid};
+ghost use Rattle.lane_runs.specs.Blanks.{HasRoom};
 
 use crate::berths::lay_berths;
 use crate::blank::Blank;
 use crate::halves::EndedLine;
 use crate::history::{has_halt, lines_ordered};
 use crate::lines::number_lines;
-use berth_lanes::{ProxyLeft, TapLeft};
+use crate::proxies::ProxyLeft;
 use exec_journal::{Entry, Journal};
 use lane_crew::OfTwo;
-use proxy_steps::EndedFeed;
 use outside::Berth;
+use proxy_steps::EndedFeed;
 use std::collections::VecDeque;
+use tap_lane::TapLeft;
 
 /// What a run of lanes leaves. The type has no bound: [`LaidOut`] names it by the outside.
 #[derive(Drop)]
@@ -47,12 +46,7 @@ pub(crate) fn lay_out<B: Drop, D: Drop, T: Drop, K: Drop, P: Drop>(
     taps: Vec<Option<T>>,
     places: Vec<Option<P>>,
 ) -> Laid<B, D, T, K, P>
-    requires room { IsBlankFor (length taps.items) (lines_in history.items) (length places.items)
-        blank }
-    requires few { lines_in history.items < 2 ^ 32 }
-    requires alternate { Alternate taps.items ends.items }
-    requires fit { AreFit (lines_in history.items) (lefts_of taps.items ends.items) }
-    requires there { AllThere places.items }
+    requires { MayBeLaid history.items ends.items taps.items places.items blank }
     ensures { IsLaid history.items ends.items taps.items places.items result }
 {
     let Blank {

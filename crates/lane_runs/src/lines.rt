@@ -1,7 +1,7 @@
 //! The lines of a run, by their numbers.
-ghost use Rattle.std.specs.Prelude.{◌≡◌, ◌∷◌, [], ◌<◌, ◌^◌, All, MatchOption, None, length, map, replicate};
+ghost use Rattle.std.specs.Prelude.{◌≡◌, ◌∷◌, [], ◌<◌, ◌^◌, MatchOption, None, length, map, replicate};
 ghost use Rattle.std.specs.List.{range_with_len};
-ghost use Rattle.lane_runs.specs.BerthHalves.{IsMatched, berth_lines, halves_of, taps_left};
+ghost use Rattle.lane_runs.specs.BerthHalves.{IsInside, berth_lines, halves_of, taps_left};
 ghost use Rattle.lane_runs.specs.Placed.{placed_all};
 ghost use Rattle.lane_runs.specs.Blanks.{HasRoom};
 
@@ -36,8 +36,7 @@ pub(crate) fn put_halves<D: Drop, T: Drop, K: Drop>(
     taps: Vec<EndedTap<T>>,
     shelved: Option<T>,
 )
-    requires matched { IsMatched (berth_lines feeds.items taps.items shelved) }
-    requires below { All (λ l. l < length lines.old.items) (map (λ x. x.line) feeds.items) }
+    requires { IsInside (length lines.old.items) (berth_lines feeds.items taps.items shelved) }
     ensures numbers { map (λ x. x.number) lines.new.items ≡ map (λ x. x.number) lines.old.items }
     ensures halves { map (λ x. x.halves) lines.new.items
         ≡ placed_all (map (λ x. x.halves) lines.old.items)
@@ -52,7 +51,8 @@ pub(crate) fn put_halves<D: Drop, T: Drop, K: Drop>(
             Some(tap) => tap,
             None => unreachable!(),
         };
-        lines[line as usize].halves = Some(Halves { feed, tap, child });
+        let halves = Halves { feed, tap, child };
+        drop(lines[line as usize].halves.replace(halves));
     }
 }
 

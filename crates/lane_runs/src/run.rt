@@ -1,32 +1,32 @@
 //! The lanes of all berths on threads.
 ghost use Rattle.std.specs.Prelude.{◌≡◌, ◌≤◌, [], length, map, IfOk, IfErr};
 ghost use Rattle.core_bench.specs.Objects.{AreFresh};
-ghost use Rattle.berth_lanes.specs.Seats.{PostsFit, berths_in};
+ghost use Rattle.lane_runs.specs.Seats.{PostsFit, berths_in};
 ghost use Rattle.proxy_steps.specs.Work.{IsWorkOf};
 ghost use Rattle.lane_runs.specs.Blanks.{HasRoom};
 ghost use Rattle.lane_runs.specs.Runs.{HasRun, laid_told};
 
 use crate::blank::Blank;
 use crate::histories::histories_say;
+use crate::lanes::{BerthLane, berths_of, lanes_of};
 use crate::layout::{LaidOut, all_there, lay_out};
-use berth_lanes::{BerthLane, berths_of, lanes_of};
-use lane_crew::{Crew, Unstarted, run_crew};
-use proxy_deeds::Post;
-use outside::{Berth, Place};
-use remote_messages::WorkAction;
 use core_bench::Bench;
 use core_contract::Rules;
+use lane_crew::{Crew, Unstarted, run_crew};
+use outside::{Berth, Place};
+use proxy_deeds::Post;
+use remote_messages::WorkAction;
 use seat_desk::Machine;
 use std::alloc::Global;
 use std::sync::Wait;
 use std::thread::Threads;
 
-/// What lanes were to work with, where none was started.
+/// What lanes are to work with, as long as none was started.
 #[derive(Drop)]
 pub struct Unrun<B, P> {
-    /// The berths, as they were.
+    /// The berths, one for each post.
     pub berths: Vec<B>,
-    /// The places, to which nothing was written.
+    /// The places, to which nothing was written, one for each action.
     pub places: Vec<P>,
 }
 
@@ -36,14 +36,13 @@ pub struct Unrun<B, P> {
 ///
 /// # Errors
 ///
-/// The berths and the places if there is no memory before the lanes. Then none was started, and the
-/// core is dropped.
+/// The berths, as they were, and the places, if there is no memory before the lanes. Then none was
+/// started, and the core is dropped.
 pub fn run_lanes<B: Berth, P: Place, C: Rules, R: Threads + Wait + Sync>(
     rt: &R,
     alloc: Global,
     core: C,
-    places: Vec<P>,
-    berths: Vec<B>,
+    unrun: Unrun<B, P>,
     posts: &[Post],
     actions: &[WorkAction],
 ) -> Result<LaidOut<B, P>, Unrun<B, P>>
@@ -55,22 +54,22 @@ where
     B::Tap: Send,
     B::Child: Send,
     requires core { C.stands core [] }
-    requires places { AreFresh P.told (C.actions (C.plan core)) places.items }
-    requires berths { length berths.items ≡ length posts.now }
-    requires seats { length posts.now ≡ C.seats (C.plan core) }
+    requires places { AreFresh P.told (C.terms (C.plan core)).actions unrun.places.items }
+    requires berths { length unrun.berths.items ≡ length posts.now }
+    requires seats { length posts.now ≡ (C.terms (C.plan core)).berths }
     requires few { length posts.now ≤ 64 }
-    requires posts { PostsFit (C.remote (C.plan core)) 0 posts.now }
-    requires work { IsWorkOf (C.actions (C.plan core)) (C.outputs (C.plan core))
-        (C.makers (C.plan core)) actions.now }
+    requires posts { PostsFit (C.terms (C.plan core)).remote 0 posts.now }
+    requires work { IsWorkOf (C.terms (C.plan core)) actions.now }
     ensures run { IfOk result (λ laid. HasRun (C.legal (C.plan core)) (C.rule (C.plan core))
-        (C.outputs (C.plan core)) (C.actions (C.plan core)) posts.now actions.now
-        (map B.told berths.items)
+        (C.terms (C.plan core)) posts.now actions.now
+        (map B.told unrun.berths.items)
         (laid_told B.told B.Feed.told B.Tap.told B.Child.told P.told laid)) }
-    ensures back { IfErr result (λ u. (u.berths.items ≡ berths.items)
-        × AreFresh P.told (C.actions (C.plan core)) u.places.items) }
+    ensures back { IfErr result (λ u. (u.berths.items ≡ unrun.berths.items)
+        × AreFresh P.told (C.terms (C.plan core)).actions u.places.items) }
 {
+    let Unrun { berths, places } = unrun;
     let lines = core.most_lines() as usize;
-    let Ok(blank) = Blank::new(alloc, berths.len(), lines, places.len()) else {
+    let Ok(blank) = Blank::new(alloc, posts.len(), lines, actions.len()) else {
         return Err(Unrun { berths, places });
     };
     let Ok(room) = Vec::with_capacity(alloc, 2 * posts.len()) else {
@@ -104,11 +103,11 @@ fn take_back<B: Berth, P: Place, C: Rules>(
 ) -> Unrun<B, P>
     requires stands { ⟦<Bench<B, P, C> as Machine>⟧.stands unstarted.machine [] }
     requires berths { HasRoom (length (berths_in unstarted.lanes.items)) blank.berths }
-    requires places { HasRoom (C.actions (⟦<Bench<B, P, C> as Machine>⟧.basis unstarted.machine))
-        blank.places }
+    requires places { HasRoom
+        (C.terms (⟦<Bench<B, P, C> as Machine>⟧.basis unstarted.machine)).actions blank.places }
     ensures berths { result.berths.items ≡ berths_in unstarted.entry.lanes.items }
     ensures places { AreFresh P.told
-        (C.actions (⟦<Bench<B, P, C> as Machine>⟧.basis unstarted.entry.machine))
+        (C.terms (⟦<Bench<B, P, C> as Machine>⟧.basis unstarted.entry.machine)).actions
         result.places.items }
 {
     let Blank {

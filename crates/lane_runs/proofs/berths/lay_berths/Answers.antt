@@ -1,5 +1,5 @@
-use Rattle.std.proofs.Common.{[], length, ap, arith}
-use Rattle.lane_runs.proofs.Parting.{none_left, begins, parts_none, parts_one, parts_all, next_matched, next_below}
+use Rattle.std.proofs.Common.{length, ap, arith}
+use Rattle.lane_runs.proofs.Parting.{none_left, begins, parts_none, parts_one, parts_all, next_fits}
 use Rattle.lane_runs.proofs.berths.lay_berths.Goals as goal
 
 pub loop-slot-init : goal.loop-slot-init
@@ -23,126 +23,17 @@ next_two-proxy-requires g c =
     loop.rest.items c.in-Some.slot loop.berths.items loop.unsaid.items c.args.lines.now.items
     loop.lines.items loop.invariant.parting c.in-Some.ensures.items
 
-pub put_halves-requires-clause-matched : goal.put_halves-requires-clause-matched
-put_halves-requires-clause-matched g c =
+pub put_halves-requires : goal.put_halves-requires
+put_halves-requires g c =
     let loop = c.loop-slot in
     let two = c.next_two-proxy in
-    next_matched c.args.shelved.items loop.slots.items c.pop_front.new.self.items c.args.ends.items
-    loop.rest.items two.new.ends.items c.in-Some.slot two.result.0 two.result.1 loop.berths.items
-    loop.unsaid.items c.args.lines.now.items loop.lines.items loop.invariant.parting
-    c.in-Some.ensures.items two.ensures
-
-pub put_halves-requires-clause-below : goal.put_halves-requires-clause-below
-put_halves-requires-clause-below g c =
-    let loop = c.loop-slot in
-    let two = c.next_two-proxy in
-    next_below c.args.shelved.items loop.slots.items c.pop_front.new.self.items c.args.ends.items
+    next_fits c.args.shelved.items loop.slots.items c.pop_front.new.self.items c.args.ends.items
     loop.rest.items two.new.ends.items c.in-Some.slot two.result.0 two.result.1 loop.berths.items
     loop.unsaid.items c.args.lines.now.items loop.lines.items loop.invariant.parting
     c.in-Some.ensures.items two.ensures
 
 pub loop-slot-preserved : goal.loop-slot-preserved
 loop-slot-preserved g c =
-    let loop = c.loop-slot in
-    let two = c.next_two-proxy in
-    let berth = c.push_reserved.ensures in
-    let line = c.push_reserved-in-Some.ensures in
-    let many = ap length c.in-Some.ensures.items in
-    let room = loop.invariant.room in
-    let unsaid_room = loop.invariant.unsaid_room in
-    record {
-      parting = parts_one c.args.shelved.items loop.slots.items c.pop_front.new.self.items
-          c.args.ends.items loop.rest.items two.new.ends.items c.in-Some.slot two.result.0 two.result.1
-          loop.berths.items loop.unsaid.items c.args.lines.now.items loop.lines.items
-          loop.invariant.parting c.in-Some.ensures.items two.ensures c.push_reserved.new.self.items
-          c.push_reserved-in-Some.new.self.items c.put_halves.new.lines.items berth.items line.items
-          c.put_halves.ensures.numbers c.put_halves.ensures.halves;
-      room = omega (arith, many, room, berth.len, berth.capacity);
-      unsaid_room = omega (arith, many, unsaid_room, line.len, line.capacity);
-    }
-
-pub loop-slot-preserved-in-Some : goal.loop-slot-preserved-in-Some
-loop-slot-preserved-in-Some g c =
-    let loop = c.loop-slot in
-    let two = c.next_two-proxy in
-    let berth = c.push_reserved.ensures in
-    let line = c.push_reserved-in-Some.ensures in
-    let many = ap length c.in-Some.ensures.items in
-    let room = loop.invariant.room in
-    let unsaid_room = loop.invariant.unsaid_room in
-    record {
-      parting = parts_one c.args.shelved.items loop.slots.items c.pop_front.new.self.items
-          c.args.ends.items loop.rest.items two.new.ends.items c.in-Some.slot two.result.0 two.result.1
-          loop.berths.items loop.unsaid.items c.args.lines.now.items loop.lines.items
-          loop.invariant.parting c.in-Some.ensures.items two.ensures c.push_reserved.new.self.items
-          c.push_reserved-in-Some.new.self.items c.put_halves.new.lines.items berth.items line.items
-          c.put_halves.ensures.numbers c.put_halves.ensures.halves;
-      room = omega (arith, many, room, berth.len, berth.capacity);
-      unsaid_room = omega (arith, many, unsaid_room, line.len, line.capacity);
-    }
-
-pub loop-slot-preserved-in-Some-2 : goal.loop-slot-preserved-in-Some-2
-loop-slot-preserved-in-Some-2 g c =
-    let loop = c.loop-slot in
-    let two = c.next_two-proxy in
-    let berth = c.push_reserved.ensures in
-    let line = c.push_reserved-in-Some.ensures in
-    let many = ap length c.in-Some.ensures.items in
-    let room = loop.invariant.room in
-    let unsaid_room = loop.invariant.unsaid_room in
-    record {
-      parting = parts_one c.args.shelved.items loop.slots.items c.pop_front.new.self.items
-          c.args.ends.items loop.rest.items two.new.ends.items c.in-Some.slot two.result.0 two.result.1
-          loop.berths.items loop.unsaid.items c.args.lines.now.items loop.lines.items
-          loop.invariant.parting c.in-Some.ensures.items two.ensures c.push_reserved.new.self.items
-          c.push_reserved-in-Some.new.self.items c.put_halves.new.lines.items berth.items line.items
-          c.put_halves.ensures.numbers c.put_halves.ensures.halves;
-      room = omega (arith, many, room, berth.len, berth.capacity);
-      unsaid_room = omega (arith, many, unsaid_room, line.len, line.capacity);
-    }
-
-pub loop-slot-preserved-in-Some-3 : goal.loop-slot-preserved-in-Some-3
-loop-slot-preserved-in-Some-3 g c =
-    let loop = c.loop-slot in
-    let two = c.next_two-proxy in
-    let berth = c.push_reserved.ensures in
-    let line = c.push_reserved-in-Some.ensures in
-    let many = ap length c.in-Some.ensures.items in
-    let room = loop.invariant.room in
-    let unsaid_room = loop.invariant.unsaid_room in
-    record {
-      parting = parts_one c.args.shelved.items loop.slots.items c.pop_front.new.self.items
-          c.args.ends.items loop.rest.items two.new.ends.items c.in-Some.slot two.result.0 two.result.1
-          loop.berths.items loop.unsaid.items c.args.lines.now.items loop.lines.items
-          loop.invariant.parting c.in-Some.ensures.items two.ensures c.push_reserved.new.self.items
-          c.push_reserved-in-Some.new.self.items c.put_halves.new.lines.items berth.items line.items
-          c.put_halves.ensures.numbers c.put_halves.ensures.halves;
-      room = omega (arith, many, room, berth.len, berth.capacity);
-      unsaid_room = omega (arith, many, unsaid_room, line.len, line.capacity);
-    }
-
-pub loop-slot-preserved-in-Some-4 : goal.loop-slot-preserved-in-Some-4
-loop-slot-preserved-in-Some-4 g c =
-    let loop = c.loop-slot in
-    let two = c.next_two-proxy in
-    let berth = c.push_reserved.ensures in
-    let line = c.push_reserved-in-Some.ensures in
-    let many = ap length c.in-Some.ensures.items in
-    let room = loop.invariant.room in
-    let unsaid_room = loop.invariant.unsaid_room in
-    record {
-      parting = parts_one c.args.shelved.items loop.slots.items c.pop_front.new.self.items
-          c.args.ends.items loop.rest.items two.new.ends.items c.in-Some.slot two.result.0 two.result.1
-          loop.berths.items loop.unsaid.items c.args.lines.now.items loop.lines.items
-          loop.invariant.parting c.in-Some.ensures.items two.ensures c.push_reserved.new.self.items
-          c.push_reserved-in-Some.new.self.items c.put_halves.new.lines.items berth.items line.items
-          c.put_halves.ensures.numbers c.put_halves.ensures.halves;
-      room = omega (arith, many, room, berth.len, berth.capacity);
-      unsaid_room = omega (arith, many, unsaid_room, line.len, line.capacity);
-    }
-
-pub loop-slot-preserved-in-Some-5 : goal.loop-slot-preserved-in-Some-5
-loop-slot-preserved-in-Some-5 g c =
     let loop = c.loop-slot in
     let two = c.next_two-proxy in
     let berth = c.push_reserved.ensures in

@@ -1,7 +1,8 @@
-use Rattle.std.proofs.Common.{◌≡◌, Some, get_or, length, set, rules, arith}
+use Rattle.std.proofs.Common.{◌≡◌, ◌∙◌, Option, ap, get_or, length, set, rules, arith}
 use Rattle.lane_runs.specs.declared.halves.EndedLine.{EndedLine}
+use Rattle.lane_runs.specs.declared.halves.Halves.{Halves}
 use Rattle.lane_runs.specs.BerthHalves.{berth_lines, halves_of, taps_left}
-use Rattle.lane_runs.proofs.Matching.{pairs_none, pairs_one, next_inside, put_numbers, put_halves, same_number}
+use Rattle.lane_runs.proofs.Matching.{halves_at, pairs_none, pairs_one, next_inside, put_numbers, put_halves, same_number}
 use Rattle.lane_runs.proofs.lines.put_halves.Goals as goal
 
 pub loop-ended-init : goal.loop-ended-init
@@ -20,25 +21,6 @@ index_mut-requires g c =
     let len : c.loop-ended.lines.len ≡ length c.loop-ended.lines.items = search rules in
     omega (arith, inside, len)
 
-pub loop-ended-preserved-in-Some-next_tap : goal.loop-ended-preserved-in-Some-next_tap
-loop-ended-preserved-in-Some-next_tap g c =
-    let loop = c.loop-ended in
-    let tap = c.in-Some-next_tap.tap in
-    let ended = c.in-Some.ended in
-    let line : EndedLine g.row.D.Denot g.row.T.Denot g.row.K.Denot = record {
-      number = c.index_mut.result.now.number;
-      halves = Some (record { feed = ended.feed; tap = tap; child = ended.child });
-    } in
-    pairs_one loop.feeds.items c.pop_front.new.self.items (taps_left loop.taps.items loop.shelved)
-    (taps_left c.next_tap.new.taps.items c.next_tap.new.shelved) ended tap c.args.lines.now.items
-    loop.lines.items (set loop.lines.items ended.line line)
-    (halves_of (berth_lines c.args.feeds.items c.args.taps.items c.args.shelved)) loop.invariant
-    c.in-Some.ensures.items c.in-Some-next_tap.ensures
-    (put_numbers loop.lines.items ended.line line c.index_mut.result.now
-    (same_number c.index_mut.result.now (get_or loop.lines.items ended.line c.index_mut.result.now)
-    c.index_mut.ensures.value))
-    (put_halves loop.lines.items ended.line line)
-
 pub loop-ended-preserved : goal.loop-ended-preserved
 loop-ended-preserved g c =
     let loop = c.loop-ended in
@@ -46,8 +28,11 @@ loop-ended-preserved g c =
     let ended = c.in-Some.ended in
     let line : EndedLine g.row.D.Denot g.row.T.Denot g.row.K.Denot = record {
       number = c.index_mut.result.now.number;
-      halves = Some (record { feed = ended.feed; tap = tap; child = ended.child });
+      halves = c.replace.new.self;
     } in
+    let put = put_halves loop.lines.items ended.line line
+    ∙ ap (λ (o : Option (Halves g.row.D.Denot g.row.T.Denot g.row.K.Denot)).
+    set (halves_at loop.lines.items) ended.line o) c.replace.ensures.after in
     pairs_one loop.feeds.items c.pop_front.new.self.items (taps_left loop.taps.items loop.shelved)
     (taps_left c.next_tap.new.taps.items c.next_tap.new.shelved) ended tap c.args.lines.now.items
     loop.lines.items (set loop.lines.items ended.line line)
@@ -55,5 +40,4 @@ loop-ended-preserved g c =
     c.in-Some.ensures.items c.in-Some-next_tap.ensures
     (put_numbers loop.lines.items ended.line line c.index_mut.result.now
     (same_number c.index_mut.result.now (get_or loop.lines.items ended.line c.index_mut.result.now)
-    c.index_mut.ensures.value))
-    (put_halves loop.lines.items ended.line line)
+    c.index_mut.ensures.value)) put

@@ -1,4 +1,4 @@
-use Rattle.std.proofs.Common.{length, map}
+use Rattle.std.proofs.Common.{length}
 use Rattle.lane_runs.specs.BerthHalves.{berth_lines, halves_of, taps_left}
 use Rattle.lane_runs.proofs.Matching.{Pairing}
 use Rattle.lane_runs.proofs.lines.put_halves.Given as goal

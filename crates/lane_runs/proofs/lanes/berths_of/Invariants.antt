@@ -1,6 +1,6 @@
 use Rattle.std.proofs.Common.{◌≡◌, ◌≤◌, ◌+◌, ◌++◌, length, vec_len, vec_capacity}
-use Rattle.berth_lanes.specs.Seats.{berths_in}
-use Rattle.berth_lanes.proofs.lanes.berths_of.Given as goal
+use Rattle.lane_runs.specs.Seats.{berths_in}
+use Rattle.lane_runs.proofs.lanes.berths_of.Given as goal
 
 -- The berths so far are there, and there is room for those that are left.
 abbrev pub invariant-loop-lane : goal.invariant-loop-lane

@@ -15,8 +15,8 @@ use Rattle.proxy_steps.specs.Lanes.{back_of}
 use Rattle.proxy_steps.specs.Steps.{Ended}
 use Rattle.tap_lane.specs.Heard.{back_by}
 use Rattle.tap_lane.specs.Lane.{LaneEnds}
-use Rattle.berth_lanes.specs.declared.proxies.ProxyLeft.{ProxyLeft}
-use Rattle.berth_lanes.specs.declared.taps.TapLeft.{TapLeft}
+use Rattle.lane_runs.specs.Seats.{ProxyLeft}
+use Rattle.tap_lane.specs.declared.ends.TapLeft.{TapLeft}
 
 -- by what berths, feeds, taps and children tell, by the rule of a core
 module _ {B D T K : Type 0} (berth : B → BerthTold) (feed : D → FeedTold) (tap : T → TapTold)

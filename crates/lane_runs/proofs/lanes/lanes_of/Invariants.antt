@@ -1,9 +1,9 @@
-use Rattle.std.proofs.Common.{◌≡◌, ◌≤◌, ℕ, ◌+◌, ◌-◌, ◌*◌, List, ◌++◌, length, drop, vec_len, vec_capacity}
+use Rattle.std.proofs.Common.{◌≡◌, ◌≤◌, ◌+◌, ◌-◌, ◌*◌, List, ◌++◌, length, drop, vec_len, vec_capacity}
 use Rattle.lane_crew.specs.declared.pair.OfTwo.{OfTwo}
-use Rattle.berth_lanes.specs.declared.proxies.ProxySeat.{ProxySeat}
-use Rattle.berth_lanes.specs.declared.taps.TapSeat.{TapSeat}
-use Rattle.berth_lanes.specs.Seats.{AreSeats}
-use Rattle.berth_lanes.proofs.lanes.lanes_of.Given as goal
+use Rattle.lane_runs.specs.declared.proxies.ProxySeat.{ProxySeat}
+use Rattle.tap_lane.specs.declared.seat.TapSeat.{TapSeat}
+use Rattle.lane_runs.specs.Seats.{AreSeats}
+use Rattle.lane_runs.proofs.lanes.lanes_of.Given as goal
 
 -- Whatever lanes the berths to come have, these stand before them.
 abbrev pub invariant-loop-post : goal.invariant-loop-post

@@ -1,6 +1,6 @@
 use Rattle.std.proofs.Common.{arith}
-use Rattle.berth_lanes.proofs.Seating.{next_post, as_many_still, seated_more, all_seated}
-use Rattle.berth_lanes.proofs.lanes.lanes_of.Goals as goal
+use Rattle.lane_runs.proofs.Seating.{next_post, as_many_still, seated_more, all_seated}
+use Rattle.lane_runs.proofs.lanes.lanes_of.Goals as goal
 
 pub returns : goal.returns
 returns g c =

@@ -5,8 +5,13 @@ use Rattle.lane_crew.specs.declared.pair.OfTwo.TheVariants.{First, Second}
 use Rattle.run_plan.specs.Groups.{is_remote}
 use Rattle.proxy_deeds.specs.declared.post.Post.{Post}
 use Rattle.remote_messages.specs.declared.work.WorkAction.{WorkAction}
-use Rattle.berth_lanes.specs.declared.proxies.ProxySeat.{ProxySeat}
-use Rattle.berth_lanes.specs.declared.taps.TapSeat.{TapSeat}
+use Rattle.proxy_lane.specs.declared.lane.LaneEnd.{LaneEnd}
+use Rattle.lane_runs.specs.declared.proxies.ProxySeat.{ProxySeat}
+use Rattle.tap_lane.specs.declared.seat.TapSeat.{TapSeat}
+
+-- what a proxy lane leaves beside its pass
+abbrev pub ProxyLeft : Type 0 → Type 0 → Type 0 → Type 0
+ProxyLeft B D K = LaneEnd (Unit {0}) B D K
 
 -- the tap lane of the berth w hears what its post says
 abbrev pub IsTapSeat : ℕ → Post → TapSeat → Type 0

@@ -1,10 +1,6 @@
-use Rattle.std.proofs.Common.{refl, ◌∙◌, ap, append_assoc, List, [], ◌∷◌, ◌++◌}
-use Rattle.lane_crew.specs.declared.pair.OfTwo.{OfTwo}
-use Rattle.lane_crew.specs.declared.pair.OfTwo.TheVariants.{First, Second}
-use Rattle.berth_lanes.specs.declared.proxies.ProxySeat.{ProxySeat}
-use Rattle.berth_lanes.specs.declared.taps.TapSeat.{TapSeat}
-use Rattle.berth_lanes.proofs.Seating.{two_more}
-use Rattle.berth_lanes.proofs.lanes.push_seats.Goals as goal
+use Rattle.std.proofs.Common.{refl}
+use Rattle.lane_runs.proofs.Seating.{two_more}
+use Rattle.lane_runs.proofs.lanes.push_seats.Goals as goal
 
 pub returns-clause-seats : goal.returns-clause-seats
 returns-clause-seats g c =

@@ -1,11 +1,11 @@
 -- From the seats of the berths to what each berth's lanes leave.
-use Rattle.std.proofs.Common.{◌≡◌, ℕ, ◌+◌, ◌*◌, ◌<◌, ◌≤◌, suc, List, [], ◌∷◌, length, map, refl, sym, ap, subst, ◌∙◌, arith}
-use Rattle.std.specs.Prelude.{slice_get, Some, Bool, true}
+use Rattle.std.proofs.Common.{◌≡◌, ℕ, ◌+◌, ◌*◌, ◌<◌, ◌≤◌, List, [], ◌∷◌, length, map, refl, sym, ap, subst, ◌∙◌, arith}
+use Rattle.std.specs.Prelude.{Bool}
 use Rattle.std.specs.Option.{option_map}
 use Rattle.seat_desk.specs.declared.machine.Machine.{Ghosts}
 use Rattle.seat_desk.specs.declared.desk.Pass.{Pass}
 use Rattle.seat_desk.specs.declared.desk.Desk.{Desk}
-use Rattle.seat_desk.specs.History.{calls_by, StartsWith}
+use Rattle.seat_desk.specs.History.{calls_by}
 use Rattle.seat_desk.specs.Passes.{IsPassOf, IsSamePass, mine, basis, seen}
 use Rattle.exec_journal.specs.declared.call.Call.{Call}
 use Rattle.exec_journal.specs.declared.reply.Reply.{Reply}
@@ -15,10 +15,10 @@ use Rattle.lane_crew.specs.Lanes.{IsFresh}
 use Rattle.lane_crew.specs.Pairs.{MayRunOfKind, HasRunOfKind}
 use Rattle.lane_crew.specs.Seats.{MayRun, MayRunInOrder, KeepsPasses, LaneEnds, EachLane}
 use Rattle.outside.specs.Told.{BerthTold, FeedTold, TapTold, ChildTold}
-use Rattle.run_plan.specs.declared.plan.Maker.{Maker}
 use Rattle.run_plan.specs.Groups.{is_remote}
 use Rattle.run_plan.specs.declared.plan.Speech.{Speech}
 use Rattle.remote_messages.specs.declared.work.WorkAction.{WorkAction}
+use Rattle.core_contract.specs.Terms.{Terms}
 use Rattle.core_contract.specs.Moves.{History}
 use Rattle.core_contract.specs.Duties.{proxy_lane}
 use Rattle.core_contract.specs.Laws.{tap_lane}
@@ -30,28 +30,27 @@ use Rattle.proxy_steps.specs.Steps.{Ended, IsServedBy}
 use Rattle.proxy_steps.specs.Work.{IsWorkOf}
 use Rattle.tap_lane.specs.Heard.{back_by}
 use Rattle.tap_lane.specs.Lane as tap
-use Rattle.berth_lanes.specs.declared.proxies.ProxySeat.{ProxySeat}
-use Rattle.berth_lanes.specs.declared.proxies.ProxyLeft.{ProxyLeft}
-use Rattle.berth_lanes.specs.declared.taps.TapSeat.{TapSeat}
-use Rattle.berth_lanes.specs.declared.taps.TapLeft.{TapLeft}
-use Rattle.berth_lanes.specs.Seats.{IsProxySeat, IsTapSeat, AreSeats, PostsFit}
-use Rattle.berth_lanes.specs.Ran.{BerthRan, EachBerthRan}
+use Rattle.lane_runs.specs.declared.proxies.ProxySeat.{ProxySeat}
+use Rattle.lane_runs.specs.Seats.{ProxyLeft}
+use Rattle.tap_lane.specs.declared.seat.TapSeat.{TapSeat}
+use Rattle.tap_lane.specs.declared.ends.TapLeft.{TapLeft}
+use Rattle.lane_runs.specs.Seats.{IsProxySeat, IsTapSeat, AreSeats, PostsFit}
+use Rattle.lane_runs.specs.Ran.{EachBerthRan}
 
 module _ {M G Q : Type 0} (g : Ghosts M Call Reply G Q) {B D T K : Type 0}
-    (seats : Q → ℕ) (remote : Q → ℕ → Bool) (count : Q → ℕ) (outputs : Q → ℕ → List (List ℕ))
-    (makers : Q → ℕ → List Maker) (rule : Q → History → ℕ → Call → Reply)
+    (terms : Q → Terms) (rule : Q → History → ℕ → Call → Reply)
     (berth : B → BerthTold) (feed : D → FeedTold) (heard : T → TapTold) (child : K → ChildTold) where
   -- ---- what the lanes ask and leave
 
   abbrev pub MayProxy : ProxySeat B → Desk M Call Reply G Q → ℕ → Pass M Call Reply G Q g → Type 0
   MayProxy seat desk bells pass = IsPassOf desk pass × IsFresh pass
-      × IsProxyOf seats seat.number pass × ((pass.lane < bells) × (seat.number < 64))
-      × (remote (basis pass) seat.number ≡ is_remote seat.post.now.kind)
-      × IsWorkOf (count (basis pass)) (outputs (basis pass)) (makers (basis pass)) seat.actions.now
+      × IsProxyOf terms seat.number pass × ((pass.lane < bells) × (seat.number < 64))
+      × ((terms (basis pass)).remote seat.number ≡ is_remote seat.post.now.kind)
+      × IsWorkOf (terms (basis pass)) seat.actions.now
 
   abbrev pub MayTap : TapSeat → Desk M Call Reply G Q → ℕ → Pass M Call Reply G Q g → Type 0
   MayTap seat desk bells pass = IsPassOf desk pass × IsFresh pass
-      × (pass.lane ≡ tap_lane seat.berth) × (seat.berth < seats (basis pass)) × (pass.lane < bells)
+      × (pass.lane ≡ tap_lane seat.berth) × (seat.berth < (terms (basis pass)).berths) × (pass.lane < bells)
 
   abbrev pub ProxyRan : ProxySeat B → Pass M Call Reply G Q g → ProxyLeft B D K
       → Pass M Call Reply G Q g → Type 0
@@ -84,40 +83,40 @@ module _ {M G Q : Type 0} (g : Ghosts M Call Reply G Q) {B D T K : Type 0}
   -- ---- before they run
 
   may_proxy : (q : Q) (actions : List WorkAction) (w : ℕ) (b : B) (p : Post) (x : ProxySeat B)
-      → IsProxySeat actions w b p x → w < seats q → w < 64 → remote q w ≡ is_remote p.kind
-      → IsWorkOf (count q) (outputs q) (makers q) actions → MayRun May q (2 * w) (First x)
+      → IsProxySeat actions w b p x → w < (terms q).berths → w < 64 → (terms q).remote w ≡ is_remote p.kind
+      → IsWorkOf (terms q) actions → MayRun May q (2 * w) (First x)
   may_proxy q actions w b p x is below few fits work desk bells pass of fresh number bell by = (
     of,
     fresh,
     (
       subst (λ (n : ℕ). pass.lane ≡ proxy_lane n) (sym is.1) number,
-      subst (λ (r : Q). x.number < seats r) (sym by) (subst (λ (n : ℕ). n < seats q) (sym is.1) below),
+      subst (λ (r : Q). x.number < (terms r).berths) (sym by) (subst (λ (n : ℕ). n < (terms q).berths) (sym is.1) below),
     ),
     (
       subst (λ (n : ℕ). n < bells) (sym number) bell,
       subst (λ (n : ℕ). n < 64) (sym is.1) few,
     ),
-    subst (λ (r : Q). remote r x.number ≡ is_remote x.post.now.kind) (sym by)
-        (ap (remote q) is.1 ∙ (fits ∙ sym (ap (λ (y : Post). is_remote y.kind) is.2))),
-    subst (λ (r : Q). IsWorkOf (count r) (outputs r) (makers r) x.actions.now) (sym by)
-        (subst (λ (xs : List WorkAction). IsWorkOf (count q) (outputs q) (makers q) xs) (sym is.3)
+    subst (λ (r : Q). (terms r).remote x.number ≡ is_remote x.post.now.kind) (sym by)
+        (ap (terms q).remote is.1 ∙ (fits ∙ sym (ap (λ (y : Post). is_remote y.kind) is.2))),
+    subst (λ (r : Q). IsWorkOf (terms r) x.actions.now) (sym by)
+        (subst (λ (xs : List WorkAction). IsWorkOf (terms q) xs) (sym is.3)
         work),
   )
 
-  may_tap : (q : Q) (w : ℕ) (p : Post) (y : TapSeat) → IsTapSeat w p y → w < seats q
+  may_tap : (q : Q) (w : ℕ) (p : Post) (y : TapSeat) → IsTapSeat w p y → w < (terms q).berths
       → MayRun May q (2 * w + 1) (Second y)
   may_tap q w p y is below desk bells pass of fresh number bell by = (
     of,
     fresh,
     subst (λ (n : ℕ). pass.lane ≡ tap_lane n) (sym is.0) number,
-    subst (λ (r : Q). y.berth < seats r) (sym by) (subst (λ (n : ℕ). n < seats q) (sym is.0) below),
+    subst (λ (r : Q). y.berth < (terms r).berths) (sym by) (subst (λ (n : ℕ). n < (terms q).berths) (sym is.0) below),
     subst (λ (n : ℕ). n < bells) (sym number) bell,
   )
 
   pub all_may : (q : Q) (actions : List WorkAction) (w : ℕ) (bs : List B) (ps : List Post)
       (lanes : List (OfTwo (ProxySeat B) TapSeat)) → AreSeats actions w bs ps lanes
-      → w + length ps ≤ seats q → seats q ≤ 64 → PostsFit (remote q) w ps
-      → IsWorkOf (count q) (outputs q) (makers q) actions
+      → w + length ps ≤ (terms q).berths → (terms q).berths ≤ 64 → PostsFit (terms q).remote w ps
+      → IsWorkOf (terms q) actions
       → MayRunInOrder May q (2 * w) lanes
   all_may q actions w [] [] [] are most few fit work = tt
   all_may q actions w [] [] (x ∷ lanes) are most few fit work = absurd (cc)

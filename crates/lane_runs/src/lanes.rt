@@ -1,21 +1,21 @@
 //! The lanes of all berths, in the order of their numbers.
 ghost use Rattle.std.specs.Prelude.{◌≡◌, ◌≤◌, ◌+◌, ◌*◌, [], ◌++◌, length, vec_len, vec_capacity};
-ghost use Rattle.berth_lanes.specs.Seats.{AreSeats, HasSeats, berths_in};
+ghost use Rattle.lane_runs.specs.Seats.{AreSeats, HasSeats, berths_in};
 
 use crate::proxies::ProxySeat;
-use crate::taps::TapSeat;
 use lane_crew::OfTwo;
 use proxy_deeds::Post;
 use remote_messages::WorkAction;
 use std::alloc::Global;
 use std::collections::VecDeque;
+use tap_lane::TapSeat;
 
 /// A lane of a berth: its proxy lane, or its tap lane.
-pub type BerthLane<'a, B> = OfTwo<ProxySeat<'a, B>, TapSeat>;
+pub(crate) type BerthLane<'a, B> = OfTwo<ProxySeat<'a, B>, TapSeat>;
 
 /// For each berth, in order, its proxy lane and then its tap lane, in the room that was made for them.
 /// Lane `2w` is the proxy lane of the berth `w`, and lane `2w + 1` its tap lane. It takes no memory.
-pub fn lanes_of<'a, B: Drop>(
+pub(crate) fn lanes_of<'a, B: Drop>(
     alloc: Global,
     berths: Vec<B>,
     posts: &'a [Post],
@@ -69,7 +69,7 @@ fn push_seats<'a, B: Drop>(
 }
 
 /// Puts the berths of lanes that have not run into `berths`, which has room for them.
-pub fn berths_of<B: Drop>(lanes: Vec<BerthLane<'_, B>>, berths: &mut Vec<B>)
+pub(crate) fn berths_of<B: Drop>(lanes: Vec<BerthLane<'_, B>>, berths: &mut Vec<B>)
     requires { vec_len berths.old + length (berths_in lanes.items) ≤ vec_capacity berths.old }
     ensures { berths.new.items ≡ berths.old.items ++ berths_in lanes.entry.items }
 {

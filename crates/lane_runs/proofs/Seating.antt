@@ -5,9 +5,9 @@ use Rattle.lane_crew.specs.declared.pair.OfTwo.{OfTwo}
 use Rattle.lane_crew.specs.declared.pair.OfTwo.TheVariants.{First, Second}
 use Rattle.proxy_deeds.specs.declared.post.Post.{Post}
 use Rattle.remote_messages.specs.declared.work.WorkAction.{WorkAction}
-use Rattle.berth_lanes.specs.declared.proxies.ProxySeat.{ProxySeat}
-use Rattle.berth_lanes.specs.declared.taps.TapSeat.{TapSeat}
-use Rattle.berth_lanes.specs.Seats.{IsProxySeat, IsTapSeat, AreSeats, HasSeats, berths_in}
+use Rattle.lane_runs.specs.declared.proxies.ProxySeat.{ProxySeat}
+use Rattle.tap_lane.specs.declared.seat.TapSeat.{TapSeat}
+use Rattle.lane_runs.specs.Seats.{IsProxySeat, IsTapSeat, AreSeats, HasSeats, berths_in}
 
 pub two_more : {X : Type 0} (xs ys zs : List X) (x y : X) → ys ≡ xs ++ x ∷ [] → zs ≡ ys ++ y ∷ []
     → zs ≡ xs ++ x ∷ y ∷ []

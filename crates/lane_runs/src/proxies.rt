@@ -1,4 +1,4 @@
-//! The proxy lane of a berth.
+//! The proxy lane of a berth, as a lane of a crew.
 ghost use Rattle.std.specs.Prelude.{◌≡◌, ◌<◌, map};
 ghost use Rattle.std.specs.Option.{option_map};
 ghost use Rattle.seat_desk.specs.Passes.{IsPassOf, IsSamePass, basis};
@@ -9,15 +9,14 @@ ghost use Rattle.proxy_steps.specs.Lanes.{back_of};
 ghost use Rattle.proxy_steps.specs.Steps.{IsServedBy};
 ghost use Rattle.proxy_steps.specs.Work.{IsWorkOf};
 
-use lane_bells::Bells;
-use lane_crew::Lane;
-use proxy_deeds::{Cause, Post};
-use proxy_steps::EndedFeed;
-use outside::{Berth, Place};
-use proxy_lane::{LaneEnd, Site};
-use remote_messages::WorkAction;
 use core_bench::Bench;
 use core_contract::Rules;
+use lane_bells::Bells;
+use lane_crew::Lane;
+use outside::{Berth, Place};
+use proxy_deeds::Post;
+use proxy_lane::{LaneEnd, Site};
+use remote_messages::WorkAction;
 use seat_desk::{Desk, Pass};
 use std::alloc::Global;
 use std::sync::Wait;
@@ -25,37 +24,27 @@ use std::thread::Threads;
 
 /// What the proxy lane of a berth works with.
 #[derive(Drop)]
-pub struct ProxySeat<'a, B> {
-    pub alloc: Global,
-    pub berth: B,
+pub(crate) struct ProxySeat<'a, B> {
+    pub(crate) alloc: Global,
+    pub(crate) berth: B,
     /// The berth's number.
-    pub number: u32,
-    pub post: &'a Post,
+    pub(crate) number: u32,
+    pub(crate) post: &'a Post,
     /// The work of all actions, by their numbers.
-    pub actions: &'a [WorkAction],
+    pub(crate) actions: &'a [WorkAction],
 }
 
-/// What it leaves, beside its pass.
-#[derive(Drop)]
-pub struct ProxyLeft<B, D, K> {
-    pub berth: B,
-    /// The feeds of the lines that were started, in order, with their children, which were killed.
-    pub feeds: Vec<EndedFeed<D, K>>,
-    /// A line that was started, and there was no memory to report it.
-    pub unsaid: Option<EndedFeed<D, K>>,
-    /// Why it has halted, if it wasn't told to stop.
-    pub halted: Option<Cause>,
-}
+/// What it leaves. Its pass is given back beside that.
+pub(crate) type ProxyLeft<B, D, K> = LaneEnd<(), B, D, K>;
 
 impl<'a, B: Berth, P: Place, C: Rules> Lane<Desk<Bench<B, P, C>>, Pass<Bench<B, P, C>>>
     for ProxySeat<'a, B> {
     type End = ProxyLeft<B, B::Feed, B::Child>;
 
     ghost may_run = { λ self desk bells pass. IsPassOf desk pass × IsFresh pass
-        × IsProxyOf C.seats self.number pass × ((pass.lane < bells) × (self.number < 64))
-        × (C.remote (basis pass) self.number ≡ is_remote self.post.now.kind)
-        × IsWorkOf (C.actions (basis pass)) (C.outputs (basis pass)) (C.makers (basis pass))
-        self.actions.now };
+        × IsProxyOf C.terms self.number pass × ((pass.lane < bells) × (self.number < 64))
+        × ((C.terms (basis pass)).remote self.number ≡ is_remote self.post.now.kind)
+        × IsWorkOf (C.terms (basis pass)) self.actions.now };
 
     ghost has_run = { λ self pass left after. IsSamePass pass after
         × IsServedBy self.post.now self.actions.now C.rule (B.told self.berth) (B.told left.berth)
@@ -90,7 +79,8 @@ impl<'a, B: Berth, P: Place, C: Rules> Lane<Desk<Bench<B, P, C>>, Pass<Bench<B, 
             unsaid,
             halted,
         } = proxy_lane::run(&site, desk, bells, pass, berth);
-        let left = ProxyLeft {
+        let left = LaneEnd {
+            pass: (),
             berth,
             feeds,
             unsaid,
