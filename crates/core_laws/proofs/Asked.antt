@@ -15,7 +15,7 @@ use Rattle.exec_journal.specs.Attempts.{begun_in}
 use Rattle.exec_journal.specs.Entries.{Request, attempt_of, same_attempt, same_branch, is_for}
 use Rattle.exec_journal.specs.Facts.{begun}
 use Rattle.list_lemmas.specs.Options.{and_more}
-use Rattle.run_plan.specs.Groups.{berth_group, group_of}
+use Rattle.run_plan.specs.Groups.{group_of}
 use Rattle.run_plan.specs.Sound.{Sound, has_branches, are_different, names_group}
 use Rattle.exec_journal.specs.Words.{sends, sent_on, pending, is_pending}
 use Rattle.exec_journal.proofs.Begins.{same_branch_refl, same_attempt_refl}
@@ -26,16 +26,16 @@ use Rattle.request_table.specs.Rows.{line_room, is_open, places_of, places_on}
 use Rattle.request_table.specs.Stands.{Waiting, waiting_in, request_row}
 use Rattle.request_table.specs.Stands as tables
 use Rattle.request_table.specs.Rows as asks
-use Rattle.request_table.specs.declared.LineRow.{LineRow}
 use Rattle.request_table.proofs.Lists.{reverse_front, map_reverse, map_map, each_filter}
 use Rattle.request_table.proofs.Sent.{open_is}
 use Rattle.worker_pool.specs.Entries.{is_of}
 use Rattle.core_tables.specs.declared.seat.Seat.{Seat}
 use Rattle.call_laws.specs.Moments.{BranchOf}
-use Rattle.core_laws.proofs.AtBerths.{SentAtBerth}
 use Rattle.core_state.specs.Reports.{branch_of_group, branch_in, attempt_in, is_open_for}
 use Rattle.ready_order.proofs.AllSettled.{sound_at}
 use Rattle.core_laws.proofs.Several.{same_sym}
+use Rattle.exec_journal.specs.Seated.{group_on}
+use Rattle.lawful_facts.specs.Moments.{SentInGroup}
 
 -- ---- lists
 
@@ -203,12 +203,12 @@ module _ (p : Plan) (sound : Sound p) where
 
 module _ (p : Plan) (f : asks.Facts) (j : List Entry) (l : ℕ) (st : tables.Stands p f j)
     (within : l < line_room p) where
-  module _ (sound : Sound p) (w g : ℕ) (at : berth_group p w ≡ Some g)
-      (grouped : SentAtBerth p j w l) where
+  module _ (sound : Sound p) (g : ℕ) (at : group_on p j l ≡ Some g)
+      (grouped : SentInGroup p j l) where
     pub pending_grouped : EachOf (λ r. BranchOf p r.attempt (Some g)) (pending j l)
     unfolding pending
     pending_grouped = each_filter (λ r. BranchOf p r.attempt (Some g)) (is_pending j) (sends j l)
-        (each_with (λ r. BranchOf p r.attempt (berth_group p w))
+        (each_with (λ r. BranchOf p r.attempt (group_on p j l))
         (λ r. BranchOf p r.attempt (Some g)) (sends j l) (λ r h. h ∙ at) grouped)
 
     -- whether the attempt's request is pending

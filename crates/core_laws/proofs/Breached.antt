@@ -16,13 +16,9 @@ use Rattle.exec_journal.specs.Entries.{Request, same_attempt}
 use Rattle.exec_journal.specs.declared.reply.Reply.TheVariants as reply
 use Rattle.exec_journal.specs.Facts.{SameActions, OfBerth, IsOfBerth}
 use Rattle.list_lemmas.specs.Options.{or_else, unless_before}
-use Rattle.exec_journal.specs.Rules as r
 use Rattle.exec_journal.specs.Rules.{gathered}
-use Rattle.exec_journal.specs.Scripts.{script}
-use Rattle.run_plan.specs.Groups.{berths}
 use Rattle.list_lemmas.specs.Places.{update}
 use Rattle.exec_journal.specs.Words.{order_of, wrote_at, wrote_if, halted, last_line, launch_of, line_cause, was_taken, sends, wrote, granted, grant_of}
-use Rattle.journal_laws.proofs.Ours.{lawful}
 use Rattle.exec_journal.proofs.Lines.{last_line_own, lines_named}
 use Rattle.exec_journal.proofs.Ruled.{by_bool}
 use Rattle.list_lemmas.proofs.Updates.{get_update}
@@ -35,20 +31,21 @@ use Rattle.core_tables.specs.declared.last.LastLine.{LastLine}
 use Rattle.core_state.specs.declared.state.State.{State}
 use Rattle.core_tables.specs.Last.{last_in, row_of, row_by, fed_of, set_cause}
 use Rattle.core_state.specs.Noted.{noted_after}
-use Rattle.core_laws.specs.Stands.{Stands}
+use Rattle.core_laws.specs.Stands.{Stands, MayCall}
 use Rattle.core_laws.proofs.Own.{lanes_kept, last_kept, matches_kept, IsQuiet, SpendsNone, ready_kept, race_kept, attempts_kept}
 use Rattle.core_state.specs.Reports.{breached}
 use Rattle.call_laws.specs.Matches.{is_faulty}
 use Rattle.core_laws.proofs.Greeted.{quiet_greetings, answer_greetings}
+use Rattle.exec_journal.specs.Lawful.{plain_reply}
 
-module _ (p : Plan) (s : State) (j : List Entry) (lane l : ℕ) (st : Stands p s j) where
+module _ (p : Plan) (seats : ℕ) (s : State) (j : List Entry) (lane l : ℕ) (st : Stands p seats s j) where
   -- ---- a Wrote with Done
 
-  module _ (n : ℤ) (may : script p j lane (call.Wrote l n write.Done) ≡ true) where
+  module _ (n : ℤ) (may : MayCall p seats j lane (call.Wrote l n write.Done)) where
     abbrev wrote_entry : Entry
     wrote_entry = record { lane = lane; call = call.Wrote l n write.Done; reply = reply.Noted }
 
-    wrote_quiet : IsQuiet p j wrote_entry
+    wrote_quiet : IsQuiet seats j wrote_entry
     wrote_quiet = record {
       no_launch = refl;
       no_send = refl;
@@ -77,7 +74,7 @@ module _ (p : Plan) (s : State) (j : List Entry) (lane l : ℕ) (st : Stands p s
     faulty_same (Some w) None h = h
     faulty_same (Some w) (Some v) h = refl
 
-    wrote_spends : SpendsNone p j wrote_entry
+    wrote_spends : SpendsNone seats j wrote_entry
     unfolding wrote granted grant_of gathered
     wrote_spends = record {
       no_send = refl;
@@ -89,44 +86,46 @@ module _ (p : Plan) (s : State) (j : List Entry) (lane l : ℕ) (st : Stands p s
     wrote_same : SameActions j (wrote_entry ∷ j)
     wrote_same = quiet_actions wrote_entry j refl refl
 
-    pub wrote_stands : Stands p (noted_after s lane (call.Wrote l n write.Done) reply.Noted)
+    pub wrote_stands : Stands p seats (noted_after s lane (call.Wrote l n write.Done) reply.Noted)
         (wrote_entry ∷ j)
     unfolding halted
     wrote_stands = record {
       plan = st.plan;
       sound = st.sound;
-      legal = (st.legal, record { scripted = may; replied = refl; kept = refl });
-      pool = quiet_kept p s.pool j wrote_entry st.pool refl refl;
+      lawful = (st.lawful, record { scripted = may.scripted; told = refl; kept = refl });
+      seated = (st.seated, may.berth);
+      few = st.few;
+      pool = quiet_kept p seats s.pool j wrote_entry st.pool refl refl;
       requests = asks.done_kept j lane l n write.Done p s.requests st.requests refl;
       cancels = marks.done_kept p s.cancels j lane l n write.Done st.cancels refl;
       ready = ready_kept p j wrote_entry wrote_same refl s.ready st.ready;
       race = race_kept p j wrote_entry wrote_same refl s.race st.race;
       attempts = attempts_kept p j wrote_entry wrote_same refl s.attempts st.attempts;
-      lanes = lanes_kept p j wrote_entry s.lanes st.lanes;
-      greetings = quiet_greetings p j wrote_entry refl refl s.greetings st.greetings;
-      last = last_kept p j wrote_entry wrote_quiet s.last st.last;
-      matches = matches_kept p j wrote_entry wrote_spends s.matches st.matches;
+      lanes = lanes_kept seats j wrote_entry s.lanes st.lanes;
+      greetings = quiet_greetings seats j wrote_entry refl refl s.greetings st.greetings;
+      last = last_kept seats j wrote_entry wrote_quiet s.last st.last;
+      matches = matches_kept seats j wrote_entry wrote_spends s.matches st.matches;
       halted = st.halted;
     }
 
   -- ---- a Breach that no request is asked for: the line broke before, or the number is wrong
 
-  module _ (x : Answer) (y : BreachWhy) (may : script p j lane (call.Answer l x) ≡ true)
-      (is : reply.Breach y ≡ r.rule p j lane (call.Answer l x))
+  module _ (x : Answer) (y : BreachWhy) (may : MayCall p seats j lane (call.Answer l x))
+      (is : reply.Breach y ≡ plain_reply p j lane (call.Answer l x))
       (here : last_line j (lane / 2) ≡ Some l) where
     abbrev breach_entry : Entry
     breach_entry = record { lane = lane; call = call.Answer l x; reply = reply.Breach y }
 
     same : SameActions j (breach_entry ∷ j)
-    same = breach_actions p s.pool j lane l st.pool x y
+    same = breach_actions p seats s.pool j lane l st.pool x y
 
-    spends : SpendsNone p j breach_entry
+    spends : SpendsNone seats j breach_entry
     unfolding wrote granted grant_of gathered
     spends = record { no_send = refl; no_match = refl; same = λ t. refl }
 
     owned : (v : ℕ) (k : ℕ) → last_line j v ≡ Some k → IsOfBerth j k v
     owned v k h = subst (λ (o : Option ℕ). OfBerth j o v) h
-        (last_line_own v j (lines_named p j (lawful p j st.legal)))
+        (last_line_own v j (lines_named p j st.lawful))
 
     abbrev lane_in : Option (ℕ × Attempt) → ℕ
     lane_in (Some z) = z.0
@@ -173,33 +172,35 @@ module _ (p : Plan) (s : State) (j : List Entry) (lane l : ℕ) (st : Stands p s
     no_line w true = refl
     no_line w false = refl
 
-    last_is : (v : ℕ) → slice_get (update (set_cause cause.Breach) s.last (lane / 2)) v ≡ last_in p
+    last_is : (v : ℕ) → slice_get (update (set_cause cause.Breach) s.last (lane / 2)) v ≡ last_in seats
         (breach_entry ∷ j) v
     unfolding last_in last_line
     last_is v =
         get_update (set_cause cause.Breach) s.last (lane / 2) v
         ∙ ap (λ (o : Option LastLine). cond (lane / 2 == v)
         (option_map (set_cause cause.Breach) o) o) (st.last v)
-        ∙ broken_by v (last_line j v) (lane / 2 == v) (nat_lt v (berths p)) refl refl
-        ∙ ap (λ o. cond (nat_lt v (berths p)) (Some (row_of (breach_entry ∷ j) o)) None)
+        ∙ broken_by v (last_line j v) (lane / 2 == v) (nat_lt v seats) refl refl
+        ∙ ap (λ o. cond (nat_lt v seats) (Some (row_of (breach_entry ∷ j) o)) None)
         (sym (no_line v (lane / 2 == v)))
 
-    pub breach_stands : Stands p (noted_after (breached s (lane / 2) l) lane (call.Answer l x)
+    pub breach_stands : Stands p seats (noted_after (breached s (lane / 2) l) lane (call.Answer l x)
         (reply.Breach y)) (breach_entry ∷ j)
     unfolding halted
     breach_stands = record {
       plan = st.plan;
       sound = st.sound;
-      legal = (st.legal, record { scripted = may; replied = is; kept = refl });
-      pool = breaches_kept p s.pool j lane l st.pool x y;
+      lawful = (st.lawful, record { scripted = may.scripted; told = is; kept = refl });
+      seated = (st.seated, may.berth);
+      few = st.few;
+      pool = breaches_kept p seats s.pool j lane l st.pool x y;
       requests = asks.others p s.requests j breach_entry st.requests refl refl;
       cancels = marks.others p s.cancels j breach_entry st.cancels refl refl refl;
       ready = ready_kept p j breach_entry same refl s.ready st.ready;
       race = race_kept p j breach_entry same refl s.race st.race;
       attempts = attempts_kept p j breach_entry same refl s.attempts st.attempts;
-      lanes = lanes_kept p j breach_entry s.lanes st.lanes;
-      greetings = answer_greetings p s j lane l x (reply.Breach y) st here refl;
+      lanes = lanes_kept seats j breach_entry s.lanes st.lanes;
+      greetings = answer_greetings p seats s j lane l x (reply.Breach y) st here refl;
       last = last_is;
-      matches = matches_kept p j breach_entry spends s.matches st.matches;
+      matches = matches_kept seats j breach_entry spends s.matches st.matches;
       halted = st.halted;
     }

@@ -1,11 +1,12 @@
 -- What each call but a Look makes of a state that stands for a journal, and its reply.
-use Rattle.std.proofs.Common.{◌≡◌, ℕ, ◌*◌, ◌/◌, ◌%◌, ◌<◌, ◌==◌, nat_lt, Bool, true, false, ◌&&◌, ◌||◌, not, cond, List, [], ◌∷◌, length, Option, Some, None, is_some, option_map, ℤ, refl, ap, sym, subst, ◌∙◌}
+use Rattle.std.proofs.Common.{◌≡◌, ℕ, ◌/◌, ◌%◌, ◌<◌, ◌==◌, nat_lt, Bool, true, false, ◌&&◌, ◌||◌, not, cond, List, [], ◌∷◌, length, Option, Some, None, is_some, option_map, ℤ, refl, ap, sym, subst, ◌∙◌}
 use Rattle.std.specs.Prelude.{slice_get}
 use Rattle.std.specs.Ordering.{int_eq}
 use Rattle.std.proofs.lemmas.Bool.{and_parts, eqb-true, eq-eqb}
 use Rattle.std.proofs.lemmas.Option.{slice_get_within}
 use Rattle.run_plan.specs.declared.plan.Branch.{Branch}
 use Rattle.run_plan.specs.declared.plan.Kind.{Kind}
+use Rattle.run_plan.specs.declared.plan.Kind.TheVariants as kind
 use Rattle.run_plan.specs.declared.plan.Plan.{Plan}
 use Rattle.exec_journal.specs.declared.attempt.Attempt.{Attempt}
 use Rattle.exec_journal.specs.Entry.{Entry}
@@ -20,16 +21,13 @@ use Rattle.exec_journal.specs.declared.call.Written.TheVariants as write
 use Rattle.exec_journal.specs.declared.reply.Reply.{Reply}
 use Rattle.exec_journal.specs.declared.reply.Reply.TheVariants as reply
 use Rattle.exec_journal.specs.Attempts.{ended, fault_at, start_cause}
-use Rattle.exec_journal.specs.Entries.{Request, attempt_of, same_attempt, is_done, is_for, is_kept, is_look, launch_of_entry, launch_in, send_of_entry, send_in, is_unwritten}
+use Rattle.exec_journal.specs.Entries.{Request, attempt_of, same_attempt, is_done, is_for, is_kept, launch_of_entry, launch_in, send_of_entry, send_in, is_unwritten}
 use Rattle.exec_journal.specs.Facts.{begun}
-use Rattle.exec_journal.specs.Legal.{LegalEntry}
-use Rattle.exec_journal.specs.Rules as r
+use Rattle.exec_journal.specs.Lawful.{LawfulEntry, Told, Counts, in_script, plain_reply}
 use Rattle.exec_journal.specs.Rules.{gathered}
-use Rattle.exec_journal.specs.Scripts.{script, is_owed, is_owed_after, is_whole_or_fault}
-use Rattle.run_plan.specs.Groups.{berths, kind_of}
+use Rattle.exec_journal.specs.Scripts.{is_owed, is_owed_after, is_whole_or_fault}
 use Rattle.exec_journal.specs.Settled.{bound}
 use Rattle.exec_journal.specs.Words.{last_line, last_work, launch_of, order_of, stopped, has_halted, halted, wrote, granted, grant_of, commit_of}
-use Rattle.journal_laws.proofs.Ours.{lawful, no_tick}
 use Rattle.exec_journal.proofs.Begins.{attempts_in_order, attempt_other, begin_in_order, bound_is, launched_begun, same_attempt_eq, same_attempt_refl}
 use Rattle.exec_journal.proofs.Ruled.{by_bool}
 use Rattle.worker_pool.specs.Entries.{AreFaulted}
@@ -54,12 +52,9 @@ use Rattle.lawful_facts.specs.Moments.{EntryFacts, LawfulMore, ClaimsOne}
 use Rattle.core_state.specs.Noted.{noted_after}
 use Rattle.core_laws.specs.Premises.{EndsTogether}
 use Rattle.core_state.specs.Reports.{wrote_with}
-use Rattle.core_tables.specs.Seats.{seat_at}
-use Rattle.core_laws.specs.Stands.{Stands}
-use Rattle.core_state.specs.Steps.{made, made_reply}
-use Rattle.core_laws.proofs.Asks.{ask_stands}
+use Rattle.core_laws.specs.Stands.{MayCall, SeatFits, Stands}
+use Rattle.core_state.specs.Steps.{is_report, made, made_reply}
 use Rattle.core_laws.proofs.Breached.{wrote_stands}
-use Rattle.core_laws.proofs.Chosen.{choice_is, lane_within}
 use Rattle.core_laws.proofs.Claimed.{lost_stands, again_stands, dropped_stands, claim_is, commit_stands}
 use Rattle.core_laws.proofs.Fed.{cancel_fault_stands, feed_fault_stands}
 use Rattle.core_laws.proofs.Finished.{ended_stands}
@@ -67,12 +62,11 @@ use Rattle.core_laws.proofs.Granted.{granted_stands}
 use Rattle.core_laws.proofs.Orders.{quiet_stands}
 use Rattle.core_laws.proofs.Own.{lanes_kept, last_kept, matches_kept, IsQuiet, SpendsNone}
 use Rattle.core_laws.proofs.Replied.{answer_is, answered_stands, take_is}
-use Rattle.core_laws.proofs.Reported.{killed_stands, started_stands, halt_stands, take_stands}
-use Rattle.core_laws.proofs.Rowed.{berth_of, lane_inside}
+use Rattle.core_laws.proofs.Reported.{killed_stands, started_stands, halt_stands, tick_stands, take_stands}
+use Rattle.core_laws.proofs.Rowed.{berth_below, berth_of, lane_inside}
 use Rattle.core_laws.proofs.Several.{several_counts, several_states, one_test}
 use Rattle.core_laws.proofs.Unwritten.{write_fault_stands}
 use Rattle.core_laws.proofs.Greeted.{quiet_greetings}
-use Rattle.core_laws.proofs.AtBerths as at_berth
 
 -- ---- a Launched with a fault
 
@@ -90,25 +84,25 @@ work_launches : (o : Option Entry) → launched_in (order_of_work o) ≡ launch_
 work_launches None = refl
 work_launches (Some e) = order_launches e.reply
 
-pub launch_is : (p : Plan) (s : State) (j : List Entry) (lane : ℕ) (c : Call) → Stands p s j
-    → script p j lane c ≡ true → launch_by s lane ≡ launch_of_entry (last_work j lane)
+pub launch_is : (p : Plan) (seats : ℕ) (s : State) (j : List Entry) (lane : ℕ) (c : Call) → Stands p seats s j
+    → MayCall p seats j lane c → launch_by s lane ≡ launch_of_entry (last_work j lane)
 unfolding lane_in
-launch_is p s j lane c st may =
+launch_is p seats s j lane c st may =
     ap (λ (o : Option LaneState). launched_in (order_on o))
     (st.lanes lane ∙ ap (λ b. cond b (Some (state_by (last_work j lane) (stopped j lane)
-    (has_halted j lane))) None) (lane_inside p j lane c may))
+    (has_halted j lane))) None) (lane_inside seats lane may.berth))
     ∙ work_launches (last_work j lane)
 
-module _ (p : Plan) (s : State) (j : List Entry) (lane l : ℕ) (how : Started) (st : Stands p s j)
-    (all : LawfulMore p j) (may : script p j lane (call.Launched l how) ≡ true)
+module _ (p : Plan) (seats : ℕ) (s : State) (j : List Entry) (lane l : ℕ) (how : Started) (st : Stands p seats s j)
+    (all : LawfulMore p j) (may : MayCall p seats j lane (call.Launched l how))
     (fault : is_done how ≡ false) where
   abbrev fault_entry : Entry
   fault_entry = record { lane = lane; call = call.Launched l how; reply = reply.Noted }
 
-  fault_legal : LegalEntry p j fault_entry
-  fault_legal = record { scripted = may; replied = refl; kept = refl }
+  fault_joins : LawfulEntry p j fault_entry
+  fault_joins = record { scripted = may.scripted; told = refl; kept = refl }
 
-  quiet : IsQuiet p j fault_entry
+  quiet : IsQuiet seats j fault_entry
   unfolding wrote
   quiet = record {
     no_launch = refl;
@@ -118,7 +112,7 @@ module _ (p : Plan) (s : State) (j : List Entry) (lane l : ℕ) (how : Started) 
     no_feed = λ u. refl;
   }
 
-  spends : SpendsNone p j fault_entry
+  spends : SpendsNone seats j fault_entry
   unfolding wrote granted grant_of gathered
   spends = record { no_send = refl; no_match = refl; same = λ u. refl }
 
@@ -137,14 +131,14 @@ module _ (p : Plan) (s : State) (j : List Entry) (lane l : ℕ) (how : Started) 
 
   module _ (m : ℕ) (t : Attempt) (at : launch_of j l ≡ Some (m, t)) where
     newest : launch_of_entry (last_work j lane) ≡ Some t
-    newest = (at_berth.at_call p j lane (call.Launched l how) may all).launches l m how t refl at
+    newest = (all.calls lane (call.Launched l how) may.scripted).launches l m how t refl at
 
     started_at : begun j t ≡ true
     started_at = launched_begun j l m t at
 
     together : EndsTogether j fault_entry (t ∷ [])
     together = record {
-      these = λ u. (at_berth.at_entry p j st.legal all fault_entry fault_legal).launched l m how t refl fault at u
+      these = λ u. (all.entries fault_entry fault_joins).launched l m how t refl fault at u
           ∙ ap (λ b. ended j u || b) (one_test j t u);
       none_begins = λ a b. attempt_other fault_entry j a b refl;
       grant = same_grant;
@@ -176,23 +170,25 @@ module _ (p : Plan) (s : State) (j : List Entry) (lane l : ℕ) (how : Started) 
             sym (ap (same_attempt t) (sym one) ∙ same_attempt_refl t))
             (λ _ h. by_bool (same_attempt t u) (λ c. same_attempt t u ≡ c → false ≡ c)
             (λ _ g. absurd (let one = same_attempt_eq t u g in
-            let line = launched_once j (begin_in_order p j (lawful p j st.legal)) l k m b.lane t at
+            let line = launched_once j (begin_in_order p j st.lawful) l k m b.lane t at
             (b.launched ∙ ap (λ x. Some (b.lane, x)) (sym one)) in let z = eq-eqb l k line in
             cc)) (λ _ g. refl) refl) refl
 
     aside : (not (is_done how) && true) ≡ true
     aside = rw fault refl
 
-    fault_keeps : Stands p (noted_after (with_end (with_pool s
+    fault_keeps : Stands p seats (noted_after (with_end (with_pool s
         (rows.change s.pool l rows.set_unbound)) t) lane (call.Launched l how) reply.Noted)
         (fault_entry ∷ j)
     unfolding halted
     fault_keeps = record {
       plan = st.plan;
       sound = st.sound;
-      legal = (st.legal, fault_legal);
-      pool = aside_kept p s.pool j fault_entry st.pool aside (l ∷ [])
-          (faults_unbind p j fault_entry aside refl (at_berth.at_entry p j st.legal all fault_entry fault_legal).stays
+      lawful = (st.lawful, fault_joins);
+      seated = (st.seated, may.berth);
+      few = st.few;
+      pool = aside_kept p seats s.pool j fault_entry st.pool aside (l ∷ [])
+          (faults_unbind p j fault_entry aside refl (all.entries fault_entry fault_joins).stays
           (l ∷ []) faulted);
       requests = asks.others p s.requests j fault_entry st.requests refl refl;
       cancels = marks.others p s.cancels j fault_entry st.cancels refl refl refl;
@@ -200,7 +196,7 @@ module _ (p : Plan) (s : State) (j : List Entry) (lane l : ℕ) (how : Started) 
           (states_after q s.race s.attempts s.ready t) (fault_entry ∷ j)) (sym st.plan)
           (several_states p st.sound.least s.race j fault_entry (t ∷ [])
           (record {
-            order = attempts_in_order p j (lawful p j st.legal);
+            order = attempts_in_order p j st.lawful;
             unbegun = all.facts.unbegun_goes;
             won = st.race;
           }) ((started_at, all.more.used t started_at), tt) together s.attempts
@@ -209,40 +205,40 @@ module _ (p : Plan) (s : State) (j : List Entry) (lane l : ℕ) (how : Started) 
           (record { grant = same_grant; commit = same_commit });
       attempts = several_counts p st.sound.least s.race j fault_entry (t ∷ [])
           (record {
-            order = attempts_in_order p j (lawful p j st.legal);
+            order = attempts_in_order p j st.lawful;
             unbegun = all.facts.unbegun_goes;
             won = st.race;
           }) ((started_at, all.more.used t started_at), tt) together s.attempts
           st.attempts s.ready st.ready;
-      lanes = lanes_kept p j fault_entry s.lanes st.lanes;
-      greetings = quiet_greetings p j fault_entry refl refl s.greetings st.greetings;
-      last = last_kept p j fault_entry quiet s.last st.last;
-      matches = matches_kept p j fault_entry spends s.matches st.matches;
+      lanes = lanes_kept seats j fault_entry s.lanes st.lanes;
+      greetings = quiet_greetings seats j fault_entry refl refl s.greetings st.greetings;
+      last = last_kept seats j fault_entry quiet s.last st.last;
+      matches = matches_kept seats j fault_entry spends s.matches st.matches;
       halted = st.halted;
     }
 
-  launch_fault : Stands p (noted_after (launched_with s lane l how) lane
+  launch_fault : Stands p seats (noted_after (launched_with s lane l how) lane
       (call.Launched l how) reply.Noted) (fault_entry ∷ j)
   launch_fault =
-      let own = (berth_of p s j (lane / 2) l st ((at_berth.at_call p j lane (call.Launched l how) may all).names l
+      let own = (berth_of p seats s j (lane / 2) l st ((all.calls lane (call.Launched l how) may.scripted).names l
       refl)).owner in
-      subst (λ x. Stands p (noted_after x lane (call.Launched l how) reply.Noted) (fault_entry ∷ j))
+      subst (λ x. Stands p seats (noted_after x lane (call.Launched l how) reply.Noted) (fault_entry ∷ j))
       (sym (ap (λ b. cond b (with_pool s (rows.change s.pool l rows.set_started))
       (end_of_some (with_pool s (rows.change s.pool l rows.set_unbound)) (launch_by s lane)))
       fault
       ∙ ap (end_of_some (with_pool s (rows.change s.pool l rows.set_unbound)))
-      (launch_is p s j lane (call.Launched l how) st may ∙ newest own.0 own.1 own.2)))
+      (launch_is p seats s j lane (call.Launched l how) st may ∙ newest own.0 own.1 own.2)))
       (fault_keeps own.0 own.1 own.2)
 
-launched_keeps : (p : Plan) (s : State) (j : List Entry) (lane l : ℕ) (how : Started) → Stands p s j
-    → LawfulMore p j → script p j lane (call.Launched l how) ≡ true
-    → Stands p (noted_after (launched_with s lane l how) lane (call.Launched l how) reply.Noted)
+launched_keeps : (p : Plan) (seats : ℕ) (s : State) (j : List Entry) (lane l : ℕ) (how : Started) → Stands p seats s j
+    → LawfulMore p j → MayCall p seats j lane (call.Launched l how)
+    → Stands p seats (noted_after (launched_with s lane l how) lane (call.Launched l how) reply.Noted)
     (record { lane = lane; call = call.Launched l how; reply = reply.Noted } ∷ j)
-launched_keeps p s j lane l start.Done st all may = started_stands p s j lane st l may
-launched_keeps p s j lane l start.RoomFault st all may =
-    launch_fault p s j lane l start.RoomFault st all may refl
-launched_keeps p s j lane l start.LaunchFault st all may =
-    launch_fault p s j lane l start.LaunchFault st all may refl
+launched_keeps p seats s j lane l start.Done st all may = started_stands p seats s j lane st l may
+launched_keeps p seats s j lane l start.RoomFault st all may =
+    launch_fault p seats s j lane l start.RoomFault st all may refl
+launched_keeps p seats s j lane l start.LaunchFault st all may =
+    launch_fault p seats s j lane l start.LaunchFault st all may refl
 
 -- ---- a request that wasn't written was ordered
 
@@ -278,71 +274,70 @@ work_ordered p k l n how (Some e) un h = owed_sends p k l n how e.reply un
     (or_only (is_owed p k (call.Wrote l n how) e.reply) h)
 
 write_ordered : (p : Plan) (j : List Entry) (lane l : ℕ) (n : ℤ) (how : Written)
-    → script p j lane (call.Wrote l n how) ≡ true → is_unwritten how ≡ true
+    → in_script p j lane (call.Wrote l n how) ≡ true → is_unwritten how ≡ true
     → is_some (order_of j lane) ≡ true
 write_ordered p j lane l n how may un =
-    let rest = (and_parts (not (stopped j lane)) _ (and_parts
-    (nat_lt lane (2 * berths p)) _ may).1).1 in
+    let rest = (and_parts (not (stopped j lane)) _ may).1 in
     by_bool (has_halted j lane) (λ b. cond b false ((lane % 2 == 0)
-    && is_owed_after p (kind_of p (lane / 2)) (call.Wrote l n how) (last_work j lane)) ≡ true
+    && is_owed_after p kind.Single (call.Wrote l n how) (last_work j lane)) ≡ true
     → is_some (order_of j lane) ≡ true)
-    (λ _ h. absurd (cc)) (λ _ h. work_ordered p (kind_of p (lane / 2)) l n how (last_work j lane) un
+    (λ _ h. absurd (cc)) (λ _ h. work_ordered p kind.Single l n how (last_work j lane) un
     (and_parts (lane % 2 == 0) _ h).1) rest
 
 -- ---- the others
 
-module _ (p : Plan) (s : State) (j : List Entry) (lane : ℕ) (st : Stands p s j)
+module _ (p : Plan) (seats : ℕ) (s : State) (j : List Entry) (lane : ℕ) (st : Stands p seats s j)
     (all : LawfulMore p j) where
   Keeps : Call → State → Reply → Type 0
-  Keeps c t y = Stands p (noted_after t lane c y) (record { lane = lane; call = c; reply = y } ∷ j)
+  Keeps c t y = Stands p seats (noted_after t lane c y) (record { lane = lane; call = c; reply = y } ∷ j)
 
-  noted_facts : (c : Call) → script p j lane c ≡ true → reply.Noted ≡ r.rule p j lane c
+  noted_facts : (c : Call) → MayCall p seats j lane c → Told p j lane c reply.Noted
       → EntryFacts p j (record { lane = lane; call = c; reply = reply.Noted })
-  noted_facts c may is = at_berth.at_entry p j st.legal all (record { lane = lane; call = c; reply = reply.Noted })
-      (record { scripted = may; replied = is; kept = refl })
+  noted_facts c may is = all.entries (record { lane = lane; call = c; reply = reply.Noted })
+      (record { scripted = may.scripted; told = is; kept = refl })
 
   -- ---- Wrote
 
   module _ (l : ℕ) (n : ℤ) where
-    unwritten_keeps : (how : Written) → script p j lane (call.Wrote l n how) ≡ true
+    unwritten_keeps : (how : Written) → MayCall p seats j lane (call.Wrote l n how)
         → is_unwritten how ≡ true → (o : Option Request) → order_of j lane ≡ o → is_some o ≡ true
         → Keeps (call.Wrote l n how) (wrote_with s lane (lane / 2) l n how) reply.Noted
     unfolding Keeps
     unwritten_keeps how may un None at g = absurd (cc)
     unwritten_keeps how may un (Some q) at g =
-        let calls = at_berth.at_call p j lane (call.Wrote l n how) may all in
+        let calls = all.calls lane (call.Wrote l n how) may.scripted in
         let one = calls.writes l n how q refl at in
         let here = calls.names l refl in
         let entry = noted_facts (call.Wrote l n how) may refl in
-        write_fault_stands p s j lane l n how q one.place st all.facts may here un at one.line
-        one.there one.first one.known all.more.used (at_berth.grouped p j st.legal (lane / 2) l here all.more)
+        write_fault_stands p seats s j lane l n how q one.place st all.facts may here un at one.line
+        one.there one.first one.known all.more.used (all.more.grouped (lane / 2) l here)
         entry.stays (entry.unwritten l n how q refl un at)
 
-    fed_keeps : script p j lane (call.Wrote l n write.FeedFault) ≡ true → (o : Option Request)
+    fed_keeps : MayCall p seats j lane (call.Wrote l n write.FeedFault) → (o : Option Request)
         → order_of j lane ≡ o → Keeps (call.Wrote l n write.FeedFault)
         (wrote_with s lane (lane / 2) l n write.FeedFault) reply.Noted
     unfolding Keeps
     fed_keeps may None at =
-        let here = (at_berth.at_call p j lane (call.Wrote l n write.FeedFault) may all).names l refl in
-        cancel_fault_stands p s j lane l n st may here (noted_facts
+        let here = (all.calls lane (call.Wrote l n write.FeedFault) may.scripted).names l refl in
+        cancel_fault_stands p seats s j lane l n st may here (noted_facts
         (call.Wrote l n write.FeedFault) may refl).stays at
     fed_keeps may (Some q) at =
-        let calls = at_berth.at_call p j lane (call.Wrote l n write.FeedFault) may all in
+        let calls = all.calls lane (call.Wrote l n write.FeedFault) may.scripted in
         let one = calls.writes l n write.FeedFault q refl at in
         let entry = noted_facts (call.Wrote l n write.FeedFault) may refl in
-        feed_fault_stands p s j lane l n st may (calls.names l refl) entry.stays all.facts q
+        feed_fault_stands p seats s j lane l n st may (calls.names l refl) entry.stays all.facts q
         one.place at one.line one.there one.first one.unfed all.more.used
         (entry.fed l n q refl at)
 
-    wrote_keeps : (how : Written) → script p j lane (call.Wrote l n how) ≡ true
+    wrote_keeps : (how : Written) → MayCall p seats j lane (call.Wrote l n how)
         → Keeps (call.Wrote l n how) (wrote_with s lane (lane / 2) l n how) reply.Noted
     unfolding Keeps
-    wrote_keeps write.Done may = wrote_stands p s j lane l st n may
+    wrote_keeps write.Done may = wrote_stands p seats s j lane l st n may
     wrote_keeps write.FeedFault may = fed_keeps may (order_of j lane) refl
     wrote_keeps write.RoomFault may = unwritten_keeps write.RoomFault may refl
-        (order_of j lane) refl (write_ordered p j lane l n write.RoomFault may refl)
+        (order_of j lane) refl (write_ordered p j lane l n write.RoomFault may.scripted refl)
     wrote_keeps write.TooLarge may = unwritten_keeps write.TooLarge may refl (order_of j lane) refl
-        (write_ordered p j lane l n write.TooLarge may refl)
+        (write_ordered p j lane l n write.TooLarge may.scripted refl)
 
   -- ---- Claim
 
@@ -351,8 +346,8 @@ module _ (p : Plan) (s : State) (j : List Entry) (lane : ℕ) (st : Stands p s j
     t = attempt_of a b n
 
     bound_at : (l : ℕ) (u : Attempt) → bound p j l ≡ Some u
-        → (w : ℕ) × (w < berths p) × (last_line j w ≡ Some l)
-    bound_at l u h = let x = all.more.bound_at l u h in (x.berth, at_berth.below p j st.legal x.berth l x.here, x.here)
+        → (w : ℕ) × (w < seats) × (last_line j w ≡ Some l)
+    bound_at l u h = let x = all.more.bound_at l u h in (x.berth, berth_below p seats s j x.berth l st x.here, x.here)
 
     known : begun j t ≡ true → a < length p.actions
     known h = let u = all.more.used t h in slice_get_within p.actions a u.action u.place
@@ -366,57 +361,57 @@ module _ (p : Plan) (s : State) (j : List Entry) (lane : ℕ) (st : Stands p s j
     won_is h = ap is_some (races.winner_is p s.race j a st.race (known h))
         ∙ some_map (λ (y : Attempt × Found). y.0.branch) (grant_of j a)
 
-    module _ (f : Found) (may : script p j lane (call.Claim a b n f) ≡ true) where
+    module _ (f : Found) (may : MayCall p seats j lane (call.Claim a b n f)) where
       one : ClaimsOne j a b n
-      one = (at_berth.at_call p j lane (call.Claim a b n f) may all).claims a n b f refl
+      one = (all.calls lane (call.Claim a b n f) may.scripted).claims a n b f refl
 
       again_keeps : granted j a ≡ false → (again : Bool)
-          → cond again reply.AgainLater reply.Dropped ≡ r.rule p j lane (call.Claim a b n f)
+          → cond again reply.AgainLater reply.Dropped ≡ plain_reply p j lane (call.Claim a b n f)
           → Keeps (call.Claim a b n f) (with_end s t) (cond again reply.AgainLater reply.Dropped)
       unfolding Keeps
       again_keeps free true is =
-          let entry = at_berth.at_entry p j st.legal all (record {
+          let entry = all.entries (record {
             lane = lane;
             call = call.Claim a b n f;
             reply = reply.AgainLater;
-          }) (record { scripted = may; replied = is; kept = refl }) in
-          again_stands p s j lane a n b f st may all.facts one.sent one.start
+          }) (record { scripted = may.scripted; told = is; kept = refl }) in
+          again_stands p seats s j lane a n b f st may all.facts one.sent one.start
           (all.more.used t one.start) free is entry.stays (entry.refused (t, f) refl)
       again_keeps free false is =
-          let entry = at_berth.at_entry p j st.legal all (record {
+          let entry = all.entries (record {
             lane = lane;
             call = call.Claim a b n f;
             reply = reply.Dropped;
-          }) (record { scripted = may; replied = is; kept = refl }) in
-          dropped_stands p s j lane a n b f st may all.facts one.sent one.start
+          }) (record { scripted = may.scripted; told = is; kept = refl }) in
+          dropped_stands p seats s j lane a n b f st may all.facts one.sent one.start
           (all.more.used t one.start) free is entry.stays (entry.refused (t, f) refl)
 
-      granted_facts : reply.Granted ≡ r.rule p j lane (call.Claim a b n f)
+      granted_facts : reply.Granted ≡ plain_reply p j lane (call.Claim a b n f)
           → EntryFacts p j (record {
             lane = lane;
             call = call.Claim a b n f;
             reply = reply.Granted;
           })
-      granted_facts is = at_berth.at_entry p j st.legal all (record {
+      granted_facts is = all.entries (record {
         lane = lane;
         call = call.Claim a b n f;
         reply = reply.Granted;
-      }) (record { scripted = may; replied = is; kept = refl })
+      }) (record { scripted = may.scripted; told = is; kept = refl })
 
-    found_keeps : (f : Found) → script p j lane (call.Claim a b n f) ≡ true → granted j a ≡ false
-        → found_reply s t f ≡ r.rule p j lane (call.Claim a b n f)
+    found_keeps : (f : Found) → MayCall p seats j lane (call.Claim a b n f) → granted j a ≡ false
+        → found_reply s t f ≡ plain_reply p j lane (call.Claim a b n f)
         → Keeps (call.Claim a b n f) (found_with s t f) (found_reply s t f)
     unfolding Keeps
     found_keeps (found.Files fs) may free is =
         let entry = granted_facts (found.Files fs) may is in
         let open_yet = entry.grants (t, found.Files fs) refl in
-        granted_stands p s j lane a n b (found.Files fs) st may is open_yet.ungranted
+        granted_stands p seats s j lane a n b (found.Files fs) st may is open_yet.ungranted
         open_yet.uncommitted entry.stays bound_at (queue.with_unwanted s.ready a)
         (queues.granted_files p j lane a n b fs open_yet s.ready st.ready)
     found_keeps (found.Exit code) may free is =
         let entry = granted_facts (found.Exit code) may is in
         let open_yet = entry.grants (t, found.Exit code) refl in
-        granted_stands p s j lane a n b (found.Exit code) st may is open_yet.ungranted
+        granted_stands p seats s j lane a n b (found.Exit code) st may is open_yet.ungranted
         open_yet.uncommitted entry.stays bound_at (queue.with_settled
         (queue.with_unwanted s.ready a) a false) (queues.granted_exit p j lane a n b code
         open_yet s.ready st.ready)
@@ -427,26 +422,26 @@ module _ (p : Plan) (s : State) (j : List Entry) (lane : ℕ) (st : Stands p s j
     found_keeps found.Refused may free is = again_keeps found.Refused may free
         (nat_lt n s.plan.limit) is
 
-    won_keeps : (f : Found) → script p j lane (call.Claim a b n f) ≡ true → (w : Bool)
-        → is_won s t ≡ w → cond w reply.Lost (found_reply s t f) ≡ r.rule p j lane
+    won_keeps : (f : Found) → MayCall p seats j lane (call.Claim a b n f) → (w : Bool)
+        → is_won s t ≡ w → cond w reply.Lost (found_reply s t f) ≡ plain_reply p j lane
         (call.Claim a b n f) → Keeps (call.Claim a b n f) (cond w s (found_with s t f))
         (cond w reply.Lost (found_reply s t f))
     unfolding Keeps
-    won_keeps f may true h is = lost_stands p s j lane a n b f st may is
+    won_keeps f may true h is = lost_stands p seats s j lane a n b f st may is
     won_keeps f may false h is = found_keeps f may (sym (won_is (one f may).start) ∙ h) is
 
-    claim_reply : (f : Found) → script p j lane (call.Claim a b n f) ≡ true
-        → claim_reply_by s t f ≡ r.rule p j lane (call.Claim a b n f)
-    claim_reply f may = claim_is p s j lane a n b f st may (known (one f may).start)
+    claim_reply : (f : Found) → MayCall p seats j lane (call.Claim a b n f)
+        → claim_reply_by s t f ≡ plain_reply p j lane (call.Claim a b n f)
+    claim_reply f may = claim_is p seats s j lane a n b f st may (known (one f may).start)
         (one f may).apart
 
   -- ---- Take
 
-  module _ (may : script p j lane call.Take ≡ true) where
+  module _ (may : MayCall p seats j lane call.Take) where
     abbrev stop_entry : Entry
     stop_entry = record { lane = lane; call = call.Take; reply = reply.Stop }
 
-    stop_quiet : IsQuiet p j stop_entry
+    stop_quiet : IsQuiet seats j stop_entry
     unfolding wrote
     stop_quiet = record {
       no_launch = refl;
@@ -456,24 +451,24 @@ module _ (p : Plan) (s : State) (j : List Entry) (lane : ℕ) (st : Stands p s j
       no_feed = λ u. refl;
     }
 
-    stop_spends : SpendsNone p j stop_entry
+    stop_spends : SpendsNone seats j stop_entry
     unfolding wrote granted grant_of gathered
     stop_spends = record { no_send = refl; no_match = refl; same = λ u. refl }
 
-    stop_keeps : (b : Bool) → cond b reply.Stop reply.Idle ≡ r.rule p j lane call.Take
+    stop_keeps : (b : Bool) → cond b reply.Stop reply.Idle ≡ plain_reply p j lane call.Take
         → is_kept (cond b reply.Stop reply.Idle) ≡ true → Keeps call.Take s
         (cond b reply.Stop reply.Idle)
     unfolding Keeps
-    stop_keeps true is kept = quiet_stands p s j stop_entry st
-        (record { scripted = may; replied = is; kept = refl }) refl refl refl refl refl refl
-        (quiet_greetings p j stop_entry refl refl s.greetings st.greetings) stop_quiet stop_spends
+    stop_keeps true is kept = quiet_stands p seats s j stop_entry st
+        (record { scripted = may.scripted; told = is; kept = refl }) may.berth refl refl refl refl refl refl
+        (quiet_greetings seats j stop_entry refl refl s.greetings st.greetings) stop_quiet stop_spends
     stop_keeps false is kept = absurd (cc)
 
     taken_keeps : (o : Option ℕ) → ((l : ℕ) → o ≡ Some l → last_line j (lane / 2) ≡ Some l)
-        → take_reply s o ≡ r.rule p j lane call.Take → is_kept (take_reply s o) ≡ true
+        → take_reply s o ≡ plain_reply p j lane call.Take → is_kept (take_reply s o) ≡ true
         → Keeps call.Take (taken_with s (lane / 2) o) (take_reply s o)
     unfolding Keeps
-    taken_keeps (Some l) here is kept = take_stands p s j lane st l may (here l refl) is
+    taken_keeps (Some l) here is kept = take_stands p seats s j lane st l may (here l refl) is
     taken_keeps None here is kept = stop_keeps (is_over s) is kept
 
     takes_here : (q : Option ℕ) (l : ℕ) → takes_line s (lane / 2) q ≡ Some l → q ≡ Some l
@@ -486,70 +481,72 @@ module _ (p : Plan) (s : State) (j : List Entry) (lane : ℕ) (st : Stands p s j
         → Keeps call.Take (taken_with s (lane / 2) (takeable s (lane / 2)))
         (take_reply s (takeable s (lane / 2)))
     take_keeps kept = taken_keeps (takeable s (lane / 2))
-        (λ l h. sym (last_is p s.pool j st.pool (lane / 2) (lane_within p j lane call.Take may))
-        ∙ takes_here (rows.last_of s.pool (lane / 2)) l h) (take_is p s j lane st may) kept
+        (λ l h. sym (last_is p seats s.pool j st.pool (lane / 2) may.berth)
+        ∙ takes_here (rows.last_of s.pool (lane / 2)) l h) (take_is p seats s j lane st may) kept
 
   -- ---- each call
 
-  module _ (seat : Seat) (seated : seat_at p (lane / 2) ≡ Some seat) where
-    call_reply : (c : Call) → is_look c ≡ false → script p j lane c ≡ true
-        → made_reply s lane seat c ≡ r.rule p j lane c
-    call_reply call.Ask h may = choice_is p s j lane st all.facts may
-    call_reply (call.Launched l how) h may = refl
-    call_reply (call.Wrote l n how) h may = refl
-    call_reply (call.Look x) h may = absurd (cc)
-    call_reply (call.Claim a b n f) h may = claim_reply a n b f may
-    call_reply (call.Committed a b how) h may = refl
-    call_reply (call.Killed l) h may = refl
-    call_reply call.Take h may = take_is p s j lane st may
-    call_reply (call.Answer l x) h may =
-        let here = (at_berth.at_call p j lane (call.Answer l x) may all).names l refl in
-        answer_is p s j lane l seat x st all.facts may here seated
-        (at_berth.grouped p j st.legal (lane / 2) l here all.more) (at_berth.alone p j st.legal (lane / 2) l here all.more)
-    call_reply (call.Ended l how) h may = refl
-    call_reply call.Halt h may = refl
-    call_reply call.Tick h may = refl
+  module _ (seat : Seat) (fits : SeatFits p j (lane / 2) seat) where
+    call_told : (c : Call) → is_report c ≡ true → MayCall p seats j lane c
+        → Told p j lane c (made_reply s lane seat c)
+    call_told call.Ask h may = absurd (cc)
+    call_told (call.Launched l how) h may = refl
+    call_told (call.Wrote l n how) h may = refl
+    call_told (call.Look x) h may = absurd (cc)
+    call_told (call.Claim a b n f) h may = claim_reply a n b f may
+    call_told (call.Committed a b how) h may = refl
+    call_told (call.Killed l) h may = refl
+    call_told call.Take h may = take_is p seats s j lane st may
+    call_told (call.Answer l x) h may =
+        let here = (all.calls lane (call.Answer l x) may.scripted).names l refl in
+        answer_is p seats s j lane l seat x st all.facts may here fits
+        (all.more.grouped (lane / 2) l here) (all.more.alone (lane / 2) l here)
+    call_told (call.Ended l how) h may = refl
+    call_told call.Halt h may = refl
+    call_told call.Tick h may = Counts
 
-    call_keeps : (c : Call) → is_look c ≡ false → script p j lane c ≡ true
+    call_keeps : (c : Call) → is_report c ≡ true → MayCall p seats j lane c
         → is_kept (made_reply s lane seat c) ≡ true → Keeps c (made s lane seat c)
         (made_reply s lane seat c)
     unfolding Keeps
-    call_keeps call.Ask h may kept = ask_stands p s j lane st all.facts may kept
-    call_keeps (call.Launched l how) h may kept = launched_keeps p s j lane l how st all may
+    call_keeps call.Ask h may kept = absurd (cc)
+    call_keeps (call.Launched l how) h may kept = launched_keeps p seats s j lane l how st all may
     call_keeps (call.Wrote l n how) h may kept = wrote_keeps l n how may
     call_keeps (call.Look x) h may kept = absurd (cc)
     call_keeps (call.Claim a b n f) h may kept = won_keeps a n b f may
         (is_won s (attempt_of a b n)) refl (claim_reply a n b f may)
-    call_keeps (call.Committed a b how) h may kept = commit_stands p s j lane a b how st may
+    call_keeps (call.Committed a b how) h may kept = commit_stands p seats s j lane a b how st may
         (noted_facts (call.Committed a b how) may refl).stays
-        ((at_berth.at_call p j lane (call.Committed a b how) may all).commits a b how refl)
-    call_keeps (call.Killed l) h may kept = killed_stands p s j lane st l may
+        ((all.calls lane (call.Committed a b how) may.scripted).commits a b how refl)
+    call_keeps (call.Killed l) h may kept = killed_stands p seats s j lane st l may
     call_keeps call.Take h may kept = take_keeps may kept
     call_keeps (call.Answer l x) h may kept =
-        let calls = at_berth.at_call p j lane (call.Answer l x) may all in
-        answered_stands p s j lane l seat x st may (calls.names l refl) (calls.consumes l x refl)
-        (call_reply (call.Answer l x) refl may)
+        let calls = all.calls lane (call.Answer l x) may.scripted in
+        answered_stands p seats s j lane l seat x st may (calls.names l refl) (calls.consumes l x refl)
+        (call_told (call.Answer l x) refl may)
     call_keeps (call.Ended l how) h may kept =
-        let calls = at_berth.at_call p j lane (call.Ended l how) may all in
+        let calls = all.calls lane (call.Ended l how) may.scripted in
         let here = calls.names l refl in
         let entry = noted_facts (call.Ended l how) may refl in
-        ended_stands p s j lane l seat how st all.facts may here seated all.more.used
-        (at_berth.grouped p j st.legal (lane / 2) l here all.more) (calls.lost l how refl) all.more.carries
+        ended_stands p seats s j lane l seat how st all.facts may here fits all.more.used
+        (all.more.grouped (lane / 2) l here) (calls.lost l how refl) all.more.carries
         entry.stays (entry.finished l how refl)
-    call_keeps call.Halt h may kept = halt_stands p s j lane st may
-    call_keeps call.Tick h may kept = absurd (no_tick p (kind_of p (lane / 2)) j lane
-        (and_parts (nat_lt lane (2 * berths p)) _ may).1)
+    call_keeps call.Halt h may kept = halt_stands p seats s j lane st may
+    call_keeps call.Tick h may kept = tick_stands p seats s j lane st may
 
-pub reply_is : (p : Plan) (s : State) (j : List Entry) (lane : ℕ) (seat : Seat) (c : Call)
-    → Stands p s j → LawfulMore p j → seat_at p (lane / 2) ≡ Some seat → is_look c ≡ false
-    → script p j lane c ≡ true → made_reply s lane seat c ≡ r.rule p j lane c
-reply_is p s j lane seat c st all seated h may = call_reply p s j lane st all seat seated c h may
+-- ---- each call but an Ask and a Look
 
-pub call_stands : (p : Plan) (s : State) (j : List Entry) (lane : ℕ) (seat : Seat) (c : Call)
-    → Stands p s j → LawfulMore p j → seat_at p (lane / 2) ≡ Some seat → is_look c ≡ false
-    → script p j lane c ≡ true → is_kept (made_reply s lane seat c) ≡ true
-    → Stands p (noted_after (made s lane seat c) lane c (made_reply s lane seat c))
+pub call_is_told : (p : Plan) (seats : ℕ) (s : State) (j : List Entry) (lane : ℕ) (seat : Seat)
+    (c : Call) → Stands p seats s j → LawfulMore p j → SeatFits p j (lane / 2) seat
+    → is_report c ≡ true → MayCall p seats j lane c → Told p j lane c (made_reply s lane seat c)
+call_is_told p seats s j lane seat c st all fits h may =
+    call_told p seats s j lane st all seat fits c h may
+
+pub call_stands : (p : Plan) (seats : ℕ) (s : State) (j : List Entry) (lane : ℕ) (seat : Seat)
+    (c : Call) → Stands p seats s j → LawfulMore p j → SeatFits p j (lane / 2) seat
+    → is_report c ≡ true → MayCall p seats j lane c → is_kept (made_reply s lane seat c) ≡ true
+    → Stands p seats (noted_after (made s lane seat c) lane c (made_reply s lane seat c))
     (record { lane = lane; call = c; reply = made_reply s lane seat c } ∷ j)
 unfolding Keeps
-call_stands p s j lane seat c st all seated h may kept =
-    call_keeps p s j lane st all seat seated c h may kept
+call_stands p seats s j lane seat c st all fits h may kept =
+    call_keeps p seats s j lane st all seat fits c h may kept

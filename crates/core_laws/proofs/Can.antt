@@ -1,6 +1,6 @@
 -- All that the calls of the tables ask is there.
-use Rattle.std.proofs.Common.{◌≡◌, ℕ, ◌+◌, ◌*◌, ◌/◌, ◌<◌, ◌≤◌, ◌^◌, ◌==◌, nat_lt, nat_le, Bool, true, false, ◌&&◌, ◌||◌, not, cond, List, [], ◌∷◌, ◌++◌, length, filter, map, reverse, Option, Some, None, option_map, unwrap_or, ℤ, pos, negsuc, refl, ap, sym, subst, ◌∙◌, arith}
-use Rattle.std.specs.Prelude.{slice_get, option_and_then}
+use Rattle.std.proofs.Common.{◌≡◌, ℕ, ◌+◌, ◌*◌, ◌/◌, ◌<◌, ◌≤◌, ◌^◌, ◌==◌, nat_lt, nat_le, Bool, true, false, ◌&&◌, ◌||◌, not, cond, List, [], ◌∷◌, ◌++◌, length, filter, map, reverse, Option, Some, None, option_map, ℤ, pos, negsuc, refl, ap, sym, subst, ◌∙◌, arith}
+use Rattle.std.specs.Prelude.{slice_get}
 use Rattle.std.specs.List.{find, list_any}
 use Rattle.std.proofs.lemmas.Bool.{and_parts, eqb-true, lt-ltb, ltb-true}
 use Rattle.std.proofs.lemmas.List.{length-map, length-reverse}
@@ -18,17 +18,14 @@ use Rattle.exec_journal.specs.declared.call.Call.TheVariants as call
 use Rattle.exec_journal.specs.declared.call.Found.{Found}
 use Rattle.exec_journal.specs.declared.reply.Reply.{Reply}
 use Rattle.exec_journal.specs.declared.reply.Reply.TheVariants as reply
-use Rattle.exec_journal.specs.Entries.{Request, attempt_of, same_branch, launch_in, send_in}
+use Rattle.exec_journal.specs.Entries.{Request, attempt_of, same_branch}
 use Rattle.exec_journal.specs.Facts.{begun}
 use Rattle.list_lemmas.specs.Options.{or_else, and_more}
 use Rattle.exec_journal.specs.Rules as r
-use Rattle.exec_journal.specs.Scripts.{script}
-use Rattle.run_plan.specs.Groups.{berths, berth_group, capacity, group_of, kind_of, is_single}
-use Rattle.exec_journal.specs.Settled.{bound, earliest, free_places}
+use Rattle.run_plan.specs.Groups.{capacity, is_single}
 use Rattle.exec_journal.specs.Words.{launch_of, last_line, last_work, order_of, sends, sent_on, pending, is_pending, stopped, has_halted, granted, grant_of, wrote, says_feed_fault, has_cancel}
-use Rattle.journal_laws.proofs.Ours.{lawful}
-use Rattle.exec_journal.proofs.Begins.{attempts_in_order, bound_is, launched_begun, earliest_next, same_branch_refl}
-use Rattle.exec_journal.proofs.Ruled.{Ruled, group_at, ruled, by_bool, KillsBroken, Cancels, Notes}
+use Rattle.exec_journal.proofs.Begins.{attempts_in_order, bound_is, launched_begun, same_branch_refl}
+use Rattle.exec_journal.proofs.Ruled.{by_bool}
 use Rattle.worker_pool.specs.Rows as rows
 use Rattle.worker_pool.proofs.Answered.{pending_is, sent_fits}
 use Rattle.request_table.specs.declared.Matching.TheVariants as found
@@ -53,7 +50,7 @@ use Rattle.core_state.specs.declared.choice.Choice.{Choice}
 use Rattle.core_state.specs.declared.choice.Choice.TheVariants as choice
 use Rattle.core_tables.specs.declared.seat.Seat.{Seat}
 use Rattle.core_state.specs.declared.state.State.{State}
-use Rattle.core_state.specs.Choices.{chosen, row_at, attempt_on}
+use Rattle.core_state.specs.Choices.{row_at, attempt_on}
 use Rattle.call_laws.specs.Moments.{BranchOf}
 use Rattle.core_tables.specs.Lanes.{lane_in, state_by}
 use Rattle.core_tables.specs.Last.{fed_of, last_in, row_of}
@@ -63,26 +60,25 @@ use Rattle.core_tables.specs.Matches.{matches_of, matches_on, matches_in, match_
 use Rattle.call_laws.specs.Matches.{recent}
 use Rattle.lawful_facts.specs.Moments.{LawfulMore}
 use Rattle.core_state.specs.Reports.{CanEndSome, CanWrite, CanHear, CanHearBy, CanAnswer, CanEndPlaces, CanEndAll, attempt_in, is_pending_at, sent_in, end_all, fed_on, bound_on, places_counts, places_states, place_counts, place_states}
-use Rattle.core_laws.specs.Stands.{Stands}
-use Rattle.core_state.specs.Steps.{CanAsk, CanLaunched, CanMake}
+use Rattle.core_laws.specs.Stands.{Stands, MayCall}
+use Rattle.core_state.specs.Steps.{CanLaunched, CanMake}
 use Rattle.core_laws.proofs.Asked.{each_place, each_with, sends_begun}
 use Rattle.request_table.proofs.Sent.{open_is}
-use Rattle.core_laws.proofs.Asks.{launch_why, send_why}
+use Rattle.core_laws.proofs.Asks.{launch_why, next_branch, send_why}
+use Rattle.exec_journal.specs.Lawful.{Asked, Cancels, KillsBroken, NextOn, FromBound, FromQueue}
 use Rattle.core_laws.proofs.Calls.{launch_is}
-use Rattle.core_laws.proofs.Chosen.{choice_is, lane_within}
 use Rattle.core_tables.proofs.Lengths.{length_is}
 use Rattle.core_state.proofs.Places.{SameRoom, moved, same_room, chained, place_keeps}
 use Rattle.core_laws.proofs.Read.{reads, seats_are, lasts_are, greetings_are, matches_are, cancels_are, counts_are, states_are, line_below}
 use Rattle.core_laws.proofs.Rowed.{berth_of, lane_inside, sent_is}
-use Rattle.core_tables.proofs.Seated.{seat_is}
-use Rattle.core_laws.proofs.AtBerths as at_berth
+use Rattle.exec_journal.specs.Seated.{group_on, line_kind}
 
-module _ (p : Plan) (s : State) (j : List Entry) (st : Stands p s j) (all : LawfulMore p j) where
+module _ (p : Plan) (seats : ℕ) (s : State) (j : List Entry) (st : Stands p seats s j) (all : LawfulMore p j) where
   -- ---- the rooms of the tables
 
-  lanes_are : length s.lanes ≡ 2 * berths p
+  lanes_are : length s.lanes ≡ 2 * seats
   unfolding lane_in
-  lanes_are = length_is s.lanes (2 * berths p) (λ n. state_by (last_work j n) (stopped j n)
+  lanes_are = length_is s.lanes (2 * seats) (λ n. state_by (last_work j n) (stopped j n)
       (has_halted j n)) st.lanes
 
   race_is : length s.race ≡ length p.actions
@@ -97,8 +93,8 @@ module _ (p : Plan) (s : State) (j : List Entry) (st : Stands p s j) (all : Lawf
   fits : (t : Attempt) → t.action < length p.actions → t.number ≤ p.limit → CanEnd s t
   fits t known few =
       let a = race_is in
-      let b = counts_are p s j st all.facts in
-      let c = states_are p s j st all.facts in
+      let b = counts_are p seats s j st all.facts in
+      let c = states_are p seats s j st all.facts in
       let d = st.attempts.limit in
       record {
         race_known = omega arith;
@@ -112,7 +108,7 @@ module _ (p : Plan) (s : State) (j : List Entry) (st : Stands p s j) (all : Lawf
 
   limited : (t : Attempt) → begun j t ≡ true → t.number ≤ p.limit
   limited t h =
-      let order = attempts_in_order p j (lawful p j st.legal) in
+      let order = attempts_in_order p j st.lawful in
       let a = (order.numbered t h).1 in
       let b = order.limited t.action t.branch st.sound.least in
       omega arith
@@ -128,36 +124,36 @@ module _ (p : Plan) (s : State) (j : List Entry) (st : Stands p s j) (all : Lawf
 
   inside : (w l : ℕ) → last_line j w ≡ Some l → Inside l
   inside w l here =
-      let below = (berth_of p s j w l st here).below in
+      let below = (berth_of p seats s j w l st here).below in
       let count = st.pool.count in
       let fit = all.facts.lines_fit in
       let table : l < line_room p = omega arith in
       let a = st.requests.room in
-      let b = cancels_are p s j st all.facts in
+      let b = cancels_are p seats s j st all.facts in
       record { pool = omega arith; table = table; requests = omega arith; cancels = omega arith }
 
-  in_last : (w : ℕ) → w < berths p → w < length s.last
-  in_last w lt = let a = lasts_are p s j st all.facts in omega arith
+  in_last : (w : ℕ) → w < seats → w < length s.last
+  in_last w lt = let a = lasts_are p seats s j st all.facts in omega arith
 
-  in_greetings : (w : ℕ) → w < berths p → w < length s.greetings
-  in_greetings w lt = let a = greetings_are p s j st all.facts in omega arith
+  in_greetings : (w : ℕ) → w < seats → w < length s.greetings
+  in_greetings w lt = let a = greetings_are p seats s j st all.facts in omega arith
 
   waiting : (w l : ℕ) → last_line j w ≡ Some l → rows.pending_of s.pool l ≡ length (pending j l)
-  waiting w l here = let own = (berth_of p s j w l st here).owner in
-      pending_is p s.pool j st.pool l own.0 own.1 own.2
+  waiting w l here = let own = (berth_of p seats s j w l st here).owner in
+      pending_is p seats s.pool j st.pool l own.0 own.1 own.2
 
   module _ (lane : ℕ) where
-    in_lanes : (c : Call) → script p j lane c ≡ true → lane < length s.lanes
-    in_lanes c may = let a = lanes_are in let b = ltb-true lane (2 * berths p)
-        (lane_inside p j lane c may) in omega arith
+    in_lanes : (c : Call) → MayCall p seats j lane c → lane < length s.lanes
+    in_lanes c may = let a = lanes_are in let b = ltb-true lane (2 * seats)
+        (lane_inside seats lane may.berth) in omega arith
 
     -- ---- Launched
 
-    launched_can : (l : ℕ) (c : Call) → script p j lane c ≡ true → last_line j (lane / 2) ≡ Some l
+    launched_can : (l : ℕ) (c : Call) → MayCall p seats j lane c → last_line j (lane / 2) ≡ Some l
         → ((m : ℕ) (t : Attempt) → launch_of j l ≡ Some (m, t) → launch_by s lane ≡ Some t)
         → CanLaunched s lane l
     launched_can l c may here newest =
-        let own = (berth_of p s j (lane / 2) l st here).owner in
+        let own = (berth_of p seats s j (lane / 2) l st here).owner in
         record {
           lane_known = in_lanes c may;
           line = (inside (lane / 2) l here).pool;
@@ -184,7 +180,7 @@ module _ (p : Plan) (s : State) (j : List Entry) (st : Stands p s j) (all : Lawf
             (asks.places_of s.requests l) h in let k = ap length e in omega arith)
         by (r ∷ rs) e = omega arith
 
-    wrote_can : (l : ℕ) (c : Call) → script p j lane c ≡ true → last_line j (lane / 2) ≡ Some l
+    wrote_can : (l : ℕ) (c : Call) → MayCall p seats j lane c → last_line j (lane / 2) ≡ Some l
         → ((q : Request) → order_of j lane ≡ Some q → begun j q.attempt ≡ true)
         → CanWrite s lane (lane / 2) l (sent_in (order_at s lane))
     wrote_can l c may here start =
@@ -192,12 +188,12 @@ module _ (p : Plan) (s : State) (j : List Entry) (st : Stands p s j) (all : Lawf
         record {
           lane_known = in_lanes c may;
           line = at.pool;
-          last = in_last (lane / 2) (lane_within p j lane c may);
+          last = in_last (lane / 2) (may.berth);
           requests = at.requests;
           cancels = at.cancels;
           pending = λ u is h. (let n = none_open u l at.table h in
               let e = waiting (lane / 2) l here in omega arith);
-          ends = subst (CanEndSome s) (sym (sent_is p s j lane c st may))
+          ends = subst (CanEndSome s) (sym (sent_is p seats s j lane c st may))
               (by (order_of j lane) refl);
         }
       where
@@ -214,16 +210,16 @@ module _ (p : Plan) (s : State) (j : List Entry) (st : Stands p s j) (all : Lawf
     claim_can a n b start apart =
         let u = unwanted_are in
         let k = in_plan (attempt_of a b n) start in
-        let x = seats_are p s j st all.facts in
-        let y = lasts_are p s j st all.facts in
-        let few = st.sound.seats in
+        let x = seats_are p seats s j st all.facts in
+        let y = lasts_are p seats s j st all.facts in
+        let few = st.few in
         record {
           ends = can_end (attempt_of a b n) start;
           cancels = omega arith;
           other = λ h. other_by (grant_of j a) refl (sym (winner_is p s.race j a st.race k) ∙ h);
           seats = omega arith;
           few = omega arith;
-          lines = line_below p s j st all.facts;
+          lines = line_below p seats s j st all.facts;
         }
       where
         other_by : (o : Option (Attempt × Found)) → grant_of j a ≡ o → branch_in o ≡ Some b → ⊥
@@ -337,10 +333,10 @@ module _ (p : Plan) (s : State) (j : List Entry) (st : Stands p s j) (all : Lawf
         let c = column_fits (2 * length p.actions) p.limit 8192 11 (omega arith) (omega arith) in
         omega arith
 
-    row_length : (v : ℕ) → v < berths p → length (matches_of s.matches v) ≡ length (recent j v)
+    row_length : (v : ℕ) → v < seats → length (matches_of s.matches v) ≡ length (recent j v)
     unfolding matches_in
     row_length v lt =
-        let within : nat_lt v (berths p) ≡ true = lt-ltb v (berths p) lt in
+        let within : nat_lt v seats ≡ true = lt-ltb v seats lt in
         ap (λ (o : Option (ArrayVec Match)). length (matches_on o))
         (st.matches v ∙ ap (λ b. cond b (Some (record {
           items =
@@ -348,13 +344,13 @@ module _ (p : Plan) (s : State) (j : List Entry) (st : Stands p s j) (all : Lawf
         })) None) within)
         ∙ length-reverse (map (match_in j) (recent j v)) ∙ length-map (recent j v) (match_in j)
 
-    hear_can : (w l : ℕ) (n : ℕ) (t : Attempt) → w < berths p → last_line j w ≡ Some l
+    hear_can : (w l : ℕ) (n : ℕ) (t : Attempt) → w < seats → last_line j w ≡ Some l
         → t.action < length p.actions → n ≤ 2 * length p.actions * p.limit
         → 0 < length (pending j l) → CanHear s w l (pos n) t
     hear_can w l n t lt here known few some =
         let at = inside w l here in
         let race = race_is in
-        let matches = matches_are p s j st all.facts in
+        let matches = matches_are p seats s j st all.facts in
         let fit = all.more.matches_fit w l here in
         let wait = waiting w l here in
         record {
@@ -369,14 +365,14 @@ module _ (p : Plan) (s : State) (j : List Entry) (st : Stands p s j) (all : Lawf
           room = subst (λ m. m < 8) (sym (row_length w lt)) (omega arith);
         }
 
-    answer_can : (c : Call) (seat : Seat) (l : ℕ) (n : ℤ) → script p j lane c ≡ true
+    answer_can : (c : Call) (seat : Seat) (l : ℕ) (n : ℤ) → MayCall p seats j lane c
         → last_line j (lane / 2) ≡ Some l → CanAnswer s (lane / 2) seat l n
     answer_can c seat l n may here =
         let at = inside (lane / 2) l here in
         record {
           line = at.pool;
-          last = in_last (lane / 2) (lane_within p j lane c may);
-          greetings = in_greetings (lane / 2) (lane_within p j lane c may);
+          last = in_last (lane / 2) (may.berth);
+          greetings = in_greetings (lane / 2) (may.berth);
           requests = at.requests;
           found = by n;
         }
@@ -386,10 +382,10 @@ module _ (p : Plan) (s : State) (j : List Entry) (st : Stands p s j) (all : Lawf
             (found.Pending y.action y.attempt))
         place_by m y h true = (let e = h.1 in let few = h.0.number in
             hear_can (lane / 2) l m (attempt_in s.plan seat y.action y.attempt)
-            (lane_within p j lane c may) here h.0.action (omega arith) h.0.some)
+            (may.berth) here h.0.action (omega arith) h.0.some)
         place_by m y h false = (let e = h.1 in let few = h.0.number in
             hear_can (lane / 2) l m (attempt_in s.plan seat y.action y.attempt)
-            (lane_within p j lane c may) here h.0.action (omega arith) h.0.some)
+            (may.berth) here h.0.action (omega arith) h.0.some)
 
         none_by : (m : ℕ) (b : Bool) → CanHearBy s (lane / 2) seat l (pos m)
             (cond b found.Closed found.Never)
@@ -488,12 +484,12 @@ module _ (p : Plan) (s : State) (j : List Entry) (st : Stands p s j) (all : Lawf
     some_can t (Some u) same race start = subst (λ x. EndFits x t.attempts t.ready u) (sym race)
         (moved s.race s.attempts t.attempts s.ready t.ready u same (can_end u (start u refl)))
 
-    ended_can : (c : Call) (seat : Seat) (l : ℕ) → script p j lane c ≡ true
+    ended_can : (c : Call) (seat : Seat) (l : ℕ) → MayCall p seats j lane c
         → last_line j (lane / 2) ≡ Some l → CanEndAll s (lane / 2) seat l
     unfolding last_in fed_of
     ended_can c seat l may here =
         let at = inside (lane / 2) l here in
-        let lt = lane_within p j lane c may in
+        let lt = may.berth in
         record {
           line = at.pool;
           last = in_last (lane / 2) lt;
@@ -513,8 +509,8 @@ module _ (p : Plan) (s : State) (j : List Entry) (st : Stands p s j) (all : Lawf
       where
         row : slice_get s.last (lane / 2) ≡ Some (row_of j (Some l))
         row =
-            let within : nat_lt (lane / 2) (berths p) ≡ true =
-            lt-ltb (lane / 2) (berths p) (lane_within p j lane c may) in
+            let within : nat_lt (lane / 2) seats ≡ true =
+            lt-ltb (lane / 2) seats (may.berth) in
             st.last (lane / 2) ∙ ap (λ b. cond b (Some (row_of j (last_line j (lane / 2)))) None)
             within ∙ ap (λ o. Some (row_of j o)) here
 
@@ -538,7 +534,7 @@ module _ (p : Plan) (s : State) (j : List Entry) (st : Stands p s j) (all : Lawf
 
         bound_start : (u : Attempt) → bound_on s (lane / 2) l ≡ Some u → begun j u ≡ true
         bound_start u e =
-            let own = (berth_of p s j (lane / 2) l st here).owner in
+            let own = (berth_of p seats s j (lane / 2) l st here).owner in
             by_bool ((row_at s l).bound) (λ b. cond b (attempt_on (slice_get s.last (lane / 2)))
             None ≡ Some u → begun j u ≡ true)
             (λ _ k. let z : Some own.1 ≡ Some u = sym (ap attempt_on row
@@ -620,9 +616,9 @@ module _ (p : Plan) (s : State) (j : List Entry) (st : Stands p s j) (all : Lawf
         (numbered_most (st.requests.numbered l).single (sends j l)
         (st.requests.numbered l).numbers))
 
-    cancel_why : (d : Call) (y : Reply) (l : ℕ) (n : ℤ) → Ruled p j lane d y
+    cancel_why : (y : Reply) (l : ℕ) (n : ℤ) → Asked p j (lane / 2) y
         → cancel_in y ≡ Some (l, n) → Cancelled_one l n
-    cancel_why d y l n (Cancels m q here alive cancels first none) h =
+    cancel_why y l n (Cancels m q here alive cancels first none) h =
         let at = each_oldest (Sent_on m) (filter (λ x. r.is_unwanted p j x && not (has_cancel j x))
         (pending j m)) q (each_left (Sent_on m) (λ x. r.is_unwanted p j x
         && not (has_cancel j x)) (pending j m) (sent_pending m)) first in
@@ -638,46 +634,29 @@ module _ (p : Plan) (s : State) (j : List Entry) (st : Stands p s j) (all : Lawf
           known = subst (λ z. z ≡ pos (natural z)) number at.natural_one;
           few = subst (λ z. natural z ≤ 2 * length p.actions * p.limit) number fit;
         }
-    cancel_why d y l n (KillsBroken m z here run broken over) h = absurd (cc)
-    cancel_why d y l n (Notes z m) h = absurd (cc)
-    cancel_why d y l n _ h = absurd (cc)
+    cancel_why y l n (KillsBroken m z here run broken over) h = absurd (cc)
+    cancel_why y l n _ h = absurd (cc)
 
-    -- the next attempt of a Send
-    record Next_one (t : Attempt) : Type 0 where
+    -- the next attempt of a Send to the line
+    record Next_one (l : ℕ) (t : Attempt) : Type 0 where
       known : t.action < length p.actions
-      group : BranchOf p t (berth_group p (lane / 2))
+      group : BranchOf p t (group_on p j l)
 
-    module _ (may : script p j lane call.Ask ≡ true) where
-      lt : lane / 2 < berths p
-      lt = lane_within p j lane call.Ask may
+    module _ (may : MayCall p seats j lane call.Ask) where
+      lt : lane / 2 < seats
+      lt = may.berth
 
-      uses_is : (o : Option ℕ) (g : ℕ) → unwrap_or (option_map (λ k. k == g) o) false ≡ true
-          → o ≡ Some g
-      uses_is (Some k) g h = ap Some (eqb-true k g h)
-      uses_is None g h = absurd (cc)
-
-      first_one : (t : Attempt) → earliest p j (group_at p (lane / 2)) ≡ Some t → Next_one t
-      first_one t next =
-          let at = seat_is p (lane / 2) lt in
-          let it = earliest_next p j (group_at p (lane / 2)) t next in
-          let group : group_at p (lane / 2) ≡ at.0.group = ap (λ o. unwrap_or o 0) at.1.group in
-          record {
-            known = slice_get_within p.actions t.action it.action it.place;
-            group = ap (option_and_then (λ x. group_of x t.branch)) it.place
-                ∙ uses_is (group_of it.action t.branch) (group_at p (lane / 2)) it.group
-                ∙ ap Some group ∙ sym at.1.group;
-          }
-
-      next_one : (l : ℕ) (t : Attempt) → last_line j (lane / 2) ≡ Some l
-          → (o : Option Attempt) (room : Bool) → bound p j l ≡ o
-          → or_else o (cond room (earliest p j (group_at p (lane / 2))) None) ≡ Some t → Next_one t
-      next_one l t here (Some u) room was h = (let b = bound_is p j l t (was ∙ h) in
+      next_one : (l : ℕ) (t : Attempt) → last_line j (lane / 2) ≡ Some l → NextOn p j l t
+          → Next_one l t
+      next_one l t here (FromBound was) = (let b = bound_is p j l t was in
           record {
             known = in_plan t (launched_begun j l b.lane t b.launched);
-            group = at_berth.bound_group p j st.legal (lane / 2) l here all.facts t (was ∙ h);
+            group = all.facts.bound_group l t was;
           })
-      next_one l t here None true none h = first_one t h
-      next_one l t here None false none h = absurd (cc)
+      next_one l t here (FromQueue none room next) = record {
+        known = slice_get_within p.actions t.action next.action next.place;
+        group = next_branch p seats s j (lane / 2) l st all.more here t next;
+      }
 
       capacity_most : (k : Kind) → capacity k ≤ 8
       capacity_most kind.Single = omega arith
@@ -687,44 +666,42 @@ module _ (p : Plan) (s : State) (j : List Entry) (st : Stands p s j) (all : Lawf
       number_most true n = omega arith
       number_most false n = omega arith
 
-      send_can : (l : ℕ) (t : Attempt) → reply.Send l (number_of s l t) t.action t.branch t.number
-          ≡ r.rule p j lane call.Ask → CanSend s (lane / 2) l t
+      send_can : (l : ℕ) (t : Attempt) → Asked p j (lane / 2)
+          (reply.Send l (number_of s l t) t.action t.branch t.number) → CanSend s (lane / 2) l t
       send_can l t is =
-          let why_it = send_why p j lane call.Ask (r.rule p j lane call.Ask)
-          (record { line = l; number = number_of s l t; attempt = t }) (ruled p j lane call.Ask)
-          (ap send_in (sym is)) in
+          let why_it = send_why p j (lane / 2)
+          (reply.Send l (number_of s l t) t.action t.branch t.number)
+          (record { line = l; number = number_of s l t; attempt = t }) is refl in
           let here = why_it.here in
-          let next = next_one l t here (bound p j l) (nat_lt 0
-          (free_places p j (kind_of p (lane / 2)) l)) refl why_it.next in
+          let next = next_one l t here why_it.next in
           let at = inside (lane / 2) l here in
-          let room = (at_berth.at_entry p j st.legal all (record {
+          let room = (all.entries (record {
             lane = lane;
             call = call.Ask;
             reply = reply.Send l (number_of s l t) t.action t.branch t.number;
           })
-          (record { scripted = may; replied = is; kept = refl })).send_room
+          (record { scripted = may.scripted; told = is; kept = refl })).send_room
           (record { line = l; number = number_of s l t; attempt = t }) refl in
-          let owner = (berth_of p s j (lane / 2) l st here).owner in
+          let owner = (berth_of p seats s j (lane / 2) l st here).owner in
           let within = lt in
-          let matches = matches_are p s j st all.facts in
-          let ready = states_are p s j st all.facts in
+          let matches = matches_are p seats s j st all.facts in
+          let ready = states_are p seats s j st all.facts in
           let singles = singles_are in
           let known = next.known in
-          let place = subst (λ k. length (pending j l) < capacity k)
-          (sym (at_berth.kind_is p j st.legal (lane / 2) l here)) room.place in
+          let place = room.place in
           let left = room.left in
-          let most = capacity_most (kind_of p (lane / 2)) in
+          let most = capacity_most (line_kind p j l) in
           let waits = count_is p s.cancels j l st.cancels at.table in
           record {
             berth = omega arith;
             line = at.pool;
-            place = sent_fits p s.pool j st.pool l owner.0 owner.1 owner.2
-                (subst (λ v. length (pending j l) < capacity (kind_of p v)) (sym owner.3) place);
+            place = sent_fits p seats s.pool j st.pool l owner.0 owner.1 owner.2 place;
             requests = at.requests;
             planned = omega arith;
             free = subst (λ n. n < asks.capacity_of (asks.single_of s.requests t.action t.branch))
                 (sym (ask-laws.places_are p s.requests j l st.requests at.table))
-                (subst (λ n. length (pending j l) < n) (sym (ask-laws.capacity_is p s.requests j (berth_group p (lane / 2)) t.action t.branch st.requests next.group)) place);
+                (subst (λ n. length (pending j l) < n) (sym (ask-laws.capacity_is p s.requests j
+                (group_on p j l) t.action t.branch st.requests next.group)) place);
             fewer = ask-laws.fewer_is p s.requests j l st.requests at.table (omega arith);
             cancels = at.cancels;
             row = subst (λ n. n < 8) (sym waits) (omega arith);
@@ -734,30 +711,31 @@ module _ (p : Plan) (s : State) (j : List Entry) (st : Stands p s j) (all : Lawf
           }
         where
           number_few : (m : ℕ) (u : Attempt) → last_line j (lane / 2) ≡ Some m → m < line_room p
-              → BranchOf p u (berth_group p (lane / 2)) → length
+              → BranchOf p u (group_on p j m) → length
               (sends j m) < 2 * length p.actions * p.limit → asks.next_number s.requests m u.action
               u.branch ≤ 2 * length p.actions * p.limit + 1
           number_few m u here table group left =
-              let e = ap natural (ask-laws.next_number_is p s.requests j (berth_group p (lane / 2)) m u.action u.branch
-              st.requests table group (at_berth.numbered p j st.legal (lane / 2) m here all.facts)) in
-              let c = number_most (is_single (kind_of p (lane / 2))) (length (sends j m)) in
+              let e = ap natural (ask-laws.next_number_is p s.requests j (group_on p j m) m u.action
+              u.branch st.requests table group (all.facts.numbered (lane / 2) m here)) in
+              let c = number_most (is_single (line_kind p j m)) (length (sends j m)) in
               omega arith
 
-      launch_can : (t : Attempt) → reply.Launch (length s.pool.lines) t.action t.branch t.number
-          ≡ r.rule p j lane call.Ask → CanLaunch s (lane / 2) t
+      launch_can : (t : Attempt) → Asked p j (lane / 2)
+          (reply.Launch (length s.pool.lines) t.action t.branch t.number) → CanLaunch s (lane / 2) t
       launch_can t is =
-          let next = launch_why p j lane call.Ask (r.rule p j lane call.Ask)
-          (length s.pool.lines, t) (ruled p j lane call.Ask) (ap launch_in (sym is)) in
-          let known = (first_one t next).known in
-          let room = (at_berth.at_entry p j st.legal all (record {
+          let next = (launch_why p j (lane / 2)
+          (reply.Launch (length s.pool.lines) t.action t.branch t.number)
+          (length s.pool.lines, t) is refl).next in
+          let known = slice_get_within p.actions t.action next.action next.place in
+          let room = (all.entries (record {
             lane = lane;
             call = call.Ask;
             reply = reply.Launch (length s.pool.lines) t.action t.branch t.number;
           })
-          (record { scripted = may; replied = is; kept = refl })).launch_room
+          (record { scripted = may.scripted; told = is; kept = refl })).launch_room
           (length s.pool.lines, t) refl in
-          let seats = seats_are p s j st all.facts in
-          let ready = states_are p s j st all.facts in
+          let seats_too = seats_are p seats s j st all.facts in
+          let ready = states_are p seats s j st all.facts in
           let count = st.pool.count in
           let whole = st.pool.room in
           let within = lt in
@@ -768,10 +746,9 @@ module _ (p : Plan) (s : State) (j : List Entry) (st : Stands p s j) (all : Lawf
             known = omega arith;
           }
 
-      cancel_can : (l : ℕ) (n : ℤ) → reply.Cancel l n ≡ r.rule p j lane call.Ask → CanCancel s l n
+      cancel_can : (l : ℕ) (n : ℤ) → Asked p j (lane / 2) (reply.Cancel l n) → CanCancel s l n
       cancel_can l n is =
-          let one = cancel_why call.Ask (r.rule p j lane call.Ask) l n (ruled p j lane call.Ask)
-          (ap cancel_in (sym is)) in
+          let one = cancel_why (reply.Cancel l n) l n is refl in
           let at = inside (lane / 2) l (one.here ∙ ap Some (sym one.same)) in
           let few = one.few in
           record {
@@ -782,57 +759,57 @@ module _ (p : Plan) (s : State) (j : List Entry) (st : Stands p s j) (all : Lawf
             cancels = at.cancels;
           }
 
-      carry_can : (x : Choice) → carried_reply s (lane / 2) x ≡ r.rule p j lane call.Ask
+      carry_can : (x : Choice) → Asked p j (lane / 2) (carried_reply s (lane / 2) x)
           → CanCarry s (lane / 2) x
       carry_can (choice.Cancel l n) is = cancel_can l n is
-      carry_can (choice.Send l t b) is = send_can l t is
+      carry_can (choice.Send l t) is = send_can l t is
       carry_can (choice.Launch t) is = launch_can t is
       carry_can choice.Stop is = tt
       carry_can (choice.Kill l y) is = tt
       carry_can (choice.Gather m) is = tt
       carry_can choice.Idle is = tt
 
-      ask_can : CanAsk s (lane / 2)
-      ask_can = record {
-        reads = reads p s j st all.facts (lane / 2) lt;
-        carry = carry_can (chosen s (lane / 2)) (choice_is p s j lane st all.facts may);
-      }
-
     -- ---- each call
 
-    make_can : (seat : Seat) (c : Call) → script p j lane c ≡ true → CanMake s lane seat c
-    make_can seat call.Ask may = ask_can may
+    make_can : (seat : Seat) (c : Call) → MayCall p seats j lane c → CanMake s lane seat c
+    make_can seat call.Ask may = tt
     make_can seat (call.Launched l how) may =
-        let calls = at_berth.at_call p j lane (call.Launched l how) may all in
+        let calls = all.calls lane (call.Launched l how) may.scripted in
         launched_can l (call.Launched l how) may (calls.names l refl)
-        (λ m t h. launch_is p s j lane (call.Launched l how) st may
+        (λ m t h. launch_is p seats s j lane (call.Launched l how) st may
         ∙ calls.launches l m how t refl h)
     make_can seat (call.Wrote l n how) may =
-        let calls = at_berth.at_call p j lane (call.Wrote l n how) may all in
+        let calls = all.calls lane (call.Wrote l n how) may.scripted in
         wrote_can l (call.Wrote l n how) may (calls.names l refl)
         (λ q h. (let one = calls.writes l n how q refl h in
         each_place (λ x. begun j x.attempt ≡ true) (sends j l) one.place q
         (sends_begun j l) one.there))
     make_can seat (call.Look x) may = tt
     make_can seat (call.Claim a b n f) may = (let one =
-        (at_berth.at_call p j lane (call.Claim a b n f) may all).claims a n b f refl in
+        (all.calls lane (call.Claim a b n f) may.scripted).claims a n b f refl in
         claim_can a n b one.start one.apart)
     make_can seat (call.Committed a b how) may =
-        let within = (at_berth.at_call p j lane (call.Committed a b how) may all).commits_within a b how refl in
+        let within = (all.calls lane (call.Committed a b how) may.scripted).commits_within a b how refl in
         let race = race_is in
-        let ready = states_are p s j st all.facts in
+        let ready = states_are p seats s j st all.facts in
         record { race = omega arith; ready = omega arith }
     make_can seat (call.Killed l) may = (inside (lane / 2) l
-        ((at_berth.at_call p j lane (call.Killed l) may all).names l refl)).pool
-    make_can seat call.Take may = reads p s j st all.facts (lane / 2)
-        (lane_within p j lane call.Take may)
+        ((all.calls lane (call.Killed l) may.scripted).names l refl)).pool
+    make_can seat call.Take may = reads p seats s j st all.facts (lane / 2)
+        (may.berth)
     make_can seat (call.Answer l x) may = answer_can (call.Answer l x) seat l x.number may
-        ((at_berth.at_call p j lane (call.Answer l x) may all).names l refl)
+        ((all.calls lane (call.Answer l x) may.scripted).names l refl)
     make_can seat (call.Ended l how) may = ended_can (call.Ended l how) seat l may
-        ((at_berth.at_call p j lane (call.Ended l how) may all).names l refl)
+        ((all.calls lane (call.Ended l how) may.scripted).names l refl)
     make_can seat call.Halt may = tt
     make_can seat call.Tick may = tt
 
-pub can_make : (p : Plan) (s : State) (j : List Entry) (lane : ℕ) (seat : Seat) (c : Call)
-    → Stands p s j → LawfulMore p j → script p j lane c ≡ true → CanMake s lane seat c
-can_make p s j lane seat c st all may = make_can p s j st all lane seat c may
+pub can_make : (p : Plan) (seats : ℕ) (s : State) (j : List Entry) (lane : ℕ) (seat : Seat)
+    (c : Call) → Stands p seats s j → LawfulMore p j → MayCall p seats j lane c
+    → CanMake s lane seat c
+can_make p seats s j lane seat c st all may = make_can p seats s j st all lane seat c may
+
+pub can_carry : (p : Plan) (seats : ℕ) (s : State) (j : List Entry) (lane : ℕ) (x : Choice)
+    → Stands p seats s j → LawfulMore p j → MayCall p seats j lane call.Ask
+    → Asked p j (lane / 2) (carried_reply s (lane / 2) x) → CanCarry s (lane / 2) x
+can_carry p seats s j lane x st all may is = carry_can p seats s j st all lane may x is

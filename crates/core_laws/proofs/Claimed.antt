@@ -15,12 +15,9 @@ use Rattle.exec_journal.specs.declared.reply.Reply.TheVariants as reply
 use Rattle.exec_journal.specs.Attempts.{attempt, ended, fault_at, found_cause}
 use Rattle.exec_journal.specs.Entries.{attempt_of, same_attempt, same_branch}
 use Rattle.exec_journal.specs.Facts.{SameActions, begun}
-use Rattle.exec_journal.specs.Legal.{LegalEntry}
 use Rattle.exec_journal.specs.Rules as r
 use Rattle.exec_journal.specs.Rules.{gathered}
-use Rattle.exec_journal.specs.Scripts.{script}
 use Rattle.exec_journal.specs.Words.{halted, was_sent, has_ended, answered, line_cause, wrote, granted, grant_of, commit_of}
-use Rattle.journal_laws.proofs.Ours.{lawful}
 use Rattle.exec_journal.proofs.Begins.{attempts_in_order, attempt_other, bound_is, same_attempt_eq}
 use Rattle.exec_journal.proofs.Quiet.{ended_same}
 use Rattle.exec_journal.proofs.Ruled.{by_bool}
@@ -43,20 +40,21 @@ use Rattle.lawful_facts.specs.Moments.{JournalFacts, Uses}
 use Rattle.core_state.specs.Machine.{with_end, states_after, committed_with, claim_reply_by, found_reply}
 use Rattle.core_state.specs.Noted.{noted_after}
 use Rattle.core_laws.specs.Premises.{EndsTogether}
-use Rattle.core_laws.specs.Stands.{Stands}
+use Rattle.core_laws.specs.Stands.{Stands, MayCall}
 use Rattle.core_laws.proofs.Own.{lanes_kept, last_kept, matches_kept, IsQuiet, SpendsNone, ready_kept, race_kept, attempts_kept}
 use Rattle.core_laws.proofs.Several.{several_counts, several_states, one_test}
 use Rattle.core_laws.proofs.Greeted.{quiet_greetings}
+use Rattle.exec_journal.specs.Lawful.{LawfulEntry, plain_reply}
 
 -- ---- Lost
 
-module _ (p : Plan) (s : State) (j : List Entry) (lane a n : ℕ) (b : Branch) (f : Found)
-    (st : Stands p s j) (may : script p j lane (call.Claim a b n f) ≡ true) where
-  module _ (is : reply.Lost ≡ r.rule p j lane (call.Claim a b n f)) where
+module _ (p : Plan) (seats : ℕ) (s : State) (j : List Entry) (lane a n : ℕ) (b : Branch) (f : Found)
+    (st : Stands p seats s j) (may : MayCall p seats j lane (call.Claim a b n f)) where
+  module _ (is : reply.Lost ≡ plain_reply p j lane (call.Claim a b n f)) where
     abbrev lost_entry : Entry
     lost_entry = record { lane = lane; call = call.Claim a b n f; reply = reply.Lost }
 
-    lost_quiet : IsQuiet p j lost_entry
+    lost_quiet : IsQuiet seats j lost_entry
     unfolding wrote
     lost_quiet = record {
       no_launch = refl;
@@ -66,7 +64,7 @@ module _ (p : Plan) (s : State) (j : List Entry) (lane a n : ℕ) (b : Branch) (
       no_feed = λ u. refl;
     }
 
-    lost_spends : SpendsNone p j lost_entry
+    lost_spends : SpendsNone seats j lost_entry
     unfolding wrote granted grant_of gathered
     lost_spends = record { no_send = refl; no_match = refl; same = λ u. refl }
 
@@ -78,23 +76,25 @@ module _ (p : Plan) (s : State) (j : List Entry) (lane a n : ℕ) (b : Branch) (
     lost_same : SameActions j (lost_entry ∷ j)
     lost_same = same_actions lost_entry j none_ends refl (λ c d. refl)
 
-    pub lost_stands : Stands p (noted_after s lane (call.Claim a b n f) reply.Lost) (lost_entry ∷ j)
+    pub lost_stands : Stands p seats (noted_after s lane (call.Claim a b n f) reply.Lost) (lost_entry ∷ j)
     unfolding halted
     lost_stands = record {
       plan = st.plan;
       sound = st.sound;
-      legal = (st.legal, record { scripted = may; replied = is; kept = refl });
-      pool = aside_kept p s.pool j lost_entry st.pool refl []
+      lawful = (st.lawful, record { scripted = may.scripted; told = is; kept = refl });
+      seated = (st.seated, may.berth);
+      few = st.few;
+      pool = aside_kept p seats s.pool j lost_entry st.pool refl []
           (aside_unbinds lost_entry j refl p lost_same);
       requests = asks.others p s.requests j lost_entry st.requests refl refl;
       cancels = marks.others p s.cancels j lost_entry st.cancels refl refl refl;
       ready = ready_kept p j lost_entry lost_same refl s.ready st.ready;
       race = race_kept p j lost_entry lost_same refl s.race st.race;
       attempts = attempts_kept p j lost_entry lost_same refl s.attempts st.attempts;
-      lanes = lanes_kept p j lost_entry s.lanes st.lanes;
-      greetings = quiet_greetings p j lost_entry refl refl s.greetings st.greetings;
-      last = last_kept p j lost_entry lost_quiet s.last st.last;
-      matches = matches_kept p j lost_entry lost_spends s.matches st.matches;
+      lanes = lanes_kept seats j lost_entry s.lanes st.lanes;
+      greetings = quiet_greetings seats j lost_entry refl refl s.greetings st.greetings;
+      last = last_kept seats j lost_entry lost_quiet s.last st.last;
+      matches = matches_kept seats j lost_entry lost_spends s.matches st.matches;
       halted = st.halted;
     }
 
@@ -107,7 +107,7 @@ module _ (p : Plan) (s : State) (j : List Entry) (lane a n : ℕ) (b : Branch) (
   abbrev entry : Bool → Entry
   entry again = record { lane = lane; call = call.Claim a b n f; reply = said again }
 
-  quiet : (again : Bool) → IsQuiet p j (entry again)
+  quiet : (again : Bool) → IsQuiet seats j (entry again)
   unfolding wrote
   quiet true = record {
     no_launch = refl;
@@ -124,7 +124,7 @@ module _ (p : Plan) (s : State) (j : List Entry) (lane a n : ℕ) (b : Branch) (
     no_feed = λ u. refl;
   }
 
-  spends : (again : Bool) → SpendsNone p j (entry again)
+  spends : (again : Bool) → SpendsNone seats j (entry again)
   unfolding wrote granted grant_of gathered
   spends true = record { no_send = refl; no_match = refl; same = λ u. refl }
   spends false = record { no_send = refl; no_match = refl; same = λ u. refl }
@@ -184,7 +184,7 @@ module _ (p : Plan) (s : State) (j : List Entry) (lane a n : ℕ) (b : Branch) (
         and_true true = refl
         and_true false = refl
 
-    refused : (again : Bool) → LegalEntry p j (entry again) → WantedStays p j (entry again)
+    refused : (again : Bool) → LawfulEntry p j (entry again) → WantedStays p j (entry again)
         → ((u : Attempt) → ended (entry again ∷ j) u ≡ (ended j u || same_attempt t u))
         → (queue-stands.Stands p (states_after s.plan s.race s.attempts s.ready t)
         (entry again ∷ j)) × (race-stands.Stands p s.race (entry again ∷ j))
@@ -193,7 +193,7 @@ module _ (p : Plan) (s : State) (j : List Entry) (lane a n : ℕ) (b : Branch) (
           (entry again ∷ j)) (sym st.plan)
           (several_states p st.sound.least s.race j (entry again) (t ∷ [])
           (record {
-            order = attempts_in_order p j (lawful p j st.legal);
+            order = attempts_in_order p j st.lawful;
             unbegun = facts.unbegun_goes;
             won = st.race;
           }) ((start, uses), tt) (together again ends) s.attempts st.attempts
@@ -204,63 +204,67 @@ module _ (p : Plan) (s : State) (j : List Entry) (lane a n : ℕ) (b : Branch) (
       }),
     )
 
-    pub again_stands : reply.AgainLater ≡ r.rule p j lane (call.Claim a b n f)
+    pub again_stands : reply.AgainLater ≡ plain_reply p j lane (call.Claim a b n f)
         → WantedStays p j (entry true) → ((u : Attempt) → ended (entry true ∷ j) u ≡
         (ended j u || same_attempt t u))
-        → Stands p (noted_after (with_end s t) lane (call.Claim a b n f) reply.AgainLater)
+        → Stands p seats (noted_after (with_end s t) lane (call.Claim a b n f) reply.AgainLater)
         (entry true ∷ j)
     unfolding halted
     again_stands is stays ends = record {
       plan = st.plan;
       sound = st.sound;
-      legal = (st.legal, record { scripted = may; replied = is; kept = refl });
-      pool = aside_kept p s.pool j (entry true) st.pool refl []
+      lawful = (st.lawful, record { scripted = may.scripted; told = is; kept = refl });
+      seated = (st.seated, may.berth);
+      few = st.few;
+      pool = aside_kept p seats s.pool j (entry true) st.pool refl []
           (faults_unbind p j (entry true) refl refl stays [] (none_faulted true sent));
       requests = asks.others p s.requests j (entry true) st.requests refl refl;
       cancels = marks.others p s.cancels j (entry true) st.cancels refl refl refl;
-      ready = (refused true (record { scripted = may; replied = is; kept = refl }) stays ends).0;
-      race = (refused true (record { scripted = may; replied = is; kept = refl }) stays ends).1;
+      ready = (refused true (record { scripted = may.scripted; told = is; kept = refl }) stays ends).0;
+      race = (refused true (record { scripted = may.scripted; told = is; kept = refl }) stays ends).1;
       attempts = several_counts p st.sound.least s.race j (entry true) (t ∷ [])
           (record {
-            order = attempts_in_order p j (lawful p j st.legal);
+            order = attempts_in_order p j st.lawful;
             unbegun = facts.unbegun_goes;
             won = st.race;
           }) ((start, uses), tt) (together true ends) s.attempts st.attempts s.ready
           st.ready;
-      lanes = lanes_kept p j (entry true) s.lanes st.lanes;
-      greetings = quiet_greetings p j (entry true) refl refl s.greetings st.greetings;
-      last = last_kept p j (entry true) (quiet true) s.last st.last;
-      matches = matches_kept p j (entry true) (spends true) s.matches st.matches;
+      lanes = lanes_kept seats j (entry true) s.lanes st.lanes;
+      greetings = quiet_greetings seats j (entry true) refl refl s.greetings st.greetings;
+      last = last_kept seats j (entry true) (quiet true) s.last st.last;
+      matches = matches_kept seats j (entry true) (spends true) s.matches st.matches;
       halted = st.halted;
     }
 
-    pub dropped_stands : reply.Dropped ≡ r.rule p j lane (call.Claim a b n f)
+    pub dropped_stands : reply.Dropped ≡ plain_reply p j lane (call.Claim a b n f)
         → WantedStays p j (entry false) → ((u : Attempt) → ended (entry false ∷ j) u ≡
         (ended j u || same_attempt t u))
-        → Stands p (noted_after (with_end s t) lane (call.Claim a b n f) reply.Dropped)
+        → Stands p seats (noted_after (with_end s t) lane (call.Claim a b n f) reply.Dropped)
         (entry false ∷ j)
     unfolding halted
     dropped_stands is stays ends = record {
       plan = st.plan;
       sound = st.sound;
-      legal = (st.legal, record { scripted = may; replied = is; kept = refl });
-      pool = aside_kept p s.pool j (entry false) st.pool refl []
+      lawful = (st.lawful, record { scripted = may.scripted; told = is; kept = refl });
+      seated = (st.seated, may.berth);
+      few = st.few;
+      pool = aside_kept p seats s.pool j (entry false) st.pool refl []
           (faults_unbind p j (entry false) refl refl stays [] (none_faulted false sent));
       requests = asks.others p s.requests j (entry false) st.requests refl refl;
       cancels = marks.others p s.cancels j (entry false) st.cancels refl refl refl;
-      ready = (refused false (record { scripted = may; replied = is; kept = refl }) stays ends).0;
-      race = (refused false (record { scripted = may; replied = is; kept = refl }) stays ends).1;
+      ready = (refused false (record { scripted = may.scripted; told = is; kept = refl }) stays ends).0;
+      race = (refused false (record { scripted = may.scripted; told = is; kept = refl }) stays ends).1;
       attempts = several_counts p st.sound.least s.race j (entry false) (t ∷ [])
           (record {
-            order = attempts_in_order p j (lawful p j st.legal);
+            order = attempts_in_order p j st.lawful;
             unbegun = facts.unbegun_goes;
             won = st.race;
           }) ((start, uses), tt) (together false ends) s.attempts st.attempts s.ready
           st.ready;
-      lanes = lanes_kept p j (entry false) s.lanes st.lanes;
-      greetings = quiet_greetings p j (entry false) refl refl s.greetings st.greetings;
-      last = last_kept p j (entry false) (quiet false) s.last st.last;
-      matches = matches_kept p j (entry false) (spends false) s.matches st.matches;
+      lanes = lanes_kept seats j (entry false) s.lanes st.lanes;
+      greetings = quiet_greetings seats j (entry false) refl refl s.greetings st.greetings;
+      last = last_kept seats j (entry false) (quiet false) s.last st.last;
+      matches = matches_kept seats j (entry false) (spends false) s.matches st.matches;
       halted = st.halted;
     }
 
@@ -283,18 +287,18 @@ module _ (p : Plan) (s : State) (j : List Entry) (lane a n : ℕ) (b : Branch) (
     won_by None h = refl
     won_by (Some x) h = sym (ap not (apart x h))
 
-    pub claim_is : claim_reply_by s (attempt_of a b n) f ≡ r.rule p j lane (call.Claim a b n f)
+    pub claim_is : claim_reply_by s (attempt_of a b n) f ≡ plain_reply p j lane (call.Claim a b n f)
     claim_is = λ i. cond ((ap is_some (races.winner_is p s.race j a st.race known)
         ∙ won_by (grant_of j a) refl) i) reply.Lost (found_is f i)
 
 -- ---- Committed
 
-module _ (p : Plan) (s : State) (j : List Entry) (lane a : ℕ) (b : Branch) (how : CommitEnd)
-    (st : Stands p s j) (may : script p j lane (call.Committed a b how) ≡ true) where
+module _ (p : Plan) (seats : ℕ) (s : State) (j : List Entry) (lane a : ℕ) (b : Branch) (how : CommitEnd)
+    (st : Stands p seats s j) (may : MayCall p seats j lane (call.Committed a b how)) where
   abbrev commit_entry : Entry
   commit_entry = record { lane = lane; call = call.Committed a b how; reply = reply.Noted }
 
-  commit_quiet : IsQuiet p j commit_entry
+  commit_quiet : IsQuiet seats j commit_entry
   unfolding wrote
   commit_quiet = record {
     no_launch = refl;
@@ -304,7 +308,7 @@ module _ (p : Plan) (s : State) (j : List Entry) (lane a : ℕ) (b : Branch) (ho
     no_feed = λ u. refl;
   }
 
-  commit_spends : SpendsNone p j commit_entry
+  commit_spends : SpendsNone seats j commit_entry
   unfolding wrote granted grant_of gathered
   commit_spends = record { no_send = refl; no_match = refl; same = λ u. refl }
 
@@ -327,14 +331,16 @@ module _ (p : Plan) (s : State) (j : List Entry) (lane a : ℕ) (b : Branch) (ho
       uncommitted = won.uncommitted;
     }
 
-    pub commit_stands : Stands p (noted_after (committed_with s a how) lane
+    pub commit_stands : Stands p seats (noted_after (committed_with s a how) lane
         (call.Committed a b how) reply.Noted) (commit_entry ∷ j)
     unfolding halted
     commit_stands = record {
       plan = st.plan;
       sound = st.sound;
-      legal = (st.legal, record { scripted = may; replied = refl; kept = refl });
-      pool = aside_kept p s.pool j commit_entry st.pool refl []
+      lawful = (st.lawful, record { scripted = may.scripted; told = refl; kept = refl });
+      seated = (st.seated, may.berth);
+      few = st.few;
+      pool = aside_kept p seats s.pool j commit_entry st.pool refl []
           (faults_unbind p j commit_entry refl refl stays [] (record { each = λ l u was. refl }));
       requests = asks.others p s.requests j commit_entry st.requests refl refl;
       cancels = marks.others p s.cancels j commit_entry st.cancels refl refl refl;
@@ -343,9 +349,9 @@ module _ (p : Plan) (s : State) (j : List Entry) (lane a : ℕ) (b : Branch) (ho
       race = races.commits p s.race j lane a b how reply.Noted st.race won_by_this;
       attempts = tallies.others_count p s.attempts j commit_entry st.attempts commit_begins
           commit_ends;
-      lanes = lanes_kept p j commit_entry s.lanes st.lanes;
-      greetings = quiet_greetings p j commit_entry refl refl s.greetings st.greetings;
-      last = last_kept p j commit_entry commit_quiet s.last st.last;
-      matches = matches_kept p j commit_entry commit_spends s.matches st.matches;
+      lanes = lanes_kept seats j commit_entry s.lanes st.lanes;
+      greetings = quiet_greetings seats j commit_entry refl refl s.greetings st.greetings;
+      last = last_kept seats j commit_entry commit_quiet s.last st.last;
+      matches = matches_kept seats j commit_entry commit_spends s.matches st.matches;
       halted = st.halted;
     }

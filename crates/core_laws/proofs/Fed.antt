@@ -16,13 +16,10 @@ use Rattle.exec_journal.specs.Attempts.{ended}
 use Rattle.exec_journal.specs.Entries.{Request, same_attempt, is_for}
 use Rattle.exec_journal.specs.Facts.{begun, SameActions}
 use Rattle.list_lemmas.specs.Options.{or_else, unless_before}
-use Rattle.exec_journal.specs.Legal.{LegalEntry}
 use Rattle.exec_journal.specs.Rules.{gathered}
-use Rattle.exec_journal.specs.Scripts.{script}
 use Rattle.exec_journal.specs.Settled.{bound}
 use Rattle.list_lemmas.specs.Places.{update}
 use Rattle.exec_journal.specs.Words.{halted, last_line, launch_of, line_cause, was_taken, sends, pending, wrote, wrote_if, granted, grant_of, commit_of, answered, has_ended, order_of, says_feed_fault, started, was_killed, broke}
-use Rattle.journal_laws.proofs.Ours.{lawful}
 use Rattle.exec_journal.proofs.Begins.{attempts_in_order, attempt_other, begin_in_order, same_attempt_eq, same_attempt_refl}
 use Rattle.exec_journal.proofs.Quiet.{ended_same}
 use Rattle.exec_journal.proofs.Ruled.{by_bool}
@@ -51,13 +48,14 @@ use Rattle.call_laws.specs.Matches.{is_faulty}
 use Rattle.core_state.specs.Noted.{noted_after}
 use Rattle.core_laws.specs.Premises.{EndsTogether}
 use Rattle.core_state.specs.Reports.{broken_by_feed, fed_attempt, fed_by, ended_if, wrote_with}
-use Rattle.core_laws.specs.Stands.{Stands}
+use Rattle.core_laws.specs.Stands.{Stands, MayCall}
 use Rattle.core_laws.proofs.Asked.{each_place, sends_begun}
 use Rattle.core_laws.proofs.Own.{lanes_kept, matches_kept, SpendsNone, ready_kept, race_kept, attempts_kept}
 use Rattle.core_laws.proofs.Rowed.{berth_of, changed_last, sent_is}
 use Rattle.core_laws.proofs.Several.{several_counts, several_states, one_test}
 use Rattle.core_laws.proofs.Unwritten.{fault_spends, now_wrote}
 use Rattle.core_laws.proofs.Greeted.{quiet_greetings}
+use Rattle.exec_journal.specs.Lawful.{LawfulEntry}
 
 find_but : (f g test : Request → Bool) (xs : List Request)
     → ((r : Request) → test r ≡ false → f r ≡ g r) → filter test xs ≡ [] → find f xs ≡ find g xs
@@ -68,8 +66,8 @@ find_but f g test (x ∷ xs) same h =
     (λ _ _ k. absurd (cc)) (λ _ is k. λ i. cond (same x is i) (Some x)
     (find_but f g test xs same k i)) refl h
 
-module _ (p : Plan) (s : State) (j : List Entry) (lane l : ℕ) (n : ℤ) (st : Stands p s j)
-    (may : script p j lane (call.Wrote l n write.FeedFault) ≡ true)
+module _ (p : Plan) (seats : ℕ) (s : State) (j : List Entry) (lane l : ℕ) (n : ℤ) (st : Stands p seats s j)
+    (may : MayCall p seats j lane (call.Wrote l n write.FeedFault))
     (here : last_line j (lane / 2) ≡ Some l)
     (stays : WantedStays p j (record {
       lane = lane;
@@ -79,8 +77,8 @@ module _ (p : Plan) (s : State) (j : List Entry) (lane l : ℕ) (n : ℤ) (st : 
   abbrev e : Entry
   e = record { lane = lane; call = call.Wrote l n write.FeedFault; reply = reply.Noted }
 
-  legal : LegalEntry p j e
-  legal = record { scripted = may; replied = refl; kept = refl }
+  joins : LawfulEntry p j e
+  joins = record { scripted = may.scripted; told = refl; kept = refl }
 
   same_grant : (a : ℕ) → grant_of (e ∷ j) a ≡ grant_of j a
   unfolding grant_of
@@ -151,7 +149,7 @@ module _ (p : Plan) (s : State) (j : List Entry) (lane l : ℕ) (n : ℤ) (st : 
     other_row k h = λ z. row_by (option_map (λ x. x.1) (launch_of j k)) (was_taken j k)
         (other_cause k h z) (same_fed k z)
 
-    spends : SpendsNone p j e
+    spends : SpendsNone seats j e
     unfolding granted grant_of gathered
     spends = record {
       no_send = refl;
@@ -159,34 +157,36 @@ module _ (p : Plan) (s : State) (j : List Entry) (lane l : ℕ) (n : ℤ) (st : 
       same = λ u. ap (λ o. gathered j u || (is_faulty o || granted j u.action)) (same_wrote u);
     }
 
-    cancel_fault : Stands p (noted_after (broken_by_feed s (lane / 2) l) lane
+    cancel_fault : Stands p seats (noted_after (broken_by_feed s (lane / 2) l) lane
         (call.Wrote l n write.FeedFault) reply.Noted) (e ∷ j)
     unfolding halted
     cancel_fault = record {
       plan = st.plan;
       sound = st.sound;
-      legal = (st.legal, legal);
-      pool = feed_kept p s.pool j lane l st.pool n (writes_unbind p j lane l n write.FeedFault
+      lawful = (st.lawful, joins);
+      seated = (st.seated, may.berth);
+      few = st.few;
+      pool = feed_kept p seats s.pool j lane l st.pool n (writes_unbind p j lane l n write.FeedFault
           stays);
       requests = asks.done_kept j lane l n write.FeedFault p s.requests st.requests refl;
       cancels = marks.done_kept p s.cancels j lane l n write.FeedFault st.cancels refl;
       ready = ready_kept p j e same refl s.ready st.ready;
       race = race_kept p j e same refl s.race st.race;
       attempts = attempts_kept p j e same refl s.attempts st.attempts;
-      lanes = lanes_kept p j e s.lanes st.lanes;
-      greetings = quiet_greetings p j e refl refl s.greetings st.greetings;
-      last = changed_last p s j e l st here (set_cause cause.Feed) refl own_row other_row
+      lanes = lanes_kept seats j e s.lanes st.lanes;
+      greetings = quiet_greetings seats j e refl refl s.greetings st.greetings;
+      last = changed_last p seats s j e l st here (set_cause cause.Feed) refl own_row other_row
           (update (set_cause cause.Feed) s.last (lane / 2)) (λ v. get_update
           (set_cause cause.Feed) s.last (lane / 2) v);
-      matches = matches_kept p j e spends s.matches st.matches;
+      matches = matches_kept seats j e spends s.matches st.matches;
       halted = st.halted;
     }
 
-    pub cancel_fault_stands : Stands p (noted_after (wrote_with s lane
+    pub cancel_fault_stands : Stands p seats (noted_after (wrote_with s lane
         (lane / 2) l n write.FeedFault) lane (call.Wrote l n write.FeedFault) reply.Noted) (e ∷ j)
-    cancel_fault_stands = subst (λ x. Stands p (noted_after x lane
+    cancel_fault_stands = subst (λ x. Stands p seats (noted_after x lane
         (call.Wrote l n write.FeedFault) reply.Noted) (e ∷ j))
-        (sym (ap (fed_by s (lane / 2) l) (sent_is p s j lane (call.Wrote l n write.FeedFault) st may
+        (sym (ap (fed_by s (lane / 2) l) (sent_is p seats s j lane (call.Wrote l n write.FeedFault) st may
         ∙ ap (option_map (λ r. r.attempt)) order))) cancel_fault
 
   -- ---- of a Send
@@ -202,7 +202,7 @@ module _ (p : Plan) (s : State) (j : List Entry) (lane l : ℕ) (n : ℤ) (st : 
 
     now_fed : (u : Attempt) → says_feed_fault (wrote (e ∷ j) u) ≡
         (same_attempt t u || says_feed_fault (wrote j u))
-    now_fed u = ap says_feed_fault (now_wrote p j lane l n write.FeedFault q refl order first u)
+    now_fed u = ap says_feed_fault (now_wrote seats j lane l n write.FeedFault q refl order first u)
         ∙ by_bool (same_attempt t u) (λ b. same_attempt t u ≡ b
         → says_feed_fault (unless_before (cond b (Some write.FeedFault) None) (wrote j u)) ≡
         (b || says_feed_fault (wrote j u)))
@@ -274,7 +274,7 @@ module _ (p : Plan) (s : State) (j : List Entry) (lane l : ℕ) (n : ℤ) (st : 
         (λ r. says_feed_fault (wrote (e ∷ j) r.attempt)) (λ r. says_feed_fault (wrote j r.attempt))
         (is_of t) (sends j k)
         (λ r g. now_fed r.attempt ∙ ap (λ b. b || says_feed_fault (wrote j r.attempt)) g)
-        (sent_alone j (begin_in_order p j (lawful p j st.legal)) l i q place k
+        (sent_alone j (begin_in_order p j st.lawful) l i q place k
         ∙ ap (λ b. cond b (q ∷ []) []) h))
 
     fed_row : row_of (e ∷ j) (Some l) ≡ set_fed t (set_cause cause.Feed (row_of j (Some l)))
@@ -296,8 +296,8 @@ module _ (p : Plan) (s : State) (j : List Entry) (lane l : ℕ) (n : ℤ) (st : 
     twice false o = refl
 
     rows_are : (v : ℕ) → slice_get (update (set_fed t)
-        (update (set_cause cause.Feed) s.last (lane / 2)) (lane / 2)) v ≡ last_in p (e ∷ j) v
-    rows_are = changed_last p s j e l st here (λ x. set_fed t (set_cause cause.Feed x)) refl fed_row
+        (update (set_cause cause.Feed) s.last (lane / 2)) (lane / 2)) v ≡ last_in seats (e ∷ j) v
+    rows_are = changed_last p seats s j e l st here (λ x. set_fed t (set_cause cause.Feed x)) refl fed_row
         unfed_row (update (set_fed t) (update (set_cause cause.Feed) s.last (lane / 2)) (lane / 2))
         (λ v. get_update (set_fed t) (update (set_cause cause.Feed) s.last (lane / 2)) (lane / 2) v
         ∙ (λ z. cond (lane / 2 == v) (option_map (set_fed t)
@@ -328,15 +328,17 @@ module _ (p : Plan) (s : State) (j : List Entry) (lane l : ℕ) (n : ℤ) (st : 
         off false true = refl
         off false false = refl
 
-    by_over : (over : Bool) → has_ended j l ≡ over → Stands p
+    by_over : (over : Bool) → has_ended j l ≡ over → Stands p seats
         (noted_after (ended_if over (fed_attempt (broken_by_feed s (lane / 2) l) (lane / 2) t) t)
         lane (call.Wrote l n write.FeedFault) reply.Noted) (e ∷ j)
     unfolding halted
     by_over true over = record {
       plan = st.plan;
       sound = st.sound;
-      legal = (st.legal, legal);
-      pool = feed_kept p s.pool j lane l st.pool n (writes_unbind p j lane l n write.FeedFault
+      lawful = (st.lawful, joins);
+      seated = (st.seated, may.berth);
+      few = st.few;
+      pool = feed_kept p seats s.pool j lane l st.pool n (writes_unbind p j lane l n write.FeedFault
           stays);
       requests = asks.done_kept j lane l n write.FeedFault p s.requests st.requests refl;
       cancels = marks.done_kept p s.cancels j lane l n write.FeedFault st.cancels refl;
@@ -344,7 +346,7 @@ module _ (p : Plan) (s : State) (j : List Entry) (lane l : ℕ) (n : ℤ) (st : 
           (states_after x s.race s.attempts s.ready t) (e ∷ j)) (sym st.plan)
           (several_states p st.sound.least s.race j e (t ∷ [])
           (record {
-            order = attempts_in_order p j (lawful p j st.legal);
+            order = attempts_in_order p j st.lawful;
             unbegun = facts.unbegun_goes;
             won = st.race;
           }) ((start, used t start), tt) (together over) s.attempts st.attempts
@@ -355,22 +357,24 @@ module _ (p : Plan) (s : State) (j : List Entry) (lane l : ℕ) (n : ℤ) (st : 
       });
       attempts = several_counts p st.sound.least s.race j e (t ∷ [])
           (record {
-            order = attempts_in_order p j (lawful p j st.legal);
+            order = attempts_in_order p j st.lawful;
             unbegun = facts.unbegun_goes;
             won = st.race;
           }) ((start, used t start), tt) (together over) s.attempts st.attempts
           s.ready st.ready;
-      lanes = lanes_kept p j e s.lanes st.lanes;
-      greetings = quiet_greetings p j e refl refl s.greetings st.greetings;
+      lanes = lanes_kept seats j e s.lanes st.lanes;
+      greetings = quiet_greetings seats j e refl refl s.greetings st.greetings;
       last = rows_are;
-      matches = fault_spends p j lane l n write.FeedFault q refl order first s.matches st.matches;
+      matches = fault_spends seats j lane l n write.FeedFault q refl order first s.matches st.matches;
       halted = st.halted;
     }
     by_over false going = record {
       plan = st.plan;
       sound = st.sound;
-      legal = (st.legal, legal);
-      pool = feed_kept p s.pool j lane l st.pool n (writes_unbind p j lane l n write.FeedFault
+      lawful = (st.lawful, joins);
+      seated = (st.seated, may.berth);
+      few = st.few;
+      pool = feed_kept p seats s.pool j lane l st.pool n (writes_unbind p j lane l n write.FeedFault
           stays);
       requests = asks.done_kept j lane l n write.FeedFault p s.requests st.requests refl;
       cancels = marks.done_kept p s.cancels j lane l n write.FeedFault st.cancels refl;
@@ -382,17 +386,17 @@ module _ (p : Plan) (s : State) (j : List Entry) (lane l : ℕ) (n : ℤ) (st : 
       });
       attempts = tallies.others_count p s.attempts j e st.attempts
           (λ a b. attempt_other e j a b refl) (none_now going);
-      lanes = lanes_kept p j e s.lanes st.lanes;
-      greetings = quiet_greetings p j e refl refl s.greetings st.greetings;
+      lanes = lanes_kept seats j e s.lanes st.lanes;
+      greetings = quiet_greetings seats j e refl refl s.greetings st.greetings;
       last = rows_are;
-      matches = fault_spends p j lane l n write.FeedFault q refl order first s.matches st.matches;
+      matches = fault_spends seats j lane l n write.FeedFault q refl order first s.matches st.matches;
       halted = st.halted;
     }
 
     row_ended : (row_at (broken_by_feed s (lane / 2) l) l).ended ≡ has_ended j l
     unfolding line_in
     row_ended =
-        let own = berth_of p s j (lane / 2) l st here in
+        let own = berth_of p seats s j (lane / 2) l st here in
         ap (λ (o : Option LineRow). (unwrap_or o (rows.new_line 0)).ended)
         (get_update rows.set_broken s.pool.lines l l ∙ (λ z. cond (eq-eqb l l refl z)
         (option_map rows.set_broken (slice_get s.pool.lines l)) (slice_get s.pool.lines l))
@@ -401,11 +405,11 @@ module _ (p : Plan) (s : State) (j : List Entry) (lane l : ℕ) (n : ℤ) (st : 
         (has_ended j l) (was_killed j l) (is_some (bound p j l)) (length (pending j l)))
         own.owner.2))
 
-    pub feed_fault_stands : Stands p (noted_after (wrote_with s lane (lane / 2) l n write.FeedFault)
+    pub feed_fault_stands : Stands p seats (noted_after (wrote_with s lane (lane / 2) l n write.FeedFault)
         lane (call.Wrote l n write.FeedFault) reply.Noted) (e ∷ j)
-    feed_fault_stands = subst (λ x. Stands p (noted_after x lane
+    feed_fault_stands = subst (λ x. Stands p seats (noted_after x lane
         (call.Wrote l n write.FeedFault) reply.Noted) (e ∷ j))
-        (sym (ap (fed_by s (lane / 2) l) (sent_is p s j lane (call.Wrote l n write.FeedFault) st may
+        (sym (ap (fed_by s (lane / 2) l) (sent_is p seats s j lane (call.Wrote l n write.FeedFault) st may
         ∙ ap (option_map (λ r. r.attempt)) order)
         ∙ ap (λ b. ended_if b (fed_attempt (broken_by_feed s (lane / 2) l) (lane / 2) t) t)
         row_ended)) (by_over (has_ended j l) refl)

@@ -15,14 +15,12 @@ use Rattle.exec_journal.specs.Attempts.{ended, line_of}
 use Rattle.exec_journal.specs.Entries.{Request}
 use Rattle.exec_journal.specs.Facts.{begun}
 use Rattle.list_lemmas.specs.Options.{or_else, unless_before}
-use Rattle.exec_journal.specs.Legal.{LegalEntry}
+use Rattle.exec_journal.specs.Lawful.{LawfulEntry}
 use Rattle.exec_journal.specs.Rules.{gathered}
-use Rattle.exec_journal.specs.Scripts.{script}
-use Rattle.run_plan.specs.Groups.{berths, berth_group}
+use Rattle.exec_journal.specs.Seated.{group_on}
 use Rattle.exec_journal.specs.Settled.{bound}
 use Rattle.list_lemmas.specs.Places.{update}
 use Rattle.exec_journal.specs.Words.{halted, last_line, launch_of, line_cause, was_taken, sends, pending, is_pending, wrote, granted, grant_of, commit_of, has_ended, says_feed_fault, end_cause, started, was_killed, broke}
-use Rattle.journal_laws.proofs.Ours.{lawful}
 use Rattle.exec_journal.proofs.Begins.{attempts_in_order, attempt_other, bound_is, launched_begun}
 use Rattle.exec_journal.proofs.Ruled.{by_bool}
 use Rattle.list_lemmas.proofs.Updates.{get_update}
@@ -50,21 +48,17 @@ use Rattle.core_tables.specs.declared.seat.Seat.{Seat}
 use Rattle.core_state.specs.declared.state.State.{State}
 use Rattle.core_state.specs.Choices.{row_at, attempt_on}
 use Rattle.core_laws.specs.Ends.{chain_counts, chain_states}
-use Rattle.lawful_facts.specs.Moments.{JournalFacts, AreUsed, is_line, is_left, is_left_on, if_there, lost_with, LostOn}
+use Rattle.lawful_facts.specs.Moments.{JournalFacts, AreUsed, SentInGroup, is_line, is_left, is_left_on, if_there, lost_with, LostOn}
 use Rattle.core_tables.specs.Last.{last_in, row_of, row_by, fed_of, set_cause}
 use Rattle.core_state.specs.Machine.{counts_after, states_after, end_of_some}
 use Rattle.core_state.specs.Noted.{noted_after}
 use Rattle.core_laws.specs.Premises.{AllBegun, EndsTogether}
-use Rattle.core_laws.proofs.AtBerths.{SentAtBerth}
 use Rattle.core_state.specs.Reports.{attempt_in, places_counts, places_states, end_all, fed_on, bound_on, closed, ended_with}
-use Rattle.core_tables.specs.Seats.{seat_at}
-use Rattle.core_laws.specs.Stands.{Stands}
+use Rattle.core_laws.specs.Stands.{MayCall, SeatFits, Stands}
 use Rattle.core_laws.proofs.Asked.{sends_begun, attempts_are}
 use Rattle.request_table.proofs.Sent.{open_is}
-use Rattle.core_laws.proofs.Chosen.{lane_within}
 use Rattle.core_laws.proofs.Own.{lanes_kept, matches_kept, SpendsNone}
 use Rattle.core_laws.proofs.Rowed.{berth_of, changed_last}
-use Rattle.core_tables.proofs.Seated.{seat_is}
 use Rattle.core_laws.proofs.Several.{several_counts, several_states}
 use Rattle.core_laws.proofs.Greeted.{quiet_greetings}
 
@@ -135,10 +129,10 @@ all_ends s seat xs = λ i. record s {
 
 -- ---- the entry
 
-module _ (p : Plan) (s : State) (j : List Entry) (lane l : ℕ) (seat : Seat) (how : HowEnded)
-    (st : Stands p s j) (facts : JournalFacts p j) (may : script p j lane (call.Ended l how) ≡ true)
-    (here : last_line j (lane / 2) ≡ Some l) (seated : seat_at p (lane / 2) ≡ Some seat)
-    (used : AreUsed p j) (grouped : SentAtBerth p j (lane / 2) l) (lost : LostOn p j l)
+module _ (p : Plan) (seats : ℕ) (s : State) (j : List Entry) (lane l : ℕ) (seat : Seat) (how : HowEnded)
+    (st : Stands p seats s j) (facts : JournalFacts p j) (may : MayCall p seats j lane (call.Ended l how))
+    (here : last_line j (lane / 2) ≡ Some l) (fits : SeatFits p j (lane / 2) seat)
+    (used : AreUsed p j) (grouped : SentInGroup p j l) (lost : LostOn p j l)
     (carries : CarriesItsBound p j) (stays : WantedStays p j
     (record { lane = lane; call = call.Ended l how; reply = reply.Noted }))
     (ends : (u : Attempt) → ended (record {
@@ -149,20 +143,17 @@ module _ (p : Plan) (s : State) (j : List Entry) (lane l : ℕ) (seat : Seat) (h
   abbrev e : Entry
   e = record { lane = lane; call = call.Ended l how; reply = reply.Noted }
 
-  legal : LegalEntry p j e
-  legal = record { scripted = may; replied = refl; kept = refl }
+  joins : LawfulEntry p j e
+  joins = record { scripted = may.scripted; told = refl; kept = refl }
 
-  lt : lane / 2 < berths p
-  lt = lane_within p j lane (call.Ended l how) may
+  lt : lane / 2 < seats
+  lt = may.berth
 
-  group_is : berth_group p (lane / 2) ≡ Some seat.group
-  group_is =
-      let at = seat_is p (lane / 2) lt in
-      let same : at.0 ≡ seat = (let z = sym at.1.is ∙ seated in cc) in
-      at.1.group ∙ ap (λ (x : Seat). Some x.group) same
+  group_is : group_on p j l ≡ Some seat.group
+  group_is = fits.group l here
 
   inside : l < line_room p
-  inside = let below = (berth_of p s j (lane / 2) l st here).below in let fit = facts.lines_fit in
+  inside = let below = (berth_of p seats s j (lane / 2) l st here).below in let fit = facts.lines_fit in
       omega arith
 
   -- ---- which attempts the machine ends
@@ -176,12 +167,12 @@ module _ (p : Plan) (s : State) (j : List Entry) (lane l : ℕ) (seat : Seat) (h
       ∙ ap (map (λ (x : RequestRow). attempt_in p seat x.action x.attempt))
       (open_is p s.requests j l st.requests inside)
       ∙ attempts_are p s.requests j l st.requests inside st.sound
-      (lane / 2) seat.group group_is grouped seat refl
+      seat.group group_is grouped seat refl
 
   row_is : slice_get s.last (lane / 2) ≡ Some (row_of j (Some l))
   unfolding last_in
   row_is =
-      let within : nat_lt (lane / 2) (berths p) ≡ true = lt-ltb (lane / 2) (berths p) lt in
+      let within : nat_lt (lane / 2) seats ≡ true = lt-ltb (lane / 2) seats lt in
       st.last (lane / 2) ∙ ap (λ b. cond b (Some (row_of j (last_line j (lane / 2)))) None) within
       ∙ ap (λ o. Some (row_of j o)) here
 
@@ -191,7 +182,7 @@ module _ (p : Plan) (s : State) (j : List Entry) (lane l : ℕ) (seat : Seat) (h
   bound_row : (row_at s l).bound ≡ is_some (bound p j l)
   unfolding line_in
   bound_row =
-      let own = berth_of p s j (lane / 2) l st here in
+      let own = berth_of p seats s j (lane / 2) l st here in
       ap (λ (o : Option LineRow). (unwrap_or o (rows.new_line 0)).bound)
       (st.pool.each_line l ∙ ap (λ (o : Option (ℕ × Attempt)). pools.row_of p o (started j l)
       (broke j l) (has_ended j l) (was_killed j l) (is_some (bound p j l))
@@ -323,25 +314,27 @@ module _ (p : Plan) (s : State) (j : List Entry) (lane l : ℕ) (seat : Seat) (h
   unfolding launch_of was_taken line_cause fed_of sends wrote
   other_row k h = rw h refl
 
-  spends : SpendsNone p j e
+  spends : SpendsNone seats j e
   unfolding wrote granted grant_of gathered
   spends = record { no_send = refl; no_match = refl; same = λ u. refl }
 
-  ended_closed : Stands p (noted_after (closed (ended_many s ts) (lane / 2) l how) lane
+  ended_closed : Stands p seats (noted_after (closed (ended_many s ts) (lane / 2) l how) lane
       (call.Ended l how) reply.Noted) (e ∷ j)
   unfolding halted
   ended_closed = record {
     plan = st.plan;
     sound = st.sound;
-    legal = (st.legal, legal);
-    pool = ends_kept p s.pool j lane l st.pool how (ends_unbind p j lane l how stays carries);
+    lawful = (st.lawful, joins);
+    seated = (st.seated, may.berth);
+    few = st.few;
+    pool = ends_kept p seats s.pool j lane l st.pool how (ends_unbind p j lane l how stays carries);
     requests = asks.ends_kept j lane l how p s.requests st.requests;
     cancels = marks.ends_kept p s.cancels j lane l how st.cancels;
     ready = subst (λ (q : Plan). queue-stands.Stands p (chain_states q s.race s.attempts s.ready ts)
         (e ∷ j)) (sym st.plan)
         (several_states p st.sound.least s.race j e ts (record {
           order =
-              attempts_in_order p j (lawful p j st.legal);
+              attempts_in_order p j st.lawful;
           unbegun = facts.unbegun_goes;
           won = st.race;
         }) all
@@ -352,20 +345,20 @@ module _ (p : Plan) (s : State) (j : List Entry) (lane l : ℕ) (seat : Seat) (h
     });
     attempts = several_counts p st.sound.least s.race j e ts
         (record {
-          order = attempts_in_order p j (lawful p j st.legal);
+          order = attempts_in_order p j st.lawful;
           unbegun = facts.unbegun_goes;
           won = st.race;
         }) all together s.attempts st.attempts s.ready st.ready;
-    lanes = lanes_kept p j e s.lanes st.lanes;
-    greetings = quiet_greetings p j e refl refl s.greetings st.greetings;
-    last = changed_last p s j e l st here (set_cause (end_cause how)) refl own_row other_row
+    lanes = lanes_kept seats j e s.lanes st.lanes;
+    greetings = quiet_greetings seats j e refl refl s.greetings st.greetings;
+    last = changed_last p seats s j e l st here (set_cause (end_cause how)) refl own_row other_row
         (update (set_cause (end_cause how)) s.last (lane / 2))
         (λ v. get_update (set_cause (end_cause how)) s.last (lane / 2) v);
-    matches = matches_kept p j e spends s.matches st.matches;
+    matches = matches_kept seats j e spends s.matches st.matches;
     halted = st.halted;
   }
 
-  pub ended_stands : Stands p (noted_after (ended_with s (lane / 2) seat l how) lane
+  pub ended_stands : Stands p seats (noted_after (ended_with s (lane / 2) seat l how) lane
       (call.Ended l how) reply.Noted) (e ∷ j)
-  ended_stands = subst (λ x. Stands p (noted_after x lane (call.Ended l how) reply.Noted) (e ∷ j))
+  ended_stands = subst (λ x. Stands p seats (noted_after x lane (call.Ended l how) reply.Noted) (e ∷ j))
       (sym state_is) ended_closed

@@ -14,11 +14,7 @@ use Rattle.exec_journal.specs.declared.reply.Reply.TheVariants as reply
 use Rattle.exec_journal.specs.Entries.{attempt_of}
 use Rattle.list_lemmas.specs.Options.{or_else, and_more, unless_before}
 use Rattle.exec_journal.specs.Attempts.{ended, end_of, over, attempt}
-use Rattle.exec_journal.specs.Legal.{LegalEntry}
-use Rattle.exec_journal.specs.Rules as r
 use Rattle.exec_journal.specs.Rules.{gathered}
-use Rattle.exec_journal.specs.Scripts.{script}
-use Rattle.run_plan.specs.Groups.{berths}
 use Rattle.exec_journal.specs.Settled.{bound}
 use Rattle.exec_journal.specs.Words.{halted, last_line, has_ended, answered, line_cause, wrote, granted, grant_of, commit_of}
 use Rattle.ready_order.specs.declared.ActionState.{ActionState}
@@ -46,12 +42,13 @@ use Rattle.core_state.specs.Machine.{unbound_line, unbound_for, is_of_action, ro
 use Rattle.core_tables.specs.Matches.{match_in, matches_in, spend_won, won_row, with_won}
 use Rattle.call_laws.specs.Matches.{Matched, recent, is_spent, is_faulty}
 use Rattle.core_state.specs.Noted.{noted_after}
-use Rattle.core_laws.specs.Stands.{Stands}
+use Rattle.core_laws.specs.Stands.{Stands, MayCall}
 use Rattle.core_tables.proofs.Lengths.{length_is}
 use Rattle.core_laws.proofs.Orders.{get_map}
 use Rattle.core_laws.proofs.Own.{lanes_kept, last_kept, IsQuiet, map_matches}
 use Rattle.core_state.proofs.Unbound.{for_keeps, last_kept as same_last}
 use Rattle.core_laws.proofs.Greeted.{quiet_greetings}
+use Rattle.exec_journal.specs.Lawful.{LawfulEntry, plain_reply}
 
 -- ---- the lines that are unbound, as a list
 
@@ -168,9 +165,9 @@ module _ (f : rows.Facts) (last : List LastLine) (a : ℕ) where
 
 -- ---- the entry
 
-module _ (p : Plan) (s : State) (j : List Entry) (lane a n : ℕ) (b : Branch) (f : Found)
-    (st : Stands p s j) (may : script p j lane (call.Claim a b n f) ≡ true)
-    (is : reply.Granted ≡ r.rule p j lane (call.Claim a b n f)) (ungranted : grant_of j a ≡ None)
+module _ (p : Plan) (seats : ℕ) (s : State) (j : List Entry) (lane a n : ℕ) (b : Branch) (f : Found)
+    (st : Stands p seats s j) (may : MayCall p seats j lane (call.Claim a b n f))
+    (is : reply.Granted ≡ plain_reply p j lane (call.Claim a b n f)) (ungranted : grant_of j a ≡ None)
     (uncommitted : (c : Branch) → commit_of j a c ≡ None)
     (stays : WantedStays p j (record {
       lane = lane;
@@ -178,12 +175,12 @@ module _ (p : Plan) (s : State) (j : List Entry) (lane a n : ℕ) (b : Branch) (
       reply = reply.Granted;
     }))
     (bound_last : (l : ℕ) (t : Attempt) → bound p j l ≡ Some t
-    → (w : ℕ) × (w < berths p) × (last_line j w ≡ Some l)) where
+    → (w : ℕ) × (w < seats) × (last_line j w ≡ Some l)) where
   abbrev e : Entry
   e = record { lane = lane; call = call.Claim a b n f; reply = reply.Granted }
 
-  legal : LegalEntry p j e
-  legal = record { scripted = may; replied = is; kept = refl }
+  joins : LawfulEntry p j e
+  joins = record { scripted = may.scripted; told = is; kept = refl }
 
   -- ---- no attempt ends
 
@@ -224,19 +221,19 @@ module _ (p : Plan) (s : State) (j : List Entry) (lane a n : ℕ) (b : Branch) (
 
   -- ---- the lines
 
-  seats : length s.last ≡ berths p
+  lasts : length s.last ≡ seats
   unfolding last_in
-  seats = length_is s.last (berths p) (λ w. row_of j (last_line j w)) st.last
+  lasts = length_is s.last seats (λ w. row_of j (last_line j w)) st.last
 
-  row_is : (w l : ℕ) → w < berths p → last_line j w ≡ Some l
+  row_is : (w l : ℕ) → w < seats → last_line j w ≡ Some l
       → slice_get s.last w ≡ Some (row_of j (Some l))
   unfolding last_in
   row_is w l lt h =
-      let inside : nat_lt w (berths p) ≡ true = lt-ltb w (berths p) lt in
+      let inside : nat_lt w seats ≡ true = lt-ltb w seats lt in
       st.last w ∙ ap (λ x. cond x (Some (row_of j (last_line j w))) None) inside
       ∙ ap (λ o. Some (row_of j o)) h
 
-  of_line : (w l : ℕ) (t : Attempt) → w < berths p → last_line j w ≡ Some l → bound p j l ≡ Some t
+  of_line : (w l : ℕ) (t : Attempt) → w < seats → last_line j w ≡ Some l → bound p j l ≡ Some t
       → its s.pool s.last a w ≡ (t.action == a)
   of_line w l t lt h was =
       ap (λ o. is_of_action ((row_or_none o).attempt) a) (row_is w l lt h)
@@ -248,15 +245,15 @@ module _ (p : Plan) (s : State) (j : List Entry) (lane a n : ℕ) (b : Branch) (
     each = λ l t was. by_bool (a == t.action) (λ x. (a == t.action) ≡ x
         → is_among l (lines s.pool s.last a (length s.last)) ≡ x)
         (λ yes h. let at = bound_last l t was in
-        among_from s.pool s.last a (length s.last) at.0 l (let len = seats in let lt = at.1 in
+        among_from s.pool s.last a (length s.last) at.0 l (let len = lasts in let lt = at.1 in
         omega arith)
         (of_line at.0 l t at.1 at.2 was ∙ eq-eqb t.action a (sym (eqb-true a t.action h)))
-        (last_is p s.pool j st.pool at.0 at.1 ∙ at.2))
+        (last_is p seats s.pool j st.pool at.0 at.1 ∙ at.2))
         (λ ne h. by_bool (is_among l (lines s.pool s.last a (length s.last)))
         (λ y. is_among l (lines s.pool s.last a (length s.last)) ≡ y → y ≡ false)
         (λ yes k. absurd (let at = among_to s.pool s.last a (length s.last) l k in
-        let len = seats in let below = at.below in let lt : at.berth < berths p = omega arith in
-        let here = sym (last_is p s.pool j st.pool at.berth lt) ∙ at.is in
+        let len = lasts in let below = at.below in let lt : at.berth < seats = omega arith in
+        let here = sym (last_is p seats s.pool j st.pool at.berth lt) ∙ at.is in
         let own = sym (of_line at.berth l t lt here was) ∙ at.own in
         let same = eq-eqb a t.action (sym (eqb-true t.action a own)) in cc))
         (λ _ k. refl) refl) refl;
@@ -312,16 +309,16 @@ module _ (p : Plan) (s : State) (j : List Entry) (lane a n : ℕ) (b : Branch) (
   won_by w true =
       ap (λ xs. Some (rec xs)) (map_reverse (spend_won a) (map (match_in j) (recent j w))
       ∙ ap reverse (map_map (spend_won a) (match_in j) (recent j w)
-      ∙ map_matches p j e (λ m. spend_won a (match_in j m)) (match_in (e ∷ j))
+      ∙ map_matches seats j e (λ m. spend_won a (match_in j m)) (match_in (e ∷ j))
       (recent j w) won_match))
       ∙ ap (λ xs. Some (rec (reverse (map (match_in (e ∷ j)) xs)))) (sym (recent_after w))
 
-  matches_is : (w : ℕ) → slice_get (with_won s.matches a) w ≡ matches_in p (e ∷ j) w
+  matches_is : (w : ℕ) → slice_get (with_won s.matches a) w ≡ matches_in seats (e ∷ j) w
   unfolding matches_in
   matches_is w = get_map (won_row a) s.matches w ∙ ap (option_map (won_row a)) (st.matches w)
-      ∙ won_by w (nat_lt w (berths p))
+      ∙ won_by w (nat_lt w seats)
 
-  quiet : IsQuiet p j e
+  quiet : IsQuiet seats j e
   unfolding wrote
   quiet = record {
     no_launch = refl;
@@ -332,17 +329,19 @@ module _ (p : Plan) (s : State) (j : List Entry) (lane a n : ℕ) (b : Branch) (
   }
 
   module _ (states : List ActionState) (ready : queue-stands.Stands p states (e ∷ j)) where
-    pub granted_stands : Stands p (noted_after (record
+    pub granted_stands : Stands p seats (noted_after (record
         (granted_with s (attempt_of a b n)) { ready = states }) lane
         (call.Claim a b n f) reply.Granted) (e ∷ j)
     unfolding halted
     granted_stands = record {
       plan = st.plan;
       sound = st.sound;
-      legal = (st.legal, legal);
-      pool = subst (λ q. pools.Stands p q (e ∷ j)) (sym (unbound_is s.pool s.last a
+      lawful = (st.lawful, joins);
+      seated = (st.seated, may.berth);
+      few = st.few;
+      pool = subst (λ q. pools.Stands p seats q (e ∷ j)) (sym (unbound_is s.pool s.last a
           (length s.last)))
-          (aside_kept p s.pool j e st.pool refl (lines s.pool s.last a (length s.last))
+          (aside_kept p seats s.pool j e st.pool refl (lines s.pool s.last a (length s.last))
           (grants_unbind p j lane a n b f (lines s.pool s.last a (length s.last)) stays these));
       requests = asks.others p s.requests j e st.requests refl refl;
       cancels = marks.grants_kept p s.cancels j lane a b n f st.cancels;
@@ -350,9 +349,9 @@ module _ (p : Plan) (s : State) (j : List Entry) (lane a n : ℕ) (b : Branch) (
       race = races.grants p s.race j lane a n b f st.race
           (record { ungranted = ungranted; uncommitted = uncommitted });
       attempts = tallies.others_count p s.attempts j e st.attempts none_begins ended_same;
-      lanes = lanes_kept p j e s.lanes st.lanes;
-      greetings = quiet_greetings p j e refl refl s.greetings st.greetings;
-      last = last_kept p j e quiet s.last st.last;
+      lanes = lanes_kept seats j e s.lanes st.lanes;
+      greetings = quiet_greetings seats j e refl refl s.greetings st.greetings;
+      last = last_kept seats j e quiet s.last st.last;
       matches = matches_is;
       halted = st.halted;
     }

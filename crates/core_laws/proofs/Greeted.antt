@@ -3,7 +3,6 @@ use Rattle.std.proofs.Common.{◌≡◌, ℕ, ◌/◌, ◌==◌, nat_lt, Bool, t
 use Rattle.std.specs.Prelude.{slice_get}
 use Rattle.std.proofs.lemmas.Bool.{eq-eqb}
 use Rattle.run_plan.specs.declared.plan.Plan.{Plan}
-use Rattle.run_plan.specs.Groups.{berths}
 use Rattle.exec_journal.specs.declared.attempt.Attempt.{Attempt}
 use Rattle.exec_journal.specs.declared.call.Answer.{Answer}
 use Rattle.exec_journal.specs.declared.call.Call.{Call}
@@ -13,7 +12,7 @@ use Rattle.exec_journal.specs.declared.reply.Reply.{Reply}
 use Rattle.exec_journal.specs.declared.reply.Reply.TheVariants as reply
 use Rattle.exec_journal.specs.Entries.{greets, launch_in, speaks}
 use Rattle.exec_journal.specs.Facts.{IsFresh}
-use Rattle.exec_journal.specs.Words.{has_greeted, has_spoken, last_line, line_count}
+use Rattle.exec_journal.specs.Words.{has_greeted, has_spoken, last_line}
 use Rattle.list_lemmas.specs.Options.{or_else}
 use Rattle.list_lemmas.proofs.Updates.{get_update}
 use Rattle.worker_pool.proofs.Words.{last_same}
@@ -25,7 +24,7 @@ use Rattle.core_laws.proofs.Rowed.{changed_rows}
 
 -- ---- an entry that is no Answer and orders no Launch
 
-module _ (p : Plan) (j : List Entry) (e : Entry) (quiet : is_answer e.call ≡ false)
+module _ (seats : ℕ) (j : List Entry) (e : Entry) (quiet : is_answer e.call ≡ false)
     (plain : launch_in e.reply ≡ None) where
   unlaunched : (r : Reply) (x : Greeting) → launch_in r ≡ None → unless_launched r x ≡ x
   unlaunched (reply.Launch l a b t) x h = absurd (cc)
@@ -56,19 +55,19 @@ module _ (p : Plan) (j : List Entry) (e : Entry) (quiet : is_answer e.call ≡ f
   row_same true None = refl
   row_same true (Some x) = ap Some (said_same e.call x quiet)
 
-  pub quiet_greetings : (rows : List Greeting) → ((w : ℕ) → slice_get rows w ≡ greeting_in p j w)
-      → (w : ℕ) → slice_get (with_said rows (e.lane / 2) e.call e.reply) w ≡ greeting_in p (e ∷ j) w
+  pub quiet_greetings : (rows : List Greeting) → ((w : ℕ) → slice_get rows w ≡ greeting_in seats j w)
+      → (w : ℕ) → slice_get (with_said rows (e.lane / 2) e.call e.reply) w ≡ greeting_in seats (e ∷ j) w
   unfolding greeting_in
   quiet_greetings rows h w =
       get_update (said_by e.call e.reply) rows (e.lane / 2) w
       ∙ row_same (e.lane / 2 == w) (slice_get rows w) ∙ h w
-      ∙ ap (λ x. cond (nat_lt w (berths p)) (Some x) None)
+      ∙ ap (λ x. cond (nat_lt w seats) (Some x) None)
       (sym (of_same (last_line j w)) ∙ ap (greeting_of (e ∷ j)) (sym (last_same e j plain w)))
 
 -- ---- an Answer
 
-module _ (p : Plan) (s : State) (j : List Entry) (lane l : ℕ) (x : Answer) (y : Reply)
-    (st : Stands p s j) (here : last_line j (lane / 2) ≡ Some l) (plain : launch_in y ≡ None) where
+module _ (p : Plan) (seats : ℕ) (s : State) (j : List Entry) (lane l : ℕ) (x : Answer) (y : Reply)
+    (st : Stands p seats s j) (here : last_line j (lane / 2) ≡ Some l) (plain : launch_in y ≡ None) where
   abbrev e : Entry
   e = record { lane = lane; call = call.Answer l x; reply = y }
 
@@ -95,16 +94,16 @@ module _ (p : Plan) (s : State) (j : List Entry) (lane l : ℕ) (x : Answer) (y 
   }
 
   pub answer_greetings : (w : ℕ) → slice_get (with_said s.greetings (lane / 2) (call.Answer l x) y)
-      w ≡ greeting_in p (e ∷ j) w
+      w ≡ greeting_in seats (e ∷ j) w
   unfolding greeting_in
   answer_greetings =
-      changed_rows p s j e l st here plain greeting_of (said_by (call.Answer l x) y) own others refl
+      changed_rows p seats s j e l st here plain greeting_of (said_by (call.Answer l x) y) own others refl
       s.greetings (with_said s.greetings (lane / 2) (call.Answer l x) y)
       st.greetings (λ v. get_update (said_by (call.Answer l x) y) s.greetings (lane / 2) v)
 
 -- ---- a Launch
 
-module _ (p : Plan) (j : List Entry) (lane l : ℕ) (t : Attempt) (free : IsFresh j l) where
+module _ (seats : ℕ) (j : List Entry) (lane l : ℕ) (t : Attempt) (free : IsFresh j l) where
   abbrev launch : Entry
   launch = record {
     lane = lane;
@@ -133,11 +132,11 @@ module _ (p : Plan) (j : List Entry) (lane l : ℕ) (t : Attempt) (free : IsFres
   launched_by v false true = ap Some (sym (old_same (last_line j v)))
   launched_by v false false = refl
 
-  pub launch_greetings : (rows : List Greeting) → ((w : ℕ) → slice_get rows w ≡ greeting_in p j w)
-      → (w : ℕ) → slice_get (with_said rows (lane / 2) call.Ask launch.reply) w ≡ greeting_in p
+  pub launch_greetings : (rows : List Greeting) → ((w : ℕ) → slice_get rows w ≡ greeting_in seats j w)
+      → (w : ℕ) → slice_get (with_said rows (lane / 2) call.Ask launch.reply) w ≡ greeting_in seats
       (launch ∷ j) w
   unfolding greeting_in last_line
   launch_greetings rows h v =
       get_update (λ (x : Greeting). silent) rows (lane / 2) v
       ∙ ap (λ (o : Option Greeting). cond (lane / 2 == v) (option_map (λ x. silent) o) o) (h v)
-      ∙ launched_by v (lane / 2 == v) (nat_lt v (berths p))
+      ∙ launched_by v (lane / 2 == v) (nat_lt v seats)

@@ -10,10 +10,7 @@ use Rattle.exec_journal.specs.declared.call.Call.TheVariants as call
 use Rattle.exec_journal.specs.declared.reply.Reply.TheVariants as reply
 use Rattle.exec_journal.specs.Facts.{SameActions}
 use Rattle.list_lemmas.specs.Options.{and_more}
-use Rattle.exec_journal.specs.Rules as r
 use Rattle.exec_journal.specs.Rules.{gathered}
-use Rattle.exec_journal.specs.Scripts.{script}
-use Rattle.run_plan.specs.Groups.{berths}
 use Rattle.exec_journal.specs.Words.{halted, last_line, wrote, granted, grant_of}
 use Rattle.list_lemmas.proofs.Updates.{get_update}
 use Rattle.worker_pool.specs.Entries.{IsPendingOn}
@@ -28,17 +25,18 @@ use Rattle.core_tables.specs.Matches.{match_in, matches_in, with_match, on_row}
 use Rattle.call_laws.specs.Matches.{Matched, recent, is_spent}
 use Rattle.core_state.specs.Noted.{noted_after}
 use Rattle.core_state.specs.Reports.{new_match, heard_late, heard_match}
-use Rattle.core_laws.specs.Stands.{Stands}
+use Rattle.core_laws.specs.Stands.{Stands, MayCall}
 use Rattle.core_laws.proofs.Own.{lanes_kept, last_kept, matches_kept, IsQuiet, SpendsNone, ready_kept, race_kept, attempts_kept, map_matches}
 use Rattle.core_laws.proofs.Greeted.{answer_greetings}
+use Rattle.exec_journal.specs.Lawful.{plain_reply}
 
-module _ (p : Plan) (s : State) (j : List Entry) (lane l : ℕ) (x : Answer) (t : Attempt)
-    (st : Stands p s j) (may : script p j lane (call.Answer l x) ≡ true)
+module _ (p : Plan) (seats : ℕ) (s : State) (j : List Entry) (lane l : ℕ) (x : Answer) (t : Attempt)
+    (st : Stands p seats s j) (may : MayCall p seats j lane (call.Answer l x))
     (here : last_line j (lane / 2) ≡ Some l)
     (on : IsPendingOn j t l) (known : IsKnownBy j l x.number t) where
   -- ---- Late
 
-  module _ (is : reply.Late t.action t.branch t.number ≡ r.rule p j lane (call.Answer l x)) where
+  module _ (is : reply.Late t.action t.branch t.number ≡ plain_reply p j lane (call.Answer l x)) where
     abbrev late_entry : Entry
     late_entry = record {
       lane = lane;
@@ -47,10 +45,10 @@ module _ (p : Plan) (s : State) (j : List Entry) (lane l : ℕ) (x : Answer) (t 
     }
 
     late_same : SameActions j (late_entry ∷ j)
-    late_same = answer_actions p s.pool j lane l x (reply.Late t.action t.branch t.number) t st.pool
+    late_same = answer_actions p seats s.pool j lane l x (reply.Late t.action t.branch t.number) t st.pool
         refl
 
-    late_quiet : IsQuiet p j late_entry
+    late_quiet : IsQuiet seats j late_entry
     unfolding wrote
     late_quiet = record {
       no_launch = refl;
@@ -60,18 +58,20 @@ module _ (p : Plan) (s : State) (j : List Entry) (lane l : ℕ) (x : Answer) (t 
       no_feed = λ u. refl;
     }
 
-    late_spends : SpendsNone p j late_entry
+    late_spends : SpendsNone seats j late_entry
     unfolding wrote granted grant_of gathered
     late_spends = record { no_send = refl; no_match = refl; same = λ u. refl }
 
-    pub late_stands : Stands p (noted_after (heard_late s l x.number) lane (call.Answer l x)
+    pub late_stands : Stands p seats (noted_after (heard_late s l x.number) lane (call.Answer l x)
         (reply.Late t.action t.branch t.number)) (late_entry ∷ j)
     unfolding halted
     late_stands = record {
       plan = st.plan;
       sound = st.sound;
-      legal = (st.legal, record { scripted = may; replied = is; kept = refl });
-      pool = answers_kept p s.pool j lane l x (reply.Late t.action t.branch t.number) t st.pool refl
+      lawful = (st.lawful, record { scripted = may.scripted; told = is; kept = refl });
+      seated = (st.seated, may.berth);
+      few = st.few;
+      pool = answers_kept p seats s.pool j lane l x (reply.Late t.action t.branch t.number) t st.pool refl
           on;
       requests = asks.answers j lane l x (reply.Late t.action t.branch t.number) t refl p s.requests
           st.requests known;
@@ -80,17 +80,17 @@ module _ (p : Plan) (s : State) (j : List Entry) (lane l : ℕ) (x : Answer) (t 
       ready = ready_kept p j late_entry late_same refl s.ready st.ready;
       race = race_kept p j late_entry late_same refl s.race st.race;
       attempts = attempts_kept p j late_entry late_same refl s.attempts st.attempts;
-      lanes = lanes_kept p j late_entry s.lanes st.lanes;
-      greetings = answer_greetings p s j lane l x (reply.Late t.action t.branch t.number) st here
+      lanes = lanes_kept seats j late_entry s.lanes st.lanes;
+      greetings = answer_greetings p seats s j lane l x (reply.Late t.action t.branch t.number) st here
           refl;
-      last = last_kept p j late_entry late_quiet s.last st.last;
-      matches = matches_kept p j late_entry late_spends s.matches st.matches;
+      last = last_kept seats j late_entry late_quiet s.last st.last;
+      matches = matches_kept seats j late_entry late_spends s.matches st.matches;
       halted = st.halted;
     }
 
   -- ---- Matched
 
-  module _ (is : reply.Matched t.action t.branch t.number ≡ r.rule p j lane (call.Answer l x))
+  module _ (is : reply.Matched t.action t.branch t.number ≡ plain_reply p j lane (call.Answer l x))
       (waits : is_spent j t ≡ false) where
     abbrev match_entry : Entry
     match_entry = record {
@@ -100,10 +100,10 @@ module _ (p : Plan) (s : State) (j : List Entry) (lane l : ℕ) (x : Answer) (t 
     }
 
     match_actions : SameActions j (match_entry ∷ j)
-    match_actions = answer_actions p s.pool j lane l x
+    match_actions = answer_actions p seats s.pool j lane l x
         (reply.Matched t.action t.branch t.number) t st.pool refl
 
-    match_quiet : IsQuiet p j match_entry
+    match_quiet : IsQuiet seats j match_entry
     unfolding wrote
     match_quiet = record {
       no_launch = refl;
@@ -152,7 +152,7 @@ module _ (p : Plan) (s : State) (j : List Entry) (lane l : ℕ) (x : Answer) (t 
     row_now : (w : ℕ) → reverse (map (match_in j) (recent j w)) ++ new_match l x t ∷ [] ≡ reverse
         (map (match_in (match_entry ∷ j)) (matched ∷ recent j w))
     row_now w =
-        (λ i. reverse (map_matches p j match_entry (match_in j) (match_in (match_entry ∷ j))
+        (λ i. reverse (map_matches seats j match_entry (match_in j) (match_in (match_entry ∷ j))
         (recent j w) (λ m. sym (old_same m)) i) ++ new_is i ∷ [])
         ∙ sym (reverse_front (match_in (match_entry ∷ j) matched)
         (map (match_in (match_entry ∷ j)) (recent j w)))
@@ -166,27 +166,29 @@ module _ (p : Plan) (s : State) (j : List Entry) (lane l : ℕ) (x : Answer) (t 
     one_more w true true = ap (λ xs. Some (rec xs)) (row_now w)
     one_more w true false = refl
     one_more w false true = ap (λ xs. Some (rec (reverse xs)))
-        (map_matches p j match_entry (match_in j) (match_in (match_entry ∷ j)) (recent j w)
+        (map_matches seats j match_entry (match_in j) (match_in (match_entry ∷ j)) (recent j w)
         (λ m. sym (old_same m)))
     one_more w false false = refl
 
     matches_is : (w : ℕ) → slice_get (with_match s.matches (lane / 2) (new_match l x t)) w
-        ≡ matches_in p (match_entry ∷ j) w
+        ≡ matches_in seats (match_entry ∷ j) w
     unfolding matches_in recent
     matches_is w =
         get_update (on_row (λ ms. ms ++ new_match l x t ∷ [])) s.matches (lane / 2) w
         ∙ ap (λ (o : Option (ArrayVec Match)). cond (lane / 2 == w)
         (option_map (on_row (λ ms. ms ++ new_match l x t ∷ [])) o) o) (st.matches w)
-        ∙ one_more w (lane / 2 == w) (nat_lt w (berths p))
+        ∙ one_more w (lane / 2 == w) (nat_lt w seats)
 
-    pub match_stands : Stands p (noted_after (heard_match s (lane / 2) l x t) lane (call.Answer l x)
+    pub match_stands : Stands p seats (noted_after (heard_match s (lane / 2) l x t) lane (call.Answer l x)
         (reply.Matched t.action t.branch t.number)) (match_entry ∷ j)
     unfolding halted
     match_stands = record {
       plan = st.plan;
       sound = st.sound;
-      legal = (st.legal, record { scripted = may; replied = is; kept = refl });
-      pool = answers_kept p s.pool j lane l x (reply.Matched t.action t.branch t.number) t st.pool
+      lawful = (st.lawful, record { scripted = may.scripted; told = is; kept = refl });
+      seated = (st.seated, may.berth);
+      few = st.few;
+      pool = answers_kept p seats s.pool j lane l x (reply.Matched t.action t.branch t.number) t st.pool
           refl on;
       requests = asks.answers j lane l x (reply.Matched t.action t.branch t.number) t refl p
           s.requests st.requests known;
@@ -195,10 +197,10 @@ module _ (p : Plan) (s : State) (j : List Entry) (lane l : ℕ) (x : Answer) (t 
       ready = ready_kept p j match_entry match_actions refl s.ready st.ready;
       race = race_kept p j match_entry match_actions refl s.race st.race;
       attempts = attempts_kept p j match_entry match_actions refl s.attempts st.attempts;
-      lanes = lanes_kept p j match_entry s.lanes st.lanes;
-      greetings = answer_greetings p s j lane l x (reply.Matched t.action t.branch t.number) st here
+      lanes = lanes_kept seats j match_entry s.lanes st.lanes;
+      greetings = answer_greetings p seats s j lane l x (reply.Matched t.action t.branch t.number) st here
           refl;
-      last = last_kept p j match_entry match_quiet s.last st.last;
+      last = last_kept seats j match_entry match_quiet s.last st.last;
       matches = matches_is;
       halted = st.halted;
     }

@@ -1,7 +1,4 @@
-pub mod Earliest
-pub mod AtBerths
-pub mod Rooms
-pub mod Chosen
+pub mod AllOf
 pub mod Own
 pub mod Rowed
 pub mod Greeted

@@ -1,5 +1,5 @@
 -- What the order of an Ask makes of a state that stands for a journal.
-use Rattle.std.proofs.Common.{◌≡◌, ℕ, zero, suc, ◌/◌, ◌<◌, ◌==◌, nat_lt, Bool, true, false, ◌&&◌, ◌||◌, cond, List, [], ◌∷◌, map, reverse, Option, Some, None, option_map, refl, ap, sym, ◌∙◌, arith}
+use Rattle.std.proofs.Common.{◌≡◌, ℕ, zero, suc, ◌/◌, ◌<◌, ◌==◌, nat_lt, Bool, true, false, ◌&&◌, ◌||◌, cond, List, [], ◌∷◌, map, reverse, Option, Some, None, option_map, refl, ap, sym, subst, ◌∙◌, arith}
 use Rattle.std.specs.Prelude.{slice_get, ℤ}
 use Rattle.std.proofs.lemmas.Bool.{eq-eqb}
 use Rattle.arrayvec.specs.ArrayVec.{ArrayVec}
@@ -15,22 +15,18 @@ use Rattle.exec_journal.specs.Entries.{same_attempt, is_halt, granted_in}
 use Rattle.exec_journal.specs.Facts.{SameActions, IsFresh, BeginsNext, OfBerth}
 use Rattle.list_lemmas.specs.Options.{or_else, and_more}
 use Rattle.exec_journal.specs.Attempts.{begun_in, ended}
-use Rattle.exec_journal.specs.Legal.{LegalEntry}
-use Rattle.exec_journal.specs.Rules as r
 use Rattle.exec_journal.specs.Rules.{gathered}
 use Rattle.request_table.specs.Entries.{is_still, is_calm}
-use Rattle.exec_journal.specs.Scripts.{script}
-use Rattle.run_plan.specs.Groups.{berths}
-use Rattle.exec_journal.specs.Settled.{earliest}
+use Rattle.exec_journal.specs.Seated.{kind_for}
 use Rattle.list_lemmas.specs.Places.{update}
 use Rattle.exec_journal.specs.Words.{halted, last_line, launch_of, line_count, line_cause, was_taken, sends, wrote, granted, grant_of}
-use Rattle.exec_journal.specs.Kept.{group_at}
-use Rattle.journal_laws.proofs.Ours.{lawful}
-use Rattle.exec_journal.proofs.Begins.{earliest_next, queued_is, begin_in_order}
+use Rattle.exec_journal.proofs.Begins.{queued_is, begin_in_order}
 use Rattle.journal_laws.proofs.Fresh.{fresh}
 use Rattle.exec_journal.proofs.Lines.{last_line_own, lines_named, launch_stays}
 use Rattle.list_lemmas.proofs.Updates.{get_update}
 use Rattle.worker_pool.specs.Entries.{is_aside, ends_nothing, IsNew}
+use Rattle.worker_pool.specs.Rows as rows
+use Rattle.worker_pool.specs.Stands as pools
 use Rattle.worker_pool.proofs.Kept.{quiet_kept}
 use Rattle.worker_pool.proofs.Words.{quiet_actions}
 use Rattle.worker_pool.proofs.Launched.{launches_kept, launch_actions}
@@ -52,21 +48,22 @@ use Rattle.core_tables.specs.Matches.{match_in, matches_in, spend_if, spent_row,
 use Rattle.call_laws.specs.Matches.{Matched, recent, is_faulty}
 use Rattle.core_tables.specs.Greetings.{greeting_in, with_said}
 use Rattle.core_state.specs.Noted.{noted_after}
-use Rattle.core_laws.specs.Stands.{Stands}
+use Rattle.core_laws.specs.Stands.{Stands, MayCall}
 use Rattle.core_laws.proofs.Own.{lanes_kept, last_kept, matches_kept, IsQuiet, SpendsNone, ready_kept, race_kept, attempts_kept, map_matches}
 use Rattle.core_laws.proofs.Greeted.{quiet_greetings, launch_greetings}
+use Rattle.exec_journal.specs.Lawful.{LawfulEntry, Asked, IsNextOf}
 
 abbrev asked : ℕ → Reply → Entry
 asked lane x = record { lane = lane; call = call.Ask; reply = x }
 
 -- ---- an entry that changes no table but the core's own
 
-module _ (p : Plan) (s : State) (j : List Entry) (e : Entry) (st : Stands p s j)
-    (legal : LegalEntry p j e) (aside : is_aside e ≡ true) (nothing : ends_nothing e.call ≡ true)
+module _ (p : Plan) (seats : ℕ) (s : State) (j : List Entry) (e : Entry) (st : Stands p seats s j)
+    (joins : LawfulEntry p j e) (berth : e.lane / 2 < seats) (aside : is_aside e ≡ true) (nothing : ends_nothing e.call ≡ true)
     (still : is_still e.reply ≡ true) (calm : is_calm e.call ≡ true)
     (ungranted : granted_in e.call e.reply ≡ None) (plain : begun_in e.reply ≡ None)
     (told : (w : ℕ) → slice_get (with_said s.greetings (e.lane / 2) e.call e.reply) w
-    ≡ greeting_in p (e ∷ j) w) where
+    ≡ greeting_in seats (e ∷ j) w) where
   abbrev with_own : State → List LastLine → List (ArrayVec Match) → State
   with_own t rows ms = record t { last = rows; matches = ms }
 
@@ -74,36 +71,38 @@ module _ (p : Plan) (s : State) (j : List Entry) (e : Entry) (st : Stands p s j)
   same = quiet_actions e j aside nothing
 
   pub own_stands : (rows : List LastLine) (ms : List (ArrayVec Match))
-      → ((w : ℕ) → slice_get rows w ≡ last_in p (e ∷ j) w)
-      → ((w : ℕ) → slice_get ms w ≡ matches_in p (e ∷ j) w)
-      → Stands p (with_own (noted_after s e.lane e.call e.reply) rows ms) (e ∷ j)
+      → ((w : ℕ) → slice_get rows w ≡ last_in seats (e ∷ j) w)
+      → ((w : ℕ) → slice_get ms w ≡ matches_in seats (e ∷ j) w)
+      → Stands p seats (with_own (noted_after s e.lane e.call e.reply) rows ms) (e ∷ j)
   unfolding halted
   own_stands rows ms last matches = record {
     plan = st.plan;
     sound = st.sound;
-    legal = (st.legal, legal);
-    pool = quiet_kept p s.pool j e st.pool aside nothing;
+    lawful = (st.lawful, joins);
+    seated = (st.seated, berth);
+    few = st.few;
+    pool = quiet_kept p seats s.pool j e st.pool aside nothing;
     requests = asks.others p s.requests j e st.requests still calm;
     cancels = marks.others p s.cancels j e st.cancels still calm ungranted;
     ready = ready_kept p j e same plain s.ready st.ready;
     race = race_kept p j e same plain s.race st.race;
     attempts = attempts_kept p j e same plain s.attempts st.attempts;
-    lanes = lanes_kept p j e s.lanes st.lanes;
+    lanes = lanes_kept seats j e s.lanes st.lanes;
     greetings = told;
     last = last;
     matches = matches;
     halted = ap (λ b. is_halt e.call || b) st.halted;
   }
 
-  pub quiet_stands : IsQuiet p j e → SpendsNone p j e
-      → Stands p (noted_after s e.lane e.call e.reply) (e ∷ j)
-  quiet_stands quiet spends = own_stands s.last s.matches (last_kept p j e quiet s.last st.last)
-      (matches_kept p j e spends s.matches st.matches)
+  pub quiet_stands : IsQuiet seats j e → SpendsNone seats j e
+      → Stands p seats (noted_after s e.lane e.call e.reply) (e ∷ j)
+  quiet_stands quiet spends = own_stands s.last s.matches (last_kept seats j e quiet s.last st.last)
+      (matches_kept seats j e spends s.matches st.matches)
 
 -- ---- Kill, Stop
 
-module _ (p : Plan) (j : List Entry) (lane : ℕ) where
-  kill_quiet : (l : ℕ) (y : Why) → IsQuiet p j (asked lane (reply.Kill l y))
+module _ (seats : ℕ) (j : List Entry) (lane : ℕ) where
+  kill_quiet : (l : ℕ) (y : Why) → IsQuiet seats j (asked lane (reply.Kill l y))
   unfolding wrote
   kill_quiet l y = record {
     no_launch = refl;
@@ -113,11 +112,11 @@ module _ (p : Plan) (j : List Entry) (lane : ℕ) where
     no_feed = λ t. refl;
   }
 
-  kill_spends : (l : ℕ) (y : Why) → SpendsNone p j (asked lane (reply.Kill l y))
+  kill_spends : (l : ℕ) (y : Why) → SpendsNone seats j (asked lane (reply.Kill l y))
   unfolding wrote granted grant_of gathered
   kill_spends l y = record { no_send = refl; no_match = refl; same = λ t. refl }
 
-  stop_quiet : (c : Call) → IsQuiet p j (asked lane reply.Stop)
+  stop_quiet : (c : Call) → IsQuiet seats j (asked lane reply.Stop)
   unfolding wrote
   stop_quiet c = record {
     no_launch = refl;
@@ -127,12 +126,12 @@ module _ (p : Plan) (j : List Entry) (lane : ℕ) where
     no_feed = λ t. refl;
   }
 
-  stop_spends : SpendsNone p j (asked lane reply.Stop)
+  stop_spends : SpendsNone seats j (asked lane reply.Stop)
   unfolding wrote granted grant_of gathered
   stop_spends = record { no_send = refl; no_match = refl; same = λ t. refl }
 
   gather_quiet : (l : ℕ) (n : ℤ) (t : Attempt) (x : ℤ) (v : Bool)
-      → IsQuiet p j (asked lane (reply.Gather l n t.action t.branch t.number x v))
+      → IsQuiet seats j (asked lane (reply.Gather l n t.action t.branch t.number x v))
   unfolding wrote
   gather_quiet l n t x v = record {
     no_launch = refl;
@@ -142,7 +141,7 @@ module _ (p : Plan) (j : List Entry) (lane : ℕ) where
     no_feed = λ u. refl;
   }
 
-  cancel_quiet : (l : ℕ) (n : ℤ) → IsQuiet p j (asked lane (reply.Cancel l n))
+  cancel_quiet : (l : ℕ) (n : ℤ) → IsQuiet seats j (asked lane (reply.Cancel l n))
   unfolding wrote
   cancel_quiet l n = record {
     no_launch = refl;
@@ -152,7 +151,7 @@ module _ (p : Plan) (j : List Entry) (lane : ℕ) where
     no_feed = λ u. refl;
   }
 
-  cancel_spends : (l : ℕ) (n : ℤ) → SpendsNone p j (asked lane (reply.Cancel l n))
+  cancel_spends : (l : ℕ) (n : ℤ) → SpendsNone seats j (asked lane (reply.Cancel l n))
   unfolding wrote granted grant_of gathered
   cancel_spends l n = record { no_send = refl; no_match = refl; same = λ t. refl }
 
@@ -166,21 +165,21 @@ get_map g [] i = refl
 get_map g (x ∷ xs) zero = refl
 get_map g (x ∷ xs) (suc i) = get_map g xs i
 
-module _ (p : Plan) (s : State) (j : List Entry) (lane : ℕ) (st : Stands p s j)
-    (may : script p j lane call.Ask ≡ true) where
-  pub kill_stands : (l : ℕ) (y : Why) → reply.Kill l y ≡ r.rule p j lane call.Ask
-      → Stands p (noted_after s lane call.Ask (reply.Kill l y)) (asked lane (reply.Kill l y) ∷ j)
-  kill_stands l y is = quiet_stands p s j (asked lane (reply.Kill l y)) st
-      (record { scripted = may; replied = is; kept = refl }) refl refl refl refl refl refl
-      (quiet_greetings p j (asked lane (reply.Kill l y)) refl refl s.greetings st.greetings)
-      (kill_quiet p j lane l y) (kill_spends p j lane l y)
+module _ (p : Plan) (seats : ℕ) (s : State) (j : List Entry) (lane : ℕ) (st : Stands p seats s j)
+    (may : MayCall p seats j lane call.Ask) where
+  pub kill_stands : (l : ℕ) (y : Why) → Asked p j (lane / 2) (reply.Kill l y)
+      → Stands p seats (noted_after s lane call.Ask (reply.Kill l y)) (asked lane (reply.Kill l y) ∷ j)
+  kill_stands l y is = quiet_stands p seats s j (asked lane (reply.Kill l y)) st
+      (record { scripted = may.scripted; told = is; kept = refl }) may.berth refl refl refl refl refl refl
+      (quiet_greetings seats j (asked lane (reply.Kill l y)) refl refl s.greetings st.greetings)
+      (kill_quiet seats j lane l y) (kill_spends seats j lane l y)
 
-  pub stop_stands : reply.Stop ≡ r.rule p j lane call.Ask
-      → Stands p (noted_after s lane call.Ask reply.Stop) (asked lane reply.Stop ∷ j)
-  stop_stands is = quiet_stands p s j (asked lane reply.Stop) st
-      (record { scripted = may; replied = is; kept = refl }) refl refl refl refl refl refl
-      (quiet_greetings p j (asked lane reply.Stop) refl refl s.greetings st.greetings)
-      (stop_quiet p j lane call.Ask) (stop_spends p j lane)
+  pub stop_stands : Asked p j (lane / 2) reply.Stop
+      → Stands p seats (noted_after s lane call.Ask reply.Stop) (asked lane reply.Stop ∷ j)
+  stop_stands is = quiet_stands p seats s j (asked lane reply.Stop) st
+      (record { scripted = may.scripted; told = is; kept = refl }) may.berth refl refl refl refl refl refl
+      (quiet_greetings seats j (asked lane reply.Stop) refl refl s.greetings st.greetings)
+      (stop_quiet seats j lane call.Ask) (stop_spends seats j lane)
 
   -- ---- Gather
 
@@ -220,24 +219,24 @@ module _ (p : Plan) (s : State) (j : List Entry) (lane : ℕ) (st : Stands p s j
     spent_row_is w true =
         ap (λ xs. Some (rec xs)) (map_reverse (spend_if t) (map (match_in j) (recent j w))
         ∙ ap reverse (map_map (spend_if t) (match_in j) (recent j w)
-        ∙ map_matches p j gather_entry (λ m. spend_if t (match_in j m))
+        ∙ map_matches seats j gather_entry (λ m. spend_if t (match_in j m))
         (match_in (gather_entry ∷ j)) (recent j w) spent_match))
         ∙ ap (λ xs. Some (rec (reverse (map (match_in (gather_entry ∷ j)) xs))))
         (sym (recent_after w))
 
-    spent_is : (w : ℕ) → slice_get (with_spent s.matches t) w ≡ matches_in p (gather_entry ∷ j) w
+    spent_is : (w : ℕ) → slice_get (with_spent s.matches t) w ≡ matches_in seats (gather_entry ∷ j) w
     unfolding matches_in
     spent_is w = get_map (spent_row t) s.matches w ∙ ap (option_map (spent_row t)) (st.matches w)
-        ∙ spent_row_is w (nat_lt w (berths p))
+        ∙ spent_row_is w (nat_lt w seats)
 
-    pub gather_stands : reply.Gather l n t.action t.branch t.number x v ≡ r.rule p j lane call.Ask
-        → Stands p (noted_after (record s { matches = with_spent s.matches t }) lane call.Ask
+    pub gather_stands : Asked p j (lane / 2) (reply.Gather l n t.action t.branch t.number x v)
+        → Stands p seats (noted_after (record s { matches = with_spent s.matches t }) lane call.Ask
         (reply.Gather l n t.action t.branch t.number x v)) (gather_entry ∷ j)
-    gather_stands is = own_stands p s j gather_entry st
-        (record { scripted = may; replied = is; kept = refl }) refl refl refl refl refl refl
-        (quiet_greetings p j gather_entry refl refl s.greetings st.greetings) s.last
-        (with_spent s.matches t) (last_kept p j gather_entry
-        (gather_quiet p j lane l n t x v) s.last st.last) spent_is
+    gather_stands is = own_stands p seats s j gather_entry st
+        (record { scripted = may.scripted; told = is; kept = refl }) may.berth refl refl refl refl refl refl
+        (quiet_greetings seats j gather_entry refl refl s.greetings st.greetings) s.last
+        (with_spent s.matches t) (last_kept seats j gather_entry
+        (gather_quiet seats j lane l n t x v) s.last st.last) spent_is
 
   -- ---- Cancel
 
@@ -248,31 +247,33 @@ module _ (p : Plan) (s : State) (j : List Entry) (lane : ℕ) (st : Stands p s j
     cancel_same : SameActions j (cancel_entry ∷ j)
     cancel_same = quiet_actions cancel_entry j refl refl
 
-    pub cancel_stands : reply.Cancel l n ≡ r.rule p j lane call.Ask
-        → Stands p (noted_after (carried s (lane / 2) (choice.Cancel l n)) lane call.Ask
+    pub cancel_stands : Asked p j (lane / 2) (reply.Cancel l n)
+        → Stands p seats (noted_after (carried s (lane / 2) (choice.Cancel l n)) lane call.Ask
         (reply.Cancel l n)) (cancel_entry ∷ j)
     unfolding halted
     cancel_stands is = record {
       plan = st.plan;
       sound = st.sound;
-      legal = (st.legal, record { scripted = may; replied = is; kept = refl });
-      pool = quiet_kept p s.pool j cancel_entry st.pool refl refl;
+      lawful = (st.lawful, record { scripted = may.scripted; told = is; kept = refl });
+      seated = (st.seated, may.berth);
+      few = st.few;
+      pool = quiet_kept p seats s.pool j cancel_entry st.pool refl refl;
       requests = asks-sent.cancels_kept j lane l n p s.requests st.requests;
       cancels = marks.cancels_kept j lane l n p s.cancels st.cancels;
       ready = ready_kept p j cancel_entry cancel_same refl s.ready st.ready;
       race = race_kept p j cancel_entry cancel_same refl s.race st.race;
       attempts = attempts_kept p j cancel_entry cancel_same refl s.attempts st.attempts;
-      lanes = lanes_kept p j cancel_entry s.lanes st.lanes;
-      greetings = quiet_greetings p j cancel_entry refl refl s.greetings st.greetings;
-      last = last_kept p j cancel_entry (cancel_quiet p j lane l n) s.last st.last;
-      matches = matches_kept p j cancel_entry (cancel_spends p j lane l n) s.matches st.matches;
+      lanes = lanes_kept seats j cancel_entry s.lanes st.lanes;
+      greetings = quiet_greetings seats j cancel_entry refl refl s.greetings st.greetings;
+      last = last_kept seats j cancel_entry (cancel_quiet seats j lane l n) s.last st.last;
+      matches = matches_kept seats j cancel_entry (cancel_spends seats j lane l n) s.matches st.matches;
       halted = st.halted;
     }
 
   -- ---- Launch
 
-  module _ (t : Attempt) (next : earliest p j (group_at p (lane / 2)) ≡ Some t)
-      (facts : JournalFacts p j) (lt : lane / 2 < berths p) where
+  module _ (g : ℕ) (t : Attempt) (next : IsNextOf p j g t)
+      (facts : JournalFacts p j) where
     abbrev launch_reply : Reply
     launch_reply = reply.Launch (line_count j) t.action t.branch t.number
 
@@ -280,32 +281,31 @@ module _ (p : Plan) (s : State) (j : List Entry) (lane : ℕ) (st : Stands p s j
     launch_entry = asked lane launch_reply
 
     free : IsFresh j (line_count j)
-    free = fresh p j (line_count j) (lawful p j st.legal) (omega arith)
+    free = fresh p j (line_count j) st.lawful (omega arith)
 
-    module _ (is : launch_reply ≡ r.rule p j lane call.Ask) where
-      legal : LegalEntry p j launch_entry
-      legal = record { scripted = may; replied = is; kept = refl }
+    module _ (is : Asked p j (lane / 2) launch_reply) where
+      joins : LawfulEntry p j launch_entry
+      joins = record { scripted = may.scripted; told = is; kept = refl }
 
       begins : BeginsNext j t
-      begins = (begin_in_order p (launch_entry ∷ j) (lawful p (launch_entry ∷ j) (st.legal, legal))).1
+      begins = (begin_in_order p (launch_entry ∷ j) ((st.lawful, joins))).1
 
       going : ended j t ≡ false
       going = facts.unbegun_goes t begins.unbegun
 
       new : IsNew p j t
       new =
-          let n = earliest_next p j (group_at p (lane / 2)) t next in
           record {
             unbegun = begins.unbegun;
             going = going;
             wish =
-                (queued_is p j t.action t.branch n.action n.waiting).wish;
+                (queued_is p j t.action t.branch next.action next.waiting).wish;
           }
 
       launch_same : SameActions j (launch_entry ∷ j)
-      launch_same = launch_actions p s.pool j lane t st.pool free new lt
+      launch_same = launch_actions p seats s.pool j lane t st.pool free new
 
-      launch_spends : SpendsNone p j launch_entry
+      launch_spends : SpendsNone seats j launch_entry
       unfolding wrote granted grant_of gathered
       launch_spends = record { no_send = refl; no_match = refl; same = λ u. refl }
 
@@ -332,24 +332,28 @@ module _ (p : Plan) (s : State) (j : List Entry) (lane : ℕ) (st : Stands p s j
       last_by v false true own = ap Some (sym (row_old v (last_line j v) own))
       last_by v false false own = refl
 
-      last_is : (v : ℕ) → slice_get (update (set_launched t) s.last (lane / 2)) v ≡ last_in p
+      last_is : (v : ℕ) → slice_get (update (set_launched t) s.last (lane / 2)) v ≡ last_in seats
           (launch_entry ∷ j) v
       unfolding last_in last_line
       last_is v =
           get_update (set_launched t) s.last (lane / 2) v
           ∙ ap (λ (o : Option LastLine). cond (lane / 2 == v) (option_map (set_launched t) o) o)
           (st.last v)
-          ∙ last_by v (lane / 2 == v) (nat_lt v (berths p)) (last_line_own v j
-          (lines_named p j (lawful p j st.legal)))
+          ∙ last_by v (lane / 2 == v) (nat_lt v seats) (last_line_own v j
+          (lines_named p j st.lawful))
 
-      pub launch_stands : Stands p (noted_after (launched_for s (lane / 2) t) lane call.Ask
+      pub launch_stands : Stands p seats (noted_after (launched_for s (lane / 2) t) lane call.Ask
           launch_reply) (launch_entry ∷ j)
       unfolding halted
       launch_stands = record {
         plan = st.plan;
         sound = st.sound;
-        legal = (st.legal, legal);
-        pool = launches_kept p s.pool j lane t st.pool free new lt;
+        lawful = (st.lawful, joins);
+        seated = (st.seated, may.berth);
+        few = st.few;
+        pool = subst (λ q. pools.Stands p seats (rows.with_launch s.pool (lane / 2)
+            (kind_for q t)) (launch_entry ∷ j)) (sym st.plan)
+            (launches_kept p seats s.pool j lane t st.pool free new);
         requests = asks.others p s.requests j launch_entry st.requests refl refl;
         cancels = marks.others p s.cancels j launch_entry st.cancels refl refl refl;
         ready = queues.begun p j launch_entry t (record {
@@ -362,9 +366,9 @@ module _ (p : Plan) (s : State) (j : List Entry) (lane : ℕ) (st : Stands p s j
             (record { grant = launch_same.grant; commit = launch_same.commit });
         attempts = tallies.begins_count p s.attempts j launch_entry t st.attempts refl begins going
             launch_same.ended_too;
-        lanes = lanes_kept p j launch_entry s.lanes st.lanes;
-        greetings = launch_greetings p j lane (line_count j) t free s.greetings st.greetings;
+        lanes = lanes_kept seats j launch_entry s.lanes st.lanes;
+        greetings = launch_greetings seats j lane (line_count j) t free s.greetings st.greetings;
         last = last_is;
-        matches = matches_kept p j launch_entry launch_spends s.matches st.matches;
+        matches = matches_kept seats j launch_entry launch_spends s.matches st.matches;
         halted = st.halted;
       }

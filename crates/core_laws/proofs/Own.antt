@@ -13,7 +13,6 @@ use Rattle.exec_journal.specs.Entries.{Request, is_halt, is_stop, launch_in, sen
 use Rattle.exec_journal.specs.Facts.{SameActions}
 use Rattle.list_lemmas.specs.Options.{or_else, unless_before, and_more}
 use Rattle.exec_journal.specs.Attempts.{attempt, begun_in, number_if}
-use Rattle.run_plan.specs.Groups.{berths}
 use Rattle.exec_journal.specs.Words.{last_work, stopped, has_halted, last_line, launch_of, was_taken, line_cause, sends, wrote, says_feed_fault, break_at, sent_on}
 use Rattle.list_lemmas.proofs.Updates.{get_update}
 use Rattle.exec_journal.proofs.Begins.{attempt_other}
@@ -36,7 +35,7 @@ use Rattle.call_laws.specs.Matches.{Matched, recent, is_spent, matched_by}
 
 -- ---- lanes, after any entry
 
-module _ (p : Plan) (j : List Entry) (e : Entry) where
+module _ (seats : ℕ) (j : List Entry) (e : Entry) where
   lane_after : (b known : Bool) (last : Option Entry) (stop halt : Bool)
       → cond b (option_map (worked e.call e.reply) (cond known
       (Some (state_by last stop halt)) None)) (cond known (Some (state_by last stop halt)) None)
@@ -57,19 +56,19 @@ module _ (p : Plan) (j : List Entry) (e : Entry) where
       by true = refl
       by false = refl
 
-  pub lanes_kept : (lanes : List LaneState) → ((n : ℕ) → slice_get lanes n ≡ lane_in p j n)
-      → (n : ℕ) → slice_get (noted lanes e.lane e.call e.reply) n ≡ lane_in p (e ∷ j) n
+  pub lanes_kept : (lanes : List LaneState) → ((n : ℕ) → slice_get lanes n ≡ lane_in seats j n)
+      → (n : ℕ) → slice_get (noted lanes e.lane e.call e.reply) n ≡ lane_in seats (e ∷ j) n
   unfolding lane_in last_work stopped has_halted
   lanes_kept lanes h n =
       get_update (worked e.call e.reply) lanes e.lane n
       ∙ ap (λ (o : Option LaneState). cond (e.lane == n) (option_map (worked e.call e.reply) o) o)
       (h n)
-      ∙ lane_after (e.lane == n) (nat_lt n (2 * berths p)) (last_work j n) (stopped j n)
+      ∙ lane_after (e.lane == n) (nat_lt n (2 * seats)) (last_work j n) (stopped j n)
       (has_halted j n)
 
 -- ---- the last line of each berth, where the entry says nothing of it
 
-module _ (p : Plan) (j : List Entry) (e : Entry) where
+module _ (seats : ℕ) (j : List Entry) (e : Entry) where
   pub record IsQuiet : Type 0 where
     pub no_launch : launch_in e.reply ≡ None
     pub no_send : send_in e.reply ≡ None
@@ -124,17 +123,17 @@ module _ (p : Plan) (j : List Entry) (e : Entry) where
   row_same q (Some l) = λ i. row_by (option_map (λ x. x.1) (launch_same q.no_launch l i))
       (taken_same q l i) (cause_same q l i) (fed_same q l i)
 
-  pub last_kept : IsQuiet → (rows : List LastLine) → ((w : ℕ) → slice_get rows w ≡ last_in p j w)
-      → (w : ℕ) → slice_get rows w ≡ last_in p (e ∷ j) w
+  pub last_kept : IsQuiet → (rows : List LastLine) → ((w : ℕ) → slice_get rows w ≡ last_in seats j w)
+      → (w : ℕ) → slice_get rows w ≡ last_in seats (e ∷ j) w
   unfolding last_in
   last_kept q rows h w =
-      h w ∙ ap (λ x. cond (nat_lt w (berths p)) (Some x) None)
+      h w ∙ ap (λ x. cond (nat_lt w seats) (Some x) None)
       (sym (row_same q (last_line j w)) ∙ ap (row_of (e ∷ j))
       (sym (last_line_same q.no_launch w)))
 
 -- ---- matches, where the entry is none and spends none
 
-module _ (p : Plan) (j : List Entry) (e : Entry) where
+module _ (seats : ℕ) (j : List Entry) (e : Entry) where
   pub map_matches : (g h : Matched → Match) (xs : List Matched) → ((x : Matched) → g x ≡ h x)
       → map g xs ≡ map h xs
   map_matches g h [] same = refl
@@ -166,11 +165,11 @@ module _ (p : Plan) (j : List Entry) (e : Entry) where
   }
 
   pub matches_kept : SpendsNone → (rows : List (ArrayVec Match))
-      → ((w : ℕ) → slice_get rows w ≡ matches_in p j w) → (w : ℕ)
-      → slice_get rows w ≡ matches_in p (e ∷ j) w
+      → ((w : ℕ) → slice_get rows w ≡ matches_in seats j w) → (w : ℕ)
+      → slice_get rows w ≡ matches_in seats (e ∷ j) w
   unfolding matches_in
   matches_kept q rows h w =
-      h w ∙ ap (λ xs. cond (nat_lt w (berths p)) (Some (record { items = reverse xs })) None)
+      h w ∙ ap (λ xs. cond (nat_lt w seats) (Some (record { items = reverse xs })) None)
       (sym (map_matches (match_in (e ∷ j)) (match_in j) (recent j w) (match_same q))
       ∙ ap (map (match_in (e ∷ j))) (sym (recent_same q w)))
 

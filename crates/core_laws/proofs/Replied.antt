@@ -21,8 +21,7 @@ use Rattle.exec_journal.specs.declared.reply.StrayWhy.TheVariants as stray
 use Rattle.exec_journal.specs.Entries.{Request, consumed_in, matched_in}
 use Rattle.exec_journal.specs.Rules as r
 use Rattle.exec_journal.specs.Rules.{gathered}
-use Rattle.exec_journal.specs.Scripts.{script}
-use Rattle.run_plan.specs.Groups.{berths, berth_group, kind_of, is_single, is_remote, group_of}
+use Rattle.run_plan.specs.Groups.{is_single, is_remote, group_of}
 use Rattle.exec_journal.specs.Settled.{bound, all_settled}
 use Rattle.exec_journal.specs.Words.{last_line, broke, started, has_ended, has_spoken, was_killed, was_taken, sends, pending, is_pending, has_cancel, wrote, granted, grant_of}
 use Rattle.exec_journal.proofs.Ruled.{by_bool}
@@ -43,32 +42,28 @@ use Rattle.race_core.proofs.Kept.{winner_is}
 use Rattle.core_tables.specs.declared.seat.Seat.{Seat}
 use Rattle.core_state.specs.declared.state.State.{State}
 use Rattle.core_state.specs.Choices.{row_at, is_over}
-use Rattle.lawful_facts.specs.Moments.{JournalFacts, ConsumesOne}
+use Rattle.lawful_facts.specs.Moments.{JournalFacts, ConsumesOne, SentInGroup}
 use Rattle.call_laws.specs.Moments.{BranchOf}
 use Rattle.core_tables.specs.Greetings.{greeting_in, greeting_of}
 use Rattle.core_tables.specs.Last.{last_in, row_of}
 use Rattle.core_state.specs.Machine.{takeable, takes_line, take_reply, taken_on}
 use Rattle.core_state.specs.Noted.{noted_after}
-use Rattle.core_laws.proofs.AtBerths.{SentAtBerth}
 use Rattle.core_state.specs.Reports.{attempt_in, breached, heard, reopened, heard_late, heard_match, unmatched_reply, consumed_with, consumed_reply, matching_with, matching_reply, is_wrong, is_won, is_greeting_by, spoken_on, told_reply, told_with, answered_with, answer_reply_by}
-use Rattle.core_tables.specs.Seats.{seat_at}
-use Rattle.core_laws.specs.Stands.{Stands}
+use Rattle.core_laws.specs.Stands.{Stands, MayCall, SeatFits}
 use Rattle.core_laws.proofs.Asked.{each_with, attempt_is, pending_grouped}
 use Rattle.core_laws.proofs.Breached.{breach_stands}
-use Rattle.core_laws.proofs.Chosen.{lane_within}
 use Rattle.core_laws.proofs.Heard.{late_stands, match_stands}
 use Rattle.core_laws.proofs.Orders.{quiet_stands}
 use Rattle.ready_order.proofs.AllSettled.{over_is}
 use Rattle.core_laws.proofs.Own.{IsQuiet, SpendsNone}
 use Rattle.core_laws.proofs.Rowed.{berth_of}
-use Rattle.core_tables.proofs.Seated.{IsSeat, seat_is}
 use Rattle.core_laws.proofs.Greeted.{answer_greetings}
-use Rattle.core_laws.proofs.AtBerths as at_berth
 use Rattle.exec_journal.specs.Lawful.{plain_reply}
+use Rattle.exec_journal.specs.Seated.{group_on, line_kind}
 
 -- ---- the row of a line
 
-module _ (p : Plan) (s : State) (j : List Entry) (w l : ℕ) (st : Stands p s j)
+module _ (p : Plan) (seats : ℕ) (s : State) (j : List Entry) (w l : ℕ) (st : Stands p seats s j)
     (here : last_line j w ≡ Some l) where
   abbrev row : ℕ → LineRow
   row c = record {
@@ -84,7 +79,7 @@ module _ (p : Plan) (s : State) (j : List Entry) (w l : ℕ) (st : Stands p s j)
   row_is : (c : ℕ) × (row_at s l ≡ row c)
   unfolding line_in
   row_is =
-      let own = berth_of p s j w l st here in (
+      let own = berth_of p seats s j w l st here in (
         _,
         ap (λ (o : Option LineRow). unwrap_or o (rows.new_line 0))
             (st.pool.each_line l ∙ ap (λ (o : Option (ℕ × Attempt)). pools.row_of p o (started j l)
@@ -100,8 +95,8 @@ module _ (p : Plan) (s : State) (j : List Entry) (w l : ℕ) (st : Stands p s j)
 
 -- ---- Answer: the state
 
-module _ (p : Plan) (s : State) (j : List Entry) (lane l : ℕ) (seat : Seat) (x : Answer)
-    (st : Stands p s j) (may : script p j lane (call.Answer l x) ≡ true)
+module _ (p : Plan) (seats : ℕ) (s : State) (j : List Entry) (lane l : ℕ) (seat : Seat) (x : Answer)
+    (st : Stands p seats s j) (may : MayCall p seats j lane (call.Answer l x))
     (here : last_line j (lane / 2) ≡ Some l) (one : ConsumesOne p j lane l x) where
   abbrev w : ℕ
   w = lane / 2
@@ -110,15 +105,17 @@ module _ (p : Plan) (s : State) (j : List Entry) (lane l : ℕ) (seat : Seat) (x
   entry y = record { lane = lane; call = call.Answer l x; reply = y }
 
   Keeps : State → Reply → Type 0
-  Keeps t y = Stands p (noted_after t lane (call.Answer l x) y) (entry y ∷ j)
+  Keeps t y = Stands p seats (noted_after t lane (call.Answer l x) y) (entry y ∷ j)
 
   -- a state with another table of requests
   module _ (none : finds_none (matching_of s.requests l x.number) ≡ true) where
-    heard_stands : Stands p (heard s l x.number) j
+    heard_stands : Stands p seats (heard s l x.number) j
     heard_stands = record {
       plan = st.plan;
       sound = st.sound;
-      legal = st.legal;
+      lawful = st.lawful;
+      seated = st.seated;
+      few = st.few;
       pool = st.pool;
       requests = nothing_found p s.requests j l x.number st.requests none;
       cancels = st.cancels;
@@ -132,7 +129,7 @@ module _ (p : Plan) (s : State) (j : List Entry) (lane l : ℕ) (seat : Seat) (x
       halted = st.halted;
     }
 
-    quiet : (y : StrayWhy) → IsQuiet p j (entry (reply.Stray y))
+    quiet : (y : StrayWhy) → IsQuiet seats j (entry (reply.Stray y))
     unfolding wrote
     quiet y = record {
       no_launch = refl;
@@ -142,32 +139,29 @@ module _ (p : Plan) (s : State) (j : List Entry) (lane l : ℕ) (seat : Seat) (x
       no_feed = λ t. refl;
     }
 
-    spends : (y : StrayWhy) → SpendsNone p j (entry (reply.Stray y))
+    spends : (y : StrayWhy) → SpendsNone seats j (entry (reply.Stray y))
     unfolding wrote granted grant_of gathered
     spends y = record { no_send = refl; no_match = refl; same = λ t. refl }
 
     unmatched_keeps : (y : StrayWhy) (b : Bool) → cond b (reply.Breach breach.Unasked)
-        (reply.Stray y) ≡ r.rule p j lane (call.Answer l x)
+        (reply.Stray y) ≡ plain_reply p j lane (call.Answer l x)
         → Keeps (cond b (breached (heard s l x.number) w l) (heard s l x.number))
         (cond b (reply.Breach breach.Unasked) (reply.Stray y))
     unfolding Keeps
-    unmatched_keeps y true is = breach_stands p (heard s l x.number) j lane l heard_stands x
+    unmatched_keeps y true is = breach_stands p seats (heard s l x.number) j lane l heard_stands x
         breach.Unasked may is here
-    unmatched_keeps y false is = quiet_stands p (heard s l x.number) j
-        (entry (reply.Stray y)) heard_stands (record { scripted = may; replied = is; kept = refl })
-        refl refl refl refl refl refl (answer_greetings p s j lane l x (reply.Stray y) st here refl)
+    unmatched_keeps y false is = quiet_stands p seats (heard s l x.number) j
+        (entry (reply.Stray y)) heard_stands (record { scripted = may.scripted; told = is; kept = refl })
+        may.berth refl refl refl refl refl refl (answer_greetings p seats s j lane l x (reply.Stray y) st here refl)
         (quiet y) (spends y)
 
-  -- told by the rule, it is told by the line's kind
-  told_plain : {y : Reply} → y ≡ r.rule p j lane (call.Answer l x)
-      → plain_reply p j lane (call.Answer l x) ≡ y
-  told_plain is = sym (is ∙ at_berth.answer_told p j lane l x st.legal may)
-
-  back_stands : Stands p (reopened (heard s l x.number) l x.number) j
+  back_stands : Stands p seats (reopened (heard s l x.number) l x.number) j
   back_stands = record {
     plan = st.plan;
     sound = st.sound;
-    legal = st.legal;
+    lawful = st.lawful;
+    seated = st.seated;
+    few = st.few;
     pool = st.pool;
     requests = taken_back p s.requests j l x.number st.requests;
     cancels = st.cancels;
@@ -183,46 +177,46 @@ module _ (p : Plan) (s : State) (j : List Entry) (lane l : ℕ) (seat : Seat) (x
 
   consumed_keeps : (t : Attempt) (b : Bool) → is_won s t ≡ b
       → cond b (reply.Late t.action t.branch t.number) (reply.Matched t.action t.branch t.number)
-      ≡ r.rule p j lane (call.Answer l x)
+      ≡ plain_reply p j lane (call.Answer l x)
       → Keeps (consumed_with (heard s l x.number) w l x t)
       (cond b (reply.Late t.action t.branch t.number) (reply.Matched t.action t.branch
       t.number))
   unfolding Keeps
   consumed_keeps t true h is =
-      subst (λ c. Stands p (noted_after (record (heard_late s l x.number) {
+      subst (λ c. Stands p seats (noted_after (record (heard_late s l x.number) {
         matches =
             cond c s.matches (heard_match s w l x t).matches;
       }) lane (call.Answer l x)
       (reply.Late t.action t.branch t.number)) (entry (reply.Late t.action t.branch t.number)
       ∷ j)) (sym h)
-      (late_stands p s j lane l x t st may here (one.on t (ap consumed_in (told_plain is)))
-      (one.known t (ap consumed_in (told_plain is))) is)
+      (late_stands p seats s j lane l x t st may here (one.on t (ap consumed_in (sym is)))
+      (one.known t (ap consumed_in (sym is))) is)
   consumed_keeps t false h is =
-      subst (λ c. Stands p (noted_after (record (heard_late s l x.number) {
+      subst (λ c. Stands p seats (noted_after (record (heard_late s l x.number) {
         matches =
             cond c s.matches (heard_match s w l x t).matches;
       }) lane (call.Answer l x)
       (reply.Matched t.action t.branch t.number)) (entry
       (reply.Matched t.action t.branch t.number) ∷ j)) (sym h)
-      (match_stands p s j lane l x t st may here (one.on t (ap consumed_in (told_plain is)))
-      (one.known t (ap consumed_in (told_plain is))) is (one.waits t (ap matched_in (told_plain is))))
+      (match_stands p seats s j lane l x t st may here (one.on t (ap consumed_in (sym is)))
+      (one.known t (ap consumed_in (sym is))) is (one.waits t (ap matched_in (sym is))))
 
-  consumed_reply_keeps : (t : Attempt) → consumed_reply s t ≡ r.rule p j lane (call.Answer l x)
+  consumed_reply_keeps : (t : Attempt) → consumed_reply s t ≡ plain_reply p j lane (call.Answer l x)
       → Keeps (consumed_with (heard s l x.number) w l x t) (consumed_reply s t)
   consumed_reply_keeps t is = consumed_keeps t (is_won s t) refl is
 
   cancelled_keeps : (t : Attempt) (b : Bool) → cond b (reply.Breach breach.NotCancelled)
-      (consumed_reply s t) ≡ r.rule p j lane (call.Answer l x)
+      (consumed_reply s t) ≡ plain_reply p j lane (call.Answer l x)
       → Keeps (cond b (breached (reopened (heard s l x.number) l x.number) w l)
       (consumed_with (heard s l x.number) w l x t)) (cond b (reply.Breach breach.NotCancelled)
       (consumed_reply s t))
   unfolding Keeps
-  cancelled_keeps t true is = breach_stands p (reopened (heard s l x.number) l x.number) j lane l
+  cancelled_keeps t true is = breach_stands p seats (reopened (heard s l x.number) l x.number) j lane l
       back_stands x breach.NotCancelled may is here
   cancelled_keeps t false is = consumed_reply_keeps t is
 
   matching_keeps : (m : Matching) → matching_of s.requests l x.number ≡ m
-      → matching_reply s seat x m ≡ r.rule p j lane (call.Answer l x)
+      → matching_reply s seat x m ≡ plain_reply p j lane (call.Answer l x)
       → Keeps (matching_with s w seat l x m) (matching_reply s seat x m)
   matching_keeps (found.Pending a t) at is = cancelled_keeps
       (attempt_in s.plan seat a t) x.cancelled is
@@ -233,17 +227,17 @@ module _ (p : Plan) (s : State) (j : List Entry) (lane l : ℕ) (seat : Seat) (x
       (is_single seat.kind) is
 
   wrong_keeps : (b : Bool) → cond b (reply.Breach breach.WrongNumber)
-      (matching_reply s seat x (matching_of s.requests l x.number)) ≡ r.rule p j lane
+      (matching_reply s seat x (matching_of s.requests l x.number)) ≡ plain_reply p j lane
       (call.Answer l x)
       → Keeps (cond b (breached s w l) (matching_with s w seat l x
       (matching_of s.requests l x.number))) (cond b (reply.Breach breach.WrongNumber)
       (matching_reply s seat x (matching_of s.requests l x.number)))
   unfolding Keeps
-  wrong_keeps true is = breach_stands p s j lane l st x breach.WrongNumber may is here
+  wrong_keeps true is = breach_stands p seats s j lane l st x breach.WrongNumber may is here
   wrong_keeps false is = matching_keeps (matching_of s.requests l x.number) refl is
 
   -- a greeting
-  greeted_quiet : IsQuiet p j (entry reply.Greeted)
+  greeted_quiet : IsQuiet seats j (entry reply.Greeted)
   unfolding wrote
   greeted_quiet = record {
     no_launch = refl;
@@ -253,17 +247,17 @@ module _ (p : Plan) (s : State) (j : List Entry) (lane l : ℕ) (seat : Seat) (x
     no_feed = λ t. refl;
   }
 
-  greeted_spends : SpendsNone p j (entry reply.Greeted)
+  greeted_spends : SpendsNone seats j (entry reply.Greeted)
   unfolding wrote granted grant_of gathered
   greeted_spends = record { no_send = refl; no_match = refl; same = λ t. refl }
 
-  greeted_stands : reply.Greeted ≡ r.rule p j lane (call.Answer l x)
-      → Stands p (noted_after s lane (call.Answer l x) reply.Greeted) (entry reply.Greeted ∷ j)
-  greeted_stands is = quiet_stands p s j (entry reply.Greeted) st
-      (record { scripted = may; replied = is; kept = refl }) refl refl refl refl refl refl
-      (answer_greetings p s j lane l x reply.Greeted st here refl) greeted_quiet greeted_spends
+  greeted_stands : reply.Greeted ≡ plain_reply p j lane (call.Answer l x)
+      → Stands p seats (noted_after s lane (call.Answer l x) reply.Greeted) (entry reply.Greeted ∷ j)
+  greeted_stands is = quiet_stands p seats s j (entry reply.Greeted) st
+      (record { scripted = may.scripted; told = is; kept = refl }) may.berth refl refl refl refl refl refl
+      (answer_greetings p seats s j lane l x reply.Greeted st here refl) greeted_quiet greeted_spends
 
-  greeting_keeps : (b : Bool) → cond b reply.Greeted (told_reply s seat l x) ≡ r.rule p j lane
+  greeting_keeps : (b : Bool) → cond b reply.Greeted (told_reply s seat l x) ≡ plain_reply p j lane
       (call.Answer l x) → Keeps (cond b s (told_with s w seat l x))
       (cond b reply.Greeted (told_reply s seat l x))
   unfolding Keeps
@@ -271,15 +265,15 @@ module _ (p : Plan) (s : State) (j : List Entry) (lane l : ℕ) (seat : Seat) (x
   greeting_keeps false is = wrong_keeps (is_wrong seat x) is
 
   broken_keeps : (b g : Bool) → cond b (reply.Breach breach.Broken)
-      (cond g reply.Greeted (told_reply s seat l x)) ≡ r.rule p j lane (call.Answer l x)
+      (cond g reply.Greeted (told_reply s seat l x)) ≡ plain_reply p j lane (call.Answer l x)
       → Keeps (cond b (breached s w l) (cond g s (told_with s w seat l x)))
       (cond b (reply.Breach breach.Broken) (cond g reply.Greeted (told_reply s seat l x)))
   unfolding Keeps
-  broken_keeps true g is = breach_stands p s j lane l st x breach.Broken may is here
+  broken_keeps true g is = breach_stands p seats s j lane l st x breach.Broken may is here
   broken_keeps false g is = greeting_keeps g is
 
-  pub answered_stands : answer_reply_by s w seat l x ≡ r.rule p j lane (call.Answer l x)
-      → Stands p (noted_after (answered_with s w seat l x) lane (call.Answer l x)
+  pub answered_stands : answer_reply_by s w seat l x ≡ plain_reply p j lane (call.Answer l x)
+      → Stands p seats (noted_after (answered_with s w seat l x) lane (call.Answer l x)
       (answer_reply_by s w seat l x)) (entry (answer_reply_by s w seat l x) ∷ j)
   unfolding Keeps
   answered_stands is = broken_keeps (row_at s l).broken
@@ -302,22 +296,25 @@ zero_is : (z : ℤ) → int_eq z (pos 0) ≡ true → z ≡ pos 0
 zero_is (pos n) h = ap pos (eqb-true n 0 (sym (int_eq_pos n 0) ∙ h))
 zero_is (negsuc n) h = absurd (cc)
 
-module _ (p : Plan) (s : State) (j : List Entry) (lane l : ℕ) (seat : Seat) (x : Answer)
-    (st : Stands p s j) (facts : JournalFacts p j) (may : script p j lane (call.Answer l x) ≡ true)
-    (here : last_line j (lane / 2) ≡ Some l) (seated : seat_at p (lane / 2) ≡ Some seat)
-    (grouped : SentAtBerth p j (lane / 2) l) (alone : is_single (kind_of p (lane / 2)) ≡ true
+module _ (p : Plan) (seats : ℕ) (s : State) (j : List Entry) (lane l : ℕ) (seat : Seat) (x : Answer)
+    (st : Stands p seats s j) (facts : JournalFacts p j) (may : MayCall p seats j lane (call.Answer l x))
+    (here : last_line j (lane / 2) ≡ Some l) (fits : SeatFits p j (lane / 2) seat)
+    (grouped : SentInGroup p j l) (alone : is_single (line_kind p j l) ≡ true
     → length (pending j l) ≤ 1) where
   abbrev v : ℕ
   v = lane / 2
 
-  lt : v < berths p
-  lt = lane_within p j lane (call.Answer l x) may
+  lt : v < seats
+  lt = may.berth
 
-  at : IsSeat p v seat
-  at = let y = seat_is p v lt in subst (IsSeat p v) (let z = sym y.1.is ∙ seated in cc) y.1
+  kind_is : line_kind p j l ≡ seat.kind
+  kind_is = fits.kind l here
+
+  group_is : group_on p j l ≡ Some seat.group
+  group_is = fits.group l here
 
   inside : l < line_room p
-  inside = let below = (berth_of p s j v l st here).below in let fit = facts.lines_fit in
+  inside = let below = (berth_of p seats s j v l st here).below in let fit = facts.lines_fit in
       omega arith
 
   known_action : (t : Attempt) → BranchOf p t (Some seat.group) → t.action < length p.actions
@@ -383,7 +380,7 @@ module _ (p : Plan) (s : State) (j : List Entry) (lane l : ℕ) (seat : Seat) (x
   single_pending single None e = single_none single (is_some (r.head (sends j l)))
   single_pending single (Some q) e = open_is q (each_head
       (λ y. BranchOf p y.attempt (Some seat.group)) (pending j l) q
-      (pending_grouped p s.requests j l st.requests inside st.sound v seat.group at.group grouped)
+      (pending_grouped p s.requests j l st.requests inside st.sound seat.group group_is grouped)
       e)
 
   -- on every other
@@ -397,10 +394,10 @@ module _ (p : Plan) (s : State) (j : List Entry) (lane l : ℕ) (seat : Seat) (x
       (λ _. open_is q (of q refl)) (λ _. none_found stray.Closed false several)
 
   grouped_here : EachOf (λ q. BranchOf p q.attempt (Some seat.group)) (sends j l)
-  grouped_here = each_with (λ q. BranchOf p q.attempt (berth_group p v))
-      (λ q. BranchOf p q.attempt (Some seat.group)) (sends j l) (λ q h. h ∙ at.group) grouped
+  grouped_here = each_with (λ q. BranchOf p q.attempt (group_on p j l))
+      (λ q. BranchOf p q.attempt (Some seat.group)) (sends j l) (λ q h. h ∙ group_is) grouped
 
-  by_kind : (b c : Bool) → is_single (kind_of p v) ≡ b → int_eq x.number (pos 0) ≡ c
+  by_kind : (b c : Bool) → is_single (line_kind p j l) ≡ b → int_eq x.number (pos 0) ≡ c
       → cond (b && not c) (reply.Breach breach.WrongNumber)
       (matching_reply s seat x (matching_of s.requests l x.number))
       ≡ cond b (cond c (r.answer_single j x (r.head (pending j l)))
@@ -410,53 +407,53 @@ module _ (p : Plan) (s : State) (j : List Entry) (lane l : ℕ) (seat : Seat) (x
   by_kind true true h k =
       ap (matching_reply s seat x) (ap (matching_of s.requests l) (zero_is x.number k)
       ∙ single_answer p s.requests j l st.requests inside
-      (subst (λ b. Numbered b (sends j l)) h (at_berth.numbered p j st.legal v l here facts)) (alone h))
-      ∙ single_pending (sym (ap is_single at.kind) ∙ h) (r.head (pending j l)) refl
+      (subst (λ b. Numbered b (sends j l)) h (facts.numbered v l here)) (alone h))
+      ∙ single_pending (sym (ap is_single kind_is) ∙ h) (r.head (pending j l)) refl
   by_kind false c h k =
       ap (matching_reply s seat x) (multi_answer p s.requests j l x.number st.requests inside
-      (subst (λ b. Numbered b (sends j l)) h (at_berth.numbered p j st.legal v l here facts)))
-      ∙ multi_by (sym (ap is_single at.kind) ∙ h) (find (λ q. int_eq q.number x.number) (sends j l))
+      (subst (λ b. Numbered b (sends j l)) h (facts.numbered v l here)))
+      ∙ multi_by (sym (ap is_single kind_is) ∙ h) (find (λ q. int_eq q.number x.number) (sends j l))
       (λ q e. each_found (λ y. BranchOf p y.attempt (Some seat.group))
       (λ y. int_eq y.number x.number) (sends j l) q grouped_here e)
 
   spoken_is : spoken_on (slice_get s.greetings v) ≡ has_spoken j l
   unfolding greeting_in
   spoken_is = ap spoken_on (st.greetings v ∙ ap (λ b. cond b
-      (Some (greeting_of j (last_line j v))) None) (lt-ltb v (berths p) lt)
+      (Some (greeting_of j (last_line j v))) None) (lt-ltb v seats lt)
       ∙ ap (λ o. Some (greeting_of j o)) here)
 
-  greeting_is : is_greeting_by seat (slice_get s.greetings v) x ≡ r.is_greeting p j v l x
-  greeting_is = λ i. is_remote (sym at.kind i) && (int_eq x.number (pos 0)
+  greeting_is : is_greeting_by seat (slice_get s.greetings v) x ≡ r.is_greeting_of j (line_kind p j l) l x
+  greeting_is = λ i. is_remote (sym kind_is i) && (int_eq x.number (pos 0)
       && (int_le (pos 2) x.version && not (spoken_is i)))
 
   told_is : told_reply s seat l x
-      ≡ cond (is_single (kind_of p v)) (cond (int_eq x.number (pos 0))
+      ≡ cond (is_single (line_kind p j l)) (cond (int_eq x.number (pos 0))
       (r.answer_single j x (r.head (pending j l))) (reply.Breach breach.WrongNumber))
       (r.answer_multi j x (find (λ q. int_eq q.number x.number) (sends j l)))
   told_is =
-      (λ i. cond (is_single (sym at.kind i) && not (int_eq x.number (pos 0)))
+      (λ i. cond (is_single (sym kind_is i) && not (int_eq x.number (pos 0)))
       (reply.Breach breach.WrongNumber) (matching_reply s seat x
       (matching_of s.requests l x.number)))
-      ∙ by_kind (is_single (kind_of p v)) (int_eq x.number (pos 0)) refl refl
+      ∙ by_kind (is_single (line_kind p j l)) (int_eq x.number (pos 0)) refl refl
 
-  pub answer_is : answer_reply_by s v seat l x ≡ r.rule p j lane (call.Answer l x)
-  answer_is = λ i. cond (broken_is p s j v l st here i) (reply.Breach breach.Broken)
+  pub answer_is : answer_reply_by s v seat l x ≡ plain_reply p j lane (call.Answer l x)
+  answer_is = λ i. cond (broken_is p seats s j v l st here i) (reply.Breach breach.Broken)
       (cond (greeting_is i) reply.Greeted (told_is i))
 
 -- ---- Take: the reply
 
-module _ (p : Plan) (s : State) (j : List Entry) (lane : ℕ) (st : Stands p s j)
-    (may : script p j lane call.Take ≡ true) where
+module _ (p : Plan) (seats : ℕ) (s : State) (j : List Entry) (lane : ℕ) (st : Stands p seats s j)
+    (may : MayCall p seats j lane call.Take) where
   abbrev u : ℕ
   u = lane / 2
 
-  lt_too : u < berths p
-  lt_too = lane_within p j lane call.Take may
+  lt_too : u < seats
+  lt_too = may.berth
 
   taken_is : (l : ℕ) → last_line j u ≡ Some l → taken_on (slice_get s.last u) ≡ was_taken j l
   unfolding last_in
   taken_is l h =
-      let within : nat_lt u (berths p) ≡ true = lt-ltb u (berths p) lt_too in
+      let within : nat_lt u seats ≡ true = lt-ltb u seats lt_too in
       ap taken_on (st.last u ∙ ap (λ b. cond b (Some (row_of j (last_line j u))) None) within
       ∙ ap (λ o. Some (row_of j o)) h)
 
@@ -464,7 +461,7 @@ module _ (p : Plan) (s : State) (j : List Entry) (lane : ℕ) (st : Stands p s j
       → take_reply s (takes_line s u o) ≡ r.take_reply p j o
   take_by None h over = ap (λ b. cond b reply.Stop reply.Idle) over
   take_by (Some l) h over =
-      ap (λ b. take_reply s (cond b (Some l) None)) (λ i. started_is p s j u l st h i
+      ap (λ b. take_reply s (cond b (Some l) None)) (λ i. started_is p seats s j u l st h i
       && not (taken_is l h i))
       ∙ by (started j l && not (was_taken j l))
     where
@@ -477,6 +474,6 @@ module _ (p : Plan) (s : State) (j : List Entry) (lane : ℕ) (st : Stands p s j
   over_eq = ap (λ b. b || s.halted) (over_is p s.ready j st.ready st.sound)
       ∙ ap (λ b. all_settled p j || b) st.halted
 
-  pub take_is : take_reply s (takeable s u) ≡ r.rule p j lane call.Take
-  take_is = ap (λ o. take_reply s (takes_line s u o)) (last_is p s.pool j st.pool u lt_too)
+  pub take_is : take_reply s (takeable s u) ≡ plain_reply p j lane call.Take
+  take_is = ap (λ o. take_reply s (takes_line s u o)) (last_is p seats s.pool j st.pool u lt_too)
       ∙ take_by (last_line j u) refl over_eq

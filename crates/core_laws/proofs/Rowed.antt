@@ -1,8 +1,9 @@
 -- The rows of last lines after an entry that says something of one berth's last line alone; and
 -- what a lane is to write.
-use Rattle.std.proofs.Common.{◌≡◌, ℕ, ◌*◌, ◌/◌, ◌==◌, nat_lt, Bool, true, false, cond, List, ◌∷◌, Option, Some, None, option_map, refl, ap, sym, subst, ◌∙◌}
+use Rattle.std.proofs.Common.{◌≡◌, ℕ, ◌*◌, ◌/◌, ◌<◌, ◌==◌, nat_lt, Bool, true, false, cond, List, [], ◌∷◌, Option, Some, None, option_map, refl, ap, sym, subst, ◌∙◌, arith, lt-ltb}
 use Rattle.std.specs.Prelude.{slice_get}
-use Rattle.std.proofs.lemmas.Bool.{and_parts, eqb-true, eq-eqb}
+use Rattle.std.proofs.lemmas.Bool.{eqb-true, eq-eqb}
+use Rattle.list_lemmas.specs.Options.{or_else}
 use Rattle.run_plan.specs.declared.plan.Plan.{Plan}
 use Rattle.exec_journal.specs.declared.attempt.Attempt.{Attempt}
 use Rattle.exec_journal.specs.declared.call.Call.{Call}
@@ -11,10 +12,7 @@ use Rattle.exec_journal.specs.declared.reply.Reply.{Reply}
 use Rattle.exec_journal.specs.declared.reply.Reply.TheVariants as reply
 use Rattle.exec_journal.specs.Entries.{launch_in, send_in, send_of_entry}
 use Rattle.exec_journal.specs.Facts.{OfBerth, IsOfBerth}
-use Rattle.exec_journal.specs.Scripts.{script}
-use Rattle.run_plan.specs.Groups.{berths}
 use Rattle.exec_journal.specs.Words.{last_line, order_of, last_work, stopped, has_halted}
-use Rattle.journal_laws.proofs.Ours.{lawful}
 use Rattle.exec_journal.proofs.Lines.{last_line_own, lines_named}
 use Rattle.exec_journal.proofs.Ruled.{by_bool}
 use Rattle.worker_pool.proofs.Words.{last_same}
@@ -25,16 +23,32 @@ use Rattle.core_tables.specs.Lanes.{lane_in, order_after, order_of_work, state_b
 use Rattle.core_tables.specs.Last.{last_in, row_of}
 use Rattle.core_state.specs.Machine.{order_at, order_on}
 use Rattle.core_state.specs.Reports.{sent_in}
-use Rattle.core_laws.specs.Stands.{Stands}
+use Rattle.core_laws.specs.Stands.{Stands, MayCall, AreSeated}
+
+-- a berth that has a line is one of those of whose lanes the entries are
+seated_below : (seats w : ℕ) (j : List Entry) (l : ℕ) → AreSeated seats j → last_line j w ≡ Some l
+    → w < seats
+unfolding last_line
+seated_below seats w [] l all h = absurd (cc)
+seated_below seats w (e ∷ j) l all h =
+    by_bool (e.lane / 2 == w) (λ b. (e.lane / 2 == w) ≡ b → or_else (cond b (option_map (λ x. x.0)
+    (launch_in e.reply)) None) (last_line j w) ≡ Some l → w < seats)
+    (λ yes _ _. subst (λ v. v < seats) (eqb-true (e.lane / 2) w yes) all.1)
+    (λ _ _ k. seated_below seats w j l all.0 k) refl h
 
 -- a line is of one berth
-pub berth_of : (p : Plan) (s : State) (j : List Entry) (w l : ℕ) → Stands p s j
+pub berth_of : (p : Plan) (seats : ℕ) (s : State) (j : List Entry) (w l : ℕ) → Stands p seats s j
     → last_line j w ≡ Some l → IsOfBerth j l w
-berth_of p s j w l st h = subst (λ (o : Option ℕ). OfBerth j o w) h
-    (last_line_own w j (lines_named p j (lawful p j st.legal)))
+berth_of p seats s j w l st h = subst (λ (o : Option ℕ). OfBerth j o w) h
+    (last_line_own w j (lines_named p j st.lawful))
+
+-- which is one of those that the table has
+pub berth_below : (p : Plan) (seats : ℕ) (s : State) (j : List Entry) (w l : ℕ)
+    → Stands p seats s j → last_line j w ≡ Some l → w < seats
+berth_below p seats s j w l st h = seated_below seats w j l st.seated h
 
 -- rows by berth that are said of its last line, as `row` says it of any line
-module _ (p : Plan) (s : State) (j : List Entry) (e : Entry) (l : ℕ) (st : Stands p s j)
+module _ (p : Plan) (seats : ℕ) (s : State) (j : List Entry) (e : Entry) (l : ℕ) (st : Stands p seats s j)
     (here : last_line j (e.lane / 2) ≡ Some l) (plain : launch_in e.reply ≡ None)
     {R : Type 0} (row : List Entry → Option ℕ → R) (g : R → R)
     (own : row (e ∷ j) (Some l) ≡ g (row j (Some l))) (others : (k : ℕ) → (l == k) ≡ false
@@ -45,8 +59,8 @@ module _ (p : Plan) (s : State) (j : List Entry) (e : Entry) (l : ℕ) (st : Sta
 
   one_berth : (v : ℕ) → last_line j v ≡ Some l → e.lane / 2 ≡ v
   one_berth v h =
-      let a = berth_of p s j (e.lane / 2) l st here in
-      let b = berth_of p s j v l st h in
+      let a = berth_of p seats s j (e.lane / 2) l st here in
+      let b = berth_of p seats s j v l st h in
       let even = ap lane_of (sym a.owner.2 ∙ b.owner.2) in
       sym a.owner.3 ∙ ap (λ m. m / 2) even ∙ b.owner.3
 
@@ -69,27 +83,27 @@ module _ (p : Plan) (s : State) (j : List Entry) (e : Entry) (l : ℕ) (st : Sta
       (λ ne q. q) refl)))
 
   pub changed_rows : (before rows : List R) → ((v : ℕ)
-      → slice_get before v ≡ cond (nat_lt v (berths p)) (Some (row j (last_line j v))) None)
+      → slice_get before v ≡ cond (nat_lt v seats) (Some (row j (last_line j v))) None)
       → ((v : ℕ) → slice_get rows v ≡ cond (e.lane / 2 == v) (option_map g (slice_get before v))
       (slice_get before v))
-      → (v : ℕ) → slice_get rows v ≡ cond (nat_lt v (berths p))
+      → (v : ℕ) → slice_get rows v ≡ cond (nat_lt v seats)
       (Some (row (e ∷ j) (last_line (e ∷ j) v))) None
   changed_rows before rows old h v =
       h v ∙ ap (λ (o : Option R). cond (e.lane / 2 == v) (option_map g o) o) (old v)
-      ∙ changed_by v (last_line j v) (e.lane / 2 == v) (nat_lt v (berths p)) refl refl
-      ∙ ap (λ o. cond (nat_lt v (berths p)) (Some (row (e ∷ j) o)) None)
+      ∙ changed_by v (last_line j v) (e.lane / 2 == v) (nat_lt v seats) refl refl
+      ∙ ap (λ o. cond (nat_lt v seats) (Some (row (e ∷ j) o)) None)
       (sym (last_same e j plain v))
 
-module _ (p : Plan) (s : State) (j : List Entry) (e : Entry) (l : ℕ) (st : Stands p s j)
+module _ (p : Plan) (seats : ℕ) (s : State) (j : List Entry) (e : Entry) (l : ℕ) (st : Stands p seats s j)
     (here : last_line j (e.lane / 2) ≡ Some l) (g : LastLine → LastLine)
     (plain : launch_in e.reply ≡ None)
     (own : row_of (e ∷ j) (Some l) ≡ g (row_of j (Some l))) (others : (k : ℕ) → (l == k) ≡ false
     → row_of (e ∷ j) (Some k) ≡ row_of j (Some k)) where
   pub changed_last : (rows : List LastLine) → ((v : ℕ)
       → slice_get rows v ≡ cond (e.lane / 2 == v) (option_map g (slice_get s.last v))
-      (slice_get s.last v)) → (v : ℕ) → slice_get rows v ≡ last_in p (e ∷ j) v
+      (slice_get s.last v)) → (v : ℕ) → slice_get rows v ≡ last_in seats (e ∷ j) v
   unfolding last_in
-  changed_last rows h = changed_rows p s j e l st here plain row_of g own others refl s.last rows
+  changed_last rows h = changed_rows p seats s j e l st here plain row_of g own others refl s.last rows
       st.last h
 
 -- ---- what the lane's newest work orders to send
@@ -109,16 +123,16 @@ work_sends : (o : Option Entry) → sent_in (order_of_work o) ≡ option_map
 work_sends None = refl
 work_sends (Some e) = order_sends e.reply
 
-pub lane_inside : (p : Plan) (j : List Entry) (lane : ℕ) (c : Call) → script p j lane c ≡ true
-    → nat_lt lane (2 * berths p) ≡ true
-lane_inside p j lane c may = (and_parts (nat_lt lane (2 * berths p)) _ may).0
+-- both lanes of a berth are among those of all
+pub lane_inside : (seats lane : ℕ) → lane / 2 < seats → nat_lt lane (2 * seats) ≡ true
+lane_inside seats lane lt = lt-ltb lane (2 * seats) (omega arith)
 
-pub sent_is : (p : Plan) (s : State) (j : List Entry) (lane : ℕ) (c : Call) → Stands p s j
-    → script p j lane c ≡ true → sent_in (order_at s lane) ≡ option_map
+pub sent_is : (p : Plan) (seats : ℕ) (s : State) (j : List Entry) (lane : ℕ) (c : Call) → Stands p seats s j
+    → MayCall p seats j lane c → sent_in (order_at s lane) ≡ option_map
     (λ r. r.attempt) (order_of j lane)
 unfolding lane_in
-sent_is p s j lane c st may =
+sent_is p seats s j lane c st may =
     ap (λ (o : Option LaneState). sent_in (order_on o))
     (st.lanes lane ∙ ap (λ b. cond b (Some (state_by (last_work j lane) (stopped j lane)
-    (has_halted j lane))) None) (lane_inside p j lane c may))
+    (has_halted j lane))) None) (lane_inside seats lane may.berth))
     ∙ work_sends (last_work j lane)

@@ -1,5 +1,5 @@
 -- What the lanes allow is what their scripts have.
-use Rattle.std.proofs.Common.{◌≡◌, ℕ, ◌*◌, ◌/◌, ◌%◌, ◌==◌, nat_lt, Bool, true, false, ◌&&◌, ◌||◌, not, cond, List, Option, Some, None, refl, ap, ◌∙◌}
+use Rattle.std.proofs.Common.{◌≡◌, ℕ, ◌*◌, ◌%◌, ◌==◌, nat_lt, Bool, true, false, ◌&&◌, ◌||◌, not, cond, List, Option, Some, None, refl, ap, ◌∙◌}
 use Rattle.std.specs.Prelude.{slice_get}
 use Rattle.run_plan.specs.declared.plan.Branch.{Branch}
 use Rattle.run_plan.specs.declared.plan.Kind.{Kind}
@@ -12,8 +12,7 @@ use Rattle.exec_journal.specs.declared.call.Wanted.{Wanted}
 use Rattle.exec_journal.specs.declared.call.Wanted.TheVariants as look
 use Rattle.exec_journal.specs.declared.reply.Reply.{Reply}
 use Rattle.exec_journal.specs.declared.reply.Reply.TheVariants as reply
-use Rattle.exec_journal.specs.Scripts.{script, allowed, may_ask, may_ask_after, may_take, may_take_after, hears, hears_after, is_owed, is_owed_after, is_owed_commit, is_commit_of, may_look}
-use Rattle.run_plan.specs.Groups.{berths, kind_of}
+use Rattle.exec_journal.specs.Scripts.{allowed, may_ask, may_ask_after, may_take, may_take_after, hears, hears_after, is_owed, is_owed_after, is_owed_commit, is_commit_of, may_look, seat_script}
 use Rattle.exec_journal.specs.Words.{last_work, stopped, has_halted}
 use Rattle.core_tables.specs.declared.lanes.LaneState.{LaneState}
 use Rattle.core_tables.specs.declared.lanes.Said.{Said}
@@ -175,18 +174,18 @@ module _ (p : Plan) (k : Kind) (proxy : Bool) where
       (owed_after (call.Committed a b how) last)
   allowed_is (call.Killed l) last = ap (λ b. proxy && b) (owed_after (call.Killed l) last)
 
-pub script_is : (p : Plan) (j : List Entry) (lanes : List LaneState) (lane : ℕ) (c : Call)
-    → slice_get lanes lane ≡ lane_in p j lane → allows_by p (kind_of p (lane / 2)) lanes lane c
-    ≡ script p j lane c
+pub script_is : (p : Plan) (seats : ℕ) (k : Kind) (j : List Entry) (lanes : List LaneState) (lane : ℕ) (c : Call)
+    → slice_get lanes lane ≡ lane_in seats j lane → allows_by p k lanes lane c
+    ≡ seat_script seats (λ _. k) p j lane c
 unfolding lane_in
-script_is p j lanes lane c h = ap (λ o. may_some p (kind_of p (lane / 2)) (lane % 2 == 0) o c) h
-    ∙ by (nat_lt lane (2 * berths p)) (stopped j lane) (has_halted j lane)
+script_is p seats k j lanes lane c h = ap (λ o. may_some p k (lane % 2 == 0) o c) h
+    ∙ by (nat_lt lane (2 * seats)) (stopped j lane) (has_halted j lane)
   where
-    by : (known stop halt : Bool) → may_some p (kind_of p (lane / 2)) (lane % 2 == 0)
+    by : (known stop halt : Bool) → may_some p k (lane % 2 == 0)
         (cond known (Some (state_by (last_work j lane) stop halt)) None) c
         ≡ (known && (not stop && cond halt (is_owed_commit c (last_work j lane))
-        (allowed p (kind_of p (lane / 2)) (lane % 2 == 0) (last_work j lane) c)))
+        (allowed p k (lane % 2 == 0) (last_work j lane) c)))
     by false stop halt = refl
     by true true halt = refl
     by true false true = commit_is c (last_work j lane)
-    by true false false = allowed_is p (kind_of p (lane / 2)) (lane % 2 == 0) c (last_work j lane)
+    by true false false = allowed_is p k (lane % 2 == 0) c (last_work j lane)

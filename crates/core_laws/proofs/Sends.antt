@@ -15,18 +15,14 @@ use Rattle.exec_journal.specs.Entries.{Request, same_branch}
 use Rattle.exec_journal.specs.Facts.{SameActions, BeginsNext, Begins, OfBerth, IsOfBerth}
 use Rattle.list_lemmas.specs.Options.{or_else, and_more}
 use Rattle.exec_journal.specs.Attempts.{attempt, ended}
-use Rattle.exec_journal.specs.Legal.{LegalEntry}
 use Rattle.exec_journal.specs.Rules as r
 use Rattle.exec_journal.specs.Rules.{gathered}
 use Rattle.request_table.specs.Entries.{IsNextSend, IsNewRequest}
 use Rattle.request_table.specs.Rows.{line_room, next_number}
 use Rattle.cancel_rules.specs.Marks as mark-rows
 use Rattle.cancel_rules.specs.Stands as mark-stands
-use Rattle.exec_journal.specs.Scripts.{script}
-use Rattle.run_plan.specs.Groups.{berths, berth_group}
 use Rattle.exec_journal.specs.Settled.{bound}
 use Rattle.exec_journal.specs.Words.{live, started, has_ended, was_sent, halted, last_line, launch_of, line_cause, was_taken, sends, wrote, granted, grant_of, says_feed_fault}
-use Rattle.journal_laws.proofs.Ours.{lawful}
 use Rattle.exec_journal.proofs.Begins.{attempt_begun, attempt_other, same_branch_eq, begin_in_order}
 use Rattle.exec_journal.proofs.Lines.{last_line_own, lines_named}
 use Rattle.list_lemmas.proofs.Updates.{get_update}
@@ -48,10 +44,11 @@ use Rattle.core_state.specs.Machine.{sent}
 use Rattle.core_tables.specs.Matches.{match_in, matches_in, with_clear, on_row}
 use Rattle.call_laws.specs.Matches.{Matched, recent}
 use Rattle.core_state.specs.Noted.{noted_after}
-use Rattle.core_laws.specs.Stands.{Stands}
+use Rattle.core_laws.specs.Stands.{Stands, MayCall}
 use Rattle.core_laws.proofs.Own.{lanes_kept, map_matches}
 use Rattle.core_laws.proofs.Greeted.{quiet_greetings}
-use Rattle.core_laws.proofs.AtBerths as at_berth
+use Rattle.exec_journal.specs.Lawful.{LawfulEntry, Asked}
+use Rattle.exec_journal.specs.Seated.{group_on, line_kind}
 
 abbrev asked : ℕ → Reply → Entry
 asked lane x = record { lane = lane; call = call.Ask; reply = x }
@@ -65,11 +62,11 @@ find_same : (f g : Request → Bool) (xs : List Request) → ((x : Request) → 
 find_same f g [] h = refl
 find_same f g (x ∷ xs) h = λ i. cond (h x i) (Some x) (find_same f g xs h i)
 
-module _ (p : Plan) (s : State) (j : List Entry) (lane l : ℕ) (t : Attempt) (st : Stands p s j)
-    (facts : JournalFacts p j) (may : script p j lane call.Ask ≡ true)
+module _ (p : Plan) (seats : ℕ) (s : State) (j : List Entry) (lane l : ℕ) (t : Attempt) (st : Stands p seats s j)
+    (facts : JournalFacts p j) (may : MayCall p seats j lane call.Ask)
     (here : last_line j (lane / 2) ≡ Some l) (alive : live j l ≡ true) where
   abbrev number : ℤ
-  number = r.number_on p j (lane / 2) l
+  number = r.number_of j (line_kind p j l) l
 
   abbrev send_reply : Reply
   send_reply = reply.Send l number t.action t.branch t.number
@@ -91,22 +88,22 @@ module _ (p : Plan) (s : State) (j : List Entry) (lane l : ℕ) (t : Attempt) (s
 
   own : IsOfBerth j l (lane / 2)
   own = subst (λ (o : Option ℕ). OfBerth j o (lane / 2)) here
-      (last_line_own (lane / 2) j (lines_named p j (lawful p j st.legal)))
+      (last_line_own (lane / 2) j (lines_named p j st.lawful))
 
   in_room : l < line_room p
   in_room = let below = own.below in let fit = facts.lines_fit in omega arith
 
-  module _ (is : send_reply ≡ r.rule p j lane call.Ask) (unsent : was_sent j t ≡ false)
-      (group : BranchOf p t (berth_group p (lane / 2))) where
-    legal : LegalEntry p j e
-    legal = record { scripted = may; replied = is; kept = refl }
+  module _ (is : Asked p j (lane / 2) send_reply) (unsent : was_sent j t ≡ false)
+      (group : BranchOf p t (group_on p j l)) where
+    joins : LawfulEntry p j e
+    joins = record { scripted = may.scripted; told = is; kept = refl }
 
     begins : Begins j None (Some (record { line = l; number = number; attempt = t }))
-    begins = (begin_in_order p (e ∷ j) (lawful p (e ∷ j) (st.legal, legal))).1
+    begins = (begin_in_order p (e ∷ j) ((st.lawful, joins))).1
 
     to : IsSentTo j t l
     to = sent_to j (record { line = l; number = number; attempt = t })
-        (begin_in_order p j (lawful p j st.legal)) begins running (facts.unsent_unanswered t unsent)
+        (begin_in_order p j st.lawful) begins running (facts.unsent_unanswered t unsent)
 
     new : IsNewRequest j l t
     new = record {
@@ -117,7 +114,7 @@ module _ (p : Plan) (s : State) (j : List Entry) (lane l : ℕ) (t : Attempt) (s
     }
 
     same : SameActions j (e ∷ j)
-    same = send_actions p s.pool j lane l number t st.pool to
+    same = send_actions p seats s.pool j lane l number t st.pool to
 
     -- ---- what is kept of the last lines
 
@@ -141,9 +138,9 @@ module _ (p : Plan) (s : State) (j : List Entry) (lane l : ℕ) (t : Attempt) (s
     no_line w true = refl
     no_line w false = refl
 
-    last_is : (w : ℕ) → slice_get s.last w ≡ last_in p (e ∷ j) w
+    last_is : (w : ℕ) → slice_get s.last w ≡ last_in seats (e ∷ j) w
     unfolding last_in last_line
-    last_is w = st.last w ∙ ap (λ x. cond (nat_lt w (berths p)) (Some x) None)
+    last_is w = st.last w ∙ ap (λ x. cond (nat_lt w seats) (Some x) None)
         (sym (row_same (last_line j w)) ∙ ap (row_of (e ∷ j)) (sym (no_line w (lane / 2 == w))))
 
     -- ---- the berth's matches
@@ -163,28 +160,28 @@ module _ (p : Plan) (s : State) (j : List Entry) (lane l : ℕ) (t : Attempt) (s
     cleared w true true = refl
     cleared w true false = refl
     cleared w false true = ap (λ xs. Some (rec (reverse xs)))
-        (sym (map_matches p j e (match_in (e ∷ j)) (match_in j) (recent j w) match_same))
+        (sym (map_matches seats j e (match_in (e ∷ j)) (match_in j) (recent j w) match_same))
     cleared w false false = refl
 
-    matches_is : (w : ℕ) → slice_get (with_clear s.matches (lane / 2)) w ≡ matches_in p (e ∷ j) w
+    matches_is : (w : ℕ) → slice_get (with_clear s.matches (lane / 2)) w ≡ matches_in seats (e ∷ j) w
     unfolding matches_in recent
     matches_is w =
         get_update (on_row (λ ms. [])) s.matches (lane / 2) w
         ∙ ap (λ (o : Option (ArrayVec Match)). cond (lane / 2 == w)
         (option_map (on_row (λ ms. [])) o) o) (st.matches w)
-        ∙ cleared w (lane / 2 == w) (nat_lt w (berths p))
+        ∙ cleared w (lane / 2 == w) (nat_lt w seats)
 
-    next : IsNextSend p j (berth_group p (lane / 2)) l number t.action t.branch t.number
+    next : IsNextSend p j (group_on p j l) l number t.action t.branch t.number
     next = record {
       number = refl;
       group = group;
-      earlier = at_berth.numbered p j st.legal (lane / 2) l here facts;
+      earlier = facts.numbered (lane / 2) l here;
       new = new;
     }
 
     number_is : pos (next_number s.requests l t.action t.branch) ≡ number
-    number_is = asks-sent.next_number_is p s.requests j (berth_group p (lane / 2)) l t.action t.branch st.requests in_room
-        group (at_berth.numbered p j st.legal (lane / 2) l here facts)
+    number_is = asks-sent.next_number_is p s.requests j (group_on p j l) l t.action t.branch st.requests in_room
+        group (facts.numbered (lane / 2) l here)
 
     -- ---- what was bound to the line
 
@@ -201,15 +198,17 @@ module _ (p : Plan) (s : State) (j : List Entry) (lane l : ℕ) (t : Attempt) (s
               attempt_begun e j a b t refl h ∙ latest ∙ λ i. attempt j (action i) (branch i)
           by false h = attempt_other e j a b (ap (λ c. cond c (Some t.number) None) h)
 
-      pub bound_stands : Stands p (noted_after (sent s (lane / 2) l t true) lane call.Ask
+      pub bound_stands : Stands p seats (noted_after (sent s (lane / 2) l t true) lane call.Ask
           send_reply) (e ∷ j)
       unfolding halted
       bound_stands = record {
         plan = st.plan;
         sound = st.sound;
-        legal = (st.legal, legal);
-        pool = bound_sends_kept p s.pool j lane l number t st.pool to was;
-        requests = asks-sent.sends_kept p s.requests j lane (berth_group p (lane / 2)) l number t.action t.branch t.number
+        lawful = (st.lawful, joins);
+        seated = (st.seated, may.berth);
+        few = st.few;
+        pool = bound_sends_kept p seats s.pool j lane l number t st.pool to was;
+        requests = asks-sent.sends_kept p s.requests j lane (group_on p j l) l number t.action t.branch t.number
             st.requests in_room next;
         cancels = subst (λ n. mark-stands.Stands p (mark-rows.with_sent s.cancels l n t.action)
             (e ∷ j)) (sym number_is) (marks.sends_kept p s.cancels j lane l number t.action t.branch
@@ -221,8 +220,8 @@ module _ (p : Plan) (s : State) (j : List Entry) (lane l : ℕ) (t : Attempt) (s
           commit = same.commit;
         });
         attempts = tallies.others_count p s.attempts j e st.attempts none_begins same.ended_too;
-        lanes = lanes_kept p j e s.lanes st.lanes;
-        greetings = quiet_greetings p j e refl refl s.greetings st.greetings;
+        lanes = lanes_kept seats j e s.lanes st.lanes;
+        greetings = quiet_greetings seats j e refl refl s.greetings st.greetings;
         last = last_is;
         matches = matches_is;
         halted = st.halted;
@@ -234,15 +233,17 @@ module _ (p : Plan) (s : State) (j : List Entry) (lane l : ℕ) (t : Attempt) (s
       going : ended j t ≡ false
       going = facts.unbegun_goes t fresh_one.unbegun
 
-      pub new_stands : Stands p (noted_after (sent s (lane / 2) l t false) lane call.Ask send_reply)
+      pub new_stands : Stands p seats (noted_after (sent s (lane / 2) l t false) lane call.Ask send_reply)
           (e ∷ j)
       unfolding halted
       new_stands = record {
         plan = st.plan;
         sound = st.sound;
-        legal = (st.legal, legal);
-        pool = sends_kept p s.pool j lane l number t st.pool to none;
-        requests = asks-sent.sends_kept p s.requests j lane (berth_group p (lane / 2)) l number t.action t.branch t.number
+        lawful = (st.lawful, joins);
+        seated = (st.seated, may.berth);
+        few = st.few;
+        pool = sends_kept p seats s.pool j lane l number t st.pool to none;
+        requests = asks-sent.sends_kept p s.requests j lane (group_on p j l) l number t.action t.branch t.number
             st.requests in_room next;
         cancels = subst (λ n. mark-stands.Stands p (mark-rows.with_sent s.cancels l n t.action)
             (e ∷ j)) (sym number_is) (marks.sends_kept p s.cancels j lane l number t.action t.branch
@@ -259,8 +260,8 @@ module _ (p : Plan) (s : State) (j : List Entry) (lane l : ℕ) (t : Attempt) (s
         });
         attempts = tallies.begins_count p s.attempts j e t st.attempts refl fresh_one going
             same.ended_too;
-        lanes = lanes_kept p j e s.lanes st.lanes;
-        greetings = quiet_greetings p j e refl refl s.greetings st.greetings;
+        lanes = lanes_kept seats j e s.lanes st.lanes;
+        greetings = quiet_greetings seats j e refl refl s.greetings st.greetings;
         last = last_is;
         matches = matches_is;
         halted = st.halted;

@@ -1,6 +1,6 @@
 -- What a Wrote with RoomFault or TooLarge makes of a state that stands for a journal.
 use Rattle.std.proofs.Common.{◌≡◌, ℕ, zero, suc, ◌/◌, ◌<◌, ◌==◌, nat_lt, Bool, true, false, ◌&&◌, ◌||◌, not, cond, List, [], ◌∷◌, length, filter, map, reverse, Option, Some, None, is_some, option_map, refl, ap, sym, subst, ◌∙◌, arith}
-use Rattle.std.specs.Prelude.{slice_get, ℤ}
+use Rattle.std.specs.Prelude.{slice_get, option_and_then, ℤ}
 use Rattle.std.specs.List.{find}
 use Rattle.std.proofs.lemmas.Bool.{eq-eqb}
 use Rattle.arrayvec.specs.ArrayVec.{ArrayVec}
@@ -18,14 +18,11 @@ use Rattle.exec_journal.specs.Attempts.{ended}
 use Rattle.exec_journal.specs.Entries.{Request, same_attempt, is_unwritten}
 use Rattle.exec_journal.specs.Facts.{begun}
 use Rattle.list_lemmas.specs.Options.{or_else, unless_before, and_more}
-use Rattle.exec_journal.specs.Legal.{LegalEntry}
 use Rattle.exec_journal.specs.Rules.{gathered}
-use Rattle.exec_journal.specs.Scripts.{script}
-use Rattle.run_plan.specs.Groups.{berths, berth_group}
+use Rattle.run_plan.specs.Groups.{group_of}
 use Rattle.exec_journal.specs.Settled.{bound}
 use Rattle.list_lemmas.specs.Places.{update}
 use Rattle.exec_journal.specs.Words.{halted, last_line, launch_of, line_cause, was_taken, sends, pending, is_pending, wrote, wrote_if, write_cause, if_line, granted, grant_of, commit_of, answered, has_ended, order_of, says_feed_fault, started, was_killed, broke}
-use Rattle.journal_laws.proofs.Ours.{lawful}
 use Rattle.exec_journal.proofs.Begins.{attempts_in_order, attempt_other, begin_in_order, same_attempt_eq}
 use Rattle.exec_journal.proofs.Ruled.{by_bool}
 use Rattle.list_lemmas.proofs.Updates.{get_update}
@@ -48,7 +45,7 @@ use Rattle.race_core.proofs.Kept as races
 use Rattle.ready_order.specs.Stands as queue-stands
 use Rattle.core_tables.specs.declared.matches.Match.{Match}
 use Rattle.core_state.specs.declared.state.State.{State}
-use Rattle.lawful_facts.specs.Moments.{JournalFacts, AreUsed}
+use Rattle.lawful_facts.specs.Moments.{JournalFacts, AreUsed, SentInGroup}
 use Rattle.call_laws.specs.Moments.{BranchOf}
 use Rattle.core_tables.specs.Last.{row_of, row_by, fed_of, set_cause}
 use Rattle.core_state.specs.Machine.{with_end, states_after, order_at}
@@ -56,21 +53,20 @@ use Rattle.core_tables.specs.Matches.{match_in, matches_in, spend_if, spent_row,
 use Rattle.call_laws.specs.Matches.{Matched, recent, is_faulty}
 use Rattle.core_state.specs.Noted.{noted_after}
 use Rattle.core_laws.specs.Premises.{EndsTogether}
-use Rattle.core_laws.proofs.AtBerths.{SentAtBerth}
 use Rattle.core_state.specs.Reports.{breached, dropped_from, spent_for, is_pending_at, unwritten_with, unwritten_by, wrote_with, sent_in}
-use Rattle.core_laws.specs.Stands.{Stands}
+use Rattle.core_laws.specs.Stands.{Stands, MayCall}
 use Rattle.core_laws.proofs.Asked.{each_place, sends_begun, waiting_is}
-use Rattle.core_laws.proofs.Chosen.{lane_within}
 use Rattle.core_laws.proofs.Orders.{get_map}
 use Rattle.core_laws.proofs.Own.{lanes_kept, last_kept, IsQuiet, map_matches}
 use Rattle.core_laws.proofs.Rowed.{berth_of, changed_last, sent_is}
-use Rattle.core_tables.proofs.Seated.{seat_is}
 use Rattle.core_laws.proofs.Several.{several_counts, several_states, one_test}
 use Rattle.core_laws.proofs.Greeted.{quiet_greetings}
+use Rattle.exec_journal.specs.Lawful.{LawfulEntry}
+use Rattle.exec_journal.specs.Seated.{group_on}
 
 -- ---- the matches, after a Wrote that says a fault of its request
 
-module _ (p : Plan) (j : List Entry) (lane l : ℕ) (n : ℤ) (how : Written) (q : Request)
+module _ (seats : ℕ) (j : List Entry) (lane l : ℕ) (n : ℤ) (how : Written) (q : Request)
     (faulty : is_faulty (Some how) ≡ true) (order : order_of j lane ≡ Some q)
     (first : wrote j q.attempt ≡ None) where
   abbrev pub write_entry : Entry
@@ -130,15 +126,15 @@ module _ (p : Plan) (j : List Entry) (lane l : ℕ) (n : ℤ) (how : Written) (q
   spent_row_is w true =
       ap (λ xs. Some (rec xs)) (map_reverse (spend_if q.attempt) (map (match_in j) (recent j w))
       ∙ ap reverse (map_map (spend_if q.attempt) (match_in j) (recent j w)
-      ∙ map_matches p j write_entry (λ m. spend_if q.attempt (match_in j m))
+      ∙ map_matches seats j write_entry (λ m. spend_if q.attempt (match_in j m))
       (match_in (write_entry ∷ j)) (recent j w) spent_match))
       ∙ ap (λ xs. Some (rec (reverse (map (match_in (write_entry ∷ j)) xs)))) (sym (recent_after w))
 
-  pub fault_spends : (ms : List (ArrayVec Match)) → ((w : ℕ) → slice_get ms w ≡ matches_in p j w)
-      → (w : ℕ) → slice_get (with_spent ms q.attempt) w ≡ matches_in p (write_entry ∷ j) w
+  pub fault_spends : (ms : List (ArrayVec Match)) → ((w : ℕ) → slice_get ms w ≡ matches_in seats j w)
+      → (w : ℕ) → slice_get (with_spent ms q.attempt) w ≡ matches_in seats (write_entry ∷ j) w
   unfolding matches_in
   fault_spends ms h w = get_map (spent_row q.attempt) ms w
-      ∙ ap (option_map (spent_row q.attempt)) (h w) ∙ spent_row_is w (nat_lt w (berths p))
+      ∙ ap (option_map (spent_row q.attempt)) (h w) ∙ spent_row_is w (nat_lt w seats)
 
 -- ---- RoomFault, TooLarge
 
@@ -187,13 +183,13 @@ if_none : (k l : ℕ) → ◌≡◌ {A = Option Cause} (if_line k l None) None
 if_none k l = by_bool (k == l) (λ b. ◌≡◌ {A = Option Cause} (cond b None None) None) (λ _. refl)
     (λ _. refl)
 
-module _ (p : Plan) (s : State) (j : List Entry) (lane l : ℕ) (n : ℤ) (how : Written) (q : Request)
-    (i : ℕ) (st : Stands p s j) (facts : JournalFacts p j)
-    (may : script p j lane (call.Wrote l n how) ≡ true) (here : last_line j (lane / 2) ≡ Some l)
+module _ (p : Plan) (seats : ℕ) (s : State) (j : List Entry) (lane l : ℕ) (n : ℤ) (how : Written) (q : Request)
+    (i : ℕ) (st : Stands p seats s j) (facts : JournalFacts p j)
+    (may : MayCall p seats j lane (call.Wrote l n how)) (here : last_line j (lane / 2) ≡ Some l)
     (un : is_unwritten how ≡ true) (order : order_of j lane ≡ Some q) (own_line : q.line ≡ l)
     (place : slice_get (sends j l) i ≡ Some q) (first : wrote j q.attempt ≡ None)
     (known : IsKnownBy j l n q.attempt) (used : AreUsed p j)
-    (grouped : SentAtBerth p j (lane / 2) l)
+    (grouped : SentInGroup p j l)
     (stays : WantedStays p j (record {
       lane = lane;
       call = call.Wrote l n how;
@@ -211,8 +207,8 @@ module _ (p : Plan) (s : State) (j : List Entry) (lane l : ℕ) (n : ℤ) (how :
   abbrev t : Attempt
   t = q.attempt
 
-  legal : LegalEntry p j e
-  legal = record { scripted = may; replied = refl; kept = refl }
+  joins : LawfulEntry p j e
+  joins = record { scripted = may.scripted; told = refl; kept = refl }
 
   same_grant : (a : ℕ) → grant_of (e ∷ j) a ≡ grant_of j a
   unfolding grant_of
@@ -238,20 +234,20 @@ module _ (p : Plan) (s : State) (j : List Entry) (lane l : ℕ) (n : ℤ) (how :
       (e ∷ j)) (sym st.plan)
       (several_states p st.sound.least s.race j e (t ∷ [])
       (record {
-        order = attempts_in_order p j (lawful p j st.legal);
+        order = attempts_in_order p j st.lawful;
         unbegun = facts.unbegun_goes;
         won = st.race;
       }) ((start, used t start), tt) together s.attempts st.attempts s.ready
       st.ready)
 
   feed_stays : (u : Attempt) → says_feed_fault (wrote (e ∷ j) u) ≡ says_feed_fault (wrote j u)
-  feed_stays u = ap says_feed_fault (now_wrote p j lane l n how q (fault_of how un) order first u)
+  feed_stays u = ap says_feed_fault (now_wrote seats j lane l n how q (fault_of how un) order first u)
       ∙ feed_same (cond (same_attempt t u) (Some how) None) (wrote j u)
       (no_feed_fault how (same_attempt t u) un)
 
   -- ---- it was pending
 
-  quiet : answered j t ≡ false → IsQuiet p j e
+  quiet : answered j t ≡ false → IsQuiet seats j e
   quiet unanswered = record {
     no_launch = refl;
     no_send = refl;
@@ -263,14 +259,16 @@ module _ (p : Plan) (s : State) (j : List Entry) (lane l : ℕ) (n : ℤ) (how :
   }
 
   pending_stands : answered j t ≡ false → IsPendingOn j t l
-      → Stands p (noted_after (with_end (spent_for (dropped_from s l n) t) t) lane
+      → Stands p seats (noted_after (with_end (spent_for (dropped_from s l n) t) t) lane
       (call.Wrote l n how) reply.Noted) (e ∷ j)
   unfolding halted
   pending_stands unanswered on = record {
     plan = st.plan;
     sound = st.sound;
-    legal = (st.legal, legal);
-    pool = faults_kept p s.pool j lane l n how q st.pool un order
+    lawful = (st.lawful, joins);
+    seated = (st.seated, may.berth);
+    few = st.few;
+    pool = faults_kept p seats s.pool j lane l n how q st.pool un order
         (writes_unbind p j lane l n how stays) unanswered first l on;
     requests = asks.faults_kept j lane l n how p s.requests q order un first st.requests known;
     cancels = marks.faults_kept p s.cancels j lane l n how st.cancels q order un first known;
@@ -281,15 +279,15 @@ module _ (p : Plan) (s : State) (j : List Entry) (lane l : ℕ) (n : ℤ) (how :
     });
     attempts = several_counts p st.sound.least s.race j e (t ∷ [])
         (record {
-          order = attempts_in_order p j (lawful p j st.legal);
+          order = attempts_in_order p j st.lawful;
           unbegun = facts.unbegun_goes;
           won = st.race;
         }) ((start, used t start), tt) together s.attempts st.attempts s.ready
         st.ready;
-    lanes = lanes_kept p j e s.lanes st.lanes;
-    greetings = quiet_greetings p j e refl refl s.greetings st.greetings;
-    last = last_kept p j e (quiet unanswered) s.last st.last;
-    matches = fault_spends p j lane l n how q (fault_of how un) order first s.matches st.matches;
+    lanes = lanes_kept seats j e s.lanes st.lanes;
+    greetings = quiet_greetings seats j e refl refl s.greetings st.greetings;
+    last = last_kept seats j e (quiet unanswered) s.last st.last;
+    matches = fault_spends seats j lane l n how q (fault_of how un) order first s.matches st.matches;
     halted = st.halted;
   }
 
@@ -375,19 +373,21 @@ module _ (p : Plan) (s : State) (j : List Entry) (lane l : ℕ) (n : ℤ) (how :
           (λ _ _ g. absurd (omega arith)) (λ _ is g. (is, none rs g)) refl h
 
   past_stands : IsPendingNowhere j t → (answered j t ≡ false → has_ended j l ≡ true)
-      → Stands p (noted_after (with_end (spent_for (breached s (lane / 2) l) t) t) lane
+      → Stands p seats (noted_after (with_end (spent_for (breached s (lane / 2) l) t) t) lane
       (call.Wrote l n how) reply.Noted) (e ∷ j)
   unfolding halted
   past_stands nowhere over = record {
     plan = st.plan;
     sound = st.sound;
-    legal = (st.legal, legal);
+    lawful = (st.lawful, joins);
+    seated = (st.seated, may.berth);
+    few = st.few;
     pool = by_bool (answered j t) (λ b. answered j t ≡ b
-        → pools.Stands p (rows.change s.pool l rows.set_broken) (e ∷ j))
-        (λ _ h. late_faults_kept p s.pool j lane l n how q st.pool un order
+        → pools.Stands p seats (rows.change s.pool l rows.set_broken) (e ∷ j))
+        (λ _ h. late_faults_kept p seats s.pool j lane l n how q st.pool un order
         (writes_unbind p j lane l n how stays) h)
-        (λ _ h. subst (λ f. pools.Stands p f (e ∷ j)) (sym (broken_already (over h)))
-        (gone_faults_kept p s.pool j lane l n how q st.pool un order
+        (λ _ h. subst (λ f. pools.Stands p seats f (e ∷ j)) (sym (broken_already (over h)))
+        (gone_faults_kept p seats s.pool j lane l n how q st.pool un order
         (writes_unbind p j lane l n how stays) h first nowhere)) refl;
     requests = asks.past_kept j lane l n how p s.requests st.requests
         (subst (NoneIsPending j) (sym order) (past nowhere));
@@ -400,17 +400,17 @@ module _ (p : Plan) (s : State) (j : List Entry) (lane l : ℕ) (n : ℤ) (how :
     });
     attempts = several_counts p st.sound.least s.race j e (t ∷ [])
         (record {
-          order = attempts_in_order p j (lawful p j st.legal);
+          order = attempts_in_order p j st.lawful;
           unbegun = facts.unbegun_goes;
           won = st.race;
         }) ((start, used t start), tt) together s.attempts st.attempts s.ready
         st.ready;
-    lanes = lanes_kept p j e s.lanes st.lanes;
-    greetings = quiet_greetings p j e refl refl s.greetings st.greetings;
-    last = changed_last p s j e l st here (set_cause cause.Breach) refl
+    lanes = lanes_kept seats j e s.lanes st.lanes;
+    greetings = quiet_greetings seats j e refl refl s.greetings st.greetings;
+    last = changed_last p seats s j e l st here (set_cause cause.Breach) refl
         (own_row (own_cause over)) other_row (update (set_cause cause.Breach) s.last (lane / 2))
         (λ v. get_update (set_cause cause.Breach) s.last (lane / 2) v);
-    matches = fault_spends p j lane l n how q (fault_of how un) order first s.matches st.matches;
+    matches = fault_spends seats j lane l n how q (fault_of how un) order first s.matches st.matches;
     halted = st.halted;
   }
 
@@ -418,21 +418,22 @@ module _ (p : Plan) (s : State) (j : List Entry) (lane l : ℕ) (n : ℤ) (how :
 
   is_pending_is : (b : Bool) → is_pending j q ≡ b → is_pending_at s l t ≡ b
   is_pending_is b h =
-      let lt = lane_within p j lane (call.Wrote l n how) may in
-      let seat = seat_is p (lane / 2) lt in
-      let below = (berth_of p s j (lane / 2) l st here).below in
+      let below = (berth_of p seats s j (lane / 2) l st here).below in
       let fit = facts.lines_fit in
       let inside : l < line_room p = omega arith in
-      let own = each_place (λ r. BranchOf p r.attempt (berth_group p (lane / 2)))
-      (sends j l) i q grouped place in
+      let own = each_place (λ r. BranchOf p r.attempt (group_on p j l)) (sends j l) i q grouped place
+      in
+      let run = used t start in
+      let group : group_on p j l ≡ Some run.group = sym own ∙ ap (option_and_then
+      (λ x. group_of x t.branch)) run.place ∙ run.runs in
       waiting_is p s.requests j l st.requests inside st.sound
-      (lane / 2) seat.0.group seat.1.group grouped t (own ∙ seat.1.group) ∙ by b h
+      run.group group grouped t (own ∙ group) ∙ by b h
     where
       by : (c : Bool) → is_pending j q ≡ c → nat_lt 0 (length (filter (is_of t) (pending j l))) ≡ c
-      by true k = ap (λ m. nat_lt 0 m) ((pending_on j (begin_in_order p j (lawful p j st.legal)) l i q place
+      by true k = ap (λ m. nat_lt 0 m) ((pending_on j (begin_in_order p j st.lawful) l i q place
           k).each l ∙ ap (λ c. cond c 1 0) (eq-eqb l l refl))
       by false k = ap (λ m. nat_lt 0 m) ((pending_nowhere j
-          (begin_in_order p j (lawful p j st.legal)) l i q place k).each l)
+          (begin_in_order p j st.lawful) l i q place k).each l)
 
   or_over : is_pending j q ≡ false → answered j t ≡ false → has_ended j l ≡ true
   unfolding is_pending
@@ -445,26 +446,26 @@ module _ (p : Plan) (s : State) (j : List Entry) (lane l : ℕ) (n : ℤ) (how :
   was_unanswered h = by_bool (answered j t) (λ b. answered j t ≡ b → b ≡ false)
       (λ _ k. absurd (let z : is_pending j q ≡ false = rw k refl in cc)) (λ _ _. refl) refl
 
-  unwritten_stands : Stands p (noted_after (unwritten_with s (lane / 2) l n t) lane
+  unwritten_stands : Stands p seats (noted_after (unwritten_with s (lane / 2) l n t) lane
       (call.Wrote l n how) reply.Noted) (e ∷ j)
   unwritten_stands = by_bool (is_pending j q) (λ b. is_pending j q ≡ b
-      → Stands p (noted_after (unwritten_with s (lane / 2) l n t) lane
+      → Stands p seats (noted_after (unwritten_with s (lane / 2) l n t) lane
       (call.Wrote l n how) reply.Noted) (e ∷ j))
-      (λ _ h. subst (λ b. Stands p (noted_after (with_end
+      (λ _ h. subst (λ b. Stands p seats (noted_after (with_end
       (spent_for (cond b (dropped_from s l n) (breached s (lane / 2) l)) t) t) lane
       (call.Wrote l n how) reply.Noted) (e ∷ j)) (sym (is_pending_is true h))
-      (pending_stands (was_unanswered h) (pending_on j (begin_in_order p j (lawful p j st.legal)) l i q place
+      (pending_stands (was_unanswered h) (pending_on j (begin_in_order p j st.lawful) l i q place
       h)))
-      (λ _ h. subst (λ b. Stands p (noted_after (with_end
+      (λ _ h. subst (λ b. Stands p seats (noted_after (with_end
       (spent_for (cond b (dropped_from s l n) (breached s (lane / 2) l)) t) t) lane
       (call.Wrote l n how) reply.Noted) (e ∷ j)) (sym (is_pending_is false h))
-      (past_stands (pending_nowhere j (begin_in_order p j (lawful p j st.legal)) l i q place h) (or_over h)))
+      (past_stands (pending_nowhere j (begin_in_order p j st.lawful) l i q place h) (or_over h)))
       refl
 
-  pub write_fault_stands : Stands p (noted_after (wrote_with s lane (lane / 2) l n how) lane
+  pub write_fault_stands : Stands p seats (noted_after (wrote_with s lane (lane / 2) l n how) lane
       (call.Wrote l n how) reply.Noted) (e ∷ j)
-  write_fault_stands = subst (λ x. Stands p (noted_after x lane (call.Wrote l n how) reply.Noted)
+  write_fault_stands = subst (λ x. Stands p seats (noted_after x lane (call.Wrote l n how) reply.Noted)
       (e ∷ j))
       (sym (state_is s lane (lane / 2) l n how un ∙ ap (unwritten_by s (lane / 2) l n)
-      (sent_is p s j lane (call.Wrote l n how) st may ∙ ap
+      (sent_is p seats s j lane (call.Wrote l n how) st may ∙ ap
       (option_map (λ r. r.attempt)) order))) unwritten_stands

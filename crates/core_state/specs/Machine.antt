@@ -11,6 +11,7 @@ use Rattle.exec_journal.specs.declared.attempt.Attempt.{Attempt}
 use Rattle.exec_journal.specs.declared.reply.Reply.{Reply}
 use Rattle.exec_journal.specs.declared.reply.Reply.TheVariants as reply
 use Rattle.exec_journal.specs.Entries as entries
+use Rattle.exec_journal.specs.Seated.{kind_for}
 use Rattle.run_plan.specs.Groups.{group_of}
 use Rattle.list_lemmas.specs.Places.{update}
 use Rattle.worker_pool.specs.Rows as rows
@@ -78,7 +79,7 @@ launched_reply s t = reply.Launch (length s.pool.lines) t.action t.branch t.numb
 
 abbrev pub launched_for : State → ℕ → Attempt → State
 launched_for s w t = record s {
-  pool = rows.with_launch s.pool w;
+  pool = rows.with_launch s.pool w (kind_for s.plan t);
   ready = queue.with_taken s.ready t.action t.branch;
   last = update (set_launched t) s.last w;
 }
@@ -97,7 +98,7 @@ carried_reply s w (choice.Kill l y) = reply.Kill l y
 carried_reply s w (choice.Gather m) = reply.Gather m.line m.number m.attempt.action m.attempt.branch
     m.attempt.number m.exit m.refused
 carried_reply s w (choice.Cancel l n) = reply.Cancel l n
-carried_reply s w (choice.Send l t bound) = sent_reply s l t
+carried_reply s w (choice.Send l t) = sent_reply s l t
 carried_reply s w (choice.Launch t) = launched_reply s t
 carried_reply s w choice.Idle = reply.Idle
 
@@ -109,7 +110,7 @@ carried s w (choice.Cancel l n) = record s {
   requests = asks.with_cancelled s.requests l n;
   cancels = marks.with_asked s.cancels l n;
 }
-carried s w (choice.Send l t bound) = sent s w l t bound
+carried s w (choice.Send l t) = sent s w l t (row_at s l).bound
 carried s w (choice.Launch t) = launched_for s w t
 carried s w choice.Idle = s
 
@@ -122,7 +123,7 @@ pub record CanCancel (s : State) (l : ℕ) (n : ℤ) : Type 0 where
 
 abbrev pub CanCarry : State → ℕ → Choice → Type 0
 CanCarry s w (choice.Cancel l n) = CanCancel s l n
-CanCarry s w (choice.Send l t bound) = CanSend s w l t
+CanCarry s w (choice.Send l t) = CanSend s w l t
 CanCarry s w (choice.Launch t) = CanLaunch s w t
 CanCarry s w _ = Unit {0}
 

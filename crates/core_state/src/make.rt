@@ -1,28 +1,26 @@
 // What a call in its lane's script makes of the tables, and what is noted of its entry.
-ghost use Rattle.std.specs.Prelude.{◌≡◌, false, ◌<◌, ◌/◌, length};
-ghost use Rattle.exec_journal.specs.Entries.{is_look};
+ghost use Rattle.std.specs.Prelude.{◌≡◌, true, ◌<◌, ◌/◌, length};
 ghost use Rattle.core_state.specs.Noted.{noted_if_kept};
-ghost use Rattle.core_state.specs.Steps.{CanMake, made_reply, made};
+ghost use Rattle.core_state.specs.Steps.{CanMake, is_report, made_reply, made};
 
 use crate::State;
 use core_tables::Seat;
 use exec_journal::{Attempt, Call, Reply};
 
 impl State {
-    /// The reply to a call that is in its lane's script, and what it makes of the tables. A Look
-    /// asks nothing of them.
+    /// The reply to a call that is in its lane's script, and what it makes of the tables. For an Ask
+    /// what was chosen is carried out, and a Look asks nothing of them.
     pub fn make(&mut self, lane: u32, seat: Seat, call: &Call) -> Reply
         requires can { CanMake self.old lane seat call.now }
-        requires no_look { is_look call.now ≡ false }
+        requires report { is_report call.now ≡ true }
         ensures reply { result ≡ made_reply self.old lane seat call.now }
         ensures state { self.new ≡ made self.old lane seat call.now }
     {
         let berth = lane / 2;
         match call {
-            Call::Ask => self.ask(berth),
+            Call::Ask | Call::Look(_) => unreachable!(),
             Call::Launched { line, how } => self.launched(lane, *line, *how),
             Call::Wrote { line, number, how } => self.wrote(lane, berth, *line, *number, *how),
-            Call::Look(_) => unreachable!(),
             Call::Claim {
                 action,
                 branch,

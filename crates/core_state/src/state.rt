@@ -1,14 +1,16 @@
 // The tables together, and what each call makes of them.
-ghost use Rattle.std.specs.Prelude.{◌≡◌, ◌≢◌, ◌<◌, ◌≤◌, ◌+◌, ◌^◌, length, slice_get, Some, ℕ};
+ghost use Rattle.std.specs.Prelude.{◌≡◌, ◌≢◌, ◌<◌, ◌≤◌, ◌+◌, ◌^◌, length, slice_get, option_and_then, Some, ℕ};
+ghost use Rattle.exec_journal.specs.Seated.{kind_for, kind_in};
+ghost use Rattle.run_plan.specs.Groups.{group_of};
 ghost use Rattle.worker_pool.specs.Rows.{pending_of, capacity_of, last_of};
 ghost use Rattle.race_core.specs.Stands.{is_done};
-ghost use Rattle.core_state.specs.Choices.{Reads, chosen};
+ghost use Rattle.core_state.specs.Choices.{Reads, row_at};
 ghost use Rattle.core_state.specs.Machine.{occupied, begun_by, CanEnd, CanEndOf, CanClaim, EndFits, launch_by, launched_with, killed_with, take_reply, takeable, taken_with, committed_with, claim_reply_by, claimed_with, granted_with, refusal, with_end, unbound_for, unbound_at, is_of_action, counts_after, states_after, states_spent, other_branch, uses_branch, CanSend, CanLaunch, CanCarry, sent, sent_reply, launched_for, launched_reply, carried, carried_reply};
 
 use crate::Choice;
 use cancel_rules::Cancels;
 use core_tables::{Greetings, Lanes, LastLine, LastLines, Match, Matches, Order};
-use exec_journal::{Attempt, Branch, CommitEnd, Found, Plan, Reply, Started};
+use exec_journal::{Attempt, Branch, CommitEnd, Found, Kind, Plan, Reply, Started};
 use race_core::Race;
 use ready_order::Ready;
 use request_table::Requests;
@@ -33,18 +35,8 @@ pub struct State {
 }
 
 impl State {
-    /// An Ask of this berth's proxy lane.
-    pub fn ask(&mut self, berth: u32) -> Reply
-        requires reads { Reads self.old berth }
-        requires carry { CanCarry self.old berth (chosen self.old berth) }
-        ensures reply { result ≡ carried_reply self.old berth (chosen self.old berth) }
-        ensures state { self.new ≡ carried self.old berth (chosen self.old berth) }
-    {
-        let choice = self.choose(berth);
-        self.carry_out(berth, choice)
-    }
-
-    fn carry_out(&mut self, berth: u32, choice: Choice) -> Reply
+    /// What was chosen for an Ask of this berth's proxy lane is ordered, and the tables follow.
+    pub fn carry_out(&mut self, berth: u32, choice: Choice) -> Reply
         requires { CanCarry self.old berth choice }
         ensures reply { result ≡ carried_reply self.old berth choice }
         ensures state { self.new ≡ carried self.old berth choice }
@@ -54,11 +46,7 @@ impl State {
             Choice::Kill { line, why } => Reply::Kill { line, why },
             Choice::Gather(found) => self.gather(found),
             Choice::Cancel { line, number } => self.cancel(line, number),
-            Choice::Send {
-                line,
-                attempt,
-                bound,
-            } => self.send(berth, line, attempt, bound),
+            Choice::Send { line, attempt } => self.send(berth, line, attempt),
             Choice::Launch(attempt) => self.launch(berth, attempt),
             Choice::Idle => Reply::Idle,
         }
@@ -91,7 +79,17 @@ impl State {
         Reply::Cancel { line, number }
     }
 
-    fn send(&mut self, berth: u32, line: u32, attempt: Attempt, bound: bool) -> Reply
+    fn send(&mut self, berth: u32, line: u32, attempt: Attempt) -> Reply
+        requires { CanSend self.old berth line attempt }
+        ensures reply { result ≡ sent_reply self.old line attempt }
+        ensures state { self.new ≡ sent self.old berth line attempt (row_at self.old line).bound }
+    {
+        let bound = self.pool.line(line).bound;
+        self.send_as(berth, line, attempt, bound)
+    }
+
+    // Of what is bound to the line, or of another attempt.
+    fn send_as(&mut self, berth: u32, line: u32, attempt: Attempt, bound: bool) -> Reply
         requires { CanSend self.old berth line attempt }
         ensures reply { result ≡ sent_reply self.old line attempt }
         ensures state { self.new ≡ sent self.old berth line attempt bound }
@@ -117,7 +115,8 @@ impl State {
         ensures reply { result ≡ launched_reply self.old attempt }
         ensures state { self.new ≡ launched_for self.old berth attempt }
     {
-        let line = self.pool.launch(berth);
+        let kind = kind_for(&self.plan, attempt);
+        let line = self.pool.launch(berth, kind);
         self.ready.taken(attempt.action, attempt.branch);
         self.last.launched(berth, attempt);
         Reply::Launch {
@@ -264,6 +263,25 @@ impl State {
     }
 }
 
+// The kind of the group that runs the attempt.
+fn kind_for(plan: &Plan, attempt: Attempt) -> Kind
+    ensures { result ≡ kind_for plan.now attempt }
+{
+    match group_of(plan, attempt.action, attempt.branch) {
+        Some(group) => kind_in(plan, group),
+        None => Kind::Single,
+    }
+}
+
+fn kind_in(plan: &Plan, group: u32) -> Kind
+    ensures { result ≡ kind_in plan.now (Some group) }
+{
+    match plan.groups.as_slice().get(group as usize) {
+        Some(group) => group.kind,
+        None => Kind::Single,
+    }
+}
+
 fn is_done(how: CommitEnd) -> bool
     ensures { result ≡ is_done how }
 {
@@ -351,12 +369,18 @@ fn other(branch: Branch) -> Branch
 fn uses(plan: &Plan, action: u32, branch: Branch) -> bool
     ensures { result ≡ uses_branch plan.now action branch }
 {
-    match plan.actions.as_slice().get(action as usize) {
-        Some(work) => match branch {
-            Branch::Local => work.local.is_some(),
-            Branch::Remote => work.remote.is_some(),
-        },
-        None => false,
+    group_of(plan, action, branch).is_some()
+}
+
+// The group that runs the branch, where the action uses it.
+fn group_of(plan: &Plan, action: u32, branch: Branch) -> Option<u32>
+    ensures { result ≡ option_and_then (λ x. group_of x branch)
+        (slice_get plan.now.actions action) }
+{
+    let work = plan.actions.as_slice().get(action as usize)?;
+    match branch {
+        Branch::Local => work.local,
+        Branch::Remote => work.remote,
     }
 }
 

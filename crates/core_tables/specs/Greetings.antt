@@ -1,7 +1,5 @@
 -- What the last line of each berth has said.
 use Rattle.std.specs.Prelude.{ℕ, nat_lt, Bool, true, false, ◌||◌, Option, Some, None, if◌then◌else◌, List}
-use Rattle.run_plan.specs.declared.plan.Plan.{Plan}
-use Rattle.run_plan.specs.Groups.{berths}
 use Rattle.exec_journal.specs.declared.call.Call.{Call}
 use Rattle.exec_journal.specs.declared.call.Call.TheVariants as call
 use Rattle.exec_journal.specs.Entry.{Entry}
@@ -40,5 +38,6 @@ abbrev pub greeting_of : List Entry → Option ℕ → Greeting
 greeting_of j (Some l) = record { spoken = has_spoken j l; greeted = has_greeted j l }
 greeting_of j None = silent
 
-unfoldable pub greeting_in : Plan → List Entry → ℕ → Option Greeting
-greeting_in p j w = if nat_lt w (berths p) then Some (greeting_of j (last_line j w)) else None
+-- of a berth, which is one of so many
+unfoldable pub greeting_in : ℕ → List Entry → ℕ → Option Greeting
+greeting_in seats j w = if nat_lt w seats then Some (greeting_of j (last_line j w)) else None

@@ -14,7 +14,7 @@ use Rattle.exec_journal.specs.declared.reply.Reply.{Reply}
 use Rattle.exec_journal.specs.declared.reply.Reply.TheVariants as reply
 use Rattle.exec_journal.specs.Entries.{attempt_of, same_attempt, same_branch, is_halt, is_look, is_stop}
 use Rattle.exec_journal.specs.Words.{last_work, stopped, has_halted}
-use Rattle.run_plan.specs.Groups.{berths, is_remote}
+use Rattle.run_plan.specs.Groups.{is_remote}
 use Rattle.exec_journal.specs.Scripts.{may_find, outputs_of, makes, is_whole_or_fault}
 use Rattle.list_lemmas.specs.Places.{update}
 use Rattle.core_tables.specs.declared.lanes.LaneState.{LaneState}
@@ -148,6 +148,7 @@ state_by last stop halt = record {
   halted = halt;
 }
 
-unfoldable pub lane_in : Plan → List Entry → ℕ → Option LaneState
-lane_in p j lane = if nat_lt lane (2 * berths p) then Some
+-- of a lane of so many berths
+unfoldable pub lane_in : ℕ → List Entry → ℕ → Option LaneState
+lane_in seats j lane = if nat_lt lane (2 * seats) then Some
     (state_by (last_work j lane) (stopped j lane) (has_halted j lane)) else None

@@ -1,12 +1,10 @@
 -- What is kept of a berth's last line beside the pool's row.
 use Rattle.std.specs.Prelude.{ℕ, nat_lt, Bool, false, true, Option, Some, None, option_map, if◌then◌else◌, List}
-use Rattle.run_plan.specs.declared.plan.Plan.{Plan}
 use Rattle.exec_journal.specs.declared.attempt.Attempt.{Attempt}
 use Rattle.exec_journal.specs.declared.ends.Cause.{Cause}
 use Rattle.exec_journal.specs.Entry.{Entry}
 use Rattle.list_lemmas.specs.Options.{or_else}
 use Rattle.exec_journal.specs.Words.{last_line, launch_of, was_taken, line_cause}
-use Rattle.run_plan.specs.Groups.{berths}
 use Rattle.call_laws.specs.Moments.{fed_on}
 use Rattle.core_tables.specs.declared.last.LastLine.{LastLine}
 
@@ -45,5 +43,6 @@ row_of j (Some l) = row_by (option_map (λ x. x.1) (launch_of j l)) (was_taken j
     (fed_of j l)
 row_of j None = no_line
 
-unfoldable pub last_in : Plan → List Entry → ℕ → Option LastLine
-last_in p j w = if nat_lt w (berths p) then Some (row_of j (last_line j w)) else None
+-- of a berth, which is one of so many
+unfoldable pub last_in : ℕ → List Entry → ℕ → Option LastLine
+last_in seats j w = if nat_lt w seats then Some (row_of j (last_line j w)) else None

@@ -1,13 +1,11 @@
 -- The matches of each berth since its last Send.
 use Rattle.std.specs.Prelude.{ℕ, ◌==◌, nat_lt, Bool, true, false, ◌&&◌, ◌||◌, not, Option, Some, None, if◌then◌else◌, List, [], ◌∷◌, ◌++◌, length, map, reverse, slice_get, pos}
 use Rattle.arrayvec.specs.ArrayVec.{ArrayVec}
-use Rattle.run_plan.specs.declared.plan.Plan.{Plan}
 use Rattle.run_plan.specs.declared.plan.Branch.TheVariants.{Local}
 use Rattle.exec_journal.specs.declared.attempt.Attempt.{Attempt}
 use Rattle.exec_journal.specs.Entry.{Entry}
 use Rattle.exec_journal.specs.Entries.{attempt_of, same_attempt}
 use Rattle.call_laws.specs.Matches.{Matched, recent, is_spent}
-use Rattle.run_plan.specs.Groups.{berths}
 use Rattle.list_lemmas.specs.Places.{update}
 use Rattle.core_tables.specs.declared.matches.Match.{Match}
 
@@ -73,6 +71,7 @@ match_in j m = record {
   spent = is_spent j m.attempt;
 }
 
-unfoldable pub matches_in : Plan → List Entry → ℕ → Option (ArrayVec Match)
-matches_in p j w = if nat_lt w (berths p) then Some
+-- of a berth, which is one of so many
+unfoldable pub matches_in : ℕ → List Entry → ℕ → Option (ArrayVec Match)
+matches_in seats j w = if nat_lt w seats then Some
     (record { items = reverse (map (match_in j) (recent j w)) }) else None

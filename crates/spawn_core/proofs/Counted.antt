@@ -16,7 +16,7 @@ use Rattle.spawn_core.specs.Stands.{HasHistory, Kept, Stands, TablesStand}
 
 -- what a lane owes by these tables
 pub record Owing (s : State) (lane n : ℕ) : Type 0 where
-  pub owed : (p : Plan) (j : List Entry) → tables.Stands p s j → lane < 2 * berths p
+  pub owed : (p : Plan) (j : List Entry) → tables.Stands p (berths p) s j → lane < 2 * berths p
       → n ≡ lane_owes j lane
   pub none : 2 * berths s.plan ≤ lane → n ≡ 0
 
@@ -25,7 +25,7 @@ record Sums (owed before now later : ℕ) : Type 0 where
   sum : later + before ≡ owed + now
 
 sums : (p : Plan) (s t : State) (j : List Entry) (lane before now : ℕ) (c : Call) (x : Reply)
-    → tables.Stands p s j → tables.Stands p t (after j lane c x)
+    → tables.Stands p (berths p) s j → tables.Stands p (berths p) t (after j lane c x)
     → Owing s lane before → Owing t lane now
     → Sums (owes p j) before now (owes p (after j lane c x))
 sums p s t j lane before now c x was is old new =

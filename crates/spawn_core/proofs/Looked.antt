@@ -8,6 +8,7 @@ use Rattle.std.proofs.lemmas.Option.{slice_get_cases, slice_get_within}
 use Rattle.run_plan.specs.declared.plan.Kind.{Kind}
 use Rattle.run_plan.specs.declared.plan.Maker.{Maker}
 use Rattle.run_plan.specs.declared.plan.Plan.{Plan}
+use Rattle.run_plan.specs.Groups.{berths}
 use Rattle.run_plan.specs.declared.plan.PlanAction.{PlanAction}
 use Rattle.run_plan.specs.Sound.{Sound, has_branches, is_earlier}
 use Rattle.exec_journal.specs.declared.attempt.Attempt.{Attempt}
@@ -32,6 +33,7 @@ use Rattle.core_tables.specs.Lanes.{lane_in, may_look_by, may_some, order_after,
 use Rattle.core_state.specs.declared.state.State.{State}
 use Rattle.core_state.specs.Machine.{order_at, order_on}
 use Rattle.core_laws.proofs.Rowed.{lane_inside}
+use Rattle.earliest_first.proofs.AtBerths.{lane_within}
 use Rattle.core_tables.specs.Stands as files
 use Rattle.ready_order.proofs.AllSettled.{sound_at}
 use Rattle.core_tables.specs.declared.files.Slot.{Slot}
@@ -190,7 +192,7 @@ module _ (p : Plan) (s : State) (f : slots.Facts) (j : List Entry) (lane : ℕ) 
   order_is w may =
       ap order_on (st.tables.lanes lane ∙ ap (λ b. cond b
       (Some (state_by (last_work j lane) (stopped j lane) (has_halted j lane))) None)
-      (lane_inside p j lane (call.Look w) may))
+      (lane_inside (berths p) lane (lane_within p j lane (call.Look w) may)))
 
   made_look : (b a o : ℕ) (y : Reply) → makes p b a o ≡ true → Told (slot_at f.made a o) y
       → Replies (r.look_reply p j lane (look.Made a o)) y
@@ -205,9 +207,9 @@ module _ (p : Plan) (s : State) (f : slots.Facts) (j : List Entry) (lane : ℕ) 
     is_newest = by (match_of j t) refl
       where
         by : (m : Option Answer) → match_of j t ≡ m → m ≡ files.newest_match j t.action t.branch
-        by (Some x) at = sym (newest_of p j t x (lawful p j st.tables.legal)
-            (gathering_going p j lane t (lawful p j st.tables.legal) ordered) at)
-        by None at = absurd (let some = gathered_match p j t (lawful p j st.tables.legal)
+        by (Some x) at = sym (newest_of p j t x (lawful p j st.legal)
+            (gathering_going p j lane t (lawful p j st.legal) ordered) at)
+        by None at = absurd (let some = gathered_match p j t (lawful p j st.legal)
             (gathering_ordered p j lane t ordered) in let no = ap is_some at in cc)
 
     gather_look : (l o : ℕ) (n : ℤ) (y : Reply) → o < outputs_of p t.action

@@ -1,5 +1,5 @@
 -- A new core stands for the empty journal.
-use Rattle.std.proofs.Common.{◌≡◌, ℕ, ◌*◌, nat_lt, false, cond, [], Some, None, ap, sym, ◌∙◌}
+use Rattle.std.proofs.Common.{◌≡◌, ℕ, ◌*◌, nat_lt, false, cond, [], Some, None, ap, sym, subst, ◌∙◌, arith}
 use Rattle.std.specs.Prelude.{slice_get, replicate}
 use Rattle.run_plan.specs.declared.plan.Plan.{Plan}
 use Rattle.run_plan.specs.Groups.{berths}
@@ -26,20 +26,22 @@ use Rattle.spawn_core.specs.Stands.{Stands}
 
 module _ (p : Plan) (s : State) (sound : Sound p) (plan : s.plan ≡ p) (m n : ℕ)
     (m_is : m ≡ 2 * berths p) (n_is : n ≡ berths p)
-    (pool : pools.Stands p s.pool []) (requests : asks.Stands p s.requests [])
+    (pool : pools.Stands p n s.pool []) (requests : asks.Stands p s.requests [])
     (cancels : marks.Stands p s.cancels []) (ready : queues.Stands p s.ready [])
     (race : races.Stands p s.race []) (attempts : counts.Stands p s.attempts [])
     (lanes : s.lanes ≡ replicate m no_work) (last : s.last ≡ replicate n no_line)
     (greetings : s.greetings ≡ replicate n silent)
     (matches : s.matches ≡ replicate n no_matches) (unhalted : s.halted ≡ false) (f : Facts)
     (files : IsNewFiles p.actions f) where
-  new_tables : tables.Stands p s []
+  new_tables : tables.Stands p (berths p) s []
   unfolding halted lane_in last_work stopped has_halted last_in last_line greeting_in matches_in recent
   new_tables = record {
     plan = plan;
     sound = sound;
-    legal = tt;
-    pool = pool;
+    lawful = tt;
+    seated = tt;
+    few = (let few = sound.seats in omega arith);
+    pool = subst (λ k. pools.Stands p k s.pool []) n_is pool;
     requests = requests;
     cancels = cancels;
     ready = ready;
@@ -60,6 +62,6 @@ module _ (p : Plan) (s : State) (sound : Sound p) (plan : s.plan ≡ p) (m n : �
   pub new_stands : (owed : ℕ) → owed ≡ 2 * berths p
       → Stands p (record { state = s; files = f; owed = owed }) []
   new_stands owed all = record {
-    both = record { tables = new_tables; kept = kept.new_stands p f files };
+    both = record { tables = new_tables; legal = tt; kept = kept.new_stands p f files };
     owed = all ∙ sym (owes_first (berths p));
   }

@@ -18,11 +18,11 @@ use Rattle.core_tables.specs.Seats.{seat_at}
 use Rattle.core_tables.specs.Lanes.{allows_by, is_won, lane_in, said_after, said_of_work, state_by}
 use Rattle.core_tables.proofs.Lengths.{length_is}
 use Rattle.core_state.specs.declared.state.State.{State}
-use Rattle.core_state.specs.Choices.{Reads}
+use Rattle.earliest_first.specs.Choices.{ReadsOwn}
 use Rattle.core_laws.specs.Stands as tables
-use Rattle.core_laws.proofs.AtBerths.{all_of}
-use Rattle.core_laws.proofs.Chosen.{lane_within}
-use Rattle.core_laws.proofs.Read as read
+use Rattle.core_laws.proofs.AllOf.{all_of}
+use Rattle.earliest_first.proofs.AtBerths.{lane_within}
+use Rattle.spawn_core.specs.Turning.{reads_own}
 use Rattle.core_contract.specs.News.{question}
 use Rattle.spawn_core.specs.Allowed.{allowed_is}
 use Rattle.spawn_core.specs.Outlook.{owes_by}
@@ -44,7 +44,7 @@ won_work None = refl
 won_work (Some e) = won_by e.call e.reply
 
 pub owes_is : (p : Plan) (s : State) (j : List Entry) (lane : ℕ) (x : LaneState)
-    → tables.Stands p s j → lane < 2 * berths p → slice_get s.lanes lane ≡ Some x
+    → tables.Stands p (berths p) s j → lane < 2 * berths p → slice_get s.lanes lane ≡ Some x
     → owes_by x ≡ lane_owes j lane
 unfolding lane_in lane_owes
 owes_is p s j lane x st lt at =
@@ -55,7 +55,7 @@ owes_is p s j lane x st lt at =
     ap owes_by same
     ∙ ap (λ (b : Bool). count (may_halt j lane) + count b) (won_work (last_work j lane))
 
-pub lanes_are : (p : Plan) (s : State) (j : List Entry) → tables.Stands p s j
+pub lanes_are : (p : Plan) (s : State) (j : List Entry) → tables.Stands p (berths p) s j
     → length s.lanes ≡ 2 * berths p
 unfolding lane_in
 lanes_are p s j st = length_is s.lanes (2 * berths p)
@@ -64,7 +64,12 @@ lanes_are p s j st = length_is s.lanes (2 * berths p)
 -- ---- of what stands for some journal
 
 pub journal_kept : (c : Kept) → HasHistory c → HasJournal c.state
-journal_kept c h = record { plan = h.plan; journal = h.journal; stands = h.stands.both.tables }
+journal_kept c h = record {
+  plan = h.plan;
+  journal = h.journal;
+  stands = h.stands.both.tables;
+  legal = h.stands.both.legal;
+}
 
 pub lane_kept : (s : State) (lane : ℕ) → HasJournal s → lane / 2 < berths s.plan
     → lane < length s.lanes
@@ -73,11 +78,11 @@ lane_kept s lane h lt =
     let many = lanes_are h.plan s h.journal h.stands in
     omega (arith, same, many, lt)
 
-reads_kept : (s : State) (w : ℕ) → HasJournal s → w < berths s.plan → Reads s w
+reads_kept : (s : State) (w : ℕ) → HasJournal s → w < berths s.plan → ReadsOwn s w
 reads_kept s w h lt =
     let st = h.stands in
     let same : berths s.plan ≡ berths h.plan = ap berths st.plan in
-    read.reads h.plan s h.journal st (all_of h.plan s h.journal st).facts w
+    reads_own h.plan s h.journal w st (all_of h.plan (berths h.plan) s h.journal st)
     (omega (arith, same, lt))
 
 -- how few actions there are, and how few attempts of their branches
@@ -97,7 +102,7 @@ attempts_kept s h =
 pub reads_asking : (s : State) (lane : ℕ) (seat : Seat) → HasJournal s
     → seat_at s.plan (lane / 2) ≡ Some seat
     → allows_by s.plan seat.kind s.lanes lane (question lane) ≡ true
-    → Reads s (lane / 2)
+    → ReadsOwn s (lane / 2)
 reads_asking s lane seat h at may =
     let st = h.stands in
     let scripted = sym (allowed_is h.plan s h.journal lane seat (question lane) st at) ∙ may in

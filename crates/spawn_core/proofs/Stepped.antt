@@ -18,7 +18,7 @@ use Rattle.exec_journal.specs.declared.reply.StrayWhy.TheVariants as stray
 use Rattle.exec_journal.specs.declared.reply.Reply.{Reply}
 use Rattle.exec_journal.specs.declared.reply.Reply.TheVariants as reply
 use Rattle.exec_journal.specs.Entries.{attempt_of, is_done, is_kept, is_look}
-use Rattle.exec_journal.specs.Legal.{after}
+use Rattle.exec_journal.specs.Legal.{Legal, after}
 use Rattle.exec_journal.specs.Rules as r
 use Rattle.exec_journal.specs.Scripts.{script}
 use Rattle.run_plan.specs.Groups.{berths, is_single}
@@ -31,7 +31,8 @@ use Rattle.core_state.specs.declared.choice.Choice.{Choice}
 use Rattle.core_state.specs.declared.choice.Choice.TheVariants as choice
 use Rattle.core_tables.specs.declared.seat.Seat.{Seat}
 use Rattle.core_state.specs.declared.state.State.{State}
-use Rattle.core_state.specs.Choices.{chosen, row_at}
+use Rattle.core_state.specs.Choices.{row_at}
+use Rattle.earliest_first.specs.Choices.{chosen}
 use Rattle.core_tables.specs.declared.greetings.Greeting.{Greeting}
 use Rattle.core_tables.specs.declared.lanes.LaneState.{LaneState}
 use Rattle.core_tables.specs.Greetings.{greeting_in, greeting_of}
@@ -44,11 +45,10 @@ use Rattle.core_tables.specs.Seats.{seat_at}
 use Rattle.core_laws.specs.Stands.{Stands}
 use Rattle.spawn_core.specs.Allowed.{allowed_is, none_scripted, seated}
 use Rattle.spawn_core.specs.Answers.{Replies, answer}
-use Rattle.core_state.specs.Steps.{CanMake, made, made_reply}
-use Rattle.core_laws.proofs.Calls.{reply_is, call_stands}
-use Rattle.core_laws.proofs.Can.{can_make}
+use Rattle.spawn_core.specs.Turns.{CanTurn, turned, turned_reply}
 use Rattle.core_laws.proofs.Rowed.{lane_inside}
-use Rattle.core_laws.proofs.Chosen.{lane_within}
+use Rattle.earliest_first.proofs.AtBerths.{lane_within}
+use Rattle.spawn_core.specs.Turning.{turn_can, turn_is, turn_stands}
 
 -- ---- a call in its script changes neither the plan nor what is noted of its lane and its berth's
 -- greeting
@@ -75,7 +75,7 @@ module _ (s : State) where
   carried_lanes w (choice.Kill l y) = refl
   carried_lanes w (choice.Gather x) = refl
   carried_lanes w (choice.Cancel l n) = refl
-  carried_lanes w (choice.Send l t b) = refl
+  carried_lanes w (choice.Send l t) = refl
   carried_lanes w (choice.Launch t) = refl
   carried_lanes w choice.Idle = refl
 
@@ -131,7 +131,7 @@ module _ (s : State) where
       (reports.matching_with s w seat l x (asks.matching_of s.requests l x.number)) refl
       (matching_lanes w l seat x (asks.matching_of s.requests l x.number))))
 
-  made_lanes : (lane : ℕ) (seat : Seat) (c : Call) → own_of (made s lane seat c) ≡ own_of s
+  made_lanes : (lane : ℕ) (seat : Seat) (c : Call) → own_of (turned s lane seat c) ≡ own_of s
   made_lanes lane seat call.Ask = carried_lanes (lane / 2) (chosen s (lane / 2))
   made_lanes lane seat (call.Launched l how) = either (is_done how) _ _ refl
       (end_lanes (m.with_pool s (rows.change s.pool l rows.set_unbound)) (m.launch_by s lane) refl)
@@ -151,16 +151,16 @@ module _ (s : State) where
   made_lanes lane seat call.Halt = refl
   made_lanes lane seat call.Tick = refl
 
-lane_known : (p : Plan) (s : State) (j : List Entry) (lane : ℕ) (c : Call) → Stands p s j
+lane_known : (p : Plan) (s : State) (j : List Entry) (lane : ℕ) (c : Call) → Stands p (berths p) s j
     → script p j lane c ≡ true → lane < length s.lanes
 unfolding lane_in
 lane_known p s j lane c st may =
-    let within = lane_inside p j lane c may in
+    let within = lane_inside (berths p) lane (lane_within p j lane c may) in
     slice_get_within s.lanes lane (state_by (last_work j lane) (stopped j lane) (has_halted j lane))
     (st.lanes lane ∙ ap (λ b. cond b (Some (state_by (last_work j lane) (stopped j lane)
     (has_halted j lane))) None) within)
 
-berth_known : (p : Plan) (s : State) (j : List Entry) (lane : ℕ) (c : Call) → Stands p s j
+berth_known : (p : Plan) (s : State) (j : List Entry) (lane : ℕ) (c : Call) → Stands p (berths p) s j
     → script p j lane c ≡ true → lane / 2 < length s.greetings
 unfolding greeting_in
 berth_known p s j lane c st may =
@@ -179,7 +179,7 @@ module _ (s : State) where
   carried_unkept w (choice.Kill l y) h = absurd (cc)
   carried_unkept w (choice.Gather x) h = absurd (cc)
   carried_unkept w (choice.Cancel l n) h = absurd (cc)
-  carried_unkept w (choice.Send l t b) h = absurd (cc)
+  carried_unkept w (choice.Send l t) h = absurd (cc)
   carried_unkept w (choice.Launch t) h = absurd (cc)
   carried_unkept w choice.Idle h = refl
 
@@ -237,7 +237,7 @@ module _ (s : State) where
   clash b h k = absurd (let both : true ≡ false = sym h ∙ k in cc)
 
   unkept : (lane : ℕ) (seat : Seat) (c : Call) → is_look c ≡ false
-      → is_kept (made_reply s lane seat c) ≡ false → made s lane seat c ≡ s
+      → is_kept (turned_reply s lane seat c) ≡ false → turned s lane seat c ≡ s
   unkept lane seat call.Ask look h = carried_unkept (lane / 2) (chosen s (lane / 2)) h
   unkept lane seat call.Take look h = taken_unkept (lane / 2) (m.takeable s (lane / 2)) h
   unkept lane seat (call.Look x) look h = refl
@@ -257,56 +257,56 @@ module _ (s : State) where
 
 -- what the check of a call says
 module _ (p : Plan) (s : State) (j : List Entry) (lane : ℕ) (seat : Seat) (c : Call)
-    (st : Stands p s j) (at : seat_at s.plan (lane / 2) ≡ Some seat) where
+    (st : Stands p (berths p) s j) (at : seat_at s.plan (lane / 2) ≡ Some seat) where
   placed : seat_at p (lane / 2) ≡ Some seat
   placed = seated p s j lane seat c st at
 
   allows_is : allows_by s.plan seat.kind s.lanes lane c ≡ script p j lane c
   allows_is = allowed_is p s j lane seat c st at
 
-  module _ (all : LawfulMore p j) (look : is_look c ≡ false)
+  module _ (legal : Legal p j) (all : LawfulMore p j) (look : is_look c ≡ false)
       (may : allows_by s.plan seat.kind s.lanes lane c ≡ true) where
     pub script_here : script p j lane c ≡ true
     script_here = sym allows_is ∙ may
 
-    pub can_here : CanMake s lane seat c
-    can_here = can_make p s j lane seat c st all script_here
+    pub can_here : CanTurn s lane seat c
+    can_here = turn_can p s j lane seat st legal all placed c script_here
 
-    pub lane_here : lane < length (made s lane seat c).lanes
+    pub lane_here : lane < length (turned s lane seat c).lanes
     lane_here = subst (λ (o : Own). lane < length o.1) (sym (made_lanes s lane seat c))
         (lane_known p s j lane c st script_here)
 
-    pub berth_here : lane / 2 < length (made s lane seat c).greetings
+    pub berth_here : lane / 2 < length (turned s lane seat c).greetings
     berth_here = subst (λ (o : Own). lane / 2 < length o.2) (sym (made_lanes s lane seat c))
         (berth_known p s j lane c st script_here)
 
-    pub plan_here : (made s lane seat c).plan ≡ s.plan
+    pub plan_here : (turned s lane seat c).plan ≡ s.plan
     plan_here = ap (λ (o : Own). o.0) (made_lanes s lane seat c)
 
-    pub reply_here : Replies (answer p j lane c) (made_reply s lane seat c)
-    reply_here = inl (reply_is p s j lane seat c st all placed look script_here
+    pub reply_here : Replies (answer p j lane c) (turned_reply s lane seat c)
+    reply_here = inl (turn_is p s j lane seat st legal all placed c look script_here
         ∙ ap (λ b. cond b (r.rule p j lane c) reply.Astray) (sym script_here))
 
     -- whether the reply is kept
-    kept_by : (b : Bool) → is_kept (made_reply s lane seat c) ≡ b
-        → Stands p (cond b (noted_after (made s lane seat c) lane c (made_reply s lane seat c))
-        (made s lane seat c)) (cond b (record {
+    kept_by : (b : Bool) → is_kept (turned_reply s lane seat c) ≡ b
+        → Stands p (berths p) (cond b (noted_after (turned s lane seat c) lane c (turned_reply s lane seat c))
+        (turned s lane seat c)) (cond b (record {
           lane = lane;
           call = c;
-          reply = made_reply s lane seat c;
+          reply = turned_reply s lane seat c;
         } ∷ j) j)
-    kept_by true h = call_stands p s j lane seat c st all placed look script_here h
-    kept_by false h = subst (λ x. Stands p x j) (sym (unkept s lane seat c look h)) st
+    kept_by true h = turn_stands p s j lane seat st legal all placed c look script_here h
+    kept_by false h = subst (λ x. Stands p (berths p) x j) (sym (unkept s lane seat c look h)) st
 
-    pub stands_here : Stands p (noted_if_kept (made s lane seat c) lane c
-        (made_reply s lane seat c)) (after j lane c (made_reply s lane seat c))
-    stands_here = kept_by (is_kept (made_reply s lane seat c)) refl
+    pub stands_here : Stands p (berths p) (noted_if_kept (turned s lane seat c) lane c
+        (turned_reply s lane seat c)) (after j lane c (turned_reply s lane seat c))
+    stands_here = kept_by (is_kept (turned_reply s lane seat c)) refl
 
   module _ (out : allows_by s.plan seat.kind s.lanes lane c ≡ false) where
     pub reply_out : Replies (answer p j lane c) reply.Astray
     reply_out = inl (ap (λ b. cond b (r.rule p j lane c) reply.Astray) (sym (sym allows_is ∙ out)))
 
-pub reply_none : (p : Plan) (s : State) (j : List Entry) (lane : ℕ) (c : Call) → Stands p s j
+pub reply_none : (p : Plan) (s : State) (j : List Entry) (lane : ℕ) (c : Call) → Stands p (berths p) s j
     → seat_at s.plan (lane / 2) ≡ None → Replies (answer p j lane c) reply.Astray
 reply_none p s j lane c st at =
     inl (ap (λ b. cond b (r.rule p j lane c) reply.Astray)

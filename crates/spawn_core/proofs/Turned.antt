@@ -10,7 +10,8 @@ use Rattle.exec_journal.specs.Entry.{Entry}
 use Rattle.exec_journal.specs.declared.reply.Reply.{Reply}
 use Rattle.exec_journal.specs.declared.reply.Reply.TheVariants as reply
 use Rattle.exec_journal.specs.Entries.{is_kept, is_look}
-use Rattle.exec_journal.specs.Legal.{LegalEntry, after}
+use Rattle.run_plan.specs.Groups.{berths}
+use Rattle.exec_journal.specs.Legal.{Legal, LegalEntry, after}
 use Rattle.exec_journal.specs.Scripts.{script}
 use Rattle.core_tables.specs.declared.seat.Seat.{Seat}
 use Rattle.core_tables.specs.declared.lanes.LaneState.{LaneState}
@@ -18,10 +19,10 @@ use Rattle.core_tables.specs.Lanes.{allows_by, may_some}
 use Rattle.core_tables.specs.Seats.{seat_at}
 use Rattle.core_state.specs.declared.state.State.{State}
 use Rattle.core_state.specs.Noted.{noted_if_kept}
-use Rattle.core_state.specs.Steps.{CanMake, made, made_reply}
+use Rattle.spawn_core.specs.Turns.{CanTurn, turned, turned_reply}
 use Rattle.lawful_facts.specs.Moments.{LawfulMore}
 use Rattle.core_laws.specs.Stands as tables
-use Rattle.core_laws.proofs.Calls.{reply_is}
+use Rattle.spawn_core.specs.Turning.{turn_is}
 use Rattle.core_tables.specs.Slots as slots
 use Rattle.core_tables.specs.Slots.{Follows, FoundFiles}
 use Rattle.core_tables.specs.Stands as files
@@ -30,7 +31,8 @@ use Rattle.spawn_core.specs.Allowed.{allowed_is, seated}
 use Rattle.spawn_core.specs.Answers.{Replies, answer}
 use Rattle.spawn_core.specs.Looks.{ToldLook}
 use Rattle.spawn_core.specs.Stands.{TablesStand}
-use Rattle.core_laws.proofs.AtBerths.{all_of, at_entry}
+use Rattle.core_laws.proofs.AllOf.{all_of}
+use Rattle.earliest_first.proofs.AtBerths.{at_entry}
 use Rattle.spawn_core.proofs.Looked.{look_told, look_unkept}
 use Rattle.spawn_core.proofs.Stepped.{script_here, can_here, lane_here, berth_here, plan_here, reply_here, stands_here}
 
@@ -44,54 +46,58 @@ unkept_files p (call.Answer l x) _ f g h k = k
 unkept_files p _ r f g h k = k
 
 module _ (p : Plan) (s : State) (j : List Entry) (lane : ℕ) (seat : Seat) (c : Call)
-    (st : tables.Stands p s j) (at : seat_at s.plan (lane / 2) ≡ Some seat)
+    (st : tables.Stands p (berths p) s j) (lawful : Legal p j) (at : seat_at s.plan (lane / 2) ≡ Some seat)
     (look : is_look c ≡ false) (may : allows_by s.plan seat.kind s.lanes lane c ≡ true) where
   abbrev all : LawfulMore p j
-  all = all_of p s j st
+  all = all_of p (berths p) s j st
 
   abbrev told : Reply
-  told = made_reply s lane seat c
+  told = turned_reply s lane seat c
 
-  pub can_turn : CanMake s lane seat c
-  can_turn = can_here p s j lane seat c st at all look may
+  pub can_turn : CanTurn s lane seat c
+  can_turn = can_here p s j lane seat c st at lawful all look may
 
-  pub lane_turn : lane < length (made s lane seat c).lanes
-  lane_turn = lane_here p s j lane seat c st at all look may
+  pub lane_turn : lane < length (turned s lane seat c).lanes
+  lane_turn = lane_here p s j lane seat c st at lawful all look may
 
-  pub berth_turn : lane / 2 < length (made s lane seat c).greetings
-  berth_turn = berth_here p s j lane seat c st at all look may
+  pub berth_turn : lane / 2 < length (turned s lane seat c).greetings
+  berth_turn = berth_here p s j lane seat c st at lawful all look may
 
   pub reply_turn : Replies (answer p j lane c) told
-  reply_turn = reply_here p s j lane seat c st at all look may
+  reply_turn = reply_here p s j lane seat c st at lawful all look may
 
   abbrev entry : Entry
   entry = record { lane = lane; call = c; reply = told }
 
   legal : is_kept told ≡ true → LegalEntry p j entry
   legal kept = record {
-    scripted = script_here p s j lane seat c st at all look may;
-    replied = reply_is p s j lane seat c st all
-        (seated p s j lane seat c st at) look (script_here p s j lane seat c st at all
-        look may);
+    scripted = script_here p s j lane seat c st at lawful all look may;
+    replied = turn_is p s j lane seat st lawful all (seated p s j lane seat c st at) c look
+        (script_here p s j lane seat c st at lawful all look may);
     kept = kept;
   }
 
   module _ (f g : slots.Facts) (kept : files.Stands p f j)
-      (h : Follows (made s lane seat c).plan c told f g) where
+      (h : Follows (turned s lane seat c).plan c told f g) where
     followed : Follows p c told f g
     followed = subst (λ (q : Plan). Follows q c told f g)
-        (plan_here p s j lane seat c st at all look may ∙ st.plan) h
+        (plan_here p s j lane seat c st at lawful all look may ∙ st.plan) h
+
+    legal_turn : (b : Bool) → is_kept told ≡ b → Legal p (cond b (entry ∷ j) j)
+    legal_turn true new = (lawful, legal new)
+    legal_turn false old = lawful
 
     files_turn : (b : Bool) → is_kept told ≡ b → files.Stands p g (cond b (entry ∷ j) j)
     files_turn true new = follows p f g j lane kept c told
-        (λ x is. ((at_entry p j st.legal all entry (legal new)).grants x is).ungranted) followed
+        (λ x is. ((at_entry p j lawful all entry (legal new)).grants x is).ungranted) followed
     files_turn false old = subst (λ (k : slots.Facts). files.Stands p k j)
         (sym (unkept_files p c told f g old followed)) kept
 
-    pub stands_turn : TablesStand p (noted_if_kept (made s lane seat c) lane c told) g
+    pub stands_turn : TablesStand p (noted_if_kept (turned s lane seat c) lane c told) g
         (after j lane c told)
     stands_turn = record {
-      tables = stands_here p s j lane seat c st at all look may;
+      legal = legal_turn (is_kept told) refl;
+      tables = stands_here p s j lane seat c st at lawful all look may;
       kept = files_turn (is_kept told) refl;
     }
 

@@ -14,11 +14,11 @@ use Rattle.core_tables.specs.Seats.{seat_at}
 use Rattle.core_tables.proofs.Seated.{seat_is}
 use Rattle.core_state.specs.declared.state.State.{State}
 use Rattle.core_laws.specs.Stands.{Stands}
-use Rattle.core_laws.proofs.Chosen.{lane_within}
+use Rattle.earliest_first.proofs.AtBerths.{lane_within}
 use Rattle.core_laws.proofs.Scripted.{script_is}
 
 module _ (p : Plan) (s : State) (j : List Entry) (lane : ℕ) (seat : Seat) (c : Call)
-    (st : Stands p s j) (at : seat_at s.plan (lane / 2) ≡ Some seat) where
+    (st : Stands p (berths p) s j) (at : seat_at s.plan (lane / 2) ≡ Some seat) where
   pub seated : seat_at p (lane / 2) ≡ Some seat
   seated = ap (λ (q : Plan). seat_at q (lane / 2)) (sym st.plan) ∙ at
 
@@ -46,11 +46,11 @@ module _ (p : Plan) (s : State) (j : List Entry) (lane : ℕ) (seat : Seat) (c :
       → allows_by p seat.kind s.lanes lane c ≡ script p j lane c)
       (λ yes _. let l = ltb-true lane (2 * berths p) yes in
       ap (λ k. allows_by p k s.lanes lane c) (kind_by (omega arith))
-      ∙ script_is p j s.lanes lane c (st.lanes lane))
+      ∙ script_is p (berths p) (kind_of p (lane / 2)) j s.lanes lane c (st.lanes lane))
       (λ _ h. outside h) refl
 
 -- a berth that isn't the plan's
-pub none_scripted : (p : Plan) (s : State) (j : List Entry) (lane : ℕ) (c : Call) → Stands p s j
+pub none_scripted : (p : Plan) (s : State) (j : List Entry) (lane : ℕ) (c : Call) → Stands p (berths p) s j
     → seat_at s.plan (lane / 2) ≡ None → script p j lane c ≡ false
 none_scripted p s j lane c st at =
     by_bool (script p j lane c) (λ b. script p j lane c ≡ b → b ≡ false)

@@ -7,7 +7,7 @@ use Rattle.exec_journal.specs.Entries.{is_kept}
 use Rattle.seat_desk.specs.History.{entry, calls_by}
 use Rattle.core_contract.specs.Moves.{History}
 use Rattle.history_laws.specs.Owed.{journal_of}
-use Rattle.history_laws.specs.Disciplines.{Discipline, IsDiscipline, own_discipline}
+use Rattle.core_contract.specs.Disciplines.{Discipline, IsDiscipline, own_discipline}
 use Rattle.history_laws.proofs.OfRules as laws
 use Rattle.history_laws.specs.Ruled.{answer_after, IsPaidAfter, owes_after, CameAbout}
 use Rattle.history_laws.proofs.OwnDiscipline.{own_is_discipline, legal_own}
@@ -27,7 +27,7 @@ own_of m = own (plan_of m)
 pub stands_legal : (m : Kept) (h : History) → StandsFor m h → CameAbout (own_of m) h
 stands_legal m h s = record {
   sound = s.both.tables.sound;
-  legal = legal_own (plan_of m) (journal_of h) s.both.tables.legal;
+  legal = legal_own (plan_of m) (journal_of h) s.both.legal;
 }
 
 pub paid_is_noted : (m : Kept) (h : History) (lane : ℕ) (c : Call) → StandsFor m h

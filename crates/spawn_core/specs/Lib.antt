@@ -1,4 +1,5 @@
 pub mod Stands
+pub mod Turns
 pub mod Answers
 pub mod Looks
 pub mod Orderly
@@ -6,4 +7,5 @@ pub mod Outlook
 pub mod Histories
 pub mod Laws
 pub mod Allowed
+pub mod Turning
 pub mod News

@@ -12,7 +12,7 @@ use Rattle.core_tables.specs.declared.seat.Seat.{Seat}
 use Rattle.core_tables.specs.Lanes.{allows_by, is_won}
 use Rattle.core_tables.specs.Seats.{seat_at}
 use Rattle.core_state.specs.declared.state.State.{State}
-use Rattle.core_state.specs.Choices.{chosen}
+use Rattle.earliest_first.specs.Choices.{chosen}
 use Rattle.core_state.specs.Machine.{carried_reply, take_reply, takeable}
 use Rattle.core_contract.specs.News.{question}
 

@@ -1,7 +1,9 @@
 -- When a core stands for a journal, whose newest entry stands first.
 use Rattle.std.specs.Prelude.{◌≡◌, ℕ, List}
 use Rattle.run_plan.specs.declared.plan.Plan.{Plan}
+use Rattle.run_plan.specs.Groups.{berths}
 use Rattle.exec_journal.specs.Entry.{Entry}
+use Rattle.exec_journal.specs.Legal.{Legal}
 use Rattle.journal_laws.specs.Paid.{owes}
 use Rattle.core_state.specs.declared.state.State.{State}
 use Rattle.core_laws.specs.Stands as tables
@@ -14,9 +16,11 @@ pub record Kept : Type 0 where
   pub files : slots.Facts
   pub owed : ℕ
 
--- the plan is its own and sound, the journal is legal, and each table stands for it
+-- the plan is its own and sound, the journal is legal, and each table stands for it, on the plan's
+-- own berths
 pub record TablesStand (p : Plan) (s : State) (f : slots.Facts) (j : List Entry) : Type 0 where
-  pub tables : tables.Stands p s j
+  pub tables : tables.Stands p (berths p) s j
+  pub legal : Legal p j
   pub kept : files.Stands p f j
 
 -- so do the tables of a core, and its count is what is owed
@@ -34,4 +38,5 @@ pub record HasHistory (c : Kept) : Type 0 where
 pub record HasJournal (s : State) : Type 0 where
   pub plan : Plan
   pub journal : List Entry
-  pub stands : tables.Stands plan s journal
+  pub stands : tables.Stands plan (berths plan) s journal
+  pub legal : Legal plan journal

@@ -28,7 +28,8 @@ pub fn all_berths(groups: &[Group]) -> u32
 /// lane that isn't the plan's owes none.
 pub fn lane_owes(state: &State, lane: u32) -> u64
     requires { HasJournal state.now }
-    ensures owes { (p : Plan) (j : List Entry) → Stands p state.now j → lane < 2 * berths p
+    ensures owes { (p : Plan) (j : List Entry) → Stands p (berths p) state.now j
+        → lane < 2 * berths p
         → result ≡ lane_owes j lane }
     ensures none { 2 * berths state.now.plan ≤ lane → result ≡ 0 }
 {

@@ -1,7 +1,6 @@
 // The core as its callers see it: it always stands for some journal.
-ghost use Rattle.std.specs.Prelude.{◌≡◌, ◌*◌, List, [], length, IfOk, false};
+ghost use Rattle.std.specs.Prelude.{◌≡◌, List, [], IfOk, false};
 ghost use Rattle.run_plan.specs.declared.plan.Plan.{Plan};
-ghost use Rattle.run_plan.specs.Groups.{berths, kind_of, is_remote};
 ghost use Rattle.run_plan.specs.Sound.{Sound};
 ghost use Rattle.exec_journal.specs.Entry.{Entry};
 ghost use Rattle.exec_journal.specs.declared.reply.Reply.TheVariants as reply;
@@ -9,8 +8,7 @@ ghost use Rattle.exec_journal.specs.Clean.{Clean};
 ghost use Rattle.exec_journal.specs.Legal.{after};
 ghost use Rattle.exec_journal.specs.Words.{halted};
 ghost use Rattle.journal_laws.specs.Finished.{Finished};
-ghost use Rattle.history_laws.specs.Owed.{outputs_in, makers_in};
-ghost use Rattle.history_laws.specs.Ruled.{answer_after, IsPaidAfter, owes_after, CameAbout};
+ghost use Rattle.history_laws.specs.Ruled.{terms_in, answer_after, IsPaidAfter, owes_after, CameAbout};
 ghost use Rattle.history_laws.proofs.OfRules as laws;
 ghost use Rattle.spawn_core.specs.Answers.{Replies, answer};
 ghost use Rattle.spawn_core.specs.Histories.{no_plan, plan_of, StandsFor};
@@ -25,12 +23,12 @@ use crate::lanes::{all_berths, lane_owes};
 use crate::outlook::{is_awaited, question};
 use crate::tables::{action_tables, lane_tables, line_tables};
 use crate::turn::step;
+use core_contract::Rules;
 use core_state::State;
 use core_tables::{Files, seat_of};
 use exec_journal::{Call, Plan, Reply};
 use plain_values::NoMemory;
 use run_progress::Notes;
-use core_contract::Rules;
 use std::alloc::Global;
 use std::marker::Model;
 
@@ -74,7 +72,7 @@ impl Core {
     {
         let berths = all_berths(plan.groups.as_slice()) as usize;
         let files = Files::new(alloc, &plan)?;
-        let (pool, requests, cancels) = line_tables(alloc, &plan)?;
+        let (pool, requests, cancels) = line_tables(alloc, &plan, berths)?;
         let (ready, race, attempts) = action_tables(alloc, &plan)?;
         let (lanes, last, greetings, matches) = lane_tables(alloc, berths)?;
         let state = State {
@@ -144,17 +142,7 @@ impl Rules for Core {
 
     ghost owes = { λ q. owes_after (own q) };
 
-    ghost seats = { berths };
-
-    ghost remote = { λ q w. is_remote (kind_of q w) };
-
-    ghost line_room = { λ q. 2 * length q.actions * q.limit };
-
-    ghost actions = { λ q. length q.actions };
-
-    ghost outputs = { outputs_in };
-
-    ghost makers = { makers_in };
+    ghost terms = { λ q. terms_in (own q) };
 
     ghost news = { λ m lane. has_news_by m.state lane };
 

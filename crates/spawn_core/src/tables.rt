@@ -23,13 +23,17 @@ use retry_rules::Attempts;
 use std::alloc::Global;
 use worker_pool::Pool;
 
-/// The tables of the workers' lines.
-pub fn line_tables(alloc: Global, plan: &Plan) -> Result<(Pool, Requests, Cancels), NoMemory>
+/// The tables of the workers' lines, which stand on so many berths.
+pub fn line_tables(
+    alloc: Global,
+    plan: &Plan,
+    berths: usize,
+) -> Result<(Pool, Requests, Cancels), NoMemory>
     requires { Sound plan.now }
-    ensures { IfOk result (λ t. pools.Stands plan.now t.0 []
+    ensures { IfOk result (λ t. pools.Stands plan.now berths t.0 []
         × requests.Stands plan.now t.1 [] × cancels.Stands plan.now t.2 []) }
 {
-    let pool = Pool::new(alloc, plan)?;
+    let pool = Pool::new(alloc, plan, berths)?;
     let requests = Requests::new(alloc, plan)?;
     let cancels = Cancels::new(alloc, plan)?;
     Ok((pool, requests, cancels))

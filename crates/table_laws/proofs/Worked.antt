@@ -3,6 +3,7 @@ use Rattle.std.specs.Prelude.{◌≡◌, refl, false, ℕ, List, [], ◌∷◌, 
 use Rattle.run_plan.specs.declared.plan.Branch.TheVariants.{Local, Remote}
 use Rattle.run_plan.specs.declared.plan.Kind.TheVariants as kind
 use Rattle.run_plan.specs.declared.plan.Plan.{Plan}
+use Rattle.run_plan.specs.Groups.{berths}
 use Rattle.exec_journal.specs.Entry.{Entry}
 use Rattle.exec_journal.specs.declared.call.Call.TheVariants as call
 use Rattle.exec_journal.specs.declared.call.Found.TheVariants as found
@@ -32,21 +33,21 @@ send f l = change (change f l one_more) l set_unbound
 unfoldable twice_facts : Facts
 unfolding twice.plan plan_of worker dynamic single remote
 twice_facts =
-    let f0 : Facts = with_launch (new_facts twice.plan) 0 in
+    let f0 : Facts = with_launch (new_facts twice.plan (berths twice.plan)) 0 kind.Single in
     let f1 : Facts = begin f0 0 in
     let f2 : Facts = send f1 0 in
     let f3 : Facts = change f2 0 one_fewer in
     let f4 : Facts = change f3 0 set_broken in
     let f5 : Facts = change f4 0 set_killed in
     let f6 : Facts = change f5 0 set_ended in
-    let f7 : Facts = with_launch f6 0 in
+    let f7 : Facts = with_launch f6 0 kind.Single in
     f7
 
 twice_stands : (slice_get twice_facts.lines 0 ≡ line_in twice.plan twice.twice 0)
     × (slice_get twice_facts.lines 1 ≡ line_in twice.plan twice.twice 1)
     × (slice_get twice_facts.lines 2 ≡ line_in twice.plan twice.twice 2)
-    × (slice_get twice_facts.seats 0 ≡ seat_in twice.plan twice.twice 0)
-    × (slice_get twice_facts.seats 1 ≡ seat_in twice.plan twice.twice 1)
+    × (slice_get twice_facts.seats 0 ≡ seat_in (berths twice.plan) twice.twice 0)
+    × (slice_get twice_facts.seats 1 ≡ seat_in (berths twice.plan) twice.twice 1)
     × (live_of twice_facts 0 ≡ live_in twice.twice 0) ×
     (free_of twice_facts 0 ≡ s.free_places twice.plan twice.twice kind.Single 0)
     × (free_of twice_facts 1 ≡ s.free_places twice.plan twice.twice kind.Single 1)
@@ -58,15 +59,15 @@ twice_stands = (refl, refl, refl, refl, refl, refl, refl, refl)
 unfoldable dies_facts : Facts
 unfolding dies.plan plan_of worker dynamic single remote
 dies_facts =
-    let f0 : Facts = with_launch (new_facts dies.plan) 0 in
+    let f0 : Facts = with_launch (new_facts dies.plan (berths dies.plan)) 0 kind.Single in
     let f1 : Facts = begin f0 0 in
-    let f2 : Facts = with_launch f1 1 in
+    let f2 : Facts = with_launch f1 1 kind.Remote in
     let f3 : Facts = begin f2 1 in
     let f4 : Facts = send f3 0 in
     let f5 : Facts = send f4 1 in
     let f6 : Facts = change f5 0 set_ended in
     let f7 : Facts = change f6 0 set_killed in
-    let f8 : Facts = with_launch f7 0 in
+    let f8 : Facts = with_launch f7 0 kind.Single in
     let f9 : Facts = begin f8 2 in
     let f10 : Facts = send f9 2 in
     let f11 : Facts = change f10 2 set_ended in
@@ -77,9 +78,9 @@ dies_stands : (slice_get dies_facts.lines 0 ≡ line_in dies.plan dies.dies_twic
     × (slice_get dies_facts.lines 1 ≡ line_in dies.plan dies.dies_twice 1)
     × (slice_get dies_facts.lines 2 ≡ line_in dies.plan dies.dies_twice 2)
     × (slice_get dies_facts.lines 3 ≡ line_in dies.plan dies.dies_twice 3)
-    × (slice_get dies_facts.seats 0 ≡ seat_in dies.plan dies.dies_twice 0)
-    × (slice_get dies_facts.seats 1 ≡ seat_in dies.plan dies.dies_twice 1)
-    × (slice_get dies_facts.seats 2 ≡ seat_in dies.plan dies.dies_twice 2)
+    × (slice_get dies_facts.seats 0 ≡ seat_in (berths dies.plan) dies.dies_twice 0)
+    × (slice_get dies_facts.seats 1 ≡ seat_in (berths dies.plan) dies.dies_twice 1)
+    × (slice_get dies_facts.seats 2 ≡ seat_in (berths dies.plan) dies.dies_twice 2)
     × (live_of dies_facts 0 ≡ live_in dies.dies_twice 0)
     × (live_of dies_facts 1 ≡ live_in dies.dies_twice 1)
     × (free_of dies_facts 0 ≡ s.free_places dies.plan dies.dies_twice kind.Single 0)
@@ -164,18 +165,18 @@ granted_legal = (
 unfoldable early_facts : Facts
 unfolding plan plan_of worker dynamic single remote
 early_facts =
-    let f0 : Facts = with_launch (new_facts plan) 0 in
+    let f0 : Facts = with_launch (new_facts plan (berths plan)) 0 kind.Single in
     let f1 : Facts = begin f0 0 in
     let f2 : Facts = send f1 0 in
-    let f3 : Facts = with_launch f2 1 in
+    let f3 : Facts = with_launch f2 1 kind.Remote in
     f3
 
 early_stands : (slice_get early_facts.lines 0 ≡ line_in plan early 0)
     × (slice_get early_facts.lines 1 ≡ line_in plan early 1)
     × (slice_get early_facts.lines 2 ≡ line_in plan early 2)
-    × (slice_get early_facts.seats 0 ≡ seat_in plan early 0)
-    × (slice_get early_facts.seats 1 ≡ seat_in plan early 1)
-    × (slice_get early_facts.seats 2 ≡ seat_in plan early 2)
+    × (slice_get early_facts.seats 0 ≡ seat_in (berths plan) early 0)
+    × (slice_get early_facts.seats 1 ≡ seat_in (berths plan) early 1)
+    × (slice_get early_facts.seats 2 ≡ seat_in (berths plan) early 2)
     × (live_of early_facts 0 ≡ live_in early 0) × (live_of early_facts 1 ≡ live_in early 1)
     × (free_of early_facts 0 ≡ s.free_places plan early kind.Single 0)
     × (free_of early_facts 1 ≡ s.free_places plan early kind.Remote 1)
@@ -185,10 +186,10 @@ early_stands = (refl, refl, refl, refl, refl, refl, refl, refl, refl, refl)
 unfoldable granted_facts : Facts
 unfolding plan plan_of worker dynamic single remote
 granted_facts =
-    let f0 : Facts = with_launch (new_facts plan) 0 in
+    let f0 : Facts = with_launch (new_facts plan (berths plan)) 0 kind.Single in
     let f1 : Facts = begin f0 0 in
     let f2 : Facts = send f1 0 in
-    let f3 : Facts = with_launch f2 1 in
+    let f3 : Facts = with_launch f2 1 kind.Remote in
     let f4 : Facts = change f3 0 one_fewer in
     let f5 : Facts = change f4 1 set_unbound in
     let f6 : Facts = begin f5 1 in
@@ -197,9 +198,9 @@ granted_facts =
 granted_stands : (slice_get granted_facts.lines 0 ≡ line_in plan granted 0)
     × (slice_get granted_facts.lines 1 ≡ line_in plan granted 1)
     × (slice_get granted_facts.lines 2 ≡ line_in plan granted 2)
-    × (slice_get granted_facts.seats 0 ≡ seat_in plan granted 0)
-    × (slice_get granted_facts.seats 1 ≡ seat_in plan granted 1)
-    × (slice_get granted_facts.seats 2 ≡ seat_in plan granted 2)
+    × (slice_get granted_facts.seats 0 ≡ seat_in (berths plan) granted 0)
+    × (slice_get granted_facts.seats 1 ≡ seat_in (berths plan) granted 1)
+    × (slice_get granted_facts.seats 2 ≡ seat_in (berths plan) granted 2)
     × (live_of granted_facts 0 ≡ live_in granted 0) × (live_of granted_facts 1 ≡ live_in granted 1)
     × (free_of granted_facts 0 ≡ s.free_places plan granted kind.Single 0)
     × (free_of granted_facts 1 ≡ s.free_places plan granted kind.Remote 1)

@@ -168,7 +168,8 @@ pub fn pool_facts()
         → Lawful p (e ∷ j) → e.call ≡ call.Launched l how → is_done how ≡ false
         → pool.AreFaulted p j e (l ∷ []) }
     ensures grants { (p : Plan) (j : List Entry) (a : ℕ) → Lawful p j
-        → ((l w : ℕ) → IsOfBerth j l w → w < berths p) → pool.AreOfAction p j a (lines_bound_for p j a) }
+        → ((l w : ℕ) → IsOfBerth j l w → w < berths p)
+        → pool.AreOfAction p j a (lines_bound_for p j a) }
 {}
 
 /// What the table of requests asks for.

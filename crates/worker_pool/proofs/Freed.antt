@@ -106,7 +106,7 @@ regroup : (x a w h : Bool) → (not (x || a) && (not w && not h)) ≡ (not x && 
 regroup true a w h = refl
 regroup false a w h = refl
 
-module _ (p : Plan) (f : Facts) (j : List Entry) (lane l : ℕ) (a : Answer) (x : Reply) (t : Attempt) (s : Stands p f j) (consumed : consumed_in x ≡ Some t) where
+module _ (p : Plan) (seats : ℕ) (f : Facts) (j : List Entry) (lane l : ℕ) (a : Answer) (x : Reply) (t : Attempt) (s : Stands p seats f j) (consumed : consumed_in x ≡ Some t) where
   abbrev pub answer_entry : Entry
   answer_entry = record { lane = lane; call = call.Answer l a; reply = x }
 
@@ -145,12 +145,12 @@ module _ (p : Plan) (f : Facts) (j : List Entry) (lane l : ℕ) (a : Answer) (x 
   unfolding line_cause
   answer_cause m = rw (consumed_break j (order_of j lane) m l a x t consumed) refl
 
-  pub answers_kept : IsPendingOn j t l → Stands p (change f l one_fewer) (answer_entry ∷ j)
+  pub answers_kept : IsPendingOn j t l → Stands p seats (change f l one_fewer) (answer_entry ∷ j)
   unfolding started has_ended was_killed
   answers_kept on =
-      one_changes p f j answer_entry s (consumed_launch x t consumed) l one_fewer (λ m.
+      one_changes p seats f j answer_entry s (consumed_launch x t consumed) l one_fewer (λ m.
       fewer_row p (l == m) (launch_of j m) _ _ _ _ _ _
-      ∙ row_by p f j answer_entry s (consumed_launch x t consumed) m _ _ _ _ _ _ refl (sym (ap is_some (answer_cause m))) refl refl
+      ∙ row_by p seats f j answer_entry s (consumed_launch x t consumed) m _ _ _ _ _ _ refl (sym (ap is_some (answer_cause m))) refl refl
       (unended p j answer_entry (unbinds_nothing p answer_entry j (consumed_launch x t consumed) (consumed_send x t consumed) answer_actions) m)
       (fewer_pending answer_entry j t (consumed_send x t consumed) answer_pending l on m))
 
@@ -162,7 +162,7 @@ unwritten_cause_of j write.FeedFault q h = absurd (cc)
 unwritten_cause_of j write.RoomFault q h = refl
 unwritten_cause_of j write.TooLarge q h = refl
 
-module _ (p : Plan) (f : Facts) (j : List Entry) (lane k : ℕ) (n : ℤ) (how : Written) (q : Request) (s : Stands p f j) (faulty : is_unwritten how ≡ true) (order : order_of j lane ≡ Some q)
+module _ (p : Plan) (seats : ℕ) (f : Facts) (j : List Entry) (lane k : ℕ) (n : ℤ) (how : Written) (q : Request) (s : Stands p seats f j) (faulty : is_unwritten how ≡ true) (order : order_of j lane ≡ Some q)
     (u : Unbinds p j (record { lane = lane; call = call.Wrote k n how; reply = reply.Noted }) []) where
   abbrev pub write_entry : Entry
   write_entry = record { lane = lane; call = call.Wrote k n how; reply = reply.Noted }
@@ -200,26 +200,26 @@ module _ (p : Plan) (f : Facts) (j : List Entry) (lane k : ℕ) (n : ℤ) (how :
   unbroken : answered j q.attempt ≡ false → (l : ℕ) → line_cause (write_entry ∷ j) l ≡ line_cause j l
   unbroken unanswered l = now_broke l ∙ ap (λ b. unless_before (if_line k l (cond b (Some cause.Breach) None)) (line_cause j l)) unanswered ∙ ap (λ (o : Option Cause). unless_before o (line_cause j l)) (none_both (k == l))
 
-  pub late_faults_kept : answered j q.attempt ≡ true → Stands p (change f k set_broken) (write_entry ∷ j)
+  pub late_faults_kept : answered j q.attempt ≡ true → Stands p seats (change f k set_broken) (write_entry ∷ j)
   unfolding started has_ended was_killed pending
   late_faults_kept is_answered =
-      one_changes p f j write_entry s refl k set_broken (λ l.
+      one_changes p seats f j write_entry s refl k set_broken (λ l.
       broken_row p (k == l) (launch_of j l) _ _ _ _ _ _
-      ∙ row_by p f j write_entry s refl l _ _ _ _ _ _ refl
+      ∙ row_by p seats f j write_entry s refl l _ _ _ _ _ _ refl
       (sym (ap is_some (now_broke l ∙ ap (λ b. unless_before (if_line k l (cond b (Some cause.Breach) None)) (line_cause j l)) is_answered) ∙ broken_if (k == l) cause.Breach (line_cause j l))) refl refl
       (unended p j write_entry u l) (sym (ap length (pending_same write_entry j refl (was_answered is_answered) l))))
 
-  pub faults_kept : answered j q.attempt ≡ false → wrote j q.attempt ≡ None → (l : ℕ) → IsPendingOn j q.attempt l → Stands p (change f l one_fewer) (write_entry ∷ j)
+  pub faults_kept : answered j q.attempt ≡ false → wrote j q.attempt ≡ None → (l : ℕ) → IsPendingOn j q.attempt l → Stands p seats (change f l one_fewer) (write_entry ∷ j)
   unfolding started has_ended was_killed
   faults_kept unanswered first l on =
-      one_changes p f j write_entry s refl l one_fewer (λ m.
+      one_changes p seats f j write_entry s refl l one_fewer (λ m.
       fewer_row p (l == m) (launch_of j m) _ _ _ _ _ _
-      ∙ row_by p f j write_entry s refl m _ _ _ _ _ _ refl (sym (ap is_some (unbroken unanswered m))) refl refl
+      ∙ row_by p seats f j write_entry s refl m _ _ _ _ _ _ refl (sym (ap is_some (unbroken unanswered m))) refl refl
       (unended p j write_entry u m) (fewer_pending write_entry j q.attempt refl (now_unwritten first) l on m))
 
-  pub gone_faults_kept : answered j q.attempt ≡ false → wrote j q.attempt ≡ None → IsPendingNowhere j q.attempt → Stands p f (write_entry ∷ j)
+  pub gone_faults_kept : answered j q.attempt ≡ false → wrote j q.attempt ≡ None → IsPendingNowhere j q.attempt → Stands p seats f (write_entry ∷ j)
   unfolding started has_ended was_killed
   gone_faults_kept unanswered first nowhere =
-      none_changes p f j write_entry s refl (λ m.
-      row_by p f j write_entry s refl m _ _ _ _ _ _ refl (sym (ap is_some (unbroken unanswered m))) refl refl
+      none_changes p seats f j write_entry s refl (λ m.
+      row_by p seats f j write_entry s refl m _ _ _ _ _ _ refl (sym (ap is_some (unbroken unanswered m))) refl refl
       (unended p j write_entry u m) (as_pending write_entry j q.attempt refl (now_unwritten first) nowhere m))

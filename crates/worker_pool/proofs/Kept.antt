@@ -86,20 +86,20 @@ unbound_get p f (k ∷ ks) l o s b e d u n h =
 
 -- ---- a table that stands for a journal, and its next entry, which launches nothing
 
-module _ (p : Plan) (f : Facts) (j : List Entry) (e : Entry) (s : Stands p f j) (plain : launch_in e.reply ≡ None) where
+module _ (p : Plan) (seats : ℕ) (f : Facts) (j : List Entry) (e : Entry) (s : Stands p seats f j) (plain : launch_in e.reply ≡ None) where
   abbrev pub row_before : ℕ → Option LineRow
   row_before l = row_of p (launch_of j l) (started j l) (broke j l) (has_ended j l) (was_killed j l) (is_some (bound p j l)) (length (pending j l))
 
   abbrev pub row_after : ℕ → Option LineRow
   row_after l = row_of p (launch_of j l) (started (e ∷ j) l) (broke (e ∷ j) l) (has_ended (e ∷ j) l) (was_killed (e ∷ j) l) (is_some (bound p (e ∷ j) l)) (length (pending (e ∷ j) l))
 
-  stands_after : (g : Facts) → g.room ≡ f.room → g.seats ≡ f.seats → length g.lines ≡ length f.lines → ((l : ℕ) → slice_get g.lines l ≡ row_after l) → Stands p g (e ∷ j)
+  stands_after : (g : Facts) → g.room ≡ f.room → g.seats ≡ f.seats → length g.lines ≡ length f.lines → ((l : ℕ) → slice_get g.lines l ≡ row_after l) → Stands p seats g (e ∷ j)
   unfolding line_in seat_in
-  stands_after g room seats count rows = record {
+  stands_after g room same count rows = record {
     room = room ∙ s.room;
     count = count ∙ s.count ∙ sym (count_same e j plain);
     each_line = λ l. rows l ∙ ap (λ (o : Option (ℕ × Attempt)). row_of p o (started (e ∷ j) l) (broke (e ∷ j) l) (has_ended (e ∷ j) l) (was_killed (e ∷ j) l) (is_some (bound p (e ∷ j) l)) (length (pending (e ∷ j) l))) (sym (launch_same e j plain l));
-    each_seat = λ w. ap (λ xs. slice_get xs w) seats ∙ s.each_seat w ∙ ap (seat_with p w) (sym (last_same e j plain w));
+    each_seat = λ w. ap (λ xs. slice_get xs w) same ∙ s.each_seat w ∙ ap (seat_with seats w) (sym (last_same e j plain w));
   }
 
   row_is : (l : ℕ) → slice_get f.lines l ≡ row_before l
@@ -110,21 +110,21 @@ module _ (p : Plan) (f : Facts) (j : List Entry) (e : Entry) (s : Stands p f j) 
   row_changed g k l = get_update g f.lines k l ∙ ap (λ (o : Option LineRow). cond (k == l) (option_map g o) o) (row_is l)
 
   -- one line changes
-  pub one_changes : (k : ℕ) (g : LineRow → LineRow) → ((l : ℕ) → cond (k == l) (option_map g (row_before l)) (row_before l) ≡ row_after l) → Stands p (change f k g) (e ∷ j)
+  pub one_changes : (k : ℕ) (g : LineRow → LineRow) → ((l : ℕ) → cond (k == l) (option_map g (row_before l)) (row_before l) ≡ row_after l) → Stands p seats (change f k g) (e ∷ j)
   one_changes k g h = stands_after (change f k g) refl refl (length-update g f.lines k) (λ l. row_changed g k l ∙ h l)
 
   -- none does
-  pub none_changes : ((l : ℕ) → row_before l ≡ row_after l) → Stands p f (e ∷ j)
+  pub none_changes : ((l : ℕ) → row_before l ≡ row_after l) → Stands p seats f (e ∷ j)
   none_changes h = stands_after f refl refl refl (λ l. row_is l ∙ h l)
 
   -- and changes again
   pub twice_changes : (k : ℕ) (g h : LineRow → LineRow) → ((l : ℕ) → cond (k == l) (option_map h (cond (k == l) (option_map g (row_before l)) (row_before l))) (cond (k == l) (option_map g (row_before l)) (row_before l)) ≡ row_after l)
-      → Stands p (change (change f k g) k h) (e ∷ j)
+      → Stands p seats (change (change f k g) k h) (e ∷ j)
   twice_changes k g h same =
       stands_after (change (change f k g) k h) refl refl (length-update h (update g f.lines k) k ∙ length-update g f.lines k)
       (λ l. get_update h (update g f.lines k) k l ∙ ap (λ (o : Option LineRow). cond (k == l) (option_map h o) o) (row_changed g k l) ∙ same l)
 
-  pub only_unbinds : (ls : List ℕ) → ((l : ℕ) → row_of p (launch_of j l) (started j l) (broke j l) (has_ended j l) (was_killed j l) (not (is_among l ls) && is_some (bound p j l)) (length (pending j l)) ≡ row_after l) → Stands p (with_unbound f ls) (e ∷ j)
+  pub only_unbinds : (ls : List ℕ) → ((l : ℕ) → row_of p (launch_of j l) (started j l) (broke j l) (has_ended j l) (was_killed j l) (not (is_among l ls) && is_some (bound p j l)) (length (pending j l)) ≡ row_after l) → Stands p seats (with_unbound f ls) (e ∷ j)
   only_unbinds ls h =
       stands_after (with_unbound f ls) (unbound_room f ls) (unbound_seats f ls) (unbound_count f ls)
       (λ l. unbound_get p f ls l (launch_of j l) (started j l) (broke j l) (has_ended j l) (was_killed j l) (is_some (bound p j l)) (length (pending j l)) (row_is l) ∙ h l)
@@ -136,13 +136,13 @@ module _ (p : Plan) (f : Facts) (j : List Entry) (e : Entry) (s : Stands p f j) 
 
 -- ---- entries that say nothing of lines and requests
 
-module _ (p : Plan) (f : Facts) (j : List Entry) (e : Entry) (s : Stands p f j) (aside : is_aside e ≡ true) where
-  pub aside_kept : (ls : List ℕ) → Unbinds p j e ls → Stands p (with_unbound f ls) (e ∷ j)
+module _ (p : Plan) (seats : ℕ) (f : Facts) (j : List Entry) (e : Entry) (s : Stands p seats f j) (aside : is_aside e ≡ true) where
+  pub aside_kept : (ls : List ℕ) → Unbinds p j e ls → Stands p seats (with_unbound f ls) (e ∷ j)
   aside_kept ls u =
-      only_unbinds p f j e s (aside_launch e.reply (by_reply e j aside)) ls (λ l.
-      row_by p f j e s (aside_launch e.reply (by_reply e j aside)) l _ _ _ _ _ _
+      only_unbinds p seats f j e s (aside_launch e.reply (by_reply e j aside)) ls (λ l.
+      row_by p seats f j e s (aside_launch e.reply (by_reply e j aside)) l _ _ _ _ _ _
       (sym (aside_started e j aside l)) (sym (ap is_some (aside_cause e j aside l))) (sym (aside_ended e j aside l)) (sym (aside_killed e j aside l))
       (sym (u.each l)) (sym (ap length (aside_pending e j aside l))))
 
-  pub quiet_kept : ends_nothing e.call ≡ true → Stands p f (e ∷ j)
+  pub quiet_kept : ends_nothing e.call ≡ true → Stands p seats f (e ∷ j)
   quiet_kept nothing = aside_kept [] (aside_unbinds e j aside p (quiet_actions e j aside nothing))

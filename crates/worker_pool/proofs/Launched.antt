@@ -1,7 +1,7 @@
 -- What is kept of a new line.
-use Rattle.std.proofs.Common.{◌≡◌, ℕ, zero, suc, ◌+◌, ◌/◌, ◌<◌, ◌==◌, eqb, nat_lt, Bool, true, false, ◌&&◌, not, cond, List, [], ◌∷◌, ◌++◌, length, Option, Some, None, is_some, option_map, unwrap_or, refl, ap, sym, subst, ◌∙◌, add-one, length-append, arith}
+use Rattle.std.proofs.Common.{◌≡◌, ℕ, zero, suc, ◌+◌, ◌/◌, ◌==◌, eqb, nat_lt, Bool, true, false, ◌&&◌, not, cond, List, [], ◌∷◌, ◌++◌, length, Option, Some, None, is_some, option_map, refl, ap, sym, subst, ◌∙◌, add-one, length-append, arith}
 use Rattle.std.specs.Prelude.{slice_get}
-use Rattle.std.proofs.lemmas.Bool.{ne_eqb, eqb-true, lt-ltb, or_parts}
+use Rattle.std.proofs.lemmas.Bool.{ne_eqb, eqb-true, or_parts}
 use Prim.Native.Nat.compare
 use Rattle.run_plan.specs.declared.plan.Plan.{Plan}
 use Rattle.exec_journal.specs.declared.attempt.Attempt.{Attempt}
@@ -15,14 +15,14 @@ use Rattle.exec_journal.specs.Entries.{same_attempt, is_for, send_in}
 use Rattle.exec_journal.specs.Words.{line_count, launch_of, last_line, started, broke, has_ended, was_killed, sends, was_sent, answered, wrote, is_pending, pending, line_cause}
 use Rattle.exec_journal.specs.Attempts.{begun_in, carrier_in, line_of, fault_of, lost_cause, over}
 use Rattle.exec_journal.specs.Settled.{still_bound, if_bound, bound}
-use Rattle.run_plan.specs.Groups.{berths, kind_of, capacity}
+use Rattle.exec_journal.specs.Seated.{kind_for}
+use Rattle.run_plan.specs.Groups.{capacity}
 use Rattle.exec_journal.specs.Facts.{SameActions, IsFresh, begun}
 use Rattle.exec_journal.proofs.Begins.{same_attempt_eq}
 use Rattle.exec_journal.proofs.Quiet.{ended_same, wanted_same}
 use Rattle.list_lemmas.proofs.Updates.{get_update}
-use Rattle.worker_pool.specs.declared.BerthRow.{BerthRow}
 use Rattle.worker_pool.specs.declared.LineRow.{LineRow}
-use Rattle.worker_pool.specs.Rows.{Facts, new_line, set_last, seat_capacity, with_launch}
+use Rattle.worker_pool.specs.Rows.{Facts, new_line, set_last, with_launch}
 use Rattle.worker_pool.specs.Stands.{Stands, row_of, line_in, seat_in}
 use Rattle.worker_pool.specs.Entries.{IsNew}
 use Rattle.worker_pool.proofs.Words.{same_actions, granted_same}
@@ -58,7 +58,7 @@ never_carried (e ∷ j) t h =
     let parts = or_parts (is_for t (begun_in e.reply)) (begun j t) h in
     rw (uncarried e.reply t parts.0) (never_carried j t parts.1)
 
-module _ (p : Plan) (f : Facts) (j : List Entry) (lane : ℕ) (t : Attempt) (s : Stands p f j) (free : IsFresh j (line_count j)) (new : IsNew p j t) (seated : lane / 2 < berths p) where
+module _ (p : Plan) (seats : ℕ) (f : Facts) (j : List Entry) (lane : ℕ) (t : Attempt) (s : Stands p seats f j) (free : IsFresh j (line_count j)) (new : IsNew p j t) where
   abbrev pub launch_entry : Entry
   launch_entry = record { lane = lane; call = call.Ask; reply = reply.Launch (line_count j) t.action t.branch t.number }
 
@@ -99,18 +99,12 @@ module _ (p : Plan) (f : Facts) (j : List Entry) (lane : ℕ) (t : Attempt) (s :
 
   -- ---- the new line's row
 
-  seat_is : seat_capacity f (lane / 2) ≡ capacity (kind_of p (lane / 2))
-  unfolding seat_in
-  seat_is =
-      let within : nat_lt (lane / 2) (berths p) ≡ true = lt-ltb (lane / 2) (berths p) seated in
-      ap (λ (o : Option BerthRow). unwrap_or (option_map (λ x. x.capacity) o) 0) (s.each_seat (lane / 2) ∙ ap (λ b. cond b (Some (record { capacity = capacity (kind_of p (lane / 2)); last = last_line j (lane / 2) })) None) within)
-
   abbrev row_now : ℕ → Bool → Option LineRow
   row_now l b =
       row_of p (or_else (cond b (Some (lane, t)) None) (launch_of j l)) (started j l) (broke j l) (has_ended j l) (was_killed j l)
       (is_some (if_bound p (launch_entry ∷ j) (or_else (cond b (Some (lane, t)) None) (launch_of j l)))) (length (pending j l))
 
-  line_now : (l : ℕ) (b : Bool) → (line_count j == l) ≡ b → cond b (Some (new_line (capacity (kind_of p (lane / 2))))) (line_in p j l) ≡ row_now l b
+  line_now : (l : ℕ) (b : Bool) → (line_count j == l) ≡ b → cond b (Some (new_line (capacity (kind_for p t)))) (line_in p j l) ≡ row_now l b
   unfolding line_in pending bound
   line_now l true h =
       let e : line_count j ≡ l = eqb-true (line_count j) l h in
@@ -120,23 +114,23 @@ module _ (p : Plan) (f : Facts) (j : List Entry) (lane : ℕ) (t : Attempt) (s :
 
   -- ---- the berth's row
 
-  seat_now : (w : ℕ) (b known : Bool) (c : ℕ) (o : Option ℕ) → cond b (option_map (set_last (line_count j)) (cond known (Some (record { capacity = c; last = o })) None)) (cond known (Some (record { capacity = c; last = o })) None)
-      ≡ cond known (Some (record { capacity = c; last = or_else (cond b (Some (line_count j)) None) o })) None
-  seat_now w true true c o = refl
-  seat_now w true false c o = refl
-  seat_now w false known c o = refl
+  seat_now : (b known : Bool) (o : Option ℕ) → cond b (option_map (set_last (line_count j)) (cond known (Some o) None)) (cond known (Some o) None)
+      ≡ cond known (Some (or_else (cond b (Some (line_count j)) None) o)) None
+  seat_now true true o = refl
+  seat_now true false o = refl
+  seat_now false known o = refl
 
-  pub launches_kept : Stands p (with_launch f (lane / 2)) (launch_entry ∷ j)
+  pub launches_kept : Stands p seats (with_launch f (lane / 2) (kind_for p t)) (launch_entry ∷ j)
   unfolding line_in seat_in line_count launch_of last_line started has_ended was_killed line_cause pending sends is_pending answered wrote bound
   launches_kept = record {
     room = s.room;
     count = length-append f.lines _ ∙ ap (λ n. n + 1) s.count ∙ add-one (line_count j);
     each_line = λ l.
-        get_push f.lines (new_line (seat_capacity f (lane / 2))) l
-        ∙ (λ i. cond (s.count i == l) (Some (new_line (seat_is i))) (s.each_line l i))
+        get_push f.lines (new_line (capacity (kind_for p t))) l
+        ∙ (λ i. cond (s.count i == l) (Some (new_line (capacity (kind_for p t)))) (s.each_line l i))
         ∙ line_now l (line_count j == l) refl;
     each_seat = λ w.
         get_update (set_last (length f.lines)) f.seats (lane / 2) w
         ∙ (λ i. cond (lane / 2 == w) (option_map (set_last (s.count i)) (s.each_seat w i)) (s.each_seat w i))
-        ∙ seat_now w (lane / 2 == w) (nat_lt w (berths p)) (capacity (kind_of p w)) (last_line j w);
+        ∙ seat_now (lane / 2 == w) (nat_lt w seats) (last_line j w);
   }

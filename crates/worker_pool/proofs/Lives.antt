@@ -65,7 +65,7 @@ first_stays (Some x) (Some y) h = refl
 pub unended : (p : Plan) (j : List Entry) (e : Entry) → Unbinds p j e [] → (l : ℕ) → is_some (bound p j l) ≡ is_some (bound p (e ∷ j) l)
 unended p j e u l = sym (u.each l)
 
-module _ (p : Plan) (f : Facts) (j : List Entry) (lane k : ℕ) (s : Stands p f j) where
+module _ (p : Plan) (seats : ℕ) (f : Facts) (j : List Entry) (lane k : ℕ) (s : Stands p seats f j) where
   -- ---- it starts
 
   abbrev pub start_entry : Entry
@@ -78,12 +78,12 @@ module _ (p : Plan) (f : Facts) (j : List Entry) (lane k : ℕ) (s : Stands p f 
       (λ t. ended_same start_entry j t (over_same start_entry j t (none_both _) refl (λ l. refl) refl refl (λ l h. refl)) (granted_same start_entry j t.action refl))
       refl (λ a b. refl)
 
-  pub starts_kept : Stands p (change f k set_started) (start_entry ∷ j)
+  pub starts_kept : Stands p seats (change f k set_started) (start_entry ∷ j)
   unfolding started has_ended was_killed line_cause pending sends is_pending answered wrote
   starts_kept =
-      one_changes p f j start_entry s refl k set_started (λ l.
+      one_changes p seats f j start_entry s refl k set_started (λ l.
       started_row p (k == l) (launch_of j l) _ _ _ _ _ _
-      ∙ row_by p f j start_entry s refl l _ _ _ _ _ _ refl refl refl refl (unended p j start_entry (unbinds_nothing p start_entry j refl refl start_actions) l) refl)
+      ∙ row_by p seats f j start_entry s refl l _ _ _ _ _ _ refl refl refl refl (unended p j start_entry (unbinds_nothing p start_entry j refl refl start_actions) l) refl)
 
   -- ---- it is killed
 
@@ -97,12 +97,12 @@ module _ (p : Plan) (f : Facts) (j : List Entry) (lane k : ℕ) (s : Stands p f 
       (λ t. ended_same kill_entry j t (over_same kill_entry j t refl refl (λ l. refl) refl refl (λ l h. refl)) (granted_same kill_entry j t.action refl))
       refl (λ a b. refl)
 
-  pub kills_kept : Stands p (change f k set_killed) (kill_entry ∷ j)
+  pub kills_kept : Stands p seats (change f k set_killed) (kill_entry ∷ j)
   unfolding started has_ended was_killed line_cause pending sends is_pending answered wrote
   kills_kept =
-      one_changes p f j kill_entry s refl k set_killed (λ l.
+      one_changes p seats f j kill_entry s refl k set_killed (λ l.
       killed_row p (k == l) (launch_of j l) _ _ _ _ _ _
-      ∙ row_by p f j kill_entry s refl l _ _ _ _ _ _ refl refl refl refl (unended p j kill_entry (unbinds_nothing p kill_entry j refl refl kill_actions) l) refl)
+      ∙ row_by p seats f j kill_entry s refl l _ _ _ _ _ _ refl refl refl refl (unended p j kill_entry (unbinds_nothing p kill_entry j refl refl kill_actions) l) refl)
 
   -- ---- it breaks, by a write
 
@@ -122,12 +122,12 @@ module _ (p : Plan) (f : Facts) (j : List Entry) (lane k : ℕ) (s : Stands p f 
     unfolding has_ended answered wrote
     feed_pending = pending_same feed_entry j refl (λ q. is_pending_same feed_entry j q refl (unwritten_same (wrote_at q.attempt j feed_entry) (wrote j q.attempt) (written_by q.attempt (order_of j lane))) refl)
 
-    pub feed_kept : Stands p (change f k set_broken) (feed_entry ∷ j)
+    pub feed_kept : Stands p seats (change f k set_broken) (feed_entry ∷ j)
     unfolding started has_ended was_killed line_cause
     feed_kept =
-        one_changes p f j feed_entry s refl k set_broken (λ l.
+        one_changes p seats f j feed_entry s refl k set_broken (λ l.
         broken_row p (k == l) (launch_of j l) _ _ _ _ _ _
-        ∙ row_by p f j feed_entry s refl l _ _ _ _ _ _ refl (sym (broken_if (k == l) cause.Feed (line_cause j l))) refl refl (unended p j feed_entry u l) (sym (ap length (feed_pending l))))
+        ∙ row_by p seats f j feed_entry s refl l _ _ _ _ _ _ refl (sym (broken_if (k == l) cause.Feed (line_cause j l))) refl refl (unended p j feed_entry u l) (sym (ap length (feed_pending l))))
 
   -- ---- it ends
 
@@ -162,12 +162,12 @@ module _ (p : Plan) (f : Facts) (j : List Entry) (lane k : ℕ) (s : Stands p f 
     one_line true v = refl
     one_line false v = refl
 
-    pub ends_kept : Stands p (change f k set_ended) (end_entry ∷ j)
+    pub ends_kept : Stands p seats (change f k set_ended) (end_entry ∷ j)
     unfolding started has_ended was_killed line_cause
     ends_kept =
-        one_changes p f j end_entry s refl k set_ended (λ l.
+        one_changes p seats f j end_entry s refl k set_ended (λ l.
         ended_row p (k == l) (launch_of j l) _ _ _ _ _ _
-        ∙ row_by p f j end_entry s refl l _ _ _ _ _ _ refl (sym (broken_if (k == l) (end_cause how) (line_cause j l))) refl refl
+        ∙ row_by p seats f j end_entry s refl l _ _ _ _ _ _ refl (sym (broken_if (k == l) (end_cause how) (line_cause j l))) refl refl
         (sym (u.each l ∙ one_line (k == l) _)) (sym (end_pending l)))
 
   -- ---- it breaks, by an answer
@@ -183,9 +183,9 @@ module _ (p : Plan) (f : Facts) (j : List Entry) (lane k : ℕ) (s : Stands p f 
         (λ t. ended_same breach_entry j t (over_same breach_entry j t refl refl (λ l. refl) refl refl (λ l h. first_stays (break_at l j breach_entry) (line_cause j l) (ended_broke j l h))) (granted_same breach_entry j t.action refl))
         refl (λ c b. refl)
 
-    pub breaches_kept : Stands p (change f k set_broken) (breach_entry ∷ j)
+    pub breaches_kept : Stands p seats (change f k set_broken) (breach_entry ∷ j)
     unfolding started has_ended was_killed line_cause pending sends is_pending answered wrote
     breaches_kept =
-        one_changes p f j breach_entry s refl k set_broken (λ l.
+        one_changes p seats f j breach_entry s refl k set_broken (λ l.
         broken_row p (k == l) (launch_of j l) _ _ _ _ _ _
-        ∙ row_by p f j breach_entry s refl l _ _ _ _ _ _ refl (sym (broken_if (k == l) cause.Breach (line_cause j l))) refl refl (unended p j breach_entry (unbinds_nothing p breach_entry j refl refl breach_actions) l) refl)
+        ∙ row_by p seats f j breach_entry s refl l _ _ _ _ _ _ refl (sym (broken_if (k == l) cause.Breach (line_cause j l))) refl refl (unended p j breach_entry (unbinds_nothing p breach_entry j refl refl breach_actions) l) refl)

@@ -40,7 +40,7 @@ unwritten (e ∷ j) t h =
     let before = (or_parts (is_for t (option_map (λ q. q.attempt) (send_in e.reply))) (was_sent j t) h).1 in
     rw (unsent_write t e.call (order_of j e.lane) (another j e.lane t (order_of j e.lane) refl before)) (unwritten j t before)
 
-module _ (p : Plan) (f : Facts) (j : List Entry) (lane l : ℕ) (n : ℤ) (t : Attempt) (s : Stands p f j) (to : IsSentTo j t l) where
+module _ (p : Plan) (seats : ℕ) (f : Facts) (j : List Entry) (lane l : ℕ) (n : ℤ) (t : Attempt) (s : Stands p seats f j) (to : IsSentTo j t l) where
   abbrev pub send_entry : Entry
   send_entry = record { lane = lane; call = call.Ask; reply = reply.Send l n t.action t.branch t.number }
 
@@ -144,16 +144,16 @@ module _ (p : Plan) (f : Facts) (j : List Entry) (lane l : ℕ) (n : ℤ) (t : A
   twice_row true (Some x) st br en ki bo k = refl
   twice_row false o st br en ki bo k = refl
 
-  pub bound_sends_kept : bound p j l ≡ Some t → Stands p (change (change f l one_more) l set_unbound) (send_entry ∷ j)
+  pub bound_sends_kept : bound p j l ≡ Some t → Stands p seats (change (change f l one_more) l set_unbound) (send_entry ∷ j)
   unfolding started has_ended was_killed line_cause
   bound_sends_kept was =
-      twice_changes p f j send_entry s refl l one_more set_unbound (λ m.
+      twice_changes p seats f j send_entry s refl l one_more set_unbound (λ m.
       twice_row (l == m) (launch_of j m) _ _ _ _ _ _
-      ∙ row_by p f j send_entry s refl m _ _ _ _ _ _ refl refl refl refl (sent_bound was m) (send_pending m))
+      ∙ row_by p seats f j send_entry s refl m _ _ _ _ _ _ refl refl refl refl (sent_bound was m) (send_pending m))
 
-  pub sends_kept : bound p j l ≡ None → Stands p (change f l one_more) (send_entry ∷ j)
+  pub sends_kept : bound p j l ≡ None → Stands p seats (change f l one_more) (send_entry ∷ j)
   unfolding started has_ended was_killed line_cause
   sends_kept none =
-      one_changes p f j send_entry s refl l one_more (λ m.
+      one_changes p seats f j send_entry s refl l one_more (λ m.
       more_row p (l == m) (launch_of j m) _ _ _ _ _ _
-      ∙ row_by p f j send_entry s refl m _ _ _ _ _ _ refl refl refl refl (sent_unbound none m) (send_pending m))
+      ∙ row_by p seats f j send_entry s refl m _ _ _ _ _ _ refl refl refl refl (sent_unbound none m) (send_pending m))

@@ -1,37 +1,28 @@
 -- What the table keeps of lines and berths, and what a call makes of it.
 use Rattle.std.specs.Prelude.{ℕ, ◌+◌, ◌-◌, ◌*◌, Bool, true, false, ◌&&◌, not, Option, Some, None, unwrap_or, option_map, option_and_then, if◌then◌else◌, List, [], ◌∷◌, ◌++◌, length, slice_get, replicate}
-use Rattle.run_plan.specs.declared.plan.Group.{Group}
 use Rattle.run_plan.specs.declared.plan.Kind.{Kind}
 use Rattle.run_plan.specs.declared.plan.Plan.{Plan}
 use Rattle.run_plan.specs.Groups.{capacity}
 use Rattle.list_lemmas.specs.Places.{update}
-use Rattle.worker_pool.specs.declared.BerthRow.{BerthRow}
 use Rattle.worker_pool.specs.declared.LineRow.{LineRow}
 
 pub record Facts : Type 0 where
   -- of each line, in the order of their numbers
   pub lines : List LineRow
-  -- of each berth
-  pub seats : List BerthRow
+  -- of each berth its last line
+  pub seats : List (Option ℕ)
   -- how many lines there may be
   pub room : ℕ
 
 -- ---- a new table
 
-abbrev pub empty_berth : Kind → BerthRow
-empty_berth k = record { capacity = capacity k; last = None }
-
--- berths are numbered group by group
-abbrev pub empty_berths : List Group → List BerthRow
-empty_berths [] = []
-empty_berths (g ∷ gs) = replicate g.berths (empty_berth g.kind) ++ empty_berths gs
-
 -- each attempt of each branch may have a line of its own
 abbrev pub room_of : Plan → ℕ
 room_of p = 2 * length p.actions * p.limit
 
-abbrev pub new_facts : Plan → Facts
-new_facts p = record { lines = []; seats = empty_berths p.groups; room = room_of p }
+-- of so many berths, none of which has a line
+abbrev pub new_facts : Plan → ℕ → Facts
+new_facts p seats = record { lines = []; seats = replicate seats None; room = room_of p }
 
 -- ---- a new line
 
@@ -46,17 +37,13 @@ new_line c = record {
   pending = 0;
 }
 
-abbrev pub set_last : ℕ → BerthRow → BerthRow
-set_last l x = record { capacity = x.capacity; last = Some l }
+abbrev pub set_last : ℕ → Option ℕ → Option ℕ
+set_last l o = Some l
 
--- how many requests a line of the berth has room for
-abbrev pub seat_capacity : Facts → ℕ → ℕ
-seat_capacity f w = unwrap_or (option_map (λ x. x.capacity) (slice_get f.seats w)) 0
-
--- the next line, which is the berth's last, with a bound branch
-abbrev pub with_launch : Facts → ℕ → Facts
-with_launch f w = record {
-  lines = f.lines ++ new_line (seat_capacity f w) ∷ [];
+-- the next line, of this kind, which is the berth's last, with a bound branch
+abbrev pub with_launch : Facts → ℕ → Kind → Facts
+with_launch f w k = record {
+  lines = f.lines ++ new_line (capacity k) ∷ [];
   seats = update (set_last (length f.lines)) f.seats w;
   room = f.room;
 }
@@ -105,7 +92,7 @@ capacity_of f l = unwrap_or (option_map (λ x. x.capacity) (slice_get f.lines l)
 
 -- the berth's last line
 abbrev pub last_of : Facts → ℕ → Option ℕ
-last_of f w = option_and_then (λ x. x.last) (slice_get f.seats w)
+last_of f w = unwrap_or (slice_get f.seats w) None
 
 abbrev pub is_live_row : LineRow → Bool
 is_live_row x = x.started && (not x.broken && not x.killed)

@@ -17,8 +17,9 @@ ghost use Rattle.exec_journal.specs.declared.reply.Reply.{Reply};
 ghost use Rattle.exec_journal.specs.Attempts.{line_of};
 ghost use Rattle.exec_journal.specs.Entries.{Request, consumed_in, granted_in, is_unwritten};
 ghost use Rattle.exec_journal.specs.Facts.{IsFresh, Begins, BeginInOrder, NameTheirLines};
+ghost use Rattle.exec_journal.specs.Seated.{kind_for, line_kind};
 ghost use Rattle.exec_journal.specs.Settled.{bound, free_places};
-ghost use Rattle.run_plan.specs.Groups.{berths, kind_of, capacity};
+ghost use Rattle.run_plan.specs.Groups.{capacity};
 ghost use Rattle.exec_journal.specs.Words.{answered, has_ended, is_pending, last_line, launch_of, line_count, pending, sends};
 ghost use Rattle.worker_pool.specs.Entries.{entry, is_aside, ends_nothing, WantedStays, CarriesItsBound, AreOfAction, AreFaulted, IsPendingOn, IsPendingNowhere, IsFirstWrite, IsSentTo, IsNew};
 ghost use Rattle.worker_pool.specs.Rows.{Facts, change, set_started, set_broken, set_ended, set_killed, set_unbound, one_more, one_fewer, with_unbound, with_launch, last_of, live_of, free_of, pending_of, capacity_of};
@@ -26,109 +27,122 @@ ghost use Rattle.worker_pool.specs.Stands.{Stands, live_in};
 
 /// A Launch of a berth of the plan: `launch` is called for it, which gives the line's number.
 pub fn launches_are_kept()
-    ensures { (p : Plan) (f : Facts) (j : List Entry) (lane : ℕ) (t : Attempt) → Stands p f j
-        → IsFresh j (line_count j) → IsNew p j t → lane / 2 < berths p
-        → Stands p (with_launch f (lane / 2)) (entry lane call.Ask (reply.Launch
+    ensures { (p : Plan) (seats : ℕ) (f : Facts) (j : List Entry) (lane : ℕ) (t : Attempt)
+        → Stands p seats f j
+        → IsFresh j (line_count j) → IsNew p j t
+        → Stands p seats (with_launch f (lane / 2) (kind_for p t)) (entry lane call.Ask
+        (reply.Launch
         (line_count j) t.action t.branch t.number) ∷ j) }
 {}
 
 /// A Launched with Done: `started` is called.
 pub fn starts_are_kept()
-    ensures { (p : Plan) (f : Facts) (j : List Entry) (lane l : ℕ) → Stands p f j
-        → Stands p (change f l set_started) (entry lane
+    ensures { (p : Plan) (seats : ℕ) (f : Facts) (j : List Entry) (lane l : ℕ) → Stands p seats f j
+        → Stands p seats (change f l set_started) (entry lane
         (call.Launched l start.Done) reply.Noted ∷ j) }
 {}
 
 /// A Send: `sent` is called, and `unbound` too where it sends the branch that is bound to the line. Any other branch is
 /// sent where nothing is bound to it.
 pub fn sends_are_kept()
-    ensures bound { (p : Plan) (f : Facts) (j : List Entry) (lane l : ℕ) (n : ℤ) (t : Attempt)
-        → Stands p f j → IsSentTo j t l → bound p j l ≡ Some t
-        → Stands p (change (change f l one_more) l set_unbound) (entry lane call.Ask
+    ensures bound { (p : Plan) (seats : ℕ) (f : Facts) (j : List Entry) (lane l : ℕ) (n : ℤ)
+        (t : Attempt)
+        → Stands p seats f j → IsSentTo j t l → bound p j l ≡ Some t
+        → Stands p seats (change (change f l one_more) l set_unbound) (entry lane call.Ask
         (reply.Send l n t.action t.branch t.number) ∷ j) }
-    ensures other { (p : Plan) (f : Facts) (j : List Entry) (lane l : ℕ) (n : ℤ) (t : Attempt)
-        → Stands p f j → IsSentTo j t l → bound p j l ≡ None
-        → Stands p (change f l one_more) (entry lane call.Ask
+    ensures other { (p : Plan) (seats : ℕ) (f : Facts) (j : List Entry) (lane l : ℕ) (n : ℤ)
+        (t : Attempt)
+        → Stands p seats f j → IsSentTo j t l → bound p j l ≡ None
+        → Stands p seats (change f l one_more) (entry lane call.Ask
         (reply.Send l n t.action t.branch t.number) ∷ j) }
 {}
 
 /// An Answer that is Matched or Late: `freed` is called for the line on which its request is pending.
 pub fn answers_are_kept()
-    ensures { (p : Plan) (f : Facts) (j : List Entry) (lane l : ℕ) (a : Answer) (x : Reply)
-        (t : Attempt) → Stands p f j → consumed_in x ≡ Some t → IsPendingOn j t l
-        → Stands p (change f l one_fewer) (entry lane (call.Answer l a) x ∷ j) }
+    ensures { (p : Plan) (seats : ℕ) (f : Facts) (j : List Entry) (lane l : ℕ) (a : Answer)
+        (x : Reply)
+        (t : Attempt) → Stands p seats f j → consumed_in x ≡ Some t → IsPendingOn j t l
+        → Stands p seats (change f l one_fewer) (entry lane (call.Answer l a) x ∷ j) }
 {}
 
 /// A Wrote with RoomFault or TooLarge. Of a request that isn't answered `freed` is called for the line on which it is
 /// pending, and nothing where it isn't, as after the Ended of its line. Of an answered request only `broke` is called.
 pub fn faulty_writes_are_kept()
-    ensures pending { (p : Plan) (f : Facts) (j : List Entry) (lane k : ℕ) (n : ℤ) (how : Written)
-        (q : Request) (l : ℕ) → Stands p f j → is_unwritten how ≡ true → IsFirstWrite j lane q
+    ensures pending { (p : Plan) (seats : ℕ) (f : Facts) (j : List Entry) (lane k : ℕ) (n : ℤ)
+        (how : Written)
+        (q : Request) (l : ℕ) → Stands p seats f j → is_unwritten how ≡ true → IsFirstWrite j lane q
         → WantedStays p j (entry lane (call.Wrote k n how) reply.Noted)
         → answered j q.attempt ≡ false → IsPendingOn j q.attempt l
-        → Stands p (change f l one_fewer) (entry lane (call.Wrote k n how) reply.Noted ∷ j) }
-    ensures gone { (p : Plan) (f : Facts) (j : List Entry) (lane k : ℕ) (n : ℤ) (how : Written)
-        (q : Request) → Stands p f j → is_unwritten how ≡ true → IsFirstWrite j lane q
+        → Stands p seats (change f l one_fewer) (entry lane (call.Wrote k n how) reply.Noted ∷ j) }
+    ensures gone { (p : Plan) (seats : ℕ) (f : Facts) (j : List Entry) (lane k : ℕ) (n : ℤ)
+        (how : Written)
+        (q : Request) → Stands p seats f j → is_unwritten how ≡ true → IsFirstWrite j lane q
         → WantedStays p j (entry lane (call.Wrote k n how) reply.Noted)
         → answered j q.attempt ≡ false → IsPendingNowhere j q.attempt
-        → Stands p f (entry lane (call.Wrote k n how) reply.Noted ∷ j) }
-    ensures answered { (p : Plan) (f : Facts) (j : List Entry) (lane k : ℕ) (n : ℤ)
-        (how : Written) (q : Request) → Stands p f j → is_unwritten how ≡ true
+        → Stands p seats f (entry lane (call.Wrote k n how) reply.Noted ∷ j) }
+    ensures answered { (p : Plan) (seats : ℕ) (f : Facts) (j : List Entry) (lane k : ℕ) (n : ℤ)
+        (how : Written) (q : Request) → Stands p seats f j → is_unwritten how ≡ true
         → IsFirstWrite j lane q → WantedStays p j (entry lane (call.Wrote k n how) reply.Noted)
         → answered j q.attempt ≡ true
-        → Stands p (change f k set_broken) (entry lane (call.Wrote k n how) reply.Noted ∷ j) }
+        → Stands p seats (change f k set_broken) (entry lane (call.Wrote k n how) reply.Noted ∷ j) }
 {}
 
 /// A Wrote with FeedFault: `broke` is called.
 pub fn feed_faults_are_kept()
-    ensures { (p : Plan) (f : Facts) (j : List Entry) (lane l : ℕ) (n : ℤ) → Stands p f j
+    ensures { (p : Plan) (seats : ℕ) (f : Facts) (j : List Entry) (lane l : ℕ) (n : ℤ)
+        → Stands p seats f j
         → WantedStays p j (entry lane (call.Wrote l n write.FeedFault) reply.Noted)
-        → Stands p (change f l set_broken) (entry lane
+        → Stands p seats (change f l set_broken) (entry lane
         (call.Wrote l n write.FeedFault) reply.Noted ∷ j) }
 {}
 
 /// An Answer whose reply is a Breach: `broke` is called.
 pub fn breaches_are_kept()
-    ensures { (p : Plan) (f : Facts) (j : List Entry) (lane l : ℕ) (a : Answer) (y : BreachWhy)
-        → Stands p f j
-        → Stands p (change f l set_broken) (entry lane (call.Answer l a) (reply.Breach y) ∷ j) }
+    ensures { (p : Plan) (seats : ℕ) (f : Facts) (j : List Entry) (lane l : ℕ) (a : Answer)
+        (y : BreachWhy)
+        → Stands p seats f j
+        → Stands p seats (change f l set_broken) (entry lane (call.Answer l a)
+        (reply.Breach y) ∷ j) }
 {}
 
 /// An Ended: `ended` is called, whatever is pending on the line.
 pub fn ends_are_kept()
-    ensures { (p : Plan) (f : Facts) (j : List Entry) (lane l : ℕ) (how : HowEnded)
-        → Stands p f j → WantedStays p j (entry lane (call.Ended l how) reply.Noted)
+    ensures { (p : Plan) (seats : ℕ) (f : Facts) (j : List Entry) (lane l : ℕ) (how : HowEnded)
+        → Stands p seats f j → WantedStays p j (entry lane (call.Ended l how) reply.Noted)
         → CarriesItsBound p j
-        → Stands p (change f l set_ended) (entry lane (call.Ended l how) reply.Noted ∷ j) }
+        → Stands p seats (change f l set_ended) (entry lane (call.Ended l how) reply.Noted ∷ j) }
 {}
 
 /// A Killed: `killed` is called.
 pub fn kills_are_kept()
-    ensures { (p : Plan) (f : Facts) (j : List Entry) (lane l : ℕ) → Stands p f j
-        → Stands p (change f l set_killed) (entry lane (call.Killed l) reply.Noted ∷ j) }
+    ensures { (p : Plan) (seats : ℕ) (f : Facts) (j : List Entry) (lane l : ℕ) → Stands p seats f j
+        → Stands p seats (change f l set_killed) (entry lane (call.Killed l) reply.Noted ∷ j) }
 {}
 
 /// A Claim that is granted: `unbound` is called for each line to which a branch of the action is bound.
 pub fn grants_are_kept()
-    ensures { (p : Plan) (f : Facts) (j : List Entry) (lane a n : ℕ) (b : Branch) (found : Found)
-        (ls : List ℕ) → Stands p f j
+    ensures { (p : Plan) (seats : ℕ) (f : Facts) (j : List Entry) (lane a n : ℕ) (b : Branch)
+        (found : Found)
+        (ls : List ℕ) → Stands p seats f j
         → WantedStays p j (entry lane (call.Claim a b n found) reply.Granted)
         → AreOfAction p j a ls
-        → Stands p (with_unbound f ls) (entry lane (call.Claim a b n found) reply.Granted ∷ j) }
+        → Stands p seats (with_unbound f ls) (entry lane
+        (call.Claim a b n found) reply.Granted ∷ j) }
 {}
 
 /// Any other entry: `unbound` is called for each line where the entry says a fault of what is bound to it, as a Launched
 /// with a fault does.
 pub fn faults_are_kept()
-    ensures { (p : Plan) (f : Facts) (j : List Entry) (e : Entry) (ls : List ℕ) → Stands p f j
+    ensures { (p : Plan) (seats : ℕ) (f : Facts) (j : List Entry) (e : Entry) (ls : List ℕ)
+        → Stands p seats f j
         → is_aside e ≡ true → granted_in e.call e.reply ≡ None → WantedStays p j e
-        → AreFaulted p j e ls → Stands p (with_unbound f ls) (e ∷ j) }
+        → AreFaulted p j e ls → Stands p seats (with_unbound f ls) (e ∷ j) }
 {}
 
 /// Where no attempt can end with such an entry, and nothing can be granted or committed, nothing is called.
 pub fn others_change_nothing()
-    ensures { (p : Plan) (f : Facts) (j : List Entry) (e : Entry) → Stands p f j
-        → is_aside e ≡ true → ends_nothing e.call ≡ true → Stands p f (e ∷ j) }
+    ensures { (p : Plan) (seats : ℕ) (f : Facts) (j : List Entry) (e : Entry) → Stands p seats f j
+        → is_aside e ≡ true → ends_nothing e.call ≡ true → Stands p seats f (e ∷ j) }
 {}
 
 /// Where attempts begin in order, as in each legal journal, a request is the only one of its attempt; so it alone can be
@@ -146,34 +160,40 @@ pub fn attempts_are_sent_once()
 
 /// What is read is what the journal says of the line.
 pub fn lines_are_the_journals()
-    ensures count { (p : Plan) (f : Facts) (j : List Entry) → Stands p f j
+    ensures count { (p : Plan) (seats : ℕ) (f : Facts) (j : List Entry) → Stands p seats f j
         → length f.lines ≡ line_count j }
-    ensures last { (p : Plan) (f : Facts) (j : List Entry) (w : ℕ) → Stands p f j → w < berths p
+    ensures last { (p : Plan) (seats : ℕ) (f : Facts) (j : List Entry) (w : ℕ)
+        → Stands p seats f j → w < seats
         → last_of f w ≡ last_line j w }
-    ensures live { (p : Plan) (f : Facts) (j : List Entry) (w : ℕ) → Stands p f j → w < berths p
+    ensures live { (p : Plan) (seats : ℕ) (f : Facts) (j : List Entry) (w : ℕ)
+        → Stands p seats f j → w < seats
         → NameTheirLines j → live_of f w ≡ live_in j w }
-    ensures free { (p : Plan) (f : Facts) (j : List Entry) (l lane : ℕ) (t : Attempt)
-        → Stands p f j → launch_of j l ≡ Some (lane, t)
-        → free_of f l ≡ free_places p j (kind_of p (lane / 2)) l }
-    ensures pending { (p : Plan) (f : Facts) (j : List Entry) (l lane : ℕ) (t : Attempt)
-        → Stands p f j → launch_of j l ≡ Some (lane, t) → pending_of f l ≡ length (pending j l) }
-    ensures capacity { (p : Plan) (f : Facts) (j : List Entry) (l lane : ℕ) (t : Attempt)
-        → Stands p f j → launch_of j l ≡ Some (lane, t)
-        → capacity_of f l ≡ capacity (kind_of p (lane / 2)) }
+    ensures free { (p : Plan) (seats : ℕ) (f : Facts) (j : List Entry) (l lane : ℕ) (t : Attempt)
+        → Stands p seats f j → launch_of j l ≡ Some (lane, t)
+        → free_of f l ≡ free_places p j (line_kind p j l) l }
+    ensures pending { (p : Plan) (seats : ℕ) (f : Facts) (j : List Entry) (l lane : ℕ) (t : Attempt)
+        → Stands p seats f j → launch_of j l ≡ Some (lane, t)
+        → pending_of f l ≡ length (pending j l) }
+    ensures capacity { (p : Plan) (seats : ℕ) (f : Facts) (j : List Entry) (l lane : ℕ)
+        (t : Attempt)
+        → Stands p seats f j → launch_of j l ≡ Some (lane, t)
+        → capacity_of f l ≡ capacity (line_kind p j l) }
 {}
 
 /// The conditions of the calls, by what the journal says.
 pub fn calls_may_be_made()
-    ensures berth { (p : Plan) (f : Facts) (j : List Entry) (w : ℕ) → Stands p f j → w < berths p
+    ensures berth { (p : Plan) (seats : ℕ) (f : Facts) (j : List Entry) (w : ℕ)
+        → Stands p seats f j → w < seats
         → w < length f.seats }
-    ensures line { (p : Plan) (f : Facts) (j : List Entry) (l lane : ℕ) (t : Attempt)
-        → Stands p f j → launch_of j l ≡ Some (lane, t) → l < length f.lines }
-    ensures launch { (p : Plan) (f : Facts) (j : List Entry) → Stands p f j
+    ensures line { (p : Plan) (seats : ℕ) (f : Facts) (j : List Entry) (l lane : ℕ) (t : Attempt)
+        → Stands p seats f j → launch_of j l ≡ Some (lane, t) → l < length f.lines }
+    ensures launch { (p : Plan) (seats : ℕ) (f : Facts) (j : List Entry) → Stands p seats f j
         → line_count j < 2 * length p.actions * p.limit → length f.lines < f.room }
-    ensures sent { (p : Plan) (f : Facts) (j : List Entry) (l lane : ℕ) (t : Attempt)
-        → Stands p f j → launch_of j l ≡ Some (lane, t)
-        → length (pending j l) < capacity (kind_of p (lane / 2))
+    ensures sent { (p : Plan) (seats : ℕ) (f : Facts) (j : List Entry) (l lane : ℕ) (t : Attempt)
+        → Stands p seats f j → launch_of j l ≡ Some (lane, t)
+        → length (pending j l) < capacity (line_kind p j l)
         → pending_of f l < capacity_of f l }
-    ensures freed { (p : Plan) (f : Facts) (j : List Entry) (l lane : ℕ) (t u : Attempt)
-        → Stands p f j → launch_of j l ≡ Some (lane, t) → IsPendingOn j u l → 0 < pending_of f l }
+    ensures freed { (p : Plan) (seats : ℕ) (f : Facts) (j : List Entry) (l lane : ℕ) (t u : Attempt)
+        → Stands p seats f j → launch_of j l ≡ Some (lane, t) → IsPendingOn j u l
+        → 0 < pending_of f l }
 {}

@@ -1,15 +1,15 @@
 //! The lines of each berth: which of them is live, and how many places it has free.
 #![tactic(auto)]
 
-ghost use Rattle.std.specs.Prelude.{◌≡◌, ◌<◌, ◌≤◌, IfOk, [], Some, length, slice_get, sum_by};
+ghost use Rattle.std.specs.Prelude.{◌≡◌, ◌<◌, IfOk, [], Some, length, slice_get};
 ghost use Rattle.run_plan.specs.Groups.{capacity};
 ghost use Rattle.run_plan.specs.Sound.{Sound};
-ghost use Rattle.worker_pool.specs.Rows.{new_facts, empty_berths, new_line, with_launch, change, set_started, set_broken, set_ended, set_killed, set_unbound, one_more, one_fewer, pending_of, capacity_of, last_of, is_live_row, live_of, free_in, free_of};
+ghost use Rattle.worker_pool.specs.Rows.{new_facts, new_line, with_launch, change, set_started, set_broken, set_ended, set_killed, set_unbound, one_more, one_fewer, pending_of, capacity_of, last_of, is_live_row, live_of, free_in, free_of};
 ghost use Rattle.worker_pool.specs.Stands.{Stands};
 
 pub mod laws;
 
-use exec_journal::{Group, Kind, Plan};
+use exec_journal::{Kind, Plan};
 use plain_values::NoMemory;
 use std::alloc::Global;
 use std::marker::Model;
@@ -31,22 +31,14 @@ pub struct LineRow {
     pub pending: u32,
 }
 
-/// What is known of a berth.
-#[derive(Clone, Copy, PartialEq, Eq)]
-pub struct BerthRow {
-    /// How many requests a line of it has room for.
-    pub capacity: u32,
-    /// Its last line.
-    pub last: Option<u32>,
-}
-
-/// The lines and berths of a plan. Lines are numbered from 0 in the order of their launches, whatever their berth. A
-/// contract sees what is known of each line and of each berth, and how many lines there may be.
+/// The lines of a run, and the last one of each berth. Lines are numbered from 0 in the order of their launches,
+/// whatever their berth. A contract sees what is known of each line and of each berth, and how many lines there may be.
 #[derive(Drop)]
 pub struct Pool {
     // Never fuller than its capacity, which is the room for all lines that a run may launch.
     lines: Vec<LineRow>,
-    berths: Vec<BerthRow>,
+    // Of each berth its last line.
+    berths: Vec<Option<u32>>,
 }
 
 impl Model for Pool {
@@ -65,30 +57,32 @@ impl Model for Pool {
 }
 
 impl Pool {
-    /// The table of a run in which nothing was launched yet. It makes the room for all lines that the run may launch.
-    pub fn new(alloc: Global, plan: &Plan) -> Result<Pool, NoMemory>
+    /// The table of a run on so many berths, in which nothing was launched yet. It makes the room for all lines that
+    /// the run may launch.
+    pub fn new(alloc: Global, plan: &Plan, seats: usize) -> Result<Pool, NoMemory>
         requires { Sound plan.now }
-        ensures facts { IfOk result (λ t. t ≡ new_facts plan.now) }
-        ensures stands { IfOk result (λ t. Stands plan.now t []) }
+        ensures facts { IfOk result (λ t. t ≡ new_facts plan.now seats) }
+        ensures stands { IfOk result (λ t. Stands plan.now seats t []) }
     {
-        let berths = berths_of(alloc, plan.groups.as_slice())?;
+        let none: Option<u32> = None;
+        let berths = vec![in alloc; none; seats]?;
         let room = 2 * plan.actions.as_slice().len() * plan.limit as usize;
         let lines = Vec::with_capacity(alloc, room)?;
         Ok(Pool { lines, berths })
     }
 
-    /// Makes the next line, the last of this berth, with a branch bound to it, and gives its number. Each attempt of each
-    /// branch may have a line of its own: there may be 2 × actions × limit of them.
-    pub fn launch(&mut self, berth: u32) -> u32
+    /// Makes the next line, the last of this berth, with a branch bound to it, and gives its number. It has room for as
+    /// many requests as lines of this kind, which is that of the branch's group. Each attempt of each branch may have a
+    /// line of its own: there may be 2 × actions × limit of them.
+    pub fn launch(&mut self, berth: u32, kind: Kind) -> u32
         requires known { berth < length self.old.seats }
         requires room { length self.old.lines < self.old.room }
         ensures line { result ≡ length self.old.lines }
-        ensures facts { self.new ≡ with_launch self.old berth }
+        ensures facts { self.new ≡ with_launch self.old berth kind }
     {
         let line = self.lines.len() as u32;
-        let seat = &mut self.berths[berth as usize];
-        seat.last = Some(line);
-        let row = LineRow::new(seat.capacity);
+        self.berths[berth as usize] = Some(line);
+        let row = LineRow::new(capacity_of(kind));
         self.lines.push_reserved(row);
         line
     }
@@ -185,7 +179,7 @@ impl Pool {
         requires { berth < length self.now.seats }
         ensures { result ≡ last_of self.now berth }
     {
-        self.berths[berth as usize].last
+        self.berths[berth as usize]
     }
 
     /// All that is known of the line.
@@ -226,22 +220,6 @@ impl LineRow {
             .saturating_sub(self.pending)
             .saturating_sub(u32::from(self.bound))
     }
-}
-
-// Berths without a line, group by group.
-fn berths_of(alloc: Global, groups: &[Group]) -> Result<Vec<BerthRow>, NoMemory>
-    requires { sum_by (λ g. g.berths) groups.now ≤ 64 }
-    ensures { IfOk result (λ berths. berths.items ≡ empty_berths groups.now) }
-{
-    let mut berths = Vec::new(alloc);
-    for group in groups {
-        let empty = BerthRow {
-            capacity: capacity_of(group.kind),
-            last: None,
-        };
-        berths.resize(berths.len() + group.berths as usize, empty)?;
-    }
-    Ok(berths)
 }
 
 // How many requests a line has room for.

@@ -3,4 +3,4 @@ use Rattle.worker_pool.proofs.New.{stands_by}
 use Rattle.worker_pool.proofs.Pool.new.Goals as goal
 
 pub returns-clause-stands : goal.returns-clause-stands
-returns-clause-stands c = stands_by c.args.plan.now _ (search rules)
+returns-clause-stands c = stands_by c.args.plan.now c.args.seats _ (search rules)

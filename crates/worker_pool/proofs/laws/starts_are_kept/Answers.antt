@@ -2,4 +2,4 @@ use Rattle.worker_pool.proofs.Lives.{starts_kept}
 use Rattle.worker_pool.proofs.laws.starts_are_kept.Goals as goal
 
 pub returns : goal.returns
-returns c = λ p f j lane l s. starts_kept p f j lane l s
+returns c = λ p seats f j lane l s. starts_kept p seats f j lane l s

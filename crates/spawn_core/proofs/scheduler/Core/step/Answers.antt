@@ -17,15 +17,12 @@ lane_owes-after-requires c = let h = c.self.invariant in record {
   plan = h.plan;
   journal = after h.journal c.args.lane c.args.call.now c.step-reply.result;
   stands = (c.step-reply.ensures.stands h.plan h.journal h.stands.both).tables;
+  legal = (c.step-reply.ensures.stands h.plan h.journal h.stands.both).legal;
 }
 
 pub overflow_sub-self : goal.overflow_sub-self
 overflow_sub-self c =
-    enough (record {
-      state = c.self.inside.state;
-      files = c.self.inside.files;
-      owed = c.self.inside.owed;
-    }) c.step-reply.new.state c.step-reply.new.files c.args.lane c.args.call.now
+    enough _ c.step-reply.new.state c.step-reply.new.files c.args.lane c.args.call.now
     c.step-reply.result c.lane_owes-before.result c.lane_owes-after.result
     c.step-reply.ensures.stands
     (record { owed = c.lane_owes-before.ensures.owes; none = c.lane_owes-before.ensures.none })
@@ -34,11 +31,7 @@ overflow_sub-self c =
 
 pub overflow_add-self : goal.overflow_add-self
 overflow_add-self c =
-    let fits = few (record {
-      state = c.self.inside.state;
-      files = c.self.inside.files;
-      owed = c.self.inside.owed;
-    }) c.step-reply.new.state c.step-reply.new.files c.args.lane c.args.call.now
+    let fits = few _ c.step-reply.new.state c.step-reply.new.files c.args.lane c.args.call.now
     c.step-reply.result c.lane_owes-before.result c.lane_owes-after.result
     c.step-reply.ensures.stands
     (record { owed = c.lane_owes-before.ensures.owes; none = c.lane_owes-before.ensures.none })
@@ -48,11 +41,7 @@ overflow_add-self c =
 
 pub invariant_of-self : goal.invariant_of-self
 invariant_of-self c =
-    history_next (record {
-      state = c.self.inside.state;
-      files = c.self.inside.files;
-      owed = c.self.inside.owed;
-    }) c.step-reply.new.state c.step-reply.new.files c.args.lane c.args.call.now
+    history_next _ c.step-reply.new.state c.step-reply.new.files c.args.lane c.args.call.now
     c.step-reply.result c.lane_owes-before.result c.lane_owes-after.result
     c.step-reply.ensures.stands
     (record { owed = c.lane_owes-before.ensures.owes; none = c.lane_owes-before.ensures.none })
@@ -62,11 +51,7 @@ invariant_of-self c =
 pub returns-clause-stands : goal.returns-clause-stands
 returns-clause-stands c = λ p j st.
     let here = subst (λ (k : Kept). Stands p k j) (sym c.self.view_is) st in
-    stands_next (record {
-      state = c.self.inside.state;
-      files = c.self.inside.files;
-      owed = c.self.inside.owed;
-    }) c.step-reply.new.state c.step-reply.new.files c.args.lane c.args.call.now
+    stands_next _ c.step-reply.new.state c.step-reply.new.files c.args.lane c.args.call.now
     c.step-reply.result c.lane_owes-before.result c.lane_owes-after.result
     c.step-reply.ensures.stands
     (record { owed = c.lane_owes-before.ensures.owes; none = c.lane_owes-before.ensures.none })
@@ -74,16 +59,16 @@ returns-clause-stands c = λ p j st.
     _ refl p j here
 
 pub returns-clause-orderly : goal.returns-clause-orderly
-returns-clause-orderly c = λ p j st. orderly p j st.both.tables.sound st.both.tables.legal
+returns-clause-orderly c = λ p j st. orderly p j st.both.tables.sound st.both.legal
 
 pub returns-clause-stop : goal.returns-clause-stop
 returns-clause-stop c = λ p j st told none.
     let here = subst (λ (k : Kept). Stands p k j) (sym c.self.view_is) st in
     stops p j c.args.lane c.args.call.now c.step-reply.result st.both.tables.sound
-    st.both.tables.legal (c.step-reply.ensures.reply p j here.both) told none
+    st.both.legal (c.step-reply.ensures.reply p j here.both) told none
 
 pub returns-clause-complete : goal.returns-clause-complete
 returns-clause-complete c = λ p j st told none clean.
     let here = subst (λ (k : Kept). Stands p k j) (sym c.self.view_is) st in
     completes p j c.args.lane c.args.call.now c.step-reply.result st.both.tables.sound
-    st.both.tables.legal (c.step-reply.ensures.reply p j here.both) told none clean
+    st.both.legal (c.step-reply.ensures.reply p j here.both) told none clean

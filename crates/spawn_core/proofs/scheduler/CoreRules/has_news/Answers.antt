@@ -24,7 +24,7 @@ returns-then-allows-clause-news c = λ p j st. let s = c.self.inside.state in
     (sym c.question.ensures) ∙ (sym c.allows.ensures ∙ c.if-allows.true) in
     c.is_awaited.ensures
     ∙ (ap (λ (b : Bool). b && not (is_idle (told_by s c.args.lane))) (sym may)
-    ∙ news_at p s j c.args.lane (Some c.in-Some.seat) here.both.tables
+    ∙ news_at p s j c.args.lane (Some c.in-Some.seat) here.both.tables here.both.legal
     (sym c.seat_of.ensures ∙ c.in-Some.is))
 
 pub returns-else-allows-clause-news : goal.returns-else-allows-clause-news
@@ -34,11 +34,11 @@ returns-else-allows-clause-news c = λ p j st. let s = c.self.inside.state in
     (sym c.question.ensures) ∙ (sym c.allows.ensures ∙ c.if-allows.false) in
     c.if-allows.false
     ∙ (ap (λ (b : Bool). b && not (is_idle (told_by s c.args.lane))) (sym may)
-    ∙ news_at p s j c.args.lane (Some c.in-Some.seat) here.both.tables
+    ∙ news_at p s j c.args.lane (Some c.in-Some.seat) here.both.tables here.both.legal
     (sym c.seat_of.ensures ∙ c.in-Some.is))
 
 pub returns-in-None-clause-news : goal.returns-in-None-clause-news
 returns-in-None-clause-news c = λ p j st.
     let here = subst (λ (k : Kept). Stands p k j) (sym c.self.view_is) st in
-    news_at p c.self.inside.state j c.args.lane None here.both.tables
+    news_at p c.self.inside.state j c.args.lane None here.both.tables here.both.legal
     (sym c.seat_of.ensures ∙ c.in-None.is)

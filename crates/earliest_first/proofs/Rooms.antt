@@ -10,6 +10,7 @@ use Rattle.exec_journal.specs.Facts.{NameTheirLines, OfBerth, IsOfBerth}
 use Rattle.list_lemmas.specs.Options.{or_else, and_more}
 use Rattle.exec_journal.specs.History.{latest, each}
 use Rattle.run_plan.specs.Groups.{berths, kind_of}
+use Rattle.exec_journal.specs.Seated.{line_kind}
 use Rattle.exec_journal.specs.Settled.{free_places, has_room, some_free}
 use Rattle.exec_journal.specs.Words.{last_line, lines_of, line_at, live, launch_of}
 use Rattle.exec_journal.proofs.Lines.{last_line_own}
@@ -17,11 +18,12 @@ use Rattle.exec_journal.proofs.Ruled.{by_bool}
 use Rattle.worker_pool.specs.Rows as pool
 use Rattle.worker_pool.specs.Stands as pools
 use Rattle.worker_pool.proofs.Answered.{live_is, free_is}
-use Rattle.core_state.specs.Choices as choices
+use Rattle.earliest_first.specs.Choices as choices
 use Rattle.lawful_facts.specs.Moments.{JournalFacts, Among}
 
-module _ (p : Plan) (f : pool.Facts) (j : List Entry) (st : pools.Stands p f j)
-    (names : NameTheirLines j) (facts : JournalFacts p j) where
+module _ (p : Plan) (f : pool.Facts) (j : List Entry) (st : pools.Stands p (berths p) f j)
+    (names : NameTheirLines j) (facts : JournalFacts p j)
+    (kind_is : (w l : ℕ) → last_line j w ≡ Some l → kind_of p w ≡ line_kind p j l) where
   -- the newest of the lines is the last line
   none_at : (o q : Option ℕ) (ls : List ℕ) → (q ≡ None → ls ≡ []) → or_else o q ≡ None
       → and_more o ls ≡ []
@@ -94,8 +96,8 @@ module _ (p : Plan) (f : pool.Facts) (j : List Entry) (st : pools.Stands p f j)
         by : (b : Bool) (t : Attempt) → (launch_of j l ≡ Some (own.owner.0, t))
             × (own.owner.0 / 2 ≡ w) → choices.line_has_room f (cond b (Some l) None) ≡
             (b && nat_lt 0 (free_places p j (kind_of p w) l))
-        by true t e = ap (nat_lt 0) (free_is p f j st l own.owner.0 t e.0
-            ∙ ap (λ v. free_places p j (kind_of p v) l) e.1)
+        by true t e = ap (nat_lt 0) (free_is p (berths p) f j st l own.owner.0 t e.0
+            ∙ ap (λ k. free_places p j k l) (sym (kind_is w l h)))
         by false t e = refl
 
     room_by : (o : Option ℕ) → last_line j w ≡ o → choices.line_has_room f
@@ -106,7 +108,7 @@ module _ (p : Plan) (f : pool.Facts) (j : List Entry) (st : pools.Stands p f j)
         (λ m a v. facts.live_last w l h m a v) (last_among w l h))
 
     pub room_is : choices.has_room f w ≡ list_any (has_room p j (kind_of p w)) (lines_of j w)
-    room_is = ap (choices.line_has_room f) (live_is p f j st w lt names)
+    room_is = ap (choices.line_has_room f) (live_is p (berths p) f j st w lt names)
         ∙ room_by (last_line j w) refl
 
   pub some_is : (k : Kind) (w n : ℕ) → ((v : ℕ) → w ≤ v → v < w + n

@@ -1,13 +1,12 @@
 -- What is chosen for an Ask is the reply of the rules.
-use Rattle.std.proofs.Common.{◌≡◌, ℕ, ◌+◌, ◌*◌, ◌/◌, ◌<◌, ◌≤◌, ◌==◌, nat_lt, Bool, true, false, ◌&&◌, ◌||◌, not, cond, List, [], ◌∷◌, length, filter, map, reverse, Option, Some, None, is_some, option_map, unwrap_or, refl, ap, sym, subst, ◌∙◌, arith}
+use Rattle.std.proofs.Common.{◌≡◌, ℕ, ◌+◌, ◌/◌, ◌<◌, ◌≤◌, ◌==◌, nat_lt, Bool, true, false, ◌&&◌, ◌||◌, not, cond, List, [], ◌∷◌, length, filter, map, reverse, Option, Some, None, is_some, option_map, unwrap_or, refl, ap, sym, subst, ◌∙◌, arith}
 use Rattle.std.specs.Prelude.{slice_get, option_and_then}
 use Rattle.std.specs.List.{find, list_any}
-use Rattle.std.proofs.lemmas.Bool.{lt-ltb, and_parts, eqb-true, ltb-true}
+use Rattle.std.proofs.lemmas.Bool.{lt-ltb, eqb-true}
 use Rattle.run_plan.specs.declared.plan.Plan.{Plan}
 use Rattle.exec_journal.specs.declared.attempt.Attempt.{Attempt}
 use Rattle.exec_journal.specs.declared.ends.Cause.{Cause}
 use Rattle.exec_journal.specs.Entry.{Entry}
-use Rattle.exec_journal.specs.declared.call.Call.{Call}
 use Rattle.exec_journal.specs.declared.call.Call.TheVariants as call
 use Rattle.exec_journal.specs.declared.reply.Reply.{Reply}
 use Rattle.exec_journal.specs.declared.reply.Reply.TheVariants as reply
@@ -18,10 +17,11 @@ use Rattle.list_lemmas.specs.Options.{or_else}
 use Rattle.exec_journal.specs.Rules as r
 use Rattle.exec_journal.specs.Scripts.{script}
 use Rattle.run_plan.specs.Groups.{berth_group, berths, kind_of, capacity, first_berth, berths_of, has_cancellation, is_single, is_remote, group_of}
+use Rattle.exec_journal.specs.Seated.{kind_for}
 use Rattle.exec_journal.specs.Settled.{all_settled, bound, earliest, free_places, some_free}
 use Rattle.exec_journal.specs.Words.{last_line, launch_of, started, failed, broke, has_ended, was_killed, live, pending, has_cancel, has_greeted, line_cause, why_of, line_count}
 use Rattle.exec_journal.specs.Kept.{group_at}
-use Rattle.journal_laws.proofs.Ours.{lawful}
+use Rattle.exec_journal.specs.Legal.{Legal}
 use Rattle.exec_journal.proofs.Histories.{AllOf}
 use Rattle.exec_journal.proofs.Lines.{last_line_own, lines_named, pending_line}
 use Rattle.exec_journal.proofs.Begins.{earliest_next, bound_is}
@@ -42,7 +42,8 @@ use Rattle.core_state.specs.declared.choice.Choice.TheVariants as choice
 use Rattle.core_tables.specs.declared.matches.Match.{Match}
 use Rattle.core_tables.specs.declared.seat.Seat.{Seat}
 use Rattle.core_state.specs.declared.state.State.{State}
-use Rattle.core_state.specs.Choices as c
+use Rattle.core_state.specs.Choices as own_state
+use Rattle.earliest_first.specs.Choices as c
 use Rattle.lawful_facts.specs.Moments.{JournalFacts}
 use Rattle.call_laws.specs.Matches.{waits_yet}
 use Rattle.call_laws.specs.Moments.{BranchOf}
@@ -53,11 +54,12 @@ use Rattle.core_tables.specs.Matches.{matches_of, matches_on, matches_in, match_
 use Rattle.call_laws.specs.Matches.{recent}
 use Rattle.core_tables.specs.Seats.{seat_at}
 use Rattle.core_laws.specs.Stands.{Stands}
-use Rattle.core_laws.proofs.Earliest.{earliest_of_is}
+use Rattle.earliest_first.proofs.Queued.{earliest_of_is}
 use Rattle.ready_order.proofs.AllSettled.{over_is}
-use Rattle.core_laws.proofs.Rooms.{some_is}
+use Rattle.earliest_first.proofs.Rooms.{some_is}
 use Rattle.core_tables.proofs.Seated.{IsSeat, seat_is, kind_by_group}
-use Rattle.core_laws.proofs.AtBerths as at_berth
+use Rattle.earliest_first.proofs.AtBerths.{lane_within}
+use Rattle.earliest_first.proofs.AtBerths as at_berth
 
 -- ---- the first that fits
 
@@ -137,13 +139,8 @@ any_same p q [] h = refl
 any_same p q (x ∷ xs) h = ap (λ b. b || list_any p xs) h.0
     ∙ ap (λ b. q x || b) (any_same p q xs h.1)
 
--- a lane whose script has a call is one of the plan
-pub lane_within : (p : Plan) (j : List Entry) (lane : ℕ) (x : Call) → script p j lane x ≡ true
-    → lane / 2 < berths p
-lane_within p j lane x h = let lt = ltb-true lane (2 * berths p)
-    (and_parts (nat_lt lane (2 * berths p)) _ h).0 in omega arith
-
-module _ (p : Plan) (s : State) (j : List Entry) (lane : ℕ) (st : Stands p s j)
+module _ (p : Plan) (s : State) (j : List Entry) (lane : ℕ)
+    (st : Stands p (berths p) s j) (legal : Legal p j)
     (facts : JournalFacts p j) (may : script p j lane call.Ask ≡ true) (lt : lane / 2 < berths p)
     (seat : Seat) (at : IsSeat p (lane / 2) seat) where
   abbrev w : ℕ
@@ -153,12 +150,12 @@ module _ (p : Plan) (s : State) (j : List Entry) (lane : ℕ) (st : Stands p s j
   f = carried_reply s w
 
   names : NameTheirLines j
-  names = lines_named p j (lawful p j st.legal)
+  names = lines_named p j st.lawful
 
   inside : nat_lt w (berths p) ≡ true
   inside = lt-ltb w (berths p) lt
 
-  over_eq : c.is_over s ≡ r.is_over p j
+  over_eq : own_state.is_over s ≡ r.is_over p j
   over_eq = ap (λ b. b || s.halted) (over_is p s.ready j st.ready st.sound)
       ∙ ap (λ b. all_settled p j || b) st.halted
 
@@ -189,7 +186,8 @@ module _ (p : Plan) (s : State) (j : List Entry) (lane : ℕ) (st : Stands p s j
 
   rooms_eq : c.some_room s.pool seat.first seat.berths ≡ some_free p j
       (kind_of p w) seat.first seat.berths
-  rooms_eq = some_is p s.pool j st.pool names facts (kind_of p w) seat.first seat.berths
+  rooms_eq = some_is p s.pool j st.pool names facts (at_berth.kind_is p j legal) (kind_of p w)
+      seat.first seat.berths
       (λ v le below. (
         in_plan v le below,
         kind_by_group p v w seat.group
@@ -250,7 +248,7 @@ module _ (p : Plan) (s : State) (j : List Entry) (lane : ℕ) (st : Stands p s j
 
     abbrev row : LineRow
     row = record {
-      capacity = capacity (kind_of p w);
+      capacity = capacity (kind_for p own.owner.1);
       started = started j l;
       broken = broke j l;
       ended = has_ended j l;
@@ -266,17 +264,8 @@ module _ (p : Plan) (s : State) (j : List Entry) (lane : ℕ) (st : Stands p s j
         ∙ ap (λ (o : Option (ℕ × Attempt)). pools.row_of p o (started j l) (broke j l)
         (has_ended j l) (was_killed j l) (is_some (bound p j l)) (length (pending j l)))
         own.owner.2
-        ∙ ap (λ v. Some (record {
-          capacity = capacity (kind_of p v);
-          started = started j l;
-          broken = broke j l;
-          ended = has_ended j l;
-          killed = was_killed j l;
-          bound = is_some (bound p j l);
-          pending = length (pending j l);
-        })) own.owner.3
 
-    row_at_eq : c.row_at s l ≡ row
+    row_at_eq : own_state.row_at s l ≡ row
     row_at_eq = ap (λ o. unwrap_or o (pool.new_line 0)) row_eq
 
     last_eq : slice_get s.last w ≡ Some (row_of j (Some l))
@@ -284,11 +273,11 @@ module _ (p : Plan) (s : State) (j : List Entry) (lane : ℕ) (st : Stands p s j
     last_eq = st.last w ∙ ap (λ b. cond b (Some (row_of j (last_line j w))) None) inside
         ∙ ap (λ o. Some (row_of j o)) here
 
-    cause_eq : c.cause_at s w ≡ line_cause j l
-    cause_eq = ap c.cause_on last_eq
+    cause_eq : own_state.cause_at s w ≡ line_cause j l
+    cause_eq = ap own_state.cause_on last_eq
 
-    attempt_eq : c.attempt_at s w ≡ option_map (λ x. x.1) (launch_of j l)
-    attempt_eq = ap c.attempt_on last_eq
+    attempt_eq : own_state.attempt_at s w ≡ option_map (λ x. x.1) (launch_of j l)
+    attempt_eq = ap own_state.attempt_on last_eq
 
     in_room : l < line_room p
     in_room = let below = own.below in let fit = facts.lines_fit in omega arith
@@ -309,7 +298,7 @@ module _ (p : Plan) (s : State) (j : List Entry) (lane : ℕ) (st : Stands p s j
         by true = refl
         by false = refl
 
-    kill_eq : option_map f (c.kill_by l row (c.cause_at s w)) ≡ r.kills_broken j (Some l)
+    kill_eq : option_map f (c.kill_by l row (own_state.cause_at s w)) ≡ r.kills_broken j (Some l)
     kill_eq = ap (λ o. option_map f (c.kill_by l row o)) cause_eq ∙ by (r.runs j l) (line_cause j l)
       where
         by : (b : Bool) (o : Option Cause) → option_map f (cond b
@@ -331,7 +320,7 @@ module _ (p : Plan) (s : State) (j : List Entry) (lane : ℕ) (st : Stands p s j
         (each_map (λ x. has_cancel j x ≡ false) (λ x. (r.is_unwanted p j x && not (has_cancel j x))
         ≡ r.is_unwanted p j x)
         (λ x h. ap (λ b. r.is_unwanted p j x && not b) h ∙ and_true (r.is_unwanted p j x))
-        (pending j l) (at_berth.no_cancel p j st.legal w l here facts single (ap (has_cancellation p) group_eq
+        (pending j l) (at_berth.no_cancel p j legal w l here facts single (ap (has_cancellation p) group_eq
         ∙ none)))
       where
         and_true : (b : Bool) → (b && true) ≡ b
@@ -382,7 +371,7 @@ module _ (p : Plan) (s : State) (j : List Entry) (lane : ℕ) (st : Stands p s j
         → sent_reply s l t ≡ r.send_order p j w l t
     number_eq t g = ap (λ n. reply.Send l n t.action t.branch t.number)
         (next_number_is p s.requests j (berth_group p (lane / 2)) l t.action t.branch st.requests in_room g
-        (at_berth.numbered p j st.legal w l here facts))
+        (at_berth.numbered p j legal w l here facts))
 
     own_branch : (t : Attempt) → earliest p j seat.group ≡ Some t → BranchOf p t (berth_group p w)
     own_branch t h =
@@ -391,41 +380,41 @@ module _ (p : Plan) (s : State) (j : List Entry) (lane : ℕ) (st : Stands p s j
         ∙ uses_is (group_of n.action t.branch) seat.group n.group ∙ sym at.group
 
     free_eq : pool.free_of s.pool l ≡ free_places p j (kind_of p w) l
-    free_eq = free_is p s.pool j st.pool l own.owner.0 own.owner.1 own.owner.2
-        ∙ ap (λ v. free_places p j (kind_of p v) l) own.owner.3
+    free_eq = free_is p (berths p) s.pool j st.pool l own.owner.0 own.owner.1 own.owner.2
+        ∙ ap (λ k. free_places p j k l) (sym (at_berth.kind_is p j legal w l here))
 
     send_eq : option_map f (c.send_by s w seat l row) ≡ r.sends_next p j w seat.group (Some l)
     send_eq = ap (λ b. option_map f (cond b inner None)) live_eq ∙ by (live j l)
       where
         inner : Option Choice
-        inner = cond (is_some (bound p j l)) (option_map (λ t. choice.Send l t true)
-            (c.attempt_at s w)) (cond (nat_lt 0 (pool.free_of s.pool l))
-            (option_map (λ t. choice.Send l t false) (c.earliest_of s seat.group)) None)
+        inner = cond (is_some (bound p j l)) (option_map (choice.Send l)
+            (own_state.attempt_at s w)) (cond (nat_lt 0 (pool.free_of s.pool l))
+            (option_map (choice.Send l) (c.earliest_of s seat.group)) None)
 
         new : (o : Option Attempt) → earliest p j seat.group ≡ o
-            → option_map f (option_map (λ t. choice.Send l t false) o) ≡ option_map
+            → option_map f (option_map (choice.Send l) o) ≡ option_map
             (r.send_order p j w l) o
         new None h = refl
         new (Some t) h = ap Some (number_eq t (own_branch t h))
 
         place : (b : Bool) → option_map f (cond b (option_map
-            (λ t. choice.Send l t false) (earliest p j seat.group)) None) ≡ option_map
+            (choice.Send l) (earliest p j seat.group)) None) ≡ option_map
             (r.send_order p j w l) (cond b (earliest p j seat.group) None)
         place true = new (earliest p j seat.group) refl
         place false = refl
 
         of_bound : (o : Option Attempt) → bound p j l ≡ o
-            → option_map f (cond (is_some o) (option_map (λ t. choice.Send l t true)
-            (c.attempt_at s w)) (cond (nat_lt 0 (pool.free_of s.pool l))
-            (option_map (λ t. choice.Send l t false) (c.earliest_of s seat.group)) None))
+            → option_map f (cond (is_some o) (option_map (choice.Send l)
+            (own_state.attempt_at s w)) (cond (nat_lt 0 (pool.free_of s.pool l))
+            (option_map (choice.Send l) (c.earliest_of s seat.group)) None))
             ≡ option_map (r.send_order p j w l) (or_else o (cond
             (nat_lt 0 (free_places p j (kind_of p w) l)) (earliest p j seat.group) None))
         of_bound (Some t) h =
-            ap (λ o. option_map f (option_map (λ u. choice.Send l u true) o))
+            ap (λ o. option_map f (option_map (choice.Send l) o))
             (attempt_eq ∙ ap (option_map (λ x. x.1)) (bound_is p j l t h).launched)
-            ∙ ap Some (number_eq t (at_berth.bound_group p j st.legal w l here facts t h))
+            ∙ ap Some (number_eq t (at_berth.bound_group p j legal w l here facts t h))
         of_bound None h = (λ i. option_map f (cond (nat_lt 0 (free_eq i))
-            (option_map (λ t. choice.Send l t false) (earliest_eq i)) None))
+            (option_map (choice.Send l) (earliest_eq i)) None))
             ∙ place (nat_lt 0 (free_places p j (kind_of p w) l))
 
         by : (b : Bool) → option_map f (cond b inner None) ≡ cond b
@@ -447,11 +436,11 @@ module _ (p : Plan) (s : State) (j : List Entry) (lane : ℕ) (st : Stands p s j
         by true = launch_eq
         by false = refl
 
-    with_eq : f (c.choice_with s w seat l (c.row_at s l)) ≡ r.ask p j w seat.group (Some l)
+    with_eq : f (c.choice_with s w seat l (own_state.row_at s l)) ≡ r.ask p j w seat.group (Some l)
     with_eq =
         ap (λ x. f (c.choice_with s w seat l x)) row_at_eq
-        ∙ with_is f (c.is_over s) (c.unwanted_by s seat l row) (c.leave_by l row)
-        (c.kill_by l row (c.cause_at s w)) (choice.Kill l why.Unwanted) (c.waiting_at s w)
+        ∙ with_is f (own_state.is_over s) (c.unwanted_by s seat l row) (c.leave_by l row)
+        (c.kill_by l row (own_state.cause_at s w)) (choice.Kill l why.Unwanted) (c.waiting_at s w)
         (c.cancel_by s w seat l row) (c.send_by s w seat l row) (c.then_vacant s seat row)
         (r.launches p j w seat.group (Some l)) vacant_eq
         ∙ (λ i. unwrap_or (or_else (r.when (over_eq i) (leave_eq i))
@@ -461,7 +450,7 @@ module _ (p : Plan) (s : State) (j : List Entry) (lane : ℕ) (st : Stands p s j
 
   without_eq : f (c.choice_without s w seat) ≡ r.ask p j w seat.group None
   without_eq =
-      without_is f (c.is_over s) (c.waiting_at s w) choice.Stop (c.launch_by s seat)
+      without_is f (own_state.is_over s) (c.waiting_at s w) choice.Stop (c.launch_by s seat)
       (r.launches p j w seat.group None) launch_eq
       ∙ (λ i. unwrap_or (or_else (r.when (over_eq i) reply.Stop)
       (or_else (gather_eq i) (r.launches p j w seat.group None))) reply.Idle)
@@ -470,7 +459,7 @@ module _ (p : Plan) (s : State) (j : List Entry) (lane : ℕ) (st : Stands p s j
   chosen_eq =
       ap (λ q. f (c.choice_for s w (seat_at q w))) st.plan
       ∙ ap (λ o. f (c.choice_for s w o)) at.is
-      ∙ ap (λ o. f (c.choice_at s w seat o)) (last_is p s.pool j st.pool w lt)
+      ∙ ap (λ o. f (c.choice_at s w seat o)) (last_is p (berths p) s.pool j st.pool w lt)
       ∙ by (last_line j w) refl
       ∙ ap (λ g. r.ask p j w g (last_line j w)) (sym group_eq)
     where
@@ -479,10 +468,10 @@ module _ (p : Plan) (s : State) (j : List Entry) (lane : ℕ) (st : Stands p s j
       by (Some l) h = with_eq l h
       by None h = without_eq
 
-pub choice_is : (p : Plan) (s : State) (j : List Entry) (lane : ℕ) → Stands p s j → JournalFacts p j
-    → script p j lane call.Ask ≡ true → carried_reply s (lane / 2) (c.chosen s (lane / 2))
-    ≡ r.rule p j lane call.Ask
-choice_is p s j lane st facts may =
+pub choice_is : (p : Plan) (s : State) (j : List Entry) (lane : ℕ) → Stands p (berths p) s j
+    → Legal p j → JournalFacts p j → script p j lane call.Ask ≡ true
+    → carried_reply s (lane / 2) (c.chosen s (lane / 2)) ≡ r.rule p j lane call.Ask
+choice_is p s j lane st legal facts may =
     let lt = lane_within p j lane call.Ask may in
     let seat = seat_is p (lane / 2) lt in
-    chosen_eq p s j lane st facts may lt seat.0 seat.1
+    chosen_eq p s j lane st legal facts may lt seat.0 seat.1

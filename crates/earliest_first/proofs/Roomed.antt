@@ -3,7 +3,7 @@ use Rattle.std.proofs.Common.{◌≡◌, ℕ, zero, suc, ◌+◌, ◌<◌, nat_l
 use Rattle.exec_journal.proofs.Ruled.{by_bool}
 use Rattle.std.proofs.lemmas.Bool.{ltb-true, ltb-false}
 use Rattle.worker_pool.specs.Rows.{Facts}
-use Rattle.core_state.specs.Choices.{has_room, some_room}
+use Rattle.earliest_first.specs.Choices.{has_room, some_room}
 
 or_true : (b : Bool) → (b || true) ≡ true
 or_true true = refl

@@ -1,5 +1,6 @@
--- What the core asks of a journal, said of the berth of a line: in a legal journal each line runs its berth's group.
-use Rattle.std.proofs.Common.{◌≡◌, ℕ, ◌<◌, ◌≤◌, ◌/◌, Bool, true, false, ◌||◌, ◌&&◌, List, ◌∷◌, length, Some, refl, sym, ap, subst, ◌∙◌}
+-- In a legal journal each line runs its berth's group: what is asked of a journal, said of berths.
+use Rattle.std.proofs.Common.{◌≡◌, ℕ, ◌*◌, ◌<◌, ◌≤◌, ◌/◌, nat_lt, true, false, List, [], ◌∷◌, length, Some, sym, subst, ◌∙◌, arith}
+use Rattle.std.proofs.lemmas.Bool.{and_parts, ltb-true}
 use Rattle.run_plan.specs.declared.plan.Plan.{Plan}
 use Rattle.run_plan.specs.Groups.{berths, berth_group, kind_of, has_cancellation, is_single}
 use Rattle.exec_journal.specs.declared.attempt.Attempt.{Attempt}
@@ -20,10 +21,11 @@ use Rattle.journal_laws.proofs.Ours as ours
 use Rattle.call_laws.specs.Moments.{BranchOf}
 use Rattle.request_table.specs.Entries.{EachOf}
 use Rattle.request_table.specs.Stands.{Numbered}
-use Rattle.core_state.specs.declared.state.State.{State}
-use Rattle.core_laws.specs.Stands.{Stands}
-use Rattle.lawful_facts.proofs.AllFacts.{all_facts}
-use Rattle.lawful_facts.specs.Moments.{JournalFacts, MoreFacts, CallFacts, EntryFacts, LawfulMore, BoundAt}
+use Rattle.core_tables.specs.declared.seat.Seat.{Seat}
+use Rattle.core_tables.specs.Seats.{seat_at}
+use Rattle.core_tables.proofs.Seated.{IsSeat, seat_is}
+use Rattle.core_laws.specs.Stands.{AreSeated, MayCall, SeatFits}
+use Rattle.lawful_facts.specs.Moments.{JournalFacts, MoreFacts, CallFacts, EntryFacts, LawfulMore}
 
 -- each request of the line is of the group of this berth
 abbrev pub SentAtBerth : Plan → List Entry → ℕ → ℕ → Type 0
@@ -36,7 +38,7 @@ module _ (p : Plan) (j : List Entry) (legal : Legal p j) (w l : ℕ) (here : las
   seat : (kind_of p w ≡ line_kind p j l) × (group_at p w ≡ line_group p j l)
   seat = ours.berth_seated p j good (ours.both_ours p j legal).1 w l here
 
-  group_is : group_on p j l ≡ berth_group p w
+  pub group_is : group_on p j l ≡ berth_group p w
   group_is = ours.seated p j l w legal (here_own p j w l good here)
 
   pub no_cancel : JournalFacts p j → is_single (kind_of p w) ≡ true
@@ -85,6 +87,33 @@ pub answer_told : (p : Plan) (j : List Entry) (lane l : ℕ) (x : Answer) → Le
 answer_told p j lane l x legal may = ours.answer_seated p j lane l x (ours.lawful p j legal)
     (ours.both_ours p j legal).1 (anywhere p j lane (call.Answer l x) may)
 
--- all of it, of the journal for which the state stands
-pub all_of : (p : Plan) (s : State) (j : List Entry) → Stands p s j → LawfulMore p j
-all_of p s j st = all_facts p j st.sound (ours.lawful p j st.legal)
+-- ---- a call that is in its lane's script
+
+-- a lane whose script has a call is one of the plan
+pub lane_within : (p : Plan) (j : List Entry) (lane : ℕ) (x : Call) → script p j lane x ≡ true
+    → lane / 2 < berths p
+lane_within p j lane x h = let lt = ltb-true lane (2 * berths p)
+    (and_parts (nat_lt lane (2 * berths p)) _ h).0 in omega arith
+
+pub may_call : (p : Plan) (j : List Entry) (lane : ℕ) (c : Call) → script p j lane c ≡ true
+    → MayCall p (berths p) j lane c
+may_call p j lane c may = record {
+  berth = lane_within p j lane c may;
+  scripted = anywhere p j lane c may;
+}
+
+pub all_seated : (p : Plan) (j : List Entry) → Legal p j → AreSeated (berths p) j
+all_seated p [] legal = tt
+all_seated p (e ∷ j) legal = (all_seated p j legal.0, lane_within p j e.lane e.call legal.1.scripted)
+
+-- what the plan says of a berth is so of its last line
+pub seat_fits : (p : Plan) (j : List Entry) (w : ℕ) (seat : Seat) → Legal p j → w < berths p
+    → seat_at p w ≡ Some seat → SeatFits p j w seat
+seat_fits p j w seat legal lt is =
+    let y = seat_is p w lt in
+    let at : IsSeat p w seat = subst (IsSeat p w) (let z = sym y.1.is ∙ is in cc) y.1 in
+    record {
+      kind = λ l here. sym (kind_is p j legal w l here) ∙ at.kind;
+      group = λ l here. group_is p j legal w l here ∙ at.group;
+      cancel = at.cancel;
+    }

@@ -1,24 +1,19 @@
 -- The table's earliest queued branch, with its next attempt, is the journal's.
-use Rattle.std.proofs.Common.{◌≡◌, ℕ, suc, ◌+◌, ◌-◌, ◌<◌, nat_lt, Bool, true, false, ◌&&◌, not, cond, List, [], ◌∷◌, length, Option, Some, None, option_map, unwrap_or, refl, ap, sym, ◌∙◌, arith}
-use Rattle.std.specs.Prelude.{slice_get}
-use Rattle.std.proofs.lemmas.Bool.{ltb-true, ltb-false, lt-ltb}
+use Rattle.std.proofs.Common.{◌≡◌, ℕ, ◌+◌, ◌-◌, nat_lt, Bool, true, false, ◌&&◌, not, cond, List, Option, Some, None, option_map, refl, ap, sym, ◌∙◌, arith}
+use Rattle.std.proofs.lemmas.Bool.{ltb-false}
 use Rattle.std.proofs.lemmas.Option.{slice_get_within}
 use Rattle.run_plan.specs.declared.plan.Branch.{Branch}
-use Rattle.run_plan.specs.declared.plan.Branch.TheVariants.{Local, Remote}
 use Rattle.run_plan.specs.declared.plan.Plan.{Plan}
 use Rattle.exec_journal.specs.declared.attempt.Attempt.{Attempt}
 use Rattle.exec_journal.specs.Entry.{Entry}
-use Rattle.list_lemmas.specs.Options.{or_else}
 use Rattle.exec_journal.specs.Entries.{attempt_of}
 use Rattle.exec_journal.specs.Attempts.{attempt, ended}
 use Rattle.exec_journal.specs.Settled.{earliest}
 use Rattle.exec_journal.proofs.Begins.{earliest_next, queued_is}
 use Rattle.exec_journal.proofs.Ruled.{by_bool}
 use Rattle.ready_order.specs.declared.ActionState.{ActionState}
-use Rattle.ready_order.specs.Queue.{seat_of, may_begin, is_queued, IsEarliest}
 use Rattle.ready_order.specs.Stands as queues
-use Rattle.ready_order.proofs.Queued.{earliest_is, one_earliest}
-use Rattle.retry_rules.specs.declared.EndedCounts.{EndedCounts}
+use Rattle.ready_order.proofs.Queued.{earliest_is}
 use Rattle.retry_rules.specs.Counts.{ended_of, count_of}
 use Rattle.retry_rules.specs.Counts as counts
 use Rattle.retry_rules.specs.Stands.{ended_count, ended_in}

@@ -1,0 +1,5 @@
+pub mod AtBerths
+pub mod Queued
+pub mod Rooms
+pub mod Roomed
+pub mod Chosen

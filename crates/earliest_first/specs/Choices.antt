@@ -1,0 +1,133 @@
+-- What is chosen for an Ask, as a function of the tables: where a line may be given
+-- something new, the earliest queued action of its berth's group; and a line is launched where no
+-- live one of the group has a free place.
+use Rattle.std.specs.Prelude.{◌≡◌, ℕ, zero, suc, ◌+◌, ◌<◌, ◌^◌, nat_lt, Bool, false, ◌&&◌, ◌||◌, not, Option, Some, None, is_some, option_map, unwrap_or, if◌then◌else◌, length, slice_get}
+use Rattle.std.specs.List.{find}
+use Rattle.run_plan.specs.declared.plan.Branch.{Branch}
+use Rattle.run_plan.specs.Groups.{berths, is_single, is_remote}
+use Rattle.exec_journal.specs.declared.attempt.Attempt.{Attempt}
+use Rattle.exec_journal.specs.declared.ends.Cause.{Cause}
+use Rattle.exec_journal.specs.declared.reply.Why.TheVariants as why
+use Rattle.exec_journal.specs.Entries.{attempt_of}
+use Rattle.exec_journal.specs.Words.{why_of}
+use Rattle.worker_pool.specs.declared.LineRow.{LineRow}
+use Rattle.worker_pool.specs.Rows as pool
+use Rattle.cancel_rules.specs.Marks.{cancel_of}
+use Rattle.ready_order.specs.Queue.{earliest_in}
+use Rattle.retry_rules.specs.Counts.{ended_of}
+use Rattle.core_tables.specs.declared.greetings.Greeting.{Greeting}
+use Rattle.core_tables.specs.declared.matches.Match.{Match}
+use Rattle.core_tables.specs.declared.seat.Seat.{Seat}
+use Rattle.core_tables.specs.Matches.{matches_of, is_waiting}
+use Rattle.core_tables.specs.Seats.{seat_at}
+use Rattle.core_state.specs.declared.choice.Choice.{Choice}
+use Rattle.core_state.specs.declared.choice.Choice.TheVariants as choice
+use Rattle.core_state.specs.declared.state.State.{State}
+use Rattle.core_state.specs.Choices.{Reads, row_at, cause_at, attempt_at, is_over}
+
+-- what a choice on the berth reads is there, and the berths are the plan's
+pub record ReadsOwn (s : State) (w : ℕ) : Type 0 where
+  pub reads : Reads s w
+  pub groups : length s.plan.groups < 2 ^ 32
+  pub seats : length s.pool.seats ≡ berths s.plan
+
+abbrev pub is_runner : LineRow → Bool
+is_runner x = x.started && not x.killed
+
+abbrev pub is_vacant_row : LineRow → Bool
+is_vacant_row x = not x.started || (x.ended && x.killed)
+
+abbrev pub leave_by : ℕ → LineRow → Choice
+leave_by l x = if is_runner x then choice.Kill l why.Quit else choice.Stop
+
+abbrev pub kill_by : ℕ → LineRow → Option Cause → Option Choice
+kill_by l x c = if is_runner x then option_map (λ y. choice.Kill l (why_of y)) c else None
+
+abbrev pub unwanted_by : State → Seat → ℕ → LineRow → Bool
+unwanted_by s seat l x = is_runner x && (is_single seat.kind
+    && (not seat.cancel && is_some (cancel_of s.cancels l)))
+
+abbrev pub waiting_at : State → ℕ → Option Match
+waiting_at s w = find is_waiting (matches_of s.matches w)
+
+abbrev pub greeted_on : Option Greeting → Bool
+greeted_on (Some x) = x.greeted
+greeted_on None = false
+
+-- the line's group has cancellation, or it is an executor's line and has greeted
+abbrev pub may_cancel_by : State → ℕ → Seat → Bool
+may_cancel_by s w seat = seat.cancel || (is_remote seat.kind
+    && greeted_on (slice_get s.greetings w))
+
+abbrev pub cancel_by : State → ℕ → Seat → ℕ → LineRow → Option Choice
+cancel_by s w seat l x = if pool.is_live_row x && may_cancel_by s w seat then option_map
+    (choice.Cancel l) (cancel_of s.cancels l) else None
+
+abbrev pub next_of : State → ℕ × Branch → Attempt
+next_of s x = attempt_of x.0 x.1 (ended_of s.attempts x.0 x.1 + 1)
+
+abbrev pub earliest_of : State → ℕ → Option Attempt
+earliest_of s g = option_map (next_of s) (earliest_in s.ready g)
+
+abbrev pub send_by : State → ℕ → Seat → ℕ → LineRow → Option Choice
+send_by s w seat l x =
+    if pool.is_live_row x then
+    (if x.bound then option_map (choice.Send l) (attempt_at s w)
+    else if nat_lt 0 (pool.free_of s.pool l) then option_map
+    (choice.Send l) (earliest_of s seat.group) else None)
+    else None
+
+abbrev pub line_has_room : pool.Facts → Option ℕ → Bool
+line_has_room f (Some l) = nat_lt 0 (pool.free_of f l)
+line_has_room f None = false
+
+-- the berth's last line is live and has a free place
+abbrev pub has_room : pool.Facts → ℕ → Bool
+has_room f w = line_has_room f (pool.live_of f w)
+
+-- so for some of the n berths from w on
+abbrev pub some_room : pool.Facts → ℕ → ℕ → Bool
+some_room f w zero = false
+some_room f w (suc n) = has_room f (w + n) || some_room f w n
+
+abbrev pub launch_for : Option Attempt → Choice
+launch_for (Some t) = choice.Launch t
+launch_for None = choice.Idle
+
+abbrev pub launch_by : State → Seat → Choice
+launch_by s seat = if some_room s.pool seat.first seat.berths then choice.Idle else launch_for
+    (earliest_of s seat.group)
+
+abbrev pub after_gather : Choice → Option Match → Choice
+after_gather c (Some m) = choice.Gather m
+after_gather c None = c
+
+abbrev pub choice_without : State → ℕ → Seat → Choice
+choice_without s w seat = if is_over s then choice.Stop else after_gather (launch_by s seat)
+    (waiting_at s w)
+
+abbrev pub then_vacant : State → Seat → LineRow → Choice
+then_vacant s seat x = if is_vacant_row x then launch_by s seat else choice.Idle
+
+abbrev pub choice_with : State → ℕ → Seat → ℕ → LineRow → Choice
+choice_with s w seat l x =
+    if is_over s then leave_by l x
+    else unwrap_or (kill_by l x (cause_at s w))
+    (if unwanted_by s seat l x then choice.Kill l why.Unwanted
+    else after_gather
+    (unwrap_or (cancel_by s w seat l x) (unwrap_or (send_by s w seat l x) (then_vacant s seat x)))
+    (waiting_at s w))
+
+abbrev pub choice_at : State → ℕ → Seat → Option ℕ → Choice
+choice_at s w seat (Some l) = choice_with s w seat l (row_at s l)
+choice_at s w seat None = choice_without s w seat
+
+abbrev pub choice_on : State → ℕ → Seat → Choice
+choice_on s w seat = choice_at s w seat (pool.last_of s.pool w)
+
+abbrev pub choice_for : State → ℕ → Option Seat → Choice
+choice_for s w (Some seat) = choice_on s w seat
+choice_for s w None = choice.Idle
+
+abbrev pub chosen : State → ℕ → Choice
+chosen s w = choice_for s w (seat_at s.plan w)

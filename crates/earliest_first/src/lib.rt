@@ -1,0 +1,246 @@
+//! What today's core orders next: where a line may be given something new, the earliest queued action
+//! of its berth's group; and a line is launched where no live one of the group has a free place.
+#![tactic(auto)]
+
+ghost use Rattle.std.specs.Prelude.{◌≡◌, ◌<◌, Some, length, slice_get};
+ghost use Rattle.exec_journal.specs.Words.{why_of};
+ghost use Rattle.worker_pool.specs.Rows.{is_live_row, last_of};
+ghost use Rattle.core_tables.specs.Seats.{seat_at};
+ghost use Rattle.core_state.specs.Choices.{Reads, row_at, cause_at};
+ghost use Rattle.earliest_first.specs.Choices.{ReadsOwn, leave_by, kill_by, unwanted_by, may_cancel_by, cancel_by, earliest_of, send_by, has_room, some_room, launch_by, choice_with, choice_without, choice_on, chosen, is_runner, is_vacant_row};
+
+pub mod laws;
+
+use core_state::{Choice, State};
+use core_tables::{Seat, seat_of};
+use exec_journal::{Attempt, Cause, Kind, Why};
+use worker_pool::LineRow;
+
+/// What the Ask of this berth's proxy lane is to do.
+pub fn choose(state: &State, berth: u32) -> Choice
+    requires { ReadsOwn state.now berth }
+    ensures { result ≡ chosen state.now berth }
+{
+    match seat_of(&state.plan, berth) {
+        Some(seat) => choose_on(state, berth, seat),
+        None => Choice::Idle,
+    }
+}
+
+fn choose_on(state: &State, berth: u32, seat: Seat) -> Choice
+    requires reads { ReadsOwn state.now berth }
+    requires seated { seat_at state.now.plan berth ≡ Some seat }
+    ensures { result ≡ choice_on state.now berth seat }
+{
+    match state.pool.last_line(berth) {
+        Some(line) => choose_with(state, berth, seat, line),
+        None => choose_without(state, berth, seat),
+    }
+}
+
+fn choose_without(state: &State, berth: u32, seat: Seat) -> Choice
+    requires reads { ReadsOwn state.now berth }
+    requires seated { seat_at state.now.plan berth ≡ Some seat }
+    ensures { result ≡ choice_without state.now berth seat }
+{
+    if state.is_over() {
+        return Choice::Stop;
+    }
+    if let Some(found) = state.matches.waiting(berth) {
+        return Choice::Gather(found);
+    }
+    launch_next(state, berth, seat)
+}
+
+fn choose_with(state: &State, berth: u32, seat: Seat, line: u32) -> Choice
+    requires reads { ReadsOwn state.now berth }
+    requires seated { seat_at state.now.plan berth ≡ Some seat }
+    requires last { last_of state.now.pool berth ≡ Some line }
+    ensures { result ≡ choice_with state.now berth seat line (row_at state.now line) }
+{
+    let row = state.pool.line(line);
+    if state.is_over() {
+        return leave(line, row);
+    }
+    if let Some(kill) = kill_broken(state, berth, line, row) {
+        return kill;
+    }
+    if is_unwanted(state, seat, line, row) {
+        return Choice::Kill {
+            line,
+            why: Why::Unwanted,
+        };
+    }
+    if let Some(found) = state.matches.waiting(berth) {
+        return Choice::Gather(found);
+    }
+    if let Some(cancel) = cancel_next(state, berth, seat, line, row) {
+        return cancel;
+    }
+    if let Some(send) = send_next(state, berth, seat, line, row) {
+        return send;
+    }
+    if is_vacant(row) {
+        return launch_next(state, berth, seat);
+    }
+    Choice::Idle
+}
+
+fn kill_broken(state: &State, berth: u32, line: u32, row: LineRow) -> Option<Choice>
+    requires { Reads state.now berth }
+    ensures { result ≡ kill_by line row (cause_at state.now berth) }
+{
+    if !is_runner(row) {
+        return None;
+    }
+    let cause = state.last.of(berth).cause?;
+    Some(Choice::Kill {
+        line,
+        why: why_of(cause),
+    })
+}
+
+// A Single line without cancellation, of which a pending request isn't wanted.
+fn is_unwanted(state: &State, seat: Seat, line: u32, row: LineRow) -> bool
+    requires { line < length state.now.cancels.lines }
+    ensures { result ≡ unwanted_by state.now seat line row }
+{
+    is_runner(row)
+        && seat.kind == Kind::Single
+        && !seat.cancel
+        && state.cancels.cancel_order(line).is_some()
+}
+
+fn cancel_next(state: &State, berth: u32, seat: Seat, line: u32, row: LineRow) -> Option<Choice>
+    requires line { line < length state.now.cancels.lines }
+    requires berth { berth < length state.now.greetings }
+    ensures { result ≡ cancel_by state.now berth seat line row }
+{
+    if !is_live(row) || !may_cancel(state, berth, seat) {
+        return None;
+    }
+    let number = state.cancels.cancel_order(line)?;
+    Some(Choice::Cancel { line, number })
+}
+
+// The line's group has cancellation, or it is an executor's line and has greeted.
+fn may_cancel(state: &State, berth: u32, seat: Seat) -> bool
+    requires { berth < length state.now.greetings }
+    ensures { result ≡ may_cancel_by state.now berth seat }
+{
+    seat.cancel || seat.kind == Kind::Remote && state.greetings.of(berth).greeted
+}
+
+fn send_next(state: &State, berth: u32, seat: Seat, line: u32, row: LineRow) -> Option<Choice>
+    requires reads { Reads state.now berth }
+    requires row { slice_get state.now.pool.lines line ≡ Some row }
+    ensures { result ≡ send_by state.now berth seat line row }
+{
+    if !is_live(row) {
+        return None;
+    }
+    if row.bound {
+        let attempt = state.last.of(berth).attempt?;
+        return Some(Choice::Send { line, attempt });
+    }
+    if state.pool.free_places(line) == 0 {
+        return None;
+    }
+    let attempt = earliest(state, berth, seat.group)?;
+    Some(Choice::Send { line, attempt })
+}
+
+fn launch_next(state: &State, berth: u32, seat: Seat) -> Choice
+    requires reads { ReadsOwn state.now berth }
+    requires seated { seat_at state.now.plan berth ≡ Some seat }
+    ensures { result ≡ launch_by state.now seat }
+{
+    if some_room(state, berth, seat) {
+        return Choice::Idle;
+    }
+    match earliest(state, berth, seat.group) {
+        Some(attempt) => Choice::Launch(attempt),
+        None => Choice::Idle,
+    }
+}
+
+// The next attempt of the group's queued branch of the least action.
+fn earliest(state: &State, berth: u32, group: u32) -> Option<Attempt>
+    requires { Reads state.now berth }
+    ensures { result ≡ earliest_of state.now group }
+{
+    match state.ready.earliest(group) {
+        Some((action, branch)) => Some(Attempt {
+            action,
+            branch,
+            number: state.attempts.ended(action, branch) + 1,
+        }),
+        None => None,
+    }
+}
+
+// Some live line of the group has a free place.
+fn some_room(state: &State, berth: u32, seat: Seat) -> bool
+    requires reads { ReadsOwn state.now berth }
+    requires seated { seat_at state.now.plan berth ≡ Some seat }
+    ensures { result ≡ some_room state.now.pool seat.first seat.berths }
+{
+    for number in 0..seat.berths {
+        if has_room(state, seat.first + number) {
+            return true;
+        }
+    }
+    false
+}
+
+fn has_room(state: &State, berth: u32) -> bool
+    requires { berth < length state.now.pool.seats }
+    ensures { result ≡ has_room state.now.pool berth }
+{
+    match state.pool.live(berth) {
+        Some(line) => state.pool.free_places(line) > 0,
+        None => false,
+    }
+}
+
+fn leave(line: u32, row: LineRow) -> Choice
+    ensures { result ≡ leave_by line row }
+{
+    if is_runner(row) {
+        Choice::Kill {
+            line,
+            why: Why::Quit,
+        }
+    } else {
+        Choice::Stop
+    }
+}
+
+fn is_live(row: LineRow) -> bool
+    ensures { result ≡ is_live_row row }
+{
+    row.started && !row.broken && !row.killed
+}
+
+fn is_runner(row: LineRow) -> bool
+    ensures { result ≡ is_runner row }
+{
+    row.started && !row.killed
+}
+
+// It failed to launch, or has ended and was killed.
+fn is_vacant(row: LineRow) -> bool
+    ensures { result ≡ is_vacant_row row }
+{
+    !row.started || row.ended && row.killed
+}
+
+fn why_of(cause: Cause) -> Why
+    ensures { result ≡ why_of cause }
+{
+    match cause {
+        Cause::Breach => Why::Breach,
+        Cause::Feed => Why::Feed,
+        _ => Why::Ended,
+    }
+}
