@@ -53,7 +53,7 @@ where
         return ended;
     }
     match &ended.task {
-        Some(task) => match put_text(alloc, &task.plan, &ended.journal, out) {
+        Some(task) => match put_text(alloc, &task.plan, &ended.laid.journal, out) {
             Some(fault) => end_late(ended, fault),
             None => ended,
         },

@@ -18,7 +18,8 @@ use Rattle.run_loading.specs.Course.{WorkRead}
 use Rattle.run_loading.specs.Reads.{Reads}
 use Rattle.run_plan.specs.Groups.{berths, is_remote, kind_of}
 use Rattle.run_plan.specs.declared.plan.Plan.{Plan}
-use Rattle.history_laws.specs.Owed.{makers_in, outputs_in}
+use Rattle.core_contract.specs.Disciplines.{own_discipline}
+use Rattle.history_laws.specs.Ruled.{terms_in}
 use Rattle.tool_words.specs.declared.options.Options.{Options}
 use Rattle.run_tasks.specs.Tasks.{HasWork, PostsFit, plan_by, posts_by}
 use Rattle.run_tasks.specs.declared.task.Task.{Task}
@@ -87,14 +88,15 @@ as_many_parts xs plan extra executor parts is = ap length is ∙ parts_law xs pl
 -- ---- work
 
 abbrev FitsWork : Plan → List WorkAction → Type 0
-FitsWork plan ws = IsWorkOf (length plan.actions) (outputs_in plan) (makers_in plan) ws
+FitsWork plan ws = IsWorkOf (terms_in (own_discipline plan)) ws
 
 planned_work : (o : Options) (xs : List ListAction) (old new : FloorTold) (work : Work)
     → IsWhole xs → Reads old new (λ reads. WorkRead xs reads (Ok work))
     → FitsWork (plan_by o xs) work.actions
 unfolding plan_of
 planned_work o xs old new work whole l =
-    all_work (keys_of xs) l.3.0 xs work.actions whole.ordered whole.few_outputs l.3.2
+    let all = all_work (keys_of xs) l.3.0 xs work.actions whole.ordered whole.few_outputs l.3.2 in
+    record { as_many = all.0; each = all.1 }
 
 pub has_work : (o : Options) (xs : List ListAction) (old new : FloorTold) (task : Task)
     (work : Work) → IsWhole xs → task.plan ≡ plan_by o xs → task.work ≡ work

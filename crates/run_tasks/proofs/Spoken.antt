@@ -49,7 +49,7 @@ module _ (xs : List ListAction) (ys : List PlanAction) (extra : List (List ℕ))
       → SpeaksAsItIs post
   speaks number [] verbose w post e = absurd (cc)
   speaks number (g ∷ gs) verbose w post e =
-      let part : GroupPart = part_of xs ys extra executor number g in
+      let part : GroupPart = part_of g (user_of xs ys number) extra executor in
       let own : Post = post_for g part verbose in
       let behind : List Post = posts verbose gs (parts_from xs ys extra executor (number + 1) gs) in
       by_test (nat_lt w g.berths)

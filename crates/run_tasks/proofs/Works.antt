@@ -20,7 +20,7 @@ use Rattle.list_order.specs.Made.{maker_of, producer_from, producer_in}
 use Rattle.action_list.specs.Plans.{plan_action, plan_actions}
 use Rattle.list_order.proofs.Late.{is_among-append}
 use Rattle.run_loading.specs.Works.{bytes_at, due_work, due_words, origin_of, with_words, work_action, work_input, work_inputs}
-use Rattle.proxy_steps.specs.Work.{IsMadeBy, IsWork, IsWorkOf}
+use Rattle.proxy_steps.specs.Work.{IsMadeBy, IsWork}
 
 -- ---- who makes a path
 
@@ -252,12 +252,12 @@ as_many_planned keys before [] = refl
 as_many_planned keys before (x ∷ xs) = ap suc (as_many_planned keys (before ++ x ∷ []) xs)
 
 abbrev IsWorkOfAll : List PlanAction → List WorkAction → Type 0
-IsWorkOfAll ys ws = IsWorkOf (length ys) (outputs_at ys) (makers_at ys) ws
+IsWorkOfAll ys ws = (length ws ≡ length ys) × IsEach ys ws
 
 pub all_work : (keys : List (List ℕ)) (files : List SourceFile) (xs : List ListAction)
     (ws : List WorkAction) → orders_check [] xs ≡ Ok tt → have_few xs ≡ true
     → HaveWork xs files xs ws → IsWorkOfAll (plan_actions keys [] xs) ws
-all_work keys files xs ws ordered few due = record {
-  as_many = as_many xs files xs ws due ∙ sym (as_many_planned keys [] xs);
-  each = each_work keys files xs [] xs ws refl ordered few due;
-}
+all_work keys files xs ws ordered few due = (
+  as_many xs files xs ws due ∙ sym (as_many_planned keys [] xs),
+  each_work keys files xs [] xs ws refl ordered few due,
+)

@@ -9,7 +9,8 @@ use Rattle.proxy_steps.specs.Work.{IsWorkOf}
 use Rattle.run_plan.specs.Groups.{berths, is_remote, kind_of}
 use Rattle.run_plan.specs.Sound.{Sound}
 use Rattle.run_plan.specs.declared.plan.Plan.{Plan}
-use Rattle.history_laws.specs.Owed.{makers_in, outputs_in}
+use Rattle.core_contract.specs.Disciplines.{own_discipline}
+use Rattle.history_laws.specs.Ruled.{terms_in}
 use Rattle.tool_words.specs.declared.options.Options.{Options}
 use Rattle.run_tasks.specs.declared.task.Task.{Task}
 
@@ -39,9 +40,7 @@ HasBerths p = berths p ≡ 0 → p.actions ≡ []
 
 -- The work of each of the plan's actions has its outputs, and its made inputs are among the plan's.
 abbrev pub HasWork : Task → Type 0
-HasWork task =
-    IsWorkOf (length task.plan.actions) (outputs_in task.plan) (makers_in task.plan)
-    task.work.actions
+HasWork task = IsWorkOf (terms_in (own_discipline task.plan)) task.work.actions
 
 -- The posts are those of berths from w on: each is an executor's exactly where its berth is.
 abbrev pub PostsFit : (ℕ → Bool) → ℕ → List Post → Type 0

@@ -3,8 +3,8 @@ ghost use Rattle.std.specs.Prelude.{◌≡◌, ◌++◌, IfOk, OnOk, length};
 ghost use Rattle.run_tasks.specs.Posts.{group_posts, post_for, posts_for};
 
 use action_list::GroupPart;
-use proxy_deeds::Post;
 use plain_values::NoMemory;
+use proxy_deeds::Post;
 use run_plan::{Group, Plan};
 use std::alloc::Global;
 

@@ -7,8 +7,8 @@ ghost use Rattle.run_tasks.specs.Tasks.{HasPosts, HasSoundPlans, IsTaskOf, plan_
 
 use crate::posts::posts_of;
 use action_list::{ActionList, group_parts, plan, plan_again};
-use proxy_deeds::Post;
 use plain_values::NoMemory;
+use proxy_deeds::Post;
 use remote_messages::Work;
 use run_plan::Plan;
 use std::alloc::Global;

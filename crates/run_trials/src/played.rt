@@ -69,12 +69,12 @@ fn first_words<R: Wait + Clone + Drop>(
     alloc: Global,
     ended: &Ended<MemFloor<R>>,
 ) -> Result<String, NoMemory> {
-    let berths = ended.berths.len();
-    let killed = ended.lines.iter().all(|line| line
+    let berths = ended.laid.berths.len();
+    let killed = ended.laid.lines.iter().all(|line| line
         .halves
         .as_ref()
         .is_none_or(|halves| halves.child.is_killed()));
-    let unsaid_killed = ended.unsaid.iter().all(|line| line
+    let unsaid_killed = ended.laid.unsaid.iter().all(|line| line
         .as_ref()
         .is_none_or(|line| line.child.is_killed()));
     let killed = killed && unsaid_killed;
@@ -87,8 +87,8 @@ fn push_all<R: Wait + Clone + Drop>(
     report: &str,
     told: &mut String,
 ) -> Result<(), NoMemory> {
-    let lines = ended.lines.len();
-    let started = ended.lines.iter().filter(|line| line.halves.is_some());
+    let lines = ended.laid.lines.len();
+    let started = ended.laid.lines.iter().filter(|line| line.halves.is_some());
     let counts = format!(in alloc; " lines {lines} started {}", started.count())?;
     push_line(counts.as_str(), told)?;
     told.push_str(report)?;
@@ -117,7 +117,7 @@ pub fn writes<R: Wait + Clone + Drop>(
     ended: &Ended<MemFloor<R>>,
 ) -> Result<String, NoMemory> {
     let mut told = String::new(alloc);
-    for (action, place) in ended.places.iter().enumerate() {
+    for (action, place) in ended.laid.places.iter().enumerate() {
         tell_writes(alloc, action, place.log(), &mut told)?;
     }
     Ok(told)
@@ -157,7 +157,7 @@ pub fn room<R: Wait + Clone + Drop>(
     ended: &Ended<MemFloor<R>>,
 ) -> Result<String, NoMemory> {
     let mut told = String::new(alloc);
-    let calls = match ended.berths.first() {
+    let calls = match ended.laid.berths.first() {
         Some(berth) => berth.log().unwrap_or(&[]),
         None => &[],
     };
@@ -206,7 +206,12 @@ pub fn given<R: Wait + Clone + Drop>(
     alloc: Global,
     ended: &Ended<MemFloor<R>>,
 ) -> Result<String, NoMemory> {
-    match ended.lines.first().and_then(|line| line.halves.as_ref()) {
+    match ended
+        .laid
+        .lines
+        .first()
+        .and_then(|line| line.halves.as_ref())
+    {
         Some(halves) => {
             let digits = hex::encode(alloc, halves.feed.given())?;
             Ok(format!(in alloc; "given {}\n", digits.as_str())?)

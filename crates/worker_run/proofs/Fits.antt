@@ -1,6 +1,6 @@
 -- Posts that fit a task's berths fit those of its lanes.
 use Rattle.std.specs.Prelude.{ℕ, ◌+◌, Bool, List, [], ◌∷◌}
-use Rattle.berth_lanes.specs.Seats as lanes
+use Rattle.lane_runs.specs.Seats as lanes
 use Rattle.proxy_deeds.specs.declared.post.Post.{Post}
 use Rattle.run_tasks.specs.Tasks as tasks
 

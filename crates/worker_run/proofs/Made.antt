@@ -11,6 +11,7 @@ use Rattle.exec_journal.specs.Entry.{Entry}
 use Rattle.lane_runs.specs.Runs.{EndTold, HasRun, LaidTold, Rooms}
 use Rattle.outside.specs.Told.{BerthTold, FloorTold, Makes, PlaceTold, SameFloor}
 use Rattle.remote_messages.specs.declared.work.WorkAction.{WorkAction}
+use Rattle.core_contract.specs.Terms.{Terms}
 use Rattle.core_contract.specs.Moves.{History}
 use Rattle.core_bench.specs.Objects.{AreFresh}
 use Rattle.worker_run.proofs.Numbered.{new_berths, new_places}
@@ -126,16 +127,16 @@ laid_again journal berths lines unsaid places false = refl
 
 -- what lanes have laid out is left where they ran
 pub ran_whole : (legal : History → Type 0) (rule : History → ℕ → Call → Reply)
-    (outputs : ℕ → List (List ℕ)) (actions : ℕ) (posts : List Post) (work : List WorkAction)
+    (terms : Terms) (posts : List Post) (work : List WorkAction)
     (before : List BerthTold) (x : LaidTold) → AreNewBerths (length posts) before
-    → HasRun legal rule outputs actions posts work before x
-    → WhereWhole (stage_of x.halted) (LanesRan legal rule outputs actions posts work
+    → HasRun legal rule terms posts work before x
+    → WhereWhole (stage_of x.halted) (LanesRan legal rule terms posts work
     (stage_of x.halted) (left x.journal x.berths x.lines x.unsaid x.places))
-ran_whole legal rule outputs actions posts work before x new run =
+ran_whole legal rule terms posts work before x new run =
     where_whole x.halted _ (record {
       before = before;
       new = new;
-      run = subst (λ (y : LaidTold). HasRun legal rule outputs actions posts work before y)
+      run = subst (λ (y : LaidTold). HasRun legal rule terms posts work before y)
           (sym (laid_again x.journal x.berths x.lines x.unsaid x.places x.halted)) run;
     })
 

@@ -15,7 +15,7 @@ use Rattle.exec_journal.specs.Outcomes.{is_ok, outcome_of}
 use Rattle.exec_journal.specs.Settled.{all_settled, is_settled, standings, standings_from}
 use Rattle.exec_journal.specs.Words.{halted, stopped}
 use Rattle.history_laws.proofs.OwnDiscipline.{own_legal}
-use Rattle.history_laws.specs.Disciplines.{own_discipline}
+use Rattle.core_contract.specs.Disciplines.{own_discipline}
 use Rattle.history_laws.specs.Ruled.{answer_after}
 use Rattle.journal_laws.proofs.Cleaned.{all_succeed}
 use Rattle.journal_laws.proofs.Known.{outcome_known, stopped_settled}

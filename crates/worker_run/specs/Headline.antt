@@ -10,7 +10,7 @@ use Rattle.exec_journal.specs.Legal.{Legal}
 use Rattle.exec_journal.specs.Paired.{Paired}
 use Rattle.exec_journal.specs.Race.{Race}
 use Rattle.exec_journal.specs.Entry.{Entry}
-use Rattle.history_laws.specs.Disciplines.{own_discipline}
+use Rattle.core_contract.specs.Disciplines.{own_discipline}
 use Rattle.history_laws.specs.Ruled.{answer_after}
 use Rattle.journal_laws.specs.Finished.{Finished}
 use Rattle.proxy_deeds.specs.Lines.{Back, IsKilled}

@@ -4,16 +4,16 @@ use Rattle.build_report.specs.declared.fault.Stage.{Stage}
 use Rattle.build_report.specs.declared.fault.Stage.TheVariants as stage
 use Rattle.exec_journal.specs.declared.call.Call.{Call}
 use Rattle.exec_journal.specs.declared.reply.Reply.{Reply}
-use Rattle.history_laws.specs.Disciplines.{own_discipline}
-use Rattle.history_laws.specs.Ruled.{CameAbout, answer_after}
+use Rattle.core_contract.specs.Disciplines.{own_discipline}
+use Rattle.history_laws.specs.Ruled.{CameAbout, answer_after, terms_in}
 use Rattle.proxy_deeds.specs.declared.post.Post.{Post}
 use Rattle.lane_runs.specs.Runs.{HasRun, LaidTold}
 use Rattle.outside.specs.Lists.{Tells}
 use Rattle.outside.specs.Told.{BerthTold, FloorTold, PlaceTold}
 use Rattle.remote_messages.specs.declared.work.WorkAction.{WorkAction}
+use Rattle.core_contract.specs.Terms.{Terms}
 use Rattle.core_contract.specs.Moves.{History}
 use Rattle.run_tasks.specs.declared.task.Task.{Task}
-use Rattle.history_laws.specs.Owed.{outputs_in}
 use Rattle.worker_run.specs.Seen.{Left}
 
 -- the berth with this number, of which nothing was asked yet, and which hasn't failed
@@ -75,11 +75,11 @@ laid_by fault x = record {
 -- history, and what is left is what that history says. A lane has halted exactly where memory was
 -- wanted while they were at work.
 pub record LanesRan (legal : History → Type 0) (rule : History → ℕ → Call → Reply)
-    (outputs : ℕ → List (List ℕ)) (actions : ℕ) (posts : List Post) (work : List WorkAction)
-    (fault : Option Stage) (left : Left) : Type 0 where
+    (terms : Terms) (posts : List Post) (work : List WorkAction) (fault : Option Stage)
+    (left : Left) : Type 0 where
   pub before : List BerthTold
   pub new : AreNewBerths (length posts) before
-  pub run : HasRun legal rule outputs actions posts work before (laid_by fault left)
+  pub run : HasRun legal rule terms posts work before (laid_by fault left)
 
 -- Lanes ran, and what they left is there: no memory was wanted, or only while they were at work. It is
 -- never wanted behind them.
@@ -99,5 +99,5 @@ WhereLost (Some stage.After) P = Unit {0}
 -- the lanes of this task ran by the rules of the journal of its plan
 abbrev pub TaskRan : Task → Option Stage → Left → Type 0
 TaskRan t fault left = LanesRan (CameAbout (own_discipline t.plan))
-    (answer_after (own_discipline t.plan)) (outputs_in t.plan)
-    (length t.plan.actions) t.posts.items t.work.actions fault left
+    (answer_after (own_discipline t.plan)) (terms_in (own_discipline t.plan)) t.posts.items
+    t.work.actions fault left

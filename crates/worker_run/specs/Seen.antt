@@ -28,6 +28,10 @@ left journal berths lines unsaid places = record {
   places = places;
 }
 
+-- what lanes have left
+abbrev pub left_by : LaidTold → Left
+left_by x = left x.journal x.berths x.lines x.unsaid x.places
+
 abbrev pub nothing_left : Left
 nothing_left = left [] [] [] [] []
 
@@ -46,8 +50,7 @@ stage_of false = None
 
 -- what lanes have left, with the floor
 abbrev pub ran_by : FloorTold → LaidTold → RanTold
-ran_by floor x = ran_told (stage_of x.halted) floor
-    (left x.journal x.berths x.lines x.unsaid x.places)
+ran_by floor x = ran_told (stage_of x.halted) floor (left_by x)
 
 -- the whole result of a run
 pub record EndedTold : Type 0 where

@@ -8,6 +8,7 @@ ghost use Rattle.worker_run.specs.Seen.{ended_told, nothing_left};
 use crate::running::Ran;
 use build_report::{RunFault, status};
 use exec_journal::Journal;
+use lane_runs::LaidOut;
 use outside::{Berth, Floor};
 use run_tasks::Task;
 use std::alloc::Global;
@@ -42,33 +43,19 @@ pub struct Ended<F: Floor> {
     /// What was run. `None` where no lane was started: then the lists are empty, but for the berths and
     /// the places that were made before memory was wanted.
     pub task: Option<Task>,
-    /// Every call that changed the state, with its reply, in order.
-    pub journal: Journal,
     pub floor: F,
-    /// The berths, by their numbers.
-    pub berths: Vec<F::Berth>,
-    /// The lines, one for each launch that was ordered, by their numbers.
-    pub lines: Vec<EndedLine<F>>,
-    /// For each berth the line that was started and not reported, since its lane found no memory for
-    /// that and halted. Its child was killed.
-    pub unsaid: Vec<Option<UnsaidLine<F>>>,
-    /// The places, by the numbers of their actions.
-    pub places: Vec<F::Place>,
+    /// The journal, the berths, the lines and the places.
+    pub laid: LaidOut<F::Berth, F::Place>,
 }
 
 impl<F: Floor> Model for Ended<F> {
-    ghost use Rattle.std.specs.Prelude.{map, option_map};
-    ghost use Rattle.lane_runs.specs.Runs.{end_of};
-    ghost use Rattle.proxy_steps.specs.Lanes.{back_of};
-    ghost use Rattle.worker_run.specs.Seen.{EndedTold, ended_told, left};
+    ghost use Rattle.lane_runs.specs.Runs.{laid_told};
+    ghost use Rattle.worker_run.specs.Seen.{EndedTold, ended_told, left_by};
 
     ghost Value = { EndedTold };
 
-    ghost view = { λ e. ended_told e.status e.fault (F.told e.floor) e.task (left e.journal
-        (map F.Berth.told e.berths.items)
-        (map (end_of F.Berth.Feed.told F.Berth.Tap.told F.Berth.Child.told) e.lines.items)
-        (map (option_map (back_of F.Berth.Feed.told F.Berth.Child.told)) e.unsaid.items)
-        (map F.Place.told e.places.items)) };
+    ghost view = { λ e. ended_told e.status e.fault (F.told e.floor) e.task (left_by (laid_told
+        F.Berth.told F.Berth.Feed.told F.Berth.Tap.told F.Berth.Child.told F.Place.told e.laid)) };
 }
 
 impl<F: Floor> Ended<F> {
@@ -88,23 +75,15 @@ impl<F: Floor> Ended<F> {
     {
         let Ran {
             fault: _,
-            journal,
             floor,
-            berths,
-            lines,
-            unsaid,
-            places,
+            laid,
         } = ran;
         Ended {
-            status: status_of(&fault, &task, &journal),
+            status: status_of(&fault, &task, &laid.journal),
             fault,
             task,
-            journal,
             floor,
-            berths,
-            lines,
-            unsaid,
-            places,
+            laid,
         }
     }
 }

@@ -2,12 +2,13 @@
 #![tactic(auto)]
 
 mod ended;
+mod objects;
 mod run;
 mod running;
-mod seats;
 
 pub use build_report::{RunFault, Stage, fault_line};
 pub use ended::{Ended, EndedLine, Halves, UnsaidLine};
+pub use lane_runs::{Laid, LaidOut};
 pub use run::{run_build, run_build_watched};
 pub use run_tasks::Task;
 pub use running::{Ran, run_plan};

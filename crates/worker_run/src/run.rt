@@ -135,7 +135,7 @@ fn conclude<F: Floor, O: Sink>(alloc: Global, task: Task, ran: Ran<F>, out: &mut
 {
     match ran.fault {
         None => {
-            let fault = put_report(alloc, &task, &ran.journal, out);
+            let fault = put_report(alloc, &task, &ran.laid.journal, out);
             Ended::of(ran, Some(task), fault)
         }
         Some(Stage::During) => {

@@ -1,6 +1,6 @@
 // The lanes of a plan, run on threads.
 ghost use Rattle.std.specs.Prelude.{◌≡◌, ◌≤◌, [], length, map, Some, None};
-ghost use Rattle.berth_lanes.specs.Seats.{PostsFit};
+ghost use Rattle.lane_runs.specs.Seats.{PostsFit};
 ghost use Rattle.build_report.specs.declared.fault.Stage.TheVariants as stage;
 ghost use Rattle.proxy_steps.specs.Work.{IsWorkOf};
 ghost use Rattle.lane_runs.specs.Runs.{laid_told};
@@ -8,15 +8,14 @@ ghost use Rattle.outside.specs.Told.{SameFiles};
 ghost use Rattle.worker_run.specs.Lanes.{HasMade, IsUnused, LanesRan, MakesUpTo, WhereLost, WhereWhole};
 ghost use Rattle.worker_run.specs.Seen.{left, nothing_left, ran_by, ran_told};
 
-use crate::seats::{Seats, make_seats};
-use crate::{EndedLine, UnsaidLine};
+use crate::objects::{NewObjects, make_objects};
 use build_report::Stage;
+use core_contract::Rules;
 use exec_journal::Journal;
-use proxy_deeds::Post;
 use lane_runs::{Laid, LaidOut, Unrun, run_lanes};
 use outside::{Berth, Floor};
+use proxy_deeds::Post;
 use remote_messages::Work;
-use core_contract::Rules;
 use std::alloc::Global;
 use std::marker::Model;
 use std::sync::Wait;
@@ -27,32 +26,19 @@ use std::thread::Threads;
 pub struct Ran<F: Floor> {
     /// When memory was wanted, if it was: `Before` the lanes, or `During` their work.
     pub fault: Option<Stage>,
-    /// Every call that changed the state, with its reply, in order.
-    pub journal: Journal,
     pub floor: F,
-    /// The berths, by their numbers.
-    pub berths: Vec<F::Berth>,
-    /// The lines, one for each launch that was ordered, by their numbers.
-    pub lines: Vec<EndedLine<F>>,
-    /// For each berth the line that was started and not reported.
-    pub unsaid: Vec<Option<UnsaidLine<F>>>,
-    /// The places, by the numbers of their actions.
-    pub places: Vec<F::Place>,
+    /// The journal, the berths, the lines and the places.
+    pub laid: LaidOut<F::Berth, F::Place>,
 }
 
 impl<F: Floor> Model for Ran<F> {
-    ghost use Rattle.std.specs.Prelude.{map, option_map};
-    ghost use Rattle.lane_runs.specs.Runs.{end_of};
-    ghost use Rattle.proxy_steps.specs.Lanes.{back_of};
-    ghost use Rattle.worker_run.specs.Seen.{RanTold, left, ran_told};
+    ghost use Rattle.lane_runs.specs.Runs.{laid_told};
+    ghost use Rattle.worker_run.specs.Seen.{RanTold, left_by, ran_told};
 
     ghost Value = { RanTold };
 
-    ghost view = { λ r. ran_told r.fault (F.told r.floor) (left r.journal
-        (map F.Berth.told r.berths.items)
-        (map (end_of F.Berth.Feed.told F.Berth.Tap.told F.Berth.Child.told) r.lines.items)
-        (map (option_map (back_of F.Berth.Feed.told F.Berth.Child.told)) r.unsaid.items)
-        (map F.Place.told r.places.items)) };
+    ghost view = { λ r. ran_told r.fault (F.told r.floor) (left_by (laid_told F.Berth.told
+        F.Berth.Feed.told F.Berth.Tap.told F.Berth.Child.told F.Place.told r.laid)) };
 }
 
 impl<F: Floor> Ran<F> {
@@ -74,15 +60,15 @@ impl<F: Floor> Ran<F> {
         ensures { result ≡ ran_told fault (F.told floor)
             (left [] (map F.Berth.told berths.items) [] [] (map F.Place.told places.items)) }
     {
-        Ran {
-            fault,
+        let laid = Laid {
             journal: Journal::of(Vec::new(alloc)),
-            floor,
             berths,
             lines: Vec::new(alloc),
             unsaid: Vec::new(alloc),
             places,
-        }
+            halted: false,
+        };
+        Ran { fault, floor, laid }
     }
 
     // What the lanes left, with the floor.
@@ -90,24 +76,12 @@ impl<F: Floor> Ran<F> {
         ensures { result ≡ ran_by (F.told floor) (laid_told F.Berth.told F.Berth.Feed.told
             F.Berth.Tap.told F.Berth.Child.told F.Place.told laid) }
     {
-        let Laid {
-            journal,
-            berths,
-            lines,
-            unsaid,
-            places,
-            halted,
-        } = laid;
-        let fault = if halted { Some(Stage::During) } else { None };
-        Ran {
-            fault,
-            journal,
-            floor,
-            berths,
-            lines,
-            unsaid,
-            places,
-        }
+        let fault = if laid.halted {
+            Some(Stage::During)
+        } else {
+            None
+        };
+        Ran { fault, floor, laid }
     }
 }
 
@@ -133,15 +107,13 @@ where
     <F::Berth as Berth>::Child: Send,
     requires core { C.stands core [] }
     requires actions { length work.now.actions ≤ 4096 }
-    requires seats { length posts.now ≡ C.seats (C.plan core) }
+    requires seats { length posts.now ≡ (C.terms (C.plan core)).berths }
     requires few { length posts.now ≤ 64 }
-    requires posts { PostsFit (C.remote (C.plan core)) 0 posts.now }
-    requires work { IsWorkOf (C.actions (C.plan core)) (C.outputs (C.plan core))
-        (C.makers (C.plan core)) work.now.actions }
+    requires posts { PostsFit (C.terms (C.plan core)).remote 0 posts.now }
+    requires work { IsWorkOf (C.terms (C.plan core)) work.now.actions }
     // Where lanes ran, what is left is what their one history says.
     ensures run { WhereWhole result.fault (LanesRan (C.legal (C.plan core)) (C.rule (C.plan core))
-        (C.outputs (C.plan core)) (C.actions (C.plan core)) posts.now work.now.actions
-        result.fault result.left) }
+        (C.terms (C.plan core)) posts.now work.now.actions result.fault result.left) }
     ensures lost { WhereLost result.fault (IsUnused result.left) }
     // All that the floor has made is left, and it has never made more than a plan may have.
     ensures made { HasMade (F.told floor) result.floor result.left }
@@ -152,13 +124,13 @@ where
 {
     let mut floor = floor;
     let actions = work.actions.as_slice();
-    let seats = make_seats(alloc, &mut floor, posts.len(), actions.len());
-    let all = seats.has_all(posts.len(), actions.len());
-    let Seats { places, berths } = seats;
+    let objects = make_objects(alloc, &mut floor, posts.len(), actions.len());
+    let all = objects.has_all(posts.len(), actions.len());
+    let NewObjects { places, berths } = objects;
     if !all {
         return Ran::unused(alloc, floor, Some(Stage::Before), berths, places);
     }
-    match run_lanes(rt, alloc, core, places, berths, posts, actions) {
+    match run_lanes(rt, alloc, core, Unrun { berths, places }, posts, actions) {
         Ok(laid) => Ran::of(floor, laid),
         Err(unrun) => {
             let Unrun { berths, places } = unrun;

@@ -45,12 +45,8 @@ fn main(rt: HostRuntime) -> ExitCode {
         status,
         fault,
         task,
-        journal,
         mut floor,
-        berths,
-        lines,
-        unsaid: _,
-        places,
+        laid,
     } = run(rt, alloc, &words, floor, screen);
     if let Some(fault) = &fault {
         tell(&rt, alloc, PROGRAM, &words, fault, floor.last_error());
@@ -58,10 +54,10 @@ fn main(rt: HostRuntime) -> ExitCode {
     } else if let Some(task) = &task {
         let left = Left {
             plan: &task.plan,
-            entries: journal.entries(),
-            berths: &berths,
-            lines: &lines,
-            places: &places,
+            entries: laid.journal.entries(),
+            berths: &laid.berths,
+            lines: &laid.lines,
+            places: &laid.places,
         };
         tell_reasons(&rt, alloc, status, &left);
     }

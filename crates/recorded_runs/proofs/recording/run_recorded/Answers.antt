@@ -42,7 +42,7 @@ returns-in-Some-put_text-clause-report g c =
     ∙ c.if-is_some.false) in
     let its : b.result.task ≡ Some c.in-Some.task =
     cc (c.in-Some.is, ap (λ (e : EndedTold). e.task) view) in
-    let path : c.ended.inside.journal ≡ b.result.left.journal =
+    let path : c.ended.inside.laid.journal ≡ b.result.left.journal =
     cc (ap (λ (e : EndedTold). e.left.journal) view) in
     let mid = g.O.Sink.told b.new.out in
     let new = g.O.Sink.told c.put_text.new.out in
@@ -62,7 +62,7 @@ returns-in-None-put_text-clause-report g c =
     ∙ c.if-is_some.false) in
     let its : b.result.task ≡ Some c.in-Some.task =
     cc (c.in-Some.is, ap (λ (e : EndedTold). e.task) view) in
-    let path : c.ended.inside.journal ≡ b.result.left.journal =
+    let path : c.ended.inside.laid.journal ≡ b.result.left.journal =
     cc (ap (λ (e : EndedTold). e.left.journal) view) in
     let mid = g.O.Sink.told b.new.out in
     let new = g.O.Sink.told c.put_text.new.out in
@@ -95,7 +95,7 @@ returns-in-None-put_text-clause-judged g c =
     let view = c.ended.view_is in
     let its : b.result.task ≡ Some c.in-Some.task =
     cc (c.in-Some.is, ap (λ (e : EndedTold). e.task) view) in
-    let path : c.ended.inside.journal ≡ b.result.left.journal =
+    let path : c.ended.inside.laid.journal ≡ b.result.left.journal =
     cc (ap (λ (e : EndedTold). e.left.journal) view) in
     yes_if b.result c.in-Some.task its (subst (λ (j : List Entry). IsJudgedYes c.in-Some.task.plan j) path
     c.in-None-put_text.ensures.judged)

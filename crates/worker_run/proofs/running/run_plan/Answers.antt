@@ -11,31 +11,31 @@ use Rattle.worker_run.proofs.running.run_plan.Goals as goal
 pub run_lanes-requires-clause-places : goal.run_lanes-requires-clause-places
 run_lanes-requires-clause-places g c κs within =
     let as_slice = ap (λ (xs : List WorkAction). length xs) c.as_slice-actions.ensures in
-    subst (λ (n : ℕ). AreFresh g.F.Place.Place.told n c.make_seats-seats.result.places.items)
+    subst (λ (n : ℕ). AreFresh g.F.Place.Place.told n c.make_objects-objects.result.places.items)
     ((c.has_all-all.ensures c.if-not-all.false).1 ∙ (as_slice ∙ c.requires.work.as_many))
-    c.make_seats-seats.ensures.places
+    c.make_objects-objects.ensures.places
 
 pub returns-then-not-all-clause-lost : goal.returns-then-not-all-clause-lost
 returns-then-not-all-clause-lost g c =
     rw (c.unused.ensures) (unused g.F.Berth.Berth.told g.F.Place.Place.told _ _
-    c.make_seats-seats.result.berths.items c.make_seats-seats.result.places.items
-    c.make_seats-seats.ensures.berths c.make_seats-seats.ensures.places)
+    c.make_objects-objects.result.berths.items c.make_objects-objects.result.places.items
+    c.make_objects-objects.ensures.berths c.make_objects-objects.ensures.places)
 
 pub returns-then-not-all-clause-made : goal.returns-then-not-all-clause-made
 returns-then-not-all-clause-made g c =
     rw (c.unused.ensures) (made_unused g.F.Berth.Berth.told g.F.Place.Place.told _ _
-    c.make_seats-seats.result.berths.items c.make_seats-seats.result.places.items
-    (g.F.Floor.told c.args.floor) (g.F.Floor.told c.make_seats-seats.new.floor)
-    c.make_seats-seats.ensures.made refl refl)
+    c.make_objects-objects.result.berths.items c.make_objects-objects.result.places.items
+    (g.F.Floor.told c.args.floor) (g.F.Floor.told c.make_objects-objects.new.floor)
+    c.make_objects-objects.ensures.made refl refl)
 
 pub returns-in-Ok-clause-made : goal.returns-in-Ok-clause-made
 returns-in-Ok-clause-made g c =
     let run = c.in-Ok.ensures.run in
     let all = c.has_all-all.ensures c.if-not-all.false in
     let as_slice = ap (λ (xs : List WorkAction). length xs) c.as_slice-actions.ensures in
-    rw (c.of.ensures) (made_left (length c.make_seats-seats.result.berths.items)
-    (length c.make_seats-seats.result.places.items) (g.F.Floor.told c.args.floor)
-    (g.F.Floor.told c.make_seats-seats.new.floor) _ c.make_seats-seats.ensures.made
+    rw (c.of.ensures) (made_left (length c.make_objects-objects.result.berths.items)
+    (length c.make_objects-objects.result.places.items) (g.F.Floor.told c.args.floor)
+    (g.F.Floor.told c.make_objects-objects.new.floor) _ c.make_objects-objects.ensures.made
     (rooms_length _ _ _ _ 0 c.args.posts.now _ _ _ run.rooms ∙ sym all.0)
     (run.outs.as_many ∙ (sym c.requires.work.as_many ∙ (sym as_slice ∙ sym all.1))))
 
@@ -45,12 +45,12 @@ returns-in-Ok-clause-run g c =
     let p = g.C.Rules.plan c.args.core in
     let laid = laid_told g.F.Berth.Berth.told g.F.Berth.Feed.Feed.told g.F.Berth.Tap.Tap.told
     g.F.Berth.Child.Child.told g.F.Place.Place.told c.in-Ok.laid in
-    let before = map g.F.Berth.Berth.told c.make_seats-seats.result.berths.items in
+    let before = map g.F.Berth.Berth.told c.make_objects-objects.result.berths.items in
     let new = subst (λ (n : ℕ). AreNewBerths n before) (c.has_all-all.ensures c.if-not-all.false).0
-    c.make_seats-seats.ensures.berths in
-    let run = subst (λ (ws : List WorkAction). HasRun (r.legal p) (r.rule p) (r.outputs p) (r.actions p)
+    c.make_objects-objects.ensures.berths in
+    let run = subst (λ (ws : List WorkAction). HasRun (r.legal p) (r.rule p) (r.terms p)
     c.args.posts.now ws before laid) c.as_slice-actions.ensures c.in-Ok.ensures.run in
-    rw (c.of.ensures) (ran_whole (r.legal p) (r.rule p) (r.outputs p) (r.actions p) c.args.posts.now
+    rw (c.of.ensures) (ran_whole (r.legal p) (r.rule p) (r.terms p) c.args.posts.now
     c.args.work.now.actions before laid new run)
 
 pub returns-in-Ok-clause-lost : goal.returns-in-Ok-clause-lost
@@ -61,8 +61,8 @@ returns-in-Ok-clause-lost g c =
 
 pub returns-in-Err-clause-lost : goal.returns-in-Err-clause-lost
 returns-in-Err-clause-lost g c =
-    let berths = subst (λ (bs : List g.row.F-Berth.Denot). AreNewBerths (length c.make_seats-seats.result.berths.items)
-    (map g.F.Berth.Berth.told bs)) (sym c.in-Err.ensures.back.0) c.make_seats-seats.ensures.berths in
+    let berths = subst (λ (bs : List g.row.F-Berth.Denot). AreNewBerths (length c.make_objects-objects.result.berths.items)
+    (map g.F.Berth.Berth.told bs)) (sym c.in-Err.ensures.back.0) c.make_objects-objects.ensures.berths in
     rw (c.unused-in-Err.ensures) (unused g.F.Berth.Berth.told g.F.Place.Place.told _ _
     c.in-Err.unrun.berths.items c.in-Err.unrun.places.items berths c.in-Err.ensures.back.1)
 
@@ -72,6 +72,6 @@ returns-in-Err-clause-made g c =
     let as_slice = ap (λ (xs : List WorkAction). length xs) c.as_slice-actions.ensures in
     rw (c.unused-in-Err.ensures) (made_unused g.F.Berth.Berth.told g.F.Place.Place.told _ _
     c.in-Err.unrun.berths.items c.in-Err.unrun.places.items (g.F.Floor.told c.args.floor)
-    (g.F.Floor.told c.make_seats-seats.new.floor) c.make_seats-seats.ensures.made
+    (g.F.Floor.told c.make_objects-objects.new.floor) c.make_objects-objects.ensures.made
     (ap length c.in-Err.ensures.back.0)
     (c.in-Err.ensures.back.1.as_many ∙ (sym c.requires.work.as_many ∙ (sym as_slice ∙ sym all.1))))

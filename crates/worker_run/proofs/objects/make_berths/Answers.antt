@@ -2,7 +2,7 @@
 use Rattle.std.proofs.Common.{arith, ◌∙◌}
 use Rattle.worker_run.proofs.Made.{makes_on}
 use Rattle.worker_run.proofs.Numbered.{one_more_berth}
-use Rattle.worker_run.proofs.seats.make_berths.Goals as goal
+use Rattle.worker_run.proofs.objects.make_berths.Goals as goal
 
 pub loop-number-preserved : goal.loop-number-preserved
 loop-number-preserved g c =

@@ -9,12 +9,12 @@ use std::alloc::Global;
 
 /// What the lanes of a plan work with.
 #[derive(Drop)]
-pub struct Seats<F: Floor> {
+pub struct NewObjects<F: Floor> {
     pub places: Vec<F::Place>,
     pub berths: Vec<F::Berth>,
 }
 
-impl<F: Floor> Seats<F> {
+impl<F: Floor> NewObjects<F> {
     /// Whether so many berths and places are there.
     pub fn has_all(&self, berths: usize, actions: usize) -> bool
         ensures { result ≡ true → (length self.now.berths.items ≡ berths)
@@ -26,7 +26,12 @@ impl<F: Floor> Seats<F> {
 
 /// Makes so many places and berths, each in the order of their numbers, and the places first; or of
 /// either as many as there is memory for.
-pub fn make_seats<F: Floor>(alloc: Global, floor: &mut F, berths: usize, actions: usize) -> Seats<F>
+pub fn make_objects<F: Floor>(
+    alloc: Global,
+    floor: &mut F,
+    berths: usize,
+    actions: usize,
+) -> NewObjects<F>
     requires berths { berths ≤ 64 }
     requires actions { actions ≤ 4096 }
     ensures places { AreFresh F.Place.told (length result.places.items) result.places.items }
@@ -41,7 +46,7 @@ pub fn make_seats<F: Floor>(alloc: Global, floor: &mut F, berths: usize, actions
 {
     let places = make_places(alloc, floor, actions);
     let berths = make_berths(alloc, floor, berths);
-    Seats { places, berths }
+    NewObjects { places, berths }
 }
 
 // Makes places for the first so many actions, in order; or as many as there is memory for.

@@ -1,7 +1,7 @@
 use Rattle.std.proofs.Common.{◌≡◌, ◌≤◌, map, vec_len, vec_capacity}
 use Rattle.outside.specs.Told.{Makes}
 use Rattle.worker_run.specs.Lanes.{AreNewBerths}
-use Rattle.worker_run.proofs.seats.make_berths.Given as goal
+use Rattle.worker_run.proofs.objects.make_berths.Given as goal
 
 abbrev pub invariant-loop-number : goal.invariant-loop-number
 invariant-loop-number g l = record {
