@@ -34,7 +34,8 @@ pub fn pool_jobs<T: Tap + Send, O: Sink + Send, S: Shop + Send, R: Threads + Wai
     lanes: Vec<JobLane<S>>,
 ) -> Result<LanesEnded<T, O>, NoMemory>
     requires { AreHandlers (length lanes.items) }
-    ensures { IfOk result (λ s. Pools S.told s.finish (told_by T.told O.told streams.tap streams.sink)
+    ensures { IfOk result (λ s. Pools S.told s.finish
+        (told_by T.told O.told streams.tap streams.sink)
         (told_by T.told O.told s.tap s.sink)) }
 {
     let Streams { tap, sink } = streams;
