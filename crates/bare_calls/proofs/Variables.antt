@@ -7,7 +7,7 @@ use Rattle.std.specs.declared.process.command.Command.{Command}
 use Rattle.std.proofs.lemmas.List.Sums.{fold-append}
 use Rattle.std.proofs.lemmas.Slice.Eq.{bytes_eq-Decides}
 use Rattle.std.proofs.lemmas.List.{take_more}
-use Rattle.outside.specs.declared.command.Variable.{Variable}
+use Rattle.plain_values.specs.declared.command.Variable.{Variable}
 use Rattle.bare_calls.specs.Starts.{SetsOne, SetsEach, value_after}
 
 -- one variable, by whether it is the one that was set

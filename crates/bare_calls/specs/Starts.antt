@@ -3,7 +3,7 @@ use Rattle.std.specs.Prelude.{◌≡◌, ◌++◌, ℕ, List, true, Option, Some
 use Rattle.std.specs.Str.{bytes_eq}
 use Rattle.std.specs.Process.{command_program, command_args, command_dir, clears_env, command_var, SameProgramAndArgs, SameEnv, SameOtherVars, SameDir}
 use Rattle.std.specs.declared.process.command.Command.{Command}
-use Rattle.outside.specs.declared.command.Variable.{Variable}
+use Rattle.plain_values.specs.declared.command.Variable.{Variable}
 
 -- what is said of a variable after these are set in order, where this was said before
 abbrev pub value_after : List Variable → List ℕ → Option (Option (List ℕ))

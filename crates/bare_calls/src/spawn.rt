@@ -4,8 +4,7 @@ ghost use Rattle.bare_calls.specs.Paths.{program_from};
 ghost use Rattle.bare_calls.specs.Starts.{IsStart, AddsWords, SetsOne, SetsEach};
 
 use crate::paths::program_from;
-use outside::{Command, Variable};
-use plain_values::Text;
+use plain_values::{Command, Text, Variable};
 use std::alloc::{AllocError, Global};
 use std::io::{self, ErrorKind, Read};
 use std::process::{self, ExitStatus, Processes, Stdio, SystemProcess};

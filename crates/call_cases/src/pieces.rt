@@ -1,9 +1,9 @@
 // Streams that come in pieces.
 use delimited_framing::Next;
+use file_digests::digest_of;
 use json_framing::{Cutter, Framing};
 use plain_values::NoMemory;
 use std::alloc::Global;
-use worker_key::digest_of;
 
 /// The largest frame, as for messages.
 pub const LARGEST: u64 = 67_108_864;

@@ -12,7 +12,7 @@ use Rattle.remote_messages.specs.declared.work.WorkInput.{WorkInput}
 use Rattle.sandbox_rooms.specs.declared.room.Room.{Room}
 use Rattle.sandbox_rooms.specs.declared.room.Room.TheVariants as room
 use Rattle.sandbox_rooms.specs.Rooms.{part_of}
-use Rattle.worker_key.specs.Keys.{digest_text}
+use Rattle.file_digests.specs.Digests.{digest_text}
 
 -- The room of a request with this number, by the kind of its line. The executor has rooms of its
 -- own.

@@ -1,16 +1,16 @@
 ghost use Rattle.std.specs.Prelude.{◌≡◌, IfOk, map, slice_get, Some};
 ghost use Rattle.remote_messages.specs.declared.work.WorkInput.{WorkInput};
-ghost use Rattle.worker_key.specs.Keys.{digest_text};
+ghost use Rattle.file_digests.specs.Digests.{digest_text};
 ghost use Rattle.due_frames.specs.Requests.{AreFrom, IsFrom, input_of, cancelling, room_for, sandbox_for};
 ghost use Rattle.due_frames.specs.Due.{HasSources, request_due};
 
+use file_digests::digest_of;
 use plain_values::{Items, NoMemory, Text, texts_again};
 use remote_messages::{NamedFile, Origin, WorkAction, WorkInput};
 use run_plan::Kind;
 use sandbox_rooms::Room;
 use std::alloc::Global;
 use wire_messages::{Input, WorkRequest};
-use worker_key::digest_of;
 
 /// How much a worker may print that was asked to say more.
 const VERBOSE: i32 = 10;

@@ -13,7 +13,7 @@ use Rattle.remote_messages.specs.declared.job.Job.{Job}
 use Rattle.remote_messages.specs.declared.job_result.JobResult.{JobResult}
 use Rattle.outside.specs.Causes.{Counts}
 use Rattle.outside.specs.Lists.{Adds}
-use Rattle.outside.specs.declared.command.Variable.{Variable}
+use Rattle.plain_values.specs.declared.command.Variable.{Variable}
 use Rattle.message_service.specs.Calls.{Made, has_failed, run_failed}
 use Rattle.message_service.proofs.Made.{made_on, made_nothing}
 use Rattle.job_runner.specs.Calls.{Asked, cannot_read, cannot_write, run_refusal, WentWell, StopsAt}

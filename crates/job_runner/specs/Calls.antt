@@ -5,7 +5,7 @@ use Rattle.outside.specs.declared.answers.Io.{Io}
 use Rattle.outside.specs.declared.answers.Io.TheVariants as io
 use Rattle.outside.specs.declared.answers.Read.{Read}
 use Rattle.outside.specs.declared.answers.Read.TheVariants as read
-use Rattle.outside.specs.declared.command.Variable.{Variable}
+use Rattle.plain_values.specs.declared.command.Variable.{Variable}
 use Rattle.outside.specs.declared.shop.JobEnd.{JobEnd}
 use Rattle.outside.specs.declared.shop.JobEnd.TheVariants as end
 use Rattle.outside.specs.declared.shop.ShopCall.{ShopCall}

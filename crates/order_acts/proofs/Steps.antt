@@ -8,7 +8,7 @@ use Rattle.outside.specs.Told.{BerthTold, FeedTold, SameBerth, SameFeed}
 use Rattle.outside.specs.declared.answers.Io.TheVariants as io
 use Rattle.outside.specs.declared.berth.BerthCall.{BerthCall}
 use Rattle.outside.specs.declared.berth.BerthCall.TheVariants as call
-use Rattle.outside.specs.declared.command.Command.{Command}
+use Rattle.plain_values.specs.declared.command.Command.{Command}
 use Rattle.exec_journal.specs.declared.call.Written.{Written}
 use Rattle.exec_journal.specs.declared.call.Written.TheVariants as write
 use Rattle.sandbox_rooms.specs.Calls.{Asked, Whole, Stopped, Cut, MakesRun}
@@ -60,7 +60,7 @@ module _ {D T C : Type 0} where
 
 -- ---- Send
 
--- memory was wanted
+-- memory ran out
 pub send_cut : (asks : List Asked) (frame : List ℕ) (e : NoMemory) (old new : BerthTold) (feed : FeedTold) → MakesRun Cut asks old new → Sends asks frame (Err e) old new feed feed
 send_cut asks frame e old new feed h = (h.0, [], (h.1, refl), h.2, gave_none feed)
 

@@ -8,7 +8,7 @@ use Rattle.outside.specs.Told.{BerthTold, FeedTold, SameFeed}
 use Rattle.outside.specs.declared.answers.Io.TheVariants as io
 use Rattle.outside.specs.declared.berth.BerthCall.{BerthCall}
 use Rattle.outside.specs.declared.berth.BerthCall.TheVariants as call
-use Rattle.outside.specs.declared.command.Command.{Command}
+use Rattle.plain_values.specs.declared.command.Command.{Command}
 use Rattle.exec_journal.specs.declared.call.Started.{Started}
 use Rattle.exec_journal.specs.declared.call.Started.TheVariants as start
 use Rattle.exec_journal.specs.declared.call.Written.{Written}
@@ -74,7 +74,7 @@ module _ {D T C : Type 0} where
   OnOpened opened.RoomFault P = Unit {0}
   OnOpened opened.LaunchFault P = Unit {0}
 
-  -- with no report, since memory was wanted, the room was emptied and nothing started
+  -- with no report, since memory ran out, the room was emptied and nothing started
   abbrev pub LaunchDone : ℕ → Command → Result (Opened D T C) NoMemory → List BerthCall → Type 0
   LaunchDone line command (Ok o) calls = LaunchedBy line command (started_as o) calls
   LaunchDone line command (Err e) calls = calls ≡ call.Clear [] io.Done ∷ []
@@ -114,7 +114,7 @@ SentBy asks frame write.FeedFault calls given = Runs Whole asks calls × IsFront
 SentBy asks frame write.RoomFault calls given = Runs Stopped asks calls × (given ≡ [])
 SentBy asks frame write.TooLarge calls given = ⊥
 
--- with no report, since memory was wanted, nothing was given
+-- with no report, since memory ran out, nothing was given
 abbrev pub SendDone : List Asked → List ℕ → Result Written NoMemory → List BerthCall → List ℕ
     → Type 0
 SendDone asks frame (Ok how) calls given = SentBy asks frame how calls given

@@ -1,8 +1,7 @@
 ghost use Rattle.std.specs.Prelude.{◌≡◌, IfOk};
 ghost use Rattle.remote_branch.specs.Jobs.{job_for, cancel_for};
 
-use outside::variables_again;
-use plain_values::{Items, NoMemory, Text, texts_again};
+use plain_values::{Items, NoMemory, Text, texts_again, variables_again};
 use remote_messages::{Job, NamedFile, WorkAction};
 use std::alloc::Global;
 

@@ -12,7 +12,7 @@ use Rattle.wire_fields.specs.After.{IsText}
 use Rattle.wire_fields.proofs.Messages.{spells_or_faulty, one_message, AreSpelled-same}
 use Rattle.wire_fields.proofs.Again.{whole_again, AreWritable-append}
 use Rattle.wire_fields.proofs.Values.{int32_bits, by_numbers, by_spans, last-own_number, spans-own_repeated, flag_again, IsSound-append, int32_writable, bool_writable, repeated_writable, repeated_sound, number_sound, written_spelled, texts_fine, messages_fine, one_or, one_text, one_embedded, apart}
-use Rattle.outside.specs.declared.command.Variable.{Variable}
+use Rattle.plain_values.specs.declared.command.Variable.{Variable}
 use Rattle.remote_messages.specs.declared.file.NamedFile.{NamedFile}
 use Rattle.remote_messages.specs.declared.job.Job.{Job}
 use Rattle.remote_messages.specs.File.{IsFile, file_refuses, SpellsFile, FaultyFile, IsFileValue}

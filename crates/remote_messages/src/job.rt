@@ -8,8 +8,7 @@ ghost use Rattle.remote_messages.specs.declared.job.Job.{Job};
 
 use crate::environment::{env_len, push_env, take_variable};
 use crate::file::NamedFile;
-use outside::Variable;
-use plain_values::{Items, NoMemory, Text};
+use plain_values::{Items, NoMemory, Text, Variable};
 use std::alloc::Global;
 use wire_messages::{
     Message, MessageFault, Value, bool_len, decode, encode, int32_len, messages_len, push_bool,

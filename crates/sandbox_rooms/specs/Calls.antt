@@ -10,7 +10,7 @@ use Rattle.outside.specs.declared.answers.Read.{Read}
 use Rattle.outside.specs.declared.answers.Read.TheVariants as read
 use Rattle.outside.specs.declared.berth.BerthCall.{BerthCall}
 use Rattle.outside.specs.declared.berth.BerthCall.TheVariants as call
-use Rattle.outside.specs.declared.command.Command.{Command}
+use Rattle.plain_values.specs.declared.command.Command.{Command}
 
 -- a call on a berth, without its answer
 pub data Asked : Type 0 where

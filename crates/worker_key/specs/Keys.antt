@@ -3,18 +3,13 @@ use Rattle.std.specs.Prelude.{◌≡◌, ℕ, ◌^◌, ◌<◌, Bool, if◌then�
 use Rattle.std.specs.List.{AllByRecursion, flat_map}
 use Rattle.std.specs.Fmt.{decimal}
 use Rattle.std.specs.Int.{w64, to_be_bytes}
-use Rattle.hex.specs.Hex.{encode_lower}
-use Rattle.sha2.specs.Sha256.{sha256}
+use Rattle.file_digests.specs.Digests.{digest_text}
 use Rattle.worker_key.specs.declared.key.KeyParts.{KeyParts}
 use Rattle.worker_key.specs.declared.key.Mode.{Mode}
 use Rattle.worker_key.specs.declared.key.Mode.TheVariants as mode
 use Rattle.worker_key.specs.declared.key.Named.{Named}
 use Rattle.worker_key.specs.declared.key.Tool.{Tool}
 use Rattle.worker_key.specs.declared.key.WorkerKey.{WorkerKey}
-
--- the 64 lower-case hexadecimal digits of the SHA-256 of the bytes
-abbrev pub digest_text : List ℕ → List ℕ
-digest_text bytes = encode_lower (sha256 bytes)
 
 abbrev pub named_tool : Tool → Named
 named_tool t = record { name = t.path; value = digest_text t.bytes }

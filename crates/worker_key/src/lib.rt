@@ -6,4 +6,3 @@ mod making;
 mod written;
 
 pub use key::{KeyParts, Mode, Named, Tool, WorkerKey};
-pub use making::digest_of;

@@ -1,10 +1,9 @@
 ghost use Rattle.std.specs.Prelude.{◌≡◌, IfOk, map};
-ghost use Rattle.worker_key.specs.Keys.{digest_text, key_of, named_tool};
+ghost use Rattle.worker_key.specs.Keys.{key_of, named_tool};
 
 use crate::{KeyParts, Named, Tool, WorkerKey};
-use hex::encode;
+use file_digests::digest_of;
 use plain_values::{Items, NoMemory, Text, texts_again};
-use sha2::{Digest, Sha256};
 use std::alloc::Global;
 
 impl WorkerKey {
@@ -52,11 +51,4 @@ fn tools_named(alloc: Global, tools: &[Tool]) -> Result<Items<Named>, NoMemory>
         })?;
     }
     Ok(Items::of(named))
-}
-
-/// The digits of the digest of these bytes.
-pub fn digest_of(alloc: Global, bytes: &[u8]) -> Result<Text, NoMemory>
-    ensures { IfOk result (λ t. t ≡ digest_text bytes.now) }
-{
-    Ok(Text::of(encode(alloc, Sha256::digest(bytes))?))
 }

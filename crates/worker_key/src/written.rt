@@ -1,10 +1,11 @@
 ghost use Rattle.std.specs.Prelude.{◌≡◌, ◌++◌, ◌^◌, ◌<◌, ◌∷◌, [], IfOk, OnOk, length};
 ghost use Rattle.std.specs.List.{flat_map};
 ghost use Rattle.std.specs.Fmt.{decimal};
-ghost use Rattle.worker_key.specs.Keys.{AreOnlyOf, AreShort, canonical, counted, digest_text, listed, pairs, letters};
+ghost use Rattle.worker_key.specs.Keys.{AreOnlyOf, AreShort, canonical, counted, listed, pairs, letters};
+ghost use Rattle.file_digests.specs.Digests.{digest_text};
 
-use crate::making::digest_of;
 use crate::{Mode, Named, WorkerKey};
+use file_digests::digest_of;
 use plain_values::{NoMemory, Text};
 use std::alloc::Global;
 

@@ -1,6 +1,6 @@
 ghost use Rattle.std.specs.Prelude.{◌≡◌, List, ℕ, IfOk};
 ghost use Rattle.std.specs.Arc.{arc_value};
-ghost use Rattle.worker_key.specs.Keys.{digest_text};
+ghost use Rattle.file_digests.specs.Digests.{digest_text};
 
 use crate::digest::{Digits, digits_of};
 use crate::slot::DigitSlot;

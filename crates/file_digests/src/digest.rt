@@ -1,10 +1,11 @@
 ghost use Rattle.std.specs.Prelude.{◌≡◌, IfOk};
-ghost use Rattle.worker_key.specs.Keys.{digest_text};
+ghost use Rattle.file_digests.specs.Digests.{digest_text};
 
 use counted_slot::Fits;
-use plain_values::{Blob, Items, NoMemory};
+use hex::encode;
+use plain_values::{Blob, Items, NoMemory, Text};
+use sha2::{Digest, Sha256};
 use std::alloc::Global;
-use worker_key::digest_of;
 
 /// The digits of the digest of some contents.
 #[derive(Drop)]
@@ -18,8 +19,18 @@ impl Fits for Digits {
     ghost fits = { λ content d. d.digits ≡ digest_text content };
 }
 
-/// Computes the 64 lower-case hexadecimal digits of the SHA-256 of the bytes, as an input of a
-/// request has them.
+/// The 64 lower-case hexadecimal digits of the SHA-256 of the bytes.
+///
+/// # Errors
+///
+/// `NoMemory` where there is no memory for them.
+pub fn digest_of(alloc: Global, bytes: &[u8]) -> Result<Text, NoMemory>
+    ensures { IfOk result (λ t. t ≡ digest_text bytes.now) }
+{
+    Ok(Text::of(encode(alloc, Sha256::digest(bytes))?))
+}
+
+/// The same digits as a list of bytes, as an input of a request has them.
 pub(crate) fn digits_of(alloc: Global, bytes: &[u8]) -> Result<Items<u8>, NoMemory>
     ensures { IfOk result (λ digits. digits ≡ digest_text bytes.now) }
 {

@@ -1,6 +1,6 @@
 ghost use Rattle.std.specs.Prelude.{◌≡◌, ◌%◌, ◌<◌, IfOk, IfSome};
 ghost use Rattle.counted_slot.specs.Counting.{readers, IsTurn};
-ghost use Rattle.worker_key.specs.Keys.{digest_text};
+ghost use Rattle.file_digests.specs.Digests.{digest_text};
 
 use crate::digest::Digits;
 use counted_slot::{Claim, Counted, FREE, MOST_READERS, ONE_READER, PRESENT, TAKEN};
