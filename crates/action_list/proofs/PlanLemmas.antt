@@ -3,7 +3,7 @@ use Rattle.std.proofs.Common.{◌≡◌, ℕ, ◌+◌, List, [], map, Option, re
 use Rattle.run_plan.specs.declared.plan.Group.{Group}
 use Rattle.run_plan.specs.declared.plan.Plan.{Plan}
 use Rattle.run_plan.specs.declared.plan.PlanAction.{PlanAction}
-use Rattle.list_order.specs.declared.types.ListAction.{ListAction}
+use Rattle.list_actions.specs.declared.types.ListAction.{ListAction}
 use Rattle.action_list.specs.Keys.{keys_of}
 use Rattle.action_list.specs.Plans.{groups_of, local_key, plan_actions, plan_of}
 use Rattle.action_list.proofs.SoundActions.{planned}

@@ -10,15 +10,15 @@ use Rattle.std.specs.Str.{bytes_eq}
 use Rattle.run_plan.specs.declared.plan.Plan.{Plan}
 use Rattle.run_plan.specs.declared.plan.PlanAction.{PlanAction}
 use Rattle.run_plan.specs.Sound.{are_sound_from, has_branches, is_sound_action, Sound}
-use Rattle.list_order.specs.declared.types.ListAction.{ListAction}
-use Rattle.list_order.specs.declared.types.Strategy.{Strategy}
-use Rattle.list_order.specs.declared.types.Strategy.TheVariants as strategy
+use Rattle.list_actions.specs.declared.types.ListAction.{ListAction}
+use Rattle.list_actions.specs.declared.types.Strategy.{Strategy}
+use Rattle.list_actions.specs.declared.types.Strategy.TheVariants as strategy
 use Rattle.action_list.specs.Checks.{has_local, has_remote}
 use Rattle.action_list.specs.Keys.{key_bytes, keys_from, keys_of, with_bytes, with_key}
-use Rattle.list_order.specs.Order.{is_among}
+use Rattle.list_actions.specs.Order.{is_among}
 use Rattle.action_list.specs.Plans.{executor_groups, groups_of, key_group, local_key, number_of, plan_action, plan_actions, remote_users, share, users}
-use Rattle.list_order.specs.Whole.{IsWhole}
-use Rattle.list_order.proofs.Late.{is_among-append}
+use Rattle.list_actions.specs.Whole.{IsWhole}
+use Rattle.list_actions.proofs.Late.{is_among-append}
 use Rattle.action_list.proofs.SoundGroups.{executor, few_berths, few_keys, length-groups, sound_groups}
 use Rattle.action_list.proofs.SoundMakers.{sound_makers}
 

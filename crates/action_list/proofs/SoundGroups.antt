@@ -1,6 +1,6 @@
 -- The groups of a plan have at most 64 berths, and no executor has cancellation.
-use Rattle.std.proofs.Common.{◌≡◌, ℕ, zero, suc, ◌+◌, ◌≤◌, Bool, true, false, cond, nat_eq, List, [], ◌∷◌, ◌++◌, length, map, sum_by, min, leb, Option, Some, None, refl, sym, ap, ◌∙◌, arith, length-append}
-use Rattle.std.proofs.lemmas.Bool.{and_from, leb-true}
+use Rattle.std.proofs.Common.{◌≡◌, ℕ, zero, suc, ◌+◌, ◌≤◌, ◌<◌, Bool, true, false, cond, nat_eq, List, [], ◌∷◌, ◌++◌, length, map, sum_by, min, leb, Option, Some, None, refl, sym, subst, ap, ◌∙◌, arith, length-append}
+use Rattle.std.proofs.lemmas.Bool.{and_from, le-leb, leb-true, leb-false}
 use Rattle.std.proofs.lemmas.List.{length-map}
 use Rattle.std.proofs.lemmas.List.Folds.{list_all-append}
 use Rattle.std.proofs.lemmas.List.Sums.{sum_by-append, sum_by-cons}
@@ -10,11 +10,11 @@ use Rattle.run_plan.specs.declared.plan.Kind.TheVariants as kind
 use Rattle.run_plan.specs.Sound.{is_sound_group}
 use Rattle.worker_key.specs.declared.key.Mode.{Mode}
 use Rattle.worker_key.specs.declared.key.Mode.TheVariants as mode
-use Rattle.list_order.specs.declared.types.ListAction.{ListAction}
+use Rattle.list_actions.specs.declared.types.ListAction.{ListAction}
 use Rattle.action_list.specs.Checks.{has_local}
 use Rattle.action_list.specs.Keys.{key_bytes, keys_from, keys_of, mode_of, with_bytes, with_key}
-use Rattle.list_order.specs.Order.{is_among}
-use Rattle.action_list.specs.Plans.{berths_at, executor_groups, group_by, groups_of, key_group, kind_by, remote_users, share, users}
+use Rattle.list_actions.specs.Order.{is_among}
+use Rattle.action_list.specs.Plans.{AreFew, IsGreatest, berths_at, executor_groups, group_by, groups_of, key_group, kind_by, remote_users, share, users}
 
 -- ---- how many keys there are
 
@@ -64,7 +64,7 @@ key_berths xs held n (key ∷ keys) =
     ∙ ap (λ s. min n (users held key) + s) (key_berths xs held n keys)
     ∙ sym (sum_by-cons (λ count. min n count) (users held key) (map (users held) keys))
 
-no_berths : (counts : List ℕ) → berths_at counts 0 ≡ 0
+pub no_berths : (counts : List ℕ) → berths_at counts 0 ≡ 0
 no_berths [] = refl
 no_berths (count ∷ counts) = let rest = no_berths counts in omega (arith, sum_by-cons (λ c. min 0 c) count counts)
 
@@ -75,6 +75,47 @@ share_fits counts (suc n) =
     as (λ b. leb (berths_at counts (suc n)) 48 ≡ b → berths_at counts (cond b (suc n) (share counts n)) ≤ 48)
     [ true ↦ (λ e. leb-true (berths_at counts (suc n)) 48 e) | false ↦ (λ e. share_fits counts n) ]
     refl
+
+share_within : (counts : List ℕ) (n : ℕ) → share counts n ≤ n
+share_within counts zero = omega arith
+share_within counts (suc n) =
+    elim (leb (berths_at counts (suc n)) 48) as (λ b. cond b (suc n) (share counts n) ≤ suc n)
+    [ true ↦ omega arith | false ↦ (let less = share_within counts n in omega arith) ]
+
+none_above : (counts : List ℕ) (n m : ℕ) → share counts n < m → m ≤ n → AreFew counts m → ⊥
+none_above counts zero m above most few = absurd (omega (arith, above, most))
+none_above counts (suc n) m above most few =
+    elim (leb (berths_at counts (suc n)) 48)
+    as (λ b. leb (berths_at counts (suc n)) 48 ≡ b → cond b (suc n) (share counts n) < m → ⊥) [
+      | true ↦ (λ e lt. absurd (omega (arith, lt, most)))
+      | false ↦ (λ e lt. let many = leb-false (berths_at counts (suc n)) 48 e in
+          elim (leb m n) as (λ b. leb m n ≡ b → ⊥) [
+            | true ↦ (λ less. none_above counts n m lt (leb-true m n less) few)
+            | false ↦ (λ more. let past = leb-false m n more in
+                let same : m ≡ suc n = omega (arith, past, most) in
+                let here = ap (berths_at counts) same in
+                absurd (omega (arith, few, many, here)))
+          ] refl)
+    ] refl above
+
+pub share_is_greatest : (counts : List ℕ) (n : ℕ) → IsGreatest (AreFew counts) n (share counts n)
+share_is_greatest counts n = record {
+  within = share_within counts n;
+  holds = share_fits counts n;
+  none_above = λ m above most few. none_above counts n m above most few;
+}
+
+few_is_share : (counts : List ℕ) (n : ℕ) → berths_at counts n ≤ 48 → share counts n ≡ n
+few_is_share counts zero few = refl
+few_is_share counts (suc n) few =
+    ap (λ b. cond b (suc n) (share counts n)) (le-leb (berths_at counts (suc n)) 48 few)
+
+-- where the share of so many is that of fewer, and those are few, they are the greatest number
+pub greatest_by : (counts : List ℕ) (most n : ℕ) → share counts most ≡ share counts n
+    → berths_at counts n ≤ 48 → IsGreatest (AreFew counts) most n
+greatest_by counts most n same few =
+    subst (λ k. IsGreatest (AreFew counts) most k) (same ∙ few_is_share counts n few)
+    (share_is_greatest counts most)
 
 executor_berths : (n : ℕ) → sum_by (λ g. g.berths) (executor_groups n) ≤ n
 executor_berths n =

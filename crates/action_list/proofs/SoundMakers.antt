@@ -6,8 +6,8 @@ use Rattle.std.specs.Str.{bytes_eq}
 use Rattle.run_plan.specs.declared.plan.Maker.{Maker}
 use Rattle.run_plan.specs.declared.plan.PlanAction.{PlanAction}
 use Rattle.run_plan.specs.Sound.{is_earlier}
-use Rattle.list_order.specs.declared.types.ListAction.{ListAction}
-use Rattle.list_order.specs.Made.{maker_of, producer_from, producer_in}
+use Rattle.list_actions.specs.declared.types.ListAction.{ListAction}
+use Rattle.list_actions.specs.Made.{maker_of, producer_from, producer_in}
 use Rattle.action_list.specs.Plans.{plan_action, plan_actions}
 
 -- the plan has the action, and the action this output

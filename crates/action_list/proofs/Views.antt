@@ -8,8 +8,8 @@ use Rattle.serde_json.specs.declared.value.Value.{Value}
 use Rattle.std.proofs.lemmas.Bool.{cond-false, cond-true, le-leb, lt-leb}
 use Rattle.std.proofs.lemmas.List.{length-map}
 use Rattle.action_list.specs.Top.{few_actions, if_array}
-use Rattle.list_order.specs.declared.faults.ListFault.TheVariants as fault
-use Rattle.list_order.specs.declared.faults.What.TheVariants as what
+use Rattle.list_actions.specs.declared.faults.ListFault.TheVariants as fault
+use Rattle.list_actions.specs.declared.faults.What.TheVariants as what
 use Rattle.action_list.specs.Format.{all_texts, all_variables, datas, entries, entry, texts, variables}
 
 pub datas-items_view : (vs : List Value) → datas (items_view vs) ≡ map view vs

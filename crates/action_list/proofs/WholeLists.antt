@@ -8,20 +8,20 @@ use Rattle.serde_json.specs.Find.{as_array, as_object, get}
 use Rattle.action_list.specs.declared.draft.Draft.{Draft}
 use Rattle.action_list.specs.declared.draft.Slot.{Slot}
 use Rattle.action_list.specs.declared.draft.Slot.TheVariants.{Missing, Other, Held}
-use Rattle.list_order.specs.declared.faults.ListFault.{ListFault}
-use Rattle.list_order.specs.declared.faults.ListFault.TheVariants as fault
-use Rattle.list_order.specs.declared.faults.Key.TheVariants as key
-use Rattle.list_order.specs.declared.faults.What.TheVariants as what
-use Rattle.list_order.specs.declared.types.ActionList.{ActionList}
+use Rattle.list_actions.specs.declared.faults.ListFault.{ListFault}
+use Rattle.list_actions.specs.declared.faults.ListFault.TheVariants as fault
+use Rattle.list_actions.specs.declared.faults.Key.TheVariants as key
+use Rattle.list_actions.specs.declared.faults.What.TheVariants as what
+use Rattle.list_actions.specs.declared.types.ActionList.{ActionList}
 use Rattle.action_list.specs.Actions.{action_in, action_of}
-use Rattle.list_order.specs.Answers.{Answers, Check, first, and_then}
+use Rattle.list_actions.specs.Answers.{Answers, Check, first, and_then}
 use Rattle.action_list.specs.Checks.{action_check, actions_check, count_check, key_check, list_in, paths_check, required, too_many, path_check}
 use Rattle.action_list.specs.Format.{datas, draft_of}
 use Rattle.action_list.specs.Lists.{list_check, list_of, list_of_datas, list_of_top}
-use Rattle.list_order.specs.Order.{orders_check}
+use Rattle.list_actions.specs.Order.{orders_check}
 use Rattle.action_list.specs.Top.{actions_in, few_actions, if_array, if_there, json_in}
-use Rattle.list_order.specs.Whole.{IsWhole}
-use Rattle.list_order.specs.declared.faults.ListRefusal.{ListRefusal}
+use Rattle.list_actions.specs.Whole.{IsWhole}
+use Rattle.list_actions.specs.declared.faults.ListRefusal.{ListRefusal}
 
 -- the head and the rest of checks without a fault have none
 head_fine : (check : Check) (later : List Check) → first (check ∷ later) ≡ Ok tt → check ≡ Ok tt

@@ -1,14 +1,14 @@
 -- The action that a draft without a fault gives.
 use Rattle.std.specs.Prelude.{ℕ, List, codes, unwrap_or}
 use Rattle.serde_json.specs.Data.{Data}
-use Rattle.outside.specs.declared.command.Variable.{Variable}
+use Rattle.plain_values.specs.declared.command.Variable.{Variable}
 use Rattle.action_list.specs.declared.draft.Draft.{Draft}
 use Rattle.action_list.specs.declared.draft.Slot.{Slot}
 use Rattle.action_list.specs.declared.draft.Slot.TheVariants.{Missing, Other, Held}
-use Rattle.list_order.specs.declared.types.ListAction.{ListAction}
-use Rattle.list_order.specs.declared.types.Needs.{Needs}
-use Rattle.list_order.specs.declared.types.Strategy.{Strategy}
-use Rattle.list_order.specs.declared.types.Strategy.TheVariants as strategy
+use Rattle.list_actions.specs.declared.types.ListAction.{ListAction}
+use Rattle.list_actions.specs.declared.types.Needs.{Needs}
+use Rattle.list_actions.specs.declared.types.Strategy.{Strategy}
+use Rattle.list_actions.specs.declared.types.Strategy.TheVariants as strategy
 use Rattle.action_list.specs.Checks.{is_set, list_in, says, strategy_named, value_of}
 use Rattle.action_list.specs.Format.{draft_of}
 

@@ -6,18 +6,18 @@ use Rattle.serde_json.specs.Data.{Data}
 use Rattle.path_rules.specs.Paths.{path_fault}
 use Rattle.path_rules.specs.declared.PathFault.{PathFault}
 use Rattle.flag_files.specs.Split.{request_words}
-use Rattle.outside.specs.declared.command.Variable.{Variable}
+use Rattle.plain_values.specs.declared.command.Variable.{Variable}
 use Rattle.action_list.specs.declared.draft.Draft.{Draft}
 use Rattle.action_list.specs.declared.draft.Slot.{Slot}
 use Rattle.action_list.specs.declared.draft.Slot.TheVariants.{Missing, Other, Held}
-use Rattle.list_order.specs.declared.faults.ListFault.TheVariants as fault
-use Rattle.list_order.specs.declared.faults.Key.{Key}
-use Rattle.list_order.specs.declared.faults.Key.TheVariants as key
-use Rattle.list_order.specs.declared.faults.What.{What}
-use Rattle.list_order.specs.declared.faults.What.TheVariants as what
-use Rattle.list_order.specs.declared.types.Strategy.{Strategy}
-use Rattle.list_order.specs.declared.types.Strategy.TheVariants as strategy
-use Rattle.list_order.specs.Answers.{Check, first}
+use Rattle.list_actions.specs.declared.faults.ListFault.TheVariants as fault
+use Rattle.list_actions.specs.declared.faults.Key.{Key}
+use Rattle.list_actions.specs.declared.faults.Key.TheVariants as key
+use Rattle.list_actions.specs.declared.faults.What.{What}
+use Rattle.list_actions.specs.declared.faults.What.TheVariants as what
+use Rattle.list_actions.specs.declared.types.Strategy.{Strategy}
+use Rattle.list_actions.specs.declared.types.Strategy.TheVariants as strategy
+use Rattle.list_actions.specs.Answers.{Check, first}
 use Rattle.action_list.specs.Format.{draft_of}
 
 -- ---- a value of its kind

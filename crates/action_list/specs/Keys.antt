@@ -6,12 +6,12 @@ use Rattle.worker_key.specs.declared.key.Mode.TheVariants as mode
 use Rattle.worker_key.specs.declared.key.Named.{Named}
 use Rattle.worker_key.specs.declared.key.WorkerKey.{WorkerKey}
 use Rattle.flag_files.specs.Split.{request_words, startup_words}
-use Rattle.outside.specs.declared.command.Variable.{Variable}
-use Rattle.list_order.specs.declared.faults.What.TheVariants as what
-use Rattle.list_order.specs.declared.types.ListAction.{ListAction}
-use Rattle.list_order.specs.Answers.{Check}
+use Rattle.plain_values.specs.declared.command.Variable.{Variable}
+use Rattle.list_actions.specs.declared.faults.What.TheVariants as what
+use Rattle.list_actions.specs.declared.types.ListAction.{ListAction}
+use Rattle.list_actions.specs.Answers.{Check}
 use Rattle.action_list.specs.Checks.{count_check, has_local, has_remote}
-use Rattle.list_order.specs.Order.{is_among}
+use Rattle.list_actions.specs.Order.{is_among}
 
 -- How the requests of an action's worker run: several at once, each in a folder of its own, where
 -- the worker understands both; several in its room, where it understands no folders and no executor

@@ -1,14 +1,14 @@
 -- The whole list: what the bytes say, or the first fault.
 use Rattle.std.specs.Prelude.{ℕ, List, [], ◌∷◌, map, Result, Ok}
 use Rattle.serde_json.specs.Data.{Data}
-use Rattle.list_order.specs.declared.faults.ListFault.{ListFault}
-use Rattle.list_order.specs.declared.types.ActionList.{ActionList}
-use Rattle.list_order.specs.declared.types.ListAction.{ListAction}
+use Rattle.list_actions.specs.declared.faults.ListFault.{ListFault}
+use Rattle.list_actions.specs.declared.types.ActionList.{ActionList}
+use Rattle.list_actions.specs.declared.types.ListAction.{ListAction}
 use Rattle.action_list.specs.Actions.{action_in}
-use Rattle.list_order.specs.Answers.{Check, and_then, first}
+use Rattle.list_actions.specs.Answers.{Check, and_then, first}
 use Rattle.action_list.specs.Checks.{actions_check}
 use Rattle.action_list.specs.Keys.{keys_check}
-use Rattle.list_order.specs.Order.{orders_check}
+use Rattle.list_actions.specs.Order.{orders_check}
 use Rattle.action_list.specs.Top.{actions_in, json_in}
 
 -- what must hold of all actions together, with at most so many keys

@@ -5,10 +5,10 @@ use Rattle.run_plan.specs.declared.plan.Plan.{Plan}
 use Rattle.run_plan.specs.declared.plan.PlanAction.{PlanAction}
 use Rattle.run_plan.specs.declared.plan.Speech.TheVariants as speech
 use Rattle.run_plan.specs.Groups.{is_remote}
-use Rattle.outside.specs.declared.command.Command.{Command}
-use Rattle.outside.specs.declared.command.Variable.{Variable}
+use Rattle.plain_values.specs.declared.command.Command.{Command}
+use Rattle.plain_values.specs.declared.command.Variable.{Variable}
 use Rattle.action_list.specs.declared.parts.GroupPart.{GroupPart}
-use Rattle.list_order.specs.declared.types.ListAction.{ListAction}
+use Rattle.list_actions.specs.declared.types.ListAction.{ListAction}
 use Rattle.action_list.specs.Keys.{worker_words}
 
 -- the branch is this group's

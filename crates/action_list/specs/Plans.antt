@@ -1,5 +1,5 @@
 -- The plan of a list: its groups with their berths, and each action's branches and made inputs.
-use Rattle.std.specs.Prelude.{ℕ, ◌+◌, ◌==◌, Bool, false, if◌then◌else◌, min, nat_le, List, [], ◌∷◌, ◌++◌, length, map, sum_by, count_by, position, slice_get, option_and_then, Option, Some, None, zero, suc}
+use Rattle.std.specs.Prelude.{ℕ, ◌+◌, ◌==◌, ◌<◌, ◌≤◌, Bool, false, if◌then◌else◌, min, nat_le, List, [], ◌∷◌, ◌++◌, length, map, sum_by, count_by, position, slice_get, option_and_then, Option, Some, None, zero, suc}
 use Rattle.std.specs.List.{filter_map}
 use Rattle.std.specs.Str.{bytes_eq}
 use Rattle.run_plan.specs.declared.plan.Group.{Group}
@@ -9,10 +9,11 @@ use Rattle.run_plan.specs.declared.plan.Plan.{Plan}
 use Rattle.run_plan.specs.declared.plan.PlanAction.{PlanAction}
 use Rattle.worker_key.specs.declared.key.Mode.{Mode}
 use Rattle.worker_key.specs.declared.key.Mode.TheVariants as mode
-use Rattle.list_order.specs.declared.types.ListAction.{ListAction}
-use Rattle.list_order.specs.Made.{maker_of}
+use Rattle.list_actions.specs.declared.types.ListAction.{ListAction}
+use Rattle.list_actions.specs.Made.{maker_of}
 use Rattle.action_list.specs.Checks.{has_local, has_remote}
 use Rattle.action_list.specs.Keys.{key_bytes, keys_of, mode_of}
+use Rattle.run_plan.specs.Limits.{most_local_berths}
 
 -- ---- the groups
 
@@ -36,10 +37,20 @@ first_user xs held key = option_and_then (slice_get xs) (position (is_key key) h
 abbrev pub berths_at : List ℕ → ℕ → ℕ
 berths_at counts n = sum_by (λ count. min n count) counts
 
--- the greatest number of berths a key, at most so many, with which all keys have at most 48
+-- n is the greatest number up to this one of which P holds
+pub record IsGreatest (P : ℕ → Type 0) (most n : ℕ) : Type 0 where
+  pub within : n ≤ most
+  pub holds : P n
+  pub none_above : (m : ℕ) → n < m → m ≤ most → P m → ⊥
+
+-- where no key has more than n berths, all keys together have few enough
+abbrev pub AreFew : List ℕ → ℕ → Type 0
+AreFew counts n = berths_at counts n ≤ most_local_berths
+
+-- the greatest such number, at most this one
 abbrev pub share : List ℕ → ℕ → ℕ
 share counts zero = 0
-share counts (suc n) = if nat_le (berths_at counts (suc n)) 48 then suc n else share counts n
+share counts (suc n) = if nat_le (berths_at counts (suc n)) most_local_berths then suc n else share counts n
 
 -- The requests of a group run as the mode of its key says.
 abbrev pub kind_by : Mode → Kind

@@ -4,11 +4,12 @@ use Rattle.std.specs.Str.{is_utf8}
 use Rattle.serde_json.specs.Data.{Data, Items}
 use Rattle.serde_json.specs.Find.{as_array, as_object, get}
 use Rattle.serde_json.specs.Read.{read}
-use Rattle.list_order.specs.declared.faults.ListFault.{ListFault}
-use Rattle.list_order.specs.declared.faults.ListFault.TheVariants as fault
-use Rattle.list_order.specs.declared.faults.Key.TheVariants as key
-use Rattle.list_order.specs.declared.faults.What.TheVariants as what
+use Rattle.list_actions.specs.declared.faults.ListFault.{ListFault}
+use Rattle.list_actions.specs.declared.faults.ListFault.TheVariants as fault
+use Rattle.list_actions.specs.declared.faults.Key.TheVariants as key
+use Rattle.list_actions.specs.declared.faults.What.TheVariants as what
 use Rattle.action_list.specs.Format.{datas}
+use Rattle.run_plan.specs.Limits.{most_actions}
 
 abbrev pub if_read : Option Data → Result Data ListFault
 if_read None = Err fault.NotJson
@@ -23,7 +24,7 @@ json_in bytes =
 
 abbrev pub few_actions : List Data → Result (List Data) ListFault
 few_actions ds =
-    if nat_le (length ds) 4096 then Ok ds else Err (fault.TooMany what.Actions (length ds))
+    if nat_le (length ds) most_actions then Ok ds else Err (fault.TooMany what.Actions (length ds))
 
 abbrev pub if_array : Option Items → Result (List Data) ListFault
 if_array None = Err (fault.WrongKind None key.Actions)

@@ -1,18 +1,17 @@
 // The faults of one action: each key's, in the order in which the keys are looked at.
 ghost use Rattle.std.specs.Prelude.{◌≡◌, ◌==◌, ◌&&◌, not, nat_le, map, Some, Err};
 ghost use Rattle.std.specs.List.{list_all};
-ghost use Rattle.list_order.specs.Answers.{Settles, Refuses, first};
+ghost use Rattle.list_actions.specs.Answers.{Settles, Refuses, first};
 ghost use Rattle.action_list.specs.Checks.{action_check, argv_check, key_check, known_strategy_check, local_check, mnemonic_check, name_check, is_name, optional, path_check, paths_check, has_program, count_check, protocol_check, replacement_check, required, requirements_check, strategy_check, too_many, value_of, says, is_set, list_in};
-ghost use Rattle.list_order.specs.declared.faults.Key.TheVariants as key;
-ghost use Rattle.list_order.specs.declared.faults.ListFault.TheVariants as fault;
-ghost use Rattle.list_order.specs.declared.faults.ListRefusal.TheVariants as refusal;
-ghost use Rattle.list_order.specs.declared.faults.What.TheVariants as what;
+ghost use Rattle.list_actions.specs.declared.faults.Key.TheVariants as key;
+ghost use Rattle.list_actions.specs.declared.faults.ListFault.TheVariants as fault;
+ghost use Rattle.list_actions.specs.declared.faults.ListRefusal.TheVariants as refusal;
+ghost use Rattle.list_actions.specs.declared.faults.What.TheVariants as what;
 
 use crate::draft::{Draft, Slot};
 use crate::{Key, ListFault, ListRefusal, What};
-use outside::Variable;
 use path_rules::check_path;
-use plain_values::{Items, Text};
+use plain_values::{Items, Text, Variable};
 use std::alloc::Global;
 
 const KEYS_IN_ORDER: [Key; 10] = [

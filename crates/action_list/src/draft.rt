@@ -4,8 +4,7 @@ ghost use Rattle.serde_json.specs.Find.{as_str, get};
 ghost use Rattle.serde_json.specs.View.{view};
 ghost use Rattle.std.specs.Option.{option_map};
 
-use outside::Variable;
-use plain_values::{Items, NoMemory, Text};
+use plain_values::{Items, NoMemory, Text, Variable};
 use serde_json::{Map, Value};
 use std::alloc::Global;
 

@@ -1,16 +1,15 @@
 // Which actions share a worker key, as far as the list says.
 ghost use Rattle.std.specs.Prelude.{◌≡◌, ◌≤◌, ◌+◌, length, IfOk, OnOk, map};
-ghost use Rattle.list_order.specs.Answers.{Settles};
+ghost use Rattle.list_actions.specs.Answers.{Settles};
 ghost use Rattle.action_list.specs.Checks.{has_local, has_remote};
 ghost use Rattle.action_list.specs.Keys.{key_bytes, keys_check, keys_of, list_key, mode_of, named_variable, unread_tool, with_key, worker_words};
 ghost use Rattle.action_list.specs.Plans.{local_key};
-ghost use Rattle.list_order.specs.Order.{is_among};
+ghost use Rattle.list_actions.specs.Order.{is_among};
 
 use crate::checks::check_count;
 use crate::{ListAction, ListRefusal, Strategy, What};
 use flag_files::{SplitFault, split_args};
-use outside::Variable;
-use plain_values::{Blob, Items, NoMemory, Text};
+use plain_values::{Blob, Items, NoMemory, Text, Variable};
 use std::alloc::Global;
 use worker_key::{Mode, Named, WorkerKey};
 

@@ -12,22 +12,21 @@ mod planning;
 mod top;
 mod twin;
 
-ghost use Rattle.list_order.specs.Answers.{Answers};
+ghost use Rattle.list_actions.specs.Answers.{Answers};
 ghost use Rattle.action_list.specs.Lists.{list_of};
-ghost use Rattle.list_order.specs.Whole.{IsWhole};
+ghost use Rattle.list_actions.specs.Whole.{IsWhole};
 ghost use Rattle.std.specs.Prelude.{IfOk};
+ghost use Rattle.run_plan.specs.Limits.{most_local_berths};
 
 pub use keys::has_local;
-pub use list_order::{
+pub use list_actions::{
     ActionList, Key, ListAction, ListFault, ListRefusal, Needs, Producers, Strategy, What,
 };
 pub use parts::{GroupPart, group_parts};
 pub use planning::plan;
+use run_plan::MOST_LOCAL_BERTHS;
 use std::alloc::Global;
 pub use twin::plan_again;
-
-/// The most worker keys that a list may have.
-const MAX_KEYS: usize = 48;
 
 /// Reads an action list: the JSON text that `docs/FORMATS.md` describes.
 ///
@@ -37,10 +36,10 @@ const MAX_KEYS: usize = 48;
 /// with its keys in their order; then, over all actions in order, a name that an earlier action has, an
 /// output that is made before, an input that is made later; then too many worker keys.
 pub fn read_list(alloc: Global, bytes: &[u8]) -> Result<ActionList, ListRefusal>
-    ensures answer { Answers result (list_of 48 bytes.now) }
+    ensures answer { Answers result (list_of most_local_berths bytes.now) }
     ensures whole { IfOk result (λ l. IsWhole l.actions) }
 {
-    listed::list_of(alloc, MAX_KEYS, bytes)
+    listed::list_of(alloc, MOST_LOCAL_BERTHS as usize, bytes)
 }
 
 /// Reads an action list that may have so many worker keys.

@@ -2,10 +2,11 @@
 ghost use Rattle.std.specs.Prelude.{◌≡◌, ◌≤◌, length, map, MatchResult, Ok};
 ghost use Rattle.serde_json.specs.View.{view};
 ghost use Rattle.action_list.specs.Actions.{action_in};
-ghost use Rattle.list_order.specs.Answers.{Answers, Refuses, Settles};
+ghost use Rattle.list_actions.specs.Answers.{Answers, Refuses, Settles};
 ghost use Rattle.action_list.specs.Checks.{action_check, actions_check};
 ghost use Rattle.action_list.specs.Format.{draft_of};
 ghost use Rattle.action_list.specs.Lists.{list_check, list_of, list_of_datas, list_of_top};
+ghost use Rattle.run_plan.specs.Limits.{most_actions};
 
 use crate::checks::check_action;
 use crate::draft::Draft;
@@ -13,7 +14,7 @@ use crate::keys::check_keys;
 use crate::made::action_of;
 use crate::top::{actions_in, read_json};
 use crate::{ActionList, ListAction, ListRefusal};
-use list_order::check_order;
+use list_actions::check_order;
 use plain_values::Items;
 use serde_json::Value;
 use std::alloc::Global;
@@ -34,7 +35,7 @@ fn list_of_top(alloc: Global, limit: usize, top: &Value) -> Result<ActionList, L
 }
 
 fn list_of_values(alloc: Global, limit: usize, values: &[Value]) -> Result<ActionList, ListRefusal>
-    requires { length values.now ≤ 4096 }
+    requires { length values.now ≤ most_actions }
     ensures { Answers result (list_of_datas limit (map view values.now)) }
 {
     let actions = read_actions(alloc, values)?;
@@ -45,7 +46,7 @@ fn list_of_values(alloc: Global, limit: usize, values: &[Value]) -> Result<Actio
 }
 
 fn check_list(alloc: Global, limit: usize, actions: &[ListAction]) -> Result<(), ListRefusal>
-    requires { length actions.now ≤ 4096 }
+    requires { length actions.now ≤ most_actions }
     ensures { Settles result (list_check limit actions.now) }
 {
     check_order(alloc, actions)?;
@@ -53,7 +54,7 @@ fn check_list(alloc: Global, limit: usize, actions: &[ListAction]) -> Result<(),
 }
 
 fn read_actions(alloc: Global, values: &[Value]) -> Result<Vec<ListAction>, ListRefusal>
-    requires { length values.now ≤ 4096 }
+    requires { length values.now ≤ most_actions }
     ensures { MatchResult result
         (λ v. (actions_check 0 (map view values.now) ≡ Ok tt)
         × (v.items ≡ map action_in (map view values.now)))

@@ -7,8 +7,7 @@ ghost use Rattle.action_list.specs.Checks.{list_in, says, value_of};
 use crate::draft::{Draft, Slot};
 use crate::needs::{is_set, strategy_named, value_of};
 use crate::{ListAction, Needs, Strategy};
-use outside::Variable;
-use plain_values::{Items, NoMemory, Text};
+use plain_values::{Items, NoMemory, Text, Variable};
 use std::alloc::Global;
 
 /// The action of a draft, with defaults for what it doesn't hold.

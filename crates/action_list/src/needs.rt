@@ -2,16 +2,15 @@
 ghost use Rattle.std.specs.Prelude.{◌≡◌, ◌==◌, length, not, codes, option_map, IfOk};
 ghost use Rattle.std.specs.Option.{option_copied};
 ghost use Rattle.flag_files.specs.Split.{request_words};
-ghost use Rattle.list_order.specs.Answers.{Settles};
+ghost use Rattle.list_actions.specs.Answers.{Settles};
 ghost use Rattle.action_list.specs.Checks.{has_local, is_set, known_strategy_check, list_in, local_check, optional, requirements_check, says, strategy_check, strategy_named, value_of, protocol_check, replacement_check};
-ghost use Rattle.list_order.specs.declared.faults.Key.TheVariants as key;
+ghost use Rattle.list_actions.specs.declared.faults.Key.TheVariants as key;
 
 use crate::checks::{check_count, wrong_kind};
 use crate::draft::{Draft, Slot};
 use crate::{Key, ListFault, ListRefusal, Strategy, What};
 use flag_files::{SplitFault, split_args};
-use outside::Variable;
-use plain_values::{Items, NoMemory, Text};
+use plain_values::{Items, NoMemory, Text, Variable};
 use std::alloc::Global;
 
 const MAX_REQUIREMENTS: usize = 64;

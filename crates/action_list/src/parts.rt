@@ -7,8 +7,7 @@ ghost use Rattle.action_list.specs.Parts.{command_of, executor_part, is_of, part
 
 use crate::keys::worker_words;
 use crate::{ActionList, ListAction};
-use outside::{Command, Variable, variables_again};
-use plain_values::{Items, NoMemory, Text, texts_again};
+use plain_values::{Command, Items, NoMemory, Text, Variable, texts_again, variables_again};
 use run_plan::{Group, Kind, Plan, PlanAction, Speech};
 use std::alloc::Global;
 

@@ -2,44 +2,40 @@
 ghost use Rattle.std.specs.Prelude.{◌≡◌, ◌≤◌, ◌++◌, ◌∷◌, [], List, length, map, position, slice_get, Some, IfOk, IfSome, OnOk, ◌<◌};
 ghost use Rattle.std.specs.Option.{option_copied};
 ghost use Rattle.std.specs.Str.{bytes_eq};
-ghost use Rattle.list_order.specs.declared.types.ListAction.{ListAction};
+ghost use Rattle.list_actions.specs.declared.types.ListAction.{ListAction};
 ghost use Rattle.action_list.specs.Keys.{keys_of};
-ghost use Rattle.action_list.specs.Plans.{berths_at, executor_groups, first_user, groups_of, is_key, key_group, kind_by, kind_of, local_key, number_of, plan_action, plan_actions, plan_of, remote_of, remote_users, share, users};
-ghost use Rattle.list_order.specs.Whole.{IsWhole, KnowsProducers};
+ghost use Rattle.action_list.specs.Plans.{AreFew, IsGreatest, berths_at, executor_groups, first_user, groups_of, is_key, key_group, kind_by, kind_of, local_key, number_of, plan_action, plan_actions, plan_of, remote_of, remote_users, share, users};
+ghost use Rattle.list_actions.specs.Whole.{IsWhole, KnowsProducers};
 ghost use Rattle.run_plan.specs.Sound.{Sound};
+ghost use Rattle.run_plan.specs.Limits.{most_actions, most_local_berths, most_remote_berths};
 
 use crate::keys::{has_remote, keys_of, mode_of};
 use crate::{ActionList, ListAction, Producers};
 use plain_values::{Blob, Items, NoMemory, Text, texts_again};
-use run_plan::{Group, Kind, Plan, PlanAction};
+use run_plan::{Group, Kind, MOST_LOCAL_BERTHS, Plan, PlanAction};
 use std::alloc::Global;
 use worker_key::Mode;
 
-const MAX_BERTHS: u32 = 48;
-
 /// The greatest number of berths a key, at most `instances`, with which all keys have at most 48.
 fn share(counts: &[u32], instances: u32) -> u32
-    requires few { length counts.now ≤ 4096 }
-    requires instances { instances ≤ 48 }
-    ensures { result ≡ share counts.now instances }
+    requires few { length counts.now ≤ most_actions }
+    requires instances { instances ≤ most_local_berths }
+    ensures is { result ≡ share counts.now instances }
+    ensures greatest { IsGreatest (AreFew counts.now) instances result }
 {
     let mut each = instances;
-    while each > 0 && berths_at(counts, each) > MAX_BERTHS {
+    while each > 0 && berths_at(counts, each) > MOST_LOCAL_BERTHS {
         each -= 1;
     }
     each
 }
 
 fn berths_at(counts: &[u32], each: u32) -> u32
-    requires few { length counts.now ≤ 4096 }
-    requires each { each ≤ 48 }
+    requires few { length counts.now ≤ most_actions }
+    requires each { each ≤ most_local_berths }
     ensures { result ≡ berths_at counts.now each }
 {
-    let mut berths = 0;
-    for count in counts {
-        berths += each.min(*count);
-    }
-    berths
+    counts.iter().map(|count| each.min(*count)).sum()
 }
 
 fn is_key(key: &[u8], held: &Option<Blob>) -> bool
@@ -53,20 +49,14 @@ fn is_key(key: &[u8], held: &Option<Blob>) -> bool
 
 /// How many actions have the key.
 fn users(held: &[Option<Blob>], key: &[u8]) -> u32
-    requires { length held.now ≤ 4096 }
+    requires { length held.now ≤ most_actions }
     ensures { result ≡ users held.now key.now }
 {
-    let mut count = 0;
-    for one in held {
-        if is_key(key, one) {
-            count += 1;
-        }
-    }
-    count
+    held.iter().filter(|one| is_key(key, one)).count() as u32
 }
 
 fn all_users(alloc: Global, held: &[Option<Blob>], keys: &[Blob]) -> Result<Vec<u32>, NoMemory>
-    requires { length held.now ≤ 4096 }
+    requires { length held.now ≤ most_actions }
     ensures { IfOk result (λ v. v.items ≡ map (users held.now) keys.now) }
 {
     let mut counts = Vec::new(alloc);
@@ -77,7 +67,7 @@ fn all_users(alloc: Global, held: &[Option<Blob>], keys: &[Blob]) -> Result<Vec<
 }
 
 fn remote_users(actions: &[ListAction]) -> u32
-    requires { length actions.now ≤ 4096 }
+    requires { length actions.now ≤ most_actions }
     ensures { result ≡ remote_users actions.now }
 {
     let mut count = 0;
@@ -109,7 +99,7 @@ fn first_index(held: &[Option<Blob>], key: &[u8]) -> Option<usize>
 }
 
 fn key_group(actions: &[ListAction], held: &[Option<Blob>], each: u32, key: &[u8]) -> Group
-    requires { length held.now ≤ 4096 }
+    requires { length held.now ≤ most_actions }
     ensures { result ≡ key_group actions.now held.now each key.now }
 {
     let berths = each.min(users(held, key));
@@ -151,10 +141,10 @@ fn groups_of(
     instances: u32,
     remote: u32,
 ) -> Result<Items<Group>, NoMemory>
-    requires actions { length actions.now ≤ 4096 }
-    requires held { length held.now ≤ 4096 }
-    requires keys { length keys.now ≤ 4096 }
-    requires instances { instances ≤ 48 }
+    requires actions { length actions.now ≤ most_actions }
+    requires held { length held.now ≤ most_actions }
+    requires keys { length keys.now ≤ most_actions }
+    requires instances { instances ≤ most_local_berths }
     ensures { IfOk result
         (λ g. g ≡ groups_of actions.now held.now keys.now instances remote) }
 {
@@ -173,7 +163,7 @@ fn push_key_groups(
     keys: &[Blob],
     each: u32,
 ) -> Result<(), NoMemory>
-    requires { length held.now ≤ 4096 }
+    requires { length held.now ≤ most_actions }
     ensures { OnOk result
         (groups.new.items ≡ groups.old.items ++ map
         (key_group actions.now held.now each) keys.now) }
@@ -204,7 +194,7 @@ fn plan_actions(
     keys: &[Blob],
 ) -> Result<Items<PlanAction>, NoMemory>
     requires held { held.now ≡ map local_key actions.now }
-    requires keys { length keys.now ≤ 4096 }
+    requires keys { length keys.now ≤ most_actions }
     requires whole { IsWhole actions.now }
     ensures { IfOk result (λ p. p ≡ plan_actions keys.now [] actions.now) }
 {
@@ -253,7 +243,7 @@ fn plan_action(
     held: &Option<Blob>,
 ) -> Result<PlanAction, NoMemory>
     requires held { held.now ≡ local_key action.now }
-    requires keys { length keys.now ≤ 4096 }
+    requires keys { length keys.now ≤ most_actions }
     ensures { (before : List ListAction) → KnowsProducers producers.now before
         → IfOk result (λ p. p ≡ plan_action keys.now before action.now) }
 {
@@ -267,7 +257,7 @@ fn plan_action(
 }
 
 fn number_of(keys: &[Blob], held: &Option<Blob>) -> Option<u32>
-    requires { length keys.now ≤ 4096 }
+    requires { length keys.now ≤ most_actions }
     ensures { result ≡ number_of keys.now held.now }
 {
     match held {
@@ -277,7 +267,7 @@ fn number_of(keys: &[Blob], held: &Option<Blob>) -> Option<u32>
 }
 
 fn producer_among(keys: &[Blob], bytes: &[u8]) -> Option<u32>
-    requires { length keys.now ≤ 4096 }
+    requires { length keys.now ≤ most_actions }
     ensures { result ≡ position (λ key. bytes_eq key bytes.now) keys.now }
 {
     match index_among(keys, bytes) {
@@ -294,7 +284,7 @@ fn index_among(keys: &[Blob], bytes: &[u8]) -> Option<usize>
 }
 
 fn remote_of(keys: &[Blob], action: &ListAction) -> Option<u32>
-    requires { length keys.now ≤ 4096 }
+    requires { length keys.now ≤ most_actions }
     ensures { result ≡ remote_of keys.now action.now }
 {
     if has_remote(action.strategy) {
@@ -324,9 +314,9 @@ pub fn plan(
     retries: u32,
 ) -> Result<Plan, NoMemory>
     requires whole { IsWhole list.now.actions }
-    requires instances { instances ≤ 48 }
+    requires instances { instances ≤ most_local_berths }
     requires some_remote { 1 ≤ remote }
-    requires few_remote { remote ≤ 16 }
+    requires few_remote { remote ≤ most_remote_berths }
     requires retries { retries ≤ 9 }
     ensures plan { IfOk result (λ p. p ≡ plan_of list.now.actions instances remote retries) }
     ensures sound { IfOk result Sound }

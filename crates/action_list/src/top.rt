@@ -4,16 +4,16 @@ ghost use Rattle.std.specs.Str.{is_utf8};
 ghost use Rattle.serde_json.specs.Find.{as_array};
 ghost use Rattle.serde_json.specs.Read.{read};
 ghost use Rattle.serde_json.specs.View.{view};
-ghost use Rattle.list_order.specs.Answers.{Refuses};
+ghost use Rattle.list_actions.specs.Answers.{Refuses};
 ghost use Rattle.action_list.specs.Top.{actions_in, if_array, if_read, json_in};
+ghost use Rattle.run_plan.specs.Limits.{most_actions};
 
 use crate::{Key, ListFault, ListRefusal, What};
+use run_plan::MOST_ACTIONS;
 use serde_json::Value;
 use std::alloc::Global;
 
 const MAX_BYTES: usize = 33_554_432;
-
-const MAX_ACTIONS: usize = 4096;
 
 /// The JSON value of these bytes.
 pub fn read_json(alloc: Global, bytes: &[u8]) -> Result<Value, ListRefusal>
@@ -63,7 +63,7 @@ fn parse(alloc: Global, text: &str) -> Result<Value, ListRefusal>
 /// The values of the actions, of which there are not too many.
 pub fn actions_in(top: &Value) -> Result<&[Value], ListRefusal>
     ensures { MatchResult result
-        (λ l. (actions_in (view top.now) ≡ Ok (map view l.now)) × (length l.now ≤ 4096))
+        (λ l. (actions_in (view top.now) ≡ Ok (map view l.now)) × (length l.now ≤ most_actions))
         (λ r. Refuses r (actions_in (view top.now))) }
 {
     if !top.is_object() {
@@ -84,7 +84,7 @@ pub fn actions_in(top: &Value) -> Result<&[Value], ListRefusal>
 fn list_in(actions: &Value) -> Result<&[Value], ListRefusal>
     ensures { MatchResult result
         (λ l. (if_array (as_array (view actions.now)) ≡ Ok (map view l.now))
-        × (length l.now ≤ 4096))
+        × (length l.now ≤ most_actions))
         (λ r. Refuses r (if_array (as_array (view actions.now)))) }
 {
     match actions.as_array() {
@@ -94,7 +94,7 @@ fn list_in(actions: &Value) -> Result<&[Value], ListRefusal>
         })),
         Some(list) => {
             let values = list.as_slice();
-            if values.len() > MAX_ACTIONS {
+            if values.len() > MOST_ACTIONS {
                 return Err(ListRefusal::Fault(ListFault::TooMany {
                     what: What::Actions,
                     count: values.len() as u64,

@@ -1,7 +1,7 @@
 -- The lines of faults, and their statuses.
 use Rattle.std.specs.Prelude.{ℕ, Option, Some, None, List, ◌++◌, codes, decimal}
-use Rattle.list_order.specs.declared.faults.ListFault.{ListFault}
-use Rattle.list_order.specs.declared.faults.ListFault.TheVariants as list
+use Rattle.list_actions.specs.declared.faults.ListFault.{ListFault}
+use Rattle.list_actions.specs.declared.faults.ListFault.TheVariants as list
 use Rattle.flag_files.specs.declared.expanding.FlagFault.{FlagFault}
 use Rattle.flag_files.specs.declared.expanding.FlagFault.TheVariants as flag
 use Rattle.build_report.specs.declared.fault.RunFault.{RunFault}

@@ -13,7 +13,7 @@ use std::alloc::Global;
 pub enum RunFault {
     /// The words of the command aren't accepted.
     Words,
-    /// Memory was wanted in this stage.
+    /// Memory ran out in this stage.
     NoMemory(Stage),
     /// The bytes of the list aren't an action list.
     List(ListFault),
@@ -27,7 +27,7 @@ pub enum RunFault {
     SinkFailed,
 }
 
-/// When memory was wanted.
+/// When memory ran out.
 #[derive(Clone, Copy, PartialEq, Eq)]
 pub enum Stage {
     /// Before a lane was started.

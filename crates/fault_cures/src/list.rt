@@ -6,7 +6,7 @@ use crate::action::{Listed, add_keys};
 use crate::keys::{OF_LIST, STRATEGIES, is_known};
 use crate::page::Page;
 use flag_files::FlagFault;
-use list_order::{Key, ListFault};
+use list_actions::{Key, ListFault};
 use plain_values::NoMemory;
 use serde_json::{Error, Value};
 use std::alloc::Global;

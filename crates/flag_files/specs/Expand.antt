@@ -66,7 +66,7 @@ max_depth = 16
 abbrev pub expansion : List (List ℕ) → List SourceFile → Result (List (List ℕ)) FlagFault
 expansion words files = walk [] (flat_map (steps max_depth files) words)
 
--- this fault is what is due; want of memory may always stand in its place
+-- this fault is what is due; lack of memory may always stand in its place
 abbrev pub Refuses : {A : Type 0} → FlagFault → Result A FlagFault → Type 0
 Refuses fault.NoMemory due = Unit {0}
 Refuses (fault.NoSuchFile path) due = due ≡ Err (fault.NoSuchFile path)

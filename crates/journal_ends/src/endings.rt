@@ -5,6 +5,7 @@ ghost use Rattle.exec_journal.specs.Ends.{ends_of};
 ghost use Rattle.journal_lookback.specs.Lookback.{ended_line};
 ghost use Rattle.journal_ends.specs.Replay.{AllNew, new_action, new_line, AreActions, AreLines, IsActionFact};
 ghost use Rattle.journal_ends.specs.Endings.{verdict_of, verdicts_from, verdict_by, own_by, commit_for, prize_outcome, is_gone, is_won_by, fate_by, standing_by, standing_of, outcome_by, standings_through, end_by, ends_through};
+ghost use Rattle.run_plan.specs.Limits.{most_actions};
 
 use crate::replay::{ActionFact, BranchFact, LineFact, ended_at, gather};
 use exec_journal::{
@@ -44,7 +45,7 @@ pub struct Verdict {
 
 /// Those of all actions of the plan, by one pass over the journal.
 pub fn verdicts(alloc: Global, plan: &Plan, entries: &[Entry]) -> Result<Vec<Verdict>, NoMemory>
-    requires { length plan.now.actions ≤ 4096 }
+    requires { length plan.now.actions ≤ most_actions }
     ensures { IfOk result (λ vs. vs.items ≡ verdicts_from plan.now
         (reverse entries.now) 0 plan.now.actions) }
 {
@@ -82,7 +83,7 @@ fn verdicts_by(
     lines: &[LineFact],
     entries: &[Entry],
 ) -> Result<Vec<Verdict>, NoMemory>
-    requires few { length plan.now.actions ≤ 4096 }
+    requires few { length plan.now.actions ≤ most_actions }
     requires count { length actions.now ≡ length plan.now.actions }
     requires actions { AreActions actions.now plan.now.limit (reverse entries.now) }
     requires lines { AreLines lines.now (reverse entries.now) }

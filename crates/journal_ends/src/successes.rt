@@ -11,9 +11,7 @@ ghost use Rattle.list_lemmas.specs.Places.{update_if};
 
 use exec_journal::{Branch, Call, CommitEnd, Entry, Journal, Plan};
 use journal_lookback::{Grant, GrantKind, commit_in, grant_in};
-
-/// The most actions that a plan has.
-const ACTIONS: usize = 4096;
+use run_plan::MOST_ACTIONS;
 
 /// What an action was granted for.
 #[derive(Clone, Copy)]
@@ -73,7 +71,7 @@ pub fn is_all_success(plan: &Plan, j: &Journal) -> bool
     requires { Sound plan.now }
     ensures { result ≡ list_all has_succeeded (ends_of plan.now (reverse j.now)) }
 {
-    let mut chances = [Chance::NEW; ACTIONS];
+    let mut chances = [Chance::NEW; MOST_ACTIONS];
     find_chances(&mut chances, j.entries());
     all_succeed(&chances[..plan.actions.as_slice().len()])
 }

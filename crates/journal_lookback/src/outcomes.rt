@@ -7,6 +7,7 @@ ghost use Rattle.exec_journal.specs.Settled.{by_commit, by_grant, all_dropped, u
 ghost use Rattle.run_plan.specs.Groups.{group_of};
 ghost use Rattle.run_plan.specs.Sound.{Sound};
 ghost use Rattle.exec_journal.specs.Outcomes.{grant_outcome, commit_outcome, least_without, skipped, outcome_after, outcome_of, won_or_spoiled, lost_fate, fate_after, fate_of, is_winner, lesser};
+ghost use Rattle.run_plan.specs.Limits.{most_actions};
 
 use crate::grant::GrantKind;
 use crate::lookback::{commit, end, ever_sent, grant};
@@ -14,6 +15,7 @@ use exec_journal::{
     Attempt, Branch, Cause, CommitEnd, Entry, Fate, Journal, Maker, Outcome, Plan, PlanAction,
     Standing,
 };
+use run_plan::MOST_ACTIONS;
 
 /// The outcome of the action, by the journal. It takes no memory: it looks through the journal for each
 /// action on which this one may depend.
@@ -37,7 +39,7 @@ pub fn fate(plan: &Plan, j: &Journal, action: u32, branch: Branch) -> Fate
 }
 
 fn outcome_in(plan: &Plan, entries: &[Entry], action: u32, work: &PlanAction) -> Outcome
-    requires { length plan.now.actions ≤ 4096 }
+    requires { length plan.now.actions ≤ most_actions }
     ensures { result ≡ outcome_after plan.now (reverse entries.now) action work.now
         (standings plan.now (reverse entries.now)) }
 {
@@ -47,7 +49,7 @@ fn outcome_in(plan: &Plan, entries: &[Entry], action: u32, work: &PlanAction) ->
     if is_all_dropped(plan, entries, action, work) {
         return Outcome::Dropped;
     }
-    let mut all = [Standing::Open; 4096];
+    let mut all = [Standing::Open; MOST_ACTIONS];
     find_standings(&mut all, plan, entries);
     starved_outcome(&all[..plan.actions.as_slice().len()], work)
 }
@@ -213,7 +215,7 @@ fn is_all_dropped(plan: &Plan, entries: &[Entry], action: u32, work: &PlanAction
 
 /// What is known of each action of the plan, in their order.
 fn find_standings(all: &mut [Standing], plan: &Plan, entries: &[Entry])
-    requires few { length plan.now.actions ≤ 4096 }
+    requires few { length plan.now.actions ≤ most_actions }
     requires room { length plan.now.actions ≤ length all.old }
     ensures { take (length plan.now.actions) all.new ≡ standings plan.now (reverse entries.now) }
 {

@@ -36,7 +36,7 @@ pub record IsJudged (makes : Legality) (old new : TapTold) (before after : SinkT
   pub read : IsRead makes verdict old new
   pub told : IsPut verdict before after status
 
--- memory was wanted, or the tap failed, and nothing was put
+-- memory ran out, or the tap failed, and nothing was put
 pub record IsCutOff (before after : SinkTold) (status : ℕ) : Type 0 where
   pub status_is : (status ≡ 3) ⊎ (status ≡ 5)
   pub nothing : Adds [] before.contents after.contents

@@ -33,7 +33,7 @@ impl<C: Replayed> Auditor<C> {
         }
     }
 
-    /// These bytes come next. After want of memory it isn't to be used.
+    /// These bytes come next. After lack of memory it isn't to be used.
     pub(crate) fn feed(&mut self, piece: &[u8]) -> Result<(), NoMemory>
         ensures { (bytes : List ℕ) → Fed C.makes C.stands self.old bytes
             → length bytes + length piece.now < 2 ^ 63

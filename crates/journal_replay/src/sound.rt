@@ -3,14 +3,10 @@ ghost use Rattle.std.specs.Prelude.{◌≡◌, ◌≤◌, ◌+◌, ◌<◌, ◌^
 ghost use Rattle.std.specs.List.{list_all};
 ghost use Rattle.run_plan.specs.Sound.{are_different, are_sound_from, has_branches, is_earlier, is_sound_action, is_sound_group, names_group};
 ghost use Rattle.journal_replay.specs.Plans.{are_sound_groups, has_limits, is_sound};
+ghost use Rattle.run_plan.specs.Limits.{most_berths};
 
 use exec_journal::{Group, Kind, Maker, Plan, PlanAction};
-
-const MOST_ATTEMPTS: u32 = 10;
-
-const MOST_ACTIONS: usize = 4096;
-
-const MOST_BERTHS: u64 = 64;
+use run_plan::{MOST_ACTIONS, MOST_ATTEMPTS, MOST_BERTHS};
 
 /// Whether it has all that is asked of a plan.
 pub(crate) fn is_sound(plan: &Plan) -> bool
@@ -42,12 +38,12 @@ fn is_each_sound(groups: &[Group]) -> bool
 
 // At most 64 berths in all groups.
 fn has_few_berths(groups: &[Group]) -> bool
-    ensures { result ≡ nat_le (sum_by (λ g. g.berths) groups.now) 64 }
+    ensures { result ≡ nat_le (sum_by (λ g. g.berths) groups.now) most_berths }
 {
     let mut berths: u64 = 0;
     for group in groups {
         berths += u64::from(group.berths);
-        if berths > MOST_BERTHS {
+        if berths > u64::from(MOST_BERTHS) {
             return false;
         }
     }

@@ -38,7 +38,7 @@ impl From<NoMemory> for Broke {
 
 /// Reads a text to its end, or until it is too long, and puts a line that says what it comes to. No more of it is kept
 /// than the line that has begun. The status is 0 where it is legal, 1 where it isn't, 4 where it is no journal of a sound
-/// plan, 3 where memory was wanted, 5 where the tap failed and 6 where the sink did.
+/// plan, 3 where memory ran out, 5 where the tap failed and 6 where the sink did.
 pub fn check_stream_with<C: Replayed, T: Tap, O: Sink>(
     alloc: Global,
     input: &mut T,

@@ -6,6 +6,7 @@ use Rattle.run_plan.specs.declared.plan.Maker.{Maker}
 use Rattle.run_plan.specs.declared.plan.Plan.{Plan}
 use Rattle.run_plan.specs.declared.plan.PlanAction.{PlanAction}
 use Rattle.run_plan.specs.Groups.{berths, is_remote}
+use Rattle.run_plan.specs.Limits.{most_actions, most_attempts, most_berths}
 
 -- a branch names one of so many groups
 abbrev pub names_group : ℕ → Option ℕ → Bool
@@ -47,9 +48,9 @@ is_sound_group g = not (is_remote g.kind && g.cancel)
 -- at most 10 attempts, 4,096 actions and 64 berths, each action and group as said above
 pub record Sound (p : Plan) : Type 0 where
   pub least : 1 ≤ p.limit
-  pub most : p.limit ≤ 10
-  pub actions : length p.actions ≤ 4096
-  pub seats : berths p ≤ 64
+  pub most : p.limit ≤ most_attempts
+  pub actions : length p.actions ≤ most_actions
+  pub seats : berths p ≤ most_berths
   pub groups : length p.groups < 2 ^ 32
   pub each_group : list_all is_sound_group p.groups ≡ true
   pub each_action : are_sound_from p 0 p.actions ≡ true

@@ -1,14 +1,11 @@
 // What is noted of a run.
 use plain_values::NoMemory;
-use run_plan::Branch;
+use run_plan::{Branch, MOST_ACTIONS};
 use std::alloc::Global;
 use std::sync::atomic::{AtomicBool, AtomicU32, AtomicU64, Ordering};
 
-/// The most actions that a list may have.
-pub const MOST_ACTIONS: u32 = 4096;
-
 // The number of no action.
-const NOBODY: u32 = MOST_ACTIONS;
+const NOBODY: u32 = u32::MAX;
 
 /// How far a run is. It is shared with whoever watches the run, and waits for nobody.
 #[derive(Drop)]
@@ -37,8 +34,8 @@ impl Progress {
     ///
     /// `NoMemory`. No other call takes any.
     pub fn new(alloc: Global) -> Result<Progress, NoMemory> {
-        let mut marks = Vec::with_capacity(alloc, MOST_ACTIONS as usize)?;
-        let mut failures = Vec::with_capacity(alloc, MOST_ACTIONS as usize)?;
+        let mut marks = Vec::with_capacity(alloc, MOST_ACTIONS)?;
+        let mut failures = Vec::with_capacity(alloc, MOST_ACTIONS)?;
         for _ in 0..MOST_ACTIONS {
             marks.push(Marks::none())?;
             failures.push(AtomicU32::new(NOBODY))?;

@@ -1,7 +1,7 @@
 // What a watcher sees.
 use crate::Progress;
-use crate::progress::MOST_ACTIONS;
 use plain_values::NoMemory;
+use run_plan::MOST_ACTIONS;
 use std::alloc::Global;
 use std::fmt;
 use std::time::Duration;
@@ -40,7 +40,7 @@ impl Watcher {
     ///
     /// `NoMemory`. No look takes any.
     pub fn new(alloc: Global) -> Result<Watcher, NoMemory> {
-        let mut since = Vec::with_capacity(alloc, MOST_ACTIONS as usize)?;
+        let mut since = Vec::with_capacity(alloc, MOST_ACTIONS)?;
         for _ in 0..MOST_ACTIONS {
             since.push(None)?;
         }
@@ -77,7 +77,7 @@ impl Watcher {
             running: 0,
             oldest: None,
         };
-        for action in 0..MOST_ACTIONS {
+        for action in 0..MOST_ACTIONS as u32 {
             if let Some(since) = self.seen(progress, action, now) {
                 look.add(action, since, now);
             }

@@ -1,6 +1,6 @@
 use Rattle.std.proofs.lemmas.Result.{err_from_is_err_and}
 use Rattle.action_list.specs.Checks.{path_check}
-use Rattle.list_order.proofs.Firsts.{first_refused}
+use Rattle.list_actions.proofs.Firsts.{first_refused}
 use Rattle.action_list.proofs.checks.check_each_path.Goals as goal
 
 pub returns-in_err-check_one_path : goal.returns-in_err-check_one_path

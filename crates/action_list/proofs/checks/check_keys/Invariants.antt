@@ -1,5 +1,5 @@
 use Rattle.std.proofs.Common.{◌≡◌, drop, map}
-use Rattle.list_order.specs.Answers.{first}
+use Rattle.list_actions.specs.Answers.{first}
 use Rattle.action_list.specs.Checks.{key_check}
 use Rattle.action_list.proofs.checks.check_keys.Given as goal
 

@@ -1,5 +1,5 @@
 use Rattle.std.proofs.lemmas.Result.{on_ok_weaker}
-use Rattle.list_order.proofs.ProducerLemmas.{more_producers}
+use Rattle.list_actions.proofs.ProducerLemmas.{more_producers}
 use Rattle.action_list.proofs.planning.note_outputs.Goals as goal
 
 pub returns : goal.returns

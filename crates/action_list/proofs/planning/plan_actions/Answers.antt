@@ -2,8 +2,8 @@ use Rattle.std.proofs.Common.{◌≡◌, ◌++◌, ◌∷◌, [], ◌+◌, take,
 use Rattle.std.specs.Prelude.{slice_get}
 use Rattle.std.proofs.lemmas.List.{length-map, length-take-le}
 use Rattle.action_list.specs.Plans.{local_key, plan_action, plan_actions}
-use Rattle.list_order.specs.Whole.{KnowsProducers}
-use Rattle.list_order.proofs.Orders.{take_this, drop_this}
+use Rattle.list_actions.specs.Whole.{KnowsProducers}
+use Rattle.list_actions.proofs.Orders.{take_this, drop_this}
 use Rattle.action_list.proofs.Maps.{mapped_at}
 use Rattle.action_list.proofs.planning.plan_actions.Goals as goal
 

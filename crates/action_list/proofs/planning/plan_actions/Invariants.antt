@@ -1,6 +1,6 @@
 use Rattle.std.proofs.Common.{◌≡◌, ◌++◌, [], drop, take}
 use Rattle.action_list.specs.Plans.{plan_actions}
-use Rattle.list_order.specs.Whole.{KnowsProducers}
+use Rattle.list_actions.specs.Whole.{KnowsProducers}
 use Rattle.action_list.proofs.planning.plan_actions.Given as goal
 
 abbrev pub invariant-loop-action : goal.invariant-loop-action

@@ -1,0 +1,42 @@
+use plain_values::{Items, Text, Variable};
+
+/// The actions of a run, in order.
+#[derive(Drop)]
+pub struct ActionList {
+    pub actions: Items<ListAction>,
+}
+
+/// One action: a command of a tool, with what it reads and what it makes.
+#[derive(Drop)]
+pub struct ListAction {
+    pub name: Text,
+    pub mnemonic: Text,
+    pub argv: Items<Text>,
+    /// In the order of the bytes of the names.
+    pub env: Items<Variable>,
+    pub tools: Items<Text>,
+    pub inputs: Items<Text>,
+    pub outputs: Items<Text>,
+    pub needs: Needs,
+    pub strategy: Strategy,
+}
+
+/// What an action asks of its worker.
+#[derive(Drop)]
+pub struct Needs {
+    pub workers: bool,
+    pub multiplex: bool,
+    pub cancel: bool,
+    pub sandboxing: bool,
+    pub json: bool,
+    /// What stands in place of the mnemonic in the worker's key.
+    pub key_mnemonic: Option<Text>,
+}
+
+/// Where an action may run: on a worker, on the remote executor, or on both at once.
+#[derive(Clone, Copy, PartialEq, Eq)]
+pub enum Strategy {
+    Worker,
+    Remote,
+    Dynamic,
+}
