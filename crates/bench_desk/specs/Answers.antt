@@ -10,7 +10,7 @@ is_done Done = true
 is_done Idle = false
 is_done Over = false
 
--- the answer is said to be want of memory
+-- the answer is said to be lack of memory
 abbrev pub is_short : Answer → Bool
 is_short Done = false
 is_short Idle = true

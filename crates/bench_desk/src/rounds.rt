@@ -19,7 +19,7 @@ pub enum Ask {
     Stop,
 }
 
-/// What it is answered. `Idle` and `Over` are said to be want of memory, so that the benchmark needs
+/// What it is answered. `Idle` and `Over` are said to be lack of memory, so that the benchmark needs
 /// no definition of when they come: of its replies nothing is claimed.
 #[derive(Drop, Clone, Copy)]
 pub enum Answer {

@@ -29,7 +29,7 @@ use Rattle.request_table.specs.Rows as asks
 use Rattle.request_table.proofs.Lists.{reverse_front, map_reverse, map_map, each_filter}
 use Rattle.request_table.proofs.Sent.{open_is}
 use Rattle.worker_pool.specs.Entries.{is_of}
-use Rattle.core_tables.specs.declared.seat.Seat.{Seat}
+use Rattle.core_tables.specs.declared.berth_group.BerthGroup.{BerthGroup}
 use Rattle.call_laws.specs.Moments.{BranchOf}
 use Rattle.core_state.specs.Reports.{branch_of_group, branch_in, attempt_in, is_open_for}
 use Rattle.ready_order.proofs.AllSettled.{sound_at}
@@ -180,7 +180,7 @@ module _ (p : Plan) (sound : Sound p) where
   pub branch_is : (t : Attempt) (g : ℕ) → BranchOf p t (Some g) → branch_in p t.action g ≡ t.branch
   branch_is t g h = at_place t g (slice_get p.actions t.action) refl h
 
-  pub attempt_is : (seat : Seat) (t : Attempt) → BranchOf p t (Some seat.group)
+  pub attempt_is : (seat : BerthGroup) (t : Attempt) → BranchOf p t (Some seat.group)
       → attempt_in p seat t.action t.number ≡ t
   attempt_is seat t h = ap (λ b. attempt_of t.action b t.number) (branch_is t seat.group h)
 
@@ -231,7 +231,7 @@ module _ (p : Plan) (f : asks.Facts) (j : List Entry) (l : ℕ) (st : tables.Sta
         pending_grouped)
         ∙ any_counts (is_of t) (pending j l)
 
-    pub attempts_are : (seat : Seat) → seat.group ≡ g → map
+    pub attempts_are : (seat : BerthGroup) → seat.group ≡ g → map
         (λ (x : RequestRow). attempt_in p seat x.action x.attempt)
         (reverse (map (request_row j) (pending j l))) ≡ reverse (map (λ r. r.attempt) (pending j l))
     attempts_are seat same =

@@ -43,7 +43,7 @@ use Rattle.ready_order.specs.Queue as queue
 use Rattle.ready_order.specs.Stands as queue-stands
 use Rattle.ready_order.proofs.Followed as queues
 use Rattle.core_tables.specs.declared.lanes.LaneState.{LaneState}
-use Rattle.core_tables.specs.declared.seat.Seat.{Seat}
+use Rattle.core_tables.specs.declared.berth_group.BerthGroup.{BerthGroup}
 use Rattle.core_state.specs.declared.state.State.{State}
 use Rattle.core_state.specs.Choices.{is_over, row_at}
 use Rattle.core_tables.specs.Lanes.{lane_in, order_after, order_of_work, state_by}
@@ -486,7 +486,7 @@ module _ (p : Plan) (seats : ℕ) (s : State) (j : List Entry) (lane : ℕ) (st 
 
   -- ---- each call
 
-  module _ (seat : Seat) (fits : SeatFits p j (lane / 2) seat) where
+  module _ (seat : BerthGroup) (fits : SeatFits p j (lane / 2) seat) where
     call_told : (c : Call) → is_report c ≡ true → MayCall p seats j lane c
         → Told p j lane c (made_reply s lane seat c)
     call_told call.Ask h may = absurd (cc)
@@ -536,13 +536,13 @@ module _ (p : Plan) (seats : ℕ) (s : State) (j : List Entry) (lane : ℕ) (st 
 
 -- ---- each call but an Ask and a Look
 
-pub call_is_told : (p : Plan) (seats : ℕ) (s : State) (j : List Entry) (lane : ℕ) (seat : Seat)
+pub call_is_told : (p : Plan) (seats : ℕ) (s : State) (j : List Entry) (lane : ℕ) (seat : BerthGroup)
     (c : Call) → Stands p seats s j → LawfulMore p j → SeatFits p j (lane / 2) seat
     → is_report c ≡ true → MayCall p seats j lane c → Told p j lane c (made_reply s lane seat c)
 call_is_told p seats s j lane seat c st all fits h may =
     call_told p seats s j lane st all seat fits c h may
 
-pub call_stands : (p : Plan) (seats : ℕ) (s : State) (j : List Entry) (lane : ℕ) (seat : Seat)
+pub call_stands : (p : Plan) (seats : ℕ) (s : State) (j : List Entry) (lane : ℕ) (seat : BerthGroup)
     (c : Call) → Stands p seats s j → LawfulMore p j → SeatFits p j (lane / 2) seat
     → is_report c ≡ true → MayCall p seats j lane c → is_kept (made_reply s lane seat c) ≡ true
     → Stands p seats (noted_after (made s lane seat c) lane c (made_reply s lane seat c))

@@ -48,7 +48,7 @@ use Rattle.race_core.specs.Stands.{won_in, branch_in}
 use Rattle.race_core.proofs.Kept.{winner_is}
 use Rattle.core_state.specs.declared.choice.Choice.{Choice}
 use Rattle.core_state.specs.declared.choice.Choice.TheVariants as choice
-use Rattle.core_tables.specs.declared.seat.Seat.{Seat}
+use Rattle.core_tables.specs.declared.berth_group.BerthGroup.{BerthGroup}
 use Rattle.core_state.specs.declared.state.State.{State}
 use Rattle.core_state.specs.Choices.{row_at, attempt_on}
 use Rattle.call_laws.specs.Moments.{BranchOf}
@@ -365,7 +365,7 @@ module _ (p : Plan) (seats : ℕ) (s : State) (j : List Entry) (st : Stands p se
           room = subst (λ m. m < 8) (sym (row_length w lt)) (omega arith);
         }
 
-    answer_can : (c : Call) (seat : Seat) (l : ℕ) (n : ℤ) → MayCall p seats j lane c
+    answer_can : (c : Call) (seat : BerthGroup) (l : ℕ) (n : ℤ) → MayCall p seats j lane c
         → last_line j (lane / 2) ≡ Some l → CanAnswer s (lane / 2) seat l n
     answer_can c seat l n may here =
         let at = inside (lane / 2) l here in
@@ -414,7 +414,7 @@ module _ (p : Plan) (seats : ℕ) (s : State) (j : List Entry) (st : Stands p se
 
     -- ---- Ended
 
-    all_fit : (seat : Seat) (l : ℕ) (xs : List RequestRow)
+    all_fit : (seat : BerthGroup) (l : ℕ) (xs : List RequestRow)
         → AllPlaces (λ x. x.pending ≡ true → Known l x) xs
         → CanEndPlaces s.plan s.race s.attempts s.ready seat xs
     unfolding AllPlaces
@@ -466,7 +466,7 @@ module _ (p : Plan) (seats : ℕ) (s : State) (j : List Entry) (st : Stands p se
     race_after t None = refl
     race_after t (Some u) = refl
 
-    places_keep : (q : Plan) (race : List Won) (seat : Seat) (xs : List RequestRow)
+    places_keep : (q : Plan) (race : List Won) (seat : BerthGroup) (xs : List RequestRow)
         (f : counts.Facts) (states : List ActionState) → SameRoom f
         (places_counts q race f seat xs) states (places_states q race f states seat xs)
     places_keep q race seat [] f states = same_room f states
@@ -484,7 +484,7 @@ module _ (p : Plan) (seats : ℕ) (s : State) (j : List Entry) (st : Stands p se
     some_can t (Some u) same race start = subst (λ x. EndFits x t.attempts t.ready u) (sym race)
         (moved s.race s.attempts t.attempts s.ready t.ready u same (can_end u (start u refl)))
 
-    ended_can : (c : Call) (seat : Seat) (l : ℕ) → MayCall p seats j lane c
+    ended_can : (c : Call) (seat : BerthGroup) (l : ℕ) → MayCall p seats j lane c
         → last_line j (lane / 2) ≡ Some l → CanEndAll s (lane / 2) seat l
     unfolding last_in fed_of
     ended_can c seat l may here =
@@ -771,7 +771,7 @@ module _ (p : Plan) (seats : ℕ) (s : State) (j : List Entry) (st : Stands p se
 
     -- ---- each call
 
-    make_can : (seat : Seat) (c : Call) → MayCall p seats j lane c → CanMake s lane seat c
+    make_can : (seat : BerthGroup) (c : Call) → MayCall p seats j lane c → CanMake s lane seat c
     make_can seat call.Ask may = tt
     make_can seat (call.Launched l how) may =
         let calls = all.calls lane (call.Launched l how) may.scripted in
@@ -804,7 +804,7 @@ module _ (p : Plan) (seats : ℕ) (s : State) (j : List Entry) (st : Stands p se
     make_can seat call.Halt may = tt
     make_can seat call.Tick may = tt
 
-pub can_make : (p : Plan) (seats : ℕ) (s : State) (j : List Entry) (lane : ℕ) (seat : Seat)
+pub can_make : (p : Plan) (seats : ℕ) (s : State) (j : List Entry) (lane : ℕ) (seat : BerthGroup)
     (c : Call) → Stands p seats s j → LawfulMore p j → MayCall p seats j lane c
     → CanMake s lane seat c
 can_make p seats s j lane seat c st all may = make_can p seats s j st all lane seat c may

@@ -44,7 +44,7 @@ use Rattle.ready_order.specs.declared.ActionState.{ActionState}
 use Rattle.ready_order.specs.Entries.{is_among}
 use Rattle.ready_order.specs.Stands as queue-stands
 use Rattle.retry_rules.specs.Counts as counts
-use Rattle.core_tables.specs.declared.seat.Seat.{Seat}
+use Rattle.core_tables.specs.declared.berth_group.BerthGroup.{BerthGroup}
 use Rattle.core_state.specs.declared.state.State.{State}
 use Rattle.core_state.specs.Choices.{row_at, attempt_on}
 use Rattle.core_laws.specs.Ends.{chain_counts, chain_states}
@@ -93,7 +93,7 @@ some_ends : (s : State) (o : Option Attempt) → end_of_some s o ≡ ended_many 
 some_ends s None = refl
 some_ends s (Some t) = refl
 
-module _ (p : Plan) (race : List Won) (seat : Seat) where
+module _ (p : Plan) (race : List Won) (seat : BerthGroup) where
   abbrev its : RequestRow → Attempt
   its x = attempt_in p seat x.action x.attempt
 
@@ -119,7 +119,7 @@ module _ (p : Plan) (race : List Won) (seat : Seat) where
         | false ↦ states_are xs f states
       ]
 
-all_ends : (s : State) (seat : Seat) (xs : List RequestRow)
+all_ends : (s : State) (seat : BerthGroup) (xs : List RequestRow)
     → end_all s seat xs ≡ ended_many s (map (λ x. attempt_in s.plan seat x.action x.attempt)
     (filter is_open xs))
 all_ends s seat xs = λ i. record s {
@@ -129,7 +129,7 @@ all_ends s seat xs = λ i. record s {
 
 -- ---- the entry
 
-module _ (p : Plan) (seats : ℕ) (s : State) (j : List Entry) (lane l : ℕ) (seat : Seat) (how : HowEnded)
+module _ (p : Plan) (seats : ℕ) (s : State) (j : List Entry) (lane l : ℕ) (seat : BerthGroup) (how : HowEnded)
     (st : Stands p seats s j) (facts : JournalFacts p j) (may : MayCall p seats j lane (call.Ended l how))
     (here : last_line j (lane / 2) ≡ Some l) (fits : SeatFits p j (lane / 2) seat)
     (used : AreUsed p j) (grouped : SentInGroup p j l) (lost : LostOn p j l)

@@ -39,7 +39,7 @@ use Rattle.request_table.proofs.Answered.{multi_answer, single_answer}
 use Rattle.request_table.proofs.Kept.{nothing_found, taken_back}
 use Rattle.request_table.proofs.Lists.{int_eq_pos}
 use Rattle.race_core.proofs.Kept.{winner_is}
-use Rattle.core_tables.specs.declared.seat.Seat.{Seat}
+use Rattle.core_tables.specs.declared.berth_group.BerthGroup.{BerthGroup}
 use Rattle.core_state.specs.declared.state.State.{State}
 use Rattle.core_state.specs.Choices.{row_at, is_over}
 use Rattle.lawful_facts.specs.Moments.{JournalFacts, ConsumesOne, SentInGroup}
@@ -95,7 +95,7 @@ module _ (p : Plan) (seats : ℕ) (s : State) (j : List Entry) (w l : ℕ) (st :
 
 -- ---- Answer: the state
 
-module _ (p : Plan) (seats : ℕ) (s : State) (j : List Entry) (lane l : ℕ) (seat : Seat) (x : Answer)
+module _ (p : Plan) (seats : ℕ) (s : State) (j : List Entry) (lane l : ℕ) (seat : BerthGroup) (x : Answer)
     (st : Stands p seats s j) (may : MayCall p seats j lane (call.Answer l x))
     (here : last_line j (lane / 2) ≡ Some l) (one : ConsumesOne p j lane l x) where
   abbrev w : ℕ
@@ -296,7 +296,7 @@ zero_is : (z : ℤ) → int_eq z (pos 0) ≡ true → z ≡ pos 0
 zero_is (pos n) h = ap pos (eqb-true n 0 (sym (int_eq_pos n 0) ∙ h))
 zero_is (negsuc n) h = absurd (cc)
 
-module _ (p : Plan) (seats : ℕ) (s : State) (j : List Entry) (lane l : ℕ) (seat : Seat) (x : Answer)
+module _ (p : Plan) (seats : ℕ) (s : State) (j : List Entry) (lane l : ℕ) (seat : BerthGroup) (x : Answer)
     (st : Stands p seats s j) (facts : JournalFacts p j) (may : MayCall p seats j lane (call.Answer l x))
     (here : last_line j (lane / 2) ≡ Some l) (fits : SeatFits p j (lane / 2) seat)
     (grouped : SentInGroup p j l) (alone : is_single (line_kind p j l) ≡ true

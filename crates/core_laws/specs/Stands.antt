@@ -15,7 +15,7 @@ use Rattle.ready_order.specs.Stands as queues
 use Rattle.race_core.specs.Stands as races
 use Rattle.retry_rules.specs.Stands as counts
 use Rattle.core_state.specs.declared.state.State.{State}
-use Rattle.core_tables.specs.declared.seat.Seat.{Seat}
+use Rattle.core_tables.specs.declared.berth_group.BerthGroup.{BerthGroup}
 use Rattle.core_tables.specs.Greetings.{greeting_in}
 use Rattle.core_tables.specs.Lanes.{lane_in}
 use Rattle.core_tables.specs.Last.{last_in}
@@ -53,7 +53,7 @@ pub record MayCall (p : Plan) (seats : ℕ) (j : List Entry) (lane : ℕ) (c : C
 
 -- the seat tells the kind and the group of the berth's last line, where there is one, and whether
 -- that group has cancellation
-pub record SeatFits (p : Plan) (j : List Entry) (w : ℕ) (seat : Seat) : Type 0 where
+pub record SeatFits (p : Plan) (j : List Entry) (w : ℕ) (seat : BerthGroup) : Type 0 where
   pub kind : (l : ℕ) → last_line j w ≡ Some l → line_kind p j l ≡ seat.kind
   pub group : (l : ℕ) → last_line j w ≡ Some l → group_on p j l ≡ Some seat.group
   pub cancel : has_cancellation p seat.group ≡ seat.cancel

@@ -9,7 +9,7 @@ use Rattle.ready_order.specs.Queue as queue
 use Rattle.request_table.specs.declared.RequestRow.{RequestRow}
 use Rattle.request_table.proofs.Lists.{update_length}
 use Rattle.retry_rules.specs.Counts as counts
-use Rattle.core_tables.specs.declared.seat.Seat.{Seat}
+use Rattle.core_tables.specs.declared.berth_group.BerthGroup.{BerthGroup}
 use Rattle.std.specs.Prelude.{nat_lt, not, ◌||◌, nat_le}
 use Rattle.core_state.specs.Machine.{EndFits, ends_yet, counts_after, states_after, states_ended, states_spent, other_branch, uses_branch}
 use Rattle.core_state.specs.Reports.{PlaceFits, CanEndPlaces, place_counts, place_states, attempt_in}
@@ -40,7 +40,7 @@ moved race f g xs ys t same fits =
     }
 
 pub fits_at : (p : Plan) (race : List Won) (f : counts.Facts) (states : List ActionState)
-    (seat : Seat) (xs : List RequestRow) (i : ℕ) (d : RequestRow)
+    (seat : BerthGroup) (xs : List RequestRow) (i : ℕ) (d : RequestRow)
     → CanEndPlaces p race f states seat xs → i < length xs
     → PlaceFits p race f states seat (get_or xs i d)
 fits_at p race f states seat [] i d can lt = absurd (omega arith)
@@ -48,7 +48,7 @@ fits_at p race f states seat (y ∷ ys) zero d can lt = can.0
 fits_at p race f states seat (y ∷ ys) (suc i) d can lt =
     fits_at p race f states seat ys i d can.1 (omega arith)
 
-module _ (p : Plan) (race : List Won) (f : counts.Facts) (states : List ActionState) (seat : Seat)
+module _ (p : Plan) (race : List Won) (f : counts.Facts) (states : List ActionState) (seat : BerthGroup)
     (x : RequestRow) where
   abbrev t : Attempt
   t = attempt_in p seat x.action x.attempt

@@ -18,7 +18,7 @@ use Rattle.core_state.specs.declared.choice.Choice.TheVariants as choice
 use Rattle.core_tables.specs.declared.greetings.Greeting.{Greeting}
 use Rattle.core_tables.specs.declared.last.LastLine.{LastLine}
 use Rattle.core_tables.specs.declared.matches.Match.{Match}
-use Rattle.core_tables.specs.declared.seat.Seat.{Seat}
+use Rattle.core_tables.specs.declared.berth_group.BerthGroup.{BerthGroup}
 use Rattle.core_state.specs.declared.state.State.{State}
 use Rattle.core_tables.specs.Matches.{matches_of, is_waiting}
 use Rattle.core_tables.specs.Seats.{seat_at}

@@ -24,8 +24,8 @@ use Rattle.race_core.specs.Rows as wins
 use Rattle.race_core.specs.Stands.{is_done}
 use Rattle.retry_rules.specs.Counts as counts
 use Rattle.core_tables.specs.declared.lanes.LaneState.{LaneState}
-use Rattle.core_tables.specs.declared.lanes.Order.{Order}
-use Rattle.core_tables.specs.declared.lanes.Order.TheVariants as order
+use Rattle.core_tables.specs.declared.lanes.Owed.{Owed}
+use Rattle.core_tables.specs.declared.lanes.Owed.TheVariants as order
 use Rattle.core_tables.specs.declared.last.LastLine.{LastLine}
 use Rattle.core_state.specs.declared.choice.Choice.{Choice}
 use Rattle.core_state.specs.declared.choice.Choice.TheVariants as choice
@@ -178,14 +178,14 @@ CanEnd s t = EndFits s.race s.attempts s.ready t
 
 -- ---- Launched, Killed, Take
 
-abbrev pub order_on : Option LaneState → Order
+abbrev pub order_on : Option LaneState → Owed
 order_on (Some x) = x.order
 order_on None = order.Nothing
 
-abbrev pub order_at : State → ℕ → Order
+abbrev pub order_at : State → ℕ → Owed
 order_at s lane = order_on (slice_get s.lanes lane)
 
-abbrev pub launched_in : Order → Option Attempt
+abbrev pub launched_in : Owed → Option Attempt
 launched_in (order.Launch l t) = Some t
 launched_in _ = None
 

@@ -30,12 +30,12 @@ use Rattle.request_table.specs.Rows as asks
 use Rattle.cancel_rules.specs.Marks as marks
 use Rattle.retry_rules.specs.Counts as counts
 use Rattle.worker_pool.specs.Rows as rows
-use Rattle.core_tables.specs.declared.lanes.Order.{Order}
-use Rattle.core_tables.specs.declared.lanes.Order.TheVariants as order
+use Rattle.core_tables.specs.declared.lanes.Owed.{Owed}
+use Rattle.core_tables.specs.declared.lanes.Owed.TheVariants as order
 use Rattle.core_tables.specs.declared.greetings.Greeting.{Greeting}
 use Rattle.core_tables.specs.declared.last.LastLine.{LastLine}
 use Rattle.core_tables.specs.declared.matches.Match.{Match}
-use Rattle.core_tables.specs.declared.seat.Seat.{Seat}
+use Rattle.core_tables.specs.declared.berth_group.BerthGroup.{BerthGroup}
 use Rattle.core_state.specs.declared.state.State.{State}
 use Rattle.core_state.specs.Choices.{row_at, attempt_on}
 use Rattle.core_tables.specs.Last.{set_cause, set_fed}
@@ -52,7 +52,7 @@ branch_of_group None g = Remote
 abbrev pub branch_in : Plan → ℕ → ℕ → Branch
 branch_in p a g = branch_of_group (option_and_then (λ x. x.local) (slice_get p.actions a)) g
 
-abbrev pub attempt_in : Plan → Seat → ℕ → ℕ → Attempt
+abbrev pub attempt_in : Plan → BerthGroup → ℕ → ℕ → Attempt
 attempt_in p seat a t = attempt_of a (branch_in p a seat.group) t
 
 -- ---- Answer
@@ -63,10 +63,10 @@ breached s w l = record s {
   last = update (set_cause cause.Breach) s.last w;
 }
 
-abbrev pub unmatched_reply : Seat → StrayWhy → Reply
+abbrev pub unmatched_reply : BerthGroup → StrayWhy → Reply
 unmatched_reply seat y = if is_single seat.kind then reply.Breach breach.Unasked else reply.Stray y
 
-abbrev pub unmatched_with : State → ℕ → Seat → ℕ → State
+abbrev pub unmatched_with : State → ℕ → BerthGroup → ℕ → State
 unmatched_with s w seat l = if is_single seat.kind then breached s w l else s
 
 abbrev pub is_won : State → Attempt → Bool
@@ -116,14 +116,14 @@ heard s l n = record s { requests = asks.with_answer s.requests l n }
 abbrev pub reopened : State → ℕ → ℤ → State
 reopened s l n = record s { requests = asks.with_reopened s.requests l n }
 
-abbrev pub matching_reply : State → Seat → Answer → Matching → Reply
+abbrev pub matching_reply : State → BerthGroup → Answer → Matching → Reply
 matching_reply s seat x (found.Pending a t) = if x.cancelled then reply.Breach breach.NotCancelled
     else consumed_reply s (attempt_in s.plan seat a t)
 matching_reply s seat x (found.Cancelled a t) = consumed_reply s (attempt_in s.plan seat a t)
 matching_reply s seat x found.Closed = unmatched_reply seat stray.Closed
 matching_reply s seat x found.Never = unmatched_reply seat stray.Never
 
-abbrev pub matching_with : State → ℕ → Seat → ℕ → Answer → Matching → State
+abbrev pub matching_with : State → ℕ → BerthGroup → ℕ → Answer → Matching → State
 matching_with s w seat l x (found.Pending a t) = if x.cancelled then breached
     (reopened (heard s l x.number) l x.number) w l else consumed_with (heard s l x.number) w l x
     (attempt_in s.plan seat a t)
@@ -132,16 +132,16 @@ matching_with s w seat l x (found.Cancelled a t) =
 matching_with s w seat l x found.Closed = unmatched_with (heard s l x.number) w seat l
 matching_with s w seat l x found.Never = unmatched_with (heard s l x.number) w seat l
 
-abbrev pub is_wrong : Seat → Answer → Bool
+abbrev pub is_wrong : BerthGroup → Answer → Bool
 is_wrong seat x = is_single seat.kind && not (int_eq x.number (pos 0))
 
 -- of a line that isn't broken, an answer that is no greeting
-abbrev pub told_reply : State → Seat → ℕ → Answer → Reply
+abbrev pub told_reply : State → BerthGroup → ℕ → Answer → Reply
 told_reply s seat l x =
     if is_wrong seat x then reply.Breach breach.WrongNumber
     else matching_reply s seat x (asks.matching_of s.requests l x.number)
 
-abbrev pub told_with : State → ℕ → Seat → ℕ → Answer → State
+abbrev pub told_with : State → ℕ → BerthGroup → ℕ → Answer → State
 told_with s w seat l x =
     if is_wrong seat x then breached s w l
     else matching_with s w seat l x (asks.matching_of s.requests l x.number)
@@ -151,17 +151,17 @@ spoken_on (Some y) = y.spoken
 spoken_on None = false
 
 -- an executor's first answer, with the number 0 and the version 2 or more
-abbrev pub is_greeting_by : Seat → Option Greeting → Answer → Bool
+abbrev pub is_greeting_by : BerthGroup → Option Greeting → Answer → Bool
 is_greeting_by seat said x = is_remote seat.kind &&
     (int_eq x.number (pos 0) && (int_le (pos 2) x.version && not (spoken_on said)))
 
-abbrev pub answer_reply_by : State → ℕ → Seat → ℕ → Answer → Reply
+abbrev pub answer_reply_by : State → ℕ → BerthGroup → ℕ → Answer → Reply
 answer_reply_by s w seat l x =
     if (row_at s l).broken then reply.Breach breach.Broken
     else if is_greeting_by seat (slice_get s.greetings w) x then reply.Greeted
     else told_reply s seat l x
 
-abbrev pub answered_with : State → ℕ → Seat → ℕ → Answer → State
+abbrev pub answered_with : State → ℕ → BerthGroup → ℕ → Answer → State
 answered_with s w seat l x =
     if (row_at s l).broken then breached s w l
     else if is_greeting_by seat (slice_get s.greetings w) x then s
@@ -178,12 +178,12 @@ pub record CanHear (s : State) (w l : ℕ) (n : ℤ) (t : Attempt) : Type 0 wher
   pub matches : w < length s.matches
   pub room : length (matches_of s.matches w) < 8
 
-abbrev pub CanHearBy : State → ℕ → Seat → ℕ → ℤ → Matching → Type 0
+abbrev pub CanHearBy : State → ℕ → BerthGroup → ℕ → ℤ → Matching → Type 0
 CanHearBy s w seat l n (found.Pending a t) = CanHear s w l n (attempt_in s.plan seat a t)
 CanHearBy s w seat l n (found.Cancelled a t) = CanHear s w l n (attempt_in s.plan seat a t)
 CanHearBy s w seat l n _ = Unit {0}
 
-pub record CanAnswer (s : State) (w : ℕ) (seat : Seat) (l : ℕ) (n : ℤ) : Type 0 where
+pub record CanAnswer (s : State) (w : ℕ) (seat : BerthGroup) (l : ℕ) (n : ℤ) : Type 0 where
   pub line : l < length s.pool.lines
   pub last : w < length s.last
   pub greetings : w < length s.greetings
@@ -192,7 +192,7 @@ pub record CanAnswer (s : State) (w : ℕ) (seat : Seat) (l : ℕ) (n : ℤ) : T
 
 -- ---- Wrote
 
-abbrev pub sent_in : Order → Option Attempt
+abbrev pub sent_in : Owed → Option Attempt
 sent_in (order.Send l n t) = Some t
 sent_in _ = None
 
@@ -266,37 +266,37 @@ pub record CanWrite (s : State) (lane w l : ℕ) (t : Option Attempt) : Type 0 w
 
 -- ---- Ended
 
-abbrev pub place_counts : Plan → List Won → counts.Facts → Seat → RequestRow → counts.Facts
+abbrev pub place_counts : Plan → List Won → counts.Facts → BerthGroup → RequestRow → counts.Facts
 place_counts p race f seat x = if x.pending then counts_after race f
     (attempt_in p seat x.action x.attempt) else f
 
-abbrev pub place_states : Plan → List Won → counts.Facts → List ActionState → Seat → RequestRow
+abbrev pub place_states : Plan → List Won → counts.Facts → List ActionState → BerthGroup → RequestRow
     → List ActionState
 place_states p race f states seat x = if x.pending then states_after p race f states
     (attempt_in p seat x.action x.attempt) else states
 
-abbrev pub places_counts : Plan → List Won → counts.Facts → Seat → List RequestRow → counts.Facts
+abbrev pub places_counts : Plan → List Won → counts.Facts → BerthGroup → List RequestRow → counts.Facts
 places_counts p race f seat [] = f
 places_counts p race f seat (x ∷ xs) = places_counts p race (place_counts p race f seat x) seat xs
 
-abbrev pub places_states : Plan → List Won → counts.Facts → List ActionState → Seat
+abbrev pub places_states : Plan → List Won → counts.Facts → List ActionState → BerthGroup
     → List RequestRow → List ActionState
 places_states p race f states seat [] = states
 places_states p race f states seat (x ∷ xs) = places_states p race (place_counts p race f seat x)
     (place_states p race f states seat x) seat xs
 
-abbrev pub PlaceFits : Plan → List Won → counts.Facts → List ActionState → Seat → RequestRow
+abbrev pub PlaceFits : Plan → List Won → counts.Facts → List ActionState → BerthGroup → RequestRow
     → Type 0
 PlaceFits p race f states seat x = x.pending ≡ true
     → EndFits race f states (attempt_in p seat x.action x.attempt)
 
-abbrev pub CanEndPlaces : Plan → List Won → counts.Facts → List ActionState → Seat → List RequestRow
+abbrev pub CanEndPlaces : Plan → List Won → counts.Facts → List ActionState → BerthGroup → List RequestRow
     → Type 0
 CanEndPlaces p race f states seat [] = Unit {0}
 CanEndPlaces p race f states seat (x ∷ xs) = PlaceFits p race f states seat x
     × CanEndPlaces p race f states seat xs
 
-abbrev pub end_all : State → Seat → List RequestRow → State
+abbrev pub end_all : State → BerthGroup → List RequestRow → State
 end_all s seat xs = record s {
   attempts = places_counts s.plan s.race s.attempts seat xs;
   ready = places_states s.plan s.race s.attempts s.ready seat xs;
@@ -317,12 +317,12 @@ closed s w l how = record s {
   last = update (set_cause (words.end_cause how)) s.last w;
 }
 
-abbrev pub ended_with : State → ℕ → Seat → ℕ → HowEnded → State
+abbrev pub ended_with : State → ℕ → BerthGroup → ℕ → HowEnded → State
 ended_with s w seat l how =
     closed (end_of_some (end_of_some (end_all s seat (asks.places_of s.requests l))
     (fed_on (slice_get s.last w))) (bound_on s w l)) w l how
 
-pub record CanEndAll (s : State) (w : ℕ) (seat : Seat) (l : ℕ) : Type 0 where
+pub record CanEndAll (s : State) (w : ℕ) (seat : BerthGroup) (l : ℕ) : Type 0 where
   pub line : l < length s.pool.lines
   pub last : w < length s.last
   pub requests : l < length s.requests.lines

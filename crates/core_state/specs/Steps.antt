@@ -5,7 +5,7 @@ use Rattle.exec_journal.specs.declared.call.Call.TheVariants as call
 use Rattle.exec_journal.specs.declared.reply.Reply.{Reply}
 use Rattle.exec_journal.specs.declared.reply.Reply.TheVariants as reply
 use Rattle.exec_journal.specs.Entries.{attempt_of}
-use Rattle.core_tables.specs.declared.seat.Seat.{Seat}
+use Rattle.core_tables.specs.declared.berth_group.BerthGroup.{BerthGroup}
 use Rattle.core_state.specs.declared.state.State.{State}
 use Rattle.core_state.specs.Choices.{Reads}
 use Rattle.core_state.specs.Machine.{CanEndOf, CanClaim, launch_by, launched_with, killed_with, take_reply, takeable, taken_with, committed_with, claim_reply_by, claimed_with, order_at}
@@ -18,13 +18,13 @@ is_report call.Ask = false
 is_report (call.Look x) = false
 is_report _ = true
 
-abbrev pub made_reply : State → ℕ → Seat → Call → Reply
+abbrev pub made_reply : State → ℕ → BerthGroup → Call → Reply
 made_reply s lane seat (call.Claim a b t f) = claim_reply_by s (attempt_of a b t) f
 made_reply s lane seat call.Take = take_reply s (takeable s (lane / 2))
 made_reply s lane seat (call.Answer l x) = answer_reply_by s (lane / 2) seat l x
 made_reply s lane seat _ = reply.Noted
 
-abbrev pub made : State → ℕ → Seat → Call → State
+abbrev pub made : State → ℕ → BerthGroup → Call → State
 made s lane seat (call.Launched l how) = launched_with s lane l how
 made s lane seat (call.Wrote l n how) = wrote_with s lane (lane / 2) l n how
 made s lane seat (call.Claim a b t f) = claimed_with s (attempt_of a b t) f
@@ -45,7 +45,7 @@ pub record CanCommit (s : State) (a : ℕ) : Type 0 where
   pub ready : a < length s.ready
 
 -- all that its calls of the tables ask is there
-abbrev pub CanMake : State → ℕ → Seat → Call → Type 0
+abbrev pub CanMake : State → ℕ → BerthGroup → Call → Type 0
 CanMake s lane seat (call.Launched l how) = CanLaunched s lane l
 CanMake s lane seat (call.Wrote l n how) = CanWrite s lane (lane / 2) l (sent_in (order_at s lane))
 CanMake s lane seat (call.Claim a b t f) = CanClaim s (attempt_of a b t)

@@ -4,13 +4,13 @@ ghost use Rattle.core_state.specs.Noted.{noted_if_kept};
 ghost use Rattle.core_state.specs.Steps.{CanMake, is_report, made_reply, made};
 
 use crate::State;
-use core_tables::Seat;
+use core_tables::BerthGroup;
 use exec_journal::{Attempt, Call, Reply};
 
 impl State {
     /// The reply to a call that is in its lane's script, and what it makes of the tables. For an Ask
     /// what was chosen is carried out, and a Look asks nothing of them.
-    pub fn make(&mut self, lane: u32, seat: Seat, call: &Call) -> Reply
+    pub fn make(&mut self, lane: u32, seat: BerthGroup, call: &Call) -> Reply
         requires can { CanMake self.old lane seat call.now }
         requires report { is_report call.now ≡ true }
         ensures reply { result ≡ made_reply self.old lane seat call.now }

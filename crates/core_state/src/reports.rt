@@ -10,7 +10,7 @@ ghost use Rattle.std.specs.List.{list_any};
 
 use crate::State;
 use crate::state::end_attempt;
-use core_tables::{Greeting, Match, Order, Seat};
+use core_tables::{BerthGroup, Greeting, Match, Owed};
 use exec_journal::{
     Answer, Attempt, Branch, BreachWhy, Cause, HowEnded, Kind, Plan, Reply, StrayWhy, Written,
 };
@@ -21,7 +21,7 @@ use retry_rules::Attempts;
 
 impl State {
     /// An Answer that the tap lane of this berth has heard on its line.
-    pub fn answer(&mut self, berth: u32, seat: Seat, line: u32, answer: &Answer) -> Reply
+    pub fn answer(&mut self, berth: u32, seat: BerthGroup, line: u32, answer: &Answer) -> Reply
         requires { CanAnswer self.old berth seat line answer.now.number }
         ensures reply { result ≡ answer_reply_by self.old berth seat line answer.now }
         ensures state { self.new ≡ answered_with self.old berth seat line answer.now }
@@ -36,7 +36,7 @@ impl State {
     }
 
     // An answer that comes from a line that isn't broken, and is no greeting.
-    fn answer_to(&mut self, berth: u32, seat: Seat, line: u32, answer: &Answer) -> Reply
+    fn answer_to(&mut self, berth: u32, seat: BerthGroup, line: u32, answer: &Answer) -> Reply
         requires { CanAnswer self.old berth seat line answer.now.number }
         ensures reply { result ≡ told_reply self.old seat line answer.now }
         ensures state { self.new ≡ told_with self.old berth seat line answer.now }
@@ -74,7 +74,7 @@ impl State {
     }
 
     // On a Single line an answer that finds no request is a Breach.
-    fn unmatched(&mut self, berth: u32, seat: Seat, line: u32, why: StrayWhy) -> Reply
+    fn unmatched(&mut self, berth: u32, seat: BerthGroup, line: u32, why: StrayWhy) -> Reply
         requires line { line < length self.old.pool.lines }
         requires last { berth < length self.old.last }
         ensures reply { result ≡ unmatched_reply seat why }
@@ -88,7 +88,7 @@ impl State {
     }
 
     // The group of a line says which branch of the action it runs.
-    fn attempt_in(&self, seat: Seat, action: u32, number: u32) -> Attempt
+    fn attempt_in(&self, seat: BerthGroup, action: u32, number: u32) -> Attempt
         ensures { result ≡ attempt_in self.now.plan seat action number }
     {
         Attempt {
@@ -144,7 +144,7 @@ impl State {
         let order = self.lanes.state(lane).order;
         self.break_feed(berth, line);
         match order {
-            Order::Send { attempt, .. } => self.feed_lost(berth, line, attempt),
+            Owed::Send { attempt, .. } => self.feed_lost(berth, line, attempt),
             _ => Reply::Noted,
         }
     }
@@ -183,7 +183,7 @@ impl State {
             (sent_in (order_at self.old lane)) }
     {
         match self.lanes.state(lane).order {
-            Order::Send { attempt, .. } => self.unwritten(lane, berth, line, number, attempt),
+            Owed::Send { attempt, .. } => self.unwritten(lane, berth, line, number, attempt),
             _ => Reply::Noted,
         }
     }
@@ -223,7 +223,7 @@ impl State {
 
     /// An Ended of this berth's last line: what is pending on it, bound to it, or wasn't written
     /// whole to it, ends.
-    pub fn ended(&mut self, berth: u32, seat: Seat, line: u32, how: HowEnded) -> Reply
+    pub fn ended(&mut self, berth: u32, seat: BerthGroup, line: u32, how: HowEnded) -> Reply
         requires { CanEndAll self.old berth seat line }
         ensures reply { result ≡ Reply.Noted }
         ensures state { self.new ≡ ended_with self.old berth seat line how }
@@ -254,7 +254,7 @@ impl State {
 }
 
 // An executor's first answer, with the number 0 and the version 2 or more.
-fn is_greeting(seat: Seat, said: Greeting, answer: &Answer) -> bool
+fn is_greeting(seat: BerthGroup, said: Greeting, answer: &Answer) -> bool
     ensures { result ≡ is_greeting_by seat (Some said) answer.now }
 {
     seat.kind == Kind::Remote && answer.number == 0 && answer.version >= 2 && !said.spoken
@@ -280,7 +280,7 @@ fn end_places(
     attempts: &mut Attempts,
     ready: &mut Ready,
     places: &[RequestRow],
-    seat: Seat,
+    seat: BerthGroup,
 )
     requires { CanEndPlaces plan.now race.now attempts.old ready.old seat places.now }
     ensures counts { attempts.new ≡ places_counts plan.now race.now attempts.old seat places.now }
@@ -298,7 +298,7 @@ fn end_place(
     attempts: &mut Attempts,
     ready: &mut Ready,
     place: &RequestRow,
-    seat: Seat,
+    seat: BerthGroup,
 )
     requires { PlaceFits plan.now race.now attempts.old ready.old seat place.now }
     ensures counts { attempts.new ≡ place_counts plan.now race.now attempts.old seat place.now }

@@ -9,7 +9,7 @@ ghost use Rattle.core_state.specs.Machine.{occupied, begun_by, CanEnd, CanEndOf,
 
 use crate::Choice;
 use cancel_rules::Cancels;
-use core_tables::{Greetings, Lanes, LastLine, LastLines, Match, Matches, Order};
+use core_tables::{Greetings, Lanes, LastLine, LastLines, Match, Matches, Owed};
 use exec_journal::{Attempt, Branch, CommitEnd, Found, Kind, Plan, Reply, Started};
 use race_core::Race;
 use ready_order::Ready;
@@ -142,7 +142,7 @@ impl State {
             Started::Done => self.pool.started(line),
             _ => {
                 self.pool.unbound(line);
-                if let Order::Launch { attempt, .. } = self.lanes.state(lane).order {
+                if let Owed::Launch { attempt, .. } = self.lanes.state(lane).order {
                     self.end(attempt);
                 }
             }

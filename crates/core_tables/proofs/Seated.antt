@@ -9,7 +9,7 @@ use Rattle.run_plan.specs.declared.plan.Kind.TheVariants as kind
 use Rattle.run_plan.specs.declared.plan.Plan.{Plan}
 use Rattle.run_plan.specs.Groups.{group_from, berth_group, berths, first_berth, berths_of, kind_of, has_cancellation}
 use Rattle.exec_journal.proofs.Ruled.{by_bool}
-use Rattle.core_tables.specs.declared.seat.Seat.{Seat}
+use Rattle.core_tables.specs.declared.berth_group.BerthGroup.{BerthGroup}
 use Rattle.core_tables.specs.Seats.{seat_from, seat_here, seat_at}
 
 abbrev sum : List Group → ℕ
@@ -94,7 +94,7 @@ within_sum (suc i) (y ∷ ys) x h =
 abbrev pub all_berths : Plan → ℕ
 all_berths p = berths p
 
-pub record IsSeat (p : Plan) (w : ℕ) (s : Seat) : Type 0 where
+pub record IsSeat (p : Plan) (w : ℕ) (s : BerthGroup) : Type 0 where
   pub is : seat_at p w ≡ Some s
   pub group : berth_group p w ≡ Some s.group
   pub kind : kind_of p w ≡ s.kind
@@ -114,7 +114,7 @@ pub kind_by_group : (p : Plan) (v w g : ℕ) → berth_group p v ≡ Some g → 
     → kind_of p v ≡ kind_of p w
 kind_by_group p v w g a b = ap (kind_in p) a ∙ sym (ap (kind_in p) b)
 
-pub seat_is : (p : Plan) (w : ℕ) → w < berths p → (s : Seat) × IsSeat p w s
+pub seat_is : (p : Plan) (w : ℕ) → w < berths p → (s : BerthGroup) × IsSeat p w s
 seat_is p w lt =
     let at = placed 0 0 p.groups w lt in
     let n : 0 + at.index ≡ at.index = omega arith in
@@ -139,14 +139,14 @@ seat_is p w lt =
     )
 
 -- the group's berths are the plan's
-pub seat_fits : (p : Plan) (w : ℕ) (s : Seat) → w < berths p → seat_at p w ≡ Some s
+pub seat_fits : (p : Plan) (w : ℕ) (s : BerthGroup) → w < berths p → seat_at p w ≡ Some s
     → s.first + s.berths ≤ berths p
 seat_fits p w s lt h =
     let at = placed 0 0 p.groups w lt in
     let here : Some (seat_here (0 + at.index) (0 + sum (take at.index p.groups)) at.group)
     ≡ Some s = sym at.seated ∙ h in
     let same : seat_here (0 + at.index) (0 + sum (take at.index p.groups)) at.group ≡ s = cc in
-    let f = ap (λ (x : Seat). x.first) same in
-    let b = ap (λ (x : Seat). x.berths) same in
+    let f = ap (λ (x : BerthGroup). x.first) same in
+    let b = ap (λ (x : BerthGroup). x.berths) same in
     let fit = within_sum at.index p.groups at.group at.here in
     omega arith

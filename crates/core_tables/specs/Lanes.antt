@@ -18,14 +18,14 @@ use Rattle.run_plan.specs.Groups.{is_remote}
 use Rattle.exec_journal.specs.Scripts.{may_find, outputs_of, makes, is_whole_or_fault}
 use Rattle.list_lemmas.specs.Places.{update}
 use Rattle.core_tables.specs.declared.lanes.LaneState.{LaneState}
-use Rattle.core_tables.specs.declared.lanes.Order.{Order}
-use Rattle.core_tables.specs.declared.lanes.Order.TheVariants as order
+use Rattle.core_tables.specs.declared.lanes.Owed.{Owed}
+use Rattle.core_tables.specs.declared.lanes.Owed.TheVariants as order
 use Rattle.core_tables.specs.declared.lanes.Said.{Said}
 use Rattle.core_tables.specs.declared.lanes.Said.TheVariants as said
 
 -- ---- what an entry leaves
 
-abbrev pub order_after : Reply → Order
+abbrev pub order_after : Reply → Owed
 order_after (reply.Launch l a b t) = order.Launch l (attempt_of a b t)
 order_after (reply.Send l n a b t) = order.Send l n (attempt_of a b t)
 order_after (reply.Cancel l n) = order.Cancel l n
@@ -67,12 +67,12 @@ abbrev pub is_answer : Said → Bool
 is_answer (said.Answer l) = true
 is_answer _ = false
 
-abbrev pub may_ask_by : Order → Said → Bool
+abbrev pub may_ask_by : Owed → Said → Bool
 may_ask_by order.Nothing s = not (is_won s)
 may_ask_by (order.Line l) s = true
 may_ask_by _ s = false
 
-abbrev pub may_take_by : Order → Said → Bool
+abbrev pub may_take_by : Owed → Said → Bool
 may_take_by (order.Line l) s = false
 may_take_by order.Stop s = false
 may_take_by _ s = not (is_answer s)
@@ -81,7 +81,7 @@ abbrev pub hears_said : ℕ → Said → Bool
 hears_said l (said.Answer k) = k == l
 hears_said l _ = false
 
-abbrev pub hears_by : ℕ → Order → Said → Bool
+abbrev pub hears_by : ℕ → Owed → Said → Bool
 hears_by l (order.Line k) s = k == l
 hears_by l _ s = hears_said l s
 
@@ -93,14 +93,14 @@ abbrev pub owes_commit_by : Call → Said → Bool
 owes_commit_by (call.Committed a b how) s = owes_this_commit a b s
 owes_commit_by _ s = false
 
-abbrev pub may_look_by : Plan → Wanted → Order → Bool
+abbrev pub may_look_by : Plan → Wanted → Owed → Bool
 may_look_by p (look.Made c o) (order.Send l n t) = makes p t.action c o
 may_look_by p (look.Answered k m o) (order.Gather l n t exit refused) =
     ((k == l) && int_eq m n) && (int_eq exit (pos 0) &&
     (not refused && nat_lt o (outputs_of p t.action)))
 may_look_by p _ _ = false
 
-abbrev pub is_owed_by : Plan → Kind → Call → Order → Bool
+abbrev pub is_owed_by : Plan → Kind → Call → Owed → Bool
 is_owed_by p k (call.Launched l how) (order.Launch m t) = m == l
 is_owed_by p k (call.Wrote l n how) (order.Send m o t) = (m == l) && int_eq o n
 is_owed_by p k (call.Wrote l n how) (order.Cancel m o) =
@@ -111,7 +111,7 @@ is_owed_by p k (call.Killed l) (order.Kill m) = m == l
 is_owed_by p k (call.Look w) o = may_look_by p w o
 is_owed_by p k _ _ = false
 
-abbrev pub allowed_by : Plan → Kind → Bool → Order → Said → Call → Bool
+abbrev pub allowed_by : Plan → Kind → Bool → Owed → Said → Call → Bool
 allowed_by p k proxy o s call.Ask = proxy && may_ask_by o s
 allowed_by p k proxy o s call.Take = not proxy && may_take_by o s
 allowed_by p k proxy o s (call.Answer l x) = not proxy && hears_by l o s
@@ -132,7 +132,7 @@ allows_by p k lanes lane c = may_some p k (lane % 2 == 0) (slice_get lanes lane)
 
 -- ---- by the journal
 
-abbrev pub order_of_work : Option Entry → Order
+abbrev pub order_of_work : Option Entry → Owed
 order_of_work (Some e) = order_after e.reply
 order_of_work None = order.Nothing
 

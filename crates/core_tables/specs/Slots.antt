@@ -109,7 +109,7 @@ slot_in None o = None
 abbrev pub slot_at : List (List Slot) → ℕ → ℕ → Option Slot
 slot_at rows a o = slot_in (slice_get rows a) o
 
--- the file, or want of memory in its place
+-- the file, or lack of memory in its place
 abbrev pub Told : Option Slot → Reply → Type 0
 Told (Some (Here content)) r = (r ≡ reply.File content) ⊎ (r ≡ reply.NoMemory)
 Told (Some Short) r = r ≡ reply.NoMemory

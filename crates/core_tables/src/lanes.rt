@@ -13,7 +13,7 @@ use std::marker::Model;
 
 /// What the reply of a lane's newest work orders.
 #[derive(Clone, Copy)]
-pub enum Order {
+pub enum Owed {
     Nothing,
     Launch {
         line: u32,
@@ -57,7 +57,7 @@ pub enum Said {
 /// Of a lane: its newest work, and whether it was told to stop or has halted.
 #[derive(Clone, Copy)]
 pub struct LaneState {
-    pub order: Order,
+    pub order: Owed,
     pub said: Said,
     pub stopped: bool,
     pub halted: bool,
@@ -83,7 +83,7 @@ impl Lanes {
         ensures { IfOk result (λ t. t ≡ replicate lanes no_work) }
     {
         let none = LaneState {
-            order: Order::Nothing,
+            order: Owed::Nothing,
             said: Said::Nothing,
             stopped: false,
             halted: false,
@@ -170,31 +170,31 @@ impl LaneState {
     }
 }
 
-fn may_ask(order: Order, said: Said) -> bool
+fn may_ask(order: Owed, said: Said) -> bool
     ensures { result ≡ may_ask_by order said }
 {
     match order {
-        Order::Nothing => !matches!(said, Said::Won { .. }),
-        Order::Line { .. } => true,
+        Owed::Nothing => !matches!(said, Said::Won { .. }),
+        Owed::Line { .. } => true,
         _ => false,
     }
 }
 
-fn may_take(order: Order, said: Said) -> bool
+fn may_take(order: Owed, said: Said) -> bool
     ensures { result ≡ may_take_by order said }
 {
     match order {
-        Order::Line { .. } => false,
-        Order::Stop => false,
+        Owed::Line { .. } => false,
+        Owed::Stop => false,
         _ => !matches!(said, Said::Answer { .. }),
     }
 }
 
-fn hears(order: Order, said: Said, line: u32) -> bool
+fn hears(order: Owed, said: Said, line: u32) -> bool
     ensures { result ≡ hears_by line order said }
 {
     match order {
-        Order::Line { line: own } => own == line,
+        Owed::Line { line: own } => own == line,
         _ => match said {
             Said::Answer { line: own } => own == line,
             _ => false,
@@ -218,21 +218,21 @@ fn owes_commit(said: Said, call: &Call) -> bool
 }
 
 // What the order asks of the lane.
-fn is_owed(plan: &Plan, kind: Kind, order: Order, call: &Call) -> bool
+fn is_owed(plan: &Plan, kind: Kind, order: Owed, call: &Call) -> bool
     ensures { result ≡ is_owed_by plan.now kind call.now order }
 {
     match call {
         Call::Launched { line, .. } => match order {
-            Order::Launch { line: own, .. } => own == *line,
+            Owed::Launch { line: own, .. } => own == *line,
             _ => false,
         },
         Call::Wrote { line, number, how } => match order {
-            Order::Send {
+            Owed::Send {
                 line: own,
                 number: sent,
                 ..
             } => own == *line && sent == *number,
-            Order::Cancel {
+            Owed::Cancel {
                 line: own,
                 number: sent,
             } => {
@@ -246,7 +246,7 @@ fn is_owed(plan: &Plan, kind: Kind, order: Order, call: &Call) -> bool
             attempt,
             found,
         } => match order {
-            Order::Gather {
+            Owed::Gather {
                 attempt: own,
                 exit,
                 refused,
@@ -258,7 +258,7 @@ fn is_owed(plan: &Plan, kind: Kind, order: Order, call: &Call) -> bool
             _ => false,
         },
         Call::Killed { line } => match order {
-            Order::Kill { line: own } => own == *line,
+            Owed::Kill { line: own } => own == *line,
             _ => false,
         },
         Call::Look(wanted) => may_look(plan, *wanted, order),
@@ -296,12 +296,12 @@ fn may_find(plan: &Plan, action: u32, kind: Kind, exit: i32, refused: bool, foun
     }
 }
 
-fn may_look(plan: &Plan, wanted: Wanted, order: Order) -> bool
+fn may_look(plan: &Plan, wanted: Wanted, order: Owed) -> bool
     ensures { result ≡ may_look_by plan.now wanted order }
 {
     match wanted {
         Wanted::Made { action, output } => match order {
-            Order::Send { attempt, .. } => makes(plan, attempt.action, action, output),
+            Owed::Send { attempt, .. } => makes(plan, attempt.action, action, output),
             _ => false,
         },
         Wanted::Answered {
@@ -309,7 +309,7 @@ fn may_look(plan: &Plan, wanted: Wanted, order: Order) -> bool
             number,
             output,
         } => match order {
-            Order::Gather {
+            Owed::Gather {
                 line: own,
                 number: sent,
                 attempt,
@@ -345,7 +345,7 @@ fn some_is(makers: &[Maker], action: u32, output: u32) -> bool
         .any(|maker| maker.action == action && maker.output == output)
 }
 
-fn order_after(reply: &Reply) -> Order
+fn order_after(reply: &Reply) -> Owed
     ensures { result ≡ order_after reply.now }
 {
     match reply {
@@ -354,7 +354,7 @@ fn order_after(reply: &Reply) -> Order
             action,
             branch,
             attempt,
-        } => Order::Launch {
+        } => Owed::Launch {
             line: *line,
             attempt: attempt_of(*action, *branch, *attempt),
         },
@@ -364,12 +364,12 @@ fn order_after(reply: &Reply) -> Order
             action,
             branch,
             attempt,
-        } => Order::Send {
+        } => Owed::Send {
             line: *line,
             number: *number,
             attempt: attempt_of(*action, *branch, *attempt),
         },
-        Reply::Cancel { line, number } => Order::Cancel {
+        Reply::Cancel { line, number } => Owed::Cancel {
             line: *line,
             number: *number,
         },
@@ -381,17 +381,17 @@ fn order_after(reply: &Reply) -> Order
             attempt,
             exit,
             refused,
-        } => Order::Gather {
+        } => Owed::Gather {
             line: *line,
             number: *number,
             attempt: attempt_of(*action, *branch, *attempt),
             exit: *exit,
             refused: *refused,
         },
-        Reply::Kill { line, .. } => Order::Kill { line: *line },
-        Reply::Line { line } => Order::Line { line: *line },
-        Reply::Stop => Order::Stop,
-        _ => Order::Nothing,
+        Reply::Kill { line, .. } => Owed::Kill { line: *line },
+        Reply::Line { line } => Owed::Line { line: *line },
+        Reply::Stop => Owed::Stop,
+        _ => Owed::Nothing,
     }
 }
 

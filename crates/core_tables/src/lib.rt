@@ -3,6 +3,7 @@
 //! or that matched answers have.
 #![tactic(auto)]
 
+mod berth_group;
 pub mod file_laws;
 mod file_rows;
 mod files;
@@ -10,11 +11,10 @@ mod greetings;
 mod lanes;
 mod last;
 mod matches;
-mod seat;
 
+pub use berth_group::{BerthGroup, group_of_berth};
 pub use files::{Files, Slot};
 pub use greetings::{Greeting, Greetings};
-pub use lanes::{LaneState, Lanes, Order, Said};
+pub use lanes::{LaneState, Lanes, Owed, Said};
 pub use last::{LastLine, LastLines};
 pub use matches::{Match, Matches};
-pub use seat::{Seat, seat_of};

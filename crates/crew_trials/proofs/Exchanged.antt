@@ -7,7 +7,7 @@ use Rattle.seat_desk.specs.declared.desk.Desk.{Desk}
 use Rattle.seat_desk.specs.Passes.{IsPassOf, IsSamePass, mine}
 use Rattle.crew_trials.specs.declared.slot.Nothing.{Nothing}
 use Rattle.lane_crew.specs.Lanes.{IsFresh}
-use Rattle.lane_crew.specs.Seats.{MayRunInOrder, EachLane}
+use Rattle.lane_crew.specs.LaneJobs.{MayRunInOrder, EachLane}
 use Rattle.crew_trials.specs.declared.slot.Ask.{Ask}
 use Rattle.crew_trials.specs.declared.slot.Answer.{Answer}
 use Rattle.crew_trials.specs.declared.slot.Slot.{Slot}

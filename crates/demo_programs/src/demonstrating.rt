@@ -29,7 +29,7 @@ const SIZE: Size = Size {
 /// # Errors
 ///
 /// `NoMemory`, only where requests share the shop: before the input is read, or once all have ended.
-/// Any other want of memory is told by the status.
+/// Any other lack of memory is told by the status.
 pub fn demo<T: Tap + Send, O: Sink + Send, S: Shop + Send, R: Threads + Wait + Sync>(
     rt: &R,
     alloc: Global,

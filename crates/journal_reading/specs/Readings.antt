@@ -1,9 +1,9 @@
--- Readings that are a value or nothing, and for which want of memory may stand.
+-- Readings that are a value or nothing, and for which lack of memory may stand.
 use Rattle.std.specs.Prelude.{◌≡◌, Option, Some, None, Result, Ok, Err}
 use Rattle.journal_reading.specs.declared.misread.Misread.{Misread}
 use Rattle.journal_reading.specs.declared.misread.Misread.TheVariants as misread
 
--- Nothing is due; want of memory may stand in the place of whatever is due.
+-- Nothing is due; lack of memory may stand in the place of whatever is due.
 abbrev pub Misreads : {A : Type 0} → Misread → Option A → Type 0
 Misreads misread.Otherwise due = due ≡ None
 Misreads misread.NoMemory due = Unit {0}

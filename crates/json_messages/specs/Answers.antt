@@ -1,4 +1,4 @@
--- Answers that are a value or the first fault, and for which want of memory may stand.
+-- Answers that are a value or the first fault, and for which lack of memory may stand.
 use Rattle.std.specs.Prelude.{◌≡◌, ◌⊎◌, Result, Ok, Err}
 use Rattle.wire_messages.specs.declared.fault.MessageFault.{MessageFault}
 use Rattle.wire_messages.specs.declared.fault.MessageFault.TheVariants as fault
@@ -9,7 +9,7 @@ abbrev pub and_then : {A B : Type 0} → Result A MessageFault → (A → Result
 and_then (Ok x) f = f x
 and_then (Err e) f = Err e
 
--- This fault is the one that is due; want of memory may always stand in its place.
+-- This fault is the one that is due; lack of memory may always stand in its place.
 abbrev pub Refuses : {A : Type 0} → MessageFault → Result A MessageFault → Type 0
 Refuses e due = (e ≡ fault.NoMemory) ⊎ (due ≡ Err e)
 

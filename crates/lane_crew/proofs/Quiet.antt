@@ -6,7 +6,7 @@ use Rattle.plain_values.specs.declared.entry.Entry.{Entry}
 use Rattle.seat_desk.specs.declared.view.Joined.{Joined}
 use Rattle.seat_desk.specs.History.{calls_by}
 use Rattle.seat_desk.specs.Turns.{AllJoined, NoneFrom}
-use Rattle.lane_crew.specs.Seats.{AreIdle, IdleFrom}
+use Rattle.lane_crew.specs.LaneJobs.{AreIdle, IdleFrom}
 
 module _ {C R : Type 0} where
   -- a lane that was joined idle, or is none of the first so many

@@ -1,12 +1,12 @@
--- Threads are given posts, and give them back.
+-- Threads are given slots, and give them back.
 use Rattle.std.proofs.Common.{◌≡◌, false, List, [], ◌∷◌, ◌++◌, refl, sym, ◌∙◌, ap, subst, append_assoc, append-nil, All}
 use Rattle.std.proofs.lemmas.List.Elements.{All-nil, All-cons, All-same, All-rest, All-head, AllZip-push}
 use Rattle.std.specs.List.{AllZip, list_any}
 use Rattle.std.specs.declared.thread.PromisedHandle.{PromisedHandle}
 use Rattle.lane_crew.specs.declared.job.Task.{Task}
-use Rattle.lane_crew.specs.declared.job.Post.{Post}
-use Rattle.lane_crew.specs.declared.job.Post.TheVariants.{Ready, Ended}
-use Rattle.lane_crew.specs.Jobs.{CanRun, CanRunIfLeft, EndsAs, HasEnded, MayHaveEnded, IsOver, has_end, posts_of}
+use Rattle.lane_crew.specs.declared.job.Slot.{Slot}
+use Rattle.lane_crew.specs.declared.job.Slot.TheVariants.{Ready, Ended}
+use Rattle.lane_crew.specs.Jobs.{CanRun, CanRunIfLeft, EndsAs, HasEnded, MayHaveEnded, IsOver, has_end, slots_of}
 
 all_more : {X : Type 0} (P : X → Type 0) (xs : List X) (x : X) → All P xs → P x → All P (xs ++ x ∷ [])
 all_more P [] x all here = All-cons P x [] here all
@@ -19,137 +19,137 @@ zip_on P [] ys (u ∷ us) vs a b = absurd a
 zip_on P (x ∷ xs) ys [] vs a b = absurd a
 
 module _ {C J E : Type 0} where
-  posts_more : (threads : List (PromisedHandle (Post J E) (Task C J E))) (thread : PromisedHandle (Post J E) (Task C J E))
-      → posts_of (threads ++ thread ∷ []) ≡ posts_of threads ++ thread.promise.post.value ∷ []
+  posts_more : (threads : List (PromisedHandle (Slot J E) (Task C J E))) (thread : PromisedHandle (Slot J E) (Task C J E))
+      → slots_of (threads ++ thread ∷ []) ≡ slots_of threads ++ thread.promise.slot.value ∷ []
   posts_more [] thread = refl
-  posts_more (t ∷ ts) thread = ap (λ (ps : List (Post J E)). t.promise.post.value ∷ ps) (posts_more ts thread)
+  posts_more (t ∷ ts) thread = ap (λ (ps : List (Slot J E)). t.promise.slot.value ∷ ps) (posts_more ts thread)
 
-  -- some of the posts were given to these threads, those behind them have come late, and the rest is
+  -- some of the slots were given to these threads, those behind them have come late, and the rest is
   -- still to come
-  pub record Starting (can : C → J → Type 0) (ends : C → J → E → Type 0) (context : C) (posts rest : List (Post J E)) (threads : List (PromisedHandle (Post J E) (Task C J E))) (late : List (Post J E)) : Type 0 where
-    pub behind : List (Post J E)
-    pub split : posts ≡ posts_of threads ++ (behind ++ rest)
+  pub record Starting (can : C → J → Type 0) (ends : C → J → E → Type 0) (context : C) (slots rest : List (Slot J E)) (threads : List (PromisedHandle (Slot J E) (Task C J E))) (late : List (Slot J E)) : Type 0 where
+    pub behind : List (Slot J E)
+    pub split : slots ≡ slots_of threads ++ (behind ++ rest)
     pub over : All (IsOver context) threads
     pub can_run : All (CanRun can context) rest
     pub kept : AllZip (MayHaveEnded ends context) behind late
 
-  pub starts : (can : C → J → Type 0) (ends : C → J → E → Type 0) (context : C) (posts rest : List (Post J E)) (threads : List (PromisedHandle (Post J E) (Task C J E))) (late : List (Post J E))
-      → rest ≡ posts → threads ≡ [] → late ≡ [] → All (CanRun can context) posts → Starting can ends context posts rest threads late
-  starts can ends context posts rest threads late e none empty all = record {
+  pub starts : (can : C → J → Type 0) (ends : C → J → E → Type 0) (context : C) (slots rest : List (Slot J E)) (threads : List (PromisedHandle (Slot J E) (Task C J E))) (late : List (Slot J E))
+      → rest ≡ slots → threads ≡ [] → late ≡ [] → All (CanRun can context) slots → Starting can ends context slots rest threads late
+  starts can ends context slots rest threads late e none empty all = record {
     behind = [];
-    split = sym e ∙ ap (λ (ts : List (PromisedHandle (Post J E) (Task C J E))). posts_of ts ++ rest) (sym none);
+    split = sym e ∙ ap (λ (ts : List (PromisedHandle (Slot J E) (Task C J E))). slots_of ts ++ rest) (sym none);
     over = All-same (IsOver context) threads [] none (All-nil (IsOver context));
-    can_run = All-same (CanRun can context) rest posts e all;
-    kept = subst (λ (ps : List (Post J E)). AllZip (MayHaveEnded ends context) [] ps) (sym empty) tt;
+    can_run = All-same (CanRun can context) rest slots e all;
+    kept = subst (λ (ps : List (Slot J E)). AllZip (MayHaveEnded ends context) [] ps) (sym empty) tt;
   }
 
-  none_behind : (ends : C → J → E → Type 0) (context : C) (behind late : List (Post J E)) → late ≡ [] → AllZip (MayHaveEnded ends context) behind late → behind ≡ []
+  none_behind : (ends : C → J → E → Type 0) (context : C) (behind late : List (Slot J E)) → late ≡ [] → AllZip (MayHaveEnded ends context) behind late → behind ≡ []
   none_behind ends context [] late e kept = refl
-  none_behind ends context (p ∷ ps) late e kept = absurd (subst (λ (qs : List (Post J E)). AllZip (MayHaveEnded ends context) (p ∷ ps) qs) e kept)
+  none_behind ends context (p ∷ ps) late e kept = absurd (subst (λ (qs : List (Slot J E)). AllZip (MayHaveEnded ends context) (p ∷ ps) qs) e kept)
 
-  pub starts_one : (can : C → J → Type 0) (ends : C → J → E → Type 0) (context : C) (posts rest rest' : List (Post J E)) (threads threads' : List (PromisedHandle (Post J E) (Task C J E))) (late : List (Post J E)) (post : Post J E) (thread : PromisedHandle (Post J E) (Task C J E))
-      → Starting can ends context posts rest threads late → late ≡ [] → rest ≡ post ∷ rest' → threads' ≡ threads ++ thread ∷ []
-      → thread.promise.post.value ≡ post → thread.promise.context.value ≡ context
-      → Starting can ends context posts rest' threads' late
-  starts_one can ends context posts rest rest' threads threads' late post thread was empty e more is over =
+  pub starts_one : (can : C → J → Type 0) (ends : C → J → E → Type 0) (context : C) (slots rest rest' : List (Slot J E)) (threads threads' : List (PromisedHandle (Slot J E) (Task C J E))) (late : List (Slot J E)) (slot : Slot J E) (thread : PromisedHandle (Slot J E) (Task C J E))
+      → Starting can ends context slots rest threads late → late ≡ [] → rest ≡ slot ∷ rest' → threads' ≡ threads ++ thread ∷ []
+      → thread.promise.slot.value ≡ slot → thread.promise.context.value ≡ context
+      → Starting can ends context slots rest' threads' late
+  starts_one can ends context slots rest rest' threads threads' late slot thread was empty e more is over =
       let none : was.behind ≡ [] = none_behind ends context was.behind late empty was.kept in
-      let cut : posts ≡ posts_of threads ++ rest = was.split ∙ ap (λ (ps : List (Post J E)). posts_of threads ++ (ps ++ rest)) none in
+      let cut : slots ≡ slots_of threads ++ rest = was.split ∙ ap (λ (ps : List (Slot J E)). slots_of threads ++ (ps ++ rest)) none in
       record {
         behind = [];
-        split = cut ∙ (ap (λ (ps : List (Post J E)). posts_of threads ++ ps) (e ∙ ap (λ (p : Post J E). p ∷ rest') (sym is))
-            ∙ (sym (append_assoc (posts_of threads) (thread.promise.post.value ∷ []) rest')
-            ∙ ap (λ (ps : List (Post J E)). ps ++ rest') (sym (posts_more threads thread) ∙ ap posts_of (sym more))));
+        split = cut ∙ (ap (λ (ps : List (Slot J E)). slots_of threads ++ ps) (e ∙ ap (λ (p : Slot J E). p ∷ rest') (sym is))
+            ∙ (sym (append_assoc (slots_of threads) (thread.promise.slot.value ∷ []) rest')
+            ∙ ap (λ (ps : List (Slot J E)). ps ++ rest') (sym (posts_more threads thread) ∙ ap slots_of (sym more))));
         over = All-same (IsOver context) threads' (threads ++ thread ∷ []) more (all_more (IsOver context) threads thread was.over over);
-        can_run = All-rest (CanRun can context) post rest' rest e was.can_run;
-        kept = subst (λ (ps : List (Post J E)). AllZip (MayHaveEnded ends context) ps late) none was.kept;
+        can_run = All-rest (CanRun can context) slot rest' rest e was.can_run;
+        kept = subst (λ (ps : List (Slot J E)). AllZip (MayHaveEnded ends context) ps late) none was.kept;
       }
 
   -- one more has come late, as it was or with its end
-  pub one_late : (can : C → J → Type 0) (ends : C → J → E → Type 0) (context : C) (posts rest rest' : List (Post J E)) (threads : List (PromisedHandle (Post J E) (Task C J E))) (late late' : List (Post J E)) (post after : Post J E)
-      → Starting can ends context posts rest threads late → rest ≡ post ∷ rest' → late' ≡ late ++ after ∷ []
-      → MayHaveEnded ends context post after
-      → Starting can ends context posts rest' threads late'
-  one_late can ends context posts rest rest' threads late late' post after was e more kept = record {
-    behind = was.behind ++ post ∷ [];
-    split = was.split ∙ ap (λ (ps : List (Post J E)). posts_of threads ++ ps)
-        (ap (λ (ps : List (Post J E)). was.behind ++ ps) e ∙ sym (append_assoc was.behind (post ∷ []) rest'));
+  pub one_late : (can : C → J → Type 0) (ends : C → J → E → Type 0) (context : C) (slots rest rest' : List (Slot J E)) (threads : List (PromisedHandle (Slot J E) (Task C J E))) (late late' : List (Slot J E)) (slot after : Slot J E)
+      → Starting can ends context slots rest threads late → rest ≡ slot ∷ rest' → late' ≡ late ++ after ∷ []
+      → MayHaveEnded ends context slot after
+      → Starting can ends context slots rest' threads late'
+  one_late can ends context slots rest rest' threads late late' slot after was e more kept = record {
+    behind = was.behind ++ slot ∷ [];
+    split = was.split ∙ ap (λ (ps : List (Slot J E)). slots_of threads ++ ps)
+        (ap (λ (ps : List (Slot J E)). was.behind ++ ps) e ∙ sym (append_assoc was.behind (slot ∷ []) rest'));
     over = was.over;
-    can_run = All-rest (CanRun can context) post rest' rest e was.can_run;
-    kept = subst (λ (ps : List (Post J E)). AllZip (MayHaveEnded ends context) (was.behind ++ post ∷ []) ps) (sym more)
-        (AllZip-push (MayHaveEnded ends context) was.behind late post after was.kept kept);
+    can_run = All-rest (CanRun can context) slot rest' rest e was.can_run;
+    kept = subst (λ (ps : List (Slot J E)). AllZip (MayHaveEnded ends context) (was.behind ++ slot ∷ []) ps) (sym more)
+        (AllZip-push (MayHaveEnded ends context) was.behind late slot after was.kept kept);
   }
 
-  pub next_can : (can : C → J → Type 0) (ends : C → J → E → Type 0) (context : C) (posts rest rest' : List (Post J E)) (threads : List (PromisedHandle (Post J E) (Task C J E))) (late : List (Post J E)) (post : Post J E)
-      → Starting can ends context posts rest threads late → rest ≡ post ∷ rest' → CanRun can context post
-  next_can can ends context posts rest rest' threads late post was e =
-      All-head (CanRun can context) post rest' (All-same (CanRun can context) (post ∷ rest') rest (sym e) was.can_run)
+  pub next_can : (can : C → J → Type 0) (ends : C → J → E → Type 0) (context : C) (slots rest rest' : List (Slot J E)) (threads : List (PromisedHandle (Slot J E) (Task C J E))) (late : List (Slot J E)) (slot : Slot J E)
+      → Starting can ends context slots rest threads late → rest ≡ slot ∷ rest' → CanRun can context slot
+  next_can can ends context slots rest rest' threads late slot was e =
+      All-head (CanRun can context) slot rest' (All-same (CanRun can context) (slot ∷ rest') rest (sym e) was.can_run)
 
-  -- a post whose job may run is as it was
-  pub as_it_was : (can : C → J → Type 0) (ends : C → J → E → Type 0) (context : C) (posts rest rest' : List (Post J E)) (threads : List (PromisedHandle (Post J E) (Task C J E))) (late : List (Post J E)) (post : Post J E)
-      → Starting can ends context posts rest threads late → rest ≡ post ∷ rest' → MayHaveEnded ends context post post
-  as_it_was can ends context posts rest rest' threads late post was e = still post (next_can can ends context posts rest rest' threads late post was e)
+  -- a slot whose job may run is as it was
+  pub as_it_was : (can : C → J → Type 0) (ends : C → J → E → Type 0) (context : C) (slots rest rest' : List (Slot J E)) (threads : List (PromisedHandle (Slot J E) (Task C J E))) (late : List (Slot J E)) (slot : Slot J E)
+      → Starting can ends context slots rest threads late → rest ≡ slot ∷ rest' → MayHaveEnded ends context slot slot
+  as_it_was can ends context slots rest rest' threads late slot was e = still slot (next_can can ends context slots rest rest' threads late slot was e)
     where
-      still : (p : Post J E) → CanRun can context p → MayHaveEnded ends context p p
+      still : (p : Slot J E) → CanRun can context p → MayHaveEnded ends context p p
       still (Ready job) can_it = refl
       still (Ended end) can_it = absurd can_it
 
-  -- some of the threads have given back their posts, and the rest is still to come
-  pub record Joining (ends : C → J → E → Type 0) (threads rest : List (PromisedHandle (Post J E) (Task C J E))) (posts : List (Post J E)) : Type 0 where
-    pub front : List (PromisedHandle (Post J E) (Task C J E))
+  -- some of the threads have given back their slots, and the rest is still to come
+  pub record Joining (ends : C → J → E → Type 0) (threads rest : List (PromisedHandle (Slot J E) (Task C J E))) (slots : List (Slot J E)) : Type 0 where
+    pub front : List (PromisedHandle (Slot J E) (Task C J E))
     pub split : threads ≡ front ++ rest
     pub over : (context : C) → All (IsOver context) threads → All (IsOver context) rest
-    pub kept : (context : C) → All (IsOver context) threads → AllZip (MayHaveEnded ends context) (posts_of front) posts
+    pub kept : (context : C) → All (IsOver context) threads → AllZip (MayHaveEnded ends context) (slots_of front) slots
 
-  pub joins : (ends : C → J → E → Type 0) (threads rest : List (PromisedHandle (Post J E) (Task C J E))) (posts : List (Post J E))
-      → rest ≡ threads → posts ≡ [] → Joining ends threads rest posts
-  joins ends threads rest posts e none = record {
+  pub joins : (ends : C → J → E → Type 0) (threads rest : List (PromisedHandle (Slot J E) (Task C J E))) (slots : List (Slot J E))
+      → rest ≡ threads → slots ≡ [] → Joining ends threads rest slots
+  joins ends threads rest slots e none = record {
     front = [];
     split = sym e;
     over = λ context all. All-same (IsOver context) rest threads e all;
-    kept = λ context all. subst (λ (ps : List (Post J E)). AllZip (MayHaveEnded ends context) [] ps) (sym none) tt;
+    kept = λ context all. subst (λ (ps : List (Slot J E)). AllZip (MayHaveEnded ends context) [] ps) (sym none) tt;
   }
 
-  pub joins_one : (ends : C → J → E → Type 0) (threads rest rest' : List (PromisedHandle (Post J E) (Task C J E))) (posts posts' : List (Post J E)) (thread : PromisedHandle (Post J E) (Task C J E)) (post : Post J E)
-      → Joining ends threads rest posts → rest ≡ thread ∷ rest' → posts' ≡ posts ++ post ∷ []
-      → MayHaveEnded ends thread.promise.context.value thread.promise.post.value post
-      → Joining ends threads rest' posts'
-  joins_one ends threads rest rest' posts posts' thread post was e more kept = record {
+  pub joins_one : (ends : C → J → E → Type 0) (threads rest rest' : List (PromisedHandle (Slot J E) (Task C J E))) (slots slots' : List (Slot J E)) (thread : PromisedHandle (Slot J E) (Task C J E)) (slot : Slot J E)
+      → Joining ends threads rest slots → rest ≡ thread ∷ rest' → slots' ≡ slots ++ slot ∷ []
+      → MayHaveEnded ends thread.promise.context.value thread.promise.slot.value slot
+      → Joining ends threads rest' slots'
+  joins_one ends threads rest rest' slots slots' thread slot was e more kept = record {
     front = was.front ++ thread ∷ [];
-    split = was.split ∙ (ap (λ (ts : List (PromisedHandle (Post J E) (Task C J E))). was.front ++ ts) e ∙ sym (append_assoc was.front (thread ∷ []) rest'));
+    split = was.split ∙ (ap (λ (ts : List (PromisedHandle (Slot J E) (Task C J E))). was.front ++ ts) e ∙ sym (append_assoc was.front (thread ∷ []) rest'));
     over = λ context all. All-rest (IsOver context) thread rest' rest e (was.over context all);
     kept = λ context all.
         let here = All-head (IsOver context) thread rest' (All-same (IsOver context) (thread ∷ rest') rest (sym e) (was.over context all)) in
-        subst (λ (qs : List (Post J E)). AllZip (MayHaveEnded ends context) qs posts') (sym (posts_more was.front thread))
-        (subst (λ (ps : List (Post J E)). AllZip (MayHaveEnded ends context) (posts_of was.front ++ thread.promise.post.value ∷ []) ps) (sym more)
-        (AllZip-push (MayHaveEnded ends context) (posts_of was.front) posts thread.promise.post.value post (was.kept context all)
-        (subst (λ (c : C). MayHaveEnded ends c thread.promise.post.value post) here kept)));
+        subst (λ (qs : List (Slot J E)). AllZip (MayHaveEnded ends context) qs slots') (sym (posts_more was.front thread))
+        (subst (λ (ps : List (Slot J E)). AllZip (MayHaveEnded ends context) (slots_of was.front ++ thread.promise.slot.value ∷ []) ps) (sym more)
+        (AllZip-push (MayHaveEnded ends context) (slots_of was.front) slots thread.promise.slot.value slot (was.kept context all)
+        (subst (λ (c : C). MayHaveEnded ends c thread.promise.slot.value slot) here kept)));
   }
 
-  pub joined_all : (ends : C → J → E → Type 0) (threads rest : List (PromisedHandle (Post J E) (Task C J E))) (posts : List (Post J E)) (context : C)
-      → Joining ends threads rest posts → rest ≡ [] → All (IsOver context) threads → AllZip (MayHaveEnded ends context) (posts_of threads) posts
-  joined_all ends threads rest posts context was e all =
-      subst (λ (ts : List (PromisedHandle (Post J E) (Task C J E))). AllZip (MayHaveEnded ends context) (posts_of ts) posts)
-      (sym (was.split ∙ (ap (λ (ts : List (PromisedHandle (Post J E) (Task C J E))). was.front ++ ts) e ∙ append-nil was.front))) (was.kept context all)
+  pub joined_all : (ends : C → J → E → Type 0) (threads rest : List (PromisedHandle (Slot J E) (Task C J E))) (slots : List (Slot J E)) (context : C)
+      → Joining ends threads rest slots → rest ≡ [] → All (IsOver context) threads → AllZip (MayHaveEnded ends context) (slots_of threads) slots
+  joined_all ends threads rest slots context was e all =
+      subst (λ (ts : List (PromisedHandle (Slot J E) (Task C J E))). AllZip (MayHaveEnded ends context) (slots_of ts) slots)
+      (sym (was.split ∙ (ap (λ (ts : List (PromisedHandle (Slot J E) (Task C J E))). was.front ++ ts) e ∙ append-nil was.front))) (was.kept context all)
 
   -- ---- all have come back
 
   -- those that threads had, and those that came late
-  pub all_back : (can : C → J → Type 0) (ends : C → J → E → Type 0) (context : C) (posts rest : List (Post J E)) (threads : List (PromisedHandle (Post J E) (Task C J E))) (late back all : List (Post J E))
-      → Starting can ends context posts rest threads late → rest ≡ [] → AllZip (MayHaveEnded ends context) (posts_of threads) back → all ≡ back ++ late
-      → AllZip (MayHaveEnded ends context) posts all
-  all_back can ends context posts rest threads late back all was none kept is =
-      let whole : posts ≡ posts_of threads ++ was.behind = was.split ∙ ap (λ (ps : List (Post J E)). posts_of threads ++ ps)
-      (ap (λ (ps : List (Post J E)). was.behind ++ ps) none ∙ append-nil was.behind) in
-      subst (λ (ps : List (Post J E)). AllZip (MayHaveEnded ends context) ps all) (sym whole)
-      (subst (λ (qs : List (Post J E)). AllZip (MayHaveEnded ends context) (posts_of threads ++ was.behind) qs) (sym is)
-      (zip_on (MayHaveEnded ends context) (posts_of threads) was.behind back late kept was.kept))
+  pub all_back : (can : C → J → Type 0) (ends : C → J → E → Type 0) (context : C) (slots rest : List (Slot J E)) (threads : List (PromisedHandle (Slot J E) (Task C J E))) (late back all : List (Slot J E))
+      → Starting can ends context slots rest threads late → rest ≡ [] → AllZip (MayHaveEnded ends context) (slots_of threads) back → all ≡ back ++ late
+      → AllZip (MayHaveEnded ends context) slots all
+  all_back can ends context slots rest threads late back all was none kept is =
+      let whole : slots ≡ slots_of threads ++ was.behind = was.split ∙ ap (λ (ps : List (Slot J E)). slots_of threads ++ ps)
+      (ap (λ (ps : List (Slot J E)). was.behind ++ ps) none ∙ append-nil was.behind) in
+      subst (λ (ps : List (Slot J E)). AllZip (MayHaveEnded ends context) ps all) (sym whole)
+      (subst (λ (qs : List (Slot J E)). AllZip (MayHaveEnded ends context) (slots_of threads ++ was.behind) qs) (sym is)
+      (zip_on (MayHaveEnded ends context) (slots_of threads) was.behind back late kept was.kept))
 
-  left_can : (can : C → J → Type 0) (ends : C → J → E → Type 0) (context : C) (before after : Post J E) → CanRun can context before → MayHaveEnded ends context before after → CanRunIfLeft can context after
-  left_can can ends context before (Ready job) ready kept = subst (λ (p : Post J E). CanRun can context p) kept ready
+  left_can : (can : C → J → Type 0) (ends : C → J → E → Type 0) (context : C) (before after : Slot J E) → CanRun can context before → MayHaveEnded ends context before after → CanRunIfLeft can context after
+  left_can can ends context before (Ready job) ready kept = subst (λ (p : Slot J E). CanRun can context p) kept ready
   left_can can ends context before (Ended end) ready kept = tt
 
   -- what has not run may run
-  pub all_left_can : (can : C → J → Type 0) (ends : C → J → E → Type 0) (context : C) (before after : List (Post J E)) → All (CanRun can context) before
+  pub all_left_can : (can : C → J → Type 0) (ends : C → J → E → Type 0) (context : C) (before after : List (Slot J E)) → All (CanRun can context) before
       → AllZip (MayHaveEnded ends context) before after → All (CanRunIfLeft can context) after
   all_left_can can ends context [] [] ready kept = All-nil (CanRunIfLeft can context)
   all_left_can can ends context (p ∷ ps) (q ∷ qs) ready kept =
@@ -158,12 +158,12 @@ module _ {C J E : Type 0} where
   all_left_can can ends context [] (q ∷ qs) ready kept = absurd kept
   all_left_can can ends context (p ∷ ps) [] ready kept = absurd kept
 
-  ended_by : (ends : C → J → E → Type 0) (context : C) (before mid after : Post J E) → MayHaveEnded ends context before mid → EndsAs ends context mid after → HasEnded ends context before after
-  ended_by ends context before (Ready job) after kept end = subst (λ (p : Post J E). HasEnded ends context p after) (sym kept) end
-  ended_by ends context before (Ended e) after kept end = subst (λ (p : Post J E). HasEnded ends context before p) (sym end) kept
+  ended_by : (ends : C → J → E → Type 0) (context : C) (before mid after : Slot J E) → MayHaveEnded ends context before mid → EndsAs ends context mid after → HasEnded ends context before after
+  ended_by ends context before (Ready job) after kept end = subst (λ (p : Slot J E). HasEnded ends context p after) (sym kept) end
+  ended_by ends context before (Ended e) after kept end = subst (λ (p : Slot J E). HasEnded ends context before p) (sym end) kept
 
   -- whichever way each has ended
-  pub all_ended_by : (ends : C → J → E → Type 0) (context : C) (before mid after : List (Post J E))
+  pub all_ended_by : (ends : C → J → E → Type 0) (context : C) (before mid after : List (Slot J E))
       → AllZip (MayHaveEnded ends context) before mid → AllZip (EndsAs ends context) mid after → AllZip (HasEnded ends context) before after
   all_ended_by ends context [] [] [] kept end = tt
   all_ended_by ends context (p ∷ ps) (m ∷ ms) (q ∷ qs) kept end =
@@ -174,7 +174,7 @@ module _ {C J E : Type 0} where
   all_ended_by ends context (p ∷ ps) (m ∷ ms) [] kept end = absurd end
 
   -- where none has ended all are as they were
-  pub all_as_they_were : (ends : C → J → E → Type 0) (context : C) (before after : List (Post J E))
+  pub all_as_they_were : (ends : C → J → E → Type 0) (context : C) (before after : List (Slot J E))
       → AllZip (MayHaveEnded ends context) before after → list_any has_end after ≡ false → after ≡ before
   all_as_they_were ends context [] [] kept none = refl
   all_as_they_were ends context (p ∷ ps) (Ready job ∷ qs) kept none =
@@ -186,48 +186,48 @@ module _ {C J E : Type 0} where
 
   -- ---- what is left is run
 
-  pub ready_ends : (ends : C → J → E → Type 0) (context : C) (post : Post J E) (job : J) (end came : E) → post ≡ Ready job → ends context job came → end ≡ came → EndsAs ends context post (Ended end)
-  ready_ends ends context post job end came is ran same =
-      subst (λ (p : Post J E). EndsAs ends context p (Ended end)) (sym is) (subst (λ (e : E). ends context job e) (sym same) ran)
+  pub ready_ends : (ends : C → J → E → Type 0) (context : C) (slot : Slot J E) (job : J) (end came : E) → slot ≡ Ready job → ends context job came → end ≡ came → EndsAs ends context slot (Ended end)
+  ready_ends ends context slot job end came is ran same =
+      subst (λ (p : Slot J E). EndsAs ends context p (Ended end)) (sym is) (subst (λ (e : E). ends context job e) (sym same) ran)
 
-  pub ended_ends : (ends : C → J → E → Type 0) (context : C) (post : Post J E) (end was : E) → post ≡ Ended was → end ≡ was → EndsAs ends context post (Ended end)
-  ended_ends ends context post end was is same =
-      subst (λ (p : Post J E). EndsAs ends context p (Ended end)) (sym is) (ap (λ (e : E). Ended e) same)
+  pub ended_ends : (ends : C → J → E → Type 0) (context : C) (slot : Slot J E) (end was : E) → slot ≡ Ended was → end ≡ was → EndsAs ends context slot (Ended end)
+  ended_ends ends context slot end was is same =
+      subst (λ (p : Slot J E). EndsAs ends context p (Ended end)) (sym is) (ap (λ (e : E). Ended e) same)
 
-  -- some of the posts have their ends, and the rest is still to come
-  pub record Ending (can : C → J → Type 0) (ends : C → J → E → Type 0) (context : C) (posts rest done : List (Post J E)) : Type 0 where
-    pub front : List (Post J E)
-    pub split : posts ≡ front ++ rest
+  -- some of the slots have their ends, and the rest is still to come
+  pub record Ending (can : C → J → Type 0) (ends : C → J → E → Type 0) (context : C) (slots rest done : List (Slot J E)) : Type 0 where
+    pub front : List (Slot J E)
+    pub split : slots ≡ front ++ rest
     pub done_so : AllZip (EndsAs ends context) front done
     pub left : All (CanRunIfLeft can context) rest
 
-  pub ending : (can : C → J → Type 0) (ends : C → J → E → Type 0) (context : C) (posts rest done : List (Post J E))
-      → rest ≡ posts → done ≡ [] → All (CanRunIfLeft can context) posts → Ending can ends context posts rest done
-  ending can ends context posts rest done e none all = record {
+  pub ending : (can : C → J → Type 0) (ends : C → J → E → Type 0) (context : C) (slots rest done : List (Slot J E))
+      → rest ≡ slots → done ≡ [] → All (CanRunIfLeft can context) slots → Ending can ends context slots rest done
+  ending can ends context slots rest done e none all = record {
     front = [];
     split = sym e;
-    done_so = subst (λ (ps : List (Post J E)). AllZip (EndsAs ends context) [] ps) (sym none) tt;
-    left = All-same (CanRunIfLeft can context) rest posts e all;
+    done_so = subst (λ (ps : List (Slot J E)). AllZip (EndsAs ends context) [] ps) (sym none) tt;
+    left = All-same (CanRunIfLeft can context) rest slots e all;
   }
 
-  pub next_left : (can : C → J → Type 0) (ends : C → J → E → Type 0) (context : C) (posts rest rest' done : List (Post J E)) (post : Post J E)
-      → Ending can ends context posts rest done → rest ≡ post ∷ rest' → CanRunIfLeft can context post
-  next_left can ends context posts rest rest' done post was e =
-      All-head (CanRunIfLeft can context) post rest' (All-same (CanRunIfLeft can context) (post ∷ rest') rest (sym e) was.left)
+  pub next_left : (can : C → J → Type 0) (ends : C → J → E → Type 0) (context : C) (slots rest rest' done : List (Slot J E)) (slot : Slot J E)
+      → Ending can ends context slots rest done → rest ≡ slot ∷ rest' → CanRunIfLeft can context slot
+  next_left can ends context slots rest rest' done slot was e =
+      All-head (CanRunIfLeft can context) slot rest' (All-same (CanRunIfLeft can context) (slot ∷ rest') rest (sym e) was.left)
 
-  pub ends_one : (can : C → J → Type 0) (ends : C → J → E → Type 0) (context : C) (posts rest rest' done done' : List (Post J E)) (post after : Post J E)
-      → Ending can ends context posts rest done → rest ≡ post ∷ rest' → done' ≡ done ++ after ∷ [] → EndsAs ends context post after
-      → Ending can ends context posts rest' done'
-  ends_one can ends context posts rest rest' done done' post after was e more end = record {
-    front = was.front ++ post ∷ [];
-    split = was.split ∙ (ap (λ (ps : List (Post J E)). was.front ++ ps) e ∙ sym (append_assoc was.front (post ∷ []) rest'));
-    done_so = subst (λ (ps : List (Post J E)). AllZip (EndsAs ends context) (was.front ++ post ∷ []) ps) (sym more)
-        (AllZip-push (EndsAs ends context) was.front done post after was.done_so end);
-    left = All-rest (CanRunIfLeft can context) post rest' rest e was.left;
+  pub ends_one : (can : C → J → Type 0) (ends : C → J → E → Type 0) (context : C) (slots rest rest' done done' : List (Slot J E)) (slot after : Slot J E)
+      → Ending can ends context slots rest done → rest ≡ slot ∷ rest' → done' ≡ done ++ after ∷ [] → EndsAs ends context slot after
+      → Ending can ends context slots rest' done'
+  ends_one can ends context slots rest rest' done done' slot after was e more end = record {
+    front = was.front ++ slot ∷ [];
+    split = was.split ∙ (ap (λ (ps : List (Slot J E)). was.front ++ ps) e ∙ sym (append_assoc was.front (slot ∷ []) rest'));
+    done_so = subst (λ (ps : List (Slot J E)). AllZip (EndsAs ends context) (was.front ++ slot ∷ []) ps) (sym more)
+        (AllZip-push (EndsAs ends context) was.front done slot after was.done_so end);
+    left = All-rest (CanRunIfLeft can context) slot rest' rest e was.left;
   }
 
-  pub all_done : (can : C → J → Type 0) (ends : C → J → E → Type 0) (context : C) (posts rest done : List (Post J E))
-      → Ending can ends context posts rest done → rest ≡ [] → AllZip (EndsAs ends context) posts done
-  all_done can ends context posts rest done was none =
-      subst (λ (ps : List (Post J E)). AllZip (EndsAs ends context) ps done)
-      (sym (was.split ∙ (ap (λ (ps : List (Post J E)). was.front ++ ps) none ∙ append-nil was.front))) was.done_so
+  pub all_done : (can : C → J → Type 0) (ends : C → J → E → Type 0) (context : C) (slots rest done : List (Slot J E))
+      → Ending can ends context slots rest done → rest ≡ [] → AllZip (EndsAs ends context) slots done
+  all_done can ends context slots rest done was none =
+      subst (λ (ps : List (Slot J E)). AllZip (EndsAs ends context) ps done)
+      (sym (was.split ∙ (ap (λ (ps : List (Slot J E)). was.front ++ ps) none ∙ append-nil was.front))) was.done_so

@@ -3,4 +3,4 @@ pub mod Jobs
 pub mod Lanes
 pub mod Callers
 pub mod Pairs
-pub mod Seats
+pub mod LaneJobs

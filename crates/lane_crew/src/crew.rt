@@ -4,11 +4,11 @@ ghost use Rattle.seat_desk.specs.History.{StandsUnder};
 ghost use Rattle.seat_desk.specs.Turns.{NoneFrom};
 ghost use Rattle.seat_desk.specs.Passes.{IsRootOf, joined, root_basis, root_seen};
 ghost use Rattle.lane_crew.specs.Jobs.{HasRoomFor};
-ghost use Rattle.lane_crew.specs.Seats.{MayRunInOrder, KeepsPasses, IsNew, IsMustered, SeatedFrom, AreSeated, AreIdle, HasRisen, HandedOver, EachLane};
+ghost use Rattle.lane_crew.specs.LaneJobs.{MayRunInOrder, KeepsPasses, IsNew, IsEnlisted, JobsFrom, AreJobs, AreIdle, HasItsEnd, HandedOver, EachLane};
 
-use crate::job::{Post, end_of, job_of, run_list};
+use crate::job::{Slot, end_of, job_of, run_list};
 use crate::lane::Lane;
-use crate::seat::{Hall, Risen, Seated};
+use crate::lane_job::{LaneDone, LaneJob, Shared};
 use lane_bells::Bells;
 use plain_values::NoMemory;
 use seat_desk::{Closed, Desk, HistoryEntry, Machine, Pass, Root};
@@ -38,7 +38,7 @@ pub struct Unstarted<M, L> {
 }
 
 // A lane with its pass, or what it left.
-type LanePost<M, L, E> = Post<Seated<M, L>, Risen<M, E>>;
+type LanePost<M, L, E> = Slot<LaneJob<M, L>, LaneDone<M, E>>;
 
 // Gives each lane a pass, in order. It takes no memory.
 fn enlist<M: Machine, L: Drop, E: Drop, R>(
@@ -46,19 +46,19 @@ fn enlist<M: Machine, L: Drop, E: Drop, R>(
     desk: &Desk<M>,
     root: &mut Root<M>,
     lanes: Vec<L>,
-    posts: &mut Vec<LanePost<M, L, E>>,
+    slots: &mut Vec<LanePost<M, L, E>>,
 )
     requires desk { IsRootOf desk.now root.old }
     requires new { IsNew root.old }
-    requires few { length lanes.items ≤ 128 }
-    requires room { HasRoomFor (length lanes.items) posts.old }
-    ensures root { IsMustered (root_basis root.old) (length lanes.items) desk.now root.new }
-    ensures posts { SeatedFrom desk.now (root_basis root.old) 0 lanes.items posts.new.items }
+    requires few { length lanes.items ≤ 256 }
+    requires room { HasRoomFor (length lanes.items) slots.old }
+    ensures root { IsEnlisted (root_basis root.old) (length lanes.items) desk.now root.new }
+    ensures slots { JobsFrom desk.now (root_basis root.old) 0 lanes.items slots.new.items }
 {
     let mut rest = VecDeque::from_vec(lanes);
     while let Some(lane) = rest.pop_front() {
         let pass = desk.split(rt, root);
-        posts.push_reserved(Post::Ready(Seated { lane, pass }));
+        slots.push_reserved(Slot::Ready(LaneJob { lane, pass }));
     }
 }
 
@@ -67,20 +67,20 @@ fn collect<M: Machine, L: Drop, E: Drop, R>(
     rt: &R,
     desk: &Desk<M>,
     root: &mut Root<M>,
-    posts: Vec<LanePost<M, L, E>>,
+    slots: Vec<LanePost<M, L, E>>,
     ends: &mut Vec<E>,
 )
     requires desk { IsRootOf desk.now root.old }
     requires none { joined root.old ≡ [] }
-    requires risen { All (HasRisen desk.now) posts.items }
-    requires room { HasRoomFor (length posts.items) ends.old }
+    requires done { All (HasItsEnd desk.now) slots.items }
+    requires room { HasRoomFor (length slots.items) ends.old }
     ensures root { IsRootOf desk.now root.new × (root.new.made ≡ root.old.made)
         × (root_basis root.new ≡ root_basis root.old) }
-    ensures handed { HandedOver (root_seen root.new) posts.items ends.new.items (joined root.new) }
+    ensures handed { HandedOver (root_seen root.new) slots.items ends.new.items (joined root.new) }
 {
-    let mut rest = VecDeque::from_vec(posts);
-    while let Some(post) = rest.pop_front() {
-        let Risen { end, pass } = end_of(post);
+    let mut rest = VecDeque::from_vec(slots);
+    while let Some(slot) = rest.pop_front() {
+        let LaneDone { end, pass } = end_of(slot);
         desk.join_pass(rt, root, pass);
         ends.push_reserved(end);
     }
@@ -91,21 +91,21 @@ fn dismiss<M: Machine, L: Drop, E: Drop, R>(
     rt: &R,
     desk: &Desk<M>,
     root: &mut Root<M>,
-    posts: Vec<LanePost<M, L, E>>,
+    slots: Vec<LanePost<M, L, E>>,
     lanes: &mut Vec<L>,
 )
     requires desk { IsRootOf desk.now root.old }
     requires none { joined root.old ≡ [] }
-    requires seated { AreSeated desk.now (root_basis root.old) posts.items }
-    requires room { HasRoomFor (length posts.items) lanes.old }
+    requires seated { AreJobs desk.now (root_basis root.old) slots.items }
+    requires room { HasRoomFor (length slots.items) lanes.old }
     ensures root { IsRootOf desk.now root.new × (root.new.made ≡ root.old.made)
         × (root_basis root.new ≡ root_basis root.old) }
-    ensures idle { AreIdle 0 (length posts.items) (joined root.new) }
-    ensures lanes { SeatedFrom desk.now (root_basis root.old) 0 lanes.new.items posts.items }
+    ensures idle { AreIdle 0 (length slots.items) (joined root.new) }
+    ensures lanes { JobsFrom desk.now (root_basis root.old) 0 lanes.new.items slots.items }
 {
-    let mut rest = VecDeque::from_vec(posts);
-    while let Some(post) = rest.pop_front() {
-        let Seated { lane, pass } = job_of(post);
+    let mut rest = VecDeque::from_vec(slots);
+    while let Some(slot) = rest.pop_front() {
+        let LaneJob { lane, pass } = job_of(slot);
         desk.join_pass(rt, root, pass);
         lanes.push_reserved(lane);
     }
@@ -114,7 +114,7 @@ fn dismiss<M: Machine, L: Drop, E: Drop, R>(
 // Room for a crew of so many: all that takes memory beside the desk and the threads.
 struct Room<M: Machine, L, E> {
     bells: Bells,
-    posts: Vec<LanePost<M, L, E>>,
+    slots: Vec<LanePost<M, L, E>>,
     ends: Vec<E>,
     lanes: Vec<L>,
 }
@@ -123,22 +123,23 @@ fn room_for<M: Machine, L: Drop, E: Drop>(
     alloc: Global,
     count: usize,
 ) -> Result<Room<M, L, E>, NoMemory>
-    requires few { count ≤ 128 }
+    requires few { count ≤ 256 }
     ensures bells { IfOk result (λ r. r.bells ≡ count) }
-    ensures posts { IfOk result (λ r. HasRoomFor count r.posts) }
+    ensures slots { IfOk result (λ r. HasRoomFor count r.slots) }
     ensures ends { IfOk result (λ r. HasRoomFor count r.ends) }
     ensures lanes { IfOk result (λ r. HasRoomFor count r.lanes) }
 {
     Ok(Room {
         bells: Bells::new(alloc, count as u32)?,
-        posts: Vec::with_capacity(alloc, count)?,
+        slots: Vec::with_capacity(alloc, count)?,
         ends: Vec::with_capacity(alloc, count)?,
         lanes: Vec::with_capacity(alloc, count)?,
     })
 }
 
-/// Runs up to 128 lanes at one desk, each on a thread of its own, and closes the desk once all have
-/// ended. The lanes have the numbers from 0 on, in their order.
+/// Runs up to 256 lanes at one desk, each on a thread of its own, and closes the desk once all have
+/// ended. The lanes have the numbers from 0 on, in their order. A machine's hints speak of the first 128:
+/// a lane behind them isn't woken by a call, and looks again after its rest, which is a second at most.
 ///
 /// Each lane's end is related to what the one history has of it, which is all calls that it made, in
 /// order, and no others. The machine stands for the history, and no lane but these has a call in it.
@@ -163,7 +164,7 @@ where
     M::Good: Send,
     L::End: Send,
     requires machine { M.stands machine [] }
-    requires few { length lanes.items ≤ 128 }
+    requires few { length lanes.items ≤ 256 }
     requires may_run { MayRunInOrder L.may_run (M.basis machine) 0 lanes.items }
     requires same { KeepsPasses L.has_run }
     ensures stands { IfOk result (λ c.
@@ -179,7 +180,7 @@ where
     };
     let Room {
         bells,
-        mut posts,
+        mut slots,
         mut ends,
         lanes: mut back,
     } = room;
@@ -187,13 +188,13 @@ where
         Ok(opened) => opened,
         Err(machine) => return Err(Unstarted { machine, lanes }),
     };
-    enlist(rt, &desk, &mut root, lanes, &mut posts);
-    let hall = Hall { desk, bells };
-    let ran = run_list(rt, alloc, &hall, posts);
-    let Hall { desk, bells: _ } = hall;
+    enlist(rt, &desk, &mut root, lanes, &mut slots);
+    let shared = Shared { desk, bells };
+    let ran = run_list(rt, alloc, &shared, slots);
+    let Shared { desk, bells: _ } = shared;
     match ran {
-        Ok(posts) => {
-            collect(rt, &desk, &mut root, posts, &mut ends);
+        Ok(slots) => {
+            collect(rt, &desk, &mut root, slots, &mut ends);
             let Closed { machine, history } = desk.close(rt, root);
             Ok(Crew {
                 machine,
@@ -201,8 +202,8 @@ where
                 ends,
             })
         }
-        Err(posts) => {
-            dismiss(rt, &desk, &mut root, posts, &mut back);
+        Err(slots) => {
+            dismiss(rt, &desk, &mut root, slots, &mut back);
             let Closed {
                 machine,
                 history: _,

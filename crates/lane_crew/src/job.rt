@@ -1,7 +1,7 @@
 //! Jobs, each on a thread of its own.
 ghost use Rattle.std.specs.Prelude.{◌≡◌, ◌+◌, ◌≤◌, [], length, vec_len, vec_capacity, All, IfOk, IfErr};
 ghost use Rattle.std.specs.List.{AllZip, list_any};
-ghost use Rattle.lane_crew.specs.Jobs.{CanRun, CanRunIfLeft, EndsAs, HasEnd, HasEnded, MayHaveEnded, IsOver, HasRoomFor, IsReady, has_end, posts_of};
+ghost use Rattle.lane_crew.specs.Jobs.{CanRun, CanRunIfLeft, EndsAs, HasEnd, HasEnded, MayHaveEnded, IsOver, HasRoomFor, IsReady, has_end, slots_of};
 
 use plain_values::NoMemory;
 use std::alloc::Global;
@@ -31,103 +31,103 @@ pub trait Job<C>: Send + Drop {
 
 /// A job before it runs, or its end.
 #[derive(Drop)]
-pub enum Post<J, E> {
+pub enum Slot<J, E> {
     /// The job has not run.
     Ready(J),
     /// The job has run, and ended so.
     Ended(E),
 }
 
-/// What the job of this post ended with.
-pub(crate) fn end_of<J: Drop, E: Drop>(post: Post<J, E>) -> E
-    requires { HasEnd post }
-    ensures { post ≡ Post.Ended result }
+/// What the job of this slot ended with.
+pub(crate) fn end_of<J: Drop, E: Drop>(slot: Slot<J, E>) -> E
+    requires { HasEnd slot }
+    ensures { slot ≡ Slot.Ended result }
 {
-    match post {
-        Post::Ended(end) => end,
-        Post::Ready(_) => unreachable!(),
+    match slot {
+        Slot::Ended(end) => end,
+        Slot::Ready(_) => unreachable!(),
     }
 }
 
-/// The job of this post, which has not run.
-pub(crate) fn job_of<J: Drop, E: Drop>(post: Post<J, E>) -> J
-    requires { IsReady post }
-    ensures { post ≡ Post.Ready result }
+/// The job of this slot, which has not run.
+pub(crate) fn job_of<J: Drop, E: Drop>(slot: Slot<J, E>) -> J
+    requires { IsReady slot }
+    ensures { slot ≡ Slot.Ready result }
 {
-    match post {
-        Post::Ready(job) => job,
-        Post::Ended(_) => unreachable!(),
+    match slot {
+        Slot::Ready(job) => job,
+        Slot::Ended(_) => unreachable!(),
     }
 }
 
-// Whether the job of some post has run.
-fn any_ended<J, E>(posts: &[Post<J, E>]) -> bool
-    ensures { result ≡ list_any has_end posts.now }
+// Whether the job of some slot has run.
+fn any_ended<J, E>(slots: &[Slot<J, E>]) -> bool
+    ensures { result ≡ list_any has_end slots.now }
 {
-    posts.iter().any(|post| has_end(post))
+    slots.iter().any(|slot| has_end(slot))
 }
 
-fn has_end<J, E>(post: &Post<J, E>) -> bool
-    ensures { result ≡ has_end post.now }
+fn has_end<J, E>(slot: &Slot<J, E>) -> bool
+    ensures { result ≡ has_end slot.now }
 {
-    matches!(post, Post::Ended(_))
+    matches!(slot, Slot::Ended(_))
 }
 
-// What a thread is to do: to run the job of this post over this context, or to leave it as it is.
+// What a thread is to do: to run the job of this slot over this context, or to leave it as it is.
 #[derive(Drop)]
 struct Task<C, J, E> {
     context: Snapshot<C>,
-    post: Snapshot<Post<J, E>>,
+    slot: Snapshot<Slot<J, E>>,
 }
 
-impl<C, J: Job<C>> Promise<Post<J, J::End>> for Task<C, J, J::End> {
-    ghost kept_by = { λ task post. MayHaveEnded J.ends task.context.value task.post.value post };
+impl<C, J: Job<C>> Promise<Slot<J, J::End>> for Task<C, J, J::End> {
+    ghost kept_by = { λ task slot. MayHaveEnded J.ends task.context.value task.slot.value slot };
 }
 
-// Waits until it is told whether all threads are there, and runs the job of this post if they are.
+// Waits until it is told whether all threads are there, and runs the job of this slot if they are.
 fn run_when_told<C, J: Job<C>, R: Threads + Wait + Sync>(
     rt: &R,
     context: &C,
     all_there: &OnceLock<bool>,
-    post: Post<J, J::End>,
-) -> Post<J, J::End>
-    requires { CanRun J.can_run context.now post }
-    ensures { MayHaveEnded J.ends context.now post result }
+    slot: Slot<J, J::End>,
+) -> Slot<J, J::End>
+    requires { CanRun J.can_run context.now slot }
+    ensures { MayHaveEnded J.ends context.now slot result }
 {
     if *all_there.wait(rt) {
-        run_one(rt, context, post)
+        run_one(rt, context, slot)
     } else {
-        post
+        slot
     }
 }
 
-// Runs the job of this post.
+// Runs the job of this slot.
 fn run_one<C, J: Job<C>, R: Threads + Wait + Sync>(
     rt: &R,
     context: &C,
-    post: Post<J, J::End>,
-) -> Post<J, J::End>
-    requires { CanRun J.can_run context.now post }
-    ensures { HasEnded J.ends context.now post result }
+    slot: Slot<J, J::End>,
+) -> Slot<J, J::End>
+    requires { CanRun J.can_run context.now slot }
+    ensures { HasEnded J.ends context.now slot result }
 {
-    match post {
-        Post::Ready(job) => Post::Ended(job.run(rt, context)),
-        Post::Ended(end) => Post::Ended(end),
+    match slot {
+        Slot::Ready(job) => Slot::Ended(job.run(rt, context)),
+        Slot::Ended(end) => Slot::Ended(end),
     }
 }
 
-// A thread that does the task, and gives back its post.
-type Doing<C, J, E> = PromisedHandle<Post<J, E>, Task<C, J, E>>;
+// A thread that does the task, and gives back its slot.
+type Doing<C, J, E> = PromisedHandle<Slot<J, E>, Task<C, J, E>>;
 
-// Takes the posts back from the threads, in order. It takes no memory.
+// Takes the slots back from the threads, in order. It takes no memory.
 fn join_all<C, J: Job<C>, R: Threads>(
     rt: &R,
     threads: Vec<Doing<C, J, J::End>>,
-    ends: &mut Vec<Post<J, J::End>>,
+    ends: &mut Vec<Slot<J, J::End>>,
 )
     requires room { HasRoomFor (vec_len threads) ends.old }
     ensures kept { (context : C) → All (IsOver context) threads.items
-        → AllZip (MayHaveEnded J.ends context) (posts_of threads.items) ends.new.items }
+        → AllZip (MayHaveEnded J.ends context) (slots_of threads.items) ends.new.items }
     ensures len { vec_len ends.new ≡ vec_len threads }
     ensures capacity { vec_capacity ends.new ≡ vec_capacity ends.old }
 {
@@ -141,30 +141,30 @@ fn join_all<C, J: Job<C>, R: Threads>(
 fn run_left<C, J: Job<C>, R: Threads + Wait + Sync>(
     rt: &R,
     context: &C,
-    posts: Vec<Post<J, J::End>>,
-    ends: &mut Vec<Post<J, J::End>>,
+    slots: Vec<Slot<J, J::End>>,
+    ends: &mut Vec<Slot<J, J::End>>,
 )
-    requires left { All (CanRunIfLeft J.can_run context.now) posts.items }
-    requires room { HasRoomFor (length posts.items) ends.old }
-    ensures { AllZip (EndsAs J.ends context.now) posts.items ends.new.items }
+    requires left { All (CanRunIfLeft J.can_run context.now) slots.items }
+    requires room { HasRoomFor (length slots.items) ends.old }
+    ensures { AllZip (EndsAs J.ends context.now) slots.items ends.new.items }
 {
-    let mut rest = VecDeque::from_vec(posts);
-    while let Some(post) = rest.pop_front() {
-        let end = match post {
-            Post::Ready(job) => job.run(rt, context),
-            Post::Ended(end) => end,
+    let mut rest = VecDeque::from_vec(slots);
+    while let Some(slot) = rest.pop_front() {
+        let end = match slot {
+            Slot::Ready(job) => job.run(rt, context),
+            Slot::Ended(end) => end,
         };
-        ends.push_reserved(Post::Ended(end));
+        ends.push_reserved(Slot::Ended(end));
     }
 }
 
-// Room for the threads of so many posts, for those that no thread has, for all that come back, and for
+// Room for the threads of so many slots, for those that no thread has, for all that come back, and for
 // their ends.
 struct Room<C, J: Job<C>> {
     threads: Vec<Doing<C, J, J::End>>,
-    late: Vec<Post<J, J::End>>,
-    back: Vec<Post<J, J::End>>,
-    ends: Vec<Post<J, J::End>>,
+    late: Vec<Slot<J, J::End>>,
+    back: Vec<Slot<J, J::End>>,
+    ends: Vec<Slot<J, J::End>>,
 }
 
 fn room_for<C, J: Job<C>>(alloc: Global, count: usize) -> Result<Room<C, J>, NoMemory>
@@ -181,7 +181,7 @@ fn room_for<C, J: Job<C>>(alloc: Global, count: usize) -> Result<Room<C, J>, NoM
     })
 }
 
-/// Runs the jobs of all posts, each on a thread of its own, and returns once all have ended. The ends
+/// Runs the jobs of all slots, each on a thread of its own, and returns once all have ended. The ends
 /// stand in the order of the jobs.
 ///
 /// Jobs may wait for each other. So none begins before all threads are there, and from then on this
@@ -189,25 +189,25 @@ fn room_for<C, J: Job<C>>(alloc: Global, count: usize) -> Result<Room<C, J>, NoM
 ///
 /// # Errors
 ///
-/// The posts, as they were, if there is no memory for this, or the system starts no further thread.
+/// The slots, as they were, if there is no memory for this, or the system starts no further thread.
 /// Then no job was run.
 pub fn run_list<C: Sync, J: Job<C>, R: Threads + Wait + Sync>(
     rt: &R,
     alloc: Global,
     context: &C,
-    posts: Vec<Post<J, J::End>>,
-) -> Result<Vec<Post<J, J::End>>, Vec<Post<J, J::End>>>
-    requires { All (CanRun J.can_run context.now) posts.items }
+    slots: Vec<Slot<J, J::End>>,
+) -> Result<Vec<Slot<J, J::End>>, Vec<Slot<J, J::End>>>
+    requires { All (CanRun J.can_run context.now) slots.items }
     ensures ends { IfOk result (λ ends.
-        AllZip (HasEnded J.ends context.now) posts.items ends.items) }
-    ensures back { IfErr result (λ back. back.items ≡ posts.items) }
+        AllZip (HasEnded J.ends context.now) slots.items ends.items) }
+    ensures back { IfErr result (λ back. back.items ≡ slots.items) }
 {
-    if posts.len() == 0 {
-        return Ok(posts);
+    if slots.len() == 0 {
+        return Ok(slots);
     }
-    match room_for(alloc, posts.len()) {
-        Ok(room) => run_in(rt, context, posts, room),
-        Err(NoMemory) => Err(posts),
+    match room_for(alloc, slots.len()) {
+        Ok(room) => run_in(rt, context, slots, room),
+        Err(NoMemory) => Err(slots),
     }
 }
 
@@ -215,17 +215,17 @@ pub fn run_list<C: Sync, J: Job<C>, R: Threads + Wait + Sync>(
 fn run_in<C: Sync, J: Job<C>, R: Threads + Wait + Sync>(
     rt: &R,
     context: &C,
-    posts: Vec<Post<J, J::End>>,
+    slots: Vec<Slot<J, J::End>>,
     room: Room<C, J>,
-) -> Result<Vec<Post<J, J::End>>, Vec<Post<J, J::End>>>
-    requires run { All (CanRun J.can_run context.now) posts.items }
-    requires threads { HasRoomFor (length posts.items) room.threads }
-    requires late { HasRoomFor (length posts.items) room.late }
-    requires back { HasRoomFor (length posts.items) room.back }
-    requires ends { HasRoomFor (length posts.items) room.ends }
+) -> Result<Vec<Slot<J, J::End>>, Vec<Slot<J, J::End>>>
+    requires run { All (CanRun J.can_run context.now) slots.items }
+    requires threads { HasRoomFor (length slots.items) room.threads }
+    requires late { HasRoomFor (length slots.items) room.late }
+    requires back { HasRoomFor (length slots.items) room.back }
+    requires ends { HasRoomFor (length slots.items) room.ends }
     ensures ends { IfOk result (λ ends.
-        AllZip (HasEnded J.ends context.now) posts.items ends.items) }
-    ensures back { IfErr result (λ back. back.items ≡ posts.items) }
+        AllZip (HasEnded J.ends context.now) slots.items ends.items) }
+    ensures back { IfErr result (λ back. back.items ≡ slots.items) }
 {
     let Room {
         mut threads,
@@ -238,31 +238,31 @@ fn run_in<C: Sync, J: Job<C>, R: Threads + Wait + Sync>(
     thread::scope(
         thread::scope_env(),
         rt,
-        move |scope| -> Result<Vec<Post<J, J::End>>, Vec<Post<J, J::End>>>
-            requires { All (CanRun J.can_run context.now) posts.items
-                × HasRoomFor (length posts.items) threads × HasRoomFor (length posts.items) late
-                × HasRoomFor (length posts.items) back × HasRoomFor (length posts.items) ends }
+        move |scope| -> Result<Vec<Slot<J, J::End>>, Vec<Slot<J, J::End>>>
+            requires { All (CanRun J.can_run context.now) slots.items
+                × HasRoomFor (length slots.items) threads × HasRoomFor (length slots.items) late
+                × HasRoomFor (length slots.items) back × HasRoomFor (length slots.items) ends }
             ensures { IfOk result (λ ends.
-                AllZip (HasEnded J.ends context.entry.now) posts.items ends.items)
-                × IfErr result (λ back. back.items ≡ posts.items) }
+                AllZip (HasEnded J.ends context.entry.now) slots.items ends.items)
+                × IfErr result (λ back. back.items ≡ slots.items) }
         {
-            let mut rest = VecDeque::from_vec(posts);
-            while let Some(post) = rest.pop_front() {
+            let mut rest = VecDeque::from_vec(slots);
+            while let Some(slot) = rest.pop_front() {
                 if late.len() > 0 {
-                    late.push_reserved(post);
+                    late.push_reserved(slot);
                 } else {
                     let task = Task {
                         context: Snapshot::of(context),
-                        post: Snapshot::of(&post),
+                        slot: Snapshot::of(&slot),
                     };
-                    let run = move || -> Post<J, J::End>
-                        requires { CanRun J.can_run context.now post }
-                        ensures { MayHaveEnded J.ends context.entry.now post result }
-                    { run_when_told(rt, context, told, post) };
+                    let run = move || -> Slot<J, J::End>
+                        requires { CanRun J.can_run context.now slot }
+                        ensures { MayHaveEnded J.ends context.entry.now slot result }
+                    { run_when_told(rt, context, told, slot) };
                     match scope.spawn_with(task, run) {
                         Ok(thread) => threads.push_reserved(thread),
                         Err(refused) => {
-                            // Told that not all are there, it gives its post back at once.
+                            // Told that not all are there, it gives its slot back at once.
                             let _ = told.set(rt, false);
                             late.push_reserved((refused.value)());
                         }

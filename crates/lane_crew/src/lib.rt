@@ -10,11 +10,11 @@ mod caller;
 mod crew;
 mod job;
 mod lane;
+mod lane_job;
 mod pair;
-mod seat;
 
 pub use caller::{Caller, Question};
 pub use crew::{Crew, Unstarted, run_crew};
-pub use job::{Job, Post, run_list};
+pub use job::{Job, Slot, run_list};
 pub use lane::Lane;
-pub use pair::OfTwo;
+pub use pair::Either;

@@ -9,15 +9,15 @@ use std::thread::Threads;
 /// Something of the first kind or of the second. A lane of either kind is a lane, and its end is of its
 /// kind, so lanes of two kinds stand in one list without a box.
 #[derive(Drop)]
-pub enum OfTwo<A, B> {
+pub enum Either<A, B> {
     /// Of the first kind.
     First(A),
     /// Of the second.
     Second(B),
 }
 
-impl<D, P, A: Lane<D, P>, B: Lane<D, P>> Lane<D, P> for OfTwo<A, B> {
-    type End = OfTwo<A::End, B::End>;
+impl<D, P, A: Lane<D, P>, B: Lane<D, P>> Lane<D, P> for Either<A, B> {
+    type End = Either<A::End, B::End>;
 
     ghost may_run = { MayRunOfKind A.may_run B.may_run };
 
@@ -29,15 +29,15 @@ impl<D, P, A: Lane<D, P>, B: Lane<D, P>> Lane<D, P> for OfTwo<A, B> {
         desk: &D,
         bells: &Bells,
         pass: P,
-    ) -> (OfTwo<A::End, B::End>, P) {
+    ) -> (Either<A::End, B::End>, P) {
         match self {
-            OfTwo::First(lane) => {
+            Either::First(lane) => {
                 let (end, pass) = lane.run(rt, desk, bells, pass);
-                (OfTwo::First(end), pass)
+                (Either::First(end), pass)
             }
-            OfTwo::Second(lane) => {
+            Either::Second(lane) => {
                 let (end, pass) = lane.run(rt, desk, bells, pass);
-                (OfTwo::Second(end), pass)
+                (Either::Second(end), pass)
             }
         }
     }

@@ -71,7 +71,7 @@ pub enum Answer {
     NoRoom,
 }
 
-/// The rules of a machine that goes by none.
+/// The basis of a machine that goes by none.
 #[derive(Drop)]
 pub struct Nothing;
 

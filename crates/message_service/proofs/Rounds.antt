@@ -54,7 +54,7 @@ caused_stop finish.TooLong bytes old new stop = absurd stop
 
 module _ {M : Type 0} (Answers : M → List M → List ShopCall → Result (Option (List ℕ)) NoMemory
     → Type 0) where
-  -- nothing was read, for want of memory
+  -- nothing was read, for lack of memory
   pub answered_nothing : (out : SinkTold) (shop : ShopTold)
       → Answered Answers (Some finish.NoMemory) [] [] out out shop shop
   answered_nothing out shop = record {

@@ -25,7 +25,7 @@ finish_of stop.BadInput = finish.BadInput
 finish_of stop.InputFault = finish.InputFault
 finish_of stop.TooLong = finish.TooLong
 
--- no more is read for what a piece of the input said, for want of memory, or as nobody takes it
+-- no more is read for what a piece of the input said, for lack of memory, or as nobody takes it
 abbrev pub BreaksOff : Pause → Type 0
 BreaksOff (pause.Stopped how) = StopsReading (finish_of how)
 BreaksOff pause.Gone = Unit {0}

@@ -21,7 +21,7 @@ module _ {M : Type 0} where
   ToldBy finish.NoMemory s = Unit {0}
   ToldBy finish.OutputFault s = Unit {0}
 
-  -- it ends before the next message: for want of memory, or as the reader has stopped and nothing
+  -- it ends before the next message: for lack of memory, or as the reader has stopped and nothing
   -- is left to be done
   abbrev pub EndsBefore : Finish → List M → State M → Type 0
   EndsBefore finish.NoMemory queue s = Unit {0}

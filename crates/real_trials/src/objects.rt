@@ -62,7 +62,7 @@ fn play<P: Print, F: Floor>(page: &mut Page<'_, P>, alloc: Global, floor: &mut F
     }
 }
 
-/// The system's word for want of memory.
+/// The system's word for lack of memory.
 pub fn no_memory(_: NoMemory) -> io::Error {
     io::Error::from(ErrorKind::OutOfMemory)
 }

@@ -41,7 +41,7 @@ module _ {C R : Type 0} where
   abbrev pub Copies : (Entry C R → Bool) → R → R → Type 0
   Copies keeps reply copy = (e : Entry C R) → e.reply ≡ reply → keeps e ≡ true → copy ≡ reply
 
-  -- the reply is the one after h, or says want of memory where that may be
+  -- the reply is the one after h, or says lack of memory where that may be
   abbrev pub IsReply : ReplyAfter C R → (R → Bool) → FactOfCall C R → List (Entry C R) → ℕ → C → R
       → Type 0
   IsReply next short may_be_short h lane call r =

@@ -43,7 +43,7 @@ pub trait Machine: Sized + Drop {
     // The calls of a lane that a history has paid for.
     ghost paid: { Self.Basis → List (Entry Self.Call Self.Reply) → ℕ → Self.Call → Type 0 };
 
-    // The replies that say want of memory.
+    // The replies that say lack of memory.
     ghost short: { Self.Reply → Bool };
 
     // The calls of a lane that may get a short reply after a history.

@@ -32,7 +32,7 @@ pub enum Value<'a> {
 ///
 /// # Errors
 ///
-/// The fault of the field's tag or value; never want of memory.
+/// The fault of the field's tag or value; never lack of memory.
 pub(crate) fn split_field(bytes: &[u8]) -> Result<(u32, Value<'_>, &[u8]), MessageFault>
     requires { 0 < length bytes.now }
     ensures ok { IfOk result (λ p. field_at bytes.now ≡ Ok (field p.0 p.1, p.2.now)) }

@@ -8,11 +8,11 @@ use Rattle.seat_desk.specs.declared.desk.Desk.{Desk}
 use Rattle.seat_desk.specs.History.{StartsWith, calls_by}
 use Rattle.seat_desk.specs.Passes.{IsPassOf, IsSamePass, mine, seen}
 use Rattle.seat_desk.proofs.Calls.{others_only}
-use Rattle.lane_crew.specs.declared.pair.OfTwo.{OfTwo}
-use Rattle.lane_crew.specs.declared.pair.OfTwo.TheVariants.{First, Second}
+use Rattle.lane_crew.specs.declared.pair.Either.{Either}
+use Rattle.lane_crew.specs.declared.pair.Either.TheVariants.{First, Second}
 use Rattle.lane_crew.specs.Lanes.{IsFresh, FactBefore, FactOfRun}
 use Rattle.lane_crew.specs.Pairs.{MayRunOfKind, HasRunOfKind}
-use Rattle.lane_crew.specs.Seats.{MayRunInOrder, KeepsPasses, EachLane, LaneEnds}
+use Rattle.lane_crew.specs.LaneJobs.{MayRunInOrder, KeepsPasses, EachLane, LaneEnds}
 use Rattle.work_queue.specs.declared.queue.Ask.{Ask}
 use Rattle.work_queue.specs.declared.queue.Told.{Told}
 use Rattle.work_queue.proofs.Sided.{heard_on}
@@ -54,7 +54,7 @@ module _ {X Y M G Q : Type 0} {g : Ghosts M (Ask X Y) Told G Q} {T H : Type 0} w
       (can_work : (h : Hands H) (desk : LaneDesk X Y M G Q) (bells : ℕ) (pass : LanePass g)
       → IsPassOf desk pass → pass.lane ≡ h.number → pass.lane < bells
       → works h desk bells pass) where
-    hands_may : (q : Q) (k n : ℕ) (lanes : List (OfTwo (Reader T) (Hands H))) → AreHands k n lanes
+    hands_may : (q : Q) (k n : ℕ) (lanes : List (Either (Reader T) (Hands H))) → AreHands k n lanes
         → MayRunInOrder (MayRunOfKind reads works) q k lanes
     hands_may q k n [] a = tt
     hands_may q k n (First r ∷ lanes) a = absurd a
@@ -64,7 +64,7 @@ module _ {X Y M G Q : Type 0} {g : Ghosts M (Ask X Y) Told G Q} {T H : Type 0} w
       hands_may q (k + 1) a.1.0 lanes a.1.2,
     )
 
-    pub lanes_may : (q : Q) (input : T) (n : ℕ) (lanes : List (OfTwo (Reader T) (Hands H)))
+    pub lanes_may : (q : Q) (input : T) (n : ℕ) (lanes : List (Either (Reader T) (Hands H)))
         → AreLanes input n lanes → MayRunInOrder (MayRunOfKind reads works) q 0 lanes
     lanes_may q input n [] a = absurd a
     lanes_may q input n (First r ∷ lanes) a = (
@@ -97,7 +97,7 @@ module _ {X Y M G Q : Type 0} {g : Ghosts M (Ask X Y) Told G Q} {T H : Type 0} w
       pub heard : (after_all number cancels h).heard ≡ heard_at number cancels after
 
     first_ends : (q : Q) (input : T) (h : List (LaneEntry X Y)) (r : Reader T)
-        (e : OfTwo (ReaderLeft T) HandsLeft) → r.input ≡ input
+        (e : Either (ReaderLeft T) HandsLeft) → r.input ≡ input
         → LaneEnds (HasRunOfKind reads works) q h 0 (First r) e
         → (left : ReaderLeft T) × (e ≡ First left) × ReaderEnds input h left
     first_ends q input h r (Second e) is x = absurd x.ran
@@ -116,27 +116,27 @@ module _ {X Y M G Q : Type 0} {g : Ghosts M (Ask X Y) Told G Q} {T H : Type 0} w
     )
 
     pub reader_ends : (q : Q) (input : T) (n : ℕ) (h : List (LaneEntry X Y))
-        (lanes : List (OfTwo (Reader T) (Hands H))) (ends : List (OfTwo (ReaderLeft T) HandsLeft))
+        (lanes : List (Either (Reader T) (Hands H))) (ends : List (Either (ReaderLeft T) HandsLeft))
         → AreLanes input n lanes → EachLane (HasRunOfKind reads works) q h 0 lanes ends
-        → (left : ReaderLeft T) × (rest : List (OfTwo (ReaderLeft T) HandsLeft))
+        → (left : ReaderLeft T) × (rest : List (Either (ReaderLeft T) HandsLeft))
         × (ends ≡ First left ∷ rest) × ReaderEnds input h left
     reader_ends q input n h [] ends a x = absurd a
     reader_ends q input n h (Second w ∷ lanes) ends a x = absurd a
     reader_ends q input n h (First r ∷ lanes) [] a x = absurd x
     reader_ends q input n h (First r ∷ lanes) (e ∷ ends) a x =
         let f = first_ends q input h r e a.0 x.0 in
-        (f.0, ends, ap (λ (y : OfTwo (ReaderLeft T) HandsLeft). y ∷ ends) f.1, f.2)
+        (f.0, ends, ap (λ (y : Either (ReaderLeft T) HandsLeft). y ∷ ends) f.1, f.2)
 
 -- ---- the lanes are made one after another
 
 abbrev pub LanesOf : Type 0 → Type 0 → Type 0
-LanesOf A B = List (OfTwo (Reader A) (Hands B))
+LanesOf A B = List (Either (Reader A) (Hands B))
 
 module _ {T H : Type 0} where
   -- whatever lanes the handlers to come have, these stand before them
   abbrev pub StandBefore : T → ℕ → ℕ → ℕ → LanesOf T H → Type 0
   StandBefore input n k left lanes =
-      (more : List (OfTwo (Reader T) (Hands H))) → AreHands k left more
+      (more : List (Either (Reader T) (Hands H))) → AreHands k left more
       → AreLanes input n (lanes ++ more)
 
   pub lanes_begin : (input : T) (n left : ℕ) (r : Reader T) (none lanes : LanesOf T H)

@@ -8,11 +8,11 @@ use Rattle.seat_desk.specs.declared.machine.Machine.{Ghosts}
 use Rattle.seat_desk.specs.Passes.{IsSamePass}
 use Rattle.json_framing.specs.Cutter.{form_of}
 use Rattle.json_framing.specs.declared.cutter.Framing.{Framing}
-use Rattle.lane_crew.specs.declared.pair.OfTwo.{OfTwo}
-use Rattle.lane_crew.specs.declared.pair.OfTwo.TheVariants.{First, Second}
+use Rattle.lane_crew.specs.declared.pair.Either.{Either}
+use Rattle.lane_crew.specs.declared.pair.Either.TheVariants.{First, Second}
 use Rattle.lane_crew.specs.Lanes.{FactOfRun}
 use Rattle.lane_crew.specs.Pairs.{HasRunOfKind}
-use Rattle.lane_crew.specs.Seats.{EachLane}
+use Rattle.lane_crew.specs.LaneJobs.{EachLane}
 use Rattle.message_service.specs.declared.finish.Finish.{Finish}
 use Rattle.work_queue.specs.declared.queue.Ask.{Ask}
 use Rattle.work_queue.specs.declared.queue.Told.{Told}
@@ -44,33 +44,33 @@ same_start {O} {X} {Y} {K} m m' start e is =
     ap (λ (q : Start O). value_or start q.sink) e ∙ is
 
 module _ {T : Type 0} where
-  abbrev left_or : ReaderLeft T → List (OfTwo (ReaderLeft T) HandsLeft) → ReaderLeft T
+  abbrev left_or : ReaderLeft T → List (Either (ReaderLeft T) HandsLeft) → ReaderLeft T
   left_or other [] = other
   left_or other (First left ∷ rest) = left
   left_or other (Second left ∷ rest) = other
 
 module _ {T : Type 0} where
   -- the first of the ends is the reader's
-  pub first_end : (ends : List (OfTwo (ReaderLeft T) HandsLeft)) (left : ReaderLeft T)
-      (rest : List (OfTwo (ReaderLeft T) HandsLeft)) (e : OfTwo (ReaderLeft T) HandsLeft)
+  pub first_end : (ends : List (Either (ReaderLeft T) HandsLeft)) (left : ReaderLeft T)
+      (rest : List (Either (ReaderLeft T) HandsLeft)) (e : Either (ReaderLeft T) HandsLeft)
       → ends ≡ First left ∷ rest → e ≡ get_or ends 0 e → e ≡ First left
   first_end ends left rest e is at =
-      at ∙ ap (λ (xs : List (OfTwo (ReaderLeft T) HandsLeft)). get_or xs 0 e) is
+      at ∙ ap (λ (xs : List (Either (ReaderLeft T) HandsLeft)). get_or xs 0 e) is
 
-  pub some_end : (ends : List (OfTwo (ReaderLeft T) HandsLeft)) (left : ReaderLeft T)
-      (rest : List (OfTwo (ReaderLeft T) HandsLeft)) → ends ≡ First left ∷ rest → 0 < length ends
+  pub some_end : (ends : List (Either (ReaderLeft T) HandsLeft)) (left : ReaderLeft T)
+      (rest : List (Either (ReaderLeft T) HandsLeft)) → ends ≡ First left ∷ rest → 0 < length ends
   some_end ends left rest is =
       let n = ap length is in omega (arith, n)
 
   pub never_second : (left : ReaderLeft T) (other : HandsLeft) → First left ≡ Second other → ⊥
   never_second left other e = cc
 
-  abbrev first_or : ReaderLeft T → OfTwo (ReaderLeft T) HandsLeft → ReaderLeft T
+  abbrev first_or : ReaderLeft T → Either (ReaderLeft T) HandsLeft → ReaderLeft T
   first_or other (First left) = left
   first_or other (Second left) = other
 
   pub same_left : (a b : ReaderLeft T)
-      → ◌≡◌ {A = OfTwo (ReaderLeft T) HandsLeft} (First a) (First b) → a ≡ b
+      → ◌≡◌ {A = Either (ReaderLeft T) HandsLeft} (First a) (First b) → a ≡ b
   same_left a b e = ap (first_or a) e
 
 module _ {X Y M G Q : Type 0} {g : Ghosts M (Ask X Y) Told G Q} (number : X → ℤ)
@@ -85,14 +85,14 @@ module _ {X Y M G Q : Type 0} {g : Ghosts M (Ask X Y) Told G Q} (number : X → 
 
 module _ {X Y M G Q : Type 0} {g : Ghosts M (Ask X Y) Told G Q} {T H : Type 0} (number : X → ℤ)
     (cancels : X → Bool) (f : Framing) (spells : List ℕ → X → Type 0) (tap : T → TapTold) where
-  abbrev Runs : FactOfRun (OfTwo (Reader T) (Hands H)) (OfTwo (ReaderLeft T) HandsLeft) (LanePass g)
+  abbrev Runs : FactOfRun (Either (Reader T) (Hands H)) (Either (ReaderLeft T) HandsLeft) (LanePass g)
   Runs = HasRunOfKind (ReadsSo {g = g} number cancels f spells tap)
       (WorksSo {g = g} number cancels {H = H})
 
   pub the_reader : (q : Q) (input : T) (n : ℕ) (h : List (LaneEntry X Y)) (lanes : LanesOf T H)
-      (ends : List (OfTwo (ReaderLeft T) HandsLeft)) → AreLanes input n lanes
+      (ends : List (Either (ReaderLeft T) HandsLeft)) → AreLanes input n lanes
       → EachLane Runs q h 0 lanes ends
-      → (left : ReaderLeft T) × (rest : List (OfTwo (ReaderLeft T) HandsLeft))
+      → (left : ReaderLeft T) × (rest : List (Either (ReaderLeft T) HandsLeft))
       × (ends ≡ First left ∷ rest)
       × ReaderEnds number cancels (ReadsSo {g = g} number cancels f spells tap)
       (WorksSo {g = g} number cancels {H = H}) (λ r p e p' h. h.0) (λ w p e p' h. h) input h left
@@ -105,7 +105,7 @@ module _ {X Y M G Q : Type 0} (g : Ghosts M (Ask X Y) Told G Q) {T H O K : Type 
     (number : X → ℤ) (cancels : X → Bool) (Says : X → Bool → Y → Type 0) (written : Y → List ℕ)
     (f : Framing) (spells : List ℕ → X → Type 0) (tap : T → TapTold) (told_of : O → SinkTold) where
   pub serves : (q : Q) (input : T) (n : ℕ) (h : List (LaneEntry X Y)) (lanes : LanesOf T H)
-      (ends rest : List (OfTwo (ReaderLeft T) HandsLeft)) (m : WorkQueue O X Y K) (how : How)
+      (ends rest : List (Either (ReaderLeft T) HandsLeft)) (m : WorkQueue O X Y K) (how : How)
       (sink start : O) (input' : T) (reading : Finish) → AreLanes input n lanes
       → EachLane (HasRunOfKind (ReadsSo {g = g} number cancels f spells tap)
       (WorksSo {g = g} number cancels {H = H})) q h 0 lanes ends

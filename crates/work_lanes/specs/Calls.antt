@@ -35,7 +35,7 @@ is_idle told.Open = false
 is_idle told.Idle = true
 is_idle told.Closed = false
 
--- a call that wasn't done says want of memory
+-- a call that wasn't done says lack of memory
 abbrev pub done_by : Told → Result (Unit {0}) NoMemory
 done_by told.Done = Ok tt
 done_by told.Open = Err (record {})

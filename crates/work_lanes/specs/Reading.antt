@@ -21,7 +21,7 @@ module _ (form : Form) {X : Type 0} (Spells : List ℕ → X → Type 0) where
   HandsOn (Ok done) fed heard s = HeardAll form Spells true fed heard s
   HandsOn (Err f) fed heard s = ReadsBy form Spells f fed heard
 
--- no more is read for want of memory, or for what spells no request
+-- no more is read for lack of memory, or for what spells no request
 abbrev pub BreaksOff : Finish → Type 0
 BreaksOff finish.NoMemory = Unit {0}
 BreaksOff finish.BadInput = Unit {0}

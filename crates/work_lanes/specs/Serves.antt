@@ -57,7 +57,7 @@ module _ {X Y : Type 0} (number : X → ℤ) (cancels : X → Bool) (Says : X �
     pub said : AllByRecursion (IsReply number cancels Says requests) replies
     pub once : AnswersBy f (answered replies) (asked_from number cancels 0 requests)
 
--- no more is read for what the input said, or for want of memory
+-- no more is read for what the input said, or for lack of memory
 abbrev pub IsOfReading : Finish → Type 0
 IsOfReading finish.AtEnd = Unit {0}
 IsOfReading finish.NoMemory = Unit {0}

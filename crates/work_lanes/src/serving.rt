@@ -7,7 +7,7 @@ ghost use Rattle.work_lanes.specs.Crews.{AreLanes, HasReaderFirst, IsReaderFirst
 use crate::answerer::Answerer;
 use crate::handling::{Hands, HandsLeft};
 use crate::reading::{Reader, ReaderLeft};
-use lane_crew::{Crew, OfTwo, run_crew};
+use lane_crew::{Crew, Either, run_crew};
 use message_service::Finish;
 use outside::{Sink, Tap};
 use plain_values::NoMemory;
@@ -85,7 +85,7 @@ pub fn run_lanes<
 }
 
 /// What the lane that reads ends with, or one that answers.
-type WorkEnd<T> = OfTwo<ReaderLeft<T>, HandsLeft>;
+type WorkEnd<T> = Either<ReaderLeft<T>, HandsLeft>;
 
 // What the reader's lane has left: it is the first of all.
 fn reader_left<T: Drop>(ends: Vec<WorkEnd<T>>) -> ReaderLeft<T>
@@ -94,8 +94,8 @@ fn reader_left<T: Drop>(ends: Vec<WorkEnd<T>>) -> ReaderLeft<T>
 {
     let mut ends = ends;
     match ends.remove(0) {
-        OfTwo::First(left) => left,
-        OfTwo::Second(_) => unreachable!(),
+        Either::First(left) => left,
+        Either::Second(_) => unreachable!(),
     }
 }
 
@@ -111,7 +111,7 @@ fn finish_by(how: How, finish: Finish) -> Finish
 }
 
 /// The lane that reads, or one that answers.
-type WorkLane<T, H> = OfTwo<Reader<T>, Hands<H>>;
+type WorkLane<T, H> = Either<Reader<T>, Hands<H>>;
 
 // The reader's lane, and one for each handler.
 fn lanes_of<T: Drop, H: Drop>(
@@ -125,7 +125,7 @@ fn lanes_of<T: Drop, H: Drop>(
     ensures { IfOk result (λ lanes. AreLanes input (length handlers.items) lanes.items) }
 {
     let mut lanes = Vec::with_capacity(alloc, handlers.len() + 1)?;
-    lanes.push_reserved(OfTwo::First(Reader {
+    lanes.push_reserved(Either::First(Reader {
         alloc,
         input,
         depth,
@@ -134,7 +134,7 @@ fn lanes_of<T: Drop, H: Drop>(
     let mut number = 1;
     while let Some(handler) = rest.pop_front() {
         let flag = CancelFlag::of(Arc::try_clone(flags)?, number);
-        lanes.push_reserved(OfTwo::Second(Hands {
+        lanes.push_reserved(Either::Second(Hands {
             alloc,
             number,
             handler,

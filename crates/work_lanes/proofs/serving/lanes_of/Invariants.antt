@@ -1,6 +1,6 @@
 use Rattle.std.proofs.Common.{◌≤◌, ◌+◌, ◌<◌, ◌^◌, List, ◌++◌, length, vec_len}
 use Rattle.std.specs.Vec.{vec_capacity}
-use Rattle.lane_crew.specs.declared.pair.OfTwo.{OfTwo}
+use Rattle.lane_crew.specs.declared.pair.Either.{Either}
 use Rattle.work_lanes.specs.declared.reading.Reader.{Reader}
 use Rattle.work_lanes.specs.declared.handling.Hands.{Hands}
 use Rattle.work_lanes.specs.Crews.{AreHands, AreLanes}
@@ -11,7 +11,7 @@ abbrev pub invariant-loop-handler : goal.invariant-loop-handler
 invariant-loop-handler g l = record {
   room : vec_len l.lanes + length l.rest.items ≤ vec_capacity l.lanes;
   few : l.number + length l.rest.items < 2 ^ 32;
-  so_far : (more : List (OfTwo (Reader g.row.T.Denot) (Hands g.row.H.Denot)))
+  so_far : (more : List (Either (Reader g.row.T.Denot) (Hands g.row.H.Denot)))
       → AreHands l.number (length l.rest.items) more
       → AreLanes l.fn.input (length l.fn.handlers.items) (l.lanes.items ++ more);
 }

@@ -1,5 +1,5 @@
 use Rattle.std.proofs.Common.{ap, sym, ◌∙◌, ◌∷◌, arith}
-use Rattle.lane_crew.specs.declared.pair.OfTwo.TheVariants.{First}
+use Rattle.lane_crew.specs.declared.pair.Either.TheVariants.{First}
 use Rattle.work_lanes.specs.declared.reading.ReaderLeft.{ReaderLeft}
 use Rattle.work_lanes.proofs.Leaving.{first_end, never_second, same_left, some_end}
 use Rattle.work_lanes.proofs.serving.reader_left.Goals as goal

@@ -8,10 +8,10 @@ use Rattle.seat_desk.specs.declared.desk.Root.{Root}
 use Rattle.seat_desk.specs.declared.view.Joined.{Joined}
 use Rattle.seat_desk.specs.History.{StartsWith, calls_by}
 use Rattle.seat_desk.specs.Passes.{IsPassOf, IsRootOf, IsSamePass, mine, basis, seen, root_basis, root_seen, joined}
-use Rattle.lane_crew.specs.declared.job.Post.{Post}
-use Rattle.lane_crew.specs.declared.job.Post.TheVariants.{Ready, Ended}
-use Rattle.lane_crew.specs.declared.seat.Seated.{Seated}
-use Rattle.lane_crew.specs.declared.seat.Risen.{Risen}
+use Rattle.lane_crew.specs.declared.job.Slot.{Slot}
+use Rattle.lane_crew.specs.declared.job.Slot.TheVariants.{Ready, Ended}
+use Rattle.lane_crew.specs.declared.lane_job.LaneJob.{LaneJob}
+use Rattle.lane_crew.specs.declared.lane_job.LaneDone.{LaneDone}
 use Rattle.lane_crew.specs.Lanes.{IsFresh, FactBefore, FactOfRun}
 
 module _ {C R : Type 0} where
@@ -31,8 +31,8 @@ module _ {M C R G Q : Type 0} {g : Ghosts M C R G Q} where
   IsNew r = (r.made ≡ 0) × (root_seen r ≡ []) × (joined r ≡ [])
 
   -- the root is this desk's, by these rules; it has split so many passes, and joined none
-  abbrev pub IsMustered : Q → ℕ → Desk M C R G Q → Root M C R G Q g → Type 0
-  IsMustered q count desk r =
+  abbrev pub IsEnlisted : Q → ℕ → Desk M C R G Q → Root M C R G Q g → Type 0
+  IsEnlisted q count desk r =
       IsRootOf desk r × (r.made ≡ count) × (joined r ≡ []) × (root_basis r ≡ q)
 
   module _ {L : Type 0} where
@@ -51,51 +51,51 @@ module _ {M C R G Q : Type 0} {g : Ghosts M C R G Q} where
         MayRun may_run q k lane × MayRunInOrder may_run q (k + 1) lanes
 
   module _ {L E : Type 0} where
-    -- the lane is at this post with a fresh pass of this number, of a desk whose machine has these
+    -- the lane is at this slot with a fresh pass of this number, of a desk whose machine has these
     -- rules
-    abbrev pub IsSeatOf : Desk M C R G Q → Q → ℕ → L
-        → Post (Seated M L C R G Q g) (Risen M E C R G Q g) → Type 0
-    IsSeatOf desk q k lane (Ready seat) =
-        (seat.lane ≡ lane) × IsPassOf desk seat.pass × IsFresh seat.pass × (seat.pass.lane ≡ k)
-        × (basis seat.pass ≡ q)
-    IsSeatOf desk q k lane (Ended risen) = ⊥
+    abbrev pub IsJobOf : Desk M C R G Q → Q → ℕ → L
+        → Slot (LaneJob M L C R G Q g) (LaneDone M E C R G Q g) → Type 0
+    IsJobOf desk q k lane (Ready job) =
+        (job.lane ≡ lane) × IsPassOf desk job.pass × IsFresh job.pass × (job.pass.lane ≡ k)
+        × (basis job.pass ≡ q)
+    IsJobOf desk q k lane (Ended done) = ⊥
 
-    -- the lanes are at these posts, in order from the number k on
-    abbrev pub SeatedFrom : Desk M C R G Q → Q → ℕ → List L
-        → List (Post (Seated M L C R G Q g) (Risen M E C R G Q g)) → Type 0
-    SeatedFrom desk q k [] [] = Unit {0}
-    SeatedFrom desk q k (lane ∷ lanes) (post ∷ posts) =
-        IsSeatOf desk q k lane post × SeatedFrom desk q (k + 1) lanes posts
-    SeatedFrom desk q k [] (post ∷ posts) = ⊥
-    SeatedFrom desk q k (lane ∷ lanes) [] = ⊥
+    -- the lanes are at these slots, in order from the number k on
+    abbrev pub JobsFrom : Desk M C R G Q → Q → ℕ → List L
+        → List (Slot (LaneJob M L C R G Q g) (LaneDone M E C R G Q g)) → Type 0
+    JobsFrom desk q k [] [] = Unit {0}
+    JobsFrom desk q k (lane ∷ lanes) (slot ∷ slots) =
+        IsJobOf desk q k lane slot × JobsFrom desk q (k + 1) lanes slots
+    JobsFrom desk q k [] (slot ∷ slots) = ⊥
+    JobsFrom desk q k (lane ∷ lanes) [] = ⊥
 
     -- so are some lanes, from the number 0 on
-    abbrev pub AreSeated : Desk M C R G Q → Q
-        → List (Post (Seated M L C R G Q g) (Risen M E C R G Q g)) → Type 0
-    AreSeated desk q posts = (lanes : List L) × SeatedFrom desk q 0 lanes posts
+    abbrev pub AreJobs : Desk M C R G Q → Q
+        → List (Slot (LaneJob M L C R G Q g) (LaneDone M E C R G Q g)) → Type 0
+    AreJobs desk q slots = (lanes : List L) × JobsFrom desk q 0 lanes slots
 
-    -- a lane of this desk has run at this post
-    abbrev pub HasRisen : Desk M C R G Q → Post (Seated M L C R G Q g) (Risen M E C R G Q g)
+    -- a lane of this desk has run at this slot
+    abbrev pub HasItsEnd : Desk M C R G Q → Slot (LaneJob M L C R G Q g) (LaneDone M E C R G Q g)
         → Type 0
-    HasRisen desk (Ready seat) = ⊥
-    HasRisen desk (Ended risen) = IsPassOf desk risen.pass
+    HasItsEnd desk (Ready job) = ⊥
+    HasItsEnd desk (Ended done) = IsPassOf desk done.pass
 
-    -- the end was taken from this post, and its pass joined. The history h begins with what it has
+    -- the end was taken from this slot, and its pass joined. The history h begins with what it has
     -- seen
-    abbrev pub IsHanded : List (Entry C R) → Post (Seated M L C R G Q g) (Risen M E C R G Q g)
+    abbrev pub IsHanded : List (Entry C R) → Slot (LaneJob M L C R G Q g) (LaneDone M E C R G Q g)
         → E → Joined C R → Type 0
-    IsHanded h (Ready seat) end j = ⊥
-    IsHanded h (Ended risen) end j =
-        (risen.end ≡ end) × (j ≡ record { lane = risen.pass.lane; calls = mine risen.pass })
-        × StartsWith h (seen risen.pass)
+    IsHanded h (Ready job) end j = ⊥
+    IsHanded h (Ended done) end j =
+        (done.end ≡ end) × (j ≡ record { lane = done.pass.lane; calls = mine done.pass })
+        × StartsWith h (seen done.pass)
 
-    -- so were those of all posts, in order
+    -- so were those of all slots, in order
     abbrev pub HandedOver : List (Entry C R)
-        → List (Post (Seated M L C R G Q g) (Risen M E C R G Q g)) → List E → List (Joined C R)
+        → List (Slot (LaneJob M L C R G Q g) (LaneDone M E C R G Q g)) → List E → List (Joined C R)
         → Type 0
     HandedOver h [] [] [] = Unit {0}
-    HandedOver h (post ∷ posts) (end ∷ ends) (j ∷ js) =
-        IsHanded h post end j × HandedOver h posts ends js
+    HandedOver h (slot ∷ slots) (end ∷ ends) (j ∷ js) =
+        IsHanded h slot end j × HandedOver h slots ends js
     HandedOver h _ _ _ = ⊥
 
     -- each lane gives back the pass that it was given

@@ -7,7 +7,7 @@ use exec_journal::{Group, Kind, Plan};
 /// A berth's group: its number, its first berth and how many it has, its kind, and whether it has
 /// cancellation.
 #[derive(Clone, Copy)]
-pub struct Seat {
+pub struct BerthGroup {
     pub group: u32,
     pub first: u32,
     pub berths: u32,
@@ -16,14 +16,14 @@ pub struct Seat {
 }
 
 /// The berth's group, where the plan has the berth.
-pub fn seat_of(plan: &Plan, berth: u32) -> Option<Seat>
+pub fn group_of_berth(plan: &Plan, berth: u32) -> Option<BerthGroup>
     requires { length plan.now.groups < 2 ^ 32 }
     ensures { result ≡ seat_from 0 0 plan.now.groups berth }
 {
     seat_in(plan.groups.as_slice(), berth)
 }
 
-fn seat_in(groups: &[Group], berth: u32) -> Option<Seat>
+fn seat_in(groups: &[Group], berth: u32) -> Option<BerthGroup>
     requires { length groups.now < 2 ^ 32 }
     ensures { result ≡ seat_from 0 0 groups.now berth }
 {
@@ -31,7 +31,7 @@ fn seat_in(groups: &[Group], berth: u32) -> Option<Seat>
     let mut rest = berth;
     for (number, group) in groups.iter().enumerate() {
         if rest < group.berths {
-            return Some(Seat {
+            return Some(BerthGroup {
                 group: number as u32,
                 first,
                 berths: group.berths,

@@ -1,6 +1,6 @@
 use Rattle.std.proofs.Common.{◌≡◌, ◌+◌, drop}
 use Rattle.core_tables.specs.Seats.{seat_from}
-use Rattle.core_tables.proofs.seat.seat_in.Given as goal
+use Rattle.core_tables.proofs.berth_group.seat_in.Given as goal
 
 abbrev pub invariant-loop-number : goal.invariant-loop-number
 invariant-loop-number l = (seat_from l.number l.first (drop l.number l.groups) l.rest

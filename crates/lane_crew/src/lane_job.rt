@@ -8,7 +8,7 @@ use std::thread::Threads;
 
 /// What the lanes share, which is the context of their jobs.
 #[derive(Drop)]
-pub struct Hall<M: Machine> {
+pub struct Shared<M: Machine> {
     /// The desk at which all of them call.
     pub desk: Desk<M>,
     /// A bell for each lane.
@@ -17,7 +17,7 @@ pub struct Hall<M: Machine> {
 
 /// A lane with its pass, before it runs.
 #[derive(Drop)]
-pub struct Seated<M: Machine, L> {
+pub struct LaneJob<M: Machine, L> {
     /// What is to run.
     pub lane: L,
     /// The pass that it is given.
@@ -26,29 +26,29 @@ pub struct Seated<M: Machine, L> {
 
 /// A lane's end, with its pass.
 #[derive(Drop)]
-pub struct Risen<M: Machine, E> {
+pub struct LaneDone<M: Machine, E> {
     /// What the lane ended with.
     pub end: E,
     /// The pass that it gave back.
     pub pass: Pass<M>,
 }
 
-impl<M: Machine + Send, L: Lane<Desk<M>, Pass<M>> + Send> Job<Hall<M>> for Seated<M, L>
+impl<M: Machine + Send, L: Lane<Desk<M>, Pass<M>> + Send> Job<Shared<M>> for LaneJob<M, L>
 where
     M::Call: Send,
     M::Reply: Send,
     M::Good: Send,
     L::End: Send,
 {
-    type End = Risen<M, L::End>;
+    type End = LaneDone<M, L::End>;
 
-    ghost can_run = { λ hall seat. L.may_run seat.lane hall.desk hall.bells seat.pass };
+    ghost can_run = { λ shared job. L.may_run job.lane shared.desk shared.bells job.pass };
 
-    ghost ends = { λ hall seat risen. L.has_run seat.lane seat.pass risen.end risen.pass };
+    ghost ends = { λ shared job done. L.has_run job.lane job.pass done.end done.pass };
 
-    fn run<R: Threads + Wait + Sync>(self, rt: &R, hall: &Hall<M>) -> Risen<M, L::End> {
-        let Seated { lane, pass } = self;
-        let (end, pass) = lane.run(rt, &hall.desk, &hall.bells, pass);
-        Risen { end, pass }
+    fn run<R: Threads + Wait + Sync>(self, rt: &R, shared: &Shared<M>) -> LaneDone<M, L::End> {
+        let LaneJob { lane, pass } = self;
+        let (end, pass) = lane.run(rt, &shared.desk, &shared.bells, pass);
+        LaneDone { end, pass }
     }
 }
