@@ -1,6 +1,6 @@
 -- Disciplines of scheduling: whatever a lane is told when it asks, its scripts and its other replies
 -- are the journal's.
-use Rattle.std.specs.Prelude.{◌≡◌, ℕ, Bool, true, false, ◌&&◌, ◌||◌, Option, None, List, [], ◌∷◌}
+use Rattle.std.specs.Prelude.{◌≡◌, ◌/◌, ℕ, Bool, true, false, ◌&&◌, ◌||◌, Option, None, List, [], ◌∷◌}
 use Rattle.run_plan.specs.declared.plan.Kind.{Kind}
 use Rattle.run_plan.specs.declared.plan.Plan.{Plan}
 use Rattle.exec_journal.specs.declared.call.Call.{Call}
@@ -11,8 +11,9 @@ use Rattle.exec_journal.specs.Entries.{is_kept}
 use Rattle.exec_journal.specs.Lawful.{Told, plain_reply, may_tick}
 use Rattle.exec_journal.specs.Rules.{rule}
 use Rattle.exec_journal.specs.Scripts.{seat_script}
-use Rattle.run_plan.specs.Groups.{berths, kind_of}
-use Rattle.core_contract.specs.Laws.{fits}
+use Rattle.run_plan.specs.Groups.{berths, is_remote, kind_of}
+use Rattle.run_plan.specs.Sound.{Sound}
+use Rattle.core_contract.specs.Laws.{OrderFits, fits}
 
 -- its plan, its berths with the kind of each one's lines, the lanes that make Ticks, and its reply
 -- to each call in a script
@@ -47,13 +48,17 @@ is_plain call.Tick = false
 is_plain (call.Answer l x) = false
 is_plain _ = true
 
--- what a discipline keeps: each order has its reasons, and each other reply is the journal's
+-- What a discipline keeps: each order has its reasons, each other reply is the journal's, and an order
+-- is of an attempt whose group is an executor's exactly where the berth is.
 pub record IsDiscipline (q : Discipline) : Type 0 where
   pub told : (j : List Entry) (lane : ℕ) (c : Call) → LegalBy q j
       → script_of q j lane c ≡ true → Told q.plan j lane c (q.rule j lane c)
   pub plain : (j : List Entry) (lane : ℕ) (c : Call) → is_plain c ≡ true
       → q.rule j lane c ≡ plain_reply q.plan j lane c
   pub fitting : (j : List Entry) (lane : ℕ) (c : Call) → fits c (q.rule j lane c) ≡ true
+  pub seated : (j : List Entry) (lane : ℕ) → Sound q.plan → LegalBy q j
+      → script_of q j lane call.Ask ≡ true
+      → OrderFits q.plan (is_remote (q.kinds (lane / 2))) (q.rule j lane call.Ask)
 
 -- ---- of the plan's own berths
 

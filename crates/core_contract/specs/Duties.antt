@@ -24,10 +24,10 @@ proxy_lane w = 2 * w
 pub data Duty : Type 0 where
   -- it owes nothing: it may ask
   Asks : Duty
-  -- Launched of this line
-  Launches : ℕ → Duty
-  -- Wrote of this line and number, for a request of this action
-  Sends : ℕ → ℤ → ℕ → Duty
+  -- Launched of this line, for this attempt
+  Launches : ℕ → Attempt → Duty
+  -- Wrote of this line and number, for a request of this attempt
+  Sends : ℕ → ℤ → Attempt → Duty
   -- Wrote of this line and number, for a Cancel
   Cancels : ℕ → ℤ → Duty
   -- a Claim of this attempt, whose answer came on this line with this number; its exit code, and
@@ -42,8 +42,8 @@ pub data Duty : Type 0 where
 
 -- what a reply orders
 abbrev pub ordered : Reply → Duty
-ordered (reply.Launch l a b t) = Launches l
-ordered (reply.Send l n a b t) = Sends l n a
+ordered (reply.Launch l a b t) = Launches l (attempt_of a b t)
+ordered (reply.Send l n a b t) = Sends l n (attempt_of a b t)
 ordered (reply.Cancel l n) = Cancels l n
 ordered (reply.Gather l n a b t exit refused) = Gathers l n (attempt_of a b t) exit refused
 ordered (reply.Kill l y) = Kills l
@@ -110,11 +110,11 @@ module _ (terms : Terms) (berth : ℕ) where
   abbrev pub may_do : Duty → Call → Bool
   may_do Asks call.Ask = true
   may_do Asks call.Halt = true
-  may_do (Launches m) (call.Launched l how) = m == l
-  may_do (Launches m) call.Halt = true
-  may_do (Sends m o a) (call.Wrote l n how) = (m == l) && int_eq o n
-  may_do (Sends m o a) (call.Look w) = may_look a w
-  may_do (Sends m o a) call.Halt = true
+  may_do (Launches m t) (call.Launched l how) = m == l
+  may_do (Launches m t) call.Halt = true
+  may_do (Sends m o t) (call.Wrote l n how) = (m == l) && int_eq o n
+  may_do (Sends m o t) (call.Look w) = may_look t.action w
+  may_do (Sends m o t) call.Halt = true
   may_do (Cancels m o) (call.Wrote l n how) = (m == l) && (int_eq o n && is_whole_or_fault how)
   may_do (Cancels m o) call.Halt = true
   may_do (Gathers l n t exit refused) (call.Claim a b u f) =

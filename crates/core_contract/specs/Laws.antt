@@ -1,15 +1,19 @@
 -- What every core keeps to: the words of its laws.
 use Rattle.std.specs.Prelude.{◌≡◌, ℕ, ◌*◌, ◌+◌, ◌<◌, ◌==◌, Bool, true, false, List, [], length, filter, Option, Some, None, is_some}
 use Rattle.std.specs.List.{fold, list_any}
+use Rattle.run_plan.specs.declared.plan.Plan.{Plan}
+use Rattle.run_plan.specs.Groups.{is_remote}
+use Rattle.exec_journal.specs.declared.attempt.Attempt.{Attempt}
 use Rattle.exec_journal.specs.declared.call.Call.{Call}
 use Rattle.exec_journal.specs.declared.call.Call.TheVariants as call
 use Rattle.exec_journal.specs.declared.reply.Reply.{Reply}
 use Rattle.exec_journal.specs.declared.reply.Reply.TheVariants as reply
 use Rattle.core_contract.specs.Moves.{Past, History, Move, TakePlace, move_of}
-use Rattle.exec_journal.specs.Entries.{is_kept, takes, launch_in}
+use Rattle.exec_journal.specs.Entries.{attempt_of, is_kept, takes, launch_in}
+use Rattle.exec_journal.specs.Seated.{group_for, kind_in}
 use Rattle.seat_desk.specs.History.{entry, after, IsReply}
 
--- the reply says want of memory
+-- the reply says lack of memory
 abbrev pub is_short : Reply → Bool
 is_short reply.NoMemory = true
 is_short _ = false
@@ -185,9 +189,23 @@ OrderHolds actions child lines (reply.Kill l y) = child ≡ Some l
 OrderHolds actions child lines reply.Stop = child ≡ None
 OrderHolds actions child lines _ = Unit {0}
 
+-- The attempt is run by a group of the plan, which is an executor's exactly so.
+pub record RunsOn (p : Plan) (remote : Bool) (t : Attempt) : Type 0 where
+  pub group : ℕ
+  pub there : group < length p.groups
+  pub of_branch : group_for p t ≡ Some group
+  pub executor : is_remote (kind_in p (Some group)) ≡ remote
+
+-- An order is of an attempt whose group is an executor's exactly where the berth is.
+abbrev pub OrderFits : Plan → Bool → Reply → Type 0
+OrderFits p remote (reply.Launch l a b t) = RunsOn p remote (attempt_of a b t)
+OrderFits p remote (reply.Send l n a b t) = RunsOn p remote (attempt_of a b t)
+OrderFits p remote (reply.Gather l n a b t exit refused) = RunsOn p remote (attempt_of a b t)
+OrderFits p remote _ = Unit {0}
+
 -- ---- a step of a core, whatever history it stands for
 module _ {S : Type 0} (stands : S → History → Type 0) where
-  -- the reply is the rule's, or says want of memory in place of a file
+  -- the reply is the rule's, or says lack of memory in place of a file
   abbrev pub StepReplies : (History → ℕ → Call → Reply) → S → ℕ → Call → Reply → Type 0
   StepReplies rule m lane c r = (h : History) → stands m h
       → IsReply rule is_short (λ h lane c. says_file (rule h lane c) ≡ true) h lane c r

@@ -1,8 +1,11 @@
 -- What lanes and the bench go by of a core's plan.
 use Rattle.std.specs.Prelude.{ℕ, Bool, List}
 use Rattle.run_plan.specs.declared.plan.Maker.{Maker}
+use Rattle.run_plan.specs.declared.plan.Plan.{Plan}
 
 pub record Terms : Type 0 where
+  -- the actions, and the groups that run their branches
+  pub plan : Plan
   -- the number of berths
   pub berths : ℕ
   -- the process of this berth is an executor

@@ -3,6 +3,7 @@ ghost use Rattle.std.specs.Prelude.{◌≡◌, ◌≤◌, ◌<◌, ◌+◌, ◌/
 ghost use Rattle.plain_values.specs.declared.entry.Entry.{Entry};
 ghost use Rattle.seat_desk.specs.History.{entry, calls_by, Owes};
 ghost use Rattle.run_plan.specs.declared.plan.Branch.{Branch};
+ghost use Rattle.exec_journal.specs.declared.attempt.Attempt.{Attempt};
 ghost use Rattle.exec_journal.specs.declared.call.Call.{Call};
 ghost use Rattle.exec_journal.specs.declared.call.Call.TheVariants as call;
 ghost use Rattle.exec_journal.specs.declared.call.Started.TheVariants as start;
@@ -14,7 +15,7 @@ ghost use Rattle.exec_journal.specs.declared.reply.Reply.TheVariants as reply;
 ghost use Rattle.exec_journal.specs.Entries.{is_kept};
 ghost use Rattle.core_contract.specs.Terms.{Terms};
 ghost use Rattle.core_contract.specs.Shelf.{child_at, tap_at, place_at, Fresh, Away};
-ghost use Rattle.core_contract.specs.Laws.{InScript, Fits, tap_lane, hearing_of, may_hear, Hears, Over, tells_of, claimed, says_file, lines_in, is_taken, OrderHolds, StepReplies, StepStands};
+ghost use Rattle.core_contract.specs.Laws.{InScript, Fits, tap_lane, hearing_of, may_hear, Hears, Over, tells_of, claimed, says_file, lines_in, is_taken, OrderFits, OrderHolds, StepReplies, StepStands};
 ghost use Rattle.core_contract.specs.News.{SaysNews};
 ghost use Rattle.core_contract.specs.Duties.{Sends, Commits, Left, proxy_lane, duty_of, is_maker, may_do, may_make};
 
@@ -57,7 +58,7 @@ pub trait Rules: Sized + Drop {
     // Whether a lane has news, by what the core keeps.
     ghost news: { Self → ℕ → Bool };
 
-    /// Answers the call of this lane. Where the reply is to be a file, it may say want of memory
+    /// Answers the call of this lane. Where the reply is to be a file, it may say lack of memory
     /// instead.
     fn step(&mut self, lane: u32, call: &Call) -> Reply
         ensures plan { plan self.new ≡ plan self.old }
@@ -81,7 +82,7 @@ pub trait Rules: Sized + Drop {
     fn most_lines(&self) -> u32
         ensures { result ≡ (terms (plan self.now)).line_room };
 
-    // A paid call is answered Noted, and so never by want of memory.
+    // A paid call is answered Noted, and so never by lack of memory.
     ghost paid_is_noted: { (m : Self) (h : List (Entry Call Reply)) (lane : ℕ) (c : Call)
         → stands m h → paid (plan m) h lane c → rule (plan m) h lane c ≡ reply.Noted };
 
@@ -176,15 +177,20 @@ pub trait Rules: Sized + Drop {
         → OrderHolds (terms q).actions (child_at (lane / 2) h) (lines_in h)
         (rule q h lane call.Ask) };
 
+    // An order is of an attempt whose group is an executor's exactly where the berth is.
+    ghost orders_fit: { (q : Self.Plan) (h : List (Entry Call Reply)) (lane : ℕ)
+        → legal q h
+        → OrderFits (terms q).plan ((terms q).remote (lane / 2)) (rule q h lane call.Ask) };
+
     // No more lines are ordered than there may be.
     ghost lines_fit: { (q : Self.Plan) (h : List (Entry Call Reply))
         → legal q h → lines_in h ≤ (terms q).line_room };
 
     // The made inputs of a request that was ordered are there when its lane looks at them.
     ghost inputs_are_there: { (q : Self.Plan) (h : List (Entry Call Reply)) (w l : ℕ) (n : ℤ)
-        (a c o : ℕ)
-        → legal q h → duty_of (calls_by (proxy_lane w) h) ≡ Sends l n a
-        → is_maker ((terms q).makers a) c o ≡ true
+        (t : Attempt) (c o : ℕ)
+        → legal q h → duty_of (calls_by (proxy_lane w) h) ≡ Sends l n t
+        → is_maker ((terms q).makers t.action) c o ≡ true
         → says_file (rule q h (proxy_lane w) (call.Look (wanted.Made c o))) ≡ true };
 
     // Nothing lies on the shelf for the berth where a line is put there.

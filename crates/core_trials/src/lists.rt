@@ -1,10 +1,10 @@
 // The works that are measured, as action lists.
 ghost use Rattle.std.specs.Prelude.{IfOk};
-ghost use Rattle.list_order.specs.Whole.{IsWhole};
+ghost use Rattle.list_actions.specs.Whole.{IsWhole};
 
 use crate::failed;
 use action_list::{ActionList, plan, read_list};
-use spawn_core::Core;
+use spawn_core::{Core, EarliestFirst};
 use std::alloc::Global;
 use std::io::{self, ErrorKind};
 
@@ -76,7 +76,7 @@ impl Work {
     /// # Errors
     ///
     /// `InvalidData` where the list isn't one, and where its tables find no memory.
-    pub fn core(&self, alloc: Global) -> io::Result<Core> {
+    pub fn core(&self, alloc: Global) -> io::Result<Core<EarliestFirst>> {
         let Ok(list) = read_list(alloc, self.text.as_bytes()) else {
             return Err(io::Error::from(ErrorKind::InvalidData));
         };

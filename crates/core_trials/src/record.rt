@@ -4,7 +4,7 @@ use crate::failed;
 use crate::lists::Work;
 use exec_journal::{Call, Reply};
 use plain_values::NoMemory;
-use spawn_core::Core;
+use spawn_core::{Core, EarliestFirst};
 use std::alloc::Global;
 use std::io;
 
@@ -24,7 +24,7 @@ pub struct Made {
 /// A core, and the calls that were made on it.
 #[derive(Drop)]
 pub struct Record {
-    core: Core,
+    core: Core<EarliestFirst>,
     calls: Vec<Made>,
 }
 
@@ -83,7 +83,7 @@ fn take_turns(alloc: Global, berths: &mut [Berth], record: &mut Record) -> Resul
 }
 
 /// Makes the calls again on another core.
-pub fn replay(core: &mut Core, calls: &[Made]) {
+pub fn replay(core: &mut Core<EarliestFirst>, calls: &[Made]) {
     for made in calls {
         let _reply = core.step(made.lane, &made.call);
     }

@@ -5,7 +5,7 @@
 use crate::lists::{Answering, Shape, Work};
 use crate::record::{Made, committed, play, replay};
 use crate::watch::{Measure, Watch};
-use spawn_core::Core;
+use spawn_core::{Core, EarliestFirst};
 use std::alloc::Global;
 use std::io;
 use std::time::{Clock, CpuClock};
@@ -111,7 +111,7 @@ fn time_replays<R: Clock + CpuClock>(
 
 fn time_replay<R: Clock + CpuClock>(
     rt: &R,
-    core: &mut Core,
+    core: &mut Core<EarliestFirst>,
     calls: &[Made],
 ) -> io::Result<Measure> {
     let watch = Watch::start(rt)?;

@@ -40,7 +40,7 @@ use Rattle.cancel_rules.proofs.Followed.{cancel_is}
 use Rattle.core_state.specs.declared.choice.Choice.{Choice}
 use Rattle.core_state.specs.declared.choice.Choice.TheVariants as choice
 use Rattle.core_tables.specs.declared.matches.Match.{Match}
-use Rattle.core_tables.specs.declared.seat.Seat.{Seat}
+use Rattle.core_tables.specs.declared.berth_group.BerthGroup.{BerthGroup}
 use Rattle.core_state.specs.declared.state.State.{State}
 use Rattle.core_state.specs.Choices as own_state
 use Rattle.earliest_first.specs.Choices as c
@@ -60,6 +60,9 @@ use Rattle.earliest_first.proofs.Rooms.{some_is}
 use Rattle.core_tables.proofs.Seated.{IsSeat, seat_is, kind_by_group}
 use Rattle.earliest_first.proofs.AtBerths.{lane_within}
 use Rattle.earliest_first.proofs.AtBerths as at_berth
+use Rattle.journal_laws.proofs.Berths.{Nexts, own_ask}
+use Rattle.journal_laws.proofs.Ours as ours
+use Rattle.journal_laws.proofs.Ours.{SeatedAt}
 
 -- ---- the first that fits
 
@@ -139,10 +142,16 @@ any_same p q [] h = refl
 any_same p q (x ∷ xs) h = ap (λ b. b || list_any p xs) h.0
     ∙ ap (λ b. q x || b) (any_same p q xs h.1)
 
+-- what is next in each group: by the journal, and the same by the tables
+pub record KnowsNext (p : Plan) (j : List Entry) (next known : ℕ → Option Attempt) : Type 0 where
+  pub nexts : Nexts p j next
+  pub same : (g : ℕ) → known g ≡ next g
+
 module _ (p : Plan) (s : State) (j : List Entry) (lane : ℕ)
-    (st : Stands p (berths p) s j) (legal : Legal p j)
+    (st : Stands p (berths p) s j) (seated : SeatedAt p j)
     (facts : JournalFacts p j) (may : script p j lane call.Ask ≡ true) (lt : lane / 2 < berths p)
-    (seat : Seat) (at : IsSeat p (lane / 2) seat) where
+    (seat : BerthGroup) (at : IsSeat p (lane / 2) seat)
+    (next known : ℕ → Option Attempt) (knows : KnowsNext p j next known) where
   abbrev w : ℕ
   w = lane / 2
 
@@ -162,8 +171,15 @@ module _ (p : Plan) (s : State) (j : List Entry) (lane : ℕ)
   group_eq : group_at p w ≡ seat.group
   group_eq = ap (λ (o : Option ℕ). unwrap_or o 0) at.group
 
-  earliest_eq : c.earliest_of s seat.group ≡ earliest p j seat.group
-  earliest_eq = earliest_of_is p j s.ready s.attempts seat.group st.ready st.attempts
+  abbrev here_next : Option Attempt
+  here_next = next seat.group
+
+  next_eq : known seat.group ≡ here_next
+  next_eq = knows.same seat.group
+
+  abbrev ask_here : Option ℕ → Reply
+  ask_here last = r.ask_of p j w (kind_of p w) seat.group last here_next
+      (r.launches_of p j w seat.group here_next last)
 
   -- ---- the matches
 
@@ -186,7 +202,7 @@ module _ (p : Plan) (s : State) (j : List Entry) (lane : ℕ)
 
   rooms_eq : c.some_room s.pool seat.first seat.berths ≡ some_free p j
       (kind_of p w) seat.first seat.berths
-  rooms_eq = some_is p s.pool j st.pool names facts (at_berth.kind_is p j legal) (kind_of p w)
+  rooms_eq = some_is p s.pool j st.pool names facts (at_berth.kind_is p j st.lawful seated) (kind_of p w)
       seat.first seat.berths
       (λ v le below. (
         in_plan v le below,
@@ -197,15 +213,15 @@ module _ (p : Plan) (s : State) (j : List Entry) (lane : ℕ)
       in_plan : (v : ℕ) → seat.first ≤ v → v < seat.first + seat.berths → v < berths p
       in_plan v le below = at.known v le below
 
-  launch_eq : carried_reply s w (c.launch_by s seat) ≡ unwrap_or
+  launch_eq : carried_reply s w (c.launch_by s seat (known seat.group)) ≡ unwrap_or
       (cond (not (some_free p j (kind_of p w) (first_berth p seat.group) (berths_of p seat.group)))
       (option_map (λ t. reply.Launch (line_count j) t.action t.branch t.number)
-      (earliest p j seat.group)) None) reply.Idle
+      here_next) None) reply.Idle
   launch_eq =
-      ap (λ b. carried_reply s w (cond b choice.Idle (c.launch_for (c.earliest_of s seat.group))))
+      ap (λ b. carried_reply s w (cond b choice.Idle (c.launch_for (known seat.group))))
       (rooms_eq ∙ λ i. some_free p j (kind_of p w) (sym at.first i) (sym at.berths i))
-      ∙ ap (λ o. carried_reply s w (cond full choice.Idle (c.launch_for o))) earliest_eq
-      ∙ by full (earliest p j seat.group)
+      ∙ ap (λ o. carried_reply s w (cond full choice.Idle (c.launch_for o))) next_eq
+      ∙ by full here_next
     where
       full : Bool
       full = some_free p j (kind_of p w) (first_berth p seat.group) (berths_of p seat.group)
@@ -320,7 +336,7 @@ module _ (p : Plan) (s : State) (j : List Entry) (lane : ℕ)
         (each_map (λ x. has_cancel j x ≡ false) (λ x. (r.is_unwanted p j x && not (has_cancel j x))
         ≡ r.is_unwanted p j x)
         (λ x h. ap (λ b. r.is_unwanted p j x && not b) h ∙ and_true (r.is_unwanted p j x))
-        (pending j l) (at_berth.no_cancel p j legal w l here facts single (ap (has_cancellation p) group_eq
+        (pending j l) (at_berth.no_cancel p j st.lawful seated w l here facts single (ap (has_cancellation p) group_eq
         ∙ none)))
       where
         and_true : (b : Bool) → (b && true) ≡ b
@@ -371,107 +387,125 @@ module _ (p : Plan) (s : State) (j : List Entry) (lane : ℕ)
         → sent_reply s l t ≡ r.send_order p j w l t
     number_eq t g = ap (λ n. reply.Send l n t.action t.branch t.number)
         (next_number_is p s.requests j (berth_group p (lane / 2)) l t.action t.branch st.requests in_room g
-        (at_berth.numbered p j legal w l here facts))
+        (at_berth.numbered p j st.lawful seated w l here facts))
 
-    own_branch : (t : Attempt) → earliest p j seat.group ≡ Some t → BranchOf p t (berth_group p w)
+    own_branch : (t : Attempt) → here_next ≡ Some t → BranchOf p t (berth_group p w)
     own_branch t h =
-        let n = earliest_next p j seat.group t h in
+        let n = knows.nexts.is seat.group t h in
         ap (option_and_then (λ x. group_of x t.branch)) n.place
         ∙ uses_is (group_of n.action t.branch) seat.group n.group ∙ sym at.group
 
     free_eq : pool.free_of s.pool l ≡ free_places p j (kind_of p w) l
     free_eq = free_is p (berths p) s.pool j st.pool l own.owner.0 own.owner.1 own.owner.2
-        ∙ ap (λ k. free_places p j k l) (sym (at_berth.kind_is p j legal w l here))
+        ∙ ap (λ k. free_places p j k l) (sym (at_berth.kind_is p j st.lawful seated w l here))
 
-    send_eq : option_map f (c.send_by s w seat l row) ≡ r.sends_next p j w seat.group (Some l)
+    send_eq : option_map f (c.send_by s w (known seat.group) l row)
+        ≡ r.sends_next_of p j (kind_of p w) here_next (Some l)
     send_eq = ap (λ b. option_map f (cond b inner None)) live_eq ∙ by (live j l)
       where
         inner : Option Choice
         inner = cond (is_some (bound p j l)) (option_map (choice.Send l)
             (own_state.attempt_at s w)) (cond (nat_lt 0 (pool.free_of s.pool l))
-            (option_map (choice.Send l) (c.earliest_of s seat.group)) None)
+            (option_map (choice.Send l) (known seat.group)) None)
 
-        new : (o : Option Attempt) → earliest p j seat.group ≡ o
+        new : (o : Option Attempt) → here_next ≡ o
             → option_map f (option_map (choice.Send l) o) ≡ option_map
             (r.send_order p j w l) o
         new None h = refl
         new (Some t) h = ap Some (number_eq t (own_branch t h))
 
         place : (b : Bool) → option_map f (cond b (option_map
-            (choice.Send l) (earliest p j seat.group)) None) ≡ option_map
-            (r.send_order p j w l) (cond b (earliest p j seat.group) None)
-        place true = new (earliest p j seat.group) refl
+            (choice.Send l) here_next) None) ≡ option_map
+            (r.send_order p j w l) (cond b here_next None)
+        place true = new here_next refl
         place false = refl
 
         of_bound : (o : Option Attempt) → bound p j l ≡ o
             → option_map f (cond (is_some o) (option_map (choice.Send l)
             (own_state.attempt_at s w)) (cond (nat_lt 0 (pool.free_of s.pool l))
-            (option_map (choice.Send l) (c.earliest_of s seat.group)) None))
+            (option_map (choice.Send l) (known seat.group)) None))
             ≡ option_map (r.send_order p j w l) (or_else o (cond
-            (nat_lt 0 (free_places p j (kind_of p w) l)) (earliest p j seat.group) None))
+            (nat_lt 0 (free_places p j (kind_of p w) l)) here_next None))
         of_bound (Some t) h =
             ap (λ o. option_map f (option_map (choice.Send l) o))
             (attempt_eq ∙ ap (option_map (λ x. x.1)) (bound_is p j l t h).launched)
-            ∙ ap Some (number_eq t (at_berth.bound_group p j legal w l here facts t h))
+            ∙ ap Some (number_eq t (at_berth.bound_group p j st.lawful seated w l here facts t h))
         of_bound None h = (λ i. option_map f (cond (nat_lt 0 (free_eq i))
-            (option_map (choice.Send l) (earliest_eq i)) None))
+            (option_map (choice.Send l) (next_eq i)) None))
             ∙ place (nat_lt 0 (free_places p j (kind_of p w) l))
 
         by : (b : Bool) → option_map f (cond b inner None) ≡ cond b
-            (option_map (r.send_order p j w l) (r.next_for p j w seat.group l)) None
+            (option_map (r.send_order p j w l) (r.next_of p j (kind_of p w) here_next l)) None
         by true = of_bound (bound p j l) refl
         by false = refl
 
-    vacant_eq : f (c.then_vacant s seat row) ≡ unwrap_or
-        (r.launches p j w seat.group (Some l)) reply.Idle
+    vacant_eq : f (c.then_vacant s seat (known seat.group) row) ≡ unwrap_or
+        (r.launches_of p j w seat.group here_next (Some l)) reply.Idle
     vacant_eq =
-        ap (λ b. f (cond (b || (has_ended j l && was_killed j l)) (c.launch_by s seat) choice.Idle))
+        ap (λ b. f (cond (b || (has_ended j l && was_killed j l))
+        (c.launch_by s seat (known seat.group)) choice.Idle))
         (sym (facts.launched_yet lane l (at_berth.anywhere p j lane call.Ask may) here))
         ∙ by (failed j l || (has_ended j l && was_killed j l))
       where
-        by : (b : Bool) → f (cond b (c.launch_by s seat) choice.Idle) ≡ unwrap_or
+        by : (b : Bool) → f (cond b (c.launch_by s seat (known seat.group)) choice.Idle) ≡ unwrap_or
             (cond (b && not (some_free p j (kind_of p w) (first_berth p seat.group)
             (berths_of p seat.group))) (option_map (λ t. reply.Launch
-            (line_count j) t.action t.branch t.number) (earliest p j seat.group)) None) reply.Idle
+            (line_count j) t.action t.branch t.number) here_next) None) reply.Idle
         by true = launch_eq
         by false = refl
 
-    with_eq : f (c.choice_with s w seat l (own_state.row_at s l)) ≡ r.ask p j w seat.group (Some l)
+    with_eq : f (c.choice_with s w seat (known seat.group) l (own_state.row_at s l))
+        ≡ ask_here (Some l)
     with_eq =
-        ap (λ x. f (c.choice_with s w seat l x)) row_at_eq
+        ap (λ x. f (c.choice_with s w seat (known seat.group) l x)) row_at_eq
         ∙ with_is f (own_state.is_over s) (c.unwanted_by s seat l row) (c.leave_by l row)
         (c.kill_by l row (own_state.cause_at s w)) (choice.Kill l why.Unwanted) (c.waiting_at s w)
-        (c.cancel_by s w seat l row) (c.send_by s w seat l row) (c.then_vacant s seat row)
-        (r.launches p j w seat.group (Some l)) vacant_eq
+        (c.cancel_by s w seat l row) (c.send_by s w (known seat.group) l row)
+        (c.then_vacant s seat (known seat.group) row)
+        (r.launches_of p j w seat.group here_next (Some l)) vacant_eq
         ∙ (λ i. unwrap_or (or_else (r.when (over_eq i) (leave_eq i))
         (or_else (kill_eq i) (or_else (r.when (unwanted_eq i) (reply.Kill l why.Unwanted))
         (or_else (gather_eq i) (or_else (cancel_eq i) (or_else (send_eq i)
-        (r.launches p j w seat.group (Some l)))))))) reply.Idle)
+        (r.launches_of p j w seat.group here_next (Some l)))))))) reply.Idle)
 
-  without_eq : f (c.choice_without s w seat) ≡ r.ask p j w seat.group None
+  without_eq : f (c.choice_without s w seat (known seat.group)) ≡ ask_here None
   without_eq =
-      without_is f (own_state.is_over s) (c.waiting_at s w) choice.Stop (c.launch_by s seat)
-      (r.launches p j w seat.group None) launch_eq
+      without_is f (own_state.is_over s) (c.waiting_at s w) choice.Stop
+      (c.launch_by s seat (known seat.group))
+      (r.launches_of p j w seat.group here_next None) launch_eq
       ∙ (λ i. unwrap_or (or_else (r.when (over_eq i) reply.Stop)
-      (or_else (gather_eq i) (r.launches p j w seat.group None))) reply.Idle)
+      (or_else (gather_eq i) (r.launches_of p j w seat.group here_next None))) reply.Idle)
 
-  chosen_eq : f (c.chosen s w) ≡ r.ask p j w (group_at p w) (last_line j w)
+  chosen_eq : f (c.chosen_by known s w) ≡ own_ask p j w next
   chosen_eq =
-      ap (λ q. f (c.choice_for s w (seat_at q w))) st.plan
-      ∙ ap (λ o. f (c.choice_for s w o)) at.is
-      ∙ ap (λ o. f (c.choice_at s w seat o)) (last_is p (berths p) s.pool j st.pool w lt)
+      ap (λ q. f (c.choice_for s w known (seat_at q w))) st.plan
+      ∙ ap (λ o. f (c.choice_for s w known o)) at.is
+      ∙ ap (λ o. f (c.choice_at s w seat (known seat.group) o)) (last_is p (berths p) s.pool j st.pool w lt)
       ∙ by (last_line j w) refl
-      ∙ ap (λ g. r.ask p j w g (last_line j w)) (sym group_eq)
+      ∙ ap (λ g. r.ask_of p j w (kind_of p w) g (last_line j w) (next g)
+      (r.launches_of p j w g (next g) (last_line j w))) (sym group_eq)
     where
-      by : (o : Option ℕ) → last_line j w ≡ o → f (c.choice_at s w seat o)
-          ≡ r.ask p j w seat.group o
+      by : (o : Option ℕ) → last_line j w ≡ o
+          → f (c.choice_at s w seat (known seat.group) o) ≡ ask_here o
       by (Some l) h = with_eq l h
       by None h = without_eq
+
+-- what is chosen by what is next in each group is what the rules order by it
+pub choice_by : (p : Plan) (s : State) (j : List Entry) (lane : ℕ) (next known : ℕ → Option Attempt)
+    → Stands p (berths p) s j → SeatedAt p j → JournalFacts p j → script p j lane call.Ask ≡ true
+    → KnowsNext p j next known
+    → carried_reply s (lane / 2) (c.chosen_by known s (lane / 2)) ≡ own_ask p j (lane / 2) next
+choice_by p s j lane next known st seated facts may knows =
+    let lt = lane_within p j lane call.Ask may in
+    let seat = seat_is p (lane / 2) lt in
+    chosen_eq p s j lane st seated facts may lt seat.0 seat.1 next known knows
 
 pub choice_is : (p : Plan) (s : State) (j : List Entry) (lane : ℕ) → Stands p (berths p) s j
     → Legal p j → JournalFacts p j → script p j lane call.Ask ≡ true
     → carried_reply s (lane / 2) (c.chosen s (lane / 2)) ≡ r.rule p j lane call.Ask
 choice_is p s j lane st legal facts may =
-    let lt = lane_within p j lane call.Ask may in
-    let seat = seat_is p (lane / 2) lt in
-    chosen_eq p s j lane st legal facts may lt seat.0 seat.1
+    choice_by p s j lane (earliest p j) (c.earliest_of s) st (ours.both_ours p j legal).1 facts may
+    (record {
+      nexts = record { is = λ g t. earliest_next p j g t };
+      same = λ g. earliest_of_is p j s.ready s.attempts g st.ready st.attempts;
+    })

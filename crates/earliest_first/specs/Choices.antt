@@ -1,6 +1,6 @@
--- What is chosen for an Ask, as a function of the tables: where a line may be given
--- something new, the earliest queued action of its berth's group; and a line is launched where no
--- live one of the group has a free place.
+-- What is chosen for an Ask on a plan's own berths, as a function of the tables and of what is next in
+-- each group: where a line may be given something new, it is that of its berth's group; and a line is
+-- launched for it where no live one of the group has a free place.
 use Rattle.std.specs.Prelude.{◌≡◌, ℕ, zero, suc, ◌+◌, ◌<◌, ◌^◌, nat_lt, Bool, false, ◌&&◌, ◌||◌, not, Option, Some, None, is_some, option_map, unwrap_or, if◌then◌else◌, length, slice_get}
 use Rattle.std.specs.List.{find}
 use Rattle.run_plan.specs.declared.plan.Branch.{Branch}
@@ -17,7 +17,7 @@ use Rattle.ready_order.specs.Queue.{earliest_in}
 use Rattle.retry_rules.specs.Counts.{ended_of}
 use Rattle.core_tables.specs.declared.greetings.Greeting.{Greeting}
 use Rattle.core_tables.specs.declared.matches.Match.{Match}
-use Rattle.core_tables.specs.declared.seat.Seat.{Seat}
+use Rattle.core_tables.specs.declared.berth_group.BerthGroup.{BerthGroup}
 use Rattle.core_tables.specs.Matches.{matches_of, is_waiting}
 use Rattle.core_tables.specs.Seats.{seat_at}
 use Rattle.core_state.specs.declared.choice.Choice.{Choice}
@@ -43,7 +43,7 @@ leave_by l x = if is_runner x then choice.Kill l why.Quit else choice.Stop
 abbrev pub kill_by : ℕ → LineRow → Option Cause → Option Choice
 kill_by l x c = if is_runner x then option_map (λ y. choice.Kill l (why_of y)) c else None
 
-abbrev pub unwanted_by : State → Seat → ℕ → LineRow → Bool
+abbrev pub unwanted_by : State → BerthGroup → ℕ → LineRow → Bool
 unwanted_by s seat l x = is_runner x && (is_single seat.kind
     && (not seat.cancel && is_some (cancel_of s.cancels l)))
 
@@ -55,11 +55,11 @@ greeted_on (Some x) = x.greeted
 greeted_on None = false
 
 -- the line's group has cancellation, or it is an executor's line and has greeted
-abbrev pub may_cancel_by : State → ℕ → Seat → Bool
+abbrev pub may_cancel_by : State → ℕ → BerthGroup → Bool
 may_cancel_by s w seat = seat.cancel || (is_remote seat.kind
     && greeted_on (slice_get s.greetings w))
 
-abbrev pub cancel_by : State → ℕ → Seat → ℕ → LineRow → Option Choice
+abbrev pub cancel_by : State → ℕ → BerthGroup → ℕ → LineRow → Option Choice
 cancel_by s w seat l x = if pool.is_live_row x && may_cancel_by s w seat then option_map
     (choice.Cancel l) (cancel_of s.cancels l) else None
 
@@ -69,12 +69,11 @@ next_of s x = attempt_of x.0 x.1 (ended_of s.attempts x.0 x.1 + 1)
 abbrev pub earliest_of : State → ℕ → Option Attempt
 earliest_of s g = option_map (next_of s) (earliest_in s.ready g)
 
-abbrev pub send_by : State → ℕ → Seat → ℕ → LineRow → Option Choice
-send_by s w seat l x =
+abbrev pub send_by : State → ℕ → Option Attempt → ℕ → LineRow → Option Choice
+send_by s w next l x =
     if pool.is_live_row x then
     (if x.bound then option_map (choice.Send l) (attempt_at s w)
-    else if nat_lt 0 (pool.free_of s.pool l) then option_map
-    (choice.Send l) (earliest_of s seat.group) else None)
+    else if nat_lt 0 (pool.free_of s.pool l) then option_map (choice.Send l) next else None)
     else None
 
 abbrev pub line_has_room : pool.Facts → Option ℕ → Bool
@@ -94,40 +93,49 @@ abbrev pub launch_for : Option Attempt → Choice
 launch_for (Some t) = choice.Launch t
 launch_for None = choice.Idle
 
-abbrev pub launch_by : State → Seat → Choice
-launch_by s seat = if some_room s.pool seat.first seat.berths then choice.Idle else launch_for
-    (earliest_of s seat.group)
+abbrev pub launch_by : State → BerthGroup → Option Attempt → Choice
+launch_by s seat next =
+    if some_room s.pool seat.first seat.berths then choice.Idle else launch_for next
 
 abbrev pub after_gather : Choice → Option Match → Choice
 after_gather c (Some m) = choice.Gather m
 after_gather c None = c
 
-abbrev pub choice_without : State → ℕ → Seat → Choice
-choice_without s w seat = if is_over s then choice.Stop else after_gather (launch_by s seat)
-    (waiting_at s w)
+-- ---- by what is next in the berth's group
 
-abbrev pub then_vacant : State → Seat → LineRow → Choice
-then_vacant s seat x = if is_vacant_row x then launch_by s seat else choice.Idle
+abbrev pub choice_without : State → ℕ → BerthGroup → Option Attempt → Choice
+choice_without s w seat next = if is_over s then choice.Stop else after_gather
+    (launch_by s seat next) (waiting_at s w)
 
-abbrev pub choice_with : State → ℕ → Seat → ℕ → LineRow → Choice
-choice_with s w seat l x =
+abbrev pub then_vacant : State → BerthGroup → Option Attempt → LineRow → Choice
+then_vacant s seat next x = if is_vacant_row x then launch_by s seat next else choice.Idle
+
+abbrev pub choice_with : State → ℕ → BerthGroup → Option Attempt → ℕ → LineRow → Choice
+choice_with s w seat next l x =
     if is_over s then leave_by l x
     else unwrap_or (kill_by l x (cause_at s w))
     (if unwanted_by s seat l x then choice.Kill l why.Unwanted
     else after_gather
-    (unwrap_or (cancel_by s w seat l x) (unwrap_or (send_by s w seat l x) (then_vacant s seat x)))
+    (unwrap_or (cancel_by s w seat l x)
+    (unwrap_or (send_by s w next l x) (then_vacant s seat next x)))
     (waiting_at s w))
 
-abbrev pub choice_at : State → ℕ → Seat → Option ℕ → Choice
-choice_at s w seat (Some l) = choice_with s w seat l (row_at s l)
-choice_at s w seat None = choice_without s w seat
+abbrev pub choice_at : State → ℕ → BerthGroup → Option Attempt → Option ℕ → Choice
+choice_at s w seat next (Some l) = choice_with s w seat next l (row_at s l)
+choice_at s w seat next None = choice_without s w seat next
 
-abbrev pub choice_on : State → ℕ → Seat → Choice
-choice_on s w seat = choice_at s w seat (pool.last_of s.pool w)
+abbrev pub choice_on : State → ℕ → BerthGroup → Option Attempt → Choice
+choice_on s w seat next = choice_at s w seat next (pool.last_of s.pool w)
 
-abbrev pub choice_for : State → ℕ → Option Seat → Choice
-choice_for s w (Some seat) = choice_on s w seat
-choice_for s w None = choice.Idle
+-- ---- by what is next in each group
 
+abbrev pub choice_for : State → ℕ → (ℕ → Option Attempt) → Option BerthGroup → Choice
+choice_for s w next (Some seat) = choice_on s w seat (next seat.group)
+choice_for s w next None = choice.Idle
+
+abbrev pub chosen_by : (ℕ → Option Attempt) → State → ℕ → Choice
+chosen_by next s w = choice_for s w next (seat_at s.plan w)
+
+-- the earliest queued action of the group is next
 abbrev pub chosen : State → ℕ → Choice
-chosen s w = choice_for s w (seat_at s.plan w)
+chosen s w = chosen_by (earliest_of s) s w

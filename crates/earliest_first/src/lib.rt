@@ -1,5 +1,6 @@
-//! What today's core orders next: where a line may be given something new, the earliest queued action
-//! of its berth's group; and a line is launched where no live one of the group has a free place.
+//! What is ordered next on a plan's own berths: where a line may be given something new, it is what is
+//! next in its berth's group, and a line is launched for that where no live one of the group has a free
+//! place. [`choose`] takes the earliest queued action of the group; [`choose_next`] is told what is next.
 #![tactic(auto)]
 
 ghost use Rattle.std.specs.Prelude.{◌≡◌, ◌<◌, Some, length, slice_get};
@@ -12,7 +13,7 @@ ghost use Rattle.earliest_first.specs.Choices.{ReadsOwn, leave_by, kill_by, unwa
 pub mod laws;
 
 use core_state::{Choice, State};
-use core_tables::{Seat, seat_of};
+use core_tables::{BerthGroup, group_of_berth};
 use exec_journal::{Attempt, Cause, Kind, Why};
 use worker_pool::LineRow;
 
@@ -21,27 +22,28 @@ pub fn choose(state: &State, berth: u32) -> Choice
     requires { ReadsOwn state.now berth }
     ensures { result ≡ chosen state.now berth }
 {
-    match seat_of(&state.plan, berth) {
-        Some(seat) => choose_on(state, berth, seat),
+    match group_of_berth(&state.plan, berth) {
+        Some(seat) => choose_next(state, berth, seat, earliest(state, berth, seat.group)),
         None => Choice::Idle,
     }
 }
 
-fn choose_on(state: &State, berth: u32, seat: Seat) -> Choice
+/// What it is to do on a berth of this group, where this attempt is next in the group.
+pub fn choose_next(state: &State, berth: u32, seat: BerthGroup, next: Option<Attempt>) -> Choice
     requires reads { ReadsOwn state.now berth }
     requires seated { seat_at state.now.plan berth ≡ Some seat }
-    ensures { result ≡ choice_on state.now berth seat }
+    ensures { result ≡ choice_on state.now berth seat next }
 {
     match state.pool.last_line(berth) {
-        Some(line) => choose_with(state, berth, seat, line),
-        None => choose_without(state, berth, seat),
+        Some(line) => choose_with(state, berth, seat, next, line),
+        None => choose_without(state, berth, seat, next),
     }
 }
 
-fn choose_without(state: &State, berth: u32, seat: Seat) -> Choice
+fn choose_without(state: &State, berth: u32, seat: BerthGroup, next: Option<Attempt>) -> Choice
     requires reads { ReadsOwn state.now berth }
     requires seated { seat_at state.now.plan berth ≡ Some seat }
-    ensures { result ≡ choice_without state.now berth seat }
+    ensures { result ≡ choice_without state.now berth seat next }
 {
     if state.is_over() {
         return Choice::Stop;
@@ -49,14 +51,20 @@ fn choose_without(state: &State, berth: u32, seat: Seat) -> Choice
     if let Some(found) = state.matches.waiting(berth) {
         return Choice::Gather(found);
     }
-    launch_next(state, berth, seat)
+    launch_next(state, berth, seat, next)
 }
 
-fn choose_with(state: &State, berth: u32, seat: Seat, line: u32) -> Choice
+fn choose_with(
+    state: &State,
+    berth: u32,
+    seat: BerthGroup,
+    next: Option<Attempt>,
+    line: u32,
+) -> Choice
     requires reads { ReadsOwn state.now berth }
     requires seated { seat_at state.now.plan berth ≡ Some seat }
     requires last { last_of state.now.pool berth ≡ Some line }
-    ensures { result ≡ choice_with state.now berth seat line (row_at state.now line) }
+    ensures { result ≡ choice_with state.now berth seat next line (row_at state.now line) }
 {
     let row = state.pool.line(line);
     if state.is_over() {
@@ -77,11 +85,11 @@ fn choose_with(state: &State, berth: u32, seat: Seat, line: u32) -> Choice
     if let Some(cancel) = cancel_next(state, berth, seat, line, row) {
         return cancel;
     }
-    if let Some(send) = send_next(state, berth, seat, line, row) {
+    if let Some(send) = send_next(state, berth, next, line, row) {
         return send;
     }
     if is_vacant(row) {
-        return launch_next(state, berth, seat);
+        return launch_next(state, berth, seat, next);
     }
     Choice::Idle
 }
@@ -101,7 +109,7 @@ fn kill_broken(state: &State, berth: u32, line: u32, row: LineRow) -> Option<Cho
 }
 
 // A Single line without cancellation, of which a pending request isn't wanted.
-fn is_unwanted(state: &State, seat: Seat, line: u32, row: LineRow) -> bool
+fn is_unwanted(state: &State, seat: BerthGroup, line: u32, row: LineRow) -> bool
     requires { line < length state.now.cancels.lines }
     ensures { result ≡ unwanted_by state.now seat line row }
 {
@@ -111,7 +119,13 @@ fn is_unwanted(state: &State, seat: Seat, line: u32, row: LineRow) -> bool
         && state.cancels.cancel_order(line).is_some()
 }
 
-fn cancel_next(state: &State, berth: u32, seat: Seat, line: u32, row: LineRow) -> Option<Choice>
+fn cancel_next(
+    state: &State,
+    berth: u32,
+    seat: BerthGroup,
+    line: u32,
+    row: LineRow,
+) -> Option<Choice>
     requires line { line < length state.now.cancels.lines }
     requires berth { berth < length state.now.greetings }
     ensures { result ≡ cancel_by state.now berth seat line row }
@@ -124,17 +138,23 @@ fn cancel_next(state: &State, berth: u32, seat: Seat, line: u32, row: LineRow) -
 }
 
 // The line's group has cancellation, or it is an executor's line and has greeted.
-fn may_cancel(state: &State, berth: u32, seat: Seat) -> bool
+fn may_cancel(state: &State, berth: u32, seat: BerthGroup) -> bool
     requires { berth < length state.now.greetings }
     ensures { result ≡ may_cancel_by state.now berth seat }
 {
     seat.cancel || seat.kind == Kind::Remote && state.greetings.of(berth).greeted
 }
 
-fn send_next(state: &State, berth: u32, seat: Seat, line: u32, row: LineRow) -> Option<Choice>
+fn send_next(
+    state: &State,
+    berth: u32,
+    next: Option<Attempt>,
+    line: u32,
+    row: LineRow,
+) -> Option<Choice>
     requires reads { Reads state.now berth }
     requires row { slice_get state.now.pool.lines line ≡ Some row }
-    ensures { result ≡ send_by state.now berth seat line row }
+    ensures { result ≡ send_by state.now berth next line row }
 {
     if !is_live(row) {
         return None;
@@ -146,19 +166,19 @@ fn send_next(state: &State, berth: u32, seat: Seat, line: u32, row: LineRow) -> 
     if state.pool.free_places(line) == 0 {
         return None;
     }
-    let attempt = earliest(state, berth, seat.group)?;
+    let attempt = next?;
     Some(Choice::Send { line, attempt })
 }
 
-fn launch_next(state: &State, berth: u32, seat: Seat) -> Choice
+fn launch_next(state: &State, berth: u32, seat: BerthGroup, next: Option<Attempt>) -> Choice
     requires reads { ReadsOwn state.now berth }
     requires seated { seat_at state.now.plan berth ≡ Some seat }
-    ensures { result ≡ launch_by state.now seat }
+    ensures { result ≡ launch_by state.now seat next }
 {
     if some_room(state, berth, seat) {
         return Choice::Idle;
     }
-    match earliest(state, berth, seat.group) {
+    match next {
         Some(attempt) => Choice::Launch(attempt),
         None => Choice::Idle,
     }
@@ -180,7 +200,7 @@ fn earliest(state: &State, berth: u32, group: u32) -> Option<Attempt>
 }
 
 // Some live line of the group has a free place.
-fn some_room(state: &State, berth: u32, seat: Seat) -> bool
+fn some_room(state: &State, berth: u32, seat: BerthGroup) -> bool
     requires reads { ReadsOwn state.now berth }
     requires seated { seat_at state.now.plan berth ≡ Some seat }
     ensures { result ≡ some_room state.now.pool seat.first seat.berths }

@@ -1,8 +1,6 @@
 -- An entry changes what its own lane owes, and what no other does.
 use Rattle.std.proofs.Common.{◌≡◌, ℕ, zero, suc, ◌+◌, ◌*◌, ◌<◌, ◌≤◌, ◌==◌, Bool, true, false, cond, List, ◌∷◌, refl, ap, sym, subst, ◌∙◌, arith, inl, inr}
 use Rattle.std.proofs.lemmas.Bool.{ne_eqb, cases_lt}
-use Rattle.run_plan.specs.declared.plan.Plan.{Plan}
-use Rattle.run_plan.specs.Groups.{berths}
 use Rattle.exec_journal.specs.declared.call.Call.{Call}
 use Rattle.exec_journal.specs.Entry.{Entry}
 use Rattle.exec_journal.specs.declared.reply.Reply.{Reply}
@@ -10,7 +8,7 @@ use Rattle.exec_journal.specs.Entries.{is_kept}
 use Rattle.exec_journal.specs.Legal.{after}
 use Rattle.exec_journal.specs.Words.{last_work}
 use Rattle.std.specs.Prelude.{◌&&◌, not}
-use Rattle.journal_laws.specs.Paid.{count, lane_owes, lanes_owe, may_halt, owes, owes_files}
+use Rattle.journal_laws.specs.Paid.{count, lane_owes, lanes_owe, may_halt, owes_files, seats_owe}
 use Rattle.history_laws.proofs.Going.{elsewhere}
 
 other_lane : (e : Entry) (j : List Entry) (lane : ℕ) → (e.lane == lane) ≡ false
@@ -67,42 +65,42 @@ unfolding lanes_owe
 lanes_most j zero = omega arith
 lanes_most j (suc n) = omega (arith, lanes_most j n, lane_most j n)
 
-pub owes_most : (p : Plan) (j : List Entry) → owes p j ≤ 4 * berths p
-owes_most p j = let most = lanes_most j (2 * berths p) in omega (arith, most)
+pub owes_most : (seats : ℕ) (j : List Entry) → seats_owe seats j ≤ 4 * seats
+owes_most seats j = let most = lanes_most j (2 * seats) in omega (arith, most)
 
 -- before and after a call, where the lane is one of the plan
-pub record Counted (p : Plan) (j k : List Entry) (lane : ℕ) : Type 0 where
-  pub among : lane_owes j lane ≤ owes p j
-  pub goes : owes p k + lane_owes j lane ≡ owes p j + lane_owes k lane
+pub record Counted (seats : ℕ) (j k : List Entry) (lane : ℕ) : Type 0 where
+  pub among : lane_owes j lane ≤ seats_owe seats j
+  pub goes : seats_owe seats k + lane_owes j lane ≡ seats_owe seats j + lane_owes k lane
 
-counted_by : (p : Plan) (j : List Entry) (lane : ℕ) (c : Call) (x : Reply) (b : Bool)
-    → is_kept x ≡ b → lane < 2 * berths p → Counted p j (after j lane c x) lane
-counted_by p j lane c x true is lt = subst (λ (k : List Entry). Counted p j k lane)
+counted_by : (seats : ℕ) (j : List Entry) (lane : ℕ) (c : Call) (x : Reply) (b : Bool)
+    → is_kept x ≡ b → lane < 2 * seats → Counted seats j (after j lane c x) lane
+counted_by seats j lane c x true is lt = subst (λ (k : List Entry). Counted seats j k lane)
     (ap (λ (b : Bool). cond b (record { lane = lane; call = c; reply = x } ∷ j) j) (sym is))
     (record {
-      among = lane_among j lane (2 * berths p) lt;
-      goes = lanes_with (record { lane = lane; call = c; reply = x }) j (2 * berths p) lt;
+      among = lane_among j lane (2 * seats) lt;
+      goes = lanes_with (record { lane = lane; call = c; reply = x }) j (2 * seats) lt;
     })
-counted_by p j lane c x false is lt = subst (λ (k : List Entry). Counted p j k lane)
+counted_by seats j lane c x false is lt = subst (λ (k : List Entry). Counted seats j k lane)
     (ap (λ (b : Bool). cond b (record { lane = lane; call = c; reply = x } ∷ j) j) (sym is))
-    (record { among = lane_among j lane (2 * berths p) lt; goes = refl })
+    (record { among = lane_among j lane (2 * seats) lt; goes = refl })
 
-pub counted : (p : Plan) (j : List Entry) (lane : ℕ) (c : Call) (x : Reply)
-    → lane < 2 * berths p → Counted p j (after j lane c x) lane
-counted p j lane c x lt = counted_by p j lane c x (is_kept x) refl lt
+pub counted : (seats : ℕ) (j : List Entry) (lane : ℕ) (c : Call) (x : Reply)
+    → lane < 2 * seats → Counted seats j (after j lane c x) lane
+counted seats j lane c x lt = counted_by seats j lane c x (is_kept x) refl lt
 
 -- where it isn't
-pub uncounted : (p : Plan) (j : List Entry) (lane : ℕ) (c : Call) (x : Reply)
-    → 2 * berths p ≤ lane → owes p (after j lane c x) ≡ owes p j
-uncounted p j lane c x le = by (is_kept x) refl
+pub uncounted : (seats : ℕ) (j : List Entry) (lane : ℕ) (c : Call) (x : Reply)
+    → 2 * seats ≤ lane → seats_owe seats (after j lane c x) ≡ seats_owe seats j
+uncounted seats j lane c x le = by (is_kept x) refl
   where
-    by : (b : Bool) → is_kept x ≡ b → owes p (after j lane c x) ≡ owes p j
-    by true is = ap (λ (b : Bool). owes p (cond b (record {
+    by : (b : Bool) → is_kept x ≡ b → seats_owe seats (after j lane c x) ≡ seats_owe seats j
+    by true is = ap (λ (b : Bool). seats_owe seats (cond b (record {
       lane = lane;
       call = c;
       reply = x;
-    } ∷ j) j)) is ∙ lanes_before (record { lane = lane; call = c; reply = x }) j (2 * berths p) le
-    by false is = ap (λ (b : Bool). owes p (cond b (record {
+    } ∷ j) j)) is ∙ lanes_before (record { lane = lane; call = c; reply = x }) j (2 * seats) le
+    by false is = ap (λ (b : Bool). seats_owe seats (cond b (record {
       lane = lane;
       call = c;
       reply = x;

@@ -70,7 +70,7 @@ module _ (p : Plan) (seats : ℕ) (kinds : ℕ → Kind) (w : ℕ) where
   asks_only P call.Tick h ask halt = absurd (cc)
 
   launch_may : (n : ℕ) (x : Call) (l a : ℕ) (b : Branch) (t : ℕ) (c : Call)
-      → Do (Launches l) c ≡ true → May n x (reply.Launch l a b t) c
+      → Do (Launches l (attempt_of a b t)) c ≡ true → May n x (reply.Launch l a b t) c
   launch_may n x l a b t call.Ask h = absurd (cc)
   launch_may n x l a b t (call.Launched k how) h = (λ i. h i || false)
   launch_may n x l a b t (call.Wrote k m how) h = absurd (cc)
@@ -85,7 +85,7 @@ module _ (p : Plan) (seats : ℕ) (kinds : ℕ → Kind) (w : ℕ) where
   launch_may n x l a b t call.Tick h = absurd (cc)
 
   send_may : (n : ℕ) (x : Call) (l : ℕ) (o : ℤ) (a : ℕ) (b : Branch) (t : ℕ) (c : Call)
-      → Do (Sends l o a) c ≡ true → May n x (reply.Send l o a b t) c
+      → Do (Sends l o (attempt_of a b t)) c ≡ true → May n x (reply.Send l o a b t) c
   send_may n x l o a b t call.Ask h = absurd (cc)
   send_may n x l o a b t (call.Launched k how) h = absurd (cc)
   send_may n x l o a b t (call.Wrote k m how) h = (λ i. h i || false)
@@ -309,8 +309,8 @@ module _ (p : Plan) (seats : ℕ) (kinds : ℕ → Kind) (w : ℕ) where
 
   still_here : (s : Duty) (c : Call) → Do s c ≡ true → has_left s ≡ false
   still_here Asks c h = refl
-  still_here (Launches l) c h = refl
-  still_here (Sends l m a) c h = refl
+  still_here (Launches l t) c h = refl
+  still_here (Sends l m t) c h = refl
   still_here (Cancels l m) c h = refl
   still_here (Gathers l m t exit refused) c h = refl
   still_here (Commits a b fs) c h = refl

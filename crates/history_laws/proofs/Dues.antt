@@ -127,8 +127,8 @@ commit_is_paid n h w a b fs how lt e =
 
 not_left : (s : Duty) → (s ≡ Left → ⊥) → has_left s ≡ false
 not_left Asks n = refl
-not_left (Launches l) n = refl
-not_left (Sends l m a) n = refl
+not_left (Launches l t) n = refl
+not_left (Sends l m t) n = refl
 not_left (Cancels l m) n = refl
 not_left (Gathers l m t exit refused) n = refl
 not_left (Commits a b fs) n = refl

@@ -2,6 +2,7 @@
 -- it isn't answered Astray.
 use Rattle.std.proofs.Common.{◌≡◌, ℕ, ◌*◌, ◌/◌, ◌%◌, ◌==◌, nat_lt, Bool, true, false, ◌&&◌, ◌||◌, not, cond, List, [], ◌∷◌, Option, Some, None, inl, inr, refl, sym, ap, subst, ◌∙◌}
 use Rattle.run_plan.specs.declared.plan.Kind.TheVariants as kind
+use Rattle.run_plan.specs.declared.plan.Plan.{Plan}
 use Rattle.exec_journal.specs.declared.call.Call.{Call}
 use Rattle.exec_journal.specs.declared.call.Call.TheVariants as call
 use Rattle.exec_journal.specs.Entry.{Entry}
@@ -11,6 +12,8 @@ use Rattle.exec_journal.specs.Lawful as lw
 use Rattle.exec_journal.specs.Scripts as sc
 use Rattle.exec_journal.specs.Words.{stopped, has_halted, last_work}
 use Rattle.exec_journal.specs.Lawful.{Lawful}
+use Rattle.exec_journal.proofs.Reasons as u
+use Rattle.exec_journal.proofs.Ruled as ru
 use Rattle.exec_journal.proofs.Ruled.{by_bool}
 use Rattle.core_contract.specs.Laws.{fits, Fits, InScript}
 use Rattle.core_contract.specs.Moves.{History}
@@ -19,6 +22,40 @@ use Rattle.std.proofs.lemmas.Bool.{and_parts, and_from, or_cases, or_left, or_ri
 use Rattle.journal_laws.proofs.Ours as ours
 use Rattle.core_contract.specs.Disciplines.{Discipline, IsDiscipline, LegalBy, LegalEntryBy, script_of, berth_script}
 use Rattle.history_laws.specs.Ruled.{answer_after}
+
+-- ---- replies of a call's kind
+
+pub noted_fits : (c : Call) → ru.is_noted c ≡ true → fits c reply.Noted ≡ true
+noted_fits (call.Launched l how) h = refl
+noted_fits (call.Wrote l n how) h = refl
+noted_fits (call.Committed a b how) h = refl
+noted_fits (call.Killed l) h = refl
+noted_fits (call.Ended l how) h = refl
+noted_fits call.Halt h = refl
+noted_fits call.Tick h = refl
+noted_fits _ h = absurd (cc)
+
+-- a reply with reasons is one
+reasons_fit : (p : Plan) (j : List Entry) (lane : ℕ) (c : Call) (x : Reply)
+    → u.Ruled p j lane c x → fits c x ≡ true
+reasons_fit p j lane c x (u.Notes d n) = noted_fits d n
+reasons_fit p j lane c x _ = refl
+
+pub told_fits : (p : Plan) (j : List Entry) (lane : ℕ) (c : Call) (x : Reply)
+    → lw.Told p j lane c x → fits c x ≡ true
+told_fits p j lane c x told = reasons_fit p j lane c x (u.told_ruled p j lane c x told)
+
+-- and so is the journal's own to each call but Ask
+pub plain_fits : (p : Plan) (j : List Entry) (lane : ℕ) (c : Call) → (c ≡ call.Ask → ⊥)
+    → fits c (lw.plain_reply p j lane c) ≡ true
+plain_fits p j lane call.Ask other = absurd (other refl)
+plain_fits p j lane (call.Answer l x) other = told_fits p j lane (call.Answer l x) _ refl
+plain_fits p j lane (call.Look w) other = told_fits p j lane (call.Look w) _ refl
+plain_fits p j lane (call.Claim a b t f) other = told_fits p j lane (call.Claim a b t f) _ refl
+plain_fits p j lane call.Take other = told_fits p j lane call.Take _ refl
+plain_fits p j lane _ other = refl
+
+-- ---- outside its lane's script none is
 
 unfit : (c : Call) → fits c reply.Astray ≡ false
 unfit call.Ask = refl

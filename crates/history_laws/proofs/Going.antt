@@ -164,8 +164,8 @@ at_call call.Halt r s = record {
 -- a lane that hasn't left goes on
 goes_on : (s : Duty) (c : Call) (r : Reply) → has_left s ≡ false → duty_by s c r ≡ duty_from s c r
 goes_on Asks c r e = refl
-goes_on (Launches l) c r e = refl
-goes_on (Sends l n a) c r e = refl
+goes_on (Launches l t) c r e = refl
+goes_on (Sends l n t) c r e = refl
 goes_on (Cancels l n) c r e = refl
 goes_on (Gathers l n t x y) c r e = refl
 goes_on (Commits a b fs) c r e = refl
@@ -174,8 +174,8 @@ goes_on Left c r e = absurd (cc)
 
 pub left_is : (s : Duty) → has_left s ≡ true → s ≡ Left
 left_is Asks e = absurd (cc)
-left_is (Launches l) e = absurd (cc)
-left_is (Sends l n a) e = absurd (cc)
+left_is (Launches l t) e = absurd (cc)
+left_is (Sends l n t) e = absurd (cc)
 left_is (Cancels l n) e = absurd (cc)
 left_is (Gathers l n t x y) e = absurd (cc)
 left_is (Commits a b fs) e = absurd (cc)

@@ -53,51 +53,51 @@ use Rattle.history_laws.proofs.Granting.{granted_files}
 
 -- ---- the order of a lane that owes a Wrote for a request
 
-record IsSend (l : ℕ) (n : ℤ) (a : ℕ) (x : Reply) : Type 0 where
-  branch : Branch
-  number : ℕ
-  is : x ≡ reply.Send l n a branch number
+record IsSend (l : ℕ) (n : ℤ) (t : Attempt) (x : Reply) : Type 0 where
+  is : x ≡ reply.Send l n t.action t.branch t.number
 
-send_by : (l k : ℕ) (n m : ℤ) (a d : ℕ) (b : Branch) (t : ℕ) → Sends k m d ≡ Sends l n a
-    → IsSend l n a (reply.Send k m d b t)
-send_by l k n m a d b t h =
-    let line : k ≡ l = cc in let number : m ≡ n = cc in let action : d ≡ a = cc in
-    record { branch = b; number = t; is = (λ i. reply.Send (line i) (number i) (action i) b t) }
+send_by : (l k : ℕ) (n m : ℤ) (t : Attempt) (a : ℕ) (b : Branch) (u : ℕ)
+    → Sends k m (attempt_of a b u) ≡ Sends l n t → IsSend l n t (reply.Send k m a b u)
+send_by l k n m t a b u h =
+    let line : k ≡ l = cc in let number : m ≡ n = cc in let same : attempt_of a b u ≡ t = cc in
+    record {
+      is = λ i. reply.Send (line i) (number i) (same i).action (same i).branch (same i).number;
+    }
 
-order_sends : (l : ℕ) (n : ℤ) (a : ℕ) (x : Reply) → ordered x ≡ Sends l n a → IsSend l n a x
-order_sends l n a (reply.Send k m d b t) h = send_by l k n m a d b t h
-order_sends l n a _ h = absurd (cc)
+order_sends : (l : ℕ) (n : ℤ) (t : Attempt) (x : Reply) → ordered x ≡ Sends l n t → IsSend l n t x
+order_sends l n t (reply.Send k m a b u) h = send_by l k n m t a b u h
+order_sends l n t _ h = absurd (cc)
 
-files_send : (l : ℕ) (n : ℤ) (a c : ℕ) (b : Branch) (fs : List (List ℕ)) (x : Reply)
-    → duty_of_claim c b (found.Files fs) x ≡ Sends l n a → IsSend l n a x
-files_send l n a c b fs (reply.Send k m d e t) h = send_by l k n m a d e t h
-files_send l n a c b fs _ h = absurd (cc)
+files_send : (l : ℕ) (n : ℤ) (t : Attempt) (c : ℕ) (b : Branch) (fs : List (List ℕ)) (x : Reply)
+    → duty_of_claim c b (found.Files fs) x ≡ Sends l n t → IsSend l n t x
+files_send l n t c b fs (reply.Send k m a e u) h = send_by l k n m t a e u h
+files_send l n t c b fs _ h = absurd (cc)
 
-work_sends : (l : ℕ) (n : ℤ) (a : ℕ) (c : Call) (x : Reply) → duty_of_work c x ≡ Sends l n a
-    → IsSend l n a x
-work_sends l n a (call.Claim c b t (found.Files fs)) x h = files_send l n a c b fs x h
-work_sends l n a (call.Claim c b t (found.Exit k)) x h = order_sends l n a x h
-work_sends l n a (call.Claim c b t (found.Missing k)) x h = order_sends l n a x h
-work_sends l n a (call.Claim c b t found.RoomFault) x h = order_sends l n a x h
-work_sends l n a (call.Claim c b t found.Refused) x h = order_sends l n a x h
-work_sends l n a _ x h = order_sends l n a x h
+work_sends : (l : ℕ) (n : ℤ) (t : Attempt) (c : Call) (x : Reply) → duty_of_work c x ≡ Sends l n t
+    → IsSend l n t x
+work_sends l n t (call.Claim c b u (found.Files fs)) x h = files_send l n t c b fs x h
+work_sends l n t (call.Claim c b u (found.Exit k)) x h = order_sends l n t x h
+work_sends l n t (call.Claim c b u (found.Missing k)) x h = order_sends l n t x h
+work_sends l n t (call.Claim c b u found.RoomFault) x h = order_sends l n t x h
+work_sends l n t (call.Claim c b u found.Refused) x h = order_sends l n t x h
+work_sends l n t _ x h = order_sends l n t x h
 
-record OwesWrote (j : List Entry) (lane l : ℕ) (n : ℤ) (a : ℕ) : Type 0 where
+record OwesWrote (j : List Entry) (lane l : ℕ) (n : ℤ) (t : Attempt) : Type 0 where
   order : Entry
   newest : last_work j lane ≡ Some order
-  sends : IsSend l n a order.reply
+  sends : IsSend l n t order.reply
 
-newest_sends : (j : List Entry) (lane l : ℕ) (n : ℤ) (a : ℕ) (o : Option Entry)
-    → last_work j lane ≡ o → owed_by o ≡ Sends l n a → OwesWrote j lane l n a
-newest_sends j lane l n a None is h = absurd (cc)
-newest_sends j lane l n a (Some e) is h =
-    record { order = e; newest = is; sends = work_sends l n a e.call e.reply h }
+newest_sends : (j : List Entry) (lane l : ℕ) (n : ℤ) (t : Attempt) (o : Option Entry)
+    → last_work j lane ≡ o → owed_by o ≡ Sends l n t → OwesWrote j lane l n t
+newest_sends j lane l n t None is h = absurd (cc)
+newest_sends j lane l n t (Some e) is h =
+    record { order = e; newest = is; sends = work_sends l n t e.call e.reply h }
 
-owes_wrote : (h : History) (lane l : ℕ) (n : ℤ) (a : ℕ) → duty_of (calls_by lane h) ≡ Sends l n a
-    → OwesWrote (journal_of h) lane l n a
-owes_wrote h lane l n a is =
+owes_wrote : (h : History) (lane l : ℕ) (n : ℤ) (t : Attempt)
+    → duty_of (calls_by lane h) ≡ Sends l n t → OwesWrote (journal_of h) lane l n t
+owes_wrote h lane l n t is =
     let d = duty_is h lane in
-    newest_sends (journal_of h) lane l n a (last_work (journal_of h) lane) refl
+    newest_sends (journal_of h) lane l n t (last_work (journal_of h) lane) refl
     (sym (d.owed (ap has_left is)) ∙ is)
 
 -- a lane that has made a work is one of the plan
@@ -286,21 +286,21 @@ made_look p j lane c o legal made =
     ∙ ap (λ (f : Option (List ℕ)). says_file (r.file_reply f)) at
 
 -- the made inputs of a request that was ordered are there
-pub inputs_are_there : (q : Discipline) → IsDiscipline q → (h : History) (w l : ℕ) (n : ℤ) (a c o : ℕ) → CameAbout q h
-    → duty_of (calls_by (proxy_lane w) h) ≡ Sends l n a
-    → is_maker (makers_in q.plan a) c o ≡ true
+pub inputs_are_there : (q : Discipline) → IsDiscipline q
+    → (h : History) (w l : ℕ) (n : ℤ) (t : Attempt) (c o : ℕ) → CameAbout q h
+    → duty_of (calls_by (proxy_lane w) h) ≡ Sends l n t
+    → is_maker (makers_in q.plan t.action) c o ≡ true
     → says_file (answer_after q h (proxy_lane w) (call.Look (wanted.Made c o))) ≡ true
-inputs_are_there q is h w l n a c o came owes maker =
+inputs_are_there q is h w l n t c o came owes maker =
     let p = q.plan in
     let j = journal_of h in
     let good = lawful q is j came.legal in
     let lane = proxy_lane w in
-    let order = owes_wrote h lane l n a owes in
+    let order = owes_wrote h lane l n t owes in
     let inside = worker_within q j lane order.order came.legal order.newest in
     let may = duty_is_scripted q.seats q.kinds p h w (call.Look (wanted.Made c o)) (omega (arith, inside))
     (ap (λ (s : Duty). may_do (terms_for p q.seats q.kinds) w s
     (call.Look (wanted.Made c o))) owes ∙ maker) in
-    let t = attempt_of a order.sends.branch order.sends.number in
     let fits : owed.is_send t order.order ≡ true =
     ap (λ (x : Reply). owed.is_send t (record { lane = 0; call = call.Ask; reply = x }))
     order.sends.is ∙ same_attempt_refl t in
@@ -310,4 +310,4 @@ inputs_are_there q is h w l n a c o came owes maker =
     (option_map (λ x. x.makers) q) []) c o) (sym has.place) ∙ maker in
     ap says_file (answer_is q h lane (call.Look (wanted.Made c o)) (seated_so q j lane (call.Look (wanted.Made c o)) may) ∙ is.plain j lane (call.Look (wanted.Made c o)) refl)
     ∙ made_look p j lane c o good
-    (input_made p j a c o has.action came.sound has.place has.inputs among)
+    (input_made p j t.action c o has.action came.sound has.place has.inputs among)

@@ -17,5 +17,7 @@ pub mod Granting
 pub mod Inputs
 pub mod Counting
 pub mod Growing
+pub mod Seating
+pub mod OwnSeats
 pub mod OwnDiscipline
 pub mod OfRules

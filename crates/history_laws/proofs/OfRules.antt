@@ -2,6 +2,8 @@
 use Rattle.std.proofs.Common.{◌∙◌, ◌*◌, arith}
 use Rattle.std.specs.Prelude.{◌≡◌, ℕ, ℤ, ◌/◌, ◌+◌, ◌<◌, ◌≤◌, true, false, List, [], ◌∷◌, ◌++◌, length, Some, None}
 use Rattle.run_plan.specs.declared.plan.Branch.{Branch}
+use Rattle.run_plan.specs.Groups.{is_remote}
+use Rattle.exec_journal.specs.declared.attempt.Attempt.{Attempt}
 use Rattle.exec_journal.specs.declared.call.Call.{Call}
 use Rattle.exec_journal.specs.declared.call.Call.TheVariants as call
 use Rattle.exec_journal.specs.declared.call.CommitEnd.{CommitEnd}
@@ -12,7 +14,7 @@ use Rattle.exec_journal.specs.declared.reply.Reply.TheVariants as reply
 use Rattle.exec_journal.specs.Entries.{is_kept}
 use Rattle.seat_desk.specs.History.{entry, calls_by}
 use Rattle.core_contract.specs.Duties.{Sends, Commits, Left, proxy_lane, duty_of, is_maker, may_do, may_make}
-use Rattle.core_contract.specs.Laws.{InScript, Fits, tap_lane, hearing_of, may_hear, Hears, Over, tells_of, claimed, says_file, lines_in, is_taken, OrderHolds}
+use Rattle.core_contract.specs.Laws.{InScript, Fits, tap_lane, hearing_of, may_hear, Hears, Over, tells_of, claimed, says_file, lines_in, is_taken, OrderFits, OrderHolds}
 use Rattle.core_contract.specs.Moves.{Past, History}
 use Rattle.core_contract.specs.Shelf.{child_at, tap_at, place_at, Fresh, Away}
 use Rattle.history_laws.specs.Owed.{journal_of, makers_in}
@@ -127,6 +129,10 @@ module _ (q : Discipline) (is : IsDiscipline q) where
       (answer_after q h lane call.Ask)
   orders_hold h lane came = ordering.orders_hold q is h lane came
 
+  pub orders_fit : (h : History) (lane : ℕ) → CameAbout q h
+      → OrderFits q.plan (is_remote (q.kinds (lane / 2))) (answer_after q h lane call.Ask)
+  orders_fit h lane came = ordering.orders_fit q is h lane came
+
   pub lines_fit : (h : History) → CameAbout q h
       → lines_in h ≤ 2 * length q.plan.actions * q.plan.limit
   lines_fit h came =
@@ -134,10 +140,12 @@ module _ (q : Discipline) (is : IsDiscipline q) where
       let few = few_lines q.plan (journal_of h) came.sound (lawful q is (journal_of h) came.legal) in
       omega (arith, same, few)
 
-  pub inputs_are_there : (h : History) (w l : ℕ) (n : ℤ) (a c o : ℕ) → CameAbout q h
-      → duty_of (calls_by (proxy_lane w) h) ≡ Sends l n a → is_maker (makers_in q.plan a) c o ≡ true
+  pub inputs_are_there : (h : History) (w l : ℕ) (n : ℤ) (t : Attempt) (c o : ℕ) → CameAbout q h
+      → duty_of (calls_by (proxy_lane w) h) ≡ Sends l n t
+      → is_maker (makers_in q.plan t.action) c o ≡ true
       → says_file (answer_after q h (proxy_lane w) (call.Look (wanted.Made c o))) ≡ true
-  inputs_are_there h w l n a c o came owes maker = inputs.inputs_are_there q is h w l n a c o came owes maker
+  inputs_are_there h w l n t c o came owes maker =
+      inputs.inputs_are_there q is h w l n t c o came owes maker
 
   pub lines_find_room : (h : History) (lane l : ℕ) → CameAbout q h
       → InScript (answer_after q) h lane (call.Launched l start.Done)

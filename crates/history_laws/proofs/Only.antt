@@ -109,7 +109,7 @@ module _ (p : Plan) (seats : ℕ) (kinds : ℕ → Kind) (w : ℕ) where
 
   module _ (n : ℕ) (x : Call) where
     launch_only : (l a : ℕ) (b : Branch) (t : ℕ) (c : Call) → May n x (reply.Launch l a b t) c
-        → Make (Launches l) c
+        → Make (Launches l (attempt_of a b t)) c
     launch_only l a b t (call.Launched m how) h = h
     launch_only l a b t call.Halt h = refl
     launch_only l a b t (call.Committed c d how) h = absurd (
@@ -120,7 +120,7 @@ module _ (p : Plan) (seats : ℕ) (kinds : ℕ → Kind) (w : ℕ) where
     launch_only l a b t _ h = absurd (cc)
 
     send_only : (l : ℕ) (o : ℤ) (a : ℕ) (b : Branch) (t : ℕ) (c : Call)
-        → May n x (reply.Send l o a b t) c → Make (Sends l o a) c
+        → May n x (reply.Send l o a b t) c → Make (Sends l o (attempt_of a b t)) c
     send_only l o a b t (call.Wrote m q how) h = h
     send_only l o a b t (call.Look (wanted.Made c e)) h =
         (λ i. makes_so (slice_get p.actions a) (λ m. is_made m c e) i || false) ∙ h

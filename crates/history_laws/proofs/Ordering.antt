@@ -3,6 +3,7 @@ use Rattle.std.proofs.Common.{◌∷◌, ◌≡◌, ℕ, ◌/◌, ◌%◌, ◌==
 use Rattle.std.proofs.lemmas.Bool.{and_parts}
 use Rattle.run_plan.specs.declared.plan.Plan.{Plan}
 use Rattle.run_plan.specs.declared.plan.Kind.TheVariants as kind
+use Rattle.run_plan.specs.Groups.{is_remote}
 use Rattle.exec_journal.specs.declared.call.Call.{Call}
 use Rattle.exec_journal.specs.declared.call.Call.TheVariants as call
 use Rattle.exec_journal.specs.declared.call.Started.TheVariants as start
@@ -27,7 +28,7 @@ use Rattle.journal_laws.proofs.Given as given
 use Rattle.journal_laws.proofs.Lanes as lanes
 use Rattle.call_laws.proofs.Calls as calls
 use Rattle.call_laws.proofs.LastLines as last
-use Rattle.core_contract.specs.Laws.{OrderHolds, InScript, lines_in, is_taken}
+use Rattle.core_contract.specs.Laws.{OrderFits, OrderHolds, InScript, lines_in, is_taken}
 use Rattle.core_contract.specs.Moves.{History}
 use Rattle.core_contract.specs.Shelf.{child_at, tap_at}
 use Rattle.history_laws.specs.Owed.{journal_of}
@@ -137,6 +138,17 @@ orders_hold q is h lane came =
     (order_holds q.plan (journal_of h) lane (lawful q is (journal_of h) came.legal) (anywhere q (journal_of h) lane call.Ask may)
     (q.rule (journal_of h) lane call.Ask) (is.told (journal_of h) lane call.Ask came.legal may))))
     (λ _ _. tt) refl
+
+-- and it is of an attempt whose group is an executor's exactly where the berth is
+pub orders_fit : (q : Discipline) → IsDiscipline q → (h : History) (lane : ℕ) → CameAbout q h
+    → OrderFits q.plan (is_remote (q.kinds (lane / 2))) (answer_after q h lane call.Ask)
+orders_fit q is h lane came =
+    let j = journal_of h in
+    let remote = is_remote (q.kinds (lane / 2)) in
+    by_bool (script_of q j lane call.Ask)
+    (λ b. script_of q j lane call.Ask ≡ b
+    → OrderFits q.plan remote (cond b (q.rule j lane call.Ask) reply.Astray))
+    (λ _ may. is.seated j lane came.sound came.legal may) (λ _ _. tt) refl
 
 -- nothing lies on the shelf for the berth where a line is put there
 pub lines_find_room : (q : Discipline) → IsDiscipline q → (h : History) (lane l : ℕ) → CameAbout q h

@@ -5,12 +5,13 @@ use Rattle.exec_journal.specs.declared.call.Call.{Call}
 use Rattle.exec_journal.specs.declared.call.Call.TheVariants as call
 use Rattle.exec_journal.specs.Entry.{Entry}
 use Rattle.exec_journal.specs.declared.reply.Reply.{Reply}
-use Rattle.exec_journal.specs.declared.reply.Reply.TheVariants as reply
 use Rattle.exec_journal.specs.Legal.{Legal}
 use Rattle.exec_journal.specs.Lawful.{plain_reply}
 use Rattle.exec_journal.specs.Rules.{rule}
 use Rattle.exec_journal.proofs.Ruled as ru
 use Rattle.journal_laws.proofs.Ours as ours
+use Rattle.history_laws.proofs.Fitting.{noted_fits}
+use Rattle.history_laws.proofs.OwnSeats.{own_orders_fit}
 use Rattle.core_contract.specs.Laws.{fits}
 use Rattle.core_contract.specs.Disciplines.{IsDiscipline, LegalBy, is_plain, own_discipline}
 
@@ -21,16 +22,6 @@ own_legal p (e ∷ j) legal = (own_legal p j legal.0, record { scripted = legal.
 pub legal_own : (p : Plan) (j : List Entry) → Legal p j → LegalBy (own_discipline p) j
 legal_own p [] legal = tt
 legal_own p (e ∷ j) legal = (legal_own p j legal.0, record { scripted = legal.1.scripted; replied = legal.1.replied; kept = legal.1.kept })
-
-noted_fits : (c : Call) → ru.is_noted c ≡ true → fits c reply.Noted ≡ true
-noted_fits (call.Launched l how) h = refl
-noted_fits (call.Wrote l n how) h = refl
-noted_fits (call.Committed a b how) h = refl
-noted_fits (call.Killed l) h = refl
-noted_fits (call.Ended l how) h = refl
-noted_fits call.Halt h = refl
-noted_fits call.Tick h = refl
-noted_fits _ h = absurd (cc)
 
 ruled_fits : (p : Plan) (j : List Entry) (lane : ℕ) (c : Call) (x : Reply)
     → ru.Ruled p j lane c x → fits c x ≡ true
@@ -59,4 +50,5 @@ own_is_discipline p = record {
   told = λ j lane d legal may. (let both = ours.both_ours p j (own_legal p j legal) in ours.told_ours p j both.0 both.1 lane d may);
   plain = λ j lane d h. plain_is p j lane d h;
   fitting = λ j lane d. rule_fits p j lane d;
+  seated = λ j lane sound legal may. own_orders_fit p j lane (own_legal p j legal) may;
 }

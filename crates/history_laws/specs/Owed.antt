@@ -20,8 +20,8 @@ journal_of h = fold (λ j e. e ∷ j) [] h
 abbrev pub has_left : Duty → Bool
 has_left Left = true
 has_left Asks = false
-has_left (Launches l) = false
-has_left (Sends l n a) = false
+has_left (Launches l t) = false
+has_left (Sends l n t) = false
 has_left (Cancels l n) = false
 has_left (Gathers l n t exit refused) = false
 has_left (Commits a b fs) = false
@@ -52,6 +52,7 @@ makers_in p a = unwrap_or (option_map (λ x. x.makers) (slice_get p.actions a)) 
 -- what lanes and the bench go by, on this many berths of these kinds
 abbrev pub terms_for : Plan → ℕ → (ℕ → Kind) → Terms
 terms_for p seats kinds = record {
+  plan = p;
   berths = seats;
   remote = λ w. is_remote (kinds w);
   -- one line for each attempt of either branch of each action

@@ -12,7 +12,9 @@ ghost use Rattle.exec_journal.specs.declared.reply.Reply.{Reply};
 ghost use Rattle.exec_journal.specs.declared.reply.Reply.TheVariants as reply;
 ghost use Rattle.exec_journal.specs.Entries.{is_kept};
 ghost use Rattle.run_plan.specs.declared.plan.Branch.{Branch};
-ghost use Rattle.core_contract.specs.Laws.{InScript, Fits, tap_lane, hearing_of, may_hear, Hears, Over, tells_of, OrderHolds, claimed, lines_in, is_taken, says_file};
+ghost use Rattle.run_plan.specs.Groups.{is_remote};
+ghost use Rattle.exec_journal.specs.declared.attempt.Attempt.{Attempt};
+ghost use Rattle.core_contract.specs.Laws.{InScript, Fits, tap_lane, hearing_of, may_hear, Hears, Over, tells_of, OrderFits, OrderHolds, claimed, lines_in, is_taken, says_file};
 ghost use Rattle.core_contract.specs.Shelf.{child_at, tap_at, place_at, Fresh, Away};
 ghost use Rattle.core_contract.specs.Duties.{proxy_lane, duty_of, is_maker, may_do, may_make, Sends, Commits, Left};
 ghost use Rattle.history_laws.specs.Owed.{DutyIs, journal_of, makers_in};
@@ -118,6 +120,14 @@ pub fn orders_hold()
         (answer_after q h lane call.Ask) }
 {}
 
+/// An order is of an attempt that a group of the plan runs, which is an executor's exactly where
+/// the lane's berth is.
+pub fn orders_fit()
+    ensures { (q : Discipline) → IsDiscipline q
+        → (h : List (Entry Call Reply)) (lane : ℕ) → CameAbout q h
+        → OrderFits q.plan (is_remote (q.kinds (lane / 2))) (answer_after q h lane call.Ask) }
+{}
+
 /// Nothing lies on the shelf for the berth where a line is put there.
 pub fn lines_find_room()
     ensures { (q : Discipline) → IsDiscipline q
@@ -154,9 +164,9 @@ pub fn files_are_granted_once()
 /// The made inputs of a request that was ordered are there when its lane looks at them.
 pub fn inputs_are_there()
     ensures { (q : Discipline) → IsDiscipline q
-        → (h : List (Entry Call Reply)) (w l : ℕ) (n : ℤ) (a c o : ℕ)
-        → CameAbout q h → duty_of (calls_by (proxy_lane w) h) ≡ Sends l n a
-        → is_maker (makers_in q.plan a) c o ≡ true
+        → (h : List (Entry Call Reply)) (w l : ℕ) (n : ℤ) (t : Attempt) (c o : ℕ)
+        → CameAbout q h → duty_of (calls_by (proxy_lane w) h) ≡ Sends l n t
+        → is_maker (makers_in q.plan t.action) c o ≡ true
         → says_file (answer_after q h (proxy_lane w) (call.Look (wanted.Made c o))) ≡ true }
 {}
 

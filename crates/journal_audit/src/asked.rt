@@ -2,13 +2,13 @@
 use exec_journal::{Call, Plan, Reply};
 use journal_replay::Replayed;
 use plain_values::NoMemory;
-use spawn_core::Core;
+use spawn_core::{Core, EarliestFirst};
 use std::alloc::Global;
 
 /// The core of a run whose journal is read.
 #[derive(Drop)]
 pub(crate) struct Asked {
-    core: Core,
+    core: Core<EarliestFirst>,
 }
 
 impl Replayed for Asked {

@@ -33,7 +33,7 @@ pub fn audit(alloc: Global, bytes: &[u8]) -> Result<Verdict, NoMemory>
 }
 
 /// Reads a text to its end, or until it is too long, and puts a line that says what it comes to. The status is 0 where it is
-/// legal, 1 where it isn't, 4 where it is no journal of a sound plan, 3 where memory was wanted, 5 where the tap failed and
+/// legal, 1 where it isn't, 4 where it is no journal of a sound plan, 3 where memory ran out, 5 where the tap failed and
 /// 6 where the sink did.
 pub fn check_stream<T: Tap, O: Sink>(alloc: Global, input: &mut T, out: &mut O) -> u8
     ensures streamed { Streamed Legal (T.told input.old) (T.told input.new)

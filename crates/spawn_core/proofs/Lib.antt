@@ -2,6 +2,7 @@ pub mod New
 pub mod Stepped
 pub mod Newest
 pub mod Looked
+pub mod Served
 pub mod Turned
 pub mod Promised
 pub mod Outlooks

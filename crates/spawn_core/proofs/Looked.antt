@@ -8,7 +8,6 @@ use Rattle.std.proofs.lemmas.Option.{slice_get_cases, slice_get_within}
 use Rattle.run_plan.specs.declared.plan.Kind.{Kind}
 use Rattle.run_plan.specs.declared.plan.Maker.{Maker}
 use Rattle.run_plan.specs.declared.plan.Plan.{Plan}
-use Rattle.run_plan.specs.Groups.{berths}
 use Rattle.run_plan.specs.declared.plan.PlanAction.{PlanAction}
 use Rattle.run_plan.specs.Sound.{Sound, has_branches, is_earlier}
 use Rattle.exec_journal.specs.declared.attempt.Attempt.{Attempt}
@@ -20,20 +19,21 @@ use Rattle.exec_journal.specs.Entry.{Entry}
 use Rattle.exec_journal.specs.declared.reply.Reply.{Reply}
 use Rattle.exec_journal.specs.declared.reply.Reply.TheVariants as reply
 use Rattle.exec_journal.specs.Rules as r
-use Rattle.exec_journal.specs.Scripts.{is_made, makes, outputs_of, script}
+use Rattle.exec_journal.specs.Scripts.{is_made, makes, outputs_of}
 use Rattle.exec_journal.specs.Entries.{gather_in, gather_of_entry, is_kept}
 use Rattle.exec_journal.specs.Words.{grant_of, has_halted, last_work, match_of, stopped}
 use Rattle.exec_journal.specs.Rules.{gathered}
 use Rattle.exec_journal.proofs.Ruled.{by_bool}
-use Rattle.journal_laws.proofs.Ours.{lawful}
+use Rattle.core_contract.specs.Disciplines.{Discipline, IsDiscipline, script_of}
+use Rattle.history_laws.proofs.Fitting.{lawful}
 use Rattle.core_tables.specs.declared.lanes.LaneState.{LaneState}
-use Rattle.core_tables.specs.declared.lanes.Order.{Order}
-use Rattle.core_tables.specs.declared.lanes.Order.TheVariants as order
+use Rattle.core_tables.specs.declared.lanes.Owed.{Owed}
+use Rattle.core_tables.specs.declared.lanes.Owed.TheVariants as order
 use Rattle.core_tables.specs.Lanes.{lane_in, may_look_by, may_some, order_after, order_of_work, state_by}
 use Rattle.core_state.specs.declared.state.State.{State}
 use Rattle.core_state.specs.Machine.{order_at, order_on}
 use Rattle.core_laws.proofs.Rowed.{lane_inside}
-use Rattle.earliest_first.proofs.AtBerths.{lane_within}
+use Rattle.spawn_core.specs.Allowed.{lane_within}
 use Rattle.core_tables.specs.Stands as files
 use Rattle.ready_order.proofs.AllSettled.{sound_at}
 use Rattle.core_tables.specs.declared.files.Slot.{Slot}
@@ -41,7 +41,7 @@ use Rattle.core_tables.specs.declared.files.Slot.TheVariants.{Absent, Here, Shor
 use Rattle.core_tables.specs.Slots as slots
 use Rattle.core_tables.specs.Slots.{Filled, Tells, Told, outputs_at, outputs_on, rows_of, slot_at, slot_in}
 use Rattle.core_tables.specs.Stands.{RowsStand, answer_file}
-use Rattle.spawn_core.specs.Answers.{Replies, answer, is_file}
+use Rattle.spawn_core.specs.Answers.{Replies, answer_by, is_file}
 use Rattle.spawn_core.specs.Looks.{ToldGather, ToldLook}
 use Rattle.spawn_core.specs.Stands.{TablesStand}
 use Rattle.spawn_core.proofs.Newest.{gathered_match, gathering_going, gathering_ordered, newest_of}
@@ -122,7 +122,7 @@ made_output p b a o (Some x) sound at h =
 
 -- ---- the whole Look
 
-abbrev gathered_by : Order → Option Attempt
+abbrev gathered_by : Owed → Option Attempt
 gathered_by (order.Gather l n t e v) = Some t
 gathered_by _ = None
 
@@ -184,15 +184,18 @@ may_look q kind even (Some x) w h =
     or_false false = refl
 may_look q kind even None w h = absurd (cc)
 
-module _ (p : Plan) (s : State) (f : slots.Facts) (j : List Entry) (lane : ℕ) (kind : Kind)
-    (st : TablesStand p s f j) where
-  order_is : (w : Wanted) → script p j lane (call.Look w) ≡ true
+module _ (q : Discipline) (is : IsDiscipline q) (own : List Entry → Type 0) (s : State)
+    (f : slots.Facts) (j : List Entry) (lane : ℕ) (kind : Kind) (st : TablesStand q own s f j) where
+  abbrev p : Plan
+  p = q.plan
+
+  order_is : (w : Wanted) → script_of q j lane (call.Look w) ≡ true
       → order_at s lane ≡ order_of_work (last_work j lane)
   unfolding lane_in
   order_is w may =
       ap order_on (st.tables.lanes lane ∙ ap (λ b. cond b
       (Some (state_by (last_work j lane) (stopped j lane) (has_halted j lane))) None)
-      (lane_inside (berths p) lane (lane_within p j lane (call.Look w) may)))
+      (lane_inside q.seats lane (lane_within q j lane (call.Look w) may)))
 
   made_look : (b a o : ℕ) (y : Reply) → makes p b a o ≡ true → Told (slot_at f.made a o) y
       → Replies (r.look_reply p j lane (look.Made a o)) y
@@ -207,9 +210,9 @@ module _ (p : Plan) (s : State) (f : slots.Facts) (j : List Entry) (lane : ℕ) 
     is_newest = by (match_of j t) refl
       where
         by : (m : Option Answer) → match_of j t ≡ m → m ≡ files.newest_match j t.action t.branch
-        by (Some x) at = sym (newest_of p j t x (lawful p j st.legal)
-            (gathering_going p j lane t (lawful p j st.legal) ordered) at)
-        by None at = absurd (let some = gathered_match p j t (lawful p j st.legal)
+        by (Some x) at = sym (newest_of p j t x (lawful q is j st.legal)
+            (gathering_going p j lane t (lawful q is j st.legal) ordered) at)
+        by None at = absurd (let some = gathered_match p j t (lawful q is j st.legal)
             (gathering_ordered p j lane t ordered) in let no = ap is_some at in cc)
 
     gather_look : (l o : ℕ) (n : ℤ) (y : Reply) → o < outputs_of p t.action
@@ -217,14 +220,14 @@ module _ (p : Plan) (s : State) (f : slots.Facts) (j : List Entry) (lane : ℕ) 
         → Replies (r.look_reply p j lane (look.Answered l n o)) y
     gather_look l o n y lt told =
         let out = gather_output p t.action o lt in
-        subst (λ (q : Option (List ℕ)). Replies (r.file_reply q) y)
-        (sym (ap (λ q. r.answered_file p j q o) ordered ∙ answered_same p t.action o (match_of j t)
+        subst (λ (o : Option (List ℕ)). Replies (r.file_reply o) y)
+        (sym (ap (λ z. r.answered_file p j z o) ordered ∙ answered_same p t.action o (match_of j t)
         ∙ ap (λ m. answer_file p t.action m o) is_newest))
         (slot_there p (rows_of t.branch f) (λ i k. answer_file p i
         (files.newest_match j i t.branch) k) t.action o y (st.kept.answered t.branch) out.within
         out.below told)
 
-  answered_look : (o : Order) (l k : ℕ) (n : ℤ) (y : Reply)
+  answered_look : (o : Owed) (l k : ℕ) (n : ℤ) (y : Reply)
       → gathered_by o ≡ gather_of_entry (last_work j lane)
       → may_look_by p (look.Answered l n k) o ≡ true → ToldGather f o k y
       → Replies (r.look_reply p j lane (look.Answered l n k)) y
@@ -235,12 +238,12 @@ module _ (p : Plan) (s : State) (f : slots.Facts) (j : List Entry) (lane : ℕ) 
       gather_look t (sym is) l k n y (ltb-true k (outputs_of p t.action) last.1) told
   answered_look _ l k n y is may told = absurd (cc)
 
-  sent_look : (o : Order) (a k : ℕ) (y : Reply) → may_look_by p (look.Made a k) o ≡ true
+  sent_look : (o : Owed) (a k : ℕ) (y : Reply) → may_look_by p (look.Made a k) o ≡ true
       → Told (slot_at f.made a k) y → Replies (r.look_reply p j lane (look.Made a k)) y
   sent_look (order.Send l n t) a k y may told = made_look t.action a k y may told
   sent_look _ a k y may told = absurd (cc)
 
-  look_is : (w : Wanted) (y : Reply) → script p j lane (call.Look w) ≡ true
+  look_is : (w : Wanted) (y : Reply) → script_of q j lane (call.Look w) ≡ true
       → may_look_by p w (order_at s lane) ≡ true → ToldLook s f lane w y
       → Replies (r.look_reply p j lane w) y
   look_is (look.Made a k) y may ordered told = sent_look (order_at s lane) a k y ordered told
@@ -248,13 +251,13 @@ module _ (p : Plan) (s : State) (f : slots.Facts) (j : List Entry) (lane : ℕ) 
       answered_look (order_at s lane) l k n y (ap gathered_by (order_is (look.Answered l n k) may)
       ∙ work_gathers (last_work j lane)) ordered told
 
-  pub look_told : (w : Wanted) (y : Reply) → script p j lane (call.Look w) ≡ true
+  pub look_told : (w : Wanted) (y : Reply) → script_of q j lane (call.Look w) ≡ true
       → may_some p kind (lane % 2 == 0) (slice_get s.lanes lane) (call.Look w) ≡ true
-      → ToldLook s f lane w y → Replies (answer p j lane (call.Look w)) y
+      → ToldLook s f lane w y → Replies (answer_by q j lane (call.Look w)) y
   look_told w y may allowed told =
-      subst (λ (b : Bool). Replies (cond b (r.look_reply p j lane w) reply.Astray) y) (sym may)
-      (look_is w y may (may_look p kind (lane % 2 == 0) (slice_get s.lanes lane) w allowed)
-      told)
+      subst (λ (b : Bool). Replies (cond b (q.rule j lane (call.Look w)) reply.Astray) y) (sym may)
+      (subst (λ (z : Reply). Replies z y) (sym (is.plain j lane (call.Look w) refl)) (look_is w y may (may_look p kind (lane % 2 == 0) (slice_get s.lanes lane) w allowed)
+      told))
 
 -- the reply to a Look isn't kept
 told_unkept : (o : Option Slot) (y : Reply) → Told o y → is_kept y ≡ false
@@ -264,7 +267,7 @@ told_unkept (Some Short) y h = ap is_kept h
 told_unkept (Some Absent) y h = ap is_kept h
 told_unkept None y h = ap is_kept h
 
-gather_unkept : (f : slots.Facts) (o : Order) (k : ℕ) (y : Reply) → ToldGather f o k y
+gather_unkept : (f : slots.Facts) (o : Owed) (k : ℕ) (y : Reply) → ToldGather f o k y
     → is_kept y ≡ false
 gather_unkept f (order.Gather l n t e v) k y h = told_unkept
     (slot_at (rows_of t.branch f) t.action k) y h

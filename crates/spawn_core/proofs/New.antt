@@ -1,8 +1,7 @@
 -- A new core stands for the empty journal.
-use Rattle.std.proofs.Common.{◌≡◌, ℕ, ◌*◌, nat_lt, false, cond, [], Some, None, ap, sym, subst, ◌∙◌, arith}
+use Rattle.std.proofs.Common.{◌≡◌, ℕ, ◌*◌, ◌^◌, ◌<◌, nat_lt, List, false, cond, [], Some, None, ap, sym, subst, ◌∙◌}
 use Rattle.std.specs.Prelude.{slice_get, replicate}
 use Rattle.run_plan.specs.declared.plan.Plan.{Plan}
-use Rattle.run_plan.specs.Groups.{berths}
 use Rattle.run_plan.specs.Sound.{Sound}
 use Rattle.exec_journal.specs.Words.{halted, last_work, stopped, has_halted, last_line}
 use Rattle.journal_laws.proofs.Debts.{owes_first}
@@ -22,25 +21,30 @@ use Rattle.call_laws.specs.Matches.{recent}
 use Rattle.core_laws.specs.Stands as tables
 use Rattle.core_tables.specs.Slots.{Facts, IsNewFiles}
 use Rattle.core_tables.proofs.Kept as kept
-use Rattle.spawn_core.specs.Stands.{Stands}
+use Rattle.core_tables.specs.Stands as files
+use Rattle.core_contract.specs.Disciplines.{Discipline}
+use Rattle.exec_journal.specs.Entry.{Entry}
+use Rattle.spawn_core.specs.Stands.{StandsIn}
 
-module _ (p : Plan) (s : State) (sound : Sound p) (plan : s.plan ≡ p) (m n : ℕ)
-    (m_is : m ≡ 2 * berths p) (n_is : n ≡ berths p)
+module _ {M : Type 0} (q : Discipline) (own : M → List Entry → Type 0) (policy : M) (s : State)
+    (p : Plan) (same : q.plan ≡ p) (begins : own policy []) (small : q.seats < 2 ^ 31)
+    (sound : Sound p) (plan : s.plan ≡ p) (m n : ℕ)
+    (m_is : m ≡ 2 * q.seats) (n_is : n ≡ q.seats)
     (pool : pools.Stands p n s.pool []) (requests : asks.Stands p s.requests [])
     (cancels : marks.Stands p s.cancels []) (ready : queues.Stands p s.ready [])
     (race : races.Stands p s.race []) (attempts : counts.Stands p s.attempts [])
     (lanes : s.lanes ≡ replicate m no_work) (last : s.last ≡ replicate n no_line)
     (greetings : s.greetings ≡ replicate n silent)
     (matches : s.matches ≡ replicate n no_matches) (unhalted : s.halted ≡ false) (f : Facts)
-    (files : IsNewFiles p.actions f) where
-  new_tables : tables.Stands p (berths p) s []
+    (new : IsNewFiles p.actions f) where
+  new_tables : tables.Stands p q.seats s []
   unfolding halted lane_in last_work stopped has_halted last_in last_line greeting_in matches_in recent
   new_tables = record {
     plan = plan;
     sound = sound;
     lawful = tt;
     seated = tt;
-    few = (let few = sound.seats in omega arith);
+    few = small;
     pool = subst (λ k. pools.Stands p k s.pool []) n_is pool;
     requests = requests;
     cancels = cancels;
@@ -59,9 +63,14 @@ module _ (p : Plan) (s : State) (sound : Sound p) (plan : s.plan ≡ p) (m n : �
   }
 
   -- each lane owes its Halt
-  pub new_stands : (owed : ℕ) → owed ≡ 2 * berths p
-      → Stands p (record { state = s; files = f; owed = owed }) []
+  pub new_stands : (owed : ℕ) → owed ≡ 2 * q.seats
+      → StandsIn q own (record { policy = policy; state = s; files = f; owed = owed }) []
   new_stands owed all = record {
-    both = record { tables = new_tables; legal = tt; kept = kept.new_stands p f files };
-    owed = all ∙ sym (owes_first (berths p));
+    both = record {
+      tables = subst (λ (x : Plan). tables.Stands x q.seats s []) (sym same) new_tables;
+      legal = tt;
+      kept = subst (λ (x : Plan). files.Stands x f []) (sym same) (kept.new_stands p f new);
+      own = begins;
+    };
+    owed = all ∙ sym (owes_first q.seats);
   }

@@ -1,9 +1,9 @@
 -- What the tables say of a lane before it calls is what the journal says.
-use Rattle.std.proofs.Common.{◌≡◌, ℕ, ◌*◌, ◌+◌, ◌/◌, ◌<◌, ◌≤◌, Bool, true, cond, List, length, Option, Some, None, refl, ap, sym, ◌∙◌, arith, lt-ltb}
+use Rattle.std.proofs.Common.{◌≡◌, ℕ, ◌*◌, ◌+◌, ◌/◌, ◌<◌, ◌≤◌, Bool, true, cond, List, length, Option, Some, None, refl, ap, sym, subst, ◌∙◌, arith, lt-ltb}
 use Rattle.std.proofs.Math.Nat.{mul-le-mul_right}
 use Rattle.std.specs.Prelude.{slice_get}
 use Rattle.run_plan.specs.declared.plan.Plan.{Plan}
-use Rattle.run_plan.specs.Groups.{berths}
+use Rattle.run_plan.specs.Sound.{Sound}
 use Rattle.exec_journal.specs.declared.call.Call.{Call}
 use Rattle.exec_journal.specs.declared.call.Call.TheVariants as call
 use Rattle.exec_journal.specs.declared.call.Found.TheVariants as found
@@ -13,20 +13,22 @@ use Rattle.exec_journal.specs.declared.reply.Reply.TheVariants as reply
 use Rattle.exec_journal.specs.Words.{last_work, stopped, has_halted}
 use Rattle.journal_laws.specs.Paid.{count, lane_owes, may_halt, owes_files, wins_files}
 use Rattle.core_tables.specs.declared.lanes.LaneState.{LaneState}
-use Rattle.core_tables.specs.declared.seat.Seat.{Seat}
-use Rattle.core_tables.specs.Seats.{seat_at}
+use Rattle.core_tables.specs.declared.berth_group.BerthGroup.{BerthGroup}
 use Rattle.core_tables.specs.Lanes.{allows_by, is_won, lane_in, said_after, said_of_work, state_by}
 use Rattle.core_tables.proofs.Lengths.{length_is}
 use Rattle.core_state.specs.declared.state.State.{State}
-use Rattle.earliest_first.specs.Choices.{ReadsOwn}
+use Rattle.core_state.specs.declared.choice.Choice.{Choice}
+use Rattle.core_state.specs.Choices.{Reads}
+use Rattle.core_contract.specs.Disciplines.{Discipline}
 use Rattle.core_laws.specs.Stands as tables
 use Rattle.core_laws.proofs.AllOf.{all_of}
-use Rattle.earliest_first.proofs.AtBerths.{lane_within}
-use Rattle.spawn_core.specs.Turning.{reads_own}
+use Rattle.core_laws.proofs.Read as read
+use Rattle.spawn_core.specs.Policies.{StandsBy}
+use Rattle.spawn_core.specs.Turning.{IsServed}
 use Rattle.core_contract.specs.News.{question}
-use Rattle.spawn_core.specs.Allowed.{allowed_is}
+use Rattle.spawn_core.specs.Allowed.{allowed_is, lane_within}
 use Rattle.spawn_core.specs.Outlook.{owes_by}
-use Rattle.spawn_core.specs.Stands.{HasHistory, HasJournal, Kept}
+use Rattle.spawn_core.specs.Stands.{HasHistory, HasJournal, KeptBy}
 
 -- ---- what a lane owes
 
@@ -43,69 +45,70 @@ won_work : (o : Option Entry) → is_won (said_of_work o) ≡ owes_files o
 won_work None = refl
 won_work (Some e) = won_by e.call e.reply
 
-pub owes_is : (p : Plan) (s : State) (j : List Entry) (lane : ℕ) (x : LaneState)
-    → tables.Stands p (berths p) s j → lane < 2 * berths p → slice_get s.lanes lane ≡ Some x
+pub owes_is : (seats : ℕ) (p : Plan) (s : State) (j : List Entry) (lane : ℕ) (x : LaneState)
+    → tables.Stands p seats s j → lane < 2 * seats → slice_get s.lanes lane ≡ Some x
     → owes_by x ≡ lane_owes j lane
 unfolding lane_in lane_owes
-owes_is p s j lane x st lt at =
+owes_is seats p s j lane x st lt at =
     let there : Some x ≡ Some (state_by (last_work j lane) (stopped j lane) (has_halted j lane)) =
     sym at ∙ (st.lanes lane ∙ ap (λ (b : Bool). cond b (Some (state_by (last_work j lane)
-    (stopped j lane) (has_halted j lane))) None) (lt-ltb lane (2 * berths p) lt)) in
+    (stopped j lane) (has_halted j lane))) None) (lt-ltb lane (2 * seats) lt)) in
     let same : x ≡ state_by (last_work j lane) (stopped j lane) (has_halted j lane) = cc in
     ap owes_by same
     ∙ ap (λ (b : Bool). count (may_halt j lane) + count b) (won_work (last_work j lane))
 
-pub lanes_are : (p : Plan) (s : State) (j : List Entry) → tables.Stands p (berths p) s j
-    → length s.lanes ≡ 2 * berths p
+lanes_are : (seats : ℕ) (p : Plan) (s : State) (j : List Entry) → tables.Stands p seats s j
+    → length s.lanes ≡ 2 * seats
 unfolding lane_in
-lanes_are p s j st = length_is s.lanes (2 * berths p)
+lanes_are seats p s j st = length_is s.lanes (2 * seats)
     (λ k. state_by (last_work j k) (stopped j k) (has_halted j k)) st.lanes
+
+-- ---- what a policy goes by on a state is what it stands by
+
+pub goes_by : {M B : Type 0} (rules : B → Discipline) (basis : M → Plan → B) (m : M) (s : State)
+    (j : List Entry) (b : B) → tables.Stands (rules b).plan (rules b).seats s j
+    → basis m (rules b).plan ≡ b → basis m s.plan ≡ b
+goes_by rules basis m s j b st is = ap (basis m) st.plan ∙ is
 
 -- ---- of what stands for some journal
 
-pub journal_kept : (c : Kept) → HasHistory c → HasJournal c.state
-journal_kept c h = record {
-  plan = h.plan;
+pub journal_kept : {M B : Type 0} (rules : B → Discipline) (own : B → M → List Entry → Type 0)
+    (c : KeptBy M) → HasHistory rules own c → HasJournal rules own c.policy c.state
+journal_kept rules own c h = record {
+  basis = h.basis;
   journal = h.journal;
-  stands = h.stands.both.tables;
-  legal = h.stands.both.legal;
+  stands = record { tables = h.stands.both.tables; legal = h.stands.both.legal };
+  own = h.stands.both.own;
 }
 
-pub lane_kept : (s : State) (lane : ℕ) → HasJournal s → lane / 2 < berths s.plan
-    → lane < length s.lanes
-lane_kept s lane h lt =
-    let same : berths s.plan ≡ berths h.plan = ap berths h.stands.plan in
-    let many = lanes_are h.plan s h.journal h.stands in
-    omega (arith, same, many, lt)
+pub lane_kept : (q : Discipline) (s : State) (j : List Entry) (lane : ℕ) → StandsBy q s j
+    → lane / 2 < q.seats → lane < length s.lanes
+lane_kept q s j lane st lt =
+    let many = lanes_are q.seats q.plan s j st.tables in
+    omega (arith, many, lt)
 
-reads_kept : (s : State) (w : ℕ) → HasJournal s → w < berths s.plan → ReadsOwn s w
-reads_kept s w h lt =
-    let st = h.stands in
-    let same : berths s.plan ≡ berths h.plan = ap berths st.plan in
-    reads_own h.plan s h.journal w st (all_of h.plan (berths h.plan) s h.journal st)
-    (omega (arith, same, lt))
+pub sound_kept : (q : Discipline) (s : State) (j : List Entry) → StandsBy q s j → Sound s.plan
+sound_kept q s j st = subst Sound (sym st.tables.plan) st.tables.sound
 
 -- how few actions there are, and how few attempts of their branches
-pub attempts_kept : (s : State) → HasJournal s → (length s.plan.actions ≤ 4096)
-    × (2 * length s.plan.actions * s.plan.limit ≤ 81920)
-attempts_kept s h =
-    let st = h.stands in
-    let actions : length s.plan.actions ≡ length h.plan.actions =
-    ap (λ (p : Plan). length p.actions) st.plan in
-    let limit : s.plan.limit ≡ h.plan.limit = ap (λ (p : Plan). p.limit) st.plan in
-    let few : length s.plan.actions ≤ 4096 = omega (arith, actions, st.sound.actions) in
-    let less : s.plan.limit ≤ 10 = omega (arith, limit, st.sound.most) in
-    let both = mul-le-mul_right s.plan.limit few in
+pub attempts_kept : (p : Plan) → Sound p → (length p.actions ≤ 4096)
+    × (2 * length p.actions * p.limit ≤ 81920)
+attempts_kept p sound =
+    let few = sound.actions in
+    let less = sound.most in
+    let both = mul-le-mul_right p.limit few in
     (few, omega (arith, both, less))
 
--- a lane that may ask by the tables is one of the plan's, whose berth can be read
-pub reads_asking : (s : State) (lane : ℕ) (seat : Seat) → HasJournal s
-    → seat_at s.plan (lane / 2) ≡ Some seat
+-- a lane that may ask by the tables is one of a berth, which can be read
+pub reads_asking : (q : Discipline) (s : State) (j : List Entry) (lane : ℕ) (seat : BerthGroup)
+    (x : Choice) → StandsBy q s j → IsServed q s j lane seat x
     → allows_by s.plan seat.kind s.lanes lane (question lane) ≡ true
-    → ReadsOwn s (lane / 2)
-reads_asking s lane seat h at may =
-    let st = h.stands in
-    let scripted = sym (allowed_is h.plan s h.journal lane seat (question lane) st at) ∙ may in
-    let same : berths s.plan ≡ berths h.plan = ap berths st.plan in
-    let within = lane_within h.plan h.journal lane (question lane) scripted in
-    reads_kept s (lane / 2) h (omega (arith, same, within))
+    → (lane / 2 < q.seats) × Reads s (lane / 2)
+reads_asking q s j lane seat x st v may =
+    let scripted = sym (allowed_is q s j lane seat (question lane) st.tables v.ticks v.remote)
+    ∙ may in
+    let within = lane_within q j lane (question lane) scripted in (
+      within,
+      read.reads q.plan q.seats s j st.tables
+          (all_of q.plan q.seats s j st.tables).facts (lane / 2) within,
+    )

@@ -18,10 +18,9 @@ use Rattle.exec_journal.specs.declared.reply.StrayWhy.TheVariants as stray
 use Rattle.exec_journal.specs.declared.reply.Reply.{Reply}
 use Rattle.exec_journal.specs.declared.reply.Reply.TheVariants as reply
 use Rattle.exec_journal.specs.Entries.{attempt_of, is_done, is_kept, is_look}
-use Rattle.exec_journal.specs.Legal.{Legal, after}
-use Rattle.exec_journal.specs.Rules as r
-use Rattle.exec_journal.specs.Scripts.{script}
-use Rattle.run_plan.specs.Groups.{berths, is_single}
+use Rattle.exec_journal.specs.Legal.{after}
+use Rattle.core_contract.specs.Disciplines.{Discipline, LegalBy, script_of}
+use Rattle.run_plan.specs.Groups.{is_single}
 use Rattle.exec_journal.specs.Words.{last_line, last_work, stopped, has_halted}
 use Rattle.worker_pool.specs.Rows as rows
 use Rattle.request_table.specs.declared.Matching.{Matching}
@@ -29,10 +28,9 @@ use Rattle.request_table.specs.declared.Matching.TheVariants as match
 use Rattle.request_table.specs.Rows as asks
 use Rattle.core_state.specs.declared.choice.Choice.{Choice}
 use Rattle.core_state.specs.declared.choice.Choice.TheVariants as choice
-use Rattle.core_tables.specs.declared.seat.Seat.{Seat}
+use Rattle.core_tables.specs.declared.berth_group.BerthGroup.{BerthGroup}
 use Rattle.core_state.specs.declared.state.State.{State}
 use Rattle.core_state.specs.Choices.{row_at}
-use Rattle.earliest_first.specs.Choices.{chosen}
 use Rattle.core_tables.specs.declared.greetings.Greeting.{Greeting}
 use Rattle.core_tables.specs.declared.lanes.LaneState.{LaneState}
 use Rattle.core_tables.specs.Greetings.{greeting_in, greeting_of}
@@ -41,14 +39,13 @@ use Rattle.core_state.specs.Machine as m
 use Rattle.lawful_facts.specs.Moments.{LawfulMore}
 use Rattle.core_state.specs.Noted.{noted_after, noted_if_kept}
 use Rattle.core_state.specs.Reports as reports
-use Rattle.core_tables.specs.Seats.{seat_at}
 use Rattle.core_laws.specs.Stands.{Stands}
-use Rattle.spawn_core.specs.Allowed.{allowed_is, none_scripted, seated}
-use Rattle.spawn_core.specs.Answers.{Replies, answer}
+use Rattle.spawn_core.specs.Allowed.{allowed_is, lane_within, none_scripted}
+use Rattle.spawn_core.specs.Answers.{Replies, answer_by}
 use Rattle.spawn_core.specs.Turns.{CanTurn, turned, turned_reply}
 use Rattle.core_laws.proofs.Rowed.{lane_inside}
-use Rattle.earliest_first.proofs.AtBerths.{lane_within}
-use Rattle.spawn_core.specs.Turning.{turn_can, turn_is, turn_stands}
+use Rattle.spawn_core.specs.Policies.{SaysSeat}
+use Rattle.spawn_core.specs.Turning.{IsServed, turn_can, turn_is, turn_stands}
 
 -- ---- a call in its script changes neither the plan nor what is noted of its lane and its berth's
 -- greeting
@@ -114,14 +111,14 @@ module _ (s : State) where
   taken_lanes w None = refl
   taken_lanes w (Some l) = refl
 
-  matching_lanes : (w l : ℕ) (seat : Seat) (x : Answer) (y : Matching)
+  matching_lanes : (w l : ℕ) (seat : BerthGroup) (x : Answer) (y : Matching)
       → own_of (reports.matching_with s w seat l x y) ≡ own_of s
   matching_lanes w l seat x (match.Pending a t) = either x.cancelled _ _ refl refl
   matching_lanes w l seat x (match.Cancelled a t) = refl
   matching_lanes w l seat x match.Closed = either (is_single seat.kind) _ _ refl refl
   matching_lanes w l seat x match.Never = either (is_single seat.kind) _ _ refl refl
 
-  answered_lanes : (w l : ℕ) (seat : Seat) (x : Answer)
+  answered_lanes : (w l : ℕ) (seat : BerthGroup) (x : Answer)
       → own_of (reports.answered_with s w seat l x) ≡ own_of s
   answered_lanes w l seat x =
       either ((row_at s l).broken) (reports.breached s w l) _ refl
@@ -131,41 +128,42 @@ module _ (s : State) where
       (reports.matching_with s w seat l x (asks.matching_of s.requests l x.number)) refl
       (matching_lanes w l seat x (asks.matching_of s.requests l x.number))))
 
-  made_lanes : (lane : ℕ) (seat : Seat) (c : Call) → own_of (turned s lane seat c) ≡ own_of s
-  made_lanes lane seat call.Ask = carried_lanes (lane / 2) (chosen s (lane / 2))
-  made_lanes lane seat (call.Launched l how) = either (is_done how) _ _ refl
+  made_lanes : (lane : ℕ) (seat : BerthGroup) (x : Choice) (c : Call)
+      → own_of (turned s lane seat x c) ≡ own_of s
+  made_lanes lane seat y call.Ask = carried_lanes (lane / 2) y
+  made_lanes lane seat y (call.Launched l how) = either (is_done how) _ _ refl
       (end_lanes (m.with_pool s (rows.change s.pool l rows.set_unbound)) (m.launch_by s lane) refl)
-  made_lanes lane seat (call.Wrote l n how) = wrote_lanes lane (lane / 2) l n how
-  made_lanes lane seat (call.Look x) = refl
-  made_lanes lane seat (call.Claim a b n f) = either (m.is_won s (attempt_of a b n)) s
+  made_lanes lane seat y (call.Wrote l n how) = wrote_lanes lane (lane / 2) l n how
+  made_lanes lane seat y (call.Look x) = refl
+  made_lanes lane seat y (call.Claim a b n f) = either (m.is_won s (attempt_of a b n)) s
       (m.found_with s (attempt_of a b n) f) refl (found_lanes (attempt_of a b n) f)
-  made_lanes lane seat (call.Committed a b how) = refl
-  made_lanes lane seat (call.Killed l) = refl
-  made_lanes lane seat call.Take = taken_lanes (lane / 2) (m.takeable s (lane / 2))
-  made_lanes lane seat (call.Answer l x) = answered_lanes (lane / 2) l seat x
-  made_lanes lane seat (call.Ended l how) =
+  made_lanes lane seat y (call.Committed a b how) = refl
+  made_lanes lane seat y (call.Killed l) = refl
+  made_lanes lane seat y call.Take = taken_lanes (lane / 2) (m.takeable s (lane / 2))
+  made_lanes lane seat y (call.Answer l x) = answered_lanes (lane / 2) l seat x
+  made_lanes lane seat y (call.Ended l how) =
       end_lanes (m.end_of_some (reports.end_all s seat (asks.places_of s.requests l))
       (reports.fed_on (slice_get s.last (lane / 2)))) (reports.bound_on s (lane / 2) l)
       (end_lanes (reports.end_all s seat (asks.places_of s.requests l))
       (reports.fed_on (slice_get s.last (lane / 2))) refl)
-  made_lanes lane seat call.Halt = refl
-  made_lanes lane seat call.Tick = refl
+  made_lanes lane seat y call.Halt = refl
+  made_lanes lane seat y call.Tick = refl
 
-lane_known : (p : Plan) (s : State) (j : List Entry) (lane : ℕ) (c : Call) → Stands p (berths p) s j
-    → script p j lane c ≡ true → lane < length s.lanes
+lane_known : (q : Discipline) (s : State) (j : List Entry) (lane : ℕ) (c : Call) → Stands q.plan q.seats s j
+    → script_of q j lane c ≡ true → lane < length s.lanes
 unfolding lane_in
-lane_known p s j lane c st may =
-    let within = lane_inside (berths p) lane (lane_within p j lane c may) in
+lane_known q s j lane c st may =
+    let within = lane_inside q.seats lane (lane_within q j lane c may) in
     slice_get_within s.lanes lane (state_by (last_work j lane) (stopped j lane) (has_halted j lane))
     (st.lanes lane ∙ ap (λ b. cond b (Some (state_by (last_work j lane) (stopped j lane)
     (has_halted j lane))) None) within)
 
-berth_known : (p : Plan) (s : State) (j : List Entry) (lane : ℕ) (c : Call) → Stands p (berths p) s j
-    → script p j lane c ≡ true → lane / 2 < length s.greetings
+berth_known : (q : Discipline) (s : State) (j : List Entry) (lane : ℕ) (c : Call) → Stands q.plan q.seats s j
+    → script_of q j lane c ≡ true → lane / 2 < length s.greetings
 unfolding greeting_in
-berth_known p s j lane c st may =
-    let within : nat_lt (lane / 2) (berths p) ≡ true =
-    lt-ltb (lane / 2) (berths p) (lane_within p j lane c may) in
+berth_known q s j lane c st may =
+    let within : nat_lt (lane / 2) q.seats ≡ true =
+    lt-ltb (lane / 2) q.seats (lane_within q j lane c may) in
     slice_get_within s.greetings (lane / 2) (greeting_of j (last_line j (lane / 2)))
     (st.greetings (lane / 2) ∙ ap (λ b. cond b (Some (greeting_of j (last_line j (lane / 2))))
     None) within)
@@ -208,7 +206,7 @@ module _ (s : State) where
   consumed_kept t = kept_either (reports.is_won s t) (reply.Late t.action t.branch t.number)
       (reply.Matched t.action t.branch t.number) refl refl
 
-  matching_kept : (seat : Seat) (x : Answer) (y : Matching)
+  matching_kept : (seat : BerthGroup) (x : Answer) (y : Matching)
       → is_kept (reports.matching_reply s seat x y) ≡ true
   matching_kept seat x (match.Pending a t) = kept_either x.cancelled
       (reply.Breach breach.NotCancelled) (reports.consumed_reply s
@@ -220,13 +218,13 @@ module _ (s : State) where
   matching_kept seat x match.Never = kept_either (is_single seat.kind) (reply.Breach breach.Unasked)
       (reply.Stray stray.Never) refl refl
 
-  told_kept : (seat : Seat) (l : ℕ) (x : Answer) → is_kept (reports.told_reply s seat l x) ≡ true
+  told_kept : (seat : BerthGroup) (l : ℕ) (x : Answer) → is_kept (reports.told_reply s seat l x) ≡ true
   told_kept seat l x =
       kept_either (reports.is_wrong seat x) (reply.Breach breach.WrongNumber)
       (reports.matching_reply s seat x (asks.matching_of s.requests l x.number)) refl
       (matching_kept seat x (asks.matching_of s.requests l x.number))
 
-  answer_kept : (w : ℕ) (seat : Seat) (l : ℕ) (x : Answer)
+  answer_kept : (w : ℕ) (seat : BerthGroup) (l : ℕ) (x : Answer)
       → is_kept (reports.answer_reply_by s w seat l x) ≡ true
   answer_kept w seat l x =
       kept_either ((row_at s l).broken) (reply.Breach breach.Broken) _ refl
@@ -236,78 +234,76 @@ module _ (s : State) where
   clash : {X : Type 0} (b : Bool) → b ≡ true → b ≡ false → X
   clash b h k = absurd (let both : true ≡ false = sym h ∙ k in cc)
 
-  unkept : (lane : ℕ) (seat : Seat) (c : Call) → is_look c ≡ false
-      → is_kept (turned_reply s lane seat c) ≡ false → turned s lane seat c ≡ s
-  unkept lane seat call.Ask look h = carried_unkept (lane / 2) (chosen s (lane / 2)) h
-  unkept lane seat call.Take look h = taken_unkept (lane / 2) (m.takeable s (lane / 2)) h
-  unkept lane seat (call.Look x) look h = refl
-  unkept lane seat (call.Claim a b n f) look h = clash _
+  unkept : (lane : ℕ) (seat : BerthGroup) (x : Choice) (c : Call) → is_look c ≡ false
+      → is_kept (turned_reply s lane seat x c) ≡ false → turned s lane seat x c ≡ s
+  unkept lane seat y call.Ask look h = carried_unkept (lane / 2) y h
+  unkept lane seat y call.Take look h = taken_unkept (lane / 2) (m.takeable s (lane / 2)) h
+  unkept lane seat y (call.Look x) look h = refl
+  unkept lane seat y (call.Claim a b n f) look h = clash _
       (kept_either (m.is_won s (attempt_of a b n)) reply.Lost
       (m.found_reply s (attempt_of a b n) f) refl (found_kept (attempt_of a b n) f)) h
-  unkept lane seat (call.Answer l x) look h = clash _ (answer_kept (lane / 2) seat l x) h
-  unkept lane seat (call.Launched l how) look h = absurd (cc)
-  unkept lane seat (call.Wrote l n how) look h = absurd (cc)
-  unkept lane seat (call.Committed a b how) look h = absurd (cc)
-  unkept lane seat (call.Killed l) look h = absurd (cc)
-  unkept lane seat (call.Ended l how) look h = absurd (cc)
-  unkept lane seat call.Halt look h = absurd (cc)
-  unkept lane seat call.Tick look h = absurd (cc)
+  unkept lane seat y (call.Answer l x) look h = clash _ (answer_kept (lane / 2) seat l x) h
+  unkept lane seat y (call.Launched l how) look h = absurd (cc)
+  unkept lane seat y (call.Wrote l n how) look h = absurd (cc)
+  unkept lane seat y (call.Committed a b how) look h = absurd (cc)
+  unkept lane seat y (call.Killed l) look h = absurd (cc)
+  unkept lane seat y (call.Ended l how) look h = absurd (cc)
+  unkept lane seat y call.Halt look h = absurd (cc)
+  unkept lane seat y call.Tick look h = absurd (cc)
 
 -- ---- a call that its lane's script has
 
 -- what the check of a call says
-module _ (p : Plan) (s : State) (j : List Entry) (lane : ℕ) (seat : Seat) (c : Call)
-    (st : Stands p (berths p) s j) (at : seat_at s.plan (lane / 2) ≡ Some seat) where
-  placed : seat_at p (lane / 2) ≡ Some seat
-  placed = seated p s j lane seat c st at
+module _ (q : Discipline) (s : State) (j : List Entry) (lane : ℕ) (seat : BerthGroup) (x : Choice)
+    (c : Call) (st : Stands q.plan q.seats s j) (v : IsServed q s j lane seat x) where
+  allows_is : allows_by s.plan seat.kind s.lanes lane c ≡ script_of q j lane c
+  allows_is = allowed_is q s j lane seat c st v.ticks v.remote
 
-  allows_is : allows_by s.plan seat.kind s.lanes lane c ≡ script p j lane c
-  allows_is = allowed_is p s j lane seat c st at
-
-  module _ (legal : Legal p j) (all : LawfulMore p j) (look : is_look c ≡ false)
+  module _ (legal : LegalBy q j) (all : LawfulMore q.plan j) (look : is_look c ≡ false)
       (may : allows_by s.plan seat.kind s.lanes lane c ≡ true) where
-    pub script_here : script p j lane c ≡ true
+    pub script_here : script_of q j lane c ≡ true
     script_here = sym allows_is ∙ may
 
-    pub can_here : CanTurn s lane seat c
-    can_here = turn_can p s j lane seat st legal all placed c script_here
+    pub can_here : CanTurn s lane seat x c
+    can_here = turn_can q s j lane seat x st legal all v c script_here
 
-    pub lane_here : lane < length (turned s lane seat c).lanes
-    lane_here = subst (λ (o : Own). lane < length o.1) (sym (made_lanes s lane seat c))
-        (lane_known p s j lane c st script_here)
+    pub lane_here : lane < length (turned s lane seat x c).lanes
+    lane_here = subst (λ (o : Own). lane < length o.1) (sym (made_lanes s lane seat x c))
+        (lane_known q s j lane c st script_here)
 
-    pub berth_here : lane / 2 < length (turned s lane seat c).greetings
-    berth_here = subst (λ (o : Own). lane / 2 < length o.2) (sym (made_lanes s lane seat c))
-        (berth_known p s j lane c st script_here)
+    pub berth_here : lane / 2 < length (turned s lane seat x c).greetings
+    berth_here = subst (λ (o : Own). lane / 2 < length o.2) (sym (made_lanes s lane seat x c))
+        (berth_known q s j lane c st script_here)
 
-    pub plan_here : (turned s lane seat c).plan ≡ s.plan
-    plan_here = ap (λ (o : Own). o.0) (made_lanes s lane seat c)
+    pub plan_here : (turned s lane seat x c).plan ≡ s.plan
+    plan_here = ap (λ (o : Own). o.0) (made_lanes s lane seat x c)
 
-    pub reply_here : Replies (answer p j lane c) (turned_reply s lane seat c)
-    reply_here = inl (turn_is p s j lane seat st legal all placed c look script_here
-        ∙ ap (λ b. cond b (r.rule p j lane c) reply.Astray) (sym script_here))
+    pub reply_here : Replies (answer_by q j lane c) (turned_reply s lane seat x c)
+    reply_here = inl (turn_is q s j lane seat x st legal all v c look script_here
+        ∙ ap (λ b. cond b (q.rule j lane c) reply.Astray) (sym script_here))
 
     -- whether the reply is kept
-    kept_by : (b : Bool) → is_kept (turned_reply s lane seat c) ≡ b
-        → Stands p (berths p) (cond b (noted_after (turned s lane seat c) lane c (turned_reply s lane seat c))
-        (turned s lane seat c)) (cond b (record {
+    kept_by : (b : Bool) → is_kept (turned_reply s lane seat x c) ≡ b
+        → Stands q.plan q.seats (cond b (noted_after (turned s lane seat x c) lane c
+        (turned_reply s lane seat x c)) (turned s lane seat x c)) (cond b (record {
           lane = lane;
           call = c;
-          reply = turned_reply s lane seat c;
+          reply = turned_reply s lane seat x c;
         } ∷ j) j)
-    kept_by true h = turn_stands p s j lane seat st legal all placed c look script_here h
-    kept_by false h = subst (λ x. Stands p (berths p) x j) (sym (unkept s lane seat c look h)) st
+    kept_by true h = turn_stands q s j lane seat x st legal all v c look script_here h
+    kept_by false h = subst (λ y. Stands q.plan q.seats y j) (sym (unkept s lane seat x c look h)) st
 
-    pub stands_here : Stands p (berths p) (noted_if_kept (turned s lane seat c) lane c
-        (turned_reply s lane seat c)) (after j lane c (turned_reply s lane seat c))
-    stands_here = kept_by (is_kept (turned_reply s lane seat c)) refl
+    pub stands_here : Stands q.plan q.seats (noted_if_kept (turned s lane seat x c) lane c
+        (turned_reply s lane seat x c)) (after j lane c (turned_reply s lane seat x c))
+    stands_here = kept_by (is_kept (turned_reply s lane seat x c)) refl
 
   module _ (out : allows_by s.plan seat.kind s.lanes lane c ≡ false) where
-    pub reply_out : Replies (answer p j lane c) reply.Astray
-    reply_out = inl (ap (λ b. cond b (r.rule p j lane c) reply.Astray) (sym (sym allows_is ∙ out)))
+    pub reply_out : Replies (answer_by q j lane c) reply.Astray
+    reply_out = inl (ap (λ b. cond b (q.rule j lane c) reply.Astray) (sym (sym allows_is ∙ out)))
 
-pub reply_none : (p : Plan) (s : State) (j : List Entry) (lane : ℕ) (c : Call) → Stands p (berths p) s j
-    → seat_at s.plan (lane / 2) ≡ None → Replies (answer p j lane c) reply.Astray
-reply_none p s j lane c st at =
-    inl (ap (λ b. cond b (r.rule p j lane c) reply.Astray)
-    (sym (none_scripted p s j lane c st at)))
+pub reply_none : (q : Discipline) (j : List Entry) (lane : ℕ) (c : Call) (o : Option BerthGroup)
+    → (lane / 2 < q.seats → SaysSeat q j (lane / 2) o) → o ≡ None
+    → Replies (answer_by q j lane c) reply.Astray
+reply_none q j lane c o says at =
+    inl (ap (λ b. cond b (q.rule j lane c) reply.Astray)
+    (sym (none_scripted q j lane c o says at)))

@@ -1,59 +1,114 @@
 -- What the tables allow a lane is what its script has: an impl of `Rules` cites it.
-use Rattle.std.proofs.Common.{◌≡◌, ℕ, ◌*◌, ◌/◌, ◌%◌, ◌<◌, ◌==◌, nat_lt, false, ◌&&◌, not, cond, List, Some, None, refl, ap, sym, ◌∙◌, arith}
+use Rattle.std.proofs.Common.{◌≡◌, ℕ, ◌*◌, ◌/◌, ◌%◌, ◌<◌, ◌==◌, nat_lt, Bool, true, false, ◌&&◌, ◌||◌, not, cond, List, Option, Some, None, refl, ap, sym, ◌∙◌, arith}
 use Rattle.std.proofs.lemmas.Bool.{ltb-true}
+use Rattle.run_plan.specs.declared.plan.Kind.{Kind}
 use Rattle.run_plan.specs.declared.plan.Plan.{Plan}
-use Rattle.run_plan.specs.Groups.{berths, kind_of}
+use Rattle.run_plan.specs.Groups.{is_remote}
 use Rattle.exec_journal.specs.declared.call.Call.{Call}
+use Rattle.exec_journal.specs.declared.call.Call.TheVariants as call
+use Rattle.exec_journal.specs.Entries.{attempt_of, same_attempt}
 use Rattle.exec_journal.specs.Entry.{Entry}
-use Rattle.exec_journal.specs.Scripts.{script, is_owed_commit, allowed}
+use Rattle.exec_journal.specs.declared.reply.Reply.{Reply}
+use Rattle.exec_journal.specs.declared.reply.Reply.TheVariants as reply
+use Rattle.exec_journal.specs.Lawful.{may_tick}
+use Rattle.exec_journal.specs.Scripts.{allowed, is_owed, is_owed_after, is_owed_commit, may_find, outputs_of, seat_script}
 use Rattle.exec_journal.specs.Words.{last_work, stopped, has_halted}
 use Rattle.exec_journal.proofs.Ruled.{by_bool}
-use Rattle.core_tables.specs.declared.seat.Seat.{Seat}
-use Rattle.core_tables.specs.Lanes.{allows_by, lane_in, may_some, state_by}
-use Rattle.core_tables.specs.Seats.{seat_at}
-use Rattle.core_tables.proofs.Seated.{seat_is}
+use Rattle.core_contract.specs.Disciplines.{Discipline, berth_script, script_of}
+use Rattle.history_laws.proofs.Fitting.{scripted_as}
+use Rattle.history_laws.proofs.Ticking.{known}
+use Rattle.core_tables.specs.declared.berth_group.BerthGroup.{BerthGroup}
+use Rattle.core_tables.specs.Lanes.{allows_by}
 use Rattle.core_state.specs.declared.state.State.{State}
 use Rattle.core_laws.specs.Stands.{Stands}
-use Rattle.earliest_first.proofs.AtBerths.{lane_within}
 use Rattle.core_laws.proofs.Scripted.{script_is}
+use Rattle.spawn_core.specs.Policies.{SaysSeat}
 
-module _ (p : Plan) (s : State) (j : List Entry) (lane : ℕ) (seat : Seat) (c : Call)
-    (st : Stands p (berths p) s j) (at : seat_at s.plan (lane / 2) ≡ Some seat) where
-  pub seated : seat_at p (lane / 2) ≡ Some seat
-  seated = ap (λ (q : Plan). seat_at q (lane / 2)) (sym st.plan) ∙ at
+-- ---- a script reads of a kind alone whether it is an executor's
 
-  kind_by : lane / 2 < berths p → seat.kind ≡ kind_of p (lane / 2)
-  kind_by lt =
-      let y = seat_is p (lane / 2) lt in
-      let same : y.0 ≡ seat = (let z = sym y.1.is ∙ seated in cc) in
-      sym (y.1.kind ∙ ap (λ (x : Seat). x.kind) same)
+module _ (p : Plan) (k m : Kind) (same : is_remote k ≡ is_remote m) where
+  owed_kind : (c : Call) (r : Reply) → is_owed p k c r ≡ is_owed p m c r
+  owed_kind (call.Claim a b t f) (reply.Gather l n c d u e v) =
+      ap (λ (x : Bool). same_attempt (attempt_of a b t) (attempt_of c d u)
+      && may_find (outputs_of p a) x e v f) same
+  owed_kind (call.Claim a b t f) _ = refl
+  owed_kind (call.Launched l how) (reply.Launch n a b t) = refl
+  owed_kind (call.Launched l how) _ = refl
+  owed_kind (call.Wrote l n how) (reply.Send i o a b t) = refl
+  owed_kind (call.Wrote l n how) (reply.Cancel i o) = refl
+  owed_kind (call.Wrote l n how) _ = refl
+  owed_kind (call.Killed l) (reply.Kill n y) = refl
+  owed_kind (call.Killed l) _ = refl
+  owed_kind (call.Look w) r = refl
+  owed_kind call.Ask r = refl
+  owed_kind (call.Committed a b how) r = refl
+  owed_kind call.Take r = refl
+  owed_kind (call.Answer l x) r = refl
+  owed_kind (call.Ended l how) r = refl
+  owed_kind call.Halt r = refl
+  owed_kind call.Tick r = refl
 
-  outside : nat_lt lane (2 * berths p) ≡ false → allows_by p seat.kind s.lanes lane c
-      ≡ script p j lane c
-  unfolding lane_in
-  outside h =
-      ap (λ o. may_some p seat.kind (lane % 2 == 0) o c)
-      (st.lanes lane ∙ ap (λ b. cond b (Some (state_by (last_work j lane) (stopped j lane)
-      (has_halted j lane))) None) h)
-      ∙ ap (λ b. b && (not (stopped j lane) && cond (has_halted j lane)
-      (is_owed_commit c (last_work j lane)) (allowed p (kind_of p (lane / 2)) (lane % 2 == 0)
-      (last_work j lane) c))) (sym h)
+  after_kind : (c : Call) (o : Option Entry) → is_owed_after p k c o ≡ is_owed_after p m c o
+  after_kind c None = refl
+  after_kind c (Some e) = ap (λ (x : Bool). x || is_owed_commit c (Some e)) (owed_kind c e.reply)
 
-  pub allowed_is : allows_by s.plan seat.kind s.lanes lane c ≡ script p j lane c
+  allowed_kind : (proxy : Bool) (o : Option Entry) (c : Call)
+      → allowed p k proxy o c ≡ allowed p m proxy o c
+  allowed_kind proxy o call.Ask = refl
+  allowed_kind proxy o call.Take = refl
+  allowed_kind proxy o (call.Answer l x) = refl
+  allowed_kind proxy o (call.Ended l how) = refl
+  allowed_kind proxy o call.Halt = refl
+  allowed_kind proxy o call.Tick = ap (λ (x : Bool). proxy && x) (after_kind call.Tick o)
+  allowed_kind proxy o (call.Launched l how) = ap (λ (x : Bool). proxy && x)
+      (after_kind (call.Launched l how) o)
+  allowed_kind proxy o (call.Wrote l n how) = ap (λ (x : Bool). proxy && x)
+      (after_kind (call.Wrote l n how) o)
+  allowed_kind proxy o (call.Look w) = ap (λ (x : Bool). proxy && x) (after_kind (call.Look w) o)
+  allowed_kind proxy o (call.Claim a b t f) = ap (λ (x : Bool). proxy && x)
+      (after_kind (call.Claim a b t f) o)
+  allowed_kind proxy o (call.Committed a b how) = ap (λ (x : Bool). proxy && x)
+      (after_kind (call.Committed a b how) o)
+  allowed_kind proxy o (call.Killed l) = ap (λ (x : Bool). proxy && x) (after_kind (call.Killed l) o)
+
+-- ---- a lane whose script has a call is one of the discipline's berths
+
+pub lane_within : (q : Discipline) (j : List Entry) (lane : ℕ) (c : Call)
+    → script_of q j lane c ≡ true → lane / 2 < q.seats
+lane_within q j lane c may = known q j lane c (scripted_as q j lane c may)
+
+-- without Ticks a lane's script is that of its berth
+pub berth_is : (q : Discipline) (j : List Entry) (lane : ℕ) (c : Call) → q.ticks lane ≡ false
+    → script_of q j lane c ≡ berth_script q j lane c
+berth_is q j lane c none = ap (λ (b : Bool). (b && may_tick (berth_script q j lane call.Ask) None c)
+    || berth_script q j lane c) none
+
+module _ (q : Discipline) (s : State) (j : List Entry) (lane : ℕ) (seat : BerthGroup) (c : Call)
+    (st : Stands q.plan q.seats s j) (none : q.ticks lane ≡ false)
+    (remote : lane / 2 < q.seats → is_remote seat.kind ≡ is_remote (q.kinds (lane / 2))) where
+  by_kind : seat_script q.seats (λ _. seat.kind) q.plan j lane c ≡ berth_script q j lane c
+  by_kind = by_bool (nat_lt lane (2 * q.seats)) (λ b. nat_lt lane (2 * q.seats) ≡ b
+      → b && (not (stopped j lane) && cond (has_halted j lane) (is_owed_commit c (last_work j lane))
+      (allowed q.plan seat.kind (lane % 2 == 0) (last_work j lane) c))
+      ≡ b && (not (stopped j lane) && cond (has_halted j lane) (is_owed_commit c (last_work j lane))
+      (allowed q.plan (q.kinds (lane / 2)) (lane % 2 == 0) (last_work j lane) c)))
+      (λ yes _. let l = ltb-true lane (2 * q.seats) yes in
+      ap (λ (x : Bool). not (stopped j lane) && cond (has_halted j lane)
+      (is_owed_commit c (last_work j lane)) x)
+      (allowed_kind q.plan seat.kind (q.kinds (lane / 2)) (remote (omega (arith, l)))
+      (lane % 2 == 0) (last_work j lane) c))
+      (λ _ _. refl) refl
+
+  pub allowed_is : allows_by s.plan seat.kind s.lanes lane c ≡ script_of q j lane c
   allowed_is =
-      ap (λ (q : Plan). allows_by q seat.kind s.lanes lane c) st.plan
-      ∙ by_bool (nat_lt lane (2 * berths p)) (λ b. nat_lt lane (2 * berths p) ≡ b
-      → allows_by p seat.kind s.lanes lane c ≡ script p j lane c)
-      (λ yes _. let l = ltb-true lane (2 * berths p) yes in
-      ap (λ k. allows_by p k s.lanes lane c) (kind_by (omega arith))
-      ∙ script_is p (berths p) (kind_of p (lane / 2)) j s.lanes lane c (st.lanes lane))
-      (λ _ h. outside h) refl
+      ap (λ (p : Plan). allows_by p seat.kind s.lanes lane c) st.plan
+      ∙ script_is q.plan q.seats seat.kind j s.lanes lane c (st.lanes lane)
+      ∙ by_kind ∙ sym (berth_is q j lane c none)
 
--- a berth that isn't the plan's
-pub none_scripted : (p : Plan) (s : State) (j : List Entry) (lane : ℕ) (c : Call) → Stands p (berths p) s j
-    → seat_at s.plan (lane / 2) ≡ None → script p j lane c ≡ false
-none_scripted p s j lane c st at =
-    by_bool (script p j lane c) (λ b. script p j lane c ≡ b → b ≡ false)
-    (λ _ h. absurd (let y = seat_is p (lane / 2) (lane_within p j lane c h) in
-    let z = sym y.1.is ∙ ap (λ (q : Plan). seat_at q (lane / 2)) (sym st.plan) ∙ at in cc))
+-- a berth of which nothing is said
+pub none_scripted : (q : Discipline) (j : List Entry) (lane : ℕ) (c : Call) (o : Option BerthGroup)
+    → (lane / 2 < q.seats → SaysSeat q j (lane / 2) o) → o ≡ None → script_of q j lane c ≡ false
+none_scripted q j lane c o says at =
+    by_bool (script_of q j lane c) (λ b. script_of q j lane c ≡ b → b ≡ false)
+    (λ _ h. absurd (let y = says (lane_within q j lane c h) in let z = sym y.is ∙ at in cc))
     (λ _ _. refl) refl

@@ -1,12 +1,16 @@
 -- When a core stands for a history, whose oldest entry stands first.
-use Rattle.std.specs.Prelude.{[]}
 use Rattle.run_plan.specs.declared.plan.Plan.{Plan}
 use Rattle.core_contract.specs.Moves.{History}
 use Rattle.history_laws.specs.Owed.{journal_of}
-use Rattle.spawn_core.specs.Stands.{Kept, Stands}
+use Rattle.spawn_core.specs.Plans as plans
+use Rattle.spawn_core.specs.Stands.{Kept, KeptBy, Stands}
 
 abbrev pub no_plan : Plan
-no_plan = record { actions = []; groups = []; limit = 0 }
+no_plan = plans.no_plan
+
+-- what a core goes by, of a policy that goes by this on each plan
+abbrev pub basis_of : {M B : Type 0} → (M → Plan → B) → KeptBy M → B
+basis_of basis m = basis m.policy m.state.plan
 
 abbrev pub plan_of : Kept → Plan
 plan_of m = m.state.plan

@@ -1,3 +1,6 @@
+pub mod Plans
+pub mod Policies
+pub mod Earliest
 pub mod Stands
 pub mod Turns
 pub mod Answers

@@ -4,14 +4,14 @@ use Rattle.exec_journal.specs.declared.call.Wanted.{Wanted}
 use Rattle.exec_journal.specs.declared.call.Wanted.TheVariants as look
 use Rattle.exec_journal.specs.declared.reply.Reply.{Reply}
 use Rattle.exec_journal.specs.declared.reply.Reply.TheVariants as reply
-use Rattle.core_tables.specs.declared.lanes.Order.{Order}
-use Rattle.core_tables.specs.declared.lanes.Order.TheVariants as order
+use Rattle.core_tables.specs.declared.lanes.Owed.{Owed}
+use Rattle.core_tables.specs.declared.lanes.Owed.TheVariants as order
 use Rattle.core_state.specs.declared.state.State.{State}
 use Rattle.core_state.specs.Machine.{order_at}
 use Rattle.core_tables.specs.Slots.{Facts, Told, rows_of, slot_at}
 
 -- of the answer that is to be gathered
-abbrev pub ToldGather : Facts → Order → ℕ → Reply → Type 0
+abbrev pub ToldGather : Facts → Owed → ℕ → Reply → Type 0
 ToldGather f (order.Gather l n t e v) o r = Told (slot_at (rows_of t.branch f) t.action o) r
 ToldGather f _ o r = r ≡ reply.NoFile
 

@@ -1,168 +1,188 @@
 -- What a call but a Look makes of tables that stand for a legal journal, and its reply.
-use Rattle.std.proofs.Common.{◌≡◌, ℕ, ◌/◌, ◌<◌, true, false, List, ◌∷◌, length, Some, refl, ap, sym, subst, ◌∙◌, arith}
-use Rattle.run_plan.specs.declared.plan.Plan.{Plan}
-use Rattle.run_plan.specs.Groups.{berths}
+use Rattle.std.proofs.Common.{◌≡◌, ℕ, ◌*◌, ◌/◌, ◌%◌, ◌<◌, ◌==◌, nat_lt, true, false, not, cond, List, ◌∷◌, Option, Some, None, refl, sym, subst, ◌∙◌}
+use Rattle.std.proofs.lemmas.Bool.{and_parts}
+use Rattle.run_plan.specs.Groups.{is_remote}
 use Rattle.exec_journal.specs.declared.call.Call.{Call}
 use Rattle.exec_journal.specs.declared.call.Call.TheVariants as call
 use Rattle.exec_journal.specs.Entry.{Entry}
 use Rattle.exec_journal.specs.declared.reply.Reply.{Reply}
 use Rattle.exec_journal.specs.Entries.{is_kept, is_look}
 use Rattle.exec_journal.specs.Lawful.{Asked}
-use Rattle.exec_journal.specs.Legal.{Legal}
-use Rattle.exec_journal.specs.Rules as r
-use Rattle.exec_journal.specs.Scripts.{script}
-use Rattle.journal_laws.proofs.Ours as ours
+use Rattle.exec_journal.specs.Scripts.{allowed, is_owed_after, is_owed_commit}
+use Rattle.exec_journal.specs.Words.{last_work, stopped, has_halted}
+use Rattle.exec_journal.proofs.Ruled.{by_bool}
 use Rattle.lawful_facts.specs.Moments.{LawfulMore}
-use Rattle.core_tables.specs.declared.seat.Seat.{Seat}
-use Rattle.core_tables.specs.Seats.{seat_at}
+use Rattle.core_contract.specs.Disciplines.{Discipline, IsDiscipline, LegalBy, script_of}
+use Rattle.history_laws.proofs.Fitting.{anywhere}
+use Rattle.core_tables.specs.declared.berth_group.BerthGroup.{BerthGroup}
+use Rattle.core_state.specs.declared.choice.Choice.{Choice}
 use Rattle.core_state.specs.declared.state.State.{State}
 use Rattle.core_state.specs.Machine.{carried_reply}
 use Rattle.core_state.specs.Noted.{noted_after}
 use Rattle.core_state.specs.Steps.{CanMake, is_report, made, made_reply}
-use Rattle.core_laws.specs.Stands.{SeatFits, Stands}
+use Rattle.core_laws.specs.Stands.{MayCall, SeatFits, Stands}
 use Rattle.core_laws.proofs.Asks.{ask_stands}
 use Rattle.core_laws.proofs.Calls.{call_is_told, call_stands}
 use Rattle.core_laws.proofs.Can.{can_carry, can_make}
-use Rattle.core_laws.proofs.Read as read
-use Rattle.earliest_first.specs.Choices.{ReadsOwn, chosen}
+use Rattle.spawn_core.specs.Allowed.{berth_is, lane_within}
 use Rattle.spawn_core.specs.Turns.{CanTurn, turned, turned_reply}
-use Rattle.earliest_first.proofs.AtBerths.{answer_told, lane_within, may_call, seat_fits}
-use Rattle.earliest_first.proofs.Chosen.{choice_is}
 
-pub reads_own : (p : Plan) (s : State) (j : List Entry) (w : ℕ) → Stands p (berths p) s j
-    → LawfulMore p j → w < berths p → ReadsOwn s w
-reads_own p s j w st all lt = record {
-  reads = read.reads p (berths p) s j st all.facts w lt;
-  groups = (let g : length s.plan.groups ≡ length p.groups =
-      ap (λ (x : Plan). length x.groups) st.plan in let few = st.sound.groups in omega arith);
-  seats = read.seats_are p (berths p) s j st all.facts ∙ sym (ap berths st.plan);
+pub may_call : (q : Discipline) (j : List Entry) (lane : ℕ) (c : Call)
+    → script_of q j lane c ≡ true → MayCall q.plan q.seats j lane c
+may_call q j lane c may = record {
+  berth = lane_within q j lane c may;
+  scripted = anywhere q j lane c may;
 }
 
-module _ (p : Plan) (s : State) (j : List Entry) (lane : ℕ) (seat : Seat)
-    (st : Stands p (berths p) s j) (legal : Legal p j) (all : LawfulMore p j)
-    (at : seat_at p (lane / 2) ≡ Some seat) where
-  fits : (c : Call) → script p j lane c ≡ true → SeatFits p j (lane / 2) seat
-  fits c may = seat_fits p j (lane / 2) seat legal (lane_within p j lane c may) at
+-- ---- a lane of a berth makes no Tick
 
-  report_is : (c : Call) → is_report c ≡ true → script p j lane c ≡ true
-      → made_reply s lane seat c ≡ r.rule p j lane c
+unowed : (q : Discipline) (w : ℕ) (o : Option Entry)
+    → is_owed_after q.plan (q.kinds w) call.Tick o ≡ true → ⊥
+unowed q w None h = cc
+unowed q w (Some e) h = cc
+
+uncommitted : (o : Option Entry) → is_owed_commit call.Tick o ≡ true → ⊥
+uncommitted None h = cc
+uncommitted (Some e) h = cc
+
+no_tick : (q : Discipline) (j : List Entry) (lane : ℕ) → q.ticks lane ≡ false
+    → script_of q j lane call.Tick ≡ true → ⊥
+no_tick q j lane none may =
+    let here = and_parts (nat_lt lane (2 * q.seats)) _
+    (sym (berth_is q j lane call.Tick none) ∙ may) in
+    let runs = and_parts (not (stopped j lane)) _ here.1 in
+    by_bool (has_halted j lane) (λ b. cond b (is_owed_commit call.Tick (last_work j lane))
+    (allowed q.plan (q.kinds (lane / 2)) (lane % 2 == 0) (last_work j lane) call.Tick) ≡ true → ⊥)
+    (λ _ h. uncommitted (last_work j lane) h)
+    (λ _ h. unowed q (lane / 2) (last_work j lane) (and_parts (lane % 2 == 0) _ h).1) runs.1
+
+-- what is said of the lane's berth is so, and what is chosen there is what the discipline orders
+pub record IsServed (q : Discipline) (s : State) (j : List Entry) (lane : ℕ) (seat : BerthGroup)
+    (x : Choice) : Type 0 where
+  pub is : IsDiscipline q
+  pub ticks : q.ticks lane ≡ false
+  pub fits : lane / 2 < q.seats → SeatFits q.plan j (lane / 2) seat
+  pub remote : lane / 2 < q.seats → is_remote seat.kind ≡ is_remote (q.kinds (lane / 2))
+  pub carried : script_of q j lane call.Ask ≡ true
+      → carried_reply s (lane / 2) x ≡ q.rule j lane call.Ask
+
+module _ (q : Discipline) (s : State) (j : List Entry) (lane : ℕ) (seat : BerthGroup) (x : Choice)
+    (st : Stands q.plan q.seats s j) (legal : LegalBy q j) (all : LawfulMore q.plan j)
+    (v : IsServed q s j lane seat x) where
+  fits : (c : Call) → script_of q j lane c ≡ true → SeatFits q.plan j (lane / 2) seat
+  fits c may = v.fits (lane_within q j lane c may)
+
+  report_is : (c : Call) → is_report c ≡ true → script_of q j lane c ≡ true
+      → made_reply s lane seat c ≡ q.rule j lane c
   report_is call.Ask h may = absurd (cc)
-  report_is (call.Launched l how) h may = refl
-  report_is (call.Wrote l n how) h may = refl
-  report_is (call.Look x) h may = absurd (cc)
-  report_is (call.Claim a b n f) h may = call_is_told p (berths p) s j lane seat
-      (call.Claim a b n f) st all (fits (call.Claim a b n f) may) h
-      (may_call p j lane (call.Claim a b n f) may)
-  report_is (call.Committed a b how) h may = refl
-  report_is (call.Killed l) h may = refl
-  report_is call.Take h may = call_is_told p (berths p) s j lane seat call.Take st all
-      (fits call.Take may) h (may_call p j lane call.Take may)
-  report_is (call.Answer l x) h may = call_is_told p (berths p) s j lane seat (call.Answer l x) st
-      all (fits (call.Answer l x) may) h (may_call p j lane (call.Answer l x) may)
-      ∙ sym (answer_told p j lane l x legal may)
-  report_is (call.Ended l how) h may = refl
-  report_is call.Halt h may = refl
-  report_is call.Tick h may = refl
+  report_is (call.Look y) h may = absurd (cc)
+  report_is call.Tick h may = absurd (no_tick q j lane v.ticks may)
+  report_is (call.Launched l how) h may =
+      call_is_told q.plan q.seats s j lane seat (call.Launched l how) st all
+      (fits (call.Launched l how) may) h (may_call q j lane (call.Launched l how) may)
+      ∙ sym (v.is.told j lane (call.Launched l how) legal may)
+  report_is (call.Wrote l n how) h may =
+      call_is_told q.plan q.seats s j lane seat (call.Wrote l n how) st all
+      (fits (call.Wrote l n how) may) h (may_call q j lane (call.Wrote l n how) may)
+      ∙ sym (v.is.told j lane (call.Wrote l n how) legal may)
+  report_is (call.Claim a b n f) h may =
+      call_is_told q.plan q.seats s j lane seat (call.Claim a b n f) st all
+      (fits (call.Claim a b n f) may) h (may_call q j lane (call.Claim a b n f) may)
+      ∙ sym (v.is.told j lane (call.Claim a b n f) legal may)
+  report_is (call.Committed a b how) h may =
+      call_is_told q.plan q.seats s j lane seat (call.Committed a b how) st all
+      (fits (call.Committed a b how) may) h (may_call q j lane (call.Committed a b how) may)
+      ∙ sym (v.is.told j lane (call.Committed a b how) legal may)
+  report_is (call.Killed l) h may =
+      call_is_told q.plan q.seats s j lane seat (call.Killed l) st all
+      (fits (call.Killed l) may) h (may_call q j lane (call.Killed l) may)
+      ∙ sym (v.is.told j lane (call.Killed l) legal may)
+  report_is call.Take h may =
+      call_is_told q.plan q.seats s j lane seat call.Take st all
+      (fits call.Take may) h (may_call q j lane call.Take may)
+      ∙ sym (v.is.told j lane call.Take legal may)
+  report_is (call.Answer l y) h may =
+      call_is_told q.plan q.seats s j lane seat (call.Answer l y) st all
+      (fits (call.Answer l y) may) h (may_call q j lane (call.Answer l y) may)
+      ∙ sym (v.is.told j lane (call.Answer l y) legal may)
+  report_is (call.Ended l how) h may =
+      call_is_told q.plan q.seats s j lane seat (call.Ended l how) st all
+      (fits (call.Ended l how) may) h (may_call q j lane (call.Ended l how) may)
+      ∙ sym (v.is.told j lane (call.Ended l how) legal may)
+  report_is call.Halt h may =
+      call_is_told q.plan q.seats s j lane seat call.Halt st all
+      (fits call.Halt may) h (may_call q j lane call.Halt may)
+      ∙ sym (v.is.told j lane call.Halt legal may)
 
-  choice_told : script p j lane call.Ask ≡ true
-      → carried_reply s (lane / 2) (chosen s (lane / 2)) ≡ r.rule p j lane call.Ask
-  choice_told may = choice_is p s j lane st legal all.facts may
+  asked : script_of q j lane call.Ask ≡ true
+      → Asked q.plan j (lane / 2) (carried_reply s (lane / 2) x)
+  asked may = subst (λ (y : Reply). Asked q.plan j (lane / 2) y) (sym (v.carried may))
+      (v.is.told j lane call.Ask legal may)
 
-  asked : script p j lane call.Ask ≡ true
-      → Asked p j (lane / 2) (carried_reply s (lane / 2) (chosen s (lane / 2)))
-  asked may =
-      let both = ours.both_ours p j legal in
-      subst (λ (x : Reply). Asked p j (lane / 2) x) (sym (choice_told may))
-      (ours.told_ours p j both.0 both.1 lane call.Ask may)
-
-  pub turn_is : (c : Call) → is_look c ≡ false → script p j lane c ≡ true
-      → turned_reply s lane seat c ≡ r.rule p j lane c
-  turn_is call.Ask h may = choice_told may
-  turn_is (call.Look x) h may = absurd (cc)
+  pub turn_is : (c : Call) → is_look c ≡ false → script_of q j lane c ≡ true
+      → turned_reply s lane seat x c ≡ q.rule j lane c
+  turn_is call.Ask h may = v.carried may
+  turn_is (call.Look y) h may = absurd (cc)
   turn_is (call.Launched l how) h may = report_is (call.Launched l how) refl may
   turn_is (call.Wrote l n how) h may = report_is (call.Wrote l n how) refl may
   turn_is (call.Claim a b n f) h may = report_is (call.Claim a b n f) refl may
   turn_is (call.Committed a b how) h may = report_is (call.Committed a b how) refl may
   turn_is (call.Killed l) h may = report_is (call.Killed l) refl may
   turn_is call.Take h may = report_is call.Take refl may
-  turn_is (call.Answer l x) h may = report_is (call.Answer l x) refl may
+  turn_is (call.Answer l y) h may = report_is (call.Answer l y) refl may
   turn_is (call.Ended l how) h may = report_is (call.Ended l how) refl may
   turn_is call.Halt h may = report_is call.Halt refl may
   turn_is call.Tick h may = report_is call.Tick refl may
 
   Keeps : Call → Type 0
-  Keeps c = is_kept (turned_reply s lane seat c) ≡ true → Stands p (berths p)
-      (noted_after (turned s lane seat c) lane c (turned_reply s lane seat c))
-      (record { lane = lane; call = c; reply = turned_reply s lane seat c } ∷ j)
+  Keeps c = is_kept (turned_reply s lane seat x c) ≡ true → Stands q.plan q.seats
+      (noted_after (turned s lane seat x c) lane c (turned_reply s lane seat x c))
+      (record { lane = lane; call = c; reply = turned_reply s lane seat x c } ∷ j)
 
-  report_keeps : (c : Call) → is_report c ≡ true → script p j lane c ≡ true
-      → is_kept (made_reply s lane seat c) ≡ true → Stands p (berths p)
+  report_keeps : (c : Call) → is_report c ≡ true → script_of q j lane c ≡ true
+      → is_kept (made_reply s lane seat c) ≡ true → Stands q.plan q.seats
       (noted_after (made s lane seat c) lane c (made_reply s lane seat c))
       (record { lane = lane; call = c; reply = made_reply s lane seat c } ∷ j)
-  report_keeps c h may kept = call_stands p (berths p) s j lane seat c st all (fits c may) h
-      (may_call p j lane c may) kept
+  report_keeps c h may kept = call_stands q.plan q.seats s j lane seat c st all (fits c may) h
+      (may_call q j lane c may) kept
 
-  keeps : (c : Call) → is_look c ≡ false → script p j lane c ≡ true → Keeps c
+  keeps : (c : Call) → is_look c ≡ false → script_of q j lane c ≡ true → Keeps c
   unfolding Keeps
-  keeps call.Ask h may = λ kept. ask_stands p (berths p) s j lane st all
-      (may_call p j lane call.Ask may) (chosen s (lane / 2)) (asked may) kept
-  keeps (call.Look x) h may = absurd (cc)
+  keeps call.Ask h may = λ kept. ask_stands q.plan q.seats s j lane st all
+      (may_call q j lane call.Ask may) x (asked may) kept
+  keeps (call.Look y) h may = absurd (cc)
   keeps (call.Launched l how) h may = report_keeps (call.Launched l how) refl may
   keeps (call.Wrote l n how) h may = report_keeps (call.Wrote l n how) refl may
   keeps (call.Claim a b n f) h may = report_keeps (call.Claim a b n f) refl may
   keeps (call.Committed a b how) h may = report_keeps (call.Committed a b how) refl may
   keeps (call.Killed l) h may = report_keeps (call.Killed l) refl may
   keeps call.Take h may = report_keeps call.Take refl may
-  keeps (call.Answer l x) h may = report_keeps (call.Answer l x) refl may
+  keeps (call.Answer l y) h may = report_keeps (call.Answer l y) refl may
   keeps (call.Ended l how) h may = report_keeps (call.Ended l how) refl may
   keeps call.Halt h may = report_keeps call.Halt refl may
   keeps call.Tick h may = report_keeps call.Tick refl may
 
-  pub turn_stands : (c : Call) → is_look c ≡ false → script p j lane c ≡ true
-      → is_kept (turned_reply s lane seat c) ≡ true → Stands p (berths p)
-      (noted_after (turned s lane seat c) lane c (turned_reply s lane seat c))
-      (record { lane = lane; call = c; reply = turned_reply s lane seat c } ∷ j)
+  pub turn_stands : (c : Call) → is_look c ≡ false → script_of q j lane c ≡ true
+      → is_kept (turned_reply s lane seat x c) ≡ true → Stands q.plan q.seats
+      (noted_after (turned s lane seat x c) lane c (turned_reply s lane seat x c))
+      (record { lane = lane; call = c; reply = turned_reply s lane seat x c } ∷ j)
   unfolding Keeps
   turn_stands c h may = keeps c h may
 
-  report_can : (c : Call) → script p j lane c ≡ true → CanMake s lane seat c
-  report_can c may = can_make p (berths p) s j lane seat c st all (may_call p j lane c may)
+  report_can : (c : Call) → script_of q j lane c ≡ true → CanMake s lane seat c
+  report_can c may = can_make q.plan q.seats s j lane seat c st all (may_call q j lane c may)
 
-  pub turn_can : (c : Call) → script p j lane c ≡ true → CanTurn s lane seat c
-  turn_can call.Ask may = record {
-    reads = reads_own p s j (lane / 2) st all (lane_within p j lane call.Ask may);
-    carry = can_carry p (berths p) s j lane (chosen s (lane / 2)) st all
-        (may_call p j lane call.Ask may) (asked may);
-  }
-  turn_can (call.Look x) may = report_can (call.Look x) may
+  pub turn_can : (c : Call) → script_of q j lane c ≡ true → CanTurn s lane seat x c
+  turn_can call.Ask may = can_carry q.plan q.seats s j lane x st all
+      (may_call q j lane call.Ask may) (asked may)
+  turn_can (call.Look y) may = report_can (call.Look y) may
   turn_can (call.Launched l how) may = report_can (call.Launched l how) may
   turn_can (call.Wrote l n how) may = report_can (call.Wrote l n how) may
   turn_can (call.Claim a b n f) may = report_can (call.Claim a b n f) may
   turn_can (call.Committed a b how) may = report_can (call.Committed a b how) may
   turn_can (call.Killed l) may = report_can (call.Killed l) may
   turn_can call.Take may = report_can call.Take may
-  turn_can (call.Answer l x) may = report_can (call.Answer l x) may
+  turn_can (call.Answer l y) may = report_can (call.Answer l y) may
   turn_can (call.Ended l how) may = report_can (call.Ended l how) may
   turn_can call.Halt may = report_can call.Halt may
   turn_can call.Tick may = report_can call.Tick may
-
--- ---- a call that is neither an Ask nor a Look
-
-pub reports : (c : Call) → is_look c ≡ false → (c ≡ call.Ask → ⊥) → is_report c ≡ true
-reports call.Ask h n = absurd (n refl)
-reports (call.Look x) h n = absurd (cc)
-reports _ h n = refl
-
-module _ (s : State) (lane : ℕ) (seat : Seat) where
-  pub reply_made : (c : Call) → is_report c ≡ true
-      → turned_reply s lane seat c ≡ made_reply s lane seat c
-  reply_made call.Ask h = absurd (cc)
-  reply_made _ h = refl
-
-  pub state_made : (c : Call) → is_report c ≡ true → turned s lane seat c ≡ made s lane seat c
-  state_made call.Ask h = absurd (cc)
-  state_made _ h = refl
-
-  pub can_made : (c : Call) → is_report c ≡ true → CanTurn s lane seat c → CanMake s lane seat c
-  can_made call.Ask h can = absurd (cc)
-  can_made _ h can = can

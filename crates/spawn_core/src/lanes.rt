@@ -1,13 +1,12 @@
 // How many berths there are, and what each of their lanes owes.
 ghost use Rattle.std.specs.Prelude.{◌≡◌, ◌≤◌, ◌<◌, ◌*◌, List, sum_by};
-ghost use Rattle.run_plan.specs.declared.plan.Plan.{Plan};
-ghost use Rattle.run_plan.specs.Groups.{berths};
 ghost use Rattle.exec_journal.specs.Entry.{Entry};
 ghost use Rattle.journal_laws.specs.Paid.{count, lane_owes};
 ghost use Rattle.core_laws.specs.Stands.{Stands};
 ghost use Rattle.spawn_core.specs.Outlook.{owes_by};
 ghost use Rattle.spawn_core.specs.Stands.{HasJournal};
 
+use crate::policy::Policy;
 use core_state::State;
 use core_tables::{LaneState, Said};
 use exec_journal::Group;
@@ -25,15 +24,17 @@ pub fn all_berths(groups: &[Group]) -> u32
 }
 
 /// How many paid entries the lane still owes: its Halt, and the Committed of what it was granted. A
-/// lane that isn't the plan's owes none.
-pub fn lane_owes(state: &State, lane: u32) -> u64
-    requires { HasJournal state.now }
-    ensures owes { (p : Plan) (j : List Entry) → Stands p (berths p) state.now j
-        → lane < 2 * berths p
-        → result ≡ lane_owes j lane }
-    ensures none { 2 * berths state.now.plan ≤ lane → result ≡ 0 }
+/// lane that isn't one of the policy's berths owes none.
+pub fn lane_owes<P: Policy>(policy: &P, state: &State, lane: u32) -> u64
+    requires { HasJournal P.discipline P.stands policy.now state.now }
+    ensures owes { (b : P.Basis) (j : List Entry)
+        → Stands (P.discipline b).plan (P.discipline b).seats state.now j
+        → P.stands b policy.now j → lane < 2 * (P.discipline b).seats → result ≡ lane_owes j lane }
+    ensures none { (b : P.Basis) (j : List Entry)
+        → Stands (P.discipline b).plan (P.discipline b).seats state.now j
+        → P.stands b policy.now j → 2 * (P.discipline b).seats ≤ lane → result ≡ 0 }
 {
-    if lane / 2 < all_berths(state.plan.groups.as_slice()) {
+    if lane / 2 < policy.berths(&state.plan) {
         owes(state.lanes.state(lane))
     } else {
         0

@@ -1,13 +1,12 @@
 // What is known of a lane before it calls.
-ghost use Rattle.std.specs.Prelude.{◌≡◌, ◌/◌, not, is_some};
+ghost use Rattle.std.specs.Prelude.{◌≡◌, ◌<◌, ◌/◌, not, is_some};
 ghost use Rattle.core_state.specs.Choices.{Reads};
 ghost use Rattle.core_state.specs.Machine.{takeable};
 ghost use Rattle.core_contract.specs.News.{question};
-ghost use Rattle.earliest_first.specs.Choices.{ReadsOwn};
 ghost use Rattle.spawn_core.specs.Outlook.{is_idle, told_by};
 
+use crate::policy::Policy;
 use core_state::{Choice, State};
-use earliest_first::choose;
 use exec_journal::Call;
 
 /// What a lane asks that owes nothing: a proxy lane an order, a tap lane a line.
@@ -18,12 +17,14 @@ pub fn question(lane: u32) -> Call
 }
 
 /// Whether a lane that may ask would be told anything but Idle.
-pub fn is_awaited(state: &State, lane: u32) -> bool
-    requires { ReadsOwn state.now (lane / 2) }
-    ensures { result ≡ not (is_idle (told_by state.now lane)) }
+pub fn is_awaited<P: Policy>(policy: &P, state: &State, lane: u32) -> bool
+    requires there { P.reads policy.now state.now }
+    requires berth { lane / 2 < (P.discipline (P.basis policy.now state.now.plan)).seats }
+    requires reads { Reads state.now (lane / 2) }
+    ensures { result ≡ not (is_idle (told_by state.now (P.chosen policy.now state.now) lane)) }
 {
     if lane % 2 == 0 {
-        !matches!(choose(state, lane / 2), Choice::Idle)
+        !matches!(policy.choose(state, lane / 2), Choice::Idle)
     } else {
         may_take(state, lane / 2) || state.is_over()
     }

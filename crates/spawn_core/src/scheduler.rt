@@ -1,6 +1,5 @@
 // The core as its callers see it: it always stands for some journal.
 ghost use Rattle.std.specs.Prelude.{◌≡◌, List, [], IfOk, false};
-ghost use Rattle.run_plan.specs.declared.plan.Plan.{Plan};
 ghost use Rattle.run_plan.specs.Sound.{Sound};
 ghost use Rattle.exec_journal.specs.Entry.{Entry};
 ghost use Rattle.exec_journal.specs.declared.reply.Reply.TheVariants as reply;
@@ -8,69 +7,92 @@ ghost use Rattle.exec_journal.specs.Clean.{Clean};
 ghost use Rattle.exec_journal.specs.Legal.{after};
 ghost use Rattle.exec_journal.specs.Words.{halted};
 ghost use Rattle.journal_laws.specs.Finished.{Finished};
+ghost use Rattle.history_laws.specs.Owed.{journal_of};
 ghost use Rattle.history_laws.specs.Ruled.{terms_in, answer_after, IsPaidAfter, owes_after, CameAbout};
 ghost use Rattle.history_laws.proofs.OfRules as laws;
-ghost use Rattle.spawn_core.specs.Answers.{Replies, answer};
-ghost use Rattle.spawn_core.specs.Histories.{no_plan, plan_of, StandsFor};
+ghost use Rattle.spawn_core.specs.Answers.{Replies, answer_by};
+ghost use Rattle.spawn_core.specs.Histories.{basis_of};
 ghost use Rattle.spawn_core.specs.Laws as own_laws;
-ghost use Rattle.spawn_core.specs.Laws.{own, own_is};
-ghost use Rattle.spawn_core.specs.News.{news_are};
+ghost use Rattle.spawn_core.specs.News as news;
 ghost use Rattle.spawn_core.specs.Orderly.{Complete, Orderly};
 ghost use Rattle.spawn_core.specs.Outlook.{has_news, has_news_by};
-ghost use Rattle.spawn_core.specs.Stands.{Stands};
+ghost use Rattle.spawn_core.specs.Stands.{Stands, StandsIn};
 
-use crate::lanes::{all_berths, lane_owes};
+use crate::earliest::EarliestFirst;
+use crate::lanes::lane_owes;
 use crate::outlook::{is_awaited, question};
+use crate::policy::Policy;
 use crate::tables::{action_tables, lane_tables, line_tables};
 use crate::turn::step;
 use core_contract::Rules;
 use core_state::State;
-use core_tables::{Files, seat_of};
+use core_tables::Files;
 use exec_journal::{Call, Plan, Reply};
 use plain_values::NoMemory;
 use run_progress::Notes;
 use std::alloc::Global;
 use std::marker::Model;
 
-/// The scheduling core of a run. A contract sees what it keeps; it always stands for some journal.
+/// The scheduling core of a run, of this policy. A contract sees what it keeps; it always stands
+/// for some journal.
 #[derive(Drop)]
-pub struct Core {
+pub struct Core<P: Policy> {
+    policy: P,
     state: State,
     files: Files,
     // How many paid entries are still to come.
     owed: u64,
 }
 
-impl Model for Core {
-    ghost use Rattle.spawn_core.specs.Stands.{Kept, HasHistory};
+impl<P: Policy> Model for Core<P> {
+    ghost use Rattle.spawn_core.specs.Stands.{KeptBy, HasHistory};
 
-    ghost Value = { Kept };
+    ghost Value = { KeptBy P };
 
     ghost view = { λ a. record {
+      policy = a.policy;
       state = a.state;
       files = a.files;
       owed = a.owed;
     } };
 
-    ghost invariant = { λ a. HasHistory (record {
+    ghost invariant = { λ a. HasHistory P.discipline P.stands (record {
+      policy = a.policy;
       state = a.state;
       files = a.files;
       owed = a.owed;
     }) };
 }
 
-impl Core {
-    /// The core of a run in which nothing was called yet. It makes the room for all that later
-    /// calls need.
+impl Core<EarliestFirst> {
+    /// The core of a run on the plan's own berths, in which nothing was called yet. It makes the
+    /// room for all that later calls need.
     ///
     /// # Errors
     ///
     /// `NoMemory` where that room is not there.
-    pub fn new(alloc: Global, plan: Plan) -> Result<Core, NoMemory>
+    pub fn new(alloc: Global, plan: Plan) -> Result<Core<EarliestFirst>, NoMemory>
         requires { Sound plan }
         ensures { IfOk result (λ c. Stands plan c []) }
     {
-        let berths = all_berths(plan.groups.as_slice()) as usize;
+        Core::with_policy(alloc, EarliestFirst, plan)
+    }
+}
+
+impl<P: Policy> Core<P> {
+    /// The core of a run by this policy, in which nothing was called yet. It makes the room for all
+    /// that later calls need.
+    ///
+    /// # Errors
+    ///
+    /// `NoMemory` where that room is not there.
+    pub fn with_policy(alloc: Global, policy: P, plan: Plan) -> Result<Core<P>, NoMemory>
+        requires sound { Sound plan }
+        requires begins { P.stands (P.basis policy plan) policy [] }
+        ensures { IfOk result (λ c. StandsIn (P.discipline (P.basis policy plan))
+            (P.stands (P.basis policy plan)) c []) }
+    {
+        let berths = policy.berths(&plan) as usize;
         let files = Files::new(alloc, &plan)?;
         let (pool, requests, cancels) = line_tables(alloc, &plan, berths)?;
         let (ready, race, attempts) = action_tables(alloc, &plan)?;
@@ -90,29 +112,47 @@ impl Core {
             halted: false,
         };
         let owed = 2 * berths as u64;
-        Ok(Core { state, files, owed })
+        Ok(Core {
+            policy,
+            state,
+            files,
+            owed,
+        })
     }
 
-    /// The reply to a lane's call: the rules', or Astray where the call isn't in its lane's script.
-    /// Only a Look takes memory, and may say that there is none in place of a file.
+    /// The reply to a lane's call: the discipline's, or Astray where the call isn't in its lane's
+    /// script. Only a Look takes memory, and may say that there is none in place of a file.
     ///
     /// Where a lane is told to stop, and none has halted, the run is finished; and every action has
     /// success, where every worker did its part.
     pub fn step(&mut self, lane: u32, call: &Call) -> Reply
         ensures plan { self.new.state.plan ≡ self.old.state.plan }
-        ensures reply { (p : Plan) (j : List Entry) → Stands p self.old j
-            → Replies (answer p j lane call.now) result }
-        ensures stands { (p : Plan) (j : List Entry) → Stands p self.old j
-            → Stands p self.new (after j lane call.now result) }
-        ensures orderly { (p : Plan) (j : List Entry) → Stands p self.new j → Orderly p j }
-        ensures stop { (p : Plan) (j : List Entry) → Stands p self.old j → result ≡ reply.Stop
-            → halted j ≡ false → Finished p j }
-        ensures complete { (p : Plan) (j : List Entry) → Stands p self.old j
-            → result ≡ reply.Stop → halted j ≡ false → Clean j → Complete p j }
+        ensures basis { basis_of P.basis self.new ≡ basis_of P.basis self.old }
+        ensures reply { (b : P.Basis) (j : List Entry)
+            → StandsIn (P.discipline b) (P.stands b) self.old j
+            → Replies (answer_by (P.discipline b) j lane call.now) result }
+        ensures stands { (b : P.Basis) (j : List Entry)
+            → StandsIn (P.discipline b) (P.stands b) self.old j
+            → StandsIn (P.discipline b) (P.stands b) self.new (after j lane call.now result) }
+        ensures orderly { (b : P.Basis) (j : List Entry)
+            → StandsIn (P.discipline b) (P.stands b) self.new j
+            → Orderly (P.discipline b) (P.kept b) j }
+        ensures stop { (b : P.Basis) (j : List Entry)
+            → StandsIn (P.discipline b) (P.stands b) self.old j → result ≡ reply.Stop
+            → halted j ≡ false → Finished (P.discipline b).plan j }
+        ensures complete { (b : P.Basis) (j : List Entry)
+            → StandsIn (P.discipline b) (P.stands b) self.old j → result ≡ reply.Stop
+            → halted j ≡ false → Clean j → Complete (P.discipline b).plan j }
     {
-        let before = lane_owes(&self.state, lane);
-        let reply = step(&mut self.state, &mut self.files, lane, call);
-        let after = lane_owes(&self.state, lane);
+        let before = lane_owes(&self.policy, &self.state, lane);
+        let reply = step(
+            &mut self.policy,
+            &mut self.state,
+            &mut self.files,
+            lane,
+            call,
+        );
+        let after = lane_owes(&self.policy, &self.state, lane);
         self.owed = self.owed - before + after;
         reply
     }
@@ -125,26 +165,28 @@ impl Core {
     }
 }
 
-impl Rules for Core {
-    type Plan = Plan;
+impl<P: Policy> Rules for Core<P> {
+    type Plan = P::Basis;
 
-    ghost plan = { plan_of };
+    ghost plan = { basis_of P.basis };
 
-    ghost blank = { no_plan };
+    ghost blank = { P.blank };
 
-    ghost stands = { StandsFor };
+    ghost stands = { λ m h. StandsIn (P.discipline (basis_of P.basis m))
+        (P.stands (basis_of P.basis m)) m (journal_of h) };
 
-    ghost legal = { λ q. CameAbout (own q) };
+    ghost legal = { λ b. CameAbout (P.discipline b) };
 
-    ghost rule = { λ q. answer_after (own q) };
+    ghost rule = { λ b. answer_after (P.discipline b) };
 
-    ghost paid = { λ q. IsPaidAfter (own q) };
+    ghost paid = { λ b. IsPaidAfter (P.discipline b) };
 
-    ghost owes = { λ q. owes_after (own q) };
+    ghost owes = { λ b. owes_after (P.discipline b) };
 
-    ghost terms = { λ q. terms_in (own q) };
+    ghost terms = { λ b. terms_in (P.discipline b) };
 
-    ghost news = { λ m lane. has_news_by m.state lane };
+    ghost news = { λ m lane. has_news_by m.state (P.seated m.policy m.state)
+        (P.chosen m.policy m.state) lane };
 
     // The core's own step, whose clauses speak of journals.
     fn step(&mut self, lane: u32, call: &Call) -> Reply {
@@ -152,16 +194,19 @@ impl Rules for Core {
     }
 
     fn has_news(&self, lane: u32) -> bool
-        ensures exact { result ≡ has_news_by self.now.state lane }
-        ensures news { (p : Plan) (j : List Entry) → Stands p self.now j
-            → result ≡ has_news p j lane }
+        ensures exact { result ≡ has_news_by self.now.state
+            (P.seated self.now.policy self.now.state) (P.chosen self.now.policy self.now.state)
+            lane }
+        ensures news { (b : P.Basis) (j : List Entry)
+            → StandsIn (P.discipline b) (P.stands b) self.now j
+            → result ≡ has_news (P.discipline b) j lane }
     {
-        match seat_of(&self.state.plan, lane / 2) {
+        match self.policy.seat(&self.state, lane / 2) {
             Some(seat) => {
                 self.state
                     .lanes
                     .allows(&self.state.plan, seat.kind, lane, &question(lane))
-                    && is_awaited(&self.state, lane)
+                    && is_awaited(&self.policy, &self.state, lane)
             }
             None => false,
         }
@@ -172,7 +217,7 @@ impl Rules for Core {
     }
 
     fn berths(&self) -> u32 {
-        all_berths(self.state.plan.groups.as_slice())
+        self.policy.berths(&self.state.plan)
     }
 
     // One for each attempt of either branch of each action.
@@ -181,55 +226,74 @@ impl Rules for Core {
         2 * actions * self.state.plan.limit
     }
 
-    ghost paid_is_noted = { own_laws.paid_is_noted };
+    ghost paid_is_noted = { λ m h lane c s p. laws.paid_is_noted
+        (P.discipline (basis_of P.basis m)) (P.is_discipline (basis_of P.basis m)) h lane c
+        (own_laws.stands_legal (P.discipline (basis_of P.basis m)) (P.stands (basis_of P.basis m))
+        m h s) p };
 
-    ghost paid_stays = { own_laws.paid_stays };
+    ghost paid_stays = { λ m h more lane c s none p. laws.paid_stays
+        (P.discipline (basis_of P.basis m)) (P.is_discipline (basis_of P.basis m)) h more lane c
+        none p };
 
-    ghost owes_less = { own_laws.owes_less };
+    ghost owes_less = { λ m h lane c s p. laws.owes_less (P.discipline (basis_of P.basis m))
+        (P.is_discipline (basis_of P.basis m)) h lane c p };
 
-    ghost owes_more = { own_laws.owes_more };
+    ghost owes_more = { λ m h lane c s kept. laws.owes_more (P.discipline (basis_of P.basis m))
+        (P.is_discipline (basis_of P.basis m)) h lane c kept };
 
-    ghost replies = { λ q. laws.replies (own q) (own_is q) };
+    ghost replies = { λ q. laws.replies (P.discipline q) (P.is_discipline q) };
 
-    ghost lanes_are_known = { λ q. laws.lanes_are_known (own q) (own_is q) };
+    ghost lanes_are_known = { λ q. laws.lanes_are_known (P.discipline q) (P.is_discipline q) };
 
-    ghost script_stays = { λ q. laws.script_stays (own q) (own_is q) };
+    ghost script_stays = { λ q. laws.script_stays (P.discipline q) (P.is_discipline q) };
 
-    ghost taps_hear = { λ q. laws.taps_hear (own q) (own_is q) };
+    ghost taps_hear = { λ q. laws.taps_hear (P.discipline q) (P.is_discipline q) };
 
-    ghost taps_hear_only = { λ q. laws.taps_hear_only (own q) (own_is q) };
+    ghost taps_hear_only = { λ q. laws.taps_hear_only (P.discipline q) (P.is_discipline q) };
 
-    ghost taps_may_halt = { λ q. laws.taps_may_halt (own q) (own_is q) };
+    ghost taps_may_halt = { λ q. laws.taps_may_halt (P.discipline q) (P.is_discipline q) };
 
-    ghost proxies_do = { λ q. laws.proxies_do (own q) (own_is q) };
+    ghost proxies_do = { λ q. laws.proxies_do (P.discipline q) (P.is_discipline q) };
 
-    ghost proxies_do_only = { λ q. laws.proxies_do_only (own q) (own_is q) };
+    ghost proxies_do_only = { λ q. laws.proxies_do_only (P.discipline q) (P.is_discipline q) };
 
-    ghost proxies_may_halt = { λ q. laws.proxies_may_halt (own q) (own_is q) };
+    ghost proxies_may_halt = { λ q. laws.proxies_may_halt (P.discipline q) (P.is_discipline q) };
 
-    ghost commits_are_paid = { λ q. laws.commits_are_paid (own q) (own_is q) };
+    ghost commits_are_paid = { λ q. laws.commits_are_paid (P.discipline q) (P.is_discipline q) };
 
-    ghost only_hears = { λ q. laws.only_hears (own q) (own_is q) };
+    ghost only_hears = { λ q. laws.only_hears (P.discipline q) (P.is_discipline q) };
 
-    ghost news_are = { news_are };
+    ghost news_are = { λ m h lane s. news.news_are (P.discipline (basis_of P.basis m)) m.state h
+        (P.seated m.policy m.state) (P.chosen m.policy m.state) lane s.both.tables s.both.legal
+        (record {
+          is = P.is_discipline (basis_of P.basis m);
+          ticks = P.no_ticks (basis_of P.basis m);
+          seats = λ w lt. P.seats_are (basis_of P.basis m) m.policy m.state (journal_of h) w
+              (record { tables = s.both.tables; legal = s.both.legal }) s.both.own lt;
+          choices = λ k may. P.choices_are (basis_of P.basis m) m.policy m.state (journal_of h) k
+              (record { tables = s.both.tables; legal = s.both.legal }) s.both.own may;
+        }) };
 
-    ghost stands_legal = { own_laws.stands_legal };
+    ghost stands_legal = { λ m h s. own_laws.stands_legal (P.discipline (basis_of P.basis m))
+        (P.stands (basis_of P.basis m)) m h s };
 
-    ghost legal_before = { λ q. laws.legal_before (own q) (own_is q) };
+    ghost legal_before = { λ q. laws.legal_before (P.discipline q) (P.is_discipline q) };
 
-    ghost orders_hold = { λ q. laws.orders_hold (own q) (own_is q) };
+    ghost orders_hold = { λ q. laws.orders_hold (P.discipline q) (P.is_discipline q) };
 
-    ghost lines_fit = { λ q. laws.lines_fit (own q) (own_is q) };
+    ghost orders_fit = { λ q. laws.orders_fit (P.discipline q) (P.is_discipline q) };
 
-    ghost inputs_are_there = { λ q. laws.inputs_are_there (own q) (own_is q) };
+    ghost lines_fit = { λ q. laws.lines_fit (P.discipline q) (P.is_discipline q) };
 
-    ghost lines_find_room = { λ q. laws.lines_find_room (own q) (own_is q) };
+    ghost inputs_are_there = { λ q. laws.inputs_are_there (P.discipline q) (P.is_discipline q) };
 
-    ghost takes_there = { λ q. laws.takes_there (own q) (own_is q) };
+    ghost lines_find_room = { λ q. laws.lines_find_room (P.discipline q) (P.is_discipline q) };
 
-    ghost takes_once = { λ q. laws.takes_once (own q) (own_is q) };
+    ghost takes_there = { λ q. laws.takes_there (P.discipline q) (P.is_discipline q) };
 
-    ghost grants_once = { λ q. laws.grants_once (own q) (own_is q) };
+    ghost takes_once = { λ q. laws.takes_once (P.discipline q) (P.is_discipline q) };
 
-    ghost commits_own = { λ q. laws.commits_own (own q) (own_is q) };
+    ghost grants_once = { λ q. laws.grants_once (P.discipline q) (P.is_discipline q) };
+
+    ghost commits_own = { λ q. laws.commits_own (P.discipline q) (P.is_discipline q) };
 }

@@ -1,5 +1,5 @@
 // The tables of a new core, in groups, so that none of these functions holds many when one more finds no memory.
-ghost use Rattle.std.specs.Prelude.{◌≡◌, ◌≤◌, ◌*◌, [], IfOk, replicate};
+ghost use Rattle.std.specs.Prelude.{◌≡◌, ◌<◌, ◌*◌, ◌^◌, [], IfOk, replicate};
 ghost use Rattle.run_plan.specs.Sound.{Sound};
 ghost use Rattle.worker_pool.specs.Stands as pools;
 ghost use Rattle.request_table.specs.Stands as requests;
@@ -56,7 +56,7 @@ pub fn lane_tables(
     alloc: Global,
     berths: usize,
 ) -> Result<(Lanes, LastLines, Greetings, Matches), NoMemory>
-    requires { berths ≤ 64 }
+    requires { berths < 2 ^ 31 }
     ensures { IfOk result (λ t. (t.0 ≡ replicate (2 * berths) no_work)
         × (t.1 ≡ replicate berths no_line) × (t.2 ≡ replicate berths silent)
         × (t.3 ≡ replicate berths no_matches)) }

@@ -5,62 +5,87 @@ ghost use Rattle.exec_journal.specs.Entry.{Entry};
 ghost use Rattle.exec_journal.specs.Entries.{is_look};
 ghost use Rattle.exec_journal.specs.Legal.{after};
 ghost use Rattle.core_tables.specs.Lanes.{allows_by};
-ghost use Rattle.core_tables.specs.Seats.{seat_at};
-ghost use Rattle.spawn_core.specs.Answers.{Replies, answer};
+ghost use Rattle.spawn_core.specs.Answers.{Replies, answer_by};
 ghost use Rattle.spawn_core.specs.Looks.{ToldLook};
 ghost use Rattle.spawn_core.specs.Stands.{HasJournal, TablesStand};
 ghost use Rattle.spawn_core.specs.Turns.{CanTurn, turned, turned_reply};
 
+use crate::policy::Policy;
 use core_state::State;
-use core_tables::{Files, Order, Seat, seat_of};
-use earliest_first::choose;
+use core_tables::{BerthGroup, Files, Owed};
 use exec_journal::{Call, Reply, Wanted};
 
 /// The reply to a lane's call, and what it makes of the tables.
-pub fn step(state: &mut State, files: &mut Files, lane: u32, call: &Call) -> Reply
-    requires { HasJournal state.old }
-    ensures reply { (p : Plan) (j : List Entry) → TablesStand p state.old files.old j
-        → Replies (answer p j lane call.now) result }
-    ensures stands { (p : Plan) (j : List Entry) → TablesStand p state.old files.old j
-        → TablesStand p state.new files.new (after j lane call.now result) }
+pub fn step<P: Policy>(
+    policy: &mut P,
+    state: &mut State,
+    files: &mut Files,
+    lane: u32,
+    call: &Call,
+) -> Reply
+    requires { HasJournal P.discipline P.stands policy.old state.old }
+    ensures basis { (plan : Plan) → P.basis policy.new plan ≡ P.basis policy.old plan }
+    ensures reply { (b : P.Basis) (j : List Entry)
+        → TablesStand (P.discipline b) (P.stands b policy.old) state.old files.old j
+        → Replies (answer_by (P.discipline b) j lane call.now) result }
+    ensures stands { (b : P.Basis) (j : List Entry)
+        → TablesStand (P.discipline b) (P.stands b policy.old) state.old files.old j
+        → TablesStand (P.discipline b) (P.stands b policy.new) state.new files.new
+        (after j lane call.now result) }
 {
-    match seat_of(&state.plan, lane / 2) {
+    match policy.seat(state, lane / 2) {
         Some(seat) if state.lanes.allows(&state.plan, seat.kind, lane, call) => {
-            in_script(state, files, lane, seat, call)
+            in_script(policy, state, files, lane, seat, call)
         }
         _ => Reply::Astray,
     }
 }
 
 // A call that is in its lane's script.
-fn in_script(state: &mut State, files: &mut Files, lane: u32, seat: Seat, call: &Call) -> Reply
-    requires journal { HasJournal state.old }
-    requires seated { seat_at state.old.plan (lane / 2) ≡ Some seat }
+fn in_script<P: Policy>(
+    policy: &mut P,
+    state: &mut State,
+    files: &mut Files,
+    lane: u32,
+    seat: BerthGroup,
+    call: &Call,
+) -> Reply
+    requires journal { HasJournal P.discipline P.stands policy.old state.old }
+    requires seated { P.seated policy.old state.old (lane / 2) ≡ Some seat }
     requires allowed { allows_by state.old.plan seat.kind state.old.lanes lane call.now ≡ true }
-    ensures reply { (p : Plan) (j : List Entry) → TablesStand p state.old files.old j
-        → Replies (answer p j lane call.now) result }
-    ensures stands { (p : Plan) (j : List Entry) → TablesStand p state.old files.old j
-        → TablesStand p state.new files.new (after j lane call.now result) }
+    ensures basis { (plan : Plan) → P.basis policy.new plan ≡ P.basis policy.old plan }
+    ensures reply { (b : P.Basis) (j : List Entry)
+        → TablesStand (P.discipline b) (P.stands b policy.old) state.old files.old j
+        → Replies (answer_by (P.discipline b) j lane call.now) result }
+    ensures stands { (b : P.Basis) (j : List Entry)
+        → TablesStand (P.discipline b) (P.stands b policy.old) state.old files.old j
+        → TablesStand (P.discipline b) (P.stands b policy.new) state.new files.new
+        (after j lane call.now result) }
 {
     if let Call::Look(wanted) = call {
         return look(state, files, lane, wanted);
     }
-    let reply = make(state, lane, seat, call);
+    let reply = make(policy, state, lane, seat, call);
     files.keep(&state.plan, call, &reply);
     state.note(lane, call, &reply);
+    policy.note(lane, call, &reply);
     reply
 }
 
 // Any call but a Look.
-fn make(state: &mut State, lane: u32, seat: Seat, call: &Call) -> Reply
-    requires can { CanTurn state.old lane seat call.now }
+fn make<P: Policy>(policy: &P, state: &mut State, lane: u32, seat: BerthGroup, call: &Call) -> Reply
+    requires there { P.reads policy.now state.old }
+    requires berth { lane / 2 < (P.discipline (P.basis policy.now state.old.plan)).seats }
+    requires can { CanTurn state.old lane seat (P.chosen policy.now state.old (lane / 2)) call.now }
     requires no_look { is_look call.now ≡ false }
-    ensures reply { result ≡ turned_reply state.old lane seat call.now }
-    ensures state { state.new ≡ turned state.old lane seat call.now }
+    ensures reply { result
+        ≡ turned_reply state.old lane seat (P.chosen policy.now state.old (lane / 2)) call.now }
+    ensures state { state.new
+        ≡ turned state.old lane seat (P.chosen policy.now state.old (lane / 2)) call.now }
 {
     match call {
         Call::Ask => {
-            let choice = choose(state, lane / 2);
+            let choice = policy.choose(state, lane / 2);
             state.carry_out(lane / 2, choice)
         }
         _ => state.make(lane, seat, call),
@@ -75,7 +100,7 @@ fn look(state: &State, files: &Files, lane: u32, wanted: &Wanted) -> Reply
     match wanted {
         Wanted::Made { action, output } => files.made(*action, *output),
         Wanted::Answered { output, .. } => match state.lanes.state(lane).order {
-            Order::Gather { attempt, .. } => {
+            Owed::Gather { attempt, .. } => {
                 files.answered(attempt.action, attempt.branch, *output)
             }
             _ => Reply::NoFile,

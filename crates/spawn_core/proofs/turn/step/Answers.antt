@@ -1,19 +1,34 @@
-use Rattle.std.proofs.Common.{sym, ◌∙◌}
+use Rattle.std.proofs.Common.{sym, ◌∙◌, ◌/◌}
+use Rattle.spawn_core.specs.News.{served}
+use Rattle.spawn_core.proofs.Served.{serves}
 use Rattle.spawn_core.proofs.Stepped.{reply_out, reply_none}
 use Rattle.spawn_core.proofs.turn.step.Goals as goal
 use Rattle.spawn_core.proofs.turn.step.Goals.{in_default-via-in-Some+else-allows, in_default-via-in_default}
 
+pub seat-requires : goal.seat-requires
+seat-requires g c = let h = c.requires in
+    g.met.P.Policy.reads_are h.basis c.args.policy.now c.args.state.now h.journal h.stands h.own
+
 pub in_script-requires-clause-seated : goal.in_script-requires-clause-seated
-in_script-requires-clause-seated c = sym c.seat_of.ensures ∙ c.in-Some.is
+in_script-requires-clause-seated g c = sym c.seat.ensures ∙ c.in-Some.is
 
 pub in_script-requires-clause-allowed : goal.in_script-requires-clause-allowed
-in_script-requires-clause-allowed c = sym c.allows.ensures ∙ c.if-allows.true
+in_script-requires-clause-allowed g c = sym c.allows.ensures ∙ c.if-allows.true
 
 pub returns-in_default-clause-reply : goal.returns-in_default-clause-reply
-returns-in_default-clause-reply c = λ p j st. elim c.in_default.branch [
-  | in_default-via-in-Some+else-allows w ↦ reply_out p c.args.state.now j c.args.lane w.in-Some.seat
-      c.args.call.now st.tables (sym c.seat_of.ensures ∙ w.in-Some.is)
-      (sym w.allows.ensures ∙ w.if-allows.false)
-  | in_default-via-in_default w ↦ reply_none p c.args.state.now j c.args.lane c.args.call.now
-      st.tables (sym c.seat_of.ensures ∙ w.in_default.is)
-]
+returns-in_default-clause-reply g c = λ b j st.
+    let law = g.met.P.Policy in let m = c.args.policy.now in let s = c.args.state.now in
+    let q = g.P.Policy.discipline b in
+    let v = serves g.P.Policy.discipline g.P.Policy.stands g.P.Policy.seated g.P.Policy.chosen
+    law.is_discipline law.no_ticks law.seats_are law.choices_are b m s j
+    (record { tables = st.tables; legal = st.legal }) st.own in
+    elim c.in_default.branch [
+      | in_default-via-in-Some+else-allows w ↦ reply_out q s j c.args.lane w.in-Some.seat
+          (g.P.Policy.chosen m s (c.args.lane / 2)) c.args.call.now st.tables
+          (served q s j (g.P.Policy.seated m s) (g.P.Policy.chosen m s) v c.args.lane
+          w.in-Some.seat (sym c.seat.ensures ∙ w.in-Some.is))
+          (sym w.allows.ensures ∙ w.if-allows.false)
+      | in_default-via-in_default w ↦ reply_none q j c.args.lane c.args.call.now
+          (g.P.Policy.seated m s (c.args.lane / 2)) (v.seats (c.args.lane / 2))
+          (sym c.seat.ensures ∙ w.in_default.is)
+    ]

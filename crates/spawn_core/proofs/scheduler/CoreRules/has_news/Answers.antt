@@ -1,44 +1,84 @@
-use Rattle.std.proofs.Common.{◌∙◌, Bool, ◌&&◌, not, Some, None, ap, subst, sym}
+use Rattle.std.proofs.Common.{◌∙◌, ◌<◌, ◌/◌, Bool, ◌&&◌, not, Some, None, ap, subst, sym}
 use Rattle.exec_journal.specs.declared.call.Call.{Call}
 use Rattle.core_tables.specs.Lanes.{allows_by}
-use Rattle.spawn_core.specs.News.{news_at}
+use Rattle.spawn_core.specs.News.{news_at, served}
 use Rattle.spawn_core.specs.Outlook.{is_idle, told_by}
-use Rattle.spawn_core.specs.Stands.{Kept, Stands}
-use Rattle.spawn_core.proofs.Outlooks.{journal_kept, reads_asking}
+use Rattle.spawn_core.specs.Stands.{KeptBy, StandsIn}
+use Rattle.spawn_core.proofs.Outlooks.{goes_by, journal_kept, reads_asking}
+use Rattle.spawn_core.proofs.Served.{serves}
 use Rattle.spawn_core.proofs.scheduler.CoreRules.has_news.Goals as goal
 
+pub seat-requires : goal.seat-requires
+seat-requires g c =
+    let law = g.met.P.Policy in
+    let s = c.self.inside.state in let m = c.self.inside.policy in let lane = c.args.lane in
+    let h = journal_kept g.P.Policy.discipline g.P.Policy.stands _ c.self.invariant in
+    law.reads_are h.basis m s h.journal h.stands h.own
+
 pub is_awaited-requires : goal.is_awaited-requires
-is_awaited-requires c = let s = c.self.inside.state in
-    reads_asking s c.args.lane c.in-Some.seat (journal_kept (record {
-      state = s;
-      files = c.self.inside.files;
-      owed = c.self.inside.owed;
-    }) c.self.invariant) (sym c.seat_of.ensures ∙ c.in-Some.is)
-    (ap (λ (q : Call). allows_by s.plan c.in-Some.seat.kind s.lanes c.args.lane q)
-    (sym c.question.ensures) ∙ (sym c.allows.ensures ∙ c.if-allows.true))
+is_awaited-requires g c =
+    let law = g.met.P.Policy in
+    let s = c.self.inside.state in let m = c.self.inside.policy in let lane = c.args.lane in
+    let h = journal_kept g.P.Policy.discipline g.P.Policy.stands _ c.self.invariant in
+    let v = serves g.P.Policy.discipline g.P.Policy.stands g.P.Policy.seated g.P.Policy.chosen
+    law.is_discipline law.no_ticks law.seats_are law.choices_are h.basis m s h.journal
+    h.stands h.own in
+    let may = ap (λ (q : Call). allows_by s.plan c.in-Some.seat.kind s.lanes lane q)
+    (sym c.question.ensures) ∙ (sym c.allows.ensures ∙ c.if-allows.true) in
+    let at = reads_asking (g.P.Policy.discipline h.basis) s h.journal lane c.in-Some.seat
+    (g.P.Policy.chosen m s (lane / 2)) h.stands
+    (served (g.P.Policy.discipline h.basis) s h.journal (g.P.Policy.seated m s)
+    (g.P.Policy.chosen m s) v lane c.in-Some.seat (sym c.seat.ensures ∙ c.in-Some.is)) may in
+    let same = goes_by g.P.Policy.discipline g.P.Policy.basis m s h.journal h.basis h.stands.tables
+    (law.basis_is h.basis m h.journal h.own) in
+    record {
+      there = law.reads_are h.basis m s h.journal h.stands h.own;
+      berth = subst (λ b. lane / 2 < (g.P.Policy.discipline b).seats) (sym same) at.0;
+      reads = at.1;
+    }
 
 pub returns-then-allows-clause-news : goal.returns-then-allows-clause-news
-returns-then-allows-clause-news c = λ p j st. let s = c.self.inside.state in
-    let here = subst (λ (k : Kept). Stands p k j) (sym c.self.view_is) st in
-    let may = ap (λ (q : Call). allows_by s.plan c.in-Some.seat.kind s.lanes c.args.lane q)
+returns-then-allows-clause-news g c = λ b j st.
+    let law = g.met.P.Policy in
+    let s = c.self.inside.state in let m = c.self.inside.policy in let lane = c.args.lane in
+    let here = subst (λ (k : KeptBy g.row.P.Denot). StandsIn (g.P.Policy.discipline b)
+    (g.P.Policy.stands b) k j) (sym c.self.view_is) st in
+    let v = serves g.P.Policy.discipline g.P.Policy.stands g.P.Policy.seated g.P.Policy.chosen
+    law.is_discipline law.no_ticks law.seats_are law.choices_are b m s j
+    (record { tables = here.both.tables; legal = here.both.legal }) here.both.own in
+    let may = ap (λ (q : Call). allows_by s.plan c.in-Some.seat.kind s.lanes lane q)
     (sym c.question.ensures) ∙ (sym c.allows.ensures ∙ c.if-allows.true) in
     c.is_awaited.ensures
-    ∙ (ap (λ (b : Bool). b && not (is_idle (told_by s c.args.lane))) (sym may)
-    ∙ news_at p s j c.args.lane (Some c.in-Some.seat) here.both.tables here.both.legal
-    (sym c.seat_of.ensures ∙ c.in-Some.is))
+    ∙ (ap (λ (b : Bool). b && not (is_idle (told_by s (g.P.Policy.chosen m s) lane))) (sym may)
+    ∙ news_at (g.P.Policy.discipline b) s j (g.P.Policy.seated m s) (g.P.Policy.chosen m s)
+    here.both.tables here.both.legal v lane (Some c.in-Some.seat)
+    (sym c.seat.ensures ∙ c.in-Some.is))
 
 pub returns-else-allows-clause-news : goal.returns-else-allows-clause-news
-returns-else-allows-clause-news c = λ p j st. let s = c.self.inside.state in
-    let here = subst (λ (k : Kept). Stands p k j) (sym c.self.view_is) st in
-    let may = ap (λ (q : Call). allows_by s.plan c.in-Some.seat.kind s.lanes c.args.lane q)
+returns-else-allows-clause-news g c = λ b j st.
+    let law = g.met.P.Policy in
+    let s = c.self.inside.state in let m = c.self.inside.policy in let lane = c.args.lane in
+    let here = subst (λ (k : KeptBy g.row.P.Denot). StandsIn (g.P.Policy.discipline b)
+    (g.P.Policy.stands b) k j) (sym c.self.view_is) st in
+    let v = serves g.P.Policy.discipline g.P.Policy.stands g.P.Policy.seated g.P.Policy.chosen
+    law.is_discipline law.no_ticks law.seats_are law.choices_are b m s j
+    (record { tables = here.both.tables; legal = here.both.legal }) here.both.own in
+    let may = ap (λ (q : Call). allows_by s.plan c.in-Some.seat.kind s.lanes lane q)
     (sym c.question.ensures) ∙ (sym c.allows.ensures ∙ c.if-allows.false) in
     c.if-allows.false
-    ∙ (ap (λ (b : Bool). b && not (is_idle (told_by s c.args.lane))) (sym may)
-    ∙ news_at p s j c.args.lane (Some c.in-Some.seat) here.both.tables here.both.legal
-    (sym c.seat_of.ensures ∙ c.in-Some.is))
+    ∙ (ap (λ (b : Bool). b && not (is_idle (told_by s (g.P.Policy.chosen m s) lane))) (sym may)
+    ∙ news_at (g.P.Policy.discipline b) s j (g.P.Policy.seated m s) (g.P.Policy.chosen m s)
+    here.both.tables here.both.legal v lane (Some c.in-Some.seat)
+    (sym c.seat.ensures ∙ c.in-Some.is))
 
 pub returns-in-None-clause-news : goal.returns-in-None-clause-news
-returns-in-None-clause-news c = λ p j st.
-    let here = subst (λ (k : Kept). Stands p k j) (sym c.self.view_is) st in
-    news_at p c.self.inside.state j c.args.lane None here.both.tables here.both.legal
-    (sym c.seat_of.ensures ∙ c.in-None.is)
+returns-in-None-clause-news g c = λ b j st.
+    let law = g.met.P.Policy in
+    let s = c.self.inside.state in let m = c.self.inside.policy in let lane = c.args.lane in
+    let here = subst (λ (k : KeptBy g.row.P.Denot). StandsIn (g.P.Policy.discipline b)
+    (g.P.Policy.stands b) k j) (sym c.self.view_is) st in
+    let v = serves g.P.Policy.discipline g.P.Policy.stands g.P.Policy.seated g.P.Policy.chosen
+    law.is_discipline law.no_ticks law.seats_are law.choices_are b m s j
+    (record { tables = here.both.tables; legal = here.both.legal }) here.both.own in
+    news_at (g.P.Policy.discipline b) s j (g.P.Policy.seated m s) (g.P.Policy.chosen m s)
+    here.both.tables here.both.legal v lane None (sym c.seat.ensures ∙ c.in-None.is)

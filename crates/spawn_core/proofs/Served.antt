@@ -1,0 +1,28 @@
+-- What a policy's laws say of tables that stand, as one fact of its tables.
+use Rattle.std.proofs.Common.{◌≡◌, ◌<◌, ◌/◌, ℕ, true, false, List, Option}
+use Rattle.exec_journal.specs.declared.call.Call.TheVariants as call
+use Rattle.exec_journal.specs.Entry.{Entry}
+use Rattle.core_tables.specs.declared.berth_group.BerthGroup.{BerthGroup}
+use Rattle.core_state.specs.declared.choice.Choice.{Choice}
+use Rattle.core_state.specs.declared.state.State.{State}
+use Rattle.core_state.specs.Machine.{carried_reply}
+use Rattle.core_contract.specs.Disciplines.{Discipline, IsDiscipline, script_of}
+use Rattle.spawn_core.specs.Policies.{SaysSeat, Serves, StandsBy}
+
+module _ {M B : Type 0} (rules : B → Discipline) (owns : B → M → List Entry → Type 0)
+    (seated : M → State → ℕ → Option BerthGroup) (chosen : M → State → ℕ → Choice)
+    (is : (b : B) → IsDiscipline (rules b))
+    (ticks : (b : B) (lane : ℕ) → (rules b).ticks lane ≡ false)
+    (seats : (b : B) (m : M) (s : State) (j : List Entry) (w : ℕ) → StandsBy (rules b) s j
+    → owns b m j → w < (rules b).seats → SaysSeat (rules b) j w (seated m s w))
+    (choices : (b : B) (m : M) (s : State) (j : List Entry) (lane : ℕ) → StandsBy (rules b) s j
+    → owns b m j → script_of (rules b) j lane call.Ask ≡ true
+    → carried_reply s (lane / 2) (chosen m s (lane / 2)) ≡ (rules b).rule j lane call.Ask) where
+  pub serves : (b : B) (m : M) (s : State) (j : List Entry) → StandsBy (rules b) s j → owns b m j
+      → Serves (rules b) s j (seated m s) (chosen m s)
+  serves b m s j st own = record {
+    is = is b;
+    ticks = ticks b;
+    seats = λ w lt. seats b m s j w st own lt;
+    choices = λ lane may. choices b m s j lane st own may;
+  }
