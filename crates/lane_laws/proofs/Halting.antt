@@ -79,7 +79,7 @@ pub ends_tell : EndsTellHalts
 ends_tell = record {
   stopped = tap_stopped;
   halted = λ s lane want taps own e. halted_last lane e.0 own e.2;
-  proxy_halted = λ post actions lane cause own deeds e. halted_last lane e.before own e.made;
+  proxy_halted = λ means lane cause own deeds e. halted_last lane e.before own e.made;
 }
 
 -- ---- by lanes

@@ -18,17 +18,16 @@ use Rattle.exec_journal.specs.declared.call.Found.TheVariants as found
 use Rattle.exec_journal.specs.declared.reply.Reply.{Reply}
 use Rattle.exec_journal.specs.declared.reply.Reply.TheVariants as reply
 use Rattle.exec_journal.specs.Entries.{is_kept, is_halt, is_look}
-use Rattle.remote_messages.specs.declared.work.WorkAction.{WorkAction}
 use Rattle.core_contract.specs.Moves.{Past, History}
 use Rattle.core_contract.specs.Laws.{Fits, InScript}
 use Rattle.core_contract.specs.Duties.{Duty, Asks, Commits, Left, ordered, duty_of_claim, duty_by_call, duty_from, duty_by, duty_then, duty_of}
-use Rattle.tap_lane.specs.declared.ends.Want.{Want}
-use Rattle.tap_lane.specs.declared.ends.Want.TheVariants as want
+use Rattle.tap_lane.specs.declared.ends.TapHalt.{TapHalt}
+use Rattle.tap_lane.specs.declared.ends.TapHalt.TheVariants as want
 use Rattle.tap_lane.specs.Heard.{AreAnswers}
 use Rattle.tap_lane.specs.Lane.{Whole, Runs, CutShort, RunsUntil, LaneEnds}
-use Rattle.proxy_deeds.specs.declared.post.Post.{Post}
-use Rattle.proxy_deeds.specs.declared.cause.Cause.{Cause}
-use Rattle.proxy_deeds.specs.declared.cause.Cause.TheVariants as cause
+use Rattle.proxy_deeds.specs.Settings.{Means}
+use Rattle.proxy_deeds.specs.declared.halt.ProxyHalt.{ProxyHalt}
+use Rattle.proxy_deeds.specs.declared.halt.ProxyHalt.TheVariants as cause
 use Rattle.proxy_deeds.specs.Deeds.{Deed, DeedOf, Acts}
 use Rattle.proxy_deeds.specs.Ends.{HaltsBy, Halts, Stops, Ends}
 use Rattle.lane_laws.specs.Places.{owes_commit, halts_owing_from, halts_owing, HasLeft}
@@ -105,7 +104,7 @@ module _ (s : Speech) (lane : ℕ) where
       ∙ (sym (map-append (λ (t : ℕ × TapTold). t.0) c.whole (c.last ∷ []))
       ∙ ap lines_of (sym c.taps_are))))
 
-  until_takes : (w : Want) (ts : List (ℕ × TapTold)) (es : History) → RunsUntil s lane w ts es
+  until_takes : (w : TapHalt) (ts : List (ℕ × TapTold)) (es : History) → RunsUntil s lane w ts es
       → taken_in es ≡ lines_of ts
   until_takes want.Line ts es r = runs_take ts es r
   until_takes want.Answers ts es r = cut_takes None ts es r
@@ -118,7 +117,7 @@ module _ (s : Speech) (lane : ℕ) where
       ap taken_in is ∙ (taken_more es last
       ∙ (ap (λ (ls : List ℕ). taken_in es ++ ls) none ∙ append-nil (taken_in es)))
 
-  pub ends_take : (halted : Option Want) (ts : List (ℕ × TapTold)) (own : History)
+  pub ends_take : (halted : Option TapHalt) (ts : List (ℕ × TapTold)) (own : History)
       → LaneEnds s lane halted ts own → taken_in own ≡ lines_of ts
   ends_take None ts own e =
       last_takes_none e.0 own (entry lane call.Take reply.Stop) e.2 refl ∙ runs_take ts e.0 e.1
@@ -164,9 +163,9 @@ and_none : (b : Bool) → (b && false) ≡ false
 and_none true = refl
 and_none false = refl
 
-module _ (post : Post) (actions : List WorkAction) where
+module _ (means : Means) where
   abbrev Did : Duty → Call → Deed → Type 0
-  Did s c d = DeedOf post actions s c d
+  Did s c d = DeedOf means s c d
 
   halt_undone : (s : Duty) (d : Deed) → Did s call.Halt d → ⊥
   halt_undone Left d x = x
@@ -190,7 +189,7 @@ module _ (post : Post) (actions : List WorkAction) where
   goes_on _ c r d x = refl
 
   -- a lane with deeds made no Halt
-  acts_pay : (s : Duty) (es : History) (ds : List Deed) → Acts post actions s es ds
+  acts_pay : (s : Duty) (es : History) (ds : List Deed) → Acts means s es ds
       → halts_owing_from s es ≡ false
   acts_pay s [] ds a = refl
   acts_pay s (e ∷ es) [] a = absurd a
@@ -199,7 +198,7 @@ module _ (post : Post) (actions : List WorkAction) where
       (no_halt s e.call d a.0)
       ∙ acts_pay (duty_then s e) es ds a.1
 
-  acts_never_halt : (s : Duty) (es : History) (ds : List Deed) → Acts post actions s es ds
+  acts_never_halt : (s : Duty) (es : History) (ds : List Deed) → Acts means s es ds
       → list_any (λ (e : Past). is_halt e.call) es ≡ false
   acts_never_halt s [] ds a = refl
   acts_never_halt s (e ∷ es) [] a = absurd a
@@ -209,21 +208,21 @@ module _ (post : Post) (actions : List WorkAction) where
 
   -- the last entry with its deed
   acts_last : (s : Duty) (front : History) (last : Past) (ds : List Deed)
-      → Acts post actions s (front ++ last ∷ []) ds
+      → Acts means s (front ++ last ∷ []) ds
       → (d : Deed) × Did (fold duty_then s front) last.call d
   acts_last s [] last [] a = absurd a
   acts_last s [] last (d ∷ ds) a = (d, a.0)
   acts_last s (e ∷ front) last [] a = absurd a
   acts_last s (e ∷ front) last (d ∷ ds) a = acts_last (duty_then s e) front last ds a.1
 
-  pays_first : (by : Cause) (s : Duty) (d : Deed) → HaltsBy post actions by s d
+  pays_first : (by : ProxyHalt) (s : Duty) (d : Deed) → HaltsBy means by s d
       → owes_commit s ≡ false
   pays_first cause.NoMemory (Commits a b fs) d h = absurd h.1
   pays_first (cause.Refused c) (Commits a b fs) d h = absurd (let x = h.0 in cc)
   pays_first by _ d h = refl
 
-  halted_left : (lane : ℕ) (by : Cause) (own : History) (deeds : List Deed)
-      → Halts post actions lane by own deeds → HasLeft own
+  halted_left : (lane : ℕ) (by : ProxyHalt) (own : History) (deeds : List Deed)
+      → Halts means lane by own deeds → HasLeft own
   halted_left lane by own deeds h =
       let last : Past = entry lane call.Halt reply.Noted in record {
         left = ap duty_of h.made
@@ -234,8 +233,8 @@ module _ (post : Post) (actions : List WorkAction) where
             || pays_first by (duty_of h.before) h.last h.halts i));
       }
 
-  pub ends_left : (lane : ℕ) (own : History) (deeds : List Deed) (halted : Option Cause)
-      → Ends post actions lane halted own deeds → HasLeft own
+  pub ends_left : (lane : ℕ) (own : History) (deeds : List Deed) (halted : Option ProxyHalt)
+      → Ends means lane halted own deeds → HasLeft own
   ends_left lane own deeds None e = record {
     left = e.left;
     paid = acts_pay Asks own deeds e.acts;
@@ -249,11 +248,11 @@ module _ (post : Post) (actions : List WorkAction) where
       let rest = last_of x es in
       (e ∷ rest.0, rest.1, ap (λ (h : History). e ∷ h) rest.2)
 
-  stopped_at : (own : History) (deeds : List Deed) → Stops post actions own deeds
+  stopped_at : (own : History) (deeds : List Deed) → Stops means own deeds
       → (front : History) (last : Past) → own ≡ front ++ last ∷ [] → WasStopped own
   stopped_at own deeds s front last is =
       let deed = acts_last Asks front last deeds
-      (subst (λ (h : History). Acts post actions Asks h deeds) is s.acts) in
+      (subst (λ (h : History). Acts means Asks h deeds) is s.acts) in
       let gone : duty_by (duty_of front) last.call last.reply ≡ Left =
       sym (ap duty_of is ∙ duty_more front last) ∙ s.left in record {
         no_halt = acts_never_halt Asks own deeds s.acts;
@@ -266,7 +265,7 @@ module _ (post : Post) (actions : List WorkAction) where
             (sym (goes_on (duty_of front) last.call last.reply deed.0 deed.1) ∙ gone);
       }
 
-  pub was_stopped : (own : History) (deeds : List Deed) → Stops post actions own deeds
+  pub was_stopped : (own : History) (deeds : List Deed) → Stops means own deeds
       → WasStopped own
   was_stopped [] deeds s = absurd (let x : Asks ≡ Left = s.left in cc)
   was_stopped (e ∷ es) deeds s =

@@ -51,9 +51,9 @@ in_one n m (inr h) = absurd h
 -- ---- the line that a lane is ordered to launch
 
 abbrev launching : Duty → List ℕ
-launching (Launches l) = l ∷ []
+launching (Launches l t) = l ∷ []
 launching Asks = []
-launching (Sends l n a) = []
+launching (Sends l n t) = []
 launching (Cancels l n) = []
 launching (Gathers l n t exit refused) = []
 launching (Commits a b fs) = []
@@ -161,7 +161,7 @@ module _ (legal : History → Type 0) (rule : History → ℕ → Call → Reply
     course Asks call.Halt r may f = plain_course Asks call.Halt r refl refl refl f
     course Asks call.Tick r may f = plain_course Asks call.Tick r refl refl refl f
     course Asks _ r may f = absurd (cc)
-    course (Launches m) (call.Launched l start.Done) reply.Noted may f =
+    course (Launches m t) (call.Launched l start.Done) reply.Noted may f =
         Drops [] (ap (λ (n : ℕ). n ∷ []) (launched m l may))
       where
         launched : (m l : ℕ) → ((m == l) || false) ≡ true → m ≡ l
@@ -170,18 +170,18 @@ module _ (legal : History → Type 0) (rule : History → ℕ → Call → Reply
             by : (b : Bool) → (b || false) ≡ true → b ≡ true
             by true e = refl
             by false e = absurd (cc)
-    course (Launches m) (call.Launched l start.Done) _ may f = absurd (cc)
-    course (Launches m) (call.Launched l how) reply.Noted may f = Drops (m ∷ []) refl
-    course (Launches m) (call.Launched l how) _ may f = absurd (cc)
-    course (Launches m) call.Halt reply.Noted may f = Drops (m ∷ []) refl
-    course (Launches m) call.Halt _ may f = absurd (cc)
-    course (Launches m) _ r may f = absurd (cc)
+    course (Launches m t) (call.Launched l start.Done) _ may f = absurd (cc)
+    course (Launches m t) (call.Launched l how) reply.Noted may f = Drops (m ∷ []) refl
+    course (Launches m t) (call.Launched l how) _ may f = absurd (cc)
+    course (Launches m t) call.Halt reply.Noted may f = Drops (m ∷ []) refl
+    course (Launches m t) call.Halt _ may f = absurd (cc)
+    course (Launches m t) _ r may f = absurd (cc)
     course Left (call.Committed a b how) r may f = Drops [] refl
     course Left _ r may f = absurd (cc)
-    course (Sends l n a) c r may f =
-        plain_course (Sends l n a) c r refl refl (sends_plain c may) f
+    course (Sends l n t) c r may f =
+        plain_course (Sends l n t) c r refl refl (sends_plain c may) f
       where
-        sends_plain : (c : Call) → May (Sends l n a) c → is_plain c ≡ true
+        sends_plain : (c : Call) → May (Sends l n t) c → is_plain c ≡ true
         sends_plain call.Ask m = absurd (cc)
         sends_plain (call.Launched k how) m = absurd (cc)
         sends_plain _ m = refl

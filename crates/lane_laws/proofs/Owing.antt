@@ -19,7 +19,7 @@ use Rattle.core_contract.specs.Laws.{fits, Fits, InScript}
 use Rattle.core_contract.specs.Duties.{Duty, Asks, Commits, Left, duty_by, duty_then, duty_of, proxy_lane, may_make}
 use Rattle.core_contract.specs.Shelf.{Spot, Fresh, Away, Back, place_by, place_at}
 use Rattle.tap_lane.proofs.Replies.{is_noted}
-use Rattle.lane_laws.specs.Places.{owes_commit, halts_owing_from, halts_owing, HasLeft}
+use Rattle.lane_laws.specs.Places.{owes_commit, halts_owing_from, halts_owing, IsGone}
 use Rattle.lane_laws.proofs.Steps as steps
 use Rattle.lane_laws.proofs.Steps.{own_call, other_call, duty_more, place_more, even_lane}
 
@@ -135,6 +135,18 @@ halts_more own e = halts_more_from Asks own e
 abbrev Holds : ℕ → List (List ℕ) → History → Type 0
 Holds a files own =
     ((b : Branch) × (duty_of own ≡ Commits a b files)) ⊎ (halts_owing own ≡ true)
+
+-- a lane that is gone has none
+gone_holds_none : (a : ℕ) (files : List (List ℕ)) (own : History) → IsGone own
+    → Holds a files own → ⊥
+gone_holds_none a files own (inl none) (inl owes) =
+    let y : Asks ≡ Commits a owes.0 files = sym (ap duty_of none) ∙ owes.1 in cc
+gone_holds_none a files own (inl none) (inr halted) =
+    let y : true ≡ false = sym halted ∙ ap halts_owing none in cc
+gone_holds_none a files own (inr gone) (inl owes) =
+    let y : Left ≡ Commits a owes.0 files = sym gone.left ∙ owes.1 in cc
+gone_holds_none a files own (inr gone) (inr halted) =
+    let y : true ≡ false = sym halted ∙ gone.paid in cc
 
 module _ (legal : History → Type 0) (rule : History → ℕ → Call → Reply)
     (before : (h : History) (e : Past) → legal (h ++ e ∷ [])
@@ -253,12 +265,8 @@ module _ (legal : History → Type 0) (rule : History → ℕ → Call → Reply
       (away_after a files (place_at a h) (move_of e) (sym (place_more a h e) ∙ away)))
 
   pub places_back : (h : History) → legal h
-      → ((w : ℕ) → w < terms.berths → HasLeft (calls_by (proxy_lane w) h))
+      → ((w : ℕ) → w < terms.berths → IsGone (calls_by (proxy_lane w) h))
       → (a : ℕ) (files : List (List ℕ)) → place_at a h ≡ Away files → ⊥
   places_back h good left a files away =
       let x = all_held h good a files away in
-      let gone = left x.0 x.1 in
-      ⊎_elim
-      (λ owes. let y : Left ≡ Commits a owes.0 files = sym gone.left ∙ owes.1 in cc)
-      (λ halted. let y : true ≡ false = sym halted ∙ gone.paid in cc)
-      x.2
+      gone_holds_none a files (calls_by (proxy_lane x.0) h) (left x.0 x.1) x.2

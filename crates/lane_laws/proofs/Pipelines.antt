@@ -16,8 +16,8 @@ use Rattle.exec_journal.specs.Entries.{takes}
 use Rattle.answer_reader.specs.Says.{SaysFirst, SaysAll, SaysBadly}
 use Rattle.core_contract.specs.Moves.{Past, History}
 use Rattle.core_contract.specs.Laws.{tells_of}
-use Rattle.tap_lane.specs.declared.ends.Want.{Want}
-use Rattle.tap_lane.specs.declared.ends.Want.TheVariants as want
+use Rattle.tap_lane.specs.declared.ends.TapHalt.{TapHalt}
+use Rattle.tap_lane.specs.declared.ends.TapHalt.TheVariants as want
 use Rattle.tap_lane.specs.Heard.{AreAnswers, SaysTo, EndedBy, HeardOf}
 use Rattle.tap_lane.specs.Lane.{Whole, Runs, CutShort, RunsUntil, LaneEnds}
 use Rattle.lane_laws.specs.Pipes.{Each, answer_in, said_on, end_in, end_on, PipeOf, NotIn, AllApart}
@@ -339,13 +339,13 @@ module _ (s : Speech) (lane : ℕ) where
         (sym c.taps_are)
         (runs_pieces c.whole (c.last ∷ []) c.lines (piece ++ end) c.runs last))
 
-    after_until : (w : Want) (ts : List (ℕ × TapTold)) (es own : History)
+    after_until : (w : TapHalt) (ts : List (ℕ × TapTold)) (es own : History)
         → RunsUntil s lane w ts es → own ≡ es ++ end → Pieces ts own
     after_until want.Line ts es own r is = after_runs ts es own r is
     after_until want.Answers ts es own r is = after_cut None ts es own r is
     after_until (want.End how) ts es own r is = after_cut (Some how) ts es own r is
 
-  pub lane_pieces : (halted : Option Want) (ts : List (ℕ × TapTold)) (own : History)
+  pub lane_pieces : (halted : Option TapHalt) (ts : List (ℕ × TapTold)) (own : History)
       → LaneEnds s lane halted ts own → Pieces ts own
   lane_pieces None ts own e =
       after_runs (entry lane call.Take reply.Stop ∷ []) (λ k. ((refl, refl), refl))
@@ -541,7 +541,7 @@ module _ (h : History) (told : Told h) (lane : ℕ) where
       (λ one. own_says l one.0 (lane == one.0) refl one.1 some)
       (told.once l)
 
-  pub says_what_taps_tell : (s : Speech) (halted : Option Want) (taps : List (ℕ × TapTold))
+  pub says_what_taps_tell : (s : Speech) (halted : Option TapHalt) (taps : List (ℕ × TapTold))
       → LaneEnds s lane halted taps (calls_by lane h)
       → AllApart taps × Each (PipeOf s h) taps
   says_what_taps_tell s halted taps ends =

@@ -5,12 +5,11 @@ use Rattle.seat_desk.specs.History.{calls_by}
 use Rattle.outside.specs.Told.{TapTold}
 use Rattle.run_plan.specs.declared.plan.Speech.{Speech}
 use Rattle.exec_journal.specs.Entries.{is_halt}
-use Rattle.remote_messages.specs.declared.work.WorkAction.{WorkAction}
 use Rattle.core_contract.specs.Moves.{History}
-use Rattle.tap_lane.specs.declared.ends.Want.{Want}
+use Rattle.tap_lane.specs.declared.ends.TapHalt.{TapHalt}
 use Rattle.tap_lane.specs.Lane.{LaneEnds}
-use Rattle.proxy_deeds.specs.declared.post.Post.{Post}
-use Rattle.proxy_deeds.specs.declared.cause.Cause.{Cause}
+use Rattle.proxy_deeds.specs.Settings.{Means}
+use Rattle.proxy_deeds.specs.declared.halt.ProxyHalt.{ProxyHalt}
 use Rattle.proxy_deeds.specs.Deeds.{Deed}
 use Rattle.proxy_deeds.specs.Ends.{Ends}
 use Rattle.lane_laws.specs.Lanes.{WasStopped}
@@ -24,11 +23,11 @@ has_halt h = list_any (λ e. is_halt e.call) h
 pub record EndsTellHalts : Type 0 where
   pub stopped : (s : Speech) (lane : ℕ) (taps : List (ℕ × TapTold)) (own : History)
       → LaneEnds s lane None taps own → WasStopped own
-  pub halted : (s : Speech) (lane : ℕ) (want : Want) (taps : List (ℕ × TapTold)) (own : History)
+  pub halted : (s : Speech) (lane : ℕ) (want : TapHalt) (taps : List (ℕ × TapTold)) (own : History)
       → LaneEnds s lane (Some want) taps own → has_halt own ≡ true
-  pub proxy_halted : (post : Post) (actions : List WorkAction) (lane : ℕ) (cause : Cause)
+  pub proxy_halted : (means : Means) (lane : ℕ) (cause : ProxyHalt)
       (own : History) (deeds : List Deed)
-      → Ends post actions lane (Some cause) own deeds → has_halt own ≡ true
+      → Ends means lane (Some cause) own deeds → has_halt own ≡ true
 
 -- A lane's Halt is one of the history; and where each entry is by one of the first lanes, of which
 -- none made a Halt, the history has none.

@@ -5,13 +5,12 @@ use Rattle.outside.specs.Told.{TapTold}
 use Rattle.run_plan.specs.declared.plan.Speech.{Speech}
 use Rattle.exec_journal.specs.declared.reply.Reply.TheVariants as reply
 use Rattle.exec_journal.specs.Entries.{is_halt}
-use Rattle.remote_messages.specs.declared.work.WorkAction.{WorkAction}
 use Rattle.core_contract.specs.Terms.{Terms}
 use Rattle.core_contract.specs.Moves.{Past, History}
-use Rattle.tap_lane.specs.declared.ends.Want.{Want}
+use Rattle.tap_lane.specs.declared.ends.TapHalt.{TapHalt}
 use Rattle.tap_lane.specs.Lane.{LaneEnds}
-use Rattle.proxy_deeds.specs.declared.post.Post.{Post}
-use Rattle.proxy_deeds.specs.declared.cause.Cause.{Cause}
+use Rattle.proxy_deeds.specs.Settings.{Means}
+use Rattle.proxy_deeds.specs.declared.halt.ProxyHalt.{ProxyHalt}
 use Rattle.proxy_deeds.specs.Deeds.{Deed}
 use Rattle.proxy_deeds.specs.Ends.{Ends}
 use Rattle.lane_laws.specs.Taps.{taken_in}
@@ -26,7 +25,7 @@ OnlyKnownLanesSpeak {Q} legal terms =
 -- of the taps, in order.
 abbrev pub TakenAreTapped : Type 0
 TakenAreTapped =
-    (s : Speech) (lane : ℕ) (halted : Option Want) (taps : List (ℕ × TapTold)) (own : History)
+    (s : Speech) (lane : ℕ) (halted : Option TapHalt) (taps : List (ℕ × TapTold)) (own : History)
     → LaneEnds s lane halted taps own → taken_in own ≡ map (λ t. t.0) taps
 
 -- the lane made no Halt, and was told to stop by its last reply
@@ -40,6 +39,6 @@ pub record WasStopped (own : History) : Type 0 where
 -- Where a proxy lane has ended so, it has left, and where it didn't halt, it was told to stop.
 abbrev pub EndedHaveLeft : Type 0
 EndedHaveLeft =
-    (post : Post) (actions : List WorkAction) (lane : ℕ) (own : History) (deeds : List Deed)
-    → ((halted : Option Cause) → Ends post actions lane halted own deeds → HasLeft own)
-    × (Ends post actions lane None own deeds → WasStopped own)
+    (means : Means) (lane : ℕ) (own : History) (deeds : List Deed)
+    → ((halted : Option ProxyHalt) → Ends means lane halted own deeds → HasLeft own)
+    × (Ends means lane None own deeds → WasStopped own)

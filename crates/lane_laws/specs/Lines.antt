@@ -1,6 +1,5 @@
 -- The numbers of the lines that were started.
 use Rattle.std.specs.Prelude.{◌≡◌, ℕ, zero, suc, ◌+◌, ◌<◌, List, [], ◌∷◌, All}
-use Rattle.core_contract.specs.Terms.{Terms}
 use Rattle.core_contract.specs.Moves.{History}
 use Rattle.core_contract.specs.Laws.{lines_in}
 use Rattle.lane_laws.specs.Numbers.{In, Distinct}
@@ -21,6 +20,6 @@ pub record AreApart (seats : ℕ) (h : History) : Type 0 where
   pub all_once : Distinct (concat (started_from h 0 seats))
   pub all_below : All (λ l. l < lines_in h) (concat (started_from h 0 seats))
 
-abbrev pub StartedAreApart : {Q : Type 0} → (Q → History → Type 0) → (Q → Terms) → Type 0
-StartedAreApart {Q} legal terms =
-    (q : Q) (h : History) → legal q h → AreApart (terms q).berths h
+-- So it is with the lines of the first berths, however many of them are looked at.
+abbrev pub StartedAreApart : {Q : Type 0} → (Q → History → Type 0) → Type 0
+StartedAreApart {Q} legal = (q : Q) (h : History) (seats : ℕ) → legal q h → AreApart seats h

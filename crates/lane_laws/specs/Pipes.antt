@@ -9,7 +9,7 @@ use Rattle.exec_journal.specs.declared.call.Call.TheVariants as call
 use Rattle.exec_journal.specs.declared.call.HowEnded.{HowEnded}
 use Rattle.core_contract.specs.Moves.{History}
 use Rattle.core_contract.specs.Laws.{is_taken}
-use Rattle.tap_lane.specs.declared.ends.Want.{Want}
+use Rattle.tap_lane.specs.declared.ends.TapHalt.{TapHalt}
 use Rattle.tap_lane.specs.Heard.{SaysTo, EndedBy}
 use Rattle.tap_lane.specs.Lane.{LaneEnds}
 
@@ -56,7 +56,7 @@ AllApart (t ∷ ts) = NotIn t.0 ts × AllApart ts
 -- took just what its tap tells, and no line was taken twice.
 abbrev pub SaysWhatTapsTell : {Q : Type 0} → (Q → History → Type 0) → Type 0
 SaysWhatTapsTell {Q} legal =
-    (q : Q) (h : History) (s : Speech) (lane : ℕ) (halted : Option Want)
+    (q : Q) (h : History) (s : Speech) (lane : ℕ) (halted : Option TapHalt)
     (taps : List (ℕ × TapTold)) → legal q h → LaneEnds s lane halted taps (calls_by lane h)
     → AllApart taps × Each (PipeOf s h) taps
 

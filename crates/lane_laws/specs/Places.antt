@@ -1,5 +1,5 @@
 -- No place is away once the proxy lanes have left.
-use Rattle.std.specs.Prelude.{◌≡◌, ℕ, ◌<◌, Bool, true, false, ◌&&◌, ◌||◌, List, [], ◌∷◌}
+use Rattle.std.specs.Prelude.{◌≡◌, ◌⊎◌, ℕ, ◌<◌, Bool, true, false, ◌&&◌, ◌||◌, List, [], ◌∷◌}
 use Rattle.seat_desk.specs.History.{calls_by}
 use Rattle.exec_journal.specs.Entries.{is_halt}
 use Rattle.core_contract.specs.Terms.{Terms}
@@ -11,8 +11,8 @@ use Rattle.core_contract.specs.Duties.{Duty, Asks, Launches, Sends, Cancels, Gat
 abbrev pub owes_commit : Duty → Bool
 owes_commit (Commits a b fs) = true
 owes_commit Asks = false
-owes_commit (Launches l) = false
-owes_commit (Sends l n a) = false
+owes_commit (Launches l t) = false
+owes_commit (Sends l n t) = false
 owes_commit (Cancels l n) = false
 owes_commit (Gathers l n t exit refused) = false
 owes_commit (Kills l) = false
@@ -34,9 +34,13 @@ pub record HasLeft (own : History) : Type 0 where
   pub left : duty_of own ≡ Left
   pub paid : halts_owing own ≡ false
 
--- Where all proxy lanes have left so, no action's place is away.
+-- It has left so, or it never made an entry.
+abbrev pub IsGone : History → Type 0
+IsGone own = (own ≡ []) ⊎ HasLeft own
+
+-- Where all proxy lanes are gone, no action's place is away.
 abbrev pub PlacesAreBack : {Q : Type 0} → (Q → History → Type 0) → (Q → Terms) → Type 0
 PlacesAreBack {Q} legal terms =
     (q : Q) (h : History) → legal q h
-    → ((w : ℕ) → w < (terms q).berths → HasLeft (calls_by (proxy_lane w) h))
+    → ((w : ℕ) → w < (terms q).berths → IsGone (calls_by (proxy_lane w) h))
     → (a : ℕ) (files : List (List ℕ)) → place_at a h ≡ Away files → ⊥

@@ -11,8 +11,8 @@ ghost use Rattle.lane_laws.specs.Pipes.{SaysWhatTapsTell, SilentUnlessGiven};
 
 use core_contract::Rules;
 
-/// Where all proxy lanes have left, and none of them halted before a Committed that it owed, the
-/// place of each action is back.
+/// Where each proxy lane has left, without a halt before a Committed that it owed, or never made an
+/// entry, the place of each action is back.
 pub fn places_are_back<C: Rules>()
     ensures { PlacesAreBack C.legal C.terms }
 {}
@@ -25,7 +25,7 @@ pub fn started_lines_have_taps<C: Rules>()
 
 /// No line was started twice, and each has a number below that of the lines that were ordered.
 pub fn started_lines_are_apart<C: Rules>()
-    ensures { StartedAreApart C.legal C.terms }
+    ensures { StartedAreApart C.legal }
 {}
 
 /// The line whose tap lies on the shelf was given to no tap lane.

@@ -3,26 +3,27 @@ use Rattle.std.specs.Global.{Vec}
 use Rattle.lane_runs.specs.declared.blank.Blank.{Blank}
 use Rattle.lane_runs.specs.Blanks.{HasRoom, IsBlankFor}
 use Rattle.std.proofs.Common.{◌≡◌, ℕ, ◌+◌, ◌*◌, ◌≤◌, List, [], ◌∷◌, length, ap, arith}
-use Rattle.lane_crew.specs.declared.pair.OfTwo.{OfTwo}
-use Rattle.lane_crew.specs.declared.pair.OfTwo.TheVariants.{First, Second}
+use Rattle.lane_crew.specs.declared.pair.Either.{Either}
+use Rattle.lane_crew.specs.declared.pair.Either.TheVariants.{First, Second}
 use Rattle.remote_messages.specs.declared.work.WorkAction.{WorkAction}
-use Rattle.proxy_deeds.specs.declared.post.Post.{Post}
+use Rattle.run_plan.specs.declared.plan.Speech.{Speech}
+use Rattle.proxy_deeds.specs.declared.settings.Settings.{Settings}
 use Rattle.lane_runs.specs.declared.proxies.ProxySeat.{ProxySeat}
 use Rattle.tap_lane.specs.declared.seat.TapSeat.{TapSeat}
 use Rattle.lane_runs.specs.Seats.{AreSeats}
 
-pub two_each : {B : Type 0} (actions : List WorkAction) (w : ℕ) (bs : List B) (ps : List Post)
-    (lanes : List (OfTwo (ProxySeat B) TapSeat)) → AreSeats actions w bs ps lanes
-    → length lanes ≡ 2 * length ps
-two_each actions w [] [] lanes are = ap length are
-two_each actions w (b ∷ bs) (p ∷ ps) (First x ∷ Second y ∷ lanes) are =
-    let rest = two_each actions (w + 1) bs ps lanes are.2 in omega (arith, rest)
-two_each actions w (b ∷ bs) (p ∷ ps) [] are = absurd are
-two_each actions w (b ∷ bs) (p ∷ ps) (First x ∷ []) are = absurd are
-two_each actions w (b ∷ bs) (p ∷ ps) (First x ∷ First y ∷ lanes) are = absurd are
-two_each actions w (b ∷ bs) (p ∷ ps) (Second x ∷ lanes) are = absurd are
-two_each actions w [] (p ∷ ps) lanes are = absurd are
-two_each actions w (b ∷ bs) [] lanes are = absurd are
+pub two_each : {B : Type 0} (settings : Settings) (actions : List WorkAction) (w : ℕ) (bs : List B) (ss : List Speech)
+    (lanes : List (Either (ProxySeat B) TapSeat)) → AreSeats settings actions w bs ss lanes
+    → length lanes ≡ 2 * length ss
+two_each settings actions w [] [] lanes are = ap length are
+two_each settings actions w (b ∷ bs) (s ∷ ss) (First x ∷ Second y ∷ lanes) are =
+    let rest = two_each settings actions (w + 1) bs ss lanes are.2 in omega (arith, rest)
+two_each settings actions w (b ∷ bs) (s ∷ ss) [] are = absurd are
+two_each settings actions w (b ∷ bs) (s ∷ ss) (First x ∷ []) are = absurd are
+two_each settings actions w (b ∷ bs) (s ∷ ss) (First x ∷ First y ∷ lanes) are = absurd are
+two_each settings actions w (b ∷ bs) (s ∷ ss) (Second x ∷ lanes) are = absurd are
+two_each settings actions w [] (s ∷ ss) lanes are = absurd are
+two_each settings actions w (b ∷ bs) [] lanes are = absurd are
 
 pub room_suits : {X : Type 0} (n n' : ℕ) (v : Vec X) → HasRoom n v → n' ≤ n → HasRoom n' v
 room_suits n n' v has less = record {

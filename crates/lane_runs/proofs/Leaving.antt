@@ -5,8 +5,8 @@ use Rattle.std.proofs.lemmas.List.Elements.{All-nil, All-cons}
 use Rattle.seat_desk.specs.History.{calls_by}
 use Rattle.exec_journal.specs.declared.call.Call.{Call}
 use Rattle.exec_journal.specs.declared.reply.Reply.{Reply}
-use Rattle.lane_crew.specs.declared.pair.OfTwo.{OfTwo}
-use Rattle.lane_crew.specs.declared.pair.OfTwo.TheVariants.{First, Second}
+use Rattle.lane_crew.specs.declared.pair.Either.{Either}
+use Rattle.lane_crew.specs.declared.pair.Either.TheVariants.{First, Second}
 use Rattle.outside.specs.Told.{BerthTold, FeedTold, TapTold, ChildTold}
 use Rattle.remote_messages.specs.declared.work.WorkAction.{WorkAction}
 use Rattle.lane_laws.specs.Numbers.{concat}
@@ -15,17 +15,18 @@ use Rattle.core_contract.specs.Duties.{proxy_lane}
 use Rattle.core_contract.specs.Laws.{tap_lane}
 use Rattle.core_contract.specs.Shelf.{tap_at}
 use Rattle.core_bench.specs.Bench.{IsOf, IsTapOf}
-use Rattle.proxy_deeds.specs.declared.post.Post.{Post}
-use Rattle.proxy_deeds.specs.declared.cause.Cause.{Cause}
+use Rattle.run_plan.specs.declared.plan.Speech.{Speech}
+use Rattle.proxy_deeds.specs.declared.settings.Settings.{Settings}
+use Rattle.proxy_deeds.specs.declared.halt.ProxyHalt.{ProxyHalt}
 use Rattle.proxy_deeds.specs.Lines.{lines_of, listed}
 use Rattle.proxy_steps.specs.declared.hands.EndedFeed.{EndedFeed}
 use Rattle.proxy_steps.specs.Lanes.{back_of}
 use Rattle.proxy_steps.specs.Steps.{Ended}
 use Rattle.tap_lane.specs.declared.ends.EndedTap.{EndedTap}
-use Rattle.tap_lane.specs.declared.ends.Want.{Want}
+use Rattle.tap_lane.specs.declared.ends.TapHalt.{TapHalt}
 use Rattle.tap_lane.specs.Heard.{back_by}
 use Rattle.tap_lane.specs.Lane.{LaneEnds}
-use Rattle.lane_runs.specs.Seats.{ProxyLeft}
+use Rattle.lane_runs.specs.Seats.{ProxyLeft, means_for}
 use Rattle.tap_lane.specs.declared.ends.TapLeft.{TapLeft}
 use Rattle.lane_runs.specs.Ran.{EachBerthRan}
 use Rattle.lane_runs.specs.BerthHalves.{BerthLines, IsMatched, all_feed_lines, feed_lines}
@@ -34,25 +35,25 @@ use Rattle.lane_laws.specs.Lines.{started_from}
 use Rattle.lane_laws.specs.Lanes.{TakenAreTapped}
 use Rattle.lane_runs.specs.Apart.{Alternate, lines_left, berths_of, lefts_of, unsaid_of}
 
--- a berth by what it goes by, the berth before and after, what is left of its lines, and the line that
+-- a berth by what its lines speak, the berth before and after, what is left of its lines, and the line that
 -- wasn't reported
 pub record Seen (B D T K : Type 0) : Type 0 where
-  pub post : Post
+  pub spoken : Speech
   pub old : B
   pub new : B
   pub left : BerthLines D T K
   pub unsaid : Option (EndedFeed D K)
 
 module _ {B D T K : Type 0} (berth : B → BerthTold) (feed : D → FeedTold) (tap : T → TapTold)
-    (child : K → ChildTold) (rule : History → ℕ → Call → Reply) (actions : List WorkAction)
-    (h : History) where
+    (child : K → ChildTold) (rule : History → ℕ → Call → Reply) (settings : Settings)
+    (actions : List WorkAction) (h : History) where
   pub record BerthLeft (w : ℕ) (s : Seen B D T K) : Type 0 where
-    pub halted : Option Cause
-    pub want : Option Want
-    pub served : Ended s.post actions rule (proxy_lane w) (calls_by (proxy_lane w) h) h
-        (berth s.old) (berth s.new) (map (back_of feed child) s.left.feeds)
+    pub halted : Option ProxyHalt
+    pub want : Option TapHalt
+    pub served : Ended (means_for settings actions s.spoken) rule (proxy_lane w)
+        (calls_by (proxy_lane w) h) h (berth s.old) (berth s.new) (map (back_of feed child) s.left.feeds)
         (option_map (back_of feed child) s.unsaid) halted
-    pub told : LaneEnds s.post.speech (tap_lane w) want (map (back_by tap) s.left.taps)
+    pub told : LaneEnds s.spoken (tap_lane w) want (map (back_by tap) s.left.taps)
         (calls_by (tap_lane w) h)
     pub slot : IsOf (IsTapOf tap) (tap_at w h) s.left.shelved
 
@@ -77,24 +78,24 @@ module _ {B D T K : Type 0} (berth : B → BerthTold) (feed : D → FeedTold) (t
   )
 
   -- the berths that were seen, by these lists
-  pub record Gathered (w : ℕ) (posts : List Post) (olds : List B) (slots : List (Option T))
-      (ends : List (OfTwo (ProxyLeft B D K) (TapLeft T))) : Type 0 where
+  pub record Gathered (w : ℕ) (speeches : List Speech) (olds : List B) (slots : List (Option T))
+      (ends : List (Either (ProxyLeft B D K) (TapLeft T))) : Type 0 where
     pub seen : List (Seen B D T K)
     pub each : EachLeft w seen
-    pub posts_are : posts ≡ map (λ (s : Seen B D T K). s.post) seen
+    pub speeches_are : speeches ≡ map (λ (s : Seen B D T K). s.spoken) seen
     pub olds_are : olds ≡ map (λ (s : Seen B D T K). s.old) seen
     pub news_are : berths_of slots ends ≡ map (λ (s : Seen B D T K). s.new) seen
     pub lines_are : lefts_of slots ends ≡ map (λ (s : Seen B D T K). s.left) seen
     pub unsaid_are : unsaid_of slots ends ≡ map (λ (s : Seen B D T K). s.unsaid) seen
 
-  pub gather : (w : ℕ) (olds : List B) (posts : List Post)
-      (ends : List (OfTwo (ProxyLeft B D K) (TapLeft T))) (slots : List (Option T))
-      → EachBerthRan berth feed tap child rule actions h w olds posts ends
-      → SlotsFrom w slots → length slots ≡ length posts → Gathered w posts olds slots ends
+  pub gather : (w : ℕ) (olds : List B) (speeches : List Speech)
+      (ends : List (Either (ProxyLeft B D K) (TapLeft T))) (slots : List (Option T))
+      → EachBerthRan berth feed tap child rule settings actions h w olds speeches ends
+      → SlotsFrom w slots → length slots ≡ length speeches → Gathered w speeches olds slots ends
   gather w [] [] ends [] ran sl eq = record {
     seen = [];
     each = tt;
-    posts_are = refl;
+    speeches_are = refl;
     olds_are = refl;
     news_are = refl;
     lines_are = refl;
@@ -104,7 +105,7 @@ module _ {B D T K : Type 0} (berth : B → BerthTold) (feed : D → FeedTold) (t
   gather w (b ∷ bs) (p ∷ ps) (First x ∷ Second y ∷ ends) (s ∷ slots) ran sl eq =
       let rest = gather (w + 1) bs ps ends slots ran.1 sl.1 (omega (arith, eq)) in
       let here : Seen B D T K = record {
-        post = p;
+        spoken = p;
         old = b;
         new = x.berth;
         left = lines_left x y s;
@@ -116,7 +117,7 @@ module _ {B D T K : Type 0} (berth : B → BerthTold) (feed : D → FeedTold) (t
           record { halted = x.halted; want = y.halted; served = ran.0.served; told = ran.0.told; slot = sl.0 },
           rest.each,
         );
-        posts_are = ap (λ (z : List Post). p ∷ z) rest.posts_are;
+        speeches_are = ap (λ (z : List Speech). p ∷ z) rest.speeches_are;
         olds_are = ap (λ (z : List B). b ∷ z) rest.olds_are;
         news_are = ap (λ (z : List B). x.berth ∷ z) rest.news_are;
         lines_are = ap (λ (z : List (BerthLines D T K)). lines_left x y s ∷ z) rest.lines_are;
@@ -130,10 +131,10 @@ module _ {B D T K : Type 0} (berth : B → BerthTold) (feed : D → FeedTold) (t
   gather w [] (p ∷ ps) ends slots ran sl eq = absurd ran
   gather w (b ∷ bs) [] ends slots ran sl eq = absurd ran
 
-  pub alternate : (w : ℕ) (olds : List B) (posts : List Post)
-      (ends : List (OfTwo (ProxyLeft B D K) (TapLeft T))) (slots : List (Option T))
-      → EachBerthRan berth feed tap child rule actions h w olds posts ends
-      → length slots ≡ length posts → Alternate slots ends
+  pub alternate : (w : ℕ) (olds : List B) (speeches : List Speech)
+      (ends : List (Either (ProxyLeft B D K) (TapLeft T))) (slots : List (Option T))
+      → EachBerthRan berth feed tap child rule settings actions h w olds speeches ends
+      → length slots ≡ length speeches → Alternate slots ends
   alternate w [] [] ends [] ran eq = ran
   alternate w [] [] ends (s ∷ slots) ran eq = absurd (omega (arith, eq))
   alternate w (b ∷ bs) (p ∷ ps) (First x ∷ Second y ∷ ends) (s ∷ slots) ran eq =
@@ -177,7 +178,7 @@ module _ {B D T K : Type 0} (berth : B → BerthTold) (feed : D → FeedTold) (t
     lines = feeds_are_started w s x
         ∙ (tapped
         ∙ ap (λ (ls : List ℕ). ls ++ listed (tap_at w h))
-        (taken s.post.speech (tap_lane w) x.want (map (back_by tap) s.left.taps)
+        (taken s.spoken (tap_lane w) x.want (map (back_by tap) s.left.taps)
         (calls_by (tap_lane w) h) x.told ∙ taps_of_backs s.left.taps));
     as_many = as_many_slots (tap_at w h) s.left.shelved x.slot;
   }

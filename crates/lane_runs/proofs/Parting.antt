@@ -1,8 +1,8 @@
 -- The ends of one berth more.
 use Rattle.std.proofs.Common.{◌≡◌, ℕ, ◌<◌, length, drop, arith, List, [], ◌∷◌, ◌++◌, Option, refl, sym, ap, subst, ◌∙◌, append_assoc, append-nil, All}
 use Rattle.std.proofs.lemmas.List.Elements.{All-nil, All-cons, All-head, All-tail}
-use Rattle.lane_crew.specs.declared.pair.OfTwo.{OfTwo}
-use Rattle.lane_crew.specs.declared.pair.OfTwo.TheVariants.{First, Second}
+use Rattle.lane_crew.specs.declared.pair.Either.{Either}
+use Rattle.lane_crew.specs.declared.pair.Either.TheVariants.{First, Second}
 use Rattle.proxy_steps.specs.declared.hands.EndedFeed.{EndedFeed}
 use Rattle.lane_runs.specs.Seats.{ProxyLeft}
 use Rattle.tap_lane.specs.declared.ends.TapLeft.{TapLeft}
@@ -34,7 +34,7 @@ placed_both places [] ys = refl
 placed_both places (x ∷ xs) ys = placed_both _ xs ys
 
 module _ {B D T K : Type 0} where
-  begins_with_two : (slots : List (Option T)) (ends : List (OfTwo (ProxyLeft B D K) (TapLeft T)))
+  begins_with_two : (slots : List (Option T)) (ends : List (Either (ProxyLeft B D K) (TapLeft T)))
       (s : Option T) → Alternate (s ∷ slots) ends → BeginsWithTwo ends
   begins_with_two slots [] s alt = absurd alt
   begins_with_two slots (First x ∷ []) s alt = absurd alt
@@ -45,7 +45,7 @@ module _ {B D T K : Type 0} where
   -- Of these slots and ends the first are laid by: the berths, the lines that weren't reported, and
   -- the halves of the others. The rest is still to come.
   pub record Parting (every slots : List (Option T))
-      (all ends : List (OfTwo (ProxyLeft B D K) (TapLeft T))) (berths : List B)
+      (all ends : List (Either (ProxyLeft B D K) (TapLeft T))) (berths : List B)
       (unsaid : List (Option (EndedFeed D K))) (before lines : List (EndedLine D T K)) : Type 0 where
     pub left : Alternate slots ends
     pub inside : AreInside (length before) (lefts_of slots ends)
@@ -56,7 +56,7 @@ module _ {B D T K : Type 0} where
         ≡ placed_all (halves_at before) (all_halves (lefts_of every all))
 
   pub parts_none : (every slots : List (Option T))
-      (all ends : List (OfTwo (ProxyLeft B D K) (TapLeft T))) (berths : List B)
+      (all ends : List (Either (ProxyLeft B D K) (TapLeft T))) (berths : List B)
       (unsaid : List (Option (EndedFeed D K))) (lines : List (EndedLine D T K))
       → Alternate every all → AreInside (length lines) (lefts_of every all) → slots ≡ every
       → ends ≡ all → berths ≡ [] → unsaid ≡ []
@@ -72,7 +72,7 @@ module _ {B D T K : Type 0} where
       }
 
   pub begins : (every slots slots' : List (Option T))
-      (all ends : List (OfTwo (ProxyLeft B D K) (TapLeft T))) (s : Option T) (berths : List B)
+      (all ends : List (Either (ProxyLeft B D K) (TapLeft T))) (s : Option T) (berths : List B)
       (unsaid : List (Option (EndedFeed D K))) (before lines : List (EndedLine D T K))
       → Parting every slots all ends berths unsaid before lines → slots ≡ s ∷ slots'
       → BeginsWithTwo ends
@@ -82,7 +82,7 @@ module _ {B D T K : Type 0} where
 
   -- the next berth, with its two ends and its slot
   module _ (every slots slots' : List (Option T))
-      (all ends ends' : List (OfTwo (ProxyLeft B D K) (TapLeft T))) (s : Option T)
+      (all ends ends' : List (Either (ProxyLeft B D K) (TapLeft T))) (s : Option T)
       (x : ProxyLeft B D K) (y : TapLeft T) (berths : List B)
       (unsaid : List (Option (EndedFeed D K))) (before lines : List (EndedLine D T K))
       (was : Parting every slots all ends berths unsaid before lines) (e : slots ≡ s ∷ slots')
@@ -94,7 +94,7 @@ module _ {B D T K : Type 0} where
     rest = lefts_of slots' ends'
 
     now : Parting every (s ∷ slots') all (First x ∷ Second y ∷ ends') berths unsaid before lines
-    now = subst (λ (o : List (OfTwo (ProxyLeft B D K) (TapLeft T))). Parting every (s ∷ slots') all o berths unsaid before lines) f
+    now = subst (λ (o : List (Either (ProxyLeft B D K) (TapLeft T))). Parting every (s ∷ slots') all o berths unsaid before lines) f
         (subst (λ (o : List (Option T)). Parting every o all ends berths unsaid before lines) e was)
 
     pub next_fits : IsInside (length lines) here
@@ -127,7 +127,7 @@ module _ {B D T K : Type 0} where
 
   -- all are laid by where no slot is left
   pub parts_all : (every slots : List (Option T))
-      (all ends : List (OfTwo (ProxyLeft B D K) (TapLeft T))) (berths : List B)
+      (all ends : List (Either (ProxyLeft B D K) (TapLeft T))) (berths : List B)
       (unsaid : List (Option (EndedFeed D K))) (before lines : List (EndedLine D T K))
       → Parting every slots all ends berths unsaid before lines → slots ≡ []
       → (berths ≡ berths_of every all) × (unsaid ≡ unsaid_of every all)

@@ -24,11 +24,11 @@ use Rattle.core_contract.specs.Laws.{tap_lane}
 use Rattle.core_bench.specs.Bench.{IsOf, IsTapOf}
 use Rattle.lane_laws.specs.Pipes.{PipeOf, Each, said_on, end_on}
 use Rattle.tap_lane.specs.declared.ends.EndedTap.{EndedTap}
-use Rattle.tap_lane.specs.declared.ends.Want.{Want}
+use Rattle.tap_lane.specs.declared.ends.TapHalt.{TapHalt}
 use Rattle.tap_lane.specs.Heard.{back_by, SaysTo, EndedBy}
 use Rattle.tap_lane.specs.Lane.{LaneEnds}
-use Rattle.proxy_deeds.specs.declared.post.Post.{Post}
-use Rattle.proxy_deeds.specs.declared.cause.Cause.{Cause}
+use Rattle.proxy_deeds.specs.declared.settings.Settings.{Settings}
+use Rattle.proxy_deeds.specs.declared.halt.ProxyHalt.{ProxyHalt}
 use Rattle.proxy_deeds.specs.Deeds.{Deed}
 use Rattle.proxy_deeds.specs.Ends.{Ends}
 use Rattle.proxy_deeds.specs.Lines as deeds
@@ -46,6 +46,7 @@ use Rattle.lane_laws.specs.Taps.{started_at, taken_in}
 use Rattle.lane_laws.specs.Lanes.{TakenAreTapped, EndedHaveLeft, WasStopped}
 use Rattle.lane_laws.specs.Halts.{EndsTellHalts, HaltsAreByLanes, has_halt}
 use Rattle.lane_runs.specs.Runs.{EndTold, end_of, line_at, back_in, backs_at, IsStopped, AreStopped, Room, Rooms}
+use Rattle.lane_runs.specs.Seats.{means_for}
 use Rattle.lane_runs.proofs.Leaving.{Seen, BerthLeft, EachLeft, feeds_are_started, matched}
 
 if_some : {X : Type 0} {P R : X → Type 0} (o : Option X) → IfSome o P → ((x : X) → P x → R x)
@@ -82,16 +83,16 @@ abbrev pub tell : {D T K : Type 0} → (D → FeedTold) → (T → TapTold) → 
 tell feed tap child x = line_told (feed x.feed) (tap x.tap) (child x.child)
 
 module _ {B D T K : Type 0} (berth : B → BerthTold) (feed : D → FeedTold) (tap : T → TapTold)
-    (child : K → ChildTold) (rule : History → ℕ → Call → Reply) (actions : List WorkAction)
-    (h : History) where
+    (child : K → ChildTold) (rule : History → ℕ → Call → Reply) (settings : Settings)
+    (actions : List WorkAction) (h : History) where
   -- ---- facts of each line
 
   abbrev pub OfStarted : ℕ → ℕ → D → K → Type 0
   OfStarted w l d k = In l (started_at w h)
 
-  abbrev pub Heard : List Post → ℕ → ℕ → T → Type 0
-  Heard posts w l t =
-      (post : Post) × (slice_get posts w ≡ Some post) × PipeOf post.speech h (l, tap t)
+  abbrev pub Heard : List Speech → ℕ → ℕ → T → Type 0
+  Heard speeches w l t =
+      (spoken : Speech) × (slice_get speeches w ≡ Some spoken) × PipeOf spoken h (l, tap t)
 
   all_started : (w : ℕ) (xs : List (EndedFeed D K)) (ls : List ℕ)
       → ((l : ℕ) → In l (map (λ x. x.line) xs) → In l ls)
@@ -101,62 +102,62 @@ module _ {B D T K : Type 0} (berth : B → BerthTold) (feed : D → FeedTold) (t
       All-cons (λ (y : EndedFeed D K). In y.line ls) x xs (f x.line (inl refl))
       (all_started w xs ls (λ l i. f l (inr i)))
 
-  all_heard : (posts : List Post) (w : ℕ) (post : Post) → slice_get posts w ≡ Some post
-      → (xs : List (EndedTap T)) → Each (PipeOf post.speech h) (map (back_by tap) xs)
-      → All (λ (x : EndedTap T). Heard posts w x.line x.tap) xs
-  all_heard posts w post is [] each = All-nil (λ (x : EndedTap T). Heard posts w x.line x.tap)
-  all_heard posts w post is (x ∷ xs) each =
-      All-cons (λ (y : EndedTap T). Heard posts w y.line y.tap) x xs (post, is, each.0)
-      (all_heard posts w post is xs each.1)
+  all_heard : (speeches : List Speech) (w : ℕ) (spoken : Speech) → slice_get speeches w ≡ Some spoken
+      → (xs : List (EndedTap T)) → Each (PipeOf spoken h) (map (back_by tap) xs)
+      → All (λ (x : EndedTap T). Heard speeches w x.line x.tap) xs
+  all_heard speeches w spoken is [] each = All-nil (λ (x : EndedTap T). Heard speeches w x.line x.tap)
+  all_heard speeches w spoken is (x ∷ xs) each =
+      All-cons (λ (y : EndedTap T). Heard speeches w y.line y.tap) x xs (spoken, is, each.0)
+      (all_heard speeches w spoken is xs each.1)
 
-  shelved_heard : (posts : List Post) (w : ℕ) (post : Post) → slice_get posts w ≡ Some post
+  shelved_heard : (speeches : List Speech) (w : ℕ) (spoken : Speech) → slice_get speeches w ≡ Some spoken
       → (o : Option ℕ) (s : Option T) → IsOf (IsTapOf tap) o s
       → ((l : ℕ) → o ≡ Some l → (said_on l h ≡ []) × (end_on l h ≡ None))
-      → IfSome s (λ t. All (λ l. Heard posts w l t) (listed o))
-  shelved_heard posts w post is None None of silent = tt
-  shelved_heard posts w post is None (Some t) of silent = absurd (cc)
-  shelved_heard posts w post is (Some l) None of silent = absurd of
-  shelved_heard posts w post is (Some l) (Some t) of silent =
-      All-cons (λ k. Heard posts w k t) l []
-      (post, is, new_pipe post.speech h l (tap t) of (silent l refl)) (All-nil (λ k. Heard posts w k t))
+      → IfSome s (λ t. All (λ l. Heard speeches w l t) (listed o))
+  shelved_heard speeches w spoken is None None of silent = tt
+  shelved_heard speeches w spoken is None (Some t) of silent = absurd (cc)
+  shelved_heard speeches w spoken is (Some l) None of silent = absurd of
+  shelved_heard speeches w spoken is (Some l) (Some t) of silent =
+      All-cons (λ k. Heard speeches w k t) l []
+      (spoken, is, new_pipe spoken h l (tap t) of (silent l refl)) (All-nil (λ k. Heard speeches w k t))
 
-  facts : (posts : List Post) (w : ℕ) (s : Seen B D T K)
-      (x : BerthLeft berth feed tap child rule actions h w s) (m : IsMatched s.left)
-      → slice_get posts w ≡ Some s.post → (m.more ≡ listed (tap_at w h))
-      → ((taps : List (ℕ × TapTold)) (want : Option Want) (sp : Speech) (lane : ℕ)
+  facts : (speeches : List Speech) (w : ℕ) (s : Seen B D T K)
+      (x : BerthLeft berth feed tap child rule settings actions h w s) (m : IsMatched s.left)
+      → slice_get speeches w ≡ Some s.spoken → (m.more ≡ listed (tap_at w h))
+      → ((taps : List (ℕ × TapTold)) (want : Option TapHalt) (sp : Speech) (lane : ℕ)
       → LaneEnds sp lane want taps (calls_by lane h) → Each (PipeOf sp h) taps)
       → ((l : ℕ) → tap_at w h ≡ Some l → (said_on l h ≡ []) × (end_on l h ≡ None))
-      → HasFacts OfStarted (Heard posts) w s.left
-  facts posts w s x m is more says silent = record {
+      → HasFacts OfStarted (Heard speeches) w s.left
+  facts speeches w s x m is more says silent = record {
     feeds = all_started w s.left.feeds (started_at w h)
         (λ l i. subst (λ (ls : List ℕ). In l ls)
-        (feeds_are_started berth feed tap child rule actions h w s x) i);
-    taps = all_heard posts w s.post is s.left.taps
-        (says (map (back_by tap) s.left.taps) x.want s.post.speech (tap_lane w) x.told);
+        (feeds_are_started berth feed tap child rule settings actions h w s x) i);
+    taps = all_heard speeches w s.spoken is s.left.taps
+        (says (map (back_by tap) s.left.taps) x.want s.spoken (tap_lane w) x.told);
     shelved = if_some s.left.shelved
-        (shelved_heard posts w s.post is (tap_at w h) s.left.shelved x.slot silent)
-        (λ t all. of_more (λ l. Heard posts w l t) s.left m
-        (subst (λ (ls : List ℕ). All (λ l. Heard posts w l t) ls) (sym more) all));
+        (shelved_heard speeches w s.spoken is (tap_at w h) s.left.shelved x.slot silent)
+        (λ t all. of_more (λ l. Heard speeches w l t) s.left m
+        (subst (λ (ls : List ℕ). All (λ l. Heard speeches w l t) ls) (sym more) all));
   }
 
-  pub all_facts : (posts : List Post) (w : ℕ) (seen : List (Seen B D T K))
-      → EachLeft berth feed tap child rule actions h w seen
-      → ((i : ℕ) (p : Post) → slice_get (map (λ (s : Seen B D T K). s.post) seen) i ≡ Some p
-      → slice_get posts (w + i) ≡ Some p)
+  pub all_facts : (speeches : List Speech) (w : ℕ) (seen : List (Seen B D T K))
+      → EachLeft berth feed tap child rule settings actions h w seen
+      → ((i : ℕ) (p : Speech) → slice_get (map (λ (s : Seen B D T K). s.spoken) seen) i ≡ Some p
+      → slice_get speeches (w + i) ≡ Some p)
       → ((v : ℕ) → started_at v h ≡ taken_in (calls_by (tap_lane v) h) ++ listed (tap_at v h))
       → TakenAreTapped
-      → ((taps : List (ℕ × TapTold)) (want : Option Want) (sp : Speech) (lane : ℕ)
+      → ((taps : List (ℕ × TapTold)) (want : Option TapHalt) (sp : Speech) (lane : ℕ)
       → LaneEnds sp lane want taps (calls_by lane h) → Each (PipeOf sp h) taps)
       → ((v l : ℕ) → tap_at v h ≡ Some l → (said_on l h ≡ []) × (end_on l h ≡ None))
-      → EachHasFacts OfStarted (Heard posts) w (map (λ (s : Seen B D T K). s.left) seen)
+      → EachHasFacts OfStarted (Heard speeches) w (map (λ (s : Seen B D T K). s.left) seen)
   unfolding matched
-  all_facts posts w [] each at tapped taken says silent = tt
-  all_facts posts w (s ∷ ss) each at tapped taken says silent = (
-    facts posts w s each.0 (matched berth feed tap child rule actions h w s each.0 (tapped w) taken)
-        (subst (λ (v : ℕ). slice_get posts v ≡ Some s.post) (let e : w + 0 ≡ w = omega arith in e) (at 0 s.post refl))
+  all_facts speeches w [] each at tapped taken says silent = tt
+  all_facts speeches w (s ∷ ss) each at tapped taken says silent = (
+    facts speeches w s each.0 (matched berth feed tap child rule settings actions h w s each.0 (tapped w) taken)
+        (subst (λ (v : ℕ). slice_get speeches v ≡ Some s.spoken) (let e : w + 0 ≡ w = omega arith in e) (at 0 s.spoken refl))
         refl says (silent w),
-    all_facts posts (w + 1) ss each.1
-        (λ i p is. subst (λ (v : ℕ). slice_get posts v ≡ Some p)
+    all_facts speeches (w + 1) ss each.1
+        (λ i p is. subst (λ (v : ℕ). slice_get speeches v ≡ Some p)
         (let e : w + suc i ≡ w + 1 + i = omega arith in e) (at (suc i) p is))
         tapped taken says silent,
   )
@@ -179,7 +180,7 @@ module _ {B D T K : Type 0} (berth : B → BerthTold) (feed : D → FeedTold) (t
 
   -- ---- rooms
 
-  abbrev pub to_back : Numbered (Halves D T K) → deeds.Back
+  abbrev pub to_back : Numbered (Halves D T K) → deeds.Returned
   to_back y = record { line = y.line; feed = feed y.thing.feed; child = child y.thing.child }
 
   backs_stand : (toldl : List EndTold) (hs : List (Numbered (Halves D T K)))
@@ -188,14 +189,14 @@ module _ {B D T K : Type 0} (berth : B → BerthTold) (feed : D → FeedTold) (t
   backs_stand toldl [] at = refl
   backs_stand toldl (y ∷ ys) at =
       ap (λ (o : Option LineTold). back_in y.line o ++ backs_at toldl (map (λ z. z.line) ys)) (at y (inl refl))
-      ∙ ap (λ (bs : List deeds.Back). to_back y ∷ bs) (backs_stand toldl ys (λ z i. at z (inr i)))
+      ∙ ap (λ (bs : List deeds.Returned). to_back y ∷ bs) (backs_stand toldl ys (λ z i. at z (inr i)))
 
   zipped_backs : (feeds : List (EndedFeed D K)) (taps : List T) → length feeds ≡ length taps
       → map to_back (map halves_with (zip feeds taps)) ≡ map (back_of feed child) feeds
   zipped_backs [] taps e = refl
   zipped_backs (f ∷ fs) [] e = absurd (omega (arith, e))
   zipped_backs (f ∷ fs) (t ∷ ts) e =
-      ap (λ (bs : List deeds.Back). back_of feed child f ∷ bs) (zipped_backs fs ts (omega (arith, e)))
+      ap (λ (bs : List deeds.Returned). back_of feed child f ∷ bs) (zipped_backs fs ts (omega (arith, e)))
 
   zipped_lines : (feeds : List (EndedFeed D K)) (taps : List T) → length feeds ≡ length taps
       → map (λ (y : Numbered (Halves D T K)). y.line) (map halves_with (zip feeds taps))
@@ -206,38 +207,38 @@ module _ {B D T K : Type 0} (berth : B → BerthTold) (feed : D → FeedTold) (t
       ap (λ (ls : List ℕ). f.line ∷ ls) (zipped_lines fs ts (omega (arith, e)))
 
   room : (toldl : List EndTold) (w : ℕ) (s : Seen B D T K)
-      → BerthLeft berth feed tap child rule actions h w s → IsMatched s.left
+      → BerthLeft berth feed tap child rule settings actions h w s → IsMatched s.left
       → ((y : Numbered (Halves D T K)) → In y (halves_of s.left) → line_at toldl y.line ≡ Some (tell feed tap child y.thing))
-      → Room rule actions h toldl w s.post (berth s.old) (berth s.new)
+      → Room rule settings actions h toldl w s.spoken (berth s.old) (berth s.new)
       (option_map (back_of feed child) s.unsaid)
   room toldl w s x m at =
       let many = as_many_taps s.left m in
       let started : map (λ (y : Numbered (Halves D T K)). y.line) (halves_of s.left) ≡ started_at w h =
       zipped_lines s.left.feeds (taps_left s.left.taps s.left.shelved) many
-      ∙ feeds_are_started berth feed tap child rule actions h w s x in
+      ∙ feeds_are_started berth feed tap child rule settings actions h w s x in
       let backs : map (back_of feed child) s.left.feeds ≡ backs_at toldl (started_at w h) =
       sym (zipped_backs s.left.feeds (taps_left s.left.taps s.left.shelved) many)
       ∙ (sym (backs_stand toldl (halves_of s.left) at)
       ∙ ap (backs_at toldl) started) in
       record {
         halted = x.halted;
-        lane = subst (λ (bs : List deeds.Back). Ended s.post actions rule (proxy_lane w)
+        lane = subst (λ (bs : List deeds.Returned). Ended (means_for settings actions s.spoken) rule (proxy_lane w)
             (calls_by (proxy_lane w) h) h (berth s.old) (berth s.new) bs (option_map (back_of feed child) s.unsaid) x.halted) backs x.served;
       }
 
   pub rooms : (toldl : List EndTold) (w : ℕ) (seen : List (Seen B D T K))
-      → EachLeft berth feed tap child rule actions h w seen
+      → EachLeft berth feed tap child rule settings actions h w seen
       → ((v : ℕ) → started_at v h ≡ taken_in (calls_by (tap_lane v) h) ++ listed (tap_at v h))
       → TakenAreTapped
       → ((y : Numbered (Halves D T K)) → In y (all_halves (map (λ (s : Seen B D T K). s.left) seen))
       → line_at toldl y.line ≡ Some (tell feed tap child y.thing))
-      → Rooms rule actions h toldl w (map (λ (s : Seen B D T K). s.post) seen)
+      → Rooms rule settings actions h toldl w (map (λ (s : Seen B D T K). s.spoken) seen)
       (map berth (map (λ (s : Seen B D T K). s.old) seen))
       (map berth (map (λ (s : Seen B D T K). s.new) seen))
       (map (option_map (back_of feed child)) (map (λ (s : Seen B D T K). s.unsaid) seen))
   rooms toldl w [] each tapped taken at = tt
   rooms toldl w (s ∷ ss) each tapped taken at = (
-    room toldl w s each.0 (matched berth feed tap child rule actions h w s each.0 (tapped w) taken)
+    room toldl w s each.0 (matched berth feed tap child rule settings actions h w s each.0 (tapped w) taken)
         (λ y i. at y (in_front y (halves_of s.left) (all_halves (map (λ (z : Seen B D T K). z.left) ss)) i)),
     rooms toldl (w + 1) ss each.1 tapped taken
         (λ y i. at y (in_back y (halves_of s.left) (all_halves (map (λ (z : Seen B D T K). z.left) ss)) i)),
@@ -253,16 +254,16 @@ module _ {B D T K : Type 0} (berth : B → BerthTold) (feed : D → FeedTold) (t
   was_told lane x = (x.front, x.last, x.are, x.stop)
 
   proxy_stopped : (ht : EndsTellHalts) (by : HaltsAreByLanes) (left : EndedHaveLeft) (lane : ℕ)
-      (post : Post) (halted : Option Cause) (ds : List Deed) → has_halt h ≡ false
-      → Ends post actions lane halted (calls_by lane h) ds → IsStopped h lane
-  proxy_stopped ht by left lane post None ds none ends =
-      was_told lane ((left post actions lane (calls_by lane h) ds).1 ends)
-  proxy_stopped ht by left lane post (Some cause) ds none ends =
+      (spoken : Speech) (halted : Option ProxyHalt) (ds : List Deed) → has_halt h ≡ false
+      → Ends (means_for settings actions spoken) lane halted (calls_by lane h) ds → IsStopped h lane
+  proxy_stopped ht by left lane spoken None ds none ends =
+      was_told lane ((left (means_for settings actions spoken) lane (calls_by lane h) ds).1 ends)
+  proxy_stopped ht by left lane spoken (Some cause) ds none ends =
       absurd (different (has_halt h)
-      (by.some lane h (ht.proxy_halted post actions lane cause (calls_by lane h) ds ends)) none)
+      (by.some lane h (ht.proxy_halted (means_for settings actions spoken) lane cause (calls_by lane h) ds ends)) none)
 
   tap_stopped : (ht : EndsTellHalts) (by : HaltsAreByLanes) (lane : ℕ) (s : Speech)
-      (want : Option Want) (taps : List (ℕ × TapTold)) → has_halt h ≡ false
+      (want : Option TapHalt) (taps : List (ℕ × TapTold)) → has_halt h ≡ false
       → LaneEnds s lane want taps (calls_by lane h) → IsStopped h lane
   tap_stopped ht by lane s None taps none ends =
       was_told lane (ht.stopped s lane taps (calls_by lane h) ends)
@@ -271,13 +272,13 @@ module _ {B D T K : Type 0} (berth : B → BerthTold) (feed : D → FeedTold) (t
       (by.some lane h (ht.halted s lane want taps (calls_by lane h) ends)) none)
 
   pub all_stopped : (ht : EndsTellHalts) (by : HaltsAreByLanes) (left : EndedHaveLeft) (w : ℕ)
-      (seen : List (Seen B D T K)) → EachLeft berth feed tap child rule actions h w seen
+      (seen : List (Seen B D T K)) → EachLeft berth feed tap child rule settings actions h w seen
       → has_halt h ≡ false → (i : ℕ) → i < length seen → AreStopped h (w + i)
   all_stopped ht by left w [] each none i lt = absurd (omega (arith, lt))
   all_stopped ht by left w (s ∷ ss) each none zero lt =
       subst (λ (v : ℕ). AreStopped h v) (let e : w ≡ w + 0 = omega arith in e) (
-        proxy_stopped ht by left (proxy_lane w) s.post each.0.halted each.0.served.deeds none each.0.served.ends,
-        tap_stopped ht by (tap_lane w) s.post.speech each.0.want (map (back_by tap) s.left.taps) none each.0.told,
+        proxy_stopped ht by left (proxy_lane w) s.spoken each.0.halted each.0.served.deeds none each.0.served.ends,
+        tap_stopped ht by (tap_lane w) s.spoken each.0.want (map (back_by tap) s.left.taps) none each.0.told,
       )
   all_stopped ht by left w (s ∷ ss) each none (suc i) lt =
       subst (λ (v : ℕ). AreStopped h v) (let e : w + 1 + i ≡ w + suc i = omega arith in e)

@@ -1,15 +1,17 @@
 -- From what the lanes leave to the whole run.
-use Rattle.std.proofs.Common.{◌≡◌, ℕ, zero, suc, ◌+◌, ◌^◌, ◌<◌, Bool, List, [], ◌∷◌, ◌++◌, length, map, Option, Some, None, refl, sym, ap, subst, ◌∙◌, arith, All}
+use Rattle.std.proofs.Common.{◌≡◌, ℕ, zero, suc, ◌+◌, ◌*◌, ◌^◌, ◌<◌, ◌≤◌, nat_lt, Bool, true, false, inl, inr, take, length-take, get_or-take, List, [], ◌∷◌, ◌++◌, length, map, Option, Some, None, refl, sym, ap, subst, ◌∙◌, arith, All}
 use Rattle.std.specs.Prelude.{option_map, get_or, slice_get, slice_index_or}
+use Rattle.std.proofs.lemmas.Bool.{ltb-true, ltb-false}
 use Rattle.std.proofs.lemmas.List.{length-map}
 use Rattle.std.proofs.lemmas.Option.{slice_get-map}
 use Rattle.seat_desk.specs.History.{calls_by}
+use Rattle.seat_desk.specs.Turns.{NoneFrom}
 use Rattle.exec_journal.specs.declared.call.Call.{Call}
 use Rattle.exec_journal.specs.declared.reply.Reply.{Reply}
 use Rattle.outside.specs.Told.{BerthTold, FeedTold, TapTold, ChildTold, PlaceTold, LineTold}
 use Rattle.remote_messages.specs.declared.work.WorkAction.{WorkAction}
-use Rattle.lane_crew.specs.declared.pair.OfTwo.{OfTwo}
-use Rattle.lane_crew.specs.declared.pair.OfTwo.TheVariants.{First, Second}
+use Rattle.lane_crew.specs.declared.pair.Either.{Either}
+use Rattle.lane_crew.specs.declared.pair.Either.TheVariants.{First, Second}
 use Rattle.lane_laws.specs.Lanes.{EndedHaveLeft}
 use Rattle.lane_runs.specs.Placed.{Numbered}
 use Rattle.lane_laws.specs.Numbers.{In, Distinct}
@@ -21,10 +23,10 @@ use Rattle.core_contract.specs.Duties.{proxy_lane}
 use Rattle.core_contract.specs.Laws.{tap_lane, lines_in}
 use Rattle.core_bench.specs.Bench.{IsOf, IsTapOf, IsInSpot, IsPlaceOf, TapsLie, PlacesLie}
 use Rattle.core_bench.specs.Objects.{AreFresh, IsPlaceAt}
-use Rattle.proxy_deeds.specs.declared.post.Post.{Post}
+use Rattle.proxy_deeds.specs.declared.settings.Settings.{Settings}
 use Rattle.proxy_steps.specs.declared.hands.EndedFeed.{EndedFeed}
 use Rattle.proxy_steps.specs.Lanes.{back_of}
-use Rattle.lane_runs.specs.Seats.{AreSeats, ProxyLeft}
+use Rattle.lane_runs.specs.Seats.{AreSeats, ProxyLeft, means_for}
 use Rattle.tap_lane.specs.declared.ends.TapLeft.{TapLeft}
 use Rattle.lane_runs.specs.Ran.{EachBerthRan}
 use Rattle.lane_runs.specs.BerthHalves.{BerthLines, IsMatched, all_feed_lines, all_halves}
@@ -37,7 +39,7 @@ use Rattle.lane_laws.specs.Places.{HasLeft}
 use Rattle.lane_laws.specs.Taps.{started_at, taken_in}
 use Rattle.proxy_deeds.specs.Lines.{listed}
 use Rattle.lane_laws.specs.Pipes.{PipeOf, Each, said_on, end_on}
-use Rattle.tap_lane.specs.declared.ends.Want.{Want}
+use Rattle.tap_lane.specs.declared.ends.TapHalt.{TapHalt}
 use Rattle.tap_lane.specs.Lane.{LaneEnds}
 use Rattle.run_plan.specs.declared.plan.Speech.{Speech}
 use Rattle.lane_runs.specs.declared.layout.Laid.{Laid}
@@ -48,9 +50,9 @@ use Rattle.lane_runs.specs.Blanks.{IsBlankFor}
 use Rattle.lane_runs.specs.declared.blank.Blank.{Blank}
 use Rattle.lane_runs.specs.declared.proxies.ProxySeat.{ProxySeat}
 use Rattle.tap_lane.specs.declared.seat.TapSeat.{TapSeat}
-use Rattle.run_plan.specs.declared.plan.Maker.{Maker}
 use Rattle.seat_desk.specs.declared.machine.Machine.{Ghosts}
-use Rattle.lane_crew.specs.Seats.{EachLane}
+use Rattle.lane_crew.specs.LaneJobs.{EachLane}
+use Rattle.lane_runs.proofs.Crewed.{two_each}
 use Rattle.lane_runs.proofs.Running.{HasRan, each_berth}
 use Rattle.lane_runs.specs.Runs.{EndTold, end_of, line_at, laid_told, Pipe, Outs, Rooms, AreStopped, HasRun}
 use Rattle.lane_runs.proofs.Leaving.{Seen, Gathered, SlotsFrom, slots_from, gather, alternate, all_matched, all_started}
@@ -166,16 +168,16 @@ module _ {D T K : Type 0} (feed : D → FeedTold) (tap : T → TapTold) (child :
 -- ---- proxy lanes have left
 
 module _ {B D T K : Type 0} (berth : B → BerthTold) (feed : D → FeedTold) (tap : T → TapTold)
-    (child : K → ChildTold) (rule : History → ℕ → Call → Reply) (actions : List WorkAction)
-    (h : History) where
-  ran_left : (left : EndedHaveLeft) (w : ℕ) (olds : List B) (posts : List Post)
-      (ends : List (OfTwo (ProxyLeft B D K) (TapLeft T)))
-      → EachBerthRan berth feed tap child rule actions h w olds posts ends → (i : ℕ)
-      → i < length posts → HasLeft (calls_by (proxy_lane (w + i)) h)
+    (child : K → ChildTold) (rule : History → ℕ → Call → Reply) (settings : Settings)
+    (actions : List WorkAction) (h : History) where
+  ran_left : (left : EndedHaveLeft) (w : ℕ) (olds : List B) (speeches : List Speech)
+      (ends : List (Either (ProxyLeft B D K) (TapLeft T)))
+      → EachBerthRan berth feed tap child rule settings actions h w olds speeches ends → (i : ℕ)
+      → i < length speeches → HasLeft (calls_by (proxy_lane (w + i)) h)
   ran_left left w [] [] ends ran i lt = absurd (omega (arith, lt))
   ran_left left w (b ∷ bs) (p ∷ ps) (First x ∷ Second y ∷ ends) ran zero lt =
       subst (λ (v : ℕ). HasLeft (calls_by (proxy_lane v) h)) (let e : w ≡ w + 0 = omega arith in e)
-      ((left p actions (proxy_lane w) (calls_by (proxy_lane w) h) ran.0.served.deeds).0
+      ((left (means_for settings actions p) (proxy_lane w) (calls_by (proxy_lane w) h) ran.0.served.deeds).0
       x.halted ran.0.served.ends)
   ran_left left w (b ∷ bs) (p ∷ ps) (First x ∷ Second y ∷ ends) ran (suc i) lt =
       subst (λ (v : ℕ). HasLeft (calls_by (proxy_lane v) h)) (let e : w + 1 + i ≡ w + suc i = omega arith in e)
@@ -187,38 +189,57 @@ module _ {B D T K : Type 0} (berth : B → BerthTold) (feed : D → FeedTold) (t
   ran_left left w [] (p ∷ ps) ends ran i lt = absurd ran
   ran_left left w (b ∷ bs) [] ends ran i lt = absurd ran
 
+-- a lane behind these has made no entry
+silent_behind : (n w : ℕ) (h : History) → NoneFrom (2 * n) h → nat_lt w n ≡ false
+    → calls_by (proxy_lane w) h ≡ []
+silent_behind n w h none beyond =
+    let above = ltb-false w n beyond in none (proxy_lane w) (omega (arith, above))
+
+by_test : {A : Type 0} (b : Bool) → (b ≡ true → A) → (b ≡ false → A) → A
+by_test true f g = f refl
+by_test false f g = g refl
+
 module _ {Q B D T K P : Type 0} (legal : Q → History → Type 0) (terms : Q → Terms)
     (rule : Q → History → ℕ → Call → Reply)
     (berth : B → BerthTold) (feed : D → FeedTold) (tap : T → TapTold) (child : K → ChildTold)
     (place : P → PlaceTold) (laws : HistoryLaws legal terms) (q : Q) (h : History)
-    (good : legal q h) (posts : List Post) (work : List WorkAction) (olds : List B)
-    (ends : List (OfTwo (ProxyLeft B D K) (TapLeft T))) (slots : List (Option T))
-    (many : length posts ≡ (terms q).berths)
-    (ran : EachBerthRan berth feed tap child (rule q) work h 0 olds posts ends)
-    (lie : TapsLie tap (terms q) h slots) where
-  in_slots : SlotsFrom berth feed tap child (rule q) work h 0 slots
-  in_slots = slots_from berth feed tap child (rule q) work h 0 slots (λ i lt.
-      subst (λ (v : ℕ). IsOf (IsTapOf tap) (tap_at v h) (get_or slots i None)) (let e : i ≡ 0 + i = omega arith in e)
-      (lie.each i (let all = lie.as_many in omega (arith, all, lt))))
+    (good : legal q h) (speeches : List Speech) (settings : Settings) (work : List WorkAction)
+    (olds : List B) (ends : List (Either (ProxyLeft B D K) (TapLeft T)))
+    (shelf slots : List (Option T)) (fewer : length speeches ≤ (terms q).berths)
+    (none : NoneFrom (2 * length speeches) h)
+    (ran : EachBerthRan berth feed tap child (rule q) settings work h 0 olds speeches ends)
+    (lie : TapsLie tap (terms q) h shelf) (front : slots ≡ take (length speeches) shelf) where
+  as_many : length slots ≡ length speeches
+  as_many =
+      let all = lie.as_many in
+      let cut : length (take (length speeches) shelf) ≡ length speeches =
+      simp length-take (omega (arith, all, fewer)) in
+      ap length front ∙ cut
 
-  as_many : length slots ≡ length posts
-  as_many = lie.as_many ∙ sym many
+  in_slots : SlotsFrom berth feed tap child (rule q) settings work h 0 slots
+  in_slots = slots_from berth feed tap child (rule q) settings work h 0 slots (λ i lt.
+      let same : get_or slots i None ≡ get_or shelf i None =
+      ap (λ (l : List (Option T)). get_or l i None) front
+      ∙ get_or-take (length speeches) shelf i None (omega (arith, as_many, lt)) in
+      subst (λ (v : ℕ). IsOf (IsTapOf tap) (tap_at v h) (get_or slots i None)) (let e : i ≡ 0 + i = omega arith in e)
+      (subst (λ (o : Option T). IsOf (IsTapOf tap) (tap_at i h) o) (sym same)
+      (lie.each i (let all = lie.as_many in omega (arith, all, as_many, fewer, lt)))))
 
   pub in_turn : Alternate slots ends
-  in_turn = alternate berth feed tap child (rule q) work h 0 olds posts ends slots ran as_many
+  in_turn = alternate berth feed tap child (rule q) settings work h 0 olds speeches ends slots ran as_many
 
-  gathered : Gathered berth feed tap child (rule q) work h 0 posts olds slots ends
-  gathered = gather berth feed tap child (rule q) work h 0 olds posts ends slots ran in_slots as_many
+  gathered : Gathered berth feed tap child (rule q) settings work h 0 speeches olds slots ends
+  gathered = gather berth feed tap child (rule q) settings work h 0 olds speeches ends slots ran in_slots as_many
 
-  as_many_seen : (g : Gathered berth feed tap child (rule q) work h 0 posts olds slots ends)
-      → length g.seen ≡ (terms q).berths
+  as_many_seen : (g : Gathered berth feed tap child (rule q) settings work h 0 speeches olds slots ends)
+      → length g.seen ≡ length speeches
   as_many_seen g =
-      sym (length-map g.seen (λ (s : Seen B D T K). s.post)) ∙ (sym (ap length g.posts_are) ∙ many)
+      sym (length-map g.seen (λ (s : Seen B D T K). s.spoken)) ∙ sym (ap length g.speeches_are)
 
   tapped : (v : ℕ) → started_at v h ≡ taken_in (calls_by (tap_lane v) h) ++ listed (tap_at v h)
   tapped v = laws.tapped q h v good
 
-  said : (taps : List (ℕ × TapTold)) (want : Option Want) (sp : Speech) (lane : ℕ)
+  said : (taps : List (ℕ × TapTold)) (want : Option TapHalt) (sp : Speech) (lane : ℕ)
       → LaneEnds sp lane want taps (calls_by lane h) → Each (PipeOf sp h) taps
   said taps want sp lane end = (laws.says q h sp lane want taps good end).1
 
@@ -228,15 +249,15 @@ module _ {Q B D T K P : Type 0} (legal : Q → History → Type 0) (terms : Q �
   pub are_fit : AreFit (lines_in h) (lefts_of slots ends)
   are_fit =
       let g = gathered in
-      let apart_all = laws.apart q h good in
-      let started : all_feed_lines (lefts_of slots ends) ≡ concat (started_from h 0 (terms q).berths) =
+      let apart_all = laws.apart q h (length speeches) good in
+      let started : all_feed_lines (lefts_of slots ends) ≡ concat (started_from h 0 (length speeches)) =
       ap all_feed_lines g.lines_are
-      ∙ (all_started berth feed tap child (rule q) work h 0 g.seen g.each
+      ∙ (all_started berth feed tap child (rule q) settings work h 0 g.seen g.each
       ∙ ap (λ (n : ℕ). concat (started_from h 0 n)) (as_many_seen g)) in
       record {
         inside = record {
           matched = subst (λ (ls : List (BerthLines D T K)). All IsMatched ls) (sym g.lines_are)
-              (all_matched berth feed tap child (rule q) work h 0 g.seen g.each
+              (all_matched berth feed tap child (rule q) settings work h 0 g.seen g.each
               tapped laws.taken);
           below = subst (λ (ls : List ℕ). All (λ l. l < lines_in h) ls) (sym started) apart_all.all_below;
         };
@@ -248,14 +269,16 @@ module _ {Q B D T K P : Type 0} (legal : Q → History → Type 0) (terms : Q �
       → PlacesLie place (terms q) h places → AllThere places
   places_are_there places lying =
       places_there place (terms q) h places lying
-      (laws.places q h good (λ w lt.
-      subst (λ (v : ℕ). HasLeft (calls_by (proxy_lane v) h)) (let z : 0 + w ≡ w = omega arith in z)
-      (ran_left berth feed tap child (rule q) work h laws.left 0 olds posts ends ran w
-      (omega (arith, lt, many)))))
+      (laws.places q h good (λ w lt. by_test (nat_lt w (length speeches))
+      (λ within. inr (subst (λ (v : ℕ). HasLeft (calls_by (proxy_lane v) h))
+      (let z : 0 + w ≡ w = omega arith in z)
+      (ran_left berth feed tap child (rule q) settings work h laws.left 0 olds speeches ends ran w
+      (ltb-true w (length speeches) within))))
+      (λ beyond. inl (silent_behind (length speeches) w h none beyond))))
 
   pub has_run : (places : List (Option P)) (laid : Laid B D T K P)
       → PlacesLie place (terms q) h places → IsLaid h ends slots places laid
-      → HasRun (legal q) (rule q) (terms q) posts work (map berth olds)
+      → HasRun (legal q) (rule q) (terms q) speeches settings work (map berth olds)
       (laid_told berth feed tap child place laid)
   has_run places laid lying is =
       let g = gathered in
@@ -263,46 +286,47 @@ module _ {Q B D T K P : Type 0} (legal : Q → History → Type 0) (terms : Q �
       let seen = g.seen in
       let lefts : List (BerthLines D T K) = map (λ (s : Seen B D T K). s.left) seen in
       let toldl : List EndTold = map (end_of feed tap child) laid.lines.items in
-      let facts = telling.all_facts berth feed tap child (rule q) work h posts 0 seen g.each
-      (λ i p e. subst (λ (v : ℕ). slice_get posts v ≡ Some p) (let z : i ≡ 0 + i = omega arith in z)
-      (ap (λ (l : List Post). slice_get l i) g.posts_are ∙ e))
+      let facts = telling.all_facts berth feed tap child (rule q) settings work h speeches 0 seen g.each
+      (λ i p e. subst (λ (v : ℕ). slice_get speeches v ≡ Some p) (let z : i ≡ 0 + i = omega arith in z)
+      (ap (λ (l : List Speech). slice_get l i) g.speeches_are ∙ e))
       tapped laws.taken said silent in
       let matched_all : All IsMatched lefts = subst (λ (ls : List (BerthLines D T K)). All IsMatched ls) g.lines_are fit.inside.matched in
       let are = subst (λ (ls : List (BerthLines D T K)). ended.AreLines (lines_in h) ls laid.lines.items) g.lines_are is.lines in
       let at : (y : Numbered (Halves D T K)) → In y (all_halves lefts)
-      → line_at toldl y.line ≡ Some (telling.tell feed tap child y.thing) = λ y i. telling.line_tells berth feed tap child (rule q) work h laid.lines.items y.line
+      → line_at toldl y.line ≡ Some (telling.tell feed tap child y.thing) = λ y i. telling.line_tells berth feed tap child (rule q) settings work h laid.lines.items y.line
       ∙ ap (option_map (telling.tell feed tap child)) (are.placed.all y i) in
       record {
         history = h;
         in_journal = is.journal;
         is_legal = good;
-        rooms = subst (λ (ps : List Post). Rooms (rule q) work h toldl 0 ps (map berth olds) (map berth laid.berths.items)
+        no_others = none;
+        rooms = subst (λ (ps : List Speech). Rooms (rule q) settings work h toldl 0 ps (map berth olds) (map berth laid.berths.items)
             (map (option_map (back_of feed child)) laid.unsaid.items))
-            (sym g.posts_are)
-            (subst (λ (os : List B). Rooms (rule q) work h toldl 0 (map (λ (s : Seen B D T K). s.post) seen) (map berth os)
+            (sym g.speeches_are)
+            (subst (λ (os : List B). Rooms (rule q) settings work h toldl 0 (map (λ (s : Seen B D T K). s.spoken) seen) (map berth os)
             (map berth laid.berths.items) (map (option_map (back_of feed child)) laid.unsaid.items))
             (sym g.olds_are)
-            (subst (λ (ns : List B). Rooms (rule q) work h toldl 0 (map (λ (s : Seen B D T K). s.post) seen)
+            (subst (λ (ns : List B). Rooms (rule q) settings work h toldl 0 (map (λ (s : Seen B D T K). s.spoken) seen)
             (map berth (map (λ (s : Seen B D T K). s.old) seen)) (map berth ns)
             (map (option_map (back_of feed child)) laid.unsaid.items))
             (sym (is.berths ∙ g.news_are))
-            (subst (λ (us : List (Option (EndedFeed D K))). Rooms (rule q) work h toldl 0
-            (map (λ (s : Seen B D T K). s.post) seen) (map berth (map (λ (s : Seen B D T K). s.old) seen))
+            (subst (λ (us : List (Option (EndedFeed D K))). Rooms (rule q) settings work h toldl 0
+            (map (λ (s : Seen B D T K). s.spoken) seen) (map berth (map (λ (s : Seen B D T K). s.old) seen))
             (map berth (map (λ (s : Seen B D T K). s.new) seen)) (map (option_map (back_of feed child)) us))
             (sym (is.unsaid ∙ g.unsaid_are))
-            (telling.rooms berth feed tap child (rule q) work h toldl 0 seen g.each tapped laws.taken at))));
+            (telling.rooms berth feed tap child (rule q) settings work h toldl 0 seen g.each tapped laws.taken at))));
         pipes = record {
           numbers = numbers_told feed tap child laid.lines.items ∙ is.lines.numbers;
           each = λ l t e.
               let x = some_halves feed tap child
               (slice_index_or (map (λ (y : EndedLine D T K). y.halves) laid.lines.items) l None) t
-              (sym (telling.line_tells berth feed tap child (rule q) work h laid.lines.items l) ∙ e) in
-              let f = facts_at (telling.OfStarted berth feed tap child (rule q) work h)
-              (telling.Heard berth feed tap child (rule q) work h posts) (lines_in h) lefts
+              (sym (telling.line_tells berth feed tap child (rule q) settings work h laid.lines.items l) ∙ e) in
+              let f = facts_at (telling.OfStarted berth feed tap child (rule q) settings work h)
+              (telling.Heard berth feed tap child (rule q) settings work h speeches) (lines_in h) lefts
               laid.lines.items facts matched_all are l x.0 x.1 in
-              subst (λ (told : LineTold). Pipe posts h l told) x.2 (record {
+              subst (λ (told : LineTold). Pipe speeches h l told) x.2 (record {
                 berth = f.0;
-                post = f.2.0;
+                spoken = f.2.0;
                 of_berth = f.2.1;
                 started = f.1;
                 heard = f.2.2;
@@ -310,11 +334,11 @@ module _ {Q B D T K P : Type 0} (legal : Q → History → Type 0) (terms : Q �
         };
         outs = outs place (terms q) h places laid.places.items lying is.places;
         halts = is.halts;
-        stops = λ none w lt.
+        stops = λ unhalted w lt.
             let seen_many = as_many_seen g in
             subst (λ (v : ℕ). AreStopped h v) (let z : 0 + w ≡ w = omega arith in z)
-            (telling.all_stopped berth feed tap child (rule q) work h laws.halts laws.by_lanes laws.left 0
-            seen g.each none w (omega (arith, lt, many, seen_many)));
+            (telling.all_stopped berth feed tap child (rule q) settings work h laws.halts laws.by_lanes laws.left 0
+            seen g.each unhalted w (omega (arith, lt, seen_many)));
       }
 
 -- ---- at the plan of the core that was handed in
@@ -324,57 +348,64 @@ module _ {M G Q B D T K P : Type 0} (g : Ghosts M Call Reply G Q) (legal : Q →
     (feed : D → FeedTold) (tap : T → TapTold) (child : K → ChildTold) (place : P → PlaceTold)
     (laws : HistoryLaws legal terms) where
   -- what the crew leaves may be laid out, and then it is what the run leaves
-  pub record Crewed (q : Q) (h : History) (posts : List Post) (work : List WorkAction)
-      (olds : List B) (ends : List (OfTwo (ProxyLeft B D K) (TapLeft T))) (taps : List (Option T))
-      (places : List (Option P)) : Type 0 where
+  pub record Crewed (q : Q) (h : History) (speeches : List Speech) (settings : Settings)
+      (work : List WorkAction) (olds : List B) (ends : List (Either (ProxyLeft B D K) (TapLeft T)))
+      (taps : List (Option T)) (places : List (Option P)) : Type 0 where
     pub good : legal q h
-    pub as_many : length taps ≡ length posts
+    pub as_many : length taps ≡ length speeches
     pub all_places : length places ≡ (terms q).actions
     pub may : (blank : Blank B D T K P)
         → IsBlankFor (length taps) (lines_in h) (length places) blank → lines_in h < 2 ^ 32
         → MayBeLaid h ends taps places blank
     pub run : (laid : Laid B D T K P) → IsLaid h ends taps places laid
-        → HasRun (legal q) (rule q) (terms q) posts work (map berth olds)
+        → HasRun (legal q) (rule q) (terms q) speeches settings work (map berth olds)
         (laid_told berth feed tap child place laid)
 
-  crewed_at : (q : Q) (h : History) (posts : List Post) (work : List WorkAction) (olds : List B)
-      (ends : List (OfTwo (ProxyLeft B D K) (TapLeft T))) (taps : List (Option T))
-      (places : List (Option P)) → legal q h → length posts ≡ (terms q).berths
-      → EachBerthRan berth feed tap child (rule q) work h 0 olds posts ends
-      → TapsLie tap (terms q) h taps → PlacesLie place (terms q) h places
-      → Crewed q h posts work olds ends taps places
-  crewed_at q h posts work olds ends taps places good many ran lie lying = record {
+  crewed_at : (q : Q) (h : History) (speeches : List Speech) (settings : Settings)
+      (work : List WorkAction) (olds : List B) (ends : List (Either (ProxyLeft B D K) (TapLeft T)))
+      (shelf taps : List (Option T)) (places : List (Option P)) → legal q h
+      → length speeches ≤ (terms q).berths → NoneFrom (2 * length speeches) h
+      → EachBerthRan berth feed tap child (rule q) settings work h 0 olds speeches ends
+      → TapsLie tap (terms q) h shelf → taps ≡ take (length speeches) shelf
+      → PlacesLie place (terms q) h places
+      → Crewed q h speeches settings work olds ends taps places
+  crewed_at q h speeches settings work olds ends shelf taps places good fewer none ran lie front lying = record {
     good = good;
-    as_many = lie.as_many ∙ sym many;
+    as_many = as_many legal terms rule berth feed tap child place laws q h good
+        speeches settings work olds ends shelf taps fewer none ran lie front;
     all_places = lying.as_many;
     may = λ blank room few. record {
       room = room;
       few = few;
       alternate = in_turn legal terms rule berth feed tap child place laws q h good
-          posts work olds ends taps many ran lie;
-      fit = are_fit legal terms rule berth feed tap child place laws q h good posts
-          work olds ends taps many ran lie;
-      there = places_are_there legal terms rule berth feed tap child place laws q h
-          good posts work olds ends taps many ran lie places lying;
+          speeches settings work olds ends shelf taps fewer none ran lie front;
+      fit = are_fit legal terms rule berth feed tap child place laws q h good
+          speeches settings work olds ends shelf taps fewer none ran lie front;
+      there = places_are_there legal terms rule berth feed tap child place laws q h good
+          speeches settings work olds ends shelf taps fewer none ran lie front places lying;
     };
-    run = λ laid is. has_run legal terms rule berth feed tap child place laws q h
-        good posts work olds ends taps many ran lie places laid lying is;
+    run = λ laid is. has_run legal terms rule berth feed tap child place laws q h good
+        speeches settings work olds ends shelf taps fewer none ran lie front places laid lying is;
   }
 
   -- the plan that the core has in the end is the one that it had
-  pub crewed : {q bench machine last : Q} {h : History} {posts : List Post} {work : List WorkAction}
-      {olds : List B} {ends : List (OfTwo (ProxyLeft B D K) (TapLeft T))} {taps : List (Option T)}
-      {places : List (Option P)} (lanes : List (OfTwo (ProxySeat B) TapSeat)) → bench ≡ q → machine ≡ bench → last ≡ machine
-      → length posts ≡ (terms q).berths → legal last h → TapsLie tap (terms last) h taps
-      → PlacesLie place (terms last) h places → AreSeats work 0 olds posts lanes
-      → EachLane (HasRan g terms rule berth feed tap child) bench h 0
-      lanes ends → Crewed q h posts work olds ends taps places
-  crewed {q} {bench} {machine} {last} {h} {posts} {work} {olds} {ends} {taps} {places} lanes e f k many good lie lying are ran =
+  pub crewed : {q bench machine last : Q} {h : History} {speeches : List Speech}
+      {settings : Settings} {work : List WorkAction} {olds : List B}
+      {ends : List (Either (ProxyLeft B D K) (TapLeft T))} {shelf taps : List (Option T)}
+      {places : List (Option P)} (lanes : List (Either (ProxySeat B) TapSeat)) → bench ≡ q
+      → machine ≡ bench → last ≡ machine → length speeches ≤ (terms q).berths → legal last h
+      → TapsLie tap (terms last) h shelf → taps ≡ take (length speeches) shelf
+      → PlacesLie place (terms last) h places → AreSeats settings work 0 olds speeches lanes
+      → EachLane (HasRan g terms rule berth feed tap child) bench h 0 lanes ends
+      → NoneFrom (length lanes) h → Crewed q h speeches settings work olds ends taps places
+  crewed {q} {bench} {machine} {last} {h} {speeches} {settings} {work} {olds} {ends} {shelf} {taps} {places} lanes e f k fewer good lie front lying are ran none =
       let same : last ≡ q = k ∙ (f ∙ e) in
       let each = each_berth g terms rule berth feed tap child bench h
-      work 0 olds posts lanes ends are ran in
-      crewed_at q h posts work olds ends taps places
-      (subst (λ (r : Q). legal r h) same good) many
-      (subst (λ (r : Q). EachBerthRan berth feed tap child (rule r) work h 0 olds posts ends) e each)
-      (subst (λ (r : Q). TapsLie tap (terms r) h taps) same lie)
+      settings work 0 olds speeches lanes ends are ran in
+      let silent = subst (λ (n : ℕ). NoneFrom n h)
+      (two_each settings work 0 olds speeches lanes are) none in
+      crewed_at q h speeches settings work olds ends shelf taps places
+      (subst (λ (r : Q). legal r h) same good) fewer silent
+      (subst (λ (r : Q). EachBerthRan berth feed tap child (rule r) settings work h 0 olds speeches ends) e each)
+      (subst (λ (r : Q). TapsLie tap (terms r) h shelf) same lie) front
       (subst (λ (r : Q). PlacesLie place (terms r) h places) same lying)

@@ -1,5 +1,5 @@
 -- What every history of a core says, in one record.
-use Rattle.std.specs.Prelude.{ℕ, ◌≤◌}
+use Rattle.std.specs.Prelude.{◌≤◌}
 use Rattle.core_contract.specs.Terms.{Terms}
 use Rattle.core_contract.specs.Laws.{lines_in}
 use Rattle.core_contract.specs.Moves.{History}
@@ -24,7 +24,7 @@ pub record HistoryLaws {Q : Type 0} (legal : Q → History → Type 0) (terms : 
   pub places : PlacesAreBack legal terms
   pub tapped : StartedAreTapped legal
   pub untaken : ShelvedAreUntaken legal
-  pub apart : StartedAreApart legal terms
+  pub apart : StartedAreApart legal
   pub known : OnlyKnownLanesSpeak legal terms
   pub says : SaysWhatTapsTell legal
   pub silent : SilentUnlessGiven legal

@@ -3,7 +3,7 @@ use Rattle.std.specs.Prelude.{◌≡◌, ◌<◌, ◌^◌, ℕ, length, List, []
 use Rattle.std.specs.List.{list_any}
 use Rattle.exec_journal.specs.Entries.{is_halt, launch_in}
 use Rattle.exec_journal.specs.Entry.{Entry}
-use Rattle.lane_crew.specs.declared.pair.OfTwo.{OfTwo}
+use Rattle.lane_crew.specs.declared.pair.Either.{Either}
 use Rattle.lane_laws.specs.Numbers.{Distinct}
 use Rattle.core_contract.specs.Moves.{History}
 use Rattle.core_contract.specs.Laws.{lines_in}
@@ -41,7 +41,7 @@ module _ {B D T K : Type 0} where
   -- The ends stand berth by berth, as the taps that are left for them; their lines fit, all places
   -- are there, and the room is enough for all of it.
   pub record MayBeLaid {P : Type 0} (h : History)
-      (ends : List (OfTwo (ProxyLeft B D K) (TapLeft T))) (taps : List (Option T))
+      (ends : List (Either (ProxyLeft B D K) (TapLeft T))) (taps : List (Option T))
       (slots : List (Option P)) (blank : Blank B D T K P) : Type 0 where
     pub room : IsBlankFor (length taps) (lines_in h) (length slots) blank
     pub few : lines_in h < 2 ^ 32
@@ -51,7 +51,7 @@ module _ {B D T K : Type 0} where
 
   -- these are the history, the berths, their lines by number, the line of each that wasn't reported,
   -- and the places
-  pub record IsLaid {P : Type 0} (h : History) (ends : List (OfTwo (ProxyLeft B D K) (TapLeft T)))
+  pub record IsLaid {P : Type 0} (h : History) (ends : List (Either (ProxyLeft B D K) (TapLeft T)))
       (taps : List (Option T)) (slots : List (Option P)) (laid : Laid B D T K P) : Type 0 where
     pub journal : laid.journal ≡ h
     pub berths : laid.berths.items ≡ berths_of taps ends

@@ -1,7 +1,8 @@
 -- What a run of all lanes leaves, by its one history.
-use Rattle.std.specs.Prelude.{◌≡◌, ℕ, ◌+◌, ◌<◌, Bool, false, List, [], ◌∷◌, ◌++◌, length, map, slice_get, Option, Some, None, option_map, slice_index_or}
+use Rattle.std.specs.Prelude.{◌≡◌, ℕ, ◌+◌, ◌*◌, ◌<◌, Bool, false, List, [], ◌∷◌, ◌++◌, length, map, slice_get, Option, Some, None, option_map, slice_index_or}
 use Rattle.std.specs.List.{range_with_len}
 use Rattle.seat_desk.specs.History.{calls_by}
+use Rattle.seat_desk.specs.Turns.{NoneFrom}
 use Rattle.exec_journal.specs.declared.call.Call.{Call}
 use Rattle.exec_journal.specs.declared.reply.Reply.{Reply}
 use Rattle.exec_journal.specs.declared.reply.Reply.TheVariants as reply
@@ -16,11 +17,13 @@ use Rattle.core_contract.specs.Laws.{tap_lane, lines_in}
 use Rattle.core_bench.specs.Objects.{IsPlaceAt}
 use Rattle.lane_laws.specs.Numbers.{In}
 use Rattle.lane_laws.specs.Pipes.{PipeOf}
-use Rattle.proxy_deeds.specs.declared.post.Post.{Post}
-use Rattle.proxy_deeds.specs.declared.cause.Cause.{Cause}
-use Rattle.proxy_deeds.specs.Lines.{Back, started_in}
+use Rattle.run_plan.specs.declared.plan.Speech.{Speech}
+use Rattle.proxy_deeds.specs.declared.settings.Settings.{Settings}
+use Rattle.proxy_deeds.specs.declared.halt.ProxyHalt.{ProxyHalt}
+use Rattle.proxy_deeds.specs.Lines.{Returned, started_in}
 use Rattle.proxy_steps.specs.Lanes.{back_of}
 use Rattle.proxy_steps.specs.Steps.{Ended}
+use Rattle.lane_runs.specs.Seats.{means_for}
 use Rattle.lane_runs.specs.declared.halves.EndedLine.{EndedLine}
 use Rattle.lane_runs.specs.Layout.{has_halt}
 use Rattle.lane_runs.specs.declared.layout.Laid.{Laid}
@@ -43,7 +46,7 @@ pub record LaidTold : Type 0 where
   pub berths : List BerthTold
   pub lines : List EndTold
   -- for each berth the line that was started and not reported
-  pub unsaid : List (Option Back)
+  pub unsaid : List (Option Returned)
   pub places : List PlaceTold
   pub halted : Bool
 
@@ -64,12 +67,12 @@ laid_told berth feed tap child place x = record {
 abbrev pub line_at : List EndTold → ℕ → Option LineTold
 line_at lines l = slice_index_or (map (λ e. e.line) lines) l None
 
-abbrev pub back_in : ℕ → Option LineTold → List Back
+abbrev pub back_in : ℕ → Option LineTold → List Returned
 back_in l None = []
 back_in l (Some t) = record { line = l; feed = t.feed; child = t.child } ∷ []
 
 -- those of these lines, in order
-abbrev pub backs_at : List EndTold → List ℕ → List Back
+abbrev pub backs_at : List EndTold → List ℕ → List Returned
 backs_at lines [] = []
 backs_at lines (l ∷ ls) = back_in l (line_at lines l) ++ backs_at lines ls
 
@@ -84,39 +87,41 @@ IsStopped h lane =
 abbrev pub AreStopped : History → ℕ → Type 0
 AreStopped h w = IsStopped h (proxy_lane w) × IsStopped h (tap_lane w)
 
--- by the rule of a core, where this is the work of all actions
-module _ (rule : History → ℕ → Call → Reply) (work : List WorkAction) (h : History) where
-  -- The berth w, which told `old` at first, was served by its post: the calls on it, the bytes
+-- by the rule of a core, by settings, and where this is the work of all actions
+module _ (rule : History → ℕ → Call → Reply) (settings : Settings) (work : List WorkAction)
+    (h : History) where
+  -- The berth w, which speaks so and told `old` at first, was served: the calls on it, the bytes
   -- given to its lines' feeds and the ends of their children are, entry by entry of its proxy lane,
   -- what that lane does for its orders; each line that it says was started is there, and so is one
   -- that it could not report, where it halted over it.
-  pub record Room (lines : List EndTold) (w : ℕ) (post : Post) (old new : BerthTold)
-      (unsaid : Option Back) : Type 0 where
-    pub halted : Option Cause
-    pub lane : Ended post work rule (proxy_lane w) (calls_by (proxy_lane w) h) h old new
+  pub record Room (lines : List EndTold) (w : ℕ) (spoken : Speech) (old new : BerthTold)
+      (unsaid : Option Returned) : Type 0 where
+    pub halted : Option ProxyHalt
+    pub lane : Ended (means_for settings work spoken) rule (proxy_lane w)
+        (calls_by (proxy_lane w) h) h old new
         (backs_at lines (started_in (calls_by (proxy_lane w) h))) unsaid halted
 
   -- so were the berths from w on
-  abbrev pub Rooms : List EndTold → ℕ → List Post → List BerthTold → List BerthTold
-      → List (Option Back) → Type 0
+  abbrev pub Rooms : List EndTold → ℕ → List Speech → List BerthTold → List BerthTold
+      → List (Option Returned) → Type 0
   Rooms lines w [] [] [] [] = Unit {0}
-  Rooms lines w (post ∷ posts) (old ∷ olds) (new ∷ news) (u ∷ unsaid) =
-      Room lines w post old new u × Rooms lines (w + 1) posts olds news unsaid
+  Rooms lines w (s ∷ speeches) (old ∷ olds) (new ∷ news) (u ∷ unsaid) =
+      Room lines w s old new u × Rooms lines (w + 1) speeches olds news unsaid
   Rooms lines w _ _ _ _ = ⊥
 
 -- the proxy lane of some berth says that the line was started, and the history says of it what the
 -- bytes taken from its tap say, and how that has ended
-pub record Pipe (posts : List Post) (h : History) (l : ℕ) (line : LineTold) : Type 0 where
+pub record Pipe (speeches : List Speech) (h : History) (l : ℕ) (line : LineTold) : Type 0 where
   pub berth : ℕ
-  pub post : Post
-  pub of_berth : slice_get posts berth ≡ Some post
+  pub spoken : Speech
+  pub of_berth : slice_get speeches berth ≡ Some spoken
   pub started : In l (started_in (calls_by (proxy_lane berth) h))
-  pub heard : PipeOf post.speech h (l, line.tap)
+  pub heard : PipeOf spoken h (l, line.tap)
 
 -- the lines that were ordered, by their numbers; and there is one for each that was started
-pub record Pipes (posts : List Post) (h : History) (lines : List EndTold) : Type 0 where
+pub record Pipes (speeches : List Speech) (h : History) (lines : List EndTold) : Type 0 where
   pub numbers : map (λ e. e.number) lines ≡ range_with_len 0 (lines_in h)
-  pub each : (l : ℕ) (t : LineTold) → line_at lines l ≡ Some t → Pipe posts h l t
+  pub each : (l : ℕ) (t : LineTold) → line_at lines l ≡ Some t → Pipe speeches h l t
 
 -- each action's place, of so many, was written what the history says: nothing without a grant
 pub record Outs (outputs : ℕ → List (List ℕ)) (actions : ℕ) (h : History)
@@ -130,15 +135,17 @@ abbrev pub Stops : ℕ → History → Type 0
 Stops berths h = has_halt h ≡ false → (w : ℕ) → w < berths → AreStopped h w
 
 -- The one history of the run, by the rule of a core, and what its objects tell: whatever the lanes
--- did is in it, and what is in it they did.
+-- did is in it, and what is in it they did. There is a speech for each berth that has lanes, and no
+-- other lane has an entry.
 pub record HasRun (legal : History → Type 0) (rule : History → ℕ → Call → Reply)
-    (terms : Terms) (posts : List Post) (work : List WorkAction)
+    (terms : Terms) (speeches : List Speech) (settings : Settings) (work : List WorkAction)
     (before : List BerthTold) (laid : LaidTold) : Type 0 where
   pub history : History
   pub in_journal : laid.journal ≡ history
   pub is_legal : legal history
-  pub rooms : Rooms rule work history laid.lines 0 posts before laid.berths laid.unsaid
-  pub pipes : Pipes posts history laid.lines
+  pub no_others : NoneFrom (2 * length speeches) history
+  pub rooms : Rooms rule settings work history laid.lines 0 speeches before laid.berths laid.unsaid
+  pub pipes : Pipes speeches history laid.lines
   pub outs : Outs terms.outputs terms.actions history laid.places
   pub halts : laid.halted ≡ has_halt history
-  pub stops : Stops (length posts) history
+  pub stops : Stops (length speeches) history

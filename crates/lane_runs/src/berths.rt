@@ -1,6 +1,6 @@
 //! What the lanes of each berth leave.
 ghost use Rattle.std.specs.Prelude.{◌≡◌, ◌∷◌, map, length};
-ghost use Rattle.lane_crew.specs.declared.pair.OfTwo.TheVariants.{First, Second};
+ghost use Rattle.lane_crew.specs.declared.pair.Either.TheVariants.{First, Second};
 ghost use Rattle.lane_runs.specs.Apart.{Alternate, BeginsWithTwo, berths_of, lefts_of, unsaid_of};
 ghost use Rattle.lane_runs.specs.BerthHalves.{AreInside, all_halves};
 ghost use Rattle.lane_runs.specs.Placed.{placed_all};
@@ -9,7 +9,7 @@ ghost use Rattle.lane_runs.specs.Blanks.{HasRoom};
 use crate::halves::EndedLine;
 use crate::lines::put_halves;
 use crate::proxies::ProxyLeft;
-use lane_crew::OfTwo;
+use lane_crew::Either;
 use proxy_lane::LaneEnd;
 use proxy_steps::EndedFeed;
 use std::collections::VecDeque;
@@ -19,7 +19,7 @@ use tap_lane::TapLeft;
 /// for each: the berths, the lines that weren't reported, and the halves of all others at their
 /// numbers. It takes no memory.
 pub(crate) fn lay_berths<B: Drop, D: Drop, T: Drop, K: Drop>(
-    ends: Vec<OfTwo<ProxyLeft<B, D, K>, TapLeft<T>>>,
+    ends: Vec<Either<ProxyLeft<B, D, K>, TapLeft<T>>>,
     shelved: Vec<Option<T>>,
     berths: &mut Vec<B>,
     unsaid: &mut Vec<Option<EndedFeed<D, K>>>,
@@ -57,15 +57,15 @@ pub(crate) fn lay_berths<B: Drop, D: Drop, T: Drop, K: Drop>(
 
 // The ends of the next berth's two lanes.
 fn next_two<B: Drop, D: Drop, T: Drop, K: Drop>(
-    ends: &mut VecDeque<OfTwo<ProxyLeft<B, D, K>, TapLeft<T>>>,
+    ends: &mut VecDeque<Either<ProxyLeft<B, D, K>, TapLeft<T>>>,
 ) -> (ProxyLeft<B, D, K>, TapLeft<T>)
     requires { BeginsWithTwo ends.old.items }
     ensures { ends.old.items ≡ First result.0 ∷ Second result.1 ∷ ends.new.items }
 {
-    let Some(OfTwo::First(proxy)) = ends.pop_front() else {
+    let Some(Either::First(proxy)) = ends.pop_front() else {
         unreachable!()
     };
-    let Some(OfTwo::Second(heard)) = ends.pop_front() else {
+    let Some(Either::Second(heard)) = ends.pop_front() else {
         unreachable!()
     };
     (proxy, heard)

@@ -2,40 +2,40 @@
 ghost use Rattle.std.specs.Prelude.{◌≡◌, ◌≤◌, ◌+◌, ◌*◌, [], ◌++◌, length, vec_len, vec_capacity};
 ghost use Rattle.lane_runs.specs.Seats.{AreSeats, HasSeats, berths_in};
 
+use crate::means::AllMeans;
 use crate::proxies::ProxySeat;
-use lane_crew::OfTwo;
-use proxy_deeds::Post;
-use remote_messages::WorkAction;
+use lane_crew::Either;
+use run_plan::Speech;
 use std::alloc::Global;
 use std::collections::VecDeque;
 use tap_lane::TapSeat;
 
 /// A lane of a berth: its proxy lane, or its tap lane.
-pub(crate) type BerthLane<'a, B> = OfTwo<ProxySeat<'a, B>, TapSeat>;
+pub(crate) type BerthLane<'a, B> = Either<ProxySeat<'a, B>, TapSeat>;
 
 /// For each berth, in order, its proxy lane and then its tap lane, in the room that was made for them.
 /// Lane `2w` is the proxy lane of the berth `w`, and lane `2w + 1` its tap lane. It takes no memory.
 pub(crate) fn lanes_of<'a, B: Drop>(
     alloc: Global,
     berths: Vec<B>,
-    posts: &'a [Post],
-    actions: &'a [WorkAction],
+    means: &AllMeans<'a>,
     room: Vec<BerthLane<'a, B>>,
 ) -> Vec<BerthLane<'a, B>>
-    requires many { length berths.items ≡ length posts.now }
-    requires few { length posts.now ≤ 64 }
+    requires many { length berths.items ≡ length means.now.speeches.now }
+    requires few { length means.now.speeches.now ≤ 128 }
     requires empty { room.items ≡ [] }
-    requires room { vec_len room + 2 * length posts.now ≤ vec_capacity room }
-    ensures { AreSeats actions.now 0 berths.items posts.now result.items }
+    requires room { vec_len room + 2 * length means.now.speeches.now ≤ vec_capacity room }
+    ensures { AreSeats means.now.settings.now means.now.actions.now 0 berths.items
+        means.now.speeches.now result.items }
 {
     let mut lanes = room;
     let mut rest = VecDeque::from_vec(berths);
     let mut number = 0;
-    for post in posts {
+    for speech in means.speeches {
         let Some(berth) = rest.pop_front() else {
             unreachable!()
         };
-        push_seats(alloc, &mut lanes, berth, number, post, actions);
+        push_seats(alloc, &mut lanes, berth, number, *speech, means);
         number += 1;
     }
     lanes
@@ -46,26 +46,30 @@ fn push_seats<'a, B: Drop>(
     lanes: &mut Vec<BerthLane<'a, B>>,
     berth: B,
     number: u32,
-    post: &'a Post,
-    actions: &'a [WorkAction],
+    speech: Speech,
+    means: &AllMeans<'a>,
 )
     requires room { vec_len lanes.old + 2 ≤ vec_capacity lanes.old }
-    ensures seats { HasSeats actions.now number berth post.now lanes.old.items lanes.new.items }
+    ensures seats { HasSeats means.now.settings.now means.now.actions.now number berth speech
+        lanes.old.items lanes.new.items }
     ensures len { vec_len lanes.new ≡ vec_len lanes.old + 2 }
     ensures capacity { vec_capacity lanes.new ≡ vec_capacity lanes.old }
 {
-    lanes.push_reserved(OfTwo::First(ProxySeat {
+    let proxy = ProxySeat {
         alloc,
         berth,
         number,
-        post,
-        actions,
-    }));
-    lanes.push_reserved(OfTwo::Second(TapSeat {
+        speech,
+        settings: means.settings,
+        actions: means.actions,
+    };
+    let heard = TapSeat {
         alloc,
         berth: number,
-        speech: post.speech,
-    }));
+        speech: proxy.speech,
+    };
+    lanes.push_reserved(Either::First(proxy));
+    lanes.push_reserved(Either::Second(heard));
 }
 
 /// Puts the berths of lanes that have not run into `berths`, which has room for them.
@@ -76,8 +80,8 @@ pub(crate) fn berths_of<B: Drop>(lanes: Vec<BerthLane<'_, B>>, berths: &mut Vec<
     let mut rest = VecDeque::from_vec(lanes);
     while let Some(lane) = rest.pop_front() {
         match lane {
-            OfTwo::First(seat) => berths.push_reserved(seat.berth),
-            OfTwo::Second(_) => {}
+            Either::First(seat) => berths.push_reserved(seat.berth),
+            Either::Second(_) => {}
         }
     }
 }

@@ -10,7 +10,7 @@ use crate::history::{has_halt, lines_ordered};
 use crate::lines::number_lines;
 use crate::proxies::ProxyLeft;
 use exec_journal::{Entry, Journal};
-use lane_crew::OfTwo;
+use lane_crew::Either;
 use outside::Berth;
 use proxy_steps::EndedFeed;
 use std::collections::VecDeque;
@@ -42,7 +42,7 @@ pub type LaidOut<B, P> = Laid<B, <B as Berth>::Feed, <B as Berth>::Tap, <B as Be
 pub(crate) fn lay_out<B: Drop, D: Drop, T: Drop, K: Drop, P: Drop>(
     blank: Blank<B, D, T, K, P>,
     history: Vec<Entry>,
-    ends: Vec<OfTwo<ProxyLeft<B, D, K>, TapLeft<T>>>,
+    ends: Vec<Either<ProxyLeft<B, D, K>, TapLeft<T>>>,
     taps: Vec<Option<T>>,
     places: Vec<Option<P>>,
 ) -> Laid<B, D, T, K, P>

@@ -1,5 +1,5 @@
-//! Makes the two lanes of every berth, runs them at one bench, each on a thread of its own, and lays
-//! out what they leave: the journal, the berths, the lines and the places.
+//! Makes the two lanes of every berth that is to have lanes, runs them at one bench, each on a thread
+//! of its own, and lays out what they leave: the journal, the berths, the lines and the places.
 //!
 //! A proxy lane leaves the feeds of its lines with their children, and a tap lane the taps that it
 //! took. The halves of each line are put together, whatever they are, at the line's number. All room
@@ -16,10 +16,12 @@ mod history;
 mod lanes;
 mod layout;
 mod lines;
+mod means;
 mod proxies;
 mod run;
 
 pub use halves::{EndedLine, Halves};
 pub use layout::{Laid, LaidOut};
+pub use means::AllMeans;
 pub use proxy_steps::EndedFeed;
 pub use run::{Unrun, run_lanes};

@@ -3,8 +3,9 @@ ghost use Rattle.std.specs.Prelude.{◌≡◌, ◌<◌, map};
 ghost use Rattle.std.specs.Option.{option_map};
 ghost use Rattle.seat_desk.specs.Passes.{IsPassOf, IsSamePass, basis};
 ghost use Rattle.lane_crew.specs.Lanes.{IsFresh};
-ghost use Rattle.run_plan.specs.Groups.{is_remote};
 ghost use Rattle.proxy_calls.specs.Calls.{IsProxyOf};
+ghost use Rattle.proxy_deeds.specs.Settings.{FitsSettings};
+ghost use Rattle.lane_runs.specs.Seats.{means_of};
 ghost use Rattle.proxy_steps.specs.Lanes.{back_of};
 ghost use Rattle.proxy_steps.specs.Steps.{IsServedBy};
 ghost use Rattle.proxy_steps.specs.Work.{IsWorkOf};
@@ -14,9 +15,10 @@ use core_contract::Rules;
 use lane_bells::Bells;
 use lane_crew::Lane;
 use outside::{Berth, Place};
-use proxy_deeds::Post;
+use proxy_deeds::Settings;
 use proxy_lane::{LaneEnd, Site};
 use remote_messages::WorkAction;
+use run_plan::Speech;
 use seat_desk::{Desk, Pass};
 use std::alloc::Global;
 use std::sync::Wait;
@@ -29,7 +31,9 @@ pub(crate) struct ProxySeat<'a, B> {
     pub(crate) berth: B,
     /// The berth's number.
     pub(crate) number: u32,
-    pub(crate) post: &'a Post,
+    /// What the berth's lines speak.
+    pub(crate) speech: Speech,
+    pub(crate) settings: &'a Settings<'a>,
     /// The work of all actions, by their numbers.
     pub(crate) actions: &'a [WorkAction],
 }
@@ -42,12 +46,12 @@ impl<'a, B: Berth, P: Place, C: Rules> Lane<Desk<Bench<B, P, C>>, Pass<Bench<B, 
     type End = ProxyLeft<B, B::Feed, B::Child>;
 
     ghost may_run = { λ self desk bells pass. IsPassOf desk pass × IsFresh pass
-        × IsProxyOf C.terms self.number pass × ((pass.lane < bells) × (self.number < 64))
-        × ((C.terms (basis pass)).remote self.number ≡ is_remote self.post.now.kind)
+        × IsProxyOf C.terms self.number pass × (pass.lane < bells)
+        × FitsSettings (C.terms (basis pass)) self.number self.speech self.settings.now
         × IsWorkOf (C.terms (basis pass)) self.actions.now };
 
     ghost has_run = { λ self pass left after. IsSamePass pass after
-        × IsServedBy self.post.now self.actions.now C.rule (B.told self.berth) (B.told left.berth)
+        × IsServedBy (means_of self) C.rule (B.told self.berth) (B.told left.berth)
         (map (back_of B.Feed.told B.Child.told) left.feeds.items)
         (option_map (back_of B.Feed.told B.Child.told) left.unsaid) left.halted after };
 
@@ -62,14 +66,16 @@ impl<'a, B: Berth, P: Place, C: Rules> Lane<Desk<Bench<B, P, C>>, Pass<Bench<B, 
             alloc,
             berth,
             number,
-            post,
+            speech,
+            settings,
             actions,
         } = self;
         let site = Site {
             rt,
             alloc,
             berth: number,
-            post,
+            speech,
+            settings,
             actions,
         };
         let LaneEnd {

@@ -1,7 +1,8 @@
 //! The lanes of all berths on threads.
 ghost use Rattle.std.specs.Prelude.{◌≡◌, ◌≤◌, [], length, map, IfOk, IfErr};
 ghost use Rattle.core_bench.specs.Objects.{AreFresh};
-ghost use Rattle.lane_runs.specs.Seats.{PostsFit, berths_in};
+ghost use Rattle.lane_runs.specs.Seats.{SpeechesFit, berths_in};
+ghost use Rattle.proxy_deeds.specs.Settings.{AreOfPlan};
 ghost use Rattle.proxy_steps.specs.Work.{IsWorkOf};
 ghost use Rattle.lane_runs.specs.Blanks.{HasRoom};
 ghost use Rattle.lane_runs.specs.Runs.{HasRun, laid_told};
@@ -10,12 +11,11 @@ use crate::blank::Blank;
 use crate::histories::histories_say;
 use crate::lanes::{BerthLane, berths_of, lanes_of};
 use crate::layout::{LaidOut, all_there, lay_out};
+use crate::means::AllMeans;
 use core_bench::Bench;
 use core_contract::Rules;
 use lane_crew::{Crew, Unstarted, run_crew};
 use outside::{Berth, Place};
-use proxy_deeds::Post;
-use remote_messages::WorkAction;
 use seat_desk::Machine;
 use std::alloc::Global;
 use std::sync::Wait;
@@ -24,7 +24,7 @@ use std::thread::Threads;
 /// What lanes are to work with, as long as none was started.
 #[derive(Drop)]
 pub struct Unrun<B, P> {
-    /// The berths, one for each post.
+    /// The berths, one for each speech.
     pub berths: Vec<B>,
     /// The places, to which nothing was written, one for each action.
     pub places: Vec<P>,
@@ -33,6 +33,9 @@ pub struct Unrun<B, P> {
 /// Runs the lanes of these berths, each on a thread of its own, over this core, until each was told
 /// to stop or has halted, and lays out what they leave. The room for that is made before the lanes
 /// begin, so that no run is lost behind them.
+///
+/// There is a speech for each berth that has lanes. The core may know of more berths: these have none,
+/// and so no entry, no line and no tap. What is said of the run is said of those that have lanes.
 ///
 /// # Errors
 ///
@@ -43,8 +46,7 @@ pub fn run_lanes<B: Berth, P: Place, C: Rules, R: Threads + Wait + Sync>(
     alloc: Global,
     core: C,
     unrun: Unrun<B, P>,
-    posts: &[Post],
-    actions: &[WorkAction],
+    means: &AllMeans<'_>,
 ) -> Result<LaidOut<B, P>, Unrun<B, P>>
 where
     B: Send,
@@ -55,31 +57,33 @@ where
     B::Child: Send,
     requires core { C.stands core [] }
     requires places { AreFresh P.told (C.terms (C.plan core)).actions unrun.places.items }
-    requires berths { length unrun.berths.items ≡ length posts.now }
-    requires seats { length posts.now ≡ (C.terms (C.plan core)).berths }
-    requires few { length posts.now ≤ 64 }
-    requires posts { PostsFit (C.terms (C.plan core)).remote 0 posts.now }
-    requires work { IsWorkOf (C.terms (C.plan core)) actions.now }
+    requires berths { length unrun.berths.items ≡ length means.now.speeches.now }
+    requires seats { length means.now.speeches.now ≤ (C.terms (C.plan core)).berths }
+    requires few { length means.now.speeches.now ≤ 128 }
+    requires speeches { SpeechesFit (C.terms (C.plan core)).remote means.now.speeches.now }
+    requires settings { AreOfPlan (C.terms (C.plan core)).plan means.now.settings.now }
+    requires work { IsWorkOf (C.terms (C.plan core)) means.now.actions.now }
     ensures run { IfOk result (λ laid. HasRun (C.legal (C.plan core)) (C.rule (C.plan core))
-        (C.terms (C.plan core)) posts.now actions.now
-        (map B.told unrun.berths.items)
+        (C.terms (C.plan core)) means.now.speeches.now means.now.settings.now
+        means.now.actions.now (map B.told unrun.berths.items)
         (laid_told B.told B.Feed.told B.Tap.told B.Child.told P.told laid)) }
     ensures back { IfErr result (λ u. (u.berths.items ≡ unrun.berths.items)
         × AreFresh P.told (C.terms (C.plan core)).actions u.places.items) }
 {
     let Unrun { berths, places } = unrun;
     let lines = core.most_lines() as usize;
-    let Ok(blank) = Blank::new(alloc, posts.len(), lines, actions.len()) else {
+    let seats = means.speeches.len();
+    let Ok(blank) = Blank::new(alloc, seats, lines, means.actions.len()) else {
         return Err(Unrun { berths, places });
     };
-    let Ok(room) = Vec::with_capacity(alloc, 2 * posts.len()) else {
+    let Ok(room) = Vec::with_capacity(alloc, 2 * seats) else {
         return Err(Unrun { berths, places });
     };
     let bench = match Bench::new(alloc, core, places) {
         Ok(bench) => bench,
         Err(places) => return Err(Unrun { berths, places }),
     };
-    let lanes = lanes_of(alloc, berths, posts, actions, room);
+    let lanes = lanes_of(alloc, berths, means, room);
     histories_say::<C>();
     match run_crew(rt, alloc, bench, lanes) {
         Ok(crew) => {
@@ -88,7 +92,9 @@ where
                 history,
                 ends,
             } = crew;
-            let (_core, taps, places) = machine.into_parts();
+            let (_core, mut taps, places) = machine.into_parts();
+            // A berth without lanes has no line, and so no tap.
+            taps.truncate(seats);
             Ok(lay_out(blank, history, ends, taps, places))
         }
         Err(unstarted) => Err(take_back(blank, unstarted)),

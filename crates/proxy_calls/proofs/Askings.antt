@@ -12,7 +12,7 @@ use Rattle.outside.specs.Told.{ChildTold, TapTold, PlaceTold}
 use Rattle.core_contract.specs.Terms.{Terms}
 use Rattle.core_contract.specs.Moves.{Past, History, Move, ask_moves, proxy_move}
 use Rattle.core_contract.specs.Shelf.{child_at}
-use Rattle.core_contract.specs.Laws.{OrderHolds, lines_in}
+use Rattle.core_contract.specs.Laws.{OrderFits, OrderHolds, lines_in}
 use Rattle.core_contract.specs.Duties.{Duty, Asks, proxy_lane, may_do}
 use Rattle.core_bench.specs.declared.shelf.Good.{Good}
 use Rattle.core_bench.specs.declared.shelf.Good.TheVariants as good
@@ -149,6 +149,13 @@ module _ (rule : History → ℕ → Call → Reply) (lane w : ℕ) (then seen o
       ∙ ap (child_at w) (ap (λ (n : ℕ). calls_by n then) (sym is) ∙ k.own_then)) in
       subst (λ (x : Reply). OrderHolds actions (child_at w own) (lines_in then) x) (sym k.by_rule)
       (subst (λ (o : Option ℕ). OrderHolds actions o (lines_in then) (rule then lane call.Ask)) at law)
+
+  -- so does its attempt's group fit the berth
+  pub order_fits : (terms : Terms)
+      → OrderFits terms.plan (terms.remote (lane / 2)) (rule then lane call.Ask)
+      → OrderFits terms.plan (terms.remote w) r
+  order_fits terms law = subst (λ (x : Reply). OrderFits terms.plan (terms.remote w) x) (sym k.by_rule)
+      (subst (λ (n : ℕ). OrderFits terms.plan (terms.remote n) (rule then lane call.Ask)) half law)
 
 pub ask_may : (terms : Terms) (w : ℕ) (s : Duty)
     → s ≡ Asks → may_do terms w s call.Ask ≡ true

@@ -21,7 +21,7 @@ keeps e = is_kept e.reply
 
 -- ---- a call
 
--- What is known of a call that was in its lane's script, and was not answered by want of memory.
+-- What is known of a call that was in its lane's script, and was not answered by lack of memory.
 pub record Called (rule : History → ℕ → Call → Reply) (lane : ℕ)
     (then seen own seen' own' : History) (c : Call) (r : Reply) : Type 0 where
   pub goes : GoesOn lane seen then

@@ -3,6 +3,7 @@ use Rattle.std.proofs.Common.{◌≡◌, inl, inr, ℕ, ℤ, Bool, true, false, 
 use Rattle.seat_desk.specs.declared.view.View.{View}
 use Rattle.seat_desk.specs.History.{entry, calls_by, GoesOn, StartsWith, IsReply}
 use Rattle.seat_desk.specs.Desks.{Grows}
+use Rattle.exec_journal.specs.declared.attempt.Attempt.{Attempt}
 use Rattle.exec_journal.specs.declared.call.Call.{Call}
 use Rattle.exec_journal.specs.declared.call.Call.TheVariants as call
 use Rattle.exec_journal.specs.declared.call.Wanted.{Wanted}
@@ -79,15 +80,15 @@ module _ {Q : Type 0} (rule : History → ℕ → Call → Reply) (lane w : ℕ)
 -- ---- a made input of a request
 
 pub may_look_made : (terms : Terms) (w : ℕ)
-    (own : History) (a : ℕ) (m : Maker) → OwesSend a own
-    → is_maker (terms.makers a) m.action m.output ≡ true
+    (own : History) (t : Attempt) (m : Maker) → OwesSend t own
+    → is_maker (terms.makers t.action) m.action m.output ≡ true
     → may_do terms w (duty_of own) (call.Look (wanted.Made m.action m.output)) ≡ true
-may_look_made terms w own a m owes made =
+may_look_made terms w own t m owes made =
     ap (λ (s : Duty). may_do terms w s (call.Look (wanted.Made m.action m.output))) owes.2
     ∙ made
 
-pub duty_there : (lane w l : ℕ) (n : ℤ) (a : ℕ) (h own : History) → lane ≡ proxy_lane w
-    → calls_by lane h ≡ own → duty_of own ≡ Sends l n a
-    → duty_of (calls_by (proxy_lane w) h) ≡ Sends l n a
-duty_there lane w l n a h own is own_is owes =
+pub duty_there : (lane w l : ℕ) (n : ℤ) (t : Attempt) (h own : History) → lane ≡ proxy_lane w
+    → calls_by lane h ≡ own → duty_of own ≡ Sends l n t
+    → duty_of (calls_by (proxy_lane w) h) ≡ Sends l n t
+duty_there lane w l n t h own is own_is owes =
     ap (λ (k : ℕ). duty_of (calls_by k h)) (sym is) ∙ (ap duty_of own_is ∙ owes)

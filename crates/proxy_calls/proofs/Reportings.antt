@@ -1,5 +1,6 @@
 -- Reports that are answered Noted.
 use Rattle.std.proofs.Common.{◌≡◌, ℕ, true, false, [], ◌∷◌, ◌++◌, None, refl, ap, sym, subst, ◌∙◌, eq-eqb}
+use Rattle.exec_journal.specs.declared.attempt.Attempt.{Attempt}
 use Rattle.exec_journal.specs.declared.call.Call.{Call}
 use Rattle.exec_journal.specs.declared.call.Call.TheVariants as call
 use Rattle.exec_journal.specs.declared.call.Started.TheVariants as start
@@ -97,7 +98,7 @@ module _ (terms : Terms) (w : ℕ) where
 
   goes_by : (s : Duty) (c : Call) (r : Reply) → (s ≡ Left → ⊥) → duty_by s c r ≡ duty_from s c r
   goes_by Asks c r n = refl
-  goes_by (Launches m) c r n = refl
+  goes_by (Launches m t) c r n = refl
   goes_by (Sends m o k) c r n = refl
   goes_by (Cancels m o) c r n = refl
   goes_by (Gathers m o u v z) c r n = refl
@@ -131,16 +132,16 @@ module _ (rule : History → ℕ → Call → Reply) (lane : ℕ) (then seen own
 -- ---- what a lane may make
 
 module _ (terms : Terms) (w : ℕ) where
-  pub may_launch : (s : Duty) (l : ℕ) (how : Started) → s ≡ Launches l
+  pub may_launch : (s : Duty) (l : ℕ) (how : Started) → (t : Attempt) × (s ≡ Launches l t)
       → may_do terms w s (call.Launched l how) ≡ true
   may_launch s l how is =
-      ap (λ (x : Duty). may_do terms w x (call.Launched l how)) is ∙ eq-eqb l l refl
+      ap (λ (x : Duty). may_do terms w x (call.Launched l how)) is.1 ∙ eq-eqb l l refl
 
   pub may_make_halt : (s : Duty) → may_halt s ≡ true
       → may_do terms w s call.Halt ≡ true
   may_make_halt Asks e = refl
-  may_make_halt (Launches l) e = refl
-  may_make_halt (Sends l n a) e = refl
+  may_make_halt (Launches l t) e = refl
+  may_make_halt (Sends l n t) e = refl
   may_make_halt (Cancels l n) e = refl
   may_make_halt (Gathers l n t x y) e = refl
   may_make_halt (Commits a b fs) e = absurd (cc)

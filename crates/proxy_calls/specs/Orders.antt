@@ -4,7 +4,6 @@ use Rattle.std.specs.Prelude.{◌≡◌, ◌≤◌, ℕ, ◌+◌, Bool, true, fa
 use Rattle.seat_desk.specs.declared.machine.Machine.{Ghosts}
 use Rattle.seat_desk.specs.declared.desk.Pass.{Pass}
 use Rattle.seat_desk.specs.Passes.{mine, basis, seen}
-use Rattle.run_plan.specs.declared.plan.Branch.{Branch}
 use Rattle.exec_journal.specs.declared.call.Call.{Call}
 use Rattle.exec_journal.specs.declared.call.Call.TheVariants as call
 use Rattle.exec_journal.specs.declared.reply.Reply.{Reply}
@@ -15,7 +14,7 @@ use Rattle.outside.specs.Launches.{IsNewChild}
 use Rattle.outside.specs.Told.{ChildTold}
 use Rattle.core_contract.specs.Terms.{Terms}
 use Rattle.core_contract.specs.Shelf.{child_at}
-use Rattle.core_contract.specs.Laws.{OrderHolds, lines_in}
+use Rattle.core_contract.specs.Laws.{OrderFits, OrderHolds, lines_in}
 use Rattle.core_bench.specs.declared.shelf.Good.{Good}
 use Rattle.proxy_calls.specs.declared.asking.Order.{Order}
 use Rattle.proxy_calls.specs.declared.asking.Order.TheVariants as order
@@ -60,9 +59,8 @@ module _ {K : Type 0} (told : K → ChildTold) where
   -- this is what the reply orders; nothing, where it says Stop
   abbrev pub IsOrdered : Reply → Option (Order K) → Type 0
   IsOrdered r None = r ≡ reply.Stop
-  IsOrdered r (Some (order.Launch l)) =
-      (a : ℕ) × (b : Branch) × (t : ℕ) × (r ≡ reply.Launch l a b t)
-  IsOrdered r (Some (order.Send l n a)) = (b : Branch) × (t : ℕ) × (r ≡ reply.Send l n a b t)
+  IsOrdered r (Some (order.Launch l t)) = r ≡ reply.Launch l t.action t.branch t.number
+  IsOrdered r (Some (order.Send l n t)) = r ≡ reply.Send l n t.action t.branch t.number
   IsOrdered r (Some (order.Cancel l n)) = r ≡ reply.Cancel l n
   IsOrdered r (Some (order.Gather x)) = r ≡ reply.Gather x.line x.number x.attempt.action
       x.attempt.branch x.attempt.number x.exit x.refused
@@ -73,7 +71,8 @@ module _ {K : Type 0} (told : K → ChildTold) where
 abbrev pub lines_with : Reply → ℕ → ℕ
 lines_with r lines = if is_some (launch_in r) then lines + 1 else lines
 
--- The Ask was answered so, when so many lines had been ordered. What the order says holds.
+-- The Ask was answered so, when so many lines had been ordered. What the order says holds, and its
+-- attempt's group is an executor's exactly where the berth is.
 pub record HasAsked {M G Q K : Type 0} {g : Ghosts M Call Reply G Q} (terms : Q → Terms)
     (told : K → ChildTold) (berth : ℕ) (order : Option (Order K))
     (p p' : Pass M Call Reply G Q g) : Type 0 where
@@ -82,5 +81,6 @@ pub record HasAsked {M G Q K : Type 0} {g : Ghosts M Call Reply G Q} (terms : Q 
   pub is_ordered : IsOrdered told reply order
   pub made : MakesOne call.Ask reply p p'
   pub holds : OrderHolds (terms (basis p)).actions (child_at berth (mine p)) lines reply
+  pub fits : OrderFits (terms (basis p)).plan ((terms (basis p)).remote berth) reply
   pub later : lines_in (seen p) ≤ lines
   pub lines_then : lines_in (seen p') ≡ lines_with reply lines

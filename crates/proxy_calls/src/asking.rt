@@ -2,7 +2,7 @@
 ghost use Rattle.std.specs.Prelude.{◌≡◌, ◌<◌, false, true, IfOk, IfErr};
 ghost use Rattle.seat_desk.specs.Passes.{IsSamePass, mine};
 ghost use Rattle.exec_journal.specs.declared.call.Call.TheVariants as call;
-ghost use Rattle.proxy_deeds.specs.declared.cause.Cause.TheVariants as cause;
+ghost use Rattle.proxy_deeds.specs.declared.halt.ProxyHalt.TheVariants as cause;
 ghost use Rattle.core_contract.specs.Laws.{fits_ask};
 ghost use Rattle.core_contract.specs.Duties.{Asks, duty_of};
 ghost use Rattle.proxy_calls.specs.Calls.{IsProxyOf, MakesNone};
@@ -14,7 +14,7 @@ use core_contract::Rules;
 use exec_journal::{Attempt, Call, Reply};
 use lane_crew::{Caller, Question};
 use outside::{Berth, Place};
-use proxy_deeds::Cause;
+use proxy_deeds::ProxyHalt;
 use std::sync::Wait;
 
 /// An answer to a request of a line, that is to be gathered, and the attempt that it is of.
@@ -30,16 +30,29 @@ pub struct Answered {
 /// What a lane is ordered.
 #[derive(Drop)]
 pub enum Order<K> {
-    /// To start a line.
-    Launch { line: u32 },
-    /// To write a request of the action to the line.
-    Send { line: u32, number: i32, action: u32 },
+    /// To start a line, for the attempt.
+    Launch {
+        line: u32,
+        attempt: Attempt,
+    },
+    /// To write a request of the attempt to the line.
+    Send {
+        line: u32,
+        number: i32,
+        attempt: Attempt,
+    },
     /// To give a request up.
-    Cancel { line: u32, number: i32 },
+    Cancel {
+        line: u32,
+        number: i32,
+    },
     /// To look at what came of this answer, and claim it.
     Gather(Answered),
     /// To kill this child, which is the line's.
-    Kill { line: u32, child: K },
+    Kill {
+        line: u32,
+        child: K,
+    },
 }
 
 /// The question for the next order.
@@ -72,7 +85,7 @@ pub fn ask<B: Berth, P: Place, C: Rules, R: Wait>(
     rt: &R,
     caller: &mut Caller<'_, Bench<B, P, C>>,
     berth: u32,
-) -> Result<Option<Order<B::Child>>, Cause>
+) -> Result<Option<Order<B::Child>>, ProxyHalt>
     requires lane { IsProxyOf C.terms berth caller.old.pass }
     requires asks { duty_of (mine caller.old.pass) ≡ Asks }
     ensures same { IsSamePass caller.old.pass caller.new.pass }
@@ -83,7 +96,7 @@ pub fn ask<B: Berth, P: Place, C: Rules, R: Wait>(
 {
     match caller.ask(rt, &NextOrder) {
         Ok(answer) => Ok(order_of::<B, P>(answer.0, answer.1)),
-        Err(_refused) => Err(Cause::Refused(Call::Ask)),
+        Err(_refused) => Err(ProxyHalt::Refused(Call::Ask)),
     }
 }
 
@@ -98,16 +111,33 @@ fn order_of<B: Berth, P: Place>(
     ensures { IsOrdered B.Child.told reply result }
 {
     match reply {
-        Reply::Launch { line, .. } => Some(Order::Launch { line }),
+        Reply::Launch {
+            line,
+            action,
+            branch,
+            attempt,
+        } => Some(Order::Launch {
+            line,
+            attempt: Attempt {
+                action,
+                branch,
+                number: attempt,
+            },
+        }),
         Reply::Send {
             line,
             number,
             action,
-            ..
+            branch,
+            attempt,
         } => Some(Order::Send {
             line,
             number,
-            action,
+            attempt: Attempt {
+                action,
+                branch,
+                number: attempt,
+            },
         }),
         Reply::Cancel { line, number } => Some(Order::Cancel { line, number }),
         Reply::Gather {

@@ -4,7 +4,7 @@ ghost use Rattle.seat_desk.specs.Passes.{IsSamePass, mine, basis};
 ghost use Rattle.core_contract.specs.Shelf.{Fresh, Back};
 ghost use Rattle.core_contract.specs.Duties.{Asks, duty_of};
 ghost use Rattle.core_bench.specs.Objects.{IsPlaceAt};
-ghost use Rattle.proxy_deeds.specs.declared.cause.Cause.TheVariants as cause;
+ghost use Rattle.proxy_deeds.specs.declared.halt.ProxyHalt.TheVariants as cause;
 ghost use Rattle.proxy_calls.specs.Calls.{IsProxyOf, MakesNone, MayMake};
 ghost use Rattle.proxy_calls.specs.Claims.{claim_of, HasClaimed, HasCommitted};
 ghost use Rattle.proxy_calls.specs.Grants.{MayCommit};
@@ -17,7 +17,7 @@ use lane_crew::Caller;
 use output_commit::{Committed, commit};
 use outside::{Berth, Place};
 use plain_values::{Blob, Text};
-use proxy_deeds::Cause;
+use proxy_deeds::ProxyHalt;
 use seat_desk::Refused;
 use std::sync::Wait;
 
@@ -33,7 +33,7 @@ pub fn claim<B: Berth, P: Place, C: Rules, R: Wait>(
     berth: u32,
     attempt: Attempt,
     found: Found,
-) -> Result<Option<P>, Cause>
+) -> Result<Option<P>, ProxyHalt>
     requires lane { IsProxyOf C.terms berth caller.old.pass }
     requires may { MayMake C.terms berth caller.old.pass (claim_of attempt found) }
     ensures same { IsSamePass caller.old.pass caller.new.pass }
@@ -52,7 +52,7 @@ pub fn claim<B: Berth, P: Place, C: Rules, R: Wait>(
         Ok(answer) => Ok(place_in(answer.1)),
         Err(refused) => {
             let Refused { call, put: _ } = refused;
-            Err(Cause::Refused(call))
+            Err(ProxyHalt::Refused(call))
         }
     }
 }

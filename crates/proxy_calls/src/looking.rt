@@ -9,7 +9,7 @@ ghost use Rattle.proxy_calls.specs.Looks.{told_as, made_as, OwesSend};
 
 use core_bench::Bench;
 use core_contract::Rules;
-use exec_journal::{Call, Reply, Wanted};
+use exec_journal::{Attempt, Call, Reply, Wanted};
 use lane_crew::Caller;
 use outside::{Berth, Place};
 use plain_values::{Blob, NoMemory};
@@ -59,18 +59,18 @@ pub fn look_made<B: Berth, P: Place, C: Rules, R: Wait>(
     rt: &R,
     caller: &mut Caller<'_, Bench<B, P, C>>,
     berth: u32,
-    action: u32,
+    attempt: Attempt,
     maker: Maker,
 ) -> Result<Blob, NoMemory>
     requires lane { IsProxyOf C.terms berth caller.old.pass }
-    requires owes { OwesSend action (mine caller.old.pass) }
-    requires made { is_maker ((C.terms (basis caller.old.pass)).makers action)
+    requires owes { OwesSend attempt (mine caller.old.pass) }
+    requires made { is_maker ((C.terms (basis caller.old.pass)).makers attempt.action)
         maker.action maker.output ≡ true }
     ensures told { IfOk result (λ bytes. IsTold (C.rule (basis caller.old.pass))
         caller.old.pass.lane (seen caller.new.pass) (made_as maker bytes)) }
     ensures stays { Stays caller.old.pass caller.new.pass }
 {
-    let _ = action;
+    let _ = attempt;
     let wanted = Wanted::Made {
         action: maker.action,
         output: maker.output,

@@ -5,9 +5,9 @@ ghost use Rattle.exec_journal.specs.declared.call.Call.TheVariants as call;
 ghost use Rattle.exec_journal.specs.declared.call.Started.TheVariants as start;
 ghost use Rattle.exec_journal.specs.declared.reply.Reply.TheVariants as reply;
 ghost use Rattle.outside.specs.Launches.{IsNewTap, IsNewChild};
-ghost use Rattle.core_contract.specs.Duties.{Asks, Launches, duty_of};
+ghost use Rattle.core_contract.specs.Duties.{Asks, duty_of};
 ghost use Rattle.proxy_calls.specs.Calls.{IsProxyOf, MakesNone, MakesOne, MayMake};
-ghost use Rattle.proxy_calls.specs.Reports.{is_report, Reports};
+ghost use Rattle.proxy_calls.specs.Reports.{is_report, OwesLaunch, Reports};
 
 use crate::goods::child_back;
 use core_bench::{Bench, Good};
@@ -15,7 +15,7 @@ use core_contract::Rules;
 use exec_journal::{Call, Started};
 use lane_crew::Caller;
 use outside::{Berth, Place};
-use proxy_deeds::Cause;
+use proxy_deeds::ProxyHalt;
 use seat_desk::Refused;
 use std::sync::Wait;
 
@@ -29,7 +29,7 @@ pub fn tell<B: Berth, P: Place, C: Rules, R: Wait>(
     caller: &mut Caller<'_, Bench<B, P, C>>,
     berth: u32,
     report: Call,
-) -> Result<(), Cause>
+) -> Result<(), ProxyHalt>
     requires lane { IsProxyOf C.terms berth caller.old.pass }
     requires report { is_report report ≡ true }
     requires may { MayMake C.terms berth caller.old.pass report }
@@ -39,7 +39,7 @@ pub fn tell<B: Berth, P: Place, C: Rules, R: Wait>(
         Ok(_answer) => Ok(()),
         Err(refused) => {
             let Refused { call, put: _ } = refused;
-            Err(Cause::Refused(call))
+            Err(ProxyHalt::Refused(call))
         }
     }
 }
@@ -66,7 +66,7 @@ pub fn tell_started<B: Berth, P: Place, C: Rules, R: Wait>(
     requires lane { IsProxyOf C.terms berth caller.old.pass }
     requires child { IsNewChild line (B.Child.told child) }
     requires tap { IsNewTap line (B.Tap.told tap) }
-    requires owes { duty_of (mine caller.old.pass) ≡ Launches line }
+    requires owes { OwesLaunch line (mine caller.old.pass) }
     ensures same { IsSamePass caller.old.pass caller.new.pass }
     ensures told { OnOk result (MakesOne (call.Launched line start.Done) reply.Noted
         caller.old.pass caller.new.pass × (duty_of (mine caller.new.pass) ≡ Asks)) }

@@ -1,5 +1,5 @@
 -- One entry more, with its deed.
-use Rattle.std.proofs.Common.{◌≡◌, ℕ, ◌+◌, ◌<◌, ◌==◌, Bool, true, false, cond, List, [], ◌∷◌, ◌++◌, Option, refl, ap, sym, subst, ◌∙◌, append_assoc, append-nil, arith, eq-eqb, ne_eqb, min, ◌-◌, ◌^◌, ◌≤◌}
+use Rattle.std.proofs.Common.{◌≡◌, ℕ, ◌+◌, ◌<◌, ◌==◌, Bool, true, false, cond, List, [], ◌∷◌, ◌++◌, Option, refl, ap, sym, subst, ◌∙◌, append_assoc, append-nil, arith, eq-eqb, ne_eqb, ◌≤◌}
 use Rattle.std.specs.Prelude.{All, IfSome, slice_index_or}
 use Rattle.std.specs.List.{fold}
 use Rattle.seat_desk.specs.History.{StartsWith}
@@ -9,22 +9,21 @@ use Rattle.outside.specs.declared.berth.BerthCall.{BerthCall}
 use Rattle.outside.specs.declared.berth.BerthCall.TheVariants as berth
 use Rattle.exec_journal.specs.declared.call.Call.{Call}
 use Rattle.exec_journal.specs.declared.reply.Reply.{Reply}
-use Rattle.remote_messages.specs.declared.work.WorkAction.{WorkAction}
 use Rattle.core_contract.specs.Moves.{Past, History}
 use Rattle.core_contract.specs.Duties.{Duty, duty_then}
-use Rattle.proxy_deeds.specs.declared.post.Post.{Post}
+use Rattle.proxy_deeds.specs.Settings.{Means}
 use Rattle.proxy_deeds.specs.Deeds.{Looked, Deed, DeedOf, Acts, calls_of, given_by, given_to, with_end, with_ends}
 use Rattle.proxy_deeds.specs.Told.{IsTold, AreTold, AllTold}
-use Rattle.proxy_deeds.specs.Lines.{started_by, started_in, room_fault, room_faults, feed_fault, feed_faults, RoseBy, Back, EndsLine, IsFed, IsBack, IsServed}
+use Rattle.proxy_deeds.specs.Lines.{started_by, started_in, room_fault, room_faults, feed_fault, feed_faults, RoseBy, Returned, EndsLine, IsFed, IsBack, IsServed}
 
 -- ---- the entries with their deeds
 
-module _ (post : Post) (actions : List WorkAction) where
+module _ (means : Means) where
   pub acts_more : (s : Duty) (own : History) (ds : List Deed) (e : Past) (d : Deed)
-      → Acts post actions s own ds → DeedOf post actions (fold duty_then s own) e.call d
-      → Acts post actions s (own ++ e ∷ []) (ds ++ d ∷ [])
+      → Acts means s own ds → DeedOf means (fold duty_then s own) e.call d
+      → Acts means s (own ++ e ∷ []) (ds ++ d ∷ [])
   acts_more s [] ds e d a did =
-      subst (λ (x : List Deed). Acts post actions s (e ∷ []) (x ++ d ∷ [])) (sym a) (did, refl)
+      subst (λ (x : List Deed). Acts means s (e ∷ []) (x ++ d ∷ [])) (sym a) (did, refl)
   acts_more s (x ∷ own) [] e d a did = absurd a
   acts_more s (x ∷ own) (y ∷ ds) e d a did =
       (a.0, acts_more (duty_then s x) own ds e d a.1 did)
@@ -155,11 +154,11 @@ fed_still own ds e d l feed f leaves =
     fed_more own ds e d l feed feed f (adds_none feed.given (given_by l d) leaves.0)
     (subst (λ (n : ℕ). RoseBy n feed.faults feed.faults) (sym leaves.1) (omega arith)) refl
 
-pub backs_still : (own : History) (ds : List Deed) (e : Past) (d : Deed) (xs : List Back)
+pub backs_still : (own : History) (ds : List Deed) (e : Past) (d : Deed) (xs : List Returned)
     → All (IsBack own ds) xs → All (λ x. LeavesFeed e d x.line) xs
     → All (IsBack (own ++ e ∷ []) (ds ++ d ∷ [])) xs
 backs_still own ds e d xs a b = λ k y h.
-    let x : Back = slice_index_or xs k y in
+    let x : Returned = slice_index_or xs k y in
     (fed_still own ds e d x.line x.feed (a k y h).0 (b k y h), (a k y h).1)
 
 -- ---- which feeds an entry leaves
@@ -228,8 +227,8 @@ module _ (l : ℕ) (d : Deed) where
     faults = f.faults;
   }
 
-  pub backs_with_end : (own : History) (ds : List Deed) (xs : List Back)
+  pub backs_with_end : (own : History) (ds : List Deed) (xs : List Returned)
       → All (IsBack own (ds ++ d ∷ [])) xs → All (IsBack own (ds ++ with_end l d ∷ [])) xs
   backs_with_end own ds xs a = λ k y h.
-      let x : Back = slice_index_or xs k y in
+      let x : Returned = slice_index_or xs k y in
       (fed_with_end own ds x.line x.feed (a k y h).0, (a k y h).1)

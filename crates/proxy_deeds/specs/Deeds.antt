@@ -1,6 +1,8 @@
 -- What a proxy lane has done for each of its entries.
 use Rattle.std.specs.Prelude.{◌≡◌, ◌⊎◌, ℕ, ◌+◌, ◌==◌, ℤ, List, [], ◌∷◌, ◌++◌, length, slice_get, if◌then◌else◌, Bool, true, false, Option, Some, None, Ok}
-use Rattle.run_plan.specs.Groups.{is_remote}
+use Rattle.plain_values.specs.declared.command.Command.{Command}
+use Rattle.exec_journal.specs.declared.attempt.Attempt.{Attempt}
+use Rattle.exec_journal.specs.Seated.{kind_for}
 use Rattle.exec_journal.specs.declared.call.Call.{Call}
 use Rattle.exec_journal.specs.declared.call.Call.TheVariants as call
 use Rattle.exec_journal.specs.declared.call.Started.{Started}
@@ -19,6 +21,7 @@ use Rattle.remote_messages.specs.declared.work.WorkInput.{WorkInput}
 use Rattle.remote_messages.specs.declared.work.Origin.{Origin}
 use Rattle.remote_messages.specs.declared.work.Origin.TheVariants as origin
 use Rattle.sandbox_rooms.specs.declared.gathering.Gathered.{Gathered}
+use Rattle.sandbox_rooms.specs.declared.room.Room.{Room}
 use Rattle.sandbox_rooms.specs.Calls.{Asked, Cut, Runs}
 use Rattle.sandbox_rooms.specs.Rooms.{prepare_asks, gather_asks, gathered_in, gather_end}
 use Rattle.remote_branch.specs.Jobs.{job_for}
@@ -29,7 +32,7 @@ use Rattle.due_frames.specs.Frames.{send_due, cancel_due}
 use Rattle.order_acts.specs.Acts.{GivenBy, LaunchedBy, SentBy, found_as}
 use Rattle.core_contract.specs.Moves.{History}
 use Rattle.core_contract.specs.Duties.{Duty, Asks, Launches, Sends, Cancels, Gathers, Commits, Kills, Left, duty_then}
-use Rattle.proxy_deeds.specs.declared.post.Post.{Post}
+use Rattle.proxy_deeds.specs.Settings.{Means, command_for, speaks_remote}
 
 -- a Look with what it was answered: the bytes of a file, or that there is none
 pub record Looked : Type 0 where
@@ -108,58 +111,78 @@ FoundIn true asks outputs l n (found.Missing k) d =
 FoundIn true asks outputs l n found.RoomFault d = ⊥
 FoundIn false asks outputs l n f d = (d.looks ≡ []) × FoundBy asks f d.calls
 
-module _ (post : Post) where
+module _ (means : Means) (t : Attempt) where
+  -- the room of the attempt's request with this number, by the kind of its group
+  abbrev pub room_at : ℤ → Room
+  room_at n = room_for (kind_for means.settings.plan.now t) n
+
   -- what is called on the berth for a Send: nothing for the executor
   abbrev pub send_asks : ℤ → WorkAction → List NamedFile → List Asked
   send_asks n action inputs =
-      if is_remote post.kind then []
-      else prepare_asks (room_for post.kind n) action.outputs inputs
+      if speaks_remote means.speech then [] else prepare_asks (room_at n) action.outputs inputs
 
   abbrev pub due_for : ℤ → WorkAction → List NamedFile → Due
   due_for n action inputs =
-      send_due post.speech (request_for n action inputs post.verbose (room_for post.kind n))
+      send_due means.speech (request_for n action inputs means.settings.verbose (room_at n))
       (job_for n action inputs)
 
   abbrev pub look_asks : ℤ → WorkAction → List Asked
-  look_asks n action = gather_asks (room_for post.kind n) action.outputs
+  look_asks n action = gather_asks (room_at n) action.outputs
 
   -- ---- what was done for a report
 
-  abbrev pub IsLaunch : ℕ → Started → Deed → Type 0
-  IsLaunch l how d =
-      (d.looks ≡ []) × (d.given ≡ []) × LaunchedBy l post.command how d.calls
+  -- the command of its group was started
+  pub record IsLaunch (l : ℕ) (how : Started) (d : Deed) : Type 0 where
+    pub command : Command
+    pub of_group : command_for means.settings t ≡ Some command
+    pub nothing_looked : d.looks ≡ []
+    pub nothing_given : d.given ≡ []
+    pub launched : LaunchedBy l command how d.calls
 
-  abbrev pub IsCancel : ℕ → ℤ → Written → Deed → Type 0
-  IsCancel l n how d =
-      (d.looks ≡ []) × (d.calls ≡ []) × (d.line ≡ l)
-      × GivenBy (cancel_due post.speech n) how d.given
-
-module _ (post : Post) (actions : List WorkAction) where
-  -- the request of this action, with the bytes of its inputs
-  pub record IsSend (l : ℕ) (n : ℤ) (a : ℕ) (how : Written) (d : Deed) : Type 0 where
+  -- the request of its action, with the bytes of its inputs
+  pub record IsSend (l : ℕ) (n : ℤ) (how : Written) (d : Deed) : Type 0 where
     pub action : WorkAction
     pub inputs : List NamedFile
-    pub of_action : slice_get actions a ≡ Some action
+    pub of_action : slice_get means.actions t.action ≡ Some action
     pub of_inputs : AreInputs action.inputs inputs
     pub looked : d.looks ≡ looks_of action.inputs inputs
     pub on_line : d.line ≡ l
-    pub sent : SentAs (send_asks post n action inputs) (due_for post n action inputs) how
-        d.calls d.given
+    pub sent : SentAs (send_asks n action inputs) (due_for n action inputs) how d.calls d.given
 
-  pub record IsGather (l : ℕ) (n : ℤ) (a : ℕ) (f : Found) (d : Deed) : Type 0 where
+  pub record IsGather (l : ℕ) (n : ℤ) (f : Found) (d : Deed) : Type 0 where
     pub action : WorkAction
-    pub of_action : slice_get actions a ≡ Some action
+    pub of_action : slice_get means.actions t.action ≡ Some action
     pub nothing_given : d.given ≡ []
-    pub looked : FoundIn (is_remote post.kind) (look_asks post n action) (length action.outputs)
-        l n f d
+    pub looked : FoundIn (speaks_remote means.speech) (look_asks n action)
+        (length action.outputs) l n f d
+
+  -- ---- what was done where memory ran out: what was called went well, and nothing was given
+
+  -- its inputs may not all have been there yet
+  abbrev pub IsCutSend : ℤ → List BerthCall → Type 0
+  IsCutSend n calls = (calls ≡ [])
+      ⊎ ((action : WorkAction) × (inputs : List NamedFile)
+      × (slice_get means.actions t.action ≡ Some action)
+      × AreInputs action.inputs inputs × Runs Cut (send_asks n action inputs) calls)
+
+  abbrev pub IsCutGather : ℤ → List BerthCall → Type 0
+  IsCutGather n calls = (calls ≡ [])
+      ⊎ ((action : WorkAction) × (slice_get means.actions t.action ≡ Some action)
+      × Runs Cut (look_asks n action) calls)
+
+module _ (means : Means) where
+  abbrev pub IsCancel : ℕ → ℤ → Written → Deed → Type 0
+  IsCancel l n how d =
+      (d.looks ≡ []) × (d.calls ≡ []) × (d.line ≡ l)
+      × GivenBy (cancel_due means.speech n) how d.given
 
   -- What was done for an entry, by what the lane owed. No other entry is made.
   abbrev pub DeedOf : Duty → Call → Deed → Type 0
   DeedOf Asks call.Ask d = IsNothing d
-  DeedOf (Launches l) (call.Launched k how) d = IsLaunch post l how d
-  DeedOf (Sends l n a) (call.Wrote k m how) d = IsSend l n a how d
-  DeedOf (Cancels l n) (call.Wrote k m how) d = IsCancel post l n how d
-  DeedOf (Gathers l n t exit refused) (call.Claim a b u f) d = IsGather l n t.action f d
+  DeedOf (Launches l t) (call.Launched k how) d = IsLaunch means t l how d
+  DeedOf (Sends l n t) (call.Wrote k m how) d = IsSend means t l n how d
+  DeedOf (Cancels l n) (call.Wrote k m how) d = IsCancel l n how d
+  DeedOf (Gathers l n t exit refused) (call.Claim a b u f) d = IsGather means t l n f d
   DeedOf (Commits a b fs) (call.Committed c e how) d = IsNothing d
   DeedOf (Kills l) (call.Killed k) d = IsEnd l d
   DeedOf _ _ d = ⊥
@@ -170,25 +193,14 @@ module _ (post : Post) (actions : List WorkAction) where
   Acts s (e ∷ es) [] = ⊥
   Acts s (e ∷ es) (d ∷ ds) = DeedOf s e.call d × Acts (duty_then s e) es ds
 
-  -- ---- what was done where memory was wanted: what was called went well, and nothing was given
-
-  -- its inputs may not all have been there yet
-  abbrev pub IsCutSend : ℤ → ℕ → List BerthCall → Type 0
-  IsCutSend n a calls = (calls ≡ [])
-      ⊎ ((action : WorkAction) × (inputs : List NamedFile) × (slice_get actions a ≡ Some action)
-      × AreInputs action.inputs inputs × Runs Cut (send_asks post n action inputs) calls)
-
-  abbrev pub IsCutGather : ℤ → ℕ → List BerthCall → Type 0
-  IsCutGather n a calls = (calls ≡ [])
-      ⊎ ((action : WorkAction) × (slice_get actions a ≡ Some action)
-      × Runs Cut (look_asks post n action) calls)
+  -- ---- what was done where memory ran out
 
   abbrev pub CutsCalls : Duty → List BerthCall → Type 0
   CutsCalls Asks calls = calls ≡ []
-  CutsCalls (Launches l) calls = (calls ≡ []) ⊎ (calls ≡ berth.Clear [] io.Done ∷ [])
-  CutsCalls (Sends l n a) calls = IsCutSend n a calls
+  CutsCalls (Launches l t) calls = (calls ≡ []) ⊎ (calls ≡ berth.Clear [] io.Done ∷ [])
+  CutsCalls (Sends l n t) calls = IsCutSend means t n calls
   CutsCalls (Cancels l n) calls = calls ≡ []
-  CutsCalls (Gathers l n t exit refused) calls = IsCutGather n t.action calls
+  CutsCalls (Gathers l n t exit refused) calls = IsCutGather means t n calls
   CutsCalls (Commits a b fs) calls = ⊥
   CutsCalls (Kills l) calls = calls ≡ berth.End l ∷ []
   CutsCalls Left calls = ⊥

@@ -1,4 +1,5 @@
 -- What contracts cite of a proxy lane's deeds.
+pub mod Settings
 pub mod Deeds
 pub mod Told
 pub mod Lines

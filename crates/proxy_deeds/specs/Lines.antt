@@ -9,8 +9,8 @@ use Rattle.exec_journal.specs.declared.call.Started.TheVariants as start
 use Rattle.exec_journal.specs.declared.call.Written.TheVariants as write
 use Rattle.exec_journal.specs.declared.call.Found.TheVariants as found
 use Rattle.core_contract.specs.Moves.{History}
-use Rattle.proxy_deeds.specs.declared.cause.Cause.{Cause}
-use Rattle.proxy_deeds.specs.declared.cause.Cause.TheVariants as cause
+use Rattle.proxy_deeds.specs.declared.halt.ProxyHalt.{ProxyHalt}
+use Rattle.proxy_deeds.specs.declared.halt.ProxyHalt.TheVariants as cause
 use Rattle.proxy_deeds.specs.Deeds.{Deed, calls_of, given_to}
 
 -- ---- lines that were started
@@ -54,7 +54,7 @@ RoseBy n before now = min (before + n) (2 ^ 64 - 1) ≤ now
 -- ---- what comes of a line
 
 -- a line's feed and its child, by what they tell
-pub record Back : Type 0 where
+pub record Returned : Type 0 where
   pub line : ℕ
   pub feed : FeedTold
   pub child : ChildTold
@@ -70,7 +70,7 @@ pub record IsKilled (line : ℕ) (child : ChildTold) : Type 0 where
   pub of_line : IfSome child.line (λ l. l ≡ line)
   pub killed : IfSome child.kills (λ n. n ≡ 1)
 
-abbrev pub IsBack : History → List Deed → Back → Type 0
+abbrev pub IsBack : History → List Deed → Returned → Type 0
 IsBack own deeds x = IsFed own deeds x.line x.feed × IsKilled x.line x.child
 
 -- the calls stand in the berth's log, and its count has risen with each fault that was reported
@@ -85,7 +85,7 @@ pub record EndsLine (line : ℕ) (old new : BerthTold) : Type 0 where
   pub later : old.faults ≤ new.faults
   pub same : SameBerth old new
 
-abbrev pub lines_of : List Back → List ℕ
+abbrev pub lines_of : List Returned → List ℕ
 lines_of backs = map (λ x. x.line) backs
 
 abbrev pub listed : {A : Type 0} → Option A → List A
@@ -93,14 +93,14 @@ listed None = []
 listed (Some x) = x ∷ []
 
 -- the line that was started, and that the lane halted over, since there was no memory to report it
-abbrev pub unsaid_by : Option Cause → List ℕ
+abbrev pub unsaid_by : Option ProxyHalt → List ℕ
 unsaid_by (Some (cause.Refused (call.Launched l start.Done))) = l ∷ []
 unsaid_by _ = []
 
 -- Each line that the entries say was started comes back, in order, with its child killed, and so does
 -- the one that could not be reported.
-pub record AreBack (own : History) (deeds : List Deed) (halted : Option Cause) (backs : List Back)
-    (unsaid : Option Back) : Type 0 where
+pub record AreBack (own : History) (deeds : List Deed) (halted : Option ProxyHalt) (backs : List Returned)
+    (unsaid : Option Returned) : Type 0 where
   pub lines : lines_of backs ≡ started_in own
   pub each : All (IsBack own deeds) backs
   pub last : lines_of (listed unsaid) ≡ unsaid_by halted

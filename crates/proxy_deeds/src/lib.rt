@@ -1,8 +1,8 @@
 //! What a proxy lane has done for each of its entries, between an order and its report.
 #![tactic(auto)]
 
-mod cause;
-mod post;
+mod halt;
+mod settings;
 
-pub use cause::Cause;
-pub use post::Post;
+pub use halt::ProxyHalt;
+pub use settings::Settings;

@@ -5,7 +5,6 @@ use Rattle.plain_values.specs.declared.no_memory.NoMemory.{NoMemory}
 use Rattle.seat_desk.specs.declared.machine.Machine.{Ghosts}
 use Rattle.seat_desk.specs.declared.desk.Pass.{Pass}
 use Rattle.seat_desk.specs.Passes.{IsSamePass, mine, seen}
-use Rattle.run_plan.specs.Groups.{is_remote}
 use Rattle.exec_journal.specs.declared.call.Call.{Call}
 use Rattle.exec_journal.specs.declared.call.Call.TheVariants as call
 use Rattle.exec_journal.specs.declared.call.Written.{Written}
@@ -16,19 +15,20 @@ use Rattle.core_contract.specs.Terms.{Terms}
 use Rattle.core_contract.specs.Moves.{History}
 use Rattle.core_contract.specs.Shelf.{child_at}
 use Rattle.core_contract.specs.Duties.{Asks, duty_of}
-use Rattle.proxy_deeds.specs.declared.cause.Cause.{Cause}
-use Rattle.proxy_deeds.specs.declared.cause.Cause.TheVariants as cause
+use Rattle.proxy_deeds.specs.declared.halt.ProxyHalt.{ProxyHalt}
+use Rattle.proxy_deeds.specs.declared.halt.ProxyHalt.TheVariants as cause
+use Rattle.proxy_deeds.specs.Settings.{FitsSettings}
 use Rattle.proxy_calls.specs.Calls.{MakesNone, MakesOne, Stays}
 use Rattle.proxy_calls.specs.Reports.{Told}
 use Rattle.proxy_steps.specs.declared.hands.Hands.{Hands}
 use Rattle.proxy_steps.specs.Work.{IsWork, IsWorkOf}
-use Rattle.proxy_steps.specs.Lanes.{Held}
+use Rattle.proxy_steps.specs.Lanes.{LaneObjects}
 use Rattle.proxy_steps.specs.Steps.{open_in, HasRoom, IsShelved, Goes, Halts, TellsWrote, IsCauseOf}
 use Rattle.proxy_steps.proofs.Sends.{starts_later}
 use Rattle.proxy_steps.proofs.Serving.{proxy_on, by_rules}
 use Rattle.proxy_lane.specs.declared.site.Site.{Site}
 use Rattle.proxy_lane.specs.declared.site.Request.{Request}
-use Rattle.proxy_lane.specs.Sites.{IsSite, IsDue, IsWorkAt, Obeyed, ReportsWrote}
+use Rattle.proxy_lane.specs.Sites.{means_at, IsSite, IsDue, IsWorkAt, Obeyed, ReportsWrote}
 
 -- ---- after a call
 
@@ -58,8 +58,8 @@ module _ {M G Q R : Type 0} {g : Ghosts M Call Reply G Q} (terms : Q → Terms) 
   pub site_on : IsSamePass p p' → IsSite terms site p → IsSite terms site p'
   site_on same x = record {
     lane = proxy_on terms site.berth p p' same x.lane;
-    kind = by_rules (λ q. (terms q).remote site.berth ≡ is_remote site.post.now.kind) p p' same
-        x.kind;
+    settings = by_rules (λ q. FitsSettings (terms q) site.berth site.speech site.settings.now) p p' same
+        x.settings;
     work = by_rules (λ q. IsWorkOf (terms q) site.actions.now) p p' same x.work;
   }
 
@@ -75,7 +75,8 @@ module _ {M G Q R : Type 0} {g : Ghosts M Call Reply G Q} (terms : Q → Terms) 
   due_on request stays x = record {
     at_site = site_on stays.same x.at_site;
     owes = ap duty_of stays.none.1 ∙ x.owes;
-    of_action = work_on request.action request.work.now stays.same x.of_action;
+    group = x.group;
+    of_action = work_on request.attempt.action request.work.now stays.same x.of_action;
   }
 
 -- where the child on the shelf and the open line are as they were
@@ -91,18 +92,18 @@ still_tidy site p p' h line child same shelved room =
 
 -- what was told of a Wrote
 pub reports_wrote : {M G Q A : Type 0} {g : Ghosts M Call Reply G Q} (l : ℕ) (n : ℤ)
-    (how : Written) (wrote : Result Written NoMemory) (r : Result A Cause)
+    (how : Written) (wrote : Result Written NoMemory) (r : Result A ProxyHalt)
     (p p' : Pass M Call Reply G Q g) → wrote ≡ Ok how → IsSamePass p p'
     → Told (call.Wrote l n how) r p p' → ReportsWrote r p p' l n wrote
 reports_wrote {M} {G} {Q} {A} {g} l n how wrote r p p' is same told =
     subst (λ (w : Result Written NoMemory). ReportsWrote r p p' l n w) (sym is) (record {
       same = same;
-      told = elim r as (λ (x : Result A Cause). Told (call.Wrote l n how) x p p'
+      told = elim r as (λ (x : Result A ProxyHalt). Told (call.Wrote l n how) x p p'
           → OnOk x ((duty_of (mine p') ≡ Asks) × TellsWrote l n (Ok how) p p')) [
             | Ok u ↦ λ t. (t.1, t.0)
             | Err by ↦ λ t. tt
           ] told;
-      refused = elim r as (λ (x : Result A Cause). Told (call.Wrote l n how) x p p'
+      refused = elim r as (λ (x : Result A ProxyHalt). Told (call.Wrote l n how) x p p'
           → IfErr x (λ by. MakesNone p p' × IsCauseOf l n (Ok how) by)) [
             | Ok u ↦ λ t. tt
             | Err by ↦ λ t. (t.1, t.0)
@@ -110,41 +111,41 @@ reports_wrote {M} {G} {Q} {A} {g} l n how wrote r p p' is same told =
     })
 
 module _ {M G Q R B D K A : Type 0} {g : Ghosts M Call Reply G Q} (site : Site R)
-    (rule : Q → History → ℕ → Call → Reply) (held : Hands B D K → Held) (r : Result A Cause)
+    (rule : Q → History → ℕ → Call → Reply) (held : Hands B D K → LaneObjects) (r : Result A ProxyHalt)
     (p : Pass M Call Reply G Q g) (h : Hands B D K) (p' : Pass M Call Reply G Q g)
     (h' : Hands B D K) where
   -- what each outcome of a report says comes to what is said of the order
-  pub obeys_by : (Said : Type 0) (Unsaid : Cause → Type 0)
+  pub obeys_by : (Said : Type 0) (Unsaid : ProxyHalt → Type 0)
       → (Said → (duty_of (mine p') ≡ Asks)
-      × Goes site.post.now site.actions.now rule p (held h) p' (held h'))
-      → ((by : Cause) → Unsaid by
-      → Halts site.post.now site.actions.now rule by p (held h) p' (held h'))
+      × Goes (means_at site) rule p (held h) p' (held h'))
+      → ((by : ProxyHalt) → Unsaid by
+      → Halts (means_at site) rule by p (held h) p' (held h'))
       → OnOk r Said → IfErr r Unsaid → Obeyed site rule held r p h p' h'
-  obeys_by Said Unsaid goes halts said unsaid = elim r as (λ (x : Result A Cause).
+  obeys_by Said Unsaid goes halts said unsaid = elim r as (λ (x : Result A ProxyHalt).
       OnOk x Said → IfErr x Unsaid → Obeyed site rule held x p h p' h')
       [ Ok u ↦ λ t n. goes t | Err by ↦ λ t n. halts by n ] said unsaid
 
   -- so does the report itself
   pub obeys_told : (report : Call)
       → (MakesOne report reply.Noted p p'
-      → Goes site.post.now site.actions.now rule p (held h) p' (held h'))
-      → ((by : Cause) → by ≡ cause.Refused report → MakesNone p p'
-      → Halts site.post.now site.actions.now rule by p (held h) p' (held h'))
+      → Goes (means_at site) rule p (held h) p' (held h'))
+      → ((by : ProxyHalt) → by ≡ cause.Refused report → MakesNone p p'
+      → Halts (means_at site) rule by p (held h) p' (held h'))
       → Told report r p p' → Obeyed site rule held r p h p' h'
-  obeys_told report goes halts told = elim r as (λ (x : Result A Cause).
+  obeys_told report goes halts told = elim r as (λ (x : Result A ProxyHalt).
       Told report x p p' → Obeyed site rule held x p h p' h')
       [ Ok u ↦ λ t. (t.1, goes t.0) | Err by ↦ λ t. halts by t.0 t.1 ] told
 
   -- so does what is said of hands that hold the same
   pub obeys_from : (h0 : Hands B D K) → held h0 ≡ held h → Obeyed site rule held r p h0 p' h'
       → Obeyed site rule held r p h p' h'
-  obeys_from h0 same x = elim r as (λ (y : Result A Cause).
+  obeys_from h0 same x = elim r as (λ (y : Result A ProxyHalt).
       Obeyed site rule held y p h0 p' h' → Obeyed site rule held y p h p' h') [
         | Ok u ↦ λ z. (
           z.0,
-          subst (λ (o : Held).
-              Goes site.post.now site.actions.now rule p o p' (held h')) same z.1,
+          subst (λ (o : LaneObjects).
+              Goes (means_at site) rule p o p' (held h')) same z.1,
         )
-        | Err by ↦ λ z. subst (λ (o : Held).
-            Halts site.post.now site.actions.now rule by p o p' (held h')) same z
+        | Err by ↦ λ z. subst (λ (o : LaneObjects).
+            Halts (means_at site) rule by p o p' (held h')) same z
       ] x

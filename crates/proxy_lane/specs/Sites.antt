@@ -4,7 +4,6 @@ use Rattle.plain_values.specs.declared.no_memory.NoMemory.{NoMemory}
 use Rattle.seat_desk.specs.declared.machine.Machine.{Ghosts}
 use Rattle.seat_desk.specs.declared.desk.Pass.{Pass}
 use Rattle.seat_desk.specs.Passes.{IsSamePass, mine, basis, seen}
-use Rattle.run_plan.specs.Groups.{is_remote}
 use Rattle.exec_journal.specs.declared.attempt.Attempt.{Attempt}
 use Rattle.exec_journal.specs.declared.call.Call.{Call}
 use Rattle.exec_journal.specs.declared.call.Call.TheVariants as call
@@ -16,7 +15,8 @@ use Rattle.remote_messages.specs.declared.work.WorkAction.{WorkAction}
 use Rattle.core_contract.specs.Terms.{Terms}
 use Rattle.core_contract.specs.Moves.{History}
 use Rattle.core_contract.specs.Duties.{Duty, Asks, Sends, duty_of}
-use Rattle.proxy_deeds.specs.declared.cause.Cause.{Cause}
+use Rattle.proxy_deeds.specs.declared.halt.ProxyHalt.{ProxyHalt}
+use Rattle.proxy_deeds.specs.Settings.{FitsSettings, HasGroup, Means}
 use Rattle.proxy_deeds.specs.Deeds.{Looked}
 use Rattle.proxy_deeds.specs.Ends.{may_halt}
 use Rattle.proxy_deeds.specs.Told.{AreTold}
@@ -27,14 +27,19 @@ use Rattle.proxy_calls.specs.Calls.{IsProxyOf, MakesNone, MakesOne}
 use Rattle.proxy_steps.specs.declared.hands.Hands.{Hands}
 use Rattle.proxy_steps.specs.Work.{IsWork, IsWorkOf}
 use Rattle.proxy_steps.specs.Acts.{GatherActs, IsAnswered, SendActs}
-use Rattle.proxy_steps.specs.Lanes.{Held}
+use Rattle.proxy_steps.specs.Lanes.{LaneObjects}
 use Rattle.proxy_steps.specs.Steps.{open_in, gathers, HasRoom, IsShelved, MayObey, Goes, GoesTo, Halts, Finishes, SomeKeeps, AreLaidBy, OwesClaim, ClaimsFound, IsCauseOfClaim, TellsWrote, IsCauseOf}
 use Rattle.proxy_lane.specs.declared.site.Site.{Site}
 use Rattle.proxy_lane.specs.declared.site.Request.{Request}
 
+-- what the site's orders are carried out by
+abbrev pub means_at : {R : Type 0} → Site R → Means
+means_at site =
+    record { speech = site.speech; settings = site.settings.now; actions = site.actions.now }
+
 -- what the lane owes where this request is due
 abbrev pub sends : Request → Duty
-sends x = Sends x.line x.number x.action
+sends x = Sends x.line x.number x.attempt
 
 -- its exit code is 0, and it wasn't refused
 abbrev pub IsGood : Answered → Type 0
@@ -42,12 +47,12 @@ IsGood x = (x.exit ≡ pos 0) × (x.refused ≡ false)
 
 -- ---- what is asked of a lane
 
--- The lane is that of the site's berth. The post says truly whether the berth's lines are the
--- executor's, and the work is that of all actions.
+-- The lane is that of the site's berth. The settings are of the plan, the speech is an executor's
+-- exactly where the berth is, and the work is that of all actions.
 pub record IsSite {M G Q R : Type 0} {g : Ghosts M Call Reply G Q} (terms : Q → Terms)
     (site : Site R) (p : Pass M Call Reply G Q g) : Type 0 where
   pub lane : IsProxyOf terms site.berth p
-  pub kind : (terms (basis p)).remote site.berth ≡ is_remote site.post.now.kind
+  pub settings : FitsSettings (terms (basis p)) site.berth site.speech site.settings.now
   pub work : IsWorkOf (terms (basis p)) site.actions.now
 
 module _ {M G Q R : Type 0} {g : Ghosts M Call Reply G Q} (terms : Q → Terms) (site : Site R)
@@ -56,16 +61,18 @@ module _ {M G Q R : Type 0} {g : Ghosts M Call Reply G Q} (terms : Q → Terms) 
   abbrev pub IsWorkAt : ℕ → WorkAction → Type 0
   IsWorkAt a work = IsWork ((terms (basis p)).outputs a) ((terms (basis p)).makers a) work
 
-  -- the request is due, and its work is that of its action
+  -- the request is due, its group has a command, and its work is that of its action
   pub record IsDue (request : Request) : Type 0 where
     pub at_site : IsSite terms site p
     pub owes : duty_of (mine p) ≡ sends request
-    pub of_action : IsWorkAt request.action request.work.now
+    pub group : HasGroup site.settings.now request.attempt
+    pub of_action : IsWorkAt request.attempt.action request.work.now
 
-  -- the answer is to be gathered, and this is the work of its action
+  -- the answer is to be gathered, its group has a command, and this is the work of its action
   pub record IsToGather (answer : Answered) (work : WorkAction) : Type 0 where
     pub at_site : IsSite terms site p
     pub owes : duty_of (mine p) ≡ gathers answer
+    pub group : HasGroup site.settings.now answer.attempt
     pub of_action : IsWorkAt answer.attempt.action work
 
   -- what was found for the attempt may be claimed, and this is the work of its action
@@ -85,7 +92,7 @@ module _ {M G Q R B D K : Type 0} {g : Ghosts M Call Reply G Q} (terms : Q → T
   pub record IsOrdered (told : K → ChildTold) (order : Order K) (p : Pass M Call Reply G Q g)
       (h : Hands B D K) : Type 0 where
     pub at_site : IsSite terms site p
-    pub may : MayObey (length site.actions.now) told site.berth order p (open_in h)
+    pub may : MayObey (means_at site) told site.berth order p (open_in h)
     pub room : HasRoom h
 
   -- the lane may halt
@@ -95,12 +102,12 @@ module _ {M G Q R B D K : Type 0} {g : Ghosts M Call Reply G Q} (terms : Q → T
     pub tidy : IsTidy site p h
 
   -- The lane is to ask for an order, and what it has done so far holds of what it has in its hands.
-  pub record IsReady (rule : Q → History → ℕ → Call → Reply) (held : Hands B D K → Held)
+  pub record IsReady (rule : Q → History → ℕ → Call → Reply) (held : Hands B D K → LaneObjects)
       (p : Pass M Call Reply G Q g) (h : Hands B D K) : Type 0 where
     pub at_site : IsSite terms site p
     pub asks : duty_of (mine p) ≡ Asks
     pub tidy : IsTidy site p h
-    pub kept : SomeKeeps site.post.now site.actions.now rule p (held h)
+    pub kept : SomeKeeps (means_at site) rule p (held h)
 
 -- ---- what a lane leaves
 
@@ -113,8 +120,8 @@ module _ {M G Q : Type 0} {g : Ghosts M Call Reply G Q} (rule : Q → History �
     -- what was done for a request, by the berth and the feed
     abbrev pub SendsAt : {R : Type 0} → Site R → Request → Result Written NoMemory → Pass M Call Reply G Q g
         → Pass M Call Reply G Q g → BerthTold → BerthTold → FeedTold → FeedTold → Type 0
-    SendsAt site x result p p' old new before after = SendActs site.post.now (rule (basis p)) p.lane
-        x.line x.number x.work.now result (seen p') old new before after
+    SendsAt site x result p p' old new before after = SendActs (means_at site) x.attempt (rule (basis p))
+        p.lane x.line x.number x.work.now result (seen p') old new before after
 
     -- what the Looks at the outputs of an executor's answer gave
     abbrev pub HasAnswered : Answered → WorkAction → Found → Pass M Call Reply G Q g
@@ -125,10 +132,10 @@ module _ {M G Q : Type 0} {g : Ghosts M Call Reply G Q} (rule : Q → History �
     -- what was done for an answer, by the berth
     abbrev pub GathersAt : {R : Type 0} → Site R → Answered → WorkAction → Result Found NoMemory
         → Pass M Call Reply G Q g → Pass M Call Reply G Q g → BerthTold → BerthTold → Type 0
-    GathersAt site x work result p p' old new = GatherActs site.post.now (rule (basis p)) p.lane
-        x.line x.number work result (seen p') old new
+    GathersAt site x work result p p' old new = GatherActs (means_at site) x.attempt
+        (rule (basis p)) p.lane x.line x.number work result (seen p') old new
 
-module _ {M G Q A : Type 0} {g : Ghosts M Call Reply G Q} (result : Result A Cause)
+module _ {M G Q A : Type 0} {g : Ghosts M Call Reply G Q} (result : Result A ProxyHalt)
     (p p' : Pass M Call Reply G Q g) where
   -- what was written was reported, or the lane is to halt
   pub record ReportsWrote (line : ℕ) (number : ℤ) (wrote : Result Written NoMemory) : Type 0 where
@@ -143,45 +150,45 @@ module _ {M G Q A : Type 0} {g : Ghosts M Call Reply G Q} (result : Result A Cau
     pub refused : IfErr result (λ cause. MakesNone p p' × IsCauseOfClaim attempt found cause)
 
 module _ {M G Q R B D K : Type 0} {g : Ghosts M Call Reply G Q} (site : Site R)
-    (rule : Q → History → ℕ → Call → Reply) (held : Hands B D K → Held) where
+    (rule : Q → History → ℕ → Call → Reply) (held : Hands B D K → LaneObjects) where
   -- The order was carried out and reported, and the lane is to ask again; or it is to halt.
-  abbrev pub Obeyed : {A : Type 0} → Result A Cause → Pass M Call Reply G Q g → Hands B D K
+  abbrev pub Obeyed : {A : Type 0} → Result A ProxyHalt → Pass M Call Reply G Q g → Hands B D K
       → Pass M Call Reply G Q g → Hands B D K → Type 0
   Obeyed (Ok done) p h p' h' = (duty_of (mine p') ≡ Asks)
-      × Goes site.post.now site.actions.now rule p (held h) p' (held h')
+      × Goes (means_at site) rule p (held h) p' (held h')
   Obeyed (Err cause) p h p' h' =
-      Halts site.post.now site.actions.now rule cause p (held h) p' (held h')
+      Halts (means_at site) rule cause p (held h) p' (held h')
 
   -- what an order leaves
-  pub record Obeys {A : Type 0} (result : Result A Cause) (p : Pass M Call Reply G Q g)
+  pub record Obeys {A : Type 0} (result : Result A ProxyHalt) (p : Pass M Call Reply G Q g)
       (h : Hands B D K) (p' : Pass M Call Reply G Q g) (h' : Hands B D K) : Type 0 where
     pub same : IsSamePass p p'
     pub tidy : IsTidy site p' h'
     pub goes : Obeyed result p h p' h'
 
   -- so it is after a round, where the lane may have been told to stop
-  abbrev pub Rounded : Result Bool Cause → Pass M Call Reply G Q g → Hands B D K
+  abbrev pub Rounded : Result Bool ProxyHalt → Pass M Call Reply G Q g → Hands B D K
       → Pass M Call Reply G Q g → Hands B D K → Type 0
   Rounded (Ok more) p h p' h' =
-      GoesTo site.post.now site.actions.now rule more p (held h) p' (held h')
+      GoesTo (means_at site) rule more p (held h) p' (held h')
   Rounded (Err cause) p h p' h' =
-      Halts site.post.now site.actions.now rule cause p (held h) p' (held h')
+      Halts (means_at site) rule cause p (held h) p' (held h')
 
   -- what a round leaves
-  pub record Rounds (result : Result Bool Cause) (p : Pass M Call Reply G Q g) (h : Hands B D K)
+  pub record Rounds (result : Result Bool ProxyHalt) (p : Pass M Call Reply G Q g) (h : Hands B D K)
       (p' : Pass M Call Reply G Q g) (h' : Hands B D K) : Type 0 where
     pub same : IsSamePass p p'
     pub tidy : IsTidy site p' h'
     pub goes : Rounded result p h p' h'
 
   -- what all rounds leave
-  pub record Serves (halted : Option Cause) (p : Pass M Call Reply G Q g) (h : Hands B D K)
+  pub record Serves (halted : Option ProxyHalt) (p : Pass M Call Reply G Q g) (h : Hands B D K)
       (p' : Pass M Call Reply G Q g) (h' : Hands B D K) : Type 0 where
     pub same : IsSamePass p p'
-    pub ends : Finishes site.post.now site.actions.now rule halted p (held h) p' (held h')
+    pub ends : Finishes (means_at site) rule halted p (held h) p' (held h')
 
 -- it halted, and the line that was open was laid by
-pub record GivesUp {M G Q B D K : Type 0} {g : Ghosts M Call Reply G Q} (held : Hands B D K → Held)
+pub record GivesUp {M G Q B D K : Type 0} {g : Ghosts M Call Reply G Q} (held : Hands B D K → LaneObjects)
     (p : Pass M Call Reply G Q g) (h : Hands B D K) (p' : Pass M Call Reply G Q g)
     (h' : Hands B D K) : Type 0 where
   pub same : IsSamePass p p'

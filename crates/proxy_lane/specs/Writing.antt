@@ -1,13 +1,26 @@
 -- What is called on a berth for work that is due, and the bytes that are due.
-use Rattle.std.specs.Prelude.{List}
+use Rattle.std.specs.Prelude.{List, [], if◌then◌else◌}
+use Rattle.run_plan.specs.declared.plan.Speech.{Speech}
+use Rattle.exec_journal.specs.declared.attempt.Attempt.{Attempt}
+use Rattle.sandbox_rooms.specs.declared.room.Room.{Room}
 use Rattle.sandbox_rooms.specs.Calls.{Asked}
+use Rattle.sandbox_rooms.specs.Rooms.{prepare_asks}
 use Rattle.due_frames.specs.declared.frames.Due.{Due}
 use Rattle.due_frames.specs.declared.requests.DueWork.{DueWork}
-use Rattle.proxy_deeds.specs.declared.post.Post.{Post}
+use Rattle.proxy_deeds.specs.Settings.{speaks_remote}
 use Rattle.proxy_deeds.specs.Deeds.{send_asks, due_for}
+use Rattle.proxy_lane.specs.declared.site.Site.{Site}
+use Rattle.proxy_lane.specs.Sites.{means_at}
 
-abbrev pub asks_of : Post → DueWork → List Asked
-asks_of post work = send_asks post work.number work.action.now work.inputs.now
+-- the room is made ready, and none for an executor
+abbrev pub asks_in : Speech → Room → DueWork → List Asked
+asks_in speech room work =
+    if speaks_remote speech then [] else prepare_asks room work.action.now.outputs work.inputs.now
 
-abbrev pub due_of : Post → DueWork → Due
-due_of post work = due_for post work.number work.action.now work.inputs.now
+-- by the attempt that the work is due for
+module _ {R : Type 0} (site : Site R) (t : Attempt) (work : DueWork) where
+  abbrev pub asks_of : List Asked
+  asks_of = send_asks (means_at site) t work.number work.action.now work.inputs.now
+
+  abbrev pub due_of : Due
+  due_of = due_for (means_at site) t work.number work.action.now work.inputs.now

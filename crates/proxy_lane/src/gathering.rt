@@ -17,7 +17,7 @@ use order_acts::gather_line;
 use outside::{Berth, Place};
 use plain_values::{Blob, Items, NoMemory};
 use proxy_calls::{Answered, Grant, claim, commit_files, look};
-use proxy_deeds::Cause;
+use proxy_deeds::ProxyHalt;
 use proxy_steps::Hands;
 use remote_messages::WorkAction;
 use std::alloc::Global;
@@ -34,7 +34,7 @@ pub(crate) fn gather<B: Berth, P: Place, C: Rules, R: Wait>(
     caller: &mut Caller<'_, Bench<B, P, C>>,
     hands: &mut Hands<B, B::Feed, B::Child>,
     answer: &Answered,
-) -> Result<(), Cause>
+) -> Result<(), ProxyHalt>
     requires { IsOrdered C.terms site.now B.Child.told (order.Gather answer.now)
         caller.old.pass hands.old }
     ensures { Obeys site.now C.rule (held_of B.told B.Feed.told B.Child.told) result
@@ -44,7 +44,7 @@ pub(crate) fn gather<B: Berth, P: Place, C: Rules, R: Wait>(
     let berth = &mut hands.berth;
     match act_gather(site, work, caller, berth, answer) {
         Ok(found) => claim_found(site, work, caller, answer.attempt, found),
-        Err(_) => Err(Cause::NoMemory),
+        Err(_) => Err(ProxyHalt::NoMemory),
     }
 }
 
@@ -71,10 +71,11 @@ fn act_gather<B: Berth, P: Place, C: Rules, R: Wait>(
     if answer.refused {
         return Ok(Found::Refused);
     }
-    if is_executor(site.post.kind) {
+    if is_executor(site.speech) {
         return answered(site, work, caller, answer);
     }
-    let room = room_of(site.post.kind, answer.number);
+    let kind = site.settings.kind_of(answer.attempt);
+    let room = room_of(kind, answer.number);
     gather_line(site.alloc, berth, room, work.outputs.as_slice())
 }
 
@@ -107,7 +108,7 @@ fn answered<B: Berth, P: Place, C: Rules, R: Wait>(
     Ok(Found::Files(Items::of(files)))
 }
 
-// Claims what was found. Files are shared beforehand, so that no want of memory lies between a
+// Claims what was found. Files are shared beforehand, so that no lack of memory lies between a
 // grant and its Committed.
 fn claim_found<B: Berth, P: Place, C: Rules, R: Wait>(
     site: &Site<'_, R>,
@@ -115,7 +116,7 @@ fn claim_found<B: Berth, P: Place, C: Rules, R: Wait>(
     caller: &mut Caller<'_, Bench<B, P, C>>,
     attempt: Attempt,
     found: Found,
-) -> Result<(), Cause>
+) -> Result<(), ProxyHalt>
     requires { MayClaim C.terms site.now caller.old.pass attempt work.now found }
     ensures { Claims result caller.old.pass caller.new.pass attempt found }
 {
@@ -134,7 +135,7 @@ fn claim_found<B: Berth, P: Place, C: Rules, R: Wait>(
             Ok(None) => Ok(()),
             Err(cause) => Err(cause),
         },
-        Err(_) => Err(Cause::NoMemory),
+        Err(_) => Err(ProxyHalt::NoMemory),
     }
 }
 

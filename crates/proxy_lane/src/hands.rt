@@ -1,11 +1,11 @@
 //! The lane's hands, and the work of an action.
 ghost use Rattle.std.specs.Prelude.{◌≡◌, ◌<◌, length, slice_get, Some};
-ghost use Rattle.run_plan.specs.Groups.{is_remote};
+ghost use Rattle.proxy_deeds.specs.Settings.{speaks_remote};
 ghost use Rattle.proxy_steps.specs.Steps.{open_in};
 
 use proxy_steps::Hands;
 use remote_messages::WorkAction;
-use run_plan::Kind;
+use run_plan::Speech;
 
 /// The work of an action.
 pub(crate) fn action_at(actions: &[WorkAction], number: u32) -> &WorkAction
@@ -28,9 +28,9 @@ pub(crate) fn open_line<B, D, K>(hands: &Hands<B, D, K>) -> Option<u32>
     }
 }
 
-/// It is the kind of the executor's lines.
-pub(crate) fn is_executor(kind: Kind) -> bool
-    ensures { result ≡ is_remote kind }
+/// It is what an executor's lines speak.
+pub(crate) fn is_executor(speech: Speech) -> bool
+    ensures { result ≡ speaks_remote speech }
 {
-    matches!(kind, Kind::Remote)
+    matches!(speech, Speech::Remote)
 }

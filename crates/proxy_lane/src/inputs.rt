@@ -16,7 +16,7 @@ use outside::{Berth, Place};
 use plain_values::{Blob, NoMemory, Text};
 use proxy_calls::look_made;
 use remote_messages::{NamedFile, Origin, WorkInput};
-use run_plan::{Kind, Maker};
+use run_plan::{Maker, Speech};
 use std::alloc::Global;
 use std::sync::Wait;
 
@@ -55,7 +55,7 @@ fn content_of<B: Berth, P: Place, C: Rules, R: Wait>(
     origin: &Origin,
 ) -> Result<Blob, NoMemory>
     requires due { IsDue C.terms site.now caller.old.pass request.now }
-    requires made { IsMadeBy ((C.terms (basis caller.old.pass)).makers request.now.action)
+    requires made { IsMadeBy ((C.terms (basis caller.old.pass)).makers request.now.attempt.action)
         origin.now }
     ensures stays { Stays caller.old.pass caller.new.pass }
     ensures from { IfOk result (λ bytes. IsFrom origin.now bytes) }
@@ -72,7 +72,7 @@ fn content_of<B: Berth, P: Place, C: Rules, R: Wait>(
                 action: *made,
                 output: *output,
             };
-            look_made(site.rt, caller, site.berth, request.action, maker)
+            look_made(site.rt, caller, site.berth, request.attempt, maker)
         }
     }
 }
@@ -87,10 +87,10 @@ fn content_of<B: Berth, P: Place, C: Rules, R: Wait>(
 pub(crate) fn know_digests<R: Wait>(
     rt: &R,
     alloc: Global,
-    kind: Kind,
+    speech: Speech,
     inputs: &[WorkInput],
 ) -> Result<(), NoMemory> {
-    if is_executor(kind) {
+    if is_executor(speech) {
         return Ok(());
     }
     for input in inputs {

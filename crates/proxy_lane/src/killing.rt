@@ -14,7 +14,7 @@ use exec_journal::Call;
 use lane_crew::Caller;
 use outside::{Berth, Place};
 use proxy_calls::{halt, tell};
-use proxy_deeds::Cause;
+use proxy_deeds::ProxyHalt;
 use proxy_steps::{EndedFeed, Hands, OpenFeed};
 use std::sync::Wait;
 
@@ -29,7 +29,7 @@ pub(crate) fn kill<B: Berth, P: Place, C: Rules, R: Wait>(
     hands: &mut Hands<B, B::Feed, B::Child>,
     line: u32,
     child: B::Child,
-) -> Result<(), Cause>
+) -> Result<(), ProxyHalt>
     requires { IsOrdered C.terms site.now B.Child.told (order.Kill line child)
         caller.old.pass hands.old }
     ensures { Obeys site.now C.rule (held_of B.told B.Feed.told B.Child.told) result

@@ -3,7 +3,7 @@ ghost use Rattle.std.specs.Prelude.{◌≡◌, ◌<◌, [], map, option_map};
 ghost use Rattle.seat_desk.specs.Passes.{IsPassOf, IsSamePass, mine};
 ghost use Rattle.proxy_steps.specs.Lanes.{held_of, back_of};
 ghost use Rattle.proxy_steps.specs.Steps.{IsServedBy};
-ghost use Rattle.proxy_lane.specs.Sites.{IsSite, IsOrdered, IsReady, Obeys, Rounds, Serves};
+ghost use Rattle.proxy_lane.specs.Sites.{means_at, IsSite, IsOrdered, IsReady, Obeys, Rounds, Serves};
 
 use crate::gathering::gather;
 use crate::killing::{give_up, kill};
@@ -16,7 +16,7 @@ use lane_bells::Bells;
 use lane_crew::Caller;
 use outside::{Berth, Place};
 use proxy_calls::{Order, ask};
-use proxy_deeds::Cause;
+use proxy_deeds::ProxyHalt;
 use proxy_steps::{EndedFeed, Hands};
 use seat_desk::{Desk, Pass};
 use std::sync::Wait;
@@ -32,7 +32,7 @@ pub struct LaneEnd<S, B, D, K> {
     /// A line that was started, and there was no memory to report it.
     pub unsaid: Option<EndedFeed<D, K>>,
     /// Why it halted, if it wasn't told to stop.
-    pub halted: Option<Cause>,
+    pub halted: Option<ProxyHalt>,
 }
 
 /// What the proxy lane of a bench leaves.
@@ -60,8 +60,7 @@ pub fn run<B: Berth, P: Place, C: Rules, R: Wait>(
     requires fresh { mine pass ≡ [] }
     ensures desk { IsPassOf desk.now result.pass }
     ensures same { IsSamePass pass result.pass }
-    ensures served { IsServedBy site.now.post.now site.now.actions.now C.rule
-        (B.told berth) (B.told result.berth)
+    ensures served { IsServedBy (means_at site.now) C.rule (B.told berth) (B.told result.berth)
         (map (back_of B.Feed.told B.Child.told) result.feeds.items)
         (option_map (back_of B.Feed.told B.Child.told) result.unsaid)
         result.halted result.pass }
@@ -94,7 +93,7 @@ fn serve<B: Berth, P: Place, C: Rules, R: Wait>(
     site: &Site<'_, R>,
     caller: &mut Caller<'_, Bench<B, P, C>>,
     hands: &mut Hands<B, B::Feed, B::Child>,
-) -> Option<Cause>
+) -> Option<ProxyHalt>
     requires { IsReady C.terms site.now C.rule (held_of B.told B.Feed.told B.Child.told)
         caller.old.pass hands.old }
     ensures { Serves site.now C.rule (held_of B.told B.Feed.told B.Child.told) result
@@ -118,7 +117,7 @@ fn next<B: Berth, P: Place, C: Rules, R: Wait>(
     site: &Site<'_, R>,
     caller: &mut Caller<'_, Bench<B, P, C>>,
     hands: &mut Hands<B, B::Feed, B::Child>,
-) -> Result<bool, Cause>
+) -> Result<bool, ProxyHalt>
     requires { IsReady C.terms site.now C.rule (held_of B.told B.Feed.told B.Child.told)
         caller.old.pass hands.old }
     ensures { Rounds site.now C.rule (held_of B.told B.Feed.told B.Child.told) result
@@ -140,18 +139,18 @@ fn obey<B: Berth, P: Place, C: Rules, R: Wait>(
     caller: &mut Caller<'_, Bench<B, P, C>>,
     hands: &mut Hands<B, B::Feed, B::Child>,
     order: Order<B::Child>,
-) -> Result<(), Cause>
+) -> Result<(), ProxyHalt>
     requires { IsOrdered C.terms site.now B.Child.told order caller.old.pass hands.old }
     ensures { Obeys site.now C.rule (held_of B.told B.Feed.told B.Child.told) result
         caller.old.pass hands.old caller.new.pass hands.new }
 {
     match order {
-        Order::Launch { line } => launch(site, caller, hands, line),
+        Order::Launch { line, attempt } => launch(site, caller, hands, line, attempt),
         Order::Send {
             line,
             number,
-            action,
-        } => send(site, caller, hands, line, number, action),
+            attempt,
+        } => send(site, caller, hands, line, number, attempt),
         Order::Cancel { line, number } => { cancel(site, caller, hands, line, number) }
         Order::Gather(answer) => gather(site, caller, hands, &answer),
         Order::Kill { line, child } => { kill(site, caller, hands, line, child) }

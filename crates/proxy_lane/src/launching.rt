@@ -7,16 +7,16 @@ ghost use Rattle.proxy_lane.specs.Sites.{IsOrdered, Obeys};
 use crate::site::Site;
 use core_bench::Bench;
 use core_contract::Rules;
-use exec_journal::{Call, Started};
+use exec_journal::{Attempt, Call, Started};
 use lane_crew::Caller;
 use order_acts::{Opened, launch_line};
 use outside::{Berth, Place};
 use proxy_calls::{Unsaid, tell, tell_started};
-use proxy_deeds::Cause;
+use proxy_deeds::ProxyHalt;
 use proxy_steps::{EndedFeed, Hands, OpenFeed};
 use std::sync::Wait;
 
-/// Starts a line, and reports how that went.
+/// Starts a line for the attempt, and reports how that went.
 ///
 /// # Errors
 ///
@@ -26,15 +26,16 @@ pub(crate) fn launch<B: Berth, P: Place, C: Rules, R: Wait>(
     caller: &mut Caller<'_, Bench<B, P, C>>,
     hands: &mut Hands<B, B::Feed, B::Child>,
     line: u32,
-) -> Result<(), Cause>
-    requires { IsOrdered C.terms site.now B.Child.told (order.Launch line)
+    attempt: Attempt,
+) -> Result<(), ProxyHalt>
+    requires { IsOrdered C.terms site.now B.Child.told (order.Launch line attempt)
         caller.old.pass hands.old }
     ensures { Obeys site.now C.rule (held_of B.told B.Feed.told B.Child.told) result
         caller.old.pass hands.old caller.new.pass hands.new }
 {
     match hands.ended.reserve(1) {
-        Ok(()) => start(site, caller, hands, line),
-        Err(_) => Err(Cause::NoMemory),
+        Ok(()) => start(site, caller, hands, line, attempt),
+        Err(_) => Err(ProxyHalt::NoMemory),
     }
 }
 
@@ -44,16 +45,18 @@ fn start<B: Berth, P: Place, C: Rules, R: Wait>(
     caller: &mut Caller<'_, Bench<B, P, C>>,
     hands: &mut Hands<B, B::Feed, B::Child>,
     line: u32,
-) -> Result<(), Cause>
-    requires order { IsOrdered C.terms site.now B.Child.told (order.Launch line)
+    attempt: Attempt,
+) -> Result<(), ProxyHalt>
+    requires order { IsOrdered C.terms site.now B.Child.told (order.Launch line attempt)
         caller.old.pass hands.old }
     requires space { vec_len hands.old.ended < vec_capacity hands.old.ended }
     ensures { Obeys site.now C.rule (held_of B.told B.Feed.told B.Child.told) result
         caller.old.pass hands.old caller.new.pass hands.new }
 {
-    let opened = match launch_line(&mut hands.berth, line, &site.post.command) {
+    let command = site.settings.command_of(attempt);
+    let opened = match launch_line(&mut hands.berth, line, command) {
         Ok(opened) => opened,
-        Err(_) => return Err(Cause::NoMemory),
+        Err(_) => return Err(ProxyHalt::NoMemory),
     };
     match opened {
         Opened::Line(feed, tap, child) => {
@@ -66,7 +69,7 @@ fn start<B: Berth, P: Place, C: Rules, R: Wait>(
                     let Unsaid { mut child } = unsaid;
                     hands.berth.end(line, &mut child);
                     hands.unsaid = Some(EndedFeed { line, feed, child });
-                    Err(Cause::Refused(Call::Launched {
+                    Err(ProxyHalt::Refused(Call::Launched {
                         line,
                         how: Started::Done,
                     }))

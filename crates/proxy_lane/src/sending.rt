@@ -7,8 +7,9 @@ ghost use Rattle.proxy_steps.specs.Lanes.{held_of};
 ghost use Rattle.proxy_steps.specs.Steps.{OwesWrote};
 ghost use Rattle.due_frames.specs.declared.frames.Due.TheVariants.{Frame};
 ghost use Rattle.due_frames.specs.Due.{HasSources};
+ghost use Rattle.proxy_deeds.specs.Settings.{HasGroup};
 ghost use Rattle.proxy_lane.specs.Sites.{IsSite, IsDue, IsOrdered, SendsAt, ReportsWrote, Obeys};
-ghost use Rattle.proxy_lane.specs.Writing.{asks_of, due_of};
+ghost use Rattle.proxy_lane.specs.Writing.{asks_in, asks_of, due_of};
 
 use crate::hands::{action_at, is_executor};
 use crate::inputs::{inputs_of, know_digests};
@@ -16,14 +17,15 @@ use crate::site::{Request, Site};
 use core_bench::Bench;
 use core_contract::Rules;
 use due_frames::{Due, DueWork, cancel_frame, room_of, send_frame};
-use exec_journal::{Call, Written};
+use exec_journal::{Attempt, Call, Written};
 use lane_crew::Caller;
 use order_acts::{RoomFiles, give, send_line};
 use outside::{Berth, Feed, Place};
 use plain_values::NoMemory;
 use proxy_calls::tell;
-use proxy_deeds::Cause;
+use proxy_deeds::ProxyHalt;
 use proxy_steps::{Hands, OpenFeed};
+use sandbox_rooms::Room;
 use std::sync::Wait;
 
 /// For a Send: takes the inputs together, makes the room ready, and writes the request to the line.
@@ -52,7 +54,7 @@ pub(crate) fn act_send<B: Berth, P: Place, C: Rules, R: Wait>(
                 action: request.work,
                 inputs: files,
             };
-            write(site, berth, feed, &work)
+            write(site, berth, feed, request.attempt, &work)
         }
         Err(no_memory) => Err(no_memory),
     }
@@ -63,19 +65,20 @@ fn write<B: Berth, R: Wait>(
     site: &Site<'_, R>,
     berth: &mut B,
     feed: &mut B::Feed,
+    attempt: Attempt,
     work: &DueWork<'_>,
 ) -> Result<Written, NoMemory>
-    requires { HasSources work.now }
-    ensures { Writes (asks_of site.now.post.now work.now) (due_of site.now.post.now work.now) result
+    requires sources { HasSources work.now }
+    requires group { HasGroup site.now.settings.now attempt }
+    ensures { Writes (asks_of site.now attempt work.now) (due_of site.now attempt work.now) result
         (B.told berth.old) (B.told berth.new) (B.Feed.told feed.old) (B.Feed.told feed.new) }
 {
-    let post = site.post;
     let sources = work.action.inputs.as_slice();
-    if let Err(no_memory) = know_digests(site.rt, site.alloc, post.kind, sources) {
+    if let Err(no_memory) = know_digests(site.rt, site.alloc, site.speech, sources) {
         return Err(no_memory);
     }
-    let room = room_of(post.kind, work.number);
-    let due = match send_frame(site.alloc, post.speech, room, work, post.verbose) {
+    let room = room_of(site.settings.kind_of(attempt), work.number);
+    let due = match send_frame(site.alloc, site.speech, room, work, site.settings.verbose) {
         Ok(due) => due,
         Err(no_memory) => return Err(no_memory),
     };
@@ -83,26 +86,26 @@ fn write<B: Berth, R: Wait>(
         Due::TooLarge => Ok(Written::TooLarge),
         Due::Frame(frame) => {
             let bytes = frame.as_slice();
-            write_frame(site, berth, feed, work, bytes)
+            write_frame(site, berth, feed, room, work, bytes)
         }
     }
 }
 
-// Makes the room ready, where the line has one, and writes the frame.
+// Makes the room ready, where the line isn't an executor's, and writes the frame.
 fn write_frame<B: Berth, R>(
     site: &Site<'_, R>,
     berth: &mut B,
     feed: &mut B::Feed,
+    room: Room,
     work: &DueWork<'_>,
     frame: &[u8],
 ) -> Result<Written, NoMemory>
-    ensures { Writes (asks_of site.now.post.now work.now) (Frame frame.now) result
+    ensures { Writes (asks_in site.now.speech room work.now) (Frame frame.now) result
         (B.told berth.old) (B.told berth.new) (B.Feed.told feed.old) (B.Feed.told feed.new) }
 {
-    if is_executor(site.post.kind) {
+    if is_executor(site.speech) {
         return Ok(give(feed, frame));
     }
-    let room = room_of(site.post.kind, work.number);
     let outputs = work.action.outputs.as_slice();
     let files = RoomFiles {
         room,
@@ -122,9 +125,9 @@ pub(crate) fn act_cancel<D: Feed, R>(
     feed: &mut D,
     number: i32,
 ) -> Result<Written, NoMemory>
-    ensures { CancelActs site.now.post.now number result (D.told feed.old) (D.told feed.new) }
+    ensures { CancelActs site.now.speech number result (D.told feed.old) (D.told feed.new) }
 {
-    match cancel_frame(site.alloc, site.post.speech, number) {
+    match cancel_frame(site.alloc, site.speech, number) {
         Ok(frame) => {
             let bytes = frame.as_slice();
             Ok(give(feed, bytes))
@@ -144,9 +147,9 @@ pub(crate) fn send<B: Berth, P: Place, C: Rules, R: Wait>(
     hands: &mut Hands<B, B::Feed, B::Child>,
     line: u32,
     number: i32,
-    action: u32,
-) -> Result<(), Cause>
-    requires { IsOrdered C.terms site.now B.Child.told (order.Send line number action)
+    attempt: Attempt,
+) -> Result<(), ProxyHalt>
+    requires { IsOrdered C.terms site.now B.Child.told (order.Send line number attempt)
         caller.old.pass hands.old }
     ensures { Obeys site.now C.rule (held_of B.told B.Feed.told B.Child.told) result
         caller.old.pass hands.old caller.new.pass hands.new }
@@ -157,11 +160,11 @@ pub(crate) fn send<B: Berth, P: Place, C: Rules, R: Wait>(
                 line: open_line,
                 mut feed,
             } = open;
-            let work = action_at(site.actions, action);
+            let work = action_at(site.actions, attempt.action);
             let request = Request {
                 line,
                 number,
-                action,
+                attempt,
                 work,
             };
             let berth = &mut hands.berth;
@@ -187,7 +190,7 @@ pub(crate) fn cancel<B: Berth, P: Place, C: Rules, R: Wait>(
     hands: &mut Hands<B, B::Feed, B::Child>,
     line: u32,
     number: i32,
-) -> Result<(), Cause>
+) -> Result<(), ProxyHalt>
     requires { IsOrdered C.terms site.now B.Child.told (order.Cancel line number)
         caller.old.pass hands.old }
     ensures { Obeys site.now C.rule (held_of B.told B.Feed.told B.Child.told) result
@@ -217,7 +220,7 @@ fn report<B: Berth, P: Place, C: Rules, R: Wait>(
     line: u32,
     number: i32,
     wrote: Result<Written, NoMemory>,
-) -> Result<(), Cause>
+) -> Result<(), ProxyHalt>
     requires site { IsSite C.terms site.now caller.old.pass }
     requires owes { OwesWrote line number wrote (mine caller.old.pass) }
     ensures { ReportsWrote result caller.old.pass caller.new.pass line number wrote }
@@ -227,6 +230,6 @@ fn report<B: Berth, P: Place, C: Rules, R: Wait>(
             let report = Call::Wrote { line, number, how };
             tell(site.rt, caller, site.berth, report)
         }
-        Err(_) => Err(Cause::NoMemory),
+        Err(_) => Err(ProxyHalt::NoMemory),
     }
 }

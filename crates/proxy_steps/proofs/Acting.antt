@@ -18,7 +18,7 @@ use Rattle.proxy_calls.specs.Claims.{claim_of}
 use Rattle.proxy_calls.specs.Reports.{is_report}
 use Rattle.proxy_steps.specs.Steps.{OwesWrote}
 use Rattle.plain_values.specs.declared.no_memory.NoMemory.{NoMemory}
-use Rattle.run_plan.specs.Groups.{is_remote}
+use Rattle.run_plan.specs.declared.plan.Speech.{Speech}
 use Rattle.outside.specs.Launches.{IsNewChild}
 use Rattle.outside.specs.Told.{BerthTold, FeedTold, ChildTold}
 use Rattle.proxy_calls.specs.Goods.{IsChildThere}
@@ -40,15 +40,14 @@ use Rattle.due_frames.specs.declared.frames.Due.TheVariants as due
 use Rattle.due_frames.specs.Frames.{send_due, cancel_due}
 use Rattle.std.specs.Prelude.{IfOk, OnOk, IfErr, option_map}
 use Rattle.sandbox_rooms.specs.declared.room.Room.{Room}
-use Rattle.sandbox_rooms.specs.Rooms.{prepare_asks}
 use Rattle.remote_branch.specs.Jobs.{job_for}
-use Rattle.due_frames.specs.Requests.{room_for, request_for}
+use Rattle.due_frames.specs.Requests.{request_for}
 use Rattle.proxy_steps.specs.declared.hands.OpenFeed.{OpenFeed}
 use Rattle.proxy_steps.specs.Lanes.{open_of}
 use Rattle.order_acts.specs.Acts.{GivenBy, GivesFrame, Gave, Sends, ReportsLooks, FoundFits, found_as}
 use Rattle.core_contract.specs.Moves.{History}
-use Rattle.proxy_deeds.specs.declared.post.Post.{Post}
-use Rattle.proxy_deeds.specs.Deeds.{AreInputs, looks_of, looks_from, lacks, send_asks, due_for, look_asks, FoundIn}
+use Rattle.proxy_deeds.specs.Settings.{Means, speaks_remote}
+use Rattle.proxy_deeds.specs.Deeds.{AreInputs, looks_of, looks_from, lacks, send_asks, due_for, look_asks, room_at, FoundIn}
 use Rattle.proxy_deeds.specs.Told.{AreTold}
 use Rattle.proxy_deeds.proofs.Growing.{adds_none}
 use Rattle.proxy_steps.specs.Acts.{Writes, SendActs, CancelActs, IsRoomFault, GatherActs, IsAnswered}
@@ -106,13 +105,13 @@ cut_writes asks x e b f = ([], [], (tt, refl), made_none b, gave_none f)
 
 -- ---- a Send
 
-module _ (post : Post) (rule : History → ℕ → Call → Reply) (lane line : ℕ) (n : ℤ)
+module _ (means : Means) (t : Attempt) (rule : History → ℕ → Call → Reply) (lane line : ℕ) (n : ℤ)
     (action : WorkAction) (seen : History) where
   pub send_acts : (inputs : List NamedFile) (result : Result Written NoMemory) (old new : BerthTold)
       (before after : FeedTold) → AreInputs action.inputs inputs
       → AreTold rule lane seen (looks_of action.inputs inputs)
-      → Writes (send_asks post n action inputs) (due_for post n action inputs) result old new before after
-      → SendActs post rule lane line n action result seen old new before after
+      → Writes (send_asks means t n action inputs) (due_for means t n action inputs) result old new before after
+      → SendActs means t rule lane line n action result seen old new before after
   send_acts inputs (Result.Ok how) old new before after are told w = record {
     deed = record { line = line; looks = looks_of action.inputs inputs; calls = w.0; given = w.1 };
     on_line = refl;
@@ -132,7 +131,7 @@ module _ (post : Post) (rule : History → ℕ → Call → Reply) (lane line : 
 
   -- the inputs were not all there
   pub no_inputs : (e : NoMemory) (b : BerthTold) (f : FeedTold)
-      → SendActs post rule lane line n action (Result.Err e) seen b b f f
+      → SendActs means t rule lane line n action (Result.Err e) seen b b f f
   no_inputs e b f = record {
     deed = record { line = line; looks = []; calls = []; given = [] };
     on_line = refl;
@@ -144,26 +143,26 @@ module _ (post : Post) (rule : History → ℕ → Call → Reply) (lane line : 
 
 -- ---- a Cancel
 
-pub gives_cancel : (post : Post) (n : ℤ) (frame : List ℕ) (how : Written) (before after : FeedTold)
-    → frame ≡ cancel_due post.speech n → GivesFrame frame how before after
-    → CancelActs post n (Result.Ok how) before after
-gives_cancel post n frame how before after is x =
+pub gives_cancel : (speech : Speech) (n : ℤ) (frame : List ℕ) (how : Written) (before after : FeedTold)
+    → frame ≡ cancel_due speech n → GivesFrame frame how before after
+    → CancelActs speech n (Result.Ok how) before after
+gives_cancel speech n frame how before after is x =
     (x.0, subst (λ (bs : List ℕ). GivenBy bs how x.0) is x.1, x.2)
 
-pub no_cancel : (post : Post) (n : ℤ) (e : NoMemory) (f : FeedTold)
-    → CancelActs post n (Result.Err e) f f
-no_cancel post n e f = ([], refl, gave_none f)
+pub no_cancel : (speech : Speech) (n : ℤ) (e : NoMemory) (f : FeedTold)
+    → CancelActs speech n (Result.Err e) f f
+no_cancel speech n e f = ([], refl, gave_none f)
 
 -- ---- a Gather
 
-module _ (post : Post) (rule : History → ℕ → Call → Reply) (lane line : ℕ) (n : ℤ)
+module _ (means : Means) (t : Attempt) (rule : History → ℕ → Call → Reply) (lane line : ℕ) (n : ℤ)
     (action : WorkAction) (seen : History) where
   -- nothing was looked at
   pub gather_none : (f : Found) (b : BerthTold)
-      → FoundIn (is_remote post.kind) (look_asks post n action) (length action.outputs) line n f
+      → FoundIn (speaks_remote means.speech) (look_asks means t n action) (length action.outputs) line n f
       (record { line = 0; looks = []; calls = []; given = [] })
       → Made [] (IsRoomFault (Result.Ok f)) b b
-      → GatherActs post rule lane line n action (Result.Ok f) seen b b
+      → GatherActs means t rule lane line n action (Result.Ok f) seen b b
   gather_none f b found made = record {
     deed = record { line = 0; looks = []; calls = []; given = [] };
     nothing_given = refl;
@@ -173,9 +172,9 @@ module _ (post : Post) (rule : History → ℕ → Call → Reply) (lane line : 
   }
 
   -- the executor's answer was looked at
-  pub gather_answered : (result : Result Found NoMemory) (b : BerthTold) → is_remote post.kind ≡ true
+  pub gather_answered : (result : Result Found NoMemory) (b : BerthTold) → speaks_remote means.speech ≡ true
       → IfOk result (λ f. IsAnswered rule lane line n (length action.outputs) f seen)
-      → GatherActs post rule lane line n action result seen b b
+      → GatherActs means t rule lane line n action result seen b b
   gather_answered (Result.Err e) b remote x = record {
     deed = record { line = 0; looks = []; calls = []; given = [] };
     nothing_given = refl;
@@ -186,7 +185,7 @@ module _ (post : Post) (rule : History → ℕ → Call → Reply) (lane line : 
   gather_answered (Result.Ok (found.Files fs)) b remote x = record {
     deed = record { line = 0; looks = looks_from line n 0 fs; calls = []; given = [] };
     nothing_given = refl;
-    done = subst (λ (r : Bool). FoundIn r (look_asks post n action) (length action.outputs) line n
+    done = subst (λ (r : Bool). FoundIn r (look_asks means t n action) (length action.outputs) line n
         (found.Files fs) (record { line = 0; looks = looks_from line n 0 fs; calls = []; given = [] }))
         (sym remote) (refl, x.0, refl);
     told = x.1;
@@ -195,7 +194,7 @@ module _ (post : Post) (rule : History → ℕ → Call → Reply) (lane line : 
   gather_answered (Result.Ok (found.Missing k)) b remote x = record {
     deed = record { line = 0; looks = looks_from line n 0 x.1.0 ++ lacks line n k ∷ []; calls = []; given = [] };
     nothing_given = refl;
-    done = subst (λ (r : Bool). FoundIn r (look_asks post n action) (length action.outputs) line n
+    done = subst (λ (r : Bool). FoundIn r (look_asks means t n action) (length action.outputs) line n
         (found.Missing k) (record {
           line = 0;
           looks = looks_from line n 0 x.1.0 ++ lacks line n k ∷ [];
@@ -210,13 +209,13 @@ module _ (post : Post) (rule : History → ℕ → Call → Reply) (lane line : 
   gather_answered (Result.Ok found.Refused) b remote x = absurd x
 
   -- the room was looked at
-  looked_so : (g : Gathered) (old new : BerthTold) → is_remote post.kind ≡ false
-      → MakesLooks (look_asks post n action) (Result.Ok g) old new
-      → GatherActs post rule lane line n action (Result.Ok (found_as g)) seen old new
+  looked_so : (g : Gathered) (old new : BerthTold) → speaks_remote means.speech ≡ false
+      → MakesLooks (look_asks means t n action) (Result.Ok g) old new
+      → GatherActs means t rule lane line n action (Result.Ok (found_as g)) seen old new
   looked_so (gathered.Files fs) old new room x = record {
     deed = record { line = 0; looks = []; calls = x.0; given = [] };
     nothing_given = refl;
-    done = subst (λ (r : Bool). FoundIn r (look_asks post n action) (length action.outputs) line n
+    done = subst (λ (r : Bool). FoundIn r (look_asks means t n action) (length action.outputs) line n
         (found_as (gathered.Files fs)) (record { line = 0; looks = []; calls = x.0; given = [] })) (sym room)
         (refl, ((gathered.Files fs), refl, x.1, x.2));
     told = tt;
@@ -225,7 +224,7 @@ module _ (post : Post) (rule : History → ℕ → Call → Reply) (lane line : 
   looked_so (gathered.Missing k) old new room x = record {
     deed = record { line = 0; looks = []; calls = x.0; given = [] };
     nothing_given = refl;
-    done = subst (λ (r : Bool). FoundIn r (look_asks post n action) (length action.outputs) line n
+    done = subst (λ (r : Bool). FoundIn r (look_asks means t n action) (length action.outputs) line n
         (found_as (gathered.Missing k)) (record { line = 0; looks = []; calls = x.0; given = [] })) (sym room)
         (refl, ((gathered.Missing k), refl, x.1, x.2));
     told = tt;
@@ -234,7 +233,7 @@ module _ (post : Post) (rule : History → ℕ → Call → Reply) (lane line : 
   looked_so gathered.RoomFault old new room x = record {
     deed = record { line = 0; looks = []; calls = x.0; given = [] };
     nothing_given = refl;
-    done = subst (λ (r : Bool). FoundIn r (look_asks post n action) (length action.outputs) line n
+    done = subst (λ (r : Bool). FoundIn r (look_asks means t n action) (length action.outputs) line n
         (found_as gathered.RoomFault) (record { line = 0; looks = []; calls = x.0; given = [] })) (sym room)
         (refl, (gathered.RoomFault, refl, x.1, x.2));
     told = tt;
@@ -242,10 +241,10 @@ module _ (post : Post) (rule : History → ℕ → Call → Reply) (lane line : 
   }
 
   pub gather_looked : (result : Result Found NoMemory) (old new : BerthTold)
-      → is_remote post.kind ≡ false → ReportsLooks (look_asks post n action) result old new
-      → GatherActs post rule lane line n action result seen old new
+      → speaks_remote means.speech ≡ false → ReportsLooks (look_asks means t n action) result old new
+      → GatherActs means t rule lane line n action result seen old new
   gather_looked (Result.Ok f) old new room x =
-      subst (λ (y : Found). GatherActs post rule lane line n action (Result.Ok y) seen old new) (sym x.1)
+      subst (λ (y : Found). GatherActs means t rule lane line n action (Result.Ok y) seen old new) (sym x.1)
       (looked_so x.0 old new room x.2)
   gather_looked (Result.Err e) old new room x = record {
     deed = record { line = 0; looks = []; calls = x.0; given = [] };
@@ -321,28 +320,21 @@ looked_fits outputs (found.Exit c) x = absurd x
 looked_fits outputs found.RoomFault x = refl
 looked_fits outputs found.Refused x = absurd x
 
-executor_asks_ : (b : Bool) (rooms : List Asked) → b ≡ true → cond b [] rooms ≡ []
-executor_asks_ b rooms is = ap (λ (x : Bool). cond x [] rooms) is
+-- what is called for a Send: nothing for an executor, and else what is called in the room
+pub executor_asks : (speech : Speech) (rooms : List Asked) → speaks_remote speech ≡ true
+    → cond (speaks_remote speech) [] rooms ≡ []
+executor_asks speech rooms is = ap (λ (x : Bool). cond x [] rooms) is
 
-pub executor_asks : (post : Post) (n : ℤ) (action : WorkAction) (inputs : List NamedFile)
-    → is_remote post.kind ≡ true → send_asks post n action inputs ≡ []
-executor_asks post n action inputs is =
-    executor_asks_ (is_remote post.kind) (prepare_asks (room_for post.kind n) action.outputs inputs) is
+pub local_asks : (speech : Speech) (rooms : List Asked) → speaks_remote speech ≡ false
+    → cond (speaks_remote speech) [] rooms ≡ rooms
+local_asks speech rooms is = ap (λ (x : Bool). cond x [] rooms) is
 
-pub local_asks : (post : Post) (n : ℤ) (action : WorkAction) (inputs : List NamedFile) (room : Room)
-    (outputs : List (List ℕ)) → is_remote post.kind ≡ false → room ≡ room_for post.kind n
-    → outputs ≡ action.outputs
-    → send_asks post n action inputs ≡ prepare_asks room outputs inputs
-local_asks post n action inputs room outputs is of_room of_outputs =
-    ap (λ (x : Bool). cond x [] (prepare_asks (room_for post.kind n) action.outputs inputs)) is
-    ∙ (λ i. prepare_asks (sym of_room i) (sym of_outputs i) inputs)
-
-pub due_is : (post : Post) (n : ℤ) (action : WorkAction) (inputs : List NamedFile) (room : Room)
-    (x : Due) → room ≡ room_for post.kind n
-    → x ≡ send_due post.speech (request_for n action inputs post.verbose room) (job_for n action inputs)
-    → x ≡ due_for post n action inputs
-due_is post n action inputs room x of_room is = is
-    ∙ ap (λ (r : Room). send_due post.speech (request_for n action inputs post.verbose r)
+pub due_is : (means : Means) (t : Attempt) (n : ℤ) (action : WorkAction) (inputs : List NamedFile) (room : Room)
+    (x : Due) → room ≡ room_at means t n
+    → x ≡ send_due means.speech (request_for n action inputs means.settings.verbose room) (job_for n action inputs)
+    → x ≡ due_for means t n action inputs
+due_is means t n action inputs room x of_room is = is
+    ∙ ap (λ (r : Room). send_due means.speech (request_for n action inputs means.settings.verbose r)
     (job_for n action inputs)) of_room
 
 -- ---- results
@@ -379,19 +371,19 @@ none_open feed (Some x) is = absurd (cc)
 
 -- ---- what is owed after it was written
 
-pub wrote_owed : (l : ℕ) (n : ℤ) (a : ℕ) (result : Result Written NoMemory) (own own' : History)
-    → duty_of own ≡ duties.Sends l n a → own' ≡ own → OwesWrote l n result own'
-wrote_owed l n a (Result.Ok how) own own' duty is = inl (a, ap duty_of is ∙ duty)
-wrote_owed l n a (Result.Err e) own own' duty is = tt
+pub wrote_owed : (l : ℕ) (n : ℤ) (t : Attempt) (result : Result Written NoMemory) (own own' : History)
+    → duty_of own ≡ duties.Sends l n t → own' ≡ own → OwesWrote l n result own'
+wrote_owed l n t (Result.Ok how) own own' duty is = inl (t, ap duty_of is ∙ duty)
+wrote_owed l n t (Result.Err e) own own' duty is = tt
 
-pub cancel_owed : (post : Post) (n : ℤ) (l : ℕ) (result : Result Written NoMemory) (own : History)
-    (before after : FeedTold) → duty_of own ≡ Cancels l n → CancelActs post n result before after
+pub cancel_owed : (speech : Speech) (n : ℤ) (l : ℕ) (result : Result Written NoMemory) (own : History)
+    (before after : FeedTold) → duty_of own ≡ Cancels l n → CancelActs speech n result before after
     → OwesWrote l n result own
-cancel_owed post n l (Result.Ok write.Done) own before after duty x = inr (duty, refl)
-cancel_owed post n l (Result.Ok write.FeedFault) own before after duty x = inr (duty, refl)
-cancel_owed post n l (Result.Ok write.RoomFault) own before after duty x = absurd x.1
-cancel_owed post n l (Result.Ok write.TooLarge) own before after duty x = absurd x.1
-cancel_owed post n l (Result.Err e) own before after duty x = tt
+cancel_owed speech n l (Result.Ok write.Done) own before after duty x = inr (duty, refl)
+cancel_owed speech n l (Result.Ok write.FeedFault) own before after duty x = inr (duty, refl)
+cancel_owed speech n l (Result.Ok write.RoomFault) own before after duty x = absurd x.1
+cancel_owed speech n l (Result.Ok write.TooLarge) own before after duty x = absurd x.1
+cancel_owed speech n l (Result.Err e) own before after duty x = tt
 
 -- ---- children
 

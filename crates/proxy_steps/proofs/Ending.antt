@@ -11,35 +11,34 @@ use Rattle.exec_journal.specs.declared.call.Call.{Call}
 use Rattle.exec_journal.specs.declared.call.Call.TheVariants as call
 use Rattle.exec_journal.specs.declared.reply.Reply.{Reply}
 use Rattle.exec_journal.specs.declared.reply.Reply.TheVariants as reply
-use Rattle.remote_messages.specs.declared.work.WorkAction.{WorkAction}
 use Rattle.core_contract.specs.Moves.{Past, History}
 use Rattle.core_contract.specs.Shelf.{child_at}
 use Rattle.core_contract.specs.Duties.{Duty, Asks, Launches, Sends, Cancels, Gathers, Commits, Kills, Left, duty_of}
-use Rattle.proxy_deeds.specs.declared.post.Post.{Post}
-use Rattle.proxy_deeds.specs.declared.cause.Cause.{Cause}
-use Rattle.proxy_deeds.specs.declared.cause.Cause.TheVariants as cause
+use Rattle.proxy_deeds.specs.Settings.{Means}
+use Rattle.proxy_deeds.specs.declared.halt.ProxyHalt.{ProxyHalt}
+use Rattle.proxy_deeds.specs.declared.halt.ProxyHalt.TheVariants as cause
 use Rattle.proxy_deeds.specs.Deeds.{Deed, DeedOf, with_end, with_ends}
-use Rattle.proxy_deeds.specs.Lines.{Back, EndsLine, RoseBy, feed_fault, room_fault, AreBack, started_by, lines_of, listed, unsaid_by}
+use Rattle.proxy_deeds.specs.Lines.{Returned, EndsLine, RoseBy, feed_fault, room_fault, AreBack, started_by, lines_of, listed, unsaid_by}
 use Rattle.proxy_deeds.specs.Ends.{HaltsBy, lines_to_end, may_halt}
 use Rattle.proxy_deeds.proofs.Growing.{all_told_later, adds_none, with_ends_on}
 use Rattle.proxy_calls.specs.Calls.{MakesNone, MakesOne}
-use Rattle.proxy_steps.specs.Lanes.{Held, open_line, Holds, Keeps, Halting}
+use Rattle.proxy_steps.specs.Lanes.{LaneObjects, open_line, Holds, Keeps, Halting}
 use Rattle.proxy_steps.specs.Steps.{Goes, Halts, IsLaidBy, AreLaidBy, Ended}
 use Rattle.proxy_steps.proofs.Holding.{Touches, holds_ended, holds_quiet, holds_laid}
 use Rattle.proxy_steps.proofs.Keeping.{keeps_more, halting_more}
 
 -- where the lane halts it may
-pub halt_may : (post : Post) (actions : List WorkAction) (by : Cause) (s : Duty) (d : Deed)
-    → HaltsBy post actions by s d → may_halt s ≡ true
-halt_may post actions (cause.Refused c) s d x = x.0
-halt_may post actions cause.NoMemory Asks d x = refl
-halt_may post actions cause.NoMemory (Launches l) d x = refl
-halt_may post actions cause.NoMemory (Sends l n a) d x = refl
-halt_may post actions cause.NoMemory (Cancels l n) d x = refl
-halt_may post actions cause.NoMemory (Gathers l n t e r) d x = refl
-halt_may post actions cause.NoMemory (Commits a b fs) d x = absurd x.1
-halt_may post actions cause.NoMemory (Kills l) d x = refl
-halt_may post actions cause.NoMemory Left d x = absurd x.1
+pub halt_may : (means : Means) (by : ProxyHalt) (s : Duty) (d : Deed)
+    → HaltsBy means by s d → may_halt s ≡ true
+halt_may means (cause.Refused c) s d x = x.0
+halt_may means cause.NoMemory Asks d x = refl
+halt_may means cause.NoMemory (Launches l t) d x = refl
+halt_may means cause.NoMemory (Sends l n t) d x = refl
+halt_may means cause.NoMemory (Cancels l n) d x = refl
+halt_may means cause.NoMemory (Gathers l n t e r) d x = refl
+halt_may means cause.NoMemory (Commits a b fs) d x = absurd x.1
+halt_may means cause.NoMemory (Kills l) d x = refl
+halt_may means cause.NoMemory Left d x = absurd x.1
 
 abbrev pub nothing : Deed
 nothing = record { line = 0; looks = []; calls = []; given = [] }
@@ -54,10 +53,10 @@ touches_none e b none = record {
 -- ---- the open line was laid by
 
 -- before the berth has ended it
-abbrev laid : Held → Back → Held
+abbrev laid : LaneObjects → Returned → LaneObjects
 laid h back = record h { opened = None; ended = h.ended ++ back ∷ [] }
 
-laid_is : (l : ℕ) (h h' : Held) (x : IsLaidBy l h h')
+laid_is : (l : ℕ) (h h' : LaneObjects) (x : IsLaidBy l h h')
     → h' ≡ record (laid h x.back) { berth = h'.berth }
 laid_is l h h' x = λ i. record {
   berth = h'.berth;
@@ -67,14 +66,14 @@ laid_is l h h' x = λ i. record {
 }
 
 module _ (rule : History → ℕ → Call → Reply) (lane : ℕ) (own : History) (ds : List Deed)
-    (seen : History) (first : BerthTold) (h h' : Held) where
+    (seen : History) (first : BerthTold) (h h' : LaneObjects) where
   pub laid_holds : (l : ℕ) → Holds rule lane own ds seen first h → (x : IsLaidBy l h h')
       → Holds rule lane own ds seen first (laid h x.back)
   laid_holds l k x = holds_laid rule lane own ds seen first h k x.was_open x.was x.back x.is_back
 
   -- what came of all lines
   pub lines_back : Holds rule lane own ds seen first h → open_line h.opened ≡ None
-      → (halted : Option Cause) → lines_of (listed h.unsaid) ≡ unsaid_by halted
+      → (halted : Option ProxyHalt) → lines_of (listed h.unsaid) ≡ unsaid_by halted
       → AreBack own ds halted h.ended h.unsaid
   lines_back k none halted said = record {
     lines = sym (append-nil (lines_of h.ended))
@@ -86,17 +85,17 @@ module _ (rule : History → ℕ → Call → Reply) (lane : ℕ) (own : History
 
 -- every line that was open was ended, behind the last deed
 module _ (rule : History → ℕ → Call → Reply) (lane : ℕ) (own : History) (ds : List Deed) (d : Deed)
-    (seen : History) (first : BerthTold) (h h' : Held) where
+    (seen : History) (first : BerthTold) (h h' : LaneObjects) where
   pub all_laid : (o : Option ℕ) → open_line h.opened ≡ o
       → Holds rule lane own (ds ++ d ∷ []) seen first h → AreLaidBy o h h'
       → Holds rule lane own (ds ++ with_ends (listed o) d ∷ []) seen first h'
       × (open_line h'.opened ≡ None)
   all_laid None is k x = (
-    subst (λ (y : Held). Holds rule lane own (ds ++ d ∷ []) seen first y) (sym x) k,
-    ap (λ (y : Held). open_line y.opened) x ∙ is,
+    subst (λ (y : LaneObjects). Holds rule lane own (ds ++ d ∷ []) seen first y) (sym x) k,
+    ap (λ (y : LaneObjects). open_line y.opened) x ∙ is,
   )
   all_laid (Some l) is k x = (
-    subst (λ (y : Held). Holds rule lane own (ds ++ with_end l d ∷ []) seen first y)
+    subst (λ (y : LaneObjects). Holds rule lane own (ds ++ with_end l d ∷ []) seen first y)
         (sym (laid_is l h h' x))
         (holds_ended rule lane own ds d l seen first (laid h x.back)
         (laid_holds rule lane own (ds ++ d ∷ []) seen first h h' l k x) h'.berth x.by_berth),
@@ -120,59 +119,59 @@ touches_end e l old new none x = record {
   same = x.same;
 }
 
-module _ {M G Q : Type 0} {g : Ghosts M Call Reply G Q} (post : Post) (actions : List WorkAction)
-    (rule : Q → History → ℕ → Call → Reply) (p p2 : Pass M Call Reply G Q g) (h h' : Held) where
+module _ {M G Q : Type 0} {g : Ghosts M Call Reply G Q} (means : Means)
+    (rule : Q → History → ℕ → Call → Reply) (p p2 : Pass M Call Reply G Q g) (h h' : LaneObjects) where
   module _ (l : ℕ) (duty : duty_of (mine p) ≡ Kills l) (laid_by : IsLaidBy l h h') where
     said_none : (first : BerthTold)
-        (k : Keeps (rule (basis p)) p.lane post actions (mine p) (seen p) first h) → h'.unsaid ≡ None
+        (k : Keeps (rule (basis p)) p.lane means (mine p) (seen p) first h) → h'.unsaid ≡ None
     said_none first k = laid_by.rest.1 ∙ k.all_said
 
     -- behind an entry that starts no line and tells no fault
     ended_holds : (e : Past) → started_by e.call ≡ [] → ((m : ℕ) → feed_fault m e.call ≡ 0)
         → room_fault e.call ≡ 0 → StartsWith (seen p2) (seen p) → (first : BerthTold)
-        (k : Keeps (rule (basis p)) p.lane post actions (mine p) (seen p) first h)
+        (k : Keeps (rule (basis p)) p.lane means (mine p) (seen p) first h)
         → Holds (rule (basis p)) p.lane (mine p ++ e ∷ []) (k.deeds ++ end_deed l ∷ []) (seen p2)
         first h'
     ended_holds e starts feeds room more first k =
         let q = basis p in
         let d : Deed = end_deed l in
         let k' = laid_holds (rule q) p.lane (mine p) k.deeds (seen p) first h h' l k.holds laid_by in
-        subst (λ (y : Held). Holds (rule q) p.lane (mine p ++ e ∷ []) (k.deeds ++ d ∷ []) (seen p2)
+        subst (λ (y : LaneObjects). Holds (rule q) p.lane (mine p ++ e ∷ []) (k.deeds ++ d ∷ []) (seen p2)
         first y) (sym (laid_is l h h' laid_by))
         (holds_quiet (rule q) p.lane (mine p) k.deeds (seen p) first (laid h laid_by.back) k' e d
         (seen p2) more tt h'.berth (touches_end e l h.berth h'.berth room laid_by.by_berth)
         (record { starts = starts; gives = refl; feeds = feeds }))
 
-    pub kill_goes : MakesOne (call.Killed l) reply.Noted p p2 → Goes post actions rule p h p2 h'
+    pub kill_goes : MakesOne (call.Killed l) reply.Noted p p2 → Goes means rule p h p2 h'
     kill_goes told = λ first k.
         let e : Past = entry p.lane (call.Killed l) reply.Noted in
         let d : Deed = end_deed l in
-        keeps_more (rule (basis p)) p.lane post actions (mine p) (seen p) first h k (mine p2) (seen p2)
+        keeps_more (rule (basis p)) p.lane means (mine p) (seen p) first h k (mine p2) (seen p2)
         h' e d told.1
-        (subst (λ (s : Duty). DeedOf post actions s e.call d) (sym duty) (refl, refl, refl))
+        (subst (λ (s : Duty). DeedOf means s e.call d) (sym duty) (refl, refl, refl))
         (ended_holds e refl (λ m. refl) refl told.0 first k) (said_none first k)
 
-    pub kill_halts : (by : Cause) → MakesNone p p2 → by ≡ cause.Refused (call.Killed l)
-        → Halts post actions rule by p h p2 h'
+    pub kill_halts : (by : ProxyHalt) → MakesNone p p2 → by ≡ cause.Refused (call.Killed l)
+        → Halts means rule by p h p2 h'
     kill_halts by no_entry why = λ first k.
         let e : Past = entry p.lane call.Halt reply.Noted in
         let d : Deed = end_deed l in
-        halting_more (rule (basis p)) p.lane post actions (mine p) (seen p) first h k by (mine p2)
+        halting_more (rule (basis p)) p.lane means (mine p) (seen p) first h k by (mine p2)
         (seen p2) h' d no_entry.1
-        (subst (λ (x : Cause). HaltsBy post actions x (duty_of (mine p)) d) (sym why) (
+        (subst (λ (x : ProxyHalt). HaltsBy means x (duty_of (mine p)) d) (sym why) (
           ap may_halt duty,
-          subst (λ (s : Duty). DeedOf post actions s (call.Killed l) d) (sym duty) (refl, refl, refl),
+          subst (λ (s : Duty). DeedOf means s (call.Killed l) d) (sym duty) (refl, refl, refl),
         ))
         (ended_holds e refl (λ m. refl) refl no_entry.0 first k) (said_none first k)
-        (ap (λ (x : Cause). unsaid_by (Some x)) why)
+        (ap (λ (x : ProxyHalt). unsaid_by (Some x)) why)
 
   -- ---- a Halt
 
-  pub halted_ends : (by : Cause) (first : BerthTold) (o : Option ℕ)
-      → Halting (rule (basis p)) p.lane post actions by (mine p) (seen p) first h
+  pub halted_ends : (by : ProxyHalt) (first : BerthTold) (o : Option ℕ)
+      → Halting (rule (basis p)) p.lane means by (mine p) (seen p) first h
       → open_line h.opened ≡ o → child_at (p.lane / 2) (mine p) ≡ o
       → MakesOne call.Halt reply.Noted p p2 → AreLaidBy o h h'
-      → Ended post actions (rule (basis p)) p.lane (mine p2) (seen p2) first h'.berth h'.ended h'.unsaid
+      → Ended means (rule (basis p)) p.lane (mine p2) (seen p2) first h'.berth h'.ended h'.unsaid
       (Some by)
   halted_ends by first o x is at made laid_by =
       let own : History = mine p ++ entry p.lane call.Halt reply.Noted ∷ [] in
@@ -188,8 +187,8 @@ module _ {M G Q : Type 0} {g : Ghosts M Call Reply G Q} (post : Post) (actions :
       same_deed all.0 in
       let ds = x.deeds ++ done ∷ [] in
       let said : lines_of (listed h'.unsaid) ≡ unsaid =
-      ap (λ (u : Option Back). lines_of (listed u)) (same_unsaid o laid_by) ∙ x.said in
-      subst (λ (m : History). Ended post actions (rule q) p.lane m (seen p2) first h'.berth h'.ended
+      ap (λ (u : Option Returned). lines_of (listed u)) (same_unsaid o laid_by) ∙ x.said in
+      subst (λ (m : History). Ended means (rule q) p.lane m (seen p2) first h'.berth h'.ended
       h'.unsaid (Some by)) (sym made.1) (record {
         deeds = ds;
         ends = record {
@@ -207,20 +206,19 @@ module _ {M G Q : Type 0} {g : Ghosts M Call Reply G Q} (post : Post) (actions :
       })
     where
       same_unsaid : (o : Option ℕ) → AreLaidBy o h h' → h'.unsaid ≡ h.unsaid
-      same_unsaid None y = ap (λ (z : Held). z.unsaid) y
+      same_unsaid None y = ap (λ (z : LaneObjects). z.unsaid) y
       same_unsaid (Some l) y = y.rest.1
 
 -- ---- Stop
 
-pub stopped_ends : (rule : History → ℕ → Call → Reply) (lane : ℕ) (post : Post)
-    (actions : List WorkAction) (own seen : History) (first : BerthTold) (h : Held)
-    → Keeps rule lane post actions own seen first h → duty_of own ≡ Left → open_line h.opened ≡ None
-    → Ended post actions rule lane own seen first h.berth h.ended h.unsaid None
-stopped_ends rule lane post actions own seen first h k left none = record {
+pub stopped_ends : (rule : History → ℕ → Call → Reply) (lane : ℕ) (means : Means) (own seen : History) (first : BerthTold) (h : LaneObjects)
+    → Keeps rule lane means own seen first h → duty_of own ≡ Left → open_line h.opened ≡ None
+    → Ended means rule lane own seen first h.berth h.ended h.unsaid None
+stopped_ends rule lane means own seen first h k left none = record {
   deeds = k.deeds;
   ends = record { acts = k.acts; left = left };
   told = k.holds.told;
   berth = k.holds.berth;
   lines = lines_back rule lane own k.deeds seen first h h k.holds none None
-      (ap (λ (u : Option Back). lines_of (listed u)) k.all_said);
+      (ap (λ (u : Option Returned). lines_of (listed u)) k.all_said);
 }

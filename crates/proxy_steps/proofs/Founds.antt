@@ -8,7 +8,6 @@ use Rattle.seat_desk.specs.History.{entry, StartsWith}
 use Rattle.plain_values.specs.declared.no_memory.NoMemory.{NoMemory}
 use Rattle.outside.specs.Told.{BerthTold}
 use Rattle.outside.specs.declared.berth.BerthCall.{BerthCall}
-use Rattle.run_plan.specs.Groups.{is_remote}
 use Rattle.exec_journal.specs.declared.attempt.Attempt.{Attempt}
 use Rattle.exec_journal.specs.declared.call.Call.{Call}
 use Rattle.exec_journal.specs.declared.call.Call.TheVariants as call
@@ -24,9 +23,9 @@ use Rattle.sandbox_rooms.specs.Rooms.{gather_end}
 use Rattle.order_acts.specs.Acts.{found_as}
 use Rattle.core_contract.specs.Moves.{Past, History}
 use Rattle.core_contract.specs.Duties.{Duty, Gathers, duty_of}
-use Rattle.proxy_deeds.specs.declared.post.Post.{Post}
-use Rattle.proxy_deeds.specs.declared.cause.Cause.{Cause}
-use Rattle.proxy_deeds.specs.declared.cause.Cause.TheVariants as cause
+use Rattle.proxy_deeds.specs.Settings.{Means, speaks_remote}
+use Rattle.proxy_deeds.specs.declared.halt.ProxyHalt.{ProxyHalt}
+use Rattle.proxy_deeds.specs.declared.halt.ProxyHalt.TheVariants as cause
 use Rattle.proxy_deeds.specs.Deeds.{Deed, DeedOf, IsCut, FoundIn, look_asks}
 use Rattle.proxy_deeds.specs.Lines.{unsaid_by}
 use Rattle.proxy_deeds.specs.Ends.{HaltsBy, may_halt}
@@ -34,7 +33,7 @@ use Rattle.proxy_deeds.proofs.Growing.{are_told_later, adds_none}
 use Rattle.proxy_calls.specs.Calls.{MakesNone}
 use Rattle.proxy_calls.specs.Claims.{claim_of}
 use Rattle.proxy_steps.specs.Acts.{IsRoomFault, GatherDone, GatherActs}
-use Rattle.proxy_steps.specs.Lanes.{Held, Keeps}
+use Rattle.proxy_steps.specs.Lanes.{LaneObjects, Keeps}
 use Rattle.proxy_steps.specs.Steps.{Goes, Halts, HasCommitted, ClaimsFound, IsCauseOfClaim}
 use Rattle.proxy_steps.proofs.Holding.{Touches, holds_quiet}
 use Rattle.proxy_steps.proofs.Keeping.{touches_quiet, rose_one, keeps_more, halting_more}
@@ -64,20 +63,20 @@ found_cut : (remote : Bool) (asks : List Asked) (outputs l : ℕ) (n : ℤ) (fs 
 found_cut true asks outputs l n fs d x = inl x.0
 found_cut false asks outputs l n fs d x = inr (files_cut asks fs x.1.0 d.calls x.1.1 x.1.2)
 
-module _ {M G Q : Type 0} {g : Ghosts M Call Reply G Q} (post : Post) (actions : List WorkAction)
-    (rule : Q → History → ℕ → Call → Reply) (p p1 p2 : Pass M Call Reply G Q g) (h : Held) (l : ℕ)
+module _ {M G Q : Type 0} {g : Ghosts M Call Reply G Q} (means : Means)
+    (rule : Q → History → ℕ → Call → Reply) (p p1 p2 : Pass M Call Reply G Q g) (h : LaneObjects) (l : ℕ)
     (n : ℤ) (t : Attempt) (exit : ℤ) (refused : Bool)
     (duty : duty_of (mine p) ≡ Gathers l n t exit refused) (action : WorkAction)
-    (of_action : slice_get actions t.action ≡ Some action) (none : MakesNone p p1)
+    (of_action : slice_get means.actions t.action ≡ Some action) (none : MakesNone p p1)
     (lane : p1.lane ≡ p.lane) (new : BerthTold) where
-  abbrev then : Held
+  abbrev then : LaneObjects
   then = record h { berth = new }
 
   -- the deed of the Claim
-  claim_deed : (f : Found) (d : Deed) → d.given ≡ [] → GatherDone post l n action (Result.Ok f) d
-      → DeedOf post actions (duty_of (mine p)) (claim_of t f) d
+  claim_deed : (f : Found) (d : Deed) → d.given ≡ [] → GatherDone means t l n action (Result.Ok f) d
+      → DeedOf means (duty_of (mine p)) (claim_of t f) d
   claim_deed f d nothing done =
-      subst (λ (s : Duty). DeedOf post actions s (claim_of t f) d) (sym duty) (record {
+      subst (λ (s : Duty). DeedOf means s (claim_of t f) d) (sym duty) (record {
         action = action;
         of_action = of_action;
         nothing_given = nothing;
@@ -93,18 +92,18 @@ module _ {M G Q : Type 0} {g : Ghosts M Call Reply G Q} (post : Post) (actions :
   touches_claim r found.RoomFault d m =
       record { log = m.log; faults = rose_one _ h.berth.faults new.faults m.count tt; same = m.same }
 
-  module _ (first : BerthTold) (k : Keeps (rule (basis p)) p.lane post actions (mine p) (seen p) first h)
+  module _ (first : BerthTold) (k : Keeps (rule (basis p)) p.lane means (mine p) (seen p) first h)
     where
       abbrev q : Q
       q = basis p
 
       -- the Claim was made
       claimed : (f : Found) (r : Reply) (own : History)
-          → GatherActs post (rule q) p.lane l n action (Result.Ok f) (seen p1) h.berth new
+          → GatherActs means t (rule q) p.lane l n action (Result.Ok f) (seen p1) h.berth new
           → StartsWith (seen p2) (seen p1) → own ≡ mine p1 ++ entry p1.lane (claim_of t f) r ∷ []
-          → Keeps (rule q) p.lane post actions own (seen p2) first then
+          → Keeps (rule q) p.lane means own (seen p2) first then
       claimed f r own acts later made =
-          keeps_more (rule q) p.lane post actions (mine p) (seen p) first h k own (seen p2) then
+          keeps_more (rule q) p.lane means (mine p) (seen p) first h k own (seen p2) then
           (entry p.lane (claim_of t f) r) acts.deed
           (made ∙ (λ i. none.1 i ++ entry (lane i) (claim_of t f) r ∷ []))
           (claim_deed f acts.deed acts.nothing_given acts.done)
@@ -116,45 +115,45 @@ module _ {M G Q : Type 0} {g : Ghosts M Call Reply G Q} (post : Post) (actions :
           (record { starts = refl; gives = acts.nothing_given; feeds = λ m. refl })) k.all_said
 
       -- and, where files were granted, their Committed
-      committed : (f : Found) (own : History) → Keeps (rule q) p.lane post actions own (seen p2) first then
+      committed : (f : Found) (own : History) → Keeps (rule q) p.lane means own (seen p2) first then
           → HasCommitted t f p1.lane own (mine p2)
-          → Keeps (rule q) p.lane post actions (mine p2) (seen p2) first then
+          → Keeps (rule q) p.lane means (mine p2) (seen p2) first then
       committed f own k1 did =
           let e : Past = entry p.lane (call.Committed t.action t.branch did.1.0) reply.Noted in
           let d : Deed = record { line = 0; looks = []; calls = []; given = [] } in
-          keeps_more (rule q) p.lane post actions own (seen p2) first then k1 (mine p2) (seen p2) then e d
+          keeps_more (rule q) p.lane means own (seen p2) first then k1 (mine p2) (seen p2) then e d
           (did.1.1 ∙ (λ i. own ++ entry (lane i) (call.Committed t.action t.branch did.1.0) reply.Noted ∷ []))
-          (subst (λ (s : Duty). DeedOf post actions s e.call d) (sym did.0) (refl, refl, refl))
+          (subst (λ (s : Duty). DeedOf means s e.call d) (sym did.0) (refl, refl, refl))
           (holds_quiet (rule q) p.lane own k1.deeds (seen p2) first then k1.holds e d (seen p2)
           ([], sym (append-nil (seen p2))) tt new
           (record { log = adds_none new.log [] refl; faults = omega arith; same = refl })
           (record { starts = refl; gives = refl; feeds = λ m. refl })) k1.all_said
 
   pub gather_goes : (f : Found)
-      → GatherActs post (rule (basis p)) p.lane l n action (Result.Ok f) (seen p1) h.berth new
-      → ClaimsFound t f p1 p2 → Goes post actions rule p h p2 then
+      → GatherActs means t (rule (basis p)) p.lane l n action (Result.Ok f) (seen p1) h.berth new
+      → ClaimsFound t f p1 p2 → Goes means rule p h p2 then
   gather_goes f acts claims = λ first k.
       let c = claims.1 in
       let k1 = claimed first k f c.0 c.1 acts claims.0 c.2 in
       ⊎_elim
-      (λ is. subst (λ (x : History). Keeps (rule (basis p)) p.lane post actions x (seen p2) first then)
+      (λ is. subst (λ (x : History). Keeps (rule (basis p)) p.lane means x (seen p2) first then)
       (sym is) k1)
       (λ did. committed first k f c.1 k1 did) c.3
 
   -- ---- no memory
 
-  cut : (d : Deed) → d.given ≡ [] → (d.calls ≡ []) ⊎ Runs Cut (look_asks post n action) d.calls
-      → HaltsBy post actions cause.NoMemory (duty_of (mine p)) d
-  cut d nothing x = subst (λ (s : Duty). IsCut post actions s d) (sym duty)
+  cut : (d : Deed) → d.given ≡ [] → (d.calls ≡ []) ⊎ Runs Cut (look_asks means t n action) d.calls
+      → HaltsBy means cause.NoMemory (duty_of (mine p)) d
+  cut d nothing x = subst (λ (s : Duty). IsCut means s d) (sym duty)
       (nothing, ⊎_elim (λ is. inl is) (λ runs. inr (action, of_action, runs)) x)
 
-  halts : (result : Result Found NoMemory) (by : Cause)
-      → GatherActs post (rule (basis p)) p.lane l n action result (seen p1) h.berth new
-      → MakesNone p1 p2 → ((d : Deed) → d.given ≡ [] → GatherDone post l n action result d
-      → HaltsBy post actions by (duty_of (mine p)) d) → unsaid_by (Some by) ≡ []
-      → Halts post actions rule by p h p2 then
+  halts : (result : Result Found NoMemory) (by : ProxyHalt)
+      → GatherActs means t (rule (basis p)) p.lane l n action result (seen p1) h.berth new
+      → MakesNone p1 p2 → ((d : Deed) → d.given ≡ [] → GatherDone means t l n action result d
+      → HaltsBy means by (duty_of (mine p)) d) → unsaid_by (Some by) ≡ []
+      → Halts means rule by p h p2 then
   halts result by acts no_entry did not_launched = λ first k.
-      halting_more (rule (basis p)) p.lane post actions (mine p) (seen p) first h k by (mine p2) (seen p2)
+      halting_more (rule (basis p)) p.lane means (mine p) (seen p) first h k by (mine p2) (seen p2)
       then acts.deed (no_entry.1 ∙ none.1) (did acts.deed acts.nothing_given acts.done)
       (holds_quiet (rule (basis p)) p.lane (mine p) k.deeds (seen p) first h k.holds
       (entry p.lane call.Halt reply.Noted) acts.deed (seen p2)
@@ -164,21 +163,21 @@ module _ {M G Q : Type 0} {g : Ghosts M Call Reply G Q} (post : Post) (actions :
       (record { starts = refl; gives = acts.nothing_given; feeds = λ m. refl }))
       k.all_said not_launched
 
-  pub gather_cut : (e : NoMemory) → GatherActs post (rule (basis p)) p.lane l n action (Result.Err e) (seen p1) h.berth new
-      → MakesNone p1 p2 → Halts post actions rule cause.NoMemory p h p2 then
+  pub gather_cut : (e : NoMemory) → GatherActs means t (rule (basis p)) p.lane l n action (Result.Err e) (seen p1) h.berth new
+      → MakesNone p1 p2 → Halts means rule cause.NoMemory p h p2 then
   gather_cut e acts no_entry = halts (Result.Err e) cause.NoMemory acts no_entry cut refl
 
-  pub claim_halts : (f : Found) (by : Cause)
-      → GatherActs post (rule (basis p)) p.lane l n action (Result.Ok f) (seen p1) h.berth new
-      → MakesNone p1 p2 → IsCauseOfClaim t f by → Halts post actions rule by p h p2 then
+  pub claim_halts : (f : Found) (by : ProxyHalt)
+      → GatherActs means t (rule (basis p)) p.lane l n action (Result.Ok f) (seen p1) h.berth new
+      → MakesNone p1 p2 → IsCauseOfClaim t f by → Halts means rule by p h p2 then
   claim_halts f cause.NoMemory acts no_entry why = halts (Result.Ok f) cause.NoMemory acts no_entry
-      (λ d nothing done. cut d nothing (found_cut (is_remote post.kind) (look_asks post n action)
+      (λ d nothing done. cut d nothing (found_cut (speaks_remote means.speech) (look_asks means t n action)
       (length action.outputs) l n why.0 d
-      (subst (λ (x : Found). GatherDone post l n action (Result.Ok x) d) why.1 done))) refl
+      (subst (λ (x : Found). GatherDone means t l n action (Result.Ok x) d) why.1 done))) refl
   claim_halts f (cause.Refused c) acts no_entry why = halts (Result.Ok f) (cause.Refused c) acts no_entry
       (λ d nothing done. (
         ap may_halt duty,
-        subst (λ (x : Call). DeedOf post actions (duty_of (mine p)) x d) (sym why)
+        subst (λ (x : Call). DeedOf means (duty_of (mine p)) x d) (sym why)
             (claim_deed f d nothing done),
       ))
       (ap (λ (x : Call). unsaid_by (Some (cause.Refused x))) why)

@@ -12,10 +12,10 @@ use Rattle.core_contract.specs.Moves.{Past, History}
 use Rattle.core_contract.specs.Laws.{lines_in}
 use Rattle.proxy_deeds.specs.Deeds.{Deed, given_by, given_to, with_end}
 use Rattle.proxy_deeds.specs.Told.{AreTold, AllTold}
-use Rattle.proxy_deeds.specs.Lines.{started_by, started_in, room_fault, feed_fault, feed_faults, RoseBy, Back, EndsLine, IsFed, IsBack, IsKilled, IsServed, lines_of, listed}
+use Rattle.proxy_deeds.specs.Lines.{started_by, started_in, room_fault, feed_fault, feed_faults, RoseBy, Returned, EndsLine, IsFed, IsBack, IsKilled, IsServed, lines_of, listed}
 use Rattle.proxy_deeds.proofs.Growing.{all_told_later, all_told_more, started_more, served_none, served_more, given_more, feed_more, fed_more, fed_still, LeavesFeed, backs_still, leaves_all, gives_other, gives_own, told_with_end, given_with_end, served_with_end, fed_with_end, backs_with_end}
 use Rattle.proxy_calls.proofs.Askings.{lines_later}
-use Rattle.proxy_steps.specs.Lanes.{Open, Held, open_line, IsAfter, IsOpenFed, Holds}
+use Rattle.proxy_steps.specs.Lanes.{Open, LaneObjects, open_line, IsAfter, IsOpenFed, Holds}
 
 all_last : {X : Type 0} (P : X → Type 0) (xs : List X) (y : X) → All P (xs ++ y ∷ []) → P y
 all_last P [] y a = a 0 y (omega arith)
@@ -41,7 +41,7 @@ pub record IsQuiet (e : Past) (d : Deed) : Type 0 where
   pub feeds : (l : ℕ) → feed_fault l e.call ≡ 0
 
 module _ (rule : History → ℕ → Call → Reply) (lane : ℕ) (own : History) (ds : List Deed)
-    (seen : History) (first : BerthTold) (h : Held) (k : Holds rule lane own ds seen first h)
+    (seen : History) (first : BerthTold) (h : LaneObjects) (k : Holds rule lane own ds seen first h)
     (e : Past) (d : Deed) (seen' : History) (more : StartsWith seen' seen)
     (told : AreTold rule lane seen' d.looks) (new : BerthTold) (touches : Touches e d h.berth new)
   where
@@ -112,11 +112,11 @@ module _ (rule : History → ℕ → Call → Reply) (lane : ℕ) (own : History
 
       leaves_ended : All (λ x. LeavesFeed e d x.line) h.ended
       leaves_ended = λ i y lt.
-          let x : Back = slice_index_or h.ended i y in
+          let x : Returned = slice_index_or h.ended i y in
           (gives_other d o.line x.line on_line (after_open i y lt), others x.line (after_open i y lt))
 
       leaves_unsaid : All (λ x. LeavesFeed e d x.line) (listed h.unsaid)
-      leaves_unsaid = subst (λ (u : Option Back). All (λ x. LeavesFeed e d x.line) (listed u)) (sym none)
+      leaves_unsaid = subst (λ (u : Option Returned). All (λ x. LeavesFeed e d x.line) (listed u)) (sym none)
           (All-nil (λ x. LeavesFeed e d x.line))
 
       open_below : (l : ℕ) → All (λ n. n < l) (started_in own) → o.line < l
@@ -159,7 +159,7 @@ module _ (rule : History → ℕ → Call → Reply) (lane : ℕ) (own : History
 -- ---- a line that was started
 
 module _ (rule : History → ℕ → Call → Reply) (lane : ℕ) (own : History) (ds : List Deed)
-    (seen : History) (first : BerthTold) (h : Held) (k : Holds rule lane own ds seen first h)
+    (seen : History) (first : BerthTold) (h : LaneObjects) (k : Holds rule lane own ds seen first h)
     (e : Past) (d : Deed) (seen' : History) (more : StartsWith seen' seen)
     (told : AreTold rule lane seen' d.looks) (new : BerthTold) (touches : Touches e d h.berth new)
     (l : ℕ) (gives : d.given ≡ []) (feeds : (n : ℕ) → feed_fault n e.call ≡ 0)
@@ -175,9 +175,9 @@ module _ (rule : History → ℕ → Call → Reply) (lane : ℕ) (own : History
   earlier : All (λ x. x.line < l) h.ended
   earlier = of_lines h.ended (subst (λ (ls : List ℕ). All (λ n. n < l) ls) (sym all_ended) fresh)
     where
-      of_lines : (xs : List Back) → All (λ n. n < l) (lines_of xs) → All (λ (x : Back). x.line < l) xs
-      of_lines [] a = All-nil (λ (x : Back). x.line < l)
-      of_lines (x ∷ xs) a = All-cons (λ (y : Back). y.line < l) x xs (a 0 0 (omega arith))
+      of_lines : (xs : List Returned) → All (λ n. n < l) (lines_of xs) → All (λ (x : Returned). x.line < l) xs
+      of_lines [] a = All-nil (λ (x : Returned). x.line < l)
+      of_lines (x ∷ xs) a = All-cons (λ (y : Returned). y.line < l) x xs (a 0 0 (omega arith))
           (of_lines xs (λ i y lt. a (suc i) y (omega arith)))
 
   all_said : All (λ x. LeavesFeed e d x.line) (listed h.unsaid)
@@ -234,7 +234,7 @@ module _ (rule : History → ℕ → Call → Reply) (lane : ℕ) (own : History
     }
 
   -- there was no memory to report it
-  module _ (back : Back) (is_back : IsFed [] [] l back.feed × IsKilled l back.child) (of : back.line ≡ l)
+  module _ (back : Returned) (is_back : IsFed [] [] l back.feed × IsKilled l back.child) (of : back.line ≡ l)
       (starts : started_by e.call ≡ []) where
     lines_off : started_in (own ++ e ∷ []) ≡ started_in own
     lines_off = started_more own e
@@ -267,8 +267,8 @@ module _ (rule : History → ℕ → Call → Reply) (lane : ℕ) (own : History
 -- ---- the open line is laid by
 
 module _ (rule : History → ℕ → Call → Reply) (lane : ℕ) (own : History) (ds : List Deed)
-    (seen : History) (first : BerthTold) (h : Held) (k : Holds rule lane own ds seen first h)
-    (o : Open) (was : h.opened ≡ Some o) (back : Back)
+    (seen : History) (first : BerthTold) (h : LaneObjects) (k : Holds rule lane own ds seen first h)
+    (o : Open) (was : h.opened ≡ Some o) (back : Returned)
     (is : (back.line ≡ o.line) × (back.feed ≡ o.feed) × IsKilled back.line back.child) where
   back_is : IsBack own ds back
   back_is = (
@@ -288,7 +288,7 @@ module _ (rule : History → ℕ → Call → Reply) (lane : ℕ) (own : History
     unsaid = k.unsaid;
     opened = tt;
     lines = append-nil (lines_of (h.ended ++ back ∷ []))
-        ∙ (map-append (λ (x : Back). x.line) h.ended (back ∷ [])
+        ∙ (map-append (λ (x : Returned). x.line) h.ended (back ∷ [])
         ∙ ((λ i. lines_of h.ended ++ is.0 i ∷ [])
         ∙ (ap (λ (p : Option Open). lines_of h.ended ++ listed (open_line p)) (sym was) ∙ k.lines)));
     after = tt;
@@ -299,7 +299,7 @@ module _ (rule : History → ℕ → Call → Reply) (lane : ℕ) (own : History
 -- ---- a line was ended by the berth, behind the last deed
 
 module _ (rule : History → ℕ → Call → Reply) (lane : ℕ) (own : History) (ds : List Deed) (d : Deed)
-    (l : ℕ) (seen : History) (first : BerthTold) (h : Held)
+    (l : ℕ) (seen : History) (first : BerthTold) (h : LaneObjects)
     (k : Holds rule lane own (ds ++ d ∷ []) seen first h) (new : BerthTold)
     (ended : EndsLine l h.berth new) where
   abbrev after_all : List Deed

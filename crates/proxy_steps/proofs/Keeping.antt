@@ -9,18 +9,17 @@ use Rattle.exec_journal.specs.declared.call.Written.{Written}
 use Rattle.exec_journal.specs.declared.call.Written.TheVariants as write
 use Rattle.exec_journal.specs.declared.reply.Reply.{Reply}
 use Rattle.exec_journal.specs.declared.reply.Reply.TheVariants as reply
-use Rattle.remote_messages.specs.declared.work.WorkAction.{WorkAction}
 use Rattle.sandbox_rooms.specs.Calls.{Made}
 use Rattle.order_acts.specs.Acts.{IsFeedFault, RoomFailed}
 use Rattle.core_contract.specs.Moves.{Past, History}
 use Rattle.core_contract.specs.Duties.{Asks, duty_of}
-use Rattle.proxy_deeds.specs.declared.post.Post.{Post}
-use Rattle.proxy_deeds.specs.declared.cause.Cause.{Cause}
+use Rattle.proxy_deeds.specs.Settings.{Means}
+use Rattle.proxy_deeds.specs.declared.halt.ProxyHalt.{ProxyHalt}
 use Rattle.proxy_deeds.specs.Deeds.{Deed, DeedOf, Acts, with_ends}
-use Rattle.proxy_deeds.specs.Lines.{Back, RoseBy, room_fault, feed_fault, lines_of, listed, unsaid_by}
+use Rattle.proxy_deeds.specs.Lines.{Returned, RoseBy, room_fault, feed_fault, lines_of, listed, unsaid_by}
 use Rattle.proxy_deeds.specs.Ends.{HaltsBy}
 use Rattle.proxy_deeds.proofs.Growing.{acts_more}
-use Rattle.proxy_steps.specs.Lanes.{Held, Holds, Keeps, Halting}
+use Rattle.proxy_steps.specs.Lanes.{LaneObjects, Holds, Keeps, Halting}
 use Rattle.proxy_steps.proofs.Holding.{Touches}
 
 -- ---- counts
@@ -77,17 +76,17 @@ feed_other l k n write.FeedFault other = ap (λ (b : Bool). cond b 1 0) (ne_eqb 
 
 -- ---- one entry more, or a Halt
 
-module _ (rule : History → ℕ → Call → Reply) (lane : ℕ) (post : Post) (actions : List WorkAction)
-    (own seen : History) (first : BerthTold) (h : Held)
-    (k : Keeps rule lane post actions own seen first h) where
-  pub keeps_more : (own' seen' : History) (h' : Held) (e : Past) (d : Deed)
-      → own' ≡ own ++ e ∷ [] → DeedOf post actions (duty_of own) e.call d
+module _ (rule : History → ℕ → Call → Reply) (lane : ℕ) (means : Means)
+    (own seen : History) (first : BerthTold) (h : LaneObjects)
+    (k : Keeps rule lane means own seen first h) where
+  pub keeps_more : (own' seen' : History) (h' : LaneObjects) (e : Past) (d : Deed)
+      → own' ≡ own ++ e ∷ [] → DeedOf means (duty_of own) e.call d
       → Holds rule lane (own ++ e ∷ []) (k.deeds ++ d ∷ []) seen' first h' → h'.unsaid ≡ None
-      → Keeps rule lane post actions own' seen' first h'
+      → Keeps rule lane means own' seen' first h'
   keeps_more own' seen' h' e d is did holds said = record {
     deeds = k.deeds ++ d ∷ [];
-    acts = subst (λ (x : History). Acts post actions Asks x (k.deeds ++ d ∷ [])) (sym is)
-        (acts_more post actions Asks own k.deeds e d k.acts did);
+    acts = subst (λ (x : History). Acts means Asks x (k.deeds ++ d ∷ [])) (sym is)
+        (acts_more means Asks own k.deeds e d k.acts did);
     holds = subst (λ (x : History). Holds rule lane x (k.deeds ++ d ∷ []) seen' first h') (sym is) holds;
     all_said = said;
   }
@@ -96,16 +95,16 @@ module _ (rule : History → ℕ → Call → Reply) (lane : ℕ) (post : Post) 
   halt = entry lane call.Halt reply.Noted
 
   -- with these lines ended, which couldn't be reported
-  pub halting_with : (cause : Cause) (own' seen' : History) (h' : Held) (d : Deed) (ls : List ℕ)
-      → own' ≡ own → HaltsBy post actions cause (duty_of own) d
+  pub halting_with : (cause : ProxyHalt) (own' seen' : History) (h' : LaneObjects) (d : Deed) (ls : List ℕ)
+      → own' ≡ own → HaltsBy means cause (duty_of own) d
       → Holds rule lane (own ++ halt ∷ []) (k.deeds ++ with_ends ls d ∷ []) seen' first h'
       → lines_of (listed h'.unsaid) ≡ ls → unsaid_by (Some cause) ≡ ls
-      → Halting rule lane post actions cause own' seen' first h'
+      → Halting rule lane means cause own' seen' first h'
   halting_with cause own' seen' h' d ls is by holds said why = record {
     deeds = k.deeds;
     last = d;
-    acts = subst (λ (x : History). Acts post actions Asks x k.deeds) (sym is) k.acts;
-    halts = subst (λ (x : History). HaltsBy post actions cause (duty_of x) d) (sym is) by;
+    acts = subst (λ (x : History). Acts means Asks x k.deeds) (sym is) k.acts;
+    halts = subst (λ (x : History). HaltsBy means cause (duty_of x) d) (sym is) by;
     holds = subst (λ (x : History). Holds rule lane (x ++ halt ∷ [])
         (k.deeds ++ with_ends (unsaid_by (Some cause)) d ∷ []) seen' first h') (sym is)
         (subst (λ (ms : List ℕ). Holds rule lane (own ++ halt ∷ []) (k.deeds ++ with_ends ms d ∷ [])
@@ -114,11 +113,11 @@ module _ (rule : History → ℕ → Call → Reply) (lane : ℕ) (post : Post) 
   }
 
   -- with none
-  pub halting_more : (cause : Cause) (own' seen' : History) (h' : Held) (d : Deed) → own' ≡ own
-      → HaltsBy post actions cause (duty_of own) d
+  pub halting_more : (cause : ProxyHalt) (own' seen' : History) (h' : LaneObjects) (d : Deed) → own' ≡ own
+      → HaltsBy means cause (duty_of own) d
       → Holds rule lane (own ++ halt ∷ []) (k.deeds ++ d ∷ []) seen' first h'
       → h'.unsaid ≡ None → unsaid_by (Some cause) ≡ []
-      → Halting rule lane post actions cause own' seen' first h'
+      → Halting rule lane means cause own' seen' first h'
   halting_more cause own' seen' h' d is by holds none why =
       halting_with cause own' seen' h' d [] is by holds
-      (ap (λ (u : Option Back). lines_of (listed u)) none) why
+      (ap (λ (u : Option Returned). lines_of (listed u)) none) why

@@ -1,24 +1,26 @@
 -- One round: an Ask, and what holds where the lane is ordered so.
-use Rattle.std.proofs.Common.{◌≡◌, ℕ, ◌<◌, ◌≤◌, List, Option, Some, None, refl, ap, sym, subst, ◌∙◌, append-nil, arith}
+use Rattle.std.proofs.Common.{◌≡◌, ℕ, ◌<◌, ◌≤◌, Bool, List, length, Option, Some, None, refl, ap, sym, subst, ◌∙◌, append-nil, arith}
 use Rattle.std.specs.Prelude.{All}
 use Rattle.seat_desk.specs.declared.machine.Machine.{Ghosts}
 use Rattle.seat_desk.specs.declared.desk.Pass.{Pass}
 use Rattle.seat_desk.specs.Passes.{mine, basis, seen}
 use Rattle.seat_desk.specs.History.{entry}
 use Rattle.outside.specs.Told.{ChildTold}
-use Rattle.run_plan.specs.declared.plan.Branch.{Branch}
+use Rattle.run_plan.specs.declared.plan.Plan.{Plan}
+use Rattle.exec_journal.specs.declared.attempt.Attempt.{Attempt}
 use Rattle.exec_journal.specs.declared.call.Call.{Call}
 use Rattle.exec_journal.specs.declared.call.Call.TheVariants as call
 use Rattle.exec_journal.specs.declared.reply.Reply.{Reply}
 use Rattle.exec_journal.specs.declared.reply.Reply.TheVariants as reply
-use Rattle.remote_messages.specs.declared.work.WorkAction.{WorkAction}
+use Rattle.exec_journal.specs.Seated.{group_for}
 use Rattle.core_contract.specs.Terms.{Terms}
 use Rattle.core_contract.specs.Moves.{Past, History, ask_moves}
 use Rattle.core_contract.specs.Shelf.{child_at, child_by}
-use Rattle.core_contract.specs.Laws.{OrderHolds, lines_in}
+use Rattle.core_contract.specs.Laws.{RunsOn, OrderFits, OrderHolds, lines_in}
 use Rattle.core_contract.specs.Duties.{Duty, Asks, Launches, Left, duty_by, duty_of, proxy_lane}
-use Rattle.proxy_deeds.specs.declared.post.Post.{Post}
-use Rattle.proxy_deeds.specs.declared.cause.Cause.TheVariants as cause
+use Rattle.proxy_deeds.specs.declared.settings.Settings.{Settings}
+use Rattle.proxy_deeds.specs.Settings.{AreOfPlan, HasGroup, Means}
+use Rattle.proxy_deeds.specs.declared.halt.ProxyHalt.TheVariants as cause
 use Rattle.proxy_deeds.specs.Deeds.{DeedOf}
 use Rattle.proxy_deeds.specs.Lines.{started_in}
 use Rattle.proxy_deeds.specs.Ends.{HaltsBy}
@@ -28,32 +30,42 @@ use Rattle.proxy_calls.specs.declared.asking.Order.TheVariants as order
 use Rattle.proxy_calls.specs.Calls.{MakesNone, MakesOne}
 use Rattle.proxy_calls.specs.Orders.{lines_with, HasAsked}
 use Rattle.proxy_calls.proofs.Entries.{duty_more}
-use Rattle.proxy_steps.specs.Lanes.{Held}
+use Rattle.proxy_steps.specs.Lanes.{LaneObjects}
 use Rattle.proxy_steps.specs.Steps.{Goes, Halts, IsShelved, IsNewLine, MayObey}
 use Rattle.proxy_steps.proofs.Holding.{holds_quiet}
 use Rattle.proxy_steps.proofs.Keeping.{keeps_more, halting_more}
 use Rattle.proxy_steps.proofs.Shelving.{child_more}
 use Rattle.proxy_steps.proofs.Ending.{nothing, touches_none}
 
-module _ {M G Q : Type 0} {g : Ghosts M Call Reply G Q} (post : Post) (actions : List WorkAction)
-    (rule : Q → History → ℕ → Call → Reply) (p p1 : Pass M Call Reply G Q g) (h : Held)
+-- where the settings are of the plan, a group of the plan has a command
+has_group : (plan : Plan) (remote : Bool) (settings : Settings) (t : Attempt) → AreOfPlan plan settings
+    → RunsOn plan remote t → HasGroup settings t
+has_group plan remote settings t of_plan runs = record {
+  group = runs.group;
+  of_branch = ap (λ (q : Plan). group_for q t) of_plan.same ∙ runs.of_branch;
+  there = subst (λ (q : Plan). runs.group < length q.groups) (sym of_plan.same) runs.there;
+  commanded = subst (λ (n : ℕ). runs.group < n) (sym of_plan.as_many) runs.there;
+}
+
+module _ {M G Q : Type 0} {g : Ghosts M Call Reply G Q} (means : Means)
+    (rule : Q → History → ℕ → Call → Reply) (p p1 : Pass M Call Reply G Q g) (h : LaneObjects)
     (asks : duty_of (mine p) ≡ Asks) where
-  pub ask_goes : (r : Reply) → MakesOne call.Ask r p p1 → Goes post actions rule p h p1 h
+  pub ask_goes : (r : Reply) → MakesOne call.Ask r p p1 → Goes means rule p h p1 h
   ask_goes r made = λ first k.
       let e : Past = entry p.lane call.Ask r in
-      keeps_more (rule (basis p)) p.lane post actions (mine p) (seen p) first h k (mine p1) (seen p1) h e
-      nothing made.1 (subst (λ (s : Duty). DeedOf post actions s call.Ask nothing) (sym asks)
+      keeps_more (rule (basis p)) p.lane means (mine p) (seen p) first h k (mine p1) (seen p1) h e
+      nothing made.1 (subst (λ (s : Duty). DeedOf means s call.Ask nothing) (sym asks)
       (refl, refl, refl))
       (holds_quiet (rule (basis p)) p.lane (mine p) k.deeds (seen p) first h k.holds e nothing (seen p1)
       made.0 tt h.berth (touches_none e h.berth refl)
       (record { starts = refl; gives = refl; feeds = λ m. refl })) k.all_said
 
-  pub ask_halts : MakesNone p p1 → Halts post actions rule (cause.Refused call.Ask) p h p1 h
+  pub ask_halts : MakesNone p p1 → Halts means rule (cause.Refused call.Ask) p h p1 h
   ask_halts no_entry = λ first k.
       let e : Past = entry p.lane call.Halt reply.Noted in
-      halting_more (rule (basis p)) p.lane post actions (mine p) (seen p) first h k
+      halting_more (rule (basis p)) p.lane means (mine p) (seen p) first h k
       (cause.Refused call.Ask) (mine p1) (seen p1) h nothing no_entry.1
-      (subst (λ (s : Duty). HaltsBy post actions (cause.Refused call.Ask) s nothing) (sym asks)
+      (subst (λ (s : Duty). HaltsBy means (cause.Refused call.Ask) s nothing) (sym asks)
       (refl, (refl, refl, refl)))
       (holds_quiet (rule (basis p)) p.lane (mine p) k.deeds (seen p) first h k.holds e nothing (seen p1)
       no_entry.0 tt h.berth (touches_none e h.berth refl)
@@ -79,11 +91,13 @@ module _ {M G Q : Type 0} {g : Ghosts M Call Reply G Q} (post : Post) (actions :
       same_started = ap started_in made.1 ∙ (started_more (mine p) (entry p.lane call.Ask r)
           ∙ append-nil (started_in (mine p)))
 
-    by_launch : (r : Reply) (l a : ℕ) (b : Branch) (t lines : ℕ) → r ≡ reply.Launch l a b t
+    by_launch : (r : Reply) (l : ℕ) (t : Attempt) (lines : ℕ)
+        → HasGroup means.settings t → r ≡ reply.Launch l t.action t.branch t.number
         → MakesOne call.Ask r p p1 → OrderHolds (terms (basis p)).actions (child_at w (mine p)) lines r
         → lines_in (seen p) ≤ lines → lines_in (seen p1) ≡ lines_with r lines
-        → (duty_of (mine p1) ≡ Launches l) × (opened ≡ None) × IsShelved w p1 opened × IsNewLine l p1
-    by_launch r l a b t lines is made holds later then =
+        → (duty_of (mine p1) ≡ Launches l t) × (opened ≡ None) × IsShelved w p1 opened × IsNewLine l p1
+        × HasGroup means.settings t
+    by_launch r l t lines group is made holds later then =
         let so = subst (λ (x : Reply). OrderHolds (terms (basis p)).actions (child_at w (mine p)) lines x) is holds in
         let more = then ∙ ap (λ (x : Reply). lines_with x lines) is in
         let first : l ≡ lines = so.0 in (
@@ -95,35 +109,50 @@ module _ {M G Q : Type 0} {g : Ghosts M Call Reply G Q} (post : Post) (actions :
                 (λ i d lt. let b = below i d lt in omega arith),
             omega arith,
           ),
+          group,
         )
 
-    pub may_obey : (o : Order K) → HasAsked terms told w (Some o) p p1
-        → MayObey (terms (basis p)).actions told w o p1 opened
-    may_obey (order.Launch l) x = by_launch x.reply l x.is_ordered.0 x.is_ordered.1 x.is_ordered.2 x.lines
-        x.is_ordered.3 x.made x.holds x.later x.lines_then
-    may_obey (order.Send l n a) x =
-        let is = x.is_ordered.2 in
+    abbrev FitsHere : Reply → Type 0
+    FitsHere r = OrderFits (terms (basis p)).plan ((terms (basis p)).remote w) r
+
+    -- the attempt's group has a command
+    group_of_it : AreOfPlan (terms (basis p)).plan means.settings → (t : Attempt)
+        → RunsOn (terms (basis p)).plan ((terms (basis p)).remote w) t → HasGroup means.settings t
+    group_of_it of_plan t runs =
+        has_group (terms (basis p)).plan ((terms (basis p)).remote w) means.settings t of_plan runs
+
+    pub may_obey : length means.actions ≡ (terms (basis p)).actions
+        → AreOfPlan (terms (basis p)).plan means.settings → (o : Order K)
+        → HasAsked terms told w (Some o) p p1 → MayObey means told w o p1 opened
+    may_obey as_many of_plan (order.Launch l t) x =
+        by_launch x.reply l t x.lines
+        (group_of_it of_plan t (subst FitsHere x.is_ordered x.fits)) x.is_ordered x.made x.holds
+        x.later x.lines_then
+    may_obey as_many of_plan (order.Send l n t) x =
+        let is = x.is_ordered in
         let so = subst (λ (y : Reply). OrderHolds (terms (basis p)).actions (child_at w (mine p)) x.lines y) is x.holds in (
           duty_is x.reply x.made ∙ ap (duty_by Asks call.Ask) is,
           sym shelved ∙ so.1,
           child_is x.reply x.made ∙ ap (λ (y : Reply). child_by opened (ask_moves y)) is,
-          so.0,
+          subst (λ (n : ℕ). t.action < n) (sym as_many) so.0,
+          group_of_it of_plan t (subst FitsHere is x.fits),
         )
-    may_obey (order.Cancel l n) x =
+    may_obey as_many of_plan (order.Cancel l n) x =
         let is = x.is_ordered in
         let so = subst (λ (y : Reply). OrderHolds (terms (basis p)).actions (child_at w (mine p)) x.lines y) is x.holds in (
           duty_is x.reply x.made ∙ ap (duty_by Asks call.Ask) is,
           sym shelved ∙ so,
           child_is x.reply x.made ∙ ap (λ (y : Reply). child_by opened (ask_moves y)) is,
         )
-    may_obey (order.Gather y) x =
+    may_obey as_many of_plan (order.Gather y) x =
         let is = x.is_ordered in
         let so = subst (λ (y : Reply). OrderHolds (terms (basis p)).actions (child_at w (mine p)) x.lines y) is x.holds in (
           duty_is x.reply x.made ∙ ap (duty_by Asks call.Ask) is,
           child_is x.reply x.made ∙ ap (λ (y : Reply). child_by opened (ask_moves y)) is,
-          so,
+          subst (λ (n : ℕ). y.attempt.action < n) (sym as_many) so,
+          group_of_it of_plan y.attempt (subst FitsHere is x.fits),
         )
-    may_obey (order.Kill l k) x =
+    may_obey as_many of_plan (order.Kill l k) x =
         let is = x.is_ordered.0.1 in
         let so = subst (λ (y : Reply). OrderHolds (terms (basis p)).actions (child_at w (mine p)) x.lines y) is x.holds in (
           duty_is x.reply x.made ∙ ap (duty_by Asks call.Ask) is,

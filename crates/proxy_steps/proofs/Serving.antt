@@ -1,5 +1,5 @@
 -- Round after round, to the lane's end.
-use Rattle.std.proofs.Common.{◌≡◌, ℕ, ◌/◌, List, [], Option, Some, None, vec_len, vec_capacity, ◌<◌, refl, ap, sym, subst, ◌∙◌, arith}
+use Rattle.std.proofs.Common.{◌≡◌, ℕ, ◌/◌, [], Option, Some, None, vec_len, vec_capacity, ◌<◌, refl, ap, sym, subst, ◌∙◌, arith}
 use Rattle.std.specs.Prelude.{true}
 use Rattle.seat_desk.specs.declared.machine.Machine.{Ghosts}
 use Rattle.seat_desk.specs.declared.desk.Pass.{Pass}
@@ -9,23 +9,22 @@ use Rattle.exec_journal.specs.declared.call.Call.{Call}
 use Rattle.exec_journal.specs.declared.call.Call.TheVariants as call
 use Rattle.exec_journal.specs.declared.reply.Reply.{Reply}
 use Rattle.exec_journal.specs.declared.reply.Reply.TheVariants as reply
-use Rattle.remote_messages.specs.declared.work.WorkAction.{WorkAction}
 use Rattle.core_contract.specs.Terms.{Terms}
 use Rattle.core_contract.specs.Moves.{History}
 use Rattle.core_contract.specs.Shelf.{child_at}
 use Rattle.core_contract.specs.Duties.{Left, duty_of}
-use Rattle.proxy_deeds.specs.declared.post.Post.{Post}
-use Rattle.proxy_deeds.specs.declared.cause.Cause.{Cause}
+use Rattle.proxy_deeds.specs.Settings.{Means}
+use Rattle.proxy_deeds.specs.declared.halt.ProxyHalt.{ProxyHalt}
 use Rattle.proxy_deeds.specs.Ends.{may_halt}
 use Rattle.proxy_calls.specs.Calls.{MakesOne, IsProxyOf}
 use Rattle.proxy_steps.specs.declared.hands.Hands.{Hands}
-use Rattle.proxy_steps.specs.Lanes.{Held, open_line, Keeps, Halting}
+use Rattle.proxy_steps.specs.Lanes.{LaneObjects, open_line, Keeps, Halting}
 use Rattle.proxy_steps.specs.Steps.{open_in, HasRoom, IsShelved, SameShelf, Goes, SomeKeeps, Halts, AreLaidBy, Ended, Finishes, IsServedBy}
 use Rattle.proxy_steps.proofs.Holding.{holds_first}
 use Rattle.proxy_steps.proofs.Ending.{halt_may, halted_ends, stopped_ends}
 
-module _ {M G Q : Type 0} {g : Ghosts M Call Reply G Q} (post : Post) (actions : List WorkAction)
-    (rule : Q → History → ℕ → Call → Reply) (p p1 p2 : Pass M Call Reply G Q g) (h h1 h2 : Held)
+module _ {M G Q : Type 0} {g : Ghosts M Call Reply G Q} (means : Means)
+    (rule : Q → History → ℕ → Call → Reply) (p p1 p2 : Pass M Call Reply G Q g) (h h1 h2 : LaneObjects)
     (same : IsSamePass p p1) where
   -- what is said by the rules and the lane of the one pass is said by those of the other
   to_first : (F : (History → ℕ → Call → Reply) → ℕ → Type 0) → F (rule (basis p1)) p1.lane
@@ -37,53 +36,52 @@ module _ {M G Q : Type 0} {g : Ghosts M Call Reply G Q} (post : Post) (actions :
   to_second F x = subst (λ (n : ℕ). F (rule (basis p1)) n) (sym same.1)
       (subst (λ (q : Q). F (rule q) p.lane) (sym same.2) x)
 
-  pub goes_on : Goes post actions rule p h p1 h1 → Goes post actions rule p1 h1 p2 h2
-      → Goes post actions rule p h p2 h2
-  goes_on x y = λ first k. to_first (λ r n. Keeps r n post actions (mine p2) (seen p2) first h2)
-      (y first (to_second (λ r n. Keeps r n post actions (mine p1) (seen p1) first h1) (x first k)))
+  pub goes_on : Goes means rule p h p1 h1 → Goes means rule p1 h1 p2 h2
+      → Goes means rule p h p2 h2
+  goes_on x y = λ first k. to_first (λ r n. Keeps r n means (mine p2) (seen p2) first h2)
+      (y first (to_second (λ r n. Keeps r n means (mine p1) (seen p1) first h1) (x first k)))
 
-  pub halts_on : (by : Cause) → Goes post actions rule p h p1 h1 → Halts post actions rule by p1 h1 p2 h2
-      → Halts post actions rule by p h p2 h2
+  pub halts_on : (by : ProxyHalt) → Goes means rule p h p1 h1 → Halts means rule by p1 h1 p2 h2
+      → Halts means rule by p h p2 h2
   halts_on by x y = λ first k.
-      to_first (λ r n. Halting r n post actions by (mine p2) (seen p2) first h2)
-      (y first (to_second (λ r n. Keeps r n post actions (mine p1) (seen p1) first h1) (x first k)))
+      to_first (λ r n. Halting r n means by (mine p2) (seen p2) first h2)
+      (y first (to_second (λ r n. Keeps r n means (mine p1) (seen p1) first h1) (x first k)))
 
-  pub some_on : SomeKeeps post actions rule p h → Goes post actions rule p h p1 h1
-      → SomeKeeps post actions rule p1 h1
+  pub some_on : SomeKeeps means rule p h → Goes means rule p h p1 h1
+      → SomeKeeps means rule p1 h1
   some_on s x = (
     s.0,
-    to_second (λ r n. Keeps r n post actions (mine p1) (seen p1) s.0 h1) (x s.0 s.1),
+    to_second (λ r n. Keeps r n means (mine p1) (seen p1) s.0 h1) (x s.0 s.1),
   )
 
   -- ---- ends
 
-  pub ends_halted : (by : Cause) (o : Option ℕ) → Halts post actions rule by p h p1 h1
+  pub ends_halted : (by : ProxyHalt) (o : Option ℕ) → Halts means rule by p h p1 h1
       → open_line h1.opened ≡ o → child_at (p1.lane / 2) (mine p1) ≡ o
       → MakesOne call.Halt reply.Noted p1 p2 → AreLaidBy o h1 h2
-      → Finishes post actions rule (Some by) p h p2 h2
+      → Finishes means rule (Some by) p h p2 h2
   ends_halted by o x is at made laid = λ first k.
-      to_first (λ r n. Ended post actions r n (mine p2) (seen p2) first h2.berth h2.ended h2.unsaid (Some by))
-      (halted_ends post actions rule p1 p2 h1 h2 by first o
-      (to_second (λ r n. Halting r n post actions by (mine p1) (seen p1) first h1) (x first k)) is at made laid)
+      to_first (λ r n. Ended means r n (mine p2) (seen p2) first h2.berth h2.ended h2.unsaid (Some by))
+      (halted_ends means rule p1 p2 h1 h2 by first o
+      (to_second (λ r n. Halting r n means by (mine p1) (seen p1) first h1) (x first k)) is at made laid)
 
-  pub ends_stopped : Goes post actions rule p h p1 h1 → duty_of (mine p1) ≡ Left → h1.opened ≡ None
-      → Finishes post actions rule None p h p1 h1
+  pub ends_stopped : Goes means rule p h p1 h1 → duty_of (mine p1) ≡ Left → h1.opened ≡ None
+      → Finishes means rule None p h p1 h1
   ends_stopped x left none = λ first k.
-      stopped_ends (rule (basis p)) p.lane post actions (mine p1) (seen p1) first h1 (x first k) left
+      stopped_ends (rule (basis p)) p.lane means (mine p1) (seen p1) first h1 (x first k) left
       (ap open_line none)
 
-  pub halts_may : (by : Cause) → SomeKeeps post actions rule p h → Halts post actions rule by p h p1 h1
+  pub halts_may : (by : ProxyHalt) → SomeKeeps means rule p h → Halts means rule by p h p1 h1
       → may_halt (duty_of (mine p1)) ≡ true
-  halts_may by s x = let y = x s.0 s.1 in halt_may post actions by (duty_of (mine p1)) y.last y.halts
+  halts_may by s x = let y = x s.0 s.1 in halt_may means by (duty_of (mine p1)) y.last y.halts
 
 -- before the lane's first call
-pub first_keeps : {M G Q : Type 0} {g : Ghosts M Call Reply G Q} (post : Post)
-    (actions : List WorkAction) (rule : Q → History → ℕ → Call → Reply)
+pub first_keeps : {M G Q : Type 0} {g : Ghosts M Call Reply G Q} (means : Means) (rule : Q → History → ℕ → Call → Reply)
     (p : Pass M Call Reply G Q g) (b : BerthTold) → mine p ≡ []
-    → Keeps (rule (basis p)) p.lane post actions (mine p) (seen p) b
+    → Keeps (rule (basis p)) p.lane means (mine p) (seen p) b
     (record { berth = b; opened = None; ended = []; unsaid = None })
-first_keeps post actions rule p b fresh =
-    subst (λ (own : History). Keeps (rule (basis p)) p.lane post actions own (seen p) b
+first_keeps means rule p b fresh =
+    subst (λ (own : History). Keeps (rule (basis p)) p.lane means own (seen p) b
     (record { berth = b; opened = None; ended = []; unsaid = None })) (sym fresh) (record {
       deeds = [];
       acts = refl;
@@ -92,16 +90,15 @@ first_keeps post actions rule p b fresh =
     })
 
 -- after its last
-pub served_by : {M G Q : Type 0} {g : Ghosts M Call Reply G Q} (post : Post)
-    (actions : List WorkAction) (rule : Q → History → ℕ → Call → Reply)
-    (p p2 : Pass M Call Reply G Q g) (b : BerthTold) (h2 : Held) (halted : Option Cause)
+pub served_by : {M G Q : Type 0} {g : Ghosts M Call Reply G Q} (means : Means) (rule : Q → History → ℕ → Call → Reply)
+    (p p2 : Pass M Call Reply G Q g) (b : BerthTold) (h2 : LaneObjects) (halted : Option ProxyHalt)
     → IsSamePass p p2 → mine p ≡ []
-    → Finishes post actions rule halted p (record { berth = b; opened = None; ended = []; unsaid = None })
-    p2 h2 → IsServedBy post actions rule b h2.berth h2.ended h2.unsaid halted p2
-served_by post actions rule p p2 b h2 halted same fresh x =
-    to_second post actions rule p p2 p2 h2 h2 h2 same
-    (λ r n. Ended post actions r n (mine p2) (seen p2) b h2.berth h2.ended h2.unsaid halted)
-    (x b (first_keeps post actions rule p b fresh))
+    → Finishes means rule halted p (record { berth = b; opened = None; ended = []; unsaid = None })
+    p2 h2 → IsServedBy means rule b h2.berth h2.ended h2.unsaid halted p2
+served_by means rule p p2 b h2 halted same fresh x =
+    to_second means rule p p2 p2 h2 h2 h2 same
+    (λ r n. Ended means r n (mine p2) (seen p2) b h2.berth h2.ended h2.unsaid halted)
+    (x b (first_keeps means rule p b fresh))
 
 -- ---- what lies on the shelf, and the room for the open line
 

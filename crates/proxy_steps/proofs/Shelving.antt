@@ -13,7 +13,7 @@ use Rattle.exec_journal.specs.declared.attempt.Attempt.{Attempt}
 use Rattle.exec_journal.specs.declared.call.Found.{Found}
 use Rattle.exec_journal.specs.declared.call.Found.TheVariants as found
 use Rattle.proxy_calls.specs.Claims.{claim_of}
-use Rattle.proxy_deeds.specs.declared.cause.Cause.{Cause}
+use Rattle.proxy_deeds.specs.declared.halt.ProxyHalt.{ProxyHalt}
 use Rattle.proxy_calls.specs.Calls.{MakesNone}
 use Rattle.proxy_calls.specs.Reports.{Told}
 use Rattle.proxy_steps.specs.Steps.{TellsWrote, IsCauseOf, ClaimsFound}
@@ -44,7 +44,7 @@ at_half w p o is at =
 
 -- a report of what was written leaves it
 pub wrote_shelved : {M G Q A : Type 0} {g : Ghosts M Call Reply G Q} (w l : ℕ) (n : ℤ)
-    (wrote : Result Written NoMemory) (p p1 p2 : Pass M Call Reply G Q g) (r : Result A Cause)
+    (wrote : Result Written NoMemory) (p p1 p2 : Pass M Call Reply G Q g) (r : Result A ProxyHalt)
     → p.lane ≡ proxy_lane w → MakesNone p p1 → p1.lane ≡ p.lane
     → OnOk r ((duty_of (mine p2) ≡ Asks) × TellsWrote l n wrote p1 p2)
     → IfErr r (λ by. MakesNone p1 p2 × IsCauseOf l n wrote by)
@@ -58,7 +58,7 @@ wrote_shelved w l n wrote p p1 p2 (Result.Err by) is none lane told refused =
 
 -- so does a report by which nothing is moved
 pub told_shelved : {M G Q A : Type 0} {g : Ghosts M Call Reply G Q} (w : ℕ) (c : Call)
-    (p p2 : Pass M Call Reply G Q g) (r : Result A Cause) → p.lane ≡ proxy_lane w
+    (p p2 : Pass M Call Reply G Q g) (r : Result A ProxyHalt) → p.lane ≡ proxy_lane w
     → ((o : Option ℕ) → child_by o (proxy_move c reply.Noted) ≡ o) → Told c r p p2
     → child_at w (mine p2) ≡ child_at w (mine p)
 told_shelved w c p p2 (Result.Ok u) is still told =

@@ -1,7 +1,8 @@
 -- What is done outside for an order, before it is reported.
 use Rattle.std.specs.Prelude.{◌≡◌, ◌⊎◌, ◌<◌, ℕ, ℤ, List, [], ◌∷◌, ◌++◌, length, Result, Ok, Err}
 use Rattle.plain_values.specs.declared.no_memory.NoMemory.{NoMemory}
-use Rattle.run_plan.specs.Groups.{is_remote}
+use Rattle.run_plan.specs.declared.plan.Speech.{Speech}
+use Rattle.exec_journal.specs.declared.attempt.Attempt.{Attempt}
 use Rattle.exec_journal.specs.declared.call.Call.{Call}
 use Rattle.exec_journal.specs.declared.call.Written.{Written}
 use Rattle.exec_journal.specs.declared.call.Found.{Found}
@@ -16,11 +17,11 @@ use Rattle.due_frames.specs.declared.frames.Due.{Due}
 use Rattle.due_frames.specs.Frames.{cancel_due}
 use Rattle.order_acts.specs.Acts.{GivenBy, Gave, RoomFailed, FeedFailed}
 use Rattle.core_contract.specs.Moves.{History}
-use Rattle.proxy_deeds.specs.declared.post.Post.{Post}
+use Rattle.proxy_deeds.specs.Settings.{Means, speaks_remote}
 use Rattle.proxy_deeds.specs.Deeds.{Deed, AreInputs, looks_of, looks_from, lacks, SentAs, FoundIn, send_asks, due_for, look_asks}
 use Rattle.proxy_deeds.specs.Told.{AreTold}
 
--- what was called and given, by what is reported; where memory was wanted, nothing failed
+-- what was called and given, by what is reported; where memory ran out, nothing failed
 abbrev pub WriteDone : List Asked → Due → Result Written NoMemory → List BerthCall → List ℕ → Type 0
 WriteDone asks due (Ok how) calls given = SentAs asks due how calls given
 WriteDone asks due (Err e) calls given = Runs Cut asks calls × (given ≡ [])
@@ -32,34 +33,34 @@ Writes asks due result old new before after =
     × Made calls (RoomFailed result) old new × Gave given (FeedFailed result) before after
 
 -- the request of the action with its inputs, by what is reported
-abbrev pub SendDone : Post → ℤ → WorkAction → Result Written NoMemory → Deed → Type 0
-SendDone post n action (Ok how) d =
+abbrev pub SendDone : Means → Attempt → ℤ → WorkAction → Result Written NoMemory → Deed → Type 0
+SendDone means t n action (Ok how) d =
     (inputs : List NamedFile) × AreInputs action.inputs inputs
     × (d.looks ≡ looks_of action.inputs inputs)
-    × SentAs (send_asks post n action inputs) (due_for post n action inputs) how d.calls d.given
-SendDone post n action (Err e) d = (d.given ≡ []) × ((d.calls ≡ [])
+    × SentAs (send_asks means t n action inputs) (due_for means t n action inputs) how d.calls d.given
+SendDone means t n action (Err e) d = (d.given ≡ []) × ((d.calls ≡ [])
     ⊎ ((inputs : List NamedFile) × AreInputs action.inputs inputs
-    × Runs Cut (send_asks post n action inputs) d.calls))
+    × Runs Cut (send_asks means t n action inputs) d.calls))
 
 -- it was done by the line's feed
-pub record SendActs (post : Post) (rule : History → ℕ → Call → Reply) (lane : ℕ) (line : ℕ) (n : ℤ)
+pub record SendActs (means : Means) (t : Attempt) (rule : History → ℕ → Call → Reply) (lane : ℕ) (line : ℕ) (n : ℤ)
     (action : WorkAction) (result : Result Written NoMemory) (seen : History)
     (old new : BerthTold) (before after : FeedTold) : Type 0 where
   pub deed : Deed
   pub on_line : deed.line ≡ line
-  pub done : SendDone post n action result deed
+  pub done : SendDone means t n action result deed
   pub told : AreTold rule lane seen deed.looks
   pub berth : Made deed.calls (RoomFailed result) old new
   pub feed : Gave deed.given (FeedFailed result) before after
 
 -- the bytes of a Cancel
-abbrev pub CancelDone : Post → ℤ → Result Written NoMemory → List ℕ → Type 0
-CancelDone post n (Ok how) given = GivenBy (cancel_due post.speech n) how given
-CancelDone post n (Err e) given = given ≡ []
+abbrev pub CancelDone : Speech → ℤ → Result Written NoMemory → List ℕ → Type 0
+CancelDone speech n (Ok how) given = GivenBy (cancel_due speech n) how given
+CancelDone speech n (Err e) given = given ≡ []
 
-abbrev pub CancelActs : Post → ℤ → Result Written NoMemory → FeedTold → FeedTold → Type 0
-CancelActs post n result before after =
-    (given : List ℕ) × CancelDone post n result given × Gave given (FeedFailed result) before after
+abbrev pub CancelActs : Speech → ℤ → Result Written NoMemory → FeedTold → FeedTold → Type 0
+CancelActs speech n result before after =
+    (given : List ℕ) × CancelDone speech n result given × Gave given (FeedFailed result) before after
 
 -- ---- a Gather
 
@@ -71,18 +72,18 @@ IsRoomFault (Ok (found.Exit x)) = ⊥
 IsRoomFault (Ok found.Refused) = ⊥
 IsRoomFault (Err e) = ⊥
 
-abbrev pub GatherDone : Post → ℕ → ℤ → WorkAction → Result Found NoMemory → Deed → Type 0
-GatherDone post l n action (Ok f) d =
-    FoundIn (is_remote post.kind) (look_asks post n action) (length action.outputs) l n f d
-GatherDone post l n action (Err e) d =
-    (d.calls ≡ []) ⊎ Runs Cut (look_asks post n action) d.calls
+abbrev pub GatherDone : Means → Attempt → ℕ → ℤ → WorkAction → Result Found NoMemory → Deed → Type 0
+GatherDone means t l n action (Ok f) d =
+    FoundIn (speaks_remote means.speech) (look_asks means t n action) (length action.outputs) l n f d
+GatherDone means t l n action (Err e) d =
+    (d.calls ≡ []) ⊎ Runs Cut (look_asks means t n action) d.calls
 
-pub record GatherActs (post : Post) (rule : History → ℕ → Call → Reply) (lane : ℕ) (line : ℕ) (n : ℤ)
+pub record GatherActs (means : Means) (t : Attempt) (rule : History → ℕ → Call → Reply) (lane : ℕ) (line : ℕ) (n : ℤ)
     (action : WorkAction) (result : Result Found NoMemory) (seen : History) (old new : BerthTold)
     : Type 0 where
   pub deed : Deed
   pub nothing_given : deed.given ≡ []
-  pub done : GatherDone post line n action result deed
+  pub done : GatherDone means t line n action result deed
   pub told : AreTold rule lane seen deed.looks
   pub berth : Made deed.calls (IsRoomFault result) old new
 

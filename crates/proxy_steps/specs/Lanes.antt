@@ -6,15 +6,14 @@ use Rattle.exec_journal.specs.declared.call.Call.TheVariants as call
 use Rattle.exec_journal.specs.declared.reply.Reply.{Reply}
 use Rattle.exec_journal.specs.declared.reply.Reply.TheVariants as reply
 use Rattle.outside.specs.Told.{BerthTold, FeedTold, ChildTold}
-use Rattle.remote_messages.specs.declared.work.WorkAction.{WorkAction}
 use Rattle.core_contract.specs.Moves.{History}
 use Rattle.core_contract.specs.Laws.{lines_in}
 use Rattle.core_contract.specs.Duties.{Asks, duty_of}
-use Rattle.proxy_deeds.specs.declared.post.Post.{Post}
-use Rattle.proxy_deeds.specs.declared.cause.Cause.{Cause}
+use Rattle.proxy_deeds.specs.Settings.{Means}
+use Rattle.proxy_deeds.specs.declared.halt.ProxyHalt.{ProxyHalt}
 use Rattle.proxy_deeds.specs.Deeds.{Deed, Acts, given_to, with_ends}
 use Rattle.proxy_deeds.specs.Told.{AllTold}
-use Rattle.proxy_deeds.specs.Lines.{Back, IsFed, IsBack, IsServed, feed_faults, started_in, lines_of, listed, unsaid_by}
+use Rattle.proxy_deeds.specs.Lines.{Returned, IsFed, IsBack, IsServed, feed_faults, started_in, lines_of, listed, unsaid_by}
 use Rattle.proxy_deeds.specs.Ends.{HaltsBy}
 use Rattle.proxy_steps.specs.declared.hands.EndedFeed.{EndedFeed}
 use Rattle.proxy_steps.specs.declared.hands.OpenFeed.{OpenFeed}
@@ -26,20 +25,20 @@ pub record Open : Type 0 where
   pub feed : FeedTold
 
 -- what the lane has in its hands, by what it tells
-pub record Held : Type 0 where
+pub record LaneObjects : Type 0 where
   pub berth : BerthTold
   pub opened : Option Open
-  pub ended : List Back
-  pub unsaid : Option Back
+  pub ended : List Returned
+  pub unsaid : Option Returned
 
-abbrev pub back_of : {D K : Type 0} → (D → FeedTold) → (K → ChildTold) → EndedFeed D K → Back
+abbrev pub back_of : {D K : Type 0} → (D → FeedTold) → (K → ChildTold) → EndedFeed D K → Returned
 back_of feed child x = record { line = x.line; feed = feed x.feed; child = child x.child }
 
 abbrev pub open_of : {D : Type 0} → (D → FeedTold) → OpenFeed D → Open
 open_of feed x = record { line = x.line; feed = feed x.feed }
 
 abbrev pub held_of : {B D K : Type 0} → (B → BerthTold) → (D → FeedTold) → (K → ChildTold)
-    → Hands B D K → Held
+    → Hands B D K → LaneObjects
 held_of berth feed child h = record {
   berth = berth h.berth;
   opened = option_map (open_of feed) h.open;
@@ -51,7 +50,7 @@ abbrev pub open_line : Option Open → Option ℕ
 open_line o = option_map (λ x. x.line) o
 
 -- the lines that ended came before the open one
-abbrev pub IsAfter : Option Open → List Back → Type 0
+abbrev pub IsAfter : Option Open → List Returned → Type 0
 IsAfter None ended = Unit {0}
 IsAfter (Some o) ended = All (λ x. x.line < o.line) ended
 
@@ -62,7 +61,7 @@ IsOpenFed own deeds (Some o) = IsFed own deeds o.line o.feed
 
 module _ (rule : History → ℕ → Call → Reply) (lane : ℕ) where
   -- after these entries with these deeds. All but the unsaid line were reported as started.
-  pub record Holds (own : History) (deeds : List Deed) (seen : History) (first : BerthTold) (h : Held)
+  pub record Holds (own : History) (deeds : List Deed) (seen : History) (first : BerthTold) (h : LaneObjects)
       : Type 0 where
     pub told : AllTold rule lane seen deeds
     pub berth : IsServed own deeds first h.berth
@@ -77,20 +76,20 @@ module _ (rule : History → ℕ → Call → Reply) (lane : ℕ) where
         → (given_to l deeds ≡ []) × (feed_faults l own ≡ 0)
 
   -- the lane has acted so
-  pub record Keeps (post : Post) (actions : List WorkAction) (own seen : History)
-      (first : BerthTold) (h : Held) : Type 0 where
+  pub record Keeps (means : Means) (own seen : History)
+      (first : BerthTold) (h : LaneObjects) : Type 0 where
     pub deeds : List Deed
-    pub acts : Acts post actions Asks own deeds
+    pub acts : Acts means Asks own deeds
     pub holds : Holds own deeds seen first h
     pub all_said : h.unsaid ≡ None
 
   -- It has acted so, and found no memory then. A line that it couldn't report was ended.
-  pub record Halting (post : Post) (actions : List WorkAction) (cause : Cause) (own seen : History)
-      (first : BerthTold) (h : Held) : Type 0 where
+  pub record Halting (means : Means) (cause : ProxyHalt) (own seen : History)
+      (first : BerthTold) (h : LaneObjects) : Type 0 where
     pub deeds : List Deed
     pub last : Deed
-    pub acts : Acts post actions Asks own deeds
-    pub halts : HaltsBy post actions cause (duty_of own) last
+    pub acts : Acts means Asks own deeds
+    pub halts : HaltsBy means cause (duty_of own) last
     pub holds : Holds (own ++ entry lane call.Halt reply.Noted ∷ [])
         (deeds ++ with_ends (unsaid_by (Some cause)) last ∷ []) seen first h
     pub said : lines_of (listed h.unsaid) ≡ unsaid_by (Some cause)

@@ -1,5 +1,5 @@
 -- What each step of a proxy lane asks and leaves.
-use Rattle.std.specs.Prelude.{◌≡◌, ◌<◌, ℕ, List, vec_len, vec_capacity, Option, Some, None, option_map, All, ℤ, Result, Ok, Err, ◌⊎◌, Bool, true, false, [], ◌∷◌, ◌++◌}
+use Rattle.std.specs.Prelude.{◌≡◌, ◌<◌, ℕ, List, length, vec_len, vec_capacity, Option, Some, None, option_map, All, ℤ, Result, Ok, Err, ◌⊎◌, Bool, true, false, [], ◌∷◌, ◌++◌}
 use Rattle.seat_desk.specs.declared.machine.Machine.{Ghosts}
 use Rattle.seat_desk.specs.declared.desk.Pass.{Pass}
 use Rattle.seat_desk.specs.Passes.{mine, basis, seen}
@@ -17,14 +17,13 @@ use Rattle.exec_journal.specs.declared.call.CommitEnd.{CommitEnd}
 use Rattle.exec_journal.specs.declared.call.Found.{Found}
 use Rattle.exec_journal.specs.declared.call.Found.TheVariants as found
 use Rattle.seat_desk.specs.History.{entry, StartsWith}
-use Rattle.remote_messages.specs.declared.work.WorkAction.{WorkAction}
 use Rattle.core_contract.specs.Terms.{Terms}
 use Rattle.core_contract.specs.Moves.{History}
 use Rattle.core_contract.specs.Shelf.{child_at}
 use Rattle.core_contract.specs.Laws.{lines_in}
-use Rattle.proxy_deeds.specs.declared.post.Post.{Post}
-use Rattle.proxy_deeds.specs.declared.cause.Cause.{Cause}
-use Rattle.proxy_deeds.specs.declared.cause.Cause.TheVariants as cause
+use Rattle.proxy_deeds.specs.Settings.{HasGroup, Means}
+use Rattle.proxy_deeds.specs.declared.halt.ProxyHalt.{ProxyHalt}
+use Rattle.proxy_deeds.specs.declared.halt.ProxyHalt.TheVariants as cause
 use Rattle.proxy_deeds.specs.Deeds.{Deed}
 use Rattle.proxy_deeds.specs.Told.{AllTold}
 use Rattle.proxy_deeds.specs.Ends.{Ends}
@@ -34,9 +33,9 @@ use Rattle.proxy_calls.specs.declared.asking.Order.{Order}
 use Rattle.proxy_calls.specs.declared.asking.Order.TheVariants as order
 use Rattle.proxy_calls.specs.Calls.{MakesOne, MayMake}
 use Rattle.proxy_calls.specs.Claims.{claim_of}
-use Rattle.proxy_deeds.specs.Lines.{Back, EndsLine, IsKilled, IsServed, AreBack, started_in}
+use Rattle.proxy_deeds.specs.Lines.{Returned, EndsLine, IsKilled, IsServed, AreBack, started_in}
 use Rattle.proxy_steps.specs.declared.hands.Hands.{Hands}
-use Rattle.proxy_steps.specs.Lanes.{Open, Held, Keeps, Halting}
+use Rattle.proxy_steps.specs.Lanes.{Open, LaneObjects, Keeps, Halting}
 
 -- the files that were found
 abbrev pub files_in : Found → List (List ℕ)
@@ -56,14 +55,14 @@ HasCommitted t f lane own own' = (duty_of own ≡ Commits t.action t.branch (fil
     × (own' ≡ own ++ entry lane (call.Committed t.action t.branch how) reply.Noted ∷ []))
 
 -- why the lane halts: there was no memory for the files, or for the Claim
-abbrev pub IsCauseOfClaim : Attempt → Found → Cause → Type 0
+abbrev pub IsCauseOfClaim : Attempt → Found → ProxyHalt → Type 0
 IsCauseOfClaim t f cause.NoMemory = HasFiles f
 IsCauseOfClaim t f (cause.Refused c) = c ≡ claim_of t f
 
 -- the open line was laid by, with its child, which the berth has ended
-pub record IsLaidBy (line : ℕ) (h h' : Held) : Type 0 where
+pub record IsLaidBy (line : ℕ) (h h' : LaneObjects) : Type 0 where
   pub was_open : Open
-  pub back : Back
+  pub back : Returned
   pub was : h.opened ≡ Some was_open
   pub of_line : was_open.line ≡ line
   pub is_back : (back.line ≡ was_open.line) × (back.feed ≡ was_open.feed)
@@ -73,27 +72,27 @@ pub record IsLaidBy (line : ℕ) (h h' : Held) : Type 0 where
   pub rest : (h'.opened ≡ None) × (h'.unsaid ≡ h.unsaid)
 
 -- so was every line that was open
-abbrev pub AreLaidBy : Option ℕ → Held → Held → Type 0
+abbrev pub AreLaidBy : Option ℕ → LaneObjects → LaneObjects → Type 0
 AreLaidBy None h h' = h' ≡ h
 AreLaidBy (Some l) h h' = IsLaidBy l h h'
 
 -- The lane has ended: what its entries, its berth, its feeds and its children come to.
-pub record Ended (post : Post) (actions : List WorkAction) (rule : History → ℕ → Call → Reply)
-    (lane : ℕ) (own seen : History) (old new : BerthTold) (feeds : List Back)
-    (unsaid : Option Back) (halted : Option Cause) : Type 0 where
+pub record Ended (means : Means) (rule : History → ℕ → Call → Reply)
+    (lane : ℕ) (own seen : History) (old new : BerthTold) (feeds : List Returned)
+    (unsaid : Option Returned) (halted : Option ProxyHalt) : Type 0 where
   pub deeds : List Deed
-  pub ends : Ends post actions lane halted own deeds
+  pub ends : Ends means lane halted own deeds
   pub told : AllTold rule lane seen deeds
   pub berth : IsServed own deeds old new
   pub lines : AreBack own deeds halted feeds unsaid
 
 -- the lane may report it
 abbrev pub OwesWrote : ℕ → ℤ → Result Written NoMemory → History → Type 0
-OwesWrote l n (Ok how) own = ((a : ℕ) × (duty_of own ≡ Sends l n a))
+OwesWrote l n (Ok how) own = ((t : Attempt) × (duty_of own ≡ Sends l n t))
     ⊎ ((duty_of own ≡ Cancels l n) × (is_whole_or_fault how ≡ true))
 OwesWrote l n (Err e) own = Unit {0}
 
-abbrev pub IsCauseOf : ℕ → ℤ → Result Written NoMemory → Cause → Type 0
+abbrev pub IsCauseOf : ℕ → ℤ → Result Written NoMemory → ProxyHalt → Type 0
 IsCauseOf l n (Ok how) by = by ≡ cause.Refused (call.Wrote l n how)
 IsCauseOf l n (Err e) by = by ≡ cause.NoMemory
 
@@ -119,23 +118,23 @@ module _ {M G Q : Type 0} {g : Ghosts M Call Reply G Q} where
   abbrev pub IsNewLine : ℕ → Pass M Call Reply G Q g → Type 0
   IsNewLine l p = All (λ k. k < l) (started_in (mine p)) × (l < lines_in (seen p))
 
-  module _ (post : Post) (actions : List WorkAction) (rule : Q → History → ℕ → Call → Reply) where
+  module _ (means : Means) (rule : Q → History → ℕ → Call → Reply) where
     -- what the lane has done holds of what it has in its hands, whatever its berth had told at first
-    abbrev pub Goes : Pass M Call Reply G Q g → Held → Pass M Call Reply G Q g → Held → Type 0
+    abbrev pub Goes : Pass M Call Reply G Q g → LaneObjects → Pass M Call Reply G Q g → LaneObjects → Type 0
     Goes p h p' h' = (first : BerthTold)
-        → Keeps (rule (basis p)) p.lane post actions (mine p) (seen p) first h
-        → Keeps (rule (basis p)) p.lane post actions (mine p') (seen p') first h'
+        → Keeps (rule (basis p)) p.lane means (mine p) (seen p) first h
+        → Keeps (rule (basis p)) p.lane means (mine p') (seen p') first h'
 
     -- so it does, of some berth at first
-    abbrev pub SomeKeeps : Pass M Call Reply G Q g → Held → Type 0
+    abbrev pub SomeKeeps : Pass M Call Reply G Q g → LaneObjects → Type 0
     SomeKeeps p h = (first : BerthTold)
-        × Keeps (rule (basis p)) p.lane post actions (mine p) (seen p) first h
+        × Keeps (rule (basis p)) p.lane means (mine p) (seen p) first h
 
-    abbrev pub Halts : Cause → Pass M Call Reply G Q g → Held → Pass M Call Reply G Q g → Held
+    abbrev pub Halts : ProxyHalt → Pass M Call Reply G Q g → LaneObjects → Pass M Call Reply G Q g → LaneObjects
         → Type 0
     Halts cause p h p' h' = (first : BerthTold)
-        → Keeps (rule (basis p)) p.lane post actions (mine p) (seen p) first h
-        → Halting (rule (basis p)) p.lane post actions cause (mine p') (seen p') first h'
+        → Keeps (rule (basis p)) p.lane means (mine p) (seen p) first h
+        → Halting (rule (basis p)) p.lane means cause (mine p') (seen p') first h'
 
   -- the shelf has the child that it had, and the line that was open is
   abbrev pub SameShelf : {B D K : Type 0} → ℕ → Pass M Call Reply G Q g → Hands B D K
@@ -165,40 +164,43 @@ module _ {M G Q : Type 0} {g : Ghosts M Call Reply G Q} where
 
   -- ---- an order
 
-  -- what holds where the lane is ordered so, with so many actions
-  abbrev pub MayObey : {K : Type 0} → ℕ → (K → ChildTold) → ℕ → Order K
+  -- what holds where the lane is ordered so
+  abbrev pub MayObey : {K : Type 0} → Means → (K → ChildTold) → ℕ → Order K
       → Pass M Call Reply G Q g → Option ℕ → Type 0
-  MayObey actions told w (order.Launch l) p line =
-      (duty_of (mine p) ≡ Launches l) × (line ≡ None) × IsShelved w p line × IsNewLine l p
-  MayObey actions told w (order.Send l n a) p line =
-      (duty_of (mine p) ≡ Sends l n a) × (line ≡ Some l) × IsShelved w p line × (a < actions)
-  MayObey actions told w (order.Cancel l n) p line =
+  MayObey means told w (order.Launch l t) p line =
+      (duty_of (mine p) ≡ Launches l t) × (line ≡ None) × IsShelved w p line × IsNewLine l p
+      × HasGroup means.settings t
+  MayObey means told w (order.Send l n t) p line =
+      (duty_of (mine p) ≡ Sends l n t) × (line ≡ Some l) × IsShelved w p line
+      × (t.action < length means.actions) × HasGroup means.settings t
+  MayObey means told w (order.Cancel l n) p line =
       (duty_of (mine p) ≡ Cancels l n) × (line ≡ Some l) × IsShelved w p line
-  MayObey actions told w (order.Gather x) p line =
-      (duty_of (mine p) ≡ gathers x) × IsShelved w p line × (x.attempt.action < actions)
-  MayObey actions told w (order.Kill l k) p line =
+  MayObey means told w (order.Gather x) p line =
+      (duty_of (mine p) ≡ gathers x) × IsShelved w p line × (x.attempt.action < length means.actions)
+      × HasGroup means.settings x.attempt
+  MayObey means told w (order.Kill l k) p line =
       (duty_of (mine p) ≡ Kills l) × (line ≡ Some l) × IsShelved w p None × IsNewChild l (told k)
 
   -- ---- a round, and the whole lane
 
-  module _ (post : Post) (actions : List WorkAction) (rule : Q → History → ℕ → Call → Reply) where
+  module _ (means : Means) (rule : Q → History → ℕ → Call → Reply) where
     -- there may be more, or the lane was told to stop, and no line is open
-    abbrev pub GoesTo : Bool → Pass M Call Reply G Q g → Held → Pass M Call Reply G Q g → Held
+    abbrev pub GoesTo : Bool → Pass M Call Reply G Q g → LaneObjects → Pass M Call Reply G Q g → LaneObjects
         → Type 0
-    GoesTo true p h p' h' = (duty_of (mine p') ≡ Asks) × Goes post actions rule p h p' h'
+    GoesTo true p h p' h' = (duty_of (mine p') ≡ Asks) × Goes means rule p h p' h'
     GoesTo false p h p' h' =
-        (duty_of (mine p') ≡ Left) × (h'.opened ≡ None) × Goes post actions rule p h p' h'
+        (duty_of (mine p') ≡ Left) × (h'.opened ≡ None) × Goes means rule p h p' h'
 
     -- the lane has ended so, if what it had done by then held
-    abbrev pub Finishes : Option Cause → Pass M Call Reply G Q g → Held → Pass M Call Reply G Q g
-        → Held → Type 0
+    abbrev pub Finishes : Option ProxyHalt → Pass M Call Reply G Q g → LaneObjects → Pass M Call Reply G Q g
+        → LaneObjects → Type 0
     Finishes halted p h p' h' = (first : BerthTold)
-        → Keeps (rule (basis p)) p.lane post actions (mine p) (seen p) first h
-        → Ended post actions (rule (basis p)) p.lane (mine p') (seen p') first h'.berth h'.ended
+        → Keeps (rule (basis p)) p.lane means (mine p) (seen p) first h
+        → Ended means (rule (basis p)) p.lane (mine p') (seen p') first h'.berth h'.ended
         h'.unsaid halted
 
     -- the lane has served its berth
-    abbrev pub IsServedBy : BerthTold → BerthTold → List Back → Option Back → Option Cause
+    abbrev pub IsServedBy : BerthTold → BerthTold → List Returned → Option Returned → Option ProxyHalt
         → Pass M Call Reply G Q g → Type 0
     IsServedBy old new feeds unsaid halted p =
-        Ended post actions (rule (basis p)) p.lane (mine p) (seen p) old new feeds unsaid halted
+        Ended means (rule (basis p)) p.lane (mine p) (seen p) old new feeds unsaid halted

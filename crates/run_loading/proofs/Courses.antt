@@ -5,8 +5,8 @@ use Rattle.std.proofs.lemmas.List.Concat.{flat_map-append}
 use Rattle.std.proofs.lemmas.List.Elements.{filter-append}
 use Rattle.run_plan.specs.declared.plan.Maker.{Maker}
 use Rattle.action_list.specs.Lists.{list_of}
-use Rattle.list_order.specs.declared.faults.ListFault.{ListFault}
-use Rattle.list_order.specs.declared.types.ActionList.{ActionList}
+use Rattle.list_actions.specs.declared.faults.ListFault.{ListFault}
+use Rattle.list_actions.specs.declared.types.ActionList.{ActionList}
 use Rattle.outside.specs.Told.{FloorTold, SameFloor}
 use Rattle.outside.specs.Floor.{file_at}
 use Rattle.outside.specs.declared.answers.Read.{Read}

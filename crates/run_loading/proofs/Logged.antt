@@ -51,7 +51,7 @@ reads_on before mid after P Q R same f first second =
     let second_of = subst (λ (files : Option (List SourceFile)). AreOfFiles files second.0) (ap (λ g. g.files) same) second.2 in
     (first.0 ++ second.0, adds_on first.0 second.0 before.log mid.log after.log first.1 second.1, both_of_files before.files first.0 second.0 first.2 second_of, f first.0 second.0 first.3 second.3)
 
--- ---- the same unless memory was wanted
+-- ---- the same unless memory ran out
 
 pub unless_weaker : (end : Option RunFault) (P Q : Type 0) → (P → Q) → UnlessBefore end P → UnlessBefore end Q
 unless_weaker None P Q f h = f h

@@ -5,12 +5,12 @@ use Rattle.std.specs.Option.{IsSome}
 use Rattle.std.proofs.lemmas.List.{take-append-drop, map_more, map-append, take_all, take_more}
 use mathlib.Core.Path.{fun_ext}
 use Rattle.std.proofs.lemmas.List.Elements.{All-cons, All-get_or, All-head, All-nil, All-tail, filter_map-append}
-use Rattle.list_order.specs.Producers.{producer_of}
-use Rattle.list_order.specs.Made.{maker_of, producer_in}
-use Rattle.list_order.specs.Whole.{KnowsProducers}
-use Rattle.list_order.specs.declared.producers.Producers.{Producers}
-use Rattle.list_order.proofs.ProducerLemmas.{more_producers}
-use Rattle.list_order.specs.declared.types.ListAction.{ListAction}
+use Rattle.list_actions.specs.Producers.{producer_of}
+use Rattle.list_actions.specs.Made.{maker_of, producer_in}
+use Rattle.list_actions.specs.Whole.{KnowsProducers}
+use Rattle.list_actions.specs.declared.producers.Producers.{Producers}
+use Rattle.list_actions.proofs.ProducerLemmas.{more_producers}
+use Rattle.list_actions.specs.declared.types.ListAction.{ListAction}
 use Rattle.build_report.specs.declared.fault.RunFault.{RunFault}
 use Rattle.build_report.specs.declared.fault.RunFault.TheVariants as fault
 use Rattle.outside.specs.Floor.{file_at}

@@ -4,13 +4,13 @@ use Rattle.std.specs.List.{All}
 use Rattle.std.specs.Str.{bytes_eq}
 use Rattle.std.proofs.lemmas.List.Elements.{All-cons, All-nil, All-weaker}
 use Rattle.run_plan.specs.declared.plan.Maker.{Maker}
-use Rattle.list_order.specs.Answers.{Check, first}
-use Rattle.list_order.specs.Order.{is_among, outputs_of, first_again, name_twice, made_twice, made_later, order_check, orders_check}
-use Rattle.list_order.specs.Made.{maker_of, producer_from, producer_in}
-use Rattle.list_order.specs.Whole.{IsWhole}
-use Rattle.list_order.specs.declared.types.ListAction.{ListAction}
-use Rattle.list_order.proofs.Firsts.{first_one}
-use Rattle.list_order.proofs.Late.{is_among-append}
+use Rattle.list_actions.specs.Answers.{Check, first}
+use Rattle.list_actions.specs.Order.{is_among, outputs_of, first_again, name_twice, made_twice, made_later, order_check, orders_check}
+use Rattle.list_actions.specs.Made.{maker_of, producer_from, producer_in}
+use Rattle.list_actions.specs.Whole.{IsWhole}
+use Rattle.list_actions.specs.declared.types.ListAction.{ListAction}
+use Rattle.list_actions.proofs.Firsts.{first_one}
+use Rattle.list_actions.proofs.Late.{is_among-append}
 
 -- ---- paths that aren't made
 

@@ -1,10 +1,10 @@
 -- In which order a list and its files are read, and what that leads to.
 use Rattle.std.specs.Prelude.{◌≡◌, ℕ, List, [], ◌∷◌, map, Result, Ok, Err}
 use Rattle.action_list.specs.Lists.{list_of}
-use Rattle.list_order.specs.Made.{maker_of}
-use Rattle.list_order.specs.declared.faults.ListFault.{ListFault}
-use Rattle.list_order.specs.declared.types.ActionList.{ActionList}
-use Rattle.list_order.specs.declared.types.ListAction.{ListAction}
+use Rattle.list_actions.specs.Made.{maker_of}
+use Rattle.list_actions.specs.declared.faults.ListFault.{ListFault}
+use Rattle.list_actions.specs.declared.types.ActionList.{ActionList}
+use Rattle.list_actions.specs.declared.types.ListAction.{ListAction}
 use Rattle.build_report.specs.declared.fault.RunFault.{RunFault}
 use Rattle.build_report.specs.declared.fault.RunFault.TheVariants as fault
 use Rattle.outside.specs.declared.answers.Read.{Read}

@@ -27,12 +27,12 @@ abbrev pub end_of : {T : Type 0} → Result T RunFault → Option RunFault
 end_of (Ok x) = None
 end_of (Err f) = Some f
 
--- Want of memory alone is free, and it comes before the lanes.
+-- Lack of memory alone is free, and it comes before the lanes.
 abbrev pub UnlessBefore : Option RunFault → Type 0 → Type 0
 UnlessBefore (Some (fault.NoMemory when)) P = when ≡ stage.Before
 UnlessBefore end P = P
 
--- The floor's reads led to this result, or memory was wanted.
+-- The floor's reads led to this result, or memory ran out.
 abbrev pub Leads : {T : Type 0} → FloorTold → FloorTold → Result T RunFault
     → (List FloorRead → Result T RunFault → Type 0) → Type 0
 Leads before after result P =

@@ -1,9 +1,9 @@
 -- What a list reads: its actions' tools and source inputs, each path once.
 use Rattle.std.specs.Prelude.{◌≡◌, ℕ, Bool, is_none, List, [], ◌∷◌, ◌++◌, map, filter, flat_map, if◌then◌else◌, Option}
 use Rattle.run_plan.specs.declared.plan.Maker.{Maker}
-use Rattle.list_order.specs.Order.{is_among}
-use Rattle.list_order.specs.Made.{maker_of}
-use Rattle.list_order.specs.declared.types.ListAction.{ListAction}
+use Rattle.list_actions.specs.Order.{is_among}
+use Rattle.list_actions.specs.Made.{maker_of}
+use Rattle.list_actions.specs.declared.types.ListAction.{ListAction}
 use Rattle.outside.specs.Floor.{one_read}
 use Rattle.outside.specs.declared.answers.Read.{Read}
 use Rattle.outside.specs.declared.answers.Read.TheVariants as read

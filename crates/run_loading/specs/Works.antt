@@ -2,7 +2,7 @@
 use Rattle.std.specs.Prelude.{◌≡◌, ℕ, List, [], ◌∷◌, ◌++◌, length, map, filter_map, if◌then◌else◌, unwrap_or, Option, Some, None, Result, Ok, Err}
 use Rattle.run_plan.specs.declared.plan.Maker.{Maker}
 use Rattle.action_list.specs.Checks.{has_local}
-use Rattle.list_order.specs.declared.types.ListAction.{ListAction}
+use Rattle.list_actions.specs.declared.types.ListAction.{ListAction}
 use Rattle.build_report.specs.declared.fault.RunFault.{RunFault}
 use Rattle.build_report.specs.declared.fault.RunFault.TheVariants as fault
 use Rattle.build_report.specs.declared.fault.Stage.TheVariants as stage
@@ -74,7 +74,7 @@ due_work makers files x = work_by x (work_inputs makers files x)
 
 -- ---- answers
 
--- This is the first fault, of the action with this number; want of memory is none.
+-- This is the first fault, of the action with this number; lack of memory is none.
 pub record IsFirstFault (dues : List (Result WorkAction FlagFault)) (number : ℕ)
     (f : FlagFault) : Type 0 where
   pub earlier : List WorkAction

@@ -1,8 +1,8 @@
 //! The public calls: a list, its work, and both.
 ghost use Rattle.std.specs.Prelude.{◌≡◌, IfOk};
-ghost use Rattle.list_order.specs.Producers.{producer_of};
-ghost use Rattle.list_order.specs.Made.{maker_of};
-ghost use Rattle.list_order.specs.Whole.{IsWhole};
+ghost use Rattle.list_actions.specs.Producers.{producer_of};
+ghost use Rattle.list_actions.specs.Made.{maker_of};
+ghost use Rattle.list_actions.specs.Whole.{IsWhole};
 ghost use Rattle.outside.specs.Causes.{Counts};
 ghost use Rattle.outside.specs.Told.{SameFloor};
 ghost use Rattle.run_loading.specs.Course.{IsList, ListFirst, Loads, WorkRead};

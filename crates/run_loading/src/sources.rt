@@ -1,8 +1,8 @@
 // The source files of a list, each path read once.
 ghost use Rattle.std.specs.Prelude.{◌≡◌, ◌∷◌, ◌++◌, [], None, OnOk, filter, Some};
 ghost use Rattle.std.specs.Option.{option_copied, IsSome};
-ghost use Rattle.list_order.specs.Producers.{producer_of};
-ghost use Rattle.list_order.specs.Made.{maker_of};
+ghost use Rattle.list_actions.specs.Producers.{producer_of};
+ghost use Rattle.list_actions.specs.Made.{maker_of};
 ghost use Rattle.outside.specs.Causes.{Counts};
 ghost use Rattle.outside.specs.Told.{SameFloor};
 ghost use Rattle.outside.specs.Floor.{file_at};
@@ -13,10 +13,10 @@ ghost use Rattle.run_loading.specs.Wanted.{is_source, paths_of_action, source_fi
 use crate::RunFault;
 use crate::reading::read_found;
 use action_list::{ListAction, Producers};
+use file_digests::Source;
 use indexmap::IndexMap;
 use outside::Floor;
 use plain_values::{Blob, NoMemory, Text};
-use source_digests::Source;
 use std::alloc::Global;
 
 /// The files that were found, by their paths, in the order of their reads.

@@ -1,11 +1,12 @@
 // The work of each action, made of the list and of the files that were found.
 ghost use Rattle.std.specs.Prelude.{◌≡◌, ◌≤◌, ◌++◌, ◌∷◌, [], IfOk, OnOk, None, length, map};
 ghost use Rattle.std.specs.Option.{IsSome};
-ghost use Rattle.list_order.specs.Producers.{producer_of};
+ghost use Rattle.list_actions.specs.Producers.{producer_of};
 ghost use Rattle.outside.specs.Floor.{file_at};
 ghost use Rattle.run_loading.specs.Sources.{HasAll, held};
 ghost use Rattle.run_loading.specs.Wanted.{paths_of_action, paths_of_actions};
 ghost use Rattle.run_loading.specs.Works.{Gives, Works, bytes_at, due_words, due_work, origin_of, source_files, work_by, work_input, work_inputs};
+ghost use Rattle.run_plan.specs.Limits.{most_actions};
 
 use crate::sources::Sources;
 use crate::{RunFault, Stage};
@@ -23,7 +24,7 @@ pub fn work_of(
     producers: &Producers,
     sources: &Sources,
 ) -> Result<Work, RunFault>
-    requires few { length actions.now ≤ 4096 }
+    requires few { length actions.now ≤ most_actions }
     requires files { HasAll (held sources.now)
         (paths_of_actions (producer_of producers.now) actions.now) }
     ensures { Works (map (due_work (producer_of producers.now) (held sources.now)) actions.now)

@@ -1,25 +1,24 @@
 -- A list that was read has at most 48 keys, so its plan has a berth for its first action.
-use Rattle.std.proofs.Common.{◌≡◌, ℕ, zero, suc, ◌+◌, ◌≤◌, Bool, true, false, cond, nat_eq, List, [], ◌∷◌, ◌++◌, length, map, sum_by, min, leb, eqb, Option, Some, None, Result, Ok, Err, IfOk, refl, sym, ap, subst, ◌∙◌, arith}
+use Rattle.std.proofs.Common.{◌≡◌, ℕ, zero, suc, ◌+◌, ◌≤◌, Bool, true, false, cond, List, [], ◌∷◌, ◌++◌, length, map, sum_by, min, leb, eqb, Option, Some, None, Result, Ok, Err, IfOk, refl, sym, ap, subst, ◌∙◌, arith}
 use Rattle.std.proofs.lemmas.Bool.{leb-true}
 use Rattle.std.proofs.lemmas.Bool.Decides.{nat_tests}
 use Rattle.std.proofs.lemmas.List.{length-map}
 use Rattle.std.proofs.lemmas.List.Sums.{sum_by-append, sum_by-cons}
 use Rattle.std.proofs.lemmas.Slice.Eq.{bytes_eq-Decides}
 use Rattle.std.specs.Str.{bytes_eq}
-use Rattle.list_order.specs.declared.faults.ListFault.{ListFault}
-use Rattle.list_order.specs.declared.faults.ListFault.TheVariants as fault
-use Rattle.list_order.specs.declared.faults.What.{What}
-use Rattle.list_order.specs.declared.faults.What.TheVariants as what
-use Rattle.list_order.specs.declared.types.ActionList.{ActionList}
-use Rattle.list_order.specs.declared.types.ListAction.{ListAction}
-use Rattle.list_order.specs.declared.types.Strategy.{Strategy}
-use Rattle.list_order.specs.declared.types.Strategy.TheVariants as strategy
+use Rattle.list_actions.specs.declared.faults.ListFault.{ListFault}
+use Rattle.list_actions.specs.declared.faults.ListFault.TheVariants as fault
+use Rattle.list_actions.specs.declared.faults.What.{What}
+use Rattle.list_actions.specs.declared.faults.What.TheVariants as what
+use Rattle.list_actions.specs.declared.types.ActionList.{ActionList}
+use Rattle.list_actions.specs.declared.types.ListAction.{ListAction}
+use Rattle.list_actions.specs.declared.types.Strategy.TheVariants as strategy
 use Rattle.action_list.specs.Actions.{action_in}
-use Rattle.list_order.specs.Answers.{Check, and_then, first}
+use Rattle.list_actions.specs.Answers.{Check, and_then, first}
 use Rattle.action_list.specs.Checks.{actions_check, count_check, has_local, has_remote}
-use Rattle.action_list.specs.Keys.{key_bytes, keys_check, keys_from, keys_of, with_bytes, with_key}
+use Rattle.action_list.specs.Keys.{key_bytes, keys_check, keys_from, keys_of, with_bytes}
 use Rattle.action_list.specs.Lists.{list_check, list_of, list_of_datas, list_of_top}
-use Rattle.list_order.specs.Order.{is_among, orders_check}
+use Rattle.list_actions.specs.Order.{is_among, orders_check}
 use Rattle.action_list.specs.Plans.{berths_at, executor_groups, first_user, group_by, groups_of, is_key, key_group, local_key, plan_of, remote_users, share, users}
 use Rattle.action_list.specs.Top.{actions_in, json_in}
 use Rattle.generated_list.specs.Generated.{generated_text}
@@ -29,16 +28,16 @@ use Rattle.outside.specs.declared.floor.FloorRead.{FloorRead}
 use Rattle.outside.specs.Told.{FloorTold}
 use Rattle.run_loading.specs.Course.{AfterList, BytesRead}
 use Rattle.run_loading.specs.Reads.{Leads}
-use Rattle.run_plan.specs.Groups.{berths}
 use Rattle.run_plan.specs.declared.plan.Kind.TheVariants as kind
 use Rattle.run_plan.specs.declared.plan.Group.{Group}
 use Rattle.run_plan.specs.declared.plan.Plan.{Plan}
 use Rattle.tool_words.specs.Options.{AreInLimits}
 use Rattle.tool_words.specs.declared.options.Options.{Options}
-use Rattle.run_tasks.specs.Course.{GeneratedRead, ListRead, Made, TaskRead, most_keys}
+use Rattle.run_tasks.specs.Course.{GeneratedRead, ListRead, Made, TaskRead}
 use Rattle.run_tasks.specs.Tasks.{HasBerths, plan_by}
 use Rattle.run_tasks.specs.declared.task.Task.{Task}
 use Rattle.run_tasks.proofs.Works.{head_fine, rest_fine}
+use Rattle.run_plan.specs.Limits.{most_local_berths}
 
 -- ---- a list that was read has few keys
 
@@ -216,7 +215,7 @@ module _ (o : Options) (limits : AreInLimits o) (made : Task × Plan) where
   by_bytes short bytes (Err f) reads is ends = absurd (let e = ends.1 in cc)
 
   by_answer : (path : List ℕ) (answer : Read) (reads : List FloorRead)
-      → AfterList (TaskRead o false) most_keys path answer reads (Ok made)
+      → AfterList (TaskRead o false) most_local_berths path answer reads (Ok made)
       → HasBerths made.0.plan
   by_answer path read.Absent reads ends = absurd (let e = ends.1 in cc)
   by_answer path read.Failed reads ends = absurd (let e = ends.1 in cc)

@@ -3,6 +3,6 @@ pub mod Courses
 pub mod Fits
 mod Rows
 pub mod Works
-pub mod Posted
-mod PostRows
+pub mod AtBerths
+mod SpeechRows
 pub mod Spoken

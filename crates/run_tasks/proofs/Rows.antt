@@ -1,14 +1,12 @@
 -- A few cases, worked through.
-use Rattle.std.proofs.Common.{true, false, [], ◌∷◌, None, Err, refl}
+use Rattle.std.proofs.Common.{◌≡◌, zero, suc, false, [], ◌∷◌, None, Err, refl, ap, sym}
 use Rattle.build_report.specs.declared.fault.RunFault.TheVariants as fault
-use Rattle.outside.specs.declared.command.Command.{Command}
-use Rattle.proxy_deeds.specs.declared.post.Post.{Post}
-use Rattle.run_plan.specs.Groups.{is_remote, kind_of}
+use Rattle.proxy_deeds.specs.Settings.{speaks_remote}
 use Rattle.run_plan.specs.declared.plan.Kind.TheVariants as kind
 use Rattle.run_plan.specs.declared.plan.Plan.{Plan}
 use Rattle.run_plan.specs.declared.plan.Speech.TheVariants as speech
 use Rattle.run_tasks.specs.Course.{Course}
-use Rattle.run_tasks.specs.Tasks.{PostsFit}
+use Rattle.run_tasks.specs.Tasks.{SpeechesFit}
 
 -- words that aren't accepted
 nothing_read : Course None [] (Err fault.Words)
@@ -23,17 +21,10 @@ two_berths = record {
   limit = 1;
 }
 
-module _ (command : Command) where
-  abbrev worker : Post
-  worker =
-      record { kind = kind.Single; speech = speech.Json; command = command; verbose = true }
+in_order : SpeechesFit two_berths (speech.Json ∷ speech.Remote ∷ [])
+in_order zero s at = let e : speech.Json ≡ s = cc in ap speaks_remote (sym e)
+in_order (suc zero) s at = let e : speech.Remote ≡ s = cc in ap speaks_remote (sym e)
+in_order (suc (suc w)) s at = absurd (cc)
 
-  abbrev executor : Post
-  executor =
-      record { kind = kind.Remote; speech = speech.Remote; command = command; verbose = true }
-
-  in_order : PostsFit (λ w. is_remote (kind_of two_berths w)) 0 (worker ∷ executor ∷ [])
-  in_order = (refl, (refl, tt))
-
-  turned : PostsFit (λ w. is_remote (kind_of two_berths w)) 0 (executor ∷ worker ∷ []) → ⊥
-  turned fit = let e = fit.0 in cc
+turned : SpeechesFit two_berths (speech.Remote ∷ speech.Json ∷ []) → ⊥
+turned fit = let e = fit 0 speech.Remote refl in cc

@@ -13,12 +13,12 @@ use Rattle.remote_messages.specs.declared.work.WorkAction.{WorkAction}
 use Rattle.remote_messages.specs.declared.work.WorkInput.{WorkInput}
 use Rattle.exec_journal.specs.Scripts.{is_made}
 use Rattle.core_contract.specs.Duties.{is_maker}
-use Rattle.list_order.specs.declared.types.ListAction.{ListAction}
-use Rattle.list_order.specs.Answers.{Check, first}
-use Rattle.list_order.specs.Order.{first_again, is_among, made_later, made_twice, name_twice, order_check, orders_check, outputs_of}
-use Rattle.list_order.specs.Made.{maker_of, producer_from, producer_in}
+use Rattle.list_actions.specs.declared.types.ListAction.{ListAction}
+use Rattle.list_actions.specs.Answers.{Check, first}
+use Rattle.list_actions.specs.Order.{first_again, is_among, made_later, made_twice, name_twice, order_check, orders_check, outputs_of}
+use Rattle.list_actions.specs.Made.{maker_of, producer_from, producer_in}
 use Rattle.action_list.specs.Plans.{plan_action, plan_actions}
-use Rattle.list_order.proofs.Late.{is_among-append}
+use Rattle.list_actions.proofs.Late.{is_among-append}
 use Rattle.run_loading.specs.Works.{bytes_at, due_work, due_words, origin_of, with_words, work_action, work_input, work_inputs}
 use Rattle.proxy_steps.specs.Work.{IsMadeBy, IsWork}
 

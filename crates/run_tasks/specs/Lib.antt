@@ -1,4 +1,4 @@
 pub mod Course
 pub mod Tasks
 pub mod Laws
-pub mod Posts
+pub mod Setup

@@ -1,10 +1,15 @@
-//! What holds of the posts of all berths. The functions do nothing: they are laws.
-ghost use Rattle.run_tasks.specs.Laws.{PartsLaw, PostsLaw, SpeechLaw};
+//! What holds of the speeches of all berths, and of the commands of all groups. The functions do
+//! nothing: they are laws.
+ghost use Rattle.run_tasks.specs.Laws.{CommandsLaw, PartsLaw, SpeechLaw, SpeechesLaw};
 
-/// There is a post for each berth of the plan. It has the kind of the berth, and the speech and the
-/// command of the part of its group.
-pub fn posts_are_of_berths()
-    ensures { PostsLaw }
+/// There is a speech for each berth of the plan: that of the part of its group.
+pub fn speeches_are_of_berths()
+    ensures { SpeechesLaw }
+{}
+
+/// There is a command for each group of the plan: that of its part.
+pub fn commands_are_of_groups()
+    ensures { CommandsLaw }
 {}
 
 /// There is a part for each group of the plan.

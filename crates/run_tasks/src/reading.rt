@@ -1,32 +1,30 @@
 // What is read before anything is started: the words, the list, and what its actions read.
 ghost use Rattle.std.specs.Prelude.{◌≡◌, IfOk, map, string_bytes};
 ghost use Rattle.action_list.specs.Lists.{list_of};
-ghost use Rattle.list_order.specs.Whole.{IsWhole};
+ghost use Rattle.list_actions.specs.Whole.{IsWhole};
 ghost use Rattle.generated_list.specs.Generated.{generated_text};
 ghost use Rattle.outside.specs.Causes.{Counts};
 ghost use Rattle.outside.specs.Told.{SameFloor};
 ghost use Rattle.run_loading.specs.Reads.{IsFloorFailed, Leads, end_of};
 ghost use Rattle.tool_words.specs.Options.{AreInLimits, options_of};
 ghost use Rattle.run_tasks.specs.Course.{Course, GeneratedRead, ListGives, ListRead, OptionsRead, TaskRead};
-ghost use Rattle.run_tasks.specs.Tasks.{HasBerths, HasPosts, HasSoundPlans, HasWork};
+ghost use Rattle.run_tasks.specs.Tasks.{HasBerths, HasSettings, HasSoundPlans, HasWork};
+ghost use Rattle.run_plan.specs.Limits.{most_local_berths};
 
 use crate::task::{Task, task_of};
 use action_list::{ActionList, ListRefusal, read_list_with};
 use generated_list::generated_list;
 use outside::Floor;
 use run_loading::{RunFault, Stage, load_work, read_actions};
-use run_plan::Plan;
+use run_plan::{MOST_LOCAL_BERTHS, Plan};
 use std::alloc::Global;
 use tool_words::{Options, read_words};
-
-/// The most worker keys that a list may have.
-const KEYS: u32 = 48;
 
 /// What the words of a command come to before its lanes are started, and the plan once more: who
 /// schedules takes one, and who reports the other.
 ///
 /// In this order: the words are looked at; the list is read at its path, or generated; its actions'
-/// tools and source inputs are read; then the plan and the posts are made.
+/// tools and source inputs are read; then the plan is made, its commands and its speeches.
 ///
 /// # Errors
 ///
@@ -43,7 +41,7 @@ pub fn read_task<F: Floor>(
     ensures sound { IfOk result HasSoundPlans }
     ensures berths { IfOk result (λ made. HasBerths made.0.plan) }
     ensures work { IfOk result (λ made. HasWork made.0) }
-    ensures posts { IfOk result (λ made. HasPosts made.0) }
+    ensures settings { IfOk result (λ made. HasSettings made.0) }
     ensures floor { Counts (F.told floor.old).faults (F.told floor.new).faults
         (IsFloorFailed (end_of result)) }
     ensures files { SameFloor (F.told floor.old) (F.told floor.new) }
@@ -65,7 +63,7 @@ fn read_by_options<F: Floor>(
     ensures sound { IfOk result HasSoundPlans }
     ensures berths { IfOk result (λ made. HasBerths made.0.plan) }
     ensures work { IfOk result (λ made. HasWork made.0) }
-    ensures posts { IfOk result (λ made. HasPosts made.0) }
+    ensures settings { IfOk result (λ made. HasSettings made.0) }
     ensures floor { Counts (F.told floor.old).faults (F.told floor.new).faults
         (IsFloorFailed (end_of result)) }
     ensures files { SameFloor (F.told floor.old) (F.told floor.new) }
@@ -92,12 +90,12 @@ fn read_at<F: Floor>(
         (ListRead options.now path.now) }
     ensures sound { IfOk result HasSoundPlans }
     ensures work { IfOk result (λ made. HasWork made.0) }
-    ensures posts { IfOk result (λ made. HasPosts made.0) }
+    ensures settings { IfOk result (λ made. HasSettings made.0) }
     ensures floor { Counts (F.told floor.old).faults (F.told floor.new).faults
         (IsFloorFailed (end_of result)) }
     ensures files { SameFloor (F.told floor.old) (F.told floor.new) }
 {
-    let list = read_actions(alloc, path, KEYS, floor)?;
+    let list = read_actions(alloc, path, MOST_LOCAL_BERTHS, floor)?;
     read_by_list(alloc, floor, options, &list, false)
 }
 
@@ -113,7 +111,7 @@ fn read_generated<F: Floor>(
         (GeneratedRead options.now actions) }
     ensures sound { IfOk result HasSoundPlans }
     ensures work { IfOk result (λ made. HasWork made.0) }
-    ensures posts { IfOk result (λ made. HasPosts made.0) }
+    ensures settings { IfOk result (λ made. HasSettings made.0) }
     ensures floor { Counts (F.told floor.old).faults (F.told floor.new).faults
         (IsFloorFailed (end_of result)) }
     ensures files { SameFloor (F.told floor.old) (F.told floor.new) }
@@ -124,11 +122,11 @@ fn read_generated<F: Floor>(
 
 // The list of so many actions that is generated, read as a list's bytes are.
 fn list_generated(alloc: Global, actions: u32) -> Result<ActionList, RunFault>
-    ensures list { ListGives (list_of 48 (generated_text actions)) result }
+    ensures list { ListGives (list_of most_local_berths (generated_text actions)) result }
     ensures whole { IfOk result (λ list. IsWhole list.actions) }
 {
     let bytes = generated_list(alloc, actions)?;
-    match read_list_with(alloc, bytes.as_slice(), KEYS) {
+    match read_list_with(alloc, bytes.as_slice(), MOST_LOCAL_BERTHS) {
         Ok(list) => Ok(list),
         Err(ListRefusal::Fault(fault)) => Err(RunFault::List(fault)),
         Err(ListRefusal::NoMemory) => Err(RunFault::NoMemory(Stage::Before)),
@@ -149,7 +147,7 @@ fn read_by_list<F: Floor>(
         (TaskRead options.now short list.now) }
     ensures sound { IfOk result HasSoundPlans }
     ensures work { IfOk result (λ made. HasWork made.0) }
-    ensures posts { IfOk result (λ made. HasPosts made.0) }
+    ensures settings { IfOk result (λ made. HasSettings made.0) }
     ensures floor { Counts (F.told floor.old).faults (F.told floor.new).faults
         (IsFloorFailed (end_of result)) }
     ensures files { SameFloor (F.told floor.old) (F.told floor.new) }

@@ -1,16 +1,15 @@
 // What a list comes to, made of the list, its work and the options.
 ghost use Rattle.std.specs.Prelude.{◌≡◌, IfOk};
 ghost use Rattle.run_plan.specs.Sound.{Sound};
-ghost use Rattle.list_order.specs.Whole.{IsWhole};
+ghost use Rattle.list_actions.specs.Whole.{IsWhole};
 ghost use Rattle.tool_words.specs.Options.{AreInLimits};
-ghost use Rattle.run_tasks.specs.Tasks.{HasPosts, HasSoundPlans, IsTaskOf, plan_by};
+ghost use Rattle.run_tasks.specs.Tasks.{HasSettings, HasSoundPlans, IsTaskOf, plan_by};
 
-use crate::posts::posts_of;
+use crate::setup::{commands_of, speeches_of};
 use action_list::{ActionList, group_parts, plan, plan_again};
-use plain_values::NoMemory;
-use proxy_deeds::Post;
+use plain_values::{Command, NoMemory};
 use remote_messages::Work;
-use run_plan::Plan;
+use run_plan::{Plan, Speech};
 use std::alloc::Global;
 use tool_words::Options;
 
@@ -19,8 +18,12 @@ use tool_words::Options;
 pub struct Task {
     /// The plan of the list.
     pub plan: Plan,
-    /// What the proxy lane of each berth goes by.
-    pub posts: Vec<Post>,
+    /// What is started for the lines of each group, by the groups' numbers.
+    pub commands: Vec<Command>,
+    /// What is spoken at each berth, by the berths' numbers.
+    pub speeches: Vec<Speech>,
+    /// Workers are asked to say more.
+    pub verbose: bool,
     /// The work of its actions.
     pub work: Work,
     /// The report is the line of totals alone: the list was generated.
@@ -44,7 +47,7 @@ pub fn task_of(
     ensures task { IfOk result (IsTaskOf options.now list.now.actions short) }
     ensures work { IfOk result (λ made. made.0.work ≡ work) }
     ensures sound { IfOk result HasSoundPlans }
-    ensures posts { IfOk result (λ made. HasPosts made.0) }
+    ensures settings { IfOk result (λ made. HasSettings made.0) }
 {
     let plan = plan_of(alloc, options, list)?;
     let parts = group_parts(
@@ -54,11 +57,14 @@ pub fn task_of(
         options.extra.as_slice(),
         options.executor.as_str(),
     )?;
-    let posts = posts_of(alloc, &plan, parts.as_slice(), options.verbose)?;
+    let commands = commands_of(alloc, parts.as_slice())?;
+    let speeches = speeches_of(alloc, &plan, parts.as_slice())?;
     let twin = plan_again(alloc, &plan)?;
     let task = Task {
         plan,
-        posts,
+        commands,
+        speeches,
+        verbose: options.verbose,
         work,
         short,
     };

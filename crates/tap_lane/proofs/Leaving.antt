@@ -12,8 +12,8 @@ use Rattle.exec_journal.specs.declared.reply.Reply.TheVariants as reply
 use Rattle.core_contract.specs.Moves.{Past, History}
 use Rattle.core_contract.specs.Laws.{hearing_of, Free, Hears, Over}
 use Rattle.tap_lane.specs.declared.ends.EndedTap.{EndedTap}
-use Rattle.tap_lane.specs.declared.ends.Want.{Want}
-use Rattle.tap_lane.specs.declared.ends.Want.TheVariants as want
+use Rattle.tap_lane.specs.declared.ends.TapHalt.{TapHalt}
+use Rattle.tap_lane.specs.declared.ends.TapHalt.TheVariants as want
 use Rattle.tap_lane.specs.Heard.{HasHeard, HeardWhole}
 use Rattle.tap_lane.specs.Lane.{Whole, Runs, CutShort, RunsUntil, HeardUntil, LaneEnds, ToHalt}
 use Rattle.tap_lane.specs.Working.{IsSameLane, own, number}
@@ -83,7 +83,7 @@ module _ (s : Speech) (lane : ℕ) where
     are = h.2 ∙ (ap (λ (x : History). x ++ h.0) grown ∙ append_assoc own (took l ∷ []) h.0);
   }
 
-  cut_by : (w : Want) (ts : List (ℕ × TapTold)) (l : ℕ) (t : TapTold) (own own' own'' : History)
+  cut_by : (w : TapHalt) (ts : List (ℕ × TapTold)) (l : ℕ) (t : TapTold) (own own' own'' : History)
       → Runs s lane ts own → own' ≡ own ++ took l ∷ [] → HeardUntil w s l t own' own''
       → RunsUntil s lane w (ts ++ (l, t) ∷ []) own''
   cut_by want.Line ts l t own own' own'' runs grown h = absurd h
@@ -133,7 +133,7 @@ module _ (s : Speech) (lane : ℕ) where
         (runs_more (map back taps) own w.0 (l, t) runs w.1))
 
     -- or not to its end
-    halts_line : (w : Want) (l : ℕ) (t : TapTold) (taps taps' taps'' : List (EndedTap T))
+    halts_line : (w : TapHalt) (l : ℕ) (t : TapTold) (taps taps' taps'' : List (EndedTap T))
         (x : EndedTap T) (own own' own'' : History) (first : ℕ) → back x ≡ (l, t)
         → taps' ≡ taps → taps'' ≡ taps' ++ x ∷ [] → first ≡ lane
         → Runs s lane (map back taps) own
@@ -170,7 +170,7 @@ module _ (s : Speech) (lane : ℕ) where
     )
 
   -- a lane that was to halt has halted
-  halted_now : (w : Want) (first : ℕ) (ts : List (ℕ × TapTold)) (own own' : History)
+  halted_now : (w : TapHalt) (first : ℕ) (ts : List (ℕ × TapTold)) (own own' : History)
       → first ≡ lane → ToHalt s lane ts own w
       → own' ≡ own ++ entry first call.Halt reply.Noted ∷ []
       → LaneEnds s lane (Some w) ts own'
@@ -198,7 +198,7 @@ module _ {M G Q : Type 0} {g : Ghosts M Call Reply G Q} {T : Type 0}
         (subst (λ (s : Speech). HeardWhole s (number x') l t (own x') (own x''))
         (first.speech ∙ so_far.speech) heard)
 
-    pub one_cut : (w : Want) → HeardUntil w x'.speech l t (own x') (own x'')
+    pub one_cut : (w : TapHalt) → HeardUntil w x'.speech l t (own x') (own x'')
         → hearing_of (own x'') ≡ Hears l
         → ToHalt x0.speech (number x0) (map back taps'') (own x'') w
     one_cut w heard hears =

@@ -50,7 +50,7 @@ EndedBy end.TapFault t = (0 < t.faults) × IsOpen t
 EndedBy end.BadFrame t = IsOpen t
 EndedBy end.Long t = IsOpen t × IfSome t.taken (λ bytes. 2 ^ 40 ≤ length bytes)
 
--- why it has ended; or it hasn't, and memory was wanted for bytes that were taken
+-- why it has ended; or it hasn't, and memory ran out for bytes that were taken
 abbrev pub StandsAt : Option HowEnded → TapTold → Type 0
 StandsAt (Some how) t = EndedBy how t
 StandsAt None t = IsOpen t × IfSome t.taken (λ bytes. 0 < length bytes)

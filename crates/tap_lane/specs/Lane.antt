@@ -8,12 +8,12 @@ use Rattle.exec_journal.specs.declared.call.HowEnded.{HowEnded}
 use Rattle.exec_journal.specs.declared.reply.Reply.TheVariants as reply
 use Rattle.core_contract.specs.Moves.{History}
 use Rattle.core_contract.specs.Laws.{hearing_of, Over}
-use Rattle.tap_lane.specs.declared.ends.Want.{Want}
-use Rattle.tap_lane.specs.declared.ends.Want.TheVariants as want
+use Rattle.tap_lane.specs.declared.ends.TapHalt.{TapHalt}
+use Rattle.tap_lane.specs.declared.ends.TapHalt.TheVariants as want
 use Rattle.tap_lane.specs.Heard.{HeardOf, HasHeard}
 
--- how far a line was heard when memory was wanted
-abbrev pub HeardUntil : Want → Speech → ℕ → TapTold → History → History → Type 0
+-- how far a line was heard when memory ran out
+abbrev pub HeardUntil : TapHalt → Speech → ℕ → TapTold → History → History → Type 0
 HeardUntil want.Line s l t own own' = ⊥
 HeardUntil want.Answers s l t own own' = HasHeard s l t None own own'
 HeardUntil (want.End how) s l t own own' = HasHeard s l t (Some how) own own'
@@ -45,19 +45,19 @@ module _ (s : Speech) (lane : ℕ) where
     pub heard : HeardOf s last.0 last.1 how made
     pub are : es ≡ lines ++ entry lane call.Take (reply.Line last.0) ∷ made
 
-  -- what the lane had made when memory was wanted
-  abbrev pub RunsUntil : Want → List (ℕ × TapTold) → History → Type 0
+  -- what the lane had made when memory ran out
+  abbrev pub RunsUntil : TapHalt → List (ℕ × TapTold) → History → Type 0
   RunsUntil want.Line taps es = Runs taps es
   RunsUntil want.Answers taps es = CutShort None taps es
   RunsUntil (want.End how) taps es = CutShort (Some how) taps es
 
   -- Its entries, by why it has halted, if it has. Else it was told to stop.
-  abbrev pub LaneEnds : Option Want → List (ℕ × TapTold) → History → Type 0
+  abbrev pub LaneEnds : Option TapHalt → List (ℕ × TapTold) → History → Type 0
   LaneEnds None taps mine =
       (es : History) × Runs taps es × (mine ≡ es ++ entry lane call.Take reply.Stop ∷ [])
   LaneEnds (Some w) taps mine =
       (es : History) × RunsUntil w taps es × (mine ≡ es ++ entry lane call.Halt reply.Noted ∷ [])
 
   -- the lane, which isn't over, is to halt
-  abbrev pub ToHalt : List (ℕ × TapTold) → History → Want → Type 0
+  abbrev pub ToHalt : List (ℕ × TapTold) → History → TapHalt → Type 0
   ToHalt taps mine w = RunsUntil w taps mine × (hearing_of mine ≡ Over → ⊥)

@@ -12,7 +12,7 @@ pub struct EndedTap<T> {
 
 /// What there was no memory for when a lane halted. Nothing else makes a lane halt.
 #[derive(Clone, Copy, PartialEq, Eq)]
-pub enum Want {
+pub enum TapHalt {
     /// To take a line, between two of them.
     Line,
     /// For bytes or an answer of a line that hadn't ended.
@@ -27,5 +27,5 @@ pub struct TapLeft<T> {
     /// The taps that it took, in the order of their lines.
     pub taps: Vec<EndedTap<T>>,
     /// Why it has halted, if it wasn't told to stop.
-    pub halted: Option<Want>,
+    pub halted: Option<TapHalt>,
 }

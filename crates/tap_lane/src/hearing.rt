@@ -10,7 +10,7 @@ ghost use Rattle.tap_lane.specs.Heard.{Went, AfterAll, HasHeard, HeardWhole};
 ghost use Rattle.tap_lane.specs.Lane.{HeardUntil};
 ghost use Rattle.tap_lane.specs.Working.{IsAt, IsSameLane, own, number};
 
-use crate::ends::Want;
+use crate::ends::TapHalt;
 use crate::lane::TapLane;
 use answer_reader::{AnswerReader, Spoken};
 use core_bench::Bench;
@@ -32,7 +32,12 @@ impl<'a, B: Berth, P: Place, C: Rules> TapLane<'a, Bench<B, P, C>> {
     /// # Errors
     ///
     /// What there was no memory for. The line's end wasn't told then.
-    pub(crate) fn hear<R: Wait>(&mut self, rt: &R, line: u32, tap: &mut B::Tap) -> Result<(), Want>
+    pub(crate) fn hear<R: Wait>(
+        &mut self,
+        rt: &R,
+        line: u32,
+        tap: &mut B::Tap,
+    ) -> Result<(), TapHalt>
         requires hears { IsAt C.terms (laws.Hears line) self.old }
         requires tap { IsTapOf B.Tap.told line tap.old }
         ensures same { IsSameLane self.old self.new }
@@ -44,15 +49,15 @@ impl<'a, B: Berth, P: Place, C: Rules> TapLane<'a, Bench<B, P, C>> {
             × (hearing_of (own self.new) ≡ laws.Hears line)) }
     {
         let Ok(how) = self.listen(rt, line, tap) else {
-            return Err(Want::Answers);
+            return Err(TapHalt::Answers);
         };
         match self.tell_end(rt, line, how) {
             Ok(()) => Ok(()),
-            Err(NoMemory) => Err(Want::End(how)),
+            Err(NoMemory) => Err(TapHalt::End(how)),
         }
     }
 
-    // Tells each answer of a line, up to its end. Memory is wanted only for bytes that were taken,
+    // Tells each answer of a line, up to its end. Memory runs out only for bytes that were taken,
     // while the tap is open.
     fn listen<R: Wait>(&mut self, rt: &R, line: u32, tap: &mut B::Tap) -> Result<HowEnded, NoMemory>
         requires hears { IsAt C.terms (laws.Hears line) self.old }

@@ -6,7 +6,7 @@ ghost use Rattle.tap_lane.specs.Lane.{LaneEnds, ToHalt};
 ghost use Rattle.tap_lane.specs.Working.{IsAt, IsSameLane, own, number};
 
 use crate::calls::Took;
-use crate::ends::{EndedTap, TapLeft, Want};
+use crate::ends::{EndedTap, TapHalt, TapLeft};
 use core_bench::Bench;
 use core_contract::Rules;
 use lane_crew::Caller;
@@ -26,7 +26,7 @@ pub(crate) struct TapLane<'a, M: Machine> {
 }
 
 impl<'a, B: Berth, P: Place, C: Rules> TapLane<'a, Bench<B, P, C>> {
-    /// Hears line after line, until the lane is told to stop, or memory is wanted. Then it halts.
+    /// Hears line after line, until the lane is told to stop, or memory runs out. Then it halts.
     pub(crate) fn hear_all<R: Wait>(&mut self, rt: &R) -> TapLeft<B::Tap>
         requires free { IsAt C.terms Free self.old }
         requires fresh { own self.old ≡ [] }
@@ -46,7 +46,11 @@ impl<'a, B: Berth, P: Place, C: Rules> TapLane<'a, Bench<B, P, C>> {
     }
 
     // Hears line after line, until the lane is told to stop.
-    fn hear_lines<R: Wait>(&mut self, rt: &R, taps: &mut Vec<EndedTap<B::Tap>>) -> Result<(), Want>
+    fn hear_lines<R: Wait>(
+        &mut self,
+        rt: &R,
+        taps: &mut Vec<EndedTap<B::Tap>>,
+    ) -> Result<(), TapHalt>
         requires free { IsAt C.terms Free self.old }
         requires fresh { (own self.old ≡ []) × (taps.old.items ≡ []) }
         ensures same { IsSameLane self.old self.new }
@@ -57,7 +61,7 @@ impl<'a, B: Berth, P: Place, C: Rules> TapLane<'a, Bench<B, P, C>> {
     {
         for _ in rt.forever() {
             if taps.reserve(1).is_err() {
-                return Err(Want::Line);
+                return Err(TapHalt::Line);
             }
             match self.take(rt) {
                 Ok(Took::Line(line, mut tap)) => {
@@ -66,7 +70,7 @@ impl<'a, B: Berth, P: Place, C: Rules> TapLane<'a, Bench<B, P, C>> {
                     heard?;
                 }
                 Ok(Took::Stop) => return Ok(()),
-                Err(NoMemory) => return Err(Want::Line),
+                Err(NoMemory) => return Err(TapHalt::Line),
             }
         }
         unreachable!()

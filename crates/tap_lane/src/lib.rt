@@ -10,5 +10,5 @@ mod hearing;
 mod lane;
 mod seat;
 
-pub use ends::{EndedTap, TapLeft, Want};
+pub use ends::{EndedTap, TapHalt, TapLeft};
 pub use seat::TapSeat;

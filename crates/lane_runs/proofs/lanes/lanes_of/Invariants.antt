@@ -1,17 +1,20 @@
 use Rattle.std.proofs.Common.{◌≡◌, ◌≤◌, ◌+◌, ◌-◌, ◌*◌, List, ◌++◌, length, drop, vec_len, vec_capacity}
-use Rattle.lane_crew.specs.declared.pair.OfTwo.{OfTwo}
+use Rattle.lane_crew.specs.declared.pair.Either.{Either}
 use Rattle.lane_runs.specs.declared.proxies.ProxySeat.{ProxySeat}
 use Rattle.tap_lane.specs.declared.seat.TapSeat.{TapSeat}
 use Rattle.lane_runs.specs.Seats.{AreSeats}
 use Rattle.lane_runs.proofs.lanes.lanes_of.Given as goal
 
 -- Whatever lanes the berths to come have, these stand before them.
-abbrev pub invariant-loop-post : goal.invariant-loop-post
-invariant-loop-post g l = record {
-  numbered : l.number ≡ l.post-index;
-  as_many : length l.rest.items ≡ length (drop l.post-index l.fn.posts);
-  so_far : (more : List (OfTwo (ProxySeat g.row.B.Denot) TapSeat))
-      → AreSeats l.fn.actions l.post-index l.rest.items (drop l.post-index l.fn.posts) more
-      → AreSeats l.fn.actions 0 l.fn.berths.items l.fn.posts (l.lanes.items ++ more);
-  room : vec_len l.lanes + 2 * (length l.fn.posts - l.post-index) ≤ vec_capacity l.lanes;
-}
+abbrev pub invariant-loop-speech : goal.invariant-loop-speech
+invariant-loop-speech g l =
+    let m = l.means in
+    let ss = m.speeches.now in record {
+      numbered : l.number ≡ l.speech-index;
+      as_many : length l.rest.items ≡ length (drop l.speech-index ss);
+      so_far : (more : List (Either (ProxySeat g.row.B.Denot) TapSeat))
+          → AreSeats m.settings.now m.actions.now l.speech-index l.rest.items
+          (drop l.speech-index ss) more
+          → AreSeats m.settings.now m.actions.now 0 l.fn.berths.items ss (l.lanes.items ++ more);
+      room : vec_len l.lanes + 2 * (length ss - l.speech-index) ≤ vec_capacity l.lanes;
+    }

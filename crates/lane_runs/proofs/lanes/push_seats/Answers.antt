@@ -9,15 +9,16 @@ returns-clause-seats g c =
         alloc = c.args.alloc;
         berth = c.args.berth;
         number = c.args.number;
-        post = c.args.post;
-        actions = c.args.actions;
+        speech = c.args.speech;
+        settings = c.args.means.now.settings;
+        actions = c.args.means.now.actions;
       };
       heard = record {
         alloc = c.args.alloc;
         berth = c.args.number;
-        speech = c.args.post.now.speech;
+        speech = c.args.speech;
       };
-      is_proxy = (refl, refl, refl, refl);
+      is_proxy = (refl, refl, refl);
       is_tap = (refl, refl);
       grown = two_more c.args.lanes.now.items c.push_reserved.new.self.items
           c.push_reserved-2.new.self.items _ _ c.push_reserved.ensures.items

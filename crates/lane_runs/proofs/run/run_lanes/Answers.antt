@@ -1,11 +1,12 @@
 use Rattle.std.proofs.Common.{◌+◌, ◌≤◌, ◌∙◌, List, length, refl, ap, sym, subst, arith}
-use Rattle.lane_crew.specs.declared.pair.OfTwo.{OfTwo}
+use Rattle.lane_crew.specs.declared.pair.Either.{Either}
 use Rattle.core_bench.specs.Objects.{AreFresh}
 use Rattle.lane_runs.specs.declared.proxies.ProxySeat.{ProxySeat}
 use Rattle.tap_lane.specs.declared.seat.TapSeat.{TapSeat}
-use Rattle.lane_runs.specs.Seats.{PostsFit, berths_in}
+use Rattle.proxy_deeds.specs.Settings.{AreOfPlan}
+use Rattle.lane_runs.specs.Seats.{SpeechesFit, berths_in}
 use Rattle.proxy_steps.specs.Work.{IsWorkOf}
-use Rattle.lane_runs.proofs.Running.{all_may}
+use Rattle.lane_runs.proofs.Running.{all_fit, all_may}
 use Rattle.lane_runs.proofs.Seating.{seated_berths}
 use Rattle.lane_runs.proofs.Crewed.{two_each, blank_suits, room_suits}
 use Rattle.lane_runs.proofs.Whole.{crewed}
@@ -13,7 +14,8 @@ use Rattle.lane_runs.proofs.run.run_lanes.Goals as goal
 
 pub run_crew-requires-clause-few : goal.run_crew-requires-clause-few
 run_crew-requires-clause-few g c κs within =
-    let two = two_each c.args.actions.now 0 c.args.unrun.berths.items c.args.posts.now
+    let m = c.args.means.now in
+    let two = two_each m.settings.now m.actions.now 0 c.args.unrun.berths.items m.speeches.now
     c.lanes_of-lanes.result.items c.lanes_of-lanes.ensures in
     let few = c.requires.few in
     omega (arith, two, few)
@@ -21,18 +23,20 @@ run_crew-requires-clause-few g c κs within =
 pub run_crew-requires-clause-may_run : goal.run_crew-requires-clause-may_run
 run_crew-requires-clause-may_run g c κs within =
     let r = g.C.Rules in
+    let m = c.args.means.now in
     let basis = sym c.in-Ok-new.ensures.basis in
-    let seats = c.requires.seats in
-    let few = c.requires.few in
+    let fewer = c.requires.seats in
     all_may _ r.terms r.rule g.B.Berth.told g.B.Feed.Feed.told
-    g.B.Tap.Tap.told g.B.Child.Child.told _ c.args.actions.now 0 c.args.unrun.berths.items
-    c.args.posts.now c.lanes_of-lanes.result.items c.lanes_of-lanes.ensures
-    (subst (λ (q : g.row.C-Plan.Denot). 0 + length c.args.posts.now ≤ (r.terms q).berths) basis
-    (omega (arith, seats)))
-    (subst (λ (q : g.row.C-Plan.Denot). (r.terms q).berths ≤ 64) basis (omega (arith, seats, few)))
-    (subst (λ (q : g.row.C-Plan.Denot). PostsFit (r.terms q).remote 0 c.args.posts.now) basis c.requires.posts)
-    (subst (λ (q : g.row.C-Plan.Denot). IsWorkOf (r.terms q)
-    c.args.actions.now) basis c.requires.work)
+    g.B.Tap.Tap.told g.B.Child.Child.told _ m.settings.now m.actions.now 0
+    c.args.unrun.berths.items m.speeches.now c.lanes_of-lanes.result.items c.lanes_of-lanes.ensures
+    (subst (λ (q : g.row.C-Plan.Denot). 0 + length m.speeches.now ≤ (r.terms q).berths) basis
+    (omega (arith, fewer)))
+    (subst (λ (q : g.row.C-Plan.Denot). AreOfPlan (r.terms q).plan m.settings.now) basis
+    c.requires.settings)
+    (all_fit _ m.speeches.now
+    (subst (λ (q : g.row.C-Plan.Denot). SpeechesFit (r.terms q).remote m.speeches.now) basis
+    c.requires.speeches))
+    (subst (λ (q : g.row.C-Plan.Denot). IsWorkOf (r.terms q) m.actions.now) basis c.requires.work)
 
 pub lay_out-requires : goal.lay_out-requires
 lay_out-requires g c =
@@ -43,8 +47,9 @@ lay_out-requires g c =
     g.B.Feed.Feed.told g.B.Tap.Tap.told g.B.Child.Child.told g.P.Place.told
     c.histories_say.ensures.laws c.lanes_of-lanes.result.items c.in-Ok-new.ensures.basis
     c.in-Ok-run_crew.ensures.stands.1 c.into_parts-core.ensures.basis c.requires.seats
-    (c.histories_say.ensures.stands c.into_parts-core.result.0 h parts.0) parts.1.taps parts.1.places
-    c.lanes_of-lanes.ensures c.in-Ok-run_crew.ensures.lanes in
+    (c.histories_say.ensures.stands c.into_parts-core.result.0 h parts.0) parts.1.taps
+    c.truncate.ensures.items parts.1.places c.lanes_of-lanes.ensures
+    c.in-Ok-run_crew.ensures.lanes c.in-Ok-run_crew.ensures.others in
     let lines = c.histories_say.ensures.fit (r.plan c.args.core) h crew.good in
     let most = c.most_lines-lines.ensures in
     let fits = c.most_lines-lines.type_inv in
@@ -66,8 +71,9 @@ returns-in-Ok-run_crew-clause-run g c =
     g.B.Feed.Feed.told g.B.Tap.Tap.told g.B.Child.Child.told g.P.Place.told
     c.histories_say.ensures.laws c.lanes_of-lanes.result.items c.in-Ok-new.ensures.basis
     c.in-Ok-run_crew.ensures.stands.1 c.into_parts-core.ensures.basis c.requires.seats
-    (c.histories_say.ensures.stands c.into_parts-core.result.0 h parts.0) parts.1.taps parts.1.places
-    c.lanes_of-lanes.ensures c.in-Ok-run_crew.ensures.lanes in
+    (c.histories_say.ensures.stands c.into_parts-core.result.0 h parts.0) parts.1.taps
+    c.truncate.ensures.items parts.1.places c.lanes_of-lanes.ensures
+    c.in-Ok-run_crew.ensures.lanes c.in-Ok-run_crew.ensures.others in
     crew.run c.lay_out.result c.lay_out.ensures
 
 pub returns-in-Err-clause-back : goal.returns-in-Err-clause-back
@@ -83,25 +89,28 @@ take_back-requires-clause-stands g c = c.in-Err-run_crew.ensures.back.1.0
 
 pub take_back-requires-clause-berths : goal.take_back-requires-clause-berths
 take_back-requires-clause-berths g c =
-    let same = ap (λ (ls : List (OfTwo (ProxySeat g.row.B.Denot) TapSeat)). length (berths_in ls))
+    let same = ap (λ (ls : List (Either (ProxySeat g.row.B.Denot) TapSeat)). length (berths_in ls))
     c.in-Err-run_crew.ensures.back.0 in
-    let all = ap length (seated_berths c.args.actions.now 0 c.args.unrun.berths.items c.args.posts.now
+    let m = c.args.means.now in
+    let all = ap length (seated_berths m.settings.now m.actions.now 0 c.args.unrun.berths.items
+    m.speeches.now
     c.lanes_of-lanes.result.items c.lanes_of-lanes.ensures) in
     let berths = c.requires.berths in
-    room_suits (length c.args.posts.now) _ c.in-Ok.blank.berths c.in-Ok.ensures.berths_fit
+    room_suits (length m.speeches.now) _ c.in-Ok.blank.berths c.in-Ok.ensures.berths_fit
     (omega (arith, same, all, berths))
 
 pub take_back-requires-clause-places : goal.take_back-requires-clause-places
 take_back-requires-clause-places g c =
     let all = c.requires.work.as_many in
     let same = ap (λ (q : g.row.C-Plan.Denot). (g.C.Rules.terms q).actions) (c.in-Err-run_crew.ensures.back.1.1 ∙ c.in-Ok-new.ensures.basis) in
-    room_suits (length c.args.actions.now) _ c.in-Ok.blank.places c.in-Ok.ensures.places_fit
+    room_suits (length c.args.means.now.actions.now) _ c.in-Ok.blank.places c.in-Ok.ensures.places_fit
     (omega (arith, all, same))
 
 pub returns-in-Err-run_crew-clause-back : goal.returns-in-Err-run_crew-clause-back
 returns-in-Err-run_crew-clause-back g c = (
   c.take_back.ensures.berths ∙ (ap berths_in c.in-Err-run_crew.ensures.back.0
-      ∙ seated_berths c.args.actions.now 0 c.args.unrun.berths.items c.args.posts.now
+      ∙ seated_berths c.args.means.now.settings.now c.args.means.now.actions.now 0
+      c.args.unrun.berths.items c.args.means.now.speeches.now
       c.lanes_of-lanes.result.items c.lanes_of-lanes.ensures),
   subst (λ (q : g.row.C-Plan.Denot). AreFresh g.P.Place.told (g.C.Rules.terms q).actions
       c.take_back.result.places.items)

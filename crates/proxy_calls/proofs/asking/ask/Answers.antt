@@ -4,7 +4,7 @@ use Rattle.core_contract.specs.Duties.{duty_of}
 use Rattle.core_bench.proofs.Own.{child_is_own}
 use Rattle.proxy_calls.proofs.Replies.{never_asked}
 use Rattle.proxy_calls.proofs.Entries.{legal_at}
-use Rattle.proxy_calls.proofs.Askings.{asked, lines_before, lines_after, order_holds, ask_may, gives_child}
+use Rattle.proxy_calls.proofs.Askings.{asked, lines_before, lines_after, order_holds, order_fits, ask_may, gives_child}
 use Rattle.proxy_calls.proofs.Making.{makes}
 use Rattle.proxy_calls.proofs.asking.ask.Goals as goal
 
@@ -53,6 +53,8 @@ returns-in-Ok-clause-ordered g c =
       made = asked rule p.lane w a.0 v.seen v.mine v'.seen v'.mine r k busy c.requires.lane.0;
       holds = order_holds rule p.lane w a.0 v.seen v.mine v'.seen v'.mine r k busy c.requires.lane.0
           (terms q).actions (law.orders_hold q a.0 p.lane legal) (child_is_own w);
+      fits = order_fits rule p.lane w a.0 v.seen v.mine v'.seen v'.mine r k busy c.requires.lane.0
+          (terms q) (law.orders_fit q a.0 p.lane legal);
       later = lines_before rule p.lane w a.0 v.seen v.mine v'.seen v'.mine r k busy c.requires.lane.0;
       lines_then = lines_after rule p.lane w a.0 v.seen v.mine v'.seen v'.mine r k busy c.requires.lane.0;
     }

@@ -13,7 +13,7 @@ returns-in-File-clause-told g c =
     let p = c.args.caller.now.pass in
     let law = g.met.C.Rules in
     let a = c.in-Ok.ensures.answer in
-    let may = may_look_made (g.C.Rules.terms p.seat.me.0.basis) c.args.berth p.seat.me.0.mine c.args.action
+    let may = may_look_made (g.C.Rules.terms p.seat.me.0.basis) c.args.berth p.seat.me.0.mine c.args.attempt
     c.args.maker c.requires.owes c.requires.made in
     look_told g.C.Rules.terms g.C.Rules.rule law.replies law.proxies_do c.args.berth p c.call.new.self.pass a.0
     c.requires.lane (wanted.Made c.args.maker.action c.args.maker.output) c.in-Ok.answer.0 may (a.1, a.2, a.3)
@@ -24,7 +24,7 @@ returns-in-File-clause-stays g c =
     let p = c.args.caller.now.pass in
     let law = g.met.C.Rules in
     let a = c.in-Ok.ensures.answer in
-    let may = may_look_made (g.C.Rules.terms p.seat.me.0.basis) c.args.berth p.seat.me.0.mine c.args.action
+    let may = may_look_made (g.C.Rules.terms p.seat.me.0.basis) c.args.berth p.seat.me.0.mine c.args.attempt
     c.args.maker c.requires.owes c.requires.made in
     record {
       same = c.call.ensures.same;
@@ -38,7 +38,7 @@ returns-in-Ok-clause-stays g c =
     let p = c.args.caller.now.pass in
     let law = g.met.C.Rules in
     let a = c.in-Ok.ensures.answer in
-    let may = may_look_made (g.C.Rules.terms p.seat.me.0.basis) c.args.berth p.seat.me.0.mine c.args.action
+    let may = may_look_made (g.C.Rules.terms p.seat.me.0.basis) c.args.berth p.seat.me.0.mine c.args.attempt
     c.args.maker c.requires.owes c.requires.made in
     record {
       same = c.call.ensures.same;
@@ -57,14 +57,14 @@ unreachable-requires g c =
     let a = c.in-Ok.ensures.answer in
     let x = wanted.Made c.args.maker.action c.args.maker.output in
     let asks : Call = call.Look x in
-    let may = may_look_made (g.C.Rules.terms q) w p.seat.me.0.mine c.args.action c.args.maker c.requires.owes
+    let may = may_look_made (g.C.Rules.terms q) w p.seat.me.0.mine c.args.attempt c.args.maker c.requires.owes
     c.requires.made in
     let legal = legal_at p a.0 (λ x h. g.C.Rules.legal x h) a.5
     (λ m h s. law.stands_legal m.core h s.0) in
     let owes = c.requires.owes in
-    let duty = duty_there p.lane w owes.0 owes.1 c.args.action a.0 p.seat.me.0.mine c.requires.lane.0
+    let duty = duty_there p.lane w owes.0 owes.1 c.args.attempt a.0 p.seat.me.0.mine c.requires.lane.0
     (own_at p.lane p.seat.me.0 a.0 a.1 p.idle.3) owes.2 in
-    let there = law.inputs_are_there q a.0 w owes.0 owes.1 c.args.action c.args.maker.action
+    let there = law.inputs_are_there q a.0 w owes.0 owes.1 c.args.attempt c.args.maker.action
     c.args.maker.output legal duty c.requires.made in
     look_found g.C.Rules.terms g.C.Rules.rule law.replies law.proxies_do w p c.call.new.self.pass a.0
     c.requires.lane x c.in-Ok.answer.0 may (a.1, a.2, a.3)

@@ -22,4 +22,4 @@ returns-in-Ok-clause-told g c =
     (may_launch (terms p.seat.me.0.basis) c.args.berth (duty_of p.seat.me.0.mine) c.args.line start.Done
     c.requires.owes) (a.1, a.2, a.3) never_noted in
     reports terms g.C.Rules.rule law.replies law.proxies_do c.args.berth p p' a.0 c.requires.lane report r k
-    (is_noted r k.fitting) (ap (λ (s : Duty). duty_by s report reply.Noted) c.requires.owes)
+    (is_noted r k.fitting) (ap (λ (s : Duty). duty_by s report reply.Noted) c.requires.owes.1)

@@ -1,4 +1,4 @@
-use Rattle.std.proofs.Common.{w32, to_z, of_z, ℕ, ℤ, Bool, true, false, List, length, [], refl, ap, sym, subst, ◌∙◌, SFits, rules as facts}
+use Rattle.std.proofs.Common.{w32, to_z, of_z, ℕ, ℤ, Bool, true, false, List, length, [], refl, sym, subst, ◌∙◌, SFits, rules as facts}
 use Rattle.std.proofs.Math.Facts.{to_z-of_z}
 use Rattle.exec_journal.specs.declared.call.Found.TheVariants as found
 use Rattle.sandbox_rooms.specs.declared.room.Room.{Room}
@@ -6,11 +6,12 @@ use Rattle.sandbox_rooms.specs.Calls.{Asked}
 use Rattle.sandbox_rooms.specs.Rooms.{gather_asks}
 use Rattle.sandbox_rooms.proofs.Runs.{made_none}
 use Rattle.order_acts.specs.Acts.{ReportsLooks}
-use Rattle.run_plan.specs.Groups.{is_remote}
+use Rattle.proxy_deeds.specs.Settings.{speaks_remote}
 use Rattle.due_frames.specs.Requests.{room_for}
 use Rattle.seat_desk.specs.Passes.{basis, seen}
 use Rattle.proxy_deeds.specs.Deeds.{FoundIn, look_asks}
 use Rattle.proxy_steps.proofs.Acting.{gather_none, gather_answered, gather_looked}
+use Rattle.proxy_lane.specs.Sites.{means_at}
 use Rattle.proxy_lane.proofs.gathering.act_gather.Goals as goal
 
 exit_in : (r : Bool) (asks : List Asked) (outputs l : ℕ) (n x : ℤ)
@@ -28,31 +29,34 @@ refused_in false asks outputs l n = (refl, refl, refl)
 pub returns-then-answer-ne0-clause-acts : goal.returns-then-answer-ne0-clause-acts
 returns-then-answer-ne0-clause-acts g c =
     let p = c.args.caller.now.pass in
-    let post = c.args.site.now.post.now in
+    let means = means_at c.args.site.now in
+    let t = c.args.answer.now.attempt in
     let work = c.args.work.now in
     let b = g.B.Berth.told c.args.berth.now in
-    gather_none post (g.C.Rules.rule (basis p)) p.lane c.args.answer.now.line c.args.answer.now.number work (seen p)
+    gather_none means t (g.C.Rules.rule (basis p)) p.lane c.args.answer.now.line c.args.answer.now.number work (seen p)
     (found.Exit (to_z w32 (of_z w32 c.args.answer.now.exit))) b
-    (exit_in (is_remote post.kind) (look_asks post c.args.answer.now.number work) (length work.outputs) c.args.answer.now.line
+    (exit_in (speaks_remote means.speech) (look_asks means t c.args.answer.now.number work) (length work.outputs) c.args.answer.now.line
     c.args.answer.now.number (to_z w32 (of_z w32 c.args.answer.now.exit))) (made_none b)
 
 pub returns-then-answer-clause-acts : goal.returns-then-answer-clause-acts
 returns-then-answer-clause-acts g c =
     let p = c.args.caller.now.pass in
-    let post = c.args.site.now.post.now in
+    let means = means_at c.args.site.now in
+    let t = c.args.answer.now.attempt in
     let work = c.args.work.now in
     let b = g.B.Berth.told c.args.berth.now in
-    gather_none post (g.C.Rules.rule (basis p)) p.lane c.args.answer.now.line c.args.answer.now.number work (seen p)
+    gather_none means t (g.C.Rules.rule (basis p)) p.lane c.args.answer.now.line c.args.answer.now.number work (seen p)
     found.Refused b
-    (refused_in (is_remote post.kind) (look_asks post c.args.answer.now.number work) (length work.outputs)
+    (refused_in (speaks_remote means.speech) (look_asks means t c.args.answer.now.number work) (length work.outputs)
     c.args.answer.now.line c.args.answer.now.number) (made_none b)
 
 pub returns-then-is_executor-clause-acts : goal.returns-then-is_executor-clause-acts
 returns-then-is_executor-clause-acts g c =
     let p = c.args.caller.now.pass in
-    let post = c.args.site.now.post.now in
+    let means = means_at c.args.site.now in
+    let t = c.args.answer.now.attempt in
     let work = c.args.work.now in
-    gather_answered post (g.C.Rules.rule (basis p)) p.lane c.args.answer.now.line c.args.answer.now.number work (seen c.answered.new.caller.pass) c.answered.result
+    gather_answered means t (g.C.Rules.rule (basis p)) p.lane c.args.answer.now.line c.args.answer.now.number work (seen c.answered.new.caller.pass) c.answered.result
     (g.B.Berth.told c.args.berth.now) (sym c.is_executor.ensures ∙ c.if-is_executor.true)
     c.answered.ensures.answered
 
@@ -60,12 +64,14 @@ pub returns-clause-acts : goal.returns-clause-acts
 returns-clause-acts g c =
     let fits : SFits w32 c.args.answer.now.number = search facts in
     let p = c.args.caller.now.pass in
-    let post = c.args.site.now.post.now in
+    let means = means_at c.args.site.now in
+    let t = c.args.answer.now.attempt in
     let work = c.args.work.now in
     let old = g.B.Berth.told c.args.berth.now in
     let new = g.B.Berth.told c.gather_line.new.berth in
-    let room = c.room_of-room.ensures ∙ ap (room_for post.kind) (to_z-of_z fits) in
-    gather_looked post (g.C.Rules.rule (basis p)) p.lane c.args.answer.now.line c.args.answer.now.number work (seen p)
+    let room = c.room_of-room.ensures
+    ∙ (λ i. room_for (c.kind_of-kind.ensures i) (to_z-of_z fits i)) in
+    gather_looked means t (g.C.Rules.rule (basis p)) p.lane c.args.answer.now.line c.args.answer.now.number work (seen p)
     c.gather_line.result old new (sym c.is_executor.ensures ∙ c.if-is_executor.false)
     (subst (λ (r : Room). ReportsLooks (gather_asks r work.outputs) c.gather_line.result old new) room
     (subst (λ xs. ReportsLooks (gather_asks c.room_of-room.result xs) c.gather_line.result old new)

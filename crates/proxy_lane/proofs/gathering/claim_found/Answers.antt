@@ -17,7 +17,7 @@ use Rattle.exec_journal.specs.Entries.{same_attempt}
 use Rattle.core_contract.specs.Duties.{Duty, Asks, Launches, Sends, Cancels, Gathers, Commits, Kills, Left, duty_of, may_do}
 use Rattle.core_bench.specs.Objects.{IsPlaceAt}
 use Rattle.proxy_calls.specs.Claims.{claim_of, IsGranted, OwesCommit}
-use Rattle.proxy_deeds.specs.declared.cause.Cause.{Cause}
+use Rattle.proxy_deeds.specs.declared.halt.ProxyHalt.{ProxyHalt}
 use Rattle.proxy_steps.specs.Steps.{files_in, IsCauseOfClaim}
 use Rattle.proxy_steps.proofs.Sends.{starts_later}
 use Rattle.proxy_steps.proofs.Serving.{proxy_on, by_rules}
@@ -74,8 +74,8 @@ claim_fits terms w (Gathers l n u exit refused) t fs e =
     (second (same_attempt t u) _ e)
 claim_fits terms w Asks t fs e = absurd (cc)
 claim_fits terms w Left t fs e = absurd (cc)
-claim_fits terms w (Launches l) t fs e = absurd (cc)
-claim_fits terms w (Sends l n a) t fs e = absurd (cc)
+claim_fits terms w (Launches l u) t fs e = absurd (cc)
+claim_fits terms w (Sends l n u) t fs e = absurd (cc)
 claim_fits terms w (Cancels l n) t fs e = absurd (cc)
 claim_fits terms w (Commits a b gs) t fs e = absurd (cc)
 claim_fits terms w (Kills l) t fs e = absurd (cc)
@@ -183,7 +183,7 @@ returns-in-Ok g c =
       claims = tt;
       refused = (
         x.1,
-        subst (λ (by : Cause). IsCauseOfClaim c.args.attempt c.args.found by) (sym x.0) refl,
+        subst (λ (by : ProxyHalt). IsCauseOfClaim c.args.attempt c.args.found by) (sym x.0) refl,
       );
     }
 

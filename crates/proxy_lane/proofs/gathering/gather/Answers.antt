@@ -7,7 +7,7 @@ use Rattle.exec_journal.specs.declared.attempt.Attempt.{Attempt}
 use Rattle.exec_journal.specs.declared.call.Call.{Call}
 use Rattle.exec_journal.specs.declared.call.Found.{Found}
 use Rattle.exec_journal.specs.declared.reply.Reply.{Reply}
-use Rattle.proxy_deeds.specs.declared.cause.Cause.{Cause}
+use Rattle.proxy_deeds.specs.declared.halt.ProxyHalt.{ProxyHalt}
 use Rattle.core_contract.specs.Shelf.{child_at}
 use Rattle.core_contract.specs.Duties.{Asks, duty_of, proxy_lane}
 use Rattle.proxy_calls.specs.Calls.{MakesNone}
@@ -16,11 +16,12 @@ use Rattle.proxy_steps.specs.Steps.{ClaimsFound, IsCauseOfClaim}
 use Rattle.proxy_steps.proofs.Shelving.{claim_shelved}
 use Rattle.proxy_steps.proofs.Founds.{gather_goes, gather_cut, claim_halts}
 use Rattle.proxy_lane.proofs.Siting.{obeys_by, same_on, site_on, stays_at, still_tidy, work_on}
+use Rattle.proxy_lane.specs.Sites.{means_at}
 use Rattle.proxy_lane.proofs.gathering.gather.Goals as goal
 
 -- a Claim and a Committed leave the child on the shelf
 claimed_shelved : {M G Q A : Type 0} {g : Ghosts M Call Reply G Q} (w : ℕ) (t : Attempt) (f : Found)
-    (p p1 p2 : Pass M Call Reply G Q g) (r : Result A Cause) → p.lane ≡ proxy_lane w
+    (p p1 p2 : Pass M Call Reply G Q g) (r : Result A ProxyHalt) → p.lane ≡ proxy_lane w
     → MakesNone p p1 → p1.lane ≡ p.lane
     → OnOk r ((duty_of (mine p2) ≡ Asks) × ClaimsFound t f p1 p2)
     → IfErr r (λ by. MakesNone p1 p2 × IsCauseOfClaim t f by)
@@ -37,6 +38,7 @@ pub act_gather-requires : goal.act_gather-requires
 act_gather-requires g c = record {
   at_site = c.requires.at_site;
   owes = c.requires.may.0;
+  group = c.requires.may.3;
   of_action = c.requires.at_site.work.each c.args.answer.now.attempt.action c.action_at-work.result.now
       c.action_at-work.ensures;
 }
@@ -67,7 +69,7 @@ returns-in-Err g c =
       same = stays.same;
       tidy = still_tidy c.args.site.now p p1 c.args.hands.now _
           (ap (child_at c.args.site.now.berth) stays.none.1) refl c.requires.may.1 c.requires.room;
-      goes = gather_cut c.args.site.now.post.now c.args.site.now.actions.now g.C.Rules.rule p p1 p1 h x.line x.number
+      goes = gather_cut (means_at c.args.site.now) g.C.Rules.rule p p1 p1 h x.line x.number
           x.attempt x.exit x.refused c.requires.may.0 c.action_at-work.result.now c.action_at-work.ensures stays.none
           stays.same.1 (g.B.Berth.told c.act_gather.new.berth) c.in-Err.field-0 c.in-Err.ensures.acts
           (stays_at p1).none;
@@ -75,8 +77,7 @@ returns-in-Err g c =
 
 pub returns-in-Ok : goal.returns-in-Ok
 returns-in-Ok g c =
-    let post = c.args.site.now.post.now in
-    let actions = c.args.site.now.actions.now in
+    let means = means_at c.args.site.now in
     let rule = g.C.Rules.rule in
     let p = c.args.caller.now.pass in
     let p1 = c.act_gather.new.caller.pass in
@@ -103,10 +104,10 @@ returns-in-Ok g c =
           (λ by. MakesNone p1 p2 × IsCauseOfClaim x.attempt f by)
           (λ y. (
             y.0,
-            gather_goes post actions rule p p1 p2 h x.line x.number x.attempt x.exit x.refused duty work of
+            gather_goes means rule p p1 p2 h x.line x.number x.attempt x.exit x.refused duty work of
                 stays.none stays.same.1 new f acts y.1,
           ))
-          (λ by y. claim_halts post actions rule p p1 p2 h x.line x.number x.attempt x.exit x.refused duty work of
+          (λ by y. claim_halts means rule p p1 p2 h x.line x.number x.attempt x.exit x.refused duty work of
           stays.none stays.same.1 new f by acts y.0 y.1)
           claims.claims claims.refused;
     }

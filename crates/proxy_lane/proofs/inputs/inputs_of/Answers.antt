@@ -61,7 +61,7 @@ pub content_of-requires-clause-made : goal.content_of-requires-clause-made
 content_of-requires-clause-made g c =
     let p = c.args.caller.now.pass in
     let x = c.input-item.result in
-    let a = c.args.request.now.action in
+    let a = c.args.request.now.attempt.action in
     let inputs = c.as_slice-inputs.result.now in
     let Made : WorkInput → Type 0 = λ i. IsMadeBy ((g.C.Rules.terms (basis p)).makers a) i.origin in
     by_rules (λ q. IsMadeBy ((g.C.Rules.terms q).makers a) x.origin) p c.loop-input.caller.pass

@@ -6,6 +6,7 @@ use Rattle.proxy_steps.proofs.Acting.{closed_line}
 use Rattle.proxy_steps.proofs.Shelving.{told_shelved}
 use Rattle.proxy_steps.proofs.Ending.{kill_goes, kill_halts}
 use Rattle.proxy_lane.proofs.Siting.{obeys_told}
+use Rattle.proxy_lane.specs.Sites.{means_at}
 use Rattle.proxy_lane.proofs.killing.kill.Goals as goal
 
 pub tell-requires-clause-may : goal.tell-requires-clause-may
@@ -16,8 +17,7 @@ tell-requires-clause-may g c =
 
 pub returns : goal.returns
 returns g c =
-    let post = c.args.site.now.post.now in
-    let actions = c.args.site.now.actions.now in
+    let means = means_at c.args.site.now in
     let rule = g.C.Rules.rule in
     let p = c.args.caller.now.pass in
     let p2 = c.tell.new.caller.pass in
@@ -35,7 +35,7 @@ returns g c =
         λ l is. absurd (let none : None ≡ Some l = sym closed ∙ is in cc),
       );
       goes = obeys_told c.args.site.now rule held c.tell.result p c.args.hands.now p2 c.lay_by.new.hands
-          (call.Killed l) (λ made. kill_goes post actions rule p p2 h h1 l c.requires.may.0 c.lay_by.ensures made)
-          (λ by is none. kill_halts post actions rule p p2 h h1 l c.requires.may.0 c.lay_by.ensures by none is)
+          (call.Killed l) (λ made. kill_goes means rule p p2 h h1 l c.requires.may.0 c.lay_by.ensures made)
+          (λ by is none. kill_halts means rule p p2 h h1 l c.requires.may.0 c.lay_by.ensures by none is)
           told;
     }

@@ -1,12 +1,13 @@
-use Rattle.std.proofs.Common.{ℕ, ap, sym, subst, ◌∙◌}
+use Rattle.std.proofs.Common.{ap, sym, subst, ◌∙◌}
 use Rattle.core_contract.specs.Shelf.{child_at}
 use Rattle.proxy_steps.specs.Lanes.{held_of}
-use Rattle.proxy_deeds.specs.declared.cause.Cause.{Cause}
-use Rattle.proxy_steps.specs.Steps.{Halts, MayObey, open_in}
+use Rattle.proxy_deeds.specs.declared.halt.ProxyHalt.{ProxyHalt}
+use Rattle.proxy_steps.specs.Steps.{Halts, open_in}
 use Rattle.proxy_steps.proofs.Acting.{none_open}
 use Rattle.proxy_steps.proofs.Rounds.{ask_goes, ask_halts, may_obey, stopped}
 use Rattle.proxy_steps.proofs.Serving.{goes_on, halts_on}
 use Rattle.proxy_lane.proofs.Siting.{same_on, site_on}
+use Rattle.proxy_lane.specs.Sites.{means_at}
 use Rattle.proxy_lane.proofs.lane.next.Goals as goal
 
 pub obey-requires : goal.obey-requires
@@ -20,18 +21,15 @@ obey-requires g c =
     let at_site = c.requires.at_site in
     record {
       at_site = site_on g.C.Rules.terms site p p1 c.ask.ensures.same at_site;
-      may = subst (λ (n : ℕ). MayObey n g.B.Child.Child.told site.berth c.in-Ok-Some.order p1 line)
-          (sym at_site.work.as_many)
-          (may_obey site.post.now site.actions.now g.C.Rules.rule p p1 h c.requires.asks g.C.Rules.terms
+      may = may_obey (means_at site) g.C.Rules.rule p p1 h c.requires.asks g.C.Rules.terms
           g.B.Child.Child.told site.berth line at_site.lane.0 c.requires.tidy.0 c.requires.kept.1.holds.below
-          c.in-Ok-Some.order x);
+          at_site.work.as_many at_site.settings.of_plan c.in-Ok-Some.order x;
       room = c.requires.tidy.1;
     }
 
 pub returns-in-Ok : goal.returns-in-Ok
 returns-in-Ok g c =
-    let post = c.args.site.now.post.now in
-    let actions = c.args.site.now.actions.now in
+    let means = means_at c.args.site.now in
     let rule = g.C.Rules.rule in
     let p = c.args.caller.now.pass in
     let held = held_of g.B.Berth.told g.B.Feed.Feed.told g.B.Child.Child.told in
@@ -45,15 +43,14 @@ returns-in-Ok g c =
       tidy = c.obey.ensures.tidy;
       goes = (
         went.0,
-        goes_on post actions rule p p1 p2 h h (held c.obey.new.hands) c.ask.ensures.same
-            (ask_goes post actions rule p p1 h c.requires.asks x.reply x.made) went.1,
+        goes_on means rule p p1 p2 h h (held c.obey.new.hands) c.ask.ensures.same
+            (ask_goes means rule p p1 h c.requires.asks x.reply x.made) went.1,
       );
     }
 
 pub returns-in-Err-obey : goal.returns-in-Err-obey
 returns-in-Err-obey g c =
-    let post = c.args.site.now.post.now in
-    let actions = c.args.site.now.actions.now in
+    let means = means_at c.args.site.now in
     let rule = g.C.Rules.rule in
     let p = c.args.caller.now.pass in
     let held = held_of g.B.Berth.told g.B.Feed.Feed.told g.B.Child.Child.told in
@@ -64,21 +61,20 @@ returns-in-Err-obey g c =
     record {
       same = same_on p p1 p2 c.ask.ensures.same c.obey.ensures.same;
       tidy = c.obey.ensures.tidy;
-      goes = halts_on post actions rule p p1 p2 h h (held c.obey.new.hands) c.ask.ensures.same c.in-Err-obey.cause
-          (ask_goes post actions rule p p1 h c.requires.asks x.reply x.made) c.in-Err-obey.ensures.goes;
+      goes = halts_on means rule p p1 p2 h h (held c.obey.new.hands) c.ask.ensures.same c.in-Err-obey.cause
+          (ask_goes means rule p p1 h c.requires.asks x.reply x.made) c.in-Err-obey.ensures.goes;
     }
 
 pub returns-in-Ok-None : goal.returns-in-Ok-None
 returns-in-Ok-None g c =
-    let post = c.args.site.now.post.now in
-    let actions = c.args.site.now.actions.now in
+    let means = means_at c.args.site.now in
     let rule = g.C.Rules.rule in
     let p = c.args.caller.now.pass in
     let held = held_of g.B.Berth.told g.B.Feed.Feed.told g.B.Child.Child.told in
     let h = held c.args.hands.now in
     let p1 = c.ask.new.caller.pass in
     let x = rw c.in-Ok-None.field-0-is at c.in-Ok-None.ensures.ordered in
-    let y = stopped post actions rule p p1 h c.requires.asks g.C.Rules.terms g.B.Child.Child.told
+    let y = stopped means rule p p1 h c.requires.asks g.C.Rules.terms g.B.Child.Child.told
     c.args.site.now.berth (open_in c.args.hands.now) c.requires.at_site.lane.0 c.requires.tidy.0
     c.requires.kept.1.holds.below x in
     record {
@@ -87,14 +83,13 @@ returns-in-Ok-None g c =
       goes = (
         y.0,
         none_open g.B.Feed.Feed.told c.args.hands.now.open y.1,
-        ask_goes post actions rule p p1 h c.requires.asks x.reply x.made,
+        ask_goes means rule p p1 h c.requires.asks x.reply x.made,
       );
     }
 
 pub returns-in-Err : goal.returns-in-Err
 returns-in-Err g c =
-    let post = c.args.site.now.post.now in
-    let actions = c.args.site.now.actions.now in
+    let means = means_at c.args.site.now in
     let rule = g.C.Rules.rule in
     let p = c.args.caller.now.pass in
     let held = held_of g.B.Berth.told g.B.Feed.Feed.told g.B.Child.Child.told in
@@ -107,6 +102,6 @@ returns-in-Err g c =
         ap (child_at c.args.site.now.berth) refused.1.1 ∙ c.requires.tidy.0,
         c.requires.tidy.1,
       );
-      goes = subst (λ (by : Cause). Halts post actions rule by p h p1 h) (sym refused.0)
-          (ask_halts post actions rule p p1 h c.requires.asks refused.1);
+      goes = subst (λ (by : ProxyHalt). Halts means rule by p h p1 h) (sym refused.0)
+          (ask_halts means rule p p1 h c.requires.asks refused.1);
     }

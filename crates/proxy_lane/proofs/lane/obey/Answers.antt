@@ -11,7 +11,7 @@ pub send-requires : goal.send-requires
 send-requires g c =
     let fits : SFits w32 c.in-Send.number = search facts in
     subst (λ (n : ℤ). IsOrdered g.C.Rules.terms c.args.site.now g.B.Child.Child.told
-    (asked.Send c.in-Send.line n c.in-Send.action) c.args.caller.now.pass c.args.hands.now)
+    (asked.Send c.in-Send.line n c.in-Send.attempt) c.args.caller.now.pass c.args.hands.now)
     (sym (to_z-of_z fits)) (rw c.in-Send.is at c.requires)
 
 pub cancel-requires : goal.cancel-requires

@@ -2,16 +2,16 @@ use Rattle.std.proofs.Common.{◌≡◌, List, Some, None, map, ap, sym, subst, 
 use Rattle.seat_desk.specs.Passes.{mine, basis, seen}
 use Rattle.core_contract.specs.Shelf.{child_at}
 use Rattle.core_contract.specs.Duties.{duty_of}
-use Rattle.proxy_deeds.specs.Lines.{Back}
+use Rattle.proxy_deeds.specs.Lines.{Returned}
 use Rattle.proxy_steps.specs.Lanes.{back_of, held_of, Keeps}
 use Rattle.proxy_steps.specs.Steps.{Finishes}
 use Rattle.proxy_steps.proofs.Serving.{first_keeps, served_by}
+use Rattle.proxy_lane.specs.Sites.{means_at}
 use Rattle.proxy_lane.proofs.lane.run.Goals as goal
 
 pub serve-halted-requires : goal.serve-halted-requires
 serve-halted-requires g c =
-    let post = c.args.site.now.post.now in
-    let actions = c.args.site.now.actions.now in
+    let means = means_at c.args.site.now in
     let rule = g.C.Rules.rule in
     let p = c.new-caller.result.pass in
     let b = g.B.Berth.told c.args.berth in
@@ -25,16 +25,15 @@ serve-halted-requires g c =
       );
       kept = (
         b,
-        subst (λ (backs : List Back). Keeps (rule (basis p)) p.lane post actions (mine p) (seen p) b
+        subst (λ (backs : List Returned). Keeps (rule (basis p)) p.lane means (mine p) (seen p) b
             (record { berth = b; opened = None; ended = backs; unsaid = None })) (sym none)
-            (first_keeps post actions rule p b fresh),
+            (first_keeps means rule p b fresh),
       );
     }
 
 pub returns-clause-served : goal.returns-clause-served
 returns-clause-served g c =
-    let post = c.args.site.now.post.now in
-    let actions = c.args.site.now.actions.now in
+    let means = means_at c.args.site.now in
     let rule = g.C.Rules.rule in
     let p = c.new-caller.result.pass in
     let p2 = c.serve-halted.new.caller.pass in
@@ -43,9 +42,9 @@ returns-clause-served g c =
     let h2 = held c.serve-halted.new.hands in
     let halted = c.serve-halted.result in
     let none = ap (map (back_of g.B.Feed.Feed.told g.B.Child.Child.told)) c.new.ensures.items in
-    let ends = subst (λ (backs : List Back). Finishes post actions rule halted p
+    let ends = subst (λ (backs : List Returned). Finishes means rule halted p
     (record { berth = b; opened = None; ended = backs; unsaid = None }) p2 h2) none
     c.serve-halted.ensures.ends in
     rw c.into_pass.ensures
-    (served_by post actions rule p p2 b h2 halted c.serve-halted.ensures.same
+    (served_by means rule p p2 b h2 halted c.serve-halted.ensures.same
     (ap mine c.new-caller.ensures.pass ∙ c.requires.fresh) ends)

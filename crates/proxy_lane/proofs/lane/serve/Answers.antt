@@ -6,6 +6,7 @@ use Rattle.proxy_steps.specs.Steps.{open_in}
 use Rattle.proxy_steps.proofs.Shelving.{at_half}
 use Rattle.proxy_steps.proofs.Serving.{goes_on, some_on, halts_on, halts_may, ends_halted, ends_stopped}
 use Rattle.proxy_lane.proofs.Siting.{same_on, site_on}
+use Rattle.proxy_lane.specs.Sites.{means_at}
 use Rattle.proxy_lane.proofs.lane.serve.Goals as goal
 
 -- which line is open, what is held tells too
@@ -34,15 +35,14 @@ give_up-requires g c =
     let more = c.next-in-loop.ensures.same in
     record {
       at_site = site_on g.C.Rules.terms c.args.site.now p1 p2 more ready.at_site;
-      may = halts_may c.args.site.now.post.now c.args.site.now.actions.now g.C.Rules.rule p1 p2 p2
+      may = halts_may (means_at c.args.site.now) g.C.Rules.rule p1 p2 p2
           (held c.loop.hands) h2 h2 more c.in-Err.cause ready.kept c.in-Err.ensures.goes;
       tidy = c.next-in-loop.ensures.tidy;
     }
 
 pub returns-in-Ok-false : goal.returns-in-Ok-false
 returns-in-Ok-false g c =
-    let post = c.args.site.now.post.now in
-    let actions = c.args.site.now.actions.now in
+    let means = means_at c.args.site.now in
     let rule = g.C.Rules.rule in
     let p = c.args.caller.now.pass in
     let p1 = c.loop.caller.pass in
@@ -57,14 +57,13 @@ returns-in-Ok-false g c =
     let same = same_on p p1 p2 i.same more in
     record {
       same = same;
-      ends = ends_stopped post actions rule p p2 p2 h h2 h2 same
-          (goes_on post actions rule p p1 p2 h h1 h2 i.same i.goes went.2) went.0 went.1;
+      ends = ends_stopped means rule p p2 p2 h h2 h2 same
+          (goes_on means rule p p1 p2 h h1 h2 i.same i.goes went.2) went.0 went.1;
     }
 
 pub returns-in-Err : goal.returns-in-Err
 returns-in-Err g c =
-    let post = c.args.site.now.post.now in
-    let actions = c.args.site.now.actions.now in
+    let means = means_at c.args.site.now in
     let rule = g.C.Rules.rule in
     let p = c.args.caller.now.pass in
     let p1 = c.loop.caller.pass in
@@ -80,9 +79,9 @@ returns-in-Err g c =
     let left = c.give_up.ensures in
     record {
       same = same_on p p2 p3 same left.same;
-      ends = ends_halted post actions rule p p2 p3 h h2 (held c.give_up.new.hands) same
+      ends = ends_halted means rule p p2 p3 h h2 (held c.give_up.new.hands) same
           c.in-Err.cause (open_in c.next-in-loop.new.hands)
-          (halts_on post actions rule p p1 p2 h h1 h2 i.same c.in-Err.cause i.goes c.in-Err.ensures.goes)
+          (halts_on means rule p p1 p2 h h1 h2 i.same c.in-Err.cause i.goes c.in-Err.ensures.goes)
           (line_told g.B.Feed.Feed.told c.next-in-loop.new.hands.open)
           (at_half c.args.site.now.berth p2 (open_in c.next-in-loop.new.hands)
           (more.1 ∙ i.ready.at_site.lane.0) c.next-in-loop.ensures.tidy.0)
@@ -91,8 +90,7 @@ returns-in-Err g c =
 
 pub loop-preserved : goal.loop-preserved
 loop-preserved g c =
-    let post = c.args.site.now.post.now in
-    let actions = c.args.site.now.actions.now in
+    let means = means_at c.args.site.now in
     let rule = g.C.Rules.rule in
     let p = c.args.caller.now.pass in
     let p1 = c.loop.caller.pass in
@@ -110,7 +108,7 @@ loop-preserved g c =
         at_site = site_on g.C.Rules.terms c.args.site.now p1 p2 more i.ready.at_site;
         asks = went.0;
         tidy = c.next-in-loop.ensures.tidy;
-        kept = some_on post actions rule p1 p2 p2 h1 h2 h2 more i.ready.kept went.1;
+        kept = some_on means rule p1 p2 p2 h1 h2 h2 more i.ready.kept went.1;
       };
-      goes = goes_on post actions rule p p1 p2 h h1 h2 i.same i.goes went.1;
+      goes = goes_on means rule p p1 p2 h h1 h2 i.same i.goes went.1;
     }

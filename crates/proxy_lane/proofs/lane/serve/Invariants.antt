@@ -1,7 +1,7 @@
 use Rattle.seat_desk.specs.Passes.{IsSamePass}
 use Rattle.proxy_steps.specs.Lanes.{held_of}
 use Rattle.proxy_steps.specs.Steps.{Goes}
-use Rattle.proxy_lane.specs.Sites.{IsReady}
+use Rattle.proxy_lane.specs.Sites.{means_at, IsReady}
 use Rattle.proxy_lane.proofs.lane.serve.Given as goal
 
 -- The lane asks, and what it has done holds of what it has in its hands.
@@ -11,6 +11,6 @@ invariant-loop g l =
     record {
       same : IsSamePass l.fn.caller.pass l.caller.pass;
       ready : IsReady g.C.Rules.terms l.site g.C.Rules.rule held l.caller.pass l.hands;
-      goes : Goes l.site.post.now l.site.actions.now g.C.Rules.rule l.fn.caller.pass (held l.fn.hands)
+      goes : Goes (means_at l.site) g.C.Rules.rule l.fn.caller.pass (held l.fn.hands)
           l.caller.pass (held l.hands);
     }

@@ -1,14 +1,15 @@
 use Rattle.std.proofs.Common.{◌≡◌, Some, None, List, [], refl, ap, sym, subst, ◌∙◌, arith}
 use Rattle.std.specs.Prelude.{map}
-use Rattle.proxy_deeds.specs.declared.cause.Cause.TheVariants as cause
+use Rattle.proxy_deeds.specs.declared.halt.ProxyHalt.TheVariants as cause
 use Rattle.proxy_steps.specs.Lanes.{back_of, held_of}
 use Rattle.std.proofs.Common.{inl}
-use Rattle.proxy_deeds.specs.Lines.{Back}
+use Rattle.proxy_deeds.specs.Lines.{Returned}
 use Rattle.sandbox_rooms.proofs.Runs.{made_none}
 use Rattle.proxy_steps.specs.Steps.{Halts}
 use Rattle.proxy_steps.proofs.Acting.{none_open}
 use Rattle.proxy_steps.proofs.Starts.{launch_halts}
 use Rattle.proxy_lane.proofs.Siting.{obeys_from, stays_at}
+use Rattle.proxy_lane.specs.Sites.{means_at}
 use Rattle.proxy_lane.proofs.launching.launch.Goals as goal
 
 pub start-requires-clause-space : goal.start-requires-clause-space
@@ -31,17 +32,17 @@ returns-in-Ok g c =
       same = c.start.ensures.same;
       tidy = c.start.ensures.tidy;
       goes = obeys_from c.args.site.now g.C.Rules.rule held c.start.result p c.args.hands.now
-          c.start.new.caller.pass c.start.new.hands _ (ap (λ (x : List Back). record h { ended = x }) same)
+          c.start.new.caller.pass c.start.new.hands _ (ap (λ (x : List Returned). record h { ended = x }) same)
           c.start.ensures.goes;
     }
 
 pub returns-in-Err : goal.returns-in-Err
 returns-in-Err g c =
-    let post = c.args.site.now.post.now in
-    let actions = c.args.site.now.actions.now in
+    let means = means_at c.args.site.now in
     let rule = g.C.Rules.rule in
     let p = c.args.caller.now.pass in
     let l = c.args.line in
+    let t = c.args.attempt in
     let order = c.requires.may in
     let stays = stays_at p in
     let h = held_of g.B.Berth.told g.B.Feed.Feed.told g.B.Child.Child.told c.args.hands.now in
@@ -52,8 +53,8 @@ returns-in-Err g c =
         order.2,
         λ l is. absurd (let x : None ≡ Some l = sym order.1 ∙ is in cc),
       );
-      goes = subst (λ (x : List Back). Halts post actions rule cause.NoMemory p h p (record h { ended = x })) (sym same)
-          (launch_halts post actions rule p p h l order.0
+      goes = subst (λ (x : List Returned). Halts means rule cause.NoMemory p h p (record h { ended = x })) (sym same)
+          (launch_halts means rule p p h l t order.0
           (none_open g.B.Feed.Feed.told c.args.hands.now.open order.1) cause.NoMemory [] ⊥ h.berth
           (made_none h.berth) stays.none (refl, inl refl) refl);
     }

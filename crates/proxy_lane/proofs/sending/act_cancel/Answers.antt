@@ -6,11 +6,11 @@ use Rattle.proxy_steps.proofs.Acting.{gives_cancel, no_cancel}
 use Rattle.proxy_lane.proofs.sending.act_cancel.Goals as goal
 
 pub returns-in-Ok : goal.returns-in-Ok
-returns-in-Ok g c = gives_cancel c.args.site.now.post.now c.args.number c.as_slice-bytes.result.now c.give.result
+returns-in-Ok g c = gives_cancel c.args.site.now.speech c.args.number c.as_slice-bytes.result.now c.give.result
     (g.D.Feed.told c.args.feed.now) (g.D.Feed.told c.give.new.feed)
     (c.as_slice-bytes.ensures ∙ (c.in-Ok.ensures
-    ∙ ap (λ (n : ℤ). cancel_due c.args.site.now.post.now.speech n) (to_z-of_z c.ranges.number))) c.give.ensures
+    ∙ ap (λ (n : ℤ). cancel_due c.args.site.now.speech n) (to_z-of_z c.ranges.number))) c.give.ensures
 
 pub returns-in-Err : goal.returns-in-Err
 returns-in-Err g c =
-    no_cancel c.args.site.now.post.now c.args.number c.in-Err.no_memory (g.D.Feed.told c.args.feed.now)
+    no_cancel c.args.site.now.speech c.args.number c.in-Err.no_memory (g.D.Feed.told c.args.feed.now)

@@ -10,7 +10,7 @@ use Rattle.proxy_steps.specs.Steps.{OwesWrote, TellsWrote, IsCauseOf}
 use Rattle.proxy_steps.proofs.Acting.{line_is, no_line, same_line, cancel_owed}
 use Rattle.proxy_steps.proofs.Shelving.{wrote_shelved}
 use Rattle.proxy_steps.proofs.Sends.{cancel_goes, cancel_halts}
-use Rattle.proxy_lane.specs.Sites.{ReportsWrote}
+use Rattle.proxy_lane.specs.Sites.{means_at, ReportsWrote}
 use Rattle.proxy_lane.proofs.Siting.{obeys_by, stays_at, still_tidy}
 use Rattle.proxy_lane.proofs.sending.cancel.Goals as goal
 
@@ -20,10 +20,10 @@ report-requires-clause-owes g c =
     let new = g.B.Feed.Feed.told c.act_cancel-wrote.new.feed in
     let own = c.args.caller.now.pass.seat.me.0.mine in
     let wrote = c.act_cancel-wrote.result in
-    let post = c.args.site.now.post.now in
+    let speech = c.args.site.now.speech in
     subst (λ (n : ℤ). OwesWrote c.args.line n wrote own) (sym (to_z-of_z c.ranges.number))
-    (cancel_owed post c.args.number c.args.line wrote own old new c.requires.may.0
-    (subst (λ (n : ℤ). CancelActs post n wrote old new) (to_z-of_z c.ranges.number) c.act_cancel-wrote.ensures))
+    (cancel_owed speech c.args.number c.args.line wrote own old new c.requires.may.0
+    (subst (λ (n : ℤ). CancelActs speech n wrote old new) (to_z-of_z c.ranges.number) c.act_cancel-wrote.ensures))
 
 pub unreachable-requires : goal.unreachable-requires
 unreachable-requires g c = no_line c.args.hands.now.open c.args.line c.requires.may.1
@@ -31,8 +31,7 @@ unreachable-requires g c = no_line c.args.hands.now.open c.args.line c.requires.
 
 pub returns : goal.returns
 returns g c =
-    let post = c.args.site.now.post.now in
-    let actions = c.args.site.now.actions.now in
+    let means = means_at c.args.site.now in
     let rule = g.C.Rules.rule in
     let p = c.args.caller.now.pass in
     let p2 = c.report.new.caller.pass in
@@ -50,7 +49,7 @@ returns g c =
     let none = (stays_at p).none in
     let new = g.B.Berth.told c.args.hands.now.berth in
     let after = feed c.act_cancel-wrote.new.feed in
-    let acts = subst (λ (n : ℤ). CancelActs post n wrote o.feed after) (to_z-of_z c.ranges.number)
+    let acts = subst (λ (n : ℤ). CancelActs means.speech n wrote o.feed after) (to_z-of_z c.ranges.number)
     c.act_cancel-wrote.ensures in
     let reports = subst (λ (n : ℤ). ReportsWrote c.report.result p p2 l n wrote) (to_z-of_z c.ranges.number)
     c.report.ensures in
@@ -65,9 +64,9 @@ returns g c =
           (λ by. MakesNone p p2 × IsCauseOf l n wrote by)
           (λ x. (
             x.0,
-            cancel_goes post actions rule p p p2 h o is_open l n of none refl new after order.0 refl wrote acts x.1,
+            cancel_goes means rule p p p2 h o is_open l n of none refl new after order.0 refl wrote acts x.1,
           ))
-          (λ by x. cancel_halts post actions rule p p p2 h o is_open l n of none refl new after order.0 refl
+          (λ by x. cancel_halts means rule p p p2 h o is_open l n of none refl new after order.0 refl
           wrote by acts x.0 x.1)
           reports.told reports.refused;
     }

@@ -4,7 +4,7 @@ use Rattle.std.proofs.Math.Facts.{to_z-of_z}
 use Rattle.plain_values.specs.declared.no_memory.NoMemory.{NoMemory}
 use Rattle.exec_journal.specs.declared.call.Call.TheVariants as call
 use Rattle.exec_journal.specs.declared.call.Written.{Written}
-use Rattle.proxy_deeds.specs.declared.cause.Cause.TheVariants.{NoMemory as Short}
+use Rattle.proxy_deeds.specs.declared.halt.ProxyHalt.TheVariants.{NoMemory as Short}
 use Rattle.core_contract.specs.Duties.{duty_of, may_do}
 use Rattle.proxy_calls.specs.Reports.{Told}
 use Rattle.proxy_steps.specs.Steps.{OwesWrote, IsCauseOf}

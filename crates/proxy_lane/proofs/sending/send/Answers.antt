@@ -10,16 +10,17 @@ use Rattle.proxy_steps.specs.Steps.{OwesWrote, TellsWrote, IsCauseOf}
 use Rattle.proxy_steps.proofs.Acting.{line_is, no_line, same_line, wrote_owed}
 use Rattle.proxy_steps.proofs.Shelving.{wrote_shelved}
 use Rattle.proxy_steps.proofs.Sends.{send_goes, send_halts}
-use Rattle.proxy_lane.specs.Sites.{ReportsWrote}
+use Rattle.proxy_lane.specs.Sites.{means_at, ReportsWrote}
 use Rattle.proxy_lane.proofs.Siting.{obeys_by, same_on, site_on, still_tidy}
 use Rattle.proxy_lane.proofs.sending.send.Goals as goal
 
 pub act_send-wrote-requires : goal.act_send-wrote-requires
 act_send-wrote-requires g c = record {
   at_site = c.requires.at_site;
-  owes = subst (λ (n : ℤ). duty_of (mine c.args.caller.now.pass) ≡ Sends c.args.line n c.args.action)
+  owes = subst (λ (n : ℤ). duty_of (mine c.args.caller.now.pass) ≡ Sends c.args.line n c.args.attempt)
       (sym (to_z-of_z c.ranges.number)) c.requires.may.0;
-  of_action = c.requires.at_site.work.each c.args.action c.action_at-work.result.now c.action_at-work.ensures;
+  group = c.requires.may.4;
+  of_action = c.requires.at_site.work.each c.args.attempt.action c.action_at-work.result.now c.action_at-work.ensures;
 }
 
 pub report-requires-clause-site : goal.report-requires-clause-site
@@ -29,7 +30,7 @@ report-requires-clause-site g c = site_on g.C.Rules.terms c.args.site.now c.args
 pub report-requires-clause-owes : goal.report-requires-clause-owes
 report-requires-clause-owes g c =
     subst (λ (n : ℤ). OwesWrote c.args.line n c.act_send-wrote.result c.act_send-wrote.new.caller.pass.seat.me.0.mine) (sym (to_z-of_z c.ranges.number))
-    (wrote_owed c.args.line c.args.number c.args.action c.act_send-wrote.result
+    (wrote_owed c.args.line c.args.number c.args.attempt c.act_send-wrote.result
     c.args.caller.now.pass.seat.me.0.mine c.act_send-wrote.new.caller.pass.seat.me.0.mine c.requires.may.0
     c.act_send-wrote.ensures.stays.none.1)
 
@@ -39,8 +40,7 @@ unreachable-requires g c = no_line c.args.hands.now.open c.args.line c.requires.
 
 pub returns : goal.returns
 returns g c =
-    let post = c.args.site.now.post.now in
-    let actions = c.args.site.now.actions.now in
+    let means = means_at c.args.site.now in
     let rule = g.C.Rules.rule in
     let p = c.args.caller.now.pass in
     let p1 = c.act_send-wrote.new.caller.pass in
@@ -61,7 +61,7 @@ returns g c =
     let after = feed c.act_send-wrote.new.feed in
     let work = c.action_at-work.result.now in
     let found = c.action_at-work.ensures in
-    let acts = subst (λ (n : ℤ). SendActs post (rule (basis p)) p.lane l n work wrote (seen p1) h.berth new
+    let acts = subst (λ (n : ℤ). SendActs means c.args.attempt (rule (basis p)) p.lane l n work wrote (seen p1) h.berth new
     o.feed after) (to_z-of_z c.ranges.number) c.act_send-wrote.ensures.acts in
     let reports = subst (λ (n : ℤ). ReportsWrote c.report.result p1 p2 l n wrote) (to_z-of_z c.ranges.number)
     c.report.ensures in
@@ -76,10 +76,10 @@ returns g c =
           (λ by. MakesNone p1 p2 × IsCauseOf l n wrote by)
           (λ x. (
             x.0,
-            send_goes post actions rule p p1 p2 h o is_open l n of stays.none stays.same.1 new after
-                c.args.action order.0 work found wrote acts x.1,
+            send_goes means rule p p1 p2 h o is_open l n of stays.none stays.same.1 new after
+                c.args.attempt order.0 work found wrote acts x.1,
           ))
-          (λ by x. send_halts post actions rule p p1 p2 h o is_open l n of stays.none stays.same.1 new after
-          c.args.action order.0 work found wrote by acts x.0 x.1)
+          (λ by x. send_halts means rule p p1 p2 h o is_open l n of stays.none stays.same.1 new after
+          c.args.attempt order.0 work found wrote by acts x.0 x.1)
           reports.told reports.refused;
     }

@@ -1,7 +1,7 @@
 use Rattle.std.proofs.Common.{◌∙◌, ap}
 use Rattle.std.proofs.lemmas.Result.{err_from_is_err_and}
-use Rattle.list_order.specs.Producers.{producer_of}
-use Rattle.list_order.specs.Made.{maker_of}
+use Rattle.list_actions.specs.Producers.{producer_of}
+use Rattle.list_actions.specs.Made.{maker_of}
 use Rattle.run_loading.proofs.Made.{all_there, work_ends, work_lost}
 use Rattle.run_loading.proofs.loading.load_work.Goals as goal
 

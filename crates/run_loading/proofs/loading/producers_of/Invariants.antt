@@ -1,5 +1,5 @@
 use Rattle.std.proofs.Common.{◌≡◌, take}
-use Rattle.list_order.specs.Whole.{KnowsProducers}
+use Rattle.list_actions.specs.Whole.{KnowsProducers}
 use Rattle.run_loading.proofs.loading.producers_of.Given as goal
 
 abbrev pub invariant-loop-action : goal.invariant-loop-action

@@ -1,7 +1,7 @@
 use Rattle.std.proofs.Common.{rules, [], refl, ap}
 use Rattle.std.proofs.lemmas.Result.{err_from_is_err_and}
-use Rattle.list_order.specs.Producers.{producer_of}
-use Rattle.list_order.specs.Made.{maker_of}
+use Rattle.list_actions.specs.Producers.{producer_of}
+use Rattle.list_actions.specs.Made.{maker_of}
 use Rattle.run_loading.specs.Sources.{held}
 use Rattle.run_loading.specs.Wanted.{Makers, paths_of_action, paths_of_actions}
 use Rattle.run_loading.proofs.Courses.{reads_start, reads_go, reads_stop, reads_end, sources_found, sources_lost}

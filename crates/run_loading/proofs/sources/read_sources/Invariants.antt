@@ -1,5 +1,5 @@
 use Rattle.std.proofs.Common.{◌≤◌, [], take}
-use Rattle.list_order.specs.Producers.{producer_of}
+use Rattle.list_actions.specs.Producers.{producer_of}
 use Rattle.outside.specs.Told.{SameFloor}
 use Rattle.run_loading.specs.Reads.{Reads}
 use Rattle.run_loading.specs.Sources.{held, NewFound}

@@ -1,5 +1,5 @@
 use Rattle.std.proofs.Common.{rules}
-use Rattle.list_order.specs.Producers.{producer_of}
+use Rattle.list_actions.specs.Producers.{producer_of}
 use Rattle.run_loading.specs.Sources.{held}
 use Rattle.run_loading.proofs.Made.{input_there}
 use Rattle.run_loading.proofs.works.inputs_of.Goals as goal

@@ -1,7 +1,7 @@
 use Rattle.std.proofs.Common.{rules}
 use Rattle.std.proofs.lemmas.Result.{err_from_is_err_and}
 use Rattle.std.specs.Option.{IsSome}
-use Rattle.list_order.specs.Producers.{producer_of}
+use Rattle.list_actions.specs.Producers.{producer_of}
 use Rattle.outside.specs.Floor.{file_at}
 use Rattle.run_loading.specs.Sources.{held}
 use Rattle.run_loading.specs.Wanted.{paths_of_action}

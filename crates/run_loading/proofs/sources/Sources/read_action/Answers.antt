@@ -1,6 +1,6 @@
 use Rattle.std.proofs.Common.{filter}
 use Rattle.std.proofs.lemmas.Result.{err_from_is_err_and}
-use Rattle.list_order.specs.Producers.{producer_of}
+use Rattle.list_actions.specs.Producers.{producer_of}
 use Rattle.run_loading.specs.Reads.{end_of}
 use Rattle.run_loading.specs.Sources.{held}
 use Rattle.run_loading.specs.Wanted.{is_source}

@@ -1,4 +1,4 @@
-use Rattle.list_order.specs.Producers.{producer_of}
+use Rattle.list_actions.specs.Producers.{producer_of}
 use Rattle.run_loading.specs.Reads.{end_of}
 use Rattle.run_loading.specs.Sources.{held}
 use Rattle.run_loading.proofs.Courses.{input_made, input_read}

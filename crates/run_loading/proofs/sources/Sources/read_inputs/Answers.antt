@@ -1,6 +1,6 @@
 use Rattle.std.proofs.Common.{rules, ◌∷◌, [], List, ℕ, filter}
 use Rattle.std.proofs.lemmas.Result.{err_from_is_err_and}
-use Rattle.list_order.specs.Producers.{producer_of}
+use Rattle.list_actions.specs.Producers.{producer_of}
 use Rattle.run_loading.specs.Sources.{held}
 use Rattle.run_loading.specs.Wanted.{is_source}
 use Rattle.run_loading.proofs.Courses.{at_text, reads_start, reads_go, reads_stop, reads_end, kept_each}

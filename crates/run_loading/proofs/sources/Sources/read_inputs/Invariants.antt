@@ -1,7 +1,7 @@
 use Rattle.std.proofs.Common.{◌≤◌, ◌∷◌, [], take, filter, flat_map}
 use Rattle.outside.specs.Told.{SameFloor}
 use Rattle.run_loading.specs.Reads.{Reads}
-use Rattle.list_order.specs.Producers.{producer_of}
+use Rattle.list_actions.specs.Producers.{producer_of}
 use Rattle.run_loading.specs.Wanted.{is_source}
 use Rattle.run_loading.specs.Sources.{held, NewFound}
 use Rattle.run_loading.proofs.sources.Sources.read_inputs.Given as goal

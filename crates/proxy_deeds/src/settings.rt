@@ -1,0 +1,52 @@
+ghost use Rattle.std.specs.Prelude.{◌≡◌, Some};
+ghost use Rattle.exec_journal.specs.Seated.{group_for, kind_for};
+ghost use Rattle.proxy_deeds.specs.Settings.{HasGroup, command_for};
+
+use exec_journal::Attempt;
+use outside::Command;
+use run_plan::{Branch, Kind, Plan};
+
+/// What lines are set up by: the plan, whose groups run the branches, a command for each group, and
+/// whether workers are asked to say more.
+#[derive(Drop)]
+pub struct Settings<'a> {
+    pub plan: &'a Plan,
+    pub commands: &'a [Command],
+    /// A worker is asked to say more.
+    pub verbose: bool,
+}
+
+impl<'a> Settings<'a> {
+    /// The kind of the attempt's group.
+    pub fn kind_of(&self, attempt: Attempt) -> Kind
+        requires { HasGroup self.now attempt }
+        ensures { result ≡ kind_for self.now.plan.now attempt }
+    {
+        match group_of(self.plan, attempt) {
+            Some(group) => self.plan.groups.as_slice()[group as usize].kind,
+            None => unreachable!(),
+        }
+    }
+
+    /// What is started for the lines of the attempt's group.
+    pub fn command_of(&self, attempt: Attempt) -> &Command
+        requires { HasGroup self.now attempt }
+        ensures { command_for self.now attempt ≡ Some result.now }
+    {
+        match group_of(self.plan, attempt) {
+            Some(group) => &self.commands[group as usize],
+            None => unreachable!(),
+        }
+    }
+}
+
+// The group that runs the attempt, where its action uses the branch.
+fn group_of(plan: &Plan, attempt: Attempt) -> Option<u32>
+    ensures { result ≡ group_for plan.now attempt }
+{
+    let action = plan.actions.as_slice().get(attempt.action as usize)?;
+    match attempt.branch {
+        Branch::Local => action.local,
+        Branch::Remote => action.remote,
+    }
+}
