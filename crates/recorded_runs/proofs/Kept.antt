@@ -11,7 +11,7 @@ use Rattle.run_tasks.specs.Course.{Made}
 use Rattle.run_tasks.specs.declared.task.Task.{Task}
 use Rattle.tool_words.specs.declared.options.Options.{Options}
 use Rattle.worker_run.specs.Ends.{HasCourse, HasLed, IsLate, LeadsTo, LeavesNew, TellsTask, UnlessEarly, is_halted}
-use Rattle.worker_run.specs.Headline.{HasOuts, HasPipes, HasRace, HasRooms, HasUnsaid, IsAccounted, IsComplete, IsKept, IsLegal, IsPaired, IsSound, IsStopped, OnRun, RunKeeps, UnlessRun}
+use Rattle.worker_run.specs.Headline.{HasOuts, HasPipes, HasRace, HasRooms, HasUnsaid, IsAccounted, IsComplete, IsKept, IsLegal, IsPaired, IsSound, IsStopped, OnRun, RunKeeps, TaskKeeps, UnlessRun, own_head}
 use Rattle.worker_run.specs.Histories.{history_of}
 use Rattle.worker_run.specs.Seen.{EndedTold, Left}
 
@@ -59,10 +59,13 @@ halted_late : (f : RunFault) → IsLate f → is_halted (Some f) ≡ is_halted N
 halted_late f late = by_late (λ g. is_halted (Some g) ≡ is_halted None) f late refl refl
 
 module _ (options : Option Options) (before : FloorTold) (end next : EndedTold) (f : RunFault)
-    (late : IsLate f) (was : RunKeeps options before end) (none : end.fault ≡ None)
+    (late : IsLate f) (all : RunKeeps options before end) (none : end.fault ≡ None)
     (fault_is : next.fault ≡ Some f) (status_is : next.status ≡ fault_status f)
     (task_is : next.task ≡ end.task) (left_is : next.left ≡ end.left)
     (floor_is : next.floor ≡ end.floor) where
+  was : TaskKeeps own_head before end
+  was = all.task
+
   told_before : TellsTask None end.task
   told_before = subst (λ (o : Option RunFault). TellsTask o end.task) none was.told
 
@@ -78,10 +81,8 @@ module _ (options : Option Options) (before : FloorTold) (end next : EndedTold) 
   on : (P : Task → Left → Type 0) → OnRun end P → OnRun next P
   on P p = rw (task_is, left_is) p
 
-  pub keeps_late : RunKeeps options before next
-  keeps_late = record {
-    course = rw (fault_is, task_is, floor_is) (course_late options before end.floor f end.task
-        late (course_before was.course));
+  task_late : TaskKeeps own_head before next
+  task_late = record {
     told = rw (fault_is, task_is) (told_late f end.task late told_before);
     sound = on IsSound was.sound;
     nothing = subst (λ (o : Option Task). UnlessRun o (LeavesNew next.fault next.left))
@@ -90,16 +91,17 @@ module _ (options : Option Options) (before : FloorTold) (end next : EndedTold) 
       left = rw (floor_is, left_is) was.made.left;
       few = rw (floor_is) was.made.few;
     };
-    legal = on IsLegal was.legal;
+    legal = on (IsLegal own_head) was.legal;
     race = on HasRace was.race;
     paired = on IsPaired was.paired;
-    kept = on IsKept was.kept;
+    kept = on (IsKept own_head) was.kept;
     halts = rw (fault_is, task_is, left_is, halted_late f late) halts_before;
-    stopped = on IsStopped was.stopped;
+    flag = rw (left_is) was.flag;
+    stopped = on (IsStopped own_head) was.stopped;
     accounted = on IsAccounted was.accounted;
     complete = on IsComplete was.complete;
     pipes = on HasPipes was.pipes;
-    rooms = on HasRooms was.rooms;
+    rooms = on (HasRooms own_head) was.rooms;
     outs = on HasOuts was.outs;
     unsaid = on HasUnsaid was.unsaid;
     success = λ is. absurd (cc (is, fault_is));
@@ -110,4 +112,11 @@ module _ (options : Option Options) (before : FloorTold) (end next : EndedTold) 
           (subst IsFloorFailed fault_is failed));
     };
     files = rw (floor_is) was.files;
+  }
+
+  pub keeps_late : RunKeeps options before next
+  keeps_late = record {
+    course = rw (fault_is, task_is, floor_is) (course_late options before end.floor f end.task
+        late (course_before all.course));
+    task = task_late;
   }

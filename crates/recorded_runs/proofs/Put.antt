@@ -88,6 +88,11 @@ pub none_of : (f : Option RunFault) → is_some f ≡ false → f ≡ None
 none_of None is = refl
 none_of (Some f) is = absurd (cc)
 
+-- an end that is told as this one has no fault where this one has none
+pub none_by : (here told : EndedTold) → here ≡ told → is_some here.fault ≡ false → told.fault ≡ None
+none_by here told is clear =
+    subst (λ (e : EndedTold). e.fault ≡ None) is (none_of here.fault clear)
+
 pub not_none : (f : Option RunFault) → is_some f ≡ true → f ≡ None → ⊥
 not_none None is none = absurd (cc)
 not_none (Some f) is none = absurd (cc)

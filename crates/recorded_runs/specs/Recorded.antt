@@ -25,7 +25,7 @@ text_by None journal = []
 text_by (Some t) journal = text_of t.plan journal
 
 -- With no fault the report and the text are put, and a front of the two where the sink failed. Where
--- memory was wanted behind the lanes, it was before the report or between the two. With any other
+-- memory ran out behind the lanes, it was before the report or between the two. With any other
 -- fault nothing is put.
 abbrev pub RecordsBy : Option RunFault → List ℕ → List ℕ → SinkTold → SinkTold → Type 0
 RecordsBy None report text old new = Gives io.Done (report ++ text) old.contents new.contents

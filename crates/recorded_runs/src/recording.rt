@@ -24,7 +24,7 @@ use worker_run::{Ended, RunFault, Stage, run_build};
 /// Does what `run_build` does, and with status 0 or 1 puts the text of the run's journal behind the report: a line for the plan,
 /// and one for each entry.
 ///
-/// Want of memory for the text is the fault `NoMemory(After)`. Then the report may have been put. A sink that fails in the text
+/// Lack of memory for the text is the fault `NoMemory(After)`. Then the report may have been put. A sink that fails in the text
 /// is the fault `SinkFailed`. With each of them the run is told as before.
 pub fn run_recorded<R: Threads + Wait + Sync, F: Floor, O: Sink>(
     rt: &R,

@@ -1,5 +1,6 @@
 pub mod Fits
 pub mod Histories
+pub mod Keeping
 pub mod Made
 pub mod Numbered
 pub mod Reading

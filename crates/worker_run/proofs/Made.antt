@@ -5,18 +5,18 @@ use Rattle.build_report.specs.declared.fault.Stage.{Stage}
 use Rattle.build_report.specs.declared.fault.Stage.TheVariants as stage
 use Rattle.exec_journal.specs.declared.call.Call.{Call}
 use Rattle.exec_journal.specs.declared.reply.Reply.{Reply}
-use Rattle.proxy_deeds.specs.declared.post.Post.{Post}
-use Rattle.proxy_deeds.specs.Lines.{Back}
-use Rattle.exec_journal.specs.Entry.{Entry}
-use Rattle.lane_runs.specs.Runs.{EndTold, HasRun, LaidTold, Rooms}
+use Rattle.run_plan.specs.declared.plan.Speech.{Speech}
+use Rattle.proxy_deeds.specs.declared.settings.Settings.{Settings}
+use Rattle.proxy_deeds.specs.Lines.{Returned}
+use Rattle.lane_runs.specs.Runs.{EndTold, HasRun, Rooms}
 use Rattle.outside.specs.Told.{BerthTold, FloorTold, Makes, PlaceTold, SameFloor}
 use Rattle.remote_messages.specs.declared.work.WorkAction.{WorkAction}
 use Rattle.core_contract.specs.Terms.{Terms}
 use Rattle.core_contract.specs.Moves.{History}
 use Rattle.core_bench.specs.Objects.{AreFresh}
 use Rattle.worker_run.proofs.Numbered.{new_berths, new_places}
-use Rattle.worker_run.specs.Lanes.{AreNewBerths, HasMade, IsUnused, LanesRan, MakesUpTo, WhereLost, WhereWhole, laid_by}
-use Rattle.worker_run.specs.Seen.{Left, left, nothing_left, stage_of}
+use Rattle.worker_run.specs.Lanes.{AreNewBerths, HasMade, IsUnused, LanesRan, MakesUpTo, WhereLost, WhereWhole, is_during}
+use Rattle.worker_run.specs.Seen.{Left, nothing_left, stage_of, unrun}
 
 -- ---- making
 
@@ -49,20 +49,20 @@ up_to b p c q old new made few less = record {
 
 -- ---- what is left
 
--- as many berths come back as there are posts
-pub rooms_length : (rule : History → ℕ → Call → Reply) (work : List WorkAction) (h : History)
-    (lines : List EndTold) (w : ℕ) (posts : List Post) (olds news : List BerthTold)
-    (unsaid : List (Option Back)) → Rooms rule work h lines w posts olds news unsaid
-    → length news ≡ length posts
-rooms_length rule work h lines w [] [] [] [] r = refl
-rooms_length rule work h lines w (p ∷ ps) (o ∷ os) (n ∷ ns) (u ∷ us) r =
-    ap suc (rooms_length rule work h lines (w + 1) ps os ns us r.1)
-rooms_length rule work h lines w [] [] [] (u ∷ us) r = absurd r
-rooms_length rule work h lines w [] [] (n ∷ ns) us r = absurd r
-rooms_length rule work h lines w [] (o ∷ os) ns us r = absurd r
-rooms_length rule work h lines w (p ∷ ps) [] ns us r = absurd r
-rooms_length rule work h lines w (p ∷ ps) (o ∷ os) [] us r = absurd r
-rooms_length rule work h lines w (p ∷ ps) (o ∷ os) (n ∷ ns) [] r = absurd r
+-- as many berths come back as there are speeches
+pub rooms_length : (rule : History → ℕ → Call → Reply) (settings : Settings)
+    (work : List WorkAction) (h : History) (lines : List EndTold) (w : ℕ) (speeches : List Speech) (olds news : List BerthTold)
+    (unsaid : List (Option Returned)) → Rooms rule settings work h lines w speeches olds news unsaid
+    → length news ≡ length speeches
+rooms_length rule settings work h lines w [] [] [] [] r = refl
+rooms_length rule settings work h lines w (s ∷ ss) (o ∷ os) (n ∷ ns) (u ∷ us) r =
+    ap suc (rooms_length rule settings work h lines (w + 1) ss os ns us r.1)
+rooms_length rule settings work h lines w [] [] [] (u ∷ us) r = absurd r
+rooms_length rule settings work h lines w [] [] (n ∷ ns) us r = absurd r
+rooms_length rule settings work h lines w [] (o ∷ os) ns us r = absurd r
+rooms_length rule settings work h lines w (s ∷ ss) [] ns us r = absurd r
+rooms_length rule settings work h lines w (s ∷ ss) (o ∷ os) [] us r = absurd r
+rooms_length rule settings work h lines w (s ∷ ss) (o ∷ os) (n ∷ ns) [] r = absurd r
 
 pub made_left : (b p : ℕ) (before after : FloorTold) (x : Left) → Makes b p before after
     → length x.berths ≡ b → length x.places ≡ p → HasMade before after x
@@ -89,22 +89,23 @@ where_whole false P p = p
 -- new berths and places alone are left where no lane was started
 pub unused : {B P : Type 0} (berth : B → BerthTold) (place : P → PlaceTold) (b p : ℕ) (bs : List B)
     (ps : List P) → AreNewBerths b (map berth bs) → AreFresh place p ps
-    → IsUnused (left [] (map berth bs) [] [] (map place ps))
+    → IsUnused (unrun (map berth bs) (map place ps))
 unused berth place b p bs ps berths places = record {
   berths = new_berths b (map berth bs) berths;
   places = new_places place p ps places;
   journal = refl;
   lines = refl;
   unsaid = refl;
+  halted = refl;
 }
 
 -- the floor has made those
 pub made_unused : {B P : Type 0} (berth : B → BerthTold) (place : P → PlaceTold) (b p : ℕ)
     (bs : List B) (ps : List P) (before after : FloorTold) → Makes b p before after
     → length bs ≡ b → length ps ≡ p
-    → HasMade before after (left [] (map berth bs) [] [] (map place ps))
+    → HasMade before after (unrun (map berth bs) (map place ps))
 made_unused berth place b p bs ps before after made berths places =
-    made_left b p before after (left [] (map berth bs) [] [] (map place ps)) made
+    made_left b p before after (unrun (map berth bs) (map place ps)) made
     (length-map bs berth ∙ berths) (length-map ps place ∙ places)
 
 pub not_lost : (halted : Bool) (P : Type 0) → WhereLost (stage_of halted) P
@@ -112,33 +113,19 @@ not_lost true P = tt
 not_lost false P = tt
 
 -- whether a lane has halted is told by the fault
-laid_again : (journal : List Entry) (berths : List BerthTold) (lines : List EndTold)
-    (unsaid : List (Option Back)) (places : List PlaceTold) (halted : Bool)
-    → laid_by (stage_of halted) (left journal berths lines unsaid places) ≡ record {
-      journal = journal;
-      berths = berths;
-      lines = lines;
-      unsaid = unsaid;
-      places = places;
-      halted = halted;
-    }
-laid_again journal berths lines unsaid places true = refl
-laid_again journal berths lines unsaid places false = refl
+during_is : (halted : Bool) → halted ≡ is_during (stage_of halted)
+during_is true = refl
+during_is false = refl
 
 -- what lanes have laid out is left where they ran
 pub ran_whole : (legal : History → Type 0) (rule : History → ℕ → Call → Reply)
-    (terms : Terms) (posts : List Post) (work : List WorkAction)
-    (before : List BerthTold) (x : LaidTold) → AreNewBerths (length posts) before
-    → HasRun legal rule terms posts work before x
-    → WhereWhole (stage_of x.halted) (LanesRan legal rule terms posts work
-    (stage_of x.halted) (left x.journal x.berths x.lines x.unsaid x.places))
-ran_whole legal rule terms posts work before x new run =
-    where_whole x.halted _ (record {
-      before = before;
-      new = new;
-      run = subst (λ (y : LaidTold). HasRun legal rule terms posts work before y)
-          (sym (laid_again x.journal x.berths x.lines x.unsaid x.places x.halted)) run;
-    })
+    (terms : Terms) (speeches : List Speech) (settings : Settings) (work : List WorkAction)
+    (before : List BerthTold) (x : Left) → AreNewBerths (length speeches) before
+    → HasRun legal rule terms speeches settings work before x
+    → WhereWhole (stage_of x.halted) (LanesRan legal rule terms speeches settings work
+    (stage_of x.halted) x)
+ran_whole legal rule terms speeches settings work before x new run = where_whole x.halted _
+    (record { before = before; new = new; run = run; halted = during_is x.halted })
 
 -- ---- the end of a run
 

@@ -9,37 +9,40 @@ use Rattle.build_report.specs.declared.fault.Stage.TheVariants as stage
 use Rattle.exec_journal.specs.Entry.{Entry}
 use Rattle.exec_journal.specs.Clean.{Clean}
 use Rattle.exec_journal.specs.Lawful.{Lawful}
-use Rattle.exec_journal.specs.Legal.{Legal}
 use Rattle.exec_journal.specs.Ends.{ends_from, ends_of}
 use Rattle.exec_journal.specs.Outcomes.{is_ok, outcome_of}
 use Rattle.exec_journal.specs.Settled.{all_settled, is_settled, standings, standings_from}
 use Rattle.exec_journal.specs.Words.{halted, stopped}
-use Rattle.history_laws.proofs.OwnDiscipline.{own_legal}
-use Rattle.core_contract.specs.Disciplines.{own_discipline}
-use Rattle.history_laws.specs.Ruled.{answer_after}
+use Rattle.exec_journal.specs.declared.call.Call.{Call}
+use Rattle.exec_journal.specs.declared.reply.Reply.{Reply}
+use Rattle.core_contract.specs.Disciplines.{Discipline, IsDiscipline, LegalBy}
+use Rattle.core_contract.specs.Moves.{History}
+use Rattle.core_contract.specs.Terms.{Terms}
+use Rattle.history_laws.specs.Ruled.{CameAbout, answer_after, terms_in}
 use Rattle.journal_laws.proofs.Cleaned.{all_succeed}
 use Rattle.journal_laws.proofs.Known.{outcome_known, stopped_settled}
-use Rattle.journal_laws.proofs.Ours.{kept, lawful}
+use Rattle.history_laws.proofs.Fitting.{lawful}
 use Rattle.journal_laws.proofs.Races.{race}
 use Rattle.journal_laws.proofs.Requests.{paired}
 use Rattle.journal_laws.proofs.Stops.{each_settled, settled_accounted}
 use Rattle.journal_laws.specs.Finished.{Finished}
 use Rattle.lane_runs.specs.Layout.{has_halt}
 use Rattle.lane_runs.specs.Runs.{Outs, Pipes, Rooms, Stops}
-use Rattle.run_plan.specs.Groups.{berths}
 use Rattle.run_plan.specs.Sound.{Sound}
 use Rattle.run_plan.specs.declared.plan.Plan.{Plan}
 use Rattle.run_plan.specs.declared.plan.PlanAction.{PlanAction}
+use Rattle.run_plan.specs.declared.plan.Speech.{Speech}
+use Rattle.remote_messages.specs.declared.work.WorkAction.{WorkAction}
 use Rattle.core_contract.specs.Duties.{proxy_lane}
-use Rattle.run_tasks.specs.Tasks.{HasBerths, HasPosts}
+use Rattle.proxy_deeds.specs.declared.settings.Settings.{Settings}
 use Rattle.run_tasks.specs.declared.task.Task.{Task}
 use Rattle.history_laws.specs.Owed.{journal_of, outputs_in}
 use Rattle.worker_run.proofs.Histories.{halted_is, newest_is, stopped_is}
 use Rattle.worker_run.proofs.Unsaid.{rooms_unsaid, unsaid_at}
 use Rattle.worker_run.specs.Ends.{IsReportEnd, IsRunEnd, is_halted, status_by}
-use Rattle.worker_run.specs.Headline.{AllSucceed, HaltsAsSaid, HasOuts, HasPipes, HasRace, HasRooms, HasUnsaid, IsUnsaid, IsAccounted, IsComplete, IsKept, IsLegal, IsPaired, IsStopped, OnRun, Succeeds, newest_first}
+use Rattle.worker_run.specs.Headline.{AllSucceed, GoesBy, HasOuts, HasPipes, HasRace, HasRooms, HasUnsaid, IsUnsaid, IsAccounted, IsComplete, IsPaired, IsStopped, OnRun, Succeeds, head_of, newest_first}
 use Rattle.worker_run.specs.Histories.{history_of}
-use Rattle.worker_run.specs.Lanes.{AreNewBerths, TaskRan, WhereWhole, is_during}
+use Rattle.worker_run.specs.Lanes.{AreSettingsOf, AreNewBerths, IsUnused, LanesRan, WhereLost, WhereWhole, is_during}
 use Rattle.worker_run.specs.Seen.{EndedTold, Left}
 
 finished : (p : Plan) (j : List Entry) → Sound p → Lawful p j → all_settled p j ≡ true
@@ -76,19 +79,83 @@ unfolding ends_of
 all_ok p j h = ok_from p j 0 p.actions
     (λ i x at. subst (λ n. is_ok (outcome_of p j n) ≡ true) (omega arith) (h i x at))
 
-module _ (t : Task) (when : Option Stage) (x : Left) (ran : TaskRan t when x) where
-  same : history_of x.journal ≡ ran.run.history
-  same = ran.run.in_journal
+-- ---- by the discipline that the core goes by
 
-  newest : journal_of ran.run.history ≡ newest_first x
-  newest = newest_is ran.run.history ∙ ap reverse (sym ran.run.in_journal)
+-- the lanes of this task ran by the rules of the discipline, and by the task's settings
+pub record RanBy (q : Discipline) (t : Task) (when : Option Stage) (x : Left) : Type 0 where
+  pub settings : Settings
+  pub of_task : AreSettingsOf t settings
+  pub lanes : LanesRan (CameAbout q) (answer_after q) (terms_in q) t.speeches.items settings
+      t.work.actions when x
 
-  pub is_legal : IsLegal t x
-  is_legal = subst (λ j. Legal t.plan j) newest
-      (own_legal t.plan (journal_of ran.run.history) ran.run.is_legal.legal)
+whole_as : (when : Option Stage) (P Q : Type 0) → (P → Q) → WhereWhole when P → WhereWhole when Q
+whole_as None P Q f p = f p
+whole_as (Some stage.During) P Q f p = f p
+whole_as (Some stage.Before) P Q f p = tt
+whole_as (Some stage.After) P Q f p = p
+
+module _ (legal : History → Type 0) (rule : History → ℕ → Call → Reply) (terms : Terms)
+    (t : Task) (q : Discipline) (lanes : ℕ) (goes : GoesBy legal rule terms t q lanes)
+    (when : Option Stage) (x : Left) where
+  -- so they ran by these speeches, settings and work
+  abbrev pub HasRan : List Speech → Settings → List WorkAction → Type 0
+  HasRan spoken settings work = LanesRan legal rule terms spoken settings work when x
+
+  ruled : (settings : Settings) → AreSettingsOf t settings
+      → HasRan t.speeches.items settings t.work.actions → RanBy q t when x
+  ruled settings of_task ran = record {
+    settings = settings;
+    of_task = of_task;
+    lanes = record {
+      before = ran.before;
+      new = ran.new;
+      run = record {
+        history = ran.run.history;
+        in_journal = ran.run.in_journal;
+        is_legal = goes.came ran.run.history ran.run.is_legal;
+        no_others = ran.run.no_others;
+        rooms = subst (λ (k : History → ℕ → Call → Reply). Rooms k settings t.work.actions
+            ran.run.history x.lines 0 t.speeches.items ran.before x.berths x.unsaid) goes.replies
+            ran.run.rooms;
+        pipes = ran.run.pipes;
+        outs = subst (λ (y : Terms). Outs y.outputs y.actions ran.run.history x.places) goes.reads
+            ran.run.outs;
+        halts = ran.run.halts;
+        stops = ran.run.stops;
+      };
+      halted = ran.halted;
+    };
+  }
+
+  -- where the speeches, the settings and the work are the task's
+  pub where_ruled : (spoken : List Speech) (settings : Settings) (work : List WorkAction)
+      → WhereWhole when (HasRan spoken settings work) → AreSettingsOf t settings
+      → spoken ≡ t.speeches.items → work ≡ t.work.actions → WhereWhole when (RanBy q t when x)
+  where_ruled spoken settings work ran of_task speeches actions =
+      whole_as when (HasRan t.speeches.items settings t.work.actions) (RanBy q t when x)
+      (ruled settings of_task)
+      (subst (λ (ws : List WorkAction). WhereWhole when (HasRan t.speeches.items settings ws))
+      actions (subst (λ (ss : List Speech). WhereWhole when (HasRan ss settings work)) speeches ran))
+
+-- ---- what it says
+
+module _ (q : Task → Discipline) (lanes : Task → ℕ) (t : Task) (is : IsDiscipline (q t))
+    (plan : (q t).plan ≡ t.plan) (when : Option Stage) (x : Left) (ran : RanBy (q t) t when x) where
+  same : history_of x.journal ≡ ran.lanes.run.history
+  same = ran.lanes.run.in_journal
+
+  newest : journal_of ran.lanes.run.history ≡ newest_first x
+  newest = newest_is ran.lanes.run.history ∙ ap reverse (sym ran.lanes.run.in_journal)
+
+  pub is_legal : LegalBy (q t) (newest_first x)
+  is_legal = subst (LegalBy (q t)) newest ran.lanes.run.is_legal.legal
+
+  pub is_sound : Sound t.plan
+  is_sound = subst Sound plan ran.lanes.run.is_legal.sound
 
   is_lawful : Lawful t.plan (newest_first x)
-  is_lawful = lawful t.plan (newest_first x) is_legal
+  is_lawful = subst (λ (p : Plan). Lawful p (newest_first x)) plan
+      (lawful (q t) is (newest_first x) is_legal)
 
   pub has_race : HasRace t x
   has_race = race t.plan (newest_first x) is_lawful
@@ -96,56 +163,59 @@ module _ (t : Task) (when : Option Stage) (x : Left) (ran : TaskRan t when x) wh
   pub is_paired : IsPaired t x
   is_paired = paired t.plan (newest_first x) is_lawful
 
-  pub is_kept : IsKept t x
-  is_kept = kept t.plan (newest_first x) ran.run.is_legal.sound is_legal
-
   pub halts : has_halt (history_of x.journal) ≡ is_during when
-  halts = ap has_halt same ∙ sym ran.run.halts
+  halts = ap has_halt same ∙ (sym ran.lanes.run.halts ∙ ran.lanes.halted)
+
+  pub flagged : x.halted ≡ has_halt (history_of x.journal)
+  flagged = ran.lanes.run.halts ∙ ap has_halt (sym same)
 
   pub has_pipes : HasPipes t x
-  has_pipes = subst (λ h. Pipes t.posts.items h x.lines) (sym same) ran.run.pipes
+  has_pipes = subst (λ h. Pipes t.speeches.items h x.lines) (sym same) ran.lanes.run.pipes
 
   pub has_outs : HasOuts t x
   has_outs = subst (λ h. Outs (outputs_in t.plan) (length t.plan.actions) h x.places) (sym same)
-      ran.run.outs
+      (subst (λ (p : Plan). Outs (outputs_in p) (length p.actions) ran.lanes.run.history x.places) plan
+      ran.lanes.run.outs)
 
-  module _ (posts : HasPosts t) where
-    pub has_rooms : HasRooms t x
+  pub has_unsaid : HasUnsaid t x
+  has_unsaid = record {
+    as_many = rooms_unsaid (answer_after (q t)) ran.settings t.work.actions
+        ran.lanes.run.history x.lines 0 t.speeches.items ran.lanes.before x.berths x.unsaid ran.lanes.run.rooms;
+    each = λ w line is. subst (λ h. IsUnsaid h w line) (sym same)
+        (subst (λ v. IsUnsaid ran.lanes.run.history v line) (let z : 0 + w ≡ w = omega arith in z)
+        (unsaid_at (answer_after (q t)) ran.settings t.work.actions ran.lanes.run.history x.lines
+        0 t.speeches.items ran.lanes.before x.berths x.unsaid ran.lanes.run.rooms w line is));
+  }
+
+  module _ (seats : length t.speeches.items ≡ lanes t) where
+    pub has_rooms : HasRooms (λ t. head_of (q t) (lanes t)) t x
     has_rooms = record {
-      before = ran.before;
-      new = subst (λ n. AreNewBerths n ran.before) posts.0 ran.new;
-      rooms = subst (λ h. Rooms (answer_after (own_discipline t.plan)) t.work.actions h x.lines 0
-          t.posts.items ran.before x.berths x.unsaid) (sym same) ran.run.rooms;
+      settings = ran.settings;
+      of_task = ran.of_task;
+      before = ran.lanes.before;
+      new = subst (λ n. AreNewBerths n ran.lanes.before) seats ran.lanes.new;
+      rooms = subst (λ h. Rooms (answer_after (q t)) ran.settings t.work.actions h x.lines 0
+          t.speeches.items ran.lanes.before x.berths x.unsaid) (sym same) ran.lanes.run.rooms;
     }
 
-    pub has_unsaid : HasUnsaid t x
-    has_unsaid = record {
-      as_many = rooms_unsaid (answer_after (own_discipline t.plan)) t.work.actions
-          ran.run.history x.lines 0 t.posts.items ran.before x.berths x.unsaid ran.run.rooms;
-      each = λ w line is. subst (λ h. IsUnsaid h w line) (sym same)
-          (subst (λ v. IsUnsaid ran.run.history v line) (let z : 0 + w ≡ w = omega arith in z)
-          (unsaid_at (answer_after (own_discipline t.plan)) t.work.actions ran.run.history x.lines
-          0 t.posts.items ran.before x.berths x.unsaid ran.run.rooms w line is));
-    }
+    pub is_stopped : IsStopped (λ t. head_of (q t) (lanes t)) t x
+    is_stopped = subst (λ n. Stops n (history_of x.journal)) seats
+        (subst (λ h. Stops (length t.speeches.items) h) (sym same) ran.lanes.run.stops)
 
-    pub is_stopped : IsStopped t x
-    is_stopped = subst (λ n. Stops n (history_of x.journal)) posts.0
-        (subst (λ h. Stops (length t.posts.items) h) (sym same) ran.run.stops)
-
-    stops_first : has_halt ran.run.history ≡ false → 0 < berths t.plan
+    stops_first : has_halt ran.lanes.run.history ≡ false → 0 < lanes t
         → stopped (newest_first x) (proxy_lane 0) ≡ true
     stops_first none some =
-        let stops : Stops (berths t.plan) ran.run.history =
-        subst (λ n. Stops n ran.run.history) posts.0 ran.run.stops in
+        let stops : Stops (lanes t) ran.lanes.run.history =
+        subst (λ n. Stops n ran.lanes.run.history) seats ran.lanes.run.stops in
         ap (λ (j : List Entry). stopped j (proxy_lane 0)) (sym newest)
-        ∙ stopped_is ran.run.history (proxy_lane 0) (stops none 0 some).0
+        ∙ stopped_is ran.lanes.run.history (proxy_lane 0) (stops none 0 some).0
 
     unhalted : has_halt (history_of x.journal) ≡ false → halted (newest_first x) ≡ false
     unhalted none = ap halted (sym newest)
-        ∙ (halted_is ran.run.history ∙ (ap has_halt (sym same) ∙ none))
+        ∙ (halted_is ran.lanes.run.history ∙ (ap has_halt (sym same) ∙ none))
 
-    module _ (has : HasBerths t.plan) where
-      settles : (n : ℕ) → berths t.plan ≡ n → has_halt (history_of x.journal) ≡ false
+    module _ (has : lanes t ≡ 0 → t.plan.actions ≡ []) where
+      settles : (n : ℕ) → lanes t ≡ n → has_halt (history_of x.journal) ≡ false
           → all_settled t.plan (newest_first x) ≡ true
       settles zero is none = none_to_settle t.plan (newest_first x) (has is)
       settles (suc n) is none = stopped_settled t.plan (newest_first x) (proxy_lane 0) is_lawful
@@ -153,13 +223,13 @@ module _ (t : Task) (when : Option Stage) (x : Left) (ran : TaskRan t when x) wh
           (unhalted none)
 
       pub is_accounted : IsAccounted t x
-      is_accounted none = finished t.plan (newest_first x) ran.run.is_legal.sound is_lawful
-          (settles (berths t.plan) refl none)
+      is_accounted none = finished t.plan (newest_first x) is_sound is_lawful
+          (settles (lanes t) refl none)
 
       pub is_complete : IsComplete t x
       is_complete none clean = all_ok t.plan (newest_first x)
-          (all_succeed t.plan (newest_first x) ran.run.is_legal.sound is_lawful clean (unhalted none)
-          (settles (berths t.plan) refl none))
+          (all_succeed t.plan (newest_first x) is_sound is_lawful clean (unhalted none)
+          (settles (lanes t) refl none))
 
 -- What is so of each run of lanes is so of the run that is told.
 module _ (when : Option Stage) (t : Task) (x : Left) (end : EndedTold) where
@@ -170,15 +240,15 @@ module _ (when : Option Stage) (t : Task) (x : Left) (end : EndedTold) where
   untold : (P : Task → Left → Type 0) → end.task ≡ None → OnRun end P
   untold P task = subst (λ (o : Option Task). IfSome o (λ t. P t end.left)) (sym task) tt
 
-pub on_run : (when : Option Stage) (t : Task) (x : Left) (end : EndedTold)
+pub on_run : (when : Option Stage) (t : Task) (x : Left) (end : EndedTold) (Ran : Type 0)
     (P : Task → Left → Type 0) → IsRunEnd when t end.fault end.task
-    → WhereWhole when (TaskRan t when x) → end.left ≡ x → (TaskRan t when x → P t x)
+    → WhereWhole when Ran → end.left ≡ x → (Ran → P t x)
     → OnRun end P
-on_run None t x end P kind ran left is = told None t x end P kind.1 left (is ran)
-on_run (Some stage.During) t x end P kind ran left is =
+on_run None t x end Ran P kind ran left is = told None t x end P kind.1 left (is ran)
+on_run (Some stage.During) t x end Ran P kind ran left is =
     told None t x end P kind.1 left (is ran)
-on_run (Some stage.Before) t x end P kind ran left is = untold None t x end P kind.1
-on_run (Some stage.After) t x end P kind ran left is = absurd kind
+on_run (Some stage.Before) t x end Ran P kind ran left is = untold None t x end P kind.1
+on_run (Some stage.After) t x end Ran P kind ran left is = absurd kind
 
 -- no lane halted, and the fault doesn't say so
 late : (f : Option RunFault) → IsReportEnd f → is_halted f ≡ false
@@ -193,18 +263,22 @@ late (Some (fault.Flags a x)) e = refl
 late (Some (fault.Absent at)) e = refl
 late (Some (fault.FloorFailed at)) e = refl
 
-pub halts_as_said : (when : Option Stage) (t : Task) (x : Left) (end : EndedTold)
-    → IsRunEnd when t end.fault end.task → WhereWhole when (TaskRan t when x) → end.left ≡ x
-    → HaltsAsSaid end
-halts_as_said None t x end kind ran left =
-    told None t x end (λ t x. has_halt (history_of x.journal) ≡ is_halted end.fault) kind.1 left
-    (halts t None x ran ∙ sym (late end.fault kind.0))
-halts_as_said (Some stage.During) t x end kind ran left =
-    told None t x end (λ t x. has_halt (history_of x.journal) ≡ is_halted end.fault) kind.1 left
-    (halts t (Some stage.During) x ran ∙ sym (ap is_halted kind.0))
-halts_as_said (Some stage.Before) t x end kind ran left =
-    untold None t x end (λ t x. has_halt (history_of x.journal) ≡ is_halted end.fault) kind.1
-halts_as_said (Some stage.After) t x end kind ran left = absurd kind
+pub during_said : (when : Option Stage) (t : Task) (f : Option RunFault) (o : Option Task)
+    → IsRunEnd when t f o → is_during when ≡ is_halted f
+during_said None t f o kind = sym (late f kind.0)
+during_said (Some stage.During) t f o kind = sym (ap is_halted kind.0)
+during_said (Some stage.Before) t f o kind = sym (ap is_halted kind.0)
+during_said (Some stage.After) t f o kind = absurd kind
+
+-- where no lane was started no entry is there, and the flag is false
+pub flag_is : (when : Option Stage) (x : Left) (Ran : Type 0) → WhereWhole when Ran
+    → WhereLost when (IsUnused x) → (Ran → x.halted ≡ has_halt (history_of x.journal))
+    → x.halted ≡ has_halt (history_of x.journal)
+flag_is None x Ran ran lost is = is ran
+flag_is (Some stage.During) x Ran ran lost is = is ran
+flag_is (Some stage.Before) x Ran ran lost is =
+    lost.halted ∙ sym (ap (λ (j : List Entry). has_halt (history_of j)) lost.journal)
+flag_is (Some stage.After) x Ran ran lost is = absurd ran
 
 -- ---- with no fault
 
@@ -220,21 +294,19 @@ module _ (t : Task) (end : EndedTold) (task : end.task ≡ Some t) where
       ∙ (ap (λ (o : Option Task). status_by None o end.left.journal) task
       ∙ zero_where (list_all is_success (ends_of t.plan (newest_first end.left))) all))
 
-module _ (t : Task) (x : Left) (end : EndedTold) (left : end.left ≡ x) (posts : HasPosts t)
-    (has : HasBerths t.plan)
+module _ (t : Task) (x : Left) (end : EndedTold) (left : end.left ≡ x)
     (status : end.status ≡ status_by end.fault end.task end.left.journal) where
-  all_succeeded : TaskRan t None x → Clean (newest_first end.left) → AllSucceed t end.left
-  all_succeeded ran = subst (λ (y : Left). Clean (newest_first y) → AllSucceed t y) (sym left)
-      (is_complete t None x ran posts has (halts t None x ran))
-
-  pub succeeds : (when : Option Stage) → IsRunEnd when t end.fault end.task
-      → WhereWhole when (TaskRan t when x) → Succeeds end
-  succeeds None kind ran none = (
+  pub succeeds : (when : Option Stage) (Ran : Type 0) → (Ran → IsComplete t x)
+      → (Ran → has_halt (history_of x.journal) ≡ is_during when)
+      → IsRunEnd when t end.fault end.task → WhereWhole when Ran → Succeeds end
+  succeeds None Ran complete halts kind ran none = (
     t,
     kind.1,
     λ clean.
-        let all = all_succeeded ran clean in (all, is_zero t end kind.1 none status all),
+        let all = subst (λ (y : Left). Clean (newest_first y) → AllSucceed t y) (sym left)
+        (complete ran (halts ran)) clean in
+        (all, is_zero t end kind.1 none status all),
   )
-  succeeds (Some stage.During) kind ran none = absurd (let e = kind.0 in cc)
-  succeeds (Some stage.Before) kind ran none = absurd (let e = kind.0 in cc)
-  succeeds (Some stage.After) kind ran none = absurd kind
+  succeeds (Some stage.During) Ran complete halts kind ran none = absurd (let e = kind.0 in cc)
+  succeeds (Some stage.Before) Ran complete halts kind ran none = absurd (let e = kind.0 in cc)
+  succeeds (Some stage.After) Ran complete halts kind ran none = absurd kind

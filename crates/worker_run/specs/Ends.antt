@@ -17,11 +17,12 @@ use Rattle.run_tasks.specs.declared.task.Task.{Task}
 use Rattle.tool_words.specs.declared.options.Options.{Options}
 use Rattle.worker_run.specs.Lanes.{HasMade, IsUnused, MakesUpTo}
 use Rattle.worker_run.specs.Seen.{EndedTold, Left, nothing_left}
+use Rattle.run_plan.specs.Limits.{most_actions, most_berths}
 
 -- ---- the fault
 
--- with no lane started there is a fault of what was read, or memory was wanted; once all was read,
--- memory was wanted while the lanes were at work or behind them, or the report wasn't put
+-- with no lane started there is a fault of what was read, or memory ran out; once all was read,
+-- memory ran out while the lanes were at work or behind them, or the report wasn't put
 abbrev pub IsAfterReading : Option RunFault → Type 0
 IsAfterReading None = Unit {0}
 IsAfterReading (Some fault.SinkFailed) = Unit {0}
@@ -29,7 +30,7 @@ IsAfterReading (Some (fault.NoMemory stage.During)) = Unit {0}
 IsAfterReading (Some (fault.NoMemory stage.After)) = Unit {0}
 IsAfterReading (Some f) = ⊥
 
--- A run is told where there was no fault, where memory was wanted while the lanes were at work or
+-- A run is told where there was no fault, where memory ran out while the lanes were at work or
 -- behind them, and where the report wasn't put. With any other fault there was none.
 abbrev pub TellsTask : Option RunFault → Option Task → Type 0
 TellsTask None task = (t : Task) × (task ≡ Some t)
@@ -43,7 +44,7 @@ abbrev pub IsPutEnd : Option RunFault → Type 0
 IsPutEnd None = Unit {0}
 IsPutEnd (Some f) = f ≡ fault.SinkFailed
 
--- the report wasn't put, or memory was wanted for it
+-- the report wasn't put, or memory ran out for it
 abbrev pub IsLate : RunFault → Type 0
 IsLate fault.SinkFailed = Unit {0}
 IsLate (fault.NoMemory when) = when ≡ stage.After
@@ -63,7 +64,12 @@ IsRunEnd (Some stage.Before) t end task =
     (end ≡ Some (fault.NoMemory stage.Before)) × (task ≡ None)
 IsRunEnd (Some stage.After) t end task = ⊥
 
--- memory was wanted while the lanes were at work
+-- How the lanes of this task end: it is told, but where memory ran out before them.
+abbrev pub IsEndOf : Task → Option RunFault → Option Task → Type 0
+IsEndOf t (Some (fault.NoMemory stage.Before)) task = task ≡ None
+IsEndOf t end task = IsAfterReading end × (task ≡ Some t)
+
+-- memory ran out while the lanes were at work
 abbrev pub is_halted : Option RunFault → Bool
 is_halted (Some (fault.NoMemory stage.During)) = true
 is_halted _ = false
@@ -74,9 +80,9 @@ is_halted _ = false
 -- have.
 pub record MadeAll (before : FloorTold) (end : EndedTold) : Type 0 where
   pub left : HasMade before end.floor end.left
-  pub few : MakesUpTo 64 4096 before end.floor
+  pub few : MakesUpTo most_berths most_actions before end.floor
 
--- What is left of no run: new berths and places where memory was wanted before the lanes, and nothing
+-- What is left of no run: new berths and places where memory ran out before the lanes, and nothing
 -- with any other fault.
 abbrev pub LeavesNew : Option RunFault → Left → Type 0
 LeavesNew (Some (fault.NoMemory stage.Before)) x = IsUnused x
@@ -92,7 +98,7 @@ LeadsTo (Ok made) end task = IsAfterReading end × IfSome task (λ t. t ≡ made
 abbrev pub HasLed : Option Options → Option RunFault → Option Task → List FloorRead → Type 0
 HasLed options end task reads = (made : Made) × Course options reads made × LeadsTo made end task
 
--- Nothing is said where memory was wanted before the lanes.
+-- Nothing is said where memory ran out before the lanes.
 abbrev pub UnlessEarly : Option RunFault → Type 0 → Type 0
 UnlessEarly (Some (fault.NoMemory stage.Before)) P = Unit {0}
 UnlessEarly end P = P

@@ -4,13 +4,15 @@ use Rattle.build_report.specs.declared.fault.Stage.{Stage}
 use Rattle.build_report.specs.declared.fault.Stage.TheVariants as stage
 use Rattle.exec_journal.specs.declared.call.Call.{Call}
 use Rattle.exec_journal.specs.declared.reply.Reply.{Reply}
-use Rattle.core_contract.specs.Disciplines.{own_discipline}
-use Rattle.history_laws.specs.Ruled.{CameAbout, answer_after, terms_in}
-use Rattle.proxy_deeds.specs.declared.post.Post.{Post}
-use Rattle.lane_runs.specs.Runs.{HasRun, LaidTold}
+use Rattle.run_plan.specs.declared.plan.Speech.{Speech}
+use Rattle.proxy_deeds.specs.declared.settings.Settings.{Settings}
+use Rattle.lane_runs.specs.Runs.{HasRun}
+use Rattle.lane_runs.specs.Seats.{SpeechesFit}
 use Rattle.outside.specs.Lists.{Tells}
 use Rattle.outside.specs.Told.{BerthTold, FloorTold, PlaceTold}
+use Rattle.proxy_steps.specs.Work.{IsWorkOf}
 use Rattle.remote_messages.specs.declared.work.WorkAction.{WorkAction}
+use Rattle.run_plan.specs.Limits.{most_actions, most_berths}
 use Rattle.core_contract.specs.Terms.{Terms}
 use Rattle.core_contract.specs.Moves.{History}
 use Rattle.run_tasks.specs.declared.task.Task.{Task}
@@ -44,6 +46,7 @@ pub record IsUnused (x : Left) : Type 0 where
   pub journal : x.journal ≡ []
   pub lines : x.lines ≡ []
   pub unsaid : x.unsaid ≡ []
+  pub halted : x.halted ≡ false
 
 -- the floor has made exactly the berths and the places that are left
 pub record HasMade (before after : FloorTold) (x : Left) : Type 0 where
@@ -55,33 +58,23 @@ pub record MakesUpTo (b p : ℕ) (before after : FloorTold) : Type 0 where
   pub berths : after.berths ≤ before.berths + b
   pub places : after.places ≤ before.places + p
 
--- Memory was wanted while the lanes were at work: then some lane has halted.
+-- Memory ran out while the lanes were at work: then some lane has halted.
 abbrev pub is_during : Option Stage → Bool
 is_during (Some stage.During) = true
 is_during _ = false
 
--- what is left, with whether a lane has halted, as the fault says it
-abbrev pub laid_by : Option Stage → Left → LaidTold
-laid_by fault x = record {
-  journal = x.journal;
-  berths = x.berths;
-  lines = x.lines;
-  unsaid = x.unsaid;
-  places = x.places;
-  halted = is_during fault;
-}
-
--- All lanes of new berths ran by the rule of a core, one berth for each post: they have one
+-- All lanes of new berths ran by the rule of a core, one berth for each speech: they have one
 -- history, and what is left is what that history says. A lane has halted exactly where memory was
 -- wanted while they were at work.
 pub record LanesRan (legal : History → Type 0) (rule : History → ℕ → Call → Reply)
-    (terms : Terms) (posts : List Post) (work : List WorkAction) (fault : Option Stage)
-    (left : Left) : Type 0 where
+    (terms : Terms) (speeches : List Speech) (settings : Settings) (work : List WorkAction)
+    (fault : Option Stage) (left : Left) : Type 0 where
   pub before : List BerthTold
-  pub new : AreNewBerths (length posts) before
-  pub run : HasRun legal rule terms posts work before (laid_by fault left)
+  pub new : AreNewBerths (length speeches) before
+  pub run : HasRun legal rule terms speeches settings work before left
+  pub halted : left.halted ≡ is_during fault
 
--- Lanes ran, and what they left is there: no memory was wanted, or only while they were at work. It is
+-- Lanes ran, and what they left is there: memory didn't run out, or only while they were at work. It is
 -- never wanted behind them.
 abbrev pub WhereWhole : Option Stage → Type 0 → Type 0
 WhereWhole None P = P
@@ -96,8 +89,20 @@ WhereLost (Some stage.During) P = Unit {0}
 WhereLost (Some stage.Before) P = P
 WhereLost (Some stage.After) P = Unit {0}
 
--- the lanes of this task ran by the rules of the journal of its plan
-abbrev pub TaskRan : Task → Option Stage → Left → Type 0
-TaskRan t fault left = LanesRan (CameAbout (own_discipline t.plan))
-    (answer_after (own_discipline t.plan)) (terms_in (own_discipline t.plan)) t.posts.items
-    t.work.actions fault left
+-- the settings are the task's
+pub record AreSettingsOf (t : Task) (s : Settings) : Type 0 where
+  pub plan : s.plan.now ≡ t.plan
+  pub commands : s.commands.now ≡ t.commands.items
+  pub verbose : s.verbose ≡ t.verbose
+
+-- What the lanes of a core that goes by these terms ask of a task: the terms' plan, with a command for
+-- each group; a speech for each berth that has lanes, which is an executor's exactly where the berth
+-- is; the work of each action; and no more berths and actions than there may be.
+pub record FitsTerms (terms : Terms) (t : Task) : Type 0 where
+  pub plan : terms.plan ≡ t.plan
+  pub commanded : length t.commands.items ≡ length t.plan.groups
+  pub seats : length t.speeches.items ≤ terms.berths
+  pub few : length t.speeches.items ≤ most_berths
+  pub speeches : SpeechesFit terms.remote t.speeches.items
+  pub work : IsWorkOf terms t.work.actions
+  pub actions : length t.work.actions ≤ most_actions

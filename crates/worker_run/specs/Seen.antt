@@ -3,37 +3,29 @@ use Rattle.std.specs.Prelude.{ℕ, Bool, true, false, List, [], Option, Some, No
 use Rattle.build_report.specs.declared.fault.RunFault.{RunFault}
 use Rattle.build_report.specs.declared.fault.Stage.{Stage}
 use Rattle.build_report.specs.declared.fault.Stage.TheVariants as stage
-use Rattle.exec_journal.specs.Entry.{Entry}
-use Rattle.proxy_deeds.specs.Lines.{Back}
-use Rattle.lane_runs.specs.Runs.{EndTold, LaidTold}
+use Rattle.lane_runs.specs.Runs.{LaidTold}
 use Rattle.outside.specs.Told.{FloorTold, BerthTold, PlaceTold}
 use Rattle.run_tasks.specs.declared.task.Task.{Task}
 
--- what is left of a run's lanes: the journal, whose oldest entry stands first, and what its
--- berths, its lines, the line of each berth that wasn't reported, and its places tell
-pub record Left : Type 0 where
-  pub journal : List Entry
-  pub berths : List BerthTold
-  pub lines : List EndTold
-  pub unsaid : List (Option Back)
-  pub places : List PlaceTold
+-- what is left of a run's lanes: the journal, whose oldest entry stands first, what its berths, its
+-- lines, the line of each berth that wasn't reported, and its places tell, and whether a lane has
+-- halted
+abbrev pub Left : Type 0
+Left = LaidTold
 
-abbrev pub left : List Entry → List BerthTold → List EndTold → List (Option Back) → List PlaceTold
-    → Left
-left journal berths lines unsaid places = record {
-  journal = journal;
+-- these berths and places, and nothing else
+abbrev pub unrun : List BerthTold → List PlaceTold → Left
+unrun berths places = record {
+  journal = [];
   berths = berths;
-  lines = lines;
-  unsaid = unsaid;
+  lines = [];
+  unsaid = [];
   places = places;
+  halted = false;
 }
 
--- what lanes have left
-abbrev pub left_by : LaidTold → Left
-left_by x = left x.journal x.berths x.lines x.unsaid x.places
-
 abbrev pub nothing_left : Left
-nothing_left = left [] [] [] [] []
+nothing_left = unrun [] []
 
 -- a run of lanes over a floor
 pub record RanTold : Type 0 where
@@ -49,8 +41,8 @@ stage_of true = Some stage.During
 stage_of false = None
 
 -- what lanes have left, with the floor
-abbrev pub ran_by : FloorTold → LaidTold → RanTold
-ran_by floor x = ran_told (stage_of x.halted) floor (left_by x)
+abbrev pub ran_by : FloorTold → Left → RanTold
+ran_by floor x = ran_told (stage_of x.halted) floor x
 
 -- the whole result of a run
 pub record EndedTold : Type 0 where

@@ -41,21 +41,21 @@ pub struct Ended<F: Floor> {
     pub status: u8,
     pub fault: Option<RunFault>,
     /// What was run. `None` where no lane was started: then the lists are empty, but for the berths and
-    /// the places that were made before memory was wanted.
+    /// the places that were made before memory ran out.
     pub task: Option<Task>,
     pub floor: F,
-    /// The journal, the berths, the lines and the places.
+    /// The journal, the berths, the lines and the places, and whether a lane has halted.
     pub laid: LaidOut<F::Berth, F::Place>,
 }
 
 impl<F: Floor> Model for Ended<F> {
     ghost use Rattle.lane_runs.specs.Runs.{laid_told};
-    ghost use Rattle.worker_run.specs.Seen.{EndedTold, ended_told, left_by};
+    ghost use Rattle.worker_run.specs.Seen.{EndedTold, ended_told};
 
     ghost Value = { EndedTold };
 
-    ghost view = { λ e. ended_told e.status e.fault (F.told e.floor) e.task (left_by (laid_told
-        F.Berth.told F.Berth.Feed.told F.Berth.Tap.told F.Berth.Child.told F.Place.told e.laid)) };
+    ghost view = { λ e. ended_told e.status e.fault (F.told e.floor) e.task (laid_told
+        F.Berth.told F.Berth.Feed.told F.Berth.Tap.told F.Berth.Child.told F.Place.told e.laid) };
 }
 
 impl<F: Floor> Ended<F> {

@@ -1,8 +1,9 @@
-// A place for each action, and a berth for each post.
+// A place for each action, and a berth for each speech.
 ghost use Rattle.std.specs.Prelude.{◌≡◌, ◌≤◌, true, length, map};
 ghost use Rattle.outside.specs.Told.{Makes};
 ghost use Rattle.core_bench.specs.Objects.{AreFresh};
 ghost use Rattle.worker_run.specs.Lanes.{AreNewBerths};
+ghost use Rattle.run_plan.specs.Limits.{most_actions, most_berths};
 
 use outside::Floor;
 use std::alloc::Global;
@@ -32,8 +33,8 @@ pub fn make_objects<F: Floor>(
     berths: usize,
     actions: usize,
 ) -> NewObjects<F>
-    requires berths { berths ≤ 64 }
-    requires actions { actions ≤ 4096 }
+    requires berths { berths ≤ most_berths }
+    requires actions { actions ≤ most_actions }
     ensures places { AreFresh F.Place.told (length result.places.items) result.places.items }
     ensures berths { AreNewBerths (length result.berths.items)
         (map F.Berth.told result.berths.items) }
@@ -52,7 +53,7 @@ pub fn make_objects<F: Floor>(
 // Makes places for the first so many actions, in order; or as many as there is memory for.
 #[tactic(auto, using(crate::proofs::Numbered::no_places, crate::proofs::Numbered::one_more_place))]
 fn make_places<F: Floor>(alloc: Global, floor: &mut F, count: usize) -> Vec<F::Place>
-    requires { count ≤ 4096 }
+    requires { count ≤ most_actions }
     ensures places { AreFresh F.Place.told (length result.items) result.items }
     ensures few { length result.items ≤ count }
     ensures made { Makes 0 (length result.items) (F.told floor.old) (F.told floor.new) }
@@ -74,7 +75,7 @@ fn make_places<F: Floor>(alloc: Global, floor: &mut F, count: usize) -> Vec<F::P
 // Makes the first so many berths, in order; or as many as there is memory for.
 #[tactic(auto, using(crate::proofs::Numbered::no_berths, crate::proofs::Numbered::one_more_berth))]
 fn make_berths<F: Floor>(alloc: Global, floor: &mut F, count: usize) -> Vec<F::Berth>
-    requires { count ≤ 64 }
+    requires { count ≤ most_berths }
     ensures berths { AreNewBerths (length result.items) (map F.Berth.told result.items) }
     ensures few { length result.items ≤ count }
     ensures made { Makes (length result.items) 0 (F.told floor.old) (F.told floor.new) }

@@ -1,21 +1,24 @@
 // The top call.
-ghost use Rattle.std.specs.Prelude.{◌≡◌, ◌≤◌, Some, None, map, string_bytes};
+ghost use Rattle.std.specs.Prelude.{◌≡◌, ℕ, [], Some, None, map, string_bytes};
 ghost use Rattle.build_report.specs.Report.{report_of};
 ghost use Rattle.outside.specs.Causes.{Counts};
-ghost use Rattle.outside.specs.Told.{SameFiles};
+ghost use Rattle.core_contract.specs.Disciplines.{Discipline};
 ghost use Rattle.run_plan.specs.Sound.{Sound};
-ghost use Rattle.run_tasks.specs.Tasks.{HasPosts, HasWork};
+ghost use Rattle.run_tasks.specs.declared.task.Task.{Task};
 ghost use Rattle.tool_words.specs.Options.{options_of};
-ghost use Rattle.worker_run.specs.Ends.{IsPutEnd, IsReportEnd, IsRunEnd, Puts, Reports, report_by, status_by};
-ghost use Rattle.worker_run.specs.Headline.{RunKeeps};
-ghost use Rattle.worker_run.specs.Lanes.{HasMade, IsUnused, MakesUpTo, TaskRan, WhereLost, WhereWhole};
+ghost use Rattle.worker_run.specs.Ends.{IsEndOf, IsPutEnd, IsReportEnd, IsRunEnd, Puts, Reports, report_by, status_by};
+ghost use Rattle.worker_run.specs.Headline.{GoesBy, RunKeeps, TaskKeeps, head_of};
+ghost use Rattle.worker_run.specs.Lanes.{FitsTerms, WhereWhole};
 
 use crate::ended::Ended;
 use crate::running::{Ran, run_plan};
 use build_report::{RunFault, Stage, report};
-use exec_journal::{Journal, Plan};
+use core_contract::Rules;
+use exec_journal::Journal;
+use lane_runs::AllMeans;
 use outside::{Berth, Floor, Io, Sink};
 use plain_values::NoMemory;
+use proxy_deeds::Settings;
 use run_progress::Notes;
 use run_tasks::{Task, read_task};
 use spawn_core::Core;
@@ -31,7 +34,7 @@ use std::thread::Threads;
 /// of its own; the report, in one put. An earlier step's fault goes before a later one's.
 ///
 /// Where a run is told (`task` is there), all that is left is what one history says, and that is
-/// the journal. Where memory was wanted before the lanes, new berths and places are left, as many as
+/// the journal. Where memory ran out before the lanes, new berths and places are left, as many as
 /// were made. Contents are meant where the objects tell them, and counts always.
 pub fn run_build<R: Threads + Wait + Sync, F: Floor, O: Sink>(
     rt: &R,
@@ -80,45 +83,59 @@ where
     match read_task(alloc, words, &mut floor) {
         Ok(made) => {
             let (task, twin) = made;
-            let ran = run_task(rt, alloc, &task, twin, floor, notes);
-            conclude(alloc, task, ran, out)
+            let Ok(mut core) = Core::new(alloc, twin) else {
+                return Ended::with_no_lane(alloc, floor, RunFault::NoMemory(Stage::Before));
+            };
+            core.watch(notes);
+            run_and_report(rt, alloc, task, core, floor, out)
         }
         Err(fault) => Ended::with_no_lane(alloc, floor, fault),
     }
 }
 
-// Runs the lanes of the task, by the core of its plan.
-fn run_task<R: Threads + Wait + Sync, F: Floor>(
+/// Runs the lanes of a task by a core that has answered no call yet, and puts the report: what
+/// `run_build` does once a list was read, by whichever core.
+pub fn run_and_report<C: Rules, R: Threads + Wait + Sync, F: Floor, O: Sink>(
     rt: &R,
     alloc: Global,
-    task: &Task,
-    twin: Plan,
+    task: Task,
+    core: C,
     floor: F,
-    notes: Notes,
-) -> Ran<F>
+    out: &mut O,
+) -> Ended<F>
 where
+    C: Send,
     F::Berth: Send,
     F::Place: Send,
     <F::Berth as Berth>::Feed: Send,
     <F::Berth as Berth>::Tap: Send,
     <F::Berth as Berth>::Child: Send,
-    requires sound { Sound task.now.plan }
-    requires twin { twin ≡ task.now.plan }
-    requires work { HasWork task.now }
-    requires posts { HasPosts task.now }
-    ensures run { WhereWhole result.fault (TaskRan task.now result.fault result.left) }
-    ensures lost { WhereLost result.fault (IsUnused result.left) }
-    ensures made { HasMade (F.told floor) result.floor result.left }
-    ensures few { MakesUpTo 64 4096 (F.told floor) result.floor }
-    ensures files { SameFiles (F.told floor) result.floor }
+    requires core { C.stands core [] }
+    requires sound { Sound task.plan }
+    requires fits { FitsTerms (C.terms (C.plan core)) task }
+    // By each discipline that the core goes by, all that is said of a run but what was read.
+    ensures run { (q : Task → Discipline) (lanes : Task → ℕ)
+        → GoesBy (C.legal (C.plan core)) (C.rule (C.plan core)) (C.terms (C.plan core)) task
+        (q task) (lanes task) → TaskKeeps (λ t. head_of (q t) (lanes t)) (F.told floor) result }
+    ensures ended { IsEndOf task result.fault result.task }
+    // The floor is read no more.
     ensures log { result.floor.log ≡ (F.told floor).log }
-    ensures count { (F.told floor).faults ≤ result.floor.faults }
+    ensures report { Reports result (O.told out.old) (O.told out.new) }
+    ensures sink { Counts (O.told out.old).faults (O.told out.new).faults
+        (result.fault ≡ Some RunFault.SinkFailed) }
 {
-    let Ok(mut core) = Core::new(alloc, twin) else {
-        return Ran::with_nothing(alloc, floor, Some(Stage::Before));
+    let settings = Settings {
+        plan: &task.plan,
+        commands: task.commands.as_slice(),
+        verbose: task.verbose,
     };
-    core.watch(notes);
-    run_plan(rt, alloc, core, task.posts.as_slice(), &task.work, floor)
+    let means = AllMeans {
+        speeches: task.speeches.as_slice(),
+        settings: &settings,
+        actions: task.work.actions.as_slice(),
+    };
+    let ran = run_plan(rt, alloc, core, &means, floor);
+    conclude(alloc, task, ran, out)
 }
 
 // Ends the run: with the report where memory was never wanted.

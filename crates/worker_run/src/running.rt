@@ -1,21 +1,21 @@
 // The lanes of a plan, run on threads.
 ghost use Rattle.std.specs.Prelude.{◌≡◌, ◌≤◌, [], length, map, Some, None};
-ghost use Rattle.lane_runs.specs.Seats.{PostsFit};
+ghost use Rattle.lane_runs.specs.Seats.{SpeechesFit};
+ghost use Rattle.proxy_deeds.specs.Settings.{AreOfPlan};
 ghost use Rattle.build_report.specs.declared.fault.Stage.TheVariants as stage;
 ghost use Rattle.proxy_steps.specs.Work.{IsWorkOf};
 ghost use Rattle.lane_runs.specs.Runs.{laid_told};
 ghost use Rattle.outside.specs.Told.{SameFiles};
 ghost use Rattle.worker_run.specs.Lanes.{HasMade, IsUnused, LanesRan, MakesUpTo, WhereLost, WhereWhole};
-ghost use Rattle.worker_run.specs.Seen.{left, nothing_left, ran_by, ran_told};
+ghost use Rattle.worker_run.specs.Seen.{nothing_left, ran_by, ran_told, unrun};
+ghost use Rattle.run_plan.specs.Limits.{most_actions, most_berths};
 
 use crate::objects::{NewObjects, make_objects};
 use build_report::Stage;
 use core_contract::Rules;
 use exec_journal::Journal;
-use lane_runs::{Laid, LaidOut, Unrun, run_lanes};
+use lane_runs::{AllMeans, Laid, LaidOut, Unrun, run_lanes};
 use outside::{Berth, Floor};
-use proxy_deeds::Post;
-use remote_messages::Work;
 use std::alloc::Global;
 use std::marker::Model;
 use std::sync::Wait;
@@ -24,7 +24,7 @@ use std::thread::Threads;
 /// What a run of lanes leaves.
 #[derive(Drop)]
 pub struct Ran<F: Floor> {
-    /// When memory was wanted, if it was: `Before` the lanes, or `During` their work.
+    /// When memory ran out, if it was: `Before` the lanes, or `During` their work.
     pub fault: Option<Stage>,
     pub floor: F,
     /// The journal, the berths, the lines and the places.
@@ -33,12 +33,12 @@ pub struct Ran<F: Floor> {
 
 impl<F: Floor> Model for Ran<F> {
     ghost use Rattle.lane_runs.specs.Runs.{laid_told};
-    ghost use Rattle.worker_run.specs.Seen.{RanTold, left_by, ran_told};
+    ghost use Rattle.worker_run.specs.Seen.{RanTold, ran_told};
 
     ghost Value = { RanTold };
 
-    ghost view = { λ r. ran_told r.fault (F.told r.floor) (left_by (laid_told F.Berth.told
-        F.Berth.Feed.told F.Berth.Tap.told F.Berth.Child.told F.Place.told r.laid)) };
+    ghost view = { λ r. ran_told r.fault (F.told r.floor) (laid_told F.Berth.told
+        F.Berth.Feed.told F.Berth.Tap.told F.Berth.Child.told F.Place.told r.laid) };
 }
 
 impl<F: Floor> Ran<F> {
@@ -58,7 +58,7 @@ impl<F: Floor> Ran<F> {
         places: Vec<F::Place>,
     ) -> Ran<F>
         ensures { result ≡ ran_told fault (F.told floor)
-            (left [] (map F.Berth.told berths.items) [] [] (map F.Place.told places.items)) }
+            (unrun (map F.Berth.told berths.items) (map F.Place.told places.items)) }
     {
         let laid = Laid {
             journal: Journal::of(Vec::new(alloc)),
@@ -86,16 +86,15 @@ impl<F: Floor> Ran<F> {
 }
 
 /// Runs the actions of a plan by this core: makes a place for each action and a berth for each
-/// post, both in order and the places first, and runs the two lanes of each berth on threads.
+/// speech, both in order and the places first, and runs the two lanes of each berth on threads.
 ///
-/// The fault says when memory was wanted. With `During` some lane has halted. With `Before` no lane
+/// The fault says when memory ran out. With `During` some lane has halted. With `Before` no lane
 /// was started, and what was made is left, new. What lanes left is laid out without memory.
 pub fn run_plan<F: Floor, C: Rules, R: Threads + Wait + Sync>(
     rt: &R,
     alloc: Global,
     core: C,
-    posts: &[Post],
-    work: &Work,
+    means: &AllMeans<'_>,
     floor: F,
 ) -> Ran<F>
 where
@@ -106,31 +105,33 @@ where
     <F::Berth as Berth>::Tap: Send,
     <F::Berth as Berth>::Child: Send,
     requires core { C.stands core [] }
-    requires actions { length work.now.actions ≤ 4096 }
-    requires seats { length posts.now ≡ (C.terms (C.plan core)).berths }
-    requires few { length posts.now ≤ 64 }
-    requires posts { PostsFit (C.terms (C.plan core)).remote 0 posts.now }
-    requires work { IsWorkOf (C.terms (C.plan core)) work.now.actions }
+    requires actions { length means.now.actions.now ≤ most_actions }
+    requires seats { length means.now.speeches.now ≤ (C.terms (C.plan core)).berths }
+    requires few { length means.now.speeches.now ≤ most_berths }
+    requires speeches { SpeechesFit (C.terms (C.plan core)).remote means.now.speeches.now }
+    requires settings { AreOfPlan (C.terms (C.plan core)).plan means.now.settings.now }
+    requires work { IsWorkOf (C.terms (C.plan core)) means.now.actions.now }
     // Where lanes ran, what is left is what their one history says.
     ensures run { WhereWhole result.fault (LanesRan (C.legal (C.plan core)) (C.rule (C.plan core))
-        (C.terms (C.plan core)) posts.now work.now.actions result.fault result.left) }
+        (C.terms (C.plan core)) means.now.speeches.now means.now.settings.now
+        means.now.actions.now result.fault result.left) }
     ensures lost { WhereLost result.fault (IsUnused result.left) }
     // All that the floor has made is left, and it has never made more than a plan may have.
     ensures made { HasMade (F.told floor) result.floor result.left }
-    ensures few { MakesUpTo 64 4096 (F.told floor) result.floor }
+    ensures few { MakesUpTo most_berths most_actions (F.told floor) result.floor }
     ensures files { SameFiles (F.told floor) result.floor }
     ensures log { result.floor.log ≡ (F.told floor).log }
     ensures count { (F.told floor).faults ≤ result.floor.faults }
 {
     let mut floor = floor;
-    let actions = work.actions.as_slice();
-    let objects = make_objects(alloc, &mut floor, posts.len(), actions.len());
-    let all = objects.has_all(posts.len(), actions.len());
+    let seats = means.speeches.len();
+    let objects = make_objects(alloc, &mut floor, seats, means.actions.len());
+    let all = objects.has_all(seats, means.actions.len());
     let NewObjects { places, berths } = objects;
     if !all {
         return Ran::unused(alloc, floor, Some(Stage::Before), berths, places);
     }
-    match run_lanes(rt, alloc, core, Unrun { berths, places }, posts, actions) {
+    match run_lanes(rt, alloc, core, Unrun { berths, places }, means) {
         Ok(laid) => Ran::of(floor, laid),
         Err(unrun) => {
             let Unrun { berths, places } = unrun;

@@ -4,7 +4,7 @@ use Rattle.exec_journal.specs.Entry.{Entry}
 use Rattle.journal_text.specs.Lines.{text_of}
 use Rattle.tool_words.specs.Options.{options_of}
 use Rattle.recorded_runs.proofs.Kept.{keeps_late}
-use Rattle.recorded_runs.proofs.Put.{counts_late, never_untold, none_of, not_none, records_late, records_report, records_whole, yes_if}
+use Rattle.recorded_runs.proofs.Put.{counts_late, never_untold, none_by, not_none, records_late, records_report, records_whole, yes_if}
 use Rattle.recorded_runs.proofs.recording.run_recorded.Goals as goal
 use Rattle.recorded_runs.specs.Recorded.{IsJudgedYes}
 use Rattle.worker_run.specs.Ends.{Puts}
@@ -24,10 +24,7 @@ returns-in-Some-put_text-clause-run g c =
     let b = c.run_build-ended in
     let is = b.ensures in
     let e = c.end_late.ensures in
-    let same : c.ended.inside.fault ≡ b.result.fault =
-    cc (ap (λ (e : EndedTold). e.fault) c.ended.view_is) in
-    let none = sym same ∙ none_of c.ended.inside.fault (sym c.is_some.ensures
-    ∙ c.if-is_some.false) in
+    let none = none_by _ _ c.ended.view_is (sym c.is_some.ensures ∙ c.if-is_some.false) in
     keeps_late (options_of (map string_bytes c.args.words.now)) (g.F.Floor.told c.args.floor)
     b.result c.end_late.result c.in-Some-put_text.fault c.in-Some-put_text.ensures.kind is.run none e.fault e.status e.task e.left e.floor
 
@@ -36,10 +33,7 @@ returns-in-Some-put_text-clause-report g c =
     let b = c.run_build-ended in
     let e = c.end_late.ensures in
     let view = c.ended.view_is in
-    let same : c.ended.inside.fault ≡ b.result.fault =
-    cc (ap (λ (e : EndedTold). e.fault) view) in
-    let none = sym same ∙ none_of c.ended.inside.fault (sym c.is_some.ensures
-    ∙ c.if-is_some.false) in
+    let none = none_by _ _ c.ended.view_is (sym c.is_some.ensures ∙ c.if-is_some.false) in
     let its : b.result.task ≡ Some c.in-Some.task =
     cc (c.in-Some.is, ap (λ (e : EndedTold). e.task) view) in
     let path : c.ended.inside.laid.journal ≡ b.result.left.journal =
@@ -56,10 +50,7 @@ pub returns-in-None-put_text-clause-report : goal.returns-in-None-put_text-claus
 returns-in-None-put_text-clause-report g c =
     let b = c.run_build-ended in
     let view = c.ended.view_is in
-    let same : c.ended.inside.fault ≡ b.result.fault =
-    cc (ap (λ (e : EndedTold). e.fault) view) in
-    let none = sym same ∙ none_of c.ended.inside.fault (sym c.is_some.ensures
-    ∙ c.if-is_some.false) in
+    let none = none_by _ _ c.ended.view_is (sym c.is_some.ensures ∙ c.if-is_some.false) in
     let its : b.result.task ≡ Some c.in-Some.task =
     cc (c.in-Some.is, ap (λ (e : EndedTold). e.task) view) in
     let path : c.ended.inside.laid.journal ≡ b.result.left.journal =
@@ -81,10 +72,7 @@ pub returns-in-None-put_text-clause-sink : goal.returns-in-None-put_text-clause-
 returns-in-None-put_text-clause-sink g c =
     let b = c.run_build-ended in
     let view = c.ended.view_is in
-    let same : c.ended.inside.fault ≡ b.result.fault =
-    cc (ap (λ (e : EndedTold). e.fault) view) in
-    let none = sym same ∙ none_of c.ended.inside.fault (sym c.is_some.ensures
-    ∙ c.if-is_some.false) in
+    let none = none_by _ _ c.ended.view_is (sym c.is_some.ensures ∙ c.if-is_some.false) in
     counts_late (g.O.Sink.told c.args.out.now).faults (g.O.Sink.told b.new.out).faults
     (g.O.Sink.told c.put_text.new.out).faults _ _ _ b.ensures.sink c.in-None-put_text.ensures.sink
     (λ failed. sym none ∙ failed)
@@ -104,20 +92,14 @@ pub returns-in-None-clause-report : goal.returns-in-None-clause-report
 returns-in-None-clause-report g c =
     let b = c.run_build-ended in
     let view = c.ended.view_is in
-    let same : c.ended.inside.fault ≡ b.result.fault =
-    cc (ap (λ (e : EndedTold). e.fault) view) in
-    let none = sym same ∙ none_of c.ended.inside.fault (sym c.is_some.ensures
-    ∙ c.if-is_some.false) in
+    let none = none_by _ _ c.ended.view_is (sym c.is_some.ensures ∙ c.if-is_some.false) in
     let untold : b.result.task ≡ None = cc (c.in-None.is, ap (λ (e : EndedTold). e.task) view) in
-    absurd (never_untold b.result.fault b.result.task b.ensures.run.told none untold)
+    absurd (never_untold b.result.fault b.result.task b.ensures.run.task.told none untold)
 
 pub returns-in-None-clause-judged : goal.returns-in-None-clause-judged
 returns-in-None-clause-judged g c =
     let b = c.run_build-ended in
     let view = c.ended.view_is in
-    let same : c.ended.inside.fault ≡ b.result.fault =
-    cc (ap (λ (e : EndedTold). e.fault) view) in
-    let none = sym same ∙ none_of c.ended.inside.fault (sym c.is_some.ensures
-    ∙ c.if-is_some.false) in
+    let none = none_by _ _ c.ended.view_is (sym c.is_some.ensures ∙ c.if-is_some.false) in
     let untold : b.result.task ≡ None = cc (c.in-None.is, ap (λ (e : EndedTold). e.task) view) in
-    absurd (never_untold b.result.fault b.result.task b.ensures.run.told none untold)
+    absurd (never_untold b.result.fault b.result.task b.ensures.run.task.told none untold)

@@ -1,8 +1,7 @@
 -- What the lanes leave is all that the floor has made, and so is what they were to work with.
 use Rattle.std.proofs.Common.{ℕ, List, ap, sym, ◌∙◌, length, map, refl, subst}
-use Rattle.lane_runs.specs.Runs.{HasRun, laid_told}
+use Rattle.lane_runs.specs.Runs.{laid_told}
 use Rattle.outside.specs.Told.{BerthTold}
-use Rattle.remote_messages.specs.declared.work.WorkAction.{WorkAction}
 use Rattle.core_bench.specs.Objects.{AreFresh}
 use Rattle.worker_run.specs.Lanes.{AreNewBerths}
 use Rattle.worker_run.proofs.Made.{made_left, made_unused, not_lost, ran_whole, rooms_length, unused}
@@ -10,9 +9,8 @@ use Rattle.worker_run.proofs.running.run_plan.Goals as goal
 
 pub run_lanes-requires-clause-places : goal.run_lanes-requires-clause-places
 run_lanes-requires-clause-places g c κs within =
-    let as_slice = ap (λ (xs : List WorkAction). length xs) c.as_slice-actions.ensures in
     subst (λ (n : ℕ). AreFresh g.F.Place.Place.told n c.make_objects-objects.result.places.items)
-    ((c.has_all-all.ensures c.if-not-all.false).1 ∙ (as_slice ∙ c.requires.work.as_many))
+    ((c.has_all-all.ensures c.if-not-all.false).1 ∙ c.requires.work.as_many)
     c.make_objects-objects.ensures.places
 
 pub returns-then-not-all-clause-lost : goal.returns-then-not-all-clause-lost
@@ -32,12 +30,11 @@ pub returns-in-Ok-clause-made : goal.returns-in-Ok-clause-made
 returns-in-Ok-clause-made g c =
     let run = c.in-Ok.ensures.run in
     let all = c.has_all-all.ensures c.if-not-all.false in
-    let as_slice = ap (λ (xs : List WorkAction). length xs) c.as_slice-actions.ensures in
     rw (c.of.ensures) (made_left (length c.make_objects-objects.result.berths.items)
     (length c.make_objects-objects.result.places.items) (g.F.Floor.told c.args.floor)
     (g.F.Floor.told c.make_objects-objects.new.floor) _ c.make_objects-objects.ensures.made
-    (rooms_length _ _ _ _ 0 c.args.posts.now _ _ _ run.rooms ∙ sym all.0)
-    (run.outs.as_many ∙ (sym c.requires.work.as_many ∙ (sym as_slice ∙ sym all.1))))
+    (rooms_length _ _ _ _ _ 0 c.args.means.now.speeches.now _ _ _ run.rooms ∙ sym all.0)
+    (run.outs.as_many ∙ (sym c.requires.work.as_many ∙ sym all.1)))
 
 pub returns-in-Ok-clause-run : goal.returns-in-Ok-clause-run
 returns-in-Ok-clause-run g c =
@@ -48,10 +45,9 @@ returns-in-Ok-clause-run g c =
     let before = map g.F.Berth.Berth.told c.make_objects-objects.result.berths.items in
     let new = subst (λ (n : ℕ). AreNewBerths n before) (c.has_all-all.ensures c.if-not-all.false).0
     c.make_objects-objects.ensures.berths in
-    let run = subst (λ (ws : List WorkAction). HasRun (r.legal p) (r.rule p) (r.terms p)
-    c.args.posts.now ws before laid) c.as_slice-actions.ensures c.in-Ok.ensures.run in
-    rw (c.of.ensures) (ran_whole (r.legal p) (r.rule p) (r.terms p) c.args.posts.now
-    c.args.work.now.actions before laid new run)
+    let m = c.args.means.now in
+    rw (c.of.ensures) (ran_whole (r.legal p) (r.rule p) (r.terms p) m.speeches.now m.settings.now
+    m.actions.now before laid new c.in-Ok.ensures.run)
 
 pub returns-in-Ok-clause-lost : goal.returns-in-Ok-clause-lost
 returns-in-Ok-clause-lost g c =
@@ -69,9 +65,8 @@ returns-in-Err-clause-lost g c =
 pub returns-in-Err-clause-made : goal.returns-in-Err-clause-made
 returns-in-Err-clause-made g c =
     let all = c.has_all-all.ensures c.if-not-all.false in
-    let as_slice = ap (λ (xs : List WorkAction). length xs) c.as_slice-actions.ensures in
     rw (c.unused-in-Err.ensures) (made_unused g.F.Berth.Berth.told g.F.Place.Place.told _ _
     c.in-Err.unrun.berths.items c.in-Err.unrun.places.items (g.F.Floor.told c.args.floor)
     (g.F.Floor.told c.make_objects-objects.new.floor) c.make_objects-objects.ensures.made
     (ap length c.in-Err.ensures.back.0)
-    (c.in-Err.ensures.back.1.as_many ∙ (sym c.requires.work.as_many ∙ (sym as_slice ∙ sym all.1))))
+    (c.in-Err.ensures.back.1.as_many ∙ (sym c.requires.work.as_many ∙ sym all.1)))

@@ -1,0 +1,86 @@
+-- What the lanes of the task say is what is told.
+use Rattle.std.proofs.Common.{◌≡◌, ap, refl, sym, ◌∙◌}
+use Rattle.lane_runs.specs.Layout.{has_halt}
+use Rattle.worker_run.proofs.Made.{in_time}
+use Rattle.worker_run.proofs.Reading.{task_ended, task_floor, task_nothing, task_told}
+use Rattle.worker_run.proofs.Said.{RanBy, during_said, flag_is, flagged, halts, has_outs, has_pipes, has_race, has_rooms, has_unsaid, is_accounted, is_complete, is_legal, is_paired, is_stopped, on_run, succeeds, where_ruled}
+use Rattle.worker_run.specs.Headline.{HasOuts, HasPipes, HasRace, HasRooms, HasUnsaid, IsAccounted, IsComplete, IsKept, IsLegal, IsPaired, IsSound, IsStopped, head_of}
+use Rattle.worker_run.specs.Ends.{is_halted}
+use Rattle.worker_run.specs.Histories.{history_of}
+use Rattle.worker_run.proofs.run.run_and_report.Goals as goal
+
+pub conclude-requires-clause-in_time : goal.conclude-requires-clause-in_time
+conclude-requires-clause-in_time g c =
+    in_time c.run_plan-ran.result.fault _ c.run_plan-ran.ensures.run
+
+pub returns-clause-ended : goal.returns-clause-ended
+returns-clause-ended g c =
+    task_ended c.run_plan-ran.result.fault c.args.task c.conclude.result.fault
+    c.conclude.result.task c.conclude.ensures.kind
+
+pub returns-clause-log : goal.returns-clause-log
+returns-clause-log g c = rw (c.conclude.ensures.floor) c.run_plan-ran.ensures.log
+
+pub returns-clause-run : goal.returns-clause-run
+returns-clause-run g c q lanes goes =
+    let t = c.args.task in
+    let ran = c.run_plan-ran.result in
+    let when = ran.fault in
+    let x = ran.left in
+    let end = c.conclude.result in
+    let e = c.conclude.ensures in
+    let kind = e.kind in
+    let r = g.C.Rules in
+    let p = g.C.Rules.plan c.args.core in
+    let run = where_ruled (r.legal p) (r.rule p) (r.terms p) t (q t) (lanes t) goes when x
+    c.as_slice-2.result.now _ c.as_slice-3.result.now c.run_plan-ran.ensures.run
+    (record { plan = refl; commands = c.as_slice.ensures.value; verbose = refl })
+    c.as_slice-2.ensures.value c.as_slice-3.ensures in
+    let lost = c.run_plan-ran.ensures.lost in
+    let Ran = RanBy (q t) t when x in
+    record {
+      told = task_told t end.fault end.task (task_ended when t end.fault end.task kind);
+      sound = on_run when t x end Ran IsSound kind run e.left (λ _. c.requires.sound);
+      nothing = task_nothing when t end.fault end.task x end.left kind lost e.left;
+      made = record {
+        left = rw (e.floor, e.left) c.run_plan-ran.ensures.made;
+        few = rw (e.floor) c.run_plan-ran.ensures.few;
+      };
+      legal = on_run when t x end Ran (IsLegal (λ t. head_of (q t) (lanes t))) kind run e.left
+          (λ r. is_legal q lanes t goes.is goes.plan when x r);
+      race = on_run when t x end Ran HasRace kind run e.left
+          (λ r. has_race q lanes t goes.is goes.plan when x r);
+      paired = on_run when t x end Ran IsPaired kind run e.left
+          (λ r. is_paired q lanes t goes.is goes.plan when x r);
+      kept = on_run when t x end Ran (IsKept (λ t. head_of (q t) (lanes t))) kind run e.left (λ r. tt);
+      halts = on_run when t x end Ran
+          (λ t x. has_halt (history_of x.journal) ≡ is_halted end.fault) kind run e.left
+          (λ r. halts q lanes t goes.is goes.plan when x r
+          ∙ during_said when t end.fault end.task kind);
+      flag = rw (e.left) (flag_is when x Ran run lost
+          (λ r. flagged q lanes t goes.is goes.plan when x r));
+      stopped = on_run when t x end Ran (IsStopped (λ t. head_of (q t) (lanes t))) kind run e.left
+          (λ r. is_stopped q lanes t goes.is goes.plan when x r goes.seats);
+      accounted = on_run when t x end Ran IsAccounted kind run e.left
+          (λ r. is_accounted q lanes t goes.is goes.plan when x r goes.seats goes.actions);
+      complete = on_run when t x end Ran IsComplete kind run e.left
+          (λ r. is_complete q lanes t goes.is goes.plan when x r goes.seats goes.actions);
+      pipes = on_run when t x end Ran HasPipes kind run e.left
+          (λ r. has_pipes q lanes t goes.is goes.plan when x r);
+      rooms = on_run when t x end Ran (HasRooms (λ t. head_of (q t) (lanes t))) kind run e.left
+          (λ r. has_rooms q lanes t goes.is goes.plan when x r goes.seats);
+      unsaid = on_run when t x end Ran HasUnsaid kind run e.left
+          (λ r. has_unsaid q lanes t goes.is goes.plan when x r);
+      outs = on_run when t x end Ran HasOuts kind run e.left
+          (λ r. has_outs q lanes t goes.is goes.plan when x r);
+      success = succeeds t x end e.left e.status when Ran
+          (λ r. is_complete q lanes t goes.is goes.plan when x r goes.seats goes.actions)
+          (λ r. halts q lanes t goes.is goes.plan when x r) kind run;
+      status = e.status;
+      floor = record {
+        later = rw (e.floor) c.run_plan-ran.ensures.count;
+        rose = λ failed. absurd (task_floor t end.fault end.task
+            (task_ended when t end.fault end.task kind) failed);
+      };
+      files = rw (e.floor) c.run_plan-ran.ensures.files;
+    }
