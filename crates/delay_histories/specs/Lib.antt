@@ -1,0 +1,1 @@
+-- What the law cites stands in the crates below.

@@ -1,0 +1,4 @@
+pub mod Nexts
+pub mod Lawful
+pub mod Keeping
+mod Rows

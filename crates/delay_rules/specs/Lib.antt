@@ -1,0 +1,2 @@
+-- What the laws cite.
+pub mod Delayed

@@ -1,0 +1,5 @@
+pub mod Reasons
+pub mod Lawful
+pub mod Keeping
+pub mod Evicting
+mod Rows
