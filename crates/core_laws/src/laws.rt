@@ -55,10 +55,12 @@ pub fn asks_are_kept()
 /// Each call but an Ask and a Look: its reply is the one that is its own, and after it the state
 /// stands for the journal with its entry, where the reply is kept.
 pub fn calls_are_kept()
-    ensures told { (p : Plan) (seats : ℕ) (s : State) (j : List Entry) (lane : ℕ) (seat : BerthGroup)
+    ensures told { (p : Plan) (seats : ℕ) (s : State) (j : List Entry) (lane : ℕ)
+        (seat : BerthGroup)
         (c : Call) → Stands p seats s j → SeatFits p j (lane / 2) seat → is_report c ≡ true
         → MayCall p seats j lane c → Told p j lane c (made_reply s lane seat c) }
-    ensures stands { (p : Plan) (seats : ℕ) (s : State) (j : List Entry) (lane : ℕ) (seat : BerthGroup)
+    ensures stands { (p : Plan) (seats : ℕ) (s : State) (j : List Entry) (lane : ℕ)
+        (seat : BerthGroup)
         (c : Call) → Stands p seats s j → SeatFits p j (lane / 2) seat → is_report c ≡ true
         → MayCall p seats j lane c → is_kept (made_reply s lane seat c) ≡ true
         → Stands p seats (noted_after (made s lane seat c) lane c (made_reply s lane seat c))
@@ -68,7 +70,8 @@ pub fn calls_are_kept()
 /// All that a call in its lane's script asks of the tables is there, and all that is asked where a
 /// choice is carried out.
 pub fn calls_may_be_made()
-    ensures calls { (p : Plan) (seats : ℕ) (s : State) (j : List Entry) (lane : ℕ) (seat : BerthGroup)
+    ensures calls { (p : Plan) (seats : ℕ) (s : State) (j : List Entry) (lane : ℕ)
+        (seat : BerthGroup)
         (c : Call) → Stands p seats s j → MayCall p seats j lane c → CanMake s lane seat c }
     ensures asks { (p : Plan) (seats : ℕ) (s : State) (j : List Entry) (lane : ℕ) (x : Choice)
         → Stands p seats s j → MayCall p seats j lane Ask

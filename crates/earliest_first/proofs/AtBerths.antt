@@ -1,6 +1,9 @@
 -- Where each line runs its berth's group: what is asked of a journal, said of berths.
-use Rattle.std.proofs.Common.{◌≡◌, ℕ, ◌*◌, ◌<◌, ◌/◌, nat_lt, true, false, List, Some, sym, subst, ◌∙◌, arith}
-use Rattle.std.proofs.lemmas.Bool.{and_parts, ltb-true}
+use Rattle.std.proofs.Common.{◌≡◌, ℕ, ◌+◌, ◌-◌, ◌*◌, ◌<◌, ◌/◌, nat_lt, true, false, cond, List, [], ◌∷◌, Some, refl, sym, subst, ◌∙◌, arith}
+use Rattle.std.specs.Prelude.{sum_by}
+use Rattle.std.proofs.lemmas.Bool.{and_parts, ltb-true, ltb-false}
+use Rattle.std.proofs.lemmas.List.Sums.{sum_by-cons}
+use Rattle.run_plan.specs.declared.plan.Group.{Group}
 use Rattle.run_plan.specs.declared.plan.Plan.{Plan}
 use Rattle.run_plan.specs.Groups.{berths, berth_group, kind_of, has_cancellation, is_single}
 use Rattle.exec_journal.specs.declared.attempt.Attempt.{Attempt}
@@ -12,6 +15,7 @@ use Rattle.exec_journal.specs.Scripts.{script}
 use Rattle.exec_journal.specs.Seated.{group_on, line_group, line_kind}
 use Rattle.exec_journal.specs.Settled.{bound}
 use Rattle.exec_journal.specs.Words.{last_line, sends, pending, has_cancel}
+use Rattle.exec_journal.proofs.Ruled.{by_bool}
 use Rattle.journal_laws.proofs.Lanes.{here_own}
 use Rattle.journal_laws.proofs.Ours as ours
 use Rattle.journal_laws.proofs.Ours.{SeatedAt}
@@ -19,7 +23,7 @@ use Rattle.call_laws.specs.Moments.{BranchOf}
 use Rattle.request_table.specs.Entries.{EachOf}
 use Rattle.request_table.specs.Stands.{Numbered}
 use Rattle.core_tables.specs.declared.berth_group.BerthGroup.{BerthGroup}
-use Rattle.core_tables.specs.Seats.{seat_at}
+use Rattle.core_tables.specs.Seats.{seat_at, seat_from, seat_here}
 use Rattle.core_tables.proofs.Seated.{IsSeat, seat_is}
 use Rattle.core_laws.specs.Stands.{SeatFits}
 use Rattle.lawful_facts.specs.Moments.{JournalFacts}
@@ -62,6 +66,23 @@ pub lane_within : (p : Plan) (j : List Entry) (lane : ℕ) (x : Call) → script
     → lane / 2 < berths p
 lane_within p j lane x h = let lt = ltb-true lane (2 * berths p)
     (and_parts (nat_lt lane (2 * berths p)) _ h).0 in omega arith
+
+-- a berth of which the plan says something is one of the plan
+within_groups : (g first : ℕ) (xs : List Group) (w : ℕ) (seat : BerthGroup)
+    → seat_from g first xs w ≡ Some seat → w < sum_by (λ (x : Group). x.berths) xs
+within_groups g first [] w seat h = absurd (cc)
+within_groups g first (x ∷ xs) w seat h =
+    let all = sum_by-cons (λ (y : Group). y.berths) x xs in
+    by_bool (nat_lt w x.berths) (λ b. nat_lt w x.berths ≡ b
+    → cond b (Some (seat_here g first x)) (seat_from (g + 1) (first + x.berths) xs (w - x.berths))
+    ≡ Some seat → w < sum_by (λ (y : Group). y.berths) (x ∷ xs))
+    (λ yes _ _. let lt = ltb-true w x.berths yes in omega (arith, lt, all))
+    (λ no _ k. let ge = ltb-false w x.berths no in
+    let rest = within_groups (g + 1) (first + x.berths) xs (w - x.berths) seat k in
+    omega (arith, ge, rest, all)) refl h
+
+pub seat_within : (p : Plan) (w : ℕ) (seat : BerthGroup) → seat_at p w ≡ Some seat → w < berths p
+seat_within p w seat h = within_groups 0 0 p.groups w seat h
 
 -- what the plan says of a berth is so of its last line
 pub seat_fits : (p : Plan) (j : List Entry) (w : ℕ) (seat : BerthGroup) → Lawful p j → SeatedAt p j

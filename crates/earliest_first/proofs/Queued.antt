@@ -8,6 +8,7 @@ use Rattle.exec_journal.specs.declared.attempt.Attempt.{Attempt}
 use Rattle.exec_journal.specs.Entry.{Entry}
 use Rattle.exec_journal.specs.Entries.{attempt_of}
 use Rattle.exec_journal.specs.Attempts.{attempt, ended}
+use Rattle.exec_journal.specs.Lawful.{IsNextOf}
 use Rattle.exec_journal.specs.Settled.{earliest}
 use Rattle.exec_journal.proofs.Begins.{earliest_next, queued_is}
 use Rattle.exec_journal.proofs.Ruled.{by_bool}
@@ -29,12 +30,10 @@ module _ (p : Plan) (j : List Entry) where
       by_bool (nat_lt 0 n) (λ b. (b && true) ≡ false → n - 1 ≡ n) (λ yes k. absurd (cc))
       (λ no k. let le = ltb-false 0 n no in omega arith) h
 
-  pub number_is : (f : counts.Facts) (g : ℕ) (t : Attempt) → tallies.Stands p f j
-      → earliest p j g ≡ Some t → attempt_of t.action t.branch (ended_of f t.action t.branch + 1)
-      ≡ t
+  pub number_next : (f : counts.Facts) (g : ℕ) (t : Attempt) → tallies.Stands p f j
+      → IsNextOf p j g t → attempt_of t.action t.branch (ended_of f t.action t.branch + 1) ≡ t
   unfolding ended_count
-  number_is f g t st h =
-      let n = earliest_next p j g t h in
+  number_next f g t st n =
       let q = queued_is p j t.action t.branch n.action n.waiting in
       let lt = slice_get_within p.actions t.action n.action n.place in
       let e = ended_at p j f t.action t.branch st lt ∙ count_is (attempt j t.action t.branch)
@@ -45,7 +44,7 @@ module _ (p : Plan) (j : List Entry) where
       → earliest p j g ≡ o → option_map (λ (x : ℕ × Branch). attempt_of x.0 x.1
       (ended_of f x.0 x.1 + 1)) (queues.branch_of o) ≡ o
   by_some f g None st h = refl
-  by_some f g (Some t) st h = ap Some (number_is f g t st h)
+  by_some f g (Some t) st h = ap Some (number_next f g t st (earliest_next p j g t h))
 
   pub earliest_of_is : (states : List ActionState) (f : counts.Facts) (g : ℕ)
       → queues.Stands p states j → tallies.Stands p f j

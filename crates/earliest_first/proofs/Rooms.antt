@@ -9,7 +9,7 @@ use Rattle.exec_journal.specs.Entry.{Entry}
 use Rattle.exec_journal.specs.Facts.{NameTheirLines, OfBerth, IsOfBerth}
 use Rattle.list_lemmas.specs.Options.{or_else, and_more}
 use Rattle.exec_journal.specs.History.{latest, each}
-use Rattle.run_plan.specs.Groups.{berths, kind_of}
+use Rattle.run_plan.specs.Groups.{kind_of}
 use Rattle.exec_journal.specs.Seated.{line_kind}
 use Rattle.exec_journal.specs.Settled.{free_places, has_room, some_free}
 use Rattle.exec_journal.specs.Words.{last_line, lines_of, line_at, live, launch_of}
@@ -21,7 +21,7 @@ use Rattle.worker_pool.proofs.Answered.{live_is, free_is}
 use Rattle.earliest_first.specs.Choices as choices
 use Rattle.lawful_facts.specs.Moments.{JournalFacts, Among}
 
-module _ (p : Plan) (f : pool.Facts) (j : List Entry) (st : pools.Stands p (berths p) f j)
+module _ (p : Plan) (seats : ℕ) (f : pool.Facts) (j : List Entry) (st : pools.Stands p seats f j)
     (names : NameTheirLines j) (facts : JournalFacts p j)
     (kind_is : (w l : ℕ) → last_line j w ≡ Some l → kind_of p w ≡ line_kind p j l) where
   -- the newest of the lines is the last line
@@ -84,7 +84,7 @@ module _ (p : Plan) (f : pool.Facts) (j : List Entry) (st : pools.Stands p (bert
             ∙ sym (ap (has_room p j k) same ∙ e)
       ]) refl
 
-  module _ (w : ℕ) (lt : w < berths p) where
+  module _ (w : ℕ) (lt : w < seats) where
     room_some : (l : ℕ) → last_line j w ≡ Some l → choices.line_has_room f
         (option_and_then (λ m. cond (live j m) (Some m) None) (Some l)) ≡ has_room p j
         (kind_of p w) l
@@ -96,7 +96,7 @@ module _ (p : Plan) (f : pool.Facts) (j : List Entry) (st : pools.Stands p (bert
         by : (b : Bool) (t : Attempt) → (launch_of j l ≡ Some (own.owner.0, t))
             × (own.owner.0 / 2 ≡ w) → choices.line_has_room f (cond b (Some l) None) ≡
             (b && nat_lt 0 (free_places p j (kind_of p w) l))
-        by true t e = ap (nat_lt 0) (free_is p (berths p) f j st l own.owner.0 t e.0
+        by true t e = ap (nat_lt 0) (free_is p seats f j st l own.owner.0 t e.0
             ∙ ap (λ k. free_places p j k l) (sym (kind_is w l h)))
         by false t e = refl
 
@@ -108,11 +108,11 @@ module _ (p : Plan) (f : pool.Facts) (j : List Entry) (st : pools.Stands p (bert
         (λ m a v. facts.live_last w l h m a v) (last_among w l h))
 
     pub room_is : choices.has_room f w ≡ list_any (has_room p j (kind_of p w)) (lines_of j w)
-    room_is = ap (choices.line_has_room f) (live_is p (berths p) f j st w lt names)
+    room_is = ap (choices.line_has_room f) (live_is p seats f j st w lt names)
         ∙ room_by (last_line j w) refl
 
   pub some_is : (k : Kind) (w n : ℕ) → ((v : ℕ) → w ≤ v → v < w + n
-      → (v < berths p) × (kind_of p v ≡ k)) → choices.some_room f w n ≡ some_free p j k w n
+      → (v < seats) × (kind_of p v ≡ k)) → choices.some_room f w n ≡ some_free p j k w n
   some_is k w zero all = refl
   some_is k w (suc n) all =
       let at = all (w + n) (omega arith) (omega arith) in

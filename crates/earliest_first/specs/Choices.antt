@@ -1,14 +1,16 @@
 -- What is chosen for an Ask on a plan's own berths, as a function of the tables and of what is next in
 -- each group: where a line may be given something new, it is that of its berth's group; and a line is
 -- launched for it where no live one of the group has a free place.
-use Rattle.std.specs.Prelude.{◌≡◌, ℕ, zero, suc, ◌+◌, ◌<◌, ◌^◌, nat_lt, Bool, false, ◌&&◌, ◌||◌, not, Option, Some, None, is_some, option_map, unwrap_or, if◌then◌else◌, length, slice_get}
+use Rattle.std.specs.Prelude.{◌≡◌, ℕ, zero, suc, ◌+◌, ◌<◌, ◌≤◌, ◌^◌, nat_lt, Bool, false, ◌&&◌, true, ◌||◌, not, Option, Some, None, is_some, option_map, unwrap_or, if◌then◌else◌, length, slice_get}
 use Rattle.std.specs.List.{find}
 use Rattle.run_plan.specs.declared.plan.Branch.{Branch}
 use Rattle.run_plan.specs.Groups.{berths, is_single, is_remote}
+use Rattle.list_lemmas.specs.Options.{or_else}
 use Rattle.exec_journal.specs.declared.attempt.Attempt.{Attempt}
 use Rattle.exec_journal.specs.declared.ends.Cause.{Cause}
 use Rattle.exec_journal.specs.declared.reply.Why.TheVariants as why
 use Rattle.exec_journal.specs.Entries.{attempt_of}
+use Rattle.exec_journal.specs.Rules.{when}
 use Rattle.exec_journal.specs.Words.{why_of}
 use Rattle.worker_pool.specs.declared.LineRow.{LineRow}
 use Rattle.worker_pool.specs.Rows as pool
@@ -25,11 +27,11 @@ use Rattle.core_state.specs.declared.choice.Choice.TheVariants as choice
 use Rattle.core_state.specs.declared.state.State.{State}
 use Rattle.core_state.specs.Choices.{Reads, row_at, cause_at, attempt_at, is_over}
 
--- what a choice on the berth reads is there, and the berths are the plan's
+-- what a choice on the berth reads is there, and so are the plan's berths
 pub record ReadsOwn (s : State) (w : ℕ) : Type 0 where
   pub reads : Reads s w
   pub groups : length s.plan.groups < 2 ^ 32
-  pub seats : length s.pool.seats ≡ berths s.plan
+  pub seats : berths s.plan ≤ length s.pool.seats
 
 abbrev pub is_runner : LineRow → Bool
 is_runner x = x.started && not x.killed
@@ -97,35 +99,47 @@ abbrev pub launch_by : State → BerthGroup → Option Attempt → Choice
 launch_by s seat next =
     if some_room s.pool seat.first seat.berths then choice.Idle else launch_for next
 
-abbrev pub after_gather : Choice → Option Match → Choice
-after_gather c (Some m) = choice.Gather m
-after_gather c None = c
+-- ---- the first rules, of which nothing asks where new lines come: quit, kill a broken line, kill an
+-- unwanted request's line, gather, cancel, send
+
+-- of a berth whose last line is known, where so is next in the line's group
+abbrev pub first_with : State → ℕ → BerthGroup → Option Attempt → ℕ → LineRow → Option Choice
+first_with s w seat next l x =
+    or_else (when (is_over s) (leave_by l x))
+    (or_else (kill_by l x (cause_at s w))
+    (or_else (when (unwanted_by s seat l x) (choice.Kill l why.Unwanted))
+    (or_else (option_map choice.Gather (waiting_at s w))
+    (or_else (cancel_by s w seat l x) (send_by s w next l x)))))
+
+-- of a berth without a line
+abbrev pub first_without : State → ℕ → Option Choice
+first_without s w =
+    or_else (when (is_over s) choice.Stop) (option_map choice.Gather (waiting_at s w))
+
+abbrev pub first_at : State → ℕ → BerthGroup → Option Attempt → Option ℕ → Option Choice
+first_at s w seat next (Some l) = first_with s w seat next l (row_at s l)
+first_at s w seat next None = first_without s w
+
+abbrev pub first_choice : State → ℕ → BerthGroup → Option Attempt → Option Choice
+first_choice s w seat next = first_at s w seat next (pool.last_of s.pool w)
 
 -- ---- by what is next in the berth's group
 
-abbrev pub choice_without : State → ℕ → BerthGroup → Option Attempt → Choice
-choice_without s w seat next = if is_over s then choice.Stop else after_gather
-    (launch_by s seat next) (waiting_at s w)
+abbrev pub is_vacant_line : State → Option ℕ → Bool
+is_vacant_line s (Some l) = is_vacant_row (row_at s l)
+is_vacant_line s None = true
 
-abbrev pub then_vacant : State → BerthGroup → Option Attempt → LineRow → Choice
-then_vacant s seat next x = if is_vacant_row x then launch_by s seat next else choice.Idle
+-- the berth has no line, or its last is vacant
+abbrev pub is_vacant : State → ℕ → Bool
+is_vacant s w = is_vacant_line s (pool.last_of s.pool w)
 
-abbrev pub choice_with : State → ℕ → BerthGroup → Option Attempt → ℕ → LineRow → Choice
-choice_with s w seat next l x =
-    if is_over s then leave_by l x
-    else unwrap_or (kill_by l x (cause_at s w))
-    (if unwanted_by s seat l x then choice.Kill l why.Unwanted
-    else after_gather
-    (unwrap_or (cancel_by s w seat l x)
-    (unwrap_or (send_by s w next l x) (then_vacant s seat next x)))
-    (waiting_at s w))
-
-abbrev pub choice_at : State → ℕ → BerthGroup → Option Attempt → Option ℕ → Choice
-choice_at s w seat next (Some l) = choice_with s w seat next l (row_at s l)
-choice_at s w seat next None = choice_without s w seat next
+-- a launch, where the berth is vacant
+abbrev pub last_choice : State → ℕ → BerthGroup → Option Attempt → Choice
+last_choice s w seat next = if is_vacant s w then launch_by s seat next else choice.Idle
 
 abbrev pub choice_on : State → ℕ → BerthGroup → Option Attempt → Choice
-choice_on s w seat next = choice_at s w seat next (pool.last_of s.pool w)
+choice_on s w seat next =
+    unwrap_or (first_choice s w seat next) (last_choice s w seat next)
 
 -- ---- by what is next in each group
 

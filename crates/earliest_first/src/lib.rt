@@ -1,6 +1,7 @@
 //! What is ordered next on a plan's own berths: where a line may be given something new, it is what is
 //! next in its berth's group, and a line is launched for that where no live one of the group has a free
 //! place. [`choose`] takes the earliest queued action of the group; [`choose_next`] is told what is next.
+//! [`choose_first`] has the rules that ask nothing of where new lines come.
 #![tactic(auto)]
 
 ghost use Rattle.std.specs.Prelude.{◌≡◌, ◌<◌, Some, length, slice_get};
@@ -8,7 +9,7 @@ ghost use Rattle.exec_journal.specs.Words.{why_of};
 ghost use Rattle.worker_pool.specs.Rows.{is_live_row, last_of};
 ghost use Rattle.core_tables.specs.Seats.{seat_at};
 ghost use Rattle.core_state.specs.Choices.{Reads, row_at, cause_at};
-ghost use Rattle.earliest_first.specs.Choices.{ReadsOwn, leave_by, kill_by, unwanted_by, may_cancel_by, cancel_by, earliest_of, send_by, has_room, some_room, launch_by, choice_with, choice_without, choice_on, chosen, is_runner, is_vacant_row};
+ghost use Rattle.earliest_first.specs.Choices.{ReadsOwn, leave_by, kill_by, unwanted_by, may_cancel_by, cancel_by, earliest_of, send_by, has_room, some_room, launch_by, first_with, first_without, first_choice, is_vacant, choice_on, chosen, is_runner, is_vacant_row};
 
 pub mod laws;
 
@@ -34,64 +35,87 @@ pub fn choose_next(state: &State, berth: u32, seat: BerthGroup, next: Option<Att
     requires seated { seat_at state.now.plan berth ≡ Some seat }
     ensures { result ≡ choice_on state.now berth seat next }
 {
+    if let Some(choice) = choose_first(state, berth, seat, next) {
+        return choice;
+    }
+    if is_vacant(state, berth) {
+        return launch_next(state, berth, seat, next);
+    }
+    Choice::Idle
+}
+
+/// What it is to do by the first rules, whatever is launched and where: quit, kill a broken line, kill
+/// an unwanted request's line, gather, cancel, send. The seat tells the kind, the group and the
+/// cancellation of the berth's last line, and this attempt is next in that group. None where no rule
+/// fits.
+pub fn choose_first(
+    state: &State,
+    berth: u32,
+    seat: BerthGroup,
+    next: Option<Attempt>,
+) -> Option<Choice>
+    requires { Reads state.now berth }
+    ensures { result ≡ first_choice state.now berth seat next }
+{
     match state.pool.last_line(berth) {
-        Some(line) => choose_with(state, berth, seat, next, line),
-        None => choose_without(state, berth, seat, next),
+        Some(line) => first_with(state, berth, seat, next, line),
+        None => first_without(state, berth),
     }
 }
 
-fn choose_without(state: &State, berth: u32, seat: BerthGroup, next: Option<Attempt>) -> Choice
-    requires reads { ReadsOwn state.now berth }
-    requires seated { seat_at state.now.plan berth ≡ Some seat }
-    ensures { result ≡ choice_without state.now berth seat next }
+/// The berth has no line, or its last failed to launch, or has ended and was killed.
+pub fn is_vacant(state: &State, berth: u32) -> bool
+    requires { Reads state.now berth }
+    ensures { result ≡ is_vacant state.now berth }
+{
+    match state.pool.last_line(berth) {
+        Some(line) => is_vacant_row(state.pool.line(line)),
+        None => true,
+    }
+}
+
+fn first_without(state: &State, berth: u32) -> Option<Choice>
+    requires { Reads state.now berth }
+    ensures { result ≡ first_without state.now berth }
 {
     if state.is_over() {
-        return Choice::Stop;
+        return Some(Choice::Stop);
     }
-    if let Some(found) = state.matches.waiting(berth) {
-        return Choice::Gather(found);
-    }
-    launch_next(state, berth, seat, next)
+    let found = state.matches.waiting(berth)?;
+    Some(Choice::Gather(found))
 }
 
-fn choose_with(
+fn first_with(
     state: &State,
     berth: u32,
     seat: BerthGroup,
     next: Option<Attempt>,
     line: u32,
-) -> Choice
-    requires reads { ReadsOwn state.now berth }
-    requires seated { seat_at state.now.plan berth ≡ Some seat }
+) -> Option<Choice>
+    requires reads { Reads state.now berth }
     requires last { last_of state.now.pool berth ≡ Some line }
-    ensures { result ≡ choice_with state.now berth seat next line (row_at state.now line) }
+    ensures { result ≡ first_with state.now berth seat next line (row_at state.now line) }
 {
     let row = state.pool.line(line);
     if state.is_over() {
-        return leave(line, row);
+        return Some(leave(line, row));
     }
     if let Some(kill) = kill_broken(state, berth, line, row) {
-        return kill;
+        return Some(kill);
     }
     if is_unwanted(state, seat, line, row) {
-        return Choice::Kill {
+        return Some(Choice::Kill {
             line,
             why: Why::Unwanted,
-        };
+        });
     }
     if let Some(found) = state.matches.waiting(berth) {
-        return Choice::Gather(found);
+        return Some(Choice::Gather(found));
     }
     if let Some(cancel) = cancel_next(state, berth, seat, line, row) {
-        return cancel;
+        return Some(cancel);
     }
-    if let Some(send) = send_next(state, berth, next, line, row) {
-        return send;
-    }
-    if is_vacant(row) {
-        return launch_next(state, berth, seat, next);
-    }
-    Choice::Idle
+    send_next(state, berth, next, line, row)
 }
 
 fn kill_broken(state: &State, berth: u32, line: u32, row: LineRow) -> Option<Choice>
@@ -184,8 +208,8 @@ fn launch_next(state: &State, berth: u32, seat: BerthGroup, next: Option<Attempt
     }
 }
 
-// The next attempt of the group's queued branch of the least action.
-fn earliest(state: &State, berth: u32, group: u32) -> Option<Attempt>
+/// The next attempt of the group's queued branch of the least action.
+pub fn earliest(state: &State, berth: u32, group: u32) -> Option<Attempt>
     requires { Reads state.now berth }
     ensures { result ≡ earliest_of state.now group }
 {
@@ -213,7 +237,8 @@ fn some_room(state: &State, berth: u32, seat: BerthGroup) -> bool
     false
 }
 
-fn has_room(state: &State, berth: u32) -> bool
+/// The berth's last line is live and has a free place.
+pub fn has_room(state: &State, berth: u32) -> bool
     requires { berth < length state.now.pool.seats }
     ensures { result ≡ has_room state.now.pool berth }
 {
@@ -249,7 +274,7 @@ fn is_runner(row: LineRow) -> bool
 }
 
 // It failed to launch, or has ended and was killed.
-fn is_vacant(row: LineRow) -> bool
+fn is_vacant_row(row: LineRow) -> bool
     ensures { result ≡ is_vacant_row row }
 {
     !row.started || row.ended && row.killed

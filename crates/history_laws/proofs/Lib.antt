@@ -20,4 +20,5 @@ pub mod Growing
 pub mod Seating
 pub mod OwnSeats
 pub mod OwnDiscipline
+pub mod OwnOrders
 pub mod OfRules

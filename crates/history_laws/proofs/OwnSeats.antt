@@ -6,6 +6,7 @@ use Rattle.run_plan.specs.Groups.{berth_group, berths, group_from, is_remote, ki
 use Rattle.exec_journal.specs.declared.attempt.Attempt.{Attempt}
 use Rattle.exec_journal.specs.declared.call.Call.TheVariants as call
 use Rattle.exec_journal.specs.Entry.{Entry}
+use Rattle.exec_journal.specs.Lawful.{Lawful}
 use Rattle.exec_journal.specs.Legal.{Legal}
 use Rattle.exec_journal.specs.Rules.{rule}
 use Rattle.exec_journal.specs.Scripts as sc
@@ -40,18 +41,25 @@ runs_on p w t lt runs =
       executor = ap (λ (o : Option ℕ). is_remote (kind_in p o)) (sym is);
     }
 
--- ---- so each order fits
+-- ---- so each order fits, whatever is next in each group
+
+pub next_orders_fit : (p : Plan) (j : List Entry) (lane : ℕ) (next : ℕ → Option Attempt)
+    → own.Nexts p j next → Lawful p j → ours.SeatedAt p j → sc.script p j lane call.Ask ≡ true
+    → OrderFits p (is_remote (kind_of p (lane / 2))) (own.own_ask p j (lane / 2) next)
+unfolding ours.SeatedAt
+next_orders_fit p j lane next nexts lawful seated may =
+    let w = lane / 2 in
+    let lt = ours.lane_of_plan p j lane call.Ask may in
+    order_fits p j w (is_remote (kind_of p w)) lawful
+    (λ t on. runs_on p w t lt (on.group ∙ seated on.line w on.own))
+    (own.own_ask p j w next) (own.asked_own p j w next nexts lawful seated)
+    (λ y is. runs_on p w y.1 lt ((own.ask_own p j w next nexts).group y is
+    ∙ sym (ours.berth_group_is p w lt)))
 
 pub own_orders_fit : (p : Plan) (j : List Entry) (lane : ℕ) → Legal p j
     → sc.script p j lane call.Ask ≡ true
     → OrderFits p (is_remote (kind_of p (lane / 2))) (rule p j lane call.Ask)
 own_orders_fit p j lane legal may =
     let both = ours.both_ours p j legal in
-    let w = lane / 2 in
-    let lt = ours.lane_of_plan p j lane call.Ask may in
-    let nexts : own.Nexts p j (earliest p j) = record { is = λ g t. earliest_next p j g t } in
-    order_fits p j w (is_remote (kind_of p w)) both.0
-    (λ t on. runs_on p w t lt (on.group ∙ ours.seated p j on.line w legal on.own))
-    (rule p j lane call.Ask) (ours.told_ours p j both.0 both.1 lane call.Ask may)
-    (λ y is. runs_on p w y.1 lt ((own.ask_own p j w (earliest p j) nexts).group y is
-    ∙ sym (ours.berth_group_is p w lt)))
+    next_orders_fit p j lane (earliest p j) (record { is = λ g t. earliest_next p j g t }) both.0
+    both.1 may

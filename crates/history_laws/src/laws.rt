@@ -11,14 +11,19 @@ ghost use Rattle.exec_journal.specs.declared.call.Wanted.TheVariants as wanted;
 ghost use Rattle.exec_journal.specs.declared.reply.Reply.{Reply};
 ghost use Rattle.exec_journal.specs.declared.reply.Reply.TheVariants as reply;
 ghost use Rattle.exec_journal.specs.Entries.{is_kept};
+ghost use Rattle.exec_journal.specs.Entry as entries;
+ghost use Rattle.exec_journal.specs.Kept.{Kept};
 ghost use Rattle.run_plan.specs.declared.plan.Branch.{Branch};
+ghost use Rattle.run_plan.specs.declared.plan.Plan.{Plan};
 ghost use Rattle.run_plan.specs.Groups.{is_remote};
+ghost use Rattle.run_plan.specs.Sound.{Sound};
 ghost use Rattle.exec_journal.specs.declared.attempt.Attempt.{Attempt};
 ghost use Rattle.core_contract.specs.Laws.{InScript, Fits, tap_lane, hearing_of, may_hear, Hears, Over, tells_of, OrderFits, OrderHolds, claimed, lines_in, is_taken, says_file};
 ghost use Rattle.core_contract.specs.Shelf.{child_at, tap_at, place_at, Fresh, Away};
 ghost use Rattle.core_contract.specs.Duties.{proxy_lane, duty_of, is_maker, may_do, may_make, Sends, Commits, Left};
 ghost use Rattle.history_laws.specs.Owed.{DutyIs, journal_of, makers_in};
-ghost use Rattle.core_contract.specs.Disciplines.{Discipline, IsDiscipline};
+ghost use Rattle.core_contract.specs.Disciplines.{Discipline, IsDiscipline, LegalBy};
+ghost use Rattle.history_laws.specs.OwnOrders.{IsOrder, Order, discipline_by};
 ghost use Rattle.history_laws.specs.Ruled.{answer_after, IsPaidAfter, owes_after, CameAbout, terms_in};
 
 /// By the journal of any history, a lane has left exactly if it was told to stop or has halted; and
@@ -177,4 +182,13 @@ pub fn histories_grow_by_rule()
         → (h : List (Entry Call Reply)) (e : Entry Call Reply)
         → CameAbout q (h ++ e ∷ []) → CameAbout q h
         × (e.reply ≡ answer_after q h e.lane e.call) × (is_kept e.reply ≡ true) }
+{}
+
+/// Berths that groups have of their own are a discipline in whatever order a group's queued
+/// branches are called, and each of its journals keeps what every discipline's does.
+pub fn any_order_is_a_discipline()
+    ensures discipline { (next : Order) → IsOrder next → (p : Plan)
+        → IsDiscipline (discipline_by next p) }
+    ensures kept { (next : Order) → IsOrder next → (p : Plan) (j : List entries.Entry)
+        → Sound p → LegalBy (discipline_by next p) j → Kept p j }
 {}

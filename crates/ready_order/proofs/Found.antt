@@ -29,14 +29,14 @@ has_from states g x Remote h =
     ≡ true)
     (λ left. refl) (λ none. rw h refl)
 
-named_from : (states : List ActionState) (g : ℕ) (x : ActionState) (b : Branch)
+pub named_from : (states : List ActionState) (g : ℕ) (x : ActionState) (b : Branch)
     → may_begin states g x (seat_of b x) ≡ true → names g (shape_of x) ≡ true
 named_from states g x Local h = or_left (is_named g x.local.group) (is_named g x.remote.group)
     (and_parts (is_of g x.local) _ h).0
 named_from states g x Remote h = or_right (is_named g x.local.group) (is_named g x.remote.group)
     (and_parts (is_of g x.remote) _ h).0
 
-none_and : (b : Bool) → (b && false) ≡ false
+pub none_and : (b : Bool) → (b && false) ≡ false
 none_and true = refl
 none_and false = refl
 
@@ -68,7 +68,7 @@ there_at (x ∷ xs) (suc k) lt = there_at xs k (omega arith)
 
 module _ (states : List ActionState) (users : List (List ℕ)) (f : Facts)
     (n : IsNoted states users f) where
-  small_enough : (a : ℕ) (x : ActionState) → slice_get states a ≡ Some x → a < ABSENT
+  pub small_enough : (a : ℕ) (x : ActionState) → slice_get states a ≡ Some x → a < ABSENT
   small_enough a x at = let lt = slice_get_within states a x at in let most = n.small in omega arith
 
   -- ---- who waits
@@ -116,7 +116,7 @@ module _ (states : List ActionState) (users : List (List ℕ)) (f : Facts)
   -- ---- the first of a queue
 
   module _ (g least : ℕ) (is : IsLeast (get_or f.queues g []) least) where
-    none_before : (a : ℕ) (b : Branch) (x : ActionState) → slice_get states a ≡ Some x
+    pub none_before : (a : ℕ) (b : Branch) (x : ActionState) → slice_get states a ≡ Some x
         → may_begin states g x (seat_of b x) ≡ true → least ≤ a
     none_before a b x at h =
         let shape : slice_get (shapes states) a ≡ Some (shape_of x) =
@@ -160,7 +160,7 @@ module _ (states : List ActionState) (users : List (List ℕ)) (f : Facts)
         ]
 
     -- the state of the action of that number, a branch of which is queued
-    first_there : least ≢ ABSENT → (x : ActionState) × (slice_get states least ≡ Some x) ×
+    pub first_there : least ≢ ABSENT → (x : ActionState) × (slice_get states least ≡ Some x) ×
         (has_queued states g x ≡ true)
     first_there there =
         let w = is.among there in

@@ -13,3 +13,7 @@ pub mod Settled
 pub mod Found
 pub mod UsersAdded
 pub mod Winners
+pub mod Searched
+pub mod Firsts
+pub mod Among
+mod Rows

@@ -166,7 +166,7 @@ module _ (p : Plan) (states : List ActionState) (j : List Entry) (s : Stands p s
   unfolding ready
   ready_is x = all_success x.makers
 
-  queued_is : (g a : ℕ) (b : Branch) (x : PlanAction) → slice_get p.actions a ≡ Some x → is_queued states g a b ≡ (uses x b g && queued p j a b x)
+  pub queued_is : (g a : ℕ) (b : Branch) (x : PlanAction) → slice_get p.actions a ≡ Some x → is_queued states g a b ≡ (uses x b g && queued p j a b x)
   unfolding queued wanted is_free
   queued_is g a Local x h =
       let here : slice_get states a ≡ Some (state_in p j a x) = s.each a ∙ ap (option_map (state_in p j a)) h in

@@ -10,23 +10,31 @@ module _ (nodes : List ℕ) (places : ℕ) (p : IsPlayed nodes places) where
   at : ℕ → ℕ
   at k = get_or nodes k 0
 
-  -- no node has less than the first
+  -- no node has less than the one above it
+  pub half_wins : (k : ℕ) → 1 < k → k < 2 * places → get_or nodes (k / 2) 0 ≤ get_or nodes k 0
+  half_wins k low high =
+      let match = p.played (k / 2) (omega arith) (omega arith) in
+      elim (cases_eq k (2 * (k / 2))) [
+        | inl even ↦
+            (let e : get_or nodes k 0 ≡ get_or nodes (2 * (k / 2)) 0 =
+            ap (λ i. get_or nodes i 0) even in
+            omega arith)
+        | inr odd ↦
+            (let other : k ≡ 2 * (k / 2) + 1 = omega arith in
+            let e : get_or nodes k 0 ≡ get_or nodes (2 * (k / 2) + 1) 0 =
+            ap (λ i. get_or nodes i 0) other in
+            omega arith)
+      ]
+
+  -- none has less than the first
   first_wins : (n k : ℕ) → k ≤ n → 1 ≤ k → k < 2 * places → get_or nodes 1 0 ≤ get_or nodes k 0
   first_wins zero k le low high = absurd (omega arith)
   first_wins (suc n) k le low high =
       elim (cases_lt 1 k) [
         | inl more ↦
             (let half = first_wins n (k / 2) (omega arith) (omega arith) (omega arith) in
-            let match = p.played (k / 2) (omega arith) (omega arith) in
-            elim (cases_eq k (2 * (k / 2))) [
-              | inl even ↦
-                  (let e : get_or nodes k 0 ≡ get_or nodes (2 * (k / 2)) 0 = ap (λ i. get_or nodes i 0) even in
-                  omega arith)
-              | inr odd ↦
-                  (let other : k ≡ 2 * (k / 2) + 1 = omega arith in
-                  let e : get_or nodes k 0 ≡ get_or nodes (2 * (k / 2) + 1) 0 = ap (λ i. get_or nodes i 0) other in
-                  omega arith)
-            ])
+            let here = half_wins k more high in
+            omega arith)
         | inr less ↦ (let is : k ≡ 1 = omega arith in
             let e : get_or nodes k 0 ≡ get_or nodes 1 0 = ap (λ i. get_or nodes i 0) is in omega arith)
       ]

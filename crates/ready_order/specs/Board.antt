@@ -7,7 +7,7 @@ use Rattle.run_plan.specs.declared.plan.Branch.TheVariants.{Local, Remote}
 use Rattle.ready_order.specs.declared.winner_tree.TheConstants.{ABSENT}
 use Rattle.ready_order.specs.declared.ActionState.{ActionState}
 use Rattle.ready_order.specs.Facts.{Facts}
-use Rattle.ready_order.specs.Queue.{has_success, is_of, is_open, waits, queued_branch}
+use Rattle.ready_order.specs.Queue.{has_success, is_of, is_of_any, is_open, waits, queued_branch}
 
 -- ---- what never changes: who makes an action's inputs, and which groups run its branches
 
@@ -68,6 +68,13 @@ abbrev pub queued_if : Bool → ℕ → ActionState → Option Branch
 queued_if ready g x =
     if is_of g x.local && (x.local.free && (is_open x && ready)) then Some Local
     else if is_of g x.remote && (x.remote.free && (is_open x && ready)) then Some Remote
+    else None
+
+-- so for the groups of a set
+abbrev pub queued_among_if : Bool → (ℕ → Bool) → ActionState → Option Branch
+queued_among_if ready groups x =
+    if x.local.free && (is_open x && ready) && is_of_any groups x.local then Some Local
+    else if x.remote.free && (is_open x && ready) && is_of_any groups x.remote then Some Remote
     else None
 
 -- whether the group has a queued branch of the action stands at the action's place in its queue

@@ -1,5 +1,5 @@
 -- What the table keeps of each action, what a call makes of it, and which branches are queued.
-use Rattle.std.specs.Prelude.{◌≡◌, ℕ, ◌+◌, ◌<◌, ◌==◌, Bool, true, false, ◌&&◌, not, is_none, unwrap_or, option_map, Option, Some, None, if◌then◌else◌, List, [], ◌∷◌, map, slice_get}
+use Rattle.std.specs.Prelude.{◌≡◌, ℕ, ◌+◌, ◌<◌, ◌==◌, Bool, true, false, ◌&&◌, not, is_none, unwrap_or, option_map, option_and_then, Option, Some, None, if◌then◌else◌, List, [], ◌∷◌, map, slice_get}
 use Rattle.std.specs.List.{list_all}
 use Rattle.run_plan.specs.declared.plan.Branch.{Branch}
 use Rattle.run_plan.specs.declared.plan.Branch.TheVariants.{Local, Remote}
@@ -55,6 +55,13 @@ has_success states a = is_success (option_map (λ x. x.own) (slice_get states a)
 abbrev pub is_ready : List ActionState → ActionState → Bool
 is_ready states x = list_all (has_success states) x.producers
 
+-- so of the action of this number
+abbrev pub is_ready_at : List ActionState → ℕ → Bool
+is_ready_at states a = unwrap_or (option_map (is_ready states) (slice_get states a)) false
+
+abbrev pub is_open_at : List ActionState → ℕ → Bool
+is_open_at states a = unwrap_or (option_map is_open (slice_get states a)) false
+
 -- it isn't settled by itself, and every producer has success
 abbrev pub waits : List ActionState → ActionState → Bool
 waits states x = not (is_settled x.own) && is_ready states x
@@ -77,6 +84,10 @@ queued_branch states g x =
     else if may_begin states g x x.remote then Some Remote
     else None
 
+-- so of the action of this number
+abbrev pub queued_at : List ActionState → ℕ → ℕ → Option Branch
+queued_at states g a = option_and_then (queued_branch states g) (slice_get states a)
+
 -- it is the group's queued branch of the least action: the local one, where both are
 pub record IsFirst (states : List ActionState) (g a : ℕ) (b : Branch) : Type 0 where
   pub queued : is_queued states g a b ≡ true
@@ -96,6 +107,35 @@ earliest_from all g a (x ∷ xs) = or_else (option_map (λ b. (a, b)) (queued_br
 -- the same as a search
 abbrev pub earliest_in : List ActionState → ℕ → Option (ℕ × Branch)
 earliest_in states g = earliest_from states g 0 states
+
+-- ---- what is queued in several groups
+
+-- one of these groups runs the branch
+abbrev pub is_of_any : (ℕ → Bool) → BranchState → Bool
+is_of_any groups s = unwrap_or (option_map groups s.group) false
+
+-- it may begin an attempt there
+abbrev pub may_begin_among : List ActionState → (ℕ → Bool) → ActionState → BranchState → Bool
+may_begin_among states groups x s = s.free && (is_open x && is_ready states x) && is_of_any groups s
+
+-- the branch of the action that is queued in one of these groups: the local one, where both are
+abbrev pub queued_among : List ActionState → (ℕ → Bool) → ActionState → Option Branch
+queued_among states groups x =
+    if may_begin_among states groups x x.local then Some Local
+    else if may_begin_among states groups x x.remote then Some Remote
+    else None
+
+-- of the actions from a on, the first with such a branch
+abbrev pub least_from : List ActionState → (ℕ → Bool) → ℕ → List ActionState
+    → Option (ℕ × Branch)
+least_from all groups a [] = None
+least_from all groups a (x ∷ xs) =
+    or_else (option_map (λ b. (a, b)) (queued_among all groups x))
+    (least_from all groups (a + 1) xs)
+
+-- so of all actions
+abbrev pub least_among : List ActionState → (ℕ → Bool) → Option (ℕ × Branch)
+least_among states groups = least_from states groups 0 states
 
 -- ---- what a call makes of it
 

@@ -1,10 +1,12 @@
 // What is noted beside the states, so that no search goes through them all.
-ghost use Rattle.std.specs.Prelude.{◌≡◌, ◌≢◌, ◌<◌, ◌≤◌, ◌^◌, ℕ, Bool, true, false, Some, IfOk, IfSome, if◌then◌else◌, length, map, replicate, slice_get, slice_index_or, []};
-ghost use Rattle.ready_order.specs.Matches.{IsLeast};
+ghost use Rattle.std.specs.Prelude.{◌≡◌, ◌≢◌, ◌==◌, ◌<◌, ◌≤◌, ◌^◌, ℕ, Bool, true, false, Some, IfOk, IfSome, if◌then◌else◌, length, map, replicate, slice_get, slice_index_or, []};
+ghost use Rattle.ready_order.specs.Matches.{IsLeast, IsLeastAmong, MayAsk, least_number};
 ghost use Rattle.ready_order.specs.Queue.{has_success, is_ready};
 ghost use Rattle.ready_order.specs.Board.{AreKnown, Fits, RightAt, SameOf, Shape, is_in, is_named, mark, names, posted, queued_if, shape_of, shapes, supplied_by};
 
-use crate::winner_tree::{ABSENT, Tournament};
+use crate::group_set::GroupSet;
+use crate::queues::{Queues, mark};
+use crate::winner_tree::Tournament;
 use crate::{ActionState, has_success};
 use exec_journal::Standing;
 use plain_values::NoMemory;
@@ -15,7 +17,7 @@ use std::marker::Model;
 pub struct Board {
     supplied: Vec<usize>,
     waiting: Tournament,
-    queues: Vec<Tournament>,
+    queues: Queues,
 }
 
 impl Model for Board {
@@ -26,7 +28,7 @@ impl Model for Board {
     ghost view = { λ b. record {
       supplied = b.supplied.items;
       waiting = b.waiting;
-      queues = b.queues.items;
+      queues = b.queues;
     } };
 }
 
@@ -40,7 +42,7 @@ impl Board {
         let count = actions.len();
         let supplied = vec![in alloc; 0; count]?;
         let waiting = Tournament::new(alloc, count)?;
-        let queues = empty_queues(alloc, named_groups(actions), count)?;
+        let queues = Queues::new(alloc, named_groups(actions), count)?;
         let mut board = Board {
             supplied,
             waiting,
@@ -107,18 +109,31 @@ impl Board {
         let ready = supplied == producers.len();
         self.supplied[number] = supplied;
         self.waiting.put(number, mark(number, action.waits(ready)));
-        post(&mut self.queues, action.local.group, number, action, ready);
-        post(&mut self.queues, action.remote.group, number, action, ready);
+        self.queues.post(action.local.group, number, action, ready);
+        self.queues.post(action.remote.group, number, action, ready);
     }
 
     // The least number in the queue of the group.
     pub fn first(&self, group: u32) -> u64
         ensures { IsLeast (slice_index_or self.now.queues group []) result }
     {
-        match self.queues.get(group as usize) {
-            Some(queue) => queue.least(),
-            None => ABSENT,
-        }
+        self.queues.first(group)
+    }
+
+    // The least number in the queues of the set's groups.
+    pub fn least_among<G: GroupSet>(&self, groups: &G) -> u64
+        requires { MayAsk (G.can_ask groups.now) (map least_number self.now.queues) }
+        ensures { IsLeastAmong (G.contains groups.now) (map least_number self.now.queues) result }
+    {
+        self.queues.least_among(groups)
+    }
+
+    // So many of the action's producers, from the first on, have success as it has producers.
+    pub fn has_supplied(&self, number: usize, producers: usize) -> bool
+        requires { number < length self.now.supplied }
+        ensures { result ≡ (slice_index_or self.now.supplied number 0 == producers) }
+    {
+        self.supplied[number] == producers
     }
 
     // The least number among the actions that wait.
@@ -126,30 +141,6 @@ impl Board {
         ensures { IsLeast self.now.waiting result }
     {
         self.waiting.least()
-    }
-}
-
-fn mark(number: usize, here: bool) -> u64
-    ensures { result ≡ mark number here }
-{
-    if here { number as u64 } else { ABSENT }
-}
-
-// Notes in the queue of the group whether it has a queued branch of the action.
-fn post(
-    queues: &mut [Tournament],
-    group: Option<u32>,
-    number: usize,
-    action: &ActionState,
-    ready: bool,
-)
-    requires { IfSome group (λ g. number < length (slice_index_or queues.old g [])) }
-    ensures { queues.new ≡ posted queues.old group number action.now ready }
-{
-    if let Some(group) = group {
-        let here = mark(number, action.queued_if(ready, group).is_some());
-        let queue = &mut queues[group as usize];
-        queue.put(number, here);
     }
 }
 
@@ -187,15 +178,4 @@ fn past_group(groups: usize, group: Option<u32>) -> usize
         Some(group) => groups.max(group as usize + 1),
         None => groups,
     }
-}
-
-fn empty_queues(alloc: Global, groups: usize, places: usize) -> Result<Vec<Tournament>, NoMemory>
-    requires { places ≤ 2 ^ 32 }
-    ensures { IfOk result (λ v. v.items ≡ replicate groups (replicate places ABSENT)) }
-{
-    let mut queues = Vec::with_capacity(alloc, groups)?;
-    for _group in 0..groups {
-        queues.push(Tournament::new(alloc, places)?)?;
-    }
-    Ok(queues)
 }

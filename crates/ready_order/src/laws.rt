@@ -1,5 +1,5 @@
 //! How the table follows a journal. The functions do nothing: each is a law, for those who keep a table of a journal.
-ghost use Rattle.std.specs.Prelude.{◌≡◌, ◌<◌, ℕ, ℤ, List, ◌∷◌, Option, false, length};
+ghost use Rattle.std.specs.Prelude.{◌≡◌, ◌==◌, ◌<◌, ℕ, ℤ, List, ◌∷◌, Option, false, length};
 ghost use Rattle.exec_journal.specs.declared.attempt.Attempt.{Attempt};
 ghost use Rattle.exec_journal.specs.declared.call.Call.TheVariants.{Claim, Committed};
 ghost use Rattle.exec_journal.specs.declared.call.CommitEnd.{CommitEnd};
@@ -11,7 +11,7 @@ ghost use Rattle.run_plan.specs.Sound.{Sound};
 ghost use Rattle.exec_journal.specs.declared.reply.Reply.TheVariants.{Granted, Noted};
 ghost use Rattle.exec_journal.specs.Settled.{all_settled, earliest};
 ghost use Rattle.ready_order.specs.declared.ActionState.{ActionState};
-ghost use Rattle.ready_order.specs.Queue.{IsEarliest, earliest_in, none_waits, with_taken, with_unwanted, with_settled};
+ghost use Rattle.ready_order.specs.Queue.{IsEarliest, earliest_in, least_among, none_waits, with_taken, with_unwanted, with_settled};
 ghost use Rattle.ready_order.specs.Stands.{Stands, branch_of};
 ghost use Rattle.ready_order.specs.Entries.{BeginsThis, EndsThese, IsOpen, WonFiles, SameBranches, with_ends, is_done};
 
@@ -77,4 +77,10 @@ pub fn answers_are_the_journals()
 pub fn actions_are_known()
     ensures { (p : Plan) (states : List ActionState) (j : List Entry) (a : ℕ) → Stands p states j
         → a < length p.actions → a < length states }
+{}
+
+/// Of one group, the least action is the earliest of the group.
+pub fn one_group_has_its_earliest()
+    ensures { (states : List ActionState) (g : ℕ)
+        → least_among states (λ k. k == g) ≡ earliest_in states g }
 {}

@@ -1,16 +1,19 @@
 //! Which branches are queued: what each group begins next.
 #![tactic(auto)]
 
-ghost use Rattle.std.specs.Prelude.{◌≡◌, ◌<◌, ◌≤◌, ◌^◌, ◌&&◌, not, true, IfOk, if◌then◌else◌, [], length};
+ghost use Rattle.std.specs.Prelude.{◌≡◌, ◌<◌, ◌≤◌, ◌^◌, ◌&&◌, ℕ, not, true, is_some, IfOk, if◌then◌else◌, [], length};
 ghost use Rattle.exec_journal.specs.declared.ends.Standing.TheVariants.{Succeeded, Unsuccessful};
 ghost use Rattle.exec_journal.specs.Settled.{is_settled};
 ghost use Rattle.list_lemmas.specs.Places.{update};
-ghost use Rattle.ready_order.specs.Queue.{earliest_in, granted_state, none_waits, new_standing, new_state, new_states, is_of, is_open, has_success, IsEarliest, settled_state, state_with, with_taken, with_again, with_unwanted, with_settled};
-ghost use Rattle.ready_order.specs.Board.{queued_if};
+ghost use Rattle.run_plan.specs.declared.plan.Branch.{Branch};
+ghost use Rattle.ready_order.specs.Queue.{earliest_in, granted_state, least_among, none_waits, new_standing, new_state, new_states, is_of, is_of_any, is_open, is_open_at, is_queued, is_ready_at, has_success, queued_at, IsEarliest, settled_state, state_with, with_taken, with_again, with_unwanted, with_settled};
+ghost use Rattle.ready_order.specs.Board.{queued_among_if, queued_if};
 ghost use Rattle.ready_order.specs.Stands.{Stands};
 
 mod board;
+mod group_set;
 pub mod laws;
+mod queues;
 mod users;
 mod winner_tree;
 
@@ -18,6 +21,7 @@ use crate::board::Board;
 use crate::users::Users;
 use crate::winner_tree::ABSENT;
 use exec_journal::{Branch, Plan, PlanAction, Standing};
+pub use group_set::GroupSet;
 use plain_values::{Items, NoMemory};
 use run_progress::Notes;
 use std::alloc::Global;
@@ -129,6 +133,59 @@ impl Ready {
         Some((first as u32, branch))
     }
 
+    /// Of the actions with a branch queued in a group of the set the least, with that branch: the
+    /// local one, where both are. The set is asked about groups with something queued alone, and
+    /// about few of them: first about the one whose least action is the least of all, and then only
+    /// where that of a group comes before the best that was found.
+    pub fn least_among<G: GroupSet>(&self, groups: &G) -> Option<(u32, Branch)>
+        requires { (g a : ℕ) (b : Branch) → is_queued self.now g a b ≡ true
+            → G.can_ask groups.now g }
+        ensures { result ≡ least_among self.now (G.contains groups.now) }
+    {
+        let first = self.board.least_among(groups);
+        if first == ABSENT {
+            return None;
+        }
+        let branch = self.actions[first as usize].queued_among(true, groups)?;
+        Some((first as u32, branch))
+    }
+
+    /// Whatever of the action is queued in the group: the local branch, where both are.
+    pub fn queued(&self, action: u32, group: u32) -> Option<Branch>
+        requires { action < length self.now }
+        ensures { result ≡ queued_at self.now group action }
+    {
+        let number = action as usize;
+        let state = &self.actions[number];
+        let ready = self
+            .board
+            .has_supplied(number, state.producers.as_slice().len());
+        state.queued_if(ready, group)
+    }
+
+    /// Every producer of the action has success. No action of another number is ready.
+    pub fn is_ready(&self, action: u32) -> bool
+        ensures { result ≡ is_ready_at self.now action }
+    {
+        let number = action as usize;
+        match self.actions.get(number) {
+            Some(state) => self
+                .board
+                .has_supplied(number, state.producers.as_slice().len()),
+            None => false,
+        }
+    }
+
+    /// The action isn't settled by itself, and has no grant. No action of another number is open.
+    pub fn is_open(&self, action: u32) -> bool
+        ensures { result ≡ is_open_at self.now action }
+    {
+        match self.actions.get(action as usize) {
+            Some(state) => state.is_open(),
+            None => false,
+        }
+    }
+
     /// Every action is settled: each that isn't so by itself has a producer without success.
     pub fn all_settled(&self) -> bool
         ensures { result ≡ none_waits self.now }
@@ -195,6 +252,16 @@ impl BranchState {
             None => false,
         }
     }
+
+    fn is_of_any<G: GroupSet>(self, groups: &G) -> bool
+        requires { (g : ℕ) → is_of g self ≡ true → G.can_ask groups.now g }
+        ensures { result ≡ is_of_any (G.contains groups.now) self }
+    {
+        match self.group {
+            Some(own) => groups.contains(own),
+            None => false,
+        }
+    }
 }
 
 impl ActionState {
@@ -250,6 +317,32 @@ impl ActionState {
         ensures { result ≡ (is_of group seat && (seat.free && (is_open self.now && ready))) }
     {
         seat.is_of(group) && seat.free && self.is_open() && ready
+    }
+
+    // The branch of the action that is queued in a group of the set, where its producers are ready:
+    // the local one, where both are. Of a branch that isn't queued the set isn't asked.
+    fn queued_among<G: GroupSet>(&self, ready: bool, groups: &G) -> Option<Branch>
+        requires { (g : ℕ) → is_some (queued_if ready g self.now) ≡ true
+            → G.can_ask groups.now g }
+        ensures { result ≡ queued_among_if ready (G.contains groups.now) self.now }
+    {
+        if self.may_begin_among(ready, groups, self.local) {
+            Some(Branch::Local)
+        } else if self.may_begin_among(ready, groups, self.remote) {
+            Some(Branch::Remote)
+        } else {
+            None
+        }
+    }
+
+    fn may_begin_among<G: GroupSet>(&self, ready: bool, groups: &G, seat: BranchState) -> bool
+        requires { (g : ℕ)
+            → (is_of g seat && (seat.free && (is_open self.now && ready))) ≡ true
+            → G.can_ask groups.now g }
+        ensures { result ≡ (seat.free && (is_open self.now && ready)
+            && is_of_any (G.contains groups.now) seat) }
+    {
+        seat.free && self.is_open() && ready && seat.is_of_any(groups)
     }
 
     // It isn't settled by itself, and its producers are ready.

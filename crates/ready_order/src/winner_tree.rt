@@ -1,8 +1,9 @@
 // The least of many numbers, each of which may change: a tournament whose matches are kept. The winner is read at once, and
 // a change plays again only the matches above its place.
-ghost use Rattle.std.specs.Prelude.{◌≡◌, ◌<◌, ◌≤◌, ◌*◌, ◌/◌, ◌^◌, IfOk, length, replicate, slice_set, drop};
-ghost use Rattle.ready_order.specs.Matches.{IsLeast, IsPlayed, IsPlayedBut};
+ghost use Rattle.std.specs.Prelude.{◌≡◌, ◌≢◌, ◌<◌, ◌≤◌, ◌+◌, ◌*◌, ◌/◌, ◌^◌, IfOk, length, replicate, slice_index, slice_set, drop};
+ghost use Rattle.ready_order.specs.Matches.{IsLeast, IsLeastAmong, IsLeastBelow, IsPlayed, IsPlayedBut, MayAsk};
 
+use crate::group_set::GroupSet;
 use plain_values::NoMemory;
 use std::alloc::Global;
 use std::marker::Model;
@@ -62,6 +63,68 @@ impl Tournament {
         } else {
             self.nodes[1]
         }
+    }
+
+    /// The least number at the places of these groups, and `ABSENT` where there is none. The set is
+    /// asked about places with a number alone.
+    pub fn least_among<G: GroupSet>(&self, groups: &G) -> u64
+        requires asked { MayAsk (G.can_ask groups.now) self.now }
+        requires few { length self.now ≤ 2 ^ 32 }
+        ensures { IsLeastAmong (G.contains groups.now) self.now result }
+    {
+        if self.places == 0 {
+            return ABSENT;
+        }
+        least_below(self.nodes.as_slice(), self.places, 1, ABSENT, groups)
+    }
+}
+
+// The least number at the places of these groups that stand below the node, or the bound where none
+// of them is less. It leaves out a node that has no less than the bound, and takes the lesser of two
+// nodes first, so that the bound soon is low: it asks about few groups.
+fn least_below<G: GroupSet>(
+    nodes: &[u64],
+    places: usize,
+    node: usize,
+    bound: u64,
+    groups: &G,
+) -> u64
+    requires asked { MayAsk (G.can_ask groups.now) (drop places nodes.now) }
+    requires few { places ≤ 2 ^ 32 }
+    requires played { IsPlayed nodes.now places }
+    requires node { 0 < node }
+    requires within { node < 2 * places }
+    ensures { IsLeastBelow (G.contains groups.now) nodes.now places node bound result }
+{
+    if nodes[node] >= bound {
+        return bound;
+    }
+    if node < places {
+        let (first, second) = lesser_first(nodes, node);
+        let nearer = least_below(nodes, places, first, bound, groups);
+        return least_below(nodes, places, second, nearer, groups);
+    }
+    if groups.contains((node - places) as u32) {
+        nodes[node]
+    } else {
+        bound
+    }
+}
+
+// The two nodes below this one, that with the lesser number first.
+fn lesser_first(nodes: &[u64], node: usize) -> (usize, usize)
+    requires small { node < 2 ^ 60 }
+    requires within { 2 * node + 1 < length nodes.now }
+    ensures first { result.0 / 2 ≡ node }
+    ensures second { result.1 / 2 ≡ node }
+    ensures both { result.0 ≢ result.1 }
+    ensures lesser { slice_index nodes.now result.0 ≤ slice_index nodes.now result.1 }
+{
+    let (left, right) = (2 * node, 2 * node + 1);
+    if nodes[left] <= nodes[right] {
+        (left, right)
+    } else {
+        (right, left)
     }
 }
 

@@ -7,7 +7,8 @@ use Rattle.build_report.specs.declared.fault.Stage.TheVariants as stage
 use Rattle.lane_runs.specs.Layout.{has_halt}
 use Rattle.outside.specs.Told.{FloorTold}
 use Rattle.run_loading.specs.Reads.{IsFloorFailed, Reads}
-use Rattle.run_tasks.specs.Course.{Made}
+use Rattle.run_plan.specs.declared.plan.Plan.{Plan}
+use Rattle.run_tasks.specs.Course.{Course, Made}
 use Rattle.run_tasks.specs.declared.task.Task.{Task}
 use Rattle.tool_words.specs.declared.options.Options.{Options}
 use Rattle.worker_run.specs.Ends.{HasCourse, HasLed, IsLate, LeadsTo, LeavesNew, TellsTask, UnlessEarly, is_halted}
@@ -29,23 +30,26 @@ by_late P (fault.Absent at) late sink memory = absurd late
 by_late P (fault.FloorFailed at) late sink memory = absurd late
 
 -- what was read led to the task, which was run
-leads_late : (made : Made) (f : RunFault) (task : Option Task) → IsLate f → LeadsTo made None task
-    → LeadsTo made (Some f) task
+abbrev of_task : Task × Plan → Task
+of_task made = made.0
+
+leads_late : (made : Made) (f : RunFault) (task : Option Task) → IsLate f
+    → LeadsTo of_task made None task → LeadsTo of_task made (Some f) task
 leads_late (Err g) f task late led = absurd (cc)
 leads_late (Ok made) f task late led =
-    by_late (λ g. LeadsTo (Ok made) (Some g) task) f late (tt, led.1) (tt, led.1)
+    by_late (λ g. LeadsTo of_task (Ok made) (Some g) task) f late (tt, led.1) (tt, led.1)
 
 course_late : (options : Option Options) (before now : FloorTold) (f : RunFault)
-    (task : Option Task) → IsLate f → Reads before now (HasLed options None task)
-    → UnlessEarly (Some f) (Reads before now (HasLed options (Some f) task))
+    (task : Option Task) → IsLate f → Reads before now (HasLed (Course options) of_task None task)
+    → UnlessEarly (Some f) (Reads before now (HasLed (Course options) of_task (Some f) task))
 course_late options before now f task late read =
-    let again : Reads before now (HasLed options (Some f) task) = (
+    let again : Reads before now (HasLed (Course options) of_task (Some f) task) = (
       read.0,
       read.1,
       read.2,
       (read.3.0, read.3.1, leads_late read.3.0 f task late read.3.2),
     ) in
-    by_late (λ g. UnlessEarly (Some g) (Reads before now (HasLed options (Some f) task))) f late
+    by_late (λ g. UnlessEarly (Some g) (Reads before now (HasLed (Course options) of_task (Some f) task))) f late
     again again
 
 told_late : (f : RunFault) (task : Option Task) → IsLate f → TellsTask None task
@@ -70,9 +74,9 @@ module _ (options : Option Options) (before : FloorTold) (end next : EndedTold) 
   told_before = subst (λ (o : Option RunFault). TellsTask o end.task) none was.told
 
   course_before : HasCourse options before end
-      → UnlessEarly None (Reads before end.floor (HasLed options None end.task))
+      → UnlessEarly None (Reads before end.floor (HasLed (Course options) of_task None end.task))
   course_before course = subst (λ (o : Option RunFault). UnlessEarly o
-      (Reads before end.floor (HasLed options o end.task))) none course
+      (Reads before end.floor (HasLed (Course options) of_task o end.task))) none course
 
   halts_before : OnRun end (λ t x. has_halt (history_of x.journal) ≡ is_halted None)
   halts_before = subst (λ (o : Option RunFault). OnRun end (λ t x.

@@ -38,7 +38,7 @@ kind_speech executor extra kind.Boxed o = (λ e. absurd (user_speech extra o e),
 -- ---- all groups
 
 -- the speech is the executor's exactly where the kind is
-abbrev Speaks : Speech → Kind → Type 0
+abbrev pub Speaks : Speech → Kind → Type 0
 Speaks s k = (s ≡ speech.Remote) ↔ (k ≡ kind.Remote)
 
 module _ (xs : List ListAction) (ys : List PlanAction) (extra : List (List ℕ))
@@ -48,7 +48,8 @@ module _ (xs : List ListAction) (ys : List PlanAction) (extra : List (List ℕ))
   parts_are number [] = refl
   parts_are number (g ∷ gs) = let rest = parts_are (number + 1) gs in omega (arith, rest)
 
-  part_speaks : (number : ℕ) (gs : List Group) (i : ℕ) (g : Group) (part : GroupPart)
+  -- of each group
+  pub part_speaks : (number : ℕ) (gs : List Group) (i : ℕ) (g : Group) (part : GroupPart)
       → slice_get gs i ≡ Some g
       → slice_get (parts_from xs ys extra executor number gs) i ≡ Some part
       → Speaks part.speech g.kind

@@ -2,6 +2,7 @@
 use Rattle.std.proofs.Common.{◌≡◌, ℕ, ◌*◌, ◌+◌, ◌/◌, ◌<◌, ◌≤◌, Bool, true, cond, List, length, Option, Some, None, refl, ap, sym, subst, ◌∙◌, arith, lt-ltb}
 use Rattle.std.proofs.Math.Nat.{mul-le-mul_right}
 use Rattle.std.specs.Prelude.{slice_get}
+use Rattle.run_plan.specs.declared.plan.Kind.{Kind}
 use Rattle.run_plan.specs.declared.plan.Plan.{Plan}
 use Rattle.run_plan.specs.Sound.{Sound}
 use Rattle.exec_journal.specs.declared.call.Call.{Call}
@@ -17,7 +18,6 @@ use Rattle.core_tables.specs.declared.berth_group.BerthGroup.{BerthGroup}
 use Rattle.core_tables.specs.Lanes.{allows_by, is_won, lane_in, said_after, said_of_work, state_by}
 use Rattle.core_tables.proofs.Lengths.{length_is}
 use Rattle.core_state.specs.declared.state.State.{State}
-use Rattle.core_state.specs.declared.choice.Choice.{Choice}
 use Rattle.core_state.specs.Choices.{Reads}
 use Rattle.core_contract.specs.Disciplines.{Discipline}
 use Rattle.core_laws.specs.Stands as tables
@@ -26,7 +26,9 @@ use Rattle.core_laws.proofs.Read as read
 use Rattle.spawn_core.specs.Policies.{StandsBy}
 use Rattle.spawn_core.specs.Turning.{IsServed}
 use Rattle.core_contract.specs.News.{question}
-use Rattle.spawn_core.specs.Allowed.{allowed_is, lane_within}
+use Rattle.spawn_core.specs.Allowed.{allowed_plain, lane_within}
+use Rattle.spawn_core.specs.News.{asks}
+use Rattle.spawn_core.specs.Turns.{Orders, may_make}
 use Rattle.spawn_core.specs.Outlook.{owes_by}
 use Rattle.spawn_core.specs.Stands.{HasHistory, HasJournal, KeptBy}
 
@@ -70,6 +72,16 @@ pub goes_by : {M B : Type 0} (rules : B → Discipline) (basis : M → Plan → 
     → basis m (rules b).plan ≡ b → basis m s.plan ≡ b
 goes_by rules basis m s j b st is = ap (basis m) st.plan ∙ is
 
+-- so it is with what its lanes may make
+pub allowed_so : {M B : Type 0} (rules : B → Discipline) (basis : M → Plan → B) (m : M) (s : State)
+    (j : List Entry) (b : B) → tables.Stands (rules b).plan (rules b).seats s j
+    → basis m (rules b).plan ≡ b → (k : Kind) (lane : ℕ) (c : Call) (v : Bool)
+    → may_make s k ((rules (basis m s.plan)).ticks lane) lane c ≡ v
+    → may_make s k ((rules b).ticks lane) lane c ≡ v
+allowed_so {M} {B} rules basis m s j b st is k lane c v may =
+    subst (λ (x : B). may_make s k ((rules x).ticks lane) lane c ≡ v)
+    (goes_by rules basis m s j b st is) may
+
 -- ---- of what stands for some journal
 
 pub journal_kept : {M B : Type 0} (rules : B → Discipline) (own : B → M → List Entry → Type 0)
@@ -101,12 +113,12 @@ attempts_kept p sound =
 
 -- a lane that may ask by the tables is one of a berth, which can be read
 pub reads_asking : (q : Discipline) (s : State) (j : List Entry) (lane : ℕ) (seat : BerthGroup)
-    (x : Choice) → StandsBy q s j → IsServed q s j lane seat x
+    (x : Orders) → StandsBy q s j → IsServed q s j lane seat x
     → allows_by s.plan seat.kind s.lanes lane (question lane) ≡ true
     → (lane / 2 < q.seats) × Reads s (lane / 2)
 reads_asking q s j lane seat x st v may =
-    let scripted = sym (allowed_is q s j lane seat (question lane) st.tables v.ticks v.remote)
-    ∙ may in
+    let scripted =
+    sym (allowed_plain q s j lane seat st.tables v.remote (question lane) (asks lane)) ∙ may in
     let within = lane_within q j lane (question lane) scripted in (
       within,
       read.reads q.plan q.seats s j st.tables

@@ -34,7 +34,7 @@ use Rattle.core_state.specs.Choices.{row_at}
 use Rattle.core_tables.specs.declared.greetings.Greeting.{Greeting}
 use Rattle.core_tables.specs.declared.lanes.LaneState.{LaneState}
 use Rattle.core_tables.specs.Greetings.{greeting_in, greeting_of}
-use Rattle.core_tables.specs.Lanes.{allows_by, lane_in, state_by}
+use Rattle.core_tables.specs.Lanes.{lane_in, state_by}
 use Rattle.core_state.specs.Machine as m
 use Rattle.lawful_facts.specs.Moments.{LawfulMore}
 use Rattle.core_state.specs.Noted.{noted_after, noted_if_kept}
@@ -42,7 +42,7 @@ use Rattle.core_state.specs.Reports as reports
 use Rattle.core_laws.specs.Stands.{Stands}
 use Rattle.spawn_core.specs.Allowed.{allowed_is, lane_within, none_scripted}
 use Rattle.spawn_core.specs.Answers.{Replies, answer_by}
-use Rattle.spawn_core.specs.Turns.{CanTurn, turned, turned_reply}
+use Rattle.spawn_core.specs.Turns.{CanTurn, Orders, may_make, turned, turned_reply}
 use Rattle.core_laws.proofs.Rowed.{lane_inside}
 use Rattle.spawn_core.specs.Policies.{SaysSeat}
 use Rattle.spawn_core.specs.Turning.{IsServed, turn_can, turn_is, turn_stands}
@@ -128,9 +128,9 @@ module _ (s : State) where
       (reports.matching_with s w seat l x (asks.matching_of s.requests l x.number)) refl
       (matching_lanes w l seat x (asks.matching_of s.requests l x.number))))
 
-  made_lanes : (lane : ℕ) (seat : BerthGroup) (x : Choice) (c : Call)
+  made_lanes : (lane : ℕ) (seat : BerthGroup) (x : Orders) (c : Call)
       → own_of (turned s lane seat x c) ≡ own_of s
-  made_lanes lane seat y call.Ask = carried_lanes (lane / 2) y
+  made_lanes lane seat y call.Ask = carried_lanes (lane / 2) y.ask
   made_lanes lane seat y (call.Launched l how) = either (is_done how) _ _ refl
       (end_lanes (m.with_pool s (rows.change s.pool l rows.set_unbound)) (m.launch_by s lane) refl)
   made_lanes lane seat y (call.Wrote l n how) = wrote_lanes lane (lane / 2) l n how
@@ -234,9 +234,9 @@ module _ (s : State) where
   clash : {X : Type 0} (b : Bool) → b ≡ true → b ≡ false → X
   clash b h k = absurd (let both : true ≡ false = sym h ∙ k in cc)
 
-  unkept : (lane : ℕ) (seat : BerthGroup) (x : Choice) (c : Call) → is_look c ≡ false
+  unkept : (lane : ℕ) (seat : BerthGroup) (x : Orders) (c : Call) → is_look c ≡ false
       → is_kept (turned_reply s lane seat x c) ≡ false → turned s lane seat x c ≡ s
-  unkept lane seat y call.Ask look h = carried_unkept (lane / 2) y h
+  unkept lane seat y call.Ask look h = carried_unkept (lane / 2) y.ask h
   unkept lane seat y call.Take look h = taken_unkept (lane / 2) (m.takeable s (lane / 2)) h
   unkept lane seat y (call.Look x) look h = refl
   unkept lane seat y (call.Claim a b n f) look h = clash _
@@ -249,18 +249,18 @@ module _ (s : State) where
   unkept lane seat y (call.Killed l) look h = absurd (cc)
   unkept lane seat y (call.Ended l how) look h = absurd (cc)
   unkept lane seat y call.Halt look h = absurd (cc)
-  unkept lane seat y call.Tick look h = absurd (cc)
+  unkept lane seat y call.Tick look h = refl
 
 -- ---- a call that its lane's script has
 
 -- what the check of a call says
-module _ (q : Discipline) (s : State) (j : List Entry) (lane : ℕ) (seat : BerthGroup) (x : Choice)
+module _ (q : Discipline) (s : State) (j : List Entry) (lane : ℕ) (seat : BerthGroup) (x : Orders)
     (c : Call) (st : Stands q.plan q.seats s j) (v : IsServed q s j lane seat x) where
-  allows_is : allows_by s.plan seat.kind s.lanes lane c ≡ script_of q j lane c
-  allows_is = allowed_is q s j lane seat c st v.ticks v.remote
+  allows_is : may_make s seat.kind (q.ticks lane) lane c ≡ script_of q j lane c
+  allows_is = allowed_is q s j lane seat st v.remote c
 
   module _ (legal : LegalBy q j) (all : LawfulMore q.plan j) (look : is_look c ≡ false)
-      (may : allows_by s.plan seat.kind s.lanes lane c ≡ true) where
+      (may : may_make s seat.kind (q.ticks lane) lane c ≡ true) where
     pub script_here : script_of q j lane c ≡ true
     script_here = sym allows_is ∙ may
 
@@ -297,7 +297,7 @@ module _ (q : Discipline) (s : State) (j : List Entry) (lane : ℕ) (seat : Bert
         (turned_reply s lane seat x c)) (after j lane c (turned_reply s lane seat x c))
     stands_here = kept_by (is_kept (turned_reply s lane seat x c)) refl
 
-  module _ (out : allows_by s.plan seat.kind s.lanes lane c ≡ false) where
+  module _ (out : may_make s seat.kind (q.ticks lane) lane c ≡ false) where
     pub reply_out : Replies (answer_by q j lane c) reply.Astray
     reply_out = inl (ap (λ b. cond b (q.rule j lane c) reply.Astray) (sym (sym allows_is ∙ out)))
 

@@ -13,10 +13,9 @@ use Rattle.core_contract.specs.Disciplines.{Discipline, LegalBy, LegalEntryBy, s
 use Rattle.history_laws.proofs.Fitting.{entry_lawful}
 use Rattle.core_tables.specs.declared.berth_group.BerthGroup.{BerthGroup}
 use Rattle.core_tables.specs.Lanes.{allows_by}
-use Rattle.core_state.specs.declared.choice.Choice.{Choice}
 use Rattle.core_state.specs.declared.state.State.{State}
 use Rattle.core_state.specs.Noted.{noted_if_kept}
-use Rattle.spawn_core.specs.Turns.{CanTurn, turned, turned_reply}
+use Rattle.spawn_core.specs.Turns.{CanTurn, Orders, may_make, turned, turned_reply}
 use Rattle.lawful_facts.specs.Moments.{LawfulMore}
 use Rattle.core_laws.specs.Stands as tables
 use Rattle.spawn_core.specs.Turning.{IsServed, turn_is}
@@ -24,7 +23,7 @@ use Rattle.core_tables.specs.Slots as slots
 use Rattle.core_tables.specs.Slots.{Follows, FoundFiles}
 use Rattle.core_tables.specs.Stands as files
 use Rattle.core_tables.proofs.Kept.{follows}
-use Rattle.spawn_core.specs.Allowed.{allowed_is, lane_within}
+use Rattle.spawn_core.specs.Allowed.{allowed_plain, asked_same, lane_within}
 use Rattle.spawn_core.specs.Answers.{Replies, answer_by}
 use Rattle.spawn_core.specs.Looks.{ToldLook}
 use Rattle.spawn_core.specs.Stands.{TablesStand}
@@ -41,10 +40,10 @@ unkept_files p (call.Answer l x) (reply.Matched a b n) f g h k = absurd (cc)
 unkept_files p (call.Answer l x) _ f g h k = k
 unkept_files p _ r f g h k = k
 
-module _ (q : Discipline) (s : State) (j : List Entry) (lane : ℕ) (seat : BerthGroup) (x : Choice)
+module _ (q : Discipline) (s : State) (j : List Entry) (lane : ℕ) (seat : BerthGroup) (x : Orders)
     (c : Call) (st : tables.Stands q.plan q.seats s j) (lawful : LegalBy q j)
     (v : IsServed q s j lane seat x) (look : is_look c ≡ false)
-    (may : allows_by s.plan seat.kind s.lanes lane c ≡ true) where
+    (may : may_make s seat.kind (q.ticks lane) lane c ≡ true) where
   abbrev all : LawfulMore q.plan j
   all = all_of q.plan q.seats s j st
 
@@ -82,6 +81,10 @@ module _ (q : Discipline) (s : State) (j : List Entry) (lane : ℕ) (seat : Bert
   legal_turn true new = (lawful, legal new)
   legal_turn false old = lawful
 
+  pub tables_turn : tables.Stands q.plan q.seats
+      (noted_if_kept (turned s lane seat x c) lane c told) (after j lane c told)
+  tables_turn = stands_here q s j lane seat x c st v lawful all look may
+
   pub legal_then : LegalBy q (after j lane c told)
   legal_then = legal_turn (is_kept told) refl
 
@@ -103,7 +106,7 @@ module _ (q : Discipline) (s : State) (j : List Entry) (lane : ℕ) (seat : Bert
         (after j lane c told)
     stands_turn own new = record {
       legal = legal_then;
-      tables = stands_here q s j lane seat x c st v lawful all look may;
+      tables = tables_turn;
       kept = files_turn (is_kept told) refl;
       own = new;
     }
@@ -115,15 +118,17 @@ unlook (call.Look w) h = absurd (h w refl)
 unlook _ h = refl
 
 module _ (q : Discipline) (own : List Entry → Type 0) (s : State) (f : slots.Facts)
-    (j : List Entry) (lane : ℕ) (seat : BerthGroup) (x : Choice) (c : Call) (w : Wanted) (y : Reply)
+    (j : List Entry) (lane : ℕ) (seat : BerthGroup) (x : Orders) (c : Call) (w : Wanted) (y : Reply)
     (st : TablesStand q own s f j) (v : IsServed q s j lane seat x)
-    (may : allows_by s.plan seat.kind s.lanes lane c ≡ true) (is : c ≡ call.Look w)
+    (may : may_make s seat.kind (q.ticks lane) lane c ≡ true) (is : c ≡ call.Look w)
     (told : ToldLook s f lane w y) where
   allowed_look : allows_by s.plan seat.kind s.lanes lane (call.Look w) ≡ true
-  allowed_look = ap (allows_by s.plan seat.kind s.lanes lane) (sym is) ∙ may
+  allowed_look = sym (ap (allows_by s.plan seat.kind s.lanes lane)
+      (asked_same (q.ticks lane) (call.Look w) refl))
+      ∙ (ap (may_make s seat.kind (q.ticks lane) lane) (sym is) ∙ may)
 
   script_look : script_of q j lane (call.Look w) ≡ true
-  script_look = sym (allowed_is q s j lane seat (call.Look w) st.tables v.ticks v.remote)
+  script_look = sym (allowed_plain q s j lane seat st.tables v.remote (call.Look w) refl)
       ∙ allowed_look
 
   pub look_reply : Replies (answer_by q j lane c) y

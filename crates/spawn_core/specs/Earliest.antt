@@ -5,6 +5,7 @@ use Rattle.run_plan.specs.Groups.{berths, is_remote}
 use Rattle.run_plan.specs.Sound.{Sound}
 use Rattle.exec_journal.specs.declared.call.Call.TheVariants as call
 use Rattle.exec_journal.specs.Entry.{Entry}
+use Rattle.exec_journal.specs.declared.reply.Reply.TheVariants as reply
 use Rattle.exec_journal.specs.Kept.{Kept}
 use Rattle.journal_laws.proofs.Ours as ours
 use Rattle.core_tables.specs.Seats.{seat_at}
@@ -44,6 +45,11 @@ pub choices_are : (p : Plan) (s : State) (j : List Entry) (lane : ℕ)
 choices_are p s j lane st may = choice_is p s j lane st.tables (own_legal p j st.legal)
     (all_of p (berths p) s j st.tables).facts may
 
+-- no lane makes Ticks
+pub ticks_are : (p : Plan) (j : List Entry) (lane : ℕ) → (own_discipline p).ticks lane ≡ true
+    → reply.Idle ≡ (own_discipline p).rule j lane call.Tick
+ticks_are p j lane ticks = absurd (cc)
+
 reads_own : (p : Plan) (s : State) (j : List Entry) (w : ℕ) → Stands p (berths p) s j
     → w < berths p → ReadsOwn s w
 reads_own p s j w st lt =
@@ -51,7 +57,8 @@ reads_own p s j w st lt =
       reads = read.reads p (berths p) s j st all.facts w lt;
       groups = (let g : length s.plan.groups ≡ length p.groups =
           ap (λ (x : Plan). length x.groups) st.plan in let few = st.sound.groups in omega arith);
-      seats = read.seats_are p (berths p) s j st all.facts ∙ sym (ap berths st.plan);
+      seats = (let there = read.seats_are p (berths p) s j st all.facts in
+          let same = ap berths st.plan in omega (arith, there, same));
     }
 
 pub reads_each : (p : Plan) (s : State) (j : List Entry) → StandsBy (own_discipline p) s j

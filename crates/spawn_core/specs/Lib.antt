@@ -10,5 +10,6 @@ pub mod Outlook
 pub mod Histories
 pub mod Laws
 pub mod Allowed
+pub mod Ticking
 pub mod Turning
 pub mod News

@@ -21,11 +21,11 @@ use Rattle.core_contract.specs.News.{question, HasNews, SaysNews}
 use Rattle.history_laws.specs.Owed.{journal_of}
 use Rattle.history_laws.specs.Ruled.{answer_after}
 use Rattle.history_laws.proofs.Fitting.{in_script}
-use Rattle.spawn_core.specs.Allowed.{allowed_is, lane_within, none_scripted}
+use Rattle.spawn_core.specs.Allowed.{allowed_plain, is_tick, lane_within, none_scripted}
 use Rattle.spawn_core.specs.Outlook.{has_news, has_news_at, has_news_by, is_idle, told_by}
 use Rattle.spawn_core.specs.Policies.{Serves}
 use Rattle.spawn_core.specs.Turning.{IsServed, turn_is}
-use Rattle.spawn_core.specs.Turns.{turned_reply}
+use Rattle.spawn_core.specs.Turns.{Orders, turned_reply}
 
 record Fits (q : Discipline) (j : List Entry) (w : ℕ) (seat : BerthGroup) : Type 0 where
   fits : tables.SeatFits q.plan j w seat
@@ -33,14 +33,15 @@ record Fits (q : Discipline) (j : List Entry) (w : ℕ) (seat : BerthGroup) : Ty
 
 -- what is said of the lane's berth is what is said of each
 pub served : (q : Discipline) (s : State) (j : List Entry) (seated : ℕ → Option BerthGroup)
-    (chosen : ℕ → Choice) → Serves q s j seated chosen → (lane : ℕ) (seat : BerthGroup)
-    → seated (lane / 2) ≡ Some seat → IsServed q s j lane seat (chosen (lane / 2))
-served q s j seated chosen v lane seat at = record {
+    (chosen : ℕ → Choice) (ticked : Reply) → Serves q s j seated chosen ticked → (lane : ℕ)
+    (seat : BerthGroup) → seated (lane / 2) ≡ Some seat
+    → IsServed q s j lane seat (record { ask = chosen (lane / 2); tick = ticked })
+served q s j seated chosen ticked v lane seat at = record {
   is = v.is;
-  ticks = v.ticks lane;
   fits = λ lt. (same lt).fits;
   remote = λ lt. (same lt).remote;
   carried = v.choices lane;
+  ticked = v.ticks lane;
 }
   where
     same : lane / 2 < q.seats → Fits q j (lane / 2) seat
@@ -48,18 +49,26 @@ served q s j seated chosen v lane seat at = record {
         subst (Fits q j (lane / 2)) (let z = sym y.is ∙ at in cc)
         (record { fits = y.fits; remote = y.remote })
 
+-- a question is no Tick
+pub asks : (lane : ℕ) → is_tick (question lane) ≡ false
+asks lane = by_bool (lane % 2 == 0) (λ b. is_tick (cond b call.Ask call.Take) ≡ false) (λ _. refl)
+    (λ _. refl)
+
 -- ---- what a lane would be told
 
 module _ (q : Discipline) (s : State) (j : List Entry) (seated : ℕ → Option BerthGroup)
-    (chosen : ℕ → Choice) (st : tables.Stands q.plan q.seats s j) (legal : LegalBy q j)
-    (v : Serves q s j seated chosen) (lane : ℕ) where
+    (chosen : ℕ → Choice) (ticked : Reply) (st : tables.Stands q.plan q.seats s j)
+    (legal : LegalBy q j) (v : Serves q s j seated chosen ticked) (lane : ℕ) where
+  abbrev ordered : Orders
+  ordered = record { ask = chosen (lane / 2); tick = ticked }
+
   question_told : (c : Call) → is_look c ≡ false → script_of q j lane c ≡ true
-      → (seat : BerthGroup) × (turned_reply s lane seat (chosen (lane / 2)) c ≡ q.rule j lane c)
+      → (seat : BerthGroup) × (turned_reply s lane seat ordered c ≡ q.rule j lane c)
   question_told c look may =
       let y = v.seats (lane / 2) (lane_within q j lane c may) in (
         y.seat,
-        turn_is q s j lane y.seat (chosen (lane / 2)) st legal (all_of q.plan q.seats s j st)
-            (served q s j seated chosen v lane y.seat y.is) c look may,
+        turn_is q s j lane y.seat ordered st legal (all_of q.plan q.seats s j st)
+            (served q s j seated chosen ticked v lane y.seat y.is) c look may,
       )
 
   -- of a lane that may ask the tables answer what the discipline does
@@ -80,8 +89,8 @@ module _ (q : Discipline) (s : State) (j : List Entry) (seated : ℕ → Option 
       ap (λ (b : Bool). b && not (is_idle (q.rule j lane (question lane))))
       (sym (none_scripted q j lane (question lane) (seated (lane / 2)) (v.seats (lane / 2)) at))
   news_at (Some seat) at =
-      let y = served q s j seated chosen v lane seat at in
-      let same = allowed_is q s j lane seat (question lane) st y.ticks y.remote in
+      let y = served q s j seated chosen ticked v lane seat at in
+      let same = allowed_plain q s j lane seat st y.remote (question lane) (asks lane) in
       ap (λ (b : Bool). b && not (is_idle (told_by s chosen lane))) same
       ∙ by_bool (script_of q j lane (question lane)) (λ b. script_of q j lane (question lane) ≡ b
       → b && not (is_idle (told_by s chosen lane))
@@ -118,11 +127,13 @@ module _ (q : Discipline) (is : IsDiscipline q) (h : History) (lane : ℕ) where
       )
 
 pub news_are : (q : Discipline) (s : State) (h : History) (seated : ℕ → Option BerthGroup)
-    (chosen : ℕ → Choice) (lane : ℕ) → tables.Stands q.plan q.seats s (journal_of h)
-    → LegalBy q (journal_of h) → Serves q s (journal_of h) seated chosen
+    (chosen : ℕ → Choice) (ticked : Reply) (lane : ℕ)
+    → tables.Stands q.plan q.seats s (journal_of h) → LegalBy q (journal_of h)
+    → Serves q s (journal_of h) seated chosen ticked
     → SaysNews (answer_after q) h lane (has_news_by s seated chosen lane)
-news_are q s h seated chosen lane st legal v =
-    let same = news_at q s (journal_of h) seated chosen st legal v lane (seated (lane / 2)) refl in
+news_are q s h seated chosen ticked lane st legal v =
+    let same = news_at q s (journal_of h) seated chosen ticked st legal v lane (seated (lane / 2))
+    refl in
     record {
       said = λ news. same ∙ said q v.is h lane news;
       so = λ on. so q v.is h lane (sym same ∙ on);

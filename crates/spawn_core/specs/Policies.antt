@@ -1,8 +1,9 @@
 -- What a policy goes by, and what is asked of what it says of a berth.
-use Rattle.std.specs.Prelude.{◌≡◌, ◌<◌, ◌/◌, ◌^◌, ℕ, true, false, List, Option, Some, length}
+use Rattle.std.specs.Prelude.{◌≡◌, ◌<◌, ◌/◌, ◌^◌, ℕ, true, List, Option, Some, length}
 use Rattle.run_plan.specs.Groups.{berths, is_remote}
 use Rattle.exec_journal.specs.declared.call.Call.TheVariants as call
 use Rattle.exec_journal.specs.Entry.{Entry}
+use Rattle.exec_journal.specs.declared.reply.Reply.{Reply}
 use Rattle.core_tables.specs.declared.berth_group.BerthGroup.{BerthGroup}
 use Rattle.core_state.specs.declared.choice.Choice.{Choice}
 use Rattle.core_state.specs.declared.state.State.{State}
@@ -24,14 +25,15 @@ pub record SaysSeat (q : Discipline) (j : List Entry) (w : ℕ) (said : Option B
   pub fits : SeatFits q.plan j w seat
   pub remote : is_remote seat.kind ≡ is_remote (q.kinds w)
 
--- what a policy says of each berth is so, and what it chooses on each is what its discipline orders
+-- what a policy says of each berth is so; and what it chooses on each, and what it answers a Tick,
+-- is what its discipline orders
 pub record Serves (q : Discipline) (s : State) (j : List Entry) (seated : ℕ → Option BerthGroup)
-    (chosen : ℕ → Choice) : Type 0 where
+    (chosen : ℕ → Choice) (ticked : Reply) : Type 0 where
   pub is : IsDiscipline q
-  pub ticks : (lane : ℕ) → q.ticks lane ≡ false
   pub seats : (w : ℕ) → w < q.seats → SaysSeat q j w (seated w)
   pub choices : (lane : ℕ) → script_of q j lane call.Ask ≡ true
       → carried_reply s (lane / 2) (chosen (lane / 2)) ≡ q.rule j lane call.Ask
+  pub ticks : (lane : ℕ) → q.ticks lane ≡ true → ticked ≡ q.rule j lane call.Tick
 
 -- ---- of berths that groups have of their own
 

@@ -1,21 +1,16 @@
 -- What a call but a Look makes of tables that stand for a legal journal, and its reply.
-use Rattle.std.proofs.Common.{◌≡◌, ℕ, ◌*◌, ◌/◌, ◌%◌, ◌<◌, ◌==◌, nat_lt, true, false, not, cond, List, ◌∷◌, Option, Some, None, refl, sym, subst, ◌∙◌}
-use Rattle.std.proofs.lemmas.Bool.{and_parts}
+use Rattle.std.proofs.Common.{◌≡◌, ℕ, ◌/◌, ◌<◌, Bool, true, false, List, ◌∷◌, refl, sym, subst, ◌∙◌}
 use Rattle.run_plan.specs.Groups.{is_remote}
 use Rattle.exec_journal.specs.declared.call.Call.{Call}
 use Rattle.exec_journal.specs.declared.call.Call.TheVariants as call
 use Rattle.exec_journal.specs.Entry.{Entry}
 use Rattle.exec_journal.specs.declared.reply.Reply.{Reply}
 use Rattle.exec_journal.specs.Entries.{is_kept, is_look}
-use Rattle.exec_journal.specs.Lawful.{Asked}
-use Rattle.exec_journal.specs.Scripts.{allowed, is_owed_after, is_owed_commit}
-use Rattle.exec_journal.specs.Words.{last_work, stopped, has_halted}
-use Rattle.exec_journal.proofs.Ruled.{by_bool}
+use Rattle.exec_journal.specs.Lawful.{Asked, Ticked}
 use Rattle.lawful_facts.specs.Moments.{LawfulMore}
 use Rattle.core_contract.specs.Disciplines.{Discipline, IsDiscipline, LegalBy, script_of}
 use Rattle.history_laws.proofs.Fitting.{anywhere}
 use Rattle.core_tables.specs.declared.berth_group.BerthGroup.{BerthGroup}
-use Rattle.core_state.specs.declared.choice.Choice.{Choice}
 use Rattle.core_state.specs.declared.state.State.{State}
 use Rattle.core_state.specs.Machine.{carried_reply}
 use Rattle.core_state.specs.Noted.{noted_after}
@@ -24,8 +19,9 @@ use Rattle.core_laws.specs.Stands.{MayCall, SeatFits, Stands}
 use Rattle.core_laws.proofs.Asks.{ask_stands}
 use Rattle.core_laws.proofs.Calls.{call_is_told, call_stands}
 use Rattle.core_laws.proofs.Can.{can_carry, can_make}
-use Rattle.spawn_core.specs.Allowed.{berth_is, lane_within}
-use Rattle.spawn_core.specs.Turns.{CanTurn, turned, turned_reply}
+use Rattle.spawn_core.specs.Allowed.{lane_within, ticks_there}
+use Rattle.spawn_core.specs.Ticking.{tick_stands}
+use Rattle.spawn_core.specs.Turns.{CanTurn, Orders, turned, turned_reply}
 
 pub may_call : (q : Discipline) (j : List Entry) (lane : ℕ) (c : Call)
     → script_of q j lane c ≡ true → MayCall q.plan q.seats j lane c
@@ -34,90 +30,82 @@ may_call q j lane c may = record {
   scripted = anywhere q j lane c may;
 }
 
--- ---- a lane of a berth makes no Tick
+-- any call but an Ask, a Look and a Tick
+abbrev is_plain : Call → Bool
+is_plain call.Ask = false
+is_plain (call.Look y) = false
+is_plain call.Tick = false
+is_plain _ = true
 
-unowed : (q : Discipline) (w : ℕ) (o : Option Entry)
-    → is_owed_after q.plan (q.kinds w) call.Tick o ≡ true → ⊥
-unowed q w None h = cc
-unowed q w (Some e) h = cc
-
-uncommitted : (o : Option Entry) → is_owed_commit call.Tick o ≡ true → ⊥
-uncommitted None h = cc
-uncommitted (Some e) h = cc
-
-no_tick : (q : Discipline) (j : List Entry) (lane : ℕ) → q.ticks lane ≡ false
-    → script_of q j lane call.Tick ≡ true → ⊥
-no_tick q j lane none may =
-    let here = and_parts (nat_lt lane (2 * q.seats)) _
-    (sym (berth_is q j lane call.Tick none) ∙ may) in
-    let runs = and_parts (not (stopped j lane)) _ here.1 in
-    by_bool (has_halted j lane) (λ b. cond b (is_owed_commit call.Tick (last_work j lane))
-    (allowed q.plan (q.kinds (lane / 2)) (lane % 2 == 0) (last_work j lane) call.Tick) ≡ true → ⊥)
-    (λ _ h. uncommitted (last_work j lane) h)
-    (λ _ h. unowed q (lane / 2) (last_work j lane) (and_parts (lane % 2 == 0) _ h).1) runs.1
-
--- what is said of the lane's berth is so, and what is chosen there is what the discipline orders
+-- what is said of the lane's berth is so, and what is ordered of it is what the discipline orders
 pub record IsServed (q : Discipline) (s : State) (j : List Entry) (lane : ℕ) (seat : BerthGroup)
-    (x : Choice) : Type 0 where
+    (x : Orders) : Type 0 where
   pub is : IsDiscipline q
-  pub ticks : q.ticks lane ≡ false
   pub fits : lane / 2 < q.seats → SeatFits q.plan j (lane / 2) seat
   pub remote : lane / 2 < q.seats → is_remote seat.kind ≡ is_remote (q.kinds (lane / 2))
   pub carried : script_of q j lane call.Ask ≡ true
-      → carried_reply s (lane / 2) x ≡ q.rule j lane call.Ask
+      → carried_reply s (lane / 2) x.ask ≡ q.rule j lane call.Ask
+  pub ticked : q.ticks lane ≡ true → x.tick ≡ q.rule j lane call.Tick
 
-module _ (q : Discipline) (s : State) (j : List Entry) (lane : ℕ) (seat : BerthGroup) (x : Choice)
+module _ (q : Discipline) (s : State) (j : List Entry) (lane : ℕ) (seat : BerthGroup) (x : Orders)
     (st : Stands q.plan q.seats s j) (legal : LegalBy q j) (all : LawfulMore q.plan j)
     (v : IsServed q s j lane seat x) where
   fits : (c : Call) → script_of q j lane c ≡ true → SeatFits q.plan j (lane / 2) seat
   fits c may = v.fits (lane_within q j lane c may)
 
-  report_is : (c : Call) → is_report c ≡ true → script_of q j lane c ≡ true
+  report_is : (c : Call) → is_plain c ≡ true → script_of q j lane c ≡ true
       → made_reply s lane seat c ≡ q.rule j lane c
   report_is call.Ask h may = absurd (cc)
   report_is (call.Look y) h may = absurd (cc)
-  report_is call.Tick h may = absurd (no_tick q j lane v.ticks may)
+  report_is call.Tick h may = absurd (cc)
   report_is (call.Launched l how) h may =
       call_is_told q.plan q.seats s j lane seat (call.Launched l how) st all
-      (fits (call.Launched l how) may) h (may_call q j lane (call.Launched l how) may)
+      (fits (call.Launched l how) may) refl (may_call q j lane (call.Launched l how) may)
       ∙ sym (v.is.told j lane (call.Launched l how) legal may)
   report_is (call.Wrote l n how) h may =
       call_is_told q.plan q.seats s j lane seat (call.Wrote l n how) st all
-      (fits (call.Wrote l n how) may) h (may_call q j lane (call.Wrote l n how) may)
+      (fits (call.Wrote l n how) may) refl (may_call q j lane (call.Wrote l n how) may)
       ∙ sym (v.is.told j lane (call.Wrote l n how) legal may)
   report_is (call.Claim a b n f) h may =
       call_is_told q.plan q.seats s j lane seat (call.Claim a b n f) st all
-      (fits (call.Claim a b n f) may) h (may_call q j lane (call.Claim a b n f) may)
+      (fits (call.Claim a b n f) may) refl (may_call q j lane (call.Claim a b n f) may)
       ∙ sym (v.is.told j lane (call.Claim a b n f) legal may)
   report_is (call.Committed a b how) h may =
       call_is_told q.plan q.seats s j lane seat (call.Committed a b how) st all
-      (fits (call.Committed a b how) may) h (may_call q j lane (call.Committed a b how) may)
+      (fits (call.Committed a b how) may) refl (may_call q j lane (call.Committed a b how) may)
       ∙ sym (v.is.told j lane (call.Committed a b how) legal may)
   report_is (call.Killed l) h may =
       call_is_told q.plan q.seats s j lane seat (call.Killed l) st all
-      (fits (call.Killed l) may) h (may_call q j lane (call.Killed l) may)
+      (fits (call.Killed l) may) refl (may_call q j lane (call.Killed l) may)
       ∙ sym (v.is.told j lane (call.Killed l) legal may)
   report_is call.Take h may =
       call_is_told q.plan q.seats s j lane seat call.Take st all
-      (fits call.Take may) h (may_call q j lane call.Take may)
+      (fits call.Take may) refl (may_call q j lane call.Take may)
       ∙ sym (v.is.told j lane call.Take legal may)
   report_is (call.Answer l y) h may =
       call_is_told q.plan q.seats s j lane seat (call.Answer l y) st all
-      (fits (call.Answer l y) may) h (may_call q j lane (call.Answer l y) may)
+      (fits (call.Answer l y) may) refl (may_call q j lane (call.Answer l y) may)
       ∙ sym (v.is.told j lane (call.Answer l y) legal may)
   report_is (call.Ended l how) h may =
       call_is_told q.plan q.seats s j lane seat (call.Ended l how) st all
-      (fits (call.Ended l how) may) h (may_call q j lane (call.Ended l how) may)
+      (fits (call.Ended l how) may) refl (may_call q j lane (call.Ended l how) may)
       ∙ sym (v.is.told j lane (call.Ended l how) legal may)
   report_is call.Halt h may =
       call_is_told q.plan q.seats s j lane seat call.Halt st all
-      (fits call.Halt may) h (may_call q j lane call.Halt may)
+      (fits call.Halt may) refl (may_call q j lane call.Halt may)
       ∙ sym (v.is.told j lane call.Halt legal may)
 
   asked : script_of q j lane call.Ask ≡ true
-      → Asked q.plan j (lane / 2) (carried_reply s (lane / 2) x)
+      → Asked q.plan j (lane / 2) (carried_reply s (lane / 2) x.ask)
   asked may = subst (λ (y : Reply). Asked q.plan j (lane / 2) y) (sym (v.carried may))
       (v.is.told j lane call.Ask legal may)
+
+  tick_is : script_of q j lane call.Tick ≡ true → x.tick ≡ q.rule j lane call.Tick
+  tick_is may = v.ticked (ticks_there q j lane may)
+
+  ticked : script_of q j lane call.Tick ≡ true → Ticked q.plan j x.tick
+  ticked may = subst (λ (y : Reply). Ticked q.plan j y) (sym (tick_is may))
+      (v.is.told j lane call.Tick legal may)
 
   pub turn_is : (c : Call) → is_look c ≡ false → script_of q j lane c ≡ true
       → turned_reply s lane seat x c ≡ q.rule j lane c
@@ -132,7 +120,7 @@ module _ (q : Discipline) (s : State) (j : List Entry) (lane : ℕ) (seat : Bert
   turn_is (call.Answer l y) h may = report_is (call.Answer l y) refl may
   turn_is (call.Ended l how) h may = report_is (call.Ended l how) refl may
   turn_is call.Halt h may = report_is call.Halt refl may
-  turn_is call.Tick h may = report_is call.Tick refl may
+  turn_is call.Tick h may = tick_is may
 
   Keeps : Call → Type 0
   Keeps c = is_kept (turned_reply s lane seat x c) ≡ true → Stands q.plan q.seats
@@ -149,7 +137,7 @@ module _ (q : Discipline) (s : State) (j : List Entry) (lane : ℕ) (seat : Bert
   keeps : (c : Call) → is_look c ≡ false → script_of q j lane c ≡ true → Keeps c
   unfolding Keeps
   keeps call.Ask h may = λ kept. ask_stands q.plan q.seats s j lane st all
-      (may_call q j lane call.Ask may) x (asked may) kept
+      (may_call q j lane call.Ask may) x.ask (asked may) kept
   keeps (call.Look y) h may = absurd (cc)
   keeps (call.Launched l how) h may = report_keeps (call.Launched l how) refl may
   keeps (call.Wrote l n how) h may = report_keeps (call.Wrote l n how) refl may
@@ -160,7 +148,8 @@ module _ (q : Discipline) (s : State) (j : List Entry) (lane : ℕ) (seat : Bert
   keeps (call.Answer l y) h may = report_keeps (call.Answer l y) refl may
   keeps (call.Ended l how) h may = report_keeps (call.Ended l how) refl may
   keeps call.Halt h may = report_keeps call.Halt refl may
-  keeps call.Tick h may = report_keeps call.Tick refl may
+  keeps call.Tick h may = λ kept. tick_stands q.plan q.seats s j lane st
+      (may_call q j lane call.Tick may) x.tick (ticked may) kept
 
   pub turn_stands : (c : Call) → is_look c ≡ false → script_of q j lane c ≡ true
       → is_kept (turned_reply s lane seat x c) ≡ true → Stands q.plan q.seats
@@ -173,7 +162,7 @@ module _ (q : Discipline) (s : State) (j : List Entry) (lane : ℕ) (seat : Bert
   report_can c may = can_make q.plan q.seats s j lane seat c st all (may_call q j lane c may)
 
   pub turn_can : (c : Call) → script_of q j lane c ≡ true → CanTurn s lane seat x c
-  turn_can call.Ask may = can_carry q.plan q.seats s j lane x st all
+  turn_can call.Ask may = can_carry q.plan q.seats s j lane x.ask st all
       (may_call q j lane call.Ask may) (asked may)
   turn_can (call.Look y) may = report_can (call.Look y) may
   turn_can (call.Launched l how) may = report_can (call.Launched l how) may

@@ -1,6 +1,7 @@
 //! The policy of a plan whose groups have berths of their own.
 ghost use Rattle.std.specs.Prelude.{refl};
 ghost use Rattle.exec_journal.specs.Kept.{Kept};
+ghost use Rattle.exec_journal.specs.declared.reply.Reply.TheVariants as reply;
 ghost use Rattle.core_contract.specs.Disciplines.{own_discipline};
 ghost use Rattle.core_tables.specs.Seats.{seat_at};
 ghost use Rattle.earliest_first.specs.Choices.{chosen};
@@ -39,6 +40,8 @@ impl Policy for EarliestFirst {
 
     ghost chosen = { λ _ s w. chosen s w };
 
+    ghost ticked = { λ _ _. reply.Idle };
+
     fn berths(&self, plan: &Plan) -> u32 {
         all_berths(plan.groups.as_slice())
     }
@@ -51,13 +54,20 @@ impl Policy for EarliestFirst {
         choose(state, berth)
     }
 
-    fn note(&mut self, _lane: u32, _call: &Call, _reply: &Reply) {}
+    fn ticks(&self, _plan: &Plan, _lane: u32) -> bool {
+        false
+    }
+
+    // No lane asks it.
+    fn tick(&self, _state: &State) -> Reply {
+        Reply::Idle
+    }
+
+    fn note(&mut self, _state: &State, _lane: u32, _call: &Call, _reply: &Reply) {}
 
     ghost is_discipline = { laws.own_is };
 
     ghost few_berths = { laws.few_berths };
-
-    ghost no_ticks = { λ b lane. refl };
 
     ghost basis_is = { λ b m j own. refl };
 
@@ -68,6 +78,8 @@ impl Policy for EarliestFirst {
     ghost seats_are = { λ b m s j w st own lt. laws.seats_are b s j w st lt };
 
     ghost choices_are = { λ b m s j lane st own may. laws.choices_are b s j lane st may };
+
+    ghost ticks_are = { λ b m s j lane st own ticks. laws.ticks_are b j lane ticks };
 
     ghost kept_is = { laws.kept_is };
 }

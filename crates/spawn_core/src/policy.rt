@@ -1,9 +1,10 @@
 //! What a core orders next is its policy's.
-ghost use Rattle.std.specs.Prelude.{◌≡◌, ◌<◌, ◌/◌, ◌^◌, ℕ, List, Option, true, false};
+ghost use Rattle.std.specs.Prelude.{◌≡◌, ◌<◌, ◌/◌, ◌^◌, ℕ, List, Option, true};
 ghost use Rattle.run_plan.specs.declared.plan.Plan.{Plan};
 ghost use Rattle.run_plan.specs.Sound.{Sound};
 ghost use Rattle.exec_journal.specs.declared.call.Call.TheVariants as call;
 ghost use Rattle.exec_journal.specs.Entry.{Entry};
+ghost use Rattle.exec_journal.specs.declared.reply.Reply.{Reply};
 ghost use Rattle.exec_journal.specs.Legal.{after};
 ghost use Rattle.core_tables.specs.declared.berth_group.BerthGroup.{BerthGroup};
 ghost use Rattle.core_state.specs.declared.choice.Choice.{Choice};
@@ -17,7 +18,7 @@ use core_tables::BerthGroup;
 use exec_journal::{Call, Plan, Reply};
 
 /// A policy of scheduling: what stands at a berth, and what a lane that asks is to do next, by the
-/// tables of a core. What it chooses is what its discipline orders.
+/// tables of a core. What it chooses is what its discipline orders, and so it answers Ticks.
 ///
 /// It may keep tables of its own, and learns of each call in a script with its reply. A law that
 /// says what it does asks that its tables and the core's stand for a journal that is legal.
@@ -49,6 +50,9 @@ pub trait Policy: Sized + Drop {
     // What it chooses on a berth, as a function of the tables.
     ghost chosen: { Self → State → ℕ → Choice };
 
+    // What it answers a Tick, as a function of the tables.
+    ghost ticked: { Self → State → Reply };
+
     /// How many berths it has on this plan.
     fn berths(&self, plan: &Plan) -> u32
         requires { Sound plan.now }
@@ -66,11 +70,22 @@ pub trait Policy: Sized + Drop {
         requires berth { berth < (discipline (basis self.now state.now.plan)).seats }
         ensures { result ≡ chosen self.now state.now berth };
 
-    /// Notes a call in its lane's script with its reply. What it goes by stays.
-    fn note(&mut self, lane: u32, call: &Call, reply: &Reply)
+    /// Whether the lane makes Ticks: then it may make one wherever it may ask.
+    fn ticks(&self, plan: &Plan, lane: u32) -> bool
+        requires { Sound plan.now }
+        ensures { result ≡ (discipline (basis self.now plan.now)).ticks lane };
+
+    /// What a Tick of a lane that makes them is answered: Noted, Idle or Stop.
+    fn tick(&self, state: &State) -> Reply
+        requires { reads self.now state.now }
+        ensures { result ≡ ticked self.now state.now };
+
+    /// Notes a call in its lane's script with its reply, once the core's tables have noted it. What
+    /// the policy goes by stays.
+    fn note(&mut self, state: &State, lane: u32, call: &Call, reply: &Reply)
         ensures basis { (plan : Plan) → basis self.new plan ≡ basis self.old plan }
         ensures stands { (b : Self.Basis) (j : List Entry) → stands b self.old j
-            → LegalBy (discipline b) (after j lane call.now reply.now)
+            → StandsBy (discipline b) state.now (after j lane call.now reply.now)
             → stands b self.new (after j lane call.now reply.now) };
 
     // Each order of the discipline has its reasons, and its other replies are every discipline's.
@@ -79,9 +94,6 @@ pub trait Policy: Sized + Drop {
     // A sound plan has few berths.
     ghost few_berths: { (b : Self.Basis) → Sound (discipline b).plan
         → (discipline b).seats < 2 ^ 31 };
-
-    // No lane makes Ticks: a policy whose lanes do comes later.
-    ghost no_ticks: { (b : Self.Basis) (lane : ℕ) → (discipline b).ticks lane ≡ false };
 
     // A policy that stands for a journal goes by what it stands by.
     ghost basis_is: { (b : Self.Basis) (m : Self) (j : List Entry) → stands b m j
@@ -105,6 +117,11 @@ pub trait Policy: Sized + Drop {
         → script_of (discipline b) j lane call.Ask ≡ true
         → carried_reply s (lane / 2) (chosen m s (lane / 2))
         ≡ (discipline b).rule j lane call.Ask };
+
+    // What it answers a Tick of a lane that makes them is what the discipline does.
+    ghost ticks_are: { (b : Self.Basis) (m : Self) (s : State) (j : List Entry) (lane : ℕ)
+        → StandsBy (discipline b) s j → stands b m j → (discipline b).ticks lane ≡ true
+        → ticked m s ≡ (discipline b).rule j lane call.Tick };
 
     // What is said of its orders holds of each legal journal.
     ghost kept_is: { (b : Self.Basis) (j : List Entry) → Sound (discipline b).plan

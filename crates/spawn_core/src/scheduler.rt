@@ -264,14 +264,15 @@ impl<P: Policy> Rules for Core<P> {
     ghost only_hears = { λ q. laws.only_hears (P.discipline q) (P.is_discipline q) };
 
     ghost news_are = { λ m h lane s. news.news_are (P.discipline (basis_of P.basis m)) m.state h
-        (P.seated m.policy m.state) (P.chosen m.policy m.state) lane s.both.tables s.both.legal
-        (record {
+        (P.seated m.policy m.state) (P.chosen m.policy m.state) (P.ticked m.policy m.state) lane
+        s.both.tables s.both.legal (record {
           is = P.is_discipline (basis_of P.basis m);
-          ticks = P.no_ticks (basis_of P.basis m);
           seats = λ w lt. P.seats_are (basis_of P.basis m) m.policy m.state (journal_of h) w
               (record { tables = s.both.tables; legal = s.both.legal }) s.both.own lt;
           choices = λ k may. P.choices_are (basis_of P.basis m) m.policy m.state (journal_of h) k
               (record { tables = s.both.tables; legal = s.both.legal }) s.both.own may;
+          ticks = λ k yes. P.ticks_are (basis_of P.basis m) m.policy m.state (journal_of h) k
+              (record { tables = s.both.tables; legal = s.both.legal }) s.both.own yes;
         }) };
 
     ghost stands_legal = { λ m h s. own_laws.stands_legal (P.discipline (basis_of P.basis m))

@@ -1,14 +1,14 @@
 // One call of a lane.
 ghost use Rattle.std.specs.Prelude.{◌≡◌, ◌<◌, ◌/◌, List, Some, length, true, false};
 ghost use Rattle.run_plan.specs.declared.plan.Plan.{Plan};
+ghost use Rattle.run_plan.specs.Sound.{Sound};
 ghost use Rattle.exec_journal.specs.Entry.{Entry};
 ghost use Rattle.exec_journal.specs.Entries.{is_look};
 ghost use Rattle.exec_journal.specs.Legal.{after};
-ghost use Rattle.core_tables.specs.Lanes.{allows_by};
 ghost use Rattle.spawn_core.specs.Answers.{Replies, answer_by};
 ghost use Rattle.spawn_core.specs.Looks.{ToldLook};
 ghost use Rattle.spawn_core.specs.Stands.{HasJournal, TablesStand};
-ghost use Rattle.spawn_core.specs.Turns.{CanTurn, turned, turned_reply};
+ghost use Rattle.spawn_core.specs.Turns.{CanTurn, may_make, orders_of, turned, turned_reply};
 
 use crate::policy::Policy;
 use core_state::State;
@@ -34,10 +34,24 @@ pub fn step<P: Policy>(
         (after j lane call.now result) }
 {
     match policy.seat(state, lane / 2) {
-        Some(seat) if state.lanes.allows(&state.plan, seat.kind, lane, call) => {
+        Some(seat) if may_make(policy, state, seat, lane, call) => {
             in_script(policy, state, files, lane, seat, call)
         }
         _ => Reply::Astray,
+    }
+}
+
+// The lane may make the call, where this stands at its berth. One that makes Ticks may make one
+// wherever it may ask.
+fn may_make<P: Policy>(policy: &P, state: &State, seat: BerthGroup, lane: u32, call: &Call) -> bool
+    requires { Sound state.now.plan }
+    ensures { result ≡ may_make state.now seat.kind
+        ((P.discipline (P.basis policy.now state.now.plan)).ticks lane) lane call.now }
+{
+    if matches!(call, Call::Tick) && policy.ticks(&state.plan, lane) {
+        state.lanes.allows(&state.plan, seat.kind, lane, &Call::Ask)
+    } else {
+        state.lanes.allows(&state.plan, seat.kind, lane, call)
     }
 }
 
@@ -52,7 +66,8 @@ fn in_script<P: Policy>(
 ) -> Reply
     requires journal { HasJournal P.discipline P.stands policy.old state.old }
     requires seated { P.seated policy.old state.old (lane / 2) ≡ Some seat }
-    requires allowed { allows_by state.old.plan seat.kind state.old.lanes lane call.now ≡ true }
+    requires allowed { may_make state.old seat.kind
+        ((P.discipline (P.basis policy.old state.old.plan)).ticks lane) lane call.now ≡ true }
     ensures basis { (plan : Plan) → P.basis policy.new plan ≡ P.basis policy.old plan }
     ensures reply { (b : P.Basis) (j : List Entry)
         → TablesStand (P.discipline b) (P.stands b policy.old) state.old files.old j
@@ -68,7 +83,7 @@ fn in_script<P: Policy>(
     let reply = make(policy, state, lane, seat, call);
     files.keep(&state.plan, call, &reply);
     state.note(lane, call, &reply);
-    policy.note(lane, call, &reply);
+    policy.note(state, lane, call, &reply);
     reply
 }
 
@@ -76,18 +91,20 @@ fn in_script<P: Policy>(
 fn make<P: Policy>(policy: &P, state: &mut State, lane: u32, seat: BerthGroup, call: &Call) -> Reply
     requires there { P.reads policy.now state.old }
     requires berth { lane / 2 < (P.discipline (P.basis policy.now state.old.plan)).seats }
-    requires can { CanTurn state.old lane seat (P.chosen policy.now state.old (lane / 2)) call.now }
+    requires can { CanTurn state.old lane seat
+        (orders_of P.chosen P.ticked policy.now state.old lane) call.now }
     requires no_look { is_look call.now ≡ false }
-    ensures reply { result
-        ≡ turned_reply state.old lane seat (P.chosen policy.now state.old (lane / 2)) call.now }
-    ensures state { state.new
-        ≡ turned state.old lane seat (P.chosen policy.now state.old (lane / 2)) call.now }
+    ensures reply { result ≡ turned_reply state.old lane seat
+        (orders_of P.chosen P.ticked policy.now state.old lane) call.now }
+    ensures state { state.new ≡ turned state.old lane seat
+        (orders_of P.chosen P.ticked policy.now state.old lane) call.now }
 {
     match call {
         Call::Ask => {
             let choice = policy.choose(state, lane / 2);
             state.carry_out(lane / 2, choice)
         }
+        Call::Tick => policy.tick(state),
         _ => state.make(lane, seat, call),
     }
 }

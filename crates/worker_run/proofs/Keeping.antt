@@ -1,5 +1,5 @@
 -- All that a run keeps: by another head of its discipline, over the reads before it, and with no lane.
-use Rattle.std.proofs.Common.{arith, ◌≡◌, ◌≤◌, ◌∙◌, ℕ, List, Option, Some, None, IfSome, refl, ap}
+use Rattle.std.proofs.Common.{arith, ◌≤◌, ◌∙◌, List, Option, Some, None, IfSome, refl, ap}
 use Rattle.build_report.specs.Faults.{fault_status}
 use Rattle.build_report.specs.declared.fault.RunFault.{RunFault}
 use Rattle.core_contract.specs.Disciplines.{LegalBy}

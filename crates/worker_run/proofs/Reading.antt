@@ -1,5 +1,5 @@
 -- From what was read to how the run ends.
-use Rattle.std.proofs.Common.{◌≡◌, ◌≤◌, arith, ℕ, Bool, true, false, List, [], ◌∷◌, Option, Some, None, Result, Ok, Err, IfSome, refl, subst, sym, ◌∙◌}
+use Rattle.std.proofs.Common.{◌≡◌, arith, ℕ, Bool, true, false, List, [], ◌∷◌, Option, Some, None, Result, Ok, Err, IfSome, refl, subst, sym}
 use Rattle.action_list.specs.Lists.{list_of}
 use Rattle.list_actions.specs.declared.faults.ListFault.{ListFault}
 use Rattle.list_actions.specs.declared.types.ActionList.{ActionList}
@@ -16,7 +16,6 @@ use Rattle.outside.specs.declared.answers.Read.TheVariants as read
 use Rattle.outside.specs.declared.floor.FloorRead.{FloorRead}
 use Rattle.run_loading.specs.Course.{AfterList, BytesRead}
 use Rattle.run_loading.specs.Reads.{IsFloorFailed, Reads, UnlessBefore}
-use Rattle.run_plan.specs.declared.plan.Plan.{Plan}
 use Rattle.run_tasks.specs.Course.{Course, ListRead, OptionsRead, TaskRead}
 use Rattle.run_tasks.specs.declared.task.Task.{Task}
 use Rattle.tool_words.specs.declared.options.Options.{Options}
@@ -61,11 +60,12 @@ pub task_floor : (t : Task) (f : Option RunFault) (o : Option Task) → IsEndOf 
 task_floor t (Some (fault.FloorFailed at)) o e failed = e.0
 task_floor t _ o e failed = failed
 
-module _ (options : Option Options) (before mid : FloorTold) (made : Task × Plan)
-    (end : EndedTold) (led : Reads before mid (λ reads. Course options reads (Ok made)))
+module _ {X : Type 0} (course : List FloorRead → Result X RunFault → Type 0) (task_of : X → Task)
+    (before mid : FloorTold) (made : X) (end : EndedTold)
+    (led : Reads before mid (λ reads. course reads (Ok made)))
     (log : end.floor.log ≡ mid.log) where
-  leads : (f : Option RunFault) → IsAfterReading f → end.task ≡ Some made.0
-      → Reads before end.floor (HasLed options f end.task)
+  leads : (f : Option RunFault) → IsAfterReading f → end.task ≡ Some (task_of made)
+      → Reads before end.floor (HasLed course task_of f end.task)
   leads f after is = (
     led.0,
     subst (λ (l : Option (List FloorRead)). Adds led.0 before.log l)
@@ -74,12 +74,12 @@ module _ (options : Option Options) (before mid : FloorTold) (made : Task × Pla
     (
       Ok made,
       led.3,
-      (after, subst (λ (o : Option Task). IfSome o (λ t. t ≡ made.0)) (sym is) refl),
+      (after, subst (λ (o : Option Task). IfSome o (λ t. t ≡ task_of made)) (sym is) refl),
     ),
   )
 
-  pub task_course : (f : Option RunFault) → IsEndOf made.0 f end.task
-      → UnlessEarly f (Reads before end.floor (HasLed options f end.task))
+  pub task_course : (f : Option RunFault) → IsEndOf (task_of made) f end.task
+      → UnlessEarly f (Reads before end.floor (HasLed course task_of f end.task))
   task_course (Some (fault.NoMemory stage.Before)) e = tt
   task_course f e = leads f e.0 e.1
 
@@ -145,22 +145,25 @@ options_silent o None (Some n) reads h =
 options_silent o None None reads h = absurd h
 options_silent o (Some path) (Some n) reads h = absurd h
 
-course_silent : (options : Option Options) (reads : List FloorRead)
+pub course_silent : (options : Option Options) (reads : List FloorRead)
     → Course options reads (Err fault.SinkFailed) → ⊥
 course_silent None reads h = absurd (let e = h.1 in cc)
 course_silent (Some o) reads h = options_silent o o.list o.generate reads h
 
 -- ---- the reads ended the run
 
-module _ (options : Option Options) (before mid : FloorTold) where
+-- of reads that don't end in the sink's fault
+module _ {X : Type 0} (course : List FloorRead → Result X RunFault → Type 0) (task_of : X → Task)
+    (silent : (reads : List FloorRead) → course reads (Err fault.SinkFailed) → ⊥)
+    (before mid : FloorTold) where
   abbrev Led : RunFault → Type 0
-  Led f = UnlessBefore (Some f) (Reads before mid (λ reads. Course options reads (Err f)))
+  Led f = UnlessBefore (Some f) (Reads before mid (λ reads. course reads (Err f)))
 
   abbrev To : RunFault → Type 0
-  To f = UnlessEarly (Some f) (Reads before mid (HasLed options (Some f) None))
+  To f = UnlessEarly (Some f) (Reads before mid (HasLed course task_of (Some f) None))
 
-  led : (f : RunFault) → Reads before mid (λ reads. Course options reads (Err f))
-      → Reads before mid (HasLed options (Some f) None)
+  led : (f : RunFault) → Reads before mid (λ reads. course reads (Err f))
+      → Reads before mid (HasLed course task_of (Some f) None)
   led f h = (h.0, h.1, h.2, (Err f, h.3, (refl, refl)))
 
   pub fault_course : (f : RunFault) → Led f → To f
@@ -175,7 +178,7 @@ module _ (options : Option Options) (before mid : FloorTold) where
   pub fault_told : (f : RunFault) → Led f → TellsTask (Some f) None
   fault_told (fault.NoMemory when) h =
       subst (λ (s : Stage). TellsTask (Some (fault.NoMemory s)) None) (sym h) refl
-  fault_told fault.SinkFailed h = absurd (course_silent options h.0 h.3)
+  fault_told fault.SinkFailed h = absurd (silent h.0 h.3)
   fault_told fault.Words h = refl
   fault_told (fault.List x) h = refl
   fault_told (fault.Flags a x) h = refl
@@ -184,7 +187,7 @@ module _ (options : Option Options) (before mid : FloorTold) where
 
   pub fault_puts : (f : RunFault) (sink : SinkTold) → Led f → Puts (Some f) [] sink sink
   fault_puts (fault.NoMemory when) sink h = refl
-  fault_puts fault.SinkFailed sink h = absurd (course_silent options h.0 h.3)
+  fault_puts fault.SinkFailed sink h = absurd (silent h.0 h.3)
   fault_puts fault.Words sink h = refl
   fault_puts (fault.List x) sink h = refl
   fault_puts (fault.Flags a x) sink h = refl
@@ -192,7 +195,7 @@ module _ (options : Option Options) (before mid : FloorTold) where
   fault_puts (fault.FloorFailed at) sink h = refl
 
   not_sink : (f : RunFault) → Led f → Some f ≡ Some fault.SinkFailed → ⊥
-  not_sink fault.SinkFailed h e = course_silent options h.0 h.3
+  not_sink fault.SinkFailed h e = silent h.0 h.3
   not_sink fault.Words h e = absurd (cc)
   not_sink (fault.NoMemory when) h e = absurd (cc)
   not_sink (fault.Absent at) h e = absurd (cc)

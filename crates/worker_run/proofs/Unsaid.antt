@@ -1,5 +1,5 @@
 -- Lines that were started and not reported, berth by berth.
-use Rattle.std.proofs.Common.{◌≡◌, ℕ, zero, suc, ◌+◌, true, List, [], ◌∷◌, length, slice_get, Option, Some, None, refl, ap, subst, arith, All}
+use Rattle.std.proofs.Common.{◌≡◌, ℕ, zero, suc, ◌+◌, List, [], ◌∷◌, length, slice_get, Option, Some, None, refl, ap, subst, arith}
 use Rattle.std.proofs.lemmas.List.Elements.{All-head}
 use Rattle.lane_laws.proofs.Halting.{ends_tell}
 use Rattle.exec_journal.specs.declared.call.Call.{Call}
@@ -8,7 +8,6 @@ use Rattle.proxy_deeds.specs.declared.halt.ProxyHalt.{ProxyHalt}
 use Rattle.run_plan.specs.declared.plan.Speech.{Speech}
 use Rattle.proxy_deeds.specs.declared.settings.Settings.{Settings}
 use Rattle.proxy_deeds.specs.Lines.{Returned, IsBack, started_in}
-use Rattle.lane_runs.specs.Layout.{has_halt}
 use Rattle.lane_runs.specs.Seats.{means_for}
 use Rattle.lane_runs.specs.Runs.{EndTold, Rooms, backs_at}
 use Rattle.proxy_steps.specs.Steps.{Ended}

@@ -1,5 +1,5 @@
 -- How a run ends: what led to it, its fault, its report and its status.
-use Rattle.std.specs.Prelude.{◌≡◌, ℕ, List, [], Bool, true, false, Option, Some, None, Ok, Err, IfSome, reverse}
+use Rattle.std.specs.Prelude.{◌≡◌, ℕ, List, [], Bool, true, false, Option, Some, None, Result, Ok, Err, IfSome, reverse}
 use Rattle.build_report.specs.Faults.{fault_status}
 use Rattle.build_report.specs.Report.{report_of, status_of}
 use Rattle.build_report.specs.declared.fault.RunFault.{RunFault}
@@ -12,7 +12,7 @@ use Rattle.outside.specs.Told.{FloorTold, SinkTold}
 use Rattle.outside.specs.declared.answers.Io.TheVariants as io
 use Rattle.outside.specs.declared.floor.FloorRead.{FloorRead}
 use Rattle.run_loading.specs.Reads.{Reads}
-use Rattle.run_tasks.specs.Course.{Course, Made}
+use Rattle.run_tasks.specs.Course.{Course}
 use Rattle.run_tasks.specs.declared.task.Task.{Task}
 use Rattle.tool_words.specs.declared.options.Options.{Options}
 use Rattle.worker_run.specs.Lanes.{HasMade, IsUnused, MakesUpTo}
@@ -91,22 +91,31 @@ LeavesNew end x = x ≡ nothing_left
 -- ---- what led to it
 
 -- What was read is a task, which was run; or the fault that ended the reading.
-abbrev pub LeadsTo : Made → Option RunFault → Option Task → Type 0
-LeadsTo (Err f) end task = (end ≡ Some f) × (task ≡ None)
-LeadsTo (Ok made) end task = IsAfterReading end × IfSome task (λ t. t ≡ made.0)
+abbrev pub LeadsTo : {X : Type 0} → (X → Task) → Result X RunFault → Option RunFault → Option Task
+    → Type 0
+LeadsTo task_of (Err f) end task = (end ≡ Some f) × (task ≡ None)
+LeadsTo task_of (Ok made) end task = IsAfterReading end × IfSome task (λ t. t ≡ task_of made)
 
-abbrev pub HasLed : Option Options → Option RunFault → Option Task → List FloorRead → Type 0
-HasLed options end task reads = (made : Made) × Course options reads made × LeadsTo made end task
+-- reads that lead so
+abbrev pub HasLed : {X : Type 0} → (List FloorRead → Result X RunFault → Type 0) → (X → Task)
+    → Option RunFault → Option Task → List FloorRead → Type 0
+HasLed {X} course task_of end task reads =
+    (made : Result X RunFault) × course reads made × LeadsTo task_of made end task
 
 -- Nothing is said where memory ran out before the lanes.
 abbrev pub UnlessEarly : Option RunFault → Type 0 → Type 0
 UnlessEarly (Some (fault.NoMemory stage.Before)) P = Unit {0}
 UnlessEarly end P = P
 
--- The floor's reads, in the order of work, led to the task that was run, or to the fault.
+-- The floor's reads, in this order of work, led to the task that was run, or to the fault.
+abbrev pub HasCourseBy : {X : Type 0} → (List FloorRead → Result X RunFault → Type 0) → (X → Task)
+    → FloorTold → EndedTold → Type 0
+HasCourseBy course task_of before end = UnlessEarly end.fault
+    (Reads before end.floor (HasLed course task_of end.fault end.task))
+
+-- so by the words' options
 abbrev pub HasCourse : Option Options → FloorTold → EndedTold → Type 0
-HasCourse options before end = UnlessEarly end.fault
-    (Reads before end.floor (HasLed options end.fault end.task))
+HasCourse options before end = HasCourseBy (Course options) (λ made. made.0) before end
 
 -- ---- the report and the status
 

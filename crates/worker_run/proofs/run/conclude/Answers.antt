@@ -1,6 +1,5 @@
 -- A run that wanted memory puts nothing, and its fault isn't the sink's.
-use Rattle.std.proofs.Common.{◌≡◌, ◌∙◌, Option, Some, ap, sym, arith}
-use Rattle.build_report.specs.declared.fault.RunFault.{RunFault}
+use Rattle.std.proofs.Common.{◌≡◌, ◌∙◌, Some, ap, sym, arith}
 use Rattle.build_report.specs.declared.fault.RunFault.TheVariants as fault
 use Rattle.build_report.specs.declared.fault.Stage.TheVariants as stage
 use Rattle.worker_run.specs.Seen.{EndedTold}

@@ -1,5 +1,5 @@
 -- What the lanes of the task say is what is told.
-use Rattle.std.proofs.Common.{◌≡◌, ap, refl, sym, ◌∙◌}
+use Rattle.std.proofs.Common.{◌≡◌, refl, ◌∙◌}
 use Rattle.lane_runs.specs.Layout.{has_halt}
 use Rattle.worker_run.proofs.Made.{in_time}
 use Rattle.worker_run.proofs.Reading.{task_ended, task_floor, task_nothing, task_told}

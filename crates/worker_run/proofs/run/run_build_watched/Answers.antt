@@ -4,11 +4,12 @@ use Rattle.build_report.specs.declared.fault.RunFault.TheVariants as fault
 use Rattle.build_report.specs.declared.fault.Stage.TheVariants as stage
 use Rattle.core_contract.specs.Disciplines.{own_discipline}
 use Rattle.run_plan.specs.Groups.{berths}
+use Rattle.run_tasks.specs.Course.{Course}
 use Rattle.spawn_core.specs.Histories.{plan_of}
 use Rattle.tool_words.specs.Options.{options_of}
 use Rattle.worker_run.proofs.Fits.{own_fits, own_goes}
 use Rattle.worker_run.proofs.Keeping.{keeps_as, keeps_none, keeps_since, own_follows}
-use Rattle.worker_run.proofs.Reading.{fault_course, fault_puts, fault_sink, fault_told, task_course, task_floor}
+use Rattle.worker_run.proofs.Reading.{course_silent, fault_course, fault_puts, fault_sink, fault_told, task_course, task_floor}
 use Rattle.worker_run.specs.Headline.{own_head}
 use Rattle.worker_run.specs.Seen.{EndedTold}
 use Rattle.worker_run.proofs.run.run_build_watched.Goals as goal
@@ -30,8 +31,8 @@ returns-in-Ok-new-clause-run g c =
     let before = g.F.Floor.told c.args.floor in
     let mid = g.F.Floor.told c.read_task.new.floor in
     record {
-      course = task_course (options_of (map string_bytes c.args.words.now)) before mid c.in-Ok.made end
-          c.in-Ok.ensures.course e.log end.fault e.ended;
+      course = task_course (Course (options_of (map string_bytes c.args.words.now))) (λ made. made.0)
+          before mid c.in-Ok.made end c.in-Ok.ensures.course e.log end.fault e.ended;
       task = keeps_since own_head before mid end c.in-Ok.ensures.files c.in-Ok.ensures.floor.later
           (task_floor t end.fault end.task e.ended)
           (keeps_as own_head own_follows mid end
@@ -63,19 +64,23 @@ returns-in-Err-clause-run g c =
     let before = g.F.Floor.told c.args.floor in
     let mid = g.F.Floor.told c.read_task.new.floor in
     rw (c.with_no_lane-in-Err.ensures) (record {
-      course = fault_course options before mid f c.in-Err.ensures.course;
+      course = fault_course (Course options) (λ made. made.0) (course_silent options) before mid f
+          c.in-Err.ensures.course;
       task = keeps_none own_head f before mid c.in-Err.ensures.files c.in-Err.ensures.floor
-          (fault_told options before mid f c.in-Err.ensures.course);
+          (fault_told (Course options) (λ made. made.0) (course_silent options) before mid f
+          c.in-Err.ensures.course);
     })
 
 pub returns-in-Err-clause-report : goal.returns-in-Err-clause-report
 returns-in-Err-clause-report g c =
-    rw (c.with_no_lane-in-Err.ensures) (fault_puts (options_of (map string_bytes c.args.words.now))
-    (g.F.Floor.told c.args.floor) (g.F.Floor.told c.read_task.new.floor) c.in-Err.fault
-    (g.O.Sink.told c.args.out.now) c.in-Err.ensures.course)
+    let options = options_of (map string_bytes c.args.words.now) in
+    rw (c.with_no_lane-in-Err.ensures) (fault_puts (Course options) (λ made. made.0)
+    (course_silent options) (g.F.Floor.told c.args.floor) (g.F.Floor.told c.read_task.new.floor)
+    c.in-Err.fault (g.O.Sink.told c.args.out.now) c.in-Err.ensures.course)
 
 pub returns-in-Err-clause-sink : goal.returns-in-Err-clause-sink
 returns-in-Err-clause-sink g c =
-    rw (c.with_no_lane-in-Err.ensures) (fault_sink (options_of (map string_bytes c.args.words.now))
-    (g.F.Floor.told c.args.floor) (g.F.Floor.told c.read_task.new.floor) c.in-Err.fault
-    (g.O.Sink.told c.args.out.now).faults c.in-Err.ensures.course)
+    let options = options_of (map string_bytes c.args.words.now) in
+    rw (c.with_no_lane-in-Err.ensures) (fault_sink (Course options) (λ made. made.0)
+    (course_silent options) (g.F.Floor.told c.args.floor) (g.F.Floor.told c.read_task.new.floor)
+    c.in-Err.fault (g.O.Sink.told c.args.out.now).faults c.in-Err.ensures.course)

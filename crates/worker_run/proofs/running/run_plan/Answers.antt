@@ -1,7 +1,6 @@
 -- What the lanes leave is all that the floor has made, and so is what they were to work with.
 use Rattle.std.proofs.Common.{ℕ, List, ap, sym, ◌∙◌, length, map, refl, subst}
 use Rattle.lane_runs.specs.Runs.{laid_told}
-use Rattle.outside.specs.Told.{BerthTold}
 use Rattle.core_bench.specs.Objects.{AreFresh}
 use Rattle.worker_run.specs.Lanes.{AreNewBerths}
 use Rattle.worker_run.proofs.Made.{made_left, made_unused, not_lost, ran_whole, rooms_length, unused}

@@ -1,7 +1,5 @@
 use Rattle.std.proofs.Common.{◌≡◌, ℕ, nat_eq, List, length, set, Some, refl, ap, sym, subst, ◌∙◌}
 use Rattle.std.specs.Prelude.{slice_get}
-use Rattle.std.specs.Vec.{with_items}
-use Rattle.std.proofs.lemmas.List.{with_items_is}
 use Rattle.std.proofs.lemmas.Option.{slice_get_read, same_Some}
 use Rattle.ready_order.specs.declared.ActionState.{ActionState}
 use Rattle.ready_order.specs.Facts.{Facts}
@@ -16,7 +14,7 @@ post-requires c =
     let x = c.index-actions-number.result in
     let here = slice_get_read c.args.actions.now
     (length c.args.actions.now) c.args.number x refl c.requires.known c.index-actions-number.is in
-    rw (c.deref_mut.ensures.value, ap (λ (h : Facts). h.queues) c.self.view_is)
+    rw (ap (λ (h : Facts). h.queues) c.self.view_is)
     (has_room c.args.actions.now c.args.self.now c.args.number x here c.requires.fits
     c.args.self.now.queues c.requires.fits.queues refl x.local.group
     (local_named c.args.actions.now c.args.self.now c.args.number x here c.requires.fits))
@@ -27,22 +25,18 @@ post-requires-2 c =
     let here = slice_get_read c.args.actions.now
     (length c.args.actions.now) c.args.number x refl c.requires.known c.index-actions-number.is in
     let ready = nat_eq c.supplied_from-supplied.result (length c.as_slice-producers.result.now) in
-    let first = c.deref_mut.ensures.value in
-    let was : c.deref_mut.result.now ≡ c.args.self.now.queues = first
-    ∙ ap (λ (h : Facts). h.queues) c.self.view_is in
-    let groups : length c.post.new.queues ≡ length c.args.self.now.queues =
+    let was : c.self.inside.queues ≡ c.args.self.now.queues =
+    ap (λ (h : Facts). h.queues) c.self.view_is in
+    let groups : length c.post.new.self ≡ length c.args.self.now.queues =
     rw (c.post.ensures, was)
     (posted_groups c.args.number x ready c.args.self.now.queues x.local.group) in
-    let sizes : (g : ℕ) (q : List ℕ) → slice_get c.post.new.queues g ≡ Some q → length q ≡ length
+    let sizes : (g : ℕ) (q : List ℕ) → slice_get c.post.new.self g ≡ Some q → length q ≡ length
     (shapes c.args.actions.now) =
     rw (c.post.ensures, was) (posted_sizes c.args.number x ready c.args.self.now.queues
     x.local.group (length (shapes c.args.actions.now)) c.requires.fits.queues) in
-    let len : length c.post.new.queues ≡ c.self.inside.queues.len = groups ∙ sym (ap length was)
-    ∙ c.deref_mut.ensures.len in
-    rw (c.deref_mut-2.ensures.value, with_items_is c.self.inside.queues c.post.new.queues len)
-    (has_room c.args.actions.now c.args.self.now c.args.number x here c.requires.fits
-    c.post.new.queues sizes groups x.remote.group
-    (remote_named c.args.actions.now c.args.self.now c.args.number x here c.requires.fits))
+    has_room c.args.actions.now c.args.self.now c.args.number x here c.requires.fits
+    c.post.new.self sizes groups x.remote.group
+    (remote_named c.args.actions.now c.args.self.now c.args.number x here c.requires.fits)
 
 pub returns : goal.returns
 returns c =
@@ -53,9 +47,8 @@ returns c =
     (length states) a x refl c.requires.known c.index-actions-number.is in
     let f : Facts = record {
       supplied = c.self.inside.supplied.items;
-      waiting =
-          c.self.inside.waiting;
-      queues = c.self.inside.queues.items;
+      waiting = c.self.inside.waiting;
+      queues = c.self.inside.queues;
     } in
     let fits = subst (Fits (shapes states)) (sym c.self.view_is) c.requires.fits in
     let ready = nat_eq c.supplied_from-supplied.result (length c.as_slice-producers.result.now) in
@@ -63,36 +56,16 @@ returns c =
     (supplied_by states) c.as_slice-producers.ensures in
     let is_ready : ready ≡ is_ready states x =
     rw (is_front, c.as_slice-producers.ensures) (all_by_front (has_success states) x.producers) in
-    let first = c.deref_mut.ensures.value in
-    let once = c.post.new.queues in
-    let twice = c.post-2.new.queues in
-    let groups : length once ≡ length f.queues = rw (c.post.ensures, first)
-    (posted_groups a x ready f.queues x.local.group) in
-    let len : length once ≡ c.self.inside.queues.len = groups ∙ sym (ap length first)
-    ∙ c.deref_mut.ensures.len in
-    let second : c.deref_mut-2.result.now ≡ once = c.deref_mut-2.ensures.value
-    ∙ with_items_is c.self.inside.queues once len in
-    let more : length twice ≡ c.self.inside.queues.len =
-    rw (c.post-2.ensures, second) (posted_groups a x ready once x.remote.group ∙ len) in
-    let whole = with_items_is (with_items c.self.inside.queues once) twice more in
-    let is = is_refreshed states f a x c.supplied_from-supplied.result c.mark.result ready
-    c.waits.result c.put.new.self c.deref_mut.result.now once c.deref_mut-2.result.now twice
-    is_front is_ready c.waits.ensures c.mark.ensures c.put.ensures first c.post.ensures second
-    c.post-2.ensures in
     let now : Facts = record {
-      supplied =
-          set f.supplied a c.supplied_from-supplied.result;
-      waiting = c.put.new.self;
-      queues =
-          (with_items (with_items c.self.inside.queues once) twice).items;
-    } in
-    let told : now ≡ refreshed states f a x = ap (λ (qs : List (List ℕ)). (let g : Facts =
-    record {
       supplied = set f.supplied a c.supplied_from-supplied.result;
-      waiting =
-          c.put.new.self;
-      queues = qs;
-    } in g)) whole ∙ is in
+      waiting = c.put.new.self;
+      queues = c.post-2.new.self;
+    } in
+    let told : now ≡ refreshed states f a x =
+    is_refreshed states f a x c.supplied_from-supplied.result c.mark.result ready
+    c.waits.result c.put.new.self f.queues c.post.new.self c.post.new.self c.post-2.new.self
+    is_front is_ready c.waits.ensures c.mark.ensures c.put.ensures refl c.post.ensures refl
+    c.post-2.ensures in
     record {
       fits = subst (Fits (shapes states)) (sym told) (refreshed_fits states f a x here fits);
       right = λ y k.

@@ -1,0 +1,4 @@
+pub mod Latest
+pub mod Choices
+pub mod Queued
+pub mod Laws
