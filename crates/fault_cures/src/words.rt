@@ -7,13 +7,13 @@ use plain_values::NoMemory;
 use std::alloc::Global;
 use tool_words::read_words;
 
-/// The lines behind words that aren't accepted: each that isn't by itself, or that they aren't together. No line where there
-/// are none.
+/// The lines behind words that aren't accepted: each that isn't by itself, or, where each is, what is asked of them
+/// together. No line where there are none.
 ///
 /// # Errors
 ///
 /// `NoMemory` where the words or the lines find no memory.
-pub fn word_lines(alloc: Global, words: &[String]) -> Result<String, NoMemory>
+pub fn word_lines(alloc: Global, words: &[String], together: &str) -> Result<String, NoMemory>
     ensures { IfOk result (λ lines. AreBehind (string_bytes lines)) }
 {
     let mut page = Page::new(alloc);
@@ -27,10 +27,7 @@ pub fn word_lines(alloc: Global, words: &[String]) -> Result<String, NoMemory>
         }
     }
     if !is_told {
-        page.add(
-            alloc,
-            "there is one list or one --generate, and every option but --extra_flag stands once at most",
-        )?;
+        page.add(alloc, together)?;
     }
     Ok(page.text())
 }

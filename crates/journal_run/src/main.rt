@@ -7,7 +7,9 @@
 use outside_mem::MemFloor;
 use outside_real::{RealFloor, RealSink};
 use recorded_runs::run_recorded;
-use run_command::{Left, end, end_unread, tell, tell_cures, tell_reasons, words};
+use run_command::{
+    Left, OPTIONS, Program, TOGETHER, end, end_unread, tell, tell_cures, tell_reasons, words,
+};
 use std::alloc::Global;
 use std::io::{Eprint, Print};
 use std::process::ExitCode;
@@ -16,13 +18,17 @@ use std::thread::Threads;
 use tool_words::generated;
 use worker_run::{Ended, RunFault, Stage};
 
-const PROGRAM: &str = "journal_run";
+const PROGRAM: Program = Program {
+    name: "journal_run",
+    together: TOGETHER,
+    options: OPTIONS,
+};
 
 fn main(rt: HostRuntime) -> ExitCode {
     let alloc = rt.alloc();
     let words = match words(&rt, alloc) {
         Ok(words) => words,
-        Err(error) => return end_unread(&rt, alloc, PROGRAM, &error),
+        Err(error) => return end_unread(&rt, alloc, &PROGRAM, &error),
     };
     if let Some(actions) = generated(&words) {
         return run_generated(rt, alloc, &words, actions);
@@ -37,7 +43,7 @@ fn main(rt: HostRuntime) -> ExitCode {
         laid,
     } = run_recorded(&rt, alloc, &words, floor, &mut out);
     if let Some(fault) = &fault {
-        tell(&rt, alloc, PROGRAM, &words, fault, floor.last_error());
+        tell(&rt, alloc, &PROGRAM, &words, fault, floor.last_error());
         tell_cures(&rt, alloc, &words, &mut floor, fault);
     } else if let Some(task) = &task {
         let left = Left {
@@ -60,12 +66,12 @@ fn run_generated<R: Threads + Wait + Print + Eprint + Copy + Drop + Send + Sync 
     actions: u32,
 ) -> ExitCode {
     let Ok(floor) = MemFloor::generated(rt, alloc, actions) else {
-        return end(&rt, alloc, PROGRAM, &RunFault::NoMemory(Stage::Before));
+        return end(&rt, alloc, &PROGRAM, &RunFault::NoMemory(Stage::Before));
     };
     let mut out = RealSink::new(rt);
     let Ended { status, fault, .. } = run_recorded(&rt, alloc, words, floor, &mut out);
     if let Some(fault) = &fault {
-        tell(&rt, alloc, PROGRAM, words, fault, None);
+        tell(&rt, alloc, &PROGRAM, words, fault, None);
     }
     ExitCode::from(status)
 }

@@ -7,5 +7,6 @@ mod hints;
 mod reasons;
 mod telling;
 
+pub use hints::{OPTIONS, Program, TOGETHER};
 pub use reasons::Left;
 pub use telling::{end, end_unread, tell, tell_cures, tell_reasons, words};

@@ -1,4 +1,5 @@
 // The words of a command, and what standard error has of its run. All of it is printed as far as there is memory for it.
+use crate::hints::Program;
 use crate::reasons::Left;
 use crate::{cures, hints, reasons};
 use outside::Floor;
@@ -26,7 +27,12 @@ pub fn words(rt: &(impl Env + AllocGlobal), alloc: Global) -> io::Result<Vec<Str
 }
 
 /// Tells that the words weren't read: there was no memory for them, or they aren't text, and then they are wrong words.
-pub fn end_unread(rt: &impl Eprint, alloc: Global, program: &str, error: &io::Error) -> ExitCode {
+pub fn end_unread(
+    rt: &impl Eprint,
+    alloc: Global,
+    program: &Program,
+    error: &io::Error,
+) -> ExitCode {
     let fault = match error.kind() {
         ErrorKind::OutOfMemory => RunFault::NoMemory(Stage::Before),
         _ => RunFault::Words,
@@ -35,7 +41,7 @@ pub fn end_unread(rt: &impl Eprint, alloc: Global, program: &str, error: &io::Er
 }
 
 /// Tells the fault of a run that was not begun, and ends with its status.
-pub fn end(rt: &impl Eprint, alloc: Global, program: &str, fault: &RunFault) -> ExitCode {
+pub fn end(rt: &impl Eprint, alloc: Global, program: &Program, fault: &RunFault) -> ExitCode {
     tell(rt, alloc, program, &[], fault, None);
     ExitCode::from(fault.status())
 }
@@ -44,14 +50,14 @@ pub fn end(rt: &impl Eprint, alloc: Global, program: &str, fault: &RunFault) -> 
 pub fn tell(
     rt: &impl Eprint,
     alloc: Global,
-    program: &str,
+    program: &Program,
     words: &[String],
     fault: &RunFault,
     last_error: Option<&io::Error>,
 ) {
     if let Ok(line) = fault_line(alloc, fault) {
         let line = line.as_str();
-        let _ = rt.eprint(program);
+        let _ = rt.eprint(program.name);
         let _ = rt.eprint(line.strip_prefix(NAMED).unwrap_or(line));
         let _ = rt.eprint("\n");
     }

@@ -11,6 +11,8 @@
 //! | `children BEAT .. / BEAT ..` | in the next run the children of the lines do this, from line 0 on: `hear=N`, `leave=PATH`, `leave=PATH,TEXT`, `give=BYTES`, `choose=BYTES,BYTES`, `raise=N`, `await=N`, `die`; one without beats does what it is asked |
 //! | `play WORD WORD ..` | a run with these words: its status, how many berths it had, whether all children were killed, how many lines it had and how many of them were started, its report, and the line of its fault |
 //! | `race WORD WORD ..` | the same without the run's lines, and of its report how many lines it has and the last one, where more isn't determined |
+//! | `latest WORD WORD ..` | the same as `play`, by a policy that takes the latest queued action of a group first |
+//! | `shared WORD WORD ..`, `crowd WORD WORD ..` | the same as `play` and `race`, where worker keys share berths |
 //! | `meet WORD WORD ..` | its status and its report, where each of two actions writes only once the other does too |
 //! | `reads`, `writes` | what the floor and the places tell of the last run |
 //! | `room`, `given` | what its first berth and its first line tell |
@@ -21,6 +23,7 @@
 #![tactic(auto)]
 
 mod case;
+mod latest;
 mod meeting;
 mod played;
 mod real;
@@ -31,6 +34,7 @@ use outside_mem::{MemFloor, MemSink};
 use outside_real::{RealFloor, RealSink};
 use plain_values::NoMemory;
 use played::Shown;
+use shared_runs::run_shared;
 use std::alloc::Global;
 use std::io::{ErrorKind, Print, Read};
 use std::sync::Wait;
@@ -92,11 +96,45 @@ fn play<R: Threads + Wait + Copy + Drop + Send + Sync>(
 ) -> Result<String, NoMemory> {
     let (kind, rest) = line.split_once(' ').unwrap_or((line, ""));
     match kind {
-        "play" => run(rt, alloc, rest, case, last, Shown::All),
-        "race" => run(rt, alloc, rest, case, last, Shown::Totals),
+        "play" => run(rt, alloc, rest, case, last, How::all_by(By::Own)),
+        "race" => run(rt, alloc, rest, case, last, How::totals_by(By::Own)),
+        "latest" => run(rt, alloc, rest, case, last, How::all_by(By::Latest)),
+        "shared" => run(rt, alloc, rest, case, last, How::all_by(By::Shared)),
+        "crowd" => run(rt, alloc, rest, case, last, How::totals_by(By::Shared)),
         "meet" => meet(rt, alloc, rest, case),
         "reads" | "writes" | "room" | "given" => tell_last(alloc, last, kind),
         _ => case.note(alloc, line),
+    }
+}
+
+// By which core a run is made.
+#[derive(Clone, Copy)]
+enum By {
+    Own,
+    Latest,
+    Shared,
+}
+
+// By which core a run is made, and how much of it is printed.
+#[derive(Clone, Copy)]
+struct How {
+    by: By,
+    shown: Shown,
+}
+
+impl How {
+    fn all_by(by: By) -> How {
+        How {
+            by,
+            shown: Shown::All,
+        }
+    }
+
+    fn totals_by(by: By) -> How {
+        How {
+            by,
+            shown: Shown::Totals,
+        }
     }
 }
 
@@ -106,14 +144,20 @@ fn run<R: Threads + Wait + Copy + Drop + Send + Sync>(
     line: &str,
     case: &mut Case,
     last: &mut Option<Ended<MemFloor<R>>>,
-    shown: Shown,
+    how: How,
 ) -> Result<String, NoMemory> {
     let (script, mut out, words) = played::stage(alloc, case, line)?;
     let floor = MemFloor::new(*rt, alloc, script)?;
-    let ended = run_build(rt, alloc, words.as_slice(), floor, &mut out);
-    let told = played::tell(alloc, &ended, shown, report_in(&out));
-    *last = Some(ended);
-    told
+    let words = words.as_slice();
+    *last = match how.by {
+        By::Own => Some(run_build(rt, alloc, words, floor, &mut out)),
+        By::Latest => latest::run(rt, alloc, words, floor, &mut out)?,
+        By::Shared => Some(run_shared(rt, alloc, words, floor, &mut out)),
+    };
+    match last {
+        Some(ended) => played::tell(alloc, ended, how.shown, report_in(&out)),
+        None => Ok(String::from_str(alloc, "no run\n")?),
+    }
 }
 
 fn meet<R: Threads + Wait + Copy + Drop + Send + Sync>(

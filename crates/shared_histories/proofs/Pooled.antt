@@ -19,7 +19,7 @@ use Rattle.history_laws.proofs.Seating.{IsOnLine, order_fits}
 use Rattle.shared_rules.specs.declared.pools.SharedPlan.{SharedPlan}
 use Rattle.shared_rules.specs.declared.pools.SharedPool.{SharedPool}
 use Rattle.shared_rules.specs.Pools as po
-use Rattle.shared_rules.specs.Pools.{SoundPools}
+use Rattle.shared_rules.specs.Pools.{pools_fit}
 use Rattle.shared_rules.specs.Shared.{shared_discipline, shared_rule}
 use Rattle.shared_rules.specs.Kept.{is_for_starved, shared_kept}
 use Rattle.shared_rules.proofs.Keeping as ke
@@ -116,11 +116,12 @@ alike s pool g apart has =
     (λ _ none. false_by _ (λ on. clash (po.has_executor s pool)
     (any_at (po.is_of_executor s) g pool.groups has on) none)) refl
 
-runs_on : (s : SharedPlan) (w : ℕ) (t : Attempt) → SoundPools s
+runs_on : (s : SharedPlan) (w : ℕ) (t : Attempt) → pools_fit s ≡ true
     → IsPooled s w (group_for s.plan t) → RunsOn s.plan (is_remote (po.berth_kind s w)) t
-runs_on s w t sound h =
-    let named = pool_passes _ s.pools w h.pool sound.named h.at in
-    let apart = pool_passes (po.is_apart s) s.pools w h.pool sound.apart h.at in
+runs_on s w t fit h =
+    let both = and_parts _ (list_all (po.is_apart s) s.pools) fit in
+    let named = pool_passes _ s.pools w h.pool both.0 h.at in
+    let apart = pool_passes (po.is_apart s) s.pools w h.pool both.1 h.at in
     let berth : po.is_remote_berth s w ≡ po.has_executor s h.pool =
     ap (λ (o : Option SharedPool). unwrap_or (option_map (po.has_executor s) o) false) h.at in
     record {
@@ -132,17 +133,23 @@ runs_on s w t sound h =
           ∙ (sym berth ∙ sym (remote_berth (po.is_remote_berth s w)));
     }
 
--- ---- so each order fits
+-- ---- so each line and each order fits
 
-pub orders_fit : (s : SharedPlan) (j : List Entry) (lane : ℕ) → SoundPools s
+pub launched_runs : (s : SharedPlan) (j : List Entry) (l m : ℕ) (t : Attempt)
+    → pools_fit s ≡ true → LegalBy (shared_discipline s) j → launch_of j l ≡ Some (m, t)
+    → RunsOn s.plan (is_remote (po.berth_kind s (m / 2))) t
+launched_runs s j l m t fit legal at =
+    runs_on s (m / 2) t fit (launched_pooled s j l m t (ke.kept_at s j legal) at)
+
+pub orders_fit : (s : SharedPlan) (j : List Entry) (lane : ℕ) → pools_fit s ≡ true
     → LegalBy (shared_discipline s) j
     → OrderFits s.plan (is_remote (po.berth_kind s (lane / 2))) (shared_rule s j lane call.Ask)
-orders_fit s j lane sound legal =
+orders_fit s j lane fit legal =
     let w = lane / 2 in
     order_fits s.plan j w (is_remote (po.berth_kind s w)) (lf.lawful s j legal)
-    (λ t on. runs_on s w t sound (on_line t on)) (shared_rule s j lane call.Ask)
+    (λ t on. runs_on s w t fit (on_line t on)) (shared_rule s j lane call.Ask)
     (lf.ask_told s j w)
-    (λ y is. runs_on s w y.1 sound (for_starved s j w (group_for s.plan y.1)
+    (λ y is. runs_on s w y.1 fit (for_starved s j w (group_for s.plan y.1)
     (ke.asked_launch s j w y is)))
   where
     on_line : (t : Attempt) → IsOnLine s.plan j (lane / 2) t

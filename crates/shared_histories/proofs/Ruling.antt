@@ -8,7 +8,7 @@ use Rattle.core_contract.specs.Disciplines.{IsDiscipline, is_plain}
 use Rattle.core_contract.specs.Laws.{fits}
 use Rattle.history_laws.proofs.Fitting.{plain_fits, told_fits}
 use Rattle.shared_rules.specs.declared.pools.SharedPlan.{SharedPlan}
-use Rattle.shared_rules.specs.Pools.{SoundPools}
+use Rattle.shared_rules.specs.Pools.{pools_fit}
 use Rattle.shared_rules.specs.Shared.{shared_discipline, shared_rule}
 use Rattle.shared_rules.proofs.Lawful as lf
 use Rattle.shared_histories.proofs.Pooled.{orders_fit}
@@ -24,10 +24,11 @@ rule_plain : (s : SharedPlan) (j : List Entry) (lane : ℕ) (c : Call) → is_pl
 rule_plain s j lane call.Ask h = absurd (cc)
 rule_plain s j lane _ h = refl
 
-pub shared_is_discipline : (s : SharedPlan) → SoundPools s → IsDiscipline (shared_discipline s)
-shared_is_discipline s pools = record {
+pub shared_is_discipline : (s : SharedPlan) → pools_fit s ≡ true
+    → IsDiscipline (shared_discipline s)
+shared_is_discipline s fit = record {
   told = λ j lane d legal may. lf.told s j lane d may;
   plain = λ j lane d h. rule_plain s j lane d h;
   fitting = λ j lane d. rule_fits s j lane d;
-  seated = λ j lane sound legal may. orders_fit s j lane pools legal;
+  seated = λ j lane sound legal may. orders_fit s j lane fit legal;
 }

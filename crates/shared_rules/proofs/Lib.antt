@@ -2,4 +2,4 @@ pub mod Reasons
 pub mod Lawful
 pub mod Keeping
 pub mod Evicting
-mod Rows
+pub mod Rows

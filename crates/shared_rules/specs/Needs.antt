@@ -11,11 +11,12 @@ use Rattle.exec_journal.specs.declared.reply.Reply.{Reply}
 use Rattle.exec_journal.specs.declared.reply.Reply.TheVariants as reply
 use Rattle.exec_journal.specs.History.{ever, each}
 use Rattle.exec_journal.specs.Entries.{attempt_of, launch_in, speaks}
-use Rattle.exec_journal.specs.Words.{last_line, failed, has_ended, was_killed, live, pending, granted}
+use Rattle.exec_journal.specs.Words.{last_line, failed, has_ended, was_killed, live, pending}
 use Rattle.exec_journal.specs.Settled.{bound, earliest, has_room}
 use Rattle.exec_journal.specs.Seated.{group_on, line_group, line_kind}
 use Rattle.exec_journal.specs.Rules.{gathered, is_vacant}
 use Rattle.journal_laws.specs.Invariant.{claimed}
+use Rattle.call_laws.specs.Matches.{is_spent}
 use Rattle.shared_rules.specs.declared.pools.SharedPlan.{SharedPlan}
 use Rattle.shared_rules.specs.declared.pools.SharedPool.{SharedPool}
 use Rattle.shared_rules.specs.Pools.{seats, same_pool, is_of_executor}
@@ -39,10 +40,10 @@ matches_line l (call.Answer k x) (reply.Matched a b t) =
     if k == l then Some (attempt_of a b t) else None
 matches_line l _ _ = None
 
--- a match that waits for its Claim: a Gather of it was ordered and it has no Claim yet; or it has
--- neither, and its action has no grant
+-- a match that waits for its Claim, which it hasn't: a Gather of it was ordered; or one may be yet,
+-- since its action has no grant and its request's Wrote says no fault
 abbrev pub waits_for_claim : List Entry → Option Attempt → Bool
-waits_for_claim j (Some t) = not (claimed j t) && (gathered j t || not (granted j t.action))
+waits_for_claim j (Some t) = not (claimed j t) && (gathered j t || not (is_spent j t))
 waits_for_claim j None = false
 
 unfoldable pub has_match_waiting : List Entry → ℕ → Bool

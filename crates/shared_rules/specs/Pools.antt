@@ -1,5 +1,5 @@
 -- The pools of a plan, whose berths the pool's groups share.
-use Rattle.std.specs.Prelude.{◌≡◌, ℕ, suc, ◌-◌, ◌<◌, ◌≤◌, ◌==◌, nat_lt, Bool, true, false, ◌||◌, not, Option, Some, None, unwrap_or, option_map, if◌then◌else◌, List, [], ◌∷◌, length, filter, sum_by}
+use Rattle.std.specs.Prelude.{◌≡◌, ℕ, suc, ◌-◌, ◌<◌, ◌≤◌, ◌==◌, nat_le, nat_lt, Bool, true, false, ◌&&◌, ◌||◌, not, Option, Some, None, unwrap_or, option_map, if◌then◌else◌, List, [], ◌∷◌, length, filter, sum_by}
 use Rattle.std.specs.List.{list_all, list_any}
 use Rattle.run_plan.specs.declared.plan.Kind.{Kind}
 use Rattle.run_plan.specs.declared.plan.Kind.TheVariants as kind
@@ -61,3 +61,28 @@ pub record SoundPools (s : SharedPlan) : Type 0 where
   pub once : (g : ℕ) → g < length s.plan.groups
       → length (filter (λ pool. has_group pool g) s.pools) ≡ 1
   pub apart : list_all (is_apart s) s.pools ≡ true
+
+-- what makes a discipline of the rule: they name groups of the plan, and executors stand apart
+abbrev pub pools_fit : SharedPlan → Bool
+pools_fit s =
+    list_all (λ pool. list_all (λ g. nat_lt g (length s.plan.groups)) pool.groups) s.pools
+    && list_all (is_apart s) s.pools
+
+-- the same berths, of no group
+abbrev pub without_groups : List SharedPool → List SharedPool
+without_groups [] = []
+without_groups (x ∷ xs) = record { groups = []; berths = x.berths } ∷ without_groups xs
+
+abbrev pub usable_pools : SharedPlan → List SharedPool
+usable_pools s = if nat_le (seats s) most_berths then (if pools_fit s then s.pools
+    else without_groups s.pools) else []
+
+-- the same plan, its pools without groups where they don't fit, and none where they have too many
+-- berths
+abbrev pub usable : SharedPlan → SharedPlan
+usable s = record { plan = s.plan; pools = usable_pools s; instances = s.instances }
+
+-- so many berths it has then, whatever the plan
+abbrev pub usable_seats : List SharedPool → ℕ
+usable_seats pools = if nat_le (sum_by (λ x. x.berths) pools) most_berths
+    then sum_by (λ x. x.berths) pools else 0

@@ -9,7 +9,7 @@ use Rattle.tool_words.specs.declared.word.Kind.TheVariants as kind
 use Rattle.tool_words.specs.Words.{behind, within, number_of, is_short_number, value_of, number_in, text_in}
 use Rattle.tool_words.specs.Options.{is_accepted, is_known, single_kinds, given, first_of, count, number_given, AreInLimits}
 
-abbrev IsWithin : ℕ → ℕ → ℕ → Type 0
+abbrev pub IsWithin : ℕ → ℕ → ℕ → Type 0
 IsWithin least most n = (least ≤ n) × (n ≤ most)
 
 in_within : (least most n : ℕ) → IfSome (within least most n) (IsWithin least most)
@@ -26,7 +26,8 @@ in_number least most digits = by (is_short_number digits)
     by true = in_within least most (value_of digits)
     by false = tt
 
-in_option : (least most : ℕ) (o : Option (List ℕ)) → IfSome (option_and_then (number_of least most) o) (IsWithin least most)
+-- of what stands behind an option's front
+pub in_option : (least most : ℕ) (o : Option (List ℕ)) → IfSome (option_and_then (number_of least most) o) (IsWithin least most)
 in_option least most None = tt
 in_option least most (Some digits) = in_number least most digits
 

@@ -5,3 +5,4 @@ mod options;
 mod word;
 
 pub use options::{Options, generated, read_words};
+pub use word::number_behind;

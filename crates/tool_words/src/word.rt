@@ -91,7 +91,9 @@ fn after_front<'a>(front: &str, word: &'a str) -> Option<&'a str>
     word.strip_prefix(front)
 }
 
-fn number_behind(front: &str, least: u32, most: u32, word: &str) -> Option<u32>
+/// The number that an option's word gives behind this front, as `--instances=`: one to four decimal
+/// digits, within these limits.
+pub fn number_behind(front: &str, least: u32, most: u32, word: &str) -> Option<u32>
     ensures { result ≡ number_behind front.now least most word.now }
 {
     number_of(least, most, behind(front, word)?.as_bytes())

@@ -12,7 +12,9 @@ use outside::{Berth, Floor, Sink};
 use outside_mem::MemFloor;
 use outside_real::{RealFloor, RealSink};
 use plain_values::NoMemory;
-use run_command::{Left, end, end_unread, tell, tell_cures, tell_reasons, words};
+use run_command::{
+    Left, OPTIONS, Program, TOGETHER, end, end_unread, tell, tell_cures, tell_reasons, words,
+};
 use std::alloc::Global;
 use std::env::{self, Env};
 use std::io::{Eprint, IsTerminal, Print};
@@ -23,14 +25,18 @@ use std::time::Clock;
 use tool_words::generated;
 use worker_run::{Ended, RunFault, Stage, run_build, run_build_watched};
 
-const PROGRAM: &str = "worker_tool";
+const PROGRAM: Program = Program {
+    name: "worker_tool",
+    together: TOGETHER,
+    options: OPTIONS,
+};
 
 fn main(rt: HostRuntime) -> ExitCode {
     let alloc = rt.alloc();
     let on_terminal = rt.stderr().is_terminal() && !is_dumb(&rt);
     let words = match words(&rt, alloc) {
         Ok(words) => words,
-        Err(error) => return end_unread(&rt, alloc, PROGRAM, &error),
+        Err(error) => return end_unread(&rt, alloc, &PROGRAM, &error),
     };
     if let Some(actions) = generated(&words) {
         return run_generated(rt, alloc, &words, actions, on_terminal);
@@ -49,7 +55,7 @@ fn main(rt: HostRuntime) -> ExitCode {
         laid,
     } = run(rt, alloc, &words, floor, screen);
     if let Some(fault) = &fault {
-        tell(&rt, alloc, PROGRAM, &words, fault, floor.last_error());
+        tell(&rt, alloc, &PROGRAM, &words, fault, floor.last_error());
         tell_cures(&rt, alloc, &words, &mut floor, fault);
     } else if let Some(task) = &task {
         let left = Left {
@@ -73,7 +79,7 @@ fn run_generated<R: Threads + Wait + Clock + Print + Eprint + Copy + Drop + Send
     on_terminal: bool,
 ) -> ExitCode {
     let Ok(floor) = MemFloor::generated(rt, alloc, actions) else {
-        return end(&rt, alloc, PROGRAM, &RunFault::NoMemory(Stage::Before));
+        return end(&rt, alloc, &PROGRAM, &RunFault::NoMemory(Stage::Before));
     };
     let screen = if on_terminal {
         screen_of(rt, alloc, Ok(Vec::new(alloc)))
@@ -82,7 +88,7 @@ fn run_generated<R: Threads + Wait + Clock + Print + Eprint + Copy + Drop + Send
     };
     let Ended { status, fault, .. } = run(rt, alloc, words, floor, screen);
     if let Some(fault) = &fault {
-        tell(&rt, alloc, PROGRAM, words, fault, None);
+        tell(&rt, alloc, &PROGRAM, words, fault, None);
     }
     ExitCode::from(status)
 }

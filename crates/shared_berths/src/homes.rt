@@ -1,0 +1,108 @@
+// The pools of a plan, and which of them each group stands in.
+ghost use Rattle.std.specs.Prelude.{◌≡◌, IfOk, Some, slice_get};
+ghost use Rattle.list_lemmas.specs.Places.{update};
+ghost use Rattle.shared_rules.specs.Pools.{has_group, usable_seats};
+ghost use Rattle.shared_berths.specs.Homes.{AreHomes, StandOnce, is_home, with_homes};
+
+use crate::pools::berths_of;
+use plain_values::{Items, NoMemory};
+use shared_rules::SharedPool;
+use std::alloc::Global;
+use std::marker::Model;
+
+/// Pools in one of which each group stands. A contract sees the list of the pools.
+#[derive(Drop)]
+pub struct Pools {
+    pools: Items<SharedPool>,
+    // The place of each group's pool, by the groups' numbers.
+    homes: Vec<usize>,
+}
+
+impl Model for Pools {
+    ghost use Rattle.std.specs.Prelude.{List};
+    ghost use Rattle.shared_rules.specs.declared.pools.SharedPool.{SharedPool};
+    ghost use Rattle.shared_berths.specs.Homes.{AreHomes};
+
+    ghost Value = { List SharedPool };
+
+    ghost view = { λ p. p.pools };
+
+    ghost invariant = { λ p. AreHomes p.pools p.homes.items };
+}
+
+impl Pools {
+    /// The pools of so many groups.
+    ///
+    /// # Errors
+    ///
+    /// `NoMemory` where there is no room for a note of each group's pool. No other call takes any.
+    pub fn of(alloc: Global, groups: usize, pools: Items<SharedPool>) -> Result<Pools, NoMemory>
+        requires { StandOnce groups pools }
+        ensures { IfOk result (λ p. p ≡ pools) }
+    {
+        let homes = homes_of(alloc, groups, pools.as_slice())?;
+        Ok(Pools { pools, homes })
+    }
+
+    /// The pools themselves.
+    pub fn as_slice(&self) -> &[SharedPool]
+        ensures { result.now ≡ self.now }
+    {
+        self.pools.as_slice()
+    }
+
+    /// How many berths they have, where a run may have as many; else none.
+    pub fn berths(&self) -> u32
+        ensures { result ≡ usable_seats self.now }
+    {
+        berths_of(self.pools.as_slice())
+    }
+
+    /// The group stands in the pool at this place.
+    pub fn is_home(&self, place: usize, group: u32) -> bool
+        ensures { (pool : _) → slice_get self.now place ≡ Some pool
+            → result ≡ has_group pool group }
+    {
+        is_noted(self.homes.as_slice(), group, place)
+    }
+}
+
+// It is noted that the group stands in the pool at this place.
+fn is_noted(homes: &[usize], group: u32, place: usize) -> bool
+    ensures { result ≡ is_home homes.now group place }
+{
+    match homes.get(group as usize) {
+        Some(home) => *home == place,
+        None => false,
+    }
+}
+
+// The place of each group's pool, where there are so many groups.
+fn homes_of(alloc: Global, groups: usize, pools: &[SharedPool]) -> Result<Vec<usize>, NoMemory>
+    requires { StandOnce groups pools.now }
+    ensures { IfOk result (λ v. AreHomes pools.now v.items) }
+{
+    let mut homes = vec![in alloc; 0; groups]?;
+    for (place, pool) in pools.iter().enumerate() {
+        put_homes(homes.as_mut_slice(), pool.groups.as_slice(), place);
+    }
+    Ok(homes)
+}
+
+// These groups stand in the pool at this place.
+fn put_homes(homes: &mut [usize], groups: &[u32], place: usize)
+    ensures { homes.new ≡ with_homes place groups.now homes.old }
+{
+    for group in groups {
+        put_home(homes, *group, place);
+    }
+}
+
+fn put_home(homes: &mut [usize], group: u32, place: usize)
+    ensures { homes.new ≡ update (λ _. place) homes.old group }
+{
+    let number = group as usize;
+    if number < homes.len() {
+        homes[number] = place;
+    }
+}

@@ -1,0 +1,54 @@
+// In which order berths have said something: those that were silent for longer stand first.
+ghost use Rattle.std.specs.Prelude.{◌≡◌, ◌==◌, ◌≤◌, true, IfOk};
+ghost use Rattle.std.specs.List.{list_any};
+ghost use Rattle.shared_tables.specs.Spoken.{berths_from, is_before, is_word, moved};
+
+use arrayvec::ArrayVec;
+use exec_journal::Call;
+
+/// So many berths, of which none has said anything.
+pub fn silent_berths(berths: u32) -> ArrayVec<u32, 64>
+    requires { berths ≤ 64 }
+    ensures { result.items ≡ berths_from 0 berths }
+{
+    let mut spoken = ArrayVec::new();
+    for berth in 0..berths {
+        spoken.push(berth);
+    }
+    spoken
+}
+
+/// The berth has said something just now.
+pub fn move_to_end(spoken: &mut ArrayVec<u32, 64>, berth: u32)
+    ensures { list_any (λ v. v == berth) spoken.old.items ≡ true
+        → spoken.new.items ≡ moved berth spoken.old.items }
+{
+    let before = spoken.len();
+    spoken.retain(|other| *other != berth);
+    // There is room where it stood there.
+    if spoken.len() < before {
+        spoken.push(berth);
+    }
+}
+
+/// A call by which the line of a berth says something.
+pub fn is_word(call: &Call) -> bool
+    ensures { result ≡ is_word call.now }
+{
+    matches!(call, Call::Launched { .. } | Call::Answer { .. })
+}
+
+/// The first berth stands there, and the second one not before it.
+pub fn is_before(first: u32, second: u32, spoken: &[u32]) -> bool
+    ensures { result ≡ is_before first second spoken.now }
+{
+    for berth in spoken {
+        if *berth == first {
+            return true;
+        }
+        if *berth == second {
+            return false;
+        }
+    }
+    false
+}

@@ -1,0 +1,4 @@
+-- What the run of shared berths is proved by.
+pub mod Sharing
+pub mod Silent
+pub mod Led

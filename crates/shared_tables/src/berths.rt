@@ -1,0 +1,38 @@
+//! What the tables say of a berth's last line.
+ghost use Rattle.std.specs.Prelude.{◌≡◌, ◌<◌, ℕ, not, false, List, Some};
+ghost use Rattle.exec_journal.specs.Entry.{Entry};
+ghost use Rattle.exec_journal.specs.Rules.{is_vacant};
+ghost use Rattle.exec_journal.specs.Words.{halted, last_line};
+ghost use Rattle.core_contract.specs.Disciplines.{LegalBy};
+ghost use Rattle.core_state.specs.declared.state.State.{State};
+ghost use Rattle.core_laws.specs.Stands.{Stands};
+ghost use Rattle.shared_rules.specs.declared.pools.SharedPlan.{SharedPlan};
+ghost use Rattle.shared_rules.specs.declared.pools.SharedPool.{SharedPool};
+ghost use Rattle.shared_rules.specs.Needs as needs;
+ghost use Rattle.shared_rules.specs.Pools.{seats};
+ghost use Rattle.shared_rules.specs.Shared.{shared_discipline};
+ghost use Rattle.shared_tables.specs.Berths.{holds, may_evict, rests};
+ghost use Rattle.shared_tables.specs.Spoken.{IsSpoken};
+
+/// What the tables say of a berth's last line is so, as long as no lane has halted: whether it may
+/// still have a process, and whether it is idle.
+pub fn lines_are_told()
+    ensures holds { (q : SharedPlan) (s : State) (j : List Entry) (w l : ℕ)
+        → Stands q.plan (seats q) s j → LegalBy (shared_discipline q) j → halted j ≡ false
+        → last_line j w ≡ Some l → holds s w ≡ needs.is_held j l }
+    ensures vacant { (q : SharedPlan) (s : State) (j : List Entry) (w : ℕ)
+        → Stands q.plan (seats q) s j → LegalBy (shared_discipline q) j → halted j ≡ false
+        → not (holds s w) ≡ is_vacant j (last_line j w) }
+    ensures rests { (q : SharedPlan) (s : State) (j : List Entry) (w l : ℕ)
+        → Stands q.plan (seats q) s j → LegalBy (shared_discipline q) j → halted j ≡ false
+        → last_line j w ≡ Some l → rests s w ≡ needs.is_idle q.plan j l }
+{}
+
+/// So is which line is given up, where the order in which berths have said something is the
+/// journal's.
+pub fn evictions_are_told()
+    ensures { (q : SharedPlan) (s : State) (j : List Entry) (ws : List ℕ) (w l : ℕ)
+        (pool : SharedPool) → Stands q.plan (seats q) s j → LegalBy (shared_discipline q) j
+        → halted j ≡ false → IsSpoken (seats q) j ws → last_line j w ≡ Some l
+        → may_evict q s ws w pool ≡ needs.may_evict q j w pool l }
+{}

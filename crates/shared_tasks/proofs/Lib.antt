@@ -1,0 +1,4 @@
+-- What the tasks of shared berths are proved by.
+pub mod Pooled
+pub mod Bare
+pub mod Told

@@ -1,0 +1,4 @@
+pub mod Words
+pub mod Pools
+pub mod Tasks
+pub mod Course
