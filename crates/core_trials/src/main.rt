@@ -1,8 +1,10 @@
-//! Plays whole runs on the scheduling core, one thread for all lanes, and prints how many steps each takes. With the word
-//! `times` it measures instead, in steps a second over whole runs.
+//! Plays whole runs on the scheduling core, one thread for all lanes, and prints how many steps each takes, and what
+//! lanes are told by a core with a local delay. With the word `times` it measures instead, in steps a second over whole
+//! runs.
 #![tactic(auto)]
 
 mod berth;
+mod delayed;
 mod lists;
 mod record;
 mod times;
@@ -17,7 +19,8 @@ fn main(rt: HostRuntime) -> io::Result<()> {
     if env::args(&rt)?.nth(1).is_some() {
         times::tell_times(&rt, alloc)
     } else {
-        times::tell_runs(&rt, alloc)
+        times::tell_runs(&rt, alloc)?;
+        delayed::tell_delay(&rt, alloc)
     }
 }
 

@@ -1,0 +1,43 @@
+-- A new table stands for the empty journal.
+use Rattle.std.proofs.Common.{◌≡◌, ℕ, nat_lt, cond, List, [], length, Option, Some, None, option_map, inl, inr, refl, ap, sym, ◌≤◌, ◌∙◌, arith, lt-ltb}
+use Rattle.std.specs.Prelude.{replicate, slice_get}
+use Rattle.std.proofs.lemmas.Bool.{le-ltb, ltb-false}
+use Rattle.std.proofs.lemmas.Option.{slice_get_cases, slice_get_within}
+use Rattle.run_plan.specs.declared.plan.Plan.{Plan}
+use Rattle.run_plan.specs.declared.plan.PlanAction.{PlanAction}
+use Rattle.exec_journal.proofs.Ruled.{by_bool}
+use Rattle.list_lemmas.proofs.Updates.{get_replicate}
+use Rattle.delay_rules.specs.Delayed.{ticks_since}
+use Rattle.local_delay.specs.Counts.{Facts, capped}
+use Rattle.local_delay.specs.Stands.{StandsFor}
+
+none_yet : (n : ℕ) → 0 ≡ capped n 0
+none_yet n = by_bool (nat_lt 0 n) (λ b. nat_lt 0 n ≡ b → 0 ≡ cond b 0 n) (λ _ _. refl)
+    (λ no _. let le = ltb-false 0 n no in omega (arith, le)) refl
+
+abbrev new : Plan → ℕ → Facts
+new p n = record { ticks = n; counts = replicate (length p.actions) 0 }
+
+past_none : {X : Type 0} (xs : List X) (a : ℕ) → slice_get xs a ≡ None → length xs ≤ a
+past_none xs a none = elim ((slice_get_cases xs a).1) [
+  | inl w ↦ absurd (let e = sym none ∙ w.2 in cc)
+  | inr w ↦ w.0
+]
+
+module _ (p : Plan) (n : ℕ) where
+  each_new : (a : ℕ) (o : Option PlanAction) → slice_get p.actions a ≡ o
+      → slice_get (replicate (length p.actions) 0) a
+      ≡ option_map (λ x. capped n (ticks_since p [] x)) o
+  unfolding ticks_since
+  each_new a None at =
+      get_replicate 0 (length p.actions) a
+      ∙ ap (λ b. cond b (Some 0) None)
+      (le-ltb a (length p.actions) (past_none p.actions a at))
+  each_new a (Some x) at =
+      get_replicate 0 (length p.actions) a
+      ∙ ap (λ b. cond b (Some 0) None)
+      (lt-ltb a (length p.actions) (slice_get_within p.actions a x at))
+      ∙ ap Some (none_yet n)
+
+  pub begun : StandsFor p n (new p n) []
+  begun = record { ticks = refl; each = λ a. each_new a (slice_get p.actions a) refl }

@@ -1,0 +1,4 @@
+mod Begun
+mod Counting
+mod Noted
+mod Rows

@@ -1,0 +1,24 @@
+use Rattle.std.proofs.Common.{◌&&◌, sym, ap, ◌∙◌}
+use Rattle.std.proofs.lemmas.Bool.{and_from}
+use Rattle.exec_journal.specs.Entries.{is_kept}
+use Rattle.delay_rules.specs.Delayed.{delayed_seats, is_tick}
+use Rattle.local_delay.proofs.Noted.{and_none, ticked, uncounted}
+use Rattle.local_delay.proofs.policy.LocalDelayPolicy.note.Goals as goal
+use Rattle.local_delay.proofs.policy.LocalDelayPolicy.note.Goals.{else-is_tick-via-then-is_tick+else-is_kept, else-is_tick-via-else-is_tick}
+
+pub returns-then-is_kept-clause-stands : goal.returns-then-is_kept-clause-stands
+returns-then-is_kept-clause-stands c = λ b j own st.
+    ticked b.plan b.ticks c.args.self.now j c.args._lane own (delayed_seats b.plan)
+    c.args.state.now c.count_tick.new.self c.args.call.now c.args.reply.now
+    (and_from _ _ (sym c.is_tick.ensures ∙ c.if-is_tick.true)
+    (sym c.is_kept.ensures ∙ c.if-is_kept.true)) st.tables c.count_tick.ensures
+
+pub returns-else-is_tick-clause-stands : goal.returns-else-is_tick-clause-stands
+returns-else-is_tick-clause-stands c = λ b j own st.
+    uncounted b.plan b.ticks c.args.self.now j c.args._lane own c.args.call.now c.args.reply.now
+    (elim c.else-is_tick.branch [
+      | else-is_tick-via-then-is_tick+else-is_kept w ↦ and_none (is_tick c.args.call.now)
+          (is_kept c.args.reply.now) (sym w.is_kept.ensures ∙ w.if-is_kept.false)
+      | else-is_tick-via-else-is_tick w ↦ ap (λ d. d && is_kept c.args.reply.now)
+          (sym c.is_tick.ensures ∙ w.if-is_tick.false)
+    ])

@@ -1,0 +1,254 @@
+-- The laws of a policy, of the one with a local delay.
+use Rattle.std.proofs.Common.{◌≡◌, ℕ, ◌+◌, ◌-◌, ◌*◌, ◌/◌, ◌<◌, ◌≤◌, ◌^◌, nat_lt, Bool, true, false, ◌&&◌, ◌||◌, cond, List, [], ◌∷◌, length, Option, Some, None, option_map, unwrap_or, refl, ap, sym, ◌∙◌, arith}
+use Rattle.std.specs.Prelude.{option_and_then, slice_get, sum_by}
+use Rattle.std.proofs.lemmas.Bool.{and_from, and_parts, lt-ltb, ltb-false, ltb-true}
+use Rattle.std.proofs.lemmas.List.Sums.{sum_by-cons}
+use Rattle.std.proofs.lemmas.Option.{slice_get_past}
+use Rattle.run_plan.specs.declared.plan.Group.{Group}
+use Rattle.run_plan.specs.declared.plan.Kind.TheVariants as kind
+use Rattle.run_plan.specs.declared.plan.Plan.{Plan}
+use Rattle.run_plan.specs.Groups.{berth_group, berths, group_from, group_of, has_cancellation, is_remote, kind_of}
+use Rattle.run_plan.specs.Sound.{Sound}
+use Rattle.exec_journal.specs.declared.call.Call.TheVariants as call
+use Rattle.exec_journal.specs.declared.reply.Reply.TheVariants as reply
+use Rattle.exec_journal.specs.Entry.{Entry}
+use Rattle.exec_journal.specs.Kept.{Kept, group_at}
+use Rattle.exec_journal.specs.Rules as r
+use Rattle.exec_journal.specs.Scripts.{script}
+use Rattle.exec_journal.specs.Seated.{group_for, group_on}
+use Rattle.exec_journal.specs.Words.{last_line}
+use Rattle.exec_journal.proofs.Begins.{launched_begun}
+use Rattle.exec_journal.proofs.Ruled.{by_bool}
+use Rattle.core_tables.specs.declared.berth_group.BerthGroup.{BerthGroup}
+use Rattle.core_tables.specs.Seats.{seat_at}
+use Rattle.core_tables.proofs.Seated.{seat_is}
+use Rattle.core_state.specs.declared.choice.Choice.TheVariants as choice
+use Rattle.core_state.specs.declared.state.State.{State}
+use Rattle.core_state.specs.Choices.{is_over}
+use Rattle.core_state.specs.Machine.{carried_reply}
+use Rattle.core_contract.specs.Disciplines.{IsDiscipline, LegalBy, berth_script, script_of}
+use Rattle.core_laws.specs.Stands.{Stands}
+use Rattle.core_laws.proofs.AllOf.{all_of}
+use Rattle.core_laws.proofs.Read as read
+use Rattle.core_laws.proofs.Rowed.{berth_of}
+use Rattle.earliest_first.specs.Choices.{ReadsOwn, choice_for, chosen_by}
+use Rattle.earliest_first.proofs.AtBerths.{group_is, seat_fits, seat_within}
+use Rattle.earliest_first.proofs.Chosen.{choice_among}
+use Rattle.delay_rules.specs.Delayed as de
+use Rattle.delay_rules.specs.Delayed.{delayed_discipline}
+use Rattle.delay_rules.proofs.Keeping.{kept}
+use Rattle.delay_rules.proofs.Lawful.{stands_so}
+use Rattle.delay_rules.proofs.Nexts.{nexts}
+use Rattle.delay_histories.proofs.Ruling.{delayed_is_discipline}
+use Rattle.spawn_core.specs.Policies.{SaysSeat, StandsBy}
+use Rattle.local_delay.specs.declared.policy.DelayedPlan.{DelayedPlan}
+use Rattle.local_delay.specs.Choices as c
+use Rattle.local_delay.specs.Choices.{ReadsDelay}
+use Rattle.local_delay.specs.Counts.{Facts}
+use Rattle.local_delay.specs.Stands.{StandsFor}
+use Rattle.local_delay.specs.Told.{next_is, over_is, ticked_is}
+
+pub is_own : (p : Plan) (n : ℕ) → IsDiscipline (delayed_discipline p n)
+is_own p n = delayed_is_discipline p n
+
+pub few_berths : (p : Plan) → Sound p → de.delayed_seats p < 2 ^ 31
+few_berths p sound = let few = sound.seats in omega (arith, few)
+
+pub basis_is : (b : DelayedPlan) (f : Facts) (j : List Entry) → StandsFor b.plan b.ticks f j
+    → record { plan = b.plan; ticks = f.ticks } ≡ b
+basis_is b f j own = λ i. record { plan = b.plan; ticks = own.ticks i }
+
+pub kept_is : (p : Plan) (n : ℕ) (j : List Entry) → Sound p → LegalBy (delayed_discipline p n) j
+    → Kept p j
+kept_is p n j sound legal = kept p n j sound legal
+
+-- ---- the berth behind the plan's
+
+groups_past : (g : ℕ) (xs : List Group) (w : ℕ) → sum_by (λ (y : Group). y.berths) xs ≤ w
+    → group_from g xs w ≡ None
+groups_past g [] w le = refl
+groups_past g (x ∷ xs) w le =
+    let all = sum_by-cons (λ (y : Group). y.berths) x xs in
+    by_bool (nat_lt w x.berths) (λ b. nat_lt w x.berths ≡ b
+    → cond b (Some g) (group_from (g + 1) xs (w - x.berths)) ≡ None)
+    (λ yes _. absurd (let lt = ltb-true w x.berths yes in omega (arith, lt, le, all)))
+    (λ no _. let ge = ltb-false w x.berths no in
+    groups_past (g + 1) xs (w - x.berths) (omega (arith, ge, le, all))) refl
+
+group_past : (p : Plan) (w : ℕ) → berths p ≤ w → berth_group p w ≡ None
+group_past p w past = groups_past 0 p.groups w past
+
+seat_past : (p : Plan) (w : ℕ) → berths p ≤ w → (o : Option BerthGroup) → seat_at p w ≡ o
+    → o ≡ None
+seat_past p w past None at = refl
+seat_past p w past (Some seat) at =
+    absurd (let lt = seat_within p w seat at in omega (arith, past, lt))
+
+module _ (p : Plan) (n : ℕ) (s : State) (j : List Entry) (w : ℕ)
+    (st : StandsBy (delayed_discipline p n) s j) where
+  -- a line runs a group
+  in_group : (l : ℕ) → last_line j w ≡ Some l → group_on p j l ≡ None → ⊥
+  unfolding group_on
+  in_group l here none =
+      let own = (berth_of p (de.delayed_seats p) s j w l st.tables here).owner in
+      let run = (all_of p (de.delayed_seats p) s j st.tables).more.used own.1
+      (launched_begun j l own.0 own.1 own.2) in
+      let group : group_on p j l ≡ Some run.group =
+      ap (option_and_then (λ x. group_for p x.1)) own.2
+      ∙ ap (option_and_then (λ x. group_of x own.1.branch)) run.place ∙ run.runs in
+      let clash = sym none ∙ group in cc
+
+  pub line_past : berths p ≤ w → (o : Option ℕ) → last_line j w ≡ o → o ≡ None
+  line_past past None here = refl
+  line_past past (Some l) here =
+      let so = stands_so p n j st.legal in
+      absurd (in_group l here (group_is p j so.lawful so.seated w l here ∙ group_past p w past))
+
+-- ---- what stands at a berth
+
+kind_past : (p : Plan) (w : ℕ) → berths p ≤ w → kind_of p w ≡ kind.Single
+kind_past p w past = ap (λ (o : Option ℕ). unwrap_or (option_map (λ g. g.kind)
+    (option_and_then (λ k. slice_get p.groups k) o)) kind.Single) (group_past p w past)
+
+uncancelled : (p : Plan) → has_cancellation p (length p.groups) ≡ false
+uncancelled p = ap (λ (o : Option Group). unwrap_or (option_map (λ x. x.cancel) o) false)
+    (slice_get_past p.groups (length p.groups) (omega arith))
+
+seat_here : (p : Plan) (n : ℕ) (s : State) (j : List Entry) (w : ℕ)
+    → StandsBy (delayed_discipline p n) s j → w < berths p
+    → SaysSeat (delayed_discipline p n) j w (c.seated s w)
+seat_here p n s j w st lt =
+    let y = seat_is p w lt in
+    let at = ap (λ (q : Plan). seat_at q w) st.tables.plan ∙ y.1.is in record {
+      seat = y.0;
+      is = ap (c.seat_or_spare s.plan) at;
+      fits = seat_fits p j w y.0 st.tables.lawful (stands_so p n j st.legal).seated lt y.1.is;
+      remote = sym (ap is_remote y.1.kind);
+    }
+
+seat_behind : (p : Plan) (n : ℕ) (s : State) (j : List Entry) (w : ℕ)
+    → StandsBy (delayed_discipline p n) s j → berths p ≤ w
+    → SaysSeat (delayed_discipline p n) j w (c.seated s w)
+seat_behind p n s j w st past =
+    let at = ap (λ (q : Plan). seat_at q w) st.tables.plan
+    ∙ seat_past p w past (seat_at p w) refl in
+    let none = line_past p n s j w st past (last_line j w) refl in record {
+      seat = c.spare p;
+      is = ap (c.seat_or_spare s.plan) at ∙ ap (λ (q : Plan). Some (c.spare q)) st.tables.plan;
+      fits = record {
+        kind = λ l here. absurd (let clash = sym none ∙ here in cc);
+        group = λ l here. absurd (let clash = sym none ∙ here in cc);
+        cancel = uncancelled p;
+      };
+      remote = sym (ap is_remote (kind_past p w past));
+    }
+
+pub seats_are : (p : Plan) (n : ℕ) (s : State) (j : List Entry) (w : ℕ)
+    → StandsBy (delayed_discipline p n) s j → w < de.delayed_seats p
+    → SaysSeat (delayed_discipline p n) j w (c.seated s w)
+seats_are p n s j w st lt =
+    by_bool (nat_lt w (berths p)) (λ _. SaysSeat (delayed_discipline p n) j w (c.seated s w))
+    (λ yes. seat_here p n s j w st (ltb-true w (berths p) yes))
+    (λ no. seat_behind p n s j w st (ltb-false w (berths p) no))
+
+-- ---- what is chosen
+
+module _ (p : Plan) (n : ℕ) (f : Facts) (s : State) (j : List Entry) (lane : ℕ)
+    (st : StandsBy (delayed_discipline p n) s j) (own : StandsFor p n f j) where
+  abbrev w : ℕ
+  w = lane / 2
+
+  asks_on : (b : Bool) (rest : Bool) → ((b && false) || (rest)) ≡ true → rest ≡ true
+  asks_on true rest h = h
+  asks_on false rest h = h
+
+  -- of a lane of the plan's berths the script is that of the plan
+  in_plan : script_of (delayed_discipline p n) j lane call.Ask ≡ true → w < berths p
+      → script p j lane call.Ask ≡ true
+  in_plan may lt =
+      let here = and_parts (nat_lt lane (2 * de.delayed_seats p)) _
+      (asks_on (de.is_ticker p lane) (berth_script (delayed_discipline p n) j lane call.Ask) may) in
+      and_from (nat_lt lane (2 * berths p)) _ (lt-ltb lane (2 * berths p) (omega (arith, lt)))
+      here.1
+
+  on_plan : script_of (delayed_discipline p n) j lane call.Ask ≡ true → w < berths p
+      → carried_reply s w (c.chosen f s w)
+      ≡ de.ask_delayed p n j w (group_at p w) (last_line j w)
+  on_plan may lt =
+      let y = seat_is p w lt in
+      let at : seat_at s.plan w ≡ Some y.0 =
+      ap (λ (q : Plan). seat_at q w) st.tables.plan ∙ y.1.is in
+      let same : c.chosen f s w ≡ chosen_by (c.next_in f s) s w =
+      ap (c.chosen_at f s w) at ∙ sym (ap (choice_for s w (c.next_in f s)) at) in
+      ap (carried_reply s w) same
+      ∙ choice_among p (de.delayed_seats p) (omega arith) s j lane (de.delayed_earliest p n j)
+      (c.next_in f s) st.tables (stands_so p n j st.legal).seated
+      (all_of p (de.delayed_seats p) s j st.tables).facts (in_plan may lt)
+      (record {
+        nexts = nexts p n j;
+        same = λ g. next_is p n (de.delayed_seats p) f s j st.tables own g;
+      })
+
+  leaves : (b : Bool) → carried_reply s w (cond b choice.Stop choice.Idle)
+      ≡ cond b (r.leave j None) reply.Idle
+  leaves true = refl
+  leaves false = refl
+
+  behind : berths p ≤ w
+      → carried_reply s w (c.chosen f s w) ≡ de.ask_idly p j (last_line j w)
+  behind past =
+      let at = ap (λ (q : Plan). seat_at q w) st.tables.plan
+      ∙ seat_past p w past (seat_at p w) refl in
+      let none = line_past p n s j w st past (last_line j w) refl in
+      ap (λ (o : Option BerthGroup). carried_reply s w (c.chosen_at f s w o)) at
+      ∙ leaves (is_over s)
+      ∙ (λ i. cond (over_is p n (de.delayed_seats p) f s j st.tables own i)
+      (r.leave j (sym none i)) reply.Idle)
+
+  pub choices_are : script_of (delayed_discipline p n) j lane call.Ask ≡ true
+      → carried_reply s w (c.chosen f s w) ≡ (delayed_discipline p n).rule j lane call.Ask
+  choices_are may =
+      by_bool (nat_lt w (berths p)) (λ b. carried_reply s w (c.chosen f s w)
+      ≡ cond b (de.ask_delayed p n j w (group_at p w) (last_line j w))
+      (de.ask_idly p j (last_line j w)))
+      (λ yes. on_plan may (ltb-true w (berths p) yes))
+      (λ no. behind (ltb-false w (berths p) no))
+
+-- ---- what a Tick is answered
+
+pub ticks_are : (p : Plan) (n : ℕ) (f : Facts) (s : State) (j : List Entry) (lane : ℕ)
+    → StandsBy (delayed_discipline p n) s j → StandsFor p n f j
+    → c.ticked f s ≡ (delayed_discipline p n).rule j lane call.Tick
+ticks_are p n f s j lane st own =
+    ticked_is p n (de.delayed_seats p) f s j st.tables own
+
+-- ---- what is read
+
+reads_own : (p : Plan) (s : State) (j : List Entry) (w : ℕ) → Stands p (de.delayed_seats p) s j
+    → w < berths p → ReadsOwn s w
+reads_own p s j w st lt =
+    let all = all_of p (de.delayed_seats p) s j st in record {
+      reads = read.reads p (de.delayed_seats p) s j st all.facts w (omega (arith, lt));
+      groups = (let g : length s.plan.groups ≡ length p.groups =
+          ap (λ (x : Plan). length x.groups) st.plan in let few = st.sound.groups in omega arith);
+      seats = (let there = read.seats_are p (de.delayed_seats p) s j st all.facts in
+          let same = ap berths st.plan in omega (arith, there, same));
+    }
+
+pub reads_are : (p : Plan) (n : ℕ) (s : State) (j : List Entry)
+    → StandsBy (delayed_discipline p n) s j → ReadsDelay s
+reads_are p n s j st =
+    let facts = (all_of p (de.delayed_seats p) s j st.tables).facts in
+    let same = ap (λ (q : Plan). length q.actions) st.tables.plan in
+    record {
+      berths = record {
+        groups = (let g : length s.plan.groups ≡ length p.groups =
+            ap (λ (x : Plan). length x.groups) st.tables.plan in
+            let few = st.tables.sound.groups in omega arith);
+        each = λ w lt. reads_own p s j w st.tables
+            (let seats = ap berths st.tables.plan in omega (arith, seats, lt));
+      };
+      states = read.states_are p (de.delayed_seats p) s j st.tables facts ∙ sym same;
+      ended = read.counts_are p (de.delayed_seats p) s j st.tables facts ∙ sym same;
+      few = (let most = st.tables.sound.actions in omega arith);
+    }

@@ -1,0 +1,11 @@
+//! A policy of scheduling with a local delay: where an action uses both branches, its local one waits
+//! for so many Ticks, or until the remote one is dropped. The proxy lane of one more berth, behind
+//! the plan's, makes the Ticks.
+#![tactic(auto)]
+
+mod delay;
+mod policy;
+mod ticking;
+
+pub use delay::LocalDelay;
+pub use policy::{DelayCore, DelayedPlan};

@@ -1,0 +1,153 @@
+// The policy's laws.
+ghost use Rattle.std.specs.Prelude.{◌≡◌, ◌<◌, ◌^◌, [], IfOk, length, refl};
+ghost use Rattle.run_plan.specs.Sound.{Sound};
+ghost use Rattle.exec_journal.specs.Kept.{Kept};
+ghost use Rattle.delay_rules.specs.Delayed.{delayed_discipline, is_tick};
+ghost use Rattle.spawn_core.specs.Plans.{no_plan};
+ghost use Rattle.spawn_core.specs.Stands.{StandsIn};
+ghost use Rattle.local_delay.specs.Choices.{ReadsDelay, chosen, leave_idly, seated, spare, ticked};
+ghost use Rattle.local_delay.specs.Laws as laws;
+ghost use Rattle.local_delay.specs.Stands.{StandsFor};
+
+use crate::delay::LocalDelay;
+use core_state::{Choice, State};
+use core_tables::{BerthGroup, group_of_berth};
+use earliest_first::choose_next;
+use exec_journal::{Call, Kind, Plan, Reply};
+use plain_values::NoMemory;
+use spawn_core::{Core, EarliestFirst, Policy};
+use std::alloc::Global;
+
+/// What the policy goes by: the plan, and for how many Ticks a local branch waits.
+#[derive(Drop)]
+pub struct DelayedPlan {
+    pub plan: Plan,
+    pub ticks: u32,
+}
+
+/// A scheduling core with a local delay.
+pub type DelayCore = Core<LocalDelay>;
+
+impl LocalDelay {
+    /// The core of a run in which nothing was called yet, where a local branch waits for so many
+    /// Ticks.
+    ///
+    /// # Errors
+    ///
+    /// `NoMemory` where there is none for its tables.
+    pub fn core(alloc: Global, plan: Plan, ticks: u32) -> Result<DelayCore, NoMemory>
+        requires { Sound plan }
+        ensures { IfOk result (λ c. StandsIn (delayed_discipline plan ticks)
+            (StandsFor plan ticks) c []) }
+    {
+        let policy = LocalDelay::new(alloc, &plan, ticks)?;
+        Core::with_policy(alloc, policy, plan)
+    }
+}
+
+impl Policy for LocalDelay {
+    type Basis = DelayedPlan;
+
+    ghost blank = { record { plan = no_plan; ticks = 0 } };
+
+    ghost basis = { λ m plan. record { plan = plan; ticks = m.ticks } };
+
+    ghost discipline = { λ b. delayed_discipline b.plan b.ticks };
+
+    ghost stands = { λ b. StandsFor b.plan b.ticks };
+
+    ghost reads = { λ _ s. ReadsDelay s };
+
+    ghost kept = { λ b. Kept b.plan };
+
+    ghost seated = { λ _ s w. seated s w };
+
+    ghost chosen = { λ m s w. chosen m s w };
+
+    ghost ticked = { λ m s. ticked m s };
+
+    // One more stands behind the plan's: its proxy lane makes the Ticks.
+    fn berths(&self, plan: &Plan) -> u32 {
+        EarliestFirst.berths(plan) + 1
+    }
+
+    // Behind the plan's berths no line is ever launched, so that what is said there is said of none.
+    fn seat(&self, state: &State, berth: u32) -> Option<BerthGroup> {
+        match group_of_berth(&state.plan, berth) {
+            Some(seat) => Some(seat),
+            None => Some(spare(&state.plan)),
+        }
+    }
+
+    fn choose(&self, state: &State, berth: u32) -> Choice {
+        match group_of_berth(&state.plan, berth) {
+            Some(seat) => choose_next(state, berth, seat, self.next(state, berth, seat.group)),
+            None => leave(state),
+        }
+    }
+
+    fn ticks(&self, plan: &Plan, lane: u32) -> bool {
+        lane == 2 * EarliestFirst.berths(plan)
+    }
+
+    fn tick(&self, state: &State) -> Reply {
+        self.answer_tick(state)
+    }
+
+    fn note(&mut self, state: &State, _lane: u32, call: &Call, reply: &Reply) {
+        if is_tick(call) && reply.is_kept() {
+            self.count_tick(&state.ready);
+        }
+    }
+
+    ghost is_discipline = { λ b. laws.is_own b.plan b.ticks };
+
+    ghost few_berths = { λ b. laws.few_berths b.plan };
+
+    ghost basis_is = { λ b m j own. laws.basis_is b m j own };
+
+    ghost plan_is = { λ m plan. refl };
+
+    ghost reads_are = { λ b m s j st own. laws.reads_are b.plan b.ticks s j st };
+
+    ghost seats_are = { λ b m s j w st own lt. laws.seats_are b.plan b.ticks s j w st lt };
+
+    ghost choices_are = { λ b m s j lane st own may.
+        laws.choices_are b.plan b.ticks m s j lane st own may };
+
+    ghost ticks_are = { λ b m s j lane st own yes.
+        laws.ticks_are b.plan b.ticks m s j lane st own };
+
+    ghost kept_is = { λ b j sound legal. laws.kept_is b.plan b.ticks j sound legal };
+}
+
+fn is_tick(call: &Call) -> bool
+    ensures { result ≡ is_tick call.now }
+{
+    matches!(call, Call::Tick)
+}
+
+// A berth behind the plan's, of no group: no line is ever launched there.
+fn spare(plan: &Plan) -> BerthGroup
+    requires { length plan.now.groups < 2 ^ 32 }
+    ensures { result ≡ spare plan.now }
+{
+    BerthGroup {
+        group: plan.groups.as_slice().len() as u32,
+        first: 0,
+        berths: 0,
+        kind: Kind::Single,
+        cancel: false,
+    }
+}
+
+// What the Ask of a lane is to do whose berth never has a line.
+fn leave(state: &State) -> Choice
+    ensures { result ≡ leave_idly state.now }
+{
+    if state.is_over() {
+        Choice::Stop
+    } else {
+        Choice::Idle
+    }
+}

@@ -1,0 +1,5 @@
+pub mod Chosen
+pub mod Choices
+pub mod Placing
+pub mod SpawnWords
+pub mod SpawnOptions

@@ -1,0 +1,19 @@
+//! The strategies by which actions are run: which one each action's list chooses, and the plan of
+//! these.
+#![tactic(auto)]
+
+mod choosing;
+mod copies;
+mod listing;
+mod numbers;
+mod placing;
+mod reading;
+mod said;
+#[cfg(test)]
+mod tests;
+mod types;
+
+pub use choosing::chosen;
+pub use placing::chosen_plan;
+pub use reading::read_spawn_words;
+pub use types::{ChoiceFault, Name, Rule, SpawnOptions, Strategies};

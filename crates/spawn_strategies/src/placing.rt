@@ -1,0 +1,194 @@
+// The plan of the chosen strategies.
+ghost use Rattle.std.specs.Prelude.{◌≡◌, ◌+◌, ◌<◌, ◌≤◌, ◌^◌, ◌++◌, IfOk, OnOk, count_by, length, true};
+ghost use Rattle.list_actions.specs.Whole.{IsWhole};
+ghost use Rattle.run_plan.specs.Groups.{is_remote};
+ghost use Rattle.run_plan.specs.Sound.{Sound};
+ghost use Rattle.run_plan.specs.Limits.{most_actions, most_local_berths, most_remote_berths};
+ghost use Rattle.action_list.specs.Plans.{executor_groups};
+ghost use Rattle.spawn_strategies.specs.Choices.{Answers, all_placed, are_different, choice_of, groups_by, is_sandboxed, placed, sandbox_groups, uses_executor};
+ghost use Rattle.spawn_strategies.specs.Placing.{keyed, placing};
+
+use crate::copies::{chosen_names, with_names};
+use crate::types::{ChoiceFault, Name, Strategies};
+use action_list::{ActionList, plan};
+use plain_values::{Items, NoMemory};
+use run_plan::{Group, Kind, MOST_LOCAL_BERTHS, Plan, PlanAction};
+use std::alloc::Global;
+
+/// The plan of a list whose actions run by their chosen strategies.
+///
+/// It is the plan that `action_list::plan` makes where each action has its chosen strategy, but for
+/// the sandboxed actions: such an action has a local branch alone, on a group of kind `Remote` that
+/// stands between the worker keys and the executor, where there is such an action. That group has
+/// at most `words.sandboxed` berths, and at most as many as it has actions.
+///
+/// # Errors
+///
+/// `NoneSupports` exactly where no name of an action's list supports it, with the first such
+/// action; else `TooManyKeys` exactly where the actions whose chosen strategy is `Worker` or
+/// `Dynamic` have more than 48 keys. `NoMemory` where the plan finds no memory.
+pub fn chosen_plan(
+    alloc: Global,
+    list: &ActionList,
+    words: &Strategies,
+    instances: u32,
+    remote: u32,
+    retries: u32,
+) -> Result<Plan, ChoiceFault>
+    requires whole { IsWhole list.now.actions }
+    requires rules { are_different words.now.rules ≡ true }
+    requires instances { instances ≤ most_local_berths }
+    requires some_remote { 1 ≤ remote }
+    requires some_sandboxed { 1 ≤ words.now.sandboxed }
+    requires few { remote + words.now.sandboxed ≤ most_remote_berths }
+    requires retries { retries ≤ 9 }
+    ensures plan { Answers result
+        (choice_of list.now.actions words.now instances remote retries) }
+    ensures sound { IfOk result Sound }
+{
+    let actions = list.actions.as_slice();
+    let names = chosen_names(alloc, words, actions)?;
+    let chosen = with_names(alloc, actions, names.as_slice())?;
+    let planned = plan(alloc, &chosen, instances, remote, retries)?;
+    placed_plan(alloc, planned, names.as_slice(), words.sandboxed, remote)
+}
+
+// The plan with its actions placed by their names, unless it has too many keys.
+fn placed_plan(
+    alloc: Global,
+    plan: Plan,
+    names: &[Name],
+    sandboxed: u32,
+    remote: u32,
+) -> Result<Plan, ChoiceFault>
+    requires named { length names.now ≡ length plan.actions }
+    requires few { length names.now ≤ most_actions }
+    requires groups { length plan.groups < 2 ^ 32 }
+    ensures { Answers result (placing plan names.now sandboxed remote) }
+{
+    let mut groups = keyed(alloc, plan.groups.as_slice())?;
+    let sandbox = groups.len() as u32;
+    if sandbox > MOST_LOCAL_BERTHS {
+        return Err(ChoiceFault::TooManyKeys(sandbox));
+    }
+    push_remote(&mut groups, sandboxed.min(sandbox_users(names)))?;
+    let executor = groups.len() as u32;
+    push_remote(&mut groups, remote.min(executor_users(names)))?;
+    Ok(Plan {
+        actions: all_placed(plan.actions, names, sandbox, executor),
+        groups: Items::of(groups),
+        limit: plan.limit,
+    })
+}
+
+// The groups of the keys.
+fn keyed(alloc: Global, groups: &[Group]) -> Result<Vec<Group>, NoMemory>
+    ensures keyed { IfOk result (λ v. v.items ≡ keyed groups.now) }
+    ensures few { IfOk result (λ v. length v.items ≤ length groups.now) }
+{
+    let mut kept = Vec::new(alloc);
+    for group in groups {
+        if !is_remote(group.kind) {
+            kept.push(*group)?;
+        }
+    }
+    Ok(kept)
+}
+
+fn is_remote(kind: Kind) -> bool
+    ensures { result ≡ is_remote kind }
+{
+    match kind {
+        Kind::Remote => true,
+        Kind::Single | Kind::Multi | Kind::Boxed => false,
+    }
+}
+
+// A group of executors, where it has berths.
+fn push_remote(groups: &mut Vec<Group>, berths: u32) -> Result<(), NoMemory>
+    ensures { OnOk result (groups.new.items ≡ groups.old.items ++ executor_groups berths) }
+{
+    if berths > 0 {
+        groups.push(Group {
+            kind: Kind::Remote,
+            cancel: false,
+            berths,
+        })?;
+    }
+    Ok(())
+}
+
+fn sandbox_users(names: &[Name]) -> u32
+    requires { length names.now ≤ most_actions }
+    ensures { result ≡ count_by is_sandboxed names.now }
+{
+    names.iter().filter(|name| name.is_sandboxed()).count() as u32
+}
+
+fn executor_users(names: &[Name]) -> u32
+    requires { length names.now ≤ most_actions }
+    ensures { result ≡ count_by uses_executor names.now }
+{
+    names.iter().filter(|name| name.uses_executor()).count() as u32
+}
+
+impl Name {
+    fn is_sandboxed(self) -> bool
+        ensures { result ≡ is_sandboxed self }
+    {
+        match self {
+            Name::Sandboxed => true,
+            Name::Worker | Name::Remote | Name::Dynamic => false,
+        }
+    }
+
+    fn uses_executor(self) -> bool
+        ensures { result ≡ uses_executor self }
+    {
+        match self {
+            Name::Remote | Name::Dynamic => true,
+            Name::Worker | Name::Sandboxed => false,
+        }
+    }
+}
+
+// The actions, placed by their names.
+fn all_placed(
+    actions: Items<PlanAction>,
+    names: &[Name],
+    sandbox: u32,
+    executor: u32,
+) -> Items<PlanAction>
+    requires { length names.now ≡ length actions }
+    ensures { result ≡ all_placed sandbox executor names.now actions }
+{
+    let mut actions = actions.into_vec();
+    place_all(actions.as_mut_slice(), names, sandbox, executor);
+    Items::of(actions)
+}
+
+fn place_all(actions: &mut [PlanAction], names: &[Name], sandbox: u32, executor: u32)
+    requires { length names.now ≡ length actions.old }
+    ensures { actions.new ≡ all_placed sandbox executor names.now actions.old }
+{
+    for (number, action) in actions.iter_mut().enumerate() {
+        place(action, names[number], sandbox, executor);
+    }
+}
+
+// Gives the action the branches of its name, where these are the numbers of the group of the
+// sandboxed actions and of the executor.
+fn place(action: &mut PlanAction, name: Name, sandbox: u32, executor: u32)
+    ensures { action.new ≡ placed sandbox executor name action.old }
+{
+    match name {
+        Name::Worker => {}
+        Name::Sandboxed => {
+            action.local = Some(sandbox);
+            action.remote = None;
+        }
+        Name::Remote | Name::Dynamic => {
+            action.remote = Some(executor);
+        }
+    }
+}
