@@ -34,22 +34,22 @@ pub no_last : (before : History) (e : Past) → [] ≡ before ++ e ∷ [] → �
 no_last [] e is = cc
 no_last (y ∷ ys) e is = cc
 
-module _ (rule : History → ℕ → Call → Reply) (news : ℕ → Bool) (berths : ℕ)
+module _ (rule : History → ℕ → Call → Reply) (ticks news : ℕ → Bool) (berths : ℕ)
     (known : (h : History) (lane : ℕ) (c : Call) → InScript rule h lane c → lane / 2 < berths)
     (h : History) (caller : ℕ) (c : Call) (x : Reply) (old new : Waking)
-    (looks : LooksRound news (lanes_of berths) caller x old new) (was : Wakes rule h old)
+    (looks : LooksRound news (lanes_of berths) caller x old new) (was : Wakes rule ticks h old)
     (says : (l : ℕ)
-    → SaysNews rule (after (λ e. is_kept e.reply) h (entry caller c x)) l (news l)) where
+    → SaysNews rule ticks (after (λ e. is_kept e.reply) h (entry caller c x)) l (news l)) where
   abbrev later : History
   later = after (λ e. is_kept e.reply) h (entry caller c x)
 
-  quiet_silent : (l : ℕ) → IsQuiet rule later l → news l ≡ false
+  quiet_silent : (l : ℕ) → IsQuiet rule ticks later l → news l ≡ false
   quiet_silent l quiet = by_bool (news l) (λ b. b ≡ false)
       (λ on. absurd (((says l).so on).1 quiet)) (λ _. refl)
 
-  below : (l : ℕ) → l < 128 → HasNews rule later l → nat_lt l (lanes_of berths) ≡ true
+  below : (l : ℕ) → l < 128 → HasNews rule ticks later l → nat_lt l (lanes_of berths) ≡ true
   below l low has =
-      let within = known later l (question l) has.0 in
+      let within = known later l (question ticks l) has.0 in
       elim (cases_lt berths 64) [
         | inl few ↦ (let most : lanes_of berths ≡ 2 * berths =
             ap (λ b. cond b (2 * berths) 128) (lt-ltb berths 64 few) in
@@ -63,16 +63,16 @@ module _ (rule : History → ℕ → Call → Reply) (news : ℕ → Bool) (bert
     longer : later ≡ h ++ entry caller c x ∷ []
     longer = ap (λ b. cond b (h ++ entry caller c x ∷ []) h) kept
 
-    quiet_kept : (l : ℕ) → IsQuiet rule later l → bit_at new.with_news l ≡ 0
+    quiet_kept : (l : ℕ) → IsQuiet rule ticks later l → bit_at new.with_news l ≡ 0
     quiet_kept l quiet = looks.with_news kept l
         ∙ (ap (λ b. bit_for (nat_lt l (lanes_of berths) && b)) (quiet_silent l quiet)
         ∙ and_false (nat_lt l (lanes_of berths)))
 
     -- a lane that has news now and had none is marked, unless it is the caller's own
-    marked : (l : ℕ) → l < 128 → (l ≡ caller → ⊥) → IsQuiet rule h l
-        → HasNews rule (h ++ entry caller c x ∷ []) l → Names new.stirred l
+    marked : (l : ℕ) → l < 128 → (l ≡ caller → ⊥) → IsQuiet rule ticks h l
+        → HasNews rule ticks (h ++ entry caller c x ∷ []) l → Names new.stirred l
     marked l low other quiet has =
-        let here = subst (λ (g : History). HasNews rule g l) (sym longer) has in
+        let here = subst (λ (g : History). HasNews rule ticks g l) (sym longer) has in
         looks.stirred kept l
         ∙ (ap (λ b. bit_for (b && is_stirred news old.with_news caller l)) (below l low here)
         ∙ (ap (λ b. bit_for (b && (not (l == caller) && (bit_at old.with_news l == 0))))
@@ -82,7 +82,7 @@ module _ (rule : History → ℕ → Call → Reply) (news : ℕ → Bool) (bert
 
     -- and a marked lane is another one, that has news
     only_marked : (l : ℕ) → Names new.stirred l
-        → (l ≡ caller → ⊥) × HasNews rule (h ++ entry caller c x ∷ []) l
+        → (l ≡ caller → ⊥) × HasNews rule ticks (h ++ entry caller c x ∷ []) l
     only_marked l named =
         let all = both (nat_lt l (lanes_of berths)) (is_stirred news old.with_news caller l)
         (is_on (nat_lt l (lanes_of berths) && is_stirred news old.with_news caller l)
@@ -90,32 +90,32 @@ module _ (rule : History → ℕ → Call → Reply) (news : ℕ → Bool) (bert
         let parts = both (news l) (not (l == caller) && (bit_at old.with_news l == 0)) all.1 in
         let apart = both (not (l == caller)) (bit_at old.with_news l == 0) parts.1 in (
           λ same. differs (l == caller) apart.0 (eq-eqb l caller same),
-          subst (λ (g : History). HasNews rule g l) longer ((says l).so parts.0),
+          subst (λ (g : History). HasNews rule ticks g l) longer ((says l).so parts.0),
         )
 
-    named : NamesNews rule h (entry caller c x) new.stirred
+    named : NamesNews rule ticks h (entry caller c x) new.stirred
     named = record {
       all = marked;
       only = only_marked;
     }
 
     stirred_kept : (before : History) (e : Past) → later ≡ before ++ e ∷ []
-        → NamesNews rule before e new.stirred
+        → NamesNews rule ticks before e new.stirred
     stirred_kept before e is =
         let ends = same_from_push h before (entry caller c x) e (sym longer ∙ is) in
-        subst (λ (z : Past). NamesNews rule before z new.stirred) ends.1
-        (subst (λ (g : History). NamesNews rule g (entry caller c x) new.stirred) ends.0 named)
+        subst (λ (z : Past). NamesNews rule ticks before z new.stirred) ends.1
+        (subst (λ (g : History). NamesNews rule ticks g (entry caller c x) new.stirred) ends.0 named)
 
   module _ (dropped : is_kept x ≡ false) where
     same_history : later ≡ h
     same_history = ap (λ b. cond b (h ++ entry caller c x ∷ []) h) dropped
 
-    stays : Wakes rule later new
-    stays = subst (λ (g : History). Wakes rule g new) (sym same_history)
-        (subst (λ (w : Waking). Wakes rule h w) (sym (looks.same dropped)) was)
+    stays : Wakes rule ticks later new
+    stays = subst (λ (g : History). Wakes rule ticks g new) (sym same_history)
+        (subst (λ (w : Waking). Wakes rule ticks h w) (sym (looks.same dropped)) was)
 
-  pub wakes_next : Wakes rule later new
-  wakes_next = by_bool (is_kept x) (λ _. Wakes rule later new)
+  pub wakes_next : Wakes rule ticks later new
+  wakes_next = by_bool (is_kept x) (λ _. Wakes rule ticks later new)
       (λ kept. record {
         quiet = quiet_kept kept;
         stirred = stirred_kept kept;

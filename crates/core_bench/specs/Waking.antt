@@ -27,17 +27,18 @@ pub record LooksRound (news : ℕ → Bool) (lanes caller : ℕ) (r : Reply) (ol
         → Marks new.stirred lanes (λ lane. is_stirred news old.with_news caller lane)
     pub same : is_kept r ≡ false → new ≡ old
 
-module _ (rule : History → ℕ → Call → Reply) where
+-- by a core's rule, and by which lanes make Ticks
+module _ (rule : History → ℕ → Call → Reply) (ticks : ℕ → Bool) where
   -- after the history a lane that would be told Idle is none of those with news, and those to which
   -- the newest entry gave news are stirred
   pub record Wakes (h : History) (w : Waking) : Type 0 where
-    pub quiet : (lane : ℕ) → IsQuiet rule h lane → bit_at w.with_news lane ≡ 0
+    pub quiet : (lane : ℕ) → IsQuiet rule ticks h lane → bit_at w.with_news lane ≡ 0
     pub stirred : (before : History) (e : Past) → h ≡ before ++ e ∷ []
-        → NamesNews rule before e w.stirred
+        → NamesNews rule ticks before e w.stirred
 
   -- After a call that was answered so: if its entry is kept, the lanes are those to which the newest
   -- entry gave news; else there are none.
   pub record Hints (w : Waking) (r : Reply) (lanes : ℕ) : Type 0 where
     pub news : is_kept r ≡ true → (h : History) (e : Past) → Wakes (h ++ e ∷ []) w
-        → NamesNews rule h e lanes
+        → NamesNews rule ticks h e lanes
     pub none : is_kept r ≡ false → lanes ≡ 0

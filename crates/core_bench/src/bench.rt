@@ -93,7 +93,7 @@ impl<B: Berth, P: Place, C: Rules> Machine for Bench<B, P, C> {
 
     ghost stands = { λ m h. C.stands m.core h × Lies B.Child.told B.Tap.told P.told
         (C.terms (C.plan m.core)) h m.shelf.children.items m.shelf.taps.items m.shelf.places.items
-        × Wakes (C.rule (C.plan m.core)) h m.waking };
+        × Wakes (C.rule (C.plan m.core)) (C.ticks (C.plan m.core)) h m.waking };
 
     ghost next = { λ q h lane c. C.rule q h lane c };
 
@@ -113,7 +113,8 @@ impl<B: Berth, P: Place, C: Rules> Machine for Bench<B, P, C> {
 
     ghost owes = { λ q h. C.owes q h };
 
-    ghost hints = { λ m lane r lanes. Hints (C.rule (C.plan m.core)) m.waking r lanes };
+    ghost hints = { λ m lane r lanes. Hints (C.rule (C.plan m.core))
+        (C.ticks (C.plan m.core)) m.waking r lanes };
 
     ghost short_is_not_kept = { λ e s. short_not_kept e.reply s };
 

@@ -1,5 +1,5 @@
 //! Who has news, and to whom the newest call gave some.
-ghost use Rattle.std.specs.Prelude.{◌≡◌, ◌≤◌, ℕ, []};
+ghost use Rattle.std.specs.Prelude.{◌≡◌, ◌≤◌, ℕ, Bool, []};
 ghost use Rattle.exec_journal.specs.declared.call.Call.{Call};
 ghost use Rattle.exec_journal.specs.declared.reply.Reply.{Reply};
 ghost use Rattle.core_contract.specs.Moves.{History};
@@ -24,7 +24,7 @@ pub struct Waking {
 impl Waking {
     /// Before any call.
     pub(crate) fn new() -> Waking
-        ensures { (rule : History → ℕ → Call → Reply) → Wakes rule [] result }
+        ensures { (rule : History → ℕ → Call → Reply) (ticks : ℕ → Bool) → Wakes rule ticks [] result }
     {
         Waking {
             with_news: 0,
@@ -55,7 +55,8 @@ impl Waking {
 
     /// The lanes to which a call gave news that was answered so.
     pub(crate) fn stirred_by(&self, reply: &Reply) -> u128
-        ensures { (rule : History → ℕ → Call → Reply) → Hints rule self.now reply.now result }
+        ensures { (rule : History → ℕ → Call → Reply) (ticks : ℕ → Bool)
+            → Hints rule ticks self.now reply.now result }
     {
         if reply.is_kept() { self.stirred } else { 0 }
     }

@@ -8,22 +8,27 @@ use Rattle.exec_journal.specs.declared.reply.Reply.TheVariants as reply
 use Rattle.core_contract.specs.Laws.{InScript}
 use Rattle.core_contract.specs.Moves.{Past, History}
 
--- what a lane asks that owes nothing: a proxy lane an order, a tap lane a line
-abbrev pub question : ℕ → Call
-question lane = if lane % 2 == 0 then call.Ask else call.Take
+-- what a lane asks that owes nothing, where these make Ticks: such a lane a Tick, any other proxy
+-- lane an order, a tap lane a line
+abbrev pub question : (ℕ → Bool) → ℕ → Call
+question ticks lane =
+    if ticks lane then call.Tick else (if lane % 2 == 0 then call.Ask else call.Take)
 
 -- the lane is one of these, bit k of which is lane k
 abbrev pub Names : ℕ → ℕ → Type 0
 Names lanes lane = bit_at lanes lane ≡ 1
 
-module _ (rule : History → ℕ → Call → Reply) where
+-- by a core's rule, and by which lanes make Ticks
+module _ (rule : History → ℕ → Call → Reply) (ticks : ℕ → Bool) where
   -- after the history the lane would be told Idle
   abbrev pub IsQuiet : History → ℕ → Type 0
-  IsQuiet h lane = rule h lane (question lane) ≡ reply.Idle
+  IsQuiet h lane = rule h lane (question ticks lane) ≡ reply.Idle
 
   -- after the history the lane may ask, and would be told more than Idle
   abbrev pub HasNews : History → ℕ → Type 0
-  HasNews h lane = InScript rule h lane (question lane) × (rule h lane (question lane) ≢ reply.Idle)
+  HasNews h lane =
+      InScript rule h lane (question ticks lane)
+      × (rule h lane (question ticks lane) ≢ reply.Idle)
 
   -- the answer to whether it has
   pub record SaysNews (h : History) (lane : ℕ) (news : Bool) : Type 0 where

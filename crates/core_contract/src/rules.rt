@@ -17,7 +17,7 @@ ghost use Rattle.core_contract.specs.Terms.{Terms};
 ghost use Rattle.core_contract.specs.Shelf.{child_at, tap_at, place_at, Fresh, Away};
 ghost use Rattle.core_contract.specs.Laws.{InScript, Fits, tap_lane, hearing_of, may_hear, Hears, Over, tells_of, claimed, says_file, lines_in, is_taken, OrderFits, OrderHolds, StepReplies, StepStands};
 ghost use Rattle.core_contract.specs.News.{SaysNews};
-ghost use Rattle.core_contract.specs.Duties.{Sends, Commits, Left, proxy_lane, duty_of, is_maker, may_do, may_make};
+ghost use Rattle.core_contract.specs.Duties.{Asks, Sends, Commits, Left, proxy_lane, duty_of, is_maker, may_do, may_make};
 
 use exec_journal::{Call, Reply};
 
@@ -54,6 +54,9 @@ pub trait Rules: Sized + Drop {
 
     // What lanes and the bench go by of the plan.
     ghost terms: { Self.Plan → Terms };
+
+    // The lanes that make Ticks, each of which is a berth's proxy lane.
+    ghost ticks: { Self.Plan → ℕ → Bool };
 
     // Whether a lane has news, by what the core keeps.
     ghost news: { Self → ℕ → Bool };
@@ -142,6 +145,12 @@ pub trait Rules: Sized + Drop {
         → InScript (rule q) h (proxy_lane w) c
         → may_make (terms q) w (duty_of (calls_by (proxy_lane w) h)) c ≡ true };
 
+    // One that makes Ticks may make one wherever it owes nothing.
+    ghost tickers_may_tick: { (q : Self.Plan) (h : List (Entry Call Reply)) (w : ℕ)
+        → w < (terms q).berths → ticks q (proxy_lane w) ≡ true
+        → duty_of (calls_by (proxy_lane w) h) ≡ Asks
+        → InScript (rule q) h (proxy_lane w) call.Tick };
+
     // Its Halt is paid for, until it was told to stop or has halted.
     ghost proxies_may_halt: { (q : Self.Plan) (h : List (Entry Call Reply)) (w : ℕ)
         → w < (terms q).berths → (duty_of (calls_by (proxy_lane w) h) ≡ Left → ⊥)
@@ -160,7 +169,7 @@ pub trait Rules: Sized + Drop {
 
     // A lane that the core has news for may ask, and is told more than Idle; and no other is.
     ghost news_are: { (m : Self) (h : List (Entry Call Reply)) (lane : ℕ)
-        → stands m h → SaysNews (rule (plan m)) h lane (news m lane) };
+        → stands m h → SaysNews (rule (plan m)) (ticks (plan m)) h lane (news m lane) };
 
     // A history for which a core stands is legal.
     ghost stands_legal: { (m : Self) (h : List (Entry Call Reply))

@@ -1,5 +1,6 @@
 -- The laws of `Rules`, of each discipline: what a core that goes by one keeps.
-use Rattle.std.proofs.Common.{◌∙◌, ◌*◌, arith}
+use Rattle.std.proofs.Common.{◌∙◌, ◌*◌, ap, arith, refl}
+use Rattle.std.proofs.lemmas.Bool.{and_from, or_left}
 use Rattle.std.specs.Prelude.{◌≡◌, ℕ, ℤ, ◌/◌, ◌+◌, ◌<◌, ◌≤◌, true, false, List, [], ◌∷◌, ◌++◌, length, Some, None}
 use Rattle.run_plan.specs.declared.plan.Branch.{Branch}
 use Rattle.run_plan.specs.Groups.{is_remote}
@@ -13,7 +14,7 @@ use Rattle.exec_journal.specs.declared.call.Wanted.TheVariants as wanted
 use Rattle.exec_journal.specs.declared.reply.Reply.TheVariants as reply
 use Rattle.exec_journal.specs.Entries.{is_kept}
 use Rattle.seat_desk.specs.History.{entry, calls_by}
-use Rattle.core_contract.specs.Duties.{Sends, Commits, Left, proxy_lane, duty_of, is_maker, may_do, may_make}
+use Rattle.core_contract.specs.Duties.{Asks, Duty, Sends, Commits, Left, proxy_lane, duty_of, is_maker, may_do, may_make}
 use Rattle.core_contract.specs.Laws.{InScript, Fits, tap_lane, hearing_of, may_hear, Hears, Over, tells_of, claimed, says_file, lines_in, is_taken, OrderFits, OrderHolds}
 use Rattle.core_contract.specs.Moves.{Past, History}
 use Rattle.core_contract.specs.Shelf.{child_at, tap_at, place_at, Fresh, Away}
@@ -31,7 +32,7 @@ use Rattle.history_laws.proofs.Hearing as hearing
 use Rattle.history_laws.proofs.Inputs as inputs
 use Rattle.history_laws.proofs.Ordering as ordering
 use Rattle.history_laws.proofs.Paying as paid
-use Rattle.core_contract.specs.Disciplines.{Discipline, IsDiscipline}
+use Rattle.core_contract.specs.Disciplines.{Discipline, IsDiscipline, berth_script}
 
 module _ (q : Discipline) (is : IsDiscipline q) where
   pub legal_before : (h : History) (e : Past) → CameAbout q (h ++ e ∷ [])
@@ -111,6 +112,17 @@ module _ (q : Discipline) (is : IsDiscipline q) where
   proxies_do_only h w c fit =
       ticking.only_makes q h w c
       (scripted_as q (journal_of h) (proxy_lane w) c (scripted_so q h (proxy_lane w) c fit))
+
+  pub tickers_may_tick : (h : History) (w : ℕ) → w < q.seats → q.ticks (proxy_lane w) ≡ true
+      → duty_of (calls_by (proxy_lane w) h) ≡ Asks
+      → InScript (answer_after q) h (proxy_lane w) call.Tick
+  tickers_may_tick h w lt ticks owes =
+      let lane = proxy_lane w in
+      let ask : berth_script q (journal_of h) lane call.Ask ≡ true =
+      duty_is_scripted q.seats q.kinds q.plan h w call.Ask lt
+      (ap (λ (s : Duty). may_do (terms_in q) w s call.Ask) owes) in
+      in_script q is h lane call.Tick
+      (or_left _ _ (and_from _ _ ticks (and_from _ _ ask refl)))
 
   pub proxies_may_halt : (h : History) (w : ℕ) → w < q.seats
       → (duty_of (calls_by (proxy_lane w) h) ≡ Left → ⊥)

@@ -20,7 +20,7 @@ ghost use Rattle.run_plan.specs.Sound.{Sound};
 ghost use Rattle.exec_journal.specs.declared.attempt.Attempt.{Attempt};
 ghost use Rattle.core_contract.specs.Laws.{InScript, Fits, tap_lane, hearing_of, may_hear, Hears, Over, tells_of, OrderFits, OrderHolds, claimed, lines_in, is_taken, says_file};
 ghost use Rattle.core_contract.specs.Shelf.{child_at, tap_at, place_at, Fresh, Away};
-ghost use Rattle.core_contract.specs.Duties.{proxy_lane, duty_of, is_maker, may_do, may_make, Sends, Commits, Left};
+ghost use Rattle.core_contract.specs.Duties.{proxy_lane, duty_of, is_maker, may_do, may_make, Asks, Sends, Commits, Left};
 ghost use Rattle.history_laws.specs.Owed.{DutyIs, journal_of, makers_in};
 ghost use Rattle.core_contract.specs.Disciplines.{Discipline, IsDiscipline, LegalBy};
 ghost use Rattle.history_laws.specs.OwnOrders.{IsOrder, Order, discipline_by};
@@ -52,8 +52,9 @@ pub fn scripts_are_lanes()
 {}
 
 /// Which calls are in a proxy lane's script, its own entries say alone: those that its duty asks
-/// for, and no others but a Halt where it owes a Committed, and a Committed where it has left. Its
-/// Halt is paid for until it was told to stop or has halted, and so is the Committed that it owes.
+/// for, and no others but a Halt where it owes a Committed, a Committed where it has left, and a Tick
+/// of a lane that makes them, wherever that owes nothing. Its Halt is paid for until it was told to
+/// stop or has halted, and so is the Committed that it owes.
 pub fn proxies_do_their_duties()
     ensures does { (q : Discipline) → IsDiscipline q
         → (h : List (Entry Call Reply)) (w : ℕ) (c : Call) → w < q.seats
@@ -63,6 +64,10 @@ pub fn proxies_do_their_duties()
         → (h : List (Entry Call Reply)) (w : ℕ) (c : Call)
         → InScript (answer_after q) h (proxy_lane w) c
         → may_make (terms_in q) w (duty_of (calls_by (proxy_lane w) h)) c ≡ true }
+    ensures ticks { (q : Discipline) → IsDiscipline q
+        → (h : List (Entry Call Reply)) (w : ℕ) → w < q.seats
+        → q.ticks (proxy_lane w) ≡ true → duty_of (calls_by (proxy_lane w) h) ≡ Asks
+        → InScript (answer_after q) h (proxy_lane w) call.Tick }
     ensures halts { (q : Discipline) → IsDiscipline q
         → (h : List (Entry Call Reply)) (w : ℕ) → w < q.seats
         → (duty_of (calls_by (proxy_lane w) h) ≡ Left → ⊥)

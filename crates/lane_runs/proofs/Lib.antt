@@ -1,5 +1,6 @@
 mod Seating
 mod Running
+mod Ticking
 mod Parting
 mod Laying
 mod Leaving

@@ -35,7 +35,7 @@ use Rattle.lane_runs.specs.declared.halves.Halves.{Halves}
 use Rattle.lane_runs.specs.EndedLines as ended
 use Rattle.lane_runs.proofs.FactsAt.{facts_at}
 use Rattle.lane_laws.specs.Lines.{started_from}
-use Rattle.lane_laws.specs.Places.{HasLeft}
+use Rattle.lane_laws.specs.Places.{HasLeft, IsGone}
 use Rattle.lane_laws.specs.Taps.{started_at, taken_in}
 use Rattle.proxy_deeds.specs.Lines.{listed}
 use Rattle.lane_laws.specs.Pipes.{PipeOf, Each, said_on, end_on}
@@ -189,12 +189,6 @@ module _ {B D T K : Type 0} (berth : B → BerthTold) (feed : D → FeedTold) (t
   ran_left left w [] (p ∷ ps) ends ran i lt = absurd ran
   ran_left left w (b ∷ bs) [] ends ran i lt = absurd ran
 
--- a lane behind these has made no entry
-silent_behind : (n w : ℕ) (h : History) → NoneFrom (2 * n) h → nat_lt w n ≡ false
-    → calls_by (proxy_lane w) h ≡ []
-silent_behind n w h none beyond =
-    let above = ltb-false w n beyond in none (proxy_lane w) (omega (arith, above))
-
 by_test : {A : Type 0} (b : Bool) → (b ≡ true → A) → (b ≡ false → A) → A
 by_test true f g = f refl
 by_test false f g = g refl
@@ -206,7 +200,8 @@ module _ {Q B D T K P : Type 0} (legal : Q → History → Type 0) (terms : Q �
     (good : legal q h) (speeches : List Speech) (settings : Settings) (work : List WorkAction)
     (olds : List B) (ends : List (Either (ProxyLeft B D K) (TapLeft T)))
     (shelf slots : List (Option T)) (fewer : length speeches ≤ (terms q).berths)
-    (none : NoneFrom (2 * length speeches) h)
+    (beside : ℕ) (none : NoneFrom (2 * length speeches + beside) h)
+    (gone : (w : ℕ) → nat_lt w (length speeches) ≡ false → IsGone (calls_by (proxy_lane w) h))
     (ran : EachBerthRan berth feed tap child (rule q) settings work h 0 olds speeches ends)
     (lie : TapsLie tap (terms q) h shelf) (front : slots ≡ take (length speeches) shelf) where
   as_many : length slots ≡ length speeches
@@ -274,11 +269,11 @@ module _ {Q B D T K P : Type 0} (legal : Q → History → Type 0) (terms : Q �
       (let z : 0 + w ≡ w = omega arith in z)
       (ran_left berth feed tap child (rule q) settings work h laws.left 0 olds speeches ends ran w
       (ltb-true w (length speeches) within))))
-      (λ beyond. inl (silent_behind (length speeches) w h none beyond))))
+      (λ beyond. gone w beyond)))
 
   pub has_run : (places : List (Option P)) (laid : Laid B D T K P)
       → PlacesLie place (terms q) h places → IsLaid h ends slots places laid
-      → HasRun (legal q) (rule q) (terms q) speeches settings work (map berth olds)
+      → HasRun (legal q) (rule q) (terms q) speeches settings work (map berth olds) beside
       (laid_told berth feed tap child place laid)
   has_run places laid lying is =
       let g = gathered in
@@ -349,7 +344,7 @@ module _ {M G Q B D T K P : Type 0} (g : Ghosts M Call Reply G Q) (legal : Q →
     (laws : HistoryLaws legal terms) where
   -- what the crew leaves may be laid out, and then it is what the run leaves
   pub record Crewed (q : Q) (h : History) (speeches : List Speech) (settings : Settings)
-      (work : List WorkAction) (olds : List B) (ends : List (Either (ProxyLeft B D K) (TapLeft T)))
+      (work : List WorkAction) (beside : ℕ) (olds : List B) (ends : List (Either (ProxyLeft B D K) (TapLeft T)))
       (taps : List (Option T)) (places : List (Option P)) : Type 0 where
     pub good : legal q h
     pub as_many : length taps ≡ length speeches
@@ -358,54 +353,58 @@ module _ {M G Q B D T K P : Type 0} (g : Ghosts M Call Reply G Q) (legal : Q →
         → IsBlankFor (length taps) (lines_in h) (length places) blank → lines_in h < 2 ^ 32
         → MayBeLaid h ends taps places blank
     pub run : (laid : Laid B D T K P) → IsLaid h ends taps places laid
-        → HasRun (legal q) (rule q) (terms q) speeches settings work (map berth olds)
+        → HasRun (legal q) (rule q) (terms q) speeches settings work (map berth olds) beside
         (laid_told berth feed tap child place laid)
 
   crewed_at : (q : Q) (h : History) (speeches : List Speech) (settings : Settings)
-      (work : List WorkAction) (olds : List B) (ends : List (Either (ProxyLeft B D K) (TapLeft T)))
+      (work : List WorkAction) (beside : ℕ) (olds : List B)
+      (ends : List (Either (ProxyLeft B D K) (TapLeft T)))
       (shelf taps : List (Option T)) (places : List (Option P)) → legal q h
-      → length speeches ≤ (terms q).berths → NoneFrom (2 * length speeches) h
+      → length speeches ≤ (terms q).berths → NoneFrom (2 * length speeches + beside) h
+      → ((w : ℕ) → nat_lt w (length speeches) ≡ false → IsGone (calls_by (proxy_lane w) h))
       → EachBerthRan berth feed tap child (rule q) settings work h 0 olds speeches ends
       → TapsLie tap (terms q) h shelf → taps ≡ take (length speeches) shelf
       → PlacesLie place (terms q) h places
-      → Crewed q h speeches settings work olds ends taps places
-  crewed_at q h speeches settings work olds ends shelf taps places good fewer none ran lie front lying = record {
+      → Crewed q h speeches settings work beside olds ends taps places
+  crewed_at q h speeches settings work beside olds ends shelf taps places good fewer none gone ran lie front lying = record {
     good = good;
     as_many = as_many legal terms rule berth feed tap child place laws q h good
-        speeches settings work olds ends shelf taps fewer none ran lie front;
+        speeches settings work olds ends shelf taps fewer beside none gone ran lie front;
     all_places = lying.as_many;
     may = λ blank room few. record {
       room = room;
       few = few;
       alternate = in_turn legal terms rule berth feed tap child place laws q h good
-          speeches settings work olds ends shelf taps fewer none ran lie front;
+          speeches settings work olds ends shelf taps fewer beside none gone ran lie front;
       fit = are_fit legal terms rule berth feed tap child place laws q h good
-          speeches settings work olds ends shelf taps fewer none ran lie front;
+          speeches settings work olds ends shelf taps fewer beside none gone ran lie front;
       there = places_are_there legal terms rule berth feed tap child place laws q h good
-          speeches settings work olds ends shelf taps fewer none ran lie front places lying;
+          speeches settings work olds ends shelf taps fewer beside none gone ran lie front places lying;
     };
     run = λ laid is. has_run legal terms rule berth feed tap child place laws q h good
-        speeches settings work olds ends shelf taps fewer none ran lie front places laid lying is;
+        speeches settings work olds ends shelf taps fewer beside none gone ran lie front places laid lying is;
   }
 
   -- the plan that the core has in the end is the one that it had
   pub crewed : {q bench machine last : Q} {h : History} {speeches : List Speech}
       {settings : Settings} {work : List WorkAction} {olds : List B}
       {ends : List (Either (ProxyLeft B D K) (TapLeft T))} {shelf taps : List (Option T)}
-      {places : List (Option P)} (lanes : List (Either (ProxySeat B) TapSeat)) → bench ≡ q
+      {places : List (Option P)} {beside : ℕ} (lanes : List (Either (ProxySeat B) TapSeat)) → bench ≡ q
       → machine ≡ bench → last ≡ machine → length speeches ≤ (terms q).berths → legal last h
       → TapsLie tap (terms last) h shelf → taps ≡ take (length speeches) shelf
       → PlacesLie place (terms last) h places → AreSeats settings work 0 olds speeches lanes
       → EachLane (HasRan g terms rule berth feed tap child) bench h 0 lanes ends
-      → NoneFrom (length lanes) h → Crewed q h speeches settings work olds ends taps places
-  crewed {q} {bench} {machine} {last} {h} {speeches} {settings} {work} {olds} {ends} {shelf} {taps} {places} lanes e f k fewer good lie front lying are ran none =
+      → NoneFrom (length lanes + beside) h
+      → ((w : ℕ) → nat_lt w (length speeches) ≡ false → IsGone (calls_by (proxy_lane w) h))
+      → Crewed q h speeches settings work beside olds ends taps places
+  crewed {q} {bench} {machine} {last} {h} {speeches} {settings} {work} {olds} {ends} {shelf} {taps} {places} {beside} lanes e f k fewer good lie front lying are ran none gone =
       let same : last ≡ q = k ∙ (f ∙ e) in
       let each = each_berth g terms rule berth feed tap child bench h
       settings work 0 olds speeches lanes ends are ran in
-      let silent = subst (λ (n : ℕ). NoneFrom n h)
+      let silent = subst (λ (n : ℕ). NoneFrom (n + beside) h)
       (two_each settings work 0 olds speeches lanes are) none in
-      crewed_at q h speeches settings work olds ends shelf taps places
-      (subst (λ (r : Q). legal r h) same good) fewer silent
+      crewed_at q h speeches settings work beside olds ends shelf taps places
+      (subst (λ (r : Q). legal r h) same good) fewer silent gone
       (subst (λ (r : Q). EachBerthRan berth feed tap child (rule r) settings work h 0 olds speeches ends) e each)
       (subst (λ (r : Q). TapsLie tap (terms r) h shelf) same lie) front
       (subst (λ (r : Q). PlacesLie place (terms r) h places) same lying)

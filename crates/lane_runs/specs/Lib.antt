@@ -7,6 +7,7 @@ pub mod Blanks
 pub mod Layout
 pub mod Laws
 pub mod Runs
+pub mod Paced
 pub mod BerthHalves
 pub mod EndedLines
 pub mod LineFacts

@@ -135,15 +135,15 @@ abbrev pub Stops : ℕ → History → Type 0
 Stops berths h = has_halt h ≡ false → (w : ℕ) → w < berths → AreStopped h w
 
 -- The one history of the run, by the rule of a core, and what its objects tell: whatever the lanes
--- did is in it, and what is in it they did. There is a speech for each berth that has lanes, and no
--- other lane has an entry.
+-- did is in it, and what is in it they did. There is a speech for each berth that has lanes, so many
+-- lanes stand beside these, and no other lane has an entry.
 pub record HasRun (legal : History → Type 0) (rule : History → ℕ → Call → Reply)
     (terms : Terms) (speeches : List Speech) (settings : Settings) (work : List WorkAction)
-    (before : List BerthTold) (laid : LaidTold) : Type 0 where
+    (before : List BerthTold) (beside : ℕ) (laid : LaidTold) : Type 0 where
   pub history : History
   pub in_journal : laid.journal ≡ history
   pub is_legal : legal history
-  pub no_others : NoneFrom (2 * length speeches) history
+  pub no_others : NoneFrom (2 * length speeches + beside) history
   pub rooms : Rooms rule settings work history laid.lines 0 speeches before laid.berths laid.unsaid
   pub pipes : Pipes speeches history laid.lines
   pub outs : Outs terms.outputs terms.actions history laid.places

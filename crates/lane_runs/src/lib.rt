@@ -17,6 +17,7 @@ mod lanes;
 mod layout;
 mod lines;
 mod means;
+mod pacing;
 mod proxies;
 mod run;
 
@@ -24,4 +25,4 @@ pub use halves::{EndedLine, Halves};
 pub use layout::{Laid, LaidOut};
 pub use means::AllMeans;
 pub use proxy_steps::EndedFeed;
-pub use run::{Unrun, run_lanes};
+pub use run::{Run, Unrun, run_lanes};

@@ -4,7 +4,10 @@ ghost use Rattle.core_bench.specs.Objects.{AreFresh};
 ghost use Rattle.lane_runs.specs.Seats.{SpeechesFit, berths_in};
 ghost use Rattle.proxy_deeds.specs.Settings.{AreOfPlan};
 ghost use Rattle.proxy_steps.specs.Work.{IsWorkOf};
+ghost use Rattle.crew_beside.specs.Beside.{count_of};
+ghost use Rattle.core_contract.specs.Duties.{proxy_lane};
 ghost use Rattle.lane_runs.specs.Blanks.{HasRoom};
+ghost use Rattle.lane_runs.specs.Paced.{HasPaced, MayPace, pacer_back};
 ghost use Rattle.lane_runs.specs.Runs.{HasRun, laid_told};
 
 use crate::blank::Blank;
@@ -12,22 +15,35 @@ use crate::histories::histories_say;
 use crate::lanes::{BerthLane, berths_of, lanes_of};
 use crate::layout::{LaidOut, all_there, lay_out};
 use crate::means::AllMeans;
+use crate::pacing::{pacer_back, pacer_left, seat_for};
 use core_bench::Bench;
 use core_contract::Rules;
-use lane_crew::{Crew, Unstarted, run_crew};
+use crew_beside::{CrewBeside, UnstartedBeside, run_crew_beside};
+use lane_crew::{Crew, Unstarted};
 use outside::{Berth, Place};
 use seat_desk::Machine;
 use std::alloc::Global;
 use std::sync::Wait;
 use std::thread::Threads;
+use tick_lane::{Pacer, TickSeat};
 
 /// What lanes are to work with, as long as none was started.
 #[derive(Drop)]
-pub struct Unrun<B, P> {
+pub struct Unrun<B, P, W> {
     /// The berths, one for each speech.
     pub berths: Vec<B>,
     /// The places, to which nothing was written, one for each action.
     pub places: Vec<P>,
+    /// What paces the lane that makes Ticks, where there is one.
+    pub pacer: Option<W>,
+}
+
+/// What lanes leave.
+#[derive(Drop)]
+pub struct Run<B: Berth, P, W> {
+    pub laid: LaidOut<B, P>,
+    /// The pacer, which has counted the ticks that its lane waited for.
+    pub pacer: Option<W>,
 }
 
 /// Runs the lanes of these berths, each on a thread of its own, over this core, until each was told
@@ -37,21 +53,25 @@ pub struct Unrun<B, P> {
 /// There is a speech for each berth that has lanes. The core may know of more berths: these have none,
 /// and so no entry, no line and no tap. What is said of the run is said of those that have lanes.
 ///
+/// Where there is a pacer, the core knows of one more berth behind these, whose proxy lane makes
+/// Ticks, and that lane runs beside the others.
+///
 /// # Errors
 ///
-/// The berths, as they were, and the places, if there is no memory before the lanes. Then none was
-/// started, and the core is dropped.
-pub fn run_lanes<B: Berth, P: Place, C: Rules, R: Threads + Wait + Sync>(
+/// The berths and the pacer, as they were, and the places, if there is no memory before the lanes.
+/// Then none was started, and the core is dropped.
+pub fn run_lanes<B: Berth, P: Place, C: Rules, W: Pacer, R: Threads + Wait + Sync>(
     rt: &R,
     alloc: Global,
     core: C,
-    unrun: Unrun<B, P>,
+    unrun: Unrun<B, P, W>,
     means: &AllMeans<'_>,
-) -> Result<LaidOut<B, P>, Unrun<B, P>>
+) -> Result<Run<B, P, W>, Unrun<B, P, W>>
 where
     B: Send,
     P: Send,
     C: Send,
+    W: Send,
     B::Feed: Send,
     B::Tap: Send,
     B::Child: Send,
@@ -59,34 +79,51 @@ where
     requires places { AreFresh P.told (C.terms (C.plan core)).actions unrun.places.items }
     requires berths { length unrun.berths.items ≡ length means.now.speeches.now }
     requires seats { length means.now.speeches.now ≤ (C.terms (C.plan core)).berths }
-    requires few { length means.now.speeches.now ≤ 128 }
+    requires paced { MayPace (C.terms (C.plan core)) (C.ticks (C.plan core))
+        (length means.now.speeches.now) unrun.pacer }
+    requires few { length means.now.speeches.now ≤ 127 }
     requires speeches { SpeechesFit (C.terms (C.plan core)).remote means.now.speeches.now }
     requires settings { AreOfPlan (C.terms (C.plan core)).plan means.now.settings.now }
     requires work { IsWorkOf (C.terms (C.plan core)) means.now.actions.now }
-    ensures run { IfOk result (λ laid. HasRun (C.legal (C.plan core)) (C.rule (C.plan core))
+    ensures run { IfOk result (λ run. HasRun (C.legal (C.plan core)) (C.rule (C.plan core))
         (C.terms (C.plan core)) means.now.speeches.now means.now.settings.now
-        means.now.actions.now (map B.told unrun.berths.items)
-        (laid_told B.told B.Feed.told B.Tap.told B.Child.told P.told laid)) }
+        means.now.actions.now (map B.told unrun.berths.items) (count_of unrun.pacer)
+        (laid_told B.told B.Feed.told B.Tap.told B.Child.told P.told run.laid)) }
+    ensures ticks { IfOk result (λ run. HasPaced W.told (proxy_lane (length means.now.speeches.now))
+        unrun.pacer run.pacer run.laid.journal) }
     ensures back { IfErr result (λ u. (u.berths.items ≡ unrun.berths.items)
-        × AreFresh P.told (C.terms (C.plan core)).actions u.places.items) }
+        × AreFresh P.told (C.terms (C.plan core)).actions u.places.items
+        × (u.pacer ≡ unrun.pacer)) }
 {
-    let Unrun { berths, places } = unrun;
     let lines = core.most_lines() as usize;
     let seats = means.speeches.len();
     let Ok(blank) = Blank::new(alloc, seats, lines, means.actions.len()) else {
-        return Err(Unrun { berths, places });
+        return Err(unrun);
     };
     let Ok(room) = Vec::with_capacity(alloc, 2 * seats) else {
-        return Err(Unrun { berths, places });
+        return Err(unrun);
     };
+    let Unrun {
+        berths,
+        places,
+        pacer,
+    } = unrun;
     let bench = match Bench::new(alloc, core, places) {
         Ok(bench) => bench,
-        Err(places) => return Err(Unrun { berths, places }),
+        Err(places) => {
+            return Err(Unrun {
+                berths,
+                places,
+                pacer,
+            });
+        }
     };
     let lanes = lanes_of(alloc, berths, means, room);
+    let ticker = seat_for(seats as u32, pacer);
     histories_say::<C>();
-    match run_crew(rt, alloc, bench, lanes) {
-        Ok(crew) => {
+    match run_crew_beside(rt, alloc, bench, lanes, ticker) {
+        Ok(left) => {
+            let CrewBeside { crew, beside } = left;
             let Crew {
                 machine,
                 history,
@@ -95,26 +132,30 @@ where
             let (_core, mut taps, places) = machine.into_parts();
             // A berth without lanes has no line, and so no tap.
             taps.truncate(seats);
-            Ok(lay_out(blank, history, ends, taps, places))
+            let laid = lay_out(blank, history, ends, taps, places);
+            let pacer = pacer_left(beside);
+            Ok(Run { laid, pacer })
         }
         Err(unstarted) => Err(take_back(blank, unstarted)),
     }
 }
 
-// The berths and the places back from a crew that has not begun, in the room for what it would have
-// left. It takes no memory.
-fn take_back<B: Berth, P: Place, C: Rules>(
+// The berths, the places and the pacer back from a crew that has not begun, in the room for what it
+// would have left. It takes no memory.
+fn take_back<B: Berth, P: Place, C: Rules, W: Pacer>(
     blank: Blank<B, B::Feed, B::Tap, B::Child, P>,
-    unstarted: Unstarted<Bench<B, P, C>, BerthLane<'_, B>>,
-) -> Unrun<B, P>
-    requires stands { ⟦<Bench<B, P, C> as Machine>⟧.stands unstarted.machine [] }
-    requires berths { HasRoom (length (berths_in unstarted.lanes.items)) blank.berths }
+    unstarted: UnstartedBeside<Bench<B, P, C>, BerthLane<'_, B>, TickSeat<W>>,
+) -> Unrun<B, P, W>
+    requires stands { ⟦<Bench<B, P, C> as Machine>⟧.stands unstarted.crew.machine [] }
+    requires berths { HasRoom (length (berths_in unstarted.crew.lanes.items)) blank.berths }
     requires places { HasRoom
-        (C.terms (⟦<Bench<B, P, C> as Machine>⟧.basis unstarted.machine)).actions blank.places }
-    ensures berths { result.berths.items ≡ berths_in unstarted.entry.lanes.items }
+        (C.terms (⟦<Bench<B, P, C> as Machine>⟧.basis unstarted.crew.machine)).actions
+        blank.places }
+    ensures berths { result.berths.items ≡ berths_in unstarted.entry.crew.lanes.items }
     ensures places { AreFresh P.told
-        (C.terms (⟦<Bench<B, P, C> as Machine>⟧.basis unstarted.entry.machine)).actions
+        (C.terms (⟦<Bench<B, P, C> as Machine>⟧.basis unstarted.entry.crew.machine)).actions
         result.places.items }
+    ensures pacer { result.pacer ≡ pacer_back unstarted.entry.beside }
 {
     let Blank {
         mut berths,
@@ -122,9 +163,15 @@ fn take_back<B: Berth, P: Place, C: Rules>(
         unsaid: _,
         places: kept,
     } = blank;
-    let Unstarted { machine, lanes } = unstarted;
+    let UnstartedBeside { crew, beside } = unstarted;
+    let Unstarted { machine, lanes } = crew;
     let (_core, _taps, slots) = machine.into_parts();
     berths_of(lanes, &mut berths);
     let places = all_there(slots, kept);
-    Unrun { berths, places }
+    let pacer = pacer_back(beside);
+    Unrun {
+        berths,
+        places,
+        pacer,
+    }
 }

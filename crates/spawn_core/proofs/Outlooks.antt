@@ -26,8 +26,7 @@ use Rattle.core_laws.proofs.Read as read
 use Rattle.spawn_core.specs.Policies.{StandsBy}
 use Rattle.spawn_core.specs.Turning.{IsServed}
 use Rattle.core_contract.specs.News.{question}
-use Rattle.spawn_core.specs.Allowed.{allowed_plain, lane_within}
-use Rattle.spawn_core.specs.News.{asks}
+use Rattle.spawn_core.specs.Allowed.{allowed_is, lane_within}
 use Rattle.spawn_core.specs.Turns.{Orders, may_make}
 use Rattle.spawn_core.specs.Outlook.{owes_by}
 use Rattle.spawn_core.specs.Stands.{HasHistory, HasJournal, KeptBy}
@@ -114,12 +113,12 @@ attempts_kept p sound =
 -- a lane that may ask by the tables is one of a berth, which can be read
 pub reads_asking : (q : Discipline) (s : State) (j : List Entry) (lane : ℕ) (seat : BerthGroup)
     (x : Orders) → StandsBy q s j → IsServed q s j lane seat x
-    → allows_by s.plan seat.kind s.lanes lane (question lane) ≡ true
+    → may_make s seat.kind (q.ticks lane) lane (question q.ticks lane) ≡ true
     → (lane / 2 < q.seats) × Reads s (lane / 2)
 reads_asking q s j lane seat x st v may =
-    let scripted =
-    sym (allowed_plain q s j lane seat st.tables v.remote (question lane) (asks lane)) ∙ may in
-    let within = lane_within q j lane (question lane) scripted in (
+    let asked = question q.ticks lane in
+    let scripted = sym (allowed_is q s j lane seat st.tables v.remote asked) ∙ may in
+    let within = lane_within q j lane asked scripted in (
       within,
       read.reads q.plan q.seats s j st.tables
           (all_of q.plan q.seats s j st.tables).facts (lane / 2) within,

@@ -21,7 +21,7 @@ use Rattle.core_contract.specs.News.{question, HasNews, SaysNews}
 use Rattle.history_laws.specs.Owed.{journal_of}
 use Rattle.history_laws.specs.Ruled.{answer_after}
 use Rattle.history_laws.proofs.Fitting.{in_script}
-use Rattle.spawn_core.specs.Allowed.{allowed_plain, is_tick, lane_within, none_scripted}
+use Rattle.spawn_core.specs.Allowed.{allowed_is, lane_within, none_scripted}
 use Rattle.spawn_core.specs.Outlook.{has_news, has_news_at, has_news_by, is_idle, told_by}
 use Rattle.spawn_core.specs.Policies.{Serves}
 use Rattle.spawn_core.specs.Turning.{IsServed, turn_is}
@@ -49,11 +49,6 @@ served q s j seated chosen ticked v lane seat at = record {
         subst (Fits q j (lane / 2)) (let z = sym y.is ∙ at in cc)
         (record { fits = y.fits; remote = y.remote })
 
--- a question is no Tick
-pub asks : (lane : ℕ) → is_tick (question lane) ≡ false
-asks lane = by_bool (lane % 2 == 0) (λ b. is_tick (cond b call.Ask call.Take) ≡ false) (λ _. refl)
-    (λ _. refl)
-
 -- ---- what a lane would be told
 
 module _ (q : Discipline) (s : State) (j : List Entry) (seated : ℕ → Option BerthGroup)
@@ -72,30 +67,55 @@ module _ (q : Discipline) (s : State) (j : List Entry) (seated : ℕ → Option 
       )
 
   -- of a lane that may ask the tables answer what the discipline does
-  told_news : script_of q j lane (question lane) ≡ true
-      → not (is_idle (told_by s chosen lane)) ≡ not (is_idle (q.rule j lane (question lane)))
-  told_news = by_bool (lane % 2 == 0)
-      (λ b. script_of q j lane (cond b call.Ask call.Take) ≡ true
-      → not (is_idle (cond b (carried_reply s (lane / 2) (chosen (lane / 2)))
-      (take_reply s (takeable s (lane / 2)))))
-      ≡ not (is_idle (q.rule j lane (cond b call.Ask call.Take))))
-      (λ _ may. ap (λ (x : Reply). not (is_idle x)) (question_told call.Ask refl may).1)
-      (λ _ may. ap (λ (x : Reply). not (is_idle x)) (question_told call.Take refl may).1)
+  told_news : script_of q j lane (question q.ticks lane) ≡ true
+      → not (is_idle (told_by s ordered (q.ticks lane) lane))
+      ≡ not (is_idle (q.rule j lane (question q.ticks lane)))
+  told_news = by_bool (q.ticks lane)
+      (λ b. script_of q j lane (cond b call.Tick untimed) ≡ true
+      → not (is_idle (cond b ticked told_untimed))
+      ≡ not (is_idle (q.rule j lane (cond b call.Tick untimed))))
+      (λ _ may. ap (λ (x : Reply). not (is_idle x)) (question_told call.Tick refl may).1)
+      (λ _. untimed_told)
+    where
+      untimed : Call
+      untimed = cond (lane % 2 == 0) call.Ask call.Take
+
+      told_untimed : Reply
+      told_untimed = cond (lane % 2 == 0) (carried_reply s (lane / 2) (chosen (lane / 2)))
+          (take_reply s (takeable s (lane / 2)))
+
+      untimed_told : script_of q j lane untimed ≡ true
+          → not (is_idle told_untimed) ≡ not (is_idle (q.rule j lane untimed))
+      untimed_told = by_bool (lane % 2 == 0)
+          (λ b. script_of q j lane (cond b call.Ask call.Take) ≡ true
+          → not (is_idle (cond b (carried_reply s (lane / 2) (chosen (lane / 2)))
+          (take_reply s (takeable s (lane / 2)))))
+          ≡ not (is_idle (q.rule j lane (cond b call.Ask call.Take))))
+          (λ _ may. ap (λ (x : Reply). not (is_idle x)) (question_told call.Ask refl may).1)
+          (λ _ may. ap (λ (x : Reply). not (is_idle x)) (question_told call.Take refl may).1)
 
   -- of a lane of this seat, by what the tables allow
   pub news_at : (o : Option BerthGroup) → seated (lane / 2) ≡ o
-      → has_news_at s chosen lane o ≡ has_news q j lane
+      → has_news_at s ordered q.ticks lane o ≡ has_news q j lane
   news_at None at =
-      ap (λ (b : Bool). b && not (is_idle (q.rule j lane (question lane))))
-      (sym (none_scripted q j lane (question lane) (seated (lane / 2)) (v.seats (lane / 2)) at))
+      ap (λ (b : Bool). b && not (is_idle (q.rule j lane asked)))
+      (sym (none_scripted q j lane asked (seated (lane / 2)) (v.seats (lane / 2)) at))
+    where
+      asked : Call
+      asked = question q.ticks lane
   news_at (Some seat) at =
       let y = served q s j seated chosen ticked v lane seat at in
-      let same = allowed_plain q s j lane seat st y.remote (question lane) (asks lane) in
-      ap (λ (b : Bool). b && not (is_idle (told_by s chosen lane))) same
-      ∙ by_bool (script_of q j lane (question lane)) (λ b. script_of q j lane (question lane) ≡ b
-      → b && not (is_idle (told_by s chosen lane))
-      ≡ b && not (is_idle (q.rule j lane (question lane))))
+      let same = allowed_is q s j lane seat st y.remote asked in
+      ap (λ (b : Bool). b && told) same
+      ∙ by_bool (script_of q j lane asked) (λ b. script_of q j lane asked ≡ b
+      → b && told ≡ b && not (is_idle (q.rule j lane asked)))
       (λ _ may. told_news may) (λ _ _. refl) refl
+    where
+      asked : Call
+      asked = question q.ticks lane
+
+      told : Bool
+      told = not (is_idle (told_by s ordered (q.ticks lane) lane))
 
 -- ---- the law
 
@@ -108,21 +128,21 @@ idle_is x e on = let clash : false ≡ true = ap (λ y. not (is_idle y)) (sym e)
 
 module _ (q : Discipline) (is : IsDiscipline q) (h : History) (lane : ℕ) where
   abbrev told : Reply
-  told = q.rule (journal_of h) lane (question lane)
+  told = q.rule (journal_of h) lane (question q.ticks lane)
 
   abbrev may : Bool
-  may = script_of q (journal_of h) lane (question lane)
+  may = script_of q (journal_of h) lane (question q.ticks lane)
 
-  said : HasNews (answer_after q) h lane → has_news q (journal_of h) lane ≡ true
+  said : HasNews (answer_after q) q.ticks h lane → has_news q (journal_of h) lane ≡ true
   said news = by_bool may
       (λ b. (cond b told reply.Astray ≡ reply.Astray → ⊥)
       → (cond b told reply.Astray ≡ reply.Idle → ⊥) → b && not (is_idle told) ≡ true)
       (λ _ _ f. not_idle told f) (λ _ f _. absurd (f refl)) news.0 news.1
 
-  so : has_news q (journal_of h) lane ≡ true → HasNews (answer_after q) h lane
+  so : has_news q (journal_of h) lane ≡ true → HasNews (answer_after q) q.ticks h lane
   so on =
       let parts = and_parts may (not (is_idle told)) on in (
-        in_script q is h lane (question lane) parts.0,
+        in_script q is h lane (question q.ticks lane) parts.0,
         λ quiet. idle_is told (ap (λ b. cond b told reply.Astray) (sym parts.0) ∙ quiet) parts.1,
       )
 
@@ -130,7 +150,8 @@ pub news_are : (q : Discipline) (s : State) (h : History) (seated : ℕ → Opti
     (chosen : ℕ → Choice) (ticked : Reply) (lane : ℕ)
     → tables.Stands q.plan q.seats s (journal_of h) → LegalBy q (journal_of h)
     → Serves q s (journal_of h) seated chosen ticked
-    → SaysNews (answer_after q) h lane (has_news_by s seated chosen lane)
+    → SaysNews (answer_after q) q.ticks h lane (has_news_by s seated
+    (record { ask = chosen (lane / 2); tick = ticked }) q.ticks lane)
 news_are q s h seated chosen ticked lane st legal v =
     let same = news_at q s (journal_of h) seated chosen ticked st legal v lane (seated (lane / 2))
     refl in

@@ -1,19 +1,29 @@
 // What is known of a lane before it calls.
 ghost use Rattle.std.specs.Prelude.{◌≡◌, ◌<◌, ◌/◌, not, is_some};
+ghost use Rattle.run_plan.specs.Sound.{Sound};
 ghost use Rattle.core_state.specs.Choices.{Reads};
 ghost use Rattle.core_state.specs.Machine.{takeable};
 ghost use Rattle.core_contract.specs.News.{question};
 ghost use Rattle.spawn_core.specs.Outlook.{is_idle, told_by};
+ghost use Rattle.spawn_core.specs.Turns.{orders_of};
 
 use crate::policy::Policy;
 use core_state::{Choice, State};
-use exec_journal::Call;
+use exec_journal::{Call, Plan, Reply};
 
-/// What a lane asks that owes nothing: a proxy lane an order, a tap lane a line.
-pub fn question(lane: u32) -> Call
-    ensures { result ≡ question lane }
+/// What a lane asks that owes nothing: one that makes Ticks a Tick, any other proxy lane an order, a
+/// tap lane a line.
+pub fn question<P: Policy>(policy: &P, plan: &Plan, lane: u32) -> Call
+    requires { Sound plan.now }
+    ensures { result ≡ question (P.discipline (P.basis policy.now plan.now)).ticks lane }
 {
-    if lane % 2 == 0 { Call::Ask } else { Call::Take }
+    if policy.ticks(plan, lane) {
+        Call::Tick
+    } else if lane % 2 == 0 {
+        Call::Ask
+    } else {
+        Call::Take
+    }
 }
 
 /// Whether a lane that may ask would be told anything but Idle.
@@ -21,9 +31,14 @@ pub fn is_awaited<P: Policy>(policy: &P, state: &State, lane: u32) -> bool
     requires there { P.reads policy.now state.now }
     requires berth { lane / 2 < (P.discipline (P.basis policy.now state.now.plan)).seats }
     requires reads { Reads state.now (lane / 2) }
-    ensures { result ≡ not (is_idle (told_by state.now (P.chosen policy.now state.now) lane)) }
+    requires sound { Sound state.now.plan }
+    ensures { result ≡ not (is_idle (told_by state.now
+        (orders_of P.chosen P.ticked policy.now state.now lane)
+        ((P.discipline (P.basis policy.now state.now.plan)).ticks lane) lane)) }
 {
-    if lane % 2 == 0 {
+    if policy.ticks(&state.plan, lane) {
+        !matches!(policy.tick(state), Reply::Idle)
+    } else if lane % 2 == 0 {
         !matches!(policy.choose(state, lane / 2), Choice::Idle)
     } else {
         may_take(state, lane / 2) || state.is_over()

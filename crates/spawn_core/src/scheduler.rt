@@ -17,13 +17,14 @@ ghost use Rattle.spawn_core.specs.News as news;
 ghost use Rattle.spawn_core.specs.Orderly.{Complete, Orderly};
 ghost use Rattle.spawn_core.specs.Outlook.{has_news, has_news_by};
 ghost use Rattle.spawn_core.specs.Stands.{Stands, StandsIn};
+ghost use Rattle.spawn_core.specs.Turns.{orders_of};
 
 use crate::earliest::EarliestFirst;
 use crate::lanes::lane_owes;
 use crate::outlook::{is_awaited, question};
 use crate::policy::Policy;
 use crate::tables::{action_tables, lane_tables, line_tables};
-use crate::turn::step;
+use crate::turn::{may_make, step};
 use core_contract::Rules;
 use core_state::State;
 use core_tables::Files;
@@ -185,8 +186,11 @@ impl<P: Policy> Rules for Core<P> {
 
     ghost terms = { λ b. terms_in (P.discipline b) };
 
+    ghost ticks = { λ b. (P.discipline b).ticks };
+
     ghost news = { λ m lane. has_news_by m.state (P.seated m.policy m.state)
-        (P.chosen m.policy m.state) lane };
+        (orders_of P.chosen P.ticked m.policy m.state lane)
+        (P.discipline (basis_of P.basis m)).ticks lane };
 
     // The core's own step, whose clauses speak of journals.
     fn step(&mut self, lane: u32, call: &Call) -> Reply {
@@ -195,17 +199,17 @@ impl<P: Policy> Rules for Core<P> {
 
     fn has_news(&self, lane: u32) -> bool
         ensures exact { result ≡ has_news_by self.now.state
-            (P.seated self.now.policy self.now.state) (P.chosen self.now.policy self.now.state)
-            lane }
+            (P.seated self.now.policy self.now.state)
+            (orders_of P.chosen P.ticked self.now.policy self.now.state lane)
+            (P.discipline (basis_of P.basis self.now)).ticks lane }
         ensures news { (b : P.Basis) (j : List Entry)
             → StandsIn (P.discipline b) (P.stands b) self.now j
             → result ≡ has_news (P.discipline b) j lane }
     {
         match self.policy.seat(&self.state, lane / 2) {
             Some(seat) => {
-                self.state
-                    .lanes
-                    .allows(&self.state.plan, seat.kind, lane, &question(lane))
+                let asked = question(&self.policy, &self.state.plan, lane);
+                may_make(&self.policy, &self.state, seat, lane, &asked)
                     && is_awaited(&self.policy, &self.state, lane)
             }
             None => false,
@@ -256,6 +260,8 @@ impl<P: Policy> Rules for Core<P> {
     ghost proxies_do = { λ q. laws.proxies_do (P.discipline q) (P.is_discipline q) };
 
     ghost proxies_do_only = { λ q. laws.proxies_do_only (P.discipline q) (P.is_discipline q) };
+
+    ghost tickers_may_tick = { λ q. laws.tickers_may_tick (P.discipline q) (P.is_discipline q) };
 
     ghost proxies_may_halt = { λ q. laws.proxies_may_halt (P.discipline q) (P.is_discipline q) };
 

@@ -41,9 +41,15 @@ pub fn step<P: Policy>(
     }
 }
 
-// The lane may make the call, where this stands at its berth. One that makes Ticks may make one
-// wherever it may ask.
-fn may_make<P: Policy>(policy: &P, state: &State, seat: BerthGroup, lane: u32, call: &Call) -> bool
+/// The lane may make the call, where this stands at its berth. One that makes Ticks may make one
+/// wherever it may ask.
+pub fn may_make<P: Policy>(
+    policy: &P,
+    state: &State,
+    seat: BerthGroup,
+    lane: u32,
+    call: &Call,
+) -> bool
     requires { Sound state.now.plan }
     ensures { result ≡ may_make state.now seat.kind
         ((P.discipline (P.basis policy.now state.now.plan)).ticks lane) lane call.now }

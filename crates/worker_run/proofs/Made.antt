@@ -120,11 +120,11 @@ during_is false = refl
 -- what lanes have laid out is left where they ran
 pub ran_whole : (legal : History → Type 0) (rule : History → ℕ → Call → Reply)
     (terms : Terms) (speeches : List Speech) (settings : Settings) (work : List WorkAction)
-    (before : List BerthTold) (x : Left) → AreNewBerths (length speeches) before
-    → HasRun legal rule terms speeches settings work before x
-    → WhereWhole (stage_of x.halted) (LanesRan legal rule terms speeches settings work
+    (before : List BerthTold) (beside : ℕ) (x : Left) → AreNewBerths (length speeches) before
+    → HasRun legal rule terms speeches settings work before beside x
+    → WhereWhole (stage_of x.halted) (LanesRan legal rule terms speeches settings work beside
     (stage_of x.halted) x)
-ran_whole legal rule terms speeches settings work before x new run = where_whole x.halted _
+ran_whole legal rule terms speeches settings work before beside x new run = where_whole x.halted _
     (record { before = before; new = new; run = run; halted = during_is x.halted })
 
 -- ---- the end of a run

@@ -206,3 +206,13 @@ module _ {X : Type 0} (course : List FloorRead → Result X RunFault → Type 0)
   pub fault_sink : (f : RunFault) (n : ℕ) → Led f
       → Counts n n (Some f ≡ Some fault.SinkFailed)
   fault_sink f n h = record { later = omega arith; rose = λ e. absurd (not_sink f h e) }
+
+-- what holds where no lane was started holds where no run is told
+pub unless_lost : (when : Option Stage) (t : Task) (f : Option RunFault) (o : Option Task)
+    (P : Type 0) → IsRunEnd when t f o → WhereLost when P → UnlessRun o P
+unless_lost None t f o P kind lost = subst (λ (o : Option Task). UnlessRun o P) (sym kind.1) tt
+unless_lost (Some stage.During) t f o P kind lost =
+    subst (λ (o : Option Task). UnlessRun o P) (sym kind.1) tt
+unless_lost (Some stage.Before) t f o P kind lost =
+    subst (λ (o : Option Task). UnlessRun o P) (sym kind.1) lost
+unless_lost (Some stage.After) t f o P kind lost = absurd kind

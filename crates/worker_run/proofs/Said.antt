@@ -85,8 +85,9 @@ all_ok p j h = ok_from p j 0 p.actions
 pub record RanBy (q : Discipline) (t : Task) (when : Option Stage) (x : Left) : Type 0 where
   pub settings : Settings
   pub of_task : AreSettingsOf t settings
+  pub beside : ℕ
   pub lanes : LanesRan (CameAbout q) (answer_after q) (terms_in q) t.speeches.items settings
-      t.work.actions when x
+      t.work.actions beside when x
 
 whole_as : (when : Option Stage) (P Q : Type 0) → (P → Q) → WhereWhole when P → WhereWhole when Q
 whole_as None P Q f p = f p
@@ -96,16 +97,17 @@ whole_as (Some stage.After) P Q f p = p
 
 module _ (legal : History → Type 0) (rule : History → ℕ → Call → Reply) (terms : Terms)
     (t : Task) (q : Discipline) (lanes : ℕ) (goes : GoesBy legal rule terms t q lanes)
-    (when : Option Stage) (x : Left) where
+    (beside : ℕ) (when : Option Stage) (x : Left) where
   -- so they ran by these speeches, settings and work
   abbrev pub HasRan : List Speech → Settings → List WorkAction → Type 0
-  HasRan spoken settings work = LanesRan legal rule terms spoken settings work when x
+  HasRan spoken settings work = LanesRan legal rule terms spoken settings work beside when x
 
   ruled : (settings : Settings) → AreSettingsOf t settings
       → HasRan t.speeches.items settings t.work.actions → RanBy q t when x
   ruled settings of_task ran = record {
     settings = settings;
     of_task = of_task;
+    beside = beside;
     lanes = record {
       before = ran.before;
       new = ran.new;

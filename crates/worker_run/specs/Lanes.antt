@@ -63,15 +63,15 @@ abbrev pub is_during : Option Stage → Bool
 is_during (Some stage.During) = true
 is_during _ = false
 
--- All lanes of new berths ran by the rule of a core, one berth for each speech: they have one
--- history, and what is left is what that history says. A lane has halted exactly where memory was
--- wanted while they were at work.
+-- All lanes of new berths ran by the rule of a core, one berth for each speech, and so many lanes
+-- beside them: they have one history, and what is left is what that history says. A lane has halted
+-- exactly where memory was wanted while they were at work.
 pub record LanesRan (legal : History → Type 0) (rule : History → ℕ → Call → Reply)
     (terms : Terms) (speeches : List Speech) (settings : Settings) (work : List WorkAction)
-    (fault : Option Stage) (left : Left) : Type 0 where
+    (beside : ℕ) (fault : Option Stage) (left : Left) : Type 0 where
   pub before : List BerthTold
   pub new : AreNewBerths (length speeches) before
-  pub run : HasRun legal rule terms speeches settings work before left
+  pub run : HasRun legal rule terms speeches settings work before beside left
   pub halted : left.halted ≡ is_during fault
 
 -- Lanes ran, and what they left is there: memory didn't run out, or only while they were at work. It is

@@ -1,5 +1,5 @@
 // The top call.
-ghost use Rattle.std.specs.Prelude.{◌≡◌, ℕ, [], Some, None, map, string_bytes};
+ghost use Rattle.std.specs.Prelude.{◌≡◌, ℕ, [], Some, None, length, map, string_bytes};
 ghost use Rattle.build_report.specs.Report.{report_of};
 ghost use Rattle.outside.specs.Causes.{Counts};
 ghost use Rattle.core_contract.specs.Disciplines.{Discipline};
@@ -8,10 +8,12 @@ ghost use Rattle.run_tasks.specs.declared.task.Task.{Task};
 ghost use Rattle.tool_words.specs.Options.{options_of};
 ghost use Rattle.worker_run.specs.Ends.{IsEndOf, IsPutEnd, IsReportEnd, IsRunEnd, Puts, Reports, report_by, status_by};
 ghost use Rattle.worker_run.specs.Headline.{GoesBy, RunKeeps, TaskKeeps, head_of};
+ghost use Rattle.lane_runs.specs.Paced.{MayPace};
 ghost use Rattle.worker_run.specs.Lanes.{FitsTerms, WhereWhole};
+ghost use Rattle.worker_run.specs.Pacing.{PacesRun};
 
 use crate::ended::Ended;
-use crate::running::{Ran, run_plan};
+use crate::running::{Ran, Surroundings, run_plan};
 use build_report::{RunFault, Stage, report};
 use core_contract::Rules;
 use exec_journal::Journal;
@@ -25,6 +27,7 @@ use spawn_core::Core;
 use std::alloc::Global;
 use std::sync::Wait;
 use std::thread::Threads;
+use tick_lane::{EagerPacer, Pacer};
 
 /// Runs the actions of the list that the words name, on this floor, and puts the report.
 ///
@@ -124,6 +127,51 @@ where
     ensures sink { Counts (O.told out.old).faults (O.told out.new).faults
         (result.fault ≡ Some RunFault.SinkFailed) }
 {
+    let pacer: Option<EagerPacer> = None;
+    let (ended, _none) = run_paced(rt, alloc, task, core, Surroundings { floor, pacer }, out);
+    ended
+}
+
+/// Does what `run_and_report` does, with a lane that makes Ticks beside the others where there is a
+/// pacer. It is the proxy lane of the berth behind those that have speeches.
+///
+/// It gives back the pacer too. Where a run is told, that lane has made Ticks and nothing else,
+/// until it was told to stop or has halted; as many were noted as the pacer has counted ticks,
+/// unless its count stands at its last value.
+pub fn run_paced<C: Rules, W: Pacer, R: Threads + Wait + Sync, F: Floor, O: Sink>(
+    rt: &R,
+    alloc: Global,
+    task: Task,
+    core: C,
+    around: Surroundings<F, W>,
+    out: &mut O,
+) -> (Ended<F>, Option<W>)
+where
+    C: Send,
+    W: Send,
+    F::Berth: Send,
+    F::Place: Send,
+    <F::Berth as Berth>::Feed: Send,
+    <F::Berth as Berth>::Tap: Send,
+    <F::Berth as Berth>::Child: Send,
+    requires core { C.stands core [] }
+    requires sound { Sound task.plan }
+    requires fits { FitsTerms (C.terms (C.plan core)) task }
+    requires paced { MayPace (C.terms (C.plan core)) (C.ticks (C.plan core))
+        (length task.speeches.items) around.pacer }
+    // By each discipline that the core goes by, all that is said of a run but what was read.
+    ensures run { (q : Task → Discipline) (lanes : Task → ℕ)
+        → GoesBy (C.legal (C.plan core)) (C.rule (C.plan core)) (C.terms (C.plan core)) task
+        (q task) (lanes task)
+        → TaskKeeps (λ t. head_of (q t) (lanes t)) (F.told around.floor) result.0 }
+    ensures ticks { PacesRun W.told around.pacer result.1 result.0 }
+    ensures ended { IsEndOf task result.0.fault result.0.task }
+    // The floor is read no more.
+    ensures log { result.0.floor.log ≡ (F.told around.floor).log }
+    ensures report { Reports result.0 (O.told out.old) (O.told out.new) }
+    ensures sink { Counts (O.told out.old).faults (O.told out.new).faults
+        (result.0.fault ≡ Some RunFault.SinkFailed) }
+{
     let settings = Settings {
         plan: &task.plan,
         commands: task.commands.as_slice(),
@@ -134,8 +182,8 @@ where
         settings: &settings,
         actions: task.work.actions.as_slice(),
     };
-    let ran = run_plan(rt, alloc, core, &means, floor);
-    conclude(alloc, task, ran, out)
+    let (ran, pacer) = run_plan(rt, alloc, core, &means, around);
+    (conclude(alloc, task, ran, out), pacer)
 }
 
 // Ends the run: with the report where memory was never wanted.

@@ -4,6 +4,9 @@ ghost use Rattle.lane_runs.specs.Seats.{SpeechesFit};
 ghost use Rattle.proxy_deeds.specs.Settings.{AreOfPlan};
 ghost use Rattle.build_report.specs.declared.fault.Stage.TheVariants as stage;
 ghost use Rattle.proxy_steps.specs.Work.{IsWorkOf};
+ghost use Rattle.core_contract.specs.Duties.{proxy_lane};
+ghost use Rattle.crew_beside.specs.Beside.{count_of};
+ghost use Rattle.lane_runs.specs.Paced.{HasPaced, MayPace};
 ghost use Rattle.lane_runs.specs.Runs.{laid_told};
 ghost use Rattle.outside.specs.Told.{SameFiles};
 ghost use Rattle.worker_run.specs.Lanes.{HasMade, IsUnused, LanesRan, MakesUpTo, WhereLost, WhereWhole};
@@ -14,12 +17,22 @@ use crate::objects::{NewObjects, make_objects};
 use build_report::Stage;
 use core_contract::Rules;
 use exec_journal::Journal;
-use lane_runs::{AllMeans, Laid, LaidOut, Unrun, run_lanes};
+use lane_runs::{AllMeans, Laid, LaidOut, Run, Unrun, run_lanes};
 use outside::{Berth, Floor};
 use std::alloc::Global;
 use std::marker::Model;
 use std::sync::Wait;
 use std::thread::Threads;
+use tick_lane::Pacer;
+
+/// What a run is given of the outside beside its sink.
+#[derive(Drop)]
+pub struct Surroundings<F, W> {
+    /// Where files are read, and berths and places are made.
+    pub floor: F,
+    /// What paces the lane that makes Ticks, where the core has one.
+    pub pacer: Option<W>,
+}
 
 /// What a run of lanes leaves.
 #[derive(Drop)]
@@ -86,18 +99,21 @@ impl<F: Floor> Ran<F> {
 }
 
 /// Runs the actions of a plan by this core: makes a place for each action and a berth for each
-/// speech, both in order and the places first, and runs the two lanes of each berth on threads.
+/// speech, both in order and the places first, and runs the two lanes of each berth on threads. Where
+/// there is a pacer, the lane that makes Ticks runs beside them.
 ///
 /// The fault says when memory ran out. With `During` some lane has halted. With `Before` no lane
-/// was started, and what was made is left, new. What lanes left is laid out without memory.
-pub fn run_plan<F: Floor, C: Rules, R: Threads + Wait + Sync>(
+/// was started, and what was made is left, new. What lanes left is laid out without memory. The pacer
+/// is given back, with the ticks that it has counted.
+pub fn run_plan<F: Floor, C: Rules, W: Pacer, R: Threads + Wait + Sync>(
     rt: &R,
     alloc: Global,
     core: C,
     means: &AllMeans<'_>,
-    floor: F,
-) -> Ran<F>
+    around: Surroundings<F, W>,
+) -> (Ran<F>, Option<W>)
 where
+    W: Send,
     F::Berth: Send,
     F::Place: Send,
     C: Send,
@@ -108,34 +124,55 @@ where
     requires actions { length means.now.actions.now ≤ most_actions }
     requires seats { length means.now.speeches.now ≤ (C.terms (C.plan core)).berths }
     requires few { length means.now.speeches.now ≤ most_berths }
+    requires paced { MayPace (C.terms (C.plan core)) (C.ticks (C.plan core))
+        (length means.now.speeches.now) around.pacer }
     requires speeches { SpeechesFit (C.terms (C.plan core)).remote means.now.speeches.now }
     requires settings { AreOfPlan (C.terms (C.plan core)).plan means.now.settings.now }
     requires work { IsWorkOf (C.terms (C.plan core)) means.now.actions.now }
     // Where lanes ran, what is left is what their one history says.
-    ensures run { WhereWhole result.fault (LanesRan (C.legal (C.plan core)) (C.rule (C.plan core))
-        (C.terms (C.plan core)) means.now.speeches.now means.now.settings.now
-        means.now.actions.now result.fault result.left) }
-    ensures lost { WhereLost result.fault (IsUnused result.left) }
+    ensures run { WhereWhole result.0.fault (LanesRan (C.legal (C.plan core))
+        (C.rule (C.plan core)) (C.terms (C.plan core)) means.now.speeches.now
+        means.now.settings.now means.now.actions.now (count_of around.pacer) result.0.fault
+        result.0.left) }
+    ensures ticks { WhereWhole result.0.fault (HasPaced W.told
+        (proxy_lane (length means.now.speeches.now)) around.pacer result.1
+        result.0.left.journal) }
+    ensures lost { WhereLost result.0.fault (IsUnused result.0.left) }
+    ensures unpaced { WhereLost result.0.fault (result.1 ≡ around.pacer) }
     // All that the floor has made is left, and it has never made more than a plan may have.
-    ensures made { HasMade (F.told floor) result.floor result.left }
-    ensures few { MakesUpTo most_berths most_actions (F.told floor) result.floor }
-    ensures files { SameFiles (F.told floor) result.floor }
-    ensures log { result.floor.log ≡ (F.told floor).log }
-    ensures count { (F.told floor).faults ≤ result.floor.faults }
+    ensures made { HasMade (F.told around.floor) result.0.floor result.0.left }
+    ensures few { MakesUpTo most_berths most_actions (F.told around.floor) result.0.floor }
+    ensures files { SameFiles (F.told around.floor) result.0.floor }
+    ensures log { result.0.floor.log ≡ (F.told around.floor).log }
+    ensures count { (F.told around.floor).faults ≤ result.0.floor.faults }
 {
-    let mut floor = floor;
+    let Surroundings { mut floor, pacer } = around;
     let seats = means.speeches.len();
     let objects = make_objects(alloc, &mut floor, seats, means.actions.len());
     let all = objects.has_all(seats, means.actions.len());
     let NewObjects { places, berths } = objects;
     if !all {
-        return Ran::unused(alloc, floor, Some(Stage::Before), berths, places);
+        let ran = Ran::unused(alloc, floor, Some(Stage::Before), berths, places);
+        return (ran, pacer);
     }
-    match run_lanes(rt, alloc, core, Unrun { berths, places }, means) {
-        Ok(laid) => Ran::of(floor, laid),
+    let unrun = Unrun {
+        berths,
+        places,
+        pacer,
+    };
+    match run_lanes(rt, alloc, core, unrun, means) {
+        Ok(run) => {
+            let Run { laid, pacer } = run;
+            (Ran::of(floor, laid), pacer)
+        }
         Err(unrun) => {
-            let Unrun { berths, places } = unrun;
-            Ran::unused(alloc, floor, Some(Stage::Before), berths, places)
+            let Unrun {
+                berths,
+                places,
+                pacer,
+            } = unrun;
+            let ran = Ran::unused(alloc, floor, Some(Stage::Before), berths, places);
+            (ran, pacer)
         }
     }
 }

@@ -22,7 +22,7 @@ all_there-places-requires-clause-room g c =
 
 pub returns-clause-berths : goal.returns-clause-berths
 returns-clause-berths g c =
-    c.berths_of.ensures ∙ ap (λ (bs : List g.row.B.Denot). bs ++ berths_in c.args.unstarted.lanes.items)
+    c.berths_of.ensures ∙ ap (λ (bs : List g.row.B.Denot). bs ++ berths_in c.args.unstarted.crew.lanes.items)
     c.requires.berths.empty
 
 pub returns-clause-places : goal.returns-clause-places

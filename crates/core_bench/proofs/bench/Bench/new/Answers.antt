@@ -14,5 +14,6 @@ returns-in-Ok-clause-stands g c = (
       (subst (λ (n : ℕ). c.in-Ok.shelf.taps.items ≡ replicate n None) c.berths.ensures
       c.in-Ok.ensures.taps)
       c.in-Ok.ensures.places,
-  c.new-in-Ok.ensures (g.C.Rules.rule (g.C.Rules.plan c.args.core)),
+  c.new-in-Ok.ensures (g.C.Rules.rule (g.C.Rules.plan c.args.core))
+      (g.C.Rules.ticks (g.C.Rules.plan c.args.core)),
 )

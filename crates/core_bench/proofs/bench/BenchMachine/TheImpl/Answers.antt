@@ -49,12 +49,14 @@ turn-tells g _ _ _ _ c =
     × Lies g.B.Child.Child.told g.B.Tap.Tap.told g.P.Place.told (g.C.Rules.terms q) h
     c.args.self.now.shelf.children.items c.args.self.now.shelf.taps.items
     c.args.self.now.shelf.places.items
-    × Wakes (g.C.Rules.rule q) h c.args.self.now.waking).
-    wakes_next (g.C.Rules.rule (g.C.Rules.plan later)) (g.C.Rules.news later)
+    × Wakes (g.C.Rules.rule q) (g.C.Rules.ticks q) h c.args.self.now.waking).
+    wakes_next (g.C.Rules.rule (g.C.Rules.plan later)) (g.C.Rules.ticks (g.C.Rules.plan later))
+    (g.C.Rules.news later)
     (g.C.Rules.terms (g.C.Rules.plan later)).berths
     (λ k l x n. law.lanes_are_known (g.C.Rules.plan later) k l x n) h lane c.args.call.now
     c.result.0 c.args.self.now.waking c.new.self.now.waking c.ensures.waking
-    (subst (λ (p : g.row.C-Plan.Denot). Wakes (g.C.Rules.rule p) h c.args.self.now.waking)
+    (subst (λ (p : g.row.C-Plan.Denot). Wakes (g.C.Rules.rule p) (g.C.Rules.ticks p) h
+    c.args.self.now.waking)
     (sym c.ensures.plan) s.2)
     (λ l. law.news_are later (History_after h lane c.args.call.now c.result.0) l
     (c.ensures.stands h s.0)) in

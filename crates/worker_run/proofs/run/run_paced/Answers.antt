@@ -1,21 +1,30 @@
 -- What the lanes of the task say is what is told.
-use Rattle.std.proofs.Common.{◌≡◌, refl, ◌∙◌}
+use Rattle.std.proofs.Common.{◌≡◌, List, length, refl, subst, ◌∙◌}
+use Rattle.core_contract.specs.Duties.{proxy_lane}
+use Rattle.run_plan.specs.declared.plan.Speech.{Speech}
+use Rattle.run_tasks.specs.declared.task.Task.{Task}
+use Rattle.worker_run.specs.Lanes.{WhereWhole}
+use Rattle.worker_run.specs.Seen.{Left}
 use Rattle.lane_runs.specs.Layout.{has_halt}
 use Rattle.worker_run.proofs.Made.{in_time}
 use Rattle.worker_run.proofs.Reading.{task_ended, task_floor, task_nothing, task_told}
 use Rattle.worker_run.proofs.Said.{RanBy, during_said, flag_is, flagged, halts, has_outs, has_pipes, has_race, has_rooms, has_unsaid, is_accounted, is_complete, is_legal, is_paired, is_stopped, on_run, succeeds, where_ruled}
 use Rattle.worker_run.specs.Headline.{HasOuts, HasPipes, HasRace, HasRooms, HasUnsaid, IsAccounted, IsComplete, IsKept, IsLegal, IsPaired, IsSound, IsStopped, head_of}
+use Rattle.crew_beside.specs.Beside.{count_of}
+use Rattle.lane_runs.specs.Paced.{HasPaced}
+use Rattle.worker_run.proofs.Reading.{unless_lost}
+use Rattle.worker_run.specs.Pacing.{tick_lane_of}
 use Rattle.worker_run.specs.Ends.{is_halted}
 use Rattle.worker_run.specs.Histories.{history_of}
-use Rattle.worker_run.proofs.run.run_and_report.Goals as goal
+use Rattle.worker_run.proofs.run.run_paced.Goals as goal
 
 pub conclude-requires-clause-in_time : goal.conclude-requires-clause-in_time
 conclude-requires-clause-in_time g c =
-    in_time c.run_plan-ran.result.fault _ c.run_plan-ran.ensures.run
+    in_time c.run_plan-ran.result.0.fault _ c.run_plan-ran.ensures.run
 
 pub returns-clause-ended : goal.returns-clause-ended
 returns-clause-ended g c =
-    task_ended c.run_plan-ran.result.fault c.args.task c.conclude.result.fault
+    task_ended c.run_plan-ran.result.0.fault c.args.task c.conclude.result.fault
     c.conclude.result.task c.conclude.ensures.kind
 
 pub returns-clause-log : goal.returns-clause-log
@@ -24,7 +33,7 @@ returns-clause-log g c = rw (c.conclude.ensures.floor) c.run_plan-ran.ensures.lo
 pub returns-clause-run : goal.returns-clause-run
 returns-clause-run g c q lanes goes =
     let t = c.args.task in
-    let ran = c.run_plan-ran.result in
+    let ran = c.run_plan-ran.result.0 in
     let when = ran.fault in
     let x = ran.left in
     let end = c.conclude.result in
@@ -32,7 +41,8 @@ returns-clause-run g c q lanes goes =
     let kind = e.kind in
     let r = g.C.Rules in
     let p = g.C.Rules.plan c.args.core in
-    let run = where_ruled (r.legal p) (r.rule p) (r.terms p) t (q t) (lanes t) goes when x
+    let run = where_ruled (r.legal p) (r.rule p) (r.terms p) t (q t) (lanes t) goes
+    (count_of c.args.around.pacer) when x
     c.as_slice-2.result.now _ c.as_slice-3.result.now c.run_plan-ran.ensures.run
     (record { plan = refl; commands = c.as_slice.ensures.value; verbose = refl })
     c.as_slice-2.ensures.value c.as_slice-3.ensures in
@@ -83,4 +93,24 @@ returns-clause-run g c q lanes goes =
             (task_ended when t end.fault end.task kind) failed);
       };
       files = rw (e.floor) c.run_plan-ran.ensures.files;
+    }
+
+pub returns-clause-ticks : goal.returns-clause-ticks
+returns-clause-ticks g c =
+    let t = c.args.task in
+    let when = c.run_plan-ran.result.0.fault in
+    let x = c.run_plan-ran.result.0.left in
+    let end = c.conclude.result in
+    let e = c.conclude.ensures in
+    let before = c.args.around.pacer in
+    let after = c.run_plan-ran.result.1 in
+    let Paced : Task → Left → Type 0 =
+    λ t x. HasPaced g.W.Pacer.told (tick_lane_of t) before after (history_of x.journal) in
+    record {
+      run = on_run when t x end (Paced t x) Paced e.kind
+          (subst (λ (spoken : List Speech). WhereWhole when (HasPaced g.W.Pacer.told
+          (proxy_lane (length spoken)) before after (history_of x.journal)))
+          c.as_slice-2.ensures.value c.run_plan-ran.ensures.ticks) e.left (λ p. p);
+      none = unless_lost when t end.fault end.task (after ≡ before) e.kind
+          c.run_plan-ran.ensures.unpaced;
     }

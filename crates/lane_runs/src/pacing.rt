@@ -1,0 +1,35 @@
+//! The lane that makes Ticks, before it runs and after.
+ghost use Rattle.std.specs.Prelude.{◌≡◌};
+ghost use Rattle.lane_runs.specs.Paced.{pacer_back, pacer_left, seat_for};
+
+use tick_lane::{TickLeft, TickSeat};
+
+/// The proxy lane of this berth with the pacer, where there is one.
+pub(crate) fn seat_for<W: Drop>(berth: u32, pacer: Option<W>) -> Option<TickSeat<W>>
+    ensures { result ≡ seat_for berth pacer }
+{
+    match pacer {
+        Some(pacer) => Some(TickSeat { berth, pacer }),
+        None => None,
+    }
+}
+
+/// The pacer of the lane that has run.
+pub(crate) fn pacer_left<W: Drop>(left: Option<TickLeft<W>>) -> Option<W>
+    ensures { result ≡ pacer_left left }
+{
+    match left {
+        Some(TickLeft { pacer, end: _ }) => Some(pacer),
+        None => None,
+    }
+}
+
+/// The pacer of a lane that has not run.
+pub(crate) fn pacer_back<W: Drop>(seat: Option<TickSeat<W>>) -> Option<W>
+    ensures { result ≡ pacer_back seat }
+{
+    match seat {
+        Some(TickSeat { berth: _, pacer }) => Some(pacer),
+        None => None,
+    }
+}
