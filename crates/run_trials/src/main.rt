@@ -13,6 +13,7 @@
 //! | `race WORD WORD ..` | the same without the run's lines, and of its report how many lines it has and the last one, where more isn't determined |
 //! | `latest WORD WORD ..` | the same as `play`, by a policy that takes the latest queued action of a group first |
 //! | `shared WORD WORD ..`, `crowd WORD WORD ..` | the same as `play` and `race`, where worker keys share berths |
+//! | `choose WORD WORD ..` | the same as `play`, by strategies, with a delay by the clock; first the action that no strategy supports, if there is one |
 //! | `meet WORD WORD ..` | its status and its report, where each of two actions writes only once the other does too |
 //! | `reads`, `writes` | what the floor and the places tell of the last run |
 //! | `room`, `given` | what its first berth and its first line tell |
@@ -35,11 +36,14 @@ use outside_real::{RealFloor, RealSink};
 use plain_values::NoMemory;
 use played::Shown;
 use shared_runs::run_shared;
+use spawn_runs::{Strategic, run_strategies};
 use std::alloc::Global;
 use std::io::{ErrorKind, Print, Read};
 use std::sync::Wait;
 use std::thread::Threads;
+use std::time::Clock;
 use std::{io, str};
+use tick_lane::ClockPacer;
 use worker_run::{Ended, run_build};
 
 fn main(rt: HostRuntime) -> io::Result<()> {
@@ -61,7 +65,7 @@ fn main(rt: HostRuntime) -> io::Result<()> {
     Ok(())
 }
 
-fn play_all<R: Threads + Wait + Print + Copy + Drop + Send + Sync>(
+fn play_all<R: Threads + Wait + Clock + Print + Copy + Drop + Send + Sync>(
     rt: &R,
     alloc: Global,
     text: &str,
@@ -72,7 +76,7 @@ fn play_all<R: Threads + Wait + Print + Copy + Drop + Send + Sync>(
 }
 
 // What the next run has, and what became of the last one, is lent to what may end early.
-fn play_lines<R: Threads + Wait + Print + Copy + Drop + Send + Sync>(
+fn play_lines<R: Threads + Wait + Clock + Print + Copy + Drop + Send + Sync>(
     rt: &R,
     alloc: Global,
     text: &str,
@@ -87,7 +91,7 @@ fn play_lines<R: Threads + Wait + Print + Copy + Drop + Send + Sync>(
 }
 
 // What is printed for the line.
-fn play<R: Threads + Wait + Copy + Drop + Send + Sync>(
+fn play<R: Threads + Wait + Clock + Copy + Drop + Send + Sync>(
     rt: &R,
     alloc: Global,
     line: &str,
@@ -101,6 +105,7 @@ fn play<R: Threads + Wait + Copy + Drop + Send + Sync>(
         "latest" => run(rt, alloc, rest, case, last, How::all_by(By::Latest)),
         "shared" => run(rt, alloc, rest, case, last, How::all_by(By::Shared)),
         "crowd" => run(rt, alloc, rest, case, last, How::totals_by(By::Shared)),
+        "choose" => choose(rt, alloc, rest, case, last),
         "meet" => meet(rt, alloc, rest, case),
         "reads" | "writes" | "room" | "given" => tell_last(alloc, last, kind),
         _ => case.note(alloc, line),
@@ -157,6 +162,29 @@ fn run<R: Threads + Wait + Copy + Drop + Send + Sync>(
     match last {
         Some(ended) => played::tell(alloc, ended, how.shown, report_in(&out)),
         None => Ok(String::from_str(alloc, "no run\n")?),
+    }
+}
+
+fn choose<R: Threads + Wait + Clock + Copy + Drop + Send + Sync>(
+    rt: &R,
+    alloc: Global,
+    line: &str,
+    case: &mut Case,
+    last: &mut Option<Ended<MemFloor<R>>>,
+) -> Result<String, NoMemory> {
+    let (script, mut out, words) = played::stage(alloc, case, line)?;
+    let floor = MemFloor::new(*rt, alloc, script)?;
+    let pacer = ClockPacer::new(rt);
+    let Strategic {
+        ended,
+        refused,
+        pacer: _,
+    } = run_strategies(rt, alloc, words.as_slice(), floor, pacer, &mut out);
+    let told = played::tell(alloc, &ended, Shown::All, report_in(&out))?;
+    *last = Some(ended);
+    match refused {
+        Some(action) => Ok(format!(in alloc; "no strategy for action {action}\n{told}")?),
+        None => Ok(told),
     }
 }
 

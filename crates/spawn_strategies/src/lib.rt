@@ -16,4 +16,5 @@ mod types;
 pub use choosing::chosen;
 pub use placing::chosen_plan;
 pub use reading::read_spawn_words;
+pub use said::other_words;
 pub use types::{ChoiceFault, Name, Rule, SpawnOptions, Strategies};

@@ -116,7 +116,8 @@ fn numbers(alloc: Global, kind: Number, words: &[String]) -> Result<Items<u32>, 
     Ok(Items::of(numbers))
 }
 
-/// The words that say nothing of this.
+/// The words that say nothing of strategies, sandboxes or the delay, in order: those of
+/// `tool_words`.
 ///
 /// # Errors
 ///

@@ -1,0 +1,4 @@
+-- What the run by strategies is proved by.
+pub mod Delaying
+pub mod Silent
+pub mod Led

@@ -1,0 +1,7 @@
+pub mod Worded
+pub mod Placing
+pub mod Berthed
+pub mod Worked
+pub mod Told
+pub mod Sandboxes
+mod Rows

@@ -1,0 +1,91 @@
+// What is read before anything is started: the words, the list, and what its actions read.
+ghost use Rattle.std.specs.Prelude.{◌≡◌, IfOk, Some, map, string_bytes};
+ghost use Rattle.outside.specs.Causes.{Counts};
+ghost use Rattle.outside.specs.Told.{SameFloor};
+ghost use Rattle.run_loading.specs.Reads.{IsFloorFailed};
+ghost use Rattle.spawn_strategies.specs.SpawnOptions.{AreSpawnLimits, spawn_options_of};
+ghost use Rattle.spawn_tasks.specs.Course.{PathRead, SpawnCourse, SpawnLeads};
+ghost use Rattle.spawn_tasks.specs.Faults.{fault_of};
+ghost use Rattle.spawn_tasks.specs.Tasks.{MayBeSpawned};
+
+use crate::faults::NoSpawn;
+use crate::tasks::{SpawnTask, spawn_task_of};
+use outside::Floor;
+use run_loading::{Loaded, RunFault, load};
+use spawn_strategies::{SpawnOptions, read_spawn_words};
+use std::alloc::Global;
+
+// So many worker keys may the list have by its own strategies.
+const MOST_KEYS: u32 = 4096;
+
+/// What the words of a command come to before its lanes are started.
+///
+/// In this order: the words are looked at; the list is read at its path, which may have 4,096
+/// worker keys; its actions' tools and source inputs are read; each action's strategy is chosen;
+/// the request words of those that only their chosen strategies bring to a worker are expanded;
+/// then the commands and the speeches are made. The group of the sandboxed actions has the command
+/// of the sandbox executor with the word `--serve`.
+///
+/// # Errors
+///
+/// The first of these. `Fault`: `Words` where the words aren't accepted, and then nothing is read;
+/// `Absent` or `FloorFailed` for the list, `List` with its first fault, `Absent` or `FloorFailed`
+/// for a tool or an input, `Flags` of the first action whose own strategy has a worker and whose
+/// request words can't be expanded. `NoStrategy` of the first action that no name of its list
+/// supports. `Fault`: `List` with `TooMany` keys where the chosen strategies have more than 48,
+/// `Flags` of the first other action with such a fault. `NoMemory` with `Before` at any time.
+pub fn read_spawn_task<F: Floor>(
+    alloc: Global,
+    words: &[String],
+    floor: &mut F,
+) -> Result<SpawnTask, NoSpawn>
+    ensures course { SpawnLeads (F.told floor.old) (F.told floor.new) result
+        (SpawnCourse (spawn_options_of (map string_bytes words.now))) }
+    ensures runs { IfOk result MayBeSpawned }
+    ensures floor { Counts (F.told floor.old).faults (F.told floor.new).faults
+        (IsFloorFailed (fault_of result)) }
+    ensures files { SameFloor (F.told floor.old) (F.told floor.new) }
+{
+    match read_spawn_words(alloc, words)? {
+        Some(options) => read_by_options(alloc, floor, &options),
+        None => Err(NoSpawn::Fault(RunFault::Words)),
+    }
+}
+
+fn read_by_options<F: Floor>(
+    alloc: Global,
+    floor: &mut F,
+    options: &SpawnOptions,
+) -> Result<SpawnTask, NoSpawn>
+    requires { AreSpawnLimits options.now }
+    ensures course { SpawnLeads (F.told floor.old) (F.told floor.new) result
+        (PathRead options.now options.now.options.list) }
+    ensures runs { IfOk result MayBeSpawned }
+    ensures floor { Counts (F.told floor.old).faults (F.told floor.new).faults
+        (IsFloorFailed (fault_of result)) }
+    ensures files { SameFloor (F.told floor.old) (F.told floor.new) }
+{
+    match &options.options.list {
+        Some(path) => read_at(alloc, floor, options, path.as_str()),
+        None => unreachable!(),
+    }
+}
+
+// Reads the list at this path with its work, and makes the task of both.
+fn read_at<F: Floor>(
+    alloc: Global,
+    floor: &mut F,
+    options: &SpawnOptions,
+    path: &str,
+) -> Result<SpawnTask, NoSpawn>
+    requires { AreSpawnLimits options.now }
+    ensures course { SpawnLeads (F.told floor.old) (F.told floor.new) result
+        (PathRead options.now (Some path.now)) }
+    ensures runs { IfOk result MayBeSpawned }
+    ensures floor { Counts (F.told floor.old).faults (F.told floor.new).faults
+        (IsFloorFailed (fault_of result)) }
+    ensures files { SameFloor (F.told floor.old) (F.told floor.new) }
+{
+    let Loaded { list, work } = load(alloc, path, MOST_KEYS, floor)?;
+    spawn_task_of(alloc, options, &list, work)
+}

@@ -1,0 +1,120 @@
+// What a list comes to by its chosen strategies, made of the list, its work and the options.
+ghost use Rattle.std.specs.Prelude.{◌≡◌, IfOk, length};
+ghost use Rattle.list_actions.specs.Whole.{IsWhole};
+ghost use Rattle.run_plan.specs.Sound.{Sound};
+ghost use Rattle.spawn_strategies.specs.Choices.{Answers, chosen_names};
+ghost use Rattle.spawn_strategies.specs.SpawnOptions.{AreSpawnLimits};
+ghost use Rattle.spawn_tasks.specs.Course.{ListLeads, UnlessMemory};
+ghost use Rattle.spawn_tasks.specs.Tasks.{IsSpawnTask, choice_by};
+
+use crate::faults::NoSpawn;
+use crate::parts::parts_by;
+use crate::wording::reworded;
+use action_list::{ActionList, ListAction, plan_again};
+use plain_values::NoMemory;
+use remote_messages::Work;
+use run_plan::Plan;
+use run_tasks::{Task, commands_of, speeches_of};
+use spawn_strategies::{ChoiceFault, Name, SpawnOptions, Strategies, chosen, chosen_plan};
+use std::alloc::Global;
+
+/// What a list comes to by the chosen strategies, before its lanes are started.
+#[derive(Drop)]
+pub struct SpawnTask {
+    pub task: Task,
+    /// The plan once more, for who schedules.
+    pub twin: Plan,
+    /// How many milliseconds a local branch waits while a remote one runs, 0 to 9999.
+    pub delay: u32,
+}
+
+/// The task of a list that has this work by its own strategies.
+///
+/// # Errors
+///
+/// `NoStrategy` of the first action that no name of its list supports; else `Fault`: `List` with
+/// `TooMany` keys where the chosen strategies have more than 48, `Flags` of the first action whose
+/// request words can't be expanded. `NoMemory` with `Before` at any time.
+pub fn spawn_task_of(
+    alloc: Global,
+    options: &SpawnOptions,
+    list: &ActionList,
+    work: Work,
+) -> Result<SpawnTask, NoSpawn>
+    requires options { AreSpawnLimits options.now }
+    requires list { IsWhole list.now.actions }
+    requires worked { length work.actions ≡ length list.now.actions }
+    ensures { UnlessMemory result (ListLeads options.now list.now.actions work.actions result) }
+{
+    let plan = plan_by(alloc, options, list)?;
+    let actions = list.actions.as_slice();
+    let names = chosen_names(alloc, &options.strategies, actions)?;
+    let work = reworded(alloc, actions, names.as_slice(), work)?;
+    Ok(task_with(alloc, options, list, plan, names.as_slice(), work)?)
+}
+
+// The plan of the chosen strategies.
+fn plan_by(alloc: Global, options: &SpawnOptions, list: &ActionList) -> Result<Plan, ChoiceFault>
+    requires options { AreSpawnLimits options.now }
+    requires list { IsWhole list.now.actions }
+    ensures plan { Answers result (choice_by options.now list.now.actions) }
+    ensures sound { IfOk result Sound }
+{
+    let own = &options.options;
+    chosen_plan(
+        alloc,
+        list,
+        &options.strategies,
+        own.instances,
+        own.remote,
+        own.retries,
+    )
+}
+
+// The chosen name of each action. Where there is a plan each has one, and the default isn't seen.
+fn chosen_names(
+    alloc: Global,
+    words: &Strategies,
+    actions: &[ListAction],
+) -> Result<Vec<Name>, NoMemory>
+    ensures { IfOk result (λ v. v.items ≡ chosen_names words.now actions.now) }
+{
+    let mut names = Vec::with_capacity(alloc, actions.len())?;
+    for action in actions {
+        names.push(chosen(alloc, words, action)?.unwrap_or(Name::Remote))?;
+    }
+    Ok(names)
+}
+
+// The task with this plan, which has these names, and this work.
+fn task_with(
+    alloc: Global,
+    options: &SpawnOptions,
+    list: &ActionList,
+    plan: Plan,
+    names: &[Name],
+    work: Work,
+) -> Result<SpawnTask, NoMemory>
+    requires sound { Sound plan }
+    requires names { names.now ≡ chosen_names options.now.strategies list.now.actions }
+    ensures task { IfOk result (IsSpawnTask options.now list.now.actions plan) }
+    ensures work { IfOk result (λ made. made.task.work ≡ work) }
+{
+    let parts = parts_by(alloc, options, list, &plan, names)?;
+    let commands = commands_of(alloc, parts.as_slice())?;
+    let speeches = speeches_of(alloc, &plan, parts.as_slice())?;
+    let twin = plan_again(alloc, &plan)?;
+    let task = Task {
+        plan,
+        commands,
+        speeches,
+        verbose: options.options.verbose,
+        work,
+        short: false,
+    };
+    Ok(SpawnTask {
+        task,
+        twin,
+        delay: options.local_delay,
+    })
+}

@@ -1,0 +1,84 @@
+//! Runs the actions of a list by the strategies that its words name, and prints a line for each
+//! action.
+#![tactic(auto)]
+
+use outside_real::{RealFloor, RealSink};
+use run_command::{Left, Program, end_unread, tell, tell_cures, tell_reasons, words};
+use spawn_runs::{Strategic, run_strategies};
+use spawn_tasks::other_words;
+use std::alloc::Global;
+use std::io::Eprint;
+use std::process::ExitCode;
+use tick_lane::ClockPacer;
+use worker_run::Ended;
+
+const PROGRAM: Program = Program {
+    name: "spawn_tool",
+    together: "there is one list, every option but --strategy and --extra_flag stands once at most, and each mnemonic has one --strategy",
+    options: "  LIST                              the path of the action list that is run
+  --strategy=MNEMONIC=NAME,..       what its actions run by, the first choice first
+  --spawn_strategy=NAME,..          what all others run by: worker, sandboxed, remote, dynamic
+  --local_delay=N                   a dynamic action's worker waits for N ms, 0 to 9999 (0)
+  --instances=N                     at most N workers of one key, 1 to 48 (4)
+  --remote=N                        at most N executors, 1 to 16 (1)
+  --sandboxed=N                     at most N sandboxes, 1 to 16 (1), and 16 with --remote
+  --retries=N                       make an attempt again up to N times, 0 to 9 (1)
+  --executor=PROGRAM                the executor's program (remote_exec)
+  --sandbox_executor=PROGRAM        the sandboxes' program (remote_exec)
+  --extra_flag=WORD                 a further start-up word of each worker; may stand several times
+  --worker_verbose                  ask the workers to say more
+  more: docs/GUIDE.md
+",
+};
+
+fn main(rt: HostRuntime) -> ExitCode {
+    let alloc = rt.alloc();
+    let words = match words(&rt, alloc) {
+        Ok(words) => words,
+        Err(error) => return end_unread(&rt, alloc, &PROGRAM, &error),
+    };
+    let floor = RealFloor::new(rt, alloc);
+    let mut out = RealSink::new(rt);
+    let Strategic {
+        ended,
+        refused,
+        pacer: _,
+    } = run_strategies(&rt, alloc, &words, floor, ClockPacer::new(&rt), &mut out);
+    let Ended {
+        status,
+        fault,
+        task,
+        mut floor,
+        laid,
+    } = ended;
+    if let Some(action) = refused {
+        tell_refused(&rt, alloc, action);
+    } else if let Some(fault) = &fault {
+        // What is said of a list goes by the words that are those of any program that runs one.
+        let others = other_words(alloc, &words).unwrap_or(Vec::new(alloc));
+        tell(&rt, alloc, &PROGRAM, &others, fault, floor.last_error());
+        tell_cures(&rt, alloc, &others, &mut floor, fault);
+    } else if let Some(task) = &task {
+        let left = Left {
+            plan: &task.plan,
+            entries: laid.journal.entries(),
+            berths: &laid.berths,
+            lines: &laid.lines,
+            places: &laid.places,
+        };
+        tell_reasons(&rt, alloc, status, &left);
+    }
+    ExitCode::from(status)
+}
+
+// Tells that no strategy supports this action, and what may be done.
+fn tell_refused(rt: &impl Eprint, alloc: Global, action: u32) {
+    if let Ok(line) = format!(in alloc; "spawn_tool: no strategy for action {action}\n") {
+        let _ = rt.eprint(line.as_str());
+    }
+    let _ = rt.eprint(
+        "  its list has worker or dynamic alone, which want supports-workers and a flag file among its words:
+  give it these, or name sandboxed or remote too, as in --strategy=MNEMONIC=worker,sandboxed
+",
+    );
+}
