@@ -1,10 +1,9 @@
-//! Plays whole runs on the scheduling core, one thread for all lanes, and prints how many steps each takes, and what
-//! lanes are told by a core with a local delay. With the word `times` it measures instead, in steps a second over whole
-//! runs.
+//! Plays whole runs on the scheduling core, one thread for all lanes, and prints how many steps each takes. With the word
+//! `times` it measures instead, in steps a second over whole runs. It has one policy, as worker_tool has: with two the
+//! compiler no longer puts the core's functions into one another, and the figures are those of another program.
 #![tactic(auto)]
 
 mod berth;
-mod delayed;
 mod lists;
 mod record;
 mod times;
@@ -19,8 +18,7 @@ fn main(rt: HostRuntime) -> io::Result<()> {
     if env::args(&rt)?.nth(1).is_some() {
         times::tell_times(&rt, alloc)
     } else {
-        times::tell_runs(&rt, alloc)?;
-        delayed::tell_delay(&rt, alloc)
+        times::tell_runs(&rt, alloc)
     }
 }
 

@@ -15,6 +15,7 @@
 //! | `shared WORD WORD ..`, `crowd WORD WORD ..` | the same as `play` and `race`, where worker keys share berths |
 //! | `choose WORD WORD ..` | the same as `play`, by strategies, with a delay by the clock; first the action that no strategy supports, if there is one |
 //! | `meet WORD WORD ..` | its status and its report, where each of two actions writes only once the other does too |
+//! | `delay` | what lanes are told, call after call, by a core whose worker's branch waits for two Ticks |
 //! | `reads`, `writes` | what the floor and the places tell of the last run |
 //! | `room`, `given` | what its first berth and its first line tell |
 //! | `real` | behind this line each line is a list, which is run with real objects and shell workers: its report, its status and the line of its fault |
@@ -24,6 +25,7 @@
 #![tactic(auto)]
 
 mod case;
+mod delayed;
 mod latest;
 mod meeting;
 mod played;
@@ -107,6 +109,7 @@ fn play<R: Threads + Wait + Clock + Copy + Drop + Send + Sync>(
         "crowd" => run(rt, alloc, rest, case, last, How::totals_by(By::Shared)),
         "choose" => choose(rt, alloc, rest, case, last),
         "meet" => meet(rt, alloc, rest, case),
+        "delay" => delayed::tell_delay(alloc),
         "reads" | "writes" | "room" | "given" => tell_last(alloc, last, kind),
         _ => case.note(alloc, line),
     }

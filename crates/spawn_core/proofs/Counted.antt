@@ -1,6 +1,7 @@
 -- One call: how many paid entries are still to come after it.
 use Rattle.std.proofs.Common.{◌≡◌, ℕ, ◌*◌, ◌+◌, ◌-◌, ◌^◌, ◌<◌, ◌≤◌, List, inl, inr, arith}
 use Rattle.std.proofs.lemmas.Bool.{cases_lt}
+use Rattle.run_plan.specs.declared.plan.Plan.{Plan}
 use Rattle.exec_journal.specs.declared.call.Call.{Call}
 use Rattle.exec_journal.specs.Entry.{Entry}
 use Rattle.exec_journal.specs.declared.reply.Reply.{Reply}
@@ -14,12 +15,11 @@ use Rattle.history_laws.proofs.Counting.{counted, owes_most, uncounted}
 use Rattle.spawn_core.specs.Stands.{HasHistory, KeptBy, StandsIn, TablesStand}
 
 -- what a lane owes by these tables
-pub record Owing {M B : Type 0} (rules : B → Discipline) (own : B → M → List Entry → Type 0) (m : M)
-    (s : State) (lane n : ℕ) : Type 0 where
-  pub owed : (b : B) (j : List Entry) → tables.Stands (rules b).plan (rules b).seats s j
-      → own b m j → lane < 2 * (rules b).seats → n ≡ lane_owes j lane
-  pub none : (b : B) (j : List Entry) → tables.Stands (rules b).plan (rules b).seats s j
-      → own b m j → 2 * (rules b).seats ≤ lane → n ≡ 0
+pub record Owing (s : State) (lane n : ℕ) : Type 0 where
+  pub owed : (p : Plan) (seats : ℕ) (j : List Entry) → tables.Stands p seats s j
+      → lane < 2 * seats → n ≡ lane_owes j lane
+  pub none : (p : Plan) (seats : ℕ) (j : List Entry) → tables.Stands p seats s j
+      → 2 * seats ≤ lane → n ≡ 0
 
 record Sums (owed before now later : ℕ) : Type 0 where
   enough : before ≤ owed
@@ -30,22 +30,23 @@ module _ {M B : Type 0} (rules : B → Discipline) (own : B → M → List Entry
     (before now : ℕ)
     (next : (b : B) (j : List Entry) → TablesStand (rules b) (own b m.policy) m.state m.files j
     → TablesStand (rules b) (own b n) t g (after j lane c x))
-    (old : Owing rules own m.policy m.state lane before) (new : Owing rules own n t lane now) where
+    (old : Owing m.state lane before) (new : Owing t lane now) where
   count : (b : B) (j : List Entry) → StandsIn (rules b) (own b) m j
       → Sums (seats_owe (rules b).seats j) before now
       (seats_owe (rules b).seats (after j lane c x))
   count b j st =
       let seats : ℕ = (rules b).seats in
+      let plan = (rules b).plan in
       let later = next b j st.both in
       elim (cases_lt lane (2 * seats)) [
         | inl low ↦ (let k = counted seats j lane c x low in
-            let a = old.owed b j st.both.tables st.both.own low in
-            let d = new.owed b (after j lane c x) later.tables later.own low in
+            let a = old.owed plan seats j st.both.tables low in
+            let d = new.owed plan seats (after j lane c x) later.tables low in
             let among = k.among in let goes = k.goes in
             record { enough = omega (arith, among, a); sum = omega (arith, goes, a, d) })
         | inr high ↦ (let same = uncounted seats j lane c x high in
-            let a = old.none b j st.both.tables st.both.own high in
-            let d = new.none b (after j lane c x) later.tables later.own high in
+            let a = old.none plan seats j st.both.tables high in
+            let d = new.none plan seats (after j lane c x) later.tables high in
             record { enough = omega (arith, a); sum = omega (arith, same, a, d) })
       ]
 

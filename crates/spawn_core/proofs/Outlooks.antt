@@ -11,11 +11,12 @@ use Rattle.exec_journal.specs.declared.call.Found.TheVariants as found
 use Rattle.exec_journal.specs.Entry.{Entry}
 use Rattle.exec_journal.specs.declared.reply.Reply.{Reply}
 use Rattle.exec_journal.specs.declared.reply.Reply.TheVariants as reply
-use Rattle.exec_journal.specs.Words.{last_work, stopped, has_halted}
+use Rattle.exec_journal.specs.Words.{last_line, last_work, stopped, has_halted}
 use Rattle.journal_laws.specs.Paid.{count, lane_owes, may_halt, owes_files, wins_files}
 use Rattle.core_tables.specs.declared.lanes.LaneState.{LaneState}
 use Rattle.core_tables.specs.declared.berth_group.BerthGroup.{BerthGroup}
-use Rattle.core_tables.specs.Lanes.{allows_by, is_won, lane_in, said_after, said_of_work, state_by}
+use Rattle.core_tables.specs.Lanes.{is_won, lane_in, said_after, said_of_work, state_by}
+use Rattle.core_tables.specs.Last.{last_in, row_of}
 use Rattle.core_tables.proofs.Lengths.{length_is}
 use Rattle.core_state.specs.declared.state.State.{State}
 use Rattle.core_state.specs.Choices.{Reads}
@@ -29,7 +30,7 @@ use Rattle.core_contract.specs.News.{question}
 use Rattle.spawn_core.specs.Allowed.{allowed_is, lane_within}
 use Rattle.spawn_core.specs.Turns.{Orders, may_make}
 use Rattle.spawn_core.specs.Outlook.{owes_by}
-use Rattle.spawn_core.specs.Stands.{HasHistory, HasJournal, KeptBy}
+use Rattle.spawn_core.specs.Stands.{HasHistory, HasJournal, HasTables, KeptBy}
 
 -- ---- what a lane owes
 
@@ -58,11 +59,16 @@ owes_is seats p s j lane x st lt at =
     ap owes_by same
     ∙ ap (λ (b : Bool). count (may_halt j lane) + count b) (won_work (last_work j lane))
 
-lanes_are : (seats : ℕ) (p : Plan) (s : State) (j : List Entry) → tables.Stands p seats s j
+pub lanes_are : (seats : ℕ) (p : Plan) (s : State) (j : List Entry) → tables.Stands p seats s j
     → length s.lanes ≡ 2 * seats
 unfolding lane_in
 lanes_are seats p s j st = length_is s.lanes (2 * seats)
     (λ k. state_by (last_work j k) (stopped j k) (has_halted j k)) st.lanes
+
+pub lasts_are : (seats : ℕ) (p : Plan) (s : State) (j : List Entry) → tables.Stands p seats s j
+    → length s.last ≡ seats
+unfolding last_in
+lasts_are seats p s j st = length_is s.last seats (λ w. row_of j (last_line j w)) st.last
 
 -- ---- what a policy goes by on a state is what it stands by
 
@@ -92,11 +98,14 @@ journal_kept rules own c h = record {
   own = h.stands.both.own;
 }
 
-pub lane_kept : (q : Discipline) (s : State) (j : List Entry) (lane : ℕ) → StandsBy q s j
-    → lane / 2 < q.seats → lane < length s.lanes
-lane_kept q s j lane st lt =
-    let many = lanes_are q.seats q.plan s j st.tables in
-    omega (arith, many, lt)
+pub tables_kept : {M B : Type 0} (rules : B → Discipline) (own : B → M → List Entry → Type 0)
+    (c : KeptBy M) → HasHistory rules own c → HasTables c.state
+tables_kept rules own c h = record {
+  plan = (rules h.basis).plan;
+  seats = (rules h.basis).seats;
+  journal = h.journal;
+  stands = h.stands.both.tables;
+}
 
 pub sound_kept : (q : Discipline) (s : State) (j : List Entry) → StandsBy q s j → Sound s.plan
 sound_kept q s j st = subst Sound (sym st.tables.plan) st.tables.sound

@@ -40,6 +40,13 @@ pub record HasHistory {M B : Type 0} (rules : B → Discipline) (owns : B → M 
   pub journal : List Entry
   pub stands : StandsIn (rules basis) (owns basis) c journal
 
+-- the tables stand for some journal
+pub record HasTables (s : State) : Type 0 where
+  pub plan : Plan
+  pub seats : ℕ
+  pub journal : List Entry
+  pub stands : tables.Stands plan seats s journal
+
 -- the state and the policy stand for some journal, whatever is owed
 pub record HasJournal {M B : Type 0} (rules : B → Discipline) (owns : B → M → List Entry → Type 0)
     (m : M) (s : State) : Type 0 where

@@ -1,12 +1,12 @@
 // How many berths there are, and what each of their lanes owes.
-ghost use Rattle.std.specs.Prelude.{◌≡◌, ◌≤◌, ◌<◌, ◌*◌, List, sum_by};
+ghost use Rattle.std.specs.Prelude.{◌≡◌, ◌≤◌, ◌<◌, ◌*◌, ℕ, List, sum_by};
+ghost use Rattle.run_plan.specs.declared.plan.Plan.{Plan};
 ghost use Rattle.exec_journal.specs.Entry.{Entry};
 ghost use Rattle.journal_laws.specs.Paid.{count, lane_owes};
 ghost use Rattle.core_laws.specs.Stands.{Stands};
 ghost use Rattle.spawn_core.specs.Outlook.{owes_by};
-ghost use Rattle.spawn_core.specs.Stands.{HasJournal};
+ghost use Rattle.spawn_core.specs.Stands.{HasTables};
 
-use crate::policy::Policy;
 use core_state::State;
 use core_tables::{LaneState, Said};
 use exec_journal::Group;
@@ -24,17 +24,15 @@ pub fn all_berths(groups: &[Group]) -> u32
 }
 
 /// How many paid entries the lane still owes: its Halt, and the Committed of what it was granted. A
-/// lane that isn't one of the policy's berths owes none.
-pub fn lane_owes<P: Policy>(policy: &P, state: &State, lane: u32) -> u64
-    requires { HasJournal P.discipline P.stands policy.now state.now }
-    ensures owes { (b : P.Basis) (j : List Entry)
-        → Stands (P.discipline b).plan (P.discipline b).seats state.now j
-        → P.stands b policy.now j → lane < 2 * (P.discipline b).seats → result ≡ lane_owes j lane }
-    ensures none { (b : P.Basis) (j : List Entry)
-        → Stands (P.discipline b).plan (P.discipline b).seats state.now j
-        → P.stands b policy.now j → 2 * (P.discipline b).seats ≤ lane → result ≡ 0 }
+/// lane of no berth of the tables owes none.
+pub fn lane_owes(state: &State, lane: u32) -> u64
+    requires { HasTables state.now }
+    ensures owes { (p : Plan) (seats : ℕ) (j : List Entry) → Stands p seats state.now j
+        → lane < 2 * seats → result ≡ lane_owes j lane }
+    ensures none { (p : Plan) (seats : ℕ) (j : List Entry) → Stands p seats state.now j
+        → 2 * seats ≤ lane → result ≡ 0 }
 {
-    if lane / 2 < policy.berths(&state.plan) {
+    if lane / 2 < state.last.len() {
         owes(state.lanes.state(lane))
     } else {
         0

@@ -145,7 +145,7 @@ impl<P: Policy> Core<P> {
             → StandsIn (P.discipline b) (P.stands b) self.old j → result ≡ reply.Stop
             → halted j ≡ false → Clean j → Complete (P.discipline b).plan j }
     {
-        let before = lane_owes(&self.policy, &self.state, lane);
+        let before = lane_owes(&self.state, lane);
         let reply = step(
             &mut self.policy,
             &mut self.state,
@@ -153,7 +153,7 @@ impl<P: Policy> Core<P> {
             lane,
             call,
         );
-        let after = lane_owes(&self.policy, &self.state, lane);
+        let after = lane_owes(&self.state, lane);
         self.owed = self.owed - before + after;
         reply
     }

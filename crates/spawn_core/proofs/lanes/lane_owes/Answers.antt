@@ -1,38 +1,36 @@
-use Rattle.std.proofs.Common.{◌∙◌, ap, arith}
-use Rattle.spawn_core.proofs.Outlooks.{goes_by, lane_kept, owes_is, sound_kept}
+use Rattle.std.proofs.Common.{◌∙◌, arith}
+use Rattle.spawn_core.proofs.Outlooks.{lanes_are, lasts_are, owes_is}
 use Rattle.spawn_core.proofs.lanes.lane_owes.Goals as goal
 
-pub berths-requires : goal.berths-requires
-berths-requires g c = let h = c.requires in
-    sound_kept (g.P.Policy.discipline h.basis) c.args.state.now h.journal h.stands
+pub len-requires : goal.len-requires
+len-requires c = let h = c.requires in
+    let berths = lasts_are h.seats h.plan c.args.state.now h.journal h.stands in
+    let few = h.stands.few in
+    omega (arith, berths, few)
 
 pub state-requires : goal.state-requires
-state-requires g c = let h = c.requires in
-    let same = goes_by g.P.Policy.discipline g.P.Policy.basis c.args.policy.now c.args.state.now
-    h.journal h.basis h.stands.tables (g.met.P.Policy.basis_is h.basis c.args.policy.now h.journal h.own) in
-    let known = c.berths.ensures ∙ ap (λ b. (g.P.Policy.discipline b).seats) same in
-    let below = c.if-lane-berths.true in
-    lane_kept (g.P.Policy.discipline h.basis) c.args.state.now h.journal c.args.lane h.stands
-    (omega (arith, known, below))
+state-requires c = let h = c.requires in
+    let berths = lasts_are h.seats h.plan c.args.state.now h.journal h.stands in
+    let lanes = lanes_are h.seats h.plan c.args.state.now h.journal h.stands in
+    let known = c.len.ensures in
+    let below = c.if-lane-len.true in
+    omega (arith, berths, lanes, known, below)
 
-pub returns-then-lane-berths-clause-owes : goal.returns-then-lane-berths-clause-owes
-returns-then-lane-berths-clause-owes g c = λ b j st own low.
-    c.owes.ensures
-    ∙ owes_is (g.P.Policy.discipline b).seats (g.P.Policy.discipline b).plan c.args.state.now j
-    c.args.lane c.state.result st low c.state.ensures
+pub returns-then-lane-len-clause-owes : goal.returns-then-lane-len-clause-owes
+returns-then-lane-len-clause-owes c = λ p seats j st low.
+    c.owes.ensures ∙ owes_is seats p c.args.state.now j c.args.lane c.state.result st low
+    c.state.ensures
 
-pub returns-then-lane-berths-clause-none : goal.returns-then-lane-berths-clause-none
-returns-then-lane-berths-clause-none g c = λ b j st own high.
-    let same = goes_by g.P.Policy.discipline g.P.Policy.basis c.args.policy.now c.args.state.now
-    j b st (g.met.P.Policy.basis_is b c.args.policy.now j own) in
-    let known = c.berths.ensures ∙ ap (λ b. (g.P.Policy.discipline b).seats) same in
-    let below = c.if-lane-berths.true in
-    absurd (omega (arith, known, below, high))
+pub returns-then-lane-len-clause-none : goal.returns-then-lane-len-clause-none
+returns-then-lane-len-clause-none c = λ p seats j st high.
+    let berths = lasts_are seats p c.args.state.now j st in
+    let known = c.len.ensures in
+    let below = c.if-lane-len.true in
+    absurd (omega (arith, berths, known, below, high))
 
-pub returns-else-lane-berths-clause-owes : goal.returns-else-lane-berths-clause-owes
-returns-else-lane-berths-clause-owes g c = λ b j st own low.
-    let same = goes_by g.P.Policy.discipline g.P.Policy.basis c.args.policy.now c.args.state.now
-    j b st (g.met.P.Policy.basis_is b c.args.policy.now j own) in
-    let known = c.berths.ensures ∙ ap (λ b. (g.P.Policy.discipline b).seats) same in
-    let past = c.if-lane-berths.false in
-    absurd (omega (arith, known, past, low))
+pub returns-else-lane-len-clause-owes : goal.returns-else-lane-len-clause-owes
+returns-else-lane-len-clause-owes c = λ p seats j st low.
+    let berths = lasts_are seats p c.args.state.now j st in
+    let known = c.len.ensures in
+    let past = c.if-lane-len.false in
+    absurd (omega (arith, berths, known, past, low))

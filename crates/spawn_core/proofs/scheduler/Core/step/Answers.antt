@@ -2,13 +2,13 @@ use Rattle.std.proofs.Common.{arith, refl, subst, sym}
 use Rattle.exec_journal.specs.Legal.{after}
 use Rattle.spawn_core.specs.Stands.{KeptBy, StandsIn}
 use Rattle.spawn_core.proofs.Counted.{enough, few, history_next, stands_next}
-use Rattle.spawn_core.proofs.Outlooks.{journal_kept}
+use Rattle.spawn_core.proofs.Outlooks.{journal_kept, tables_kept}
 use Rattle.spawn_core.proofs.Promised.{completes, orderly, stops}
 use Rattle.spawn_core.proofs.scheduler.Core.step.Goals as goal
 
 pub lane_owes-before-requires : goal.lane_owes-before-requires
 lane_owes-before-requires g c =
-    journal_kept g.P.Policy.discipline g.P.Policy.stands _ c.self.invariant
+    tables_kept g.P.Policy.discipline g.P.Policy.stands _ c.self.invariant
 
 pub step-reply-requires : goal.step-reply-requires
 step-reply-requires g c =
@@ -17,10 +17,10 @@ step-reply-requires g c =
 pub lane_owes-after-requires : goal.lane_owes-after-requires
 lane_owes-after-requires g c = let h = c.self.invariant in
     let next = c.step-reply.ensures.stands h.basis h.journal h.stands.both in record {
-      basis = h.basis;
+      plan = (g.P.Policy.discipline h.basis).plan;
+      seats = (g.P.Policy.discipline h.basis).seats;
       journal = after h.journal c.args.lane c.args.call.now c.step-reply.result;
-      stands = record { tables = next.tables; legal = next.legal };
-      own = next.own;
+      stands = next.tables;
     }
 
 pub overflow_sub-self : goal.overflow_sub-self

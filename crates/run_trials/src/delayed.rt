@@ -1,10 +1,9 @@
 // A core with a local delay: what lanes are told while the worker's branch of an action waits.
-use crate::failed;
-use action_list::{plan, read_list};
+use action_list::{ActionList, plan, read_list};
 use exec_journal::{Call, Reply};
 use local_delay::{DelayCore, LocalDelay};
+use plain_values::NoMemory;
 use std::alloc::Global;
-use std::io::{self, ErrorKind};
 
 // One action, for a worker or the executor.
 const LIST: &str = "{\"actions\":[{\"name\":\"a\",\"mnemonic\":\"T\",\"argv\":[\"t\",\"@f\"],\
@@ -33,22 +32,36 @@ const CALLS: [(u32, bool); 8] = [
     (WORKER, true),
 ];
 
-/// Prints what each of these lanes is told, call after call.
-pub fn tell_delay(rt: &impl Print, alloc: Global) -> io::Result<()> {
-    let mut core = delayed_core(alloc)?;
-    tell_each(rt, &mut core)
+/// What each of these lanes is told, a line for each call.
+///
+/// # Errors
+///
+/// `NoMemory` where there is none for the core or for what is told.
+pub fn tell_delay(alloc: Global) -> Result<String, NoMemory> {
+    match read_list(alloc, LIST.as_bytes()) {
+        Ok(list) => tell_list(alloc, &list),
+        Err(_fault) => Ok(String::from_str(alloc, "no list\n")?),
+    }
 }
 
-fn tell_each(rt: &impl Print, core: &mut DelayCore) -> io::Result<()> {
+fn tell_list(alloc: Global, list: &ActionList) -> Result<String, NoMemory> {
+    let plan = plan(alloc, list, 1, 1, 1)?;
+    let mut core = LocalDelay::core(alloc, plan, TICKS)?;
+    tell_each(alloc, &mut core)
+}
+
+fn tell_each(alloc: Global, core: &mut DelayCore) -> Result<String, NoMemory> {
+    let mut told = String::new(alloc);
     for (lane, ticks) in CALLS {
-        let told = if ticks {
+        let reply = if ticks {
             core.step(lane, &Call::Tick)
         } else {
             core.step(lane, &Call::Ask)
         };
-        println!(rt; "lane {lane}: {}", word_for(&told))?;
+        let line = format!(in alloc; "lane {lane}: {}\n", word_for(&reply))?;
+        told.push_str(line.as_str())?;
     }
-    Ok(())
+    Ok(told)
 }
 
 fn word_for(reply: &Reply) -> &'static str {
@@ -59,12 +72,4 @@ fn word_for(reply: &Reply) -> &'static str {
         Reply::Astray => "Astray",
         _ => "another reply",
     }
-}
-
-fn delayed_core(alloc: Global) -> io::Result<DelayCore> {
-    let Ok(list) = read_list(alloc, LIST.as_bytes()) else {
-        return Err(io::Error::from(ErrorKind::InvalidData));
-    };
-    let plan = plan(alloc, &list, 1, 1, 1).map_err(failed)?;
-    LocalDelay::core(alloc, plan, TICKS).map_err(failed)
 }
