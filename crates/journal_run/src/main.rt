@@ -7,9 +7,7 @@
 use outside_mem::MemFloor;
 use outside_real::{RealFloor, RealSink};
 use recorded_runs::run_recorded;
-use run_command::{
-    Left, OPTIONS, Program, TOGETHER, end, end_unread, tell, tell_cures, tell_reasons, words,
-};
+use run_command::{OPTIONS, Program, TOGETHER, end, end_unread, tell, tell_ended, words};
 use std::alloc::Global;
 use std::io::{Eprint, Print};
 use std::process::ExitCode;
@@ -35,27 +33,8 @@ fn main(rt: HostRuntime) -> ExitCode {
     }
     let floor = RealFloor::new(rt, alloc);
     let mut out = RealSink::new(rt);
-    let Ended {
-        status,
-        fault,
-        task,
-        mut floor,
-        laid,
-    } = run_recorded(&rt, alloc, &words, floor, &mut out);
-    if let Some(fault) = &fault {
-        tell(&rt, alloc, &PROGRAM, &words, fault, floor.last_error());
-        tell_cures(&rt, alloc, &words, &mut floor, fault);
-    } else if let Some(task) = &task {
-        let left = Left {
-            plan: &task.plan,
-            entries: laid.journal.entries(),
-            berths: &laid.berths,
-            lines: &laid.lines,
-            places: &laid.places,
-        };
-        tell_reasons(&rt, alloc, status, &left);
-    }
-    ExitCode::from(status)
+    let ended = run_recorded(&rt, alloc, &words, floor, &mut out);
+    tell_ended(&rt, alloc, &PROGRAM, &words, ended)
 }
 
 // Runs a list of so many actions that is generated, in memory.

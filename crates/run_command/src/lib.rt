@@ -8,5 +8,4 @@ mod reasons;
 mod telling;
 
 pub use hints::{OPTIONS, Program, TOGETHER};
-pub use reasons::Left;
-pub use telling::{end, end_unread, tell, tell_cures, tell_reasons, words};
+pub use telling::{end, end_unread, tell, tell_ended, words};

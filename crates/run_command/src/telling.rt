@@ -2,13 +2,17 @@
 use crate::hints::Program;
 use crate::reasons::Left;
 use crate::{cures, hints, reasons};
+use bare_calls::LockFile;
 use outside::Floor;
+use outside_real::RealFloor;
 use std::alloc::Global;
 use std::env::{self, Env};
 use std::io::{self, Eprint, ErrorKind};
-use std::process::ExitCode;
+use std::process::{ExitCode, Processes, SystemProcess};
 use std::rt::Files;
-use worker_run::{RunFault, Stage, fault_line};
+use std::sync::Wait;
+use std::thread::Threads;
+use worker_run::{Ended, RunFault, Stage, fault_line};
 
 // The program that the line of a fault names.
 const NAMED: &str = "worker_tool";
@@ -66,8 +70,45 @@ pub fn tell(
     }
 }
 
-/// Prints what else to look at: which action is meant, and what of it.
-pub fn tell_cures(
+/// Prints what a run with real objects came to beside its report, and gives its exit status: the
+/// fault with its cures, or why branches came to nothing. The words are those that worker_tool has
+/// too.
+pub fn tell_ended<R>(
+    rt: &R,
+    alloc: Global,
+    program: &Program,
+    words: &[String],
+    ended: Ended<RealFloor<R>>,
+) -> ExitCode
+where
+    R: Files<File: LockFile> + Processes<Started = SystemProcess>,
+    R: AllocGlobal + Env + Eprint + Threads + Wait + Clone + Drop,
+{
+    let Ended {
+        status,
+        fault,
+        task,
+        mut floor,
+        laid,
+    } = ended;
+    if let Some(fault) = &fault {
+        tell(rt, alloc, program, words, fault, floor.last_error());
+        tell_cures(rt, alloc, words, &mut floor, fault);
+    } else if let Some(task) = &task {
+        let left = Left {
+            plan: &task.plan,
+            entries: laid.journal.entries(),
+            berths: &laid.berths,
+            lines: &laid.lines,
+            places: &laid.places,
+        };
+        tell_reasons(rt, alloc, status, &left);
+    }
+    ExitCode::from(status)
+}
+
+// Prints what else to look at: which action is meant, and what of it.
+fn tell_cures(
     rt: &(impl Eprint + Env + Files + AllocGlobal),
     alloc: Global,
     words: &[String],
@@ -79,8 +120,8 @@ pub fn tell_cures(
     }
 }
 
-/// Prints why branches came to nothing, if some action has no success.
-pub fn tell_reasons<R>(rt: &impl Eprint, alloc: Global, status: u8, left: &Left<'_, R>) {
+// Prints why branches came to nothing, if some action has no success.
+fn tell_reasons<R>(rt: &impl Eprint, alloc: Global, status: u8, left: &Left<'_, R>) {
     if status != 0
         && let Ok(lines) = reasons::lines(alloc, left)
     {

@@ -3,11 +3,10 @@
 #![tactic(auto)]
 
 use outside_real::{RealFloor, RealSink};
-use run_command::{Left, Program, end_unread, tell, tell_cures, tell_reasons, words};
+use run_command::{Program, end_unread, tell_ended, words};
 use shared_runs::run_shared;
 use shared_tasks::other_words;
 use std::process::ExitCode;
-use worker_run::Ended;
 
 const PROGRAM: Program = Program {
     name: "shared_tool",
@@ -32,27 +31,7 @@ fn main(rt: HostRuntime) -> ExitCode {
     };
     let floor = RealFloor::new(rt, alloc);
     let mut out = RealSink::new(rt);
-    let Ended {
-        status,
-        fault,
-        task,
-        mut floor,
-        laid,
-    } = run_shared(&rt, alloc, &words, floor, &mut out);
-    if let Some(fault) = &fault {
-        // What is said of a list goes by the words that are those of any program that runs one.
-        let others = other_words(alloc, &words).unwrap_or(Vec::new(alloc));
-        tell(&rt, alloc, &PROGRAM, &others, fault, floor.last_error());
-        tell_cures(&rt, alloc, &others, &mut floor, fault);
-    } else if let Some(task) = &task {
-        let left = Left {
-            plan: &task.plan,
-            entries: laid.journal.entries(),
-            berths: &laid.berths,
-            lines: &laid.lines,
-            places: &laid.places,
-        };
-        tell_reasons(&rt, alloc, status, &left);
-    }
-    ExitCode::from(status)
+    let ended = run_shared(&rt, alloc, &words, floor, &mut out);
+    let others = other_words(alloc, &words).unwrap_or(Vec::new(alloc));
+    tell_ended(&rt, alloc, &PROGRAM, &others, ended)
 }

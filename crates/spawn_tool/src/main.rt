@@ -3,14 +3,13 @@
 #![tactic(auto)]
 
 use outside_real::{RealFloor, RealSink};
-use run_command::{Left, Program, end_unread, tell, tell_cures, tell_reasons, words};
+use run_command::{Program, end_unread, tell_ended, words};
 use spawn_runs::{Strategic, run_strategies};
 use spawn_tasks::other_words;
 use std::alloc::Global;
 use std::io::Eprint;
 use std::process::ExitCode;
 use tick_lane::ClockPacer;
-use worker_run::Ended;
 
 const PROGRAM: Program = Program {
     name: "spawn_tool",
@@ -44,31 +43,11 @@ fn main(rt: HostRuntime) -> ExitCode {
         refused,
         pacer: _,
     } = run_strategies(&rt, alloc, &words, floor, ClockPacer::new(&rt), &mut out);
-    let Ended {
-        status,
-        fault,
-        task,
-        mut floor,
-        laid,
-    } = ended;
     if let Some(action) = refused {
         tell_refused(&rt, alloc, action);
-    } else if let Some(fault) = &fault {
-        // What is said of a list goes by the words that are those of any program that runs one.
-        let others = other_words(alloc, &words).unwrap_or(Vec::new(alloc));
-        tell(&rt, alloc, &PROGRAM, &others, fault, floor.last_error());
-        tell_cures(&rt, alloc, &others, &mut floor, fault);
-    } else if let Some(task) = &task {
-        let left = Left {
-            plan: &task.plan,
-            entries: laid.journal.entries(),
-            berths: &laid.berths,
-            lines: &laid.lines,
-            places: &laid.places,
-        };
-        tell_reasons(&rt, alloc, status, &left);
     }
-    ExitCode::from(status)
+    let others = other_words(alloc, &words).unwrap_or(Vec::new(alloc));
+    tell_ended(&rt, alloc, &PROGRAM, &others, ended)
 }
 
 // Tells that no strategy supports this action, and what may be done.

@@ -12,9 +12,7 @@ use outside::{Berth, Floor, Sink};
 use outside_mem::MemFloor;
 use outside_real::{RealFloor, RealSink};
 use plain_values::NoMemory;
-use run_command::{
-    Left, OPTIONS, Program, TOGETHER, end, end_unread, tell, tell_cures, tell_reasons, words,
-};
+use run_command::{OPTIONS, Program, TOGETHER, end, end_unread, tell, tell_ended, words};
 use std::alloc::Global;
 use std::env::{self, Env};
 use std::io::{Eprint, IsTerminal, Print};
@@ -47,27 +45,8 @@ fn main(rt: HostRuntime) -> ExitCode {
     } else {
         None
     };
-    let Ended {
-        status,
-        fault,
-        task,
-        mut floor,
-        laid,
-    } = run(rt, alloc, &words, floor, screen);
-    if let Some(fault) = &fault {
-        tell(&rt, alloc, &PROGRAM, &words, fault, floor.last_error());
-        tell_cures(&rt, alloc, &words, &mut floor, fault);
-    } else if let Some(task) = &task {
-        let left = Left {
-            plan: &task.plan,
-            entries: laid.journal.entries(),
-            berths: &laid.berths,
-            lines: &laid.lines,
-            places: &laid.places,
-        };
-        tell_reasons(&rt, alloc, status, &left);
-    }
-    ExitCode::from(status)
+    let ended = run(rt, alloc, &words, floor, screen);
+    tell_ended(&rt, alloc, &PROGRAM, &words, ended)
 }
 
 // Runs a list of so many actions that is generated, in memory.
