@@ -1,4 +1,6 @@
 // A core with a local delay: what lanes are told while the worker's branch of an action waits.
+ghost use Rattle.list_actions.specs.Whole.{IsWhole};
+
 use action_list::{ActionList, plan, read_list};
 use exec_journal::{Call, Reply};
 use local_delay::{DelayCore, LocalDelay};
@@ -44,7 +46,9 @@ pub fn tell_delay(alloc: Global) -> Result<String, NoMemory> {
     }
 }
 
-fn tell_list(alloc: Global, list: &ActionList) -> Result<String, NoMemory> {
+fn tell_list(alloc: Global, list: &ActionList) -> Result<String, NoMemory>
+    requires { IsWhole list.now.actions }
+{
     let plan = plan(alloc, list, 1, 1, 1)?;
     let mut core = LocalDelay::core(alloc, plan, TICKS)?;
     tell_each(alloc, &mut core)
