@@ -11,6 +11,7 @@ import random
 import subprocess
 import sys
 import tempfile
+import threading
 from collections.abc import Iterator
 from typing import Any
 
@@ -29,9 +30,12 @@ from play import Case, Ended, Programs, action, compare, exchange, fault_line, j
 CHANGES, LISTS = 5, 10
 
 
+# Cases are played on threads: of two folders made at once one would be removed as soon as its case has its name.
+MAKING = threading.Lock()
+
+
 @functools.cache
-def recorder(programs: Programs) -> tempfile.TemporaryDirectory:
-    """A folder in which journal_run and its checker stand in worker_tool's place."""
+def recorder_folder(programs: Programs) -> tempfile.TemporaryDirectory:
     folder = tempfile.TemporaryDirectory()
     place = pathlib.Path(folder.name)
     for name, of in (("worker_tool", HERE / "recorder.py"), ("journal_run", programs.journal_run),
@@ -40,11 +44,16 @@ def recorder(programs: Programs) -> tempfile.TemporaryDirectory:
     return folder
 
 
+def recorder(programs: Programs) -> pathlib.Path:
+    """A folder in which journal_run and its checker stand in worker_tool's place."""
+    with MAKING:
+        return pathlib.Path(recorder_folder(programs).name)
+
+
 def recorded(case: Case) -> Case:
     """A case of worker_tool, played by journal_run, whose journal is checked."""
     def play(programs: Programs, folder: pathlib.Path) -> None:
-        place = pathlib.Path(recorder(programs).name)
-        case.play(dataclasses.replace(programs, worker_tool=place / "worker_tool"), folder)
+        case.play(dataclasses.replace(programs, worker_tool=recorder(programs) / "worker_tool"), folder)
     return Case(f"recorded: {case.name}", play)
 
 
