@@ -1,4 +1,5 @@
 pub mod Nexts
 pub mod Lawful
 pub mod Keeping
+pub mod Bounded
 mod Rows

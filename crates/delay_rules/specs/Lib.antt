@@ -1,2 +1,3 @@
 -- What the laws cite.
 pub mod Delayed
+pub mod Bounds

@@ -15,6 +15,7 @@ ghost use Rattle.exec_journal.specs.Race.{Race};
 ghost use Rattle.exec_journal.specs.Words.{halted};
 ghost use Rattle.journal_laws.specs.Finished.{Finished};
 ghost use Rattle.core_contract.specs.Disciplines.{LegalBy};
+ghost use Rattle.delay_rules.specs.Bounds.{TicksAreFew};
 ghost use Rattle.delay_rules.specs.Delayed.{delayed_discipline, delayed_rule};
 
 /// A legal journal with a delay is lawful: so one branch of an action wins, and each consumed
@@ -45,4 +46,11 @@ pub fn delayed_stops_finish_runs()
         → delayed_rule p n j lane c ≡ reply.Stop → halted j ≡ false
         → (a : ℕ) (x : PlanAction) → slice_get p.actions a ≡ Some x
         → is_ok (outcome_of p j a) ≡ true }
+{}
+
+/// Ticks end by themselves: for each action that uses both branches at most as many are noted as
+/// its local branch waits for.
+pub fn noted_ticks_are_few()
+    ensures { (p : Plan) (n : ℕ) (j : List Entry) → LegalBy (delayed_discipline p n) j
+        → TicksAreFew p n j }
 {}
