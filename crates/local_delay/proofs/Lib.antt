@@ -1,4 +1,5 @@
 mod Begun
 mod Counting
+mod Marking
 mod Noted
 mod Rows

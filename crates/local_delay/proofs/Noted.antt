@@ -1,16 +1,21 @@
 -- What a call makes of the table: after it the table stands for the journal with its entry.
-use Rattle.std.proofs.Common.{◌≡◌, ℕ, ◌+◌, ◌<◌, ◌≤◌, nat_lt, Bool, true, false, ◌&&◌, cond, List, ◌∷◌, length, Option, Some, None, option_map, unwrap_or, refl, ap, sym, ◌∙◌, arith}
+use Rattle.std.proofs.Common.{◌≡◌, ℕ, ◌+◌, ◌<◌, ◌≤◌, ◌==◌, nat_le, nat_lt, subst, Bool, true, false, ◌&&◌, cond, List, ◌∷◌, length, Option, Some, None, option_map, unwrap_or, refl, ap, sym, ◌∙◌, arith}
 use Rattle.std.specs.Prelude.{slice_get}
-use Rattle.std.proofs.lemmas.Bool.{and_parts, le-ltb, ltb-false, ltb-true, lt-ltb}
+use Rattle.std.proofs.lemmas.Bool.{and_parts, leb-false, le-ltb, ltb-false, ltb-true, lt-ltb}
+use Rattle.std.proofs.lemmas.Option.{slice_get_within}
+use Rattle.run_plan.specs.declared.plan.Branch.{Branch}
+use Rattle.run_plan.specs.declared.plan.Branch.TheVariants.{Remote}
 use Rattle.run_plan.specs.declared.plan.Plan.{Plan}
 use Rattle.run_plan.specs.declared.plan.PlanAction.{PlanAction}
-use Rattle.list_lemmas.specs.Options.{and_more}
+use Rattle.list_lemmas.specs.Options.{and_more, or_else}
+use Rattle.exec_journal.specs.declared.attempt.Attempt.{Attempt}
 use Rattle.exec_journal.specs.declared.call.Call.{Call}
 use Rattle.exec_journal.specs.declared.call.Call.TheVariants as call
 use Rattle.exec_journal.specs.declared.reply.Reply.{Reply}
-use Rattle.exec_journal.specs.Entries.{is_kept}
+use Rattle.exec_journal.specs.Attempts.{attempt, begun_in, number_if}
+use Rattle.exec_journal.specs.Entries.{is_branch_of, is_kept, same_branch}
 use Rattle.exec_journal.specs.Entry.{Entry}
-use Rattle.exec_journal.specs.History.{each}
+use Rattle.exec_journal.specs.History.{each, latest}
 use Rattle.exec_journal.specs.Legal.{after}
 use Rattle.exec_journal.specs.Settled.{ready}
 use Rattle.exec_journal.specs.declared.reply.Reply.TheVariants as reply
@@ -26,8 +31,10 @@ use Rattle.ready_order.proofs.Queued.{ready_is}
 use Rattle.core_state.specs.declared.state.State.{State}
 use Rattle.core_laws.specs.Stands.{Stands}
 use Rattle.delay_rules.specs.Delayed.{is_tick, tick_after, ticks_since}
-use Rattle.local_delay.specs.Counts.{Facts, IsCounted, capped, more}
-use Rattle.local_delay.specs.Stands.{StandsFor}
+use Rattle.local_delay.specs.Choices.{last_of}
+use Rattle.local_delay.specs.Counts.{Facts, IsCounted, IsMarked, capped, count_at, is_action, is_marked, more}
+use Rattle.local_delay.specs.Stands.{IsHeld, StandsFor}
+use Rattle.local_delay.specs.Told.{reached}
 
 -- one more, up to n
 more_is : (n t : ℕ) (made : Bool) → more made n (capped n t) ≡ capped n (cond made (t + 1) t)
@@ -55,6 +62,18 @@ more_is n t made =
         past : (made : Bool) → nat_lt (cond made (t + 1) t) n ≡ false
         past true = le-ltb (t + 1) n (omega (arith, ge))
         past false = le-ltb t n ge
+
+-- the branch's latest attempt, after an entry
+attempt_next : (e : Entry) (j : List Entry) (a : ℕ) (b : Branch)
+    → attempt (e ∷ j) a b ≡ unwrap_or (number_if a b (begun_in e.reply)) (attempt j a b)
+unfolding attempt
+attempt_next e j a b = by (number_if a b (begun_in e.reply))
+  where
+    by : (o : Option ℕ)
+        → unwrap_or (or_else o (latest (λ _ d. number_if a b (begun_in d.reply)) j)) 0
+        ≡ unwrap_or o (unwrap_or (latest (λ _ d. number_if a b (begun_in d.reply)) j) 0)
+    by None = refl
+    by (Some k) = refl
 
 -- ---- a Tick
 
@@ -97,11 +116,39 @@ module _ (p : Plan) (j : List Entry) (lane : ℕ) where
         ∙ (λ i. Some (more (made_is a y at i) (own.ticks i) (capped n (ticks_since p j y))))
         ∙ ap Some (more_is n (ticks_since p j y) (ready p j y) ∙ ap (capped n) (sym (since_is y)))
 
+    begins_none : (y : Reply) → Ticked p j y → begun_in y ≡ None
+    begins_none y Counts = refl
+    begins_none y (Ends over) = refl
+    begins_none y Waits = refl
+
+    -- what isn't marked yet waits for more
+    held : (f g : Facts) → StandsFor p n f j → IsCounted s.ready f g → (a : ℕ) (y : PlanAction)
+        → slice_get p.actions a ≡ Some y → is_marked g a ≡ false → IsHeld p n (tick x ∷ j) a y
+    held f g own is a y at un =
+        let size = is.marks.size ∙ own.size in
+        let within = slice_get_within p.actions a y at in
+        let was = is.marks.each a (omega (arith, size, within)) un in
+        let before = own.unmarked a y at was.0 in
+        let count : count_at g a ≡ capped n (ticks_since p (tick x ∷ j) y) =
+        ap (λ (o : Option ℕ). unwrap_or o 0) (each_counted f g own is a (Some y) at) in
+        let short : nat_le n (ticks_since p (tick x ∷ j) y) ≡ false =
+        sym (reached n (ticks_since p (tick x ∷ j) y))
+        ∙ (λ i. nat_le (sym own.ticks i) (sym count i)) ∙ was.1 in
+        record {
+          waits = before.waits;
+          short = leb-false n (ticks_since p (tick x ∷ j) y) short;
+          left = subst (λ k. k < p.limit) (sym (attempt_next (tick x) j a Remote
+              ∙ ap (λ o. unwrap_or (number_if a Remote o) (attempt j a Remote))
+              (begins_none x st.lawful.1.told))) before.left;
+        }
+
     pub counted : (f g : Facts) → StandsFor p n f j → IsCounted s.ready f g
         → StandsFor p n g (tick x ∷ j)
     counted f g own is = record {
       ticks = is.ticks ∙ own.ticks;
       each = λ a. each_counted f g own is a (slice_get p.actions a) refl;
+      size = is.marks.size ∙ own.size;
+      unmarked = λ a y at un. held f g own is a y at un;
     }
 
 -- ---- any call
@@ -118,23 +165,73 @@ module _ (p : Plan) (n : ℕ) (f : Facts) (j : List Entry) (lane : ℕ) (own : S
   since_other e y other = ap (λ b. length (and_more (cond (b && ready p j y) (Some e.lane) None)
       (each (tick_after p y) j))) (sym other)
 
-  by_entry : (c : Call) (x : Reply) (kept : Bool) → (is_tick c && kept) ≡ false
-      → StandsFor p n f (cond kept (record { lane = lane; call = c; reply = x } ∷ j) j)
-  by_entry c x false none = own
-  by_entry c x true none = record {
-    ticks = own.ticks;
-    each = λ a. own.each a ∙ (λ i. option_map (λ y. capped n (since_other
-        (record { lane = lane; call = c; reply = x }) y (other (is_tick c) none) i))
-        (slice_get p.actions a));
-  }
-    where
-      other : (b : Bool) → (b && true) ≡ false → b ≡ false
-      other false none = refl
-      other true none = none
+  module _ (g : Facts) (c : Call) (x : Reply)
+      (is : IsMarked (last_of p.limit (begun_in x)) f g) where
+    abbrev here : Entry
+    here = record { lane = lane; call = c; reply = x }
 
-  pub uncounted : (c : Call) (x : Reply) → (is_tick c && is_kept x) ≡ false
-      → StandsFor p n f (after j lane c x)
-  uncounted c x none = by_entry c x (is_kept x) none
+    size_is : length g.marks ≡ length p.actions
+    size_is = is.marks.size ∙ own.size
+
+    -- it wasn't marked before, and its remote branch doesn't begin its last attempt
+    was : (a : ℕ) (y : PlanAction) → slice_get p.actions a ≡ Some y → is_marked g a ≡ false
+        → IsHeld p n j a y × (is_action (last_of p.limit (begun_in x)) a ≡ false)
+    was a y at un =
+        let within = slice_get_within p.actions a y at in
+        let size = size_is in
+        let before = is.marks.each a (omega (arith, size, within)) un in
+        (own.unmarked a y at before.0, before.1)
+
+    -- its next attempt is not the last
+    left_by : (a : ℕ) (o : Option Attempt) → attempt j a Remote < p.limit
+        → is_action (last_of p.limit o) a ≡ false
+        → unwrap_or (number_if a Remote o) (attempt j a Remote) < p.limit
+    left_by a None left un = left
+    left_by a (Some t) left un =
+        by_bool (is_branch_of a Remote t) (λ b. is_branch_of a Remote t ≡ b
+        → unwrap_or (cond b (Some t.number) None) (attempt j a Remote) < p.limit)
+        (λ yes _. let parts = and_parts (t.action == a) (same_branch t.branch Remote) yes in
+        by_bool (nat_le p.limit t.number) (λ b. nat_le p.limit t.number ≡ b
+        → t.number < p.limit)
+        (λ high _. absurd (let marked : is_action (last_of p.limit (Some t)) a ≡ true =
+        (λ i. is_action (cond (parts.1 i && high i) (Some t.action) None) a) ∙ parts.0 in
+        let clash = sym marked ∙ un in cc))
+        (λ low _. leb-false p.limit t.number low) refl)
+        (λ _ _. left) refl
+
+    left_is : (a : ℕ) → attempt j a Remote < p.limit
+        → is_action (last_of p.limit (begun_in x)) a ≡ false
+        → attempt (here ∷ j) a Remote < p.limit
+    left_is a left un = subst (λ k. k < p.limit) (sym (attempt_next here j a Remote))
+        (left_by a (begun_in x) left un)
+
+    by_entry : (kept : Bool) → (is_tick c && kept) ≡ false
+        → StandsFor p n g (cond kept (here ∷ j) j)
+    by_entry false none = record {
+      ticks = is.ticks ∙ own.ticks;
+      each = λ a. ap (λ (l : List ℕ). slice_get l a) is.counts ∙ own.each a;
+      size = size_is;
+      unmarked = λ a y at un. (was a y at un).0;
+    }
+    by_entry true none = record {
+      ticks = is.ticks ∙ own.ticks;
+      each = λ a. ap (λ (l : List ℕ). slice_get l a) is.counts ∙ own.each a
+          ∙ (λ i. option_map (λ y. capped n (since_other here y (other (is_tick c) none) i))
+          (slice_get p.actions a));
+      size = size_is;
+      unmarked = λ a y at un. let before = was a y at un in record {
+        waits = before.0.waits;
+        short = subst (λ k. k < n) (since_other here y (other (is_tick c) none)) before.0.short;
+        left = left_is a before.0.left before.1;
+      };
+    }
+      where
+        other : (b : Bool) → (b && true) ≡ false → b ≡ false
+        other false none = refl
+        other true none = none
+
+    pub uncounted : (is_tick c && is_kept x) ≡ false → StandsFor p n g (after j lane c x)
+    uncounted none = by_entry (is_kept x) none
 
   pub ticked : (seats : ℕ) (s : State) (g : Facts) (c : Call) (x : Reply)
       → (is_tick c && is_kept x) ≡ true → Stands p seats s (after j lane c x)

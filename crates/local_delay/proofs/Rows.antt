@@ -1,20 +1,22 @@
 -- One action that uses both branches, a worker's berth and an executor's, and a delay of two Ticks:
 -- the executor has the action first, and the worker once both Ticks have come.
-use Rattle.std.specs.Prelude.{◌≡◌, ℕ, refl, true, false, Some, None, List, [], ◌∷◌}
+use Rattle.std.specs.Prelude.{◌≡◌, ◌*◌, ℕ, refl, true, false, Some, None, List, [], ◌∷◌, count_by, map}
 use Rattle.run_plan.specs.declared.plan.Branch.TheVariants.{Local, Remote}
 use Rattle.run_plan.specs.declared.plan.Plan.{Plan}
 use Rattle.exec_journal.specs.declared.call.Call.{Call}
 use Rattle.exec_journal.specs.declared.call.Call.TheVariants as call
 use Rattle.exec_journal.specs.declared.reply.Reply.{Reply}
 use Rattle.exec_journal.specs.declared.reply.Reply.TheVariants as reply
+use Rattle.exec_journal.specs.Entries.{attempt_of}
 use Rattle.exec_journal.specs.Entry.{Entry}
 use Rattle.exec_journal.proofs.Parts.{dynamic, entry, plan_of, remote, single}
 use Rattle.journal_laws.proofs.rows.Opened.{words}
 use Rattle.ready_order.specs.Queue.{new_states, with_taken}
 use Rattle.retry_rules.specs.Counts.{new_facts}
 use Rattle.core_state.specs.declared.state.State.{State}
-use Rattle.delay_rules.specs.Delayed.{delayed_discipline, delayed_earliest, ticks_since}
-use Rattle.local_delay.specs.Choices.{first_in, some_waits}
+use Rattle.delay_rules.specs.Bounds.{is_noted_tick}
+use Rattle.delay_rules.specs.Delayed.{delayed_discipline, delayed_earliest, is_dual, ticks_since}
+use Rattle.local_delay.specs.Choices.{first_in, first_mark, last_of, some_waits}
 use Rattle.local_delay.specs.Counts.{Facts, capped, more}
 
 unfoldable plan : Plan
@@ -73,7 +75,7 @@ third_tick = refl
 -- ---- what the tables say, once the executor has the action
 
 abbrev counted : ℕ → Facts
-counted n = record { ticks = 2; counts = n ∷ [] }
+counted n = record { ticks = 2; counts = n ∷ []; marks = 1 ∷ [] }
 
 module _ (s : State) where
   abbrev here : State
@@ -112,3 +114,32 @@ counts_no_more = refl
 
 capped_at_two : capped 2 5 ≡ 2
 capped_at_two = refl
+
+-- ---- how many Ticks are noted
+
+two_are_noted : count_by is_noted_tick ticked_twice ≡ 2
+unfolding launched ticked_once ticked_twice entry
+two_are_noted = refl
+
+two_are_the_most : count_by is_dual plan.actions * 2 ≡ 2
+unfolding plan
+two_are_the_most = refl
+
+-- ---- which action is known to wait
+
+waits_at_first : map (first_mark plan 2) plan.actions ≡ 0 ∷ []
+unfolding plan
+waits_at_first = refl
+
+waits_for_nothing : map (first_mark plan 0) plan.actions ≡ 1 ∷ []
+unfolding plan
+waits_for_nothing = refl
+
+last_attempt : last_of 2 (Some (attempt_of 0 Remote 2)) ≡ Some 0
+last_attempt = refl
+
+earlier_attempt : last_of 2 (Some (attempt_of 0 Remote 1)) ≡ None
+earlier_attempt = refl
+
+other_branch : last_of 2 (Some (attempt_of 0 Local 2)) ≡ None
+other_branch = refl

@@ -5,8 +5,11 @@ use Rattle.run_plan.specs.declared.plan.Branch.{Branch}
 use Rattle.run_plan.specs.declared.plan.Branch.TheVariants.{Local, Remote}
 use Rattle.run_plan.specs.declared.plan.Kind.TheVariants as kind
 use Rattle.run_plan.specs.declared.plan.Plan.{Plan}
+use Rattle.run_plan.specs.declared.plan.PlanAction.{PlanAction}
+use Rattle.run_plan.specs.Groups.{is_remote}
 use Rattle.list_lemmas.specs.Options.{or_else}
 use Rattle.exec_journal.specs.declared.attempt.Attempt.{Attempt}
+use Rattle.exec_journal.specs.Entries.{same_branch}
 use Rattle.exec_journal.specs.declared.reply.Reply.{Reply}
 use Rattle.exec_journal.specs.declared.reply.Reply.TheVariants as reply
 use Rattle.ready_order.specs.Queue.{is_open_at, is_ready_at, queued_at}
@@ -20,22 +23,12 @@ use Rattle.core_state.specs.Choices.{is_over}
 use Rattle.earliest_first.specs.Choices.{choice_on, next_of}
 use Rattle.delay_rules.specs.Delayed.{is_dual}
 use Rattle.spawn_core.specs.Policies.{ReadsEach}
-use Rattle.local_delay.specs.Counts.{Facts}
-
--- what is read to choose on any berth is there, and of each action what is counted of it
-pub record ReadsDelay (s : State) : Type 0 where
-  pub berths : ReadsEach s
-  pub states : length s.ready ≡ length s.plan.actions
-  pub ended : length s.attempts.ended ≡ length s.plan.actions
-  pub few : length s.plan.actions < 2 ^ 32
+use Rattle.local_delay.specs.Counts.{Facts, count_at, is_marked}
 
 -- ---- which branch goes
 
 abbrev pub is_dual_at : State → ℕ → Bool
 is_dual_at s a = unwrap_or (option_map is_dual (slice_get s.plan.actions a)) false
-
-abbrev pub count_at : Facts → ℕ → ℕ
-count_at f a = unwrap_or (slice_get f.counts a) 0
 
 -- its remote branch has no attempt left
 abbrev pub is_dropped : State → ℕ → Bool
@@ -61,6 +54,37 @@ first_among f s g a (suc n) =
 
 abbrev pub first_in : Facts → State → ℕ → Option (ℕ × Branch)
 first_in f s g = first_among f s g 0 (length s.plan.actions)
+
+-- ---- which actions are known to wait
+
+abbrev pub runs_executors : Plan → ℕ → Bool
+runs_executors p g = unwrap_or (option_map (λ x. is_remote x.kind) (slice_get p.groups g)) false
+
+-- it uses both branches, the remote one on executors
+abbrev pub may_wait : Plan → PlanAction → Bool
+may_wait p x =
+    is_dual x && unwrap_or (option_map (runs_executors p) x.remote) false
+
+-- where no Tick was made yet
+abbrev pub first_mark : Plan → ℕ → PlanAction → ℕ
+first_mark p n x = if may_wait p x && nat_lt 0 n then 0 else 1
+
+-- the action whose remote branch begins its last attempt, so that it may be dropped
+abbrev pub last_of : ℕ → Option Attempt → Option ℕ
+last_of limit (Some t) = if same_branch t.branch Remote && nat_le limit t.number then Some t.action
+    else None
+last_of limit None = None
+
+-- What is read to choose on any berth is there, and of each action what is counted of it. In a
+-- group of workers no branch goes of an action that isn't marked.
+pub record ReadsDelay (f : Facts) (s : State) : Type 0 where
+  pub berths : ReadsEach s
+  pub states : length s.ready ≡ length s.plan.actions
+  pub ended : length s.attempts.ended ≡ length s.plan.actions
+  pub few : length s.plan.actions < 2 ^ 32
+  pub marks : length f.marks ≡ length s.plan.actions
+  pub unmarked : (g a : ℕ) → runs_executors s.plan g ≡ false → is_marked f a ≡ false
+      → branch_at f s g a ≡ None
 
 abbrev pub next_in : Facts → State → ℕ → Option Attempt
 next_in f s g = option_map (next_of s) (first_in f s g)

@@ -7,12 +7,13 @@ use Rattle.std.proofs.lemmas.Option.{slice_get_past}
 use Rattle.run_plan.specs.declared.plan.Group.{Group}
 use Rattle.run_plan.specs.declared.plan.Kind.TheVariants as kind
 use Rattle.run_plan.specs.declared.plan.Plan.{Plan}
+use Rattle.run_plan.specs.declared.plan.PlanAction.{PlanAction}
 use Rattle.run_plan.specs.Groups.{berth_group, berths, group_from, group_of, has_cancellation, is_remote, kind_of}
 use Rattle.run_plan.specs.Sound.{Sound}
 use Rattle.exec_journal.specs.declared.call.Call.TheVariants as call
 use Rattle.exec_journal.specs.declared.reply.Reply.TheVariants as reply
 use Rattle.exec_journal.specs.Entry.{Entry}
-use Rattle.exec_journal.specs.Kept.{Kept, group_at}
+use Rattle.exec_journal.specs.Kept.{group_at}
 use Rattle.exec_journal.specs.Rules as r
 use Rattle.exec_journal.specs.Scripts.{script}
 use Rattle.exec_journal.specs.Seated.{group_for, group_on}
@@ -34,8 +35,10 @@ use Rattle.core_laws.proofs.Rowed.{berth_of}
 use Rattle.earliest_first.specs.Choices.{ReadsOwn, choice_for, chosen_by}
 use Rattle.earliest_first.proofs.AtBerths.{group_is, seat_fits, seat_within}
 use Rattle.earliest_first.proofs.Chosen.{choice_among}
+use Rattle.delay_rules.specs.Bounds.{DelayedKept}
 use Rattle.delay_rules.specs.Delayed as de
 use Rattle.delay_rules.specs.Delayed.{delayed_discipline}
+use Rattle.delay_rules.proofs.Bounded.{few}
 use Rattle.delay_rules.proofs.Keeping.{kept}
 use Rattle.delay_rules.proofs.Lawful.{stands_so}
 use Rattle.delay_rules.proofs.Nexts.{nexts}
@@ -44,9 +47,9 @@ use Rattle.spawn_core.specs.Policies.{SaysSeat, StandsBy}
 use Rattle.local_delay.specs.declared.policy.DelayedPlan.{DelayedPlan}
 use Rattle.local_delay.specs.Choices as c
 use Rattle.local_delay.specs.Choices.{ReadsDelay}
-use Rattle.local_delay.specs.Counts.{Facts}
+use Rattle.local_delay.specs.Counts.{Facts, is_marked}
 use Rattle.local_delay.specs.Stands.{StandsFor}
-use Rattle.local_delay.specs.Told.{next_is, over_is, ticked_is}
+use Rattle.local_delay.specs.Told.{next_is, none_goes, none_past, over_is, ticked_is}
 
 pub is_own : (p : Plan) (n : ℕ) → IsDiscipline (delayed_discipline p n)
 is_own p n = delayed_is_discipline p n
@@ -59,8 +62,8 @@ pub basis_is : (b : DelayedPlan) (f : Facts) (j : List Entry) → StandsFor b.pl
 basis_is b f j own = λ i. record { plan = b.plan; ticks = own.ticks i }
 
 pub kept_is : (p : Plan) (n : ℕ) (j : List Entry) → Sound p → LegalBy (delayed_discipline p n) j
-    → Kept p j
-kept_is p n j sound legal = kept p n j sound legal
+    → DelayedKept p n j
+kept_is p n j sound legal = record { orders = kept p n j sound legal; ticks = few p n j legal }
 
 -- ---- the berth behind the plan's
 
@@ -235,9 +238,23 @@ reads_own p s j w st lt =
           let same = ap berths st.plan in omega (arith, there, same));
     }
 
-pub reads_are : (p : Plan) (n : ℕ) (s : State) (j : List Entry)
-    → StandsBy (delayed_discipline p n) s j → ReadsDelay s
-reads_are p n s j st =
+-- of an action that isn't marked no branch goes in a group of workers
+unmarked_waits : (p : Plan) (n : ℕ) (f : Facts) (s : State) (j : List Entry)
+    → StandsBy (delayed_discipline p n) s j → StandsFor p n f j → (g a : ℕ)
+    → c.runs_executors p g ≡ false → is_marked f a ≡ false → c.branch_at f s g a ≡ None
+unmarked_waits p n f s j st own g a workers un = by (slice_get p.actions a) refl
+  where
+    seats : ℕ
+    seats = de.delayed_seats p
+
+    by : (o : Option PlanAction) → slice_get p.actions a ≡ o → c.branch_at f s g a ≡ None
+    by None past = none_past p n seats f s j st.tables own a past g
+    by (Some x) at =
+        none_goes p n seats f s j st.tables own a x at (own.unmarked a x at un) g workers
+
+pub reads_are : (p : Plan) (n : ℕ) (f : Facts) (s : State) (j : List Entry)
+    → StandsBy (delayed_discipline p n) s j → StandsFor p n f j → ReadsDelay f s
+reads_are p n f s j st own =
     let facts = (all_of p (de.delayed_seats p) s j st.tables).facts in
     let same = ap (λ (q : Plan). length q.actions) st.tables.plan in
     record {
@@ -251,4 +268,7 @@ reads_are p n s j st =
       states = read.states_are p (de.delayed_seats p) s j st.tables facts ∙ sym same;
       ended = read.counts_are p (de.delayed_seats p) s j st.tables facts ∙ sym same;
       few = (let most = st.tables.sound.actions in omega arith);
+      marks = own.size ∙ sym same;
+      unmarked = λ g a workers un. unmarked_waits p n f s j st own g a
+          (ap (λ (q : Plan). c.runs_executors q g) (sym st.tables.plan) ∙ workers) un;
     }

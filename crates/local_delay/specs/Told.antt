@@ -1,7 +1,7 @@
 -- What the tables say of an action is what the journal says for which they stand.
 use Rattle.std.proofs.Common.{◌≡◌, ℕ, suc, ◌+◌, ◌==◌, nat_le, nat_lt, Bool, true, false, ◌&&◌, ◌||◌, not, cond, List, [], ◌∷◌, length, Option, Some, None, option_map, unwrap_or, refl, ap, sym, subst, ◌∙◌, arith}
 use Rattle.std.specs.Prelude.{option_and_then, slice_get}
-use Rattle.std.proofs.lemmas.Bool.{and_parts, eq-eqb, eqb-true, le-leb, le-ltb, ltb-false}
+use Rattle.std.proofs.lemmas.Bool.{and_left, and_parts, and_right, lt-leb, eq-eqb, eqb-true, le-leb, le-ltb, ltb-false}
 use Rattle.std.proofs.lemmas.Option.{slice_get_within}
 use Rattle.run_plan.specs.declared.plan.Branch.{Branch}
 use Rattle.run_plan.specs.declared.plan.Branch.TheVariants.{Local, Remote}
@@ -13,6 +13,7 @@ use Rattle.exec_journal.specs.declared.attempt.Attempt.{Attempt}
 use Rattle.exec_journal.specs.Attempts.{attempt, dropped}
 use Rattle.exec_journal.specs.Entries.{attempt_of}
 use Rattle.exec_journal.specs.Entry.{Entry}
+use Rattle.exec_journal.specs.Facts.{begun}
 use Rattle.exec_journal.specs.declared.reply.Reply.TheVariants as reply
 use Rattle.exec_journal.specs.Rules as r
 use Rattle.exec_journal.specs.Settled.{all_settled, is_settled, queued, ready, uses}
@@ -35,10 +36,11 @@ use Rattle.core_laws.proofs.AllOf.{all_of}
 use Rattle.earliest_first.specs.Choices.{next_of}
 use Rattle.earliest_first.proofs.Queued.{number_next}
 use Rattle.delay_rules.specs.Delayed as de
+use Rattle.delay_rules.specs.Delayed.{ticks_since}
 use Rattle.delay_rules.proofs.Nexts.{nexts}
 use Rattle.local_delay.specs.Choices as c
-use Rattle.local_delay.specs.Counts.{Facts, capped}
-use Rattle.local_delay.specs.Stands.{StandsFor}
+use Rattle.local_delay.specs.Counts.{Facts, capped, count_at}
+use Rattle.local_delay.specs.Stands.{IsHeld, StandsFor}
 
 -- ---- counts
 
@@ -119,7 +121,7 @@ module _ (p : Plan) (n seats : ℕ) (f : Facts) (s : State) (j : List Entry)
         ap (λ (q : Plan). unwrap_or (option_map de.is_dual (slice_get q.actions a)) false) st.plan
         ∙ ap (λ (o : Option PlanAction). unwrap_or (option_map de.is_dual o) false) at
 
-    count_is : c.count_at f a ≡ capped n (de.ticks_since p j x)
+    count_is : count_at f a ≡ capped n (de.ticks_since p j x)
     count_is = ap (λ (o : Option ℕ). unwrap_or o 0) (own.each a
         ∙ ap (option_map (λ y. capped n (de.ticks_since p j y))) at)
 
@@ -133,7 +135,7 @@ module _ (p : Plan) (n seats : ℕ) (f : Facts) (s : State) (j : List Entry)
 
     waited_is : c.has_waited f s a ≡ de.has_waited p n j a x
     waited_is =
-        let reach : nat_le f.ticks (c.count_at f a) ≡ nat_le n (de.ticks_since p j x) =
+        let reach : nat_le f.ticks (count_at f a) ≡ nat_le n (de.ticks_since p j x) =
         (λ i. nat_le (own.ticks i) (count_is i)) ∙ reached n (de.ticks_since p j x) in
         λ i. not (dual_is i) || (reach i || dropped_is i)
 
@@ -147,7 +149,7 @@ module _ (p : Plan) (n seats : ℕ) (f : Facts) (s : State) (j : List Entry)
 
     pub waits_is : c.waits_at f s a ≡ de.waits_for_tick p n j a x
     waits_is =
-        let below : nat_lt (c.count_at f a) f.ticks ≡ nat_lt (de.ticks_since p j x) n =
+        let below : nat_lt (count_at f a) f.ticks ≡ nat_lt (de.ticks_since p j x) n =
         (λ i. nat_lt (count_is i) (own.ticks i)) ∙ under n (de.ticks_since p j x) in
         (λ i. dual_is i && (ready_at_is i && (open_at_is i && below i)))
         ∙ all_waits (de.is_dual x) (ready p j x) (granted j a) (is_settled (queues.own_in p j a x))
@@ -168,6 +170,68 @@ module _ (p : Plan) (n seats : ℕ) (f : Facts) (s : State) (j : List Entry)
         ∙ branch_goes a (attempt j a Local + 1) (attempt j a Remote + 1) (uses x Local g)
         (queued p j a Local x) (de.has_waited p n j a x) (uses x Remote g) (queued p j a Remote x)
         (λ local. apart p g a x st.sound at local)
+
+    -- ---- where the action is held
+
+    module _ (held : IsHeld p n j a x) where
+      abbrev last : Attempt
+      last = attempt_of a Remote p.limit
+
+      not_begun : begun j last ≡ false
+      not_begun =
+          by_bool (begun j last) (λ b. b ≡ false)
+          (λ yes. absurd (let most = (attempts_in_order p j st.lawful).numbered last yes in
+          let left = held.left in let high = most.1 in omega (arith, high, left)))
+          (λ _. refl)
+
+      not_dropped : dropped p j a Remote ≡ false
+      unfolding dropped
+      not_dropped = (all_of p seats s j st).facts.unbegun_goes last not_begun
+
+      still_waits : de.has_waited p n j a x ≡ false
+      still_waits =
+          let dual = (and_parts (de.is_dual x) _ held.waits).0 in
+          let short = held.short in
+          λ i. not (dual i) || (lt-leb n (ticks_since p j x) short i || not_dropped i)
+
+      -- no worker runs its remote branch
+      no_worker : (g : ℕ) → c.runs_executors p g ≡ false → uses x Remote g ≡ false
+      no_worker g workers = by x.remote (and_parts (de.is_dual x) _ held.waits).1
+        where
+          by : (o : Option ℕ)
+              → unwrap_or (option_map (c.runs_executors p) o) false ≡ true
+              → unwrap_or (option_map (λ k. k == g) o) false ≡ false
+          by None run = refl
+          by (Some h) run =
+              by_bool (h == g) (λ b. h == g ≡ b → b ≡ false)
+              (λ yes _. absurd (let same = ap (c.runs_executors p) (eqb-true h g yes) in
+              let clash = sym run ∙ same ∙ workers in cc))
+              (λ _ _. refl) refl
+
+      no_attempt : (g : ℕ) → c.runs_executors p g ≡ false → de.delayed_in p n j g a x ≡ None
+      no_attempt g workers =
+          let first : (uses x Local g && (queued p j a Local x && de.has_waited p n j a x)) ≡ false =
+          and_right _ _ (and_right _ _ still_waits) in
+          let second : (uses x Remote g && queued p j a Remote x) ≡ false =
+          and_left _ _ (no_worker g workers) in
+          λ i. cond (first i) (Some (attempt_of a Local (attempt j a Local + 1)))
+          (cond (second i) (Some (attempt_of a Remote (attempt j a Remote + 1))) None)
+
+      pub none_goes : (g : ℕ) → c.runs_executors p g ≡ false → c.branch_at f s g a ≡ None
+      none_goes g workers =
+          by (c.branch_at f s g a) (branch_is g ∙ ap queues.branch_of (no_attempt g workers))
+        where
+          by : (o : Option Branch) → option_map {U = ℕ × Branch} (λ b. (a, b)) o ≡ None
+              → o ≡ None
+          by None h = refl
+          by (Some b) h = absurd (cc)
+
+  -- an action of no number has no branch
+  pub none_past : (a : ℕ) → slice_get p.actions a ≡ None → (g : ℕ) → c.branch_at f s g a ≡ None
+  none_past a past g =
+      ap (λ (o : Option ActionState). c.if_goes (c.has_waited f s a)
+      (option_and_then (queued_branch s.ready g) o))
+      (st.ready.each a ∙ ap (option_map (queues.state_in p j a)) past)
 
   -- ---- all of them
 

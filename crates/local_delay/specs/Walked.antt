@@ -1,5 +1,5 @@
--- The walks over the actions, a step at a time.
-use Rattle.std.proofs.Common.{◌≡◌, ℕ, zero, suc, ◌+◌, ◌-◌, ◌<◌, ◌≤◌, false, ◌||◌, cond, List, Option, Some, None, option_map, unwrap_or, refl, ap, sym, ◌∙◌, arith}
+-- The walks over the actions, a step at a time, and over those that are marked.
+use Rattle.std.proofs.Common.{◌≡◌, ℕ, zero, suc, ◌+◌, ◌-◌, ◌<◌, ◌≤◌, false, ◌||◌, cond, List, length, Option, Some, None, option_map, unwrap_or, refl, ap, sym, ◌∙◌, arith}
 use Rattle.std.specs.Prelude.{option_and_then, slice_get}
 use Rattle.run_plan.specs.declared.plan.Branch.{Branch}
 use Rattle.run_plan.specs.declared.plan.Branch.TheVariants.{Local, Remote}
@@ -8,7 +8,7 @@ use Rattle.ready_order.specs.declared.ActionState.{ActionState}
 use Rattle.ready_order.specs.Queue.{is_queued, may_begin, queued_at, queued_branch, seat_of}
 use Rattle.core_state.specs.declared.state.State.{State}
 use Rattle.local_delay.specs.Choices.{branch_at, first_among, has_waited, if_goes, some_among, waits_at}
-use Rattle.local_delay.specs.Counts.{Facts}
+use Rattle.local_delay.specs.Counts.{Facts, is_marked}
 
 -- where nothing of the action is queued in the group, no branch of it goes
 none_of : (states : List ActionState) (g a : ℕ) (o : Option ActionState)
@@ -46,7 +46,7 @@ module _ (f : Facts) (s : State) (g : ℕ) where
       (none a) ∙ none_among (a + 1) n none
 
   -- the first m actions from a on may be left out, where no branch of them goes
-  skips : (a m n : ℕ) → ((c : ℕ) → c < a + m → branch_at f s g c ≡ None)
+  skips : (a m n : ℕ) → ((c : ℕ) → a ≤ c → c < a + m → branch_at f s g c ≡ None)
       → first_among f s g a (m + n) ≡ first_among f s g (a + m) n
   skips a zero n none =
       let e : a ≡ a + 0 = omega arith in
@@ -57,18 +57,35 @@ module _ (f : Facts) (s : State) (g : ℕ) where
       let e : a + 1 + m ≡ a + suc m = omega arith in
       ap (first_among f s g a) k
       ∙ ap (λ (o : Option Branch). or_else (option_map (λ b. (a, b)) o)
-      (first_among f s g (a + 1) (m + n))) (none a (omega arith))
-      ∙ skips (a + 1) m n (λ c lt. none c (omega (arith, lt)))
+      (first_among f s g (a + 1) (m + n))) (none a (omega arith) (omega arith))
+      ∙ skips (a + 1) m n (λ c le lt. none c (omega (arith, le)) (omega (arith, lt)))
       ∙ ap (λ c. first_among f s g c n) e
+
+  -- those from a to b may be left out
+  pub passes : (a b n : ℕ) → a ≤ b → b ≤ n
+      → ((c : ℕ) → a ≤ c → c < b → branch_at f s g c ≡ None)
+      → first_among f s g b (n - b) ≡ first_among f s g a (n - a)
+  passes a b n low high none =
+      let m : ℕ = b - a in
+      let e : a + m ≡ b = omega (arith, low) in
+      let k : m + (n - b) ≡ n - a = omega (arith, low, high) in
+      sym (ap (first_among f s g a) (sym k)
+      ∙ skips a m (n - b) (λ c le lt. none c le (omega (arith, lt, low)))
+      ∙ ap (λ c. first_among f s g c (n - b)) e)
 
   pub first_from : (m n : ℕ) → m ≤ n → ((c : ℕ) → c < m → branch_at f s g c ≡ None)
       → first_among f s g m (n - m) ≡ first_among f s g 0 n
   first_from m n le none =
-      let e : 0 + m ≡ m = omega arith in
-      let k : m + (n - m) ≡ n = omega (arith, le) in
-      sym (ap (first_among f s g 0) (sym k)
-      ∙ skips 0 m (n - m) (λ c lt. none c (omega (arith, lt)))
-      ∙ ap (λ c. first_among f s g c (n - m)) e)
+      let k : n - 0 ≡ n = omega arith in
+      passes 0 m n (omega arith) le (λ c low lt. none c lt) ∙ ap (first_among f s g 0) k
+
+  -- none is left
+  pub none_left : (a n : ℕ) → a ≤ n
+      → ((c : ℕ) → a ≤ c → c < n → branch_at f s g c ≡ None)
+      → first_among f s g a (n - a) ≡ None
+  none_left a n le none =
+      let k : n - n ≡ 0 = omega arith in
+      sym (passes a n n le (omega arith) none) ∙ ap (first_among f s g n) k
 
   -- what is found is among them
   pub first_below : (a n b : ℕ) (d : Branch) → first_among f s g a n ≡ Some (b, d) → b < a + n
@@ -88,3 +105,15 @@ module _ (f : Facts) (s : State) where
       ≡ (waits_at f s a || some_among f s (a + 1) (n - (a + 1)))
   some_step a n lt =
       let e : n - a ≡ suc (n - (a + 1)) = omega (arith, lt) in ap (some_among f s a) e
+
+-- ---- marks
+
+pub record NextMark (f : Facts) (from a : ℕ) : Type 0 where
+  pub low : from ≤ a
+  pub high : a < length f.marks
+  pub passed : (c : ℕ) → from ≤ c → c < a → is_marked f c ≡ false
+
+-- the least marked action from this one on
+abbrev pub IsNextMark : Facts → ℕ → Option ℕ → Type 0
+IsNextMark f from None = (c : ℕ) → from ≤ c → c < length f.marks → is_marked f c ≡ false
+IsNextMark f from (Some a) = NextMark f from a

@@ -1,11 +1,14 @@
 // What the policy keeps, and what is next in a group by it.
-ghost use Rattle.std.specs.Prelude.{◌≡◌, ◌<◌, IfOk, length, replicate};
+ghost use Rattle.std.specs.Prelude.{◌≡◌, ◌-◌, ◌<◌, ◌≤◌, false, IfOk, length, map, replicate};
 ghost use Rattle.run_plan.specs.Sound.{Sound};
 ghost use Rattle.core_state.specs.Choices.{Reads};
-ghost use Rattle.local_delay.specs.Choices.{ReadsDelay, branch_at, count_at, first_in, has_waited, is_dropped, is_dual_at, next_in};
+ghost use Rattle.local_delay.specs.Choices.{ReadsDelay, branch_at, first_among, first_in, first_mark, has_waited, is_dropped, is_dual_at, may_wait, next_in, runs_executors};
+ghost use Rattle.local_delay.specs.Counts.{count_at};
+ghost use Rattle.local_delay.specs.Walked.{IsNextMark};
 
 use core_state::State;
-use exec_journal::{Attempt, Branch, Plan};
+use exec_journal::{Attempt, Branch, Kind, Plan, PlanAction};
+use memchr::memchr;
 use plain_values::NoMemory;
 use std::alloc::Global;
 use std::marker::Model;
@@ -18,6 +21,9 @@ pub struct LocalDelay {
     pub(crate) ticks: u32,
     // Of each action how many came since its inputs were made, up to `ticks`.
     pub(crate) counts: Vec<u32>,
+    // A 1 for each action, unless it is known that its local branch waits. So the search for what is
+    // next passes over all that are held back, wherever nothing else is queued.
+    pub(crate) marks: Vec<u8>,
 }
 
 impl Model for LocalDelay {
@@ -26,9 +32,14 @@ impl Model for LocalDelay {
 
     ghost Value = { Facts };
 
-    ghost view = { λ d. record { ticks = d.ticks; counts = d.counts.items } };
+    ghost view = { λ d. record {
+      ticks = d.ticks;
+      counts = d.counts.items;
+      marks = d.marks.items;
+    } };
 
-    ghost invariant = { λ d. length d.counts.items < 2 ^ 32 };
+    ghost invariant = { λ d. (length d.counts.items < 2 ^ 32)
+        × (length d.marks.items < 2 ^ 32) };
 }
 
 impl LocalDelay {
@@ -39,16 +50,28 @@ impl LocalDelay {
     /// `NoMemory` where there is none for its table. No other call takes any.
     pub fn new(alloc: Global, plan: &Plan, ticks: u32) -> Result<LocalDelay, NoMemory>
         requires { Sound plan.now }
-        ensures { IfOk result (λ d. d
-            ≡ record { ticks = ticks; counts = replicate (length plan.now.actions) 0 }) }
+        ensures { IfOk result (λ d. d ≡ record {
+          ticks = ticks;
+          counts = replicate (length plan.now.actions) 0;
+          marks = map (first_mark plan.now ticks) plan.now.actions;
+        }) }
     {
-        let counts = vec![in alloc; 0; plan.actions.as_slice().len()]?;
-        Ok(LocalDelay { ticks, counts })
+        let actions = plan.actions.as_slice();
+        let counts = vec![in alloc; 0; actions.len()]?;
+        let mut marks = Vec::with_capacity(alloc, actions.len())?;
+        for action in actions {
+            marks.push(first_mark(plan, ticks, action))?;
+        }
+        Ok(LocalDelay {
+            ticks,
+            counts,
+            marks,
+        })
     }
 
     // The next attempt of the least action whose branch in the group is queued and has waited.
     pub(crate) fn next(&self, state: &State, berth: u32, group: u32) -> Option<Attempt>
-        requires actions { ReadsDelay state.now }
+        requires actions { ReadsDelay self.now state.now }
         requires berth { Reads state.now berth }
         ensures { result ≡ next_in self.now state.now group }
     {
@@ -60,15 +83,27 @@ impl LocalDelay {
         })
     }
 
-    /// That action, and its branch. It walks from the group's earliest queued action on: an index
-    /// over those that have waited comes later.
+    /// That action, and its branch.
     fn first(&self, state: &State, group: u32) -> Option<(u32, Branch)>
-        requires { ReadsDelay state.now }
+        requires { ReadsDelay self.now state.now }
         ensures { result ≡ first_in self.now state.now group }
     {
         let (earliest, _) = state.ready.earliest(group)?;
+        if runs_executors(&state.plan, group) {
+            self.first_of_all(state, group, earliest)
+        } else {
+            self.first_marked(state, group, earliest)
+        }
+    }
+
+    // The first from this action on, in any group. On executors what is queued hardly ever waits.
+    fn first_of_all(&self, state: &State, group: u32, from: u32) -> Option<(u32, Branch)>
+        requires { ReadsDelay self.now state.now }
+        ensures { result ≡ first_among self.now state.now group from
+            (length state.now.plan.actions - from) }
+    {
         let count = state.plan.actions.as_slice().len() as u32;
-        for action in earliest..count {
+        for action in from..count {
             if let Some(branch) = self.branch(state, action, group) {
                 return Some((action, branch));
             }
@@ -76,9 +111,36 @@ impl LocalDelay {
         None
     }
 
+    // The first from this action on, in a group of workers.
+    fn first_marked(&self, state: &State, group: u32, from: u32) -> Option<(u32, Branch)>
+        requires reads { ReadsDelay self.now state.now }
+        requires group { runs_executors state.now.plan group ≡ false }
+        requires from { from ≤ length state.now.plan.actions }
+        ensures { result ≡ first_among self.now state.now group from
+            (length state.now.plan.actions - from) }
+    {
+        let mut start = from;
+        while let Some(action) = self.next_mark(start) {
+            if let Some(branch) = self.branch(state, action, group) {
+                return Some((action, branch));
+            }
+            start = action + 1;
+        }
+        None
+    }
+
+    // The least marked action from this one on.
+    fn next_mark(&self, from: u32) -> Option<u32>
+        requires { from ≤ length self.now.marks }
+        ensures { IsNextMark self.now from result }
+    {
+        let place = memchr(1, &self.marks.as_slice()[from as usize..])?;
+        Some(from + place as u32)
+    }
+
     // The branch of the action that is queued in the group and has waited.
     fn branch(&self, state: &State, action: u32, group: u32) -> Option<Branch>
-        requires actions { ReadsDelay state.now }
+        requires actions { ReadsDelay self.now state.now }
         requires known { action < length state.now.ready }
         ensures { result ≡ branch_at self.now state.now group action }
     {
@@ -105,6 +167,36 @@ impl LocalDelay {
             Some(count) => *count,
             None => 0,
         }
+    }
+}
+
+// A 0 where the local branch of the action waits as long as no Tick came.
+fn first_mark(plan: &Plan, ticks: u32, action: &PlanAction) -> u8
+    ensures { result ≡ first_mark plan.now ticks action.now }
+{
+    if may_wait(plan, action) && ticks > 0 {
+        0
+    } else {
+        1
+    }
+}
+
+// The action uses both branches, the remote one on executors.
+fn may_wait(plan: &Plan, action: &PlanAction) -> bool
+    ensures { result ≡ may_wait plan.now action.now }
+{
+    match action.remote {
+        Some(group) => action.local.is_some() && runs_executors(plan, group),
+        None => false,
+    }
+}
+
+fn runs_executors(plan: &Plan, group: u32) -> bool
+    ensures { result ≡ runs_executors plan.now group }
+{
+    match plan.groups.as_slice().get(group as usize) {
+        Some(group) => group.kind == Kind::Remote,
+        None => false,
     }
 }
 

@@ -1,7 +1,7 @@
 // The policy's laws.
 ghost use Rattle.std.specs.Prelude.{◌≡◌, ◌<◌, ◌^◌, [], IfOk, length, refl};
 ghost use Rattle.run_plan.specs.Sound.{Sound};
-ghost use Rattle.exec_journal.specs.Kept.{Kept};
+ghost use Rattle.delay_rules.specs.Bounds.{DelayedKept};
 ghost use Rattle.delay_rules.specs.Delayed.{delayed_discipline, is_tick};
 ghost use Rattle.spawn_core.specs.Plans.{no_plan};
 ghost use Rattle.spawn_core.specs.Stands.{StandsIn};
@@ -56,9 +56,9 @@ impl Policy for LocalDelay {
 
     ghost stands = { λ b. StandsFor b.plan b.ticks };
 
-    ghost reads = { λ _ s. ReadsDelay s };
+    ghost reads = { λ m s. ReadsDelay m s };
 
-    ghost kept = { λ b. Kept b.plan };
+    ghost kept = { λ b. DelayedKept b.plan b.ticks };
 
     ghost seated = { λ _ s w. seated s w };
 
@@ -97,6 +97,8 @@ impl Policy for LocalDelay {
     fn note(&mut self, state: &State, _lane: u32, call: &Call, reply: &Reply) {
         if is_tick(call) && reply.is_kept() {
             self.count_tick(&state.ready);
+        } else {
+            self.mark_last(state.plan.limit, reply);
         }
     }
 
@@ -108,7 +110,7 @@ impl Policy for LocalDelay {
 
     ghost plan_is = { λ m plan. refl };
 
-    ghost reads_are = { λ b m s j st own. laws.reads_are b.plan b.ticks s j st };
+    ghost reads_are = { λ b m s j st own. laws.reads_are b.plan b.ticks m s j st own };
 
     ghost seats_are = { λ b m s j w st own lt. laws.seats_are b.plan b.ticks s j w st lt };
 

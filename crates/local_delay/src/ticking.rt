@@ -1,17 +1,18 @@
-// What a Tick is answered, and what it counts.
-ghost use Rattle.std.specs.Prelude.{◌≡◌};
-ghost use Rattle.local_delay.specs.Choices.{ReadsDelay, some_waits, ticked, waits_at};
-ghost use Rattle.local_delay.specs.Counts.{IsCounted, more};
+// What a Tick is answered, what it counts, and which actions are known to wait.
+ghost use Rattle.std.specs.Prelude.{◌≡◌, nat_le};
+ghost use Rattle.exec_journal.specs.Attempts.{begun_in};
+ghost use Rattle.local_delay.specs.Choices.{ReadsDelay, last_of, some_waits, ticked, waits_at};
+ghost use Rattle.local_delay.specs.Counts.{CountsEach, IsCounted, IsMarked, Unmarked, count_at, more};
 
 use crate::delay::{LocalDelay, is_dual};
 use core_state::State;
-use exec_journal::Reply;
+use exec_journal::{Attempt, Branch, Reply};
 use ready_order::Ready;
 
 impl LocalDelay {
     // Noted while some local branch waits for more Ticks: so they end by themselves.
     pub(crate) fn answer_tick(&self, state: &State) -> Reply
-        requires { ReadsDelay state.now }
+        requires { ReadsDelay self.now state.now }
         ensures { result ≡ ticked self.now state.now }
     {
         if state.is_over() {
@@ -24,7 +25,7 @@ impl LocalDelay {
     }
 
     fn some_waits(&self, state: &State) -> bool
-        requires { ReadsDelay state.now }
+        requires { ReadsDelay self.now state.now }
         ensures { result ≡ some_waits self.now state.now }
     {
         let count = state.plan.actions.as_slice().len() as u32;
@@ -46,14 +47,84 @@ impl LocalDelay {
             && self.count(action) < self.ticks
     }
 
-    // Counts one more Tick of each action whose inputs are made.
+    // Counts one more Tick of each action whose inputs are made, and marks those that wait for no
+    // more.
     pub(crate) fn count_tick(&mut self, ready: &Ready)
         ensures { IsCounted ready.now self.old self.new }
+    {
+        self.count_each(ready);
+        self.mark_counted();
+    }
+
+    fn count_each(&mut self, ready: &Ready)
+        ensures { CountsEach ready.now self.old self.new }
     {
         for number in 0..self.counts.len() {
             let made = ready.is_ready(number as u32);
             self.counts[number] = more(made, self.ticks, self.counts[number]);
         }
+    }
+
+    fn mark_counted(&mut self)
+        ensures ticks { self.new.ticks ≡ self.old.ticks }
+        ensures counts { self.new.counts ≡ self.old.counts }
+        ensures marks { Unmarked self.old self.new
+            (λ a. nat_le self.old.ticks (count_at self.old a)) }
+    {
+        for number in 0..self.marks.len() {
+            if self.count(number as u32) >= self.ticks {
+                self.marks[number] = 1;
+            }
+        }
+    }
+
+    // Where a remote branch begins its last attempt it may be dropped, so that its local branch may
+    // go before the Ticks have come.
+    pub(crate) fn mark_last(&mut self, limit: u32, reply: &Reply)
+        ensures { IsMarked (last_of limit (begun_in reply.now)) self.old self.new }
+    {
+        if let Some(action) = last_of(limit, begun_in(reply)) {
+            if let Some(mark) = self.marks.get_mut(action as usize) {
+                *mark = 1;
+            }
+        }
+    }
+}
+
+// The action whose remote branch begins its last attempt.
+fn last_of(limit: u32, begun: Option<Attempt>) -> Option<u32>
+    ensures { result ≡ last_of limit begun }
+{
+    let attempt = begun?;
+    if attempt.branch == Branch::Remote && attempt.number >= limit {
+        Some(attempt.action)
+    } else {
+        None
+    }
+}
+
+// The attempt that a lane is told to begin.
+fn begun_in(reply: &Reply) -> Option<Attempt>
+    ensures { result ≡ begun_in reply.now }
+{
+    match reply {
+        Reply::Launch {
+            action,
+            branch,
+            attempt,
+            ..
+        }
+        | Reply::Send {
+            action,
+            branch,
+            attempt,
+            ..
+        } => Some(Attempt {
+            action: *action,
+            branch: *branch,
+            number: *attempt,
+        }),
+        _ => None,
     }
 }
 

@@ -7,4 +7,4 @@ use Rattle.local_delay.proofs.delay.LocalDelay.core.Goals as goal
 pub with_policy-requires-clause-begins : goal.with_policy-requires-clause-begins
 with_policy-requires-clause-begins c =
     subst (λ (f : Facts). StandsFor c.args.plan f.ticks f []) (sym c.in_ok-policy.ensures)
-    (begun c.args.plan c.args.ticks)
+    (begun c.args.plan c.args.ticks c.requires)
