@@ -2,7 +2,9 @@
 use Rattle.std.specs.Prelude.{◌≡◌, ℕ, zero, suc, IfOk, List, Option, Some, None, Result, Ok, Err}
 use Rattle.build_report.specs.declared.fault.RunFault.{RunFault}
 use Rattle.core_contract.specs.Disciplines.{Discipline, LegalBy, own_discipline}
+use Rattle.delay_rules.specs.Bounds.{DelayedKept}
 use Rattle.delay_rules.specs.Delayed.{delayed_discipline}
+use Rattle.exec_journal.specs.Entry.{Entry}
 use Rattle.exec_journal.specs.Kept.{Kept}
 use Rattle.outside.specs.Causes.{Counts}
 use Rattle.outside.specs.Told.{FloorTold, SameFloor}
@@ -29,12 +31,18 @@ abbrev pub discipline_by : ℕ → Plan → Discipline
 discipline_by zero p = own_discipline p
 discipline_by (suc n) p = delayed_discipline p (suc n)
 
+-- What they keep: each order was due. With a delay Ticks end by themselves: for each action that
+-- uses both branches at most so many are noted.
+abbrev pub kept_by : ℕ → Plan → List Entry → Type 0
+kept_by zero p = Kept p
+kept_by (suc n) p = DelayedKept p (suc n)
+
 -- all of the plan's berths have lanes
 abbrev pub spawn_head : ℕ → Task → Head
 spawn_head delay t = record {
   discipline = discipline_by delay t.plan;
   legal = LegalBy (discipline_by delay t.plan);
-  kept = Kept t.plan;
+  kept = kept_by delay t.plan;
   lanes = berths t.plan;
 }
 
