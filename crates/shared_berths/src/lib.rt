@@ -17,8 +17,6 @@ mod order;
 mod policy;
 mod pools;
 mod starved;
-#[cfg(test)]
-mod tests;
 
 use arrayvec::ArrayVec;
 use homes::Pools;

@@ -9,8 +9,6 @@ mod numbers;
 mod placing;
 mod reading;
 mod said;
-#[cfg(test)]
-mod tests;
 mod types;
 
 pub use choosing::chosen;
