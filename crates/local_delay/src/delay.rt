@@ -21,8 +21,8 @@ pub struct LocalDelay {
     pub(crate) ticks: u32,
     // Of each action how many came since its inputs were made, up to `ticks`.
     pub(crate) counts: Vec<u32>,
-    // A 1 for each action, unless it is known that its local branch waits. So the search for what is
-    // next passes over all that are held back, wherever nothing else is queued.
+    // A 1 for each action, unless it is known that its local branch waits. So a search passes over
+    // all that are held back at once.
     pub(crate) marks: Vec<u8>,
 }
 
@@ -47,7 +47,7 @@ impl LocalDelay {
     ///
     /// # Errors
     ///
-    /// `NoMemory` where there is none for its table. No other call takes any.
+    /// `NoMemory` where there is none for its tables. No other call takes any.
     pub fn new(alloc: Global, plan: &Plan, ticks: u32) -> Result<LocalDelay, NoMemory>
         requires { Sound plan.now }
         ensures { IfOk result (λ d. d ≡ record {
@@ -83,7 +83,7 @@ impl LocalDelay {
         })
     }
 
-    /// That action, and its branch.
+    // That action, and its branch.
     fn first(&self, state: &State, group: u32) -> Option<(u32, Branch)>
         requires { ReadsDelay self.now state.now }
         ensures { result ≡ first_in self.now state.now group }
@@ -96,7 +96,7 @@ impl LocalDelay {
         }
     }
 
-    // The first from this action on, in any group. On executors what is queued hardly ever waits.
+    // The first from this action on, in any group. On executors hardly anything queued waits.
     fn first_of_all(&self, state: &State, group: u32, from: u32) -> Option<(u32, Branch)>
         requires { ReadsDelay self.now state.now }
         ensures { result ≡ first_among self.now state.now group from
