@@ -53,10 +53,12 @@ module _ (f : Facts) where
     next_unmarked still = record {
       size = so.size;
       each = λ a within un.
-          let was = so.each a within un in
-          (was.0, λ near. by_bool (a == n) (λ _. nat_le f.ticks (count_at f a) ≡ false)
-          (λ yes. subst (λ k. nat_le f.ticks (count_at f k) ≡ false) (sym (eqb-true a n yes)) still)
-          (λ no. was.1 (nearer a near (eqb-false a n no))));
+          let was = so.each a within un in (
+            was.0,
+            λ near. by_bool (a == n) (λ _. nat_le f.ticks (count_at f a) ≡ false)
+                (λ yes. subst (λ k. nat_le f.ticks (count_at f k) ≡ false) (sym (eqb-true a n yes)) still)
+                (λ no. was.1 (nearer a near (eqb-false a n no))),
+          );
     }
 
   pub all_marked : (n : ℕ) (marks : List ℕ) → MarkedBelow f n marks → length f.marks ≤ n
@@ -74,9 +76,11 @@ module _ (f : Facts) where
       → Unmarked f (record f { marks = set f.marks n 1 }) (is_action (Some n))
   one_marked n lt = record {
     size = length-set f.marks n 1;
-    each = λ a within un. (before f f.marks n lt a un,
-        by_bool (n == a) (λ b. n == a ≡ b → b ≡ false)
-        (λ yes _. absurd (other f f.marks n lt a un (sym (eqb-true n a yes)))) (λ _ _. refl) refl);
+    each = λ a within un. (
+      before f f.marks n lt a un,
+      by_bool (n == a) (λ b. n == a ≡ b → b ≡ false)
+          (λ yes _. absurd (other f f.marks n lt a un (sym (eqb-true n a yes)))) (λ _ _. refl) refl,
+    );
   }
 
   pub not_marked : Unmarked f f (is_action None)
@@ -86,9 +90,12 @@ module _ (f : Facts) where
   pub past_marked : (n : ℕ) → length f.marks ≤ n → Unmarked f f (is_action (Some n))
   past_marked n past = record {
     size = refl;
-    each = λ a within un. (un, by_bool (n == a) (λ b. n == a ≡ b → b ≡ false)
-        (λ yes _. absurd (let same = eqb-true n a yes in omega (arith, same, past, within)))
-        (λ _ _. refl) refl);
+    each = λ a within un. (
+      un,
+      by_bool (n == a) (λ b. n == a ≡ b → b ≡ false)
+          (λ yes _. absurd (let same = eqb-true n a yes in omega (arith, same, past, within)))
+          (λ _ _. refl) refl,
+    );
   }
 
 -- ---- the next mark
