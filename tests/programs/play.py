@@ -34,6 +34,7 @@ class Programs:
     demo_tool: pathlib.Path
     journal_check: pathlib.Path
     journal_run: pathlib.Path
+    spawn_tool: pathlib.Path
 
 
 @dataclasses.dataclass(frozen=True)
