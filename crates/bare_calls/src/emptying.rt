@@ -1,213 +1,233 @@
-// The bare calls that remove what stands in a room. What they do is trusted.
+// The bare calls that remove what stands in a folder. What they do is trusted.
+//
+// Each folder is opened in the one above it, and what it has is removed in it: no link is followed, also none that is put
+// there meanwhile, and names needn't be text.
 use crate::disk::is_absent;
-use crate::inside::{is_folder, is_way_plain, make_folder, make_way};
+use crate::folder::{Folder, is_entry, is_no_folder, open_below, split};
 use crate::paths::path_in;
-use std::alloc::{AllocError, Global};
-use std::fs::{self, Permissions};
-use std::io::{self, ErrorKind, Read};
-use std::os::unix::fs::PermissionsExt;
+use std::alloc::Global;
+use std::fs;
+use std::io::{self, ErrorKind};
 use std::rt::Files;
 
 /// How many bytes of names are read at once. Any one name finds room.
 const MOST_NAMES: usize = 4096;
 
-/// A folder of the owner's, who may list it, change it and go through it.
-const OPEN_FOLDER: u32 = 0o700;
+/// How many folders are open at once. What lies deeper is removed by the library, which begins at the top for each level.
+const MOST_OPEN: usize = 100;
 
-// Made in a room to name the room by it. No path that is put is so called.
-const INNER: &str = ".worker_tool.part";
+/// How often folders are looked through again in which something was made meanwhile.
+const TRIES: u32 = 100;
 
-/// Removes what stands at a path below a room, if anything does. Behind a link nothing of the room
-/// stands.
-pub fn remove_inside<R: Files + AllocGlobal>(
+/// How many names a folder that is put aside is given in turn.
+const MOST_ASIDE: u32 = 1000;
+
+/// Removes what stands at a path below a folder, if anything does. Behind a link nothing of the folder stands.
+pub(crate) fn remove_below<R: Files + AllocGlobal>(
     rt: &R,
     alloc: Global,
-    room: &str,
+    top: &Folder,
     path: &str,
 ) -> io::Result<()> {
-    match remove_plain(rt, alloc, room, path) {
-        Err(error) if error.kind() == ErrorKind::PermissionDenied => {
-            open_folders(rt, alloc, room, path)?;
-            remove_plain(rt, alloc, room, path)
-        }
-        removed => removed,
-    }
-}
-
-fn remove_plain<R: Files + AllocGlobal>(
-    rt: &R,
-    alloc: Global,
-    room: &str,
-    path: &str,
-) -> io::Result<()> {
-    if is_way_plain(rt, alloc, room, path)? {
-        remove(rt, path_in(alloc, room, path)?.as_str())
-    } else {
-        Ok(())
-    }
-}
-
-/// Removes all that stands in a folder below a room. The folder itself stays, since a process may
-/// be running in it.
-pub fn empty_inside<R: Files + AllocGlobal>(
-    rt: &R,
-    alloc: Global,
-    room: &str,
-    path: &str,
-) -> io::Result<()> {
-    make_way(rt, alloc, room, path)?;
-    let folder = path_in(alloc, room, path)?;
-    match empty_or_make(rt, alloc, folder.as_str()) {
-        Err(error) if error.kind() == ErrorKind::PermissionDenied => {
-            open_folders(rt, alloc, room, path)?;
-            empty_or_make(rt, alloc, folder.as_str())
-        }
-        emptied => emptied,
-    }
-}
-
-// Removes all that stands in a folder, which is made if it isn't there. A link at the path isn't
-// opened as a folder, and so nothing is looked at before.
-fn empty_or_make<R: Files + AllocGlobal>(rt: &R, alloc: Global, folder: &str) -> io::Result<()> {
-    match rt.open_dir(folder) {
-        Ok(opened) => empty(rt, alloc, folder, opened),
-        Err(error) if is_absent(&error) || error.kind() == ErrorKind::FilesystemLoop => {
-            make_folder(rt, folder)
-        }
+    let (folders, name) = split(path);
+    match open_below(rt, alloc, top, folders) {
+        Ok(Some(below)) => remove_entry(rt, alloc, &below, name.as_bytes()),
+        Ok(None) => remove_entry(rt, alloc, top, name.as_bytes()),
+        Err(error) if is_no_folder(&error) => Ok(()),
         Err(error) => Err(error),
     }
 }
 
-// Removes all that stands in a folder which has been opened.
-fn empty<R: Files + AllocGlobal>(
+/// Removes what stands at a name in a folder, if anything does, as far as it can be removed. It gets another name before, so
+/// that a process which was left running in it doesn't find what is made there from now on.
+pub fn put_aside<R: Files + AllocGlobal>(
     rt: &R,
     alloc: Global,
     folder: &str,
-    mut opened: R::Dir,
+    name: &str,
 ) -> io::Result<()> {
-    let mut names = [0u8; MOST_NAMES];
-    for _ in 0..u64::MAX {
-        let count = opened.read(&mut names)?;
-        if count == 0 {
-            break;
-        }
-        match str::from_utf8(&names[..count]) {
-            Ok(names) => remove_each(rt, alloc, folder, names)?,
-            Err(_) => return empty_whole(rt, alloc, folder),
-        }
-    }
-    Ok(())
-}
-
-// Removes what these names say of a folder. Each name is ended by a NUL.
-fn remove_each<R: Files + AllocGlobal>(
-    rt: &R,
-    alloc: Global,
-    folder: &str,
-    names: &str,
-) -> io::Result<()> {
-    for name in names.split('\0') {
-        if is_entry(name) {
-            remove(rt, path_in(alloc, folder, name)?.as_str())?;
+    let top = Folder::at(alloc, folder)?;
+    let path = path_in(alloc, folder, name)?;
+    for number in 0..MOST_ASIDE {
+        let aside = format!(in alloc; ".gone.{name}.{number}")?;
+        // An earlier one may be left there.
+        let _ = remove_entry(rt, alloc, &top, aside.as_bytes());
+        match fs::rename(rt, path.as_str(), path_in(alloc, folder, aside.as_str())?) {
+            Ok(()) => {
+                let _ = remove_entry(rt, alloc, &top, aside.as_bytes());
+                return Ok(());
+            }
+            Err(error) if is_taken(&error) => {}
+            Err(error) if is_absent(&error) => return Ok(()),
+            Err(error) => return Err(error),
         }
     }
-    Ok(())
+    Err(io::Error::other("it can't be put aside"))
 }
 
-// Whether a name is that of an entry, and neither empty nor that of the folder itself or of the one
-// above it.
-fn is_entry(name: &str) -> bool {
-    !matches!(name, "" | "." | "..")
-}
-
-// Removes all that stands in a folder, whatever bytes its names have. A path is text, so no entry with another name can
-// be removed by itself. A whole folder can, and so the folder is named by one of its own, as `folder/inner/..`: all in it
-// goes, with the inner folder, and the system doesn't remove a folder that is named like that. Which answer it gives then
-// says nothing, so the folder is looked at.
-fn empty_whole<R: Files + AllocGlobal>(rt: &R, alloc: Global, folder: &str) -> io::Result<()> {
-    let inner = path_in(alloc, folder, INNER)?;
-    make_folder(rt, inner.as_str())?;
-    let itself = path_in(alloc, inner.as_str(), "..")?;
-    match fs::remove_dir_all(rt, itself.as_str()) {
-        Err(error) if !is_empty(rt, folder)? => Err(error),
-        _ => Ok(()),
-    }
-}
-
-fn is_empty<R: Files>(rt: &R, folder: &str) -> io::Result<bool> {
-    let mut names = [0u8; MOST_NAMES];
-    let count = rt.open_dir(folder)?.read(&mut names)?;
-    // The folder's own names come with the others, or not at all.
-    Ok(
-        names[..count]
-            .split(|byte| *byte == 0)
-            .all(|name| matches!(name, b"" | b"." | b"..")),
+fn is_taken(error: &io::Error) -> bool {
+    matches!(
+        error.kind(),
+        ErrorKind::DirectoryNotEmpty
+            | ErrorKind::AlreadyExists
+            | ErrorKind::NotADirectory
+            | ErrorKind::IsADirectory
     )
 }
 
-// Removes a file, a link (and not what it leads to) or a whole folder.
-fn remove<R: Files + AllocGlobal>(rt: &R, path: &str) -> io::Result<()> {
-    match fs::remove_file(rt, path) {
-        Err(error) if error.kind() == ErrorKind::IsADirectory => fs::remove_dir_all(rt, path),
+/// Removes a file, a link (and not what it leads to) or a whole folder that was made for a process, if one has this name.
+pub(crate) fn remove_entry<R: Files + AllocGlobal>(
+    rt: &R,
+    alloc: Global,
+    folder: &Folder,
+    name: &[u8],
+) -> io::Result<()> {
+    if !remove_plain(rt, alloc, folder, name)? {
+        empty_folder(rt, alloc, folder.open_own(rt, alloc, name)?)?;
+        remove_empty(rt, alloc, folder, name)?;
+    }
+    Ok(())
+}
+
+// Removes what is no folder, and says whether it is one.
+fn remove_plain<R: Files>(rt: &R, alloc: Global, folder: &Folder, name: &[u8]) -> io::Result<bool> {
+    let removed = match folder.unlink(name) {
+        Err(error) if error.kind() == ErrorKind::PermissionDenied => {
+            folder.make_writable(rt, alloc)?;
+            folder.unlink(name)
+        }
+        removed => removed,
+    };
+    match removed {
+        Ok(()) => Ok(true),
+        Err(error) if is_absent(&error) => Ok(true),
+        Err(error) if error.kind() == ErrorKind::IsADirectory => Ok(false),
+        Err(error) => Err(error),
+    }
+}
+
+fn remove_empty<R: Files>(rt: &R, alloc: Global, folder: &Folder, name: &[u8]) -> io::Result<()> {
+    let removed = match folder.rmdir(name) {
+        Err(error) if error.kind() == ErrorKind::PermissionDenied => {
+            folder.make_writable(rt, alloc)?;
+            folder.rmdir(name)
+        }
+        removed => removed,
+    };
+    match removed {
         Err(error) if is_absent(&error) => Ok(()),
         removed => removed,
     }
 }
 
-// A process may leave folders which even their owner may not change. This lets the owner change the first folder of a path
-// below a room, and each one in it.
-fn open_folders<R: Files + AllocGlobal>(
+// A folder that is being emptied, and the names of the folders that are left in it.
+#[derive(Drop)]
+struct Emptied {
+    folder: Folder,
+    left: Vec<Vec<u8>>,
+}
+
+/// Removes all that stands in a folder. The folder itself stays, since a process may be running in it.
+pub(crate) fn empty_folder<R: Files + AllocGlobal>(
     rt: &R,
     alloc: Global,
-    room: &str,
-    path: &str,
+    top: Folder,
 ) -> io::Result<()> {
-    let (first, _) = path.split_once('/').unwrap_or((path, ""));
-    let mut left = vec![in alloc; path_in(alloc, room, first)?]?;
+    let mut open = Vec::new(alloc);
+    open.push(look_through(rt, alloc, top)?)?;
+    let mut tries = TRIES;
     for _ in 0..u64::MAX {
-        match left.pop() {
-            Some(folder) => open_folder(rt, alloc, folder.as_str(), &mut left)?,
-            None => break,
+        let depth = open.len();
+        let Some(last) = open.last_mut() else {
+            break;
+        };
+        let next = match last.left.last() {
+            Some(name) => {
+                if depth < MOST_OPEN {
+                    last.folder
+                        .open_by_force(rt, alloc, name.as_slice())
+                        .map(Some)
+                } else {
+                    remove_deep(rt, alloc, &last.folder, name.as_slice()).map(|()| None)
+                }
+            }
+            None => {
+                open.pop();
+                remove_last(rt, alloc, &mut open, &mut tries)?;
+                continue;
+            }
+        };
+        match next {
+            Ok(Some(folder)) => open.push(look_through(rt, alloc, folder)?)?,
+            Ok(None) => {
+                last.left.pop();
+            }
+            // Something else stands there now.
+            Err(error) if is_no_folder(&error) => {
+                if let Some(name) = last.left.pop() {
+                    remove_plain(rt, alloc, &last.folder, name.as_slice())?;
+                }
+            }
+            Err(error) => return Err(error),
         }
     }
     Ok(())
 }
 
-// Lets the owner change a folder, and notes the paths of what is in it. What isn't a folder of the room's own stays as it is.
-fn open_folder<R: Files + AllocGlobal>(
+// Removes the folder that has been emptied, which is the last one that is left in the one above it.
+fn remove_last<R: Files>(
     rt: &R,
     alloc: Global,
-    folder: &str,
-    left: &mut Vec<String>,
+    open: &mut Vec<Emptied>,
+    tries: &mut u32,
 ) -> io::Result<()> {
-    if !is_folder(rt, folder)? {
+    let Some(above) = open.last_mut() else {
         return Ok(());
+    };
+    let Some(name) = above.left.last() else {
+        return Ok(());
+    };
+    match remove_empty(rt, alloc, &above.folder, name.as_slice()) {
+        // Something was made in it meanwhile, so it is looked through again.
+        Err(error) if error.kind() == ErrorKind::DirectoryNotEmpty && *tries > 0 => {
+            *tries -= 1;
+        }
+        removed => {
+            removed?;
+            above.left.pop();
+        }
     }
-    fs::set_permissions(rt, folder, Permissions::from_mode(OPEN_FOLDER))?;
-    let mut opened = rt.open_dir(folder)?;
+    Ok(())
+}
+
+fn remove_deep<R: Files + AllocGlobal>(
+    rt: &R,
+    alloc: Global,
+    folder: &Folder,
+    name: &[u8],
+) -> io::Result<()> {
+    match str::from_utf8(name) {
+        Ok(name) => fs::remove_dir_all(rt, folder.path_of(alloc, name)?.as_str()),
+        Err(_) => Err(io::Error::from(ErrorKind::InvalidFilename)),
+    }
+}
+
+// Removes what is in a folder and is no folder, and notes the folders.
+fn look_through<R: Files>(rt: &R, alloc: Global, folder: Folder) -> io::Result<Emptied> {
+    let mut left = Vec::new(alloc);
     let mut names = [0u8; MOST_NAMES];
     for _ in 0..u64::MAX {
-        let count = opened.read(&mut names)?;
+        let count = folder.names(&mut names)?;
         if count == 0 {
             break;
         }
-        note_entries(alloc, folder, &names[..count], left)?;
-    }
-    Ok(())
-}
-
-// Only what has a name that is text can be named.
-fn note_entries(
-    alloc: Global,
-    folder: &str,
-    names: &[u8],
-    left: &mut Vec<String>,
-) -> Result<(), AllocError> {
-    for name in names.split(|byte| *byte == 0) {
-        match str::from_utf8(name) {
-            Ok(name) if is_entry(name) => left.push(path_in(alloc, folder, name)?)?,
-            _ => {}
+        for name in names[..count].split(|byte| *byte == 0) {
+            if is_entry(name) && !remove_plain(rt, alloc, &folder, name)? {
+                let mut noted = Vec::new(alloc);
+                noted.extend_from_slice(name)?;
+                left.push(noted)?;
+            }
         }
     }
-    Ok(())
+    Ok(Emptied { folder, left })
 }

@@ -1,184 +1,147 @@
-// What is known to stand in a room, so that it is removed by its name, and not searched for. What these calls do is trusted.
-use crate::emptying::{empty_inside, remove_inside};
-use crate::inside::{
-    is_folder, make_folder, make_folder_inside, push_folder, read_inside, write_at, write_inside,
-};
-use crate::paths::path_in;
-use std::alloc::Global;
+// What is known to stand in a room, so that it needn't be looked for. What the calls do is trusted.
+use crate::folder::{Folder, split};
+use std::alloc::{AllocError, Global};
+use std::io;
 use std::rt::Files;
-use std::{fs, io};
 
-/// How many files of a room are known at most. Others are searched for.
-const MOST_FILES: usize = 8192;
+/// How many folders of a room are held open at most, the room itself among them.
+const MOST_FOLDERS: usize = 6;
 
-/// How many folders of a room are known at most.
-const MOST_FOLDERS: usize = 1024;
+/// How many files of a folder are known at most. Others are searched for.
+const MOST_FILES: usize = 4096;
 
-/// What is known to stand in a room: what was put there, and what was found there, since it was last emptied. Each call is
-/// given the folder of all rooms, and a path there that begins with the room.
+/// Folders of a room that are held open, with the files that were put into them and found in them. The first one is the room
+/// itself. Once somebody else has had a reason to change the room, a folder that is held open may be another one than that which stands
+/// at its path: to remove by what is known does no harm then, and to write is another matter.
 #[derive(Drop)]
-pub struct Known {
-    alloc: Global,
-    // The room itself, and folders in it, each behind the one in which it stands.
-    folders: Vec<String>,
-    // Files in these folders.
+pub(crate) struct Known {
+    top: Folder,
+    top_files: Vec<String>,
+    folders: Vec<KnownFolder>,
+}
+
+// A folder of a room, each behind the one in which it stands.
+#[derive(Drop)]
+struct KnownFolder {
+    path: String,
+    folder: Folder,
     files: Vec<String>,
-    // Whether nothing but these calls has had a reason to change the room since it was emptied.
-    is_quiet: bool,
 }
 
 impl Known {
-    /// Nothing is known of a room.
-    pub fn new(alloc: Global) -> Known {
+    /// A room of which nothing is known.
+    pub(crate) fn new(alloc: Global, top: Folder) -> Known {
         Known {
-            alloc,
+            top,
+            top_files: Vec::new(alloc),
             folders: Vec::new(alloc),
-            files: Vec::new(alloc),
-            is_quiet: false,
         }
     }
 
-    /// From now on a process may change the room.
-    pub fn stir(&mut self) {
-        self.is_quiet = false;
+    /// The room itself.
+    pub(crate) fn top(&self) -> &Folder {
+        &self.top
     }
 
-    /// Removes all that stands in a room, first what is known, and then what a search finds. The path is the room's own.
-    pub fn empty<R: Files + AllocGlobal>(
-        &mut self,
-        rt: &R,
-        rooms: &str,
-        path: &str,
-    ) -> io::Result<()> {
-        self.stir();
-        if self.are_folders(rt) {
-            self.remove_each(rt);
+    /// The folder at a path of the room, if it is held open.
+    pub(crate) fn folder(&self, path: &str) -> Option<&Folder> {
+        if path.is_empty() {
+            return Some(&self.top);
         }
-        self.folders.clear();
-        self.files.clear();
-        empty_inside(rt, self.alloc, rooms, path)?;
-        self.folders.push(path_in(self.alloc, rooms, path)?)?;
-        self.is_quiet = true;
-        Ok(())
+        self.folders
+            .iter()
+            .rev()
+            .find(|known| known.path.as_str() == path)
+            .map(|known| &known.folder)
     }
 
-    /// Removes what stands at a path in a room. Others have something to do there meanwhile.
-    pub fn remove<R: Files + AllocGlobal>(
-        &mut self,
-        rt: &R,
-        rooms: &str,
-        path: &str,
-    ) -> io::Result<()> {
-        self.stir();
-        remove_inside(rt, self.alloc, rooms, path)
-    }
-
-    /// The file at a path in a room, in which a process was at work.
-    pub fn read<R: Files + AllocGlobal>(
-        &mut self,
-        rt: &R,
-        rooms: &str,
-        path: &str,
-    ) -> io::Result<Option<Vec<u8>>> {
-        self.stir();
-        let found = read_inside(rt, self.alloc, rooms, path)?;
-        if found.is_some() {
-            let path = path_in(self.alloc, rooms, path)?;
-            self.note_file(path);
-        }
-        Ok(found)
-    }
-
-    /// Writes a file in a room.
-    pub fn write<R: Files + AllocGlobal>(
-        &mut self,
-        rt: &R,
-        rooms: &str,
-        path: &str,
-        bytes: &[u8],
-    ) -> io::Result<()> {
-        if !self.is_quiet {
-            return write_inside(rt, self.alloc, rooms, path, bytes);
-        }
-        if let Some((folders, _)) = path.rsplit_once('/') {
-            self.make_each(rt, rooms, folders)?;
-        }
-        let path = path_in(self.alloc, rooms, path)?;
-        write_at(rt, self.alloc, path.as_str(), bytes)?;
-        self.note_file(path);
-        Ok(())
-    }
-
-    /// Makes a folder in a room.
-    pub fn make<R: Files + AllocGlobal>(
-        &mut self,
-        rt: &R,
-        rooms: &str,
-        path: &str,
-    ) -> io::Result<()> {
-        if self.is_quiet {
-            self.make_each(rt, rooms, path)
-        } else {
-            make_folder_inside(rt, self.alloc, rooms, path)
-        }
-    }
-
-    // Makes the folders of a path in a quiet room. What is known isn't looked at, and what isn't known most likely isn't there.
-    fn make_each<R: Files>(&mut self, rt: &R, rooms: &str, folders: &str) -> io::Result<()> {
-        if self.has_folder(path_in(self.alloc, rooms, folders)?.as_str()) {
+    /// Has the folder at a path of the room be held open. It is made if it isn't there, with those above it.
+    pub(crate) fn reach<R: Files>(&mut self, rt: &R, alloc: Global, path: &str) -> io::Result<()> {
+        if self.folder(path).is_some() {
             return Ok(());
         }
-        let mut way = String::from_str(self.alloc, rooms)?;
-        for folder in folders.split('/') {
-            push_folder(&mut way, folder)?;
-            if !self.has_folder(way.as_str()) {
-                make_folder(rt, way.as_str())?;
-                self.note_folder(String::from_str(self.alloc, way.as_str())?);
+        if self.folders.len() >= MOST_FOLDERS - 1 {
+            self.folders.clear();
+        }
+        let mut end: usize = 0;
+        for name in path.split('/') {
+            end = next_end(end, name);
+            let way = path.get(..end).unwrap_or(path);
+            if self.folder(way).is_none() {
+                self.open_next(rt, alloc, way)?;
             }
         }
         Ok(())
     }
 
-    // The folder that was made last is most likely the one.
-    fn has_folder(&self, path: &str) -> bool {
-        self.folders
-            .iter()
-            .rev()
-            .any(|known| known.as_str() == path)
+    // Opens a folder that stands in one that is held open.
+    fn open_next<R: Files>(&mut self, rt: &R, alloc: Global, path: &str) -> io::Result<()> {
+        let (above, name) = split(path);
+        let folder = match self.folder(above) {
+            Some(above) => above.open_or_make(rt, alloc, name)?,
+            None => return Err(io::Error::other("the folder above isn't held open")),
+        };
+        if self.folders.len() >= MOST_FOLDERS - 1 {
+            self.folders.pop();
+        }
+        self.folders.push(KnownFolder {
+            path: String::from_str(alloc, path)?,
+            folder,
+            files: Vec::new(alloc),
+        })?;
+        Ok(())
     }
 
-    // Only what stands in a folder that is known is known, so that no link leads to it.
-    fn stands_in_known(&self, path: &str) -> bool {
-        match path.rsplit_once('/') {
-            Some((folder, _)) => self.has_folder(folder),
-            None => false,
+    /// Notes a file that stands at a path of the room. Where its folder isn't held open, it is searched for.
+    pub(crate) fn note_file(&mut self, alloc: Global, path: &str) -> Result<(), AllocError> {
+        let (above, name) = split(path);
+        if above.is_empty() {
+            return note(alloc, &mut self.top_files, name);
+        }
+        let mut folders = self.folders.iter_mut();
+        match folders.find(|known| known.path.as_str() == above) {
+            Some(known) => note(alloc, &mut known.files, name),
+            None => Ok(()),
         }
     }
 
-    fn note_folder(&mut self, path: String) {
-        if self.folders.len() < MOST_FOLDERS && self.stands_in_known(path.as_str()) {
-            let _ = self.folders.push(path);
+    /// Removes what is known, as far as it can be removed. The room itself stays, and is held open.
+    pub(crate) fn remove_all(&mut self) {
+        for _ in 0..MOST_FOLDERS {
+            let Some(known) = self.folders.pop() else {
+                break;
+            };
+            remove_files(&known.folder, known.files.as_slice());
+            let (above, name) = split(known.path.as_str());
+            if let Some(above) = self.folder(above) {
+                let _ = above.rmdir(name.as_bytes());
+            }
         }
+        remove_files(&self.top, self.top_files.as_slice());
+        self.top_files.clear();
     }
 
-    fn note_file(&mut self, path: String) {
-        if self.files.len() < MOST_FILES && self.stands_in_known(path.as_str()) {
-            let _ = self.files.push(path);
-        }
+    /// Of the folders in the room nothing is known any more.
+    pub(crate) fn forget_folders(&mut self) {
+        self.folders.clear();
     }
+}
 
-    // Whether all folders that are known are folders still, and no links.
-    fn are_folders<R: Files>(&self, rt: &R) -> bool {
-        self.folders.iter().all(|folder| matches!(is_folder(rt, folder.as_str()), Ok(true)))
+// Where the next name of a path ends, behind a slash if one stands before it.
+fn next_end(end: usize, name: &str) -> usize {
+    let begin = if end == 0 { 0 } else { end.saturating_add(1) };
+    begin.saturating_add(name.len())
+}
+
+fn note(alloc: Global, files: &mut Vec<String>, name: &str) -> Result<(), AllocError> {
+    if files.len() < MOST_FILES {
+        files.push(String::from_str(alloc, name)?)?;
     }
+    Ok(())
+}
 
-    // Removes what is known but for the room itself. What can't be removed so is left to the search.
-    fn remove_each<R: Files>(&self, rt: &R) {
-        for file in &self.files {
-            let _ = fs::remove_file(rt, file.as_str());
-        }
-        for folder in self.folders.iter().skip(1).rev() {
-            let _ = fs::remove_dir(rt, folder.as_str());
-        }
+fn remove_files(folder: &Folder, files: &[String]) {
+    for name in files {
+        let _ = folder.unlink(name.as_bytes());
     }
 }

@@ -5,18 +5,24 @@
 
 mod disk;
 mod emptying;
+mod folder;
 mod inside;
 mod known;
 mod lock;
 mod paths;
 mod pipes;
+mod room;
 mod spawn;
 
 pub use disk::{read_regular, write_beside};
-pub use emptying::{empty_inside, remove_inside};
+pub use emptying::put_aside;
+pub use folder::can_name_open_folders;
 pub use inside::{make_folder_inside, read_inside, write_inside};
-pub use known::Known;
-pub use lock::{LockFile, lock_inside};
+pub use lock::{LockFile, Locked, lock_inside};
 pub use paths::path_in;
-pub use pipes::{never_wait, wait_to_read, wait_to_write, write_now};
-pub use spawn::{end, run_to_end, start};
+pub use pipes::{
+    is_later, never_wait, open_standard, rest, wait_for_end, wait_for_input, wait_for_output,
+    wait_to_read, wait_to_write, write_now,
+};
+pub use room::{ROOMS, Room};
+pub use spawn::{end, has_ended, kill, run_to_end, start, wait_for};

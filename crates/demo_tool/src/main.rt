@@ -3,7 +3,7 @@
 #![tactic(auto)]
 
 use demo_programs::{DemoSite, demo};
-use outside_real::{RealInput, RealShop, RealSink};
+use outside_real::{RealInput, RealShop, RealSink, open_standard};
 use plain_values::NoMemory;
 use std::alloc::Global;
 use std::env::{self, Env};
@@ -22,6 +22,7 @@ const USAGE: &str = "demo_tool: words are not accepted
 ";
 
 fn main(rt: HostRuntime) -> ExitCode {
+    open_standard();
     let alloc = rt.alloc();
     let words = match words(&rt, alloc) {
         Ok(words) => words,
@@ -30,7 +31,7 @@ fn main(rt: HostRuntime) -> ExitCode {
     let site = DemoSite {
         input: RealInput::new(rt.stdin()),
         out: RealSink::new(rt),
-        shop: RealShop::new(rt, alloc),
+        shop: RealShop::for_worker(rt, alloc),
     };
     match demo(&rt, alloc, &words, site) {
         Ok(left) => ExitCode::from(left.end.status),

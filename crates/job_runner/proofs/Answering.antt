@@ -11,14 +11,14 @@ use Rattle.message_service.specs.Calls.{Made}
 use Rattle.message_service.proofs.Made.{made_nothing}
 use Rattle.job_runner.specs.declared.fate.Fate.{Fate}
 use Rattle.job_runner.specs.declared.fate.Fate.TheVariants as fate
-use Rattle.job_runner.specs.Calls.{Starts, WentWell, cannot_write}
+use Rattle.job_runner.specs.Calls.{Starts, WentWell, bad_path}
 use Rattle.job_runner.specs.Jobs.{asks_in, fill_asks, job_folder}
-use Rattle.job_runner.specs.Results.{refused, given_up, ComesIn, Comes}
+use Rattle.job_runner.specs.Results.{bounded, refused, given_up, ComesIn, ComesWhole, Comes}
 use Rattle.job_runner.specs.Answers.{fate_of, framed, ResultFor, BegunFor, Answers}
 use Rattle.job_runner.proofs.Does.{well_then}
 use Rattle.job_runner.proofs.Coming.{asks_from}
 
-begun_of : (folder : List ℕ) (job : Job) (r : JobResult) (calls : List ShopCall)
+pub begun_of : (folder : List ℕ) (job : Job) (r : JobResult) (calls : List ShopCall)
     → ComesIn folder job (Ok r) calls → Starts (asks_in folder job) calls
 begun_of folder job r calls (inl ran) = inl (
   [],
@@ -63,7 +63,7 @@ gives_up f job behind jr r told is says given framed_so = (
 
 pub refuses : (f : Fate) (job : Job) (behind : List Job) (jr : JobResult) (r : Result (Option (List
     ℕ)) NoMemory) (told : ShopTold) → f ≡ fate_of job behind → f ≡ fate.BadPath
-    → jr ≡ refused job.id cannot_write → IfOk r (λ reply. reply ≡ Some (framed jr))
+    → jr ≡ refused job.id bad_path → IfOk r (λ reply. reply ≡ Some (framed jr))
     → Done job behind r told told
 refuses f job behind jr r told is says given framed_so = (
   [],
@@ -88,7 +88,7 @@ pub runs : (f : Fate) (job : Job) (behind : List Job) (jr : JobResult) (r : Resu
 runs f job behind jr r old new is says h framed_so = (
   h.0,
   answered fate.Runs job behind h.0 jr r
-      (sym says ∙ is) framed_so h.1 (begun_of (job_folder job.id) job jr h.0 h.1),
+      (sym says ∙ is) framed_so h.1 (begun_of (job_folder job.id) job h.1.0 h.0 h.1.1),
   h.2,
 )
 
@@ -99,5 +99,17 @@ runs_not f job behind e old new is says h = (
   h.0,
   subst (λ (x : Fate). BegunFor x job h.0) (sym
       says ∙ is) h.1,
+  h.2,
+)
+
+-- what is answered in place of a result comes behind the same calls
+pub answers_so : (job : Job) (whole : JobResult) (r : Result JobResult NoMemory) (old new :
+    ShopTold) → ((calls : List ShopCall) × ComesWhole job (Ok whole) calls × Made calls old new)
+    → IfOk r (λ x. x ≡ bounded job.id whole)
+    → (calls : List ShopCall) × Comes job r calls × Made calls old new
+answers_so job whole (Ok r) old new h is = (h.0, (whole, h.1, is), h.2)
+answers_so job whole (Err e) old new h is = (
+  h.0,
+  begun_of (job_folder job.id) job whole h.0 h.1,
   h.2,
 )

@@ -20,7 +20,7 @@ use Rattle.job_runner.specs.Calls.{Asked, cannot_read, cannot_write, run_refusal
 use Rattle.job_runner.specs.Calls.{Starts, Whole, Stopped, Cut, Does}
 use Rattle.job_runner.specs.Jobs.{fill_asks, run_ask, get_asks, asks_in, job_folder}
 use Rattle.job_runner.specs.Results.{empty_result, text_of, refused, ran, files_found, ComesIn}
-use Rattle.job_runner.specs.Results.{Comes, ComesBehind}
+use Rattle.job_runner.specs.Results.{ComesBehind, ComesWhole}
 use Rattle.job_runner.proofs.Does.{well_then, stops_then, stops_wider, goes_wider, stops_alone}
 use Rattle.job_runner.proofs.Does.{made_one, made_still, cc_of}
 
@@ -258,7 +258,7 @@ module _ (folder : List ℕ) (job : Job) (code : ℤ) (output : List ℕ) (old m
 
 pub in_its_folder : (folder : List ℕ) (job : Job) (r : Result JobResult NoMemory) (old new :
     ShopTold) → folder ≡ job_folder job.id → ((calls : List ShopCall) × ComesIn folder job r calls
-    × Made calls old new) → (calls : List ShopCall) × Comes job r calls × Made calls old new
+    × Made calls old new) → (calls : List ShopCall) × ComesWhole job r calls × Made calls old new
 in_its_folder folder job r old new is h = (
   h.0,
   subst (λ (f : List ℕ). ComesIn f job r h.0) is h.1,

@@ -9,7 +9,7 @@ use Rattle.remote_messages.specs.declared.job_result.JobResult.{JobResult}
 use Rattle.remote_messages.specs.JobResult.{job_result_spelling}
 use Rattle.job_runner.specs.declared.fate.Fate.{Fate}
 use Rattle.job_runner.specs.declared.fate.Fate.TheVariants as fate
-use Rattle.job_runner.specs.Calls.{Starts, cannot_write}
+use Rattle.job_runner.specs.Calls.{Starts, bad_path}
 use Rattle.job_runner.specs.Jobs.{job_asks, has_bad_path, is_given_up}
 use Rattle.job_runner.specs.Results.{refused, given_up, Comes}
 
@@ -28,7 +28,7 @@ framed r = delimited (job_result_spelling r)
 abbrev pub ResultFor : Fate → Job → List ShopCall → JobResult → Type 0
 ResultFor fate.Cancels job calls r = ⊥
 ResultFor fate.GivenUp job calls r = (calls ≡ []) × (r ≡ given_up job.id)
-ResultFor fate.BadPath job calls r = (calls ≡ []) × (r ≡ refused job.id cannot_write)
+ResultFor fate.BadPath job calls r = (calls ≡ []) × (r ≡ refused job.id bad_path)
 ResultFor fate.Runs job calls r = Comes job (Ok r) calls
 
 -- Where memory ran out nothing was asked, or the first of what is asked for a job that is run.

@@ -25,6 +25,9 @@ asked (call.Folder path i) = Folder path
 asked (call.Get path answer) = Get path
 asked (call.Run folder words env e) = Run folder words env
 
+unfoldable pub bad_path : List ℕ
+bad_path = codes "bad path"
+
 unfoldable pub cannot_write : List ℕ
 cannot_write = codes "cannot write"
 

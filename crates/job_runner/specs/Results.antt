@@ -1,5 +1,6 @@
 -- The results of jobs.
 use Rattle.std.specs.Prelude.{◌≡◌, ◌⊎◌, ℕ, ℤ, pos, List, [], ◌∷◌, ◌++◌, true, false, if◌then◌else◌}
+use Rattle.std.specs.Prelude.{codes, length, ltb}
 use Rattle.std.specs.Prelude.{Option, Some, None, Result, Ok, Err}
 use Rattle.std.specs.Str.{is_utf8}
 use Rattle.plain_values.specs.declared.no_memory.NoMemory.{NoMemory}
@@ -10,6 +11,7 @@ use Rattle.outside.specs.declared.shop.ShopCall.TheVariants as call
 use Rattle.remote_messages.specs.declared.file.NamedFile.{NamedFile}
 use Rattle.remote_messages.specs.declared.job.Job.{Job}
 use Rattle.remote_messages.specs.declared.job_result.JobResult.{JobResult}
+use Rattle.remote_messages.specs.JobResult.{job_result_spelling}
 use Rattle.job_runner.specs.Calls.{Asked, WentWell, StopsAt, Starts, cannot_read}
 use Rattle.job_runner.specs.Jobs.{job_folder, fill_asks, get_asks, asks_in}
 
@@ -75,8 +77,25 @@ abbrev pub ComesIn : List ℕ → Job → Result JobResult NoMemory → List Sho
 ComesIn folder job (Ok r) calls = RanIn folder job calls r ⊎ RefusedIn folder job calls r
 ComesIn folder job (Err e) calls = Starts (asks_in folder job) calls
 
+-- the same, in the job's own folder
+abbrev pub ComesWhole : Job → Result JobResult NoMemory → List ShopCall → Type 0
+ComesWhole job result calls = ComesIn (job_folder job.id) job result calls
+
+-- the most bytes that the message of a result may have
+abbrev pub most_bytes : ℕ
+most_bytes = 67108864
+
+unfoldable pub too_large : List ℕ
+too_large = codes "too large"
+
+-- what is answered to the job with this number: where its result's message would have more bytes, it is refused instead
+abbrev pub bounded : ℤ → JobResult → JobResult
+bounded id r = if ltb most_bytes (length (job_result_spelling r)) then refused id too_large else r
+
+-- The calls of a job that is run, by what is answered to it.
 abbrev pub Comes : Job → Result JobResult NoMemory → List ShopCall → Type 0
-Comes job result calls = ComesIn (job_folder job.id) job result calls
+Comes job (Ok r) calls = (whole : JobResult) × ComesWhole job (Ok whole) calls × (r ≡ bounded job.id whole)
+Comes job (Err e) calls = Starts (asks_in (job_folder job.id) job) calls
 
 -- the same, where these calls come behind those by which the folder was filled
 abbrev pub ComesBehind : List ℕ → Job → Result JobResult NoMemory → List ShopCall → Type 0

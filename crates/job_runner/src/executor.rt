@@ -55,7 +55,7 @@ impl<S: Shop> Service<S> for Executor {
         match fate_of(message, behind) {
             Fate::Cancels => Ok(None),
             Fate::GivenUp => framed(alloc, &given_up(alloc, message)),
-            Fate::BadPath => framed(alloc, &refused(alloc, message, "cannot write")?),
+            Fate::BadPath => framed(alloc, &refused(alloc, message, "bad path")?),
             Fate::Runs => framed(alloc, &run_job(alloc, shop, message)?),
         }
     }

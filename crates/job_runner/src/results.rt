@@ -1,11 +1,17 @@
 // The results of jobs.
-ghost use Rattle.std.specs.Prelude.{◌≡◌, true, false, IfOk, MatchOption};
+ghost use Rattle.std.specs.Prelude.{◌≡◌, true, false, IfOk, MatchOption, length};
 ghost use Rattle.std.specs.Str.{is_utf8};
-ghost use Rattle.job_runner.specs.Results.{empty_result, refused, given_up, text_of};
+ghost use Rattle.wire_fields.specs.Spelling.{capped};
+ghost use Rattle.remote_messages.specs.JobResult.{job_result_spelling};
+ghost use Rattle.job_runner.specs.Results.{bounded, empty_result, refused, given_up, text_of};
 
 use plain_values::{Items, NoMemory, Text};
 use remote_messages::{Job, JobResult};
 use std::alloc::Global;
+use wire_messages::Message;
+
+/// The most bytes that the message of a result may have.
+const MOST_BYTES: u64 = 1 << 26;
 
 /// A result of the job that says nothing else.
 pub fn empty_result(alloc: Global, job: &Job) -> JobResult
@@ -30,6 +36,24 @@ pub fn refused(alloc: Global, job: &Job, why: &str) -> Result<JobResult, NoMemor
     let mut result = empty_result(alloc, job);
     result.refusal = Text::copy_of(alloc, why)?;
     Ok(result)
+}
+
+/// What is answered to a job in place of its result: where its message would have too many bytes, the job is refused.
+#[tactic(auto, unfolding(crate::specs::Results::too_large))]
+pub fn bounded(alloc: Global, job: &Job, whole: JobResult) -> Result<JobResult, NoMemory>
+    ensures { IfOk result (λ r. r ≡ bounded job.now.id whole) }
+{
+    if length_of(&whole) > MOST_BYTES {
+        return refused(alloc, job, "too large");
+    }
+    Ok(whole)
+}
+
+// How many bytes the message of a result has, or 2^64 - 1 where that is more.
+fn length_of(whole: &JobResult) -> u64
+    ensures { result ≡ capped (length (job_result_spelling whole.now)) }
+{
+    whole.encoded_len()
 }
 
 /// The result of a job that was given up.

@@ -2,25 +2,35 @@
 ghost use Rattle.std.specs.Prelude.{◌≡◌, List};
 ghost use Rattle.outside.specs.declared.shop.ShopCall.{ShopCall};
 ghost use Rattle.message_service.specs.Calls.{Made};
-ghost use Rattle.job_runner.specs.Results.{Comes, ComesBehind};
+ghost use Rattle.job_runner.specs.Results.{Comes, ComesBehind, ComesWhole};
 
 use crate::collecting::collect;
 use crate::filling::fill;
 use crate::paths::job_folder;
-use crate::results::{empty_result, refused, text_of};
+use crate::results::{bounded, empty_result, refused, text_of};
 use outside::{Io, JobEnd, Shop};
 use plain_values::NoMemory;
 use remote_messages::{Job, JobResult};
 use std::alloc::Global;
 
 /// Runs a job: fills its folder, runs its words there, and looks at its outputs. At the first call
-/// that doesn't go well it is refused, and nothing more is done.
+/// that doesn't go well it is refused, and nothing more is done. It is refused, too, where the message of its result would
+/// have more than 67,108,864 bytes, which no client takes.
 ///
 /// # Errors
 ///
 /// `NoMemory`, maybe after some of the calls.
 pub fn run_job<S: Shop>(alloc: Global, shop: &mut S, job: &Job) -> Result<JobResult, NoMemory>
     ensures { (calls : List ShopCall) × Comes job.now result calls
+        × Made calls (S.told shop.old) (S.told shop.new) }
+{
+    let whole = do_job(alloc, shop, job)?;
+    bounded(alloc, job, whole)
+}
+
+// Does all that is asked for a job.
+fn do_job<S: Shop>(alloc: Global, shop: &mut S, job: &Job) -> Result<JobResult, NoMemory>
+    ensures { (calls : List ShopCall) × ComesWhole job.now result calls
         × Made calls (S.told shop.old) (S.told shop.new) }
 {
     let folder = job_folder(alloc, job)?;

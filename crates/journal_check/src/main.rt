@@ -1,16 +1,30 @@
 //! Reads the text of a run's journal from standard input, and prints what it comes to: `legal
-//! actions=A entries=N`, or the first fault. It has no words.
+//! actions=A entries=N`, or the first fault.
 #![tactic(auto)]
 
 use journal_audit::check_stream;
-use outside_real::{RealInput, RealSink};
+use outside_real::{RealInput, RealSink, open_standard, tell_about};
 use std::env::{self, Env};
 use std::process::ExitCode;
+
+const HELP: &str = "journal_check <journal.jsonl
+
+Reads the text of a run's journal from standard input, as journal_run puts it behind the report, and says whether the rules of
+scheduling allow it: `legal actions=A entries=N`, or the first fault.
+
+  --help, --version    alone: this text, or the version
+Statuses: 0 legal, 1 not legal, 2 other words, 3 no memory, 4 no journal's text, 5 the input can't be read, 6 the line can't be put.
+The text: docs/FORMATS.md
+";
 
 /// The status of a program whose words aren't accepted.
 const WRONG_WORDS: u8 = 2;
 
 fn main(rt: HostRuntime) -> ExitCode {
+    open_standard();
+    if let Some(status) = tell_about(&rt, "journal_check", &[HELP]) {
+        return status;
+    }
     let alloc = rt.alloc();
     if !has_no_words(&rt) {
         let _ = rt.eprint("journal_check: words are not accepted\n");

@@ -5,7 +5,7 @@
 #![tactic(auto)]
 
 use outside_mem::MemFloor;
-use outside_real::{RealFloor, RealSink};
+use outside_real::{RealFloor, RealSink, open_standard};
 use recorded_runs::run_recorded;
 use run_command::{OPTIONS, Program, TOGETHER, end, end_unread, tell, tell_ended, words};
 use std::alloc::Global;
@@ -23,6 +23,7 @@ const PROGRAM: Program = Program {
 };
 
 fn main(rt: HostRuntime) -> ExitCode {
+    open_standard();
     let alloc = rt.alloc();
     let words = match words(&rt, alloc) {
         Ok(words) => words,

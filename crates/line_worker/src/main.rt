@@ -5,13 +5,21 @@
 ghost use Rattle.std.specs.Prelude.{◌≡◌, ◌⊎◌, IfOk, pos};
 
 use outside::{Io, Read, Shop};
-use outside_real::{RealInput, RealShop, RealSink};
+use outside_real::{RealInput, RealShop, RealSink, open_standard, tell_about};
 use plain_values::{NoMemory, Text};
 use std::alloc::Global;
 use std::process::ExitCode;
 use std::sync::{Mutex, Wait};
 use wire_messages::WorkRequest;
 use worker_kit::{CancelFlag, Delimited, Handled, Handler, KitEnd, Size, Streams, serve};
+
+const HELP: &str = "line_worker --persistent_worker
+
+A worker that counts lines, up to four requests at once. The words of a request are the path of its output, and then those of the
+files whose lines are counted. It is an example: crates/line_worker is to be copied for a worker of one's own.
+
+  --help, --version    alone: this text, or the version
+";
 
 /// Counts the lines of files of a shop, which all lanes share.
 #[derive(Drop)]
@@ -91,9 +99,13 @@ fn stopped(alloc: Global) -> Result<Handled, NoMemory>
 }
 
 fn main(rt: HostRuntime) -> ExitCode {
+    open_standard();
+    if let Some(status) = tell_about(&rt, "line_worker", &[HELP]) {
+        return status;
+    }
     let alloc = rt.alloc();
     let counter = LineCounter {
-        shop: Mutex::new(RealShop::new(rt, alloc)),
+        shop: Mutex::new(RealShop::for_worker(rt, alloc)),
     };
     let streams = Streams {
         tap: RealInput::new(rt.stdin()),

@@ -1,7 +1,8 @@
-ghost use Rattle.std.specs.Prelude.{◌≡◌, None};
+ghost use Rattle.std.specs.Prelude.{◌≡◌, ◌≤◌, None, IfOk, length};
 
+use bare_calls::{is_later, wait_for_input};
 use outside::{Taken, Tap};
-use std::io::Read;
+use std::io::{self, Read};
 
 /// Standard input, as a tap.
 #[derive(Drop)]
@@ -27,7 +28,7 @@ impl<I: Read + Drop> Tap for RealInput<I> {
     }
 
     fn read(&mut self, into: &mut [u8]) -> Taken {
-        match self.stdin.read(into) {
+        match take(&mut self.stdin, into) {
             Ok(0) => Taken::End,
             Ok(count) => Taken::Bytes(count),
             Err(_) => {
@@ -36,4 +37,17 @@ impl<I: Read + Drop> Tap for RealInput<I> {
             }
         }
     }
+}
+
+// Takes some bytes, and none at the end. An input that never waits is waited for here.
+fn take<I: Read>(stdin: &mut I, into: &mut [u8]) -> io::Result<usize>
+    ensures { IfOk result (λ n. n ≤ length into.new) }
+{
+    for _ in 0..u64::MAX {
+        match stdin.read(into) {
+            Err(error) if is_later(&error) => wait_for_input()?,
+            taken => return taken,
+        }
+    }
+    Ok(0)
 }

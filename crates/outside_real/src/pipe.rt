@@ -1,9 +1,9 @@
 //! What the feed, the tap and the child of a line share, and the thread that empties a feed into its pipe.
-use bare_calls::{wait_to_write, write_now};
+use bare_calls::{has_ended, kill, wait_for, wait_to_write, write_now};
 use std::alloc::Global;
 use std::io::{self, ErrorKind};
 use std::os::fd::{AsRawFd, RawFd};
-use std::process::ChildStdin;
+use std::process::{Child, ChildStdin, ExitStatus};
 use std::sync::atomic::{AtomicBool, Ordering};
 use std::sync::{Arc, Mutex, Wait};
 use std::thread;
@@ -16,6 +16,10 @@ pub(crate) struct SharedLine {
     // Where whoever closes the feed rests until the writer has ended.
     rest: Parker,
     is_killed: AtomicBool,
+    // Whether the process ended by itself soon after bytes of it had been taken.
+    is_brief: AtomicBool,
+    // `None` before it is started.
+    child: Mutex<Option<Child>>,
 }
 
 // The pipe into a process. It never waits. What it doesn't take at once waits here, and a writer, a thread of its own,
@@ -45,6 +49,8 @@ impl SharedLine {
             feed: Mutex::new(FeedPipe::new(alloc)),
             rest: Parker::new(),
             is_killed: AtomicBool::new(false),
+            is_brief: AtomicBool::new(false),
+            child: Mutex::new(None),
         }
     }
 
@@ -53,9 +59,45 @@ impl SharedLine {
         self.feed.lock(rt).pipe = Some(pipe);
     }
 
+    /// Has the line have this process.
+    pub(crate) fn own<R: Wait>(&self, rt: &R, child: Child) {
+        *self.child.lock(rt) = Some(child);
+    }
+
+    /// The process ended by itself soon after bytes of it had been taken.
+    pub(crate) fn be_brief(&self) {
+        self.is_brief.store(true, Ordering::SeqCst);
+    }
+
+    /// Whether the process ended by itself soon after bytes of it had been taken.
+    pub(crate) fn is_brief(&self) -> bool {
+        self.is_brief.load(Ordering::SeqCst)
+    }
+
     /// Whether the process has been killed. What it had written until then stands in its pipe.
     pub(crate) fn is_killed(&self) -> bool {
         self.is_killed.load(Ordering::SeqCst)
+    }
+
+    /// Whether the process has ended, by itself or since it was killed. What it had written until then stands in its pipe.
+    pub(crate) fn is_over(&self) -> bool {
+        self.is_killed()
+            || match self.child.try_lock() {
+                Some(mut child) => child.as_mut().is_some_and(has_ended),
+                // It is being ended.
+                None => false,
+            }
+    }
+
+    /// Kills the process, closes its feed and waits for it, and says how it ended. One that can't be killed ends at the end
+    /// of its input, or is left to itself.
+    pub(crate) fn end<R: Wait>(&self, rt: &R) -> Option<ExitStatus> {
+        if let Some(child) = self.child.lock(rt).as_mut() {
+            kill(child);
+        }
+        self.close(rt);
+        let mut child = self.child.lock(rt);
+        wait_for(child.as_mut()?).ok()
     }
 
     /// Closes the feed of a process that was killed, once a writer has ended. A process that was started by that one, and

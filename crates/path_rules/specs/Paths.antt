@@ -1,5 +1,5 @@
 -- Which faults a path has, and which of them is answered.
-use Rattle.std.specs.Prelude.{ℕ, Bool, List, [], ◌∷◌, Option, Some, None, Result, Ok, Err, length, nat_lt, nat_eq, ◌==◌, codes, find}
+use Rattle.std.specs.Prelude.{ℕ, Bool, List, [], ◌∷◌, Option, Some, None, Result, Ok, Err, length, nat_lt, nat_eq, ◌==◌, ◌||◌, codes, find}
 use Rattle.std.specs.List.{slice_split, before_first, list_any, starts_with}
 use Rattle.std.specs.Str.{bytes_eq}
 use Rattle.path_rules.specs.declared.PathFault.{PathFault}
@@ -17,6 +17,14 @@ first_segment path = before_first (λ b. b == 47) path
 abbrev pub has_segment : List ℕ → List ℕ → Bool
 has_segment segment path = list_any (λ s. bytes_eq s segment) (segments path)
 
+-- the name of a file that is written beside an output and then takes its place
+abbrev pub is_part_name : List ℕ → Bool
+is_part_name segment = starts_with nat_eq segment (codes ".worker_tool.")
+
+-- some segment of the path is such a name
+abbrev pub has_part_name : List ℕ → Bool
+has_part_name path = list_any is_part_name (segments path)
+
 abbrev pub has_fault : List ℕ → PathFault → Bool
 has_fault path fault.Empty = length path == 0
 has_fault path fault.TooLong = nat_lt 4096 (length path)
@@ -26,6 +34,7 @@ has_fault path fault.DoubleSlash = has_segment [] path
 has_fault path fault.Dot = has_segment (codes ".") path
 has_fault path fault.DotDot = has_segment (codes "..") path
 has_fault path fault.Reserved = bytes_eq (first_segment path) (codes "__sandbox")
+    || bytes_eq (first_segment path) (codes ".worker_rooms") || has_part_name path
 
 -- the faults in the order in which they are looked for
 abbrev pub faults_in_order : List PathFault

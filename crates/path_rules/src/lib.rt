@@ -1,8 +1,9 @@
 //! Which texts are paths of the tree that a run works in: relative, in one spelling, and inside the tree.
 #![tactic(auto)]
 
-ghost use Rattle.std.specs.Prelude.{◌≡◌};
-ghost use Rattle.path_rules.specs.Paths.{checked, path_fault, has_segment, has_fault};
+ghost use Rattle.std.specs.Prelude.{◌≡◌, nat_eq};
+ghost use Rattle.std.specs.List.{starts_with};
+ghost use Rattle.path_rules.specs.Paths.{checked, has_fault, has_part_name, has_segment, is_part_name, path_fault};
 
 use thiserror::Error;
 
@@ -26,7 +27,7 @@ pub enum PathFault {
     Dot,
     #[error("the path has a segment `..`")]
     DotDot,
-    #[error("the path's first segment is `__sandbox`")]
+    #[error("the path's first segment is `__sandbox` or `.worker_rooms`, or a segment begins with `.worker_tool.`")]
     Reserved,
 }
 
@@ -35,8 +36,9 @@ pub enum PathFault {
 /// # Errors
 ///
 /// The first fault that the path has. A path is one or more segments with one slash between two
-/// of them, at most 4,096 bytes long. No segment is empty, `.` or `..`, the first isn't
-/// `__sandbox`, and no byte is zero.
+/// of them, at most 4,096 bytes long. No segment is empty, `.` or `..`, and no byte is zero. The run
+/// keeps some names for itself: the first segment is neither `__sandbox` nor `.worker_rooms`, and no
+/// segment begins with `.worker_tool.`.
 pub fn check_path(path: &str) -> Result<(), PathFault>
     ensures { result ≡ checked (path_fault path.now) }
 {
@@ -92,5 +94,24 @@ fn is_reserved(path: &str) -> bool
         Some((first, _)) => first,
         None => path,
     };
-    first == "__sandbox"
+    first == "__sandbox" || first == ".worker_rooms" || has_part_name(path)
+}
+
+// Whether some segment is the name of a file that is written beside an output.
+fn has_part_name(path: &str) -> bool
+    ensures { result ≡ has_part_name path.now }
+{
+    path.split('/').any(|s| is_part_name(s))
+}
+
+fn is_part_name(segment: &str) -> bool
+    ensures { result ≡ is_part_name segment.now }
+{
+    begins_with(segment, ".worker_tool.")
+}
+
+fn begins_with(segment: &str, front: &str) -> bool
+    ensures { result ≡ starts_with nat_eq segment.now front.now }
+{
+    segment.starts_with(front)
 }

@@ -1,8 +1,7 @@
 // The bare calls on files and folders, over files whose calls are printed.
 use crate::recorder::Recorder;
 use bare_calls::{
-    Known, empty_inside, make_folder_inside, read_inside, read_regular, remove_inside,
-    write_beside, write_inside,
+    Room, make_folder_inside, put_aside, read_inside, read_regular, write_beside, write_inside,
 };
 use plain_values::NoMemory;
 use std::alloc::Global;
@@ -11,8 +10,8 @@ use std::rt::Files;
 use std::str;
 use std::sync::atomic::AtomicU64;
 
-/// The room in which calls are made, and the folder of rooms of which it is known what stands in them.
-const ROOM: &str = "files";
+/// The folder in which calls are made that aren't made in a room.
+const FOLDER: &str = "files";
 
 /// Makes the bare call that a line says, as `write made/first 3`: its name, a path, and which of the calls that it makes
 /// of the system is refused. Says what it comes to; the calls have been printed.
@@ -23,7 +22,7 @@ const ROOM: &str = "files";
 pub fn play<R: Files + Print + Copy + Drop>(
     rt: &R,
     alloc: Global,
-    known: &mut Known,
+    room: &mut Room,
     line: &str,
 ) -> Result<String, NoMemory> {
     let (name, rest) = line.split_once(' ').unwrap_or((line, ""));
@@ -35,20 +34,26 @@ pub fn play<R: Files + Print + Copy + Drop>(
     );
     let done = match name {
         "beside" => write_beside(&files, alloc, ".part", path, b"new"),
-        "write" => write_inside(&files, alloc, ROOM, path, b"new"),
-        "folder" => make_folder_inside(&files, alloc, ROOM, path),
-        "remove" => remove_inside(&files, alloc, ROOM, path),
-        "empty" => empty_inside(&files, alloc, ROOM, path),
-        "clear" => known.empty(&files, ROOM, path),
-        "part" => known.remove(&files, ROOM, path),
-        "make" => known.make(&files, ROOM, path),
-        "put" => known.write(&files, ROOM, path, b"new"),
-        "get" => return found(alloc, known.read(&files, ROOM, path)),
+        "write" => write_inside(&files, alloc, FOLDER, path, b"new"),
+        "folder" => make_folder_inside(&files, alloc, FOLDER, path),
+        "aside" => put_aside(&files, alloc, FOLDER, path),
+        "clear" => room.clear(&files, ""),
+        "part" => room.clear(&files, path),
+        "make" => room.make(&files, path),
+        "put" => room.write(&files, path, b"new"),
+        "get" => return found(alloc, room.read(&files, path)),
+        "enter" => live(room, true),
+        "leave" => live(room, false),
         "source" => return found(alloc, read_regular(&files, path)),
-        _ => return found(alloc, read_inside(&files, alloc, ROOM, path)),
+        _ => return found(alloc, read_inside(&files, alloc, FOLDER, path)),
     };
     let told = if done.is_ok() { "done" } else { "failed" };
     Ok(String::from_str(alloc, told)?)
+}
+
+fn live(room: &mut Room, is_lived_in: bool) -> io::Result<()> {
+    room.set_lived_in(is_lived_in);
+    Ok(())
 }
 
 fn found(alloc: Global, read: io::Result<Option<Vec<u8>>>) -> Result<String, NoMemory> {

@@ -1,5 +1,5 @@
 // Lines: a shell that hears its feed, has the command's environment alone, leaves links and a fifo
-// in its room, and puts a link to the folder of the start in the place of the room itself. Beside
+// in its room, moves that, and puts a link to the folder of the start in its place. Beside
 // the outputs it leaves a link at the name under which they are written. Another one runs what was put into its room, looks
 // whether the first is gone, and leaves what is hard to remove: a name that is no text, folders that nobody may change, a link
 // to a folder of others. A third looks whether all that is gone, and nothing else was touched.
@@ -14,7 +14,7 @@ const FIRST: &str =
     ln -s ../../aside way; ln -s aside/file ../../link; \
     ln -s letter ../../.worker_tool.0.part; mkfifo fifo; echo $$ >../pid; read line; \
     echo \"heard $line, greeting $GREETING, home [$HOME]\"; read line; \
-    mv ../3 ../moved; ln -s .. ../3; echo $line; exec cat";
+    here=${PWD##*/}; mv ../$here ../moved; ln -s .. ../$here; echo $line; exec cat";
 
 const SECOND: &str =
     "./tool || echo \"it can't be run\"; rm -r shelf rack; ln -s ../../aside shelf; ln -s ../../aside rack; \
@@ -32,6 +32,7 @@ pub fn play<P: Print, B: Berth>(page: &mut Page<'_, P>, alloc: Global, berth: &m
     if let Some((mut feed, mut tap, mut child)) = shell(page, alloc, berth, 0, FIRST) {
         talk(page, berth, &mut feed, &mut tap, &mut child);
     }
+    page.io("clear", &berth.room_clear(""));
     page.io("put tool", &berth.room_put("tool", b"echo it runs\n"));
     page.io("put shelf/file", &berth.room_put("shelf/file", b"inside"));
     page.io("put rack/file", &berth.room_put("rack/file", b"inside"));
@@ -41,6 +42,7 @@ pub fn play<P: Print, B: Berth>(page: &mut Page<'_, P>, alloc: Global, berth: &m
         page.read("rack/x", berth.room_get("rack/x"));
         page.io("clear", &berth.room_clear(""));
         berth.end(1, &mut child);
+        page.io("clear", &berth.room_clear(""));
     }
     if let Some((_feed, mut tap, mut child)) = shell(page, alloc, berth, 2, THIRD) {
         take(page, &mut tap);
@@ -140,7 +142,10 @@ fn talk<P: Print, B: Berth>(
     page.read("fifo", berth.room_get("fifo"));
     page.io("feed", &feed.write(b"moved\n"));
     take(page, tap);
-    page.read("letter, not in the room", berth.room_get("letter"));
+    page.read(
+        "letter, in the room that was moved",
+        berth.room_get("letter"),
+    );
     page.io("clear", &berth.room_clear(""));
     berth.end(0, child);
     take(page, tap);

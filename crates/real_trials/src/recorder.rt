@@ -33,12 +33,24 @@ impl<'a, R: Print> Recorder<'a, R> {
 
     // Prints a call, which is refused if it is that one.
     fn call(&self, what: &str, path: &str) -> io::Result<()> {
+        let (front, path) = shown(path);
         let before = self.made.fetch_add(1, Ordering::SeqCst);
         if before.saturating_add(1) == self.refused {
-            println!(&self.rt; "  {what} {path}, which is refused")?;
+            println!(&self.rt; "  {what} {front}{path}, which is refused")?;
             return Err(io::Error::from(ErrorKind::PermissionDenied));
         }
-        println!(&self.rt; "  {what} {path}")
+        println!(&self.rt; "  {what} {front}{path}")
+    }
+}
+
+// A path as it is printed: one in a folder that is held open without the number by which the system knows that.
+fn shown(path: &str) -> (&str, &str) {
+    match path.strip_prefix("/proc/self/fd/") {
+        Some(rest) => match rest.split_once('/') {
+            Some((_, name)) => ("*/", name),
+            None => ("*", ""),
+        },
+        None => ("", path),
     }
 }
 

@@ -3,10 +3,20 @@
 #![tactic(auto)]
 
 use demo_programs::execute;
-use outside_real::{RealInput, RealShop, RealSink};
+use outside_real::{RealInput, RealShop, RealSink, lock_jobs, open_standard, tell_about};
 use std::env::{self, Env};
 use std::io::{self, ErrorKind};
 use std::process::ExitCode;
+
+const HELP: &str = "remote_exec --serve
+
+Runs the jobs that standard input brings, one after another, each in a folder of its own below the folder of the start, and
+puts the result of each on standard output. worker_tool starts it by --executor=PROGRAM, in a folder of its own.
+
+  --help, --version    alone: this text, or the version
+Statuses: 0 the input ended, 2 other words, 3 no memory, 4 the input is no job, 5 the input can't be read or another executor
+is at work in the folder, 6 a result can't be put. The messages: docs/FORMATS.md
+";
 
 /// The status of a program whose words aren't accepted.
 const WRONG_WORDS: u8 = 2;
@@ -14,7 +24,14 @@ const WRONG_WORDS: u8 = 2;
 /// The status of a program for which there is no memory.
 const NO_MEMORY: u8 = 3;
 
+/// The status of an executor that can't have its folder alone.
+const NOT_ALONE: u8 = 5;
+
 fn main(rt: HostRuntime) -> ExitCode {
+    open_standard();
+    if let Some(status) = tell_about(&rt, "remote_exec", &[HELP]) {
+        return status;
+    }
     let alloc = rt.alloc();
     match is_to_serve(&rt) {
         Ok(true) => {}
@@ -27,10 +44,18 @@ fn main(rt: HostRuntime) -> ExitCode {
             return ExitCode::from(WRONG_WORDS);
         }
     }
+    let _lock = match lock_jobs(&rt, alloc) {
+        Ok(lock) => lock,
+        Err(error) => {
+            let _ = eprintln!(rt; "remote_exec: `.executor_lock` can't be had: {error}");
+            return ExitCode::from(NOT_ALONE);
+        }
+    };
     let mut input = RealInput::new(rt.stdin());
     let mut out = RealSink::new(rt);
-    let mut shop = RealShop::new(rt, alloc);
+    let mut shop = RealShop::for_jobs(rt, alloc);
     let finish = execute(&rt, alloc, &mut input, &mut out, &mut shop);
+    shop.leave();
     ExitCode::from(finish.status())
 }
 

@@ -2,16 +2,19 @@
 //! each action.
 #![tactic(auto)]
 
-use outside_real::{RealFloor, RealSink};
+use outside_real::{RealFloor, RealSink, open_standard, tell_about};
 use run_command::{Program, end_unread, tell_ended, words};
 use shared_runs::run_shared;
 use shared_tasks::other_words;
 use std::process::ExitCode;
 
-const PROGRAM: Program = Program {
-    name: "shared_tool",
-    together: "there is one list and one --max_workers=N, and every option but --extra_flag stands once",
-    options: "  LIST                              the path of the action list that is run
+const USAGE: &str = "shared_tool --max_workers=N [OPTION..] LIST
+
+Runs the actions of a list through few workers, which worker keys share, and prints a line for each action.
+
+";
+
+const OPTIONS: &str = "  LIST                              the path of the action list that is run
   --max_workers=N                   at most N local workers of each protocol, 1 to 24
   --instances=N                     at most N workers of one key, 1 to 48 (4)
   --remote=N                        at most N executors, 1 to 16 (1)
@@ -19,11 +22,21 @@ const PROGRAM: Program = Program {
   --executor=PROGRAM                the executor's program (remote_exec)
   --extra_flag=WORD                 a further start-up word of each worker; may stand several times
   --worker_verbose                  ask the workers to say more
+  --help, --version                 alone: this text, or the version
   more: docs/GUIDE.md
-",
+";
+
+const PROGRAM: Program = Program {
+    name: "shared_tool",
+    together: "there is one list and one --max_workers=N, and every option but --extra_flag stands once",
+    options: OPTIONS,
 };
 
 fn main(rt: HostRuntime) -> ExitCode {
+    open_standard();
+    if let Some(status) = tell_about(&rt, "shared_tool", &[USAGE, OPTIONS]) {
+        return status;
+    }
     let alloc = rt.alloc();
     let words = match words(&rt, alloc) {
         Ok(words) => words,

@@ -2,7 +2,7 @@
 //! action.
 #![tactic(auto)]
 
-use outside_real::{RealFloor, RealSink};
+use outside_real::{RealFloor, RealSink, open_standard, tell_about};
 use run_command::{Program, end_unread, tell_ended, words};
 use spawn_runs::{Strategic, run_strategies};
 use spawn_tasks::other_words;
@@ -11,10 +11,13 @@ use std::io::Eprint;
 use std::process::ExitCode;
 use tick_lane::ClockPacer;
 
-const PROGRAM: Program = Program {
-    name: "spawn_tool",
-    together: "there is one list, every option but --strategy and --extra_flag stands once at most, and each mnemonic has one --strategy",
-    options: "  LIST                              the path of the action list that is run
+const USAGE: &str = "spawn_tool [OPTION..] LIST
+
+Runs the actions of a list by the strategies that its words name, and prints a line for each action.
+
+";
+
+const OPTIONS: &str = "  LIST                              the path of the action list that is run
   --strategy=MNEMONIC=NAME,..       what its actions run by, the first choice first
   --spawn_strategy=NAME,..          what all others run by: worker, sandboxed, remote, dynamic
   --local_delay=N                   a dynamic action's worker waits for N ms, 0 to 9999 (0)
@@ -26,11 +29,21 @@ const PROGRAM: Program = Program {
   --sandbox_executor=PROGRAM        the sandboxes' program (remote_exec)
   --extra_flag=WORD                 a further start-up word of each worker; may stand several times
   --worker_verbose                  ask the workers to say more
+  --help, --version                 alone: this text, or the version
   more: docs/GUIDE.md
-",
+";
+
+const PROGRAM: Program = Program {
+    name: "spawn_tool",
+    together: "there is one list, every option but --strategy and --extra_flag stands once at most, and each mnemonic has one --strategy",
+    options: OPTIONS,
 };
 
 fn main(rt: HostRuntime) -> ExitCode {
+    open_standard();
+    if let Some(status) = tell_about(&rt, "spawn_tool", &[USAGE, OPTIONS]) {
+        return status;
+    }
     let alloc = rt.alloc();
     let words = match words(&rt, alloc) {
         Ok(words) => words,

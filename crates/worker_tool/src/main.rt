@@ -10,7 +10,7 @@ mod screen;
 use crate::screen::{BehindLine, Screen};
 use outside::{Berth, Floor, Sink};
 use outside_mem::MemFloor;
-use outside_real::{RealFloor, RealSink};
+use outside_real::{RealFloor, RealSink, open_standard};
 use plain_values::NoMemory;
 use run_command::{OPTIONS, Program, TOGETHER, end, end_unread, tell, tell_ended, words};
 use std::alloc::Global;
@@ -30,6 +30,7 @@ const PROGRAM: Program = Program {
 };
 
 fn main(rt: HostRuntime) -> ExitCode {
+    open_standard();
     let alloc = rt.alloc();
     let on_terminal = rt.stderr().is_terminal() && !is_dumb(&rt);
     let words = match words(&rt, alloc) {

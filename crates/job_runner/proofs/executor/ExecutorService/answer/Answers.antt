@@ -1,4 +1,4 @@
-use Rattle.job_runner.specs.Calls.{cannot_write}
+use Rattle.job_runner.specs.Calls.{bad_path}
 use Rattle.job_runner.proofs.Answering.{cancels, gives_up, refuses, runs}
 use Rattle.job_runner.proofs.executor.ExecutorService.answer.Goals as goal
 
@@ -14,7 +14,7 @@ returns-in-GivenUp g c =
     c.framed.ensures
 
 pub returns-in_ok-refused-in-BadPath : goal.returns-in_ok-refused-in-BadPath
-unfolding cannot_write
+unfolding bad_path
 returns-in_ok-refused-in-BadPath g c =
     refuses c.fate_of.result c.args.message.now c.args.behind.now c.in_ok-refused-in-BadPath.field-0
     c.framed-in-BadPath.result (g.S.Shop.told c.args.shop.now) c.fate_of.ensures c.in-BadPath.is

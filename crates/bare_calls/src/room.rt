@@ -1,0 +1,236 @@
+// The rooms of a berth's processes. What the calls do is trusted.
+use crate::emptying::{empty_folder, remove_below, remove_entry};
+use crate::folder::{Folder, split};
+use crate::inside::{read_below, write_in};
+use crate::known::Known;
+use std::alloc::{AllocError, Global};
+use std::io;
+use std::rt::Files;
+
+/// The folder of all rooms, which may be a link of the user's. From there on no link is followed,
+/// also where a worker put one in the place of its own room.
+pub const ROOMS: &str = ".worker_rooms";
+
+/// How many bytes of names are read at once. Any one name finds room.
+const MOST_NAMES: usize = 4096;
+
+/// A room's number is smaller. A name that has a greater one was made by somebody else.
+const MOST_ROOMS: u64 = 1 << 40;
+
+/// How many names are tried for a new room, where others have taken some of them.
+const TRIES: u64 = 1000;
+
+/// The folder in which a berth's process works. It belongs to that process alone: the next process gets a new one, under a
+/// name that no earlier one had, in this run or in another. So what a process that was left behind still writes goes
+/// nowhere, by whatever path it knows its room.
+///
+/// The rooms of berth 3 are called `3`, `3.1`, `3.2` and so on in the folder of all rooms.
+#[derive(Drop)]
+pub struct Room {
+    alloc: Global,
+    berth: u32,
+    // The room that stands, once one was made.
+    made: Option<Made>,
+    // Whether a process that was started in the room hasn't been ended yet.
+    is_lived_in: bool,
+    // Whether since the last clear nobody else has had a reason to change what is written into: folders stay what they are.
+    is_fresh: bool,
+}
+
+// A room that stands.
+#[derive(Drop)]
+struct Made {
+    number: u64,
+    known: Known,
+}
+
+impl Room {
+    /// The room of a berth, which is made by its first clear.
+    pub fn new(alloc: Global, berth: u32) -> Room {
+        Room {
+            alloc,
+            berth,
+            made: None,
+            is_lived_in: false,
+            is_fresh: false,
+        }
+    }
+
+    /// The path of the room, or of the berth's first one while none was made.
+    ///
+    /// # Errors
+    ///
+    /// `AllocError` where it finds no memory.
+    pub fn path(&self) -> Result<String, AllocError> {
+        let number = match &self.made {
+            Some(made) => made.number,
+            None => 0,
+        };
+        let name = name_of(self.alloc, self.berth, number)?;
+        format!(in self.alloc; "{ROOMS}/{name}")
+    }
+
+    /// A process is started in the room, or has been ended.
+    pub fn set_lived_in(&mut self, is_lived_in: bool) {
+        self.is_lived_in = is_lived_in;
+        self.is_fresh = false;
+    }
+
+    /// Removes what stands at a path in the room. For the empty path it is all that stands there, where a process lives in
+    /// the room; else the room is made anew.
+    pub fn clear<R: Files + AllocGlobal>(&mut self, rt: &R, path: &str) -> io::Result<()> {
+        self.is_fresh = true;
+        if path.is_empty() && !self.is_lived_in {
+            return self.renew(rt);
+        }
+        let alloc = self.alloc;
+        let known = self.known()?;
+        if path.is_empty() {
+            known.remove_all();
+            empty_folder(rt, alloc, known.top().again()?)
+        } else {
+            known.forget_folders();
+            remove_below(rt, alloc, known.top(), path)
+        }
+    }
+
+    /// Makes a folder in the room, with those above it.
+    pub fn make<R: Files>(&mut self, rt: &R, path: &str) -> io::Result<()> {
+        let alloc = self.alloc;
+        self.known_now()?.reach(rt, alloc, path)
+    }
+
+    /// Writes a file in the room, with the folders above it.
+    pub fn write<R: Files>(&mut self, rt: &R, path: &str, bytes: &[u8]) -> io::Result<()> {
+        let alloc = self.alloc;
+        let (above, name) = split(path);
+        let known = self.known_now()?;
+        known.reach(rt, alloc, above)?;
+        let folder = known.folder(above).unwrap_or(known.top());
+        write_in(rt, alloc, folder, name, bytes)?;
+        known.note_file(alloc, path)?;
+        Ok(())
+    }
+
+    /// The bytes of a regular file at a path in the room; `None` where there is no such file.
+    pub fn read<R: Files + AllocGlobal>(
+        &mut self,
+        rt: &R,
+        path: &str,
+    ) -> io::Result<Option<Vec<u8>>> {
+        let alloc = self.alloc;
+        self.is_fresh = false;
+        let known = self.known()?;
+        // The folders on the way may be others by now, so each is opened anew.
+        let found = read_below(rt, alloc, known.top(), path)?;
+        if found.is_some() {
+            known.note_file(alloc, path)?;
+        }
+        Ok(found)
+    }
+
+    // What is known, without the folders that may be others by now.
+    fn known_now(&mut self) -> io::Result<&mut Known> {
+        let is_fresh = self.is_fresh;
+        let known = self.known()?;
+        if !is_fresh {
+            known.forget_folders();
+        }
+        Ok(known)
+    }
+
+    fn known(&mut self) -> io::Result<&mut Known> {
+        match &mut self.made {
+            Some(made) => Ok(&mut made.known),
+            None => Err(io::Error::other("the room wasn't made")),
+        }
+    }
+
+    // Makes a room that no process has had, and removes those from before as far as they can be removed.
+    fn renew<R: Files + AllocGlobal>(&mut self, rt: &R) -> io::Result<()> {
+        let rooms = Folder::made_at(rt, self.alloc, ROOMS)?;
+        let old = match self.made.take() {
+            Some(made) => {
+                let mut old = Vec::new(self.alloc);
+                old.push(made.number)?;
+                old
+            }
+            None => rooms_of(self.alloc, &rooms, self.berth)?,
+        };
+        self.made = Some(make_behind(rt, self.alloc, &rooms, self.berth, old.as_slice())?);
+        for number in old {
+            if let Ok(name) = name_of(self.alloc, self.berth, number) {
+                let _ = remove_entry(rt, self.alloc, &rooms, name.as_bytes());
+            }
+        }
+        Ok(())
+    }
+}
+
+// The name of a berth's room.
+fn name_of(alloc: Global, berth: u32, number: u64) -> Result<String, AllocError> {
+    if number == 0 {
+        format!(in alloc; "{berth}")
+    } else {
+        format!(in alloc; "{berth}.{number}")
+    }
+}
+
+// The number of the room with this name, if it is one of the berth's.
+fn number_in(name: &str, berth: &str) -> Option<u64> {
+    let rest = name.strip_prefix(berth)?;
+    if rest.is_empty() {
+        return Some(0);
+    }
+    let number = rest.strip_prefix('.')?.parse::<u64>().ok()?;
+    if number < MOST_ROOMS {
+        Some(number)
+    } else {
+        None
+    }
+}
+
+// The numbers of the berth's rooms that stand in the folder of all rooms.
+fn rooms_of(alloc: Global, rooms: &Folder, berth: u32) -> io::Result<Vec<u64>> {
+    let berth = format!(in alloc; "{berth}")?;
+    let mut found = Vec::new(alloc);
+    let mut names = [0u8; MOST_NAMES];
+    let listed = rooms.again()?;
+    for _ in 0..u64::MAX {
+        let count = listed.names(&mut names)?;
+        if count == 0 {
+            break;
+        }
+        for name in names[..count].split(|byte| *byte == 0) {
+            if let Ok(name) = str::from_utf8(name) {
+                if let Some(number) = number_in(name, berth.as_str()) {
+                    found.push(number)?;
+                }
+            }
+        }
+    }
+    Ok(found)
+}
+
+// Makes the room behind the last of these.
+fn make_behind<R: Files>(
+    rt: &R,
+    alloc: Global,
+    rooms: &Folder,
+    berth: u32,
+    old: &[u64],
+) -> io::Result<Made> {
+    let first = match old.iter().max() {
+        Some(last) => last.saturating_add(1),
+        None => 0,
+    };
+    for number in first..first.saturating_add(TRIES) {
+        let name = name_of(alloc, berth, number)?;
+        if rooms.make_new(rt, alloc, name.as_str())? {
+            let top = rooms.open_own(rt, alloc, name.as_bytes())?;
+            let known = Known::new(alloc, top);
+            return Ok(Made { number, known });
+        }
+    }
+    Err(io::Error::other("the names for new rooms are taken"))
+}
