@@ -1,0 +1,23 @@
+-- What the laws are proved by.
+pub mod Options
+pub mod Numbers
+pub mod Carriers
+pub mod Berths
+pub mod Closing
+pub mod Going
+pub mod Standings
+pub mod Unsettled
+pub mod Idles
+pub mod Unwanted
+pub mod OwnBerths
+pub mod Resting
+pub mod Leaving
+pub mod Own
+pub mod Delay
+pub mod Ticks
+pub mod Pools
+pub mod Starved
+pub mod Matches
+pub mod Evicting
+pub mod Shared
+pub mod rows

@@ -1,0 +1,6 @@
+-- What the laws cite.
+pub mod Awaits
+pub mod Rests
+pub mod Quiet
+pub mod Runnable
+pub mod Unwanted
