@@ -1,5 +1,5 @@
 -- Behind the greeting.
-use Rattle.std.proofs.Common.{◌≡◌, ◌∙◌, ℕ, List, [], ◌∷◌, Some, refl, subst, sym, append-nil, arith}
+use Rattle.std.proofs.Common.{◌≡◌, ◌⊎◌, ◌∙◌, ◌+◌, inl, ℕ, List, [], ◌∷◌, Some, refl, subst, sym, append-nil, arith}
 use Rattle.std.specs.List.{flat_map}
 use Rattle.std.specs.Prelude.{Result, Ok, Err, IfOk}
 use Rattle.plain_values.specs.declared.no_memory.NoMemory.{NoMemory}
@@ -20,63 +20,89 @@ use Rattle.message_service.proofs.Streams.{whole_new}
 use Rattle.job_runner.specs.Results.{greeting}
 use Rattle.job_runner.specs.Answers.{framed}
 use Rattle.work_lanes.specs.declared.serving.LanesEnded.{LanesEnded}
-use Rattle.work_lanes.specs.Serves.{Serves, told_by}
-use Rattle.job_lanes.specs.Pools.{Pools, SaysJob, number_of, cancels_in}
+use Rattle.work_lanes.specs.Handles.{EachFollows}
+use Rattle.work_lanes.specs.Serves.{ServesBy, told_by}
+use Rattle.job_lanes.specs.declared.lane.JobLane.{JobLane}
+use Rattle.job_lanes.specs.Pools.{Pools, SaysJob, DoesJob, BreaksJob, number_of, cancels_in}
 
 -- the three bytes are the greeting behind its length
 greeting_is : 2 ∷ 64 ∷ 2 ∷ [] ≡ framed greeting
 unfolding job_result_fields spelling varint number_bytes
 greeting_is = refl
 
+-- lanes that have done nothing
+lanes_idle : {H X Y : Type 0} (answers : H → X → Y → H → Type 0) (breaks : H → X → H → Type 0) (k : ℕ)
+    (lanes : List H) → EachFollows answers breaks k [] lanes lanes
+lanes_idle answers breaks k [] = tt
+lanes_idle answers breaks k (x ∷ xs) = (inl refl, lanes_idle answers breaks (k + 1) xs)
+
 module _ {S : Type 0} (told : S → ShopTold) where
   pub greeted : (f : Finish) (tap tap' : TapTold) (old mid new : SinkTold)
-      → PutAll (2 ∷ 64 ∷ 2 ∷ []) old mid
-      → Serves number_of cancels_in (SaysJob told) framed delimited_form SpellsJob f []
+      (lanes left : List (JobLane S)) → PutAll (2 ∷ 64 ∷ 2 ∷ []) old mid
+      → ServesBy number_of cancels_in (SaysJob told) framed delimited_form SpellsJob
+      (DoesJob told) (BreaksJob told) f [] lanes left
       (record { tap = tap; sink = mid }) (record { tap = tap'; sink = new })
-      → Pools told f (record { tap = tap; sink = old }) (record { tap = tap'; sink = new })
-  greeted f tap tap' old mid new put s = record {
-    bytes = s.bytes;
-    requests = s.requests;
-    replies = s.replies;
-    taken = s.taken;
-    reads = s.reads;
-    caused = s.caused;
-    put = puts_on (Some f) (framed greeting) (flat_map (λ r. framed r.response) s.replies) old mid
-        new (subst (λ (bytes : List ℕ). PutAll bytes old mid) greeting_is put) s.put;
-    said = s.said;
-    once = s.once;
+      → Pools told f lanes left (record { tap = tap; sink = old })
+      (record { tap = tap'; sink = new })
+  greeted f tap tap' old mid new lanes left put by = let s = by.serves in record {
+    serves = record {
+      bytes = s.bytes;
+      requests = s.requests;
+      replies = s.replies;
+      begun = s.begun;
+      taken = s.taken;
+      reads = s.reads;
+      caused = s.caused;
+      put = puts_on (Some f) (framed greeting) (flat_map (λ r. framed r.response) s.replies) old mid
+          new (subst (λ (bytes : List ℕ). PutAll bytes old mid) greeting_is put) s.put;
+      said = s.said;
+      once = s.once;
+      took = s.took;
+      order = s.order;
+    };
+    lanes = by.lanes;
+    each = by.each;
   }
 
   -- the same, where memory may have run out
   pub greeted_or_not : {T O : Type 0} (tap_told : T → TapTold) (sink_told : O → SinkTold)
-      (r : Result (LanesEnded T O) NoMemory) (tap : T) (old mid : O)
+      (r : Result (LanesEnded T O (JobLane S)) NoMemory) (tap : T) (old mid : O)
+      (lanes : List (JobLane S))
       → PutAll (2 ∷ 64 ∷ 2 ∷ []) (sink_told old) (sink_told mid)
-      → IfOk r (λ s. Serves number_of cancels_in (SaysJob told) framed delimited_form SpellsJob
-      s.finish [] (told_by tap_told sink_told tap mid) (told_by tap_told sink_told s.tap s.sink))
-      → IfOk r (λ s. Pools told s.finish (told_by tap_told sink_told tap old)
-      (told_by tap_told sink_told s.tap s.sink))
-  greeted_or_not tap_told sink_told (Ok s) tap old mid put h =
+      → IfOk r (λ s. ServesBy number_of cancels_in (SaysJob told) framed delimited_form SpellsJob
+      (DoesJob told) (BreaksJob told) s.finish [] lanes s.handlers.items
+      (told_by tap_told sink_told tap mid) (told_by tap_told sink_told s.tap s.sink))
+      → IfOk r (λ s. Pools told s.finish lanes s.handlers.items
+      (told_by tap_told sink_told tap old) (told_by tap_told sink_told s.tap s.sink))
+  greeted_or_not tap_told sink_told (Ok s) tap old mid lanes put h =
       greeted s.finish (tap_told tap) (tap_told s.tap) (sink_told old) (sink_told mid)
-      (sink_told s.sink) put h
-  greeted_or_not tap_told sink_told (Err e) tap old mid put h = tt
+      (sink_told s.sink) lanes s.handlers.items put h
+  greeted_or_not tap_told sink_told (Err e) tap old mid lanes put h = tt
 
   -- the greeting couldn't be put, and nothing else was done
-  pub not_greeted : (tap : TapTold) (old new : SinkTold)
+  pub not_greeted : (tap : TapTold) (old new : SinkTold) (lanes : List (JobLane S))
       → AddsFront (2 ∷ 64 ∷ 2 ∷ []) old.contents new.contents → Rose old.faults new.faults
-      → Pools told finish.OutputFault (record { tap = tap; sink = old })
+      → Pools told finish.OutputFault lanes lanes (record { tap = tap; sink = old })
       (record { tap = tap; sink = new })
-  not_greeted tap old new front rose = record {
-    bytes = [];
-    requests = [];
-    replies = [];
-    taken = adds_nothing tap.taken;
-    reads = let w = whole_new framing.Delimited SpellsJob in (w.0, w.1);
-    caused = tt;
-    put = record {
-      given = subst (λ (bytes : List ℕ). AddsFront bytes old.contents new.contents)
-          (greeting_is ∙ sym (append-nil (framed greeting))) front;
-      rose = rose;
+  not_greeted tap old new lanes front rose = record {
+    serves = record {
+      bytes = [];
+      requests = [];
+      replies = [];
+      begun = [];
+      taken = adds_nothing tap.taken;
+      reads = let w = whole_new framing.Delimited SpellsJob in (w.0, w.1);
+      caused = tt;
+      put = record {
+        given = subst (λ (bytes : List ℕ). AddsFront bytes old.contents new.contents)
+            (greeting_is ∙ sym (append-nil (framed greeting))) front;
+        rose = rose;
+      };
+      said = tt;
+      once = λ k. omega arith;
+      took = tt;
+      order = ([], refl);
     };
-    said = tt;
-    once = λ k. omega arith;
+    lanes = tt;
+    each = lanes_idle (DoesJob told) (BreaksJob told) 1 lanes;
   }

@@ -1,9 +1,9 @@
 // A lane that does jobs.
-ghost use Rattle.std.specs.Prelude.{IfOk};
+ghost use Rattle.std.specs.Prelude.{IfOk, OnErr};
 ghost use Rattle.json_framing.specs.declared.cutter.Framing.TheVariants as framing;
 ghost use Rattle.remote_messages.specs.Job.{SpellsJob};
 ghost use Rattle.job_runner.specs.Answers.{framed};
-ghost use Rattle.job_lanes.specs.Pools.{number_of, cancels_in, HasDone, SaysJob};
+ghost use Rattle.job_lanes.specs.Pools.{number_of, cancels_in, HasDone, HasBrokenOff, SaysJob, DoesJob, BreaksJob};
 
 use job_runner::{Executor, given_up, has_bad_path, refused, run_job};
 use json_framing::Framing;
@@ -43,6 +43,10 @@ impl<S: Shop> Kind<Job, JobResult> for JobLane<S> {
 impl<S: Shop> Answerer<Job, JobResult> for JobLane<S> {
     ghost framing = { framing.Delimited };
 
+    ghost answers = { DoesJob S.told };
+
+    ghost breaks = { BreaksJob S.told };
+
     ghost spells = { SpellsJob };
 
     fn framing() -> Framing {
@@ -78,10 +82,11 @@ impl<S: Shop> Answerer<Job, JobResult> for JobLane<S> {
 // Does a job that isn't given up. One of which a path may lead out of its folder is refused, and any
 // other is run.
 fn do_job<S: Shop>(alloc: Global, shop: &mut S, job: &Job) -> Result<JobResult, NoMemory>
-    ensures { IfOk result (λ r. HasDone job.now r (S.told shop.old) (S.told shop.new)) }
+    ensures done { IfOk result (λ r. HasDone job.now r (S.told shop.old) (S.told shop.new)) }
+    ensures broken { OnErr result (HasBrokenOff job.now (S.told shop.old) (S.told shop.new)) }
 {
     if has_bad_path(job) {
-        refused(alloc, job, "cannot write")
+        refused(alloc, job, "bad path")
     } else {
         run_job(alloc, shop, job)
     }

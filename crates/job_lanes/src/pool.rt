@@ -1,5 +1,5 @@
 // From the greeting to the end of the input.
-ghost use Rattle.std.specs.Prelude.{◌≡◌, length, IfOk};
+ghost use Rattle.std.specs.Prelude.{◌≤◌, length, IfOk};
 ghost use Rattle.work_lanes.specs.Serves.{AreHandlers, told_by};
 ghost use Rattle.job_lanes.specs.Pools.{Pools};
 
@@ -24,6 +24,9 @@ const DEPTH: u32 = 1_024;
 /// memory ran out or putting failed. It is given up only where a cancelling job of its number stands
 /// behind it; one that has begun is run to its end.
 ///
+/// The lanes come back. To the log of each lane's shop were added the calls for the jobs that the lane
+/// took, job by job, each once, and nothing else; no call for a job that was given up before.
+///
 /// # Errors
 ///
 /// `NoMemory` before the input is read, or once all lanes have ended.
@@ -32,9 +35,9 @@ pub fn pool_jobs<T: Tap + Send, O: Sink + Send, S: Shop + Send, R: Threads + Wai
     alloc: Global,
     streams: Streams<T, O>,
     lanes: Vec<JobLane<S>>,
-) -> Result<LanesEnded<T, O>, NoMemory>
+) -> Result<LanesEnded<T, O, JobLane<S>>, NoMemory>
     requires { AreHandlers (length lanes.items) }
-    ensures { IfOk result (λ s. Pools S.told s.finish
+    ensures { IfOk result (λ s. Pools S.told s.finish lanes.items s.handlers.items
         (told_by T.told O.told streams.tap streams.sink)
         (told_by T.told O.told s.tap s.sink)) }
 {
@@ -46,6 +49,7 @@ pub fn pool_jobs<T: Tap + Send, O: Sink + Send, S: Shop + Send, R: Threads + Wai
             finish: Finish::OutputFault,
             tap,
             sink,
+            handlers: lanes,
         }),
     }
 }

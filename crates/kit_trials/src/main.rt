@@ -28,7 +28,7 @@ use std::io::{ErrorKind, Read};
 use std::sync::Wait;
 use std::thread::Threads;
 use std::{io, str};
-use worker_kit::{Delimited, KitEnded, Size, Streams, serve, serve_each};
+use worker_kit::{Delimited, EachEnded, KitEnd, KitEnded, Size, Streams, serve, serve_each};
 
 /// Where all bytes are to come with one read, and all of them find room.
 const ALL: usize = 65_536;
@@ -85,7 +85,7 @@ fn row<R: Threads + Wait + Sync>(
         sink: Kept::new(alloc, room),
     };
     let trial = Trial::new(does);
-    let ended = serve(
+    let KitEnded { end, sink, .. } = serve(
         rt,
         alloc,
         &Delimited,
@@ -93,7 +93,7 @@ fn row<R: Threads + Wait + Sync>(
         Size { handlers, depth },
         &trial,
     )?;
-    said(alloc, &ended)
+    said(alloc, end, &sink)
 }
 
 fn each<R: Threads + Wait + Sync>(rt: &R, alloc: Global, digits: &str) -> Result<String, NoMemory> {
@@ -104,8 +104,8 @@ fn each<R: Threads + Wait + Sync>(rt: &R, alloc: Global, digits: &str) -> Result
     };
     let mut handlers = Vec::new(alloc);
     handlers.push(Counts::new())?;
-    let ended = serve_each(rt, alloc, &Delimited, streams, 1_024, handlers)?;
-    said(alloc, &ended)
+    let EachEnded { end, sink, .. } = serve_each(rt, alloc, &Delimited, streams, 1_024, handlers)?;
+    said(alloc, end, &sink)
 }
 
 fn lines<R: Threads + Wait + Sync>(rt: &R, alloc: Global, words: &str) -> Result<String, NoMemory> {
@@ -134,12 +134,12 @@ fn lines<R: Threads + Wait + Sync>(rt: &R, alloc: Global, words: &str) -> Result
 }
 
 // The status, and what was put.
-fn said(alloc: Global, ended: &KitEnded<Fed<'_>, Kept>) -> Result<String, NoMemory> {
-    let status = ended.end.status();
-    if ended.sink.bytes().is_empty() {
+fn said(alloc: Global, end: KitEnd, sink: &Kept) -> Result<String, NoMemory> {
+    let status = end.status();
+    if sink.bytes().is_empty() {
         return Ok(format!(in alloc; "{status}")?);
     }
-    let put = hex::encode(alloc, ended.sink.bytes())?;
+    let put = hex::encode(alloc, sink.bytes())?;
     Ok(format!(in alloc; "{status} {}", put.as_str())?)
 }
 

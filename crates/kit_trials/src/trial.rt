@@ -101,6 +101,10 @@ impl Counts {
 impl LaneHandler for Counts {
     ghost answers = { λ request handled. handled.output ≡ [] };
 
+    ghost does = { λ old request handled new. new.count ≡ handled.exit };
+
+    ghost breaks = { λ old request new. ⊥ };
+
     fn handle<R: Wait>(
         &mut self,
         _rt: &R,

@@ -1,5 +1,5 @@
 -- What a mailbox has after a history, and what it answers then.
-use Rattle.std.specs.Prelude.{◌≡◌, ◌⊎◌, ℕ, ◌+◌, ◌==◌, ◌&&◌, Bool, true, false, cond, List, [], ◌∷◌}
+use Rattle.std.specs.Prelude.{◌≡◌, ◌⊎◌, ℕ, ◌+◌, ◌^◌, ◌==◌, ◌&&◌, Bool, true, false, cond, List, [], ◌∷◌}
 use Rattle.std.specs.Prelude.{◌++◌, length, Option, Some, None, ltb}
 use Rattle.std.specs.Global.{Vec}
 use Rattle.std.specs.List.{fold}
@@ -36,6 +36,16 @@ is_kept answer.Idle = false
 is_kept (answer.Stopped stop) = false
 is_kept answer.Gone = false
 is_kept answer.NoRoom = false
+
+-- Whom the last call concerns, lanes being the bits of a number: what one lane changes is news for the
+-- other, and nothing else is.
+abbrev pub named_by : ℕ → Answer → ℕ
+named_by lane answer.Done = cond (lane == reader) (2 ^ taker) (2 ^ reader)
+named_by lane answer.Open = 0
+named_by lane answer.Idle = 0
+named_by lane (answer.Stopped stop) = 0
+named_by lane answer.Gone = 0
+named_by lane answer.NoRoom = 0
 
 abbrev pub is_short : Answer → Bool
 is_short answer.Done = false

@@ -2,7 +2,7 @@
 ghost use Rattle.std.specs.Prelude.{◌≡◌, ◌+◌, ◌==◌, ◌&&◌, ℕ, List, [], true, false, None};
 ghost use Rattle.std.specs.Prelude.{Option, IfSome};
 ghost use Rattle.seat_desk.specs.History.{entry};
-ghost use Rattle.message_box.specs.States.{state_of, answer_to, is_kept, is_short, owed_in};
+ghost use Rattle.message_box.specs.States.{state_of, answer_to, is_kept, is_short, named_by, owed_in};
 ghost use Rattle.message_box.specs.States.{Matches, GoesIn, ComesOut, IsPaid, MayBeShort};
 ghost use Rattle.message_box.specs.States.{TurnsSo, IsAdded, Gives, taken_from, not_stopped};
 ghost use Rattle.message_box.specs.States.{reader};
@@ -165,7 +165,7 @@ impl<X: Drop> Machine for Mailbox<X> {
 
     ghost owes = { λ q h. owed_in (state_of h) };
 
-    ghost hints = { λ m lane r lanes. Unit {0} };
+    ghost hints = { λ m lane r lanes. lanes ≡ named_by lane r };
 
     ghost short_is_not_kept = { λ e s. short_not_kept e.reply s };
 

@@ -1,7 +1,8 @@
 -- The calls of the lanes, as what they tell of the queue's state.
 use Rattle.std.proofs.Common.{◌≡◌, ℕ, ℤ, Bool, true, false, ◌==◌, cond, List, Option, Some, None}
-use Rattle.std.proofs.Common.{refl, ap, ◌∙◌, subst}
-use Rattle.std.specs.Prelude.{Ok, IfSome}
+use Rattle.std.proofs.Common.{◌⊎◌, [], ◌∷◌, inl, inr, refl, ap, ◌∙◌, subst}
+use Rattle.std.specs.Prelude.{Ok, IfSome, IfNone}
+use Rattle.std.specs.declared.snapshot.Snapshot.{Snapshot}
 use Rattle.plain_values.specs.declared.entry.Entry.{Entry}
 use Rattle.seat_desk.specs.declared.view.View.{View}
 use Rattle.seat_desk.specs.History.{GoesOn}
@@ -14,10 +15,10 @@ use Rattle.work_queue.specs.declared.queue.Told.TheVariants as told
 use Rattle.work_queue.specs.declared.queue.Load.{Load}
 use Rattle.work_queue.specs.declared.queue.Load.TheVariants as load
 use Rattle.work_queue.specs.States.{State, Task, reader, task_at, answer_to, is_kept, is_short}
-use Rattle.work_queue.specs.States.{heard_by, ComesOut}
+use Rattle.work_queue.specs.States.{heard_by, begun_by, has_some, FirstIs, ComesOut}
 use Rattle.work_queue.proofs.Sided.{Called, called, heard_on, still_heard, now_heard, now_taken}
-use Rattle.work_queue.proofs.Sided.{still_there, now_cancelled}
-use Rattle.work_lanes.specs.Calls.{after_all, HasHeard, HasTaken, InHand}
+use Rattle.work_queue.proofs.Sided.{still_there, now_cancelled, begun_on, still_begun, answer_begun, take_begun}
+use Rattle.work_lanes.specs.Calls.{after_all, GivesNone, HasHeard, HasTaken, HasBegun, InHand}
 use Rattle.work_lanes.specs.Calls.{is_open, done_by}
 
 abbrev Puts : Type 0 → Type 0
@@ -37,6 +38,20 @@ IsHearOf m ask.Halt = ⊥
 
 false_not_true : false ≡ true → ⊥
 false_not_true e = cc
+
+done_idle : told.Done ≡ told.Idle → ⊥
+done_idle e = cc
+
+-- a reply that is Done isn't short
+done_reply : {A : Type 0} → A ⊎ (is_short told.Done ≡ true) → A
+done_reply (inl is) = is
+done_reply (inr short) = absurd (false_not_true short)
+
+-- where a Take is Done a request has come
+comes_first : {X : Type 0} (ts : List (Task X)) (good : Puts X) → told.Done ≡ has_some ts
+    → FirstIs ts good → (w : Asked X) × (good ≡ Some (load.Task w))
+comes_first [] good is c = absurd (done_idle is)
+comes_first (t ∷ ts) good is c = (t.work, c)
 
 module _ {X Y : Type 0} (number : X → ℤ) (cancels : X → Bool) where
   abbrev After : History X Y → State X Y
@@ -96,15 +111,66 @@ module _ {X Y : Type 0} (number : X → ℤ) (cancels : X → Bool) where
   pub take_so : (lane : ℕ) (seen seen' : History X Y) (r : Told) (good : Puts X)
       (asked : Asked X) → r ≡ told.Done → good ≡ Some (load.Task asked)
       → Tells lane seen ask.Take r good seen'
-      → InHand lane asked.request asked.cancelled (After seen')
+      → InHand lane asked.request asked.cancelled asked.cancelled (After seen')
   take_so lane seen seen' r good asked is came k =
       let t = now_taken number cancels lane seen seen' r asked is
       (subst (λ (x : Puts X). Tells lane seen ask.Take r x seen') came k) in record {
         task = t.task;
         here = t.here;
         is = ap (λ (w : Asked X). w.request) t.is;
+        begun = t.was;
         marked = λ c. ap (λ (w : Asked X). w.cancelled) t.is ∙ c;
       }
+
+  -- ---- what a lane has begun
+
+  abbrev Begun : ℕ → History X Y → List X
+  Begun lane h = begun_by lane (After h).taken
+
+  -- a call that isn't kept, or an answer, leaves what the lane has begun
+  pub look_begun : (lane : ℕ) (seen seen' : History X Y) (r : Told) (good : Puts X)
+      → Tells lane seen ask.IsCancelled r good seen' → Begun lane seen' ≡ Begun lane seen
+  look_begun lane seen seen' r good k =
+      still_begun number cancels lane seen seen' ask.IsCancelled r good refl k
+
+  pub halt_begun : (lane : ℕ) (seen seen' : History X Y) (r : Told) (good : Puts X)
+      → Tells lane seen ask.Halt r good seen' → Begun lane seen' ≡ Begun lane seen
+  halt_begun lane seen seen' r good k =
+      still_begun number cancels lane seen seen' ask.Halt r good refl k
+
+  pub put_begun : (lane : ℕ) (seen seen' : History X Y) (about : Snapshot Y) (r : Told)
+      (good : Puts X) → Tells lane seen (ask.Answer about) r good seen'
+      → Begun lane seen' ≡ Begun lane seen
+  put_begun lane seen seen' about r good k =
+      answer_begun number cancels lane seen seen' about r good k
+
+  pub refused_begun : (lane : ℕ) (seen seen' : History X Y) → GoesOn lane seen seen'
+      → Begun lane seen' ≡ Begun lane seen
+  refused_begun lane seen seen' on = begun_on number cancels lane seen seen' on
+
+  none_begun : (lane : ℕ) (seen seen' : History X Y) (r : Told) (good : Puts X)
+      → GivesNone r good → Tells lane seen ask.Take r good seen'
+      → Begun lane seen' ≡ Begun lane seen
+  none_begun lane seen seen' told.Done good none k =
+      let w = comes_first (After k.point).waiting good (done_reply k.is) k.comes in
+      absurd (none w.0 refl w.1)
+  none_begun lane seen seen' told.Open good none k =
+      still_begun number cancels lane seen seen' ask.Take told.Open good refl k
+  none_begun lane seen seen' told.Idle good none k =
+      still_begun number cancels lane seen seen' ask.Take told.Idle good refl k
+  none_begun lane seen seen' told.Closed good none k =
+      still_begun number cancels lane seen seen' ask.Take told.Closed good refl k
+
+  pub taken_begun : (lane : ℕ) (seen seen' : History X Y) (r : Told) (good : Puts X)
+      (o : Option (Asked X))
+      → IfSome o (λ asked. (r ≡ told.Done) × (good ≡ Some (load.Task asked)))
+      → IfNone o (GivesNone r good) → Tells lane seen ask.Take r good seen'
+      → HasBegun (Ok o) (Begun lane seen) (Begun lane seen')
+  taken_begun lane seen seen' r good None some none k =
+      none_begun lane seen seen' r good none k
+  taken_begun lane seen seen' r good (Some asked) some none k =
+      take_begun number cancels lane seen seen' r asked some.0
+      (subst (λ (x : Puts X). Tells lane seen ask.Take r x seen') some.1 k)
 
   marked_so : (lane : ℕ) (seen seen' : History X Y) (r : Told) (good : Puts X) (t : Task X)
       → task_at lane (After seen').hands ≡ Some t
@@ -116,14 +182,16 @@ module _ {X Y : Type 0} (number : X → ℤ) (cancels : X → Bool) where
   marked_so lane seen seen' told.Closed good t at k e = absurd (false_not_true e)
 
   pub look_so : (lane : ℕ) (seen seen' : History X Y) (m : X) (r : Told) (good : Puts X)
-      → InHand lane m false (After seen) → Tells lane seen ask.IsCancelled r good seen'
-      → InHand lane m (is_open r) (After seen')
-  look_so lane seen seen' m r good hand k =
+      (was : Bool) → InHand lane m was false (After seen)
+      → Tells lane seen ask.IsCancelled r good seen'
+      → InHand lane m was (is_open r) (After seen')
+  look_so lane seen seen' m r good was hand k =
       let st = still_there number cancels lane seen seen' ask.IsCancelled r good hand.task refl
       hand.here k in record {
         task = st.0;
         here = st.1;
         is = st.2.0 ∙ hand.is;
+        begun = st.2.2 ∙ hand.begun;
         marked = marked_so lane seen seen' r good st.0 st.1 k;
       }
 

@@ -1,5 +1,5 @@
 -- The lanes, from their numbers to their ends.
-use Rattle.std.proofs.Common.{◌≡◌, ℕ, ℤ, Bool, suc, ◌+◌, ◌<◌, List, [], ◌∷◌, ◌++◌, length, refl}
+use Rattle.std.proofs.Common.{◌≡◌, ℕ, ℤ, Bool, suc, ◌+◌, ◌<◌, ◌≤◌, List, [], ◌∷◌, ◌++◌, length, refl}
 use Rattle.std.proofs.Common.{ap, sym, ◌∙◌, subst, append_assoc, append-nil, arith}
 use Rattle.seat_desk.specs.declared.machine.Machine.{Ghosts}
 use Rattle.plain_values.specs.declared.entry.Entry.{Entry}
@@ -15,13 +15,16 @@ use Rattle.lane_crew.specs.Pairs.{MayRunOfKind, HasRunOfKind}
 use Rattle.lane_crew.specs.LaneJobs.{MayRunInOrder, KeepsPasses, EachLane, LaneEnds}
 use Rattle.work_queue.specs.declared.queue.Ask.{Ask}
 use Rattle.work_queue.specs.declared.queue.Told.{Told}
-use Rattle.work_queue.proofs.Sided.{heard_on}
+use Rattle.work_queue.specs.States.{begun_by}
+use Rattle.work_queue.proofs.Sided.{heard_on, begun_on}
 use Rattle.work_lanes.specs.declared.reading.Reader.{Reader}
 use Rattle.work_lanes.specs.declared.reading.ReaderLeft.{ReaderLeft}
 use Rattle.work_lanes.specs.declared.handling.Hands.{Hands}
 use Rattle.work_lanes.specs.declared.handling.HandsLeft.{HandsLeft}
-use Rattle.work_lanes.specs.Calls.{after_all, heard_at}
-use Rattle.work_lanes.specs.Crews.{AreHands, AreLanes}
+use Rattle.work_lanes.specs.Calls.{after_all, heard_at, begun_at}
+use Rattle.work_lanes.specs.Handles.{Follows, EachFollows}
+use Rattle.work_lanes.specs.Crews.{AreHands, AreLanes, handlers_in}
+use Rattle.work_lanes.proofs.Following.{follows_on}
 
 abbrev pub LaneEntry : Type 0 → Type 0 → Type 0
 LaneEntry X Y = Entry (Ask X Y) Told
@@ -39,6 +42,25 @@ all_heard number cancels h seen mine lane is starts idle made =
           (subst (λ (k : ℕ). calls_by k h ≡ mine) (sym is) (sym made)) starts.1,
     )
 
+-- what a lane had begun in the end is all that it ever has
+pub all_begun : {X Y : Type 0} (number : X → ℤ) (cancels : X → Bool)
+    (h seen mine : List (LaneEntry X Y)) (k lane : ℕ) → lane ≡ k → StartsWith h seen
+    → calls_by lane seen ≡ mine → mine ≡ calls_by k h
+    → begun_by k (after_all number cancels h).taken
+    ≡ begun_by lane (after_all number cancels seen).taken
+all_begun number cancels h seen mine k lane is starts idle made =
+    subst (λ (i : ℕ). begun_by i (after_all number cancels h).taken
+    ≡ begun_by lane (after_all number cancels seen).taken) is
+    (begun_on number cancels lane seen h (
+      starts.0,
+      starts.1,
+      others_only lane seen starts.0 h mine idle
+          (subst (λ (i : ℕ). calls_by i h ≡ mine) (sym is) (sym made)) starts.1,
+    ))
+
+not_zero : (k : ℕ) → 1 ≤ k → k ≡ 0 → ⊥
+not_zero k one none = omega (arith, one, none)
+
 abbrev pub LanePass : {X Y M G Q : Type 0} → Ghosts M (Ask X Y) Told G Q → Type 0
 LanePass {X} {Y} {M} {G} {Q} g = Pass M (Ask X Y) Told G Q g
 
@@ -52,35 +74,41 @@ module _ {X Y M G Q : Type 0} {g : Ghosts M (Ask X Y) Told G Q} {T H : Type 0} w
       → IsPassOf desk pass → IsFresh pass → pass.lane ≡ 0 → pass.lane < bells
       → reads r desk bells pass)
       (can_work : (h : Hands H) (desk : LaneDesk X Y M G Q) (bells : ℕ) (pass : LanePass g)
-      → IsPassOf desk pass → pass.lane ≡ h.number → pass.lane < bells
-      → works h desk bells pass) where
-    hands_may : (q : Q) (k n : ℕ) (lanes : List (Either (Reader T) (Hands H))) → AreHands k n lanes
-        → MayRunInOrder (MayRunOfKind reads works) q k lanes
-    hands_may q k n [] a = tt
-    hands_may q k n (First r ∷ lanes) a = absurd a
-    hands_may q k n (Second h ∷ lanes) a = (
-      λ desk bells pass of fresh lane bell by. can_work h desk bells pass of (lane ∙ sym a.0)
-          (subst (λ (i : ℕ). i < bells) (sym lane) bell),
-      hands_may q (k + 1) a.1.0 lanes a.1.2,
+      → IsPassOf desk pass → IsFresh pass → pass.lane ≡ h.number → (pass.lane ≡ 0 → ⊥)
+      → pass.lane < bells → works h desk bells pass) where
+    hands_may : (q : Q) (k : ℕ) (xs : List H) (lanes : List (Either (Reader T) (Hands H)))
+        → 1 ≤ k → AreHands k xs lanes → MayRunInOrder (MayRunOfKind reads works) q k lanes
+    hands_may q k [] [] some a = tt
+    hands_may q k [] (lane ∷ lanes) some a = absurd a
+    hands_may q k (x ∷ xs) [] some a = absurd a
+    hands_may q k (x ∷ xs) (First r ∷ lanes) some a = absurd a
+    hands_may q k (x ∷ xs) (Second h ∷ lanes) some a = (
+      λ desk bells pass of fresh lane bell by. can_work h desk bells pass of fresh (lane ∙ sym a.0)
+          (λ e. not_zero k some (sym lane ∙ e)) (subst (λ (i : ℕ). i < bells) (sym lane) bell),
+      hands_may q (k + 1) xs lanes (omega (arith, some)) a.2,
     )
 
-    pub lanes_may : (q : Q) (input : T) (n : ℕ) (lanes : List (Either (Reader T) (Hands H)))
-        → AreLanes input n lanes → MayRunInOrder (MayRunOfKind reads works) q 0 lanes
-    lanes_may q input n [] a = absurd a
-    lanes_may q input n (First r ∷ lanes) a = (
+    pub lanes_may : (q : Q) (input : T) (xs : List H) (lanes : List (Either (Reader T) (Hands H)))
+        → AreLanes input xs lanes → MayRunInOrder (MayRunOfKind reads works) q 0 lanes
+    lanes_may q input xs [] a = absurd a
+    lanes_may q input xs (First r ∷ lanes) a = (
       λ desk bells pass of fresh lane bell by. can_read r desk bells pass of fresh lane
           (subst (λ (i : ℕ). i < bells) (sym lane) bell),
-      hands_may q 1 n lanes a.1,
+      hands_may q 1 xs lanes (omega arith) a.1,
     )
-    lanes_may q input n (Second h ∷ lanes) a = absurd a
+    lanes_may q input xs (Second h ∷ lanes) a = absurd a
 
   module _ (number : X → ℤ) (cancels : X → Bool)
       (reads : FactOfRun (Reader T) (ReaderLeft T) (LanePass g))
-      (works : FactOfRun (Hands H) HandsLeft (LanePass g))
+      (works : FactOfRun (Hands H) (HandsLeft H) (LanePass g))
       (read_keeps : (r : Reader T) (p : LanePass g) (e : ReaderLeft T) (p' : LanePass g)
       → reads r p e p' → IsSamePass p p')
-      (work_keeps : (h : Hands H) (p : LanePass g) (e : HandsLeft) (p' : LanePass g) → works h p e p'
-      → IsSamePass p p') where
+      (work_keeps : (h : Hands H) (p : LanePass g) (e : HandsLeft H) (p' : LanePass g)
+      → works h p e p' → IsSamePass p p')
+      (answers : H → X → Y → H → Type 0) (breaks : H → X → H → Type 0)
+      (work_follows : (h : Hands H) (p : LanePass g) (e : HandsLeft H) (p' : LanePass g)
+      → works h p e p'
+      → Follows answers breaks h.handler (begun_at number cancels p') e.handler) where
     pub lanes_keep : KeepsPasses (HasRunOfKind reads works)
     lanes_keep (First r) p (First e) p' h = read_keeps r p e p' h
     lanes_keep (First r) p (Second e) p' h = absurd h
@@ -97,7 +125,7 @@ module _ {X Y M G Q : Type 0} {g : Ghosts M (Ask X Y) Told G Q} {T H : Type 0} w
       pub heard : (after_all number cancels h).heard ≡ heard_at number cancels after
 
     first_ends : (q : Q) (input : T) (h : List (LaneEntry X Y)) (r : Reader T)
-        (e : Either (ReaderLeft T) HandsLeft) → r.input ≡ input
+        (e : Either (ReaderLeft T) (HandsLeft H)) → r.input ≡ input
         → LaneEnds (HasRunOfKind reads works) q h 0 (First r) e
         → (left : ReaderLeft T) × (e ≡ First left) × ReaderEnds input h left
     first_ends q input h r (Second e) is x = absurd x.ran
@@ -115,17 +143,64 @@ module _ {X Y M G Q : Type 0} {g : Ghosts M (Ask X Y) Told G Q} {T H : Type 0} w
       },
     )
 
-    pub reader_ends : (q : Q) (input : T) (n : ℕ) (h : List (LaneEntry X Y))
-        (lanes : List (Either (Reader T) (Hands H))) (ends : List (Either (ReaderLeft T) HandsLeft))
-        → AreLanes input n lanes → EachLane (HasRunOfKind reads works) q h 0 lanes ends
-        → (left : ReaderLeft T) × (rest : List (Either (ReaderLeft T) HandsLeft))
+    -- what one handler has done
+    hand_ends : (q : Q) (k : ℕ) (h : List (LaneEntry X Y)) (w : Hands H) (left : HandsLeft H)
+        → LaneEnds (HasRunOfKind reads works) q h k (Second w) (Second left)
+        → Follows answers breaks w.handler (begun_by k (after_all number cancels h).taken)
+        left.handler
+    hand_ends q k h w left x =
+        follows_on answers breaks w.handler (begun_at number cancels x.after)
+        (begun_by k (after_all number cancels h).taken) left.handler
+        (all_begun number cancels h (seen x.after) (mine x.after) k x.after.lane
+        (x.same.1 ∙ x.number) x.saw x.after.idle.3 x.made)
+        (work_follows w x.before left x.after x.ran)
+
+    -- and each of them, in order from the number k on
+    hands_end : (q : Q) (k : ℕ) (h : List (LaneEntry X Y)) (xs : List H)
+        (lanes : List (Either (Reader T) (Hands H)))
+        (ends : List (Either (ReaderLeft T) (HandsLeft H)))
+        → AreHands k xs lanes → EachLane (HasRunOfKind reads works) q h k lanes ends
+        → EachFollows answers breaks k (after_all number cancels h).taken xs (handlers_in ends)
+        × (length ends ≡ length xs)
+    hands_end q k h [] [] [] a x = (tt, refl)
+    hands_end q k h [] [] (e ∷ ends) a x = absurd x
+    hands_end q k h [] (lane ∷ lanes) ends a x = absurd a
+    hands_end q k h (y ∷ ys) [] ends a x = absurd a
+    hands_end q k h (y ∷ ys) (First r ∷ lanes) ends a x = absurd a
+    hands_end q k h (y ∷ ys) (Second w ∷ lanes) [] a x = absurd x
+    hands_end q k h (y ∷ ys) (Second w ∷ lanes) (First e ∷ ends) a x = absurd x.0.ran
+    hands_end q k h (y ∷ ys) (Second w ∷ lanes) (Second left ∷ ends) a x =
+        let rest = hands_end q (k + 1) h ys lanes ends a.2 x.1 in (
+          (
+            subst (λ (o : H). Follows answers breaks o
+                (begun_by k (after_all number cancels h).taken) left.handler) a.1
+                (hand_ends q k h w left x.0),
+            rest.0,
+          ),
+          ap suc rest.1,
+        )
+
+    pub crew_ends : (q : Q) (input : T) (xs : List H) (h : List (LaneEntry X Y))
+        (lanes : List (Either (Reader T) (Hands H)))
+        (ends : List (Either (ReaderLeft T) (HandsLeft H)))
+        → AreLanes input xs lanes → EachLane (HasRunOfKind reads works) q h 0 lanes ends
+        → (left : ReaderLeft T) × (rest : List (Either (ReaderLeft T) (HandsLeft H)))
         × (ends ≡ First left ∷ rest) × ReaderEnds input h left
-    reader_ends q input n h [] ends a x = absurd a
-    reader_ends q input n h (Second w ∷ lanes) ends a x = absurd a
-    reader_ends q input n h (First r ∷ lanes) [] a x = absurd x
-    reader_ends q input n h (First r ∷ lanes) (e ∷ ends) a x =
+        × EachFollows answers breaks 1 (after_all number cancels h).taken xs (handlers_in rest)
+        × (length rest ≡ length xs)
+    crew_ends q input xs h [] ends a x = absurd a
+    crew_ends q input xs h (Second w ∷ lanes) ends a x = absurd a
+    crew_ends q input xs h (First r ∷ lanes) [] a x = absurd x
+    crew_ends q input xs h (First r ∷ lanes) (e ∷ ends) a x =
         let f = first_ends q input h r e a.0 x.0 in
-        (f.0, ends, ap (λ (y : Either (ReaderLeft T) HandsLeft). y ∷ ends) f.1, f.2)
+        let w = hands_end q 1 h xs lanes ends a.1 x.1 in (
+          f.0,
+          ends,
+          ap (λ (y : Either (ReaderLeft T) (HandsLeft H)). y ∷ ends) f.1,
+          f.2,
+          w.0,
+          w.1,
+        )
 
 -- ---- the lanes are made one after another
 
@@ -134,46 +209,49 @@ LanesOf A B = List (Either (Reader A) (Hands B))
 
 module _ {T H : Type 0} where
   -- whatever lanes the handlers to come have, these stand before them
-  abbrev pub StandBefore : T → ℕ → ℕ → ℕ → LanesOf T H → Type 0
-  StandBefore input n k left lanes =
+  abbrev pub StandBefore : T → List H → ℕ → List H → LanesOf T H → Type 0
+  StandBefore input xs k left lanes =
       (more : List (Either (Reader T) (Hands H))) → AreHands k left more
-      → AreLanes input n (lanes ++ more)
+      → AreLanes input xs (lanes ++ more)
 
-  pub lanes_begin : (input : T) (n left : ℕ) (r : Reader T) (none lanes : LanesOf T H)
-      → lanes ≡ none ++ First r ∷ [] → none ≡ [] → r.input ≡ input → left ≡ n
-      → StandBefore input n 1 left lanes
-  lanes_begin input n left r none lanes is empty from as_many more a =
-      subst (λ (ls : LanesOf T H). AreLanes input n (ls ++ more))
+  pub lanes_begin : (input : T) (xs left : List H) (r : Reader T) (none lanes : LanesOf T H)
+      → lanes ≡ none ++ First r ∷ [] → none ≡ [] → r.input ≡ input → left ≡ xs
+      → StandBefore input xs 1 left lanes
+  lanes_begin input xs left r none lanes is empty from all more a =
+      subst (λ (ls : LanesOf T H). AreLanes input xs (ls ++ more))
       (sym (is ∙ ap (λ (ls : LanesOf T H). ls ++ First r ∷ []) empty))
-      (from, subst (λ (m : ℕ). AreHands 1 m more) as_many a)
+      (from, subst (λ (ys : List H). AreHands 1 ys more) all a)
 
-  pub lanes_go_on : (input : T) (n k left left' : ℕ) (h : Hands H) (lanes lanes' : LanesOf T H)
-      → lanes' ≡ lanes ++ Second h ∷ [] → h.number ≡ k → left ≡ left' + 1
-      → StandBefore input n k left lanes → StandBefore input n (k + 1) left' lanes'
-  lanes_go_on input n k left left' h lanes lanes' is number fewer so_far more a =
-      subst (λ (ls : LanesOf T H). AreLanes input n ls)
+  pub lanes_go_on : (input : T) (xs : List H) (k : ℕ) (left left' : List H) (h : Hands H)
+      (lanes lanes' : LanesOf T H) → lanes' ≡ lanes ++ Second h ∷ [] → h.number ≡ k
+      → left ≡ h.handler ∷ left' → StandBefore input xs k left lanes
+      → StandBefore input xs (k + 1) left' lanes'
+  lanes_go_on input xs k left left' h lanes lanes' is number fewer so_far more a =
+      subst (λ (ls : LanesOf T H). AreLanes input xs ls)
       (sym (ap (λ (ls : LanesOf T H). ls ++ more) is
       ∙ append_assoc lanes (Second h ∷ []) more))
-      (so_far (Second h ∷ more) (number, (left', fewer, a)))
+      (so_far (Second h ∷ more) (subst (λ (ys : List H). AreHands k ys (Second h ∷ more))
+      (sym fewer) (number, refl, a)))
 
-  pub lanes_end : (input : T) (n k left : ℕ) (lanes : LanesOf T H) → left ≡ 0
-      → StandBefore input n k left lanes → AreLanes input n lanes
-  lanes_end input n k left lanes none so_far =
-      subst (λ (ls : LanesOf T H). AreLanes input n ls) (append-nil lanes) (so_far [] none)
+  pub lanes_end : (input : T) (xs : List H) (k : ℕ) (left : List H) (lanes : LanesOf T H)
+      → left ≡ [] → StandBefore input xs k left lanes → AreLanes input xs lanes
+  lanes_end input xs k left lanes none so_far =
+      subst (λ (ls : LanesOf T H). AreLanes input xs ls) (append-nil lanes)
+      (so_far [] (subst (λ (ys : List H). AreHands {T = T} k ys []) (sym none) tt))
 
-  hands_many : (k n : ℕ) (lanes : LanesOf T H) → AreHands k n lanes → length lanes ≡ n
-  hands_many k n [] a = sym a
-  hands_many k n (First r ∷ lanes) a = absurd a
-  hands_many k n (Second h ∷ lanes) a =
-      let i = hands_many (k + 1) a.1.0 lanes a.1.2 in
-      let e = a.1.1 in
-      let goal : suc (length lanes) ≡ n = omega (arith, i, e) in goal
+  hands_many : (k : ℕ) (xs : List H) (lanes : LanesOf T H) → AreHands k xs lanes
+      → length lanes ≡ length xs
+  hands_many k [] [] a = refl
+  hands_many k [] (lane ∷ lanes) a = absurd a
+  hands_many k (x ∷ xs) [] a = absurd a
+  hands_many k (x ∷ xs) (First r ∷ lanes) a = absurd a
+  hands_many k (x ∷ xs) (Second h ∷ lanes) a = ap suc (hands_many (k + 1) xs lanes a.2)
 
   -- how many there are
-  pub lanes_many : (input : T) (n : ℕ) (lanes : LanesOf T H) → AreLanes input n lanes
-      → length lanes ≡ n + 1
-  lanes_many input n [] a = absurd a
-  lanes_many input n (Second h ∷ lanes) a = absurd a
-  lanes_many input n (First r ∷ lanes) a =
-      let i = hands_many 1 n lanes a.1 in
-      let goal : suc (length lanes) ≡ n + 1 = omega (arith, i) in goal
+  pub lanes_many : (input : T) (xs : List H) (lanes : LanesOf T H) → AreLanes input xs lanes
+      → length lanes ≡ length xs + 1
+  lanes_many input xs [] a = absurd a
+  lanes_many input xs (Second h ∷ lanes) a = absurd a
+  lanes_many input xs (First r ∷ lanes) a =
+      let i = hands_many 1 xs lanes a.1 in
+      let goal : suc (length lanes) ≡ length xs + 1 = omega (arith, i) in goal

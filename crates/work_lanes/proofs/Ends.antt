@@ -1,7 +1,7 @@
 -- How all is over, by how the queue and the reader have ended.
-use Rattle.std.proofs.Common.{◌≡◌, ℕ, ℤ, ◌≤◌, Bool, true, false, List, [], ◌∷◌, map, Some}
+use Rattle.std.proofs.Common.{◌≡◌, ℕ, ℤ, ◌≤◌, Bool, true, false, List, [], ◌∷◌, map, length, Some}
 use Rattle.std.proofs.Common.{refl, ap, sym, ◌∙◌, subst, arith}
-use Rattle.std.specs.List.{flat_map}
+use Rattle.std.specs.List.{flat_map, AllByRecursion}
 use Rattle.outside.specs.Told.{TapTold, SinkTold}
 use Rattle.json_framing.specs.Cutter.{form_of}
 use Rattle.json_framing.specs.declared.cutter.Framing.{Framing}
@@ -14,8 +14,10 @@ use Rattle.work_queue.specs.declared.queue.How.{How}
 use Rattle.work_queue.specs.declared.queue.How.TheVariants as how
 use Rattle.work_queue.specs.declared.queue.WorkQueue.{WorkQueue}
 use Rattle.work_queue.specs.States.{State, Task, InHand, asked_from, IsProper, PutSo, PutAll, PutFront, times}
+use Rattle.work_queue.specs.States.{places_waiting}
 use Rattle.work_queue.specs.StateLaws.{Stands, EndsSo, row_of}
-use Rattle.work_lanes.specs.Serves.{Outside, Serves, HasRead, AnswersBy, IsOfReading, answered}
+use Rattle.work_lanes.specs.Handles.{EachFollows}
+use Rattle.work_lanes.specs.Serves.{Outside, ServesBy, HasRead, AnswersBy, IsOfReading, answered}
 use Rattle.work_lanes.specs.Crews.{finish_by}
 use Rattle.work_lanes.proofs.Fronts.{reads_begin}
 
@@ -73,15 +75,22 @@ module _ {X Y : Type 0} (number : X → ℤ) (cancels : X → Bool)
       times k (map (λ x. x.task.place) hs)) h in
       omega (arith, e, a, b)
 
-module _ {X Y : Type 0} (number : X → ℤ) (cancels : X → Bool)
+module _ {X Y H : Type 0} (number : X → ℤ) (cancels : X → Bool)
     (Says : X → Bool → Y → Type 0) (written : Y → List ℕ) (f : Framing)
-    (spells : List ℕ → X → Type 0) where
-  abbrev pub Ends : Finish → Outside → Outside → Type 0
-  Ends how old new =
-      Serves number cancels Says written (form_of f) spells how [] old new
+    (spells : List ℕ → X → Type 0) (answers : H → X → Y → H → Type 0)
+    (breaks : H → X → H → Type 0) where
+  abbrev pub Ends : Finish → List H → List H → Outside → Outside → Type 0
+  Ends how olds news old new =
+      ServesBy number cancels Says written (form_of f) spells answers breaks how [] olds news old new
 
   abbrev put_for : State X Y → List ℕ
   put_for s = flat_map (λ r. written r.response) s.replies
+
+  -- who took what, and what the handlers made of it
+  abbrev pub Handled : List H → List H → State X Y → Type 0
+  Handled olds news s =
+      AllByRecursion (λ (h : InHand X). h.lane ≤ length olds) s.taken
+      × EachFollows answers breaks 1 s.taken olds news
 
   module _ {O K : Type 0} (told_of : O → SinkTold) where
     abbrev Fine : WorkQueue O X Y K → State X Y → Type 0
@@ -98,52 +107,79 @@ module _ {X Y : Type 0} (number : X → ℤ) (cancels : X → Bool)
         (told_of m.outlet.sink)) flag st.put))
 
     pub ends_so : (m : WorkQueue O X Y K) (s : State X Y) (how : How)
-        (reading : Finish) (sink start : O) (heard : List X) (input input' : TapTold)
+        (reading : Finish) (sink start : O) (heard : List X) (olds news : List H)
+        (input input' : TapTold)
         → Fine m s → EndsSo m sink how → m.outlet.start.value ≡ start → s.heard ≡ heard
+        → Handled olds news s
         → HasRead (form_of f) spells reading heard input input'
-        → Ends (finish_by how reading) (record { tap = input; sink = told_of start })
+        → Ends (finish_by how reading) olds news (record { tap = input; sink = told_of start })
         (record { tap = input'; sink = told_of sink })
-    ends_so m s how.Failed reading sink start heard input input' st e was same read = record {
-      bytes = read.bytes;
-      requests = s.heard;
-      replies = s.replies;
-      taken = read.taken;
-      reads = reads_begin f spells reading read.bytes s.heard
-          (subst (λ (ms : List X). ReadsBy (form_of f) spells reading read.bytes ms)
-          (sym same) read.reads);
-      caused = tt;
-      put = put_front (put_for s) (told_of start) (told_of sink)
-          (put_by_flag m s true sink start e.1 e.0 was st);
-      said = st.proper.said;
-      once = most number cancels Says s st.proper;
-    }
-    ends_so m s how.Halted reading sink start heard input input' st e was same read = record {
-      bytes = read.bytes;
-      requests = s.heard;
-      replies = s.replies;
-      taken = read.taken;
-      reads = reads_begin f spells reading read.bytes s.heard
-          (subst (λ (ms : List X). ReadsBy (form_of f) spells reading read.bytes ms)
-          (sym same) read.reads);
-      caused = tt;
-      put = put_all (put_for s) (told_of start) (told_of sink)
-          (put_by_flag m s false sink start e.1 e.0 was st);
-      said = st.proper.said;
-      once = most number cancels Says s st.proper;
-    }
-    ends_so m s how.Whole reading sink start heard input input' st e was same read = record {
-      bytes = read.bytes;
-      requests = s.heard;
-      replies = s.replies;
-      taken = read.taken;
-      reads = subst (λ (ms : List X). ReadsBy (form_of f) spells reading read.bytes ms)
-          (sym same) read.reads;
-      caused = read.caused;
-      put = puts_reading reading (put_for s) (told_of start) (told_of sink) read.kind
-          (put_by_flag m s false sink start e.1 e.0 was st);
-      said = st.proper.said;
-      once = all_answered reading (answered s.replies) (to_answer number cancels Says s.heard)
-          (exactly number cancels Says s st.proper
-          (none_left (λ (t : Task X). t.work) s.waiting (sym e.2.0 ∙ st.rows.0))
-          (none_left (row_of number) s.hands (sym e.2.1 ∙ st.rows.1)));
-    }
+    ends_so m s how.Failed reading sink start heard olds news input input' st e was same by read =
+        record {
+          serves = record {
+            bytes = read.bytes;
+            requests = s.heard;
+            replies = s.replies;
+            begun = s.taken;
+            taken = read.taken;
+            reads = reads_begin f spells reading read.bytes s.heard
+                (subst (λ (ms : List X). ReadsBy (form_of f) spells reading read.bytes ms)
+                (sym same) read.reads);
+            caused = tt;
+            put = put_front (put_for s) (told_of start) (told_of sink)
+                (put_by_flag m s true sink start e.1 e.0 was st);
+            said = st.proper.said;
+            once = most number cancels Says s st.proper;
+            took = st.proper.took;
+            order = (places_waiting s, st.proper.order);
+          };
+          lanes = by.0;
+          each = by.1;
+        }
+    ends_so m s how.Halted reading sink start heard olds news input input' st e was same by read =
+        record {
+          serves = record {
+            bytes = read.bytes;
+            requests = s.heard;
+            replies = s.replies;
+            begun = s.taken;
+            taken = read.taken;
+            reads = reads_begin f spells reading read.bytes s.heard
+                (subst (λ (ms : List X). ReadsBy (form_of f) spells reading read.bytes ms)
+                (sym same) read.reads);
+            caused = tt;
+            put = put_all (put_for s) (told_of start) (told_of sink)
+                (put_by_flag m s false sink start e.1 e.0 was st);
+            said = st.proper.said;
+            once = most number cancels Says s st.proper;
+            took = st.proper.took;
+            order = (places_waiting s, st.proper.order);
+          };
+          lanes = by.0;
+          each = by.1;
+        }
+    ends_so m s how.Whole reading sink start heard olds news input input' st e was same by read =
+        record {
+          serves = record {
+            bytes = read.bytes;
+            requests = s.heard;
+            replies = s.replies;
+            begun = s.taken;
+            taken = read.taken;
+            reads = subst (λ (ms : List X). ReadsBy (form_of f) spells reading read.bytes ms)
+                (sym same) read.reads;
+            caused = read.caused;
+            put = puts_reading reading (put_for s) (told_of start) (told_of sink) read.kind
+                (put_by_flag m s false sink start e.1 e.0 was st);
+            said = st.proper.said;
+            once = all_answered reading (answered s.replies)
+                (to_answer number cancels Says s.heard)
+                (exactly number cancels Says s st.proper
+                (none_left (λ (t : Task X). t.work) s.waiting (sym e.2.0 ∙ st.rows.0))
+                (none_left (row_of number) s.hands (sym e.2.1 ∙ st.rows.1)));
+            took = st.proper.took;
+            order = (places_waiting s, st.proper.order);
+          };
+          lanes = by.0;
+          each = by.1;
+        }

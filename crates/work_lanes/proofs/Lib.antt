@@ -1,6 +1,7 @@
 -- Lemmas of this crate.
 pub mod Fronts
 pub mod Ends
+pub mod Following
 pub mod Crewing
 pub mod Calling
 pub mod Leaving

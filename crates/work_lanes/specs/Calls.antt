@@ -10,8 +10,10 @@ use Rattle.work_queue.specs.declared.queue.Ask.{Ask}
 use Rattle.work_queue.specs.declared.queue.Ask.TheVariants as ask
 use Rattle.work_queue.specs.declared.queue.Told.{Told}
 use Rattle.work_queue.specs.declared.queue.Told.TheVariants as told
+use Rattle.work_queue.specs.declared.queue.Load.{Load}
+use Rattle.work_queue.specs.declared.queue.Load.TheVariants as load
 use Rattle.work_queue.specs.declared.rows.Asked.{Asked}
-use Rattle.work_queue.specs.States.{State, Task, state_of, task_at, is_kept}
+use Rattle.work_queue.specs.States.{State, Task, state_of, task_at, begun_by, unless, is_kept}
 use Rattle.std.proofs.Common.{refl}
 
 module _ {X Y : Type 0} (number : X → ℤ) (cancels : X → Bool) where
@@ -28,12 +30,20 @@ module _ {X Y : Type 0} (number : X → ℤ) (cancels : X → Bool) where
     abbrev pub heard_at : Pass M (Ask X Y) Told G Q g → List X
     heard_at p = (state_at p).heard
 
+    -- the requests that the lane had begun then, in order, but for those that were cancelled before
+    abbrev pub begun_at : Pass M (Ask X Y) Told G Q g → List X
+    begun_at p = begun_by p.lane (state_at p).taken
+
 -- a reply that says that there is nothing for the lane now
 abbrev pub is_idle : Told → Bool
 is_idle told.Done = false
 is_idle told.Open = false
 is_idle told.Idle = true
 is_idle told.Closed = false
+
+-- no request came out with the reply
+abbrev pub GivesNone : {X : Type 0} → Told → Option (Load X) → Type 0
+GivesNone {X} reply good = (w : Asked X) → reply ≡ told.Done → good ≡ Some (load.Task w) → ⊥
 
 -- a call that wasn't done says lack of memory
 abbrev pub done_by : Told → Result (Unit {0}) NoMemory
@@ -65,21 +75,29 @@ idle_not_kept ask.Close told.Idle e = refl
 idle_not_kept ask.Halt told.Idle e = refl
 
 module _ {X Y : Type 0} where
-  -- the lane has this request in hand, and where b says so it was cancelled
-  pub record InHand (lane : ℕ) (m : X) (b : Bool) (s : State X Y) : Type 0 where
+  -- The lane has this request in hand, which was cancelled by the time that it was begun, or wasn't,
+  -- and where b says so it is cancelled now.
+  pub record InHand (lane : ℕ) (m : X) (was b : Bool) (s : State X Y) : Type 0 where
     pub task : Task X
     pub here : task_at lane s.hands ≡ Some task
     pub is : task.work.request ≡ m
+    pub begun : task.was ≡ was
     pub marked : b ≡ true → task.work.cancelled ≡ true
 
   abbrev pub HasTaken : ℕ → Result (Option (Asked X)) NoMemory → State X Y → Type 0
-  HasTaken lane (Ok (Some w)) s = InHand lane w.request w.cancelled s
+  HasTaken lane (Ok (Some w)) s = InHand lane w.request w.cancelled w.cancelled s
   HasTaken lane (Ok None) s = Unit {0}
   HasTaken lane (Err e) s = Unit {0}
 
-  abbrev pub HasLooked : ℕ → X → Result Bool NoMemory → State X Y → Type 0
-  HasLooked lane m (Ok b) s = InHand lane m b s
-  HasLooked lane m (Err e) s = Unit {0}
+  abbrev pub HasLooked : ℕ → X → Bool → Result Bool NoMemory → State X Y → Type 0
+  HasLooked lane m was (Ok b) s = InHand lane m was b s
+  HasLooked lane m was (Err e) s = Unit {0}
+
+-- what a lane had begun, and what it has begun behind a Take
+abbrev pub HasBegun : {X : Type 0} → Result (Option (Asked X)) NoMemory → List X → List X → Type 0
+HasBegun (Ok (Some w)) old new = new ≡ old ++ unless w.cancelled w.request
+HasBegun (Ok None) old new = new ≡ old
+HasBegun (Err e) old new = new ≡ old
 
 -- the request was heard, or all is over
 abbrev pub HasHeard : {X : Type 0} → X → Result (Unit {0}) NoMemory → List X → List X → Type 0

@@ -17,24 +17,28 @@ finish_by how.Halted f = finish.NoMemory
 finish_by how.Whole f = f
 
 module _ {T H : Type 0} where
-  -- a lane for each of so many handlers, in order from the number k on
-  abbrev pub AreHands : ℕ → ℕ → List (Either (Reader T) (Hands H)) → Type 0
-  AreHands k n [] = n ≡ 0
-  AreHands k n (First r ∷ lanes) = ⊥
-  AreHands k n (Second h ∷ lanes) = (h.number ≡ k)
-      × ((m : ℕ) × (n ≡ m + 1) × AreHands (k + 1) m lanes)
+  -- a lane for each of these handlers, in order from the number k on
+  abbrev pub AreHands : ℕ → List H → List (Either (Reader T) (Hands H)) → Type 0
+  AreHands k [] [] = Unit {0}
+  AreHands k [] (lane ∷ lanes) = ⊥
+  AreHands k (x ∷ xs) [] = ⊥
+  AreHands k (x ∷ xs) (First r ∷ lanes) = ⊥
+  AreHands k (x ∷ xs) (Second h ∷ lanes) =
+      (h.number ≡ k) × (h.handler ≡ x) × AreHands (k + 1) xs lanes
 
-  -- the reader's lane, and one for each of so many handlers
-  abbrev pub AreLanes : T → ℕ → List (Either (Reader T) (Hands H)) → Type 0
-  AreLanes input n [] = ⊥
-  AreLanes input n (First r ∷ lanes) = (r.input ≡ input) × AreHands 1 n lanes
-  AreLanes input n (Second h ∷ lanes) = ⊥
+  -- the reader's lane, and one for each of these handlers
+  abbrev pub AreLanes : T → List H → List (Either (Reader T) (Hands H)) → Type 0
+  AreLanes input xs [] = ⊥
+  AreLanes input xs (First r ∷ lanes) = (r.input ≡ input) × AreHands 1 xs lanes
+  AreLanes input xs (Second h ∷ lanes) = ⊥
 
-module _ {T : Type 0} where
-  -- the reader's end stands first, and the reader has left this
-  abbrev pub IsReaderFirst : ReaderLeft T → List (Either (ReaderLeft T) HandsLeft) → Type 0
-  IsReaderFirst left ends =
-      (rest : List (Either (ReaderLeft T) HandsLeft)) × (ends ≡ First left ∷ rest)
+  -- the handlers that lanes have left
+  abbrev pub handlers_in : List (Either (ReaderLeft T) (HandsLeft H)) → List H
+  handlers_in [] = []
+  handlers_in (First left ∷ ends) = handlers_in ends
+  handlers_in (Second left ∷ ends) = left.handler ∷ handlers_in ends
 
-  abbrev pub HasReaderFirst : List (Either (ReaderLeft T) HandsLeft) → Type 0
-  HasReaderFirst ends = (left : ReaderLeft T) × IsReaderFirst left ends
+  -- the reader's end stands first
+  abbrev pub HasReaderFirst : List (Either (ReaderLeft T) (HandsLeft H)) → Type 0
+  HasReaderFirst ends = (left : ReaderLeft T) × (rest : List (Either (ReaderLeft T) (HandsLeft H)))
+      × (ends ≡ First left ∷ rest)

@@ -1,5 +1,5 @@
 -- What the lanes do from the start of the input to its end.
-use Rattle.std.specs.Prelude.{◌≡◌, ℕ, ℤ, ◌≤◌, ◌++◌, Bool, List, Some, map}
+use Rattle.std.specs.Prelude.{◌≡◌, ℕ, ℤ, ◌≤◌, ◌++◌, Bool, List, Some, map, length}
 use Rattle.std.specs.List.{flat_map, AllByRecursion}
 use Rattle.outside.specs.Lists.{Adds}
 use Rattle.outside.specs.Told.{TapTold, SinkTold}
@@ -8,7 +8,8 @@ use Rattle.message_service.specs.declared.finish.Finish.{Finish}
 use Rattle.message_service.specs.declared.finish.Finish.TheVariants as finish
 use Rattle.message_service.specs.Ends.{PutsBy, CausedBy}
 use Rattle.message_service.specs.Serves.{ReadsBy}
-use Rattle.work_queue.specs.States.{Reply, IsReply, asked_from, times}
+use Rattle.work_queue.specs.States.{Reply, IsReply, InHand, IsTaken, asked_from, times}
+use Rattle.work_lanes.specs.Handles.{EachFollows}
 
 -- so many lanes answer
 abbrev pub AreHandlers : ℕ → Type 0
@@ -43,12 +44,15 @@ AnswersBy finish.OutputFault these those = (k : ℕ) → times k these ≤ times
 module _ {X Y : Type 0} (number : X → ℤ) (cancels : X → Bool) (Says : X → Bool → Y → Type 0)
     (written : Y → List ℕ) (form : Form) (Spells : List ℕ → X → Type 0) where
   -- The bytes taken spell these requests. What was put is what had been, and then these responses,
-  -- each whole, one after another. Each is said to the request at its place. It may say that it was
-  -- cancelled only where a request that cancels its number stands behind it.
+  -- each whole, one after another. Each is said to the request at its place. It says that it was
+  -- cancelled only where a request that cancels its number stands behind it, and it does so where one
+  -- did by the time that a lane took the request. What lanes took, in the order in which they took it,
+  -- are the first of the requests that are to be answered.
   pub record Serves (f : Finish) (before : List ℕ) (old new : Outside) : Type 0 where
     pub bytes : List ℕ
     pub requests : List X
     pub replies : List (Reply Y)
+    pub begun : List (InHand X)
     pub taken : Adds bytes old.tap.taken new.tap.taken
     pub reads : ReadsBy form Spells f bytes requests
     pub caused : CausedBy f bytes old.tap new.tap
@@ -56,6 +60,18 @@ module _ {X Y : Type 0} (number : X → ℤ) (cancels : X → Bool) (Says : X �
         new.sink
     pub said : AllByRecursion (IsReply number cancels Says requests) replies
     pub once : AnswersBy f (answered replies) (asked_from number cancels 0 requests)
+    pub took : AllByRecursion (IsTaken number cancels requests) begun
+    pub order : (rest : List ℕ)
+        × (map (λ h. h.task.place) begun ++ rest ≡ asked_from number cancels 0 requests)
+
+  module _ {H : Type 0} (answers : H → X → Y → H → Type 0) (breaks : H → X → H → Type 0) where
+    -- So do lanes with these handlers. Each request that was taken was taken by one of them, and each
+    -- handler has answered those that its lane took, in order, each once, and done nothing else.
+    pub record ServesBy (f : Finish) (before : List ℕ) (olds news : List H) (old new : Outside)
+        : Type 0 where
+      pub serves : Serves f before old new
+      pub lanes : AllByRecursion (λ h. h.lane ≤ length olds) serves.begun
+      pub each : EachFollows answers breaks 1 serves.begun olds news
 
 -- no more is read for what the input said, or for lack of memory
 abbrev pub IsOfReading : Finish → Type 0

@@ -1,5 +1,5 @@
 // Who answers requests, whatever they are.
-ghost use Rattle.std.specs.Prelude.{◌≡◌, List, ℕ, true, false, IfOk};
+ghost use Rattle.std.specs.Prelude.{◌≡◌, List, ℕ, true, false, IfOk, OnErr};
 ghost use Rattle.json_framing.specs.declared.cutter.Framing.{Framing};
 ghost use Rattle.message_service.specs.Stream.{ReadsFrame};
 
@@ -23,6 +23,12 @@ pub struct Made<Y> {
 pub trait Answerer<X, Y>: Kind<X, Y> + Drop {
     // How the frames of the input are marked.
     ghost framing: { Framing };
+
+    // The handler before and after, where it has answered a request so.
+    ghost answers: { Self → X → Y → Self → Type 0 };
+
+    // The handler before and after, where it has broken off in a request for lack of memory.
+    ghost breaks: { Self → X → Self → Type 0 };
 
     // Which request a frame spells.
     ghost spells: { List ℕ → X → Type 0 };
@@ -60,7 +66,10 @@ pub trait Answerer<X, Y>: Kind<X, Y> + Drop {
         request: &X,
         flag: &CancelFlag,
     ) -> Result<Made<Y>, NoMemory>
-        ensures { IfOk result (λ made. Self.says request.now false made.response) };
+        ensures says { IfOk result (λ made. Self.says request.now false made.response) }
+        ensures answers { IfOk result (λ made.
+            answers self.old request.now made.response self.new) }
+        ensures breaks { OnErr result (breaks self.old request.now self.new) };
 
     /// The response to a request that was cancelled.
     fn give_up(alloc: Global, request: &X) -> Y

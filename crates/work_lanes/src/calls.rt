@@ -1,11 +1,11 @@
 // The calls of the lanes.
-ghost use Rattle.std.specs.Prelude.{◌≡◌, false, Some, IfSome};
+ghost use Rattle.std.specs.Prelude.{◌≡◌, true, false, Some, IfSome, IfNone};
 ghost use Rattle.seat_desk.specs.Passes.{IsSamePass};
 ghost use Rattle.work_queue.specs.declared.queue.Ask.TheVariants as ask;
 ghost use Rattle.work_queue.specs.declared.queue.Told.TheVariants as told;
 ghost use Rattle.work_queue.specs.declared.queue.Load.TheVariants as load;
 ghost use Rattle.work_queue.specs.States.{reader};
-ghost use Rattle.work_lanes.specs.Calls.{state_at, heard_at, is_idle, is_open, done_by, idle_not_kept, InHand, HasHeard, HasTaken, HasLooked};
+ghost use Rattle.work_lanes.specs.Calls.{state_at, heard_at, begun_at, is_idle, is_open, done_by, idle_not_kept, InHand, GivesNone, HasHeard, HasTaken, HasBegun, HasLooked};
 
 use lane_crew::{Caller, Question};
 use outside::Sink;
@@ -72,7 +72,9 @@ fn is_open(reply: Told) -> bool
 
 // What was taken by a reply.
 fn task_in<X: Drop>(reply: Told, good: Option<Load<X>>) -> Option<Asked<X>>
-    ensures { IfSome result (λ asked. (reply ≡ told.Done) × (good ≡ Some (load.Task asked))) }
+    ensures some { IfSome result (λ asked. (reply ≡ told.Done)
+        × (good ≡ Some (load.Task asked))) }
+    ensures none { IfNone result (GivesNone reply good) }
 {
     match (reply, good) {
         (Told::Done, Some(Load::Task(asked))) => Some(asked),
@@ -155,6 +157,8 @@ pub(crate) fn halt<O: Sink, X: Drop, Y: Drop, K: Kind<X, Y>, R: Wait>(
     caller: &mut Caller<WorkQueue<O, X, Y, K>>,
 )
     ensures same { IsSamePass caller.old.pass caller.new.pass }
+    ensures begun { begun_at K.number K.cancels caller.new.pass
+        ≡ begun_at K.number K.cancels caller.old.pass }
 {
     caller.call_paid(rt, Ask::Halt, None);
 }
@@ -168,7 +172,10 @@ pub(crate) fn take<O: Sink, X: Drop, Y: Drop, K: Kind<X, Y>, R: Wait>(
     rt: &R,
     caller: &mut Caller<WorkQueue<O, X, Y, K>>,
 ) -> Result<Option<Asked<X>>, NoMemory>
+    requires hand { caller.old.pass.lane ≡ reader → ⊥ }
     ensures same { IsSamePass caller.old.pass caller.new.pass }
+    ensures begun { HasBegun result (begun_at K.number K.cancels caller.old.pass)
+        (begun_at K.number K.cancels caller.new.pass) }
     ensures taken { HasTaken caller.new.pass.lane result
         (state_at K.number K.cancels caller.new.pass) }
 {
@@ -188,10 +195,12 @@ pub(crate) fn is_cancelled<O: Sink, X: Drop, Y: Drop, K: Kind<X, Y>, R: Wait>(
     caller: &mut Caller<WorkQueue<O, X, Y, K>>,
     request: &X,
 ) -> Result<bool, NoMemory>
-    requires hand { InHand caller.old.pass.lane request.now false
+    requires hand { InHand caller.old.pass.lane request.now false false
         (state_at K.number K.cancels caller.old.pass) }
     ensures same { IsSamePass caller.old.pass caller.new.pass }
-    ensures looked { HasLooked caller.new.pass.lane request.now result
+    ensures begun { begun_at K.number K.cancels caller.new.pass
+        ≡ begun_at K.number K.cancels caller.old.pass }
+    ensures looked { HasLooked caller.new.pass.lane request.now false result
         (state_at K.number K.cancels caller.new.pass) }
 {
     match caller.call(rt, Ask::IsCancelled, None) {
@@ -200,7 +209,8 @@ pub(crate) fn is_cancelled<O: Sink, X: Drop, Y: Drop, K: Kind<X, Y>, R: Wait>(
     }
 }
 
-/// Puts the response to what the lane has in hand, in these bytes.
+/// Puts the response to what the lane has in hand, in these bytes. What was cancelled before it was
+/// begun is given up.
 ///
 /// # Errors
 ///
@@ -209,15 +219,19 @@ pub(crate) fn answer<O: Sink, X: Drop, Y: Drop, K: Kind<X, Y>, R: Wait>(
     rt: &R,
     caller: &mut Caller<WorkQueue<O, X, Y, K>>,
     request: &X,
+    was: bool,
     cancelled: bool,
     response: Y,
     bytes: Vec<u8>,
 ) -> Result<(), NoMemory>
-    requires hand { InHand caller.old.pass.lane request.now cancelled
+    requires hand { InHand caller.old.pass.lane request.now was cancelled
         (state_at K.number K.cancels caller.old.pass) }
     requires says { K.says request.now cancelled response }
+    requires begun { was ≡ true → cancelled ≡ true }
     requires written { bytes.items ≡ K.written response }
     ensures same { IsSamePass caller.old.pass caller.new.pass }
+    ensures begun { begun_at K.number K.cancels caller.new.pass
+        ≡ begun_at K.number K.cancels caller.old.pass }
 {
     let about = Snapshot::of(&response);
     match caller.call(rt, Ask::Answer(about), Some(Load::Bytes(bytes))) {

@@ -1,7 +1,10 @@
 // A lane that answers requests.
-ghost use Rattle.std.specs.Prelude.{◌≡◌, ◌<◌, false, IfOk};
+ghost use Rattle.std.specs.Prelude.{◌≡◌, ◌<◌, [], true, false, IfOk, OnOk, OnErr};
 ghost use Rattle.seat_desk.specs.Passes.{IsPassOf, IsSamePass};
-ghost use Rattle.work_lanes.specs.Calls.{state_at, InHand};
+ghost use Rattle.lane_crew.specs.Lanes.{IsFresh};
+ghost use Rattle.work_queue.specs.States.{reader};
+ghost use Rattle.work_lanes.specs.Calls.{state_at, begun_at, InHand};
+ghost use Rattle.work_lanes.specs.Handles.{AnswersOne, AnswersUnless, DidOne, DidUnless, Follows};
 
 use crate::answerer::{Answerer, Made};
 use crate::calls::{answer, halt, is_cancelled, take};
@@ -24,20 +27,33 @@ pub(crate) struct Hands<H> {
     pub(crate) flag: CancelFlag,
 }
 
-/// What it ends with: nothing.
+/// What it ends with: its handler.
 #[derive(Drop)]
-pub(crate) struct HandsLeft;
+pub(crate) struct HandsLeft<H> {
+    pub(crate) handler: H,
+}
+
+impl<H> HandsLeft<H> {
+    pub(crate) fn into_handler(self) -> H
+        ensures { result ≡ self.handler }
+    {
+        let HandsLeft { handler } = self;
+        handler
+    }
+}
 
 impl<O: Sink, X: Drop, Y: Drop, H: Answerer<X, Y>> Lane<
     Desk<WorkQueue<O, X, Y, H>>,
     Pass<WorkQueue<O, X, Y, H>>,
 > for Hands<H> {
-    type End = HandsLeft;
+    type End = HandsLeft<H>;
 
-    ghost may_run = { λ self desk bells pass. IsPassOf desk pass × (pass.lane ≡ self.number)
-        × (pass.lane < bells) };
+    ghost may_run = { λ self desk bells pass. IsPassOf desk pass × IsFresh pass
+        × (pass.lane ≡ self.number) × (pass.lane ≡ reader → ⊥) × (pass.lane < bells) };
 
-    ghost has_run = { λ self pass end after. IsSamePass pass after };
+    ghost has_run = { λ self pass end after. IsSamePass pass after
+        × Follows H.answers H.breaks self.handler (begun_at H.number H.cancels after)
+        end.handler };
 
     fn run<R: Threads + Wait + Sync>(
         self,
@@ -45,7 +61,7 @@ impl<O: Sink, X: Drop, Y: Drop, H: Answerer<X, Y>> Lane<
         desk: &Desk<WorkQueue<O, X, Y, H>>,
         bells: &Bells,
         pass: Pass<WorkQueue<O, X, Y, H>>,
-    ) -> (HandsLeft, Pass<WorkQueue<O, X, Y, H>>) {
+    ) -> (HandsLeft<H>, Pass<WorkQueue<O, X, Y, H>>) {
         let Hands {
             alloc,
             number,
@@ -57,7 +73,7 @@ impl<O: Sink, X: Drop, Y: Drop, H: Answerer<X, Y>> Lane<
         if work(rt, alloc, &mut caller, &mut handler, &flag).is_err() {
             halt(rt, &mut caller);
         }
-        (HandsLeft, caller.into_pass())
+        (HandsLeft { handler }, caller.into_pass())
     }
 }
 
@@ -69,7 +85,11 @@ fn work<O: Sink, X: Drop, Y: Drop, H: Answerer<X, Y>, R: Wait>(
     handler: &mut H,
     flag: &CancelFlag,
 ) -> Result<(), NoMemory>
+    requires hand { caller.old.pass.lane ≡ reader → ⊥ }
+    requires fresh { begun_at H.number H.cancels caller.old.pass ≡ [] }
     ensures same { IsSamePass caller.old.pass caller.new.pass }
+    ensures followed { Follows H.answers H.breaks handler.old
+        (begun_at H.number H.cancels caller.new.pass) handler.new }
 {
     for _ in rt.forever() {
         let Some(asked) = take(rt, caller)? else {
@@ -89,20 +109,26 @@ fn answer_one<O: Sink, X: Drop, Y: Drop, H: Answerer<X, Y>, R: Wait>(
     flag: &CancelFlag,
     asked: Asked<X>,
 ) -> Result<(), NoMemory>
-    requires hand { InHand caller.old.pass.lane asked.request asked.cancelled
+    requires hand { InHand caller.old.pass.lane asked.request asked.cancelled asked.cancelled
         (state_at H.number H.cancels caller.old.pass) }
     ensures same { IsSamePass caller.old.pass caller.new.pass }
+    ensures begun { begun_at H.number H.cancels caller.new.pass
+        ≡ begun_at H.number H.cancels caller.old.pass }
+    ensures answered { OnOk result (AnswersUnless H.answers asked.cancelled handler.old
+        asked.request handler.new) }
+    ensures did { DidUnless H.answers H.breaks asked.cancelled handler.old asked.request
+        handler.new }
 {
     let Asked { request, cancelled } = asked;
     if cancelled {
         let response = H::give_up(alloc, &request);
-        return put(rt, alloc, caller, &request, true, response);
+        return put(rt, alloc, caller, &request, true, true, response);
     }
     let Said {
         response,
         cancelled,
     } = handle(rt, alloc, caller, handler, flag, &request)?;
-    put(rt, alloc, caller, &request, cancelled, response)
+    put(rt, alloc, caller, &request, false, cancelled, response)
 }
 
 // Puts the response to the request that the lane has in hand.
@@ -111,16 +137,20 @@ fn put<O: Sink, X: Drop, Y: Drop, H: Answerer<X, Y>, R: Wait>(
     alloc: Global,
     caller: &mut Caller<WorkQueue<O, X, Y, H>>,
     request: &X,
+    was: bool,
     cancelled: bool,
     response: Y,
 ) -> Result<(), NoMemory>
-    requires hand { InHand caller.old.pass.lane request.now cancelled
+    requires begun { was ≡ true → cancelled ≡ true }
+    requires hand { InHand caller.old.pass.lane request.now was cancelled
         (state_at H.number H.cancels caller.old.pass) }
     requires says { H.says request.now cancelled response }
     ensures same { IsSamePass caller.old.pass caller.new.pass }
+    ensures begun { begun_at H.number H.cancels caller.new.pass
+        ≡ begun_at H.number H.cancels caller.old.pass }
 {
     let bytes = H::write(alloc, &response)?;
-    answer(rt, caller, request, cancelled, response, bytes)
+    answer(rt, caller, request, was, cancelled, response, bytes)
 }
 
 // A response, and whether it is that of a cancelled request.
@@ -139,11 +169,15 @@ fn handle<O: Sink, X: Drop, Y: Drop, H: Answerer<X, Y>, R: Wait>(
     flag: &CancelFlag,
     request: &X,
 ) -> Result<Said<Y>, NoMemory>
-    requires hand { InHand caller.old.pass.lane request.now false
+    requires hand { InHand caller.old.pass.lane request.now false false
         (state_at H.number H.cancels caller.old.pass) }
     ensures same { IsSamePass caller.old.pass caller.new.pass }
     ensures said { IfOk result (λ said. H.says request.now said.cancelled said.response) }
-    ensures hand { IfOk result (λ said. InHand caller.new.pass.lane request.now said.cancelled
+    ensures begun { begun_at H.number H.cancels caller.new.pass
+        ≡ begun_at H.number H.cancels caller.old.pass }
+    ensures answered { OnOk result (AnswersOne H.answers handler.old request.now handler.new) }
+    ensures did { DidOne H.answers H.breaks handler.old request.now handler.new }
+    ensures hand { IfOk result (λ said. InHand caller.new.pass.lane request.now false said.cancelled
         (state_at H.number H.cancels caller.new.pass)) }
 {
     let Made { response, stopped } = handler.answer(rt, alloc, request, flag)?;

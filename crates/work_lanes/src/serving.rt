@@ -1,8 +1,9 @@
 // From the start of the input to its end.
-ghost use Rattle.std.specs.Prelude.{◌≡◌, ◌<◌, [], length, IfOk};
+ghost use Rattle.std.specs.Prelude.{◌≡◌, ◌∷◌, ◌≤◌, [], length, vec_capacity, IfOk};
 ghost use Rattle.json_framing.specs.Cutter.{form_of};
-ghost use Rattle.work_lanes.specs.Serves.{AreHandlers, IsDepth, Serves, told_by};
-ghost use Rattle.work_lanes.specs.Crews.{AreLanes, HasReaderFirst, IsReaderFirst, finish_by};
+ghost use Rattle.lane_crew.specs.declared.pair.Either.TheVariants.{First};
+ghost use Rattle.work_lanes.specs.Serves.{AreHandlers, IsDepth, ServesBy, told_by};
+ghost use Rattle.work_lanes.specs.Crews.{AreLanes, HasReaderFirst, finish_by, handlers_in};
 
 use crate::answerer::Answerer;
 use crate::handling::{Hands, HandsLeft};
@@ -26,11 +27,13 @@ pub struct Streams<T, O> {
 
 /// What the lanes leave.
 #[derive(Drop)]
-pub struct LanesEnded<T, O> {
+pub struct LanesEnded<T, O, H> {
     /// Why all is over.
     pub finish: Finish,
     pub tap: T,
     pub sink: O,
+    /// The handlers, in their order.
+    pub handlers: Vec<H>,
 }
 
 /// Reads requests on one thread, and lets each handler answer them on a thread of its own, up to the
@@ -41,6 +44,9 @@ pub struct LanesEnded<T, O> {
 /// exactly once unless memory ran out or putting failed. It is given up only where a request that
 /// cancels its number stands behind it. Responses are put whole, one after another, and nothing else
 /// is put but, where putting failed, a front of one.
+///
+/// The handlers come back. Each was asked for what its lane took, the earliest first, each request
+/// once; not for what was cancelled by then, and for nothing else.
 ///
 /// # Errors
 ///
@@ -58,15 +64,16 @@ pub fn run_lanes<
     streams: Streams<T, O>,
     depth: u32,
     handlers: Vec<H>,
-) -> Result<LanesEnded<T, O>, NoMemory>
+) -> Result<LanesEnded<T, O, H>, NoMemory>
     requires handlers { AreHandlers (length handlers.items) }
     requires depth { IsDepth depth }
-    ensures { IfOk result (λ s. Serves H.number H.cancels H.says H.written (form_of H.framing)
-        H.spells s.finish [] (told_by T.told O.told streams.tap streams.sink)
-        (told_by T.told O.told s.tap s.sink)) }
+    ensures { IfOk result (λ s. ServesBy H.number H.cancels H.says H.written (form_of H.framing)
+        H.spells H.answers H.breaks s.finish [] handlers.items s.handlers.items
+        (told_by T.told O.told streams.tap streams.sink) (told_by T.told O.told s.tap s.sink)) }
 {
     let Streams { tap, sink } = streams;
     let flags = Arc::new(alloc, Flags::new(alloc, 1 + handlers.len() as u32)?)?;
+    let back = Vec::with_capacity(alloc, handlers.len())?;
     let lanes = lanes_of(alloc, &flags, tap, depth, handlers)?;
     let queue: WorkQueue<O, X, Y, H> = WorkQueue::new(alloc, sink, flags);
     let Ok(crew) = run_crew(rt, alloc, queue, lanes) else {
@@ -77,26 +84,48 @@ pub fn run_lanes<
         history: _,
         ends,
     } = crew;
-    let ReaderLeft { input, finish } = reader_left(ends);
+    let mut ends = VecDeque::from_vec(ends);
+    let ReaderLeft { input, finish } = reader_left(&mut ends);
+    let handlers = handlers_left(ends, back);
     let (sink, how) = machine.into_end();
     let finish = finish_by(how, finish);
-    let tap = input;
-    Ok(LanesEnded { finish, tap, sink })
+    Ok(LanesEnded {
+        finish,
+        tap: input,
+        sink,
+        handlers,
+    })
 }
 
 /// What the lane that reads ends with, or one that answers.
-type WorkEnd<T> = Either<ReaderLeft<T>, HandsLeft>;
+type WorkEnd<T, H> = Either<ReaderLeft<T>, HandsLeft<H>>;
 
 // What the reader's lane has left: it is the first of all.
-fn reader_left<T: Drop>(ends: Vec<WorkEnd<T>>) -> ReaderLeft<T>
-    requires { HasReaderFirst ends.items }
-    ensures { IsReaderFirst result ends.items }
+fn reader_left<T: Drop, H: Drop>(ends: &mut VecDeque<WorkEnd<T, H>>) -> ReaderLeft<T>
+    requires { HasReaderFirst ends.old.items }
+    ensures { ends.old.items ≡ First result ∷ ends.new.items }
 {
-    let mut ends = ends;
-    match ends.remove(0) {
-        Either::First(left) => left,
-        Either::Second(_) => unreachable!(),
+    match ends.pop_front() {
+        Some(Either::First(left)) => left,
+        Some(Either::Second(_)) | None => unreachable!(),
     }
+}
+
+// The handlers that the other lanes have left, in this room.
+fn handlers_left<T: Drop, H: Drop>(ends: VecDeque<WorkEnd<T, H>>, room: Vec<H>) -> Vec<H>
+    requires empty { room.items ≡ [] }
+    requires room { length ends.items ≤ vec_capacity room }
+    ensures { result.items ≡ handlers_in ends.items }
+{
+    let mut handlers = room;
+    let mut rest = ends;
+    while let Some(end) = rest.pop_front() {
+        match end {
+            Either::First(reader) => drop(reader),
+            Either::Second(left) => handlers.push_reserved(left.into_handler()),
+        }
+    }
+    handlers
 }
 
 // Why all is over whose queue and whose reader have ended so.
@@ -122,7 +151,7 @@ fn lanes_of<T: Drop, H: Drop>(
     handlers: Vec<H>,
 ) -> Result<Vec<WorkLane<T, H>>, NoMemory>
     requires { AreHandlers (length handlers.items) }
-    ensures { IfOk result (λ lanes. AreLanes input (length handlers.items) lanes.items) }
+    ensures { IfOk result (λ lanes. AreLanes input handlers.items lanes.items) }
 {
     let mut lanes = Vec::with_capacity(alloc, handlers.len() + 1)?;
     lanes.push_reserved(Either::First(Reader {

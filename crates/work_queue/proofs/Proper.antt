@@ -1,15 +1,14 @@
 -- What holds of each state is kept by each call.
-use Rattle.std.proofs.Common.{◌≡◌, ◌⊎◌, ℕ, ℤ, suc, ◌+◌, ◌==◌, ◌&&◌, ◌||◌, Bool, true, false, cond}
+use Rattle.std.proofs.Common.{◌≡◌, ℕ, ℤ, suc, ◌+◌, ◌==◌, ◌&&◌, ◌||◌, Bool, true, false, cond}
 use Rattle.std.proofs.Common.{List, [], ◌∷◌, ◌++◌, length, map, Option, Some, None}
-use Rattle.std.proofs.Common.{refl, ap, ◌∙◌, subst, inl, inr, append_assoc, arith}
+use Rattle.std.proofs.Common.{refl, ap, sym, ◌∙◌, subst, append_assoc, append-nil, length-append, arith}
 use Rattle.std.specs.List.{list_any, AllByRecursion}
 use Rattle.std.specs.Ordering.{int_eq}
 use Rattle.std.proofs.lemmas.List.{map-append}
-use Rattle.work_queue.specs.Rows.{new_asked}
 use Rattle.work_queue.specs.States.{State, Task, InHand, Reply, task_at, hands_without, task_marked}
 use Rattle.work_queue.specs.States.{in_hand_marked, heard_by, taken_by, answered_by, has_cancel}
-use Rattle.work_queue.specs.States.{IsTask, IsReply, IsProper, asked_from, times, places_waiting}
-use Rattle.work_queue.specs.States.{places_answered}
+use Rattle.work_queue.specs.States.{reader, begun, new_task, IsTask, IsBegun, IsTaken, IsReply, IsProper, asked_from, times, places_waiting}
+use Rattle.work_queue.specs.States.{places_answered, places_taken}
 
 false_not_true : false ≡ true → ⊥
 false_not_true e = cc
@@ -36,29 +35,23 @@ or_first : (a b c : Bool) → (a || b) ≡ true → (b ≡ true → c ≡ true) 
 or_first true b c e f = refl
 or_first false b c e f = f e
 
-or_left : (a b : Bool) → a ≡ true → (a || b) ≡ true
-or_left a b e = ap (λ (x : Bool). x || b) e
-
-or_right : (a b : Bool) → b ≡ true → (a || b) ≡ true
-or_right true b e = refl
-or_right false b e = e
-
-or_either : (a b : Bool) → (a || b) ≡ true → (a ≡ true) ⊎ (b ≡ true)
-or_either true b e = inl refl
-or_either false b e = inr e
-
-and_both : (a b : Bool) → a ≡ true → b ≡ true → (a && b) ≡ true
-and_both a b e f = ap (λ (x : Bool). x && b) e ∙ f
-
 module _ {A : Type 0} (p : A → Bool) where
   any_more : (xs : List A) (x : A) → list_any p xs ≡ true → list_any p (xs ++ x ∷ []) ≡ true
   any_more [] x e = absurd (false_not_true e)
   any_more (y ∷ ys) x e =
       or_first (p y) (list_any p ys) (list_any p (ys ++ x ∷ [])) e (any_more ys x)
 
-  any_last : (xs : List A) (x : A) → p x ≡ true → list_any p (xs ++ x ∷ []) ≡ true
-  any_last [] x e = or_left (p x) false e
-  any_last (y ∷ ys) x e = or_right (p y) (list_any p (ys ++ x ∷ [])) (any_last ys x e)
+  or_false : (b : Bool) → (b || false) ≡ b
+  or_false true = refl
+  or_false false = refl
+
+  or_on : (a b c : Bool) → (a || (b || c)) ≡ ((a || b) || c)
+  or_on true b c = refl
+  or_on false b c = refl
+
+  any_on : (xs : List A) (x : A) → list_any p (xs ++ x ∷ []) ≡ (list_any p xs || p x)
+  any_on [] x = or_false (p x)
+  any_on (y ∷ ys) x = ap (λ (b : Bool). p y || b) (any_on ys x) ∙ or_on (p y) (list_any p ys) (p x)
 
 -- ---- how often
 
@@ -100,30 +93,71 @@ module _ {X : Type 0} (number : X → ℤ) (cancels : X → Bool) where
       ∙ ap (λ n. times k (asked_from number cancels (i + 1) xs)
       + cond (cancels m) 0 (cond (k == n) 1 0)) same)
 
+  asked_put : (b : Bool) (i : ℕ) (xs ys zs : List ℕ) → xs ≡ ys ++ zs
+      → cond b xs (i ∷ xs) ≡ cond b ys (i ∷ ys) ++ zs
+  asked_put true i xs ys zs e = e
+  asked_put false i xs ys zs e = ap (λ (ws : List ℕ). i ∷ ws) e
+
+  asked_on : (i : ℕ) (xs : List X) (m : X)
+      → asked_from number cancels i (xs ++ m ∷ [])
+      ≡ asked_from number cancels i xs ++ cond (cancels m) [] ((i + length xs) ∷ [])
+  asked_on i [] m =
+      let same : i ≡ i + 0 = omega arith in
+      ap {B = List ℕ} (λ (n : ℕ). cond (cancels m) [] (n ∷ [])) same
+  asked_on i (x ∷ xs) m =
+      let same : i + 1 + length xs ≡ i + suc (length xs) = omega arith in
+      asked_put (cancels x) i (asked_from number cancels (i + 1) (xs ++ m ∷ []))
+      (asked_from number cancels (i + 1) xs)
+      (cond (cancels m) [] ((i + suc (length xs)) ∷ []))
+      (asked_on (i + 1) xs m
+      ∙ ap {B = List ℕ} (λ (n : ℕ). asked_from number cancels (i + 1) xs
+      ++ cond (cancels m) [] (n ∷ [])) same)
+
   -- ---- a task, once more was heard
 
-  task_more : (heard : List X) (m : X) (t : Task X) → IsTask number cancels heard t
-      → IsTask number cancels (heard ++ m ∷ []) t
-  task_more heard m t k = record {
+  abbrev of_number : ℤ → X → Bool
+  of_number n c = cancels c && int_eq n (number c)
+
+  -- the mark of what has this number, once one more was heard that doesn't cancel
+  stays_so : (x : Bool) (behind : List X) (m : X) (n : ℤ) → cancels m ≡ false
+      → x ≡ has_cancel number cancels n behind
+      → x ≡ has_cancel number cancels n (behind ++ m ∷ [])
+  stays_so x behind m n c e =
+      e ∙ (sym (or_false (of_number n) (has_cancel number cancels n behind))
+      ∙ (ap (λ (b : Bool). has_cancel number cancels n behind || (b && int_eq n (number m))) (sym c)
+      ∙ sym (any_on (of_number n) behind m)))
+
+  -- and one that does
+  marks_so : (x : Bool) (behind : List X) (m : X) (n : ℤ) → cancels m ≡ true
+      → x ≡ has_cancel number cancels n behind
+      → (x || int_eq n (number m)) ≡ has_cancel number cancels n (behind ++ m ∷ [])
+  marks_so x behind m n c e =
+      ap (λ (b : Bool). b || int_eq n (number m)) e
+      ∙ (ap (λ (b : Bool). has_cancel number cancels n behind || (b && int_eq n (number m))) (sym c)
+      ∙ sym (any_on (of_number n) behind m))
+
+  stands_on : (heard before behind : List X) (r m : X) → heard ≡ before ++ r ∷ behind
+      → heard ++ m ∷ [] ≡ before ++ r ∷ (behind ++ m ∷ [])
+  stands_on heard before behind r m e =
+      ap (λ (xs : List X). xs ++ m ∷ []) e ∙ append_assoc before (r ∷ behind) (m ∷ [])
+
+  stands_both : (heard before between behind : List X) (r m : X)
+      → heard ≡ before ++ r ∷ (between ++ behind)
+      → heard ++ m ∷ [] ≡ before ++ r ∷ (between ++ (behind ++ m ∷ []))
+  stands_both heard before between behind r m e =
+      stands_on heard before (between ++ behind) r m e
+      ∙ ap (λ (xs : List X). before ++ r ∷ xs) (append_assoc between behind (m ∷ []))
+
+  task_more : (heard : List X) (m : X) → cancels m ≡ false → (t : Task X)
+      → IsTask number cancels heard t → IsTask number cancels (heard ++ m ∷ []) t
+  task_more heard m c t k = record {
     before = k.before;
     behind = k.behind ++ m ∷ [];
-    stands = ap (λ (xs : List X). xs ++ m ∷ []) k.stands
-        ∙ append_assoc k.before (t.work.request ∷ k.behind) (m ∷ []);
+    stands = stands_on heard k.before k.behind t.work.request m k.stands;
     place = k.place;
     asks = k.asks;
-    marked = λ e. any_more (λ (c : X). cancels c && int_eq (number t.work.request) (number c))
-        k.behind m (k.marked e);
+    marked = stays_so t.work.cancelled k.behind m (number t.work.request) c k.marked;
   }
-
-  marked_either : (behind : List X) (m : X) (n : ℤ) → cancels m ≡ true
-      → (a : Bool) → (a ≡ true → has_cancel number cancels n behind ≡ true)
-      → (a ≡ true) ⊎ (int_eq n (number m) ≡ true)
-      → has_cancel number cancels n (behind ++ m ∷ []) ≡ true
-  marked_either behind m n c a f (inl e) =
-      any_more (λ (x : X). cancels x && int_eq n (number x)) behind m (f e)
-  marked_either behind m n c a f (inr e) =
-      any_last (λ (x : X). cancels x && int_eq n (number x)) behind m
-      (and_both (cancels m) (int_eq n (number m)) c e)
 
   task_marks : (heard : List X) (m : X) → cancels m ≡ true → (t : Task X)
       → IsTask number cancels heard t
@@ -131,24 +165,105 @@ module _ {X : Type 0} (number : X → ℤ) (cancels : X → Bool) where
   task_marks heard m c t k = record {
     before = k.before;
     behind = k.behind ++ m ∷ [];
-    stands = ap (λ (xs : List X). xs ++ m ∷ []) k.stands
-        ∙ append_assoc k.before (t.work.request ∷ k.behind) (m ∷ []);
+    stands = stands_on heard k.before k.behind t.work.request m k.stands;
     place = k.place;
     asks = k.asks;
-    marked = λ e. marked_either k.behind m (number t.work.request) c t.work.cancelled k.marked
-        (or_either t.work.cancelled (int_eq (number t.work.request) (number m)) e);
+    marked = marks_so t.work.cancelled k.behind m (number t.work.request) c k.marked;
   }
 
+  held_more : (heard : List X) (m : X) → cancels m ≡ false → (t : Task X)
+      → IsBegun number cancels heard t → IsBegun number cancels (heard ++ m ∷ []) t
+  held_more heard m c t k = record {
+    before = k.before;
+    between = k.between;
+    behind = k.behind ++ m ∷ [];
+    stands = stands_both heard k.before k.between k.behind t.work.request m k.stands;
+    place = k.place;
+    begun = k.begun;
+    asks = k.asks;
+    was = k.was;
+    marked = stays_so t.work.cancelled (k.between ++ k.behind) m (number t.work.request) c k.marked
+        ∙ ap (λ (xs : List X). has_cancel number cancels (number t.work.request) xs)
+        (append_assoc k.between k.behind (m ∷ []));
+  }
+
+  held_marks : (heard : List X) (m : X) → cancels m ≡ true → (t : Task X)
+      → IsBegun number cancels heard t
+      → IsBegun number cancels (heard ++ m ∷ []) (task_marked number (number m) t)
+  held_marks heard m c t k = record {
+    before = k.before;
+    between = k.between;
+    behind = k.behind ++ m ∷ [];
+    stands = stands_both heard k.before k.between k.behind t.work.request m k.stands;
+    place = k.place;
+    begun = k.begun;
+    asks = k.asks;
+    was = k.was;
+    marked = marks_so t.work.cancelled (k.between ++ k.behind) m (number t.work.request) c k.marked
+        ∙ ap (λ (xs : List X). has_cancel number cancels (number t.work.request) xs)
+        (append_assoc k.between k.behind (m ∷ []));
+  }
+
+  taken_more : (heard : List X) (m : X) (h : InHand X) → IsTaken number cancels heard h
+      → IsTaken number cancels (heard ++ m ∷ []) h
+  taken_more heard m h k = record {
+    hand = k.hand;
+    before = k.before;
+    between = k.between;
+    behind = k.behind ++ m ∷ [];
+    stands = stands_both heard k.before k.between k.behind h.task.work.request m k.stands;
+    place = k.place;
+    begun = k.begun;
+    asks = k.asks;
+    was = k.was;
+  }
+
+  -- what a lane takes it has in hand
+  taken_hand : (heard : List X) (h : InHand X) → (h.lane ≡ reader → ⊥)
+      → IsBegun number cancels heard h.task → IsTaken number cancels heard h
+  taken_hand heard h hand k = record {
+    hand = hand;
+    before = k.before;
+    between = k.between;
+    behind = k.behind;
+    stands = k.stands;
+    place = k.place;
+    begun = k.begun;
+    asks = k.asks;
+    was = k.was;
+  }
+
+  -- a lane begins it
+  task_begun : (heard : List X) (t : Task X) → IsTask number cancels heard t
+      → IsBegun number cancels heard (begun (length heard) t)
+  task_begun heard t k =
+      let long = ap (λ (xs : List X). length xs) k.stands in
+      let parts = length-append k.before (t.work.request ∷ k.behind) in
+      let all : length k.before + 1 + length k.behind ≡ length heard = omega (arith, long, parts) in
+      record {
+        before = k.before;
+        between = k.behind;
+        behind = [];
+        stands = k.stands
+            ∙ ap (λ (xs : List X). k.before ++ t.work.request ∷ xs) (sym (append-nil k.behind));
+        place = k.place;
+        begun = all;
+        asks = k.asks;
+        was = k.marked;
+        marked = k.marked
+            ∙ ap (λ (xs : List X). has_cancel number cancels (number t.work.request) xs)
+            (sym (append-nil k.behind));
+      }
+
   task_new : (heard : List X) (m : X) → cancels m ≡ false
-      → IsTask number cancels (heard ++ m ∷ [])
-      (record { place = length heard; work = new_asked number m })
+      → IsTask number cancels (heard ++ m ∷ []) (new_task number (length heard) m)
   task_new heard m c = record {
     before = heard;
     behind = [];
     stands = refl;
     place = refl;
     asks = c;
-    marked = λ e. absurd (false_not_true e);
+    marked = refl;
   }
 
   places_marked : (n : ℤ) (ts : List (Task X))
@@ -164,7 +279,7 @@ module _ {X : Type 0} (number : X → ℤ) (cancels : X → Bool) where
   -- ---- what is taken out of a hand
 
   abbrev HandIs : List X → InHand X → Type 0
-  HandIs heard h = IsTask number cancels heard h.task
+  HandIs heard h = IsBegun number cancels heard h.task
 
   abbrev task_or : Task X → Option (Task X) → Task X
   task_or other None = other
@@ -202,16 +317,16 @@ module _ {X : Type 0} (number : X → ℤ) (cancels : X → Bool) where
         → cond b (Some h.task) (task_at lane hs) ≡ Some t → HandIs heard h
         → AllByRecursion (HandIs heard) hs
         → (task_at lane hs ≡ Some t
-        → IsTask number cancels heard t × AllByRecursion (HandIs heard) (hands_without lane hs))
-        → IsTask number cancels heard t
+        → IsBegun number cancels heard t × AllByRecursion (HandIs heard) (hands_without lane hs))
+        → IsBegun number cancels heard t
         × AllByRecursion (HandIs heard) (cond b hs (h ∷ hands_without lane hs))
     out_here true lane h hs t e one all more =
-        (subst (λ (x : Task X). IsTask number cancels heard x) (ap (task_or t) e) one, all)
+        (subst (λ (x : Task X). IsBegun number cancels heard x) (ap (task_or t) e) one, all)
     out_here false lane h hs t e one all more = let m = more e in (m.0, (one, m.1))
 
     out_of_hand : (lane : ℕ) (hs : List (InHand X)) (t : Task X) → task_at lane hs ≡ Some t
         → AllByRecursion (HandIs heard) hs
-        → IsTask number cancels heard t × AllByRecursion (HandIs heard) (hands_without lane hs)
+        → IsBegun number cancels heard t × AllByRecursion (HandIs heard) (hands_without lane hs)
     out_of_hand lane [] t e all = absurd (none_some t e)
     out_of_hand lane (h ∷ hs) t e all =
         out_here (h.lane == lane) lane h hs t e all.0 all.1
@@ -223,14 +338,19 @@ module _ {X Y : Type 0} (number : X → ℤ) (cancels : X → Bool) (Says : X �
   reply_more heard m r k = record {
     request = k.request;
     before = k.before;
+    between = k.between;
     behind = k.behind ++ m ∷ [];
-    stands = ap (λ (xs : List X). xs ++ m ∷ []) k.stands
-        ∙ append_assoc k.before (k.request ∷ k.behind) (m ∷ []);
+    stands = stands_both number cancels heard k.before k.between k.behind k.request m k.stands;
     place = k.place;
+    begun = k.begun;
     asks = k.asks;
     cancelled = k.cancelled;
-    marked = λ e. any_more (λ (c : X). cancels c && int_eq (number k.request) (number c)) k.behind
-        m (k.marked e);
+    given_up = k.given_up;
+    marked = λ e.
+        subst (λ (xs : List X). has_cancel number cancels (number k.request) xs ≡ true)
+        (append_assoc k.between k.behind (m ∷ []))
+        (any_more (λ (c : X). cancels c && int_eq (number k.request) (number c))
+        (k.between ++ k.behind) m (k.marked e));
     says = k.says;
   }
 
@@ -240,10 +360,10 @@ module _ {X Y : Type 0} (number : X → ℤ) (cancels : X → Bool) (Says : X �
   proper_heard s m true c p = record {
     waits = all_mapped (IsTask number cancels s.heard) (IsTask number cancels (s.heard ++ m ∷ []))
         (task_marked number (number m)) (task_marks number cancels s.heard m c) s.waiting p.waits;
-    holds = all_mapped (λ h. IsTask number cancels s.heard h.task)
-        (λ h. IsTask number cancels (s.heard ++ m ∷ []) h.task)
+    holds = all_mapped (λ h. IsBegun number cancels s.heard h.task)
+        (λ h. IsBegun number cancels (s.heard ++ m ∷ []) h.task)
         (in_hand_marked number (number m))
-        (λ h k. task_marks number cancels s.heard m c h.task k) s.hands p.holds;
+        (λ h k. held_marks number cancels s.heard m c h.task k) s.hands p.holds;
     said = all_more (IsReply number cancels Says s.heard)
         (IsReply number cancels Says (s.heard ++ m ∷ [])) (reply_more s.heard m) s.replies p.said;
     each = λ k.
@@ -252,20 +372,29 @@ module _ {X Y : Type 0} (number : X → ℤ) (cancels : X → Bool) (Says : X �
         let a = asked_last number cancels k 0 s.heard m in
         let z = ap {B = ℕ} (λ (x : Bool). cond x 0 (cond (k == 0 + length s.heard) 1 0)) c in
         let e = p.each k in omega (arith, w, h, a, z, e);
+    took = all_more (IsTaken number cancels s.heard) (IsTaken number cancels (s.heard ++ m ∷ []))
+        (taken_more number cancels s.heard m) s.taken p.took;
+    order =
+        let old = asked_from number cancels 0 s.heard in
+        ap (λ (xs : List ℕ). places_taken s ++ xs)
+        (places_marked number cancels (number m) s.waiting)
+        ∙ (p.order ∙ (sym (append-nil old)
+        ∙ (ap {B = List ℕ} (λ (b : Bool). old ++ cond b [] ((0 + length s.heard) ∷ [])) (sym c)
+        ∙ sym (asked_on number cancels 0 s.heard m))));
   }
   proper_heard s m false c p = record {
     waits = all_last (IsTask number cancels (s.heard ++ m ∷ [])) s.waiting
-        (record { place = length s.heard; work = new_asked number m })
+        (new_task number (length s.heard) m)
         (all_more (IsTask number cancels s.heard) (IsTask number cancels (s.heard ++ m ∷ []))
-        (task_more number cancels s.heard m) s.waiting p.waits)
+        (task_more number cancels s.heard m c) s.waiting p.waits)
         (task_new number cancels s.heard m c);
-    holds = all_more (λ h. IsTask number cancels s.heard h.task)
-        (λ h. IsTask number cancels (s.heard ++ m ∷ []) h.task)
-        (λ h k. task_more number cancels s.heard m h.task k) s.hands p.holds;
+    holds = all_more (λ h. IsBegun number cancels s.heard h.task)
+        (λ h. IsBegun number cancels (s.heard ++ m ∷ []) h.task)
+        (λ h k. held_more number cancels s.heard m c h.task k) s.hands p.holds;
     said = all_more (IsReply number cancels Says s.heard)
         (IsReply number cancels Says (s.heard ++ m ∷ [])) (reply_more s.heard m) s.replies p.said;
     each = λ k.
-        let new : Task X = record { place = length s.heard; work = new_asked number m } in
+        let new : Task X = new_task number (length s.heard) m in
         let w = ap (λ xs. times k xs) (map-append (λ (t : Task X). t.place) s.waiting (new ∷ []))
         ∙ times_on k (places_waiting s) (length s.heard ∷ []) in
         let a = asked_last number cancels k 0 s.heard m in
@@ -273,49 +402,76 @@ module _ {X Y : Type 0} (number : X → ℤ) (cancels : X → Bool) (Says : X �
         let n : 0 + length s.heard ≡ length s.heard = omega arith in
         let d = ap {B = ℕ} (λ i. cond (k == i) 1 0) n in
         let e = p.each k in omega (arith, w, a, z, d, e);
+    took = all_more (IsTaken number cancels s.heard) (IsTaken number cancels (s.heard ++ m ∷ []))
+        (taken_more number cancels s.heard m) s.taken p.took;
+    order =
+        let new : Task X = new_task number (length s.heard) m in
+        let old = asked_from number cancels 0 s.heard in
+        let n : length s.heard ≡ 0 + length s.heard = omega arith in
+        ap (λ (xs : List ℕ). places_taken s ++ xs)
+        (map-append (λ (t : Task X). t.place) s.waiting (new ∷ []))
+        ∙ (sym (append_assoc (places_taken s) (places_waiting s) (length s.heard ∷ []))
+        ∙ (ap (λ (xs : List ℕ). xs ++ length s.heard ∷ []) p.order
+        ∙ (ap (λ (k : ℕ). old ++ k ∷ []) n
+        ∙ (ap {B = List ℕ} (λ (b : Bool). old ++ cond b [] ((0 + length s.heard) ∷ [])) (sym c)
+        ∙ sym (asked_on number cancels 0 s.heard m)))));
   }
 
   pub proper_hears : (s : State X Y) (m : X) → IsProper number cancels Says s
       → IsProper number cancels Says (heard_by number cancels s m (cancels m))
   proper_hears s m p = proper_heard s m (cancels m) refl p
 
-  taken_first : (lane : ℕ) (s : State X Y) (ts : List (Task X)) → s.waiting ≡ ts
+  taken_first : (lane : ℕ) (s : State X Y) (ts : List (Task X)) → (lane ≡ reader → ⊥)
+      → s.waiting ≡ ts
       → IsProper number cancels Says s → IsProper number cancels Says (taken_by lane s ts)
-  taken_first lane s [] is p = p
-  taken_first lane s (t ∷ ts) is p =
+  taken_first lane s [] hand is p = p
+  taken_first lane s (t ∷ ts) hand is p =
+      let one : InHand X = record { lane = lane; task = begun (length s.heard) t } in
       let all = subst (λ (xs : List (Task X)). AllByRecursion (IsTask number cancels s.heard) xs)
       is p.waits in record {
         waits = all.1;
-        holds = (all.0, p.holds);
+        holds = (task_begun number cancels s.heard t all.0, p.holds);
         said = p.said;
         each = λ k.
             let w = ap (λ (xs : List (Task X)). times k (map (λ t. t.place) xs)) is in
             let e = p.each k in omega (arith, w, e);
+        order =
+            let h : InHand X = record { lane = lane; task = begun (length s.heard) t } in
+            ap (λ (xs : List ℕ). xs ++ map (λ (x : Task X). x.place) ts)
+            (map-append (λ (x : InHand X). x.task.place) s.taken (h ∷ []))
+            ∙ (append_assoc (places_taken s) (t.place ∷ []) (map (λ (x : Task X). x.place) ts)
+            ∙ (sym (ap (λ (ws : List (Task X)). places_taken s ++ map (λ (x : Task X). x.place) ws)
+            is) ∙ p.order));
+        took = all_last (IsTaken number cancels s.heard) s.taken one p.took
+            (taken_hand number cancels s.heard one hand (task_begun number cancels s.heard t all.0));
       }
 
-  pub proper_taken : (lane : ℕ) (s : State X Y) → IsProper number cancels Says s
-      → IsProper number cancels Says (taken_by lane s s.waiting)
-  proper_taken lane s p = taken_first lane s s.waiting refl p
+  pub proper_taken : (lane : ℕ) (s : State X Y) → (lane ≡ reader → ⊥)
+      → IsProper number cancels Says s → IsProper number cancels Says (taken_by lane s s.waiting)
+  proper_taken lane s hand p = taken_first lane s s.waiting hand refl p
 
   pub proper_answered : (lane : ℕ) (s : State X Y) (t : Task X) (y : Y) (b : Bool)
       → task_at lane s.hands ≡ Some t → (b ≡ true → t.work.cancelled ≡ true)
-      → Says t.work.request b y → IsProper number cancels Says s
+      → Says t.work.request b y → (t.was ≡ true → b ≡ true) → IsProper number cancels Says s
       → IsProper number cancels Says (answered_by lane s y (Some t))
-  proper_answered lane s t y b here mark says p =
+  proper_answered lane s t y b here mark says was p =
       let out = out_of_hand number cancels s.heard lane s.hands t here p.holds in
-      let r : Reply Y = record { place = t.place; response = y } in record {
+      let r : Reply Y = record { place = t.place; heard = t.heard; response = y } in record {
         waits = p.waits;
         holds = out.1;
         said = all_last (IsReply number cancels Says s.heard) s.replies r p.said
             (record {
               request = t.work.request;
               before = out.0.before;
+              between = out.0.between;
               behind = out.0.behind;
               stands = out.0.stands;
               place = out.0.place;
+              begun = out.0.begun;
               asks = out.0.asks;
               cancelled = b;
-              marked = λ e. out.0.marked (mark e);
+              given_up = λ e. was (out.0.was ∙ e);
+              marked = λ e. sym out.0.marked ∙ mark e;
               says = says;
             });
         each = λ k.
@@ -323,4 +479,6 @@ module _ {X Y : Type 0} (number : X → ℤ) (cancels : X → Bool) (Says : X �
             let w = ap (λ xs. times k xs) (map-append (λ (x : Reply Y). x.place) s.replies
             (r ∷ [])) ∙ times_on k (places_answered s) (t.place ∷ []) in
             let e = p.each k in omega (arith, h, w, e);
+        took = p.took;
+        order = p.order;
       }

@@ -11,7 +11,7 @@ use Rattle.work_queue.specs.declared.rows.Hand.{Hand}
 use Rattle.work_queue.specs.Rows.{asked_marked, hand_marked, hand_of, new_asked, waiting_then}
 use Rattle.work_queue.specs.Rows.{hands_then, rows_without, row_at, is_marked, HasTaken}
 use Rattle.work_queue.specs.States.{State, Task, InHand, task_at, hands_without, task_marked}
-use Rattle.work_queue.specs.States.{in_hand_marked, is_cancelled, heard_by, taken_by, answered_by}
+use Rattle.work_queue.specs.States.{new_task, in_hand_marked, is_cancelled, heard_by, taken_by, answered_by}
 use Rattle.work_queue.specs.StateLaws.{RowsAre, row_of}
 
 -- ---- taking out of a list
@@ -140,7 +140,7 @@ module _ {X Y : Type 0} (number : X → ℤ) (cancels : X → Bool) where
   heard_rows s m false ws hs r = (
     ap (λ (xs : List (Asked X)). xs ++ new_asked number m ∷ []) r.0
         ∙ sym (map-append (λ (t : Task X). t.work) s.waiting
-        ((record { place = length s.heard; work = new_asked number m }) ∷ [])),
+        (new_task number (length s.heard) m ∷ [])),
     r.1,
   )
 

@@ -1,7 +1,10 @@
 -- What a lane knows of the queue as the history goes on.
-use Rattle.std.proofs.Common.{◌≡◌, ◌⊎◌, ℕ, ℤ, ◌==◌, Bool, true, false, cond, List, [], ◌∷◌, ◌++◌}
-use Rattle.std.proofs.Common.{Option, Some, None, refl, ap, sym, ◌∙◌, subst, inl, inr, eq-eqb}
-use Rattle.std.specs.List.{fold}
+use Rattle.std.proofs.Common.{◌≡◌, ◌⊎◌, ℕ, ℤ, ◌==◌, ◌<◌, ◌≤◌, Bool, true, false, cond, List, [], ◌∷◌, ◌++◌, length}
+use Rattle.std.proofs.Common.{Option, Some, None, refl, ap, sym, ◌∙◌, subst, inl, inr, eq-eqb, append-nil}
+use Rattle.std.specs.List.{fold, AllByRecursion}
+use Rattle.std.proofs.lemmas.Bool.{cases_lt}
+use Rattle.std.specs.declared.snapshot.Snapshot.{Snapshot}
+use Rattle.std.proofs.lemmas.List.Concat.{flat_map-append}
 use Rattle.plain_values.specs.declared.entry.Entry.{Entry}
 use Rattle.seat_desk.specs.declared.view.View.{View}
 use Rattle.seat_desk.specs.History.{calls_by, GoesOn}
@@ -13,10 +16,12 @@ use Rattle.work_queue.specs.declared.queue.Told.{Told}
 use Rattle.work_queue.specs.declared.queue.Told.TheVariants as told
 use Rattle.work_queue.specs.declared.queue.Load.{Load}
 use Rattle.work_queue.specs.declared.queue.Load.TheVariants as load
-use Rattle.work_queue.specs.States.{State, Task, reader, state_of, state_then, moved, heard_by}
+use Rattle.work_queue.specs.States.{State, Task, InHand, begun, begun_by, unless, reader, first}
+use Rattle.work_queue.specs.States.{state_of, state_then, moved, heard_by}
 use Rattle.work_queue.specs.States.{taken_by, answered_by, task_at, is_cancelled, has_some}
 use Rattle.work_queue.specs.States.{answer_to, is_kept, is_short, ComesOut, FirstIs}
 use Rattle.work_queue.specs.StateLaws.{HasStill, other_lane, on_from, rest_still}
+use Rattle.work_queue.proofs.Proper.{all_last}
 use Rattle.work_queue.proofs.Turning.{by_kept}
 
 false_not_true : false ≡ true → ⊥
@@ -32,9 +37,9 @@ not_short e = false_not_true e
 idle_done : told.Done ≡ told.Idle → ⊥
 idle_done e = cc
 
-open_idle : (b : Bool) → told.Open ≡ cond b told.Open told.Idle → b ≡ true
-open_idle true e = refl
-open_idle false e = absurd (let x : told.Open ≡ told.Idle = e in cc)
+open_done : (b : Bool) → told.Open ≡ cond b told.Open told.Done → b ≡ true
+open_done true e = refl
+open_done false e = absurd (let x : told.Open ≡ told.Done = e in cc)
 
 module _ {X : Type 0} where
   abbrev work_or : Asked X → Option (Load X) → Asked X
@@ -51,6 +56,9 @@ module _ {X : Type 0} where
       → Some (load.Task w) ≡ Some (load.Task t.work)
   first_is ts t rest w is c =
       subst (λ (xs : List (Task X)). FirstIs xs (Some (load.Task w))) is c
+
+  abbrev one_begun : ℕ → InHand X → List X
+  one_begun lane h = cond (h.lane == lane) (unless h.task.was h.task.work.request) []
 
   abbrev task_or : Task X → Option (Task X) → Task X
   task_or other None = other
@@ -129,6 +137,156 @@ module _ {X Y : Type 0} (number : X → ℤ) (cancels : X → Bool) where
     comes = a.4;
   }
 
+  -- ---- what a lane has begun
+
+  abbrev pub Begun : ℕ → State X Y → List X
+  Begun lane s = begun_by lane s.taken
+
+  taken_heard : (s : State X Y) (m : X) (b : Bool) → (heard_by number cancels s m b).taken ≡ s.taken
+  taken_heard s m true = refl
+  taken_heard s m false = refl
+
+  taken_either : (b : Bool) (s s' : State X Y) → s'.taken ≡ s.taken
+      → (cond b s' s).taken ≡ s.taken
+  taken_either true s s' e = e
+  taken_either false s s' e = refl
+
+  taken_answered : (lane : ℕ) (s : State X Y) (y : Y) (o : Option (Task X))
+      → (answered_by lane s y o).taken ≡ s.taken
+  taken_answered lane s y None = refl
+  taken_answered lane s y (Some t) = refl
+
+  begun_taken : (lane other : ℕ) (s : State X Y) (ts : List (Task X)) → (other == lane) ≡ false
+      → Begun lane (taken_by other s ts) ≡ Begun lane s
+  begun_taken lane other s [] n = refl
+  begun_taken lane other s (t ∷ ts) n =
+      let h : InHand X = record { lane = other; task = begun (length s.heard) t } in
+      flat_map-append (one_begun lane) s.taken (h ∷ [])
+      ∙ (ap {B = List X} (λ (b : Bool). Begun lane s
+      ++ (cond b (unless t.work.cancelled t.work.request) [] ++ [])) n
+      ∙ append-nil (Begun lane s))
+
+  begun_step : (lane : ℕ) (s : State X Y) (other : ℕ) (c : Ask X Y) → (other == lane) ≡ false
+      → Begun lane (moved number cancels s other c) ≡ Begun lane s
+  begun_step lane s other (ask.Hear about) n =
+      ap (λ (hs : List (InHand X)). begun_by lane hs) (taken_either (other == reader) s
+      (heard_by number cancels s about.value (cancels about.value))
+      (taken_heard s about.value (cancels about.value)))
+  begun_step lane s other ask.Take n = begun_taken lane other s s.waiting n
+  begun_step lane s other (ask.Answer about) n =
+      ap (λ (hs : List (InHand X)). begun_by lane hs)
+      (taken_answered other s about.value (task_at other s.hands))
+  begun_step lane s other (ask.Room depth) n = refl
+  begun_step lane s other ask.IsCancelled n = refl
+  begun_step lane s other ask.Close n = refl
+  begun_step lane s other ask.Halt n = refl
+
+  begun_rest : (lane : ℕ) (s : State X Y) (rest : List (Entry (Ask X Y) Told))
+      → calls_by lane rest ≡ [] → Begun lane (fold (state_then number cancels) s rest) ≡ Begun lane s
+  begun_rest lane s [] none = refl
+  begun_rest lane s (e ∷ es) none =
+      let o = other_lane number cancels lane e es none in
+      begun_rest lane (state_then number cancels s e) es o.1
+      ∙ begun_step lane s e.lane e.call o.0
+
+  -- what a lane has begun stays while others call
+  pub begun_on : (lane : ℕ) (seen h : List (Entry (Ask X Y) Told)) → GoesOn lane seen h
+      → Begun lane (At h) ≡ Begun lane (At seen)
+  begun_on lane seen h on =
+      ap (λ (x : List (Entry (Ask X Y) Told)). Begun lane (At x)) on.1
+      ∙ (ap (λ (s : State X Y). Begun lane s) (on_from number cancels seen on.0)
+      ∙ begun_rest lane (At seen) on.0 on.2)
+
+  -- and with a call of its own that isn't kept
+  pub still_begun : (lane : ℕ) (seen seen' : List (Entry (Ask X Y) Told)) (call : Ask X Y)
+      (reply : Told) (good : Option (Load X)) → is_kept call reply ≡ false
+      → Called lane seen call reply good seen' → Begun lane (At seen') ≡ Begun lane (At seen)
+  still_begun lane seen seen' call reply good not k =
+      ap (λ (s : State X Y). Begun lane s) k.left
+      ∙ (ap (λ (b : Bool). Begun lane (cond b (moved number cancels (At k.point) lane call)
+      (At k.point))) not ∙ begun_on lane seen k.point k.on)
+
+  -- and with an answer
+  pub answer_begun : (lane : ℕ) (seen seen' : List (Entry (Ask X Y) Told)) (about : Snapshot Y)
+      (reply : Told) (good : Option (Load X))
+      → Called lane seen (ask.Answer about) reply good seen'
+      → Begun lane (At seen') ≡ Begun lane (At seen)
+  answer_begun lane seen seen' about reply good k =
+      let c : Ask X Y = ask.Answer about in
+      ap (λ (s : State X Y). Begun lane s) k.left
+      ∙ (ap (λ (hs : List (InHand X)). begun_by lane hs) (taken_either (is_kept c reply) (At k.point)
+      (moved number cancels (At k.point) lane c)
+      (taken_answered lane (At k.point) about.value (task_at lane (At k.point).hands)))
+      ∙ begun_on lane seen k.point k.on)
+
+  -- ---- who has taken something
+
+  abbrev pub TakenBelow : ℕ → State X Y → Type 0
+  TakenBelow n s = AllByRecursion (λ (h : InHand X). h.lane < n) s.taken
+
+  below_same : (n : ℕ) (s s' : State X Y) → s'.taken ≡ s.taken → TakenBelow n s
+      → TakenBelow n s'
+  below_same n s s' e f =
+      subst (λ (hs : List (InHand X)). AllByRecursion (λ (h : InHand X). h.lane < n) hs) (sym e) f
+
+  below_taken : (n lane : ℕ) (s : State X Y) (ts : List (Task X)) → lane < n → TakenBelow n s
+      → TakenBelow n (taken_by lane s ts)
+  below_taken n lane s [] lt f = f
+  below_taken n lane s (t ∷ ts) lt f =
+      all_last (λ (h : InHand X). h.lane < n) s.taken
+      (record { lane = lane; task = begun (length s.heard) t }) f lt
+
+  below_step : (n : ℕ) (s : State X Y) (lane : ℕ) (c : Ask X Y) → lane < n → TakenBelow n s
+      → TakenBelow n (moved number cancels s lane c)
+  below_step n s lane (ask.Hear about) lt f =
+      below_same n s (moved number cancels s lane (ask.Hear about))
+      (taken_either (lane == reader) s (heard_by number cancels s about.value (cancels about.value))
+      (taken_heard s about.value (cancels about.value))) f
+  below_step n s lane ask.Take lt f = below_taken n lane s s.waiting lt f
+  below_step n s lane (ask.Answer about) lt f =
+      below_same n s (moved number cancels s lane (ask.Answer about))
+      (taken_answered lane s about.value (task_at lane s.hands)) f
+  below_step n s lane (ask.Room depth) lt f = f
+  below_step n s lane ask.IsCancelled lt f = f
+  below_step n s lane ask.Close lt f = f
+  below_step n s lane ask.Halt lt f = f
+
+  lane_below : (n : ℕ) (e : Entry (Ask X Y) Told) (es : List (Entry (Ask X Y) Told))
+      → ((k : ℕ) → n ≤ k → calls_by k (e ∷ es) ≡ []) → e.lane < n
+  lane_below n e es none = elim (cases_lt e.lane n) [
+    | inl lt ↦ lt
+    | inr le ↦ absurd (false_not_true (sym (other_lane number cancels e.lane e es
+        (none e.lane le)).0 ∙ eq-eqb e.lane e.lane refl))
+  ]
+
+  below_rest : (n : ℕ) (s : State X Y) (h : List (Entry (Ask X Y) Told))
+      → ((k : ℕ) → n ≤ k → calls_by k h ≡ []) → TakenBelow n s
+      → TakenBelow n (fold (state_then number cancels) s h)
+  below_rest n s [] none f = f
+  below_rest n s (e ∷ es) none f =
+      below_rest n (state_then number cancels s e) es
+      (λ k le. (other_lane number cancels k e es (none k le)).1)
+      (below_step n s e.lane e.call (lane_below n e es none) f)
+
+  -- who has taken something has made a call
+  pub taken_below : (n : ℕ) (h : List (Entry (Ask X Y) Told))
+      → ((k : ℕ) → n ≤ k → calls_by k h ≡ []) → TakenBelow n (At h)
+  taken_below n h none = below_rest n first h none tt
+
+  begun_first : (lane : ℕ) (p : State X Y) (w : Asked X) (ts : List (Task X)) → p.waiting ≡ ts
+      → told.Done ≡ has_some ts → ComesOut p ask.Take told.Done (Some (load.Task w))
+      → Begun lane (taken_by lane p ts) ≡ Begun lane p ++ unless w.cancelled w.request
+  begun_first lane p w [] is done comes = absurd (idle_done done)
+  begun_first lane p w (t ∷ ts) is done comes =
+      let h : InHand X = record { lane = lane; task = begun (length p.heard) t } in
+      let same : w ≡ t.work = ap (work_or w) (first_is p.waiting t ts w is comes) in
+      flat_map-append (one_begun lane) p.taken (h ∷ [])
+      ∙ (ap {B = List X} (λ (b : Bool). Begun lane p
+      ++ (cond b (unless t.work.cancelled t.work.request) [] ++ [])) (eq-eqb lane lane refl)
+      ∙ (ap (λ (xs : List X). Begun lane p ++ xs)
+      (append-nil (unless t.work.cancelled t.work.request))
+      ∙ ap (λ (x : Asked X). Begun lane p ++ unless x.cancelled x.request) (sym same)))
+
   -- ---- the reader's calls
 
   heard_so : (s : State X Y) (m : X) (b : Bool)
@@ -170,15 +328,19 @@ module _ {X Y : Type 0} (number : X → ℤ) (cancels : X → Bool) where
     pub task : Task X
     pub here : task_at lane s.hands ≡ Some task
     pub is : task.work ≡ w
+    pub was : task.was ≡ w.cancelled
 
   took_first : (lane : ℕ) (p s' : State X Y) (w : Asked X) (ts : List (Task X)) → p.waiting ≡ ts
       → told.Done ≡ has_some ts → s' ≡ taken_by lane p ts
       → ComesOut p ask.Take told.Done (Some (load.Task w)) → TookFirst lane w s'
   took_first lane p s' w [] is done left comes = absurd (idle_done done)
   took_first lane p s' w (t ∷ ts) is done left comes = record {
-    task = t;
-    here = ap (λ (s : State X Y). task_at lane s.hands) left ∙ same_lane lane (Some t) _;
+    task = begun (length p.heard) t;
+    here = ap (λ (s : State X Y). task_at lane s.hands) left
+        ∙ same_lane lane (Some (begun (length p.heard) t)) _;
     is = sym (ap (work_or w) (first_is p.waiting t ts w is comes));
+    was = sym (ap (λ (x : Asked X). x.cancelled)
+        (ap (work_or w) (first_is p.waiting t ts w is comes)));
   }
 
   take_reply : (s : State X Y) (lane : ℕ) (r : Told) → r ≡ told.Done
@@ -197,6 +359,18 @@ module _ {X Y : Type 0} (number : X → ℤ) (cancels : X → Bool) where
       cond (is_kept {X = X} {Y = Y} ask.Take x) (taken_by lane p p.waiting) p) is)
       (subst (λ (x : Told). ComesOut p ask.Take x (Some (load.Task w))) is k.comes)
 
+  -- the lane has begun it, unless it was cancelled
+  pub take_begun : (lane : ℕ) (seen seen' : List (Entry (Ask X Y) Told)) (r : Told) (w : Asked X)
+      → r ≡ told.Done → Called lane seen ask.Take r (Some (load.Task w)) seen'
+      → Begun lane (At seen') ≡ Begun lane (At seen) ++ unless w.cancelled w.request
+  take_begun lane seen seen' r w is k =
+      let p = At k.point in
+      ap (λ (s : State X Y). Begun lane s) (k.left ∙ ap (λ (x : Told).
+      cond (is_kept {X = X} {Y = Y} ask.Take x) (taken_by lane p p.waiting) p) is)
+      ∙ (begun_first lane p w p.waiting refl (take_reply p lane r is k.is)
+      (subst (λ (x : Told). ComesOut p ask.Take x (Some (load.Task w))) is k.comes)
+      ∙ ap (λ (xs : List X). xs ++ unless w.cancelled w.request) (begun_on lane seen k.point k.on))
+
   -- a question leaves in the lane's hand what it has there
   pub still_there : (lane : ℕ) (seen seen' : List (Entry (Ask X Y) Told)) (call : Ask X Y)
       (r : Told) (good : Option (Load X)) (t : Task X) → is_kept call r ≡ false
@@ -213,7 +387,7 @@ module _ {X Y : Type 0} (number : X → ℤ) (cancels : X → Bool) where
   open_reply : (s : State X Y) (lane : ℕ) (r : Told) → r ≡ told.Open
       → (r ≡ answer_to s lane ask.IsCancelled) ⊎ (is_short r ≡ true)
       → is_cancelled (task_at lane s.hands) ≡ true
-  open_reply s lane r is (inl e) = open_idle (is_cancelled (task_at lane s.hands)) (sym is ∙ e)
+  open_reply s lane r is (inl e) = open_done (is_cancelled (task_at lane s.hands)) (sym is ∙ e)
   open_reply s lane r is (inr e) =
       absurd (false_not_true (ap is_short (sym is) ∙ e))
 

@@ -45,7 +45,7 @@ module _ {X Y : Type 0} (number : X → ℤ) (cancels : X → Bool) (Says : X �
       → bytes_of (answered_by lane s y (Some t)) ≡ bytes_of s ++ written y
   one_reply s t y lane =
       flat_map-append (λ (r : Reply Y). written r.response) s.replies
-      ((record { place = t.place; response = y }) ∷ [])
+      ((record { place = t.place; heard = t.heard; response = y }) ∷ [])
       ∙ ap (λ (xs : List ℕ). bytes_of s ++ xs) (append-nil (written y))
 
 module _ {O X Y : Type 0} (number : X → ℤ) (cancels : X → Bool) (Says : X → Bool → Y → Type 0)
@@ -100,11 +100,11 @@ module _ {O X Y K : Type 0} (number : X → ℤ) (cancels : X → Bool) (Says : 
 
   -- the first that waits was taken
   pub stands_taken : (m m' : WorkQueue O X Y K) (s : State X Y) (lane : ℕ) (w : Asked X)
-      → m'.outlet ≡ m.outlet
+      → (lane ≡ reader → ⊥) → m'.outlet ≡ m.outlet
       → HasTaken number lane m.rows.waiting.items m.rows.hands.items (Some w)
       m'.rows.waiting.items m'.rows.hands.items
       → St m s → St m' (taken_by lane s s.waiting)
-  stands_taken m m' s lane w o h st =
+  stands_taken m m' s lane w hand o h st =
       let r = rows_taken number cancels lane s s.waiting w m.rows.waiting.items
       m'.rows.waiting.items m.rows.hands.items m'.rows.hands.items refl st.rows h in record {
         rows = r.4;
@@ -113,7 +113,7 @@ module _ {O X Y K : Type 0} (number : X → ℤ) (cancels : X → Bool) (Says : 
             (sym (replies_taken number cancels Says written lane s s.waiting))
             (subst (λ (out : Outlet O). OutIs number cancels Says written told_of out s) (sym o)
             st.put);
-        proper = proper_taken number cancels Says lane s st.proper;
+        proper = proper_taken number cancels Says lane s hand st.proper;
       }
 
   -- a response was put to what the lane has in hand
@@ -126,9 +126,9 @@ module _ {O X Y K : Type 0} (number : X → ℤ) (cancels : X → Bool) (Says : 
       → PutSo m'.outlet.has_failed (before ++ bytes) (told_of m'.outlet.start.value)
       (told_of m'.outlet.sink))
       → task_at lane s.hands ≡ Some t → (b ≡ true → t.work.cancelled ≡ true)
-      → Says t.work.request b y → bytes ≡ written y
+      → Says t.work.request b y → (t.was ≡ true → b ≡ true) → bytes ≡ written y
       → St m s → St m' (answered_by lane s y (Some t))
-  stands_answered m m' s lane t y b bytes ok w h puts here mark says is st = record {
+  stands_answered m m' s lane t y b bytes ok w h puts here mark says was is st = record {
     rows = rows_answered number cancels lane s y t m'.rows.waiting.items m.rows.hands.items
         m'.rows.hands.items (w ∙ st.rows.0, st.rows.1) h;
     put = subst (λ (xs : List ℕ). PutSo m'.outlet.has_failed xs (told_of m'.outlet.start.value)
@@ -138,7 +138,7 @@ module _ {O X Y K : Type 0} (number : X → ℤ) (cancels : X → Bool) (Says : 
         (puts (bytes_of number cancels Says written s)
         (subst (λ (f : Bool). PutSo f (bytes_of number cancels Says written s)
         (told_of m.outlet.start.value) (told_of m.outlet.sink)) ok st.put));
-    proper = proper_answered number cancels Says lane s t y b here mark says st.proper;
+    proper = proper_answered number cancels Says lane s t y b here mark says was st.proper;
   }
 
   pub stands_after : (m' : WorkQueue O X Y K) (h : List (Entry (Ask X Y) Told)) (lane : ℕ)
@@ -227,7 +227,7 @@ module _ {O X Y K : Type 0} (number : X → ℤ) (cancels : X → Bool) (Says : 
           inl refl,
           answered_here m' s lane about.value goes.0 goes.2
               (stands_answered number cancels Says written told_of m m' s lane goes.0 about.value
-              goes.3.0 bytes.items ok w h puts goes.2 goes.3.1 goes.3.2
+              goes.3.0 bytes.items ok w h puts goes.2 goes.3.1 goes.3.2 goes.3.3
               (ap (λ (v : Vec ℕ). v.items) is ∙ goes.5) st),
           tt,
         ),
@@ -262,7 +262,7 @@ module _ {O X Y K : Type 0} (number : X → ℤ) (cancels : X → Bool) (Says : 
     λ s st goes.
         let r = waits_so m m' s lane w h st in (
           inl (ap has_some (sym r.2)),
-          stands_taken number cancels Says written told_of m m' s lane w o h st,
+          stands_taken number cancels Says written told_of m m' s lane w goes o h st,
           subst (λ (ts : List (Task X)). FirstIs ts (Some (load.Task w))) (sym r.2)
               (ap (λ (x : Asked X). Some (load.Task x)) r.3),
         ),
@@ -277,13 +277,13 @@ module _ {O X Y K : Type 0} (number : X → ℤ) (cancels : X → Bool) (Says : 
   pub turn_look : (m m' : WorkQueue O X Y K) (lane : ℕ) (put : Option (Load X)) (r : Told)
       → m'.outlet ≡ m.outlet
       → m'.rows.waiting.items ≡ m.rows.waiting.items → m'.rows.hands.items ≡ m.rows.hands.items
-      → r ≡ cond (is_marked (row_at lane m.rows.hands.items)) told.Open told.Idle
+      → r ≡ cond (is_marked (row_at lane m.rows.hands.items)) told.Open told.Done
       → (call : Ask X Y) → LookOnly call
       → TurnsSo number cancels Says written told_of m lane call put r None m'
   turn_look m m' lane put r o w h is ask.IsCancelled one = (
     ap (λ (out : Outlet O). out.start) o,
     λ s st goes. (
-      inl (is ∙ ap (λ (b : Bool). cond b told.Open told.Idle)
+      inl (is ∙ ap (λ (b : Bool). cond b told.Open told.Done)
           (ap (λ (hs : List Hand). is_marked (row_at lane hs)) st.rows.1
           ∙ hand_marked_so number lane s.hands)),
       stands_same number cancels Says written told_of m m' s o w h st,
@@ -296,3 +296,23 @@ module _ {O X Y K : Type 0} (number : X → ℤ) (cancels : X → Bool) (Says : 
   turn_look m m' lane put r o w h is (ask.Answer about) one = absurd one
   turn_look m m' lane put r o w h is ask.Close one = absurd one
   turn_look m m' lane put r o w h is ask.Halt one = absurd one
+
+module _ {O X Y K : Type 0} (number : X → ℤ) (cancels : X → Bool) (Says : X → Bool → Y → Type 0)
+    (written : Y → List ℕ) (told_of : O → SinkTold) where
+  -- what is remembered of the lanes is no part of it
+  pub turns_noted : (m mid new : WorkQueue O X Y K) (lane : ℕ) (call : Ask X Y)
+      (put : Option (Load X)) (r : Told) (good : Option (Load X)) → new.outlet ≡ mid.outlet
+      → new.rows.waiting.items ≡ mid.rows.waiting.items
+      → new.rows.hands.items ≡ mid.rows.hands.items
+      → TurnsSo number cancels Says written told_of m lane call put r good mid
+      → TurnsSo number cancels Says written told_of m lane call put r good new
+  turns_noted m mid new lane call put r good o w h t = (
+    ap (λ (out : Outlet O). out.start) o ∙ t.0,
+    λ s st goes.
+        let all = t.1 s st goes in (
+          all.0,
+          stands_same number cancels Says written told_of mid new
+              (cond (is_kept call r) (moved number cancels s lane call) s) o w h all.1,
+          all.2,
+        ),
+  )

@@ -1,6 +1,6 @@
 -- Laws of the states of a work queue.
 use Rattle.std.proofs.Common.{◌≡◌, ◌⊎◌, ℕ, ℤ, ◌+◌, ◌≤◌, ◌==◌, ◌||◌, Bool, true, false, cond}
-use Rattle.std.proofs.Common.{List, [], ◌∷◌, ◌++◌, map, Option, Some, None, refl, ap, sym, ◌∙◌}
+use Rattle.std.proofs.Common.{List, [], ◌∷◌, ◌++◌, length, map, Option, Some, None, refl, ap, sym, ◌∙◌}
 use Rattle.std.proofs.Common.{subst, arith, eq-eqb, ne_eqb}
 use mathlib.Core.Logic.{dite}
 use native.Mathlib.Decide.{ℕ_discrete}
@@ -21,7 +21,7 @@ use Rattle.work_queue.specs.declared.queue.How.{How}
 use Rattle.work_queue.specs.declared.queue.How.TheVariants as how
 use Rattle.work_queue.specs.Rows.{hand_of}
 use Rattle.work_queue.specs.States.{State, Task, InHand, first, state_then, state_of, moved}
-use Rattle.work_queue.specs.States.{heard_by, taken_by, answered_by, task_at, hands_without}
+use Rattle.work_queue.specs.States.{begun, heard_by, taken_by, answered_by, task_at, hands_without}
 use Rattle.work_queue.specs.States.{task_marked, in_hand_marked, answer_to, is_short, is_kept}
 use Rattle.work_queue.specs.States.{IsPaid, MayBeShort, IsProper, GoesIn, ComesOut, PutSo, put_by}
 
@@ -120,6 +120,7 @@ module _ {O X Y K : Type 0} where
   abbrev pub EndsSo : WorkQueue O X Y K → O → How → Type 0
   EndsSo m sink how.Failed = (m.outlet.sink ≡ sink) × (m.outlet.has_failed ≡ true)
   EndsSo m sink how.Halted = (m.outlet.sink ≡ sink) × (m.outlet.has_failed ≡ false)
+      × (m.signs.is_halted ≡ false → IsNew m → ⊥)
   EndsSo m sink how.Whole = (m.outlet.sink ≡ sink) × (m.outlet.has_failed ≡ false) × IsNew m
 
 -- ---- short and paid
@@ -163,6 +164,7 @@ module _ {X : Type 0} where
   abbrev pub IsStill : Task X → Task X → Type 0
   IsStill t t' =
       (t'.work.request ≡ t.work.request) × (t.work.cancelled ≡ true → t'.work.cancelled ≡ true)
+      × (t'.was ≡ t.was)
 
   abbrev pub HasStill : ℕ → Task X → List (InHand X) → Type 0
   HasStill lane t hs = (t' : Task X) × (task_at lane hs ≡ Some t') × IsStill t t'
@@ -206,6 +208,7 @@ module _ {X : Type 0} (number : X → ℤ) where
     let is : h.task ≡ t = ap (some_or t) e in (
       ap (λ (x : Task X). x.work.request) is,
       λ c. or_true h.task.work.cancelled _ (ap (λ (x : Task X). x.work.cancelled) is ∙ c),
+      ap (λ (x : Task X). x.was) is,
     ),
   )
   marked_here false lane n h hs t e more = more e
@@ -219,7 +222,7 @@ module _ {X : Type 0} (number : X → ℤ) where
 module _ {X : Type 0} where
   still_same : (lane : ℕ) (hs : List (InHand X)) (t : Task X) → task_at lane hs ≡ Some t
       → HasStill lane t hs
-  still_same lane hs t e = (t, e, (refl, λ c. c))
+  still_same lane hs t e = (t, e, (refl, λ c. c, refl))
 
 module _ {X Y : Type 0} (number : X → ℤ) (cancels : X → Bool) where
   heard_still : (s : State X Y) (m : X) (b : Bool) (lane : ℕ) (t : Task X)
@@ -239,8 +242,8 @@ module _ {X Y : Type 0} (number : X → ℤ) (cancels : X → Bool) where
   taken_still s [] lane other t n e = still_same lane s.hands t e
   taken_still s (x ∷ xs) lane other t n e = (
     t,
-    ap (λ (b : Bool). cond b (Some x) (task_at lane s.hands)) n ∙ e,
-    (refl, λ c. c),
+    ap (λ (b : Bool). cond b (Some (begun (length s.heard) x)) (task_at lane s.hands)) n ∙ e,
+    (refl, λ c. c, refl),
   )
 
   answered_still : (s : State X Y) (r : Y) (o : Option (Task X)) (lane other : ℕ) (t : Task X)
@@ -289,7 +292,7 @@ module _ {X Y : Type 0} (number : X → ℤ) (cancels : X → Bool) where
       let more = rest_still (state_then number cancels s x) xs lane one.0 o.1 one.1 in (
         more.0,
         more.1,
-        (more.2.0 ∙ one.2.0, λ c. more.2.1 (one.2.1 c)),
+        (more.2.0 ∙ one.2.0, λ c. more.2.1 (one.2.1 c), more.2.2 ∙ one.2.2),
       )
 
   pub on_from : (h more : List (Entry (Ask X Y) Told))
@@ -320,6 +323,7 @@ module _ {X Y : Type 0} (number : X → ℤ) (cancels : X → Bool) where
             i.3.0,
             λ e. r.2.1 (i.3.1 e),
             subst (λ (m : X). Says m i.3.0 response.value) (sym r.2.0) i.3.2,
+            λ e. i.3.3 (sym r.2.2 ∙ e),
           ),
           i.4,
           i.5,

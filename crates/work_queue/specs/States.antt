@@ -21,28 +21,33 @@ use Rattle.work_queue.specs.Rows.{asked_marked, new_asked}
 abbrev pub reader : ℕ
 reader = 0
 
--- a request that was heard, at its place among all that were heard, and whether it was cancelled
+-- A request that was heard, at its place among all that were heard, and whether it was cancelled.
+-- Of one that a lane has begun: whether it was cancelled by then, and how many were heard by then.
 pub record Task (X : Type 0) : Type 0 where
   pub place : ℕ
   pub work : Asked X
+  pub was : Bool
+  pub heard : ℕ
 
 -- a request in the hand of a lane
 pub record InHand (X : Type 0) : Type 0 where
   pub lane : ℕ
   pub task : Task X
 
--- what was answered to the request at this place
+-- what was answered to the request at this place, and how many were heard when it was begun
 pub record Reply (Y : Type 0) : Type 0 where
   pub place : ℕ
+  pub heard : ℕ
   pub response : Y
 
--- All that was heard, with the requests that cancel others; what waits, what is in hand, and what
--- was answered, each in its order.
+-- All that was heard, with the requests that cancel others; what waits, what is in hand, what was
+-- answered, and what lanes have taken, as it was then, each in its order.
 pub record State (X Y : Type 0) : Type 0 where
   pub heard : List X
   pub waiting : List (Task X)
   pub hands : List (InHand X)
   pub replies : List (Reply Y)
+  pub taken : List (InHand X)
 
 -- these bytes were put
 pub record PutAll (bytes : List ℕ) (old new : SinkTold) : Type 0 where
@@ -68,6 +73,15 @@ module _ {X : Type 0} where
   hands_without lane [] = []
   hands_without lane (h ∷ hs) = cond (h.lane == lane) hs (h ∷ hands_without lane hs)
 
+  abbrev pub unless : Bool → X → List X
+  unless true m = []
+  unless false m = m ∷ []
+
+  -- the requests that this lane has begun, in order, but for those that were cancelled by then
+  abbrev pub begun_by : ℕ → List (InHand X) → List X
+  begun_by lane hs =
+      flat_map (λ h. cond (h.lane == lane) (unless h.task.was h.task.work.request) []) hs
+
   abbrev pub is_cancelled : Option (Task X) → Bool
   is_cancelled None = false
   is_cancelled (Some t) = t.work.cancelled
@@ -76,10 +90,22 @@ module _ {X : Type 0} where
   has_some [] = told.Idle
   has_some (t ∷ ts) = told.Done
 
+-- the task, once a lane has begun it when so many were heard
+abbrev pub begun : {X : Type 0} → ℕ → Task X → Task X
+begun n t = record { place = t.place; work = t.work; was = t.work.cancelled; heard = n }
+
 module _ {X : Type 0} (number : X → ℤ) where
   -- the task, once the request of this number is cancelled
   abbrev pub task_marked : ℤ → Task X → Task X
-  task_marked n t = record { place = t.place; work = asked_marked number n t.work }
+  task_marked n t = record {
+    place = t.place;
+    work = asked_marked number n t.work;
+    was = t.was;
+    heard = t.heard;
+  }
+
+  abbrev pub new_task : ℕ → X → Task X
+  new_task k m = record { place = k; work = new_asked number m; was = false; heard = 0 }
 
   abbrev pub in_hand_marked : ℤ → InHand X → InHand X
   in_hand_marked n h = record { lane = h.lane; task = task_marked n h.task }
@@ -89,7 +115,7 @@ module _ {X : Type 0} (number : X → ℤ) (cancels : X → Bool) where
   abbrev pub has_cancel : ℤ → List X → Bool
   has_cancel n behind = list_any (λ m. cancels m && int_eq n (number m)) behind
 
-  -- The request stands at its place among those that were heard. It is cancelled only where one
+  -- The request stands at its place among those that were heard. It is cancelled exactly where one
   -- behind it cancels its number.
   pub record IsTask (heard : List X) (t : Task X) : Type 0 where
     pub before : List X
@@ -97,7 +123,33 @@ module _ {X : Type 0} (number : X → ℤ) (cancels : X → Bool) where
     pub stands : heard ≡ before ++ t.work.request ∷ behind
     pub place : length before ≡ t.place
     pub asks : cancels t.work.request ≡ false
-    pub marked : t.work.cancelled ≡ true → has_cancel (number t.work.request) behind ≡ true
+    pub marked : t.work.cancelled ≡ has_cancel (number t.work.request) behind
+
+  -- A lane has the request in hand. It was cancelled when it was begun exactly where one that
+  -- cancels its number stood behind it by then, and is cancelled now where one does.
+  pub record IsBegun (heard : List X) (t : Task X) : Type 0 where
+    pub before : List X
+    pub between : List X
+    pub behind : List X
+    pub stands : heard ≡ before ++ t.work.request ∷ (between ++ behind)
+    pub place : length before ≡ t.place
+    pub begun : length before + 1 + length between ≡ t.heard
+    pub asks : cancels t.work.request ≡ false
+    pub was : t.was ≡ has_cancel (number t.work.request) between
+    pub marked : t.work.cancelled ≡ has_cancel (number t.work.request) (between ++ behind)
+
+  -- A lane that doesn't read has taken the request at its place, when so many were heard. It was
+  -- cancelled by then exactly where one that cancels its number stood behind it.
+  pub record IsTaken (heard : List X) (h : InHand X) : Type 0 where
+    pub hand : h.lane ≡ reader → ⊥
+    pub before : List X
+    pub between : List X
+    pub behind : List X
+    pub stands : heard ≡ before ++ h.task.work.request ∷ (between ++ behind)
+    pub place : length before ≡ h.task.place
+    pub begun : length before + 1 + length between ≡ h.task.heard
+    pub asks : cancels h.task.work.request ≡ false
+    pub was : h.task.was ≡ has_cancel (number h.task.work.request) between
 
   -- the places of the requests that are to be answered: those that don't cancel
   abbrev pub asked_from : ℕ → List X → List ℕ
@@ -157,13 +209,13 @@ module _ {X Y : Type 0} where
   answer_to s lane (ask.Room depth) =
       cond (ltb (length s.waiting) depth) told.Open told.Idle
   answer_to s lane ask.Take = has_some s.waiting
-  answer_to s lane ask.IsCancelled = cond (is_cancelled (task_at lane s.hands)) told.Open told.Idle
+  answer_to s lane ask.IsCancelled = cond (is_cancelled (task_at lane s.hands)) told.Open told.Done
   answer_to s lane (ask.Answer response) = told.Done
-  answer_to s lane ask.Close = told.Idle
-  answer_to s lane ask.Halt = told.Idle
+  answer_to s lane ask.Close = told.Done
+  answer_to s lane ask.Halt = told.Done
 
   abbrev pub first : State X Y
-  first = record { heard = []; waiting = []; hands = []; replies = [] }
+  first = record { heard = []; waiting = []; hands = []; replies = []; taken = [] }
 
   -- the state after the lane has taken the first of these
   abbrev pub taken_by : ℕ → State X Y → List (Task X) → State X Y
@@ -171,8 +223,9 @@ module _ {X Y : Type 0} where
   taken_by lane s (t ∷ ts) = record {
     heard = s.heard;
     waiting = ts;
-    hands = (record { lane = lane; task = t }) ∷ s.hands;
+    hands = (record { lane = lane; task = begun (length s.heard) t }) ∷ s.hands;
     replies = s.replies;
+    taken = s.taken ++ (record { lane = lane; task = begun (length s.heard) t }) ∷ [];
   }
 
   -- the state after the lane has answered so what it has in hand
@@ -182,7 +235,8 @@ module _ {X Y : Type 0} where
     heard = s.heard;
     waiting = s.waiting;
     hands = hands_without lane s.hands;
-    replies = s.replies ++ (record { place = t.place; response = r }) ∷ [];
+    replies = s.replies ++ (record { place = t.place; heard = t.heard; response = r }) ∷ [];
+    taken = s.taken;
   }
 
   module _ (number : X → ℤ) (cancels : X → Bool) where
@@ -194,13 +248,15 @@ module _ {X Y : Type 0} where
       waiting = map (task_marked number (number m)) s.waiting;
       hands = map (in_hand_marked number (number m)) s.hands;
       replies = s.replies;
+      taken = s.taken;
     }
     heard_by s m false = record {
       heard = s.heard ++ m ∷ [];
       waiting = s.waiting
-          ++ (record { place = length s.heard; work = new_asked number m }) ∷ [];
+          ++ new_task number (length s.heard) m ∷ [];
       hands = s.hands;
       replies = s.replies;
+      taken = s.taken;
     }
 
     -- the state after a call that was kept
@@ -223,18 +279,23 @@ module _ {X Y : Type 0} where
     state_of h = fold state_then first h
 
     module _ (Says : X → Bool → Y → Type 0) where
-      -- The response is said to the request at its place. It may be that of a cancelled request
-      -- only where one behind it cancels its number.
+      -- The response is said to the request at its place. It is that of a cancelled request where
+      -- one that cancels its number stood behind it by the time that it was begun, and only where
+      -- one stands behind it at all.
       pub record IsReply (heard : List X) (r : Reply Y) : Type 0 where
         pub request : X
         pub before : List X
+        pub between : List X
         pub behind : List X
-        pub stands : heard ≡ before ++ request ∷ behind
+        pub stands : heard ≡ before ++ request ∷ (between ++ behind)
         pub place : length before ≡ r.place
+        pub begun : length before + 1 + length between ≡ r.heard
         pub asks : cancels request ≡ false
         pub cancelled : Bool
+        pub given_up : has_cancel number cancels (number request) between ≡ true
+            → cancelled ≡ true
         pub marked : cancelled ≡ true
-            → has_cancel number cancels (number request) behind ≡ true
+            → has_cancel number cancels (number request) (between ++ behind) ≡ true
         pub says : Says request cancelled r.response
 
 -- how often k stands among these
@@ -252,34 +313,40 @@ module _ {X Y : Type 0} where
   abbrev pub places_answered : State X Y → List ℕ
   places_answered s = map (λ r. r.place) s.replies
 
+  abbrev pub places_taken : State X Y → List ℕ
+  places_taken s = map (λ h. h.task.place) s.taken
+
   module _ (number : X → ℤ) (cancels : X → Bool) (Says : X → Bool → Y → Type 0) where
     -- Whatever waits, is in hand or was answered stands at its place, and each request that is to
-    -- be answered waits, is in hand or was answered, once.
+    -- be answered waits, is in hand or was answered, once. What was taken, in the order in which it
+    -- was taken, and then what waits are the requests that are to be answered, in their order.
     pub record IsProper (s : State X Y) : Type 0 where
       pub waits : AllByRecursion (IsTask number cancels s.heard) s.waiting
-      pub holds : AllByRecursion (λ h. IsTask number cancels s.heard h.task) s.hands
+      pub holds : AllByRecursion (λ h. IsBegun number cancels s.heard h.task) s.hands
       pub said : AllByRecursion (IsReply number cancels Says s.heard) s.replies
       pub each : (k : ℕ)
           → times k (places_waiting s) + times k (places_in_hand s) + times k (places_answered s)
           ≡ times k (asked_from number cancels 0 s.heard)
+      pub took : AllByRecursion (IsTaken number cancels s.heard) s.taken
+      pub order : places_taken s ++ places_waiting s ≡ asked_from number cancels 0 s.heard
 
     module _ (written : Y → List ℕ) where
       -- what was put for these
       abbrev pub put_by : List (Reply Y) → List ℕ
       put_by replies = flat_map (λ r. written r.response) replies
 
-      -- what may go in with a call: the request that is heard, by its reader; the bytes of a
-      -- response that may be said to what the lane has in hand
+      -- what may go in with a call, and who may make it: the request that is heard, by the reader;
+      -- the bytes of a response that may be said to what the lane has in hand. The reader takes none.
       abbrev pub GoesIn : State X Y → ℕ → Ask X Y → Option (Load X) → Type 0
       GoesIn s lane (ask.Hear request) put =
           (lane ≡ reader) × (put ≡ Some (load.Request request.value))
       GoesIn s lane (ask.Answer response) put =
           (t : Task X) × (bytes : Vec ℕ) × (task_at lane s.hands ≡ Some t)
           × ((b : Bool) × (b ≡ true → t.work.cancelled ≡ true)
-          × Says t.work.request b response.value)
+          × Says t.work.request b response.value × (t.was ≡ true → b ≡ true))
           × (put ≡ Some (load.Bytes bytes)) × (bytes.items ≡ written response.value)
       GoesIn s lane (ask.Room depth) put = Unit {0}
-      GoesIn s lane ask.Take put = Unit {0}
+      GoesIn s lane ask.Take put = lane ≡ reader → ⊥
       GoesIn s lane ask.IsCancelled put = Unit {0}
       GoesIn s lane ask.Close put = Unit {0}
       GoesIn s lane ask.Halt put = Unit {0}

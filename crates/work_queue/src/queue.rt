@@ -1,8 +1,9 @@
 //! The machine.
-ghost use Rattle.std.specs.Prelude.{◌≡◌, ◌+◌, ℕ, List, [], true, false, ◌⊎◌, Option, Some, None};
+ghost use Rattle.std.specs.Prelude.{◌≡◌, ◌+◌, ℕ, List, [], true, false, ◌⊎◌, ◌||◌, cond, Option, Some, None};
 ghost use Rattle.seat_desk.specs.History.{entry};
 ghost use Rattle.work_queue.specs.declared.queue.Told.TheVariants as told;
 ghost use Rattle.work_queue.specs.States.{State, state_of, first, answer_to, is_kept, is_short, GoesIn, ComesOut, IsPaid, MayBeShort, PutSo};
+ghost use Rattle.work_queue.specs.Signing.{KeepsSigns, NamesWork, NotesSo, is_ending, is_idle, depth_then, closes, HaltsSo};
 ghost use Rattle.work_queue.specs.StateLaws.{Stands, TurnsSo, HearOnly, RoomOnly, TakeOnly, LookOnly, AnswerOnly, IsNew, EndsSo, short_not_kept, paid_not_short, paid_not_kept, suits_on, zero_fits};
 
 use crate::kind::Kind;
@@ -41,7 +42,7 @@ pub enum Ask<X, Y> {
 /// What it is answered.
 #[derive(Clone, Copy, PartialEq, Eq)]
 pub enum Told {
-    /// It is done.
+    /// It is done; or no, where it is asked whether a request was cancelled.
     Done,
     /// Yes.
     Open,
@@ -128,18 +129,17 @@ impl<O: Sink, X: Drop, Y, K: Kind<X, Y>> WorkQueue<O, X, Y, K> {
     // Hears a request.
     fn hear(&mut self, lane: u32, call: &Ask<X, Y>, put: Option<Load<X>>) -> Told
         requires { HearOnly call.now }
-        ensures { TurnsSo K.number K.cancels K.says K.written O.told self.old lane call.now put
+        ensures turns { TurnsSo K.number K.cancels K.says K.written O.told self.old lane call.now put
             result None self.new }
+        ensures signs { KeepsSigns self.old.signs self.new.signs }
+        ensures closed { result ≡ told.Closed → is_ending self.new ≡ true }
     {
-        self.signs.news = 0;
         let Some(Load::Request(request)) = put else {
+            self.signs.halt();
             return Told::Closed;
         };
         match self.rows.hear::<Y, K>(&self.signs, request) {
-            Ok(()) => {
-                self.signs.rouse_one();
-                Told::Done
-            }
+            Ok(()) => Told::Done,
             Err(_) => {
                 self.signs.halt();
                 Told::Closed
@@ -152,33 +152,36 @@ impl<O: Sink, X: Drop, Y, K: Kind<X, Y>> WorkQueue<O, X, Y, K> {
     // Whether there is room for more.
     fn room(&mut self, lane: u32, call: &Ask<X, Y>, depth: u32, put: Option<Load<X>>) -> Told
         requires { RoomOnly depth call.now }
-        ensures { TurnsSo K.number K.cancels K.says K.written O.told self.old lane call.now put
+        ensures turns { TurnsSo K.number K.cancels K.says K.written O.told self.old lane call.now put
             result None self.new }
+        ensures signs { (self.new.signs.resting ≡ self.old.signs.resting)
+            × ((self.new.signs.depth ≡ cond (is_idle result) depth self.old.signs.depth)
+            × (self.new.signs.is_closing ≡ self.old.signs.is_closing)) }
+        ensures closed { result ≡ told.Closed → is_ending self.new ≡ true }
     {
         drop(put);
-        self.signs.news = 0;
         if self.rows.waiting.len() < depth as usize {
             return Told::Open;
         }
-        self.signs.rest(lane);
+        self.signs.depth = depth;
         Told::Idle
     }
 
     // Takes the first that waits.
     fn take(&mut self, lane: u32, call: &Ask<X, Y>, put: Option<Load<X>>) -> (Told, Option<Load<X>>)
         requires { TakeOnly call.now }
-        ensures { TurnsSo K.number K.cancels K.says K.written O.told self.old lane call.now put
+        ensures turns { TurnsSo K.number K.cancels K.says K.written O.told self.old lane call.now put
             result.0 result.1 self.new }
+        ensures signs { KeepsSigns self.old.signs self.new.signs }
+        ensures closed { result.0 ≡ told.Closed → is_ending self.new ≡ true }
     {
         drop(put);
-        self.signs.news = 0;
         match self.rows.take::<Y, K>(lane) {
             Ok(Some(asked)) => {
                 self.signs.take_up(lane, asked.cancelled);
-                self.signs.rouse_reader();
                 (Told::Done, Some(Load::Task(asked)))
             }
-            Ok(None) => (self.none_waits(lane), None),
+            Ok(None) => (self.none_waits(), None),
             Err(_) => {
                 self.signs.halt();
                 (Told::Closed, None)
@@ -187,29 +190,29 @@ impl<O: Sink, X: Drop, Y, K: Kind<X, Y>> WorkQueue<O, X, Y, K> {
     }
 
     // The lane rests while nothing waits, or is told that nothing more comes.
-    fn none_waits(&mut self, lane: u32) -> Told
-        ensures rest { (self.new.rows ≡ self.old.rows) × (self.new.outlet ≡ self.old.outlet) }
+    fn none_waits(&self) -> Told
         ensures told { (result ≡ told.Closed) ⊎ (result ≡ told.Idle) }
+        ensures closed { result ≡ told.Closed → is_ending self.now ≡ true }
     {
         if self.signs.is_closing {
             return Told::Closed;
         }
-        self.signs.rest(lane);
         Told::Idle
     }
 
     // Whether what the lane has in hand was cancelled.
     fn look(&mut self, lane: u32, call: &Ask<X, Y>, put: Option<Load<X>>) -> Told
         requires { LookOnly call.now }
-        ensures { TurnsSo K.number K.cancels K.says K.written O.told self.old lane call.now put
+        ensures turns { TurnsSo K.number K.cancels K.says K.written O.told self.old lane call.now put
             result None self.new }
+        ensures signs { KeepsSigns self.old.signs self.new.signs }
+        ensures closed { result ≡ told.Closed → is_ending self.new ≡ true }
     {
         drop(put);
-        self.signs.news = 0;
         if self.rows.is_cancelled(lane) {
             Told::Open
         } else {
-            Told::Idle
+            Told::Done
         }
     }
 
@@ -217,25 +220,61 @@ impl<O: Sink, X: Drop, Y, K: Kind<X, Y>> WorkQueue<O, X, Y, K> {
     fn answer(&mut self, lane: u32, call: &Ask<X, Y>, put: Option<Load<X>>) -> Told
         requires open { self.old.outlet.has_failed ≡ false }
         requires answers { AnswerOnly call.now }
-        ensures { TurnsSo K.number K.cancels K.says K.written O.told self.old lane call.now put
+        ensures turns { TurnsSo K.number K.cancels K.says K.written O.told self.old lane call.now put
             result None self.new }
+        ensures signs { KeepsSigns self.old.signs self.new.signs }
+        ensures closed { result ≡ told.Closed → is_ending self.new ≡ true }
     {
-        self.signs.news = 0;
         let Some(Load::Bytes(bytes)) = put else {
+            self.signs.halt();
             return Told::Closed;
         };
         self.rows.put_down(lane);
         self.outlet.put(&bytes);
-        self.signs.note_sink(self.outlet.has_failed);
         Told::Done
+    }
+
+    // Makes the call.
+    fn make(&mut self, lane: u32, call: &Ask<X, Y>, put: Option<Load<X>>) -> (Told, Option<Load<X>>)
+        ensures turns { TurnsSo K.number K.cancels K.says K.written O.told self.old lane call.now
+            put result.0 result.1 self.new }
+        ensures resting { self.new.signs.resting ≡ self.old.signs.resting }
+        ensures depth { self.new.signs.depth ≡ depth_then call.now result.0 self.old.signs.depth }
+        ensures closing { self.new.signs.is_closing ≡ self.old.signs.is_closing || closes call.now }
+        ensures halts { HaltsSo call.now self.new.signs.is_halted }
+        ensures closed { result.0 ≡ told.Closed → is_ending self.new ≡ true }
+    {
+        match call {
+            Ask::Close => {
+                self.signs.close();
+                (Told::Done, None)
+            }
+            Ask::Halt => {
+                self.signs.halt();
+                (Told::Done, None)
+            }
+            _ if self.is_over() => (Told::Closed, None),
+            Ask::Hear(_) => (self.hear(lane, call, put), None),
+            Ask::Room(depth) => (self.room(lane, call, *depth, put), None),
+            Ask::Take => self.take(lane, call, put),
+            Ask::IsCancelled => (self.look(lane, call, put), None),
+            Ask::Answer(_) => (self.answer(lane, call, put), None),
+        }
     }
 
     // Whether nothing changes any more.
     fn is_over(&self) -> bool
-        ensures { result ≡ false → self.now.outlet.has_failed ≡ false }
+        ensures over { result ≡ (self.now.outlet.has_failed || self.now.signs.is_halted) }
+        ensures open { result ≡ false → self.now.outlet.has_failed ≡ false }
     {
         self.outlet.has_failed || self.signs.is_halted
     }
+}
+
+fn is_idle(reply: &Told) -> bool
+    ensures { result ≡ is_idle reply.now }
+{
+    matches!(reply, Told::Idle)
 }
 
 impl<O: Sink, X: Drop, Y, K: Kind<X, Y>> Machine for WorkQueue<O, X, Y, K> {
@@ -271,7 +310,7 @@ impl<O: Sink, X: Drop, Y, K: Kind<X, Y>> Machine for WorkQueue<O, X, Y, K> {
 
     ghost owes = { λ q h. 0 };
 
-    ghost hints = { λ m lane r lanes. Unit {0} };
+    ghost hints = { λ m lane r lanes. NamesWork m lanes };
 
     ghost short_is_not_kept = { λ e s. short_not_kept e.call e.reply s };
 
@@ -301,29 +340,17 @@ impl<O: Sink, X: Drop, Y, K: Kind<X, Y>> Machine for WorkQueue<O, X, Y, K> {
     fn turn(&mut self, lane: u32, call: &Ask<X, Y>, put: Option<Load<X>>) -> (Told, Option<Load<X>>)
         ensures turns { TurnsSo K.number K.cancels K.says K.written O.told self.old lane call.now
             put result.0 result.1 self.new }
+        ensures notes { NotesSo self.old lane call.now result.0 self.new }
     {
-        match call {
-            Ask::Close => {
-                self.signs.close();
-                (Told::Idle, None)
-            }
-            Ask::Halt => {
-                self.signs.halt();
-                (Told::Idle, None)
-            }
-            _ if self.is_over() => (Told::Closed, None),
-            Ask::Hear(_) => (self.hear(lane, call, put), None),
-            Ask::Room(depth) => (self.room(lane, call, *depth, put), None),
-            Ask::Take => self.take(lane, call, put),
-            Ask::IsCancelled => (self.look(lane, call, put), None),
-            Ask::Answer(_) => (self.answer(lane, call, put), None),
-        }
+        let (reply, good) = self.make(lane, call, put);
+        self.signs.note(lane, is_idle(&reply));
+        (reply, good)
     }
 
-    /// Whom the last call concerns: a lane that rests, for a request that waits; the reader, once
-    /// there is room again; all, once all is over.
+    /// Of the lanes that rest: one for a request that waits; the reader, once there is room again;
+    /// all, once no more comes or all is over.
     fn stirs(&self, _lane: u32, _reply: &Told) -> u128 {
-        self.signs.news
+        self.signs.named(self.is_over(), self.rows.waiting.len())
     }
 
     fn owed(&self) -> u64 {

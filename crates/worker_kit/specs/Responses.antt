@@ -30,6 +30,11 @@ abbrev pub Says : (WorkRequest → Handled → Type 0) → WorkRequest → Bool 
 Says answers m true r = r ≡ cancelled_response m.request_id
 Says answers m false r = (o : Handled) × answers m o × (r ≡ response_of m o)
 
+-- the handler before and after, where this response is of what it has made of the request
+abbrev pub Makes : {H : Type 0} → (H → WorkRequest → Handled → H → Type 0) → H → WorkRequest
+    → WorkResponse → H → Type 0
+Makes does old m r new = (o : Handled) × does old m o new × (r ≡ response_of m o)
+
 -- the bytes of a response behind their length
 abbrev pub framed : WorkResponse → List ℕ
 framed r = delimited (response_spelling r)

@@ -1,8 +1,8 @@
 // What a worker makes of its requests.
-ghost use Rattle.std.specs.Prelude.{◌≡◌, IfOk};
+ghost use Rattle.std.specs.Prelude.{◌≡◌, IfOk, OnErr};
 ghost use Rattle.wire_messages.specs.declared.request.WorkRequest.{WorkRequest};
 ghost use Rattle.worker_kit.specs.declared.handler.Handled.{Handled};
-ghost use Rattle.worker_kit.specs.Responses.{number_of, cancels_in, response_of, cancelled_response, Says};
+ghost use Rattle.worker_kit.specs.Responses.{number_of, cancels_in, response_of, cancelled_response, Makes, Says};
 
 use crate::speech::Speech;
 use json_framing::Framing;
@@ -53,6 +53,12 @@ pub trait LaneHandler: Drop {
     // What may be made of a request.
     ghost answers: { WorkRequest → Handled → Type 0 };
 
+    // The handler before and after, where it has made this of a request.
+    ghost does: { Self → WorkRequest → Handled → Self → Type 0 };
+
+    // The handler before and after, where it has broken off in a request for lack of memory.
+    ghost breaks: { Self → WorkRequest → Self → Type 0 };
+
     /// As [`Handler::handle`].
     ///
     /// # Errors
@@ -65,7 +71,9 @@ pub trait LaneHandler: Drop {
         request: &WorkRequest,
         flag: &CancelFlag,
     ) -> Result<Handled, NoMemory>
-        ensures { IfOk result (answers request.now) };
+        ensures answers { IfOk result (answers request.now) }
+        ensures does { IfOk result (λ handled. does self.old request.now handled self.new) }
+        ensures breaks { OnErr result (breaks self.old request.now self.new) };
 }
 
 /// A lane's share in the one handler of all lanes.
@@ -76,6 +84,10 @@ pub(crate) struct Shared<'a, H> {
 
 impl<H: Handler> LaneHandler for Shared<'_, H> {
     ghost answers = { H.answers };
+
+    ghost does = { λ old request handled new. new ≡ old };
+
+    ghost breaks = { λ old request new. new ≡ old };
 
     fn handle<R: Wait>(
         &mut self,
@@ -90,16 +102,25 @@ impl<H: Handler> LaneHandler for Shared<'_, H> {
 
 /// A lane's handler, in a speech.
 pub(crate) struct Works<H, V> {
-    handler: H,
+    pub(crate) handler: H,
     speech: PhantomData<V>,
 }
 
 impl<H, V> Works<H, V> {
-    pub(crate) fn of(handler: H) -> Works<H, V> {
+    pub(crate) fn of(handler: H) -> Works<H, V>
+        ensures { result.handler ≡ handler }
+    {
         Works {
             handler,
             speech: PhantomData,
         }
+    }
+
+    pub(crate) fn into_handler(self) -> H
+        ensures { result ≡ self.handler }
+    {
+        let Works { handler, speech: _ } = self;
+        handler
     }
 }
 
@@ -132,6 +153,11 @@ impl<H: LaneHandler, V: Speech> Kind<WorkRequest, WorkResponse> for Works<H, V> 
 
 impl<H: LaneHandler, V: Speech> Answerer<WorkRequest, WorkResponse> for Works<H, V> {
     ghost framing = { V.framing };
+
+    ghost answers = { λ old request response new. Makes H.does old.handler request response
+        new.handler };
+
+    ghost breaks = { λ old request new. H.breaks old.handler request new.handler };
 
     ghost spells = { V.spells };
 

@@ -4,7 +4,7 @@
 //! the input, and others answer what it has read, each request once and under its number. A request
 //! that is cancelled before a lane takes it is answered as cancelled and not handled. One that is
 //! being handled is told so by its [`CancelFlag`]. [`serve_each`] gives each lane a handler of its
-//! own.
+//! own, and hands the handlers back.
 //!
 //! [`Delimited`] reads and writes messages in the binary form of Protocol Buffers, each behind its
 //! length.
@@ -17,6 +17,6 @@ mod speech;
 
 pub use end::KitEnd;
 pub use handler::{Handled, Handler, LaneHandler};
-pub use serving::{KitEnded, Size, serve, serve_each};
+pub use serving::{EachEnded, KitEnded, Size, serve, serve_each};
 pub use speech::{Delimited, Speech};
 pub use work_lanes::{CancelFlag, Streams};

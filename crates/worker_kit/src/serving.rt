@@ -1,8 +1,8 @@
 // From the start of the input to its end.
-ghost use Rattle.std.specs.Prelude.{◌≡◌, ◌<◌, length, IfOk};
+ghost use Rattle.std.specs.Prelude.{◌≡◌, ◌≤◌, [], length, vec_capacity, IfOk};
 ghost use Rattle.json_framing.specs.Cutter.{form_of};
 ghost use Rattle.work_lanes.specs.Serves.{AreHandlers, IsDepth, told_by};
-ghost use Rattle.worker_kit.specs.Serves.{Serves, finish_of};
+ghost use Rattle.worker_kit.specs.Serves.{Serves, ServesEach, finish_of, handlers_of};
 
 use crate::end::KitEnd;
 use crate::handler::{Handler, LaneHandler, Shared, Works};
@@ -32,6 +32,17 @@ pub struct KitEnded<T, O> {
     pub sink: O,
 }
 
+/// What a worker leaves that has a handler for each lane.
+#[derive(Drop)]
+pub struct EachEnded<T, O, H> {
+    /// Why it has ended.
+    pub end: KitEnd,
+    pub tap: T,
+    pub sink: O,
+    /// The handlers, in their order.
+    pub handlers: Vec<H>,
+}
+
 /// Reads requests, and lets the handler answer them, on so many threads, up to the end of the input
 /// or to what spells no request. It answers with the cause of its end.
 ///
@@ -58,7 +69,10 @@ pub fn serve<T: Tap + Send, O: Sink + Send, H: Handler, V: Speech + Send, R: Thr
         (told_by T.told O.told s.tap s.sink)) }
 {
     let handlers = shares_of(alloc, handler, size.handlers)?;
-    serve_each(rt, alloc, speech, streams, size.depth, handlers)
+    let EachEnded { end, tap, sink, .. } = serve_each(
+        rt, alloc, speech, streams, size.depth, handlers,
+    )?;
+    Ok(KitEnded { end, tap, sink })
 }
 
 // So many shares in the handler.
@@ -72,7 +86,9 @@ fn shares_of<H>(alloc: Global, handler: &H, count: u32) -> Result<Vec<Shared<'_,
     Ok(shares)
 }
 
-/// As [`serve`], with a handler for each lane.
+/// As [`serve`], with a handler for each lane. The handlers come back: each was asked for the
+/// requests that its lane took, the earliest first, each once; not for those that were cancelled by
+/// then, and for nothing else.
 ///
 /// # Errors
 ///
@@ -90,22 +106,32 @@ pub fn serve_each<
     streams: Streams<T, O>,
     depth: u32,
     handlers: Vec<H>,
-) -> Result<KitEnded<T, O>, NoMemory>
+) -> Result<EachEnded<T, O, H>, NoMemory>
     requires handlers { AreHandlers (length handlers.items) }
     requires depth { IsDepth depth }
-    ensures { IfOk result (λ s. Serves (form_of V.framing) V.spells H.answers V.written
-        (finish_of s.end) (told_by T.told O.told streams.tap streams.sink)
-        (told_by T.told O.told s.tap s.sink)) }
+    ensures { IfOk result (λ s. ServesEach (form_of V.framing) V.spells H.answers H.does H.breaks
+        V.written (finish_of s.end) handlers.items s.handlers.items
+        (told_by T.told O.told streams.tap streams.sink) (told_by T.told O.told s.tap s.sink)) }
 {
+    let back = Vec::with_capacity(alloc, handlers.len())?;
     let works: Vec<Works<H, V>> = works_of(alloc, handlers)?;
-    let LanesEnded { finish, tap, sink } = run_lanes(rt, alloc, streams, depth, works)?;
-    let end = KitEnd::of(finish);
-    Ok(KitEnded { end, tap, sink })
+    let LanesEnded {
+        finish,
+        tap,
+        sink,
+        handlers: works,
+    } = run_lanes(rt, alloc, streams, depth, works)?;
+    Ok(EachEnded {
+        end: KitEnd::of(finish),
+        tap,
+        sink,
+        handlers: handlers_of(works, back),
+    })
 }
 
 // Each handler, in a speech.
 fn works_of<H: Drop, V>(alloc: Global, handlers: Vec<H>) -> Result<Vec<Works<H, V>>, NoMemory>
-    ensures { IfOk result (λ works. length works.items ≡ length handlers.items) }
+    ensures { IfOk result (λ works. handlers_of works.items ≡ handlers.items) }
 {
     let mut works = Vec::with_capacity(alloc, handlers.len())?;
     let mut rest = VecDeque::from_vec(handlers);
@@ -113,4 +139,18 @@ fn works_of<H: Drop, V>(alloc: Global, handlers: Vec<H>) -> Result<Vec<Works<H, 
         works.push_reserved(Works::of(handler));
     }
     Ok(works)
+}
+
+// The handlers of these, in this room.
+fn handlers_of<H: Drop, V>(works: Vec<Works<H, V>>, room: Vec<H>) -> Vec<H>
+    requires empty { room.items ≡ [] }
+    requires room { length works.items ≤ vec_capacity room }
+    ensures { result.items ≡ handlers_of works.items }
+{
+    let mut handlers = room;
+    let mut rest = VecDeque::from_vec(works);
+    while let Some(works) = rest.pop_front() {
+        handlers.push_reserved(works.into_handler());
+    }
+    handlers
 }

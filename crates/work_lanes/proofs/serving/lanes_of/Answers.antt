@@ -16,12 +16,11 @@ loop-handler-init g c =
         c.len.ensures,
       );
       few = omega (arith, n, c.requires.1);
-      so_far = lanes_begin c.args.input (length c.args.handlers.items)
-          (length c.from_vec-rest.result.items)
+      so_far = lanes_begin c.args.input c.args.handlers.items c.from_vec-rest.result.items
           (record { alloc = c.args.alloc; input = c.args.input; depth = c.args.depth })
           c.in_ok-lanes.lanes.items c.push_reserved.new.self.items
           c.push_reserved.ensures.items c.in_ok-lanes.ensures.items
-          refl n;
+          refl c.from_vec-rest.ensures.items;
     }
 
 pub loop-handler-preserved : goal.loop-handler-preserved
@@ -37,15 +36,15 @@ loop-handler-preserved g c =
         c.push_reserved-in-Some.ensures.capacity,
       );
       few = omega (arith, fewer, i.few);
-      so_far = lanes_go_on c.args.input (length c.args.handlers.items) c.loop-handler.number
-          (length c.loop-handler.rest.items) (length c.pop_front.new.self.items) _
+      so_far = lanes_go_on c.args.input c.args.handlers.items c.loop-handler.number
+          c.loop-handler.rest.items c.pop_front.new.self.items _
           c.loop-handler.lanes.items c.push_reserved-in-Some.new.self.items
-          c.push_reserved-in-Some.ensures.items refl (omega (arith, fewer)) i.so_far;
+          c.push_reserved-in-Some.ensures.items refl c.in-Some.ensures.items i.so_far;
     }
 
 pub returns : goal.returns
 returns g c =
     let none : c.loop-handler.rest.items ≡ [] = search rules in
-    lanes_end c.args.input (length c.args.handlers.items) c.loop-handler.number
-    (length c.loop-handler.rest.items) c.loop-handler.lanes.items (ap length none)
+    lanes_end c.args.input c.args.handlers.items c.loop-handler.number
+    c.loop-handler.rest.items c.loop-handler.lanes.items none
     c.loop-handler.invariant.so_far

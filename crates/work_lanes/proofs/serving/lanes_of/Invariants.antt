@@ -12,8 +12,8 @@ invariant-loop-handler g l = record {
   room : vec_len l.lanes + length l.rest.items ≤ vec_capacity l.lanes;
   few : l.number + length l.rest.items < 2 ^ 32;
   so_far : (more : List (Either (Reader g.row.T.Denot) (Hands g.row.H.Denot)))
-      → AreHands l.number (length l.rest.items) more
-      → AreLanes l.fn.input (length l.fn.handlers.items) (l.lanes.items ++ more);
+      → AreHands l.number l.rest.items more
+      → AreLanes l.fn.input l.fn.handlers.items (l.lanes.items ++ more);
 }
 
 abbrev pub decreases-loop-handler : goal.decreases-loop-handler
