@@ -1,4 +1,4 @@
-//! Plays whole runs, in memory and with real objects, and prints what each came to.
+//! Plays whole runs in memory, and prints what each came to.
 //!
 //! | A line of standard input | Does |
 //! |---|---|
@@ -11,30 +11,25 @@
 //! | `children BEAT .. / BEAT ..` | in the next run the children of the lines do this, from line 0 on: `hear=N`, `leave=PATH`, `leave=PATH,TEXT`, `give=BYTES`, `choose=BYTES,BYTES`, `raise=N`, `await=N`, `die`; one without beats does what it is asked |
 //! | `play WORD WORD ..` | a run with these words: its status, how many berths it had, whether all children were killed, how many lines it had and how many of them were started, its report, and the line of its fault |
 //! | `race WORD WORD ..` | the same without the run's lines, and of its report how many lines it has and the last one, where more isn't determined |
-//! | `latest WORD WORD ..` | the same as `play`, by a policy that takes the latest queued action of a group first |
 //! | `shared WORD WORD ..`, `crowd WORD WORD ..` | the same as `play` and `race`, where worker keys share berths |
 //! | `choose WORD WORD ..` | the same as `play`, by strategies, with a delay by the clock; first the action that no strategy supports, if there is one |
 //! | `meet WORD WORD ..` | its status and its report, where each of two actions writes only once the other does too |
 //! | `delay` | what lanes are told, call after call, by a core whose worker's branch waits for two Ticks |
 //! | `reads`, `writes` | what the floor and the places tell of the last run |
 //! | `room`, `given` | what its first berth and its first line tell |
-//! | `real` | behind this line each line is a list, which is run with real objects and shell workers: its report, its status and the line of its fault |
 //!
-//! Other lines before `real` are printed as they are. The program runs in a folder of its own with the files of `data/`.
-//! `tools/run-vectors` writes `stdin` and `stdout`, and `tools/fail-alloc` plays two runs with each allocation refused in turn.
+//! Other lines are printed as they are. `dev/run-vectors` writes `stdin` and `stdout`, and `dev/fail-alloc` plays two runs with
+//! each allocation refused in turn. Runs with real objects are played from outside, by `tests/programs`.
 #![tactic(auto)]
 
 mod case;
 mod delayed;
-mod latest;
 mod meeting;
 mod played;
-mod real;
 
 use case::Case;
 use meeting::MeetingFloor;
 use outside_mem::{MemFloor, MemSink};
-use outside_real::{RealFloor, RealSink};
 use plain_values::NoMemory;
 use played::Shown;
 use shared_runs::run_shared;
@@ -55,16 +50,7 @@ fn main(rt: HostRuntime) -> io::Result<()> {
     let Ok(text) = str::from_utf8(&bytes) else {
         return Err(io::Error::from(ErrorKind::InvalidData));
     };
-    let Some((memory, lists)) = text.split_once("\nreal\n") else {
-        return play_all(&rt, alloc, text);
-    };
-    play_all(&rt, alloc, memory)?;
-    for path in lists.lines() {
-        println!(&rt; "{path}")?;
-        let floor = RealFloor::new(rt, alloc);
-        real::run(&rt, alloc, path, floor, RealSink::new(rt))?;
-    }
-    Ok(())
+    play_all(&rt, alloc, text)
 }
 
 fn play_all<R: Threads + Wait + Clock + Print + Copy + Drop + Send + Sync>(
@@ -104,7 +90,6 @@ fn play<R: Threads + Wait + Clock + Copy + Drop + Send + Sync>(
     match kind {
         "play" => run(rt, alloc, rest, case, last, How::all_by(By::Own)),
         "race" => run(rt, alloc, rest, case, last, How::totals_by(By::Own)),
-        "latest" => run(rt, alloc, rest, case, last, How::all_by(By::Latest)),
         "shared" => run(rt, alloc, rest, case, last, How::all_by(By::Shared)),
         "crowd" => run(rt, alloc, rest, case, last, How::totals_by(By::Shared)),
         "choose" => choose(rt, alloc, rest, case, last),
@@ -119,7 +104,6 @@ fn play<R: Threads + Wait + Clock + Copy + Drop + Send + Sync>(
 #[derive(Clone, Copy)]
 enum By {
     Own,
-    Latest,
     Shared,
 }
 
@@ -157,15 +141,13 @@ fn run<R: Threads + Wait + Copy + Drop + Send + Sync>(
     let (script, mut out, words) = played::stage(alloc, case, line)?;
     let floor = MemFloor::new(*rt, alloc, script)?;
     let words = words.as_slice();
-    *last = match how.by {
-        By::Own => Some(run_build(rt, alloc, words, floor, &mut out)),
-        By::Latest => latest::run(rt, alloc, words, floor, &mut out)?,
-        By::Shared => Some(run_shared(rt, alloc, words, floor, &mut out)),
+    let ended = match how.by {
+        By::Own => run_build(rt, alloc, words, floor, &mut out),
+        By::Shared => run_shared(rt, alloc, words, floor, &mut out),
     };
-    match last {
-        Some(ended) => played::tell(alloc, ended, how.shown, report_in(&out)),
-        None => Ok(String::from_str(alloc, "no run\n")?),
-    }
+    let told = played::tell(alloc, &ended, how.shown, report_in(&out));
+    *last = Some(ended);
+    told
 }
 
 fn choose<R: Threads + Wait + Clock + Copy + Drop + Send + Sync>(
@@ -207,7 +189,7 @@ fn report_in(out: &MemSink) -> &str {
     str::from_utf8(out.bytes()).unwrap_or("no text")
 }
 
-pub fn no_memory(_: NoMemory) -> io::Error {
+fn no_memory(_: NoMemory) -> io::Error {
     io::Error::from(ErrorKind::OutOfMemory)
 }
 

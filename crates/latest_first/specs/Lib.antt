@@ -1,4 +1,0 @@
-pub mod Latest
-pub mod Choices
-pub mod Queued
-pub mod Laws
