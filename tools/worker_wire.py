@@ -7,7 +7,7 @@ from __future__ import annotations
 import dataclasses
 import io
 import json
-from typing import BinaryIO, Iterator
+from typing import Any, BinaryIO, Iterator
 
 MAX_NUMBER_BYTES = 10
 WHOLE, EIGHT, SPAN, FOUR = 0, 1, 2, 5
@@ -136,7 +136,7 @@ def response_of(message: bytes, as_json: bool) -> Response:
         raise NoMessage(str(error)) from error
 
 
-def object_of(line: bytes) -> dict:
+def object_of(line: bytes) -> dict[str, Any]:
     """The JSON object that a line is."""
     try:
         held = json.loads(line)
@@ -147,7 +147,7 @@ def object_of(line: bytes) -> dict:
     return held
 
 
-def number_at(held: dict, *keys: str) -> int:
+def number_at(held: dict[str, Any], *keys: str) -> int:
     """The number at the first of the keys that is there; 0 if none is."""
     for key in keys:
         if held.get(key) is not None:

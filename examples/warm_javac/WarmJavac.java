@@ -157,6 +157,21 @@ public final class WarmJavac {
       files.setLocation(StandardLocation.CLASS_PATH, parts);
     }
 
+    /**
+     * Closes all jars. As the JDK closes one it looks for its path, and stops if the jar is gone: that of an earlier
+     * request's class path may be. Called again, it goes on with the next one.
+     */
+    private void close() {
+      for (int jar = 0; jar <= key.size(); jar++) {
+        try {
+          files.close();
+          return;
+        } catch (IOException gone) {
+          // That jar is closed, and nothing of it was to be written.
+        }
+      }
+    }
+
     /** The one that this thread has kept, if its files are the same and have the digests that they had; else a new one. */
     static ClassPath of(List<String> parts, Request request) throws IOException {
       List<String> key = new ArrayList<>();
@@ -166,7 +181,7 @@ public final class WarmJavac {
       ClassPath kept = KEPT.get();
       if (kept == null || !kept.key.equals(key)) {
         if (kept != null) {
-          kept.files.close();
+          kept.close();
         }
         kept = new ClassPath(key, parts.stream().map(request::at).toList());
         KEPT.set(kept);

@@ -264,11 +264,11 @@ def asked_again(programs: Programs, folder: pathlib.Path) -> None:
 
 
 def links(programs: Programs, folder: pathlib.Path) -> None:
-    """A link is no file, and one that stands at an output is replaced."""
+    """An input is read behind a link, as it has to be in Bazel's folders, and a link that stands at an output is replaced."""
     fill(folder, FILES)
     (folder / "link").symlink_to("a")
     ended = run([programs.demo_tool, "--in=link", "--out=o"], folder)
-    compare("an input that is a link", (1, b"missing: link", None), (ended.status, ended.out, found(folder, "o")))
+    compare("an input that is a link", (0, b"", b"one\n"), (ended.status, ended.out, found(folder, "o")))
     ended = run([programs.demo_tool, "--in=b", "--out=link"], folder)
     left = ((folder / "link").is_symlink(), found(folder, "link"), found(folder, "a"))
     compare("an output that is a link", (0, (False, b"two\n", b"one\n")), (ended.status, left))

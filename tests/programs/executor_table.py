@@ -36,9 +36,10 @@ JOBS = [
     # A word without a slash at its front is looked for in the folder of the tool's start.
     (job(10, [b"tool"], outputs=[b"o"]), result(10, files=[(b"o", b"from the tool\n")])),
     # Paths that lead out of the job's folder, and what can't be written or read.
-    (job(11, [b"tool"], [(b"../i", b"x")]), result(11, refusal=b"cannot write")),
-    (job(12, [b"tool"], outputs=[b"/o"]), result(12, refusal=b"cannot write")),
-    (job(-1, [b"tool"], outputs=[b""]), result(-1, refusal=b"cannot write")),
+    (job(11, [b"tool"], [(b"../i", b"x")]), result(11, refusal=b"bad path")),
+    (job(12, [b"tool"], outputs=[b"/o"]), result(12, refusal=b"bad path")),
+    (job(-1, [b"tool"], outputs=[b""]), result(-1, refusal=b"bad path")),
+    (job(19, [b"tool"], [(b".worker_rooms/0/i", b"x")]), result(19, refusal=b"bad path")),
     (job(13, [b"tool"], [(b"i", b"x"), (LONG, b"")], [b"i"]), result(13, refusal=b"cannot write")),
     (job(14, [b"tool"], outputs=[LONG + b"/o"]), result(14, refusal=b"cannot write")),
     (job(15, [*SHELL, b":"], outputs=[b"o", LONG]), result(15, refusal=b"cannot read")),
@@ -137,6 +138,39 @@ def streams(programs: Programs, folder: pathlib.Path) -> None:
         os.close(full)
 
 
+def too_large(programs: Programs, folder: pathlib.Path) -> None:
+    """A result whose message would have more than 64 MiB is none: the job is refused, and the one behind it is run."""
+    room = rooms(folder)
+    whole = job(1, [*SHELL, b"truncate -s 67108864 o"], outputs=[b"o"], env=[PATH])
+    said = job(2, [*SHELL, b"truncate -s 67108864 o; cat o; rm o"], outputs=[b"o"], env=[PATH])
+    ended = run([programs.remote_exec, "--serve"], room, framed(whole) + framed(said) + framed(job(3, [*SHELL, b":"])))
+    wanted = GREETING + framed(result(1, refusal=b"too large")) + framed(result(2, refusal=b"too large")) + framed(result(3))
+    compare("64 MiB of an output, and of text", (0, wanted), (ended.status, ended.out))
+
+
+def sessions(programs: Programs, folder: pathlib.Path) -> None:
+    """Two sessions in one folder: a job finds nothing of the earlier one, and two at once aren't let in."""
+    room = rooms(folder)
+    first = framed(job(1, [*SHELL, b"printf old > o"], outputs=[b"o"]))
+    compare("the first session", (0, GREETING + framed(result(1, files=[(b"o", b"old")]))), told(run([programs.remote_exec, "--serve"], room, first)))
+    second = framed(job(1, [*SHELL, b":"], outputs=[b"o"]))
+    compare("the second session", (0, GREETING + framed(result(1))), told(run([programs.remote_exec, "--serve"], room, second)))
+    with subprocess.Popen([programs.remote_exec, "--serve"], cwd=room, stdin=subprocess.PIPE, stdout=subprocess.PIPE) as one:
+        assert one.stdin is not None and one.stdout is not None
+        # Its greeting says that it has the folder.
+        greeting = one.stdout.read(len(GREETING))
+        other = run([programs.remote_exec, "--serve"], room)
+        one.stdin.close()
+        rest = one.stdout.read()
+    compare("the one that has the folder", (GREETING, b""), (greeting, rest))
+    said = b"remote_exec: `.executor_lock` can't be had: another executor is at work in this folder\n"
+    compare("the other one", (5, b"", said), (other.status, other.out, other.err))
+
+
+def told(ended: play.Ended) -> tuple[int, bytes]:
+    return ended.status, ended.out
+
+
 def cases() -> Iterator[Case]:
-    for case in [one_after_another, bad_jobs, given_up, streams]:
+    for case in [one_after_another, bad_jobs, given_up, streams, too_large, sessions]:
         yield Case(f"executor: {case.__name__.replace('_', ' ')}", case)

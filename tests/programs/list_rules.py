@@ -73,7 +73,8 @@ def path_fault(path: str) -> str | None:
         ("" in parts, "has an empty segment"),
         ("." in parts, "has a segment `.`"),
         (".." in parts, "has a segment `..`"),
-        (parts[0] == "__sandbox", "first segment is `__sandbox`"),
+        (parts[0] in ("__sandbox", ".worker_rooms") or any(part.startswith(".worker_tool.") for part in parts),
+         "first segment is `__sandbox` or `.worker_rooms`, or a segment begins with `.worker_tool.`"),
     ]
     return next((said for broken, said in rules if broken), None)
 

@@ -45,7 +45,8 @@ TEXTS = [
 PATHS = [
     "a", "a/b.c", "...", ".a/b..", "a/__sandbox", "__sandbox2", "__sandbo", " ", "\u00e4/\U00010348", "a\\b", "", "a\0b", "/\0",
     "/", "/a", "//a", "a/", "a//b", "../a/", "./a", "a/.", "../.", "..", "a/../b", "__sandbox/..", "__sandbox",
-    "__sandbox/1/o", "a" * 4096, "/" * 4097,
+    "__sandbox/1/o", "a" * 4096, "/" * 4097, ".worker_rooms", ".worker_rooms/lock", "a/.worker_rooms/b", ".worker_rooms2",
+    ".worker_tool.part", "a/.worker_tool.0.part", "a/.worker_tool./b", ".worker_tool", "x.worker_tool.y",
 ]
 
 

@@ -100,6 +100,19 @@ def as_they_end(programs: Programs, folder: pathlib.Path) -> None:
         ends(it)
 
 
+def woken(programs: Programs, folder: pathlib.Path) -> None:
+    """Lanes that rest are woken by a job: a rest that nobody ends takes a second. So the middle one of nine jobs is done sooner."""
+    took = []
+    with started(programs, folder) as it:
+        for number in range(1, 10):
+            begun = time.monotonic()
+            give(it, job(number, [*SHELL, b":"]))
+            comes(it, result(number))
+            took.append(time.monotonic() - begun)
+        ends(it)
+    compare(f"within half a second: {[round(it, 2) for it in took]}", True, sorted(took)[4] < 0.5)
+
+
 def given_up(programs: Programs, folder: pathlib.Path) -> None:
     """While the one lane runs a job, others are given up, and the one that is run is not.
 
@@ -174,5 +187,5 @@ def streams(programs: Programs, folder: pathlib.Path) -> None:
 
 
 def cases() -> Iterator[Case]:
-    for case in [results, side_by_side, as_they_end, given_up, crowd, with_the_tool, eight_seconds, streams]:
+    for case in [results, side_by_side, as_they_end, woken, given_up, crowd, with_the_tool, eight_seconds, streams]:
         yield Case(f"pool: {case.__name__.replace('_', ' ')}", case)

@@ -30,7 +30,7 @@ REFUSED = [
     "--sandboxed= l", "--sandboxed=1 --sandboxed=1 l", "--sandboxed=00001 l", "--sandboxed=16 l", "--remote=16 l",
     "--sandboxed=9 --remote=8 l", "--sandbox_executor= l", "--sandbox_executor l", "--sandbox_executor=a --sandbox_executor=b l",
     "--local_delay=10000 l", "--local_delay=-1 l", "--local_delay= l", "--local_delay=1ms l", "--local_delay=1 --local_delay=1 l",
-    "--max_workers=4 l", "--instances=49 l", "--retries=10 l", "--help",
+    "--max_workers=4 l", "--instances=49 l", "--retries=10 l", "--help l", "--version --help",
 ]
 
 # The rules by mnemonic and the list for all others, as words spell them.

@@ -1,0 +1,195 @@
+"""Cases: workers that outlive a run."""
+from __future__ import annotations
+
+import os
+import pathlib
+import subprocess
+import sys
+import time
+
+from case import Folder
+
+
+class Kept(Folder):
+    """Workers that outlive a run."""
+
+    def pids(self) -> list[int]:
+        """Returns the workers that are kept."""
+        return [int(it.split()[0]) for it in self.front("workers").splitlines()[:-1]]
+
+    def test_json_and_changes(self) -> None:
+        self.worker('text = str(os.getpid()); time.sleep(0.05)')
+        self.write_list(self.actions(4))
+        self.assertIn("4 actions made", self.front("-j1", "--keep=900"))
+        first = self.pids()
+        self.assertEqual(len(first), 1)
+        self.put("src/0", "other\n")
+        self.assertIn("1 action made", self.front("-j1", "--keep=900"))
+        self.assertEqual(pathlib.Path("out/0").read_text(), "other\n")
+        self.assertEqual(self.pids(), first)
+        self.worker('text = "other"')
+        self.assertIn("4 actions made", self.front("-j1", "--keep=900"))
+        self.assertNotEqual(self.pids()[0:1] + self.pids()[-1:], first * 2)
+        self.assertIn("2 workers ended", self.front("workers", "--end"))
+        self.until(lambda: self.pids() == [])
+
+    def test_tools_are_in_the_key(self) -> None:
+        self.worker("text = open('../../table').read()")
+        self.put("table", "1")
+        actions = self.actions(1, tools=["table"])
+        self.write_list(actions)
+        self.front("--keep=900")
+        self.put("table", "2")
+        self.front("--keep=900")
+        self.assertEqual(len(self.pids()), 2)
+
+    def test_protobuf_and_multiplex(self) -> None:
+        modes: list[dict[str, str]] = [{}, {"supports-multiplex-workers": "1"}, {"supports-multiplex-workers": "1", "supports-multiplex-sandboxing": "1"}]
+        for needs in modes:
+            with self.subTest(needs):
+                actions = self.copies(40, 8)
+                for it in actions:
+                    it["requirements"] = {"supports-workers": "1", **needs}
+                    it["argv"].remove("--json")
+                self.write_list(actions)
+                self.front("workers", "--end")
+                self.assertIn("40 actions made", self.front("run", "-j2", "--keep=900"))
+                first = self.pids()
+                for text in ("x\n", "y\n"):
+                    self.put("src/0", text)
+                    self.assertIn("5 actions made, 35 up to date", self.front("-j2", "--keep=900"))
+                    self.assertTrue(pathlib.Path("out/32").read_text().endswith(text))
+                self.assertTrue(set(first) <= set(self.pids()))
+
+    def test_no_more_are_kept_than_may_run(self) -> None:
+        self.worker()
+        actions = self.actions(20)
+        for place, it in enumerate(actions):
+            it["argv"] = ["worker", f"--key={place}", f"@flags/{place}"]
+        self.write_list(actions)
+        self.assertIn("20 actions made", self.front("-j3", "--keep=900"))
+        self.assertLessEqual(len(self.pids()), 4)
+
+    def test_cut_off_request_ends_the_worker(self) -> None:
+        self.worker('if words["name"] == "a1": time.sleep(60)')
+        self.write_list(self.actions(2))
+        run = self.begin("-j1", "--keep=900")
+        self.until(lambda: os.path.exists("out/0"))
+        time.sleep(0.3)
+        self.assertEqual(len(self.pids()), 1)
+        run.kill()
+        run.communicate()
+        self.until(lambda: self.pids() == [] and not self.sleepers(self.folder + "/worker"), 40)
+
+    def test_idle(self) -> None:
+        self.worker()
+        self.write_list(self.actions(1))
+        self.front("--keep=9")
+        self.assertTrue(self.sleepers(self.folder + "/worker"))
+        self.until(lambda: not self.sleepers(self.folder + "/worker"), 60)
+        self.assertEqual(self.pids(), [])
+        self.assertEqual([it for it in os.listdir(".lenthuvi") if it.startswith("kept-")], [])
+
+    def test_failures_and_stray_words(self) -> None:
+        self.worker('if open(held["inputs"][1]["path"]).read() == "die": sys.exit(3)\nif open(held["inputs"][1]["path"]).read() == "bad": code = 5')
+        self.write_list(self.actions(1))
+        self.front("--keep=900")
+        self.put("src/0", "bad")
+        self.assertIn("exit 5", self.front("--keep=900", status=1))
+        self.put("src/0", "die")
+        self.assertIn("ended with status 3", self.front("--keep=900", "--retries=1", status=1))
+        self.put("src/0", "good")
+        self.assertIn("1 action made", self.front("--keep=900"))
+
+    def test_another_folder_has_its_own(self) -> None:
+        """The same list, worker and contents in two folders: no worker is shared, since each has its own room."""
+        self.worker("text = os.getcwd()")
+        self.write_list(self.actions(1))
+        self.front("--keep=900")
+        first = self.pids()
+        os.makedirs("other")
+        for name in ("src", "flags"):
+            os.rename(name, f"other/{name}")
+        os.link("worker", "other/worker")
+        os.rename("list.json", "other/list.json")
+        os.chdir("other")
+        self.front("--keep=900")
+        self.assertEqual(len(self.pids()), 2)
+        self.assertIn(first[0], self.pids())
+
+    def test_another_user_has_none_of_it(self) -> None:
+        """The sockets are in a folder of the user's own. One that others may write to, or that is a link, is refused."""
+        self.worker()
+        self.write_list(self.actions(1))
+        self.front("--keep=900")
+        self.assertEqual(os.stat("kept").st_mode & 0o777, 0o700)
+        os.chmod("kept", 0o777)
+        self.assertIn("which must be yours alone", self.front("run", "--keep=900", status=5))
+        os.chmod("kept", 0o700)
+        os.rename("kept", "moved")
+        os.symlink("moved", "kept")
+        self.assertIn("which must be yours alone: no link", self.front("run", "--keep=900", status=5))
+        os.remove("kept")
+        os.rename("moved", "kept")
+        if os.geteuid() == 0:
+            os.chown("kept", 1234, 1234)
+            self.assertIn("which must be yours alone", self.front("run", "--keep=900", status=5))
+            os.chown("kept", 0, 0)
+            self.put("ask.py", "import os, socket, sys\nos.setuid(1234)\nline = socket.socket(socket.AF_UNIX)\n"
+                     "line.connect(sys.argv[1])\ntry:\n    line.sendall(b'a')\n    print(line.recv(10))\nexcept ConnectionError:\n    print(b'')\n")
+            os.chmod("kept", 0o755)  # Even with the folder open, a keeper answers no other user.
+            os.chmod(self.folder, 0o755)
+            path = next(it for it in pathlib.Path("kept").resolve().iterdir() if it.is_socket())
+            os.chmod(path, 0o777)
+            asked = subprocess.run([sys.executable, "ask.py", str(path)], capture_output=True, text=True, check=False)
+            self.assertNotIn("pid", asked.stdout)
+            self.assertIn("b''", asked.stdout, asked.stderr)
+            os.chmod("kept", 0o700)
+
+    def test_a_tool_that_changes_in_the_run(self) -> None:
+        """A worker that may have loaded another version than the one by which it would be found isn't kept."""
+        self.put("table", "1")
+        self.worker(f'''
+open("{self.folder}/table", "w").write("2")
+text = open("{self.folder}/table").read()''')
+        self.write_list(self.actions(1, tools=["table"]))
+        self.front("--keep=900", "--retries=0")
+        self.until(lambda: self.pids() == [] and not self.sleepers(self.folder + "/worker"), 40)
+
+    def test_the_same_version_again(self) -> None:
+        """A tool that was changed and put back finds the worker of its contents."""
+        self.worker()
+        self.put("table", "1")
+        self.write_list(self.actions(1, tools=["table"]))
+        self.front("run", "--keep=900")
+        first = self.pids()
+        self.put("table", "2")
+        self.front("run", "--keep=900")
+        self.put("table", "1")
+        self.front("run", "--keep=900")
+        self.assertEqual(len(self.pids()), 2)
+        self.assertIn(first[0], self.pids())
+
+    def test_memory(self) -> None:
+        """Kept workers that have too much memory together are ended, the one idle for longest first."""
+        self.worker("keeps = bytearray(60_000_000)")
+        actions = self.actions(3)
+        for place, it in enumerate(actions):
+            it["argv"] = ["worker", f"--key={place}", f"@flags/{place}"]
+        self.write_list(actions)
+        self.assertIn("ended, since all together had more than 170 MB", self.front("--keep=900", "--keep-memory=170"))
+        self.until(lambda: len(self.pids()) == 2, 40)
+        self.assertIn("ended", self.front("run", "--keep=900", "--keep-memory=1"))
+        self.until(lambda: self.pids() == [], 40)
+
+    def test_stray_bytes_end_it(self) -> None:
+        """What a worker writes between two runs would be taken for an answer."""
+        self.worker("threading.Timer(0.3, lambda: say(requestId=0)).start()")
+        pathlib.Path("worker").write_text(pathlib.Path("worker").read_text().replace("import json,", "import threading, json,"))
+        self.write_list(self.actions(1))
+        self.front("--keep=900")
+        first = self.pids()
+        time.sleep(0.6)
+        self.put("src/0", "other\n")
+        self.assertIn("1 action made", self.front("--keep=900"))
+        self.assertNotIn(first[0], self.pids())

@@ -1,0 +1,396 @@
+"""A build: rounds of the actions that aren't up to date. Each round is a call of a program, or several."""
+from __future__ import annotations
+
+import fcntl
+import json
+import os
+import shutil
+import subprocess
+import time
+from typing import Any, NamedTuple
+
+from . import keeper, programs
+from .digests import Files, stamp_of, write_whole
+from .events import Sink
+from .follow import Call, Ended, Event, Interrupt, Tracker
+from .listing import STATE, Action, Listing
+from .memory import Memory, Success, reason, success_of
+from .options import Words
+from .report import TOTAL, Reported, read_report
+from .turns import Turns
+from .voice import Voice, counted, joined, plural
+from .watching import Watching, executor_words
+
+MOST_ROUNDS = 8
+OUTPUT_LOST, ENDED_BY_LIMIT, INTERRUPTED = 6, 9, 130
+MOST_TEXT = 4000
+PROGRAM_SECONDS = 10.0
+
+
+class Busy(Exception):
+    """Another run is at work, or what this one needs belongs to another user."""
+
+
+class Round(NamedTuple):
+    """The actions of a round with the reason of each, those that wait for them, and those that a failure below keeps from running."""
+
+    now: dict[str, str]
+    waiting: set[str]
+    blocked: dict[str, str]
+
+
+class Build:
+    """A list, what is remembered of it, and what has become of each action in this call."""
+
+    def __init__(self, listing: Listing, words: Words, voice: Voice, recovers: bool = True) -> None:
+        self.listing, self.words, self.voice = listing, words, voice
+        self.actions = listing.chosen(words.all("--only"))
+        self.by_name = {it.name: it for it in self.actions}
+        self.events_path = os.path.join(listing.state, "events.jsonl")
+        self.open_path = os.path.join(listing.state, "open")
+        self.files = Files(os.path.join(STATE, "stamps"))
+        self.memory = Memory(os.path.join(listing.state, "memory"))
+        flags = words.all("--extra-flag")
+        self.shapes = {it.name: it.shape(flags) for it in self.actions}
+        self.results: dict[str, Reported] = {}
+        self.reasons: dict[str, str] = {}
+        self.slow: set[str] = set()
+        self.causes: dict[str, list[Event]] = {}
+        self.held_back: set[str] = set()
+        self.said: list[str] = []
+        self.levels: dict[str, int] = {}
+        self.status = 0
+        self.lost = False
+        self.done = self.failures = 0
+        self.pids: set[int] = set()
+        self.total = self.calls = self.early = 0
+        self.recovered = self.recover() if recovers else 0
+
+    # What is to be done.
+
+    def sort_out(self, all_at_once: bool) -> Round:
+        """Finds the actions of the next round.
+
+        What reads an output of one of them waits, unless it has to run whatever that output becomes.
+        """
+        found = Round({}, set(), {})
+        makers: dict[str, str] = {}
+        everything = self.words.command == "run"
+        for it in self.actions:
+            below = {makers[path] for path in it.inputs if path in makers}
+            stopped = next((name for name in below if name in found.blocked or self.is_bad(name)), None)
+            why = None
+            if it.name in self.results:
+                why = "it failed" if self.is_bad(it.name) else None
+            elif stopped is not None:
+                found.blocked[it.name] = found.blocked.get(stopped, stopped)
+            else:
+                why = "everything is wanted" if everything else self.reason(it, makers)
+                if below and all_at_once:
+                    why = why or "it reads what is made again"
+                if why and (all_at_once or everything or below <= found.now.keys()):
+                    found.now[it.name] = why
+                elif why or below:
+                    found.waiting.add(it.name)
+            if it.name in found.now or it.name in found.waiting or it.name in found.blocked or self.is_bad(it.name):
+                makers.update((path, it.name) for path in it.outputs)
+        return found
+
+    def is_bad(self, name: str) -> bool:
+        """Returns True if an action was run and isn't made."""
+        return name in self.results and self.results[name].outcome != "ok"
+
+    def reason(self, action: Action, unsettled: dict[str, str]) -> str | None:
+        """Returns why an action isn't up to date, or None if it is."""
+        return reason(action, self.shapes[action.name], self.memory.successes.get(action.name), self.files, unsettled)
+
+    # Rounds.
+
+    def run(self, interrupt: Interrupt, sink: Sink) -> int:
+        """Runs rounds until everything is up to date. Returns the status."""
+        for number in range(1, MOST_ROUNDS + 1):
+            found = self.sort_out(number == MOST_ROUNDS)
+            if not found.now or (self.words.has("--stop") and any(self.is_bad(it) for it in self.results)):
+                break
+            self.reasons.update(found.now)
+            self.total = max(self.total, len(self.results) + len(found.now) + len(found.waiting))
+            if not self.run_round([self.by_name[name] for name in found.now], interrupt, sink):
+                break
+        self.trim_kept()
+        self.files.save()
+        self.memory.tidy()
+        if interrupt.number:
+            return INTERRUPTED
+        if self.status in (0, 1) and self.slow & {name for name in self.results if self.is_bad(name)}:
+            return ENDED_BY_LIMIT
+        return OUTPUT_LOST if self.lost and self.status == 0 else self.status
+
+    def trim_kept(self) -> None:
+        """Ends kept workers that have more memory together than --keep-memory allows, the one idle for longest first."""
+        if self.words.number("--keep", 0) and self.calls:
+            quarter = os.sysconf("SC_PHYS_PAGES") * os.sysconf("SC_PAGE_SIZE") // 4
+            memory = self.words.number("--keep-memory", 0) * 1e6 or quarter
+            ended = keeper.make_room(keeper.folder(), programs.MOST_KEYS, memory)
+            if ended and not self.words.has("-q"):
+                self.voice.line(f"lenthuvi: {plural(len(ended), 'kept worker')} ended, since all together had more than {memory / 1e6:,.0f} MB")
+
+    def run_round(self, actions: list[Action], interrupt: Interrupt, sink: Sink) -> bool:
+        """Runs the actions of a round, in several calls if they are too many for one. Returns True if the build goes on."""
+        chosen = programs.choose(self.words, actions, self.listing.mnemonics())
+        programs.path_of(chosen.name)
+        self.levels = self.levels or self.listing.levels()
+        for part in programs.cut(actions, self.levels, chosen.most_keys, self.more_bytes()):
+            bad = {path for name in self.results if self.is_bad(name) for path in self.by_name[name].outputs}
+            able = []
+            for it in part:
+                if bad.intersection(it.inputs):
+                    bad.update(it.outputs)
+                else:
+                    able.append(it)
+            if able and not self.call(chosen, able, interrupt, sink):
+                return False
+            if self.words.has("--stop") and any(self.is_bad(it) for it in self.results):
+                return False
+        return True
+
+    def more_bytes(self) -> int:
+        """Returns how many bytes a watcher adds to the text of an action."""
+        return 0 if self.words.has("--plain") else Watching(self.listing, self.words, {}, "").more_bytes()
+
+    def call(self, chosen: programs.Chosen, actions: list[Action], interrupt: Interrupt, sink: Sink) -> bool:
+        """Runs a program on some actions, and remembers what became of them. Returns True if the build goes on."""
+        self.begin_run(sink)
+        self.open_round(actions)
+        turns = None
+        if not self.words.has("--plain") and programs.needs_turns(self.words, chosen, actions):
+            turns = Turns(programs.jobs_of(self.words))
+        path, command = self.write_list(chosen, actions, turns)
+        if self.words.has("-v"):
+            self.voice.line(f"{chosen.name}: {plural(len(actions), 'action')}, since {chosen.why}; {programs.identity(chosen.name)}")
+        tracker = Tracker(self.events_path, lambda event: self.hear(event, sink))
+        report = os.path.join(self.listing.state, "report")
+        try:
+            ended = Call(command, report, tracker, interrupt, self.pass_line).follow(lambda: self.tick(tracker), turns)
+        finally:
+            if turns is not None:
+                turns.close()
+        found, is_whole = read_report(report, {it.name for it in actions})
+        self.take_results(found, tracker, ended, sink)
+        remembered = self.close_round(tracker, found if is_whole else None)
+        try:
+            self.keep_report(report, chosen.name)
+        except OSError as error:
+            self.lose(str(error.filename), error)
+        self.early += 0 if is_whole else remembered
+        os.remove(path)
+        if not is_whole and not ended.was_interrupted:
+            self.status = ended.status if ended.status > 0 else 1
+            self.tell_refusal(chosen.name, ended)
+            return False
+        self.status = max(self.status, ended.status if ended.status in (0, 1) else 1)
+        return not interrupt.number
+
+    def begin_run(self, sink: Sink) -> None:
+        """Before the first call of a run, removes what earlier runs left beside their events."""
+        self.calls += 1
+        if self.calls == 1:
+            sink.begin()
+            for name in ("keys", "logs"):
+                shutil.rmtree(os.path.join(self.listing.state, name), ignore_errors=True)
+            sink.put({"t": time.time(), "e": "run", "list": self.listing.path, "actions": len(self.actions)}, keeps=True)
+
+    def write_list(self, chosen: programs.Chosen, actions: list[Action], turns: Turns | None) -> tuple[str, list[str]]:
+        """Writes the list that the program is given. Returns its path and the command."""
+        executor = programs.executor_of(self.words, actions)
+        if self.words.has("--plain"):
+            objects: list[Any] = [it.object for it in actions]
+            more = executor_words(executor, chosen.name)
+        else:
+            tools = self.files.digests({path for it in actions for path in (*it.tools, it.argv[0])})
+            watching = Watching(self.listing, self.words, tools, executor)
+            watching.turns = turns.address if turns is not None else ""
+            if chosen.name == "shared_tool":
+                watching.most_kept = min(programs.jobs_of(self.words), programs.MOST_SHARED)
+            objects = watching.watched(actions)
+            more = watching.executor_words(chosen.name, actions)
+        path = os.path.join(self.listing.state, "round.json")
+        write_whole(path, json.dumps({"actions": objects}))
+        return path, [programs.path_of(chosen.name), *chosen.options, *more, path]
+
+    def keep_report(self, report: str, program: str) -> None:
+        """Keeps the report, and the journal that journal_run prints after it: that of each later call in a file of its own."""
+        if not self.words.has("--report") and program != "journal_run":
+            return
+        with open(report, "rb") as held:
+            lines = held.readlines()
+        end = next((place for place, line in enumerate(lines)
+                    if line.startswith(b"actions=") and TOTAL.match(line.decode("utf-8", "replace").strip())), len(lines)) + 1
+        if self.words.has("--report"):
+            with open(self.words.last("--report"), "ab" if self.calls > 1 else "wb") as file:
+                file.writelines(lines[:end])
+        if program == "journal_run":
+            path = self.words.last("--journal") + (f".{self.calls}" if self.calls > 1 else "")
+            with open(path, "wb") as file:
+                file.writelines(lines[end:])
+            self.check_journal(path)
+
+    def lose(self, path: str, error: OSError) -> None:
+        """Prints that an output file couldn't be written, which the status shows too."""
+        self.voice.line(f"lenthuvi: {path} can't be written: {error.strerror}")
+        self.lost = True
+
+    def check_journal(self, path: str) -> None:
+        """Prints whether a journal is legal, by journal_check."""
+        try:
+            checker = programs.path_of("journal_check")
+        except programs.Missing as error:
+            self.voice.line(f"{path}: not checked: {error}")
+            return
+        with open(path, "rb") as file:
+            checked = subprocess.run([checker], stdin=file, capture_output=True, text=True, errors="replace", check=False)
+        self.voice.line(f"{path}: {checked.stdout.strip() or f'journal_check ended with status {checked.returncode}'}")
+        self.status = max(self.status, 1 if checked.returncode else 0)
+
+    # While a program runs.
+
+    def hear(self, event: Event, sink: Sink) -> None:
+        """Takes an event of a watcher, and prints what people want to know at once."""
+        what, name = event["e"], event.get("n", "")
+        sink.put(event)
+        if what == "start":
+            self.pids.add(event["pid"])
+        elif what == "answer" and not event.get("cancelled"):
+            self.done += 1
+            is_bad = event["exit"] != 0 or "refusal" in event
+            self.failures += is_bad
+            if is_bad and not self.words.has("-q"):
+                self.voice.line(self.voice.paint(f"failed {name}", "red") + f": {event.get('refusal') or 'exit ' + str(event['exit'])}")
+            elif self.words.has("-v"):
+                self.voice.line(f"made {name}: {self.reasons.get(name, '')}")
+        elif what == "limit":
+            self.voice.line(self.voice.paint(f"ended {name}", "red") + f": no answer for {event['s']:g} s (--limit)")
+        elif what == "late":
+            held = f"its standard output has {event['held']}, which isn't a complete answer" if event["held"] != "''" else \
+                "nothing is on its standard output; is it flushed?"
+            self.voice.line(f"{name}: no answer for {event['s']:g} s; {held}")
+        elif what == "text":
+            self.voice.line(f"{name or 'a worker'}: on its standard output, where only answers belong, it wrote {event['text']}")
+        elif what == "room" and event.get("trouble"):
+            self.voice.line(f"{name}: its room wasn't kept whole: {event['trouble']}")
+
+    def tick(self, tracker: Tracker) -> None:
+        """Shows how far the run is."""
+        name, since = tracker.longest()
+        longest = f"longest: {name}, {time.time() - since:.0f} s" if name and time.time() - since >= 1 else ""
+        text = joined([f"{counted(self.done)} of {counted(max(self.total, self.done))}", f"{len(tracker.open)} running",
+                       f"{self.failures} failed" if self.failures else "", f"{self.voice.seconds():.0f} s"])
+        self.voice.progress(f"lenthuvi: {text}{'; ' if longest else ''}{longest}")
+
+    def pass_line(self, line: bytes) -> None:
+        """Passes on a line that a worker or a job wrote to its standard error."""
+        self.voice.line(line.decode("utf-8", "replace"))
+
+    def take_results(self, found: dict[str, Reported], tracker: Tracker, ended: Ended, sink: Sink) -> None:
+        """Takes in what a program has reported."""
+        self.slow |= tracker.slow
+        self.held_back |= tracker.held_back
+        for name, events in tracker.causes.items():
+            self.causes.setdefault(name, []).extend(events)
+        self.results.update({name: it for name, it in found.items() if it.outcome != "skipped" and name not in self.held_back})
+        self.said += ended.said
+        for name, it in found.items():
+            since, until, worker = tracker.times.get(name, (0.0, 0.0, 0))
+            sink.put({"t": time.time(), "e": "action", "n": name, "mnemonic": self.by_name[name].mnemonic, "round": self.calls, "outcome": it.outcome,
+                      "detail": it.detail, "local": it.local, "remote": it.remote, "why": self.reasons.get(name, ""),
+                      "sent": since, "answered": until, "worker": worker, "text": it.text[:MOST_TEXT]}, keeps=True)
+
+    def tell_refusal(self, name: str, ended: Ended) -> None:
+        """Prints that a program ended without a report, and what it said."""
+        for line in ended.said:
+            self.voice.line(line)
+        how = f"by signal {-ended.status}" if ended.status < 0 else f"with status {ended.status}"
+        self.voice.line(f"lenthuvi: {name} ended {how} and printed no report; what was answered before is remembered")
+
+    # What is remembered, also after a run that was killed.
+
+    def open_round(self, actions: list[Action]) -> None:
+        """Writes down what there was before some actions run."""
+        made = {path for it in actions for path in it.outputs}
+        sources = self.files.digests({path for it in actions for path in it.reads() if path not in made})
+        held = {"place": os.path.getsize(self.events_path) if os.path.exists(self.events_path) else 0, "sources": sources,
+                "flags": self.words.all("--extra-flag"),
+                "actions": {it.name: [self.shapes[it.name], [stamp_of(path) for path in it.outputs]] for it in actions}}
+        write_whole(self.open_path, json.dumps(held))
+        stop = os.path.join(self.listing.state, "stop")
+        if os.path.exists(stop):
+            os.remove(stop)
+
+    def close_round(self, tracker: Tracker, found: dict[str, Reported] | None) -> int:
+        """Remembers the successes of a call: by its report, or by what was answered and is there since. Returns how many."""
+        good = tracker.good if found is None else {name for name, it in found.items() if it.outcome == "ok"}
+        number = self.remember(good, found is None)
+        os.remove(self.open_path)
+        return number
+
+    def remember(self, good: set[str], looks: bool) -> int:
+        """Remembers actions that succeeded and whose sources are as before. Without a report their outputs must be new files."""
+        with open(self.open_path, encoding="utf-8", errors="surrogateescape") as file:
+            held = json.load(file)
+        sources = held["sources"]
+        self.files.look_again()
+        found: dict[str, Success] = {}
+        new_outputs: set[str] = set()
+        for it in self.listing.actions:
+            before = held["actions"].get(it.name)
+            if before is None or it.name not in good or before[0] != it.shape(held["flags"]):
+                continue
+            if looks and not all(is_new(path, stamp) for path, stamp in zip(it.outputs, before[1])):
+                continue
+            if all(self.files.digest(path) == sources[path] if path in sources else path in new_outputs for path in it.reads()):
+                found[it.name] = success_of(it, before[0], self.files)
+                new_outputs.update(it.outputs)
+        self.memory.add(found)
+        return len(found)
+
+    def recover(self) -> int:
+        """Remembers what a run that was killed had made. Returns how many actions that is."""
+        if not os.path.exists(self.open_path):
+            return 0
+        wait_for_program()
+        try:
+            with open(self.open_path, encoding="utf-8", errors="surrogateescape") as file:
+                place = int(json.load(file)["place"])
+            tracker = Tracker(self.events_path, lambda event: None, place)
+            tracker.read()
+            number = self.remember(tracker.good, True)
+        except (ValueError, KeyError, TypeError):
+            number = 0  # The file isn't one of ours, so nothing can be learned from it.
+        os.remove(self.open_path)
+        self.files.save()
+        return number
+
+
+def wait_for_program() -> None:
+    """Waits until the program of a run whose front was killed has ended too: until then its outputs may still change."""
+    try:
+        fd = os.open(os.path.join(".worker_rooms", "lock"), os.O_RDWR | os.O_CLOEXEC)
+    except OSError:
+        return
+    try:
+        until = time.monotonic() + PROGRAM_SECONDS
+        while True:
+            try:
+                fcntl.flock(fd, fcntl.LOCK_EX | fcntl.LOCK_NB)
+                return
+            except BlockingIOError:
+                if time.monotonic() > until:
+                    raise Busy("another run of worker_tool is at work in this folder") from None
+                time.sleep(0.02)
+    finally:
+        os.close(fd)
+
+
+def is_new(path: str, stamp: list[int] | None) -> bool:
+    """Returns True if another file is at a path than before."""
+    now = stamp_of(path)
+    return now is not None and (stamp is None or now[3] != stamp[3] or now != tuple(stamp))

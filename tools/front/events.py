@@ -1,0 +1,71 @@
+"""The events of a run: the file that watchers append to, and the copy that --json asks for."""
+from __future__ import annotations
+
+import json
+import os
+import sys
+import time
+from typing import Any, TextIO
+
+from .follow import Event
+
+NAMES = {"n": "name", "w": "watcher"}
+
+
+class Sink:
+    """Where the front's own events go, and where all events are copied to."""
+
+    def __init__(self, path: str, own: str) -> None:
+        self.own_path = own
+        self.own_file: Any = None
+        self.begun = time.time()
+        self.trouble = ""
+        self.out: TextIO | None = None
+        if path:
+            self.out = sys.stdout if path == "-" else open(path, "w", encoding="utf-8")
+
+    def begin(self) -> None:
+        """Begins the file of this run. That of the run before is kept beside it."""
+        if self.own_file is None:
+            if os.path.exists(self.own_path):
+                os.replace(self.own_path, self.own_path + ".before")
+            self.own_file = open(self.own_path, "ab", buffering=0)
+
+    def put(self, event: Event, keeps: bool = False) -> None:
+        """Copies an event; with `keeps` it also goes into the run's own file, if there is one."""
+        if keeps and self.own_file is not None:
+            try:
+                self.own_file.write(json.dumps(event).encode() + b"\n")
+            except OSError as error:
+                self.trouble = f"{self.own_path}: {error.strerror}"
+        if self.out is not None:
+            told = {NAMES.get(key, key): value for key, value in event.items()}
+            told["t"] = round(event["t"] - self.begun, 4)
+            try:
+                self.out.write(json.dumps(told) + "\n")
+                self.out.flush()
+            except OSError as error:
+                self.trouble = f"--json: {error.strerror}; later events are missing"
+                self.out = None
+
+    def close(self) -> None:
+        """Closes the run's own file."""
+        if self.own_file is not None:
+            self.own_file.close()
+
+
+def read_events(state: str) -> list[Event]:
+    """Returns the events of the last run in the order of their times. Lines that were cut off are left out."""
+    found = []
+    try:
+        with open(os.path.join(state, "events.jsonl"), encoding="utf-8", errors="replace") as file:
+            for line in file:
+                try:
+                    event = json.loads(line)
+                    event["t"] = float(event["t"])
+                    found.append(event)
+                except (ValueError, KeyError, TypeError):
+                    continue
+    except FileNotFoundError:
+        pass
+    return sorted(found, key=lambda it: float(it["t"]))

@@ -1,0 +1,168 @@
+"""An action list after reading: the actions, their worker keys, and which action needs which."""
+from __future__ import annotations
+
+import fnmatch
+import hashlib
+import json
+import os
+import sys
+from typing import Any, NamedTuple
+
+from .faults import FLAG_WORD, Unreadable, actions_of, is_kind, read_list
+from .list_faults import list_faults, state_faults
+
+Json = dict[str, Any]
+WANTED = ("name", "mnemonic", "argv", "outputs")
+STATE = ".lenthuvi"
+
+
+class Action:
+    """An action of a list."""
+
+    __slots__ = ("object", "name", "mnemonic", "argv", "inputs", "outputs", "tools", "strategy", "known_key")
+
+    def __init__(self, held: Json) -> None:
+        self.object = held
+        self.known_key = ""
+        self.name: str = held["name"]
+        self.mnemonic: str = held["mnemonic"]
+        self.argv: list[str] = held["argv"]
+        self.inputs: list[str] = held.get("inputs", [])
+        self.outputs: list[str] = held["outputs"]
+        self.tools: list[str] = held.get("tools", [])
+        self.strategy: str = held.get("strategy", "worker")
+
+    def needs(self) -> dict[str, str]:
+        """Returns its requirements."""
+        held: dict[str, str] = self.object.get("requirements", {})
+        return held
+
+    def has(self, need: str) -> bool:
+        """Returns True if a requirement is "1"."""
+        return self.needs().get(need) == "1"
+
+    def reads(self) -> list[str]:
+        """Returns its inputs, its tools and its program, each once."""
+        return [*dict.fromkeys([*self.inputs, *self.tools, self.argv[0]])]
+
+    def start_words(self) -> list[str]:
+        """Returns the arguments by which its worker is started."""
+        return [it for it in self.argv if not FLAG_WORD.match(it)]
+
+    def flag_words(self) -> list[str]:
+        """Returns the arguments that name flag files."""
+        return [it for it in self.argv[1:] if FLAG_WORD.match(it)]
+
+    def form(self) -> str:
+        """Returns the protocol of its worker: json or proto."""
+        return "json" if self.needs().get("requires-worker-protocol") == "json" else "proto"
+
+    def key(self) -> str:
+        """Returns its worker key: actions with equal keys may share a worker."""
+        if not self.known_key:
+            needs = self.needs()
+            flags = [needs.get(f"supports-{it}", "") for it in ("multiplex-workers", "multiplex-sandboxing", "worker-cancellation")]
+            parts = [needs.get("worker-key-mnemonic", self.mnemonic), self.start_words(), self.object.get("env", {}), self.tools,
+                     self.form(), flags, self.strategy == "dynamic"]
+            self.known_key = json.dumps(parts, sort_keys=True)
+        return self.known_key
+
+    def shape(self, flags: list[str]) -> str:
+        """Returns a digest of everything that the list and the command line say about it."""
+        return hashlib.sha256(json.dumps([self.object, flags], sort_keys=True).encode()).hexdigest()[:32]
+
+
+class Listing(NamedTuple):
+    """A list: its path, the folder of what is remembered of it, and its actions in order."""
+
+    path: str
+    state: str
+    actions: list[Action]
+
+    def makers(self) -> dict[str, Action]:
+        """Returns which action makes a path."""
+        return {path: it for it in self.actions for path in it.outputs}
+
+    def mnemonics(self) -> set[str]:
+        """Returns the mnemonics of its actions."""
+        return {it.mnemonic for it in self.actions}
+
+    def levels(self) -> dict[str, int]:
+        """Returns for each action the length of the longest chain of actions below it."""
+        made: dict[str, int] = {}
+        levels: dict[str, int] = {}
+        for it in self.actions:
+            level = max((made[path] + 1 for path in it.inputs if path in made), default=0)
+            levels[it.name] = level
+            made.update(dict.fromkeys(it.outputs, level))
+        return levels
+
+    def chosen(self, globs: list[str]) -> list[Action]:
+        """Returns the actions whose names or outputs match, and those that they need."""
+        if not globs:
+            return self.actions
+        makers, wanted, waiting = self.makers(), set(), []
+        for glob in globs:
+            fitting = [it for it in self.actions if any(fnmatch.fnmatchcase(text, glob) for text in (it.name, *it.outputs))]
+            if not fitting:
+                raise Unreadable(f"--only={glob}: no action and no output has such a name")
+            waiting += fitting
+        while waiting:
+            it = waiting.pop()
+            if it.name not in wanted:
+                wanted.add(it.name)
+                waiting += [makers[path] for path in it.inputs if path in makers]
+        return [it for it in self.actions if it.name in wanted]
+
+
+class WrongList(Exception):
+    """A list with faults, all of which are named."""
+
+    def __init__(self, faults: list[str]) -> None:
+        super().__init__("\n".join(faults))
+        self.faults = faults
+
+
+def state_folder(path: str) -> str:
+    """Returns the folder of what is remembered of a list. No two lists share one."""
+    name = "stdin" if path == "-" else os.path.basename(path)
+    plain = "".join(it if it.isalnum() or it in "-_" else "_" for it in name.removesuffix(".json"))[:80]
+    is_plain = path in ("-", f"{plain}.json", f"./{plain}.json") and plain != ""
+    mark = "" if is_plain else "-" + hashlib.sha256(os.path.normpath(path).encode("utf-8", "surrogateescape")).hexdigest()[:8]
+    return os.path.join(STATE, "lists", plain + mark)
+
+
+def load(path: str) -> Listing:
+    """Reads a list. If anything is wrong that a run wouldn't survive, all faults are told at once."""
+    if path == "-":
+        data = sys.stdin.buffer.read()
+        objects = actions_of(data, "standard input")
+    else:
+        objects = read_list(path)
+        data = b""
+    if all(is_plain(it) for it in objects):
+        actions = [Action(it) for it in objects]
+        if is_sound(actions, path):
+            return Listing(path, state_folder(path), actions)
+    if path != "-":
+        with open(path, "rb") as file:
+            data = file.read()
+    raise WrongList(list_faults(data.decode(), objects, path) or ["an action isn't as docs/FORMATS.md describes"])
+
+
+def is_sound(actions: list[Action], path: str) -> bool:
+    """Returns True if each name and output is there once, each input is made before, and no output replaces what the run needs."""
+    names: set[str] = set()
+    later = {out for it in actions for out in it.outputs}
+    for it in actions:
+        if it.name in names or not later.isdisjoint(it.inputs) or not later.issuperset(it.outputs):
+            return False
+        names.add(it.name)
+        later.difference_update(it.outputs)
+    return next(state_faults([it.object for it in actions], path), None) is None
+
+
+def is_plain(held: Any) -> bool:
+    """Returns True if an action has the keys that the front uses, each of its kind."""
+    return isinstance(held, dict) and all(it in held for it in WANTED) and bool(held["argv"]) and all(
+        is_kind(key, held[key]) for key in (*WANTED, "inputs", "tools", "requirements", "env", "strategy") if key in held)

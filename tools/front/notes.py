@@ -1,0 +1,97 @@
+"""What a watcher leaves and asks for outside its own pipes: lines in the run's events, and turns from the front.
+
+Each worker starts a watcher, so these modules load little: no `dataclasses`, no `typing`, no `re` of their own.
+"""
+from __future__ import annotations
+
+import json
+import os
+import socket
+import time
+
+TYPE_CHECKING = False
+if TYPE_CHECKING:
+    from typing import Any
+
+
+class Notes:
+    """The run's events. Each is a line that is appended by one write, so a run that is killed leaves all that was answered."""
+
+    def __init__(self, path: str) -> None:
+        self.fd = os.open(path, os.O_WRONLY | os.O_APPEND | os.O_CREAT | os.O_CLOEXEC, 0o666)
+        self.pid = os.getpid()
+        self.is_torn = False
+
+    def add(self, what: str, **more: Any) -> None:
+        """Appends an event."""
+        self.write(json.dumps({"t": round(time.time(), 4), "e": what, "w": self.pid, **more}))
+
+    def add_of(self, what: str, name: str, number: int, more: str = "") -> None:
+        """Appends an event of a request. It is spelled by hand, since each request has two."""
+        self.write(f'{{"t": {time.time():.4f}, "e": "{what}", "w": {self.pid}, "n": {json.dumps(name)}, "id": {number}{more}}}')
+
+    def write(self, line: str) -> None:
+        """Appends a line. On a full disk it is lost, and what follows begins a line of its own."""
+        data = (b"\n" if self.is_torn else b"") + line.encode("utf-8", "replace") + b"\n"
+        try:
+            self.is_torn = os.write(self.fd, data) != len(data)
+        except OSError:
+            self.is_torn = True
+
+
+class Turns:
+    """This watcher's line to the front, which lets at most -j requests be at work at once.
+
+    The front takes back the turns of a watcher that has ended, however it ended. If the front itself is gone, so is the bound.
+    """
+
+    def __init__(self, address: str) -> None:
+        self.free = self.asked = 0
+        self.has_front = True
+        self.line = socket.socket(socket.AF_UNIX, socket.SOCK_STREAM)
+        try:
+            self.line.connect("\0" + address)
+            self.line.setblocking(False)
+        except OSError:
+            self.has_front = False
+
+    def take(self, wanted: int) -> bool:
+        """Takes a turn if one was granted. Otherwise asks for `wanted` turns, as far as they aren't asked for yet."""
+        if not self.has_front:
+            return True
+        if self.free:
+            self.free -= 1
+            return True
+        if wanted > self.asked:
+            self.send(b"w" * (wanted - self.asked))
+            self.asked = wanted
+        return not self.has_front
+
+    def give(self, number: int) -> None:
+        """Gives back turns."""
+        if self.has_front and number:
+            self.send(b"d" * number)
+
+    def send(self, data: bytes) -> None:
+        """Sends bytes to the front."""
+        try:
+            self.line.sendall(data)
+        except OSError:
+            self.has_front = False
+
+    def hear(self, wanted: int) -> None:
+        """Takes the turns that were granted, and gives back those that nobody wants any more."""
+        try:
+            data = self.line.recv(4096)
+        except BlockingIOError:
+            return
+        except OSError:
+            data = b""
+        if not data:
+            self.has_front = False
+            return
+        self.free += len(data)
+        self.asked -= len(data)
+        more = max(0, self.free - wanted)
+        self.free -= more
+        self.give(more)
