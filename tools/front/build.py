@@ -55,7 +55,8 @@ class Build:
         self.results: dict[str, Reported] = {}
         self.reasons: dict[str, str] = {}
         self.slow: set[str] = set()
-        self.causes: dict[str, list[Event]] = {}
+        self.causes: dict[str, list[Event]] = {}  # by action
+        self.unclaimed: dict[str, list[Event]] = {}  # by mnemonic, of workers that got no request
         self.held_back: set[str] = set()
         self.said: list[str] = []
         self.levels: dict[str, int] = {}
@@ -296,6 +297,8 @@ class Build:
         self.held_back |= tracker.held_back
         for name, events in tracker.causes.items():
             self.causes.setdefault(name, []).extend(events)
+        for kind, events in tracker.unclaimed().items():
+            self.unclaimed.setdefault(kind, []).extend(events)
         self.results.update({name: it for name, it in found.items() if it.outcome != "skipped" and name not in self.held_back})
         self.said += ended.said
         for name, it in found.items():

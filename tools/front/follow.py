@@ -34,6 +34,7 @@ class Tracker:
         self.alive: dict[int, tuple[int, bool]] = {}  # by watcher: the worker's process, and whether it is kept
         self.causes: dict[str, list[Event]] = {}  # by action: what its watcher noted that wasn't an answer
         self.stray: dict[int, list[Event]] = {}  # by watcher: the same, of which no action is known yet
+        self.kinds: dict[int, str] = {}  # by watcher: the mnemonic of its actions
         self.times: dict[str, tuple[float, float, int]] = {}
 
     def read(self) -> None:
@@ -59,6 +60,7 @@ class Tracker:
         what, watcher, name = event["e"], event.get("w", 0), event.get("n", "")
         if what == "start":
             self.alive[watcher] = event["pid"], bool(event.get("held"))
+            self.kinds[watcher] = event.get("kind", "")
         elif what == "sent":
             self.open[watcher, event["id"]] = name, event["t"]
             self.causes.setdefault(name, []).extend(self.stray.pop(watcher, ()))
@@ -85,6 +87,13 @@ class Tracker:
         (self.good if is_good else self.bad).add(name)
         (self.bad if is_good else self.good).discard(name)
         self.times[name] = since, event["t"], self.alive.get(watcher, (0, False))[0]
+
+    def unclaimed(self) -> dict[str, list[Event]]:
+        """Returns by mnemonic what was noted of workers that never got a request, such as one whose first words were no answer."""
+        found: dict[str, list[Event]] = {}
+        for watcher, events in self.stray.items():
+            found.setdefault(self.kinds.get(watcher, ""), []).extend(events)
+        return found
 
     def longest(self) -> tuple[str, float]:
         """Returns the action that has been at work for longest, and since when."""
