@@ -1,33 +1,22 @@
-#!/usr/bin/env python3
-"""Times the same trivial actions by Bazel and by worker_tool, in turn, with the same worker, and prints a row for each.
-
-usage: dev/bench-bazel [--actions=N] [--rounds=N]        (1,000 actions, 3 rounds; the medians are printed)
-
-Each action copies a small file by `demo_tool`, which is asked by protobuf and kept alive. Bazel's server runs, and so do its
-workers, started by an action that isn't timed; what is to be built is known to it (`--nobuild` goes first), so that its time
-is that of the execution and of reading the graph once more. worker_tool's time is that of the whole process with the start of
-its workers. Both make new outputs each time. It needs bin/worker_tool, bin/demo_tool and Debian's package bazel-bootstrap;
-where that isn't there it says so, and ends with status 0.
-"""
+"""The same copies by Bazel with the same worker: a workspace, the server that builds it, and what that takes."""
 from __future__ import annotations
 
 import dataclasses
-import json
 import os
 import pathlib
+import resource
 import shlex
 import shutil
-import statistics
 import subprocess
 import sys
-import tempfile
 import time
-
-from usage import answer_help
+from collections.abc import Iterator
+from typing import NamedTuple
 
 TOP = pathlib.Path(__file__).resolve().parent.parent
 MOCKS = pathlib.Path("/usr/src/bazel-bootstrap/mock_repos")
 SECONDS = 900  # within which each command has to end
+TICKS = os.sysconf("SC_CLK_TCK")
 
 RULE = '''"""An action that a persistent worker does."""
 
@@ -101,8 +90,57 @@ def run(command: list[str], folder: pathlib.Path) -> float:
     begun = time.monotonic()
     done = subprocess.run(command, cwd=folder, stdout=subprocess.PIPE, stderr=subprocess.STDOUT, text=True, timeout=SECONDS)
     if done.returncode != 0:
-        sys.exit(f"bench-bazel: {shlex.join(command)}: status {done.returncode}\n{done.stdout[-3000:]}")
+        sys.exit(f"measure: {shlex.join(command)}: status {done.returncode}\n{done.stdout[-3000:]}")
     return time.monotonic() - begun
+
+
+class Taken(NamedTuple):
+    """Seconds by the clock and of processor, and the MB of the largest process."""
+
+    seconds: float
+    processor: float
+    memory: float
+
+
+def fields_of(process: int) -> list[str]:
+    """The fields of a process's stat behind its name, from its state on; none if it has ended."""
+    try:
+        with open(f"/proc/{process}/stat", encoding="utf-8", errors="replace") as file:
+            return file.read().rsplit(")", 1)[1].split()
+    except OSError:
+        return []
+
+
+def tree_of(root: int) -> list[int]:
+    """A process and all below it."""
+    parents = {int(it): int(fields[1]) for it in os.listdir("/proc") if it.isdigit() and (fields := fields_of(int(it)))}
+    found = [root]
+    for it in found:
+        found += [child for child, parent in parents.items() if parent == it]
+    return found
+
+
+def spent(root: int) -> float:
+    """The seconds of processor of a process, all below it, and those among them that were waited for."""
+    return sum(sum(map(int, fields[11:15])) / TICKS for it in tree_of(root) if (fields := fields_of(it)))
+
+
+def spent_by_clients() -> float:
+    """The seconds of processor of the commands that this process has waited for."""
+    usage = resource.getrusage(resource.RUSAGE_CHILDREN)
+    return usage.ru_utime + usage.ru_stime
+
+
+def most_memory(root: int) -> float:
+    """The most MB that one of these processes has held."""
+    most = 0.0
+    for it in tree_of(root):
+        try:
+            with open(f"/proc/{it}/status", encoding="utf-8", errors="replace") as file:
+                most = max([most, *(int(line.split()[1]) / 1024 for line in file if line.startswith("VmHWM"))])
+        except OSError:
+            continue
+    return most
 
 
 class Bazel:
@@ -116,7 +154,6 @@ class Bazel:
         (self.folder / "WORKSPACE").touch()
         (self.folder / "copy.bzl").write_text(RULE)
         shutil.copy(TOP / "bin/demo_tool", self.folder / "bin/demo_tool")
-        self.sets: list[str] = []
 
     def call(self, *words: str) -> float:
         """Runs a command of Bazel's, and gives the seconds that it took."""
@@ -124,8 +161,13 @@ class Bazel:
         start = ["bazel", f"--output_user_root={self.root}", "--nohome_rc", "--max_idle_secs=300"]
         return run([*start, words[0], *(overrides if words[0] == "build" else []), *words[1:]], self.folder)
 
-    def measure(self, row: Row, round_: int) -> float:
-        """The seconds that the row's actions take in outputs that were never made."""
+    def server(self) -> int:
+        """The process of the server."""
+        words = ["bazel", f"--output_user_root={self.root}", "--nohome_rc", "info", "server_pid"]
+        return int(subprocess.run(words, cwd=self.folder, capture_output=True, text=True, timeout=SECONDS, check=True).stdout)
+
+    def measure(self, row: Row, round_: int) -> Taken:
+        """What the row's actions take in outputs that were never made: of the client, the server and its workers."""
         name = f"set{round_}_{ROWS.index(row)}_"
         text = BUILD.format(set=name, several="1" if row.several else "", actions=self.actions)
         (self.folder / "BUILD").write_text(text)
@@ -135,60 +177,18 @@ class Bazel:
         words += ["--experimental_worker_multiplex" if row.several else "--noexperimental_worker_multiplex"]
         self.call("build", *words, f"//:{name}_first")
         self.call("build", *words, "--nobuild", f"//:{name}")
-        return self.call("build", *words, f"//:{name}")
+        server = self.server()
+        before = spent(server) + spent_by_clients()
+        seconds = self.call("build", *words, f"//:{name}")
+        return Taken(seconds, spent(server) + spent_by_clients() - before, most_memory(server))
 
     def close(self) -> None:
         """Ends the server and its workers."""
         self.call("shutdown")
 
 
-def measure_tool(folder: pathlib.Path, row: Row, actions: int) -> float:
-    """The seconds that worker_tool takes for the row's actions, in a folder of their own."""
-    (folder / "flags").mkdir(parents=True)
-    (folder / "in").write_text("x" * 10)
-    wants = {"supports-workers": "1", **({"supports-multiplex-workers": "1"} if row.several else {})}
-    made = []
-    for it in range(actions):
-        (folder / f"flags/{it}").write_text(f"--out=out/{it}\n--in=in\n")
-        made.append({
-            "name": f"a{it}", "mnemonic": "Bench", "argv": [str(TOP / "bin/demo_tool"), f"@flags/{it}"],
-            "inputs": [f"flags/{it}", "in"], "outputs": [f"out/{it}"], "requirements": wants,
-        })
-    (folder / "list.json").write_text(json.dumps({"actions": made}))
-    took = run([str(TOP / "bin/worker_tool"), f"--instances={row.workers}", "list.json"], folder)
-    if len(os.listdir(folder / "out")) != actions:
-        sys.exit("bench-bazel: worker_tool left some outputs unmade")
-    shutil.rmtree(folder)
-    return took
-
-
-def measure_round(bazel: Bazel, folder: pathlib.Path, round_: int) -> list[tuple[float, float]]:
-    """What worker_tool and Bazel take for each row, in turn."""
-    return [(measure_tool(folder / "run", row, bazel.actions), bazel.measure(row, round_)) for row in ROWS]
-
-
-def main(words: list[str]) -> int:
-    answer_help(__doc__)
-    if shutil.which("bazel") is None or not MOCKS.is_dir():
-        print("bench-bazel: bazel isn't there: apt-get install bazel-bootstrap bazel-bootstrap-source; nothing was measured")
-        return 0
-    named = dict(word[2:].split("=", 1) for word in words)
-    actions, rounds = int(named.get("actions", "1000")), int(named.get("rounds", "3"))
-    memory = "/dev/shm" if os.path.isdir("/dev/shm") else None
-    with tempfile.TemporaryDirectory(prefix="bench-bazel-", dir=memory) as made:
-        folder = pathlib.Path(made)
-        bazel = Bazel(folder, actions)
-        print(f"| {actions:,} actions | `worker_tool`, actions a second | Bazel | Ratio | Load |\n|---|---|---|---|---|", flush=True)
-        try:
-            # The first round isn't counted: Bazel's server compiles itself while it runs.
-            found = [measure_round(bazel, folder, round_) for round_ in range(rounds + 1)][1:]
-        finally:
-            bazel.close()
-        for at, row in enumerate(ROWS):
-            rate, its_rate = (actions / statistics.median(times[at][side] for times in found) for side in (0, 1))
-            print(f"| {row.name} | {rate:,.0f} | {its_rate:,.0f} | {rate / its_rate:.1f} | {os.getloadavg()[0]:.0f} |", flush=True)
-    return 0
-
-
-if __name__ == "__main__":
-    sys.exit(main(sys.argv[1:]))
+def measure_bazel(bazel: Bazel, rounds: int) -> Iterator[tuple[str, list[Taken]]]:
+    """Each row with what it took in each round. The first round isn't counted: Bazel's server compiles itself while it runs."""
+    found = [[bazel.measure(row, round_) for row in ROWS] for round_ in range(rounds + 1)][1:]
+    for at, row in enumerate(ROWS):
+        yield row.name, [it[at] for it in found]
