@@ -1,5 +1,5 @@
-//! What holds where a call comes: of the lines, requests and attempts that it is about. The
-//! functions do nothing: each is a law, for a core that answers such calls.
+//! Laws for the moment of a call: of the lines, requests and attempts that it names. The functions do
+//! nothing: each is a law, for a core that answers such calls.
 ghost use Rattle.std.specs.Prelude.{◌≡◌, ◌⊎◌, ◌+◌, ◌*◌, ◌/◌, ◌<◌, ◌≤◌, ◌==◌, ◌&&◌, ◌||◌, not, ℕ, ℤ, true, false, List, ◌∷◌, Some, None, is_some, length, filter, option_map};
 ghost use Rattle.std.specs.List.{list_any};
 ghost use Rattle.std.specs.Ordering.{int_eq};
@@ -40,8 +40,8 @@ pub fn calls_name_last_lines()
         → in_script p j lane c ≡ true → call_line c ≡ Some l → last_line j (lane / 2) ≡ Some l }
 {}
 
-/// A berth's live line is its last, and so is one to which a branch is bound: the berth is one of
-/// the plan, and the branch is of its group.
+/// A berth's live line is its last, and so is a line to which a branch is bound: the berth belongs to the
+/// plan, and the branch to its group.
 pub fn lines_here_are_last()
     ensures live { (p : Plan) (j : List Entry) (l w : ℕ) → Lawful p j → IsOfBerth j l w
         → live j l ≡ true → last_line j w ≡ Some l }
@@ -53,7 +53,7 @@ pub fn lines_here_are_last()
         → bound p j l ≡ Some t → BranchOf p t (group_on p j l) }
 {}
 
-/// Where a lane may Ask, each line of its berth was reported: it started, or it failed to launch.
+/// If a lane may Ask, each line of its berth was reported: it started, or it failed to launch.
 pub fn asking_lanes_have_reported()
     ensures lines { (p : Plan) (j : List Entry) (lane l : ℕ) → Lawful p j
         → in_script p j lane call.Ask ≡ true → IsOfBerth j l (lane / 2)
@@ -63,10 +63,10 @@ pub fn asking_lanes_have_reported()
         → failed j l ≡ not (started j l) }
 {}
 
-/// A pending request is known by its line and its number, as the berth's kind gives it. On an
-/// unbroken line its Wrote says no fault, and no Gather of it was ordered; on one that can't be
-/// asked to cancel no Cancel of it was. Only the newest request of a line can have FeedFault; and
-/// what a Wrote is about was answered, if it isn't pending on a line that hasn't ended.
+/// A pending request is known by its line and its number, as the berth's kind gives it. On an unbroken line
+/// its Wrote has no fault, and no Gather of it was ordered; on a line that takes no cancels no Cancel of it
+/// was. Only the newest request of a line can have FeedFault; and the request of a Wrote was answered, if
+/// it isn't pending on a line that hasn't ended.
 pub fn requests_are_known()
     ensures known { (p : Plan) (j : List Entry) (l w : ℕ) → Lawful p j → IsOfBerth j l w
         → EachRequest (λ x. KnownByNumber j l x.number x.attempt) (pending j l) }
@@ -91,7 +91,7 @@ pub fn claims_find_open_actions()
         → is_other b (grant_of j a) ≡ false → IsUngranted j a }
 {}
 
-/// Each action that an order, a Claim or a Committed names is one of the plan.
+/// Each action that an order, a Claim or a Committed names is in the plan.
 pub fn named_actions_are_planned()
     ensures launches { (p : Plan) (e : Entry) (j : List Entry) (l : ℕ) (t : Attempt)
         → Lawful p (e ∷ j) → launch_in e.reply ≡ Some (l, t) → t.action < length p.actions }
@@ -118,9 +118,8 @@ pub fn orders_have_room()
         → IsLaunchOf p j t }
 {}
 
-/// What a Gather is ordered of is the oldest match since the berth's last Send that still waits.
-/// Those matches and the pending requests of the berth's last line are at most eight,
-/// and a match waits when it comes.
+/// A Gather is ordered for the oldest match since the berth's last Send that still waits. Those matches and
+/// the pending requests of the berth's last line are at most eight, and a match waits when it comes.
 pub fn recent_matches_suffice()
     ensures gathers { (p : Plan) (j : List Entry) (lane : ℕ) → Lawful p j
         → in_script p j lane call.Ask ≡ true → gathers_next j (lane / 2)
@@ -133,9 +132,9 @@ pub fn recent_matches_suffice()
         → is_spent j t ≡ false }
 {}
 
-/// The one attempt that can end with a fault: the one that a failed Launched is about, which is
-/// bound to that line alone, that of a Wrote which says unwritten, that of a failed feed once its
-/// line has ended, and the one whose Claim is refused.
+/// The one attempt that can end with a fault: of a failed Launched, the attempt that is bound only to that
+/// line; of a Wrote that reports unwritten, or of a failed feed once its line has ended, the attempt of the
+/// request; and of a refused Claim, the attempt that it names.
 pub fn faults_end_one()
     ensures launched { (p : Plan) (e : Entry) (j : List Entry) (l m : ℕ) (how : Started)
         (t : Attempt) → Sound p → Lawful p (e ∷ j) → e.call ≡ call.Launched l how
@@ -153,10 +152,10 @@ pub fn faults_end_one()
         → Lawful p (e ∷ j) → refused_in e.call e.reply ≡ Some y → EndsJust p j e y.0 }
 {}
 
-/// With a line end exactly the attempts that stand on it, unless their action has a grant: what is
-/// pending there, what its feed failed for, and what is bound to it. Their list has each once, and
-/// each was under way. Of one action one stands there.
-/// What was launched on the line and never sent is bound to it when it ends.
+/// A line's end ends exactly the attempts that it carries, unless their action has a grant: those pending
+/// there, those for which its feed failed, and the one bound to it. Their list has each once, and each was
+/// under way. A line carries at most one attempt of an action. An attempt that was launched on the line and
+/// never sent is bound to it when it ends.
 pub fn lines_end_these()
     ensures these { (p : Plan) (e : Entry) (j : List Entry) (l : ℕ) (how : HowEnded)
         → Lawful p (e ∷ j) → e.call ≡ call.Ended l how
@@ -179,8 +178,8 @@ pub fn lines_end_these()
         → was_sent j t ≡ false → granted j t.action ≡ false → bound p j l ≡ Some t }
 {}
 
-/// What ends, grants and commits nothing: a Launched or a Wrote with Done, a Wrote of a Cancel, one
-/// whose feed failed on a line that hasn't ended, and a Claim that is lost.
+/// These end, grant and commit nothing: a Launched or a Wrote with Done, a Wrote of a Cancel, a Wrote whose
+/// feed failed on a line that hasn't ended, and a Claim that is lost.
 pub fn reports_change_nothing()
     ensures started { (p : Plan) (e : Entry) (j : List Entry) (l : ℕ) → Lawful p (e ∷ j)
         → e.call ≡ call.Launched l start.Done → SameActions j (e ∷ j) }
@@ -195,9 +194,9 @@ pub fn reports_change_nothing()
         → SameActions j (e ∷ j) }
 {}
 
-/// What was ordered is done, or its lane still owes it: a Launch its Launched, a Send its Wrote, a
-/// Gather its Claim, a Kill its Killed, and a grant of files its Committed. A line that was given
-/// to its tap lane has ended, or is still read.
+/// Every order is done, or its lane still owes it: a Launch its Launched, a Send its Wrote, a Gather its
+/// Claim, a Kill its Killed, and a grant of files its Committed. A line that was given to its tap lane has
+/// ended, or is still read.
 pub fn orders_are_met()
     ensures launches { (p : Plan) (j : List Entry) (l m : ℕ) (t : Attempt) → Lawful p j
         → launch_of j l ≡ Some (m, t) → ((started j l || failed j l) ≡ true)
@@ -215,8 +214,8 @@ pub fn orders_are_met()
         → was_taken j l ≡ true → (has_ended j l ≡ true) ⊎ IsRead j l }
 {}
 
-/// A Launched answers its line's Launch, and a Wrote that says unwritten a Send, each the newest
-/// work of its lane. While a Wrote is owed, no feed of its line has failed.
+/// A Launched answers its line's Launch, and a Wrote that reports unwritten a Send, each the newest work of
+/// its lane. While a Wrote is owed, no feed of its line has failed.
 pub fn reports_answer_orders()
     ensures launched { (p : Plan) (j : List Entry) (lane l m : ℕ) (how : Started) (t : Attempt)
         → Lawful p j → in_script p j lane (call.Launched l how) ≡ true
@@ -229,9 +228,9 @@ pub fn reports_answer_orders()
         → order_of j lane ≡ Some x → fed_on j x.line ≡ None }
 {}
 
-/// There are no more lines, and no more requests on a line, than the two branches of all actions
-/// have attempts. Nothing has ended that wasn't begun, and nothing was answered that wasn't sent.
-/// The requests of a berth's last line are of the berth's group.
+/// There are no more lines, and no more requests on a line, than the two branches of all actions have
+/// attempts. Every attempt that has ended was begun, and every answered request was sent. The requests of a
+/// berth's last line are of the berth's group.
 pub fn journals_are_bounded()
     ensures lines { (p : Plan) (j : List Entry) → Sound p → Lawful p j
         → line_count j ≤ 2 * length p.actions * p.limit }

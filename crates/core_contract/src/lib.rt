@@ -1,8 +1,7 @@
-//! Scheduling cores, whatever their rule: what the bench and the lanes ask of a core.
+//! Scheduling cores with any rule: the requirements of the bench and the lanes.
 //!
-//! A core is known by its rule, a function of its plan and of the history of the calls that were
-//! kept. Its laws are what lanes need of it, and no more. What lies on the shelf of the bench is a
-//! function of the history too.
+//! A core is known by its rule, a function of its plan and of the history of the recorded calls. Its laws
+//! are exactly what lanes need. The contents of the bench's shelf are a function of the history too.
 #![tactic(auto)]
 
 mod rules;

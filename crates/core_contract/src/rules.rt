@@ -1,4 +1,4 @@
-//! What a scheduling core is.
+//! The trait of a scheduling core.
 ghost use Rattle.std.specs.Prelude.{◌≡◌, ◌≤◌, ◌<◌, ◌+◌, ◌/◌, ℕ, ℤ, Bool, true, false, List, [], ◌∷◌, ◌++◌, Option, Some, None};
 ghost use Rattle.plain_values.specs.declared.entry.Entry.{Entry};
 ghost use Rattle.seat_desk.specs.History.{entry, calls_by, Owes};
@@ -21,14 +21,14 @@ ghost use Rattle.core_contract.specs.Duties.{Asks, Sends, Commits, Left, proxy_l
 
 use exec_journal::{Call, Reply};
 
-/// A scheduling core: it answers the calls of the lanes, and what it answers is a function of its
-/// plan and of the history of the calls that were kept.
+/// A scheduling core: it answers the calls of the lanes, and its replies are a function of its plan and of
+/// the history of the recorded calls.
 ///
-/// Lane `2w` is the proxy lane of the berth `w`, and lane `2w + 1` its tap lane. A call that isn't in
-/// its lane's script is answered `Astray`. A law that needs what holds of every history that came
-/// about asks that the history be legal; the others hold of any list of entries.
+/// Lane `2w` is the proxy lane of the berth `w`, and lane `2w + 1` its tap lane. A call that isn't in its
+/// lane's script is answered `Astray`. A law about histories that a core can reach requires that the
+/// history be legal; the others hold for any list of entries.
 pub trait Rules: Sized + Drop {
-    /// What a core goes by. It never changes, and no value of it is made at run time.
+    /// The basis of a core. It never changes, and no value of it is made at run time.
     type Plan;
 
     // What this core goes by.
@@ -61,19 +61,17 @@ pub trait Rules: Sized + Drop {
     // Whether a lane has news, by what the core keeps.
     ghost news: { Self → ℕ → Bool };
 
-    /// Answers the call of this lane. Where the reply is to be a file, it may say lack of memory
-    /// instead.
+    /// Answers the call of this lane. If the reply should be a file, it may be lack of memory instead.
     fn step(&mut self, lane: u32, call: &Call) -> Reply
         ensures plan { plan self.new ≡ plan self.old }
         ensures reply { StepReplies stands (rule (plan self.old)) self.old lane call.now result }
         ensures stands { StepStands stands self.old lane call.now result self.new };
 
-    /// Whether the lane has news: whether it may ask what a lane asks that owes nothing, and would be
-    /// told more than Idle.
+    /// True if the lane has news: it owes nothing, so it may ask, and it would get more than Idle.
     fn has_news(&self, lane: u32) -> bool
         ensures { result ≡ news self.now lane };
 
-    /// How many paid entries are still to come.
+    /// The number of paid entries that are still to come.
     fn owed(&self) -> u64
         ensures { Owes stands (owes (plan self.now)) self.now result };
 

@@ -1,17 +1,17 @@
-//! What a call of a core moves on the bench's shelf.
+//! The effect of a core's call on the bench's shelf.
 ghost use Rattle.std.specs.Prelude.{◌≡◌};
 ghost use Rattle.core_contract.specs.Moves.{move_in, tap_move, proxy_move, shift_for};
 
 use exec_journal::{Call, Found, Reply, Started};
 
-/// What goes onto the shelf, or comes off it, with a call that was answered so.
+/// The object that is put onto the shelf, or taken off it, with a call and its reply.
 #[derive(Clone, Copy, PartialEq, Eq)]
 pub enum Shift {
     /// The child and the tap of a line that was started are put there.
     PutLine,
     /// The berth's tap is taken.
     TakeTap,
-    /// The berth's child is taken, where one is there.
+    /// The berth's child is taken, if there is one.
     TakeChild,
     /// The place of this action is taken.
     TakePlace(u32),
@@ -20,7 +20,7 @@ pub enum Shift {
     Nothing,
 }
 
-/// What the call moves. A tap lane moves taps alone, and a proxy lane all else.
+/// Returns the call's shift. A tap lane moves only taps; every other move is a proxy lane's.
 pub fn shift_of(lane: u32, call: &Call, reply: &Reply) -> Shift
     ensures { result ≡ shift_for (move_in lane call.now reply.now) }
 {

@@ -16,18 +16,18 @@ pub enum FrameFault {
     BadLength,
 }
 
-/// What a splitter gives next.
+/// The next result of a splitter.
 #[derive(Debug, Drop)]
 pub enum Next {
     /// The bytes of the next frame, without its length.
     Frame(Vec<u8>),
-    /// No whole frame has come, and no fault.
+    /// Neither a whole frame nor a fault has come.
     NotYet,
-    /// What stands next is no frame. Nothing is read behind it.
+    /// The next bytes aren't a frame. The bytes after them aren't read.
     Bad(FrameFault),
 }
 
-/// The place of the frame at the front, behind its length.
+/// The place of the frame at the front, after its length.
 #[derive(Clone, Copy)]
 pub(crate) enum Found {
     Whole { start: usize, end: usize },

@@ -1,4 +1,4 @@
-//! Messages on a stream, each behind its length, in whatever pieces the stream comes.
+//! Messages on a stream, each preceded by its length, in pieces of any size.
 #![tactic(auto)]
 
 mod frame;

@@ -9,13 +9,14 @@ pub fn one_reading()
     ensures { OneReading delimited_form }
 {}
 
-/// After any order of `feed` and `next`, the frames that were given are the first ones of each stream that
-/// begins with what was fed.
+/// After any order of `feed` and `next`, the returned frames are the first frames of each stream that
+/// begins with the fed bytes.
 pub fn given_frames_come_first()
     ensures { GivenFirst delimited_form }
 {}
 
-/// What was written behind its length is one frame, and several of these are read as they were written.
+/// Bytes that were written after their length are one frame, and several of these are read as they were
+/// written.
 pub fn delimited_is_read()
     ensures { DelimitedIsRead }
 {}

@@ -26,7 +26,7 @@ impl Model for Splitter {
 }
 
 impl Splitter {
-    /// A splitter of frames of at most so many bytes.
+    /// Makes a splitter of frames of at most `limit` bytes.
     pub fn new(alloc: Global, limit: u64) -> Splitter
         ensures limit { result.limit ≡ limit }
         ensures stands { Stands [] [] result }
@@ -43,7 +43,7 @@ impl Splitter {
     ///
     /// # Errors
     ///
-    /// `NoMemory` where the piece finds no room; the splitter is then as it was.
+    /// Returns `NoMemory` if the piece finds no room; the splitter is then as it was.
     pub fn feed(&mut self, piece: &[u8]) -> Result<(), NoMemory>
         ensures ok { OnOk result ((fed : List ℕ) (given : List (List ℕ)) → Stands fed given self.old
             → Stands (fed_more self.old.fault fed piece.now) given self.new) }
@@ -58,12 +58,12 @@ impl Splitter {
         Ok(())
     }
 
-    /// Gives the next frame, if all of it has come. A fault is told as soon as the last byte of the length has
-    /// come, and from then on for good.
+    /// Returns the next frame, if all of it has come. A fault is returned as soon as the last byte of the
+    /// length has come, and from then on for good.
     ///
     /// # Errors
     ///
-    /// `NoMemory` where the frame finds no memory; the splitter is then as it was.
+    /// Returns `NoMemory` if the frame finds no memory; the splitter is then as it was.
     pub fn next(&mut self) -> Result<Next, NoMemory>
         ensures after_bad { IfSome self.old.fault (λ fault. result ≡ Ok (Next.Bad fault)) }
         ensures ok { IfOk result (λ next. (fed : List ℕ) (given : List (List ℕ))
@@ -89,7 +89,7 @@ impl Splitter {
         }
     }
 
-    /// How many bytes were fed and not yet given as part of a frame, its length included.
+    /// The number of bytes that were fed and not yet returned as part of a frame, its length included.
     pub fn unread(&self) -> usize
         ensures { result ≡ length self.now.rest }
     {

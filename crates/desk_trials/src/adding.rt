@@ -1,4 +1,4 @@
-//! Lanes that add ones, each in a thread of its own.
+//! Lanes that add ones, each in a separate thread.
 ghost use Rattle.std.specs.Prelude.{◌≡◌, ◌%◌, ◌^◌, IfOk};
 ghost use Rattle.seat_desk.specs.Passes.{IsPassOf};
 ghost use Rattle.desk_trials.specs.AdderSums.{added, SumsFrom};
@@ -11,7 +11,7 @@ use std::alloc::Global;
 use std::sync::Wait;
 use std::thread::{Threads, join};
 
-/// What a thread gives back: its pass, and how many calls it made.
+/// A thread's result: its pass, and how many calls it made.
 #[derive(Drop)]
 pub struct Done {
     pub pass: Pass<Adder>,
@@ -102,12 +102,12 @@ pub fn four<R: Threads + Wait + Sync>(
     )
 }
 
-/// Four lanes add ones, `count` times each, on four threads. The one history has just the calls that
-/// each made, each reply in it is the sum so far, and the machine's sum is theirs.
+/// Four lanes add ones, `count` times each, on four threads. The history has exactly the calls that each
+/// lane made, each reply in it is the sum so far, and the machine's sum is their sum.
 ///
 /// # Errors
 ///
-/// `NoMemory` where there is none for the desk. A lane that finds none makes fewer calls.
+/// Returns `NoMemory` if there is none for the desk. A lane that finds none makes fewer calls.
 pub fn count_by_four<R: Threads + Wait + Sync>(
     rt: &R,
     alloc: Global,

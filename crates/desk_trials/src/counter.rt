@@ -1,4 +1,4 @@
-//! A machine that adds modulo a number that is known at run time alone.
+//! A machine that adds modulo a number that is known only at run time.
 ghost use Rattle.std.specs.Prelude.{◌≡◌, ◌+◌, ◌%◌, ◌<◌, true, false, List, [], ℕ};
 ghost use Rattle.plain_values.specs.declared.entry.Entry.{Entry};
 ghost use Rattle.std.proofs.Common.{rules};
@@ -8,7 +8,7 @@ ghost use Rattle.desk_trials.specs.CounterLaws.{short_goes};
 use crate::nothing::Nothing;
 use seat_desk::Machine;
 
-/// What a lane asks of a counter.
+/// A call of a counter.
 #[derive(Drop, Clone, Copy)]
 pub enum Ask {
     /// To add this number.
@@ -22,7 +22,7 @@ pub enum Ask {
 pub enum Answer {
     /// The sum so far, modulo the counter's modulus.
     Sum(u64),
-    /// There was no room for an answer. A Look alone may get it.
+    /// There was no room for an answer. Only a Look may get it.
     NoRoom,
 }
 
@@ -32,7 +32,7 @@ pub struct Counter {
     pub modulus: u64,
     /// The sum so far, modulo the modulus.
     pub sum: u64,
-    /// How many looks there is room for.
+    /// The number of looks that there is room for.
     pub room: u64,
 }
 
@@ -124,7 +124,7 @@ impl Machine for Counter {
 }
 
 impl Counter {
-    /// One that has added nothing, with room for so many looks.
+    /// Makes a counter that has added nothing, with room for `room` looks.
     pub fn new(modulus: u64, room: u64) -> Counter
         requires { 0 < modulus }
         ensures numbers { (result.modulus ≡ modulus) × (result.room ≡ room) }

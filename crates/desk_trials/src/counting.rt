@@ -12,8 +12,8 @@ use std::alloc::Global;
 use std::sync::Wait;
 use std::thread::{Threads, join};
 
-/// Adds a number. The reply is the sum so far modulo the number that the pass's machine goes by, and
-/// never [`Answer::NoRoom`]; `None` where there was no memory for the call.
+/// Adds a number. The reply is the sum so far modulo the number of the pass's machine, and never
+/// [`Answer::NoRoom`]; `None` if there was no memory for the call.
 pub fn add<R: Wait>(
     rt: &R,
     desk: &Desk<Counter>,
@@ -32,7 +32,7 @@ pub fn add<R: Wait>(
     }
 }
 
-/// The sum so far, or `None` where there was no room or no memory for it.
+/// Returns the sum so far, or `None` if there was no room or no memory for it.
 pub fn look<R: Wait>(rt: &R, desk: &Desk<Counter>, pass: &mut Pass<Counter>) -> Option<u64>
     requires { IsPassOf desk.now pass.old }
     ensures same { IsPassOf desk.now pass.new × IsSamePass pass.old pass.new }
@@ -73,12 +73,12 @@ pub fn two<R: Threads + Wait + Sync>(
     )
 }
 
-/// A counter of this modulus, called by two threads. Each reply in the history is the sum so far
-/// modulo it, and the history has what each lane was answered.
+/// A counter of this modulus, called by two threads. Each reply in the history is the sum so far modulo it,
+/// and the history has each lane's replies.
 ///
 /// # Errors
 ///
-/// `NoMemory` where there is none for the desk or for a call.
+/// Returns `NoMemory` if there is none for the desk or for a call.
 pub fn run<R: Threads + Wait + Sync>(
     rt: &R,
     alloc: Global,

@@ -10,7 +10,7 @@ use plain_values::NoMemory;
 use seat_desk::{Desk, Pass, Then};
 use std::sync::Wait;
 
-/// Raises the number of a token that was lent, and asks that it be put back.
+/// Raises the number of a token that was lent, and requires that it be put back.
 #[derive(Drop)]
 pub struct Stamp;
 
@@ -30,12 +30,12 @@ impl Then<Locker> for Stamp {
     }
 }
 
-/// Borrows the lane's token, raises its number and puts it back, in one turn. The history has both
-/// calls, the one right after the other, and the token lies there still.
+/// Borrows the lane's token, raises its number and puts it back, in one turn. The history has both calls,
+/// the one right after the other, and the token is still there.
 ///
 /// # Errors
 ///
-/// `NoMemory` where there is none for the calls. Then none was made.
+/// Returns `NoMemory` if there is none for the calls. Then none was made.
 pub fn stamp_token<R: Wait>(
     rt: &R,
     desk: &Desk<Locker>,

@@ -1,6 +1,6 @@
-//! Machines on which the desk is tried: one that adds, on four threads; one whose modulus is known at
-//! run time alone, with a reply that says want of room; and one with goods and paid calls, a shelf on
-//! which a lane leaves a token.
+//! Machines for trials of the desk: an adder, on four threads; an adder whose modulus is known only at run
+//! time, with a reply for lack of room; and a shelf with goods and paid calls, on which a lane leaves a
+//! token.
 #![tactic(auto)]
 
 pub mod adder;

@@ -1,4 +1,4 @@
-//! A machine with goods: one shelf, on which a lane leaves a token that it alone may take or borrow.
+//! A machine with goods: one shelf, on which a lane leaves a token that only this lane may take or borrow.
 ghost use Rattle.std.specs.Prelude.{◌≡◌, ◌+◌, ℕ, List, [], ◌∷◌, ◌++◌, true, false, Option, Some, None, IsSome};
 ghost use Rattle.std.proofs.Common.{sym, refl};
 ghost use Rattle.desk_trials.specs.Shelf.{reply_of, spot_then, spot_of, changes, GoesIn, ComesOut, Fits, owes_by, IsPaid, stirred_by};
@@ -8,7 +8,7 @@ ghost use Rattle.desk_trials.specs.ShelfLaws.{true_not_false, paid_still, less_o
 use crate::nothing::Nothing;
 use seat_desk::Machine;
 
-/// What a lane asks of a locker.
+/// A call of a locker.
 #[derive(Drop, Clone, Copy)]
 pub enum Ask {
     /// To leave a token, which goes in.
@@ -24,44 +24,44 @@ pub enum Ask {
 /// What it is answered.
 #[derive(Drop, Clone, Copy)]
 pub enum Answer {
-    /// The token lies on the shelf.
+    /// The token is on the shelf.
     Left,
-    /// The token was not taken in, and comes out again.
+    /// The token was not accepted, and is returned.
     Busy,
-    /// The token comes out, and the shelf is empty.
+    /// The token is handed out, and the shelf is empty.
     Taken,
-    /// No token of the lane lies there.
+    /// There is no token of the lane.
     Nothing,
-    /// The token comes out, and is owed back.
+    /// The token is handed out, and must be returned.
     Lent,
-    /// The token lies on the shelf again.
+    /// The token is on the shelf again.
     Returned,
 }
 
-/// Whose token lies on the shelf, or was lent from it.
+/// The owner of the token that is on the shelf, or was lent from it.
 #[derive(Drop, Clone, Copy)]
 pub enum Spot {
     /// Nobody's.
     Empty,
-    /// It lies there, and is this lane's.
+    /// It is there, and is this lane's.
     Here(u32),
     /// This lane has borrowed it.
     Away(u32),
 }
 
-/// What lies on the shelf.
+/// The contents of the shelf.
 #[derive(Drop)]
 pub struct Token {
     pub number: u64,
 }
 
-/// One shelf. A token that lies there or was borrowed is owed back to its lane: its `Take` and its
+/// One shelf. A token that is there or was borrowed must be returned to its lane: its `Take` and its
 /// `Return` are paid for.
 #[derive(Drop)]
 pub struct Locker {
     /// Whose token it is.
     pub spot: Spot,
-    /// What lies on the shelf.
+    /// The contents of the shelf.
     pub shelf: Option<Token>,
 }
 

@@ -1,4 +1,4 @@
-//! What the journal's rules answer after a history. The functions do nothing: each is a law.
+//! The replies of the journal's rules after a history. The functions do nothing: each is a law.
 ghost use Rattle.std.specs.Prelude.{◌≡◌, ◌≤◌, ◌<◌, ◌+◌, ◌/◌, ℕ, ℤ, true, false, List, [], ◌∷◌, ◌++◌, length, Some, None};
 ghost use Rattle.plain_values.specs.declared.entry.Entry.{Entry};
 ghost use Rattle.seat_desk.specs.History.{entry, calls_by};
@@ -26,8 +26,8 @@ ghost use Rattle.core_contract.specs.Disciplines.{Discipline, IsDiscipline, Lega
 ghost use Rattle.history_laws.specs.OwnOrders.{IsOrder, Order, discipline_by};
 ghost use Rattle.history_laws.specs.Ruled.{answer_after, IsPaidAfter, owes_after, CameAbout, terms_in};
 
-/// By the journal of any history, a lane has left exactly if it was told to stop or has halted; and
-/// else it owes what its newest work asks of it.
+/// In the journal of any history, a lane has left exactly if it received Stop or has halted; otherwise it
+/// owes what its newest work requires.
 pub fn duties_are_newest_works()
     ensures { (h : List (Entry Call Reply)) (lane : ℕ)
         → DutyIs (duty_of (calls_by lane h)) (journal_of h) lane }
@@ -40,7 +40,7 @@ pub fn replies_fit()
         → Fits c (answer_after q h lane c) }
 {}
 
-/// A call in a script is one of a lane of the plan, and entries of other lanes leave it there.
+/// A call in a script belongs to a lane of the plan, and entries of other lanes leave it there.
 pub fn scripts_are_lanes()
     ensures known { (q : Discipline) → IsDiscipline q
         → (h : List (Entry Call Reply)) (lane : ℕ) (c : Call)
@@ -51,10 +51,10 @@ pub fn scripts_are_lanes()
         → InScript (answer_after q) (h ++ more) lane c }
 {}
 
-/// Which calls are in a proxy lane's script, its own entries say alone: those that its duty asks
-/// for, and no others but a Halt where it owes a Committed, a Committed where it has left, and a Tick
-/// of a lane that makes them, wherever that owes nothing. Its Halt is paid for until it was told to
-/// stop or has halted, and so is the Committed that it owes.
+/// Only a proxy lane's own entries determine its script: the calls that its duty requires, and otherwise
+/// only a Halt if it owes a Committed, a Committed if it has left, and a Tick of a lane that makes them, if
+/// it owes nothing. Its Halt is paid for until it has received Stop or has halted, and so is the Committed
+/// that it owes.
 pub fn proxies_do_their_duties()
     ensures does { (q : Discipline) → IsDiscipline q
         → (h : List (Entry Call Reply)) (w : ℕ) (c : Call) → w < q.seats
@@ -79,9 +79,9 @@ pub fn proxies_do_their_duties()
         → IsPaidAfter q h (proxy_lane w) (call.Committed a b how) }
 {}
 
-/// Which calls are in a tap lane's script, its own entries say alone: these, and after a history
-/// that came about no others. Its Halt is paid for until it was told to stop or has halted. An
-/// Answer and an Ended come from the tap lane that hears the line.
+/// Only a tap lane's own entries determine its script: these calls, and after a legal history no others.
+/// Its Halt is paid for until it has received Stop or has halted. An Answer and an Ended come from the tap
+/// lane that reads the line.
 pub fn taps_are_heard()
     ensures hears { (q : Discipline) → IsDiscipline q
         → (h : List (Entry Call Reply)) (w : ℕ) (c : Call) → w < q.seats
@@ -101,8 +101,8 @@ pub fn taps_are_heard()
         → hearing_of (calls_by lane h) ≡ Hears l }
 {}
 
-/// A paid call is answered Noted, stays paid for after entries of other lanes, and pays one of what
-/// is owed; and any call raises that by two at most.
+/// A paid call is answered Noted, stays paid for after entries of other lanes, and reduces the number of
+/// owed calls by one; any call raises that number by at most two.
 pub fn paid_calls_are_counted()
     ensures noted { (q : Discipline) → IsDiscipline q
         → (h : List (Entry Call Reply)) (lane : ℕ) (c : Call)
@@ -120,9 +120,9 @@ pub fn paid_calls_are_counted()
         → owes_after q (h ++ entry lane c (answer_after q h lane c) ∷ []) ≤ owes_after q h + 2 }
 {}
 
-/// Where a lane is ordered to launch or to stop, no child lies on the shelf for its berth; where it
-/// is to send, cancel or kill, the child of that line does. A new line has the next number, and
-/// what is sent or gathered is of an action of the plan.
+/// If a lane is ordered to launch or to stop, there is no child on the shelf for its berth; if it must
+/// send, cancel or kill, the child of that line is there. A new line has the next number, and a Send or a
+/// Gather names an action of the plan.
 pub fn orders_hold()
     ensures { (q : Discipline) → IsDiscipline q
         → (h : List (Entry Call Reply)) (lane : ℕ) → CameAbout q h
@@ -138,7 +138,7 @@ pub fn orders_fit()
         → OrderFits q.plan (is_remote (q.kinds (lane / 2))) (answer_after q h lane call.Ask) }
 {}
 
-/// Nothing lies on the shelf for the berth where a line is put there.
+/// The shelf has nothing for the berth when a line is put there.
 pub fn lines_find_room()
     ensures { (q : Discipline) → IsDiscipline q
         → (h : List (Entry Call Reply)) (lane l : ℕ) → CameAbout q h
@@ -146,7 +146,7 @@ pub fn lines_find_room()
         → (child_at (lane / 2) h ≡ None) × (tap_at (lane / 2) h ≡ None) }
 {}
 
-/// A line is given to a tap lane while its tap lies on the shelf for its berth, and never twice.
+/// A line is given to a tap lane while its tap is on the shelf for its berth, and never twice.
 pub fn taps_are_given_once()
     ensures there { (q : Discipline) → IsDiscipline q
         → (h : List (Entry Call Reply)) (lane l : ℕ) → CameAbout q h
@@ -156,8 +156,8 @@ pub fn taps_are_given_once()
         → answer_after q h lane call.Take ≡ reply.Line l → is_taken l h ≡ false }
 {}
 
-/// Files are granted once at most for each action, and only for one of the plan. A Committed comes
-/// from the lane that was granted the action's files, and the files are those of its last grant.
+/// Files are granted at most once for each action, and only for actions of the plan. A Committed comes from
+/// the lane that was granted the action's files, and the files are those of its last grant.
 pub fn files_are_granted_once()
     ensures grants { (q : Discipline) → IsDiscipline q
         → (h : List (Entry Call Reply)) (lane a : ℕ) (b : Branch) (t : ℕ)
@@ -189,8 +189,8 @@ pub fn histories_grow_by_rule()
         × (e.reply ≡ answer_after q h e.lane e.call) × (is_kept e.reply ≡ true) }
 {}
 
-/// Berths that groups have of their own are a discipline in whatever order a group's queued
-/// branches are called, and each of its journals keeps what every discipline's does.
+/// Own berths are a discipline for any order in which a group's queued branches are called, and each of its
+/// journals keeps the promises of every discipline.
 pub fn any_order_is_a_discipline()
     ensures discipline { (next : Order) → IsOrder next → (p : Plan)
         → IsDiscipline (discipline_by next p) }

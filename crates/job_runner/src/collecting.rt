@@ -12,12 +12,12 @@ use plain_values::{Items, NoMemory, Text};
 use remote_messages::NamedFile;
 use std::alloc::Global;
 
-/// Looks at the outputs of a job in its folder, one after another, and gives those that are there.
-/// `None` where a look failed, which is then the last.
+/// Looks at the outputs of a job in its folder, one after another, and gives those that are there. Returns
+/// `None` if a look failed, which is then the last.
 ///
 /// # Errors
 ///
-/// `NoMemory`, after looks that all went well.
+/// Returns `NoMemory`, after looks that all succeeded.
 pub fn collect<S: Shop>(
     alloc: Global,
     shop: &mut S,

@@ -14,8 +14,7 @@ use remote_messages::{Job, JobResult, decode_job};
 use std::alloc::Global;
 use wire_messages::{MessageFault, encode_delimited};
 
-/// The executor's first message, behind its length: it understands version 2 of the remote
-/// protocol.
+/// The executor's first message, preceded by its length: it understands version 2 of the remote protocol.
 pub const GREETING: [u8; 3] = [2, 64, 2];
 
 /// Answers jobs.

@@ -8,12 +8,12 @@ use path_rules::check_path;
 use plain_values::Text;
 use remote_messages::{Job, NamedFile};
 
-/// What is done with a job.
+/// The treatment of a job.
 #[derive(Clone, Copy, PartialEq, Eq)]
 pub enum Fate {
-    /// Nothing: it says that another one is to be given up.
+    /// Nothing: it cancels another job.
     Cancels,
-    /// It isn't run, since a job behind it says so.
+    /// It isn't run, since a later job cancels it.
     GivenUp,
     /// It isn't run, since one of its paths may lead out of its folder.
     BadPath,
@@ -21,7 +21,7 @@ pub enum Fate {
     Runs,
 }
 
-/// What is done with a job behind which these had been read when its turn came.
+/// Returns the treatment of a job after which these had been read when its turn came.
 pub fn fate_of(job: &Job, behind: &[Job]) -> Fate
     ensures { result ≡ fate_of job.now behind.now }
 {
@@ -42,7 +42,7 @@ fn is_given_up(id: i32, behind: &[Job]) -> bool
     behind.iter().any(|later| later.cancel && later.id == id)
 }
 
-/// Whether one of the paths of a job may lead out of its folder.
+/// True if a path of the job may lead out of its folder.
 pub fn has_bad_path(job: &Job) -> bool
     ensures { result ≡ has_bad_path job.now }
 {

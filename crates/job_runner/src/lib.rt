@@ -1,7 +1,7 @@
-//! The executor: runs jobs in a shop, each in a folder of its own, and answers each with a result.
+//! The executor: runs jobs in a shop, each in a separate folder, and answers each with a result.
 //!
-//! [`Executor`] does so one job after another. [`run_job`] and the results [`refused`] and [`given_up`]
-//! are for those who run several at once.
+//! [`Executor`] does so one job after another. [`run_job`] and the results [`refused`] and [`given_up`] are
+//! for programs that run several at once.
 #![tactic(auto)]
 
 mod collecting;

@@ -14,7 +14,7 @@ pub fn job_folder(alloc: Global, job: &Job) -> Result<Text, NoMemory>
     Ok(Text::of(format!(in alloc; "job{id}")?))
 }
 
-/// A path of the job, as it stands in the shop.
+/// A path of the job, as it is in the shop.
 pub fn in_folder(alloc: Global, folder: &str, path: &str) -> Result<Text, NoMemory>
     ensures { IfOk result (λ t. t ≡ in_folder folder.now path.now) }
 {

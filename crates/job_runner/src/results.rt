@@ -13,7 +13,7 @@ use wire_messages::Message;
 /// The most bytes that the message of a result may have.
 const MOST_BYTES: u64 = 1 << 26;
 
-/// A result of the job that says nothing else.
+/// Makes a result of the job with only its number.
 pub fn empty_result(alloc: Global, job: &Job) -> JobResult
     ensures { result ≡ empty_result job.now.id }
 {
@@ -38,7 +38,7 @@ pub fn refused(alloc: Global, job: &Job, why: &str) -> Result<JobResult, NoMemor
     Ok(result)
 }
 
-/// What is answered to a job in place of its result: where its message would have too many bytes, the job is refused.
+/// Returns the answer to a job: its result, or a refusal if its message would have too many bytes.
 #[tactic(auto, unfolding(crate::specs::Results::too_large))]
 pub fn bounded(alloc: Global, job: &Job, whole: JobResult) -> Result<JobResult, NoMemory>
     ensures { IfOk result (λ r. r ≡ bounded job.now.id whole) }
@@ -65,7 +65,7 @@ pub fn given_up(alloc: Global, job: &Job) -> JobResult
     result
 }
 
-/// What was printed, where that is text.
+/// Returns what was printed, if it is UTF-8.
 pub fn text_of(alloc: Global, output: &[u8]) -> Result<Text, NoMemory>
     ensures { IfOk result (λ t. t ≡ text_of output.now) }
 {

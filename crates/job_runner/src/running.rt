@@ -13,13 +13,13 @@ use plain_values::NoMemory;
 use remote_messages::{Job, JobResult};
 use std::alloc::Global;
 
-/// Runs a job: fills its folder, runs its words there, and looks at its outputs. At the first call
-/// that doesn't go well it is refused, and nothing more is done. It is refused, too, where the message of its result would
+/// Runs a job: fills its folder, runs its words there, and looks at its outputs. At the first call that
+/// fails it is refused, and nothing more is done. It is also refused if the message of its result would
 /// have more than 67,108,864 bytes, which no client takes.
 ///
 /// # Errors
 ///
-/// `NoMemory`, maybe after some of the calls.
+/// Returns `NoMemory`, perhaps after some of the calls.
 pub fn run_job<S: Shop>(alloc: Global, shop: &mut S, job: &Job) -> Result<JobResult, NoMemory>
     ensures { (calls : List ShopCall) × Comes job.now result calls
         × Made calls (S.told shop.old) (S.told shop.new) }

@@ -19,12 +19,12 @@ use plain_values::NoMemory;
 use std::alloc::Global;
 pub use texts::{audit_again, legal_texts_are_judged};
 
-/// What the text comes to. Whoever made it isn't trusted: where the answer is Yes, the journal that it spells is legal. It is
-/// the only answer that is due.
+/// Returns the verdict on the text. Its author isn't trusted: if the answer is Yes, the journal that it
+/// spells is legal. The contract allows no other answer.
 ///
 /// # Errors
 ///
-/// `NoMemory`, which says nothing of the text.
+/// Returns `NoMemory`, which implies nothing about the text.
 pub fn audit(alloc: Global, bytes: &[u8]) -> Result<Verdict, NoMemory>
     ensures answer { IfOk result (Judges Legal bytes.now) }
     ensures only { IfOk result (λ v. (w : Verdict) → Judges Legal bytes.now w → w ≡ v) }
@@ -32,9 +32,9 @@ pub fn audit(alloc: Global, bytes: &[u8]) -> Result<Verdict, NoMemory>
     audit_with::<Asked>(alloc, bytes)
 }
 
-/// Reads a text to its end, or until it is too long, and puts a line that says what it comes to. The status is 0 where it is
-/// legal, 1 where it isn't, 4 where it is no journal of a sound plan, 3 where memory ran out, 5 where the tap failed and
-/// 6 where the sink did.
+/// Reads a text to its end, or until it is too long, and writes a line with the verdict. The status is 0 if
+/// it is legal, 1 if it isn't, 4 if it isn't a journal of a sound plan, 3 if memory ran out, 5 if the tap
+/// failed and 6 if the sink did.
 pub fn check_stream<T: Tap, O: Sink>(alloc: Global, input: &mut T, out: &mut O) -> u8
     ensures streamed { Streamed Legal (T.told input.old) (T.told input.new)
         (O.told out.old) (O.told out.new) result }

@@ -31,11 +31,11 @@ pub fn legal_texts_are_judged()
     texts_are_legal::<Asked>();
 }
 
-/// What the text of a legal journal of a sound plan comes to: Yes, unless it is too long.
+/// Returns the verdict on the text of a legal journal of a sound plan: Yes, unless it is too long.
 ///
 /// # Errors
 ///
-/// `NoMemory` where the text or its check finds none.
+/// Returns `NoMemory` if the text or its check finds none.
 pub fn audit_again(alloc: Global, plan: &Plan, journal: &Journal) -> Result<Verdict, NoMemory>
     requires sound { Sound plan.now }
     requires legal { Legal plan.now (reverse journal.now) }

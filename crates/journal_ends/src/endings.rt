@@ -17,12 +17,13 @@ use journal_lookback::{
 use plain_values::NoMemory;
 use std::alloc::Global;
 
-/// How each action of the plan ends, in their order. It goes through the journal once, in time that is linear in the
-/// numbers of its entries and of the plan's actions and made inputs. In the journal of a run it never looks back.
+/// Returns how each action of the plan ends, in their order. It goes through the journal once, in time that
+/// is linear in the numbers of its entries and of the plan's actions and made inputs. In the journal of a
+/// run it never looks back.
 ///
 /// # Errors
 ///
-/// `NoMemory` where the list finds no memory.
+/// Returns `NoMemory` if memory runs out.
 pub fn action_ends(alloc: Global, plan: &Plan, j: &Journal) -> Result<Vec<ActionEnd>, NoMemory>
     requires { Sound plan.now }
     ensures { IfOk result (λ ends. ends.items ≡ ends_of plan.now (reverse j.now)) }
@@ -210,7 +211,7 @@ fn is_granted(branch: Branch, grant: Option<Grant>) -> bool
 
 // ---- with the producers
 
-/// What is known of each action, in their order.
+/// The facts of each action, in their order.
 pub fn standings_by(
     alloc: Global,
     works: &[PlanAction],

@@ -1,5 +1,5 @@
-//! What a journal comes to, gathered by going through it from its start: the ends of all actions, the answer by which each
-//! was won, and whether all succeed, which takes no memory.
+//! The results of a journal, gathered in one pass from its start: the ends of all actions, the answer that
+//! won each of them, and whether all succeed, which takes no memory.
 //!
 //! The outcome of one action and the fate of one branch are found by looking back (`journal_lookback`).
 #![tactic(auto)]

@@ -99,7 +99,7 @@ impl BranchFact {
 }
 
 impl ActionFact {
-    /// Of an action of which nothing was said yet.
+    /// The facts of an action that no entry has named yet.
     pub const NEW: ActionFact = ActionFact {
         grant: None,
         local: BranchFact::NEW,
@@ -117,14 +117,14 @@ impl ActionFact {
 }
 
 impl LineFact {
-    /// Of a line of which nothing was said yet.
+    /// The facts of a line that no entry has named yet.
     pub const NEW: LineFact = LineFact {
         cause: None,
         ended: false,
     };
 }
 
-/// Goes through the journal once. The facts are new before, and say what the journal says afterwards.
+/// Goes through the journal once. The facts are new before, and agree with the journal afterwards.
 pub fn gather(actions: &mut [ActionFact], lines: &mut [LineFact], limit: u32, entries: &[Entry])
     requires actions { AllNew new_action actions.old }
     requires lines { AllNew new_line lines.old }
@@ -171,8 +171,8 @@ fn note(
 
 // ---- lanes
 
-/// The newest work of the lane. Only for a lane past the table it looks back, and such a lane stands in no journal of a
-/// run.
+/// Returns the newest work of the lane. It looks back only for a lane past the table, and such a lane is in
+/// no journal of a run.
 fn order_at<'a>(orders: &[Option<&'a Entry>], before: &'a [Entry], lane: u32) -> Option<&'a Entry>
     requires { AreOrders option_copied orders.now (reverse before.now) }
     ensures { option_copied result ≡ last_work (reverse before.now) lane }
@@ -198,7 +198,7 @@ fn note_order<'a>(orders: &mut [Option<&'a Entry>], entry: &'a Entry)
 
 // ---- answers
 
-/// The entry says that a request wasn't written, though it was answered before.
+/// True if the entry reports that a request wasn't written, though it was answered before.
 fn is_late(actions: &[ActionFact], before: &[Entry], order: Option<&Entry>, entry: &Entry) -> bool
     requires { (limit : ℕ) × AreActions actions.now limit (reverse before.now) }
     ensures { result ≡ is_late (reverse before.now) (send_of_entry
@@ -218,8 +218,9 @@ fn was_answered(actions: &[ActionFact], before: &[Entry], order: Option<&Entry>)
     }
 }
 
-/// An answer to the attempt was consumed. Only for an attempt without a flag it looks back: its action isn't the plan's or
-/// its number is past every limit, and such an attempt stands in no journal of a run.
+/// True if an answer to the attempt was consumed. It looks back only for an attempt without a flag: its
+/// action isn't the plan's or its number is past every limit, and such an attempt is in no journal of a
+/// run.
 fn answered_by(actions: &[ActionFact], before: &[Entry], attempt: Attempt) -> bool
     requires { (limit : ℕ) × AreActions actions.now limit (reverse before.now) }
     ensures { result ≡ answered (reverse before.now) attempt }
@@ -327,8 +328,8 @@ fn action_next(
     }
 }
 
-/// The cause of the line, where it has ended. A line past the table stands in no journal of a run: there can be
-/// no more lines than entries.
+/// Returns the cause of the line, if it has ended. A line past the table is in no journal of a run: there
+/// can be no more lines than entries.
 pub fn ended_at(lines: &[LineFact], before: &[Entry], line: Option<u32>) -> Option<Cause>
     requires { AreLines lines.now (reverse before.now) }
     ensures { result ≡ ended_line (reverse before.now) line }

@@ -13,15 +13,15 @@ use exec_journal::{Branch, Call, CommitEnd, Entry, Journal, Plan};
 use journal_lookback::{Grant, GrantKind, commit_in, grant_in};
 use run_plan::MOST_ACTIONS;
 
-/// What an action was granted for.
+/// The finding for which an action was granted.
 #[derive(Clone, Copy)]
 pub enum Award {
     FilesOf(Branch),
     NoFiles,
 }
 
-/// Of an action: what it was first granted for, and of each branch whether the first commit was done. A table of all
-/// actions lies on the stack, so it is kept small.
+/// The facts of an action: the finding of its first grant, and for each branch, whether the first commit
+/// was done. A table of all actions is on the stack, so it is kept small.
 #[derive(Clone, Copy)]
 pub struct Chance {
     pub award: Option<Award>,
@@ -30,7 +30,7 @@ pub struct Chance {
 }
 
 impl Chance {
-    /// Of an action of which nothing was said yet.
+    /// The facts of an action that no entry has named yet.
     pub const NEW: Chance = Chance {
         award: None,
         local: None,
@@ -103,7 +103,7 @@ fn all_succeed(chances: &[Chance]) -> bool
     chances.iter().all(|c| c.succeeds())
 }
 
-/// The action of which the call may say something here.
+/// Returns the action that the call may concern here.
 fn claimed_action(call: &Call) -> Option<u32>
     ensures { result ≡ claimed_action call.now }
 {

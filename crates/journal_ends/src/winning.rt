@@ -9,12 +9,12 @@ use journal_lookback::match_in;
 use plain_values::NoMemory;
 use std::alloc::Global;
 
-/// For each action of the plan the answer by which it was won: the first that was matched with the attempt that was
-/// granted. It goes through the journal twice, whatever the number of actions.
+/// Returns for each action of the plan the answer that won it: the first that was matched with the attempt
+/// that was granted. It goes through the journal twice, for any number of actions.
 ///
 /// # Errors
 ///
-/// `NoMemory` where the list finds no memory.
+/// Returns `NoMemory` if memory runs out.
 pub fn winning_answers<'a>(
     alloc: Global,
     plan: &Plan,

@@ -1,5 +1,5 @@
-//! What holds of every legal journal. The functions do nothing: each is a law, for those who keep
-//! tables of a journal.
+//! Laws of every legal journal. The functions do nothing: each is a law, for code that keeps tables of a
+//! journal.
 ghost use Rattle.std.specs.Prelude.{◌≡◌, ◌≤◌, ◌<◌, ◌*◌, ◌/◌, ◌⊎◌, ◌↔◌, ◌+◌, ◌==◌, ◌&&◌, ◌||◌, not, ℕ, ℤ, List, [], ◌∷◌, length, Some, None, true, false, slice_get};
 ghost use Rattle.std.specs.List.{list_all};
 ghost use Rattle.exec_journal.specs.declared.attempt.Attempt.{Attempt};
@@ -44,13 +44,13 @@ ghost use Rattle.journal_laws.specs.Finished.{Finished};
 ghost use Rattle.journal_laws.specs.Paid.{seat_paid, seats_owe};
 ghost use Rattle.exec_journal.specs.Facts.{begun, IsOfBerth, NameTheirLines, IsFresh, AttemptsInOrder, BeginInOrder, SameActions, SameStandings};
 
-/// Lines are numbered in order, each line that an entry names was launched, and a lane names only
-/// lines of its own berth.
+/// Lines are numbered in order, each line that an entry names was launched, and a lane names only lines of
+/// its berth.
 pub fn lines_are_numbered()
     ensures { (p : Plan) (j : List Entry) → Lawful p j → NameTheirLines j }
 {}
 
-/// Nothing is said of a line that wasn't launched yet.
+/// No entry names a line that wasn't launched yet.
 pub fn new_lines_are_fresh()
     ensures { (p : Plan) (j : List Entry) (l : ℕ) → Lawful p j → line_count j ≤ l → IsFresh j l }
 {}
@@ -85,18 +85,18 @@ pub fn branches_win_once()
     ensures { (p : Plan) (j : List Entry) → Lawful p j → Race j }
 {}
 
-/// Each consumed answer has a request of its own.
+/// Each consumed answer has a separate request.
 pub fn answers_are_paired()
     ensures { (p : Plan) (j : List Entry) → Lawful p j → Paired p j }
 {}
 
-/// Of each scheduling discipline, what is said of each order holds when it is given, and at most one
-/// line of a berth is live.
+/// In each scheduling discipline, an order's conditions hold when it is given, and at most one line of a
+/// berth is live.
 pub fn orders_are_kept()
     ensures { (p : Plan) (j : List Entry) → Sound p → Lawful p j → OrdersKept p j }
 {}
 
-/// When a lane is told to stop and none has halted, all actions are settled and nothing is lost.
+/// When a lane receives Stop and none has halted, all actions are settled and nothing is lost.
 pub fn stops_settle_all()
     ensures settled { (p : Plan) (j : List Entry) (lane : ℕ) (c : Call)
         → Told p j lane c reply.Stop → halted j ≡ false → all_settled p j ≡ true }
@@ -106,18 +106,17 @@ pub fn stops_settle_all()
         → Told p j lane c reply.Stop → halted j ≡ false → Accounted p j }
 {}
 
-/// When a lane is told to stop, none has halted and every worker did its part, every action has
-/// success.
+/// When a lane receives Stop, none has halted and every worker did its part, every action has success.
 pub fn clean_runs_succeed()
     ensures { (p : Plan) (j : List Entry) (lane : ℕ) (c : Call) → Sound p → Lawful p j → Clean j
         → halted j ≡ false → Told p j lane c reply.Stop → (a : ℕ) (x : PlanAction)
         → slice_get p.actions a ≡ Some x → is_ok (outcome_of p j a) ≡ true }
 {}
 
-/// An entry that begins an attempt for the first time ends, grants and commits nothing. A Launch
-/// is of a new line, and of a wanted branch's attempt of which nothing was said yet. A Send goes
-/// to a line of the lane's berth that hasn't ended and has a place for it, with the line's next
-/// number, and nothing was said yet of its request.
+/// An entry that begins an attempt for the first time ends, grants and commits nothing. A Launch is of a
+/// new line, and of a wanted branch's attempt that no entry has named yet. A Send is for a line of the
+/// lane's berth that hasn't ended and has a place for it, with the line's next number, and no entry has
+/// named its request yet.
 pub fn begins_are_fresh()
     ensures begins { (p : Plan) (e : Entry) (j : List Entry) (t : Attempt) → Lawful p (e ∷ j)
         → begun_in e.reply ≡ Some t → begun j t ≡ false → BeginsOne j e t }
@@ -130,8 +129,8 @@ pub fn begins_are_fresh()
         → 1 ≤ p.limit → send_in e.reply ≡ Some x → IsNumberedSend p j e.lane x }
 {}
 
-/// An attempt ends only by a fault of its own, or when its line has ended and it has no answer or
-/// its feed failed; and each of these ends it, unless its action has a grant.
+/// An attempt ends only by its own fault, or when its line has ended and it has no answer or its feed
+/// failed; and each of these ends it, unless its action has a grant.
 pub fn ends_are_told()
     ensures only { (p : Plan) (e : Entry) (j : List Entry) (t : Attempt) → Lawful p (e ∷ j)
         → ended (e ∷ j) t ≡ true → ended j t ≡ false → EndsWith j e t }
@@ -154,11 +153,11 @@ pub fn claims_are_due()
         → IsGrantedFiles j a b }
 {}
 
-/// A branch that isn't wanted isn't wanted again, and what is bound to a line is carried by it. A
-/// pending request is of an action of the plan, and is unwanted exactly when that has a grant.
-/// The requests of a line are numbered; of all pending ones exactly those of the attempt that an
-/// Answer or a Wrote is about have its number on its line; a request has one Wrote; and once a
-/// line has ended, no attempt that it carries is pending.
+/// A branch that isn't wanted never becomes wanted again, and a branch that is bound to a line is carried
+/// by it. A pending request is of an action of the plan, and is unwanted exactly when that has a grant. The
+/// requests of a line are numbered; of all pending ones exactly those of the attempt that an Answer or a
+/// Wrote is about have its number on its line; a request has one Wrote; and once a line has ended, no
+/// attempt that it carries is pending.
 pub fn branches_stand()
     ensures wanted { (p : Plan) (e : Entry) (j : List Entry) → Lawful p (e ∷ j)
         → WantedFollows p j e }
@@ -178,10 +177,10 @@ pub fn branches_stand()
         → line_of j s ≡ Some l → has_ended j l ≡ true → IsPastAttempt j s }
 {}
 
-/// Exactly which attempts end with an entry. With a Launched that failed, a Wrote that says
-/// unwritten and a refused Claim it is the attempt that these are about; with an Ended, each one
-/// that is left on the line; with a failed feed, that request's if its line has ended; with any
-/// other call, none. Of an action with a grant none ends.
+/// Exactly which attempts end with an entry. With a Launched that failed, a Wrote that reports unwritten
+/// and a refused Claim, it is the attempt that they name; with an Ended, each one that is left on the line;
+/// with a failed feed, that request's if its line has ended; with any other call, none. If an action has a
+/// grant, none of its attempts ends.
 pub fn ends_are_exact()
     ensures launched { (p : Plan) (e : Entry) (j : List Entry) (l m : ℕ) (how : Started)
         (s : Attempt) → Lawful p (e ∷ j) → e.call ≡ call.Launched l how → is_done how ≡ false
@@ -253,8 +252,8 @@ pub fn attempts_stand()
         → attempt (e ∷ j) a b ≡ attempt j a b }
 {}
 
-/// What is settled stays settled and has an outcome, what is ready stays ready, and each request
-/// is accounted for at each moment.
+/// A settled action stays settled and has an outcome, a ready one stays ready, and each request is
+/// accounted for at each moment.
 pub fn standings_grow()
     ensures settled { (p : Plan) (e : Entry) (j : List Entry) (a : ℕ) → Lawful p (e ∷ j)
         → settled p j a ≡ true → settled p (e ∷ j) a ≡ true }
@@ -295,10 +294,9 @@ pub fn lines_end_once()
         → given_up j l ≡ true → IsDone p j l }
 {}
 
-/// There are at most as many lines as the two branches of all actions have attempts, and a Single
-/// line has at most one pending request. What an Answer or a Wrote is about stands among the
-/// requests of its line, what was answered is no longer pending, and an answer that says
-/// cancelled is never matched.
+/// There are at most as many lines as the two branches of all actions have attempts, and a Single line has
+/// at most one pending request. The request of an Answer or a Wrote is among the requests of its line, an
+/// answered request is no longer pending, and an answer that reports cancelled is never matched.
 pub fn requests_have_places()
     ensures lines { (p : Plan) (j : List Entry) (l : ℕ) → Lawful p j → 1 ≤ p.limit
         → l < line_count j → l < 2 * length p.actions * p.limit }
@@ -343,8 +341,8 @@ pub fn legal_is_decided()
     ensures { (p : Plan) (j : List Entry) → (is_legal p j ≡ true) ↔ Legal p j }
 {}
 
-/// A run is finished when a lane is told to stop and none has halted: all actions are settled,
-/// each has an outcome, and nothing is lost. It stays finished.
+/// A run is finished when a lane receives Stop and none has halted: all actions are settled, each has an
+/// outcome, and nothing is lost. It stays finished.
 pub fn stops_finish_runs()
     ensures stops { (p : Plan) (j : List Entry) (lane : ℕ) (c : Call) → Sound p → Lawful p j
         → Told p j lane c reply.Stop → halted j ≡ false → Finished p j }
@@ -354,9 +352,9 @@ pub fn stops_finish_runs()
         → Finished p j → Finished p (e ∷ j) }
 {}
 
-/// At first each lane of so many berths owes one call, its Halt. A paid call is in its lane's script,
-/// is answered Noted, and stays paid for after entries of other lanes. With it one less is owed,
-/// and with any other call at most one more.
+/// At first each lane of `seats` berths owes one call, its Halt. A paid call is in its lane's script, is
+/// answered Noted, and stays paid for after entries of other lanes. It reduces the number of owed calls by
+/// one, and any other call raises it by at most one.
 pub fn paid_calls_are_noted()
     ensures first { (seats : ℕ) → seats_owe seats [] ≡ 2 * seats }
     ensures allowed { (seats : ℕ) (kinds : ℕ → Kind) (p : Plan) (j : List Entry) (lane : ℕ)
@@ -373,8 +371,8 @@ pub fn paid_calls_are_noted()
         → seats_owe seats (after j lane c x) ≤ seats_owe seats j + 1 }
 {}
 
-/// Where each group has berths of its own, a legal journal is lawful, each line runs the group of its
-/// berth, and what is said of orders there holds too.
+/// If each group has its own berths, a legal journal is lawful, each line runs the group of its berth, and
+/// the conditions of orders there hold too.
 pub fn own_berths_are_lawful()
     ensures lawful { (p : Plan) (j : List Entry) → Legal p j → Lawful p j }
     ensures seated { (p : Plan) (j : List Entry) (l w : ℕ) → Legal p j → IsOfBerth j l w

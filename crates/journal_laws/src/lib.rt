@@ -1,4 +1,4 @@
-//! What every legal journal of a sound plan has. Each law is the contract of a function without a body.
+//! Laws of every legal journal of a sound plan. Each law is the contract of a function without a body.
 #![tactic(auto)]
 
 pub mod laws;

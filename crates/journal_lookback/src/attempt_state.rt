@@ -8,7 +8,7 @@ ghost use Rattle.journal_lookback.specs.Lookback.{concerns, end_now, track_after
 use crate::grant::grant_in;
 use exec_journal::{Attempt, Call, Cause, Entry, Found, Reply, Started, Written};
 
-/// `ended` may lag behind: an attempt that is lost with its line is seen to be so when it is next looked at.
+/// `ended` may be set late: that an attempt was lost with its line is noticed at the next look at it.
 #[derive(Clone, Copy)]
 pub struct Track {
     pub line: Option<u32>,
@@ -19,7 +19,7 @@ pub struct Track {
 }
 
 impl Track {
-    /// Of an attempt of which nothing was said yet.
+    /// The state of an attempt that no entry has named yet.
     pub const NEW: Track = Track {
         line: None,
         answered: false,
@@ -28,7 +28,8 @@ impl Track {
         ended: None,
     };
 
-    /// The cause with which the attempt has ended by now. `line` is the cause of its line, where that has ended.
+    /// The cause with which the attempt has ended by now. `line` is the cause of its line, if the line has
+    /// ended.
     pub fn end_now(&self, won: bool, line: Option<Cause>) -> Option<Cause>
         ensures { result ≡ end_now self.now won line }
     {
@@ -45,7 +46,7 @@ impl Track {
         }
     }
 
-    /// What is known after an entry. `order` is the newest work of its lane before it.
+    /// Returns the state after an entry. `order` is the newest work of its lane before it.
     pub fn after(
         &self,
         attempt: Attempt,
@@ -108,7 +109,7 @@ pub fn is_consumed(attempt: Attempt, reply: &Reply) -> bool
     }
 }
 
-/// What the entry's Wrote says of the attempt, where `order` was to send it.
+/// Applies the entry's Wrote to the attempt if `order` was to send it.
 pub fn wrote(attempt: Attempt, order: Option<&Entry>, entry: &Entry) -> Option<Written>
     ensures { result ≡ wrote_if attempt entry.now.call (send_of_entry (option_copied order.entry)) }
 {
@@ -137,7 +138,7 @@ pub fn fault(attempt: Attempt, order: Option<&Entry>, entry: &Entry) -> Option<C
     }
 }
 
-/// The entry says something of the attempt, or grants its action.
+/// True if the entry concerns the attempt, or grants its action.
 pub fn is_concerned(attempt: Attempt, order: Option<&Entry>, entry: &Entry) -> bool
     ensures { result ≡ concerns attempt (option_copied order.entry) entry.now }
 {

@@ -10,7 +10,7 @@ pub struct Grant {
     pub prize: GrantKind,
 }
 
-/// What a claim that was granted had found.
+/// The finding of a granted claim.
 #[derive(Clone, Copy)]
 pub enum GrantKind {
     Files,

@@ -1,5 +1,5 @@
-//! What a journal comes to, found by looking back over it: the outcome of an action, the fate of a branch, and what one
-//! entry says of an attempt.
+//! The results of a journal, found by looking back over it: the outcome of an action, the fate of a branch,
+//! and the effect of one entry on an attempt.
 //!
 //! `outcome` and `fate` take no memory.
 #![tactic(auto)]

@@ -25,7 +25,7 @@ fn newest_work(front: &[Entry], lane: u32) -> Option<&Entry>
     front.iter().rev().find(|e| is_work_of(e, lane))
 }
 
-/// The entry is one of the lane's, and neither a Look nor a Halt.
+/// True if the entry is the lane's, and neither a Look nor a Halt.
 pub fn is_work_of(entry: &Entry, lane: u32) -> bool
     ensures { result ≡ is_work lane entry.now }
 {
@@ -34,7 +34,7 @@ pub fn is_work_of(entry: &Entry, lane: u32) -> bool
 
 // ---- lines
 
-/// The cause of the line, where it has ended.
+/// Returns the cause of the line, if it has ended.
 pub fn ended_line(front: &[Entry], line: Option<u32>) -> Option<Cause>
     ensures { result ≡ ended_line (reverse front.now) line }
 {
@@ -51,14 +51,14 @@ fn has_end(front: &[Entry], line: u32) -> bool
     front.iter().any(|e| is_end(e, line))
 }
 
-/// The entry says that the line has ended.
+/// True if the entry reports the end of the line.
 pub fn is_end(entry: &Entry, line: u32) -> bool
     ensures { result ≡ ends line entry.now.call }
 {
     matches!(&entry.call, Call::Ended { line: ended, .. } if *ended == line)
 }
 
-/// The cause for which the line broke: that of its first break.
+/// Returns the cause for which the line broke: the cause of its first break.
 pub fn line_cause(front: &[Entry], line: u32) -> Option<Cause>
     ensures { result ≡ line_cause (reverse front.now) line }
 {
@@ -85,7 +85,7 @@ fn is_write_to(entry: &Entry, line: u32) -> bool
     matches!(&entry.call, Call::Wrote { line: written, .. } if *written == line)
 }
 
-/// The entry says that a request wasn't written, though it was answered before.
+/// True if the entry reports that a request wasn't written, though it was answered before.
 fn is_late(before: &[Entry], entry: &Entry) -> bool
     ensures { result ≡ is_late (reverse before.now) (order_of
         (reverse before.now) entry.now.lane) entry.now.call }
@@ -93,7 +93,8 @@ fn is_late(before: &[Entry], entry: &Entry) -> bool
     is_unwritten(&entry.call) && was_answered(before, last_work(before, entry.lane))
 }
 
-/// The call says that a request wasn't written, and that not for a fault of its worker's input.
+/// True if the call reports that a request wasn't written, for another reason than a fault of its worker's
+/// input.
 pub fn is_unwritten(call: &Call) -> bool
     ensures { result ≡ leaves_unwritten call.now }
 {
@@ -117,8 +118,8 @@ fn was_answered(before: &[Entry], order: Option<&Entry>) -> bool
     }
 }
 
-/// The cause for which the line breaks at this entry. `late` says that the entry's request wasn't written, though it
-/// was answered before.
+/// Returns the cause for which the line breaks at this entry. `late` means that the entry's request wasn't
+/// written, though it was answered before.
 pub fn break_by(late: bool, entry: &Entry, line: u32) -> Option<Cause>
     ensures { result ≡ break_when late line entry.now.call entry.now.reply }
 {
@@ -145,7 +146,7 @@ fn write_break(late: bool, how: Written) -> Option<Cause>
     }
 }
 
-/// The attempt that the order sends, where it is one to send a request.
+/// Returns the attempt that the order sends, if it is a Send.
 pub fn sent_by(order: Option<&Entry>) -> Option<Attempt>
     ensures { result ≡ option_map (λ r. r.attempt) (send_of_entry (option_copied order.entry)) }
 {
@@ -225,7 +226,7 @@ fn committing(entries: &[Entry], action: u32, branch: Branch) -> Option<&Entry>
         .find(|e| commit_in(e, action, branch).is_some())
 }
 
-/// How the branch was committed, where the entry says so.
+/// Returns how the branch was committed, if the entry reports that.
 pub fn commit_in(entry: &Entry, action: u32, branch: Branch) -> Option<CommitEnd>
     ensures { result ≡ committed_in action branch entry.now.call }
 {

@@ -54,7 +54,8 @@ fn outcome_in(plan: &Plan, entries: &[Entry], action: u32, work: &PlanAction) ->
     starved_outcome(&all[..plan.actions.as_slice().len()], work)
 }
 
-/// The outcome of an action of which no claim was granted: it is skipped where an input is lost, and else it isn't settled.
+/// Returns the outcome of an action without a granted claim: skipped if an input is lost, otherwise not
+/// settled.
 pub fn starved_outcome(standings: &[Standing], work: &PlanAction) -> Outcome
     ensures { result ≡ (if is_starved work.now standings.now
         then skipped standings.now work.now else Outcome.Unsettled) }
@@ -213,7 +214,7 @@ fn is_all_dropped(plan: &Plan, entries: &[Entry], action: u32, work: &PlanAction
 
 // ---- by the producers
 
-/// What is known of each action of the plan, in their order.
+/// The state of each action of the plan, in their order.
 fn find_standings(all: &mut [Standing], plan: &Plan, entries: &[Entry])
     requires few { length plan.now.actions ≤ most_actions }
     requires room { length plan.now.actions ≤ length all.old }

@@ -13,9 +13,9 @@ use plain_values::NoMemory;
 use std::alloc::Global;
 use std::marker::Model;
 
-/// Orders the earliest queued action of the berth's group whose branch there has waited. Where an
-/// action uses both branches, its local one waits for so many Ticks since the action's inputs were
-/// made, or until the remote one is dropped.
+/// Orders the earliest queued action of the berth's group whose branch there has waited. If an action uses
+/// both branches, its local one waits for `ticks` Ticks since the action's inputs were made, or until the
+/// remote one is dropped.
 #[derive(Drop)]
 pub struct LocalDelay {
     pub(crate) ticks: u32,
@@ -43,11 +43,12 @@ impl Model for LocalDelay {
 }
 
 impl LocalDelay {
-    /// The policy of a run in which no Tick was made yet. By it a local branch waits for so many.
+    /// Makes the policy of a run in which no Tick was made yet. With it a local branch waits for `ticks`
+    /// Ticks.
     ///
     /// # Errors
     ///
-    /// `NoMemory` where there is none for its tables. No other call takes any.
+    /// Returns `NoMemory` if there is none for its tables. Its other calls take none.
     pub fn new(alloc: Global, plan: &Plan, ticks: u32) -> Result<LocalDelay, NoMemory>
         requires { Sound plan.now }
         ensures { IfOk result (λ d. d ≡ record {

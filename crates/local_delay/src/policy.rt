@@ -18,7 +18,7 @@ use plain_values::NoMemory;
 use spawn_core::{Core, EarliestFirst, Policy};
 use std::alloc::Global;
 
-/// What the policy goes by: the plan, and for how many Ticks a local branch waits.
+/// The basis of the policy: the plan, and the number of Ticks for which a local branch waits.
 #[derive(Drop)]
 pub struct DelayedPlan {
     pub plan: Plan,
@@ -29,8 +29,7 @@ pub struct DelayedPlan {
 pub type DelayCore = Core<LocalDelay>;
 
 impl LocalDelay {
-    /// The core of a run in which nothing was called yet, where a local branch waits for so many
-    /// Ticks.
+    /// Makes the core of a run in which nothing was called yet. A local branch waits for `ticks` Ticks.
     ///
     /// # Errors
     ///

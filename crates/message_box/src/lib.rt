@@ -1,14 +1,12 @@
 //! A mailbox between two lanes of a desk: one reads messages and puts them in, the other takes them
 //! out.
 //!
-//! The [`Mailbox`] is the machine. What it has after a history is the history's state, and the
-//! calls here say how the state that a lane has seen changes by them. So each lane knows what it
-//! does without the other one: the reader all that it has put in and how it stopped, the taker all
-//! that it has taken. Once the taker has left nothing changes, so both then know the same state:
-//! [`settle`] says so.
+//! The [`Mailbox`] is the machine. Its contents after a history are the history's state, and the calls here
+//! state how they change the state that a lane has seen. So each lane knows its own part without the other:
+//! the reader all that it has put in and how it stopped, the taker all that it has taken. Once the taker
+//! has left nothing changes, so both then know the same state: [`settle`] proves that.
 //!
-//! What the two lanes owe each other takes no memory: to say how the reader stopped, and that the
-//! taker has left.
+//! The two lanes' last reports take no memory: how the reader stopped, and that the taker has left.
 #![tactic(auto)]
 
 mod mailbox;

@@ -29,7 +29,7 @@ pub enum Stop {
     AtEnd,
     /// Memory ran out.
     NoMemory,
-    /// What stands next in the input spells no message.
+    /// The next bytes of the input spell no message.
     BadInput,
     /// The input can't be read.
     InputFault,
@@ -37,24 +37,24 @@ pub enum Stop {
     TooLong,
 }
 
-/// What a lane asks of a mailbox.
+/// A call of a mailbox.
 #[derive(Drop)]
 pub enum Ask<X> {
     /// To put these messages in, which go in with the call.
     Put(Snapshot<Vec<X>>),
-    /// Whether there is room for more.
+    /// Asks for room for more.
     Room,
-    /// To say how the reader has stopped.
+    /// Reports how the reader has stopped.
     Stop(Stop),
-    /// Whether the taker has left.
+    /// Asks if the taker has left.
     Left,
     /// To take out all messages that wait.
     Take,
-    /// To leave, so that no more is to be put in.
+    /// Leaves, so that nothing more will be put in.
     Leave,
 }
 
-/// What it is answered.
+/// The reply to a call.
 #[derive(Clone, Copy, PartialEq, Eq)]
 pub enum Answer {
     /// It is done.
@@ -63,7 +63,7 @@ pub enum Answer {
     Open,
     /// There is nothing now.
     Idle,
-    /// Nothing waits, and nothing more comes.
+    /// The mailbox is empty, and nothing more will come.
     Stopped(Stop),
     /// The taker has left, or the call isn't the lane's to make.
     Gone,
@@ -71,7 +71,7 @@ pub enum Answer {
     NoRoom,
 }
 
-/// The basis of a machine that goes by none.
+/// The basis of a machine that has none.
 #[derive(Drop)]
 pub struct Nothing;
 
@@ -211,7 +211,7 @@ impl<X: Drop> Machine for Mailbox<X> {
         }
     }
 
-    /// What changes by a call of one lane may be news for the other.
+    /// A change made by a call of one lane may be news for the other.
     fn stirs(&self, lane: u32, reply: &Answer) -> u128 {
         match reply {
             Answer::Done if lane == READER => 1 << TAKER,

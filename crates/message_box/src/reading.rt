@@ -13,7 +13,7 @@ use plain_values::NoMemory;
 use std::snapshot::Snapshot;
 use std::sync::Wait;
 
-/// Whether what is read finds a taker.
+/// True if there is a taker for what is read.
 #[derive(Clone, Copy, PartialEq, Eq)]
 pub enum Offered {
     /// It was put in, or there is room.
@@ -66,7 +66,7 @@ pub fn await_room<X: Drop, R: Wait>(
     unreachable!()
 }
 
-/// Puts these messages behind those that wait, unless the taker has left.
+/// Appends these messages to the waiting ones, unless the taker has left.
 ///
 /// # Errors
 ///

@@ -1,4 +1,4 @@
-//! What is known once both lanes have ended.
+//! The state that is known once both lanes have ended.
 ghost use Rattle.std.specs.Prelude.{◌≡◌, ℕ, true, [], length};
 ghost use Rattle.seat_desk.specs.Passes.{IsPassOf, IsRootOf, joined};
 ghost use Rattle.message_box.specs.Sides.{state_at};

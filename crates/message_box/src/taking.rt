@@ -12,7 +12,7 @@ use plain_values::NoMemory;
 use std::alloc::Global;
 use std::sync::Wait;
 
-/// What was taken.
+/// The result of a take.
 #[derive(Drop)]
 pub enum Took<X> {
     /// All messages that waited.
@@ -54,7 +54,7 @@ fn take_once<X: Drop, R: Wait>(
     }
 }
 
-/// Takes all messages that wait, once there are any, or says how the reader has stopped.
+/// Takes all messages that wait, once there are any, or returns how the reader has stopped.
 ///
 /// # Errors
 ///
@@ -82,12 +82,11 @@ pub fn take<X: Drop, R: Wait>(
     unreachable!()
 }
 
-/// Takes all messages that wait now, which may be none. So no message that was put in by then is
-/// left behind.
+/// Takes all messages that wait now, which may be none. So no message that was put in by then is lost.
 ///
 /// # Errors
 ///
-/// As of [`take`].
+/// Same as [`take`].
 pub fn take_waiting<X: Drop, R: Wait>(
     rt: &R,
     alloc: Global,

@@ -9,11 +9,11 @@ use outside::{Io, Shop, Sink};
 use plain_values::{Items, NoMemory};
 use std::alloc::Global;
 
-/// Deals with these messages in order, each with those behind it in sight.
+/// Handles these messages in order; each can see the messages after it.
 ///
 /// # Errors
 ///
-/// `NoMemory`, or `OutputFault`. Nothing more is done then.
+/// Returns `NoMemory`, or `OutputFault`, and then does nothing more.
 pub fn answer_all<O: Sink, S: Shop, V: Service<S>>(
     alloc: Global,
     service: &V,

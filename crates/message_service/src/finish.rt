@@ -8,7 +8,7 @@ pub enum Finish {
     AtEnd,
     /// Memory ran out.
     NoMemory,
-    /// What stands next in the input spells no message.
+    /// The next bytes of the input spell no message.
     BadInput,
     /// The input can't be read.
     InputFault,

@@ -16,16 +16,16 @@ use std::sync::Wait;
 #[derive(Drop)]
 pub struct Come<M> {
     pub messages: Vec<M>,
-    /// Whether what stands behind them may still become a message.
+    /// True if the bytes after them may still become a message.
     pub goes_on: bool,
 }
 
-/// Hears one piece more of the input, and gives all messages that have come whole with it, up to what
-/// spells none.
+/// Reads one more piece of the input, and returns all messages that are complete with it, up to bytes that
+/// spell none.
 ///
 /// # Errors
 ///
-/// `NoMemory`. What was heard before the piece still begins the input.
+/// Returns `NoMemory`. The bytes read before the piece still begin the input.
 pub fn hear_piece<S: Shop, V: Service<S>, R: Wait>(
     rt: &R,
     alloc: Global,

@@ -1,9 +1,8 @@
 //! Programs that read messages from their input, and answer each by calls on a shop.
 //!
-//! What kind of messages they are, and how each is answered, is a [`Service`]. [`serve`] does the
-//! rest: it reads whatever has come, deals with these messages one after another, and reads on, up
-//! to the end of the input. [`hear_piece`] and [`answer_one`] are for those who read while messages
-//! are dealt with.
+//! What kind of messages they are, and how each is answered, is a [`Service`]. [`serve`] does the rest: it
+//! reads the available messages, handles them one after another, and reads on, up to the end of the input.
+//! [`hear_piece`] and [`answer_one`] are for programs that read while messages are handled.
 #![tactic(auto)]
 
 mod answering;

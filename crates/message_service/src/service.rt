@@ -12,7 +12,7 @@ use std::alloc::Global;
 
 /// One kind of messages, and how each of them is answered by calls on a shop.
 pub trait Service<S: Shop> {
-    /// What a frame of the input spells.
+    /// The meaning of a frame of the input.
     type Message: Drop;
 
     // How the frames of the input are marked.
@@ -31,7 +31,7 @@ pub trait Service<S: Shop> {
     fn framing(&self) -> Framing
         ensures { result ≡ framing };
 
-    /// The message that a frame spells; `None` where it spells none.
+    /// Returns the message that a frame spells; `None` if it spells none.
     ///
     /// # Errors
     ///
@@ -39,12 +39,12 @@ pub trait Service<S: Shop> {
     fn read(&self, alloc: Global, frame: &[u8]) -> Result<Option<Self::Message>, NoMemory>
         ensures { IfOk result (ReadsFrame spells frame.now) };
 
-    /// Makes the calls for a message, and gives the bytes to be put for it, if any are. `behind` is
-    /// what has been read behind it.
+    /// Makes the calls for a message, and returns the bytes to write for it, if there are any. `behind` is
+    /// what has been read after it.
     ///
     /// # Errors
     ///
-    /// `NoMemory`, maybe after some of the calls.
+    /// Returns `NoMemory`, perhaps after some of the calls.
     fn answer(
         &self,
         alloc: Global,

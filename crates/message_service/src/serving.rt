@@ -24,11 +24,11 @@ const PIECE: usize = 65_536;
 /// The most reads, each of which takes at least one byte.
 const READS: u64 = 1 << 40;
 
-/// Reads whatever has come of the input, answers these messages one after another, and reads on, up
-/// to the end of the input or to what spells no message.
+/// Reads the available input, answers its messages one after another, and reads on, up to the end of the
+/// input or to bytes that spell no message.
 ///
-/// It answers with the cause of its end. Until then each message is dealt with as its service says,
-/// in order, and nothing else is put and no other call is made.
+/// It returns the cause of its end. Until then each message is handled by its service, in order; nothing
+/// more is written, and no other call is made.
 pub fn serve<T: Tap, O: Sink, S: Shop, V: Service<S>, R: Wait>(
     rt: &R,
     alloc: Global,

@@ -1,4 +1,4 @@
-//! Where the two small programs work: folders of files, in which commands run to their end.
+//! The working directory of the two small programs: folders of files, in which commands run to their end.
 ghost use Rattle.std.specs.Prelude.{◌≡◌, ◌∷◌, [], IfOk, OnErr, Ok};
 ghost use Rattle.outside.specs.Causes.{Counts};
 ghost use Rattle.outside.specs.Lists.{Adds};
@@ -23,11 +23,11 @@ pub enum JobEnd {
 }
 
 impl JobEnd {
-    /// An equal one, which shares the bytes.
+    /// Returns an equal value that shares the bytes.
     ///
     /// # Errors
     ///
-    /// `NoMemory` where the bytes can have no further owner.
+    /// Returns `NoMemory` if the bytes can have no further owner.
     pub fn again(&self) -> Result<JobEnd, NoMemory>
         ensures { IfOk result (λ e. e ≡ self.now) }
     {
@@ -67,14 +67,14 @@ pub enum ShopCall {
 /// a
 /// command leaves in its folder is the outside's.
 pub trait Shop: Drop {
-    /// How often it has failed, and the calls so far with their answers, where it tells them.
+    /// How often it has failed, and the calls so far with their answers, if it records them.
     ghost told: { Self → ShopTold };
 
     /// The count of faults. It never falls.
     fn faults(&self) -> u64
         ensures { result ≡ (told self.now).faults };
 
-    /// Puts a whole file there, in place of one that is there, and makes the folders above it.
+    /// Puts a whole file there, replacing any existing one, and makes the folders above it.
     fn put(&mut self, path: &str, bytes: &[u8]) -> Io
         ensures count { Counts (told self.old).faults (told self.new).faults (result ≡ io.Failed) }
         ensures log { Adds (call.Put path.now bytes.now result ∷ []) (told self.old).log
@@ -98,8 +98,7 @@ pub trait Shop: Drop {
             (told self.old).log (told self.new).log) }
         ensures err { OnErr result ((told self.new).log ≡ (told self.old).log) };
 
-    /// Makes the folder, runs the words there with these variables alone as environment and an
-    /// empty
+    /// Makes the folder, runs the words there with only these variables as environment and an empty
     /// standard input, and waits for the end.
     ///
     /// # Errors

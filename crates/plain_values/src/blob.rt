@@ -20,11 +20,11 @@ impl Model for Blob {
 }
 
 impl Blob {
-    /// The bytes of a `Vec`, whose memory it takes over.
+    /// Makes a blob of the bytes of a `Vec`, whose memory it takes over.
     ///
     /// # Errors
     ///
-    /// `NoMemory` where the count of owners finds no memory.
+    /// Returns `NoMemory` if the count of owners finds no memory.
     pub fn of(alloc: Global, bytes: Vec<u8>) -> Result<Blob, NoMemory>
         ensures { IfOk result (λ b. b ≡ bytes.items) }
     {
@@ -40,11 +40,11 @@ impl Blob {
         self.shared.as_slice()
     }
 
-    /// An equal one, which shares the bytes.
+    /// Returns an equal value that shares the bytes.
     ///
     /// # Errors
     ///
-    /// `NoMemory` where the count of owners can grow no further.
+    /// Returns `NoMemory` if the count of owners can grow no further.
     pub fn again(&self) -> Result<Blob, NoMemory>
         ensures { IfOk result (λ b. b ≡ self.now) }
     {

@@ -1,11 +1,11 @@
-/// One call of a lane with its reply, as a history or a journal has it. The type has no bound, so that
-/// it may stand in any contract.
+/// One call of a lane with its reply, in a history or a journal. The type has no bound, so that any
+/// contract may use it.
 #[derive(Drop)]
 pub struct Entry<C, R> {
     /// The number of the lane that called.
     pub lane: u32,
-    /// What it called.
+    /// The call.
     pub call: C,
-    /// What it was answered.
+    /// The reply.
     pub reply: R,
 }

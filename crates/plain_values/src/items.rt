@@ -2,8 +2,8 @@ ghost use Rattle.std.specs.Prelude.{◌≡◌, List};
 
 use std::marker::Model;
 
-/// A list that doesn't change. A contract sees the list of its elements, so that two lists are equal
-/// where their elements are, whatever memory they hold.
+/// A list that doesn't change. A contract sees the list of its elements, so that two lists are equal if
+/// their elements are, regardless of the memory that they hold.
 #[derive(Drop)]
 pub struct Items<T> {
     items: Vec<T>,

@@ -1,6 +1,6 @@
 use std::alloc::{AllocError, AllocFailed};
 
-/// Memory ran out. It says nothing else, so that lack of memory never hides another answer.
+/// Memory ran out. It means only that, so that lack of memory never hides another answer.
 #[derive(Clone, Copy, Debug, PartialEq, Eq)]
 pub struct NoMemory;
 

@@ -31,11 +31,11 @@ impl Text {
         self.text.as_str()
     }
 
-    /// The same text, in memory of its own.
+    /// Returns a copy of the text.
     ///
     /// # Errors
     ///
-    /// `NoMemory` where that memory is not there.
+    /// Returns `NoMemory` if memory runs out.
     pub fn copy_of(alloc: Global, text: &str) -> Result<Text, NoMemory>
         ensures { IfOk result (λ t. t ≡ text.now) }
     {
@@ -45,11 +45,11 @@ impl Text {
     }
 }
 
-/// The same texts, in memory of their own.
+/// Returns a copy of the list of texts.
 ///
 /// # Errors
 ///
-/// `NoMemory` where that memory is not there.
+/// Returns `NoMemory` if memory runs out.
 pub fn texts_again(alloc: Global, texts: &[Text]) -> Result<Items<Text>, NoMemory>
     ensures { IfOk result (λ l. l ≡ texts.now) }
 {

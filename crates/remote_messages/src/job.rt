@@ -15,7 +15,7 @@ use wire_messages::{
     push_int32, push_messages, push_texts, texts_len,
 };
 
-/// What the executor is asked to run.
+/// A job for the executor.
 #[derive(Drop)]
 pub struct Job {
     pub id: i32,
@@ -23,7 +23,7 @@ pub struct Job {
     pub inputs: Items<NamedFile>,
     pub outputs: Items<Text>,
     pub env: Items<Variable>,
-    /// Whether the job with this number is to be given up. All else is then empty.
+    /// True if the job with this number should be given up. The other fields are then empty.
     pub cancel: bool,
 }
 
@@ -114,11 +114,11 @@ pub fn decode_job(alloc: Global, bytes: &[u8]) -> Result<Job, MessageFault>
     decode::<Job>(alloc, bytes)
 }
 
-/// The one spelling of the job.
+/// Returns the only spelling of the job.
 ///
 /// # Errors
 ///
-/// `NoMemory` where the bytes find no memory.
+/// Returns `NoMemory` if memory runs out.
 pub fn encode_job(alloc: Global, m: &Job) -> Result<Vec<u8>, NoMemory>
     ensures written { IfOk result (λ v. v.items ≡ job_spelling m.now) }
     ensures spelled { IfOk result (λ v. SpellsJob v.items m.now) }
@@ -126,8 +126,8 @@ pub fn encode_job(alloc: Global, m: &Job) -> Result<Vec<u8>, NoMemory>
     encode(alloc, m)
 }
 
-/// The length of the job's spelling, or 2^64 - 1 where that is more. It takes no memory, and looks at each part
-/// of the job a fixed number of times, at no content.
+/// Returns the length of the job's spelling, or 2^64 - 1 if that is more. It takes no memory, and looks at
+/// each part of the job a fixed number of times, at no content.
 pub fn job_length(m: &Job) -> u64
     ensures { result ≡ capped (length (job_spelling m.now)) }
 {

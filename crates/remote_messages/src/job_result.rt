@@ -13,19 +13,19 @@ use wire_messages::{
     push_bool, push_bytes, push_int32, push_messages,
 };
 
-/// What the executor answers to a job.
+/// The executor's answer to a job.
 #[derive(Drop)]
 pub struct JobResult {
     pub id: i32,
     pub exit_code: i32,
-    /// What the job printed.
+    /// The job's output.
     pub text: Text,
     pub files: Items<NamedFile>,
-    /// Why the job was not run; empty where it was.
+    /// The reason why the job was not run; empty if it was.
     pub refusal: Text,
-    /// Whether the job was given up.
+    /// True if the job was given up.
     pub cancelled: bool,
-    /// Whether further results of this job follow.
+    /// True if further results of this job follow.
     pub more: bool,
     /// The version of the remote protocol, in a greeting: a result with id 0 and version 2 or more, which is
     /// the executor's first message. 0 elsewhere.
@@ -129,11 +129,11 @@ pub fn decode_result(alloc: Global, bytes: &[u8]) -> Result<JobResult, MessageFa
     decode::<JobResult>(alloc, bytes)
 }
 
-/// The one spelling of the result.
+/// Returns the only spelling of the result.
 ///
 /// # Errors
 ///
-/// `NoMemory` where the bytes find no memory.
+/// Returns `NoMemory` if memory runs out.
 pub fn encode_result(alloc: Global, m: &JobResult) -> Result<Vec<u8>, NoMemory>
     ensures written { IfOk result (λ v. v.items ≡ job_result_spelling m.now) }
     ensures spelled { IfOk result (λ v. SpellsJobResult v.items m.now) }

@@ -1,7 +1,7 @@
-//! How far a run is: what the scheduling tables note as it goes, and what a watcher sees of that.
+//! The progress of a run: the scheduling tables record it, and a watcher reads it.
 //!
-//! No contract speaks of it. What is noted are counts and marks that any thread may read at any
-//! time, so a look may mix what stood at slightly different moments.
+//! Contracts don't cover it. It consists of counts and marks that any thread may read at any time, so a
+//! look may mix values of slightly different moments.
 #![tactic(auto)]
 
 mod notes;

@@ -3,19 +3,19 @@ use crate::Progress;
 use run_plan::Branch;
 use std::sync::Arc;
 
-/// Where the progress of a run is noted, if anywhere.
+/// The record of a run's progress, if there is one.
 #[derive(Drop)]
 pub struct Notes {
     progress: Option<Arc<Progress>>,
 }
 
 impl Notes {
-    /// Nobody watches the run.
+    /// The run isn't watched.
     pub fn nowhere() -> Notes {
         Notes { progress: None }
     }
 
-    /// Whoever has this progress watches the run.
+    /// The owner of this progress watches the run.
     pub fn on(progress: Arc<Progress>) -> Notes {
         Notes {
             progress: Some(progress),

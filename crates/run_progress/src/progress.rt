@@ -7,7 +7,7 @@ use std::sync::atomic::{AtomicBool, AtomicU32, AtomicU64, Ordering};
 // The number of no action.
 const NOBODY: u32 = u32::MAX;
 
-/// How far a run is. It is shared with whoever watches the run, and waits for nobody.
+/// The progress of a run. It is shared with the watcher of the run, and never blocks.
 #[derive(Drop)]
 pub struct Progress {
     all: AtomicU64,
@@ -28,11 +28,11 @@ struct Marks {
 }
 
 impl Progress {
-    /// The progress of a run that hasn't begun.
+    /// Makes the progress of a run that hasn't begun.
     ///
     /// # Errors
     ///
-    /// `NoMemory`. No other call takes any.
+    /// Returns `NoMemory` if memory runs out. The other calls take none.
     pub fn new(alloc: Global) -> Result<Progress, NoMemory> {
         let mut marks = Vec::with_capacity(alloc, MOST_ACTIONS)?;
         let mut failures = Vec::with_capacity(alloc, MOST_ACTIONS)?;
@@ -80,34 +80,35 @@ impl Progress {
         self.over.store(true, Ordering::SeqCst);
     }
 
-    /// Whether the run is over.
+    /// True if the run is over.
     pub fn is_over(&self) -> bool {
         self.over.load(Ordering::SeqCst)
     }
 
-    /// How many actions the run has: none, before that is known.
+    /// The number of actions of the run: 0, before that is known.
     pub fn all(&self) -> u64 {
         self.all.load(Ordering::SeqCst)
     }
 
-    /// How many actions are settled.
+    /// The number of settled actions.
     pub fn settled_so_far(&self) -> u64 {
         self.settled.load(Ordering::SeqCst)
     }
 
-    /// How many actions are settled without success.
+    /// The number of actions that are settled without success.
     pub fn failed_so_far(&self) -> u64 {
         self.failed.load(Ordering::SeqCst)
     }
 
-    /// The action that was settled without success behind so many others. `None` where none was, or it isn't noted yet.
+    /// Returns the action that was settled without success after `behind` others. `None` if there is none,
+    /// or it isn't noted yet.
     pub fn failure(&self, behind: u64) -> Option<u32> {
         let behind = usize::try_from(behind).ok()?;
         let action = self.failures.get(behind)?.load(Ordering::SeqCst);
         (action != NOBODY).then_some(action)
     }
 
-    /// Whether a branch of the action has an attempt under way.
+    /// True if a branch of the action has an attempt under way.
     pub fn is_running(&self, action: u32) -> bool {
         match self.marks.get(action as usize) {
             Some(marks) => marks.any(),

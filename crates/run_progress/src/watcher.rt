@@ -6,7 +6,8 @@ use std::alloc::Global;
 use std::fmt;
 use std::time::Duration;
 
-/// Who looks at a run from time to time, and remembers since when each action runs and of which failures it has told.
+/// Looks at a run from time to time, and remembers since when each action runs and which failures it has
+/// reported.
 #[derive(Drop)]
 pub struct Watcher {
     // How many failures it has told of.
@@ -15,7 +16,7 @@ pub struct Watcher {
     since: Vec<Option<Duration>>,
 }
 
-/// How far a run was at a look.
+/// The progress of a run at a look.
 #[derive(Clone, Copy, Drop, PartialEq, Eq)]
 pub struct Look {
     pub all: u64,
@@ -34,11 +35,11 @@ pub struct Oldest {
 }
 
 impl Watcher {
-    /// A watcher that hasn't looked yet.
+    /// Makes a watcher that hasn't looked yet.
     ///
     /// # Errors
     ///
-    /// `NoMemory`. No look takes any.
+    /// Returns `NoMemory` if memory runs out. Looks take none.
     pub fn new(alloc: Global) -> Result<Watcher, NoMemory> {
         let mut since = Vec::with_capacity(alloc, MOST_ACTIONS)?;
         for _ in 0..MOST_ACTIONS {

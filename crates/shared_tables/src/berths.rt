@@ -1,4 +1,4 @@
-//! What the tables say of a berth's last line.
+//! The tables' facts about a berth's last line.
 ghost use Rattle.std.specs.Prelude.{◌≡◌, ◌<◌, ℕ, not, false, List, Some};
 ghost use Rattle.exec_journal.specs.Entry.{Entry};
 ghost use Rattle.exec_journal.specs.Rules.{is_vacant};
@@ -14,8 +14,8 @@ ghost use Rattle.shared_rules.specs.Shared.{shared_discipline};
 ghost use Rattle.shared_tables.specs.Berths.{holds, may_evict, rests};
 ghost use Rattle.shared_tables.specs.Spoken.{IsSpoken};
 
-/// What the tables say of a berth's last line is so, as long as no lane has halted: whether it may
-/// still have a process, and whether it is idle.
+/// The tables' facts about a berth's last line agree with the journal, as long as no lane has halted: that
+/// it may still have a process, and that it is idle.
 pub fn lines_are_told()
     ensures holds { (q : SharedPlan) (s : State) (j : List Entry) (w l : ℕ)
         → Stands q.plan (seats q) s j → LegalBy (shared_discipline q) j → halted j ≡ false
@@ -28,7 +28,7 @@ pub fn lines_are_told()
         → last_line j w ≡ Some l → rests s w ≡ needs.is_idle q.plan j l }
 {}
 
-/// So is which line is given up, where the order in which berths have said something is the
+/// The choice of the line that is given up agrees too, if the order in which berths last reported is the
 /// journal's.
 pub fn evictions_are_told()
     ensures { (q : SharedPlan) (s : State) (j : List Entry) (ws : List ℕ) (w l : ℕ)

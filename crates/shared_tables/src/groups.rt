@@ -1,4 +1,4 @@
-//! What the tables say of groups.
+//! The tables' facts about groups.
 ghost use Rattle.std.specs.Prelude.{◌≡◌, ℕ, false, List};
 ghost use Rattle.exec_journal.specs.Entry.{Entry};
 ghost use Rattle.exec_journal.specs.Words.{halted};
@@ -13,8 +13,8 @@ ghost use Rattle.shared_rules.specs.Shared as rule;
 ghost use Rattle.shared_rules.specs.Shared.{shared_discipline};
 ghost use Rattle.shared_tables.specs.Berths.{is_starved, next_starved};
 
-/// What the tables say of groups is so, as long as no lane has halted: which are starved, and what
-/// is launched for them.
+/// The tables' facts about groups agree with the journal, as long as no lane has halted: which groups are
+/// starved, and what is launched for them.
 pub fn groups_are_told()
     ensures starved { (q : SharedPlan) (s : State) (j : List Entry) (pool : SharedPool) (g : ℕ)
         → Stands q.plan (seats q) s j → LegalBy (shared_discipline q) j → halted j ≡ false

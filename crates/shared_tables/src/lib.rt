@@ -1,6 +1,5 @@
-//! What a core's tables say of shared berths is what the journal says: which lines are idle, which
-//! groups are starved, what is launched for them, and which line is given up. The functions do
-//! nothing: each is a law.
+//! A core's tables agree with the journal about shared berths: which lines are idle, which groups are
+//! starved, what is launched for them, and which line is given up. The functions do nothing: each is a law.
 #![tactic(auto)]
 
 pub mod berths;

@@ -1,4 +1,4 @@
-//! In which order berths have said something.
+//! The order in which berths last reported.
 ghost use Rattle.std.specs.Prelude.{ℕ, List, []};
 ghost use Rattle.exec_journal.specs.declared.call.Call.{Call};
 ghost use Rattle.exec_journal.specs.declared.reply.Reply.{Reply};
@@ -10,7 +10,7 @@ ghost use Rattle.shared_rules.specs.Pools.{seats};
 ghost use Rattle.shared_rules.specs.Shared.{shared_discipline};
 ghost use Rattle.shared_tables.specs.Spoken.{IsSpoken, berths_from, noted};
 
-/// The order in which berths have said something follows the journal.
+/// The order in which berths last reported follows the journal.
 pub fn words_are_noted()
     ensures begins { (q : SharedPlan) → IsSpoken (seats q) [] (berths_from 0 (seats q)) }
     ensures stays { (q : SharedPlan) (j : List Entry) (ws : List ℕ) (lane : ℕ) (c : Call)

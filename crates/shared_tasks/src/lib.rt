@@ -1,5 +1,5 @@
-//! From the words of the command with shared berths to what is run: the plan of its list, whose
-//! groups have no berths of their own, the pools in which they stand, and the task.
+//! From the arguments of the command with shared berths to a task: the plan of its list, whose groups have
+//! no own berths, the pools that they share, and the task.
 #![tactic(auto)]
 
 mod plans;

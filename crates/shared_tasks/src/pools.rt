@@ -15,8 +15,8 @@ pub struct SpokenPools {
     pub speeches: Vec<Speech>,
 }
 
-/// The pools of the groups with these parts: so many workers for each protocol, and so many
-/// executors.
+/// Returns the pools of the groups with these parts, with the given numbers of workers for each protocol
+/// and of executors.
 ///
 /// # Errors
 ///

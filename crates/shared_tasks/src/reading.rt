@@ -20,23 +20,23 @@ use std::alloc::Global;
 // So many worker keys may a list have.
 const MOST_KEYS: u32 = 4096;
 
-/// The task of a list, and the plan of the core by which it is run.
+/// The task of a list, and the plan of the core that runs it.
 #[derive(Drop)]
 pub struct SharedTask {
     pub task: Task,
     pub shared: SharedPlan,
 }
 
-/// What the words of a command come to before its lanes are started.
+/// Returns the task that the arguments of a command yield, before its lanes are started.
 ///
-/// In this order: the words are looked at; the list is read at its path, which may have 4,096 worker
-/// keys; its actions' tools and source inputs are read; then the plan is made, its pools, its
-/// commands and its speeches.
+/// In this order: the arguments are read; the list is read at its path, which may have 4,096 worker keys;
+/// its actions' tools and source inputs are read; then the plan is made, with its pools, its commands and
+/// its protocols.
 ///
 /// # Errors
 ///
-/// The first of these: `Words` where the words aren't accepted, and then nothing is read; `Absent` or
-/// `FloorFailed` for the list, `List` with its first fault, `Absent` or `FloorFailed` for a tool or an
+/// Returns the first of these: `Words` if the arguments aren't accepted, and then nothing is read; `Absent`
+/// or `FloorFailed` for the list, `List` with its first fault, `Absent` or `FloorFailed` for a tool or an
 /// input, `Flags` of the first action that has such a fault. `NoMemory` with `Before` at any time.
 pub fn read_shared_task<F: Floor>(
     alloc: Global,

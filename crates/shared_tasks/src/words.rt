@@ -9,21 +9,21 @@ use tool_words::{Options, number_behind, read_words};
 /// The options of the command with shared berths.
 #[derive(Drop)]
 pub struct SharedOptions {
-    /// What its other words give, as those of `worker_tool` do. They name a list.
+    /// The options of `worker_tool` among the words. They name a list.
     pub options: Options,
-    /// How many local workers there are at most of each protocol, 1 to 24.
+    /// The most local workers of each protocol, 1 to 24.
     pub workers: u32,
 }
 
-/// The options that these words give, which are the words after the program's name; `None` exactly
-/// where the words aren't accepted.
+/// Returns the options that these words give, the words after the program's name; `None` exactly if the
+/// words aren't accepted.
 ///
-/// Exactly one of them is `--max_workers=N`, N from 1 to 24. The others are those of `worker_tool`
-/// without `--generate`.
+/// Exactly one word is `--max_workers=N`, N from 1 to 24. The others are options of `worker_tool`, without
+/// `--generate`.
 ///
 /// # Errors
 ///
-/// `NoMemory` where the options find no memory.
+/// Returns `NoMemory` if memory runs out.
 pub fn read_shared_words(alloc: Global, words: &[String]) -> Result<Option<SharedOptions>, NoMemory>
     ensures words { IfOk result (λ o. o ≡ shared_options_of (map string_bytes words.now)) }
     ensures limits { IfOk result (λ o. IfSome o AreShared) }
@@ -55,11 +55,11 @@ fn only_number(words: &[String]) -> Option<u32>
     found
 }
 
-/// The words of the command that are those of `worker_tool`.
+/// Returns the words of the command that are options of `worker_tool`.
 ///
 /// # Errors
 ///
-/// `NoMemory` where their copies find no memory.
+/// Returns `NoMemory` if memory runs out.
 pub fn other_words(alloc: Global, words: &[String]) -> Result<Vec<String>, NoMemory>
     ensures { IfOk result
         (λ v. map string_bytes v.items ≡ others (map string_bytes words.now)) }

@@ -26,7 +26,7 @@ impl From<RunFault> for NoSpawn {
     }
 }
 
-/// Memory that is wanted here is wanted before the lanes.
+/// Memory that runs out here runs out before the lanes.
 impl From<NoMemory> for NoSpawn {
     ghost from_gives = { λ _ e. e ≡ Fault (no_memory Before) };
 

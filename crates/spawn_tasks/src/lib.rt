@@ -1,6 +1,5 @@
-//! From the words of the command with strategies to what is run: the plan of the chosen strategies,
-//! the work of its actions with the request words that these strategies ask, and what the lanes go
-//! by.
+//! From the arguments of the command with strategies to a task: the plan of the chosen strategies, the work
+//! of its actions with the request arguments that these strategies need, and the lanes' settings.
 #![tactic(auto)]
 
 mod faults;

@@ -13,7 +13,7 @@ use run_plan::{Group, Kind, Plan, Speech};
 use spawn_strategies::{Name, SpawnOptions};
 use std::alloc::Global;
 
-/// The part of each group of the plan, in order, where these are the chosen names.
+/// Returns the part of each group of the plan, in order, for these chosen names.
 ///
 /// # Errors
 ///

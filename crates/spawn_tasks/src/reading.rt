@@ -18,22 +18,22 @@ use std::alloc::Global;
 // So many worker keys may the list have by its own strategies.
 const MOST_KEYS: u32 = 4096;
 
-/// What the words of a command come to before its lanes are started.
+/// Returns the task that the arguments of a command yield, before its lanes are started.
 ///
-/// In this order: the words are looked at; the list is read at its path, which may have 4,096
-/// worker keys; its actions' tools and source inputs are read; each action's strategy is chosen;
-/// the request words of those that only their chosen strategies bring to a worker are expanded;
-/// then the commands and the speeches are made. The group of the sandboxed actions has the command
-/// of the sandbox executor with the word `--serve`.
+/// In this order: the arguments are read; the list is read at its path, which may have 4,096 worker keys;
+/// its actions' tools and source inputs are read; each action's strategy is chosen; the request arguments
+/// of the actions that only their chosen strategy brings to a worker are expanded; then the commands and
+/// the protocols are made. The group of the sandboxed actions has the command of the sandbox executor with
+/// the word `--serve`.
 ///
 /// # Errors
 ///
-/// The first of these. `Fault`: `Words` where the words aren't accepted, and then nothing is read;
-/// `Absent` or `FloorFailed` for the list, `List` with its first fault, `Absent` or `FloorFailed`
-/// for a tool or an input, `Flags` of the first action whose own strategy has a worker and whose
-/// request words can't be expanded. `NoStrategy` of the first action that no name of its list
-/// supports. `Fault`: `List` with `TooMany` keys where the chosen strategies have more than 48,
-/// `Flags` of the first other action with such a fault. `NoMemory` with `Before` at any time.
+/// Returns the first of these. `Fault`: `Words` if the arguments aren't accepted, and then nothing is read;
+/// `Absent` or `FloorFailed` for the list, `List` with its first fault, `Absent` or `FloorFailed` for a
+/// tool or an input, `Flags` of the first action whose own strategy has a worker and whose request
+/// arguments can't be expanded. `NoStrategy` of the first action that no name of its list supports.
+/// `Fault`: `List` with `TooMany` keys if the chosen strategies have more than 48, `Flags` of the first
+/// other action with such a fault. `NoMemory` with `Before` at any time.
 pub fn read_spawn_task<F: Floor>(
     alloc: Global,
     words: &[String],

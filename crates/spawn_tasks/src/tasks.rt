@@ -18,23 +18,23 @@ use run_tasks::{Task, commands_of, speeches_of};
 use spawn_strategies::{ChoiceFault, Name, SpawnOptions, Strategies, chosen, chosen_plan};
 use std::alloc::Global;
 
-/// What a list comes to by the chosen strategies, before its lanes are started.
+/// The task that a list yields under the chosen strategies, before its lanes are started.
 #[derive(Drop)]
 pub struct SpawnTask {
     pub task: Task,
-    /// The plan once more, for who schedules.
+    /// A second copy of the plan, for the scheduler.
     pub twin: Plan,
-    /// How many milliseconds a local branch waits while a remote one runs, 0 to 9999.
+    /// The milliseconds that a local branch waits while a remote one runs, 0 to 9999.
     pub delay: u32,
 }
 
-/// The task of a list that has this work by its own strategies.
+/// Returns the task of a list that has this work with its own strategies.
 ///
 /// # Errors
 ///
-/// `NoStrategy` of the first action that no name of its list supports; else `Fault`: `List` with
-/// `TooMany` keys where the chosen strategies have more than 48, `Flags` of the first action whose
-/// request words can't be expanded. `NoMemory` with `Before` at any time.
+/// Returns `NoStrategy` of the first action that no name of its list supports; otherwise `Fault`: `List`
+/// with `TooMany` keys if the chosen strategies have more than 48, `Flags` of the first action whose
+/// request arguments can't be expanded. `NoMemory` with `Before` at any time.
 pub fn spawn_task_of(
     alloc: Global,
     options: &SpawnOptions,

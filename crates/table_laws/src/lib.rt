@@ -1,5 +1,5 @@
-//! What the tables' laws ask for follows of every legal journal. The functions do nothing: each is
-//! a law, for the core that keeps the tables.
+//! The premises of the tables' laws hold in every legal journal. The functions do nothing: each is a law,
+//! for the core that keeps the tables.
 #![tactic(auto)]
 
 ghost use Rattle.std.specs.Prelude.{◌≡◌, ◌<◌, ◌⊎◌, ◌&&◌, not, ℕ, ℤ, List, [], ◌∷◌, Some, None, true, false};
@@ -35,8 +35,8 @@ ghost use Rattle.request_table.specs.Entries as table;
 ghost use Rattle.cancel_rules.specs.Entries as rules;
 ghost use Rattle.table_laws.specs.Asked.{is_commit, lines_bound_for, EndsOne};
 
-/// With which entries exactly one attempt ends: a refused Claim, a Launched with a fault, a Wrote
-/// that says that its request wasn't written, and one with FeedFault after the line's Ended.
+/// Exactly one attempt ends with each of these entries: a refused Claim, a Launched with a fault, a Wrote
+/// that reports that its request wasn't written, and a Wrote with FeedFault after the line's Ended.
 pub fn one_ends()
     ensures claimed { (p : Plan) (e : Entry) (j : List Entry) (y : Attempt × Found)
         → Lawful p (e ∷ j) → refused_in e.call e.reply ≡ Some y → EndsOne j e y.0 }
@@ -54,8 +54,8 @@ pub fn one_ends()
         → granted j x.attempt.action ≡ false → EndsOne j e x.attempt }
 {}
 
-/// With which entries none ends: those of a granted action, those of a request that ended with its
-/// line, what went well, a Claim that is granted or lost, and quiet ones.
+/// No attempt ends with these entries: of a granted action, of a request that ended with its line,
+/// successes, a Claim that is granted or lost, and quiet ones.
 pub fn none_ends()
     ensures quiet { (p : Plan) (e : Entry) (j : List Entry) → Lawful p (e ∷ j)
         → is_quiet_call e.call ≡ true → retry.EndsNone j e }
@@ -83,8 +83,8 @@ pub fn none_ends()
         ⊎ (e.reply ≡ reply.Lost) → retry.EndsNone j e }
 {}
 
-/// What the order of branches asks for: with an Ended those of `lost_with` end, and with each other
-/// fault one attempt.
+/// The premises of the order of branches: with an Ended the attempts of `lost_with` end, and with each
+/// other fault one attempt.
 pub fn queue_facts()
     ensures begins { (p : Plan) (e : Entry) (j : List Entry) (t : Attempt) → Lawful p (e ∷ j)
         → begun_in e.reply ≡ Some t → begun j t ≡ false → queue.BeginsThis j e t }
@@ -121,7 +121,7 @@ pub fn queue_facts()
         → queue.SameBranches j (e ∷ j) }
 {}
 
-/// What the race asks for.
+/// The premises of the race.
 pub fn race_facts()
     ensures grants { (p : Plan) (e : Entry) (j : List Entry) (y : Attempt × Found)
         → Lawful p (e ∷ j) → granted_in e.call e.reply ≡ Some y → race.IsOpen j y.0.action }
@@ -131,7 +131,7 @@ pub fn race_facts()
         → granted_in e.call e.reply ≡ None → is_commit e.call ≡ false → race.SameRace j (e ∷ j) }
 {}
 
-/// What the count of ends asks for, of the same entries.
+/// The premises of the count of ends, for the same entries.
 pub fn retry_facts()
     ensures going { (j : List Entry) (t : Attempt) → IsGoing j t
         → retry.IsGoing j t.action t.branch }
@@ -142,8 +142,8 @@ pub fn retry_facts()
         → retry.EndsThese j e (lost_with p j l) }
 {}
 
-/// What the pool of lines asks for: of the lines to which something is bound, which are of an
-/// action, and which a fault is of; and where the request of a Wrote or an Answer is pending.
+/// The premises of the pool of lines: on the lines with a bound branch, the lines of an action, and the
+/// line of a fault; and on the line at which the request of a Wrote or an Answer is pending.
 pub fn pool_facts()
     ensures wanted { (p : Plan) (e : Entry) (j : List Entry) → Lawful p (e ∷ j)
         → pool.WantedStays p j e }
@@ -172,7 +172,7 @@ pub fn pool_facts()
         → pool.AreOfAction p j a (lines_bound_for p j a) }
 {}
 
-/// What the table of requests asks for.
+/// The premises of the table of requests.
 pub fn request_facts()
     ensures fresh { (p : Plan) (e : Entry) (j : List Entry) (x : Request) → Lawful p (e ∷ j)
         → send_in e.reply ≡ Some x → table.IsNewRequest j x.line x.attempt }
@@ -193,7 +193,7 @@ pub fn request_facts()
     ensures answered { (j : List Entry) (s : Attempt) → answered j s ≡ true → table.IsPast j s }
 {}
 
-/// What the rules of cancellation ask for.
+/// The premises of the rules of cancellation.
 pub fn cancel_facts()
     ensures { (p : Plan) (j : List Entry) (l : ℕ) → Lawful p j → rules.WantedByGrant p j l }
 {}

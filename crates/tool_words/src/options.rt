@@ -37,33 +37,34 @@ const SINGLE_KINDS: [Kind; 7] = [
 pub struct Options {
     /// The path of the list.
     pub list: Option<Text>,
-    /// How many actions to generate in a list's place, 1 to 1000.
+    /// The number of actions to generate instead of reading a list, 1 to 1000.
     pub generate: Option<u32>,
-    /// Requests ask the workers to say more.
+    /// Requests ask the workers for more output.
     pub verbose: bool,
-    /// Workers of one key at most, 1 to 48; 4 where nothing is said.
+    /// Workers of one key at most, 1 to 48; default 4.
     pub instances: u32,
-    /// Executors at most, 1 to 16; 1 where nothing is said.
+    /// Executors at most, 1 to 16; default 1.
     pub remote: u32,
-    /// How often an attempt of a branch is made again, 0 to 9; 1 where nothing is said.
+    /// The number of further attempts of a branch, 0 to 9; default 1.
     pub retries: u32,
-    /// The executor's program; `remote_exec` where nothing is said.
+    /// The executor's program; default `remote_exec`.
     pub executor: Text,
     /// Further start-up words of each worker, in order.
     pub extra: Items<Text>,
 }
 
-/// The options that these words give, which are the words after the program's name; `None` exactly where the words
-/// aren't accepted.
+/// Returns the options that these words give, the words after the program's name; `None` exactly if the
+/// words aren't accepted.
 ///
-/// Each word is the path of a list (not empty, not beginning with `-`), `--worker_verbose`, `--instances=N`,
-/// `--remote=N`, `--retries=N`, `--generate=N`, `--executor=TEXT` or `--extra_flag=TEXT`. N is one to four decimal
-/// digits within the option's limits, TEXT isn't empty. All but the extra flags stand at most once, and there is
-/// either one list or one `--generate`. The order doesn't matter, but for that of the extra flags.
+/// Each word is the path of a list (not empty, not beginning with `-`), `--worker_verbose`,
+/// `--instances=N`, `--remote=N`, `--retries=N`, `--generate=N`, `--executor=TEXT` or `--extra_flag=TEXT`.
+/// N is one to four decimal digits within the option's limits, TEXT isn't empty. Every option occurs at
+/// most once, except the extra flags, and there is either one list or one `--generate`. The order matters
+/// only among the extra flags.
 ///
 /// # Errors
 ///
-/// `NoMemory` where the options find no memory.
+/// Returns `NoMemory` if memory runs out.
 pub fn read_words(alloc: Global, words: &[String]) -> Result<Option<Options>, NoMemory>
     ensures words { IfOk result (λ o. o ≡ options_of (map string_bytes words.now)) }
     ensures limits { IfOk result (λ o. IfSome o AreInLimits) }
@@ -74,7 +75,7 @@ pub fn read_words(alloc: Global, words: &[String]) -> Result<Option<Options>, No
     Ok(Some(given(alloc, words)?))
 }
 
-/// How many actions are to be generated in a list's place; `None` exactly where the words aren't
+/// Returns the number of actions to generate instead of reading a list; `None` exactly if the words aren't
 /// accepted or have no `--generate`. It takes no memory.
 pub fn generated(words: &[String]) -> Option<u32>
     ensures { result ≡ generated (map string_bytes words.now) }

@@ -4,7 +4,7 @@ ghost use Rattle.std.specs.List.{list_all};
 ghost use Rattle.std.specs.Option.{option_copied};
 ghost use Rattle.tool_words.specs.Words.{after_front, behind, is_digit, value_of, is_short_number, number_of, number_behind, names_a_list, number_in, text_in, fits};
 
-/// What a word of the command may be.
+/// The meaning of a word of the command.
 #[derive(Clone, Copy, Debug, PartialEq, Eq)]
 pub enum Kind {
     /// The path of a list: not empty, and not beginning with `-`.
@@ -91,8 +91,8 @@ fn after_front<'a>(front: &str, word: &'a str) -> Option<&'a str>
     word.strip_prefix(front)
 }
 
-/// The number that an option's word gives behind this front, as `--instances=`: one to four decimal
-/// digits, within these limits.
+/// Returns the number that an option's word has after this front, for example `--instances=`: one to four
+/// decimal digits, within these limits.
 pub fn number_behind(front: &str, least: u32, most: u32, word: &str) -> Option<u32>
     ensures { result ≡ number_behind front.now least most word.now }
 {

@@ -16,14 +16,14 @@ pub enum Mode {
     Boxed,
 }
 
-/// A tool that a worker stands on, with what its file holds.
+/// A tool of a worker, with the contents of its file.
 #[derive(Drop)]
 pub struct Tool {
     pub path: Text,
     pub bytes: Blob,
 }
 
-/// What a key is made of.
+/// The parts of a key.
 #[derive(Drop)]
 pub struct KeyParts {
     pub mnemonic: Text,
@@ -36,8 +36,8 @@ pub struct KeyParts {
     pub cancel: bool,
 }
 
-/// What all workers of a group have in common. Two actions may share a worker exactly where their
-/// keys are equal.
+/// The common properties of all workers of a group. Two actions may share a worker exactly if their keys
+/// are equal.
 #[derive(Drop)]
 pub struct WorkerKey {
     pub mnemonic: Text,

@@ -1,4 +1,4 @@
-//! Worker keys: which actions may share a worker, and the bytes and the name that stand for a key.
+//! Worker keys: which actions may share a worker, and the bytes and the name of a key.
 #![tactic(auto)]
 
 mod key;

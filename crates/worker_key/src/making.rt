@@ -7,11 +7,11 @@ use plain_values::{Items, NoMemory, Text, texts_again};
 use std::alloc::Global;
 
 impl WorkerKey {
-    /// The key of these parts, with the digest of each tool in place of its bytes.
+    /// Makes the key of these parts, with the digest of each tool instead of its bytes.
     ///
     /// # Errors
     ///
-    /// `NoMemory` where the copies find no memory.
+    /// Returns `NoMemory` if memory runs out.
     pub fn of(alloc: Global, parts: &KeyParts) -> Result<WorkerKey, NoMemory>
         ensures { IfOk result (λ k. k ≡ key_of parts.now) }
     {

@@ -10,15 +10,15 @@ use plain_values::{NoMemory, Text};
 use std::alloc::Global;
 
 impl WorkerKey {
-    /// The bytes that stand for the key: each of its strings after the string's length, which takes
-    /// eight bytes, the highest first. The strings are the mnemonic; the number of start-up words in
-    /// decimal, then each word; the number of variables, then the name and the value of each; the
-    /// number of tools, then the path and the digest of each; `p` or `j` for the protocol; `s`, `m`
-    /// or `b` for the mode; `0` or `1` for cancellation. No other key has the same bytes.
+    /// Returns the key's bytes: each of its strings after the string's length, which takes eight bytes, the
+    /// highest first. The strings are the mnemonic; the number of startup arguments in decimal, then each
+    /// argument; the number of variables, then the name and the value of each; the number of tools, then
+    /// the path and the digest of each; `p` or `j` for the protocol; `s`, `m` or `b` for the mode; `0` or
+    /// `1` for cancellation. No other key has the same bytes.
     ///
     /// # Errors
     ///
-    /// `NoMemory` where the bytes find no memory.
+    /// Returns `NoMemory` if memory runs out.
     pub fn canonical_bytes(&self, alloc: Global) -> Result<Vec<u8>, NoMemory>
         ensures bytes { IfOk result (λ v. v.items ≡ canonical self.now) }
         ensures unique { IfOk result (λ v. AreOnlyOf self.now v.items) }
@@ -32,11 +32,11 @@ impl WorkerKey {
         Ok(out)
     }
 
-    /// The 64 lower-case hexadecimal digits of the SHA-256 of the canonical bytes.
+    /// Returns the 64 lower-case hexadecimal digits of the SHA-256 of the canonical bytes.
     ///
     /// # Errors
     ///
-    /// `NoMemory` where the bytes or the digits find no memory.
+    /// Returns `NoMemory` if memory runs out.
     pub fn name(&self, alloc: Global) -> Result<Text, NoMemory>
         ensures { IfOk result (λ t. t ≡ digest_text (canonical self.now)) }
     {

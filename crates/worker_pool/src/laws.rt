@@ -42,8 +42,8 @@ pub fn starts_are_kept()
         (call.Launched l start.Done) reply.Noted ∷ j) }
 {}
 
-/// A Send: `sent` is called, and `unbound` too where it sends the branch that is bound to the line. Any other branch is
-/// sent where nothing is bound to it.
+/// A Send: `sent` is called, and also `unbound` if it sends the branch that is bound to the line. Any other
+/// branch is sent only if nothing is bound to the line.
 pub fn sends_are_kept()
     ensures bound { (p : Plan) (seats : ℕ) (f : Facts) (j : List Entry) (lane l : ℕ) (n : ℤ)
         (t : Attempt)
@@ -65,8 +65,9 @@ pub fn answers_are_kept()
         → Stands p seats (change f l one_fewer) (entry lane (call.Answer l a) x ∷ j) }
 {}
 
-/// A Wrote with RoomFault or TooLarge. Of a request that isn't answered `freed` is called for the line on which it is
-/// pending, and nothing where it isn't, as after the Ended of its line. Of an answered request only `broke` is called.
+/// A Wrote with RoomFault or TooLarge. If the request isn't answered, `freed` is called for the line on
+/// which it is pending, and nothing if it isn't pending (after the Ended of its line). If the request was
+/// answered, only `broke` is called.
 pub fn faulty_writes_are_kept()
     ensures pending { (p : Plan) (seats : ℕ) (f : Facts) (j : List Entry) (lane k : ℕ) (n : ℤ)
         (how : Written)
@@ -105,7 +106,7 @@ pub fn breaches_are_kept()
         (reply.Breach y) ∷ j) }
 {}
 
-/// An Ended: `ended` is called, whatever is pending on the line.
+/// An Ended: `ended` is called, regardless of what is pending on the line.
 pub fn ends_are_kept()
     ensures { (p : Plan) (seats : ℕ) (f : Facts) (j : List Entry) (lane l : ℕ) (how : HowEnded)
         → Stands p seats f j → WantedStays p j (entry lane (call.Ended l how) reply.Noted)
@@ -130,8 +131,8 @@ pub fn grants_are_kept()
         (call.Claim a b n found) reply.Granted ∷ j) }
 {}
 
-/// Any other entry: `unbound` is called for each line where the entry says a fault of what is bound to it, as a Launched
-/// with a fault does.
+/// Any other entry: `unbound` is called for each line if the entry reports a fault of the branch that is
+/// bound to it (a Launched with a fault, for example).
 pub fn faults_are_kept()
     ensures { (p : Plan) (seats : ℕ) (f : Facts) (j : List Entry) (e : Entry) (ls : List ℕ)
         → Stands p seats f j
@@ -139,14 +140,14 @@ pub fn faults_are_kept()
         → AreFaulted p j e ls → Stands p seats (with_unbound f ls) (e ∷ j) }
 {}
 
-/// Where no attempt can end with such an entry, and nothing can be granted or committed, nothing is called.
+/// If no attempt can end with such an entry, and nothing can be granted or committed, nothing is called.
 pub fn others_change_nothing()
     ensures { (p : Plan) (seats : ℕ) (f : Facts) (j : List Entry) (e : Entry) → Stands p seats f j
         → is_aside e ≡ true → ends_nothing e.call ≡ true → Stands p seats f (e ∷ j) }
 {}
 
-/// Where attempts begin in order, as in each legal journal, a request is the only one of its attempt; so it alone can be
-/// pending, and what is bound to a line or sent to it has no other line.
+/// If attempts begin in order, which they do in each legal journal, each attempt has only one request; so
+/// only that one can be pending, and a branch that is bound to a line or sent to it has no other line.
 pub fn attempts_are_sent_once()
     ensures pending { (j : List Entry) (l i : ℕ) (q : Request) → BeginInOrder j
         → slice_get (sends j l) i ≡ Some q → is_pending j q ≡ true → IsPendingOn j q.attempt l }
@@ -158,7 +159,7 @@ pub fn attempts_are_sent_once()
         → bound p j l ≡ Some t → line_of j t ≡ Some l }
 {}
 
-/// What is read is what the journal says of the line.
+/// The values that are read agree with the journal.
 pub fn lines_are_the_journals()
     ensures count { (p : Plan) (seats : ℕ) (f : Facts) (j : List Entry) → Stands p seats f j
         → length f.lines ≡ line_count j }
@@ -180,7 +181,7 @@ pub fn lines_are_the_journals()
         → capacity_of f l ≡ capacity (line_kind p j l) }
 {}
 
-/// The conditions of the calls, by what the journal says.
+/// The conditions of the calls, in terms of the journal.
 pub fn calls_may_be_made()
     ensures berth { (p : Plan) (seats : ℕ) (f : Facts) (j : List Entry) (w : ℕ)
         → Stands p seats f j → w < seats

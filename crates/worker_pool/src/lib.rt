@@ -14,25 +14,26 @@ use plain_values::NoMemory;
 use std::alloc::Global;
 use std::marker::Model;
 
-/// What is known of a line.
+/// The facts of a line.
 #[derive(Clone, Copy, PartialEq, Eq)]
 pub struct LineRow {
-    /// How many requests it has room for.
+    /// The number of requests that it has room for.
     pub capacity: u32,
     /// It was launched with success.
     pub started: bool,
-    /// Nothing that it says counts any longer.
+    /// Its output is no longer used.
     pub broken: bool,
     pub ended: bool,
     pub killed: bool,
-    /// A branch is bound to it, which takes one of its places.
+    /// A branch is bound to it, which takes up a place.
     pub bound: bool,
-    /// How many requests are pending on it.
+    /// The number of requests that are pending on it.
     pub pending: u32,
 }
 
-/// The lines of a run, and the last one of each berth. Lines are numbered from 0 in the order of their launches,
-/// whatever their berth. A contract sees what is known of each line and of each berth, and how many lines there may be.
+/// The lines of a run, and the last one of each berth. Lines are numbered from 0 in the order of their
+/// launches, over all berths. A contract sees the facts of each line and of each berth, and how many lines
+/// there may be.
 #[derive(Drop)]
 pub struct Pool {
     // Never fuller than its capacity, which is the room for all lines that a run may launch.
@@ -57,8 +58,8 @@ impl Model for Pool {
 }
 
 impl Pool {
-    /// The table of a run on so many berths, in which nothing was launched yet. It makes the room for all lines that
-    /// the run may launch.
+    /// Makes the table of a run on `seats` berths in which nothing was launched yet, with room for all
+    /// lines that the run may launch.
     pub fn new(alloc: Global, plan: &Plan, seats: usize) -> Result<Pool, NoMemory>
         requires { Sound plan.now }
         ensures facts { IfOk result (λ t. t ≡ new_facts plan.now seats) }
@@ -71,9 +72,9 @@ impl Pool {
         Ok(Pool { lines, berths })
     }
 
-    /// Makes the next line, the last of this berth, with a branch bound to it, and gives its number. It has room for as
-    /// many requests as lines of this kind, which is that of the branch's group. Each attempt of each branch may have a
-    /// line of its own: there may be 2 × actions × limit of them.
+    /// Makes the next line, the last of this berth, with a branch bound to it, and gives its number. Its
+    /// room for requests follows from this kind, the kind of the branch's group. Each attempt of each
+    /// branch may have a separate line: there may be 2 × actions × limit of them.
     pub fn launch(&mut self, berth: u32, kind: Kind) -> u32
         requires known { berth < length self.old.seats }
         requires room { length self.old.lines < self.old.room }
@@ -156,7 +157,7 @@ impl Pool {
         row.pending -= 1;
     }
 
-    /// The berth's last line, where it is live.
+    /// Returns the berth's last line, if it is live.
     pub fn live(&self, berth: u32) -> Option<u32>
         requires { berth < length self.now.seats }
         ensures { result ≡ live_of self.now berth }
@@ -166,7 +167,7 @@ impl Pool {
         row.is_live().then_some(line)
     }
 
-    /// How many more requests the line has room for, the bound branch taken as one.
+    /// Returns how many more requests the line has room for, with the bound branch counted as one.
     pub fn free_places(&self, line: u32) -> u32
         requires { line < length self.now.lines }
         ensures { result ≡ free_of self.now line }
