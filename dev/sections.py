@@ -1,4 +1,4 @@
-"""Puts what a script makes into a program's stored input and expected output, in place of what stands there of it."""
+"""Replaces a script's section of a program's stored input and expected output."""
 from __future__ import annotations
 
 import pathlib

@@ -1,4 +1,4 @@
-"""What one run of a command takes: time by the clock, processor time, memory.
+"""Runs a command and returns what it took: time by the clock, processor time, memory.
 
 A process that Python starts counts Python's own memory as its most, since the system counts what a process holds before it becomes
 another program. So a small starter in C starts the command, if there is a C compiler; otherwise no less memory than Python's is seen.

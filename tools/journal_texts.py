@@ -1,4 +1,4 @@
-"""The text of a journal, as docs/FORMATS.md says it. What stands in front of its plan, as a report does, is passed over."""
+"""The text of a journal, in the form of docs/FORMATS.md. Anything before its plan, for example a report, is skipped."""
 from __future__ import annotations
 
 import dataclasses

@@ -1,4 +1,4 @@
-"""The man pages and the completion of the programs, made of what the programs themselves print as their usage."""
+"""The man pages and the completion of the programs, made from the usage that the programs print."""
 from __future__ import annotations
 
 import dataclasses

@@ -1,8 +1,8 @@
 """Lays out the files of a release, and installs them below a prefix.
 
-A release has the layout of the repository where tools look for things: programs in bin/, scripts in tools/, VERSION above
-both. It has PROOF and SHA256SUMS beside them, and share/ with man pages and completions. An installation keeps that layout
-in PREFIX/libexec/lenthuvi, with links from PREFIX/bin.
+A release has the layout of the repository where tools look for things: programs in bin/, scripts in tools/, VERSION above both. It
+also has PROOF and SHA256SUMS, and share/ with man pages and completions. An installation keeps that layout in
+PREFIX/libexec/lenthuvi, with links from PREFIX/bin.
 """
 from __future__ import annotations
 

@@ -1,8 +1,8 @@
 """Tells whether a program is proved or a trial, and from which sources it was built.
 
-A record is a few lines `key: value`, and contains the SHA-256 of the program that it speaks of, so that it never speaks of
-another one that was put in its place. Beside a program stands its own record, PROGRAM.proof or PROGRAM.trial; in a
-release the file PROOF, one folder above, has those of all programs, with empty lines between them.
+A record is a few lines `key: value`, and contains the SHA-256 of its program, so that it never applies to a program that replaced
+it. A program's record is next to it, PROGRAM.proof or PROGRAM.trial; in a release the file PROOF, one folder above, has the records
+of all programs, with empty lines between them.
 """
 from __future__ import annotations
 

@@ -1,6 +1,6 @@
-"""The messages between worker_tool and a worker, in both forms: protobuf behind its length, and JSON in lines.
+"""The messages between worker_tool and a worker, in both forms: protobuf preceded by its length, and JSON in lines.
 
-It is for the workers and tools in Python of this repository. docs/FORMATS.md has the messages byte by byte.
+It is for the workers and tools in Python of this repository. docs/FORMATS.md describes the messages byte by byte.
 """
 from __future__ import annotations
 
