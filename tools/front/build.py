@@ -2,6 +2,7 @@
 from __future__ import annotations
 
 import fcntl
+import itertools
 import json
 import os
 import shutil
@@ -18,7 +19,7 @@ from .memory import Memory, Success, reason, success_of
 from .options import Words
 from .report import TOTAL, Reported, read_report
 from .turns import Turns
-from .voice import Voice, counted, joined, plural
+from .voice import Voice, counted, joined, plural, short
 from .watching import Watching, executor_words
 
 MOST_ROUNDS = 8
@@ -60,6 +61,8 @@ class Build:
         self.held_back: set[str] = set()
         self.said: list[str] = []
         self.levels: dict[str, int] = {}
+        # A round of an imported build takes longer than the link that it may spare, unless its workers are kept.
+        self.at_once = listing.origin is not None and not words.number("--keep", 0)
         self.status = 0
         self.lost = False
         self.done = self.failures = 0
@@ -78,7 +81,7 @@ class Build:
         makers: dict[str, str] = {}
         everything = self.words.command == "run"
         for it in self.actions:
-            below = {makers[path] for path in it.inputs if path in makers}
+            below = {makers[path] for path in it.needs_made() if path in makers}
             stopped = next((name for name in below if name in found.blocked or self.is_bad(name)), None)
             why = None
             if it.name in self.results:
@@ -87,9 +90,9 @@ class Build:
                 found.blocked[it.name] = found.blocked.get(stopped, stopped)
             else:
                 why = "everything is wanted" if everything else self.reason(it, makers)
-                if below and all_at_once:
-                    why = why or "it reads what is made again"
-                if why and (all_at_once or everything or below <= found.now.keys()):
+                if all_at_once and not why and any(path in makers for path in it.reads()):
+                    why = "it reads what is made again"
+                if why and below <= found.now.keys() and not any(it.waits_for(self.by_name[name]) for name in below):
                     found.now[it.name] = why
                 elif why or below:
                     found.waiting.add(it.name)
@@ -103,20 +106,23 @@ class Build:
 
     def reason(self, action: Action, unsettled: dict[str, str]) -> str | None:
         """Returns why an action isn't up to date, or None if it is."""
-        return reason(action, self.shapes[action.name], self.memory.successes.get(action.name), self.files, unsettled)
+        return action.always() or reason(action, self.shapes[action.name], self.memory.successes.get(action.name), self.files, unsettled)
 
     # Rounds.
 
     def run(self, interrupt: Interrupt, sink: Sink) -> int:
         """Runs rounds until everything is up to date. Returns the status."""
-        for number in range(1, MOST_ROUNDS + 1):
-            found = self.sort_out(number == MOST_ROUNDS)
+        for number in itertools.count(1):
+            found = self.sort_out(number >= MOST_ROUNDS or self.at_once)
             if not found.now or (self.words.has("--stop") and any(self.is_bad(it) for it in self.results)):
                 break
             self.reasons.update(found.now)
             self.total = max(self.total, len(self.results) + len(found.now) + len(found.waiting))
             if not self.run_round([self.by_name[name] for name in found.now], interrupt, sink):
                 break
+            self.look_again(list(found.now))
+        if self.listing.origin is not None:
+            self.listing.origin.finish()
         self.trim_kept()
         self.files.save()
         self.memory.tidy()
@@ -135,8 +141,46 @@ class Build:
             if ended and not self.words.has("-q"):
                 self.voice.line(f"lenthuvi: {plural(len(ended), 'kept worker')} ended, since all together had more than {memory / 1e6:,.0f} MB")
 
+    def look_again(self, done: list[str]) -> None:
+        """After a round, has the origin of the list find again what the other actions may read."""
+        if self.listing.origin is not None:
+            left = [it for it in self.actions if it.name not in self.results]
+            self.listing.origin.look_again([self.by_name[name] for name in done], left)
+            self.levels = {}
+
     def run_round(self, actions: list[Action], interrupt: Interrupt, sink: Sink) -> bool:
-        """Runs the actions of a round, in several calls if they are too many for one. Returns True if the build goes on."""
+        """Runs the actions of a round: those in place, and then the others by a program. Returns True if the build goes on."""
+        for it in actions:
+            if it.in_place and not self.run_in_place(it, interrupt, sink):
+                return False
+        return self.run_calls([it for it in actions if not it.in_place], interrupt, sink)
+
+    def run_in_place(self, action: Action, interrupt: Interrupt, sink: Sink) -> bool:
+        """Runs an action in the project's own folder. Returns True if the build goes on."""
+        assert self.listing.origin is not None
+        self.begin_run(sink)
+        self.open_round([action])
+        if self.words.has("-v"):
+            self.voice.line(f"{action.name} runs in place: {action.in_place}")
+        limit = programs.limits_of(self.words, self.listing.mnemonics()).of(action.mnemonic)
+        begun = time.time()
+        code, text = self.listing.origin.run_in_place(action, lambda: bool(interrupt.number) or 0 < limit < time.time() - begun)
+        if 0 < limit < time.time() - begun and code:
+            self.slow.add(action.name)
+        found = Reported(action.name, "failed" if code else "ok", f"local {code}" if code else "local", "won", "unused", text.rstrip("\n"))
+        if interrupt.number and code:
+            os.remove(self.open_path)
+            return False
+        self.take_action(found, (begun, time.time(), 0), sink)
+        self.remember({action.name} if code == 0 else set(), False)
+        os.remove(self.open_path)
+        self.done, self.failures, self.status = self.done + 1, self.failures + bool(code), max(self.status, int(bool(code)))
+        return not interrupt.number and not (code and self.words.has("--stop"))
+
+    def run_calls(self, actions: list[Action], interrupt: Interrupt, sink: Sink) -> bool:
+        """Runs actions by a program, in several calls if they are too many for one. Returns True if the build goes on."""
+        if not actions:
+            return True
         chosen = programs.choose(self.words, actions, self.listing.mnemonics())
         programs.path_of(chosen.name)
         self.levels = self.levels or self.listing.levels()
@@ -270,7 +314,7 @@ class Build:
                 self.voice.line(f"made {name}: {self.reasons.get(name, '')}")
         elif what == "limit":
             self.voice.line(self.voice.paint(f"ended {name}", "red") + f": no answer for {event['s']:g} s (--limit)")
-        elif what == "late":
+        elif what == "late" and self.listing.origin is None:
             held = f"its standard output has {event['held']}, which isn't a complete answer" if event["held"] != "''" else \
                 "nothing is on its standard output; is it flushed?"
             self.voice.line(f"{name}: no answer for {event['s']:g} s; {held}")
@@ -299,13 +343,19 @@ class Build:
             self.causes.setdefault(name, []).extend(events)
         for kind, events in tracker.unclaimed().items():
             self.unclaimed.setdefault(kind, []).extend(events)
-        self.results.update({name: it for name, it in found.items() if it.outcome != "skipped" and name not in self.held_back})
         self.said += ended.said
         for name, it in found.items():
-            since, until, worker = tracker.times.get(name, (0.0, 0.0, 0))
-            sink.put({"t": time.time(), "e": "action", "n": name, "mnemonic": self.by_name[name].mnemonic, "round": self.calls, "outcome": it.outcome,
-                      "detail": it.detail, "local": it.local, "remote": it.remote, "why": self.reasons.get(name, ""),
-                      "sent": since, "answered": until, "worker": worker, "text": it.text[:MOST_TEXT]}, keeps=True)
+            self.take_action(it, tracker.times.get(name, (0.0, 0.0, 0)), sink)
+
+    def take_action(self, it: Reported, times: tuple[float, float, int], sink: Sink) -> None:
+        """Takes in what became of an action. What a project's command printed is shown, as ninja shows it."""
+        if it.outcome != "skipped" and it.name not in self.held_back:
+            self.results[it.name] = it
+        if self.listing.origin is not None and it.outcome == "ok" and it.text.strip() and not self.words.has("-q"):
+            self.voice.line("\n".join([f"{it.name}:", *short(it.text)]))
+        sink.put({"t": time.time(), "e": "action", "n": it.name, "mnemonic": self.by_name[it.name].mnemonic, "round": self.calls, "outcome": it.outcome,
+                  "detail": it.detail, "local": it.local, "remote": it.remote, "why": self.reasons.get(it.name, ""),
+                  "sent": times[0], "answered": times[1], "worker": times[2], "text": it.text[:MOST_TEXT]}, keeps=True)
 
     def tell_refusal(self, name: str, ended: Ended) -> None:
         """Prints that a program ended without a report, and what it said."""
@@ -319,7 +369,7 @@ class Build:
     def open_round(self, actions: list[Action]) -> None:
         """Writes down what there was before some actions run."""
         made = {path for it in actions for path in it.outputs}
-        sources = self.files.digests({path for it in actions for path in it.reads() if path not in made})
+        sources = self.files.digests({path for it in actions for path in it.may_read() if path not in made})
         held = {"place": os.path.getsize(self.events_path) if os.path.exists(self.events_path) else 0, "sources": sources,
                 "flags": self.words.all("--extra-flag"),
                 "actions": {it.name: [self.shapes[it.name], [stamp_of(path) for path in it.outputs]] for it in actions}}

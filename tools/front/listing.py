@@ -6,7 +6,7 @@ import hashlib
 import json
 import os
 import sys
-from typing import Any, NamedTuple
+from typing import Any, Callable, NamedTuple
 
 from .faults import FLAG_WORD, Unreadable, actions_of, is_kind, read_list
 from .list_faults import list_faults, state_faults
@@ -14,6 +14,7 @@ from .list_faults import list_faults, state_faults
 Json = dict[str, Any]
 WANTED = ("name", "mnemonic", "argv", "outputs")
 STATE = ".lenthuvi"
+IMPORTED = ".imported"  # the folder, in a build folder, of what was imported
 
 
 class Action:
@@ -32,6 +33,8 @@ class Action:
         self.tools: list[str] = held.get("tools", [])
         self.strategy: str = held.get("strategy", "worker")
 
+    in_place = ""  # why it runs in the project's own folder and not by a program, if it does
+
     def needs(self) -> dict[str, str]:
         """Returns its requirements."""
         held: dict[str, str] = self.object.get("requirements", {})
@@ -44,6 +47,22 @@ class Action:
     def reads(self) -> list[str]:
         """Returns its inputs, its tools and its program, each once."""
         return [*dict.fromkeys([*self.inputs, *self.tools, self.argv[0]])]
+
+    def may_read(self) -> list[str]:
+        """Returns what it is given to read, of which `reads` may be a part once it has run."""
+        return self.reads()
+
+    def needs_made(self) -> list[str]:
+        """Returns the paths whose makers come before it."""
+        return self.inputs
+
+    def waits_for(self, maker: Action) -> bool:
+        """Returns True if it can't be in the same call of a program as a maker of what it reads."""
+        return False
+
+    def always(self) -> str:
+        """Returns why it is never up to date, or nothing."""
+        return ""
 
     def start_words(self) -> list[str]:
         """Returns the arguments by which its worker is started."""
@@ -72,12 +91,33 @@ class Action:
         return hashlib.sha256(json.dumps([self.object, flags], sort_keys=True).encode()).hexdigest()[:32]
 
 
+class Origin:
+    """Where a list comes from that nobody wrote, and what is done for it while a build goes on."""
+
+    def extra_paths(self) -> list[str]:
+        """Returns the files on which the list itself depends."""
+        raise NotImplementedError
+
+    def look_again(self, done: list[Action], left: list[Action]) -> None:
+        """After some actions: finds again what those that are left may read."""
+        raise NotImplementedError
+
+    def run_in_place(self, action: Action, is_over: Callable[[], bool]) -> tuple[int, str]:
+        """Runs an action in the project's own folder. Returns its exit code and what it printed."""
+        raise NotImplementedError
+
+    def finish(self) -> None:
+        """Does what is left to do at the end of a build."""
+        raise NotImplementedError
+
+
 class Listing(NamedTuple):
-    """A list: its path, the folder of what is remembered of it, and its actions in order."""
+    """A list: its path, the folder of what is remembered of it, its actions in order, and where it comes from."""
 
     path: str
     state: str
     actions: list[Action]
+    origin: Origin | None = None
 
     def makers(self) -> dict[str, Action]:
         """Returns which action makes a path."""
@@ -133,7 +173,11 @@ def state_folder(path: str) -> str:
 
 
 def load(path: str) -> Listing:
-    """Reads a list. If anything is wrong that a run wouldn't survive, all faults are told at once."""
+    """Reads a list, or makes that of a folder that was imported. If anything is wrong that a run wouldn't survive, all faults are told at once."""
+    if is_imported(path):
+        from .ninja.folders import load_imported
+
+        return load_imported(path)
     if path == "-":
         data = sys.stdin.buffer.read()
         objects = actions_of(data, "standard input")
@@ -160,6 +204,11 @@ def is_sound(actions: list[Action], path: str) -> bool:
         names.add(it.name)
         later.difference_update(it.outputs)
     return next(state_faults([it.object for it in actions], path), None) is None
+
+
+def is_imported(path: str) -> bool:
+    """Returns True if a path is that of the list of a folder that was imported."""
+    return path.endswith(f"{IMPORTED}/list.json") and os.path.exists(os.path.join(os.path.dirname(path), "settings.json"))
 
 
 def is_plain(held: Any) -> bool:

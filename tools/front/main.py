@@ -4,6 +4,7 @@ from __future__ import annotations
 import errno
 import fcntl
 import glob
+import json
 import os
 import shutil
 import stat
@@ -18,12 +19,12 @@ from .events import Sink
 from .faults import Unreadable, actions_of, program_trouble, read_list
 from .follow import Interrupt
 from .list_faults import list_faults
-from .listing import STATE, WrongList, load, state_folder
+from .listing import STATE, WrongList, is_imported, load, state_folder
 from .options import Unwanted, Words
 from .programs import Missing
 from .report import Reported
 from .settled import settle, settled, unsettle
-from .voice import Voice, joined, of_list, plural, quoted, short
+from .voice import Voice, counted, joined, of_list, plural, quoted, short
 
 MOST_SHOWN = 20
 CANT_START = (126, 127)  # what a shell answers for a program that it can't start
@@ -171,7 +172,7 @@ def summary(made: Build, voice: Voice, status: int) -> dict[str, int]:
     if bad or status or not voice.is_quiet:
         voice.line(voice.paint(text, "red" if bad or status else "green"))
     if bad:
-        where = of_list(made.listing.path)
+        where = of_list(made.words.shown or made.listing.path)
         look = "" if made.words.has("--plain") else f"        lenthuvi page{where}"
         voice.line(f"lenthuvi explain {quoted([bad[0].name])}{where}{look}")
     return counts
@@ -210,6 +211,8 @@ def tell_failure(made: Build, voice: Voice, it: Reported) -> None:
 def check(words: Words) -> int:
     """Prints everything that can be seen wrong with a list."""
     path = list_path(words)
+    if is_imported(path):
+        return check_imported(path)
     try:
         if path == "-":
             data = sys.stdin.buffer.read()
@@ -223,6 +226,17 @@ def check(words: Words) -> int:
         return WRONG_LIST
     faults = list_faults(data.decode(), objects, path)
     print("\n".join(faults) or f"{plural(len(objects), 'action')}, no problems found")
+    return WRONG_LIST if faults else 0
+
+
+def check_imported(path: str) -> int:
+    """Prints what can be seen wrong with a folder that was imported. What runs in place isn't bound by a list's limits."""
+    listing = load(path)
+    objects = [it.object for it in listing.actions]
+    texts = list_faults(json.dumps({"actions": objects}), objects, path)
+    places = tuple(f"actions[{number}] " for number, it in enumerate(listing.actions) if it.in_place)
+    faults = [it for it in texts if not it.startswith(places)]
+    print("\n".join(faults) or f"{plural(len(objects), 'step')}, {counted(len(places))} of them in place, no problems found")
     return WRONG_LIST if faults else 0
 
 
@@ -256,7 +270,8 @@ def watched_paths(path: str) -> set[str]:
     except (WrongList, Unreadable):
         return {path}
     made = listing.makers()
-    return {it for action in listing.actions for it in action.reads() if it not in made} | {path}
+    more = listing.origin.extra_paths() if listing.origin is not None else []
+    return {it for action in listing.actions for it in action.reads() if it not in made} | {path, *more}
 
 
 def clean(words: Words) -> int:
@@ -309,6 +324,10 @@ def version() -> int:
 
 def do(words: Words) -> int:
     """Does what the words ask for."""
+    if words.command in ("build", "run", "watch", "check", "explain", "page", "graph", "clean"):
+        from .ninja.folders import enter
+
+        enter(words, 1 if words.command == "explain" else 0)
     if words.command in ("build", "run"):
         return build(words)
     own = {"check": check, "watch": watch, "clean": clean, "help": help_}
@@ -318,6 +337,10 @@ def do(words: Words) -> int:
 
     more = {"explain": explain.explain, "page": page.page, "graph": explain.graph, "init": begin.init, "doctor": begin.doctor,
             "workers": begin.workers}
+    if words.command == "import":
+        from .ninja.importing import import_
+
+        return import_(words)
     return more[words.command](words)
 
 

@@ -36,7 +36,7 @@ class Command(NamedTuple):
 
 
 RUNS = "build run watch"
-RUN, WATCHED, SAID = "what is run", "what is watched", "what is said"
+RUN, WATCHED, SAID, IMPORT = "what is run", "what is watched", "what is said", "what is imported"
 COMMANDS = (
     Command("build", "[LIST]", 1, "make what isn't up to date (the default)"),
     Command("run", "[LIST]", 1, "make everything"),
@@ -45,6 +45,7 @@ COMMANDS = (
     Command("explain", "NAME [LIST]", 2, "why an action would run, why it failed, how to repeat it"),
     Command("page", "[LIST]", 1, "the last run by the clock, for a browser"),
     Command("graph", "[LIST]", 1, "what needs what: all of it, or --deps=NAME, --rdeps=PATH"),
+    Command("import", "ninja FOLDER", 2, "take over a build of ninja's, as CMake and meson write it; then build FOLDER"),
     Command("init", "[FOLDER]", 1, "write a first worker and list"),
     Command("doctor", "", 0, "programs, limits and rights in this folder"),
     Command("workers", "", 0, "workers that are kept; --end ends them"),
@@ -72,6 +73,12 @@ OPTIONS = (
     Option("--keep-rooms", "", RUNS, WATCHED, "keep the room of each attempt that failed"),
     Option("--isolate", "", RUNS, WATCHED, "by bwrap: no network, and nothing but its room is writable"),
     Option("--plain", "", RUNS, WATCHED, "no watchers: the program's own promises, word for word"),
+    Option("--root", "FOLDER", "import", IMPORT, "has the sources and the build folder below it (default: found)"),
+    Option("--env", "NAME", "import", IMPORT, "a variable that commands get as it is now; repeatable", many=True),
+    Option("--also", "PATH", "import", IMPORT, "a file below the root that commands read and don't declare; repeatable", many=True),
+    Option("--in-place", "GLOB", "import", IMPORT, "what makes these runs in the project's folder, as by ninja; repeatable", many=True),
+    Option("--mount", "WHEN", "import", IMPORT, "commands see their room at the project's path: auto, always or never", choices=("auto", "always", "never")),
+    Option("--target", "NAME", "import", IMPORT, "only this and what it needs (default: as ninja has it); repeatable", many=True),
     Option("-q", "", RUNS, SAID, "only failures and totals"),
     Option("-v", "", RUNS, SAID, "each action as it ends, why it ran, and which program runs"),
     Option("--color", "WHEN", RUNS, SAID, "auto, always or never (NO_COLOR)", choices=("auto", "always", "never")),
@@ -112,6 +119,7 @@ class Words:
         self.command = command
         self.values: dict[str, list[str]] = {}
         self.rest: list[str] = []
+        self.shown = ""  # the folder that was imported, as the user named it
 
     def has(self, name: str) -> bool:
         """Returns True if an option is given."""
@@ -302,7 +310,7 @@ def help_page(command: str = "") -> str:
     lines = []
     if not command:
         lines += ["Lenthuvi builds a list of actions on workers that stay alive.", "",
-                  "usage: lenthuvi COMMAND [OPTIONS] [LIST]       LIST is list.json, a path, or - for standard input", ""]
+                  "usage: lenthuvi COMMAND [OPTIONS] [LIST]       LIST is list.json, a path, an imported folder, or - (standard input)", ""]
     for it in COMMANDS:
         if command in ("", it.name):
             lines.append(f"  {it.name + ' ' + it.arguments:22} {it.text}")

@@ -42,7 +42,8 @@ def settled(path: str, words: Words) -> tuple[int, set[str]]:
 
 def settle(listing: Listing, words: Words, number: int) -> None:
     """Notes the stamps of all files of a list that is up to date, unless one is so young that it may change unseen."""
-    paths = list(dict.fromkeys([listing.path, *(path for it in listing.actions for path in (*it.reads(), *it.outputs))]))
+    more = listing.origin.extra_paths() if listing.origin is not None else []
+    paths = list(dict.fromkeys([listing.path, *more, *(path for it in listing.actions for path in (*it.reads(), *it.outputs))]))
     stamps = [stamp_of(path) for path in paths]
     limit = time.time_ns() - YOUNG
     if listing.path == "-" or any(it is None or max(it[1], it[2]) > limit for it in stamps):

@@ -83,7 +83,7 @@ def quoted(words: list[str]) -> str:
 
 
 def of_list(path: str) -> str:
-    """Returns the list's path for the end of a command that is shown, if the command needs it."""
+    """Returns a list's or a folder's path for the end of a command that is shown, if the command needs it."""
     return "" if path == "list.json" else f" {shlex.quote(path)}"
 
 
