@@ -35,7 +35,13 @@ PROGRAMS = ("worker_tool", "shared_tool", "spawn_tool", "journal_run", "journal_
 
 
 def init(words: Words) -> int:
-    """Writes a first worker and list into a folder. Nothing that is there is replaced."""
+    """Writes a first worker and list into a folder, or the list of a warm tool. Nothing that is there is replaced."""
+    from .kinds import KINDS, init_kind
+
+    if words.rest and words.rest[0] in KINDS:
+        return init_kind(words.rest[0], words.rest[1] if len(words.rest) > 1 else ".")
+    if len(words.rest) > 1:
+        raise Unwanted(f"init {words.rest[0]}: there is no list for that; there are {', '.join(KINDS)}")
     folder = words.rest[0] if words.rest else "."
     os.makedirs(folder, exist_ok=True)
     texts = {**FILES, "list.json": json.dumps(LIST, indent=2) + "\n"}
