@@ -35,6 +35,7 @@ class Programs:
     journal_check: pathlib.Path
     journal_run: pathlib.Path
     spawn_tool: pathlib.Path
+    shared_tool: pathlib.Path
 
 
 @dataclasses.dataclass(frozen=True)

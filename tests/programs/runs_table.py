@@ -179,6 +179,18 @@ def places() -> Iterator[Case]:
         compare("nothing beside", [], [it.name for it in folder.rglob(".worker_tool*")])
     yield Case("outputs replace what is there", replaced)
 
+    def at_once(programs: Programs, folder: pathlib.Path) -> None:
+        """Eight outputs of four megabytes are written in one folder at the same time, each beside its place at first."""
+        play.copy(programs.demo_tool, folder, "t")
+        contents = {f"i{n}": bytes([65 + n]) * (4 << 20) for n in range(8)}
+        flags = {f"f{n}": f"--in=i{n}\n--out=d/o{n}\n".encode() for n in range(8)}
+        actions = [action(f"a{n}", argv=["t", f"@f{n}"], inputs=[f"f{n}", f"i{n}"], outputs=[f"d/o{n}"]) for n in range(8)]
+        ended = exchange(programs, folder, actions, ["--instances=8"], {**contents, **flags})
+        compare("eight at once", (0, report(*[f"a{n} {LOCAL}" for n in range(8)], ok=8)), (ended.status, ended.out))
+        for n in range(8):
+            compare(f"the output of a{n}", True, play.found(folder, f"d/o{n}") == contents[f"i{n}"])
+    yield Case("outputs that are written in one folder at once", at_once)
+
     def no_room(programs: Programs, folder: pathlib.Path) -> None:
         play.fill(folder, {".worker_rooms": b"a file"})
         ended = exchange(programs, folder, [action()], ["--retries=1"], t=[serve()])

@@ -6,11 +6,12 @@ from __future__ import annotations
 
 import dataclasses
 import pathlib
+import time
 from collections.abc import Iterator, Mapping, Sequence
 
 import play
 import wire
-from play import Case, Ended, Programs, action, compare, exchange, fault_line, heard, report, run
+from play import Case, Ended, Programs, Wrong, action, compare, exchange, fault_line, heard, report, run
 
 ACCEPTED = [
     "l", "--strategy=T=worker l", "l --strategy=T=dynamic,remote,sandboxed,worker", "--strategy=T=worker --strategy=U=worker l",
@@ -232,6 +233,38 @@ def delays() -> Iterator[Case]:
                    b=[[GREET, ["hear", 1], made(b"a sandbox's")]])
 
 
+def slept(count: int) -> float:
+    """How many seconds so many pauses of a millisecond take here."""
+    begun = time.monotonic()
+    for _ in range(count):
+        time.sleep(0.001)
+    return time.monotonic() - begun
+
+
+def a_tick(programs: Programs, folder: pathlib.Path) -> None:
+    """A tick is a millisecond: with a thousand of them a worker starts after a second, or as much later as a pause takes here."""
+    ticks = 1000
+    begun = time.monotonic()
+    ended = exchange(as_spawn(programs), folder, [action()], ["--strategy=T=dynamic", f"--local_delay={ticks}"], t=[WORKER],
+                     x=[[GREET, ["hear", 1]]])
+    seconds = time.monotonic() - begun
+    compare("its report", (0, report("a ok local local=won remote=lost", ok=1)), (ended.status, ended.out))
+    most = 3 + 4 * slept(ticks)
+    if not ticks / 1000 <= seconds <= most:
+        raise Wrong(f"wanted {ticks / 1000:.1f} to {most:.1f} seconds\ngot    {seconds:.1f}")
+
+
+def no_strategy(programs: Programs, folder: pathlib.Path) -> None:
+    """What is said of an action that no strategy supports, word by word."""
+    lacks = action("u", outputs=["u"], strategy="remote", requirements={})
+    ended = exchange(as_spawn(programs), folder, [lacks], ["--strategy=T=worker"])
+    wanted = """spawn_tool: no strategy for action 0
+  its list has worker or dynamic alone, which want supports-workers and a flag file among its words:
+  give it these, or name sandboxed or remote too, as in --strategy=MNEMONIC=worker,sandboxed
+"""
+    compare("no strategy", (8, b"", wanted), (ended.status, ended.out, ended.err.decode()))
+
+
 def cases() -> Iterator[Case]:
     for words in ACCEPTED:
         yield accepted(words)
@@ -243,3 +276,5 @@ def cases() -> Iterator[Case]:
     yield from faults()
     yield from sandboxes()
     yield from delays()
+    yield Case("the length of a tick", a_tick)
+    yield Case("no strategy: what may be done", no_strategy)
