@@ -17,7 +17,7 @@ Action = dict[str, Any]
 
 HERE = pathlib.Path(__file__).resolve().parent
 TOOLS = HERE.parent / "tools"
-LIMIT = 60
+LIMIT = 300
 NOBODY = 65534
 
 # Answers requests in JSON, each after BODY, where `name` is that of the request's one file in the folder `f`.

@@ -42,7 +42,7 @@ def run_with(folder: Folder, redirection: str, *options: str) -> tuple[int, str]
     folder.write("list.json", json.dumps({"actions": [folder.action("a")]}), 0o644)
     command = " ".join([folder.tool, *options, "list.json", redirection])
     done = subprocess.run(["/bin/sh", "-c", command], cwd=folder.path, stdin=subprocess.DEVNULL, capture_output=True, text=True,
-                          timeout=60, check=False)
+                          timeout=300, check=False)
     return done.returncode, done.stdout + done.stderr
 
 

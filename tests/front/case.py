@@ -99,6 +99,13 @@ class Folder(unittest.TestCase):
             self.assertLess(time.monotonic(), end, "it took too long")
             time.sleep(0.02)
 
+    def children(self, pid: int) -> list[str]:
+        """Returns the processes that a process has started and that haven't been waited for."""
+        try:
+            return pathlib.Path(f"/proc/{pid}/task/{pid}/children").read_text().split()
+        except OSError:
+            return []
+
     def sleepers(self, mark: str) -> list[int]:
         """Returns the processes that have a mark among their arguments."""
         found = []

@@ -29,8 +29,7 @@ class Ends(Folder):
         run = self.begin("-j", "2")
         self.until(lambda: self.made() >= 8)
         run.send_signal(signal.SIGINT)
-        # What has begun is still made.
-        time.sleep(0.5)
+        self.until(lambda: not self.children(run.pid))
         self.put("go", "")
         said = run.communicate()[0]
         self.assertEqual(run.returncode, 130, said)
@@ -60,12 +59,14 @@ class Ends(Folder):
         self.worker(f'open("{self.folder}/log", "a").write(words["name"] + "\\n"); time.sleep(0.02)')
         self.write_list(self.actions(300, 60))
         chance = random.Random(4)
-        for place in range(10):
+        for _ in range(10):
             run = self.begin("-j", "4")
-            time.sleep(0.4 + chance.random())
+            moment = self.made() + chance.randrange(1, 24)
+            self.until(lambda: self.made() >= moment or run.poll() is not None)
             run.send_signal(chance.choice([signal.SIGINT, signal.SIGTERM, signal.SIGKILL]))
             run.communicate()
             self.until(lambda: not self.sleepers(self.folder + "/worker"))
+            self.assertIn(f"{self.made()} up to date", self.front("-n"))
         self.front("-j", "4")
         want = [f"source {place}\n" for place in range(300)]
         for place in range(60, 300):
@@ -85,13 +86,24 @@ class Ends(Folder):
         self.worker()
         self.write_list(self.actions(2))
         run = self.begin("watch")
-        self.until(lambda: os.path.exists("out/1"))
-        time.sleep(1.5)
+        assert run.stdout is not None
+        self.assertTrue(any("2 actions made" in line for line in iter(run.stdout.readline, "")))
         self.put("src/0", "again\n")
-        self.until(lambda: pathlib.Path("out/0").read_text() == "again\n")
-        time.sleep(1)
+        self.assertTrue(any("1 action made" in line for line in iter(run.stdout.readline, "")))
+        self.assertEqual(pathlib.Path("out/0").read_text(), "again\n")
         run.send_signal(signal.SIGINT)
-        self.assertIn("1 action made", run.communicate()[0])
+        run.communicate()
+
+    def test_watch_sees_a_change_in_the_course_of_a_build(self) -> None:
+        self.worker(f'open("{self.folder}/begun", "a").close()\nwhile not os.path.exists("{self.folder}/go"): time.sleep(0.02)')
+        self.write_list(self.actions(1))
+        run = self.begin("watch")
+        self.until(lambda: os.path.exists("begun"))
+        self.put("src/0", "again\n")
+        self.put("go", "")
+        self.until(lambda: os.path.exists("out/0") and pathlib.Path("out/0").read_text() == "again\n")
+        run.send_signal(signal.SIGINT)
+        run.communicate()
 
     def test_stop(self) -> None:
         self.worker('time.sleep(0.1)\nif words["name"] == "a3": code = 1')

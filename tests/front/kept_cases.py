@@ -5,7 +5,6 @@ import os
 import pathlib
 import subprocess
 import sys
-import time
 
 from case import Folder
 
@@ -71,22 +70,21 @@ class Kept(Folder):
         self.assertLessEqual(len(self.pids()), 4)
 
     def test_cut_off_request_ends_the_worker(self) -> None:
-        self.worker('if words["name"] == "a1": time.sleep(60)')
+        self.worker(f'if words["name"] == "a1":\n    open("{self.folder}/begun", "w").close()\n    time.sleep(6000)')
         self.write_list(self.actions(2))
         run = self.begin("-j1", "--keep=900")
-        self.until(lambda: os.path.exists("out/0"))
-        time.sleep(0.3)
+        self.until(lambda: os.path.exists("begun"))
         self.assertEqual(len(self.pids()), 1)
         run.kill()
         run.communicate()
-        self.until(lambda: self.pids() == [] and not self.sleepers(self.folder + "/worker"), 40)
+        self.until(lambda: self.pids() == [] and not self.sleepers(self.folder + "/worker"))
 
     def test_idle(self) -> None:
         self.worker()
         self.write_list(self.actions(1))
-        self.front("--keep=9")
+        self.front("--keep=20")
         self.assertTrue(self.sleepers(self.folder + "/worker"))
-        self.until(lambda: not self.sleepers(self.folder + "/worker"), 60)
+        self.until(lambda: not self.sleepers(self.folder + "/worker"))
         self.assertEqual(self.pids(), [])
         self.assertEqual([it for it in os.listdir(".lenthuvi") if it.startswith("kept-")], [])
 
@@ -154,7 +152,7 @@ open("{self.folder}/table", "w").write("2")
 text = open("{self.folder}/table").read()''')
         self.write_list(self.actions(1, tools=["table"]))
         self.front("--keep=900", "--retries=0")
-        self.until(lambda: self.pids() == [] and not self.sleepers(self.folder + "/worker"), 40)
+        self.until(lambda: self.pids() == [] and not self.sleepers(self.folder + "/worker"))
 
     def test_the_same_version_again(self) -> None:
         """A tool that was changed and put back finds the worker of its contents."""
@@ -178,18 +176,25 @@ text = open("{self.folder}/table").read()''')
             it["argv"] = ["worker", f"--key={place}", f"@flags/{place}"]
         self.write_list(actions)
         self.assertIn("ended, since all together had more than 170 MB", self.front("--keep=900", "--keep-memory=170"))
-        self.until(lambda: len(self.pids()) == 2, 40)
+        self.until(lambda: len(self.pids()) == 2)
         self.assertIn("ended", self.front("run", "--keep=900", "--keep-memory=1"))
-        self.until(lambda: self.pids() == [], 40)
+        self.until(lambda: self.pids() == [])
 
     def test_stray_bytes_end_it(self) -> None:
         """What a worker writes between two runs would be taken for an answer."""
-        self.worker("threading.Timer(0.3, lambda: say(requestId=0)).start()")
+        self.worker(f"""
+def stray():
+    while not os.path.exists("{self.folder}/go"): time.sleep(0.02)
+    say(requestId=0)
+    open("{self.folder}/written", "w").close()
+threading.Thread(target=stray, daemon=True).start()""")
         pathlib.Path("worker").write_text(pathlib.Path("worker").read_text().replace("import json,", "import threading, json,"))
         self.write_list(self.actions(1))
         self.front("--keep=900")
         first = self.pids()
-        time.sleep(0.6)
+        self.put("go", "")
+        self.until(lambda: os.path.exists("written"))
+        os.remove("go")
         self.put("src/0", "other\n")
         self.assertIn("1 action made", self.front("--keep=900"))
         self.assertNotIn(first[0], self.pids())

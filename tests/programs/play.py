@@ -12,7 +12,7 @@ import tempfile
 from collections.abc import Callable, Iterable, Mapping, Sequence
 
 # How long one run of a program may take, in seconds.
-MOST_SECONDS = 60
+MOST_SECONDS = 300
 
 # How much of a value is shown where it isn't as wanted.
 MOST_SHOWN = 1500

@@ -21,7 +21,7 @@ import time
 
 TOP = "../.."
 NAME = os.path.basename(sys.argv[0])
-MOST_SECONDS = 30
+MOST_SECONDS = 200
 
 
 def claim() -> int:

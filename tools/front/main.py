@@ -28,7 +28,7 @@ from .voice import Voice, counted, joined, of_list, plural, quoted, short
 
 MOST_SHOWN = 20
 CANT_START = (126, 127)  # what a shell answers for a program that it can't start
-WRONG_WORDS, WRONG_LIST, MISSING, UNWRITTEN = 2, 4, 5, 6
+WRONG_WORDS, WRONG_LIST, MISSING, UNWRITTEN, INTERRUPTED = 2, 4, 5, 6, 130
 OUTPUTS = ("--json", "--report", "--journal", "--trace", "--page")
 
 
@@ -124,11 +124,13 @@ def run(made: Build, words: Words, voice: Voice) -> int:
         sink.put({"t": time.time(), "e": "done", "status": status, "seconds": round(voice.seconds(), 3), **counts}, keeps=True)
         if status == 0 and counts["up_to_date"] == len(made.actions):
             settle(made.listing, words, len(made.actions))
-        return write_views(made, words, sink.trouble, voice) or status
+        status = write_views(made, words, sink.trouble, voice) or status
     finally:
         voice.erase()
         interrupt.restore()
         sink.close()
+    # A signal that came when all was made ends no build, but it ends the watching.
+    return INTERRUPTED if interrupt.number and words.command == "watch" else status
 
 
 def write_views(made: Build, words: Words, trouble: str, voice: Voice) -> int:
@@ -245,6 +247,8 @@ def watch(words: Words) -> int:
     from .digests import stamp_of
 
     while True:
+        # Before the build, so that a change in its course isn't lost.
+        before = {path: stamp_of(path) for path in watched_paths(list_path(words))}
         try:
             status = build(words)
         except (WrongList, Unreadable, Missing) as error:
@@ -252,8 +256,6 @@ def watch(words: Words) -> int:
             status = WRONG_LIST
         if status == 130:
             return status
-        paths = watched_paths(list_path(words))
-        before = {path: stamp_of(path) for path in paths}
         try:
             while all(stamp_of(path) == stamp for path, stamp in before.items()):
                 time.sleep(0.3)
