@@ -38,17 +38,6 @@ def node_start(worker: str, name: str, place: str) -> list[str]:
     return [*NODE, node, os.path.join(WORKERS, worker), "--answers=3"]
 
 
-def python_start(module: str, words: list[str]) -> list[str]:
-    """Returns the words that start a worker for a Python tool, by the Python that has it."""
-    tool = shutil.which(module)
-    if tool is None:
-        raise Unwanted(f"{module} isn't there")
-    with open(tool, "rb") as file:
-        words_before = os.fsdecode(file.readline()).removeprefix("#!").split()
-    python = words_before[0] if words_before and os.path.basename(words_before[0]).startswith("python") else "/usr/bin/python3"
-    return [python, os.path.join(WORKERS, "python_worker"), *words]
-
-
 def tsc_actions(sources: list[str], settings: list[str]) -> Iterator[tuple[str, list[str], list[str], list[str]]]:
     """Yields one action: the whole program, with a file for each source that isn't only declarations."""
     made = ["out/" + os.path.splitext(it)[0] + ".js" for it in sources if not it.endswith(".d.ts")]
@@ -63,23 +52,12 @@ def eslint_actions(sources: list[str], settings: list[str]) -> Iterator[tuple[st
         yield it, ["--soft", "-f", "unix", "-o", report, it], [it, *settings], [report]
 
 
-def pylint_actions(sources: list[str], settings: list[str]) -> Iterator[tuple[str, list[str], list[str], list[str]]]:
-    """Yields an action for each source, which may read the others too."""
-    for it in sources:
-        report = f"out/{it}.txt"
-        yield it, [f"--output={report}", "--score=n", it], [*sources, *settings], [report]
-
-
 KINDS = {
     "tsc": Kind((".ts",), ("package.json",), "node-typescript", lambda: node_start("tsc_worker.js", "TSC", "/usr/share/nodejs/typescript/lib/typescript.js"),
                 {"PATH": "/usr/bin:/bin"}, tsc_actions),
     "eslint": Kind((".js",), (".eslintrc.json", ".eslintrc.js", ".eslintrc", "package.json"), "eslint",
                    lambda: node_start("eslint_worker.js", "ESLINT", "/usr/share/nodejs/eslint"),
                    {"PATH": "/usr/bin:/bin", "NODE_PATH": "/usr/share/nodejs", "HOME": "/nonexistent"}, eslint_actions),
-    # What pylint remembers of other modules goes by their paths, so it is forgotten behind each request.
-    "pylint": Kind((".py",), (".pylintrc", "pylintrc", "pyproject.toml"), "pylint",
-                   lambda: python_start("pylint", ["--argv", "--call=pylint:run_pylint", "--soft=31", "--after=astroid:MANAGER.clear_cache"]),
-                   {"PATH": "/usr/bin:/bin", "HOME": "/nonexistent", "LANG": "C.UTF-8"}, pylint_actions),
 }
 
 
