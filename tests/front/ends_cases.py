@@ -136,14 +136,14 @@ class Ends(Folder):
         said = self.front("--retries=1", status=1)
         self.assertLess(time.monotonic() - begun, SECONDS)
         self.assertIn("FAILED a0", said)
-        self.assertEqual(self.sleepers(mark), [])
+        self.until(lambda: not self.sleepers(mark))
 
     def test_group_is_killed(self) -> None:
         mark = f"8{os.getpid()}"
         self.worker(f'import subprocess; subprocess.Popen(["/bin/sleep", "{mark}"])')
         self.write_list(self.actions(2))
         self.front()
-        self.assertEqual(self.sleepers(mark), [])
+        self.until(lambda: not self.sleepers(mark))
 
     def test_ends_by_itself_between_requests(self) -> None:
         self.worker("pass")
