@@ -191,7 +191,8 @@ def lists() -> list[Row]:
 def journals() -> list[Row]:
     """The same list without and with a journal, and that journal checked."""
     write_list("plain", copies(1000))
-    rows = [tool(f"`{by}`, four workers", "--instances=4 plain.json", 1000, 1000, by) for by in ("worker_tool", "journal_run")]
+    rows = [tool(f"`{by}`, four workers, {what} journal", "--instances=4 plain.json", 1000, 1000, by)
+            for by, what in (("worker_tool", "no"), ("journal_run", "with its"))]
     if not os.path.exists(program("journal_run")):
         return rows
     write_list("dies", [{**copy_action(it, ["in/0"]), "argv": ["/bin/true", f"@flags/{it}"]} for it in range(1000)])
@@ -205,7 +206,7 @@ def journals() -> list[Row]:
 
 def in_memory() -> list[Row]:
     """A made-up list without a file or a process: the scheduler, its lanes and their desk."""
-    return [tool(f"`--generate=1000`, at most {it} workers of a key", f"--generate=1000 --instances={it}", 1000, 0) for it in (1, 4, 48)]
+    return [tool(f"`--generate=1000`, workers of a key at most: {it}", f"--generate=1000 --instances={it}", 1000, 0) for it in (1, 4, 48)]
 
 
 def jobs() -> list[Row]:
