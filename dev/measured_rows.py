@@ -171,7 +171,7 @@ def memory() -> list[Row]:
         write(f"large/{it}", b"x" * 25_000_000)
     write_list("sources", [copy_action(it, ["in/0", f"large/{it}"]) for it in range(20)])
     rows.append(tool("20 sources of 25 MB", "--instances=1 sources.json", 20, 20))
-    for count in (512, 1024, 2048, 4096):
+    for count in (1024, 4096):
         write_list(f"keys{count}", [copy_action(it, ["in/0"], mnemonic=f"Key{it}") for it in range(count)])
         rows.append(tool(f"`shared_tool`, {count:,} keys by four workers", f"--max_workers=4 keys{count}.json", count, count, "shared_tool"))
     return rows
