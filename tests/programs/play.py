@@ -2,6 +2,7 @@
 from __future__ import annotations
 
 import dataclasses
+import functools
 import json
 import os
 import pathlib
@@ -9,6 +10,7 @@ import signal
 import subprocess
 import sys
 import tempfile
+import threading
 from collections.abc import Callable, Iterable, Mapping, Sequence
 
 # How long one run of a program may take, in seconds.
@@ -193,6 +195,25 @@ def marked(said: bytes) -> list[str]:
     """The lines of an answer's text, as they stand behind its action."""
     lines = said.decode().split("\n")
     return [f"  | {line}" for line in (lines if lines[-1] else lines[:-1])]
+
+
+# Cases are played on threads: of two folders made at once one would be removed as soon as its case has its name.
+MAKING = threading.Lock()
+
+
+@functools.cache
+def folder_of(links: tuple[tuple[str, pathlib.Path], ...]) -> tempfile.TemporaryDirectory:
+    folder = tempfile.TemporaryDirectory()
+    for name, program in links:
+        copy(program, pathlib.Path(folder.name), name)
+    return folder
+
+
+def stand_in(script: pathlib.Path, *programs: pathlib.Path) -> pathlib.Path:
+    """A program that stands in for worker_tool, and finds these programs beside itself."""
+    links = (("worker_tool", script), *((it.name, it) for it in programs))
+    with MAKING:
+        return pathlib.Path(folder_of(links).name) / "worker_tool"
 
 
 def copy(program: pathlib.Path, folder: pathlib.Path, name: str) -> None:

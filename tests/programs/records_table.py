@@ -3,15 +3,12 @@ reply and no number may be another."""
 from __future__ import annotations
 
 import dataclasses
-import functools
 import json
 import os
 import pathlib
 import random
 import subprocess
 import sys
-import tempfile
-import threading
 from collections.abc import Iterator
 from typing import Any
 
@@ -24,36 +21,21 @@ import runs_table  # noqa: E402
 from journal_changes import change, refusal  # noqa: E402
 from journal_rules import Entry, Plan  # noqa: E402
 from journals_table import ONE, ONE_PLAN, text_of  # noqa: E402
-from play import Case, Ended, Programs, action, compare, exchange, fault_line, json_list, report, run  # noqa: E402
+from play import Case, Ended, Programs, action, compare, exchange, fault_line, json_list, report, run, stand_in  # noqa: E402
 
 # How many changed texts are checked for each of so many generated lists.
 CHANGES, LISTS = 5, 10
 
 
-# Cases are played on threads: of two folders made at once one would be removed as soon as its case has its name.
-MAKING = threading.Lock()
-
-
-@functools.cache
-def recorder_folder(programs: Programs) -> tempfile.TemporaryDirectory:
-    folder = tempfile.TemporaryDirectory()
-    place = pathlib.Path(folder.name)
-    for name, of in (("worker_tool", HERE / "recorder.py"), ("journal_run", programs.journal_run),
-                     ("journal_check", programs.journal_check)):
-        (place / name).symlink_to(of.resolve())
-    return folder
-
-
 def recorder(programs: Programs) -> pathlib.Path:
-    """A folder in which journal_run and its checker stand in worker_tool's place."""
-    with MAKING:
-        return pathlib.Path(recorder_folder(programs).name)
+    """A program that runs journal_run in worker_tool's place, and checks its journal."""
+    return stand_in(HERE / "recorder.py", programs.journal_run, programs.journal_check)
 
 
 def recorded(case: Case) -> Case:
     """A case of worker_tool, played by journal_run, whose journal is checked."""
     def play(programs: Programs, folder: pathlib.Path) -> None:
-        case.play(dataclasses.replace(programs, worker_tool=recorder(programs) / "worker_tool"), folder)
+        case.play(dataclasses.replace(programs, worker_tool=recorder(programs)), folder)
     return Case(f"recorded: {case.name}", play)
 
 

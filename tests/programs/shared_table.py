@@ -3,37 +3,21 @@ up for others; and its own word."""
 from __future__ import annotations
 
 import dataclasses
-import functools
 import pathlib
-import tempfile
-import threading
 from collections.abc import Iterator
 
 import runs_table
 import wire
-from play import Case, Programs, action, compare, exchange, fault_line, fill, heard, json_list, put_player, report, run
+from play import Case, Programs, action, compare, exchange, fault_line, fill, heard, json_list, put_player, report, run, stand_in
 
 HERE = pathlib.Path(__file__).resolve().parent
 LOCAL = "ok local local=won remote=unused"
 OK = wire.framed(wire.response()).hex()
 
-# Cases are played on threads: of two folders made at once one would be removed as soon as its case has its name.
-MAKING = threading.Lock()
-
-
-@functools.cache
-def sharer_folder(programs: Programs) -> tempfile.TemporaryDirectory:
-    folder = tempfile.TemporaryDirectory()
-    place = pathlib.Path(folder.name)
-    (place / "worker_tool").symlink_to(HERE / "sharer.py")
-    (place / "shared_tool").symlink_to(programs.shared_tool.resolve())
-    return folder
-
 
 def sharer(programs: Programs) -> pathlib.Path:
     """A program that runs shared_tool in worker_tool's place."""
-    with MAKING:
-        return pathlib.Path(sharer_folder(programs).name) / "worker_tool"
+    return stand_in(HERE / "sharer.py", programs.shared_tool)
 
 
 def shared(case: Case) -> Case:
