@@ -20,4 +20,5 @@ pub mod Starved
 pub mod Matches
 pub mod Evicting
 pub mod Shared
+pub mod counts
 pub mod rows

@@ -7,3 +7,4 @@ pub mod Unwanted
 pub mod Over
 pub mod Quiet
 pub mod Unseated
+pub mod Fullest

@@ -4,3 +4,4 @@ pub mod Rests
 pub mod Quiet
 pub mod Runnable
 pub mod Unwanted
+pub mod Few

@@ -1,5 +1,6 @@
-//! What holds where every lane of a run rests. The functions do nothing: each is a law.
-ghost use Rattle.std.specs.Prelude.{◌≡◌, ◌⊎◌, ◌/◌, ◌*◌, ◌+◌, ℕ, true, false, List, [], Some, None, slice_get};
+//! What holds where every lane of a run rests, and how few entries its journal has. The functions do
+//! nothing: each is a law.
+ghost use Rattle.std.specs.Prelude.{◌≡◌, ◌⊎◌, ◌≤◌, ◌/◌, ◌*◌, ◌+◌, ℕ, true, false, List, [], Some, None, slice_get};
 ghost use Rattle.run_plan.specs.declared.plan.Branch.{Branch};
 ghost use Rattle.run_plan.specs.declared.plan.Branch.TheVariants.{Local};
 ghost use Rattle.run_plan.specs.declared.plan.Plan.{Plan};
@@ -21,8 +22,9 @@ ghost use Rattle.core_contract.specs.Disciplines.{LegalBy, own_discipline};
 ghost use Rattle.shared_rules.specs.declared.pools.SharedPlan.{SharedPlan};
 ghost use Rattle.shared_rules.specs.Pools.{seats};
 ghost use Rattle.shared_rules.specs.Shared.{shared_discipline};
-ghost use Rattle.delay_rules.specs.Delayed.{delayed_discipline, has_waited};
+ghost use Rattle.delay_rules.specs.Delayed.{delayed_discipline, delayed_seats, has_waited};
 ghost use Rattle.progress_laws.specs.Awaits.{Awaits, AwaitsEnd, Owes};
+ghost use Rattle.progress_laws.specs.Few.{AllWithin, CallsAreFew, CallsAreFewButTicks, DelayedCallsAreFew};
 ghost use Rattle.progress_laws.specs.Quiet.{AllQuiet, IsFree, NoneOwes};
 ghost use Rattle.progress_laws.specs.Rests.{AllLeft, AllRest};
 ghost use Rattle.progress_laws.specs.Runnable.{EachHasBerth, EachHasPool};
@@ -142,4 +144,20 @@ pub fn none_waits_unticked()
         → AllRest (delayed_discipline p n) (2 * berths p + 1) j
         → slice_get p.actions a ≡ Some x → queued p j a Local x ≡ true
         → has_waited p n j a x ≡ true }
+{}
+
+/// A journal has few entries: beside noise (answers to no open request, and answers of a line that
+/// broke before) at most twelve for each attempt that the plan allows, one for each action and one
+/// for each lane; and with a delay of n Ticks, n more for each action that uses both branches. The
+/// last clause says it of each lawful journal, beside its noted Ticks.
+pub fn calls_are_few()
+    ensures own { (p : Plan) (j : List Entry) → Sound p → LegalBy (own_discipline p) j
+        → CallsAreFew p (2 * berths p) j }
+    ensures delayed { (p : Plan) (n : ℕ) (j : List Entry) → Sound p
+        → LegalBy (delayed_discipline p n) j
+        → DelayedCallsAreFew p n (2 * delayed_seats p) j }
+    ensures shared { (s : SharedPlan) (j : List Entry) → Sound s.plan
+        → LegalBy (shared_discipline s) j → CallsAreFew s.plan (2 * seats s) j }
+    ensures lawful { (p : Plan) (lanes : ℕ) (j : List Entry) → 1 ≤ p.limit → Lawful p j
+        → AllWithin lanes j → CallsAreFewButTicks p lanes j }
 {}
