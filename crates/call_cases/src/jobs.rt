@@ -1,4 +1,4 @@
-// Jobs that come byte by byte, the executor over them, and its shops.
+// Jobs that arrive byte by byte, the executor that runs them, and its shops.
 ghost use Rattle.std.specs.Prelude.{◌≡◌, None};
 
 use crate::messages::bytes_of;
@@ -12,11 +12,12 @@ use std::sync::atomic::AtomicBool;
 use std::sync::atomic::Ordering::SeqCst;
 use std::thread::{Threads, yield_now};
 
-/// For how many turns a run waits.
+/// The number of turns that a run waits at most.
 const MOST_TURNS: u64 = 10_000_000;
 
-/// The executor takes these jobs. Four runs of its shop end, and no more can be started: by the exit codes 0 with a text,
-/// 3 with bytes that are no text, and 0, and by a signal. The third put, the second folder and the fifth look fail.
+/// Runs the executor over these jobs. Four runs of its shop end: with exit code 0 and text, with 3 and
+/// bytes that aren't UTF-8, with 0, and by a signal. No more runs can be started. The third put, the second
+/// folder and the fifth look fail.
 pub fn one_after_another<R: Threads + Wait + Sync>(
     rt: &R,
     alloc: Global,
@@ -53,7 +54,7 @@ fn fails(alloc: Global) -> Result<Vec<FailAt>, NoMemory> {
     Ok(fails)
 }
 
-/// The executor takes these jobs, and each run waits until all have come.
+/// Runs the executor over these jobs. Each run waits until all jobs have arrived.
 pub fn meanwhile<R: Threads + Wait + Sync>(
     rt: &R,
     alloc: Global,
@@ -79,7 +80,7 @@ fn executed<R: Threads + Wait + Sync, S: Shop + Send + Drop>(
     Ok(format!(in alloc; "{} {}", finish.status(), put.as_str())?)
 }
 
-/// An input that gives a byte a read, and says when it has answered `End`.
+/// An input that returns one byte for each read, and records when it has returned `End`.
 #[derive(Drop)]
 pub struct SlowInput<'a> {
     bytes: &'a [u8],
@@ -88,7 +89,7 @@ pub struct SlowInput<'a> {
 }
 
 impl<'a> SlowInput<'a> {
-    /// An input with these bytes.
+    /// Returns an input with these bytes.
     pub fn new(bytes: &'a [u8], has_ended: &'a AtomicBool) -> SlowInput<'a> {
         SlowInput {
             bytes,
@@ -120,8 +121,8 @@ impl Tap for SlowInput<'_> {
     }
 }
 
-/// A shop without files, in which every put is done. Each run waits until the input has ended, and
-/// fails if that doesn't come.
+/// A shop without files, in which every put succeeds. Each run waits until the input has ended, and fails
+/// if it waits in vain.
 #[derive(Drop)]
 struct PatientShop<'a> {
     alloc: Global,
@@ -130,7 +131,7 @@ struct PatientShop<'a> {
 }
 
 impl<'a> PatientShop<'a> {
-    /// A shop whose runs wait for this.
+    /// Returns a shop whose runs wait for this flag.
     fn new(alloc: Global, has_ended: &'a AtomicBool) -> PatientShop<'a> {
         PatientShop {
             alloc,
@@ -174,7 +175,7 @@ impl Shop for PatientShop<'_> {
     }
 }
 
-// Whether this comes within so many turns.
+// Returns true if the flag is raised within `MOST_TURNS` turns.
 fn comes(flag: &AtomicBool) -> bool {
     for _ in 0..MOST_TURNS {
         if flag.load(SeqCst) {

@@ -3,7 +3,7 @@ use plain_values::{Blob, Items, NoMemory, Text};
 use std::alloc::Global;
 use worker_key::{KeyParts, Mode, Named, Tool, WorkerKey};
 
-/// The length of the key's canonical bytes, and its name.
+/// Returns the length of the key's canonical bytes, and its name.
 pub fn key(alloc: Global) -> Result<String, NoMemory> {
     let parts = parts(alloc)?;
     key_of(alloc, &parts)

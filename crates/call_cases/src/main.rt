@@ -1,20 +1,25 @@
-//! Plays cases of calls that the other programs don't make, or whose answers they don't show, one a line of standard
-//! input, and prints what each comes to. Bytes are hexadecimal.
+//! Plays cases of calls that the other programs don't make, or whose replies they don't show. Reads one
+//! case for each line of standard input, and prints its result. Bytes are hexadecimal.
 //!
 //! | A line | Prints |
 //! |---|---|
 //! | `request BYTES`, `response BYTES`, `job BYTES`, `result BYTES` | the written form of the message, or its fault |
-//! | `pieces FORM SIZE BYTES` | what a splitter gives of a stream, `delimited` or `lines`, in pieces of so many bytes: how many pieces gave nothing, frames, faults, and the digest of the last frame |
-//! | `long FORM SIZE LENGTH` | the same of one frame of so many bytes |
-//! | `list JSON` | how many actions the list has, or `refused` |
+//! | `pieces FORM SIZE BYTES` | the counts of a splitter over a stream in pieces of SIZE bytes |
+//! | `long FORM SIZE LENGTH` | the same for one frame of LENGTH bytes |
+//! | `list JSON` | the number of actions of the list, or `refused` |
 //! | `generated COUNT` | the text of a generated list |
 //! | `key` | the length of a worker key's canonical bytes, and its name |
-//! | `execute BYTES` | the executor's status, and what it put, given these jobs and a shop some of whose calls fail |
+//! | `execute BYTES` | the executor's status and output for these jobs, with a shop some of whose calls fail |
 //! | `meanwhile BYTES` | the same with a shop whose runs wait until all jobs have been read |
-//! | `shared BYTES` | the demonstration worker's status, given these requests at once, its responses sorted, and what its shop then finds at `o` |
+//! | `shared BYTES` | the demonstration worker's results for these requests, answered in parallel |
 //!
-//! Other lines are printed as they are. `tools/wire-vectors` writes the cases of requests and responses, with the written
-//! forms that protoc gives, and `tools/shop-vectors` those of pieces, of generated lists, of the executor and of shared shops, into `stdin` and `stdout`.
+//! FORM is `delimited` or `lines`. The counts are those of the pieces that gave nothing, of the frames and
+//! of the faults, with the digest of the last frame. `shared` prints the worker's status, its sorted
+//! responses, and what its shop then finds at `o`.
+//!
+//! Other lines are printed as they are. `tools/wire-vectors` writes the cases of requests and responses,
+//! with the written forms that protoc gives. `tools/shop-vectors` writes the cases of pieces, of generated
+//! lists, of the executor and of shared shops. Both write into `stdin` and `stdout`.
 #![tactic(auto)]
 
 mod jobs;

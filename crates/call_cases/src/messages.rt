@@ -1,4 +1,4 @@
-// Messages: what is read is written again.
+// Messages that are read and written again.
 use plain_values::NoMemory;
 use remote_messages::{decode_job, decode_result, encode_job, encode_result, job_length};
 use std::alloc::Global;
@@ -6,7 +6,7 @@ use wire_messages::{
     MessageFault, decode_request, decode_response, encode_request, encode_response,
 };
 
-/// The bytes that hexadecimal digits stand for; of any other text none.
+/// Returns the bytes of these hexadecimal digits, or none if the string isn't hexadecimal.
 pub fn bytes_of(alloc: Global, digits: &str) -> Vec<u8> {
     match hex::decode(alloc, digits) {
         Ok(bytes) => bytes,
@@ -39,7 +39,7 @@ pub fn response(alloc: Global, digits: &str) -> Result<String, NoMemory> {
     }
 }
 
-/// A Job, and its length before it is written.
+/// Returns a Job's written form, and its length computed before it is written.
 pub fn job(alloc: Global, digits: &str) -> Result<String, NoMemory> {
     match decode_job(alloc, bytes_of(alloc, digits).as_slice()) {
         Ok(job) => {

@@ -1,18 +1,18 @@
-// Streams that come in pieces.
+// Streams that arrive in pieces.
 use delimited_framing::Next;
 use file_digests::digest_of;
 use json_framing::{Cutter, Framing};
 use plain_values::NoMemory;
 use std::alloc::Global;
 
-/// The largest frame, as for messages.
+/// The limit for the bytes of a frame, as for messages.
 pub const LARGEST: u64 = 67_108_864;
 
-/// How long a piece is, where a case doesn't say it.
+/// The length of a piece if a case doesn't give it.
 const SMALLEST: usize = 1;
 
-/// What came of a stream: how many pieces gave nothing, how many frames and faults there were, and the
-/// digest of the last frame.
+/// The counts of a stream: the pieces that gave nothing, the frames, the faults, and the digest of the last
+/// frame.
 #[derive(Drop)]
 struct Count {
     silent: u32,
@@ -21,7 +21,8 @@ struct Count {
     last: String,
 }
 
-/// What comes of a stream of this form, whose bytes are hexadecimal, in pieces of so many bytes.
+/// Returns the counts of a stream. `rest` gives its form, the size of its pieces, and its bytes in
+/// hexadecimal.
 pub fn given(alloc: Global, rest: &str) -> Result<String, NoMemory> {
     let (form, rest) = rest.split_once(' ').unwrap_or((rest, ""));
     let (size, digits) = rest.split_once(' ').unwrap_or((rest, ""));
@@ -29,7 +30,7 @@ pub fn given(alloc: Global, rest: &str) -> Result<String, NoMemory> {
     tell(alloc, form, size, &stream)
 }
 
-/// The same of one frame of so many bytes: those from 33 on, 90 of them in turn.
+/// Returns the same for one frame of a given length. Its bytes repeat the 90 values from 33 on.
 pub fn long(alloc: Global, rest: &str) -> Result<String, NoMemory> {
     let (form, rest) = rest.split_once(' ').unwrap_or((rest, ""));
     let (size, length) = rest.split_once(' ').unwrap_or((rest, ""));
@@ -51,7 +52,7 @@ fn long_frame(alloc: Global, form: &str, length: u32) -> Result<Vec<u8>, NoMemor
     Ok(stream)
 }
 
-// The length as a varint, of five bytes at most.
+// Appends the length as a varint of at most five bytes.
 fn put_length(stream: &mut Vec<u8>, length: u32) -> Result<(), NoMemory> {
     let mut left = length;
     for _ in 0..4 {
@@ -108,7 +109,7 @@ fn play(alloc: Global, framing: Framing, size: usize, stream: &[u8]) -> Result<C
     Ok(count)
 }
 
-// Feeds one piece, and takes what it gives: a frame at most, since the streams have one.
+// Feeds one piece, and takes at most one frame from it, because each stream has only one.
 fn take(
     alloc: Global,
     cutter: &mut Cutter,

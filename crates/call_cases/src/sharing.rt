@@ -1,9 +1,11 @@
-// Requests that share one shop, by the demonstration worker.
+// Requests that the demonstration worker answers in parallel.
+ghost use Rattle.std.specs.Prelude.{◌≡◌, length, IfOk};
+
 use crate::jobs::SlowInput;
 use crate::messages::bytes_of;
 use crate::pieces::LARGEST;
 use delimited_framing::Next;
-use demo_programs::{DemoLeft, DemoSite, demo};
+use demo_programs::{DemoLane, DemoLeft, DemoSite, demo};
 use json_framing::{Cutter, Framing};
 use outside::{Read, Shop, SourceFile};
 use outside_mem::{MemShop, MemSink};
@@ -13,8 +15,9 @@ use std::sync::Wait;
 use std::sync::atomic::AtomicBool;
 use std::thread::Threads;
 
-/// The worker takes these requests, in a shop that has the file `a` with the text `one`. Its status, its responses in the
-/// order of their bytes, since they come in any, and what the shop then finds at `o`.
+/// Runs the worker over these requests, on four lanes whose shops have the file `a` with the text `one`.
+/// Returns its status, its responses, and the content of `o` in the shop of the lane that wrote it. The
+/// responses are sorted by their bytes, because they come in any order.
 pub fn shared<R: Threads + Wait + Sync>(
     rt: &R,
     alloc: Global,
@@ -28,21 +31,34 @@ pub fn shared<R: Threads + Wait + Sync>(
         input: SlowInput::new(requests.as_slice(), &has_ended),
         out: MemSink::new(alloc, Vec::new(alloc)),
         shop: shop(alloc)?,
+        lanes: lanes(alloc)?,
     };
-    let DemoLeft { end, site } = demo(rt, alloc, &words, site)?;
-    let DemoSite {
-        input: _,
-        out,
-        shop,
-    } = site;
+    let DemoLeft { end, site } = demo(rt, alloc, &words, site);
+    let DemoSite { out, lanes, .. } = site;
     let mut text = format!(in alloc; "{}", end.status)?;
     for frame in sorted_frames(alloc, out.bytes())? {
         text.push(' ')?;
         text.push_str(frame.as_str())?;
     }
     text.push(' ')?;
-    text.push_str(found(alloc, shop)?.as_str())?;
+    text.push_str(found(alloc, lanes)?.as_str())?;
     Ok(text)
+}
+
+// Returns four lanes, each with a shop of its own.
+fn lanes(alloc: Global) -> Result<Vec<DemoLane<MemShop>>, NoMemory>
+    ensures { IfOk result (λ lanes. length lanes.items ≡ 4) }
+{
+    let mut lanes = Vec::new(alloc);
+    lanes.push(lane(alloc)?)?;
+    lanes.push(lane(alloc)?)?;
+    lanes.push(lane(alloc)?)?;
+    lanes.push(lane(alloc)?)?;
+    Ok(lanes)
+}
+
+fn lane(alloc: Global) -> Result<DemoLane<MemShop>, NoMemory> {
+    Ok(DemoLane { shop: shop(alloc)? })
 }
 
 fn shop(alloc: Global) -> Result<MemShop, NoMemory> {
@@ -55,7 +71,7 @@ fn shop(alloc: Global) -> Result<MemShop, NoMemory> {
     MemShop::new(alloc, files, Vec::new(alloc), Vec::new(alloc))
 }
 
-// The frames of these bytes, in hexadecimal.
+// Returns the frames of these bytes in hexadecimal, sorted.
 fn sorted_frames(alloc: Global, bytes: &[u8]) -> Result<Vec<String>, NoMemory> {
     let mut cutter = Cutter::new(alloc, Framing::Delimited, LARGEST);
     cutter.feed(bytes)?;
@@ -70,12 +86,16 @@ fn sorted_frames(alloc: Global, bytes: &[u8]) -> Result<Vec<String>, NoMemory> {
     Ok(frames)
 }
 
-// What the shop finds at the output.
-fn found(alloc: Global, shop: MemShop) -> Result<String, NoMemory> {
-    let mut shop = shop;
-    match shop.get("o")? {
-        Read::Found(file) => Ok(hex::encode(alloc, file.bytes())?),
-        Read::Absent => Ok(String::from_str(alloc, "absent")?),
-        Read::Failed => Ok(String::from_str(alloc, "failed")?),
+// Returns the content of the output in the first shop that has it.
+fn found(alloc: Global, lanes: Vec<DemoLane<MemShop>>) -> Result<String, NoMemory> {
+    for lane in lanes {
+        let DemoLane { shop } = lane;
+        let mut shop = shop;
+        match shop.get("o")? {
+            Read::Found(file) => return Ok(hex::encode(alloc, file.bytes())?),
+            Read::Absent => {}
+            Read::Failed => return Ok(String::from_str(alloc, "failed")?),
+        }
     }
+    Ok(String::from_str(alloc, "absent")?)
 }

@@ -1,2 +1,3 @@
 pub mod Greeted
 pub mod InOrder
+pub mod Idle

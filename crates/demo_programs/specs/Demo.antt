@@ -19,7 +19,8 @@ use Rattle.worker_kit.specs.Responses.{framed}
 use Rattle.work_lanes.specs.Serves as lanes
 use Rattle.worker_kit.specs.Serves as kit
 use Rattle.demo_worker.specs.Answers.{Answers, as_line, SpellsLine}
-use Rattle.demo_worker.specs.Shared.{IsHandled}
+use Rattle.demo_worker.specs.declared.lane.DemoLane.{DemoLane}
+use Rattle.demo_worker.specs.Lanes.{IsHandled, DoesRequest, BreaksRequest}
 use Rattle.demo_programs.specs.declared.site.DemoEnd.{DemoEnd}
 use Rattle.demo_programs.specs.declared.site.DemoSite.{DemoSite}
 
@@ -37,17 +38,26 @@ told_at tap_told sink_told shop_told site =
 abbrev pub streams_of : Outside → lanes.Outside
 streams_of o = record { tap = o.input; sink = o.out }
 
--- As lines: the bytes taken are lines that spell requests. What was put is, request by request in
--- order, the responses that the shop's answers give, and its log is the calls for these requests.
---
--- As messages: the bytes taken are frames that spell requests. What was put are responses, each whole
--- and under its request's number: by some calls of the request's words and their answers, the exit code
--- and the text are what these give; or the request was cancelled. Of the shop nothing is said: its log
--- is what the commands make of it that share it.
-abbrev pub Works : Bool → Finish → Outside → Outside → Type 0
-Works true f old new = Serves line_form SpellsLine (Answers as_line) f [] old new
-Works false f old new = kit.Serves delimited_form SpellsRequest IsHandled framed f (streams_of old)
-    (streams_of new)
+-- so many messages may wait
+abbrev pub depth : ℕ
+depth = 64
+
+module _ {S : Type 0} (told : S → ShopTold) where
+  -- As lines: the bytes taken are lines that spell requests. What was put is, request by request in
+  -- order, the responses that the shop's answers give, and its log is the calls for these requests. The
+  -- lanes are as they were.
+  --
+  -- As messages: the bytes taken are frames that spell requests. What was put are responses, each whole
+  -- and under its request's number: by the calls of the request's words and their answers, the exit code
+  -- and the text are what these give; or the request was cancelled. Each lane has done the commands that
+  -- it took in its shop, in order, each once, and nothing else. No more waited than the depth and the
+  -- requests of one read. The other shop is as it was.
+  abbrev pub Works : Bool → Finish → Outside → Outside → List (DemoLane S) → List (DemoLane S) → Type 0
+  Works true f old new lanes left =
+      Serves line_form SpellsLine (Answers as_line) f [] old new × (left ≡ lanes)
+  Works false f old new lanes left =
+      kit.ServesEach delimited_form SpellsRequest IsHandled (DoesRequest told) (BreaksRequest told)
+      framed depth f lanes left (streams_of old) (streams_of new) × (new.shop ≡ old.shop)
 
 -- ---- once
 
@@ -82,17 +92,16 @@ abbrev pub DoesOnceAt : List (List ℕ) → DemoEnd → Outside → Outside → 
 DoesOnceAt words end old new = (r : Result ℕ Finish) × (end ≡ exited r)
     × (new.input ≡ old.input) × DoesOnce words r old.out new.out old.shop new.shop
 
-abbrev pub DemonstratesAs : Bool → List (List ℕ) → DemoEnd → Outside → Outside → Type 0
-DemonstratesAs true words end old new =
-    (f : Finish) × (end ≡ ended f) × Works (is_word (codes "--json") words) f old new
-DemonstratesAs false words end old new = DoesOnceAt words end old new
+module _ {S : Type 0} (told : S → ShopTold) where
+  abbrev pub DemonstratesAs : Bool → List (List ℕ) → DemoEnd → Outside → Outside → List (DemoLane S)
+      → List (DemoLane S) → Type 0
+  DemonstratesAs true words end old new lanes left = (f : Finish) × (end ≡ ended f)
+      × Works told (is_word (codes "--json") words) f old new lanes left
+  DemonstratesAs false words end old new lanes left =
+      DoesOnceAt words end old new × (left ≡ lanes)
 
--- It is a worker exactly where it is told so.
-abbrev pub Demonstrates : List (List ℕ) → DemoEnd → Outside → Outside → Type 0
-Demonstrates words end old new =
-    DemonstratesAs (is_word (codes "--persistent_worker") words) words end old new
-
--- many requests share the shop
-abbrev pub SharesShop : List (List ℕ) → Type 0
-SharesShop words = (is_word (codes "--persistent_worker") words ≡ true)
-    × (is_word (codes "--json") words ≡ false)
+  -- It is a worker exactly where it is told so.
+  abbrev pub Demonstrates : List (List ℕ) → DemoEnd → Outside → Outside → List (DemoLane S)
+      → List (DemoLane S) → Type 0
+  Demonstrates words end old new lanes left =
+      DemonstratesAs (is_word (codes "--persistent_worker") words) words end old new lanes left

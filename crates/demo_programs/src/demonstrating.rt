@@ -1,50 +1,47 @@
-// The demonstration worker, as a worker or once.
-ghost use Rattle.std.specs.Prelude.{◌≡◌, true, false, IfOk, IfErr, map, string_bytes};
-ghost use Rattle.demo_programs.specs.Demo.{Demonstrates, DoesOnce, DoesOnceAt, SharesShop, Works, ended, is_word, told_at};
+// The demonstration worker, as a worker or for one command.
+ghost use Rattle.std.specs.Prelude.{◌≡◌, true, false, length, map, string_bytes};
+ghost use Rattle.work_lanes.specs.Serves.{AreHandlers};
+ghost use Rattle.demo_programs.specs.Demo.{Demonstrates, DoesOnce, DoesOnceAt, Works, ended, is_word, told_at};
 
 use crate::site::{DemoEnd, DemoLeft, DemoSite};
-use demo_worker::{Answer, RequestLines, SharedShop, run_once};
+use demo_worker::{Answer, RequestLines, run_once};
 use message_service::{Finish, serve};
 use outside::{Io, Shop, Sink, Tap};
 use plain_values::NoMemory;
 use std::alloc::Global;
 use std::sync::Wait;
 use std::thread::Threads;
-use worker_kit::{Delimited, KitEnded, Size, Streams};
+use worker_kit::{Delimited, EachEnded, Streams, Unbegun, serve_each};
 
-/// How many requests are answered at once, and how many may wait.
-const SIZE: Size = Size {
-    handlers: 4,
-    depth: 64,
-};
+/// The number of requests that may wait.
+const DEPTH: u32 = 64;
 
-/// Copies files of the shop as it is told. Without `--persistent_worker` among the words the words
-/// themselves are one command, and its text is put. With it the input brings commands as requests, and
-/// each is answered by a response:
+/// Copies files of shops, as its arguments or requests specify. Without `--persistent_worker` among the
+/// arguments, the arguments are one command, and its text is written. With it, the input contains commands
+/// as requests. Each is answered by a response:
 ///
-/// - with `--json` as lines, one after another in order;
-/// - else in the binary form of Protocol Buffers behind their lengths, four at once, in any order. The
-///   four share the shop, each for a whole command.
+/// - with `--json`, as lines, one after another in order;
+/// - otherwise in the binary form of Protocol Buffers, preceded by their lengths, in any order. Each lane
+///   answers one request at a time. The log of each lane's shop gains the calls of the commands that the
+///   lane took, one after another, each once, and nothing else.
 ///
-/// # Errors
-///
-/// `NoMemory`, only where requests share the shop: before the input is read, or once all have ended.
-/// Any other lack of memory is told by the status.
+/// It reports lack of memory by the status, even if nothing has begun.
 pub fn demo<T: Tap + Send, O: Sink + Send, S: Shop + Send, R: Threads + Wait + Sync>(
     rt: &R,
     alloc: Global,
     words: &[String],
     site: DemoSite<T, O, S>,
-) -> Result<DemoLeft<T, O, S>, NoMemory>
-    ensures does { IfOk result (λ left. Demonstrates (map string_bytes words.now) left.end
-        (told_at T.told O.told S.told site) (told_at T.told O.told S.told left.site)) }
-    ensures refused { IfErr result (λ e. SharesShop (map string_bytes words.now)) }
+) -> DemoLeft<T, O, S>
+    requires { AreHandlers (length site.lanes.items) }
+    ensures { Demonstrates S.told (map string_bytes words.now) result.end
+        (told_at T.told O.told S.told site) (told_at T.told O.told S.told result.site)
+        site.lanes.items result.site.lanes.items }
 {
     if !is_word("--persistent_worker", words) {
-        return Ok(once_at(alloc, words, site));
+        return once_at(alloc, words, site);
     }
     if is_word("--json", words) {
-        Ok(in_order(rt, alloc, site))
+        in_order(rt, alloc, site)
     } else {
         at_once(rt, alloc, site)
     }
@@ -56,17 +53,28 @@ fn in_order<T: Tap, O: Sink, S: Shop, R: Wait>(
     alloc: Global,
     site: DemoSite<T, O, S>,
 ) -> DemoLeft<T, O, S>
-    ensures { (f : Finish) × (result.end ≡ ended f) × Works true f
-        (told_at T.told O.told S.told site) (told_at T.told O.told S.told result.site) }
+    ensures { (f : Finish) × (result.end ≡ ended f) × Works S.told true f
+        (told_at T.told O.told S.told site) (told_at T.told O.told S.told result.site)
+        site.lanes.items result.site.lanes.items }
 {
-    let DemoSite { input, out, shop } = site;
+    let DemoSite {
+        input,
+        out,
+        shop,
+        lanes,
+    } = site;
     let mut input = input;
     let mut out = out;
     let mut shop = shop;
     let finish = serve(rt, alloc, &RequestLines, &mut input, &mut out, &mut shop);
     DemoLeft {
         end: DemoEnd::of(finish),
-        site: DemoSite { input, out, shop },
+        site: DemoSite {
+            input,
+            out,
+            shop,
+            lanes,
+        },
     }
 }
 
@@ -75,39 +83,72 @@ fn at_once<T: Tap + Send, O: Sink + Send, S: Shop + Send, R: Threads + Wait + Sy
     rt: &R,
     alloc: Global,
     site: DemoSite<T, O, S>,
-) -> Result<DemoLeft<T, O, S>, NoMemory>
-    ensures { IfOk result (λ left. (f : Finish) × (left.end ≡ ended f) × Works false f
-        (told_at T.told O.told S.told site) (told_at T.told O.told S.told left.site)) }
+) -> DemoLeft<T, O, S>
+    requires { AreHandlers (length site.lanes.items) }
+    ensures { (f : Finish) × (result.end ≡ ended f) × Works S.told false f
+        (told_at T.told O.told S.told site) (told_at T.told O.told S.told result.site)
+        site.lanes.items result.site.lanes.items }
 {
-    let DemoSite { input, out, shop } = site;
-    let shared = SharedShop::of(shop);
+    let DemoSite {
+        input,
+        out,
+        shop,
+        lanes,
+    } = site;
     let streams = Streams {
         tap: input,
         sink: out,
     };
-    let KitEnded { end, tap, sink } = worker_kit::serve(
-        rt, alloc, &Delimited, streams, SIZE, &shared,
-    )?;
-    Ok(DemoLeft {
-        end: DemoEnd::of_kit(end),
-        site: DemoSite {
-            input: tap,
-            out: sink,
-            shop: shared.into_shop(),
-        },
-    })
+    match serve_each(rt, alloc, &Delimited, streams, DEPTH, lanes) {
+        Ok(ended) => {
+            let EachEnded {
+                end,
+                tap,
+                sink,
+                handlers,
+            } = ended;
+            DemoLeft {
+                end: DemoEnd::of_kit(end),
+                site: DemoSite {
+                    input: tap,
+                    out: sink,
+                    shop,
+                    lanes: handlers,
+                },
+            }
+        }
+        Err(unbegun) => {
+            let Unbegun { streams, handlers } = unbegun;
+            let Streams { tap, sink } = streams;
+            DemoLeft {
+                end: DemoEnd::of(Finish::NoMemory),
+                site: DemoSite {
+                    input: tap,
+                    out: sink,
+                    shop,
+                    lanes: handlers,
+                },
+            }
+        }
+    }
 }
 
-// Does the words once.
+// Runs the arguments as one command.
 fn once_at<T: Tap, O: Sink, S: Shop>(
     alloc: Global,
     words: &[String],
     site: DemoSite<T, O, S>,
 ) -> DemoLeft<T, O, S>
-    ensures { DoesOnceAt (map string_bytes words.now) result.end
+    ensures does { DoesOnceAt (map string_bytes words.now) result.end
         (told_at T.told O.told S.told site) (told_at T.told O.told S.told result.site) }
+    ensures lanes { result.site.lanes.items ≡ site.lanes.items }
 {
-    let DemoSite { input, out, shop } = site;
+    let DemoSite {
+        input,
+        out,
+        shop,
+        lanes,
+    } = site;
     let mut out = out;
     let mut shop = shop;
     let end = match once(alloc, words, &mut out, &mut shop) {
@@ -119,11 +160,16 @@ fn once_at<T: Tap, O: Sink, S: Shop>(
     };
     DemoLeft {
         end,
-        site: DemoSite { input, out, shop },
+        site: DemoSite {
+            input,
+            out,
+            shop,
+            lanes,
+        },
     }
 }
 
-// Does the words, and puts the text; the exit code.
+// Runs the arguments as one command, writes its text, and returns the exit code.
 fn once<O: Sink, S: Shop>(
     alloc: Global,
     words: &[String],

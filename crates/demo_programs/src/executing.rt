@@ -9,12 +9,12 @@ use std::alloc::Global;
 use std::sync::Wait;
 use std::thread::Threads;
 
-/// Greets, and then runs the jobs that the input brings, one after another, each in a folder of its
-/// own in the shop. The result of each is put behind its length.
+/// Writes the greeting, and then runs the jobs of the input, one after another, each in a separate folder
+/// in the shop. Each result is written, preceded by its length.
 ///
-/// It reads on a thread of its own, up to the end of the input or to what spells no job, while jobs
-/// are run. A job is given up in place of being run exactly where a job that says so had been read
-/// by its turn. It answers with the cause of its end.
+/// It reads on a separate thread while jobs are run, up to the end of the input or to bytes that spell no
+/// job. A job is given up instead of being run exactly if a job that cancels it had been read by its turn.
+/// Returns the cause of its end.
 pub fn execute<T: Tap + Send, O: Sink + Send, S: Shop + Send, R: Threads + Wait + Sync>(
     rt: &R,
     alloc: Global,

@@ -1,32 +1,36 @@
-// Where the demonstration worker works, and what it leaves.
+// The context of the demonstration worker, and its result.
 ghost use Rattle.std.specs.Prelude.{◌≡◌};
 ghost use Rattle.worker_kit.specs.Serves.{finish_of};
 ghost use Rattle.demo_programs.specs.Demo.{ended};
 
+use demo_worker::DemoLane;
 use message_service::Finish;
 use worker_kit::KitEnd;
 
-/// What the demonstration worker reads, what it puts to, and where its files are.
+/// The demonstration worker's input and output, and the shops with its files.
 #[derive(Drop)]
 pub struct DemoSite<T, O, S> {
     pub input: T,
     pub out: O,
+    /// The shop of commands that are run one after another.
     pub shop: S,
+    /// The lanes that answer messages in parallel, each in its own shop.
+    pub lanes: Vec<DemoLane<S>>,
 }
 
-/// What the demonstration worker leaves.
+/// The result of the demonstration worker.
 #[derive(Drop)]
 pub struct DemoLeft<T, O, S> {
     pub end: DemoEnd,
     pub site: DemoSite<T, O, S>,
 }
 
-/// How the demonstration worker ends.
+/// The end of the demonstration worker.
 #[derive(Clone, Copy, PartialEq, Eq)]
 pub struct DemoEnd {
     /// The status with which the program ends.
     pub status: u8,
-    /// The exit code of the command that was done once, where its text was put whole.
+    /// The exit code of a command that was run once, if its whole text was written.
     pub exit: Option<u8>,
 }
 

@@ -6,4 +6,4 @@ pub mod Does
 pub mod Once
 pub mod Steps
 pub mod Answers
-pub mod Shared
+pub mod Lanes

@@ -1,4 +1,4 @@
-// A command of which words may stand for the lines of files.
+// Commands whose arguments may be replaced by the lines of files.
 ghost use Rattle.std.specs.Prelude.{◌≡◌, List, map, string_bytes, true, false, IfOk, MatchOption};
 ghost use Rattle.std.specs.Str.{is_utf8};
 ghost use Rattle.std.specs.Str.Lines.{lines};
@@ -15,12 +15,12 @@ use outside::Shop;
 use plain_values::{NoMemory, Text};
 use std::alloc::Global;
 
-/// Does a command once. Each word of `@` and a name is replaced by the lines of that file before,
-/// in order; these aren't looked at again. A file that isn't UTF-8 counts as missing.
+/// Runs a command once. First each argument of `@` and a name is replaced by the lines of that file, in
+/// order. Those lines aren't expanded again. A file that isn't UTF-8 counts as missing.
 ///
 /// # Errors
 ///
-/// `NoMemory`, maybe after some of the calls.
+/// Returns `NoMemory` if memory runs out, perhaps after some of the calls.
 pub fn run_once<S: Shop>(alloc: Global, shop: &mut S, words: &[String]) -> Result<Answer, NoMemory>
     ensures { (calls : List ShopCall) × ComesOnce (map string_bytes words.now) result calls
         × Made calls (S.told shop.old) (S.told shop.new) }
@@ -49,7 +49,7 @@ fn expand<S: Shop>(alloc: Global, shop: &mut S, words: &[String]) -> Result<Vec<
     Ok(expanded)
 }
 
-// The lines of a file.
+// Returns the lines of a file.
 fn lines_in<S: Shop>(alloc: Global, shop: &mut S, path: &str) -> Result<Vec<Text>, Stop>
     ensures { (looks : List ShopCall) × LooksIn path.now result looks
         × Made looks (S.told shop.old) (S.told shop.new) }

@@ -1,4 +1,4 @@
-// The words of a request that has a folder of its own.
+// The arguments of a request that has its own folder.
 ghost use Rattle.std.specs.Prelude.{◌≡◌, ◌++◌, List, IfOk};
 ghost use Rattle.outside.specs.declared.shop.ShopCall.{ShopCall};
 ghost use Rattle.message_service.specs.Calls.{Made};
@@ -11,11 +11,11 @@ use outside::Shop;
 use plain_values::{NoMemory, Text};
 use std::alloc::Global;
 
-/// Does a command whose paths lie in this folder, or where they say if it is empty.
+/// Runs a command whose paths are relative to this folder. If it is empty, the paths are used as they are.
 ///
 /// # Errors
 ///
-/// `NoMemory`, maybe after some of the calls.
+/// Returns `NoMemory` if memory runs out, perhaps after some of the calls.
 pub fn run_in<S: Shop>(
     alloc: Global,
     shop: &mut S,

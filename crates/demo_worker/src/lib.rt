@@ -1,20 +1,20 @@
-//! The demonstration worker: a command copies files of a shop, and requests bring such commands.
+//! The demonstration worker. A command copies files of a shop, and requests contain such commands.
 //!
-//! A command's words say which files are taken (`--in=PATH`, in order), where their contents are
-//! put one after the other (the last `--out=PATH`), and with which exit code it ends (the last
-//! `--exit=N`). Other words are passed over.
+//! The arguments `--in=PATH` of a command name the files that are read, in order. Their contents are written
+//! one after the other to the file of the last `--out=PATH`. The last `--exit=N` gives the exit code. Other
+//! arguments are ignored.
 #![tactic(auto)]
 
 mod flags;
 mod folders;
+mod lane;
 mod looking;
 mod requests;
 mod running;
-mod sharing;
 mod stop;
 mod words;
 
 pub use flags::run_once;
+pub use lane::DemoLane;
 pub use requests::RequestLines;
 pub use running::{Answer, run_words};
-pub use sharing::SharedShop;

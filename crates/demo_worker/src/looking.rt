@@ -1,4 +1,4 @@
-// Files of the shop are looked at.
+// Reads files of the shop.
 ghost use Rattle.std.specs.Prelude.{◌≡◌, List};
 ghost use Rattle.outside.specs.declared.shop.ShopCall.{ShopCall};
 ghost use Rattle.message_service.specs.Calls.{Made};
@@ -11,11 +11,11 @@ use outside::{Read, Shop};
 use plain_values::{Blob, Text};
 use std::alloc::Global;
 
-/// The contents of all inputs that the words name, one after the other.
+/// Returns the contents of all inputs that the arguments name, one after the other.
 ///
 /// # Errors
 ///
-/// At the first input that can't be had, which is then the last that is looked at.
+/// Fails at the first input that can't be read, and looks at no input after it.
 pub fn gather<S: Shop>(alloc: Global, shop: &mut S, words: &[Text]) -> Result<Vec<u8>, Stop>
     ensures { (looks : List ShopCall) × Gathers (inputs_of words.now) result looks
         × Made looks (S.told shop.old) (S.told shop.new) }
@@ -30,11 +30,11 @@ pub fn gather<S: Shop>(alloc: Global, shop: &mut S, words: &[Text]) -> Result<Ve
     Ok(contents)
 }
 
-/// The bytes of a file.
+/// Returns the bytes of a file.
 ///
 /// # Errors
 ///
-/// What is said where it isn't there, or can't be read.
+/// Returns a message if the file is missing or can't be read.
 pub fn look<S: Shop>(alloc: Global, shop: &mut S, path: &str) -> Result<Blob, Stop>
     ensures { (looks : List ShopCall) × Looks path.now result looks
         × Made looks (S.told shop.old) (S.told shop.new) }

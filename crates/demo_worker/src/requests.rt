@@ -1,4 +1,4 @@
-// Requests that bring commands, one after another.
+// Requests that contain commands, handled one after another.
 ghost use Rattle.std.specs.Prelude.{◌≡◌, List, IfOk, Some};
 ghost use Rattle.outside.specs.declared.shop.ShopCall.{ShopCall};
 ghost use Rattle.json_framing.specs.declared.cutter.Framing.TheVariants as framing;
@@ -15,7 +15,7 @@ use plain_values::{Items, NoMemory};
 use std::alloc::Global;
 use wire_messages::{MessageFault, WorkRequest, WorkResponse};
 
-/// Answers requests that are JSON lines.
+/// A service that answers requests in JSON lines.
 #[derive(Clone, Copy)]
 pub struct RequestLines;
 
@@ -56,7 +56,7 @@ impl<S: Shop> Service<S> for RequestLines {
     }
 }
 
-// The response to a request; `None` where the request cancels another, and then nothing is done.
+// Returns the response to a request. If the request cancels another, does nothing and returns `None`.
 fn respond<S: Shop>(
     alloc: Global,
     shop: &mut S,
@@ -84,7 +84,7 @@ fn response_to(request: &WorkRequest, answer: Answer) -> WorkResponse
     }
 }
 
-// The response as a line.
+// Returns the response as a line.
 fn as_line(alloc: Global, response: &WorkResponse) -> Result<Option<Items<u8>>, NoMemory>
     ensures { IfOk result (λ reply. reply ≡ Some (as_line response.now)) }
 {

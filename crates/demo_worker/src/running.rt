@@ -1,4 +1,4 @@
-// A command from its first call to its answer.
+// Runs a command from its first call to its answer.
 ghost use Rattle.std.specs.Prelude.{◌≡◌, List};
 ghost use Rattle.outside.specs.declared.shop.ShopCall.{ShopCall};
 ghost use Rattle.message_service.specs.Calls.{Made};
@@ -12,19 +12,19 @@ use outside::{Io, Shop};
 use plain_values::{NoMemory, Text};
 use std::alloc::Global;
 
-/// The exit code where a call didn't go well.
+/// The exit code of a command that has stopped.
 const STOPPED: u8 = 1;
 
-/// What is answered to a command.
+/// The answer to a command.
 #[derive(Drop)]
 pub struct Answer {
     pub exit_code: u8,
-    /// Why it has stopped; empty where it hasn't.
+    /// The reason why it has stopped; empty if it hasn't.
     pub text: Text,
 }
 
 impl Answer {
-    /// The answer to a command that has stopped so.
+    /// Returns the answer to a command that has stopped for this reason.
     pub fn stopped(text: Text) -> Answer
         ensures { result ≡ record { exit_code = 1; text = text } }
     {
@@ -35,12 +35,12 @@ impl Answer {
     }
 }
 
-/// Does a command: takes the inputs in order, and puts their contents at the output, where there is
-/// one. At the first call that doesn't go well it stops, with exit code 1 and a text.
+/// Runs a command: reads the inputs in order, and writes their contents to the output, if there is one. If
+/// an input is missing or a call fails, the command stops at once, with exit code 1 and a message.
 ///
 /// # Errors
 ///
-/// `NoMemory`, maybe after some of the calls.
+/// Returns `NoMemory` if memory runs out, perhaps after some of the calls.
 pub fn run_words<S: Shop>(alloc: Global, shop: &mut S, words: &[Text]) -> Result<Answer, NoMemory>
     ensures { (calls : List ShopCall) × Comes words.now result calls
         × Made calls (S.told shop.old) (S.told shop.new) }

@@ -1,4 +1,4 @@
-// Why a command stops, and what is said of it.
+// The reasons why a command stops, with their messages.
 ghost use Rattle.std.specs.Prelude.{◌≡◌, IfOk};
 ghost use Rattle.demo_worker.specs.Looks.{cannot_read, cannot_write, missing};
 ghost use Rattle.demo_worker.specs.declared.stop.Stop.TheVariants.{NoMemory as no_memory};
@@ -6,15 +6,15 @@ ghost use Rattle.demo_worker.specs.declared.stop.Stop.TheVariants.{NoMemory as n
 use plain_values::{NoMemory, Text};
 use std::alloc::{AllocError, AllocFailed, Global};
 
-/// Why a command stops before its end.
+/// The reason why a command stops before its end.
 #[derive(Drop)]
 pub enum Stop {
-    /// A call on the shop didn't go well, and this is said of it.
+    /// A file is missing or a call on the shop failed. This is the message.
     Says(Text),
     NoMemory,
 }
 
-/// What is said where there is no such file.
+/// Returns the message for a missing file.
 #[tactic(auto, unfolding(crate::specs::Looks::missing))]
 pub fn missing(alloc: Global, path: &str) -> Result<Text, NoMemory>
     ensures { IfOk result (λ text. text ≡ missing path.now) }
@@ -22,7 +22,7 @@ pub fn missing(alloc: Global, path: &str) -> Result<Text, NoMemory>
     Ok(Text::of(format!(in alloc; "missing: {path}")?))
 }
 
-/// What is said where the file can't be read.
+/// Returns the message for a file that can't be read.
 #[tactic(auto, unfolding(crate::specs::Looks::cannot_read))]
 pub fn cannot_read(alloc: Global, path: &str) -> Result<Text, NoMemory>
     ensures { IfOk result (λ text. text ≡ cannot_read path.now) }
@@ -30,7 +30,7 @@ pub fn cannot_read(alloc: Global, path: &str) -> Result<Text, NoMemory>
     Ok(Text::of(format!(in alloc; "cannot read: {path}")?))
 }
 
-/// What is said where the file can't be written.
+/// Returns the message for a file that can't be written.
 #[tactic(auto, unfolding(crate::specs::Looks::cannot_write))]
 pub fn cannot_write(alloc: Global, path: &str) -> Result<Text, NoMemory>
     ensures { IfOk result (λ text. text ≡ cannot_write path.now) }

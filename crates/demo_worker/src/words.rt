@@ -1,4 +1,4 @@
-// What the words of a command say.
+// Reads the arguments of a command.
 ghost use Rattle.std.specs.Prelude.{◌≡◌};
 ghost use Rattle.std.specs.Option.{option_copied};
 ghost use Rattle.std.specs.Char.{is_ascii_digit};
@@ -8,14 +8,14 @@ ghost use Rattle.demo_worker.specs.Words.{exit_code, exit_code_in, exit_code_of,
 
 use plain_values::Text;
 
-/// The input that a word names.
+/// Returns the input that an argument names.
 pub fn input_in(word: &str) -> Option<&str>
     ensures { option_copied result ≡ input_in word.now }
 {
     after_front("--in=", word)
 }
 
-/// The last output that the words name.
+/// Returns the last output that the arguments name.
 pub fn output_of(words: &[Text]) -> Option<&str>
     ensures { option_copied result ≡ output_of words.now }
 {
@@ -28,7 +28,7 @@ pub fn output_of(words: &[Text]) -> Option<&str>
     output
 }
 
-/// The last exit code that the words name; 0 where they name none.
+/// Returns the last exit code that the arguments name, or 0 if they name none.
 pub fn exit_code(words: &[Text]) -> u8
     ensures { result ≡ exit_code words.now }
 {
@@ -41,7 +41,7 @@ pub fn exit_code(words: &[Text]) -> u8
     code
 }
 
-/// The file for whose lines a word stands: what is behind its `@`, where that isn't empty.
+/// Returns the file whose lines replace an argument: the part after its `@`, if that isn't empty.
 pub fn flag_file_in(word: &str) -> Option<&str>
     ensures { option_copied result ≡ flag_file_in word.now }
 {
@@ -52,7 +52,7 @@ pub fn flag_file_in(word: &str) -> Option<&str>
     }
 }
 
-/// The output that a word names.
+/// Returns the output that an argument names.
 pub fn output_in(word: &str) -> Option<&str>
     ensures { option_copied result ≡ output_in word.now }
 {

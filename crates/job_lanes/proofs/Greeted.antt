@@ -1,8 +1,6 @@
 -- Behind the greeting.
-use Rattle.std.proofs.Common.{◌≡◌, ◌⊎◌, ◌∙◌, ◌+◌, inl, ℕ, List, [], ◌∷◌, Some, refl, subst, sym, append-nil, arith}
+use Rattle.std.proofs.Common.{◌≡◌, ◌∙◌, ℕ, List, [], ◌∷◌, Some, refl, subst, sym, append-nil, arith}
 use Rattle.std.specs.List.{flat_map}
-use Rattle.std.specs.Prelude.{Result, Ok, Err, IfOk}
-use Rattle.plain_values.specs.declared.no_memory.NoMemory.{NoMemory}
 use Rattle.outside.specs.Causes.{Rose}
 use Rattle.outside.specs.Lists.{AddsFront}
 use Rattle.outside.specs.Told.{TapTold, SinkTold, ShopTold}
@@ -19,28 +17,21 @@ use Rattle.message_service.proofs.Made.{adds_nothing, puts_on}
 use Rattle.message_service.proofs.Streams.{whole_new}
 use Rattle.job_runner.specs.Results.{greeting}
 use Rattle.job_runner.specs.Answers.{framed}
-use Rattle.work_lanes.specs.declared.serving.LanesEnded.{LanesEnded}
-use Rattle.work_lanes.specs.Handles.{EachFollows}
+use Rattle.work_lanes.proofs.Idle.{lanes_idle, nothing_served}
 use Rattle.work_lanes.specs.Serves.{ServesBy, told_by}
 use Rattle.job_lanes.specs.declared.lane.JobLane.{JobLane}
-use Rattle.job_lanes.specs.Pools.{Pools, SaysJob, DoesJob, BreaksJob, number_of, cancels_in}
+use Rattle.job_lanes.specs.Pools.{Pools, DoesJobs, SaysJob, DoesJob, BreaksJob, number_of, cancels_in, depth}
 
 -- the three bytes are the greeting behind its length
 greeting_is : 2 ∷ 64 ∷ 2 ∷ [] ≡ framed greeting
 unfolding job_result_fields spelling varint number_bytes
 greeting_is = refl
 
--- lanes that have done nothing
-lanes_idle : {H X Y : Type 0} (answers : H → X → Y → H → Type 0) (breaks : H → X → H → Type 0) (k : ℕ)
-    (lanes : List H) → EachFollows answers breaks k [] lanes lanes
-lanes_idle answers breaks k [] = tt
-lanes_idle answers breaks k (x ∷ xs) = (inl refl, lanes_idle answers breaks (k + 1) xs)
-
 module _ {S : Type 0} (told : S → ShopTold) where
   pub greeted : (f : Finish) (tap tap' : TapTold) (old mid new : SinkTold)
       (lanes left : List (JobLane S)) → PutAll (2 ∷ 64 ∷ 2 ∷ []) old mid
       → ServesBy number_of cancels_in (SaysJob told) framed delimited_form SpellsJob
-      (DoesJob told) (BreaksJob told) f [] lanes left
+      (DoesJob told) (BreaksJob told) depth f [] lanes left
       (record { tap = tap; sink = mid }) (record { tap = tap'; sink = new })
       → Pools told f lanes left (record { tap = tap; sink = old })
       (record { tap = tap'; sink = new })
@@ -64,20 +55,19 @@ module _ {S : Type 0} (told : S → ShopTold) where
     each = by.each;
   }
 
-  -- the same, where memory may have run out
-  pub greeted_or_not : {T O : Type 0} (tap_told : T → TapTold) (sink_told : O → SinkTold)
-      (r : Result (LanesEnded T O (JobLane S)) NoMemory) (tap : T) (old mid : O)
-      (lanes : List (JobLane S))
-      → PutAll (2 ∷ 64 ∷ 2 ∷ []) (sink_told old) (sink_told mid)
-      → IfOk r (λ s. ServesBy number_of cancels_in (SaysJob told) framed delimited_form SpellsJob
-      (DoesJob told) (BreaksJob told) s.finish [] lanes s.handlers.items
-      (told_by tap_told sink_told tap mid) (told_by tap_told sink_told s.tap s.sink))
-      → IfOk r (λ s. Pools told s.finish lanes s.handlers.items
-      (told_by tap_told sink_told tap old) (told_by tap_told sink_told s.tap s.sink))
-  greeted_or_not tap_told sink_told (Ok s) tap old mid lanes put h =
-      greeted s.finish (tap_told tap) (tap_told s.tap) (sink_told old) (sink_told mid)
-      (sink_told s.sink) lanes s.handlers.items put h
-  greeted_or_not tap_told sink_told (Err e) tap old mid lanes put h = tt
+  -- nothing was read, and no job done
+  pub none_done : {T O : Type 0} (tap_told : T → TapTold) (sink_told : O → SinkTold) (tap tap' : T)
+      (old new : O) (lanes left : List (JobLane S)) → tap' ≡ tap → left ≡ lanes
+      → PutAll [] (sink_told old) (sink_told new)
+      → DoesJobs told finish.NoMemory [] lanes left (told_by tap_told sink_told tap old)
+      (told_by tap_told sink_told tap' new)
+  none_done {T = T} tap_told sink_told tap tap' old new lanes left same all put =
+      subst (λ (x : T). DoesJobs told finish.NoMemory [] lanes left
+      (told_by tap_told sink_told tap old) (told_by tap_told sink_told x new)) (sym same)
+      (subst (λ (xs : List (JobLane S)). DoesJobs told finish.NoMemory [] lanes xs
+      (told_by tap_told sink_told tap old) (told_by tap_told sink_told tap new)) (sym all)
+      (nothing_served number_of cancels_in (SaysJob told) framed framing.Delimited SpellsJob
+      (DoesJob told) (BreaksJob told) depth (tap_told tap) (sink_told old) (sink_told new) lanes put))
 
   -- the greeting couldn't be put, and nothing else was done
   pub not_greeted : (tap : TapTold) (old new : SinkTold) (lanes : List (JobLane S))
@@ -101,7 +91,7 @@ module _ {S : Type 0} (told : S → ShopTold) where
       said = tt;
       once = λ k. omega arith;
       took = tt;
-      order = ([], refl);
+      order = ([], omega arith, refl);
     };
     lanes = tt;
     each = lanes_idle (DoesJob told) (BreaksJob told) 1 lanes;

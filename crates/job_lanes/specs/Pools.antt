@@ -1,5 +1,5 @@
 -- What the executor that runs jobs side by side does from its start to its end.
-use Rattle.std.specs.Prelude.{◌≡◌, ℤ, Bool, true, false, List, [], if◌then◌else◌, Err}
+use Rattle.std.specs.Prelude.{◌≡◌, ℕ, ℤ, Bool, true, false, List, [], if◌then◌else◌, Err}
 use Rattle.outside.specs.Told.{ShopTold}
 use Rattle.outside.specs.declared.shop.ShopCall.{ShopCall}
 use Rattle.delimited_framing.specs.Frame.{delimited_form}
@@ -48,6 +48,10 @@ pub record HasBrokenOff (job : Job) (old new : ShopTold) : Type 0 where
   pub begins : Begins (fate_alone job) job calls
   pub made : Made calls old new
 
+-- so many jobs may wait
+abbrev pub depth : ℕ
+depth = 1024
+
 module _ {S : Type 0} (told : S → ShopTold) where
   -- a lane's shop before and after a job with this result, or one in which memory has run out
   abbrev pub DoesJob : JobLane S → Job → JobResult → JobLane S → Type 0
@@ -62,9 +66,15 @@ module _ {S : Type 0} (told : S → ShopTold) where
   SaysJob job true r = r ≡ given_up job.id
   SaysJob job false r = (old : S) × (new : S) × HasDone job r (told old) (told new)
 
-  -- The bytes taken are frames that spell jobs. What was put is the greeting, and then results, each
+  -- The bytes taken are frames that spell jobs. What was put is what had been, and then results, each
   -- whole, one after another: each said to the job at its place, under its number. Each lane has done
-  -- the jobs that it took in its shop, in order, each once, and nothing else.
+  -- the jobs that it took in its shop, in order, each once, and nothing else. No more waited than the
+  -- depth and the jobs of one read.
+  abbrev pub DoesJobs : Finish → List ℕ → List (JobLane S) → List (JobLane S) → Outside → Outside
+      → Type 0
+  DoesJobs f before lanes left old new = ServesBy number_of cancels_in SaysJob framed delimited_form
+      SpellsJob DoesJob BreaksJob depth f before lanes left old new
+
+  -- so, behind the greeting
   abbrev pub Pools : Finish → List (JobLane S) → List (JobLane S) → Outside → Outside → Type 0
-  Pools f lanes left old new = ServesBy number_of cancels_in SaysJob framed delimited_form SpellsJob
-      DoesJob BreaksJob f (framed greeting) lanes left old new
+  Pools f lanes left old new = DoesJobs f (framed greeting) lanes left old new

@@ -1,4 +1,4 @@
-// A lane that does jobs.
+// A lane that runs jobs.
 ghost use Rattle.std.specs.Prelude.{IfOk, OnErr};
 ghost use Rattle.json_framing.specs.declared.cutter.Framing.TheVariants as framing;
 ghost use Rattle.remote_messages.specs.Job.{SpellsJob};
@@ -16,7 +16,7 @@ use std::sync::Wait;
 use wire_messages::encode_delimited;
 use work_lanes::{Answerer, CancelFlag, Kind, Made};
 
-/// A lane that does jobs in a shop of its own, one after another. One that has begun is done to its end.
+/// A lane that runs jobs in its own shop, one after another. A job that has begun is run to its end.
 #[derive(Drop)]
 pub struct JobLane<S> {
     pub shop: S,
@@ -79,8 +79,7 @@ impl<S: Shop> Answerer<Job, JobResult> for JobLane<S> {
     }
 }
 
-// Does a job that isn't given up. One of which a path may lead out of its folder is refused, and any
-// other is run.
+// Runs a job that isn't given up. If a path of it may lead out of its folder, the job is refused instead.
 fn do_job<S: Shop>(alloc: Global, shop: &mut S, job: &Job) -> Result<JobResult, NoMemory>
     ensures done { IfOk result (λ r. HasDone job.now r (S.told shop.old) (S.told shop.new)) }
     ensures broken { OnErr result (HasBrokenOff job.now (S.told shop.old) (S.told shop.new)) }

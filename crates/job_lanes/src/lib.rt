@@ -1,5 +1,5 @@
-//! The executor that runs jobs side by side: lanes at a work queue, each of which does one job after
-//! another in a shop of its own.
+//! The executor that runs jobs in parallel. Lanes at a work queue each run one job after another in their
+//! own shops.
 #![tactic(auto)]
 
 mod lane;

@@ -1,5 +1,5 @@
-//! The executor that runs jobs side by side: it runs the jobs that its standard input brings, and puts
-//! the result of each on standard output once it has ended.
+//! The executor that runs jobs in parallel: it runs the jobs of its standard input, and writes each result
+//! to standard output once the job has ended.
 #![tactic(auto)]
 
 ghost use Rattle.std.specs.Prelude.{◌≡◌, length, IfOk};
@@ -8,7 +8,9 @@ mod words;
 
 use crate::words::read_words;
 use job_lanes::{JobLane, Streams, pool_jobs};
-use outside_real::{RealInput, RealShop, RealSink, lock_jobs, open_standard, tell_about};
+use outside_real::{
+    OutputFlag, RealInput, RealShop, RealSink, lock_jobs, open_standard, tell_about,
+};
 use plain_values::NoMemory;
 use std::alloc::Global;
 use std::io::ErrorKind;
@@ -25,13 +27,13 @@ Statuses: 0 the input ended, 2 other words, 3 no memory, 4 the input is no job, 
 is at work in the folder, 6 a result can't be put. The messages: docs/FORMATS.md
 ";
 
-/// The status of a program whose words aren't accepted.
+/// The status of a program whose arguments are invalid.
 const WRONG_WORDS: u8 = 2;
 
-/// The status of a program for which there is no memory.
+/// The status of a program that runs out of memory.
 const NO_MEMORY: u8 = 3;
 
-/// The status of an executor that can't have its folder alone.
+/// The status of an executor that can't have its folder to itself.
 const NOT_ALONE: u8 = 5;
 
 fn main(rt: HostRuntime) -> ExitCode {
@@ -58,20 +60,19 @@ fn main(rt: HostRuntime) -> ExitCode {
             return ExitCode::from(NOT_ALONE);
         }
     };
+    let output = OutputFlag::new();
     let streams = Streams {
-        tap: RealInput::new(rt.stdin()),
-        sink: RealSink::new(rt),
+        tap: RealInput::answered(rt.stdin(), &output),
+        sink: RealSink::flagged(rt, &output),
     };
     let Ok(lanes) = lanes_of(rt, alloc, jobs) else {
         return ExitCode::from(NO_MEMORY);
     };
-    match pool_jobs(&rt, alloc, streams, lanes) {
-        Ok(ended) => ExitCode::from(ended.finish.status()),
-        Err(NoMemory) => ExitCode::from(NO_MEMORY),
-    }
+    let ended = pool_jobs(&rt, alloc, streams, lanes);
+    ExitCode::from(ended.finish.status())
 }
 
-// So many lanes over the folder of the start.
+// Returns `count` lanes over the start folder.
 fn lanes_of<R: Copy>(
     rt: R,
     alloc: Global,

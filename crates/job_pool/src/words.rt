@@ -1,18 +1,18 @@
-// The words of the command.
+// The arguments of the command.
 ghost use Rattle.std.specs.Prelude.{◌<◌, IfOk, IfSome};
 ghost use Rattle.work_lanes.specs.Serves.{AreHandlers};
 
 use std::env::{self, Env};
 use std::io;
 
-/// How many jobs are run at once where nothing is said.
+/// The number of jobs that are run at once by default.
 const JOBS: u32 = 8;
 
-/// How many jobs may be run at once.
+/// The limit for the number of jobs that are run at once.
 const MOST: u32 = 64;
 
-/// How many jobs are to be run at once; `None` where the words after the program's name are neither
-/// `--serve` nor `--serve --jobs=N`.
+/// Returns the number of jobs to run at once. Returns `None` if the arguments after the program's name are
+/// neither `--serve` nor `--serve --jobs=N`.
 pub fn read_words(rt: &(impl Env + AllocGlobal)) -> io::Result<Option<u32>>
     ensures { IfOk result (λ jobs. IfSome jobs AreHandlers) }
 {
@@ -29,7 +29,7 @@ pub fn read_words(rt: &(impl Env + AllocGlobal)) -> io::Result<Option<u32>>
     }
 }
 
-// The number of `--jobs=N`, which is one or two digits, from 1 to 64.
+// Returns the number of `--jobs=N`, which has one or two digits and is from 1 to 64.
 fn jobs_in(word: &str) -> Option<u32>
     ensures { IfSome result AreHandlers }
 {

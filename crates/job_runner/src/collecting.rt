@@ -1,4 +1,4 @@
-// What a job has left is looked at.
+// Reads the outputs that a job has left.
 ghost use Rattle.std.specs.Prelude.{◌≡◌, ◌∷◌, [], List, IfOk, OnErr};
 ghost use Rattle.outside.specs.declared.shop.ShopCall.{ShopCall};
 ghost use Rattle.outside.specs.declared.shop.ShopCall.TheVariants as call;
@@ -12,12 +12,12 @@ use plain_values::{Items, NoMemory, Text};
 use remote_messages::NamedFile;
 use std::alloc::Global;
 
-/// Looks at the outputs of a job in its folder, one after another, and gives those that are there. Returns
-/// `None` if a look failed, which is then the last.
+/// Looks at the outputs of a job in its folder, one after another, and returns those that exist. Returns
+/// `None` if a look failed, and looks at no more outputs then.
 ///
 /// # Errors
 ///
-/// Returns `NoMemory`, after looks that all succeeded.
+/// Returns `NoMemory` if memory runs out. All looks before succeeded.
 pub fn collect<S: Shop>(
     alloc: Global,
     shop: &mut S,

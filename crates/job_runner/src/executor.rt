@@ -17,7 +17,7 @@ use wire_messages::{MessageFault, encode_delimited};
 /// The executor's first message, preceded by its length: it understands version 2 of the remote protocol.
 pub const GREETING: [u8; 3] = [2, 64, 2];
 
-/// Answers jobs.
+/// The service that answers jobs.
 #[derive(Clone, Copy)]
 pub struct Executor;
 
@@ -60,7 +60,7 @@ impl<S: Shop> Service<S> for Executor {
     }
 }
 
-// The result behind its length.
+// Returns the result, preceded by its length.
 fn framed(alloc: Global, job_result: &JobResult) -> Result<Option<Items<u8>>, NoMemory>
     ensures { IfOk result (λ reply. reply ≡ Some (framed job_result.now)) }
 {

@@ -1,4 +1,4 @@
-// What is done with a job.
+// Decides how a job is treated.
 ghost use Rattle.std.specs.Prelude.{◌≡◌};
 ghost use Rattle.std.specs.List.{list_any};
 ghost use Rattle.job_runner.specs.Answers.{fate_of};
@@ -11,17 +11,17 @@ use remote_messages::{Job, NamedFile};
 /// The treatment of a job.
 #[derive(Clone, Copy, PartialEq, Eq)]
 pub enum Fate {
-    /// Nothing: it cancels another job.
+    /// Nothing is done, because it cancels another job.
     Cancels,
-    /// It isn't run, since a later job cancels it.
+    /// It isn't run, because a later job cancels it.
     GivenUp,
-    /// It isn't run, since one of its paths may lead out of its folder.
+    /// It isn't run, because one of its paths may lead out of its folder.
     BadPath,
     /// It is run.
     Runs,
 }
 
-/// Returns the treatment of a job after which these had been read when its turn came.
+/// Returns the treatment of a job. `behind` is the jobs that had been read after it when its turn came.
 pub fn fate_of(job: &Job, behind: &[Job]) -> Fate
     ensures { result ≡ fate_of job.now behind.now }
 {
@@ -42,7 +42,7 @@ fn is_given_up(id: i32, behind: &[Job]) -> bool
     behind.iter().any(|later| later.cancel && later.id == id)
 }
 
-/// True if a path of the job may lead out of its folder.
+/// Returns true if a path of the job may lead out of its folder.
 pub fn has_bad_path(job: &Job) -> bool
     ensures { result ≡ has_bad_path job.now }
 {

@@ -1,4 +1,4 @@
-// A job's folder is filled: its inputs are put, and the folders of its outputs are made.
+// Fills a job's folder: puts its inputs there and makes the folders of its outputs.
 ghost use Rattle.std.specs.Prelude.{◌≡◌, ◌∷◌, [], map};
 ghost use Rattle.job_runner.specs.Calls.{Does};
 ghost use Rattle.job_runner.specs.Jobs.{fill_asks, fill_way, put_ask, folder_asks};
@@ -10,12 +10,12 @@ use remote_messages::{Job, NamedFile};
 use sandbox_rooms::folder_of;
 use std::alloc::Global;
 
-/// Puts the inputs of a job into its folder and makes the folders of its outputs, in order, up to
-/// the first call that fails. Contents are put as they are, and not copied.
+/// Puts the inputs of a job into its folder and makes the folders of its outputs, in order. It stops at the
+/// first call that fails. Contents are put as they are, without a copy.
 ///
 /// # Errors
 ///
-/// `NoMemory`, after calls that all went well.
+/// Returns `NoMemory` if memory runs out. All calls before succeeded.
 pub fn fill<S: Shop>(alloc: Global, shop: &mut S, folder: &str, job: &Job) -> Result<Io, NoMemory>
     ensures { Does (fill_way result) (fill_asks folder.now job.now) (S.told shop.old)
         (S.told shop.new) }
@@ -75,7 +75,7 @@ fn make_folders<S: Shop>(
     Ok(Io::Done)
 }
 
-// Makes the folder of a path, where it has one.
+// Makes the folder of a path, if it has one.
 fn make_folder<S: Shop>(
     alloc: Global,
     shop: &mut S,

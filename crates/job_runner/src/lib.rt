@@ -1,7 +1,7 @@
-//! The executor: runs jobs in a shop, each in a separate folder, and answers each with a result.
+//! The executor: it runs jobs in a shop, each in a separate folder, and answers each with a result.
 //!
-//! [`Executor`] does so one job after another. [`run_job`] and the results [`refused`] and [`given_up`] are
-//! for programs that run several at once.
+//! [`Executor`] runs one job after another. [`run_job`] and the results [`refused`] and [`given_up`] are
+//! for programs that run several jobs at once.
 #![tactic(auto)]
 
 mod collecting;

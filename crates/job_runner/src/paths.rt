@@ -1,4 +1,4 @@
-// Where a job's files stand in the shop.
+// The paths of a job's files in the shop.
 ghost use Rattle.std.specs.Prelude.{◌≡◌, IfOk};
 ghost use Rattle.job_runner.specs.Jobs.{job_folder, in_folder};
 
@@ -6,7 +6,7 @@ use plain_values::{NoMemory, Text};
 use remote_messages::Job;
 use std::alloc::Global;
 
-/// The folder of a job.
+/// Returns the folder of a job.
 pub fn job_folder(alloc: Global, job: &Job) -> Result<Text, NoMemory>
     ensures { IfOk result (λ t. t ≡ job_folder job.now.id) }
 {
@@ -14,7 +14,7 @@ pub fn job_folder(alloc: Global, job: &Job) -> Result<Text, NoMemory>
     Ok(Text::of(format!(in alloc; "job{id}")?))
 }
 
-/// A path of the job, as it is in the shop.
+/// Returns a path of the job as a path in the shop.
 pub fn in_folder(alloc: Global, folder: &str, path: &str) -> Result<Text, NoMemory>
     ensures { IfOk result (λ t. t ≡ in_folder folder.now path.now) }
 {

@@ -10,10 +10,10 @@ use remote_messages::{Job, JobResult};
 use std::alloc::Global;
 use wire_messages::Message;
 
-/// The most bytes that the message of a result may have.
+/// The limit for the bytes of a result's message.
 const MOST_BYTES: u64 = 1 << 26;
 
-/// Makes a result of the job with only its number.
+/// Returns a result of the job with only its number.
 pub fn empty_result(alloc: Global, job: &Job) -> JobResult
     ensures { result ≡ empty_result job.now.id }
 {
@@ -29,7 +29,7 @@ pub fn empty_result(alloc: Global, job: &Job) -> JobResult
     }
 }
 
-/// The result of a job that is refused.
+/// Returns the result of a job that is refused.
 pub fn refused(alloc: Global, job: &Job, why: &str) -> Result<JobResult, NoMemory>
     ensures { IfOk result (λ r. r ≡ refused job.now.id why.now) }
 {
@@ -38,7 +38,8 @@ pub fn refused(alloc: Global, job: &Job, why: &str) -> Result<JobResult, NoMemor
     Ok(result)
 }
 
-/// Returns the answer to a job: its result, or a refusal if its message would have too many bytes.
+/// Returns the answer to a job. It is the job's result, or a refusal if the result's message would have too
+/// many bytes.
 #[tactic(auto, unfolding(crate::specs::Results::too_large))]
 pub fn bounded(alloc: Global, job: &Job, whole: JobResult) -> Result<JobResult, NoMemory>
     ensures { IfOk result (λ r. r ≡ bounded job.now.id whole) }
@@ -49,14 +50,14 @@ pub fn bounded(alloc: Global, job: &Job, whole: JobResult) -> Result<JobResult, 
     Ok(whole)
 }
 
-// How many bytes the message of a result has, or 2^64 - 1 where that is more.
+// Returns the number of bytes of a result's message, capped at 2^64 - 1.
 fn length_of(whole: &JobResult) -> u64
     ensures { result ≡ capped (length (job_result_spelling whole.now)) }
 {
     whole.encoded_len()
 }
 
-/// The result of a job that was given up.
+/// Returns the result of a job that was given up.
 pub fn given_up(alloc: Global, job: &Job) -> JobResult
     ensures { result ≡ given_up job.now.id }
 {
@@ -65,7 +66,7 @@ pub fn given_up(alloc: Global, job: &Job) -> JobResult
     result
 }
 
-/// Returns what was printed, if it is UTF-8.
+/// Returns the output as a string if it is UTF-8, and otherwise an empty one.
 pub fn text_of(alloc: Global, output: &[u8]) -> Result<Text, NoMemory>
     ensures { IfOk result (λ t. t ≡ text_of output.now) }
 {

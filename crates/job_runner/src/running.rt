@@ -1,4 +1,4 @@
-// A job from its first call to its result.
+// Runs a job from its first call to its result.
 ghost use Rattle.std.specs.Prelude.{◌≡◌, List};
 ghost use Rattle.outside.specs.declared.shop.ShopCall.{ShopCall};
 ghost use Rattle.message_service.specs.Calls.{Made};
@@ -13,13 +13,13 @@ use plain_values::NoMemory;
 use remote_messages::{Job, JobResult};
 use std::alloc::Global;
 
-/// Runs a job: fills its folder, runs its words there, and looks at its outputs. At the first call that
-/// fails it is refused, and nothing more is done. It is also refused if the message of its result would
-/// have more than 67,108,864 bytes, which no client takes.
+/// Runs a job: fills its folder, runs its arguments there, and looks at its outputs. If a call fails, the
+/// job is refused and nothing more is done. It is also refused if the message of its result would have more
+/// than 67,108,864 bytes, which no client accepts.
 ///
 /// # Errors
 ///
-/// Returns `NoMemory`, perhaps after some of the calls.
+/// Returns `NoMemory` if memory runs out, perhaps after some of the calls.
 pub fn run_job<S: Shop>(alloc: Global, shop: &mut S, job: &Job) -> Result<JobResult, NoMemory>
     ensures { (calls : List ShopCall) × Comes job.now result calls
         × Made calls (S.told shop.old) (S.told shop.new) }
@@ -28,7 +28,7 @@ pub fn run_job<S: Shop>(alloc: Global, shop: &mut S, job: &Job) -> Result<JobRes
     bounded(alloc, job, whole)
 }
 
-// Does all that is asked for a job.
+// Makes all calls for a job.
 fn do_job<S: Shop>(alloc: Global, shop: &mut S, job: &Job) -> Result<JobResult, NoMemory>
     ensures { (calls : List ShopCall) × ComesWhole job.now result calls
         × Made calls (S.told shop.old) (S.told shop.new) }
@@ -40,7 +40,7 @@ fn do_job<S: Shop>(alloc: Global, shop: &mut S, job: &Job) -> Result<JobResult, 
     }
 }
 
-// Runs the words in the folder that was filled, and looks at what they have left.
+// Runs the arguments in the filled folder, and looks at the outputs.
 fn start<S: Shop>(
     alloc: Global,
     shop: &mut S,

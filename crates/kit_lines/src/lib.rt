@@ -1,4 +1,4 @@
-//! Requests and responses of a worker as JSON lines.
+//! A worker's requests and responses as JSON lines.
 #![tactic(auto)]
 
 ghost use Rattle.std.specs.Prelude.{◌≡◌};
@@ -12,7 +12,7 @@ use std::alloc::Global;
 use wire_messages::{MessageFault, WorkRequest, WorkResponse};
 use worker_kit::Speech;
 
-/// JSON, a message a line.
+/// JSON with one message a line.
 pub struct Lines;
 
 impl Speech for Lines {

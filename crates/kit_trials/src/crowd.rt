@@ -1,4 +1,4 @@
-// Requests at once, whose answers come in any order.
+// Concurrent requests, whose responses may come in any order.
 use crate::ends::{Fed, Kept, Last};
 use crate::trial::{Does, Trial};
 use plain_values::NoMemory;
@@ -7,8 +7,8 @@ use std::sync::Wait;
 use std::thread::Threads;
 use worker_kit::{Delimited, Size, Streams, serve};
 
-/// Two requests and so many handlers, of which the first waits until the second has begun, as no
-/// serial worker has it. The status, and whether both are answered, the first not in vain.
+/// Plays two requests with `digits` handlers. The first waits until the second has begun, which no serial
+/// worker allows. Returns the status, and true if both are answered and the first did not wait in vain.
 pub fn meets<R: Threads + Wait + Sync>(
     rt: &R,
     alloc: Global,
@@ -20,8 +20,9 @@ pub fn meets<R: Threads + Wait + Sync>(
     Ok(format!(in alloc; "{status} both={both}")?)
 }
 
-/// A hundred requests, each third of them cancelled right behind it, and so many handlers. The
-/// status, how many requests have one response, and whether nothing else was put.
+/// Plays a hundred requests with `digits` handlers. Every third request is cancelled right after it.
+/// Returns the status, the number of requests with exactly one response, and true if nothing else was
+/// written.
 pub fn crowd<R: Threads + Wait + Sync>(
     rt: &R,
     alloc: Global,
@@ -36,7 +37,7 @@ pub fn crowd<R: Threads + Wait + Sync>(
     Ok(format!(in alloc; "{status} once={once} nothing_else={nothing_else}")?)
 }
 
-// The status, and what was put, by so many handlers.
+// Plays these bytes with `digits` handlers. Returns the status and the output.
 fn played<R: Threads + Wait + Sync>(
     rt: &R,
     alloc: Global,
@@ -53,7 +54,9 @@ fn played<R: Threads + Wait + Sync>(
         handlers,
         depth: 1_024,
     };
-    let ended = serve(rt, alloc, &Delimited, streams, size, &Trial::new(does))?;
+    let Ok(ended) = serve(rt, alloc, &Delimited, streams, size, &Trial::new(does)) else {
+        return Err(NoMemory);
+    };
     Ok((ended.end.status(), ended.sink.into_bytes()))
 }
 
@@ -68,7 +71,8 @@ fn requests(alloc: Global) -> Result<Vec<u8>, NoMemory> {
     Ok(given)
 }
 
-// Whether one response has this number, and may be its: only each third is said to be cancelled.
+// Returns true if exactly one response has this number and may belong to it. Only every third request may
+// be reported as cancelled.
 fn is_answered_once(put: &[u8], number: u8) -> bool {
     let handled = [4, 8, 3, 0x18, number];
     let cancelled = [4, 0x18, number, 0x20, 1];

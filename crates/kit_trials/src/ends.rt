@@ -4,14 +4,14 @@ ghost use Rattle.std.specs.Prelude.{None};
 use outside::{Io, Sink, Taken, Tap};
 use std::alloc::Global;
 
-/// What an input answers once it has given all its bytes.
+/// The reply of an input once all its bytes have been read.
 #[derive(Clone, Copy, PartialEq, Eq)]
 pub enum Last {
     End,
     Fault,
 }
 
-/// An input that gives these bytes, at most so many a read.
+/// An input that returns these bytes, at most `piece` for each read.
 #[derive(Drop)]
 pub struct Fed<'a> {
     rest: &'a [u8],
@@ -54,7 +54,7 @@ impl Tap for Fed<'_> {
     }
 }
 
-/// An output that keeps what is put as far as there is room, and fails then.
+/// An output that stores the bytes written to it while there is room, and then fails.
 #[derive(Drop)]
 pub struct Kept {
     bytes: Vec<u8>,
@@ -71,7 +71,7 @@ impl Kept {
         }
     }
 
-    /// What was put.
+    /// Returns the bytes that were stored.
     pub fn bytes(&self) -> &[u8] {
         &self.bytes
     }

@@ -1,16 +1,17 @@
-//! Plays trials of `worker_kit`, one a line of standard input, and prints how the worker ended and what it put. Bytes are
-//! hexadecimal.
+//! Plays trials of `worker_kit`, one for each line of standard input. Prints how each worker ended and what
+//! it wrote. Bytes are hexadecimal.
 //!
 //! | A line | The worker |
 //! |---|---|
-//! | `KIND HANDLERS DEPTH PIECE ROOM BYTES` | has so many handlers, and so many requests may wait; it reads these bytes, at most so many a read, and its output fails where there is no room for a byte more |
-//! | `meets HANDLERS` | has two requests, of which the first waits until the second has begun: whether both are answered |
-//! | `each BYTES` | has one handler of a lane's own, which answers how many requests it has had |
-//! | `lines JSON JSON ..` | has one handler, and requests as lines of JSON |
-//! | `crowd HANDLERS` | has a hundred requests, each third of them cancelled: how many are answered once, by a response that may be theirs |
+//! | `KIND HANDLERS DEPTH PIECE ROOM BYTES` | reads BYTES with HANDLERS handlers, in reads of at most PIECE bytes |
+//! | `meets HANDLERS` | has two requests, and the first waits until the second has begun: are both answered? |
+//! | `each BYTES` | has one lane with its own handler, which answers with the number of requests it has received |
+//! | `lines JSON JSON ..` | has one handler, and requests as JSON lines |
+//! | `crowd HANDLERS` | has a hundred requests, every third cancelled: how many are answered once, by a possible response? |
 //!
-//! `KIND` is `three`, `stops` or `starves`, for what [`Does`] says, or `fails`, where the input fails in place of its end. Other
-//! lines are printed as they are.
+//! At most DEPTH requests may wait. The output has room for ROOM bytes, and then fails. `KIND` is `three`,
+//! `stops` or `starves`, as [`Does`] explains, or `fails`, if the input fails instead of ending. Other lines
+//! are printed as they are.
 #![tactic(auto)]
 
 mod crowd;
@@ -30,7 +31,7 @@ use std::thread::Threads;
 use std::{io, str};
 use worker_kit::{Delimited, EachEnded, KitEnd, KitEnded, Size, Streams, serve, serve_each};
 
-/// Where all bytes are to come with one read, and all of them find room.
+/// The size of a read and of an output that hold all bytes.
 const ALL: usize = 65_536;
 
 fn main(rt: HostRuntime) -> io::Result<()> {
@@ -85,14 +86,10 @@ fn row<R: Threads + Wait + Sync>(
         sink: Kept::new(alloc, room),
     };
     let trial = Trial::new(does);
-    let KitEnded { end, sink, .. } = serve(
-        rt,
-        alloc,
-        &Delimited,
-        streams,
-        Size { handlers, depth },
-        &trial,
-    )?;
+    let size = Size { handlers, depth };
+    let Ok(KitEnded { end, sink, .. }) = serve(rt, alloc, &Delimited, streams, size, &trial) else {
+        return Err(NoMemory);
+    };
     said(alloc, end, &sink)
 }
 
@@ -104,7 +101,10 @@ fn each<R: Threads + Wait + Sync>(rt: &R, alloc: Global, digits: &str) -> Result
     };
     let mut handlers = Vec::new(alloc);
     handlers.push(Counts::new())?;
-    let EachEnded { end, sink, .. } = serve_each(rt, alloc, &Delimited, streams, 1_024, handlers)?;
+    let served = serve_each(rt, alloc, &Delimited, streams, 1_024, handlers);
+    let Ok(EachEnded { end, sink, .. }) = served else {
+        return Err(NoMemory);
+    };
     said(alloc, end, &sink)
 }
 
@@ -122,7 +122,10 @@ fn lines<R: Threads + Wait + Sync>(rt: &R, alloc: Global, words: &str) -> Result
         handlers: 1,
         depth: 1_024,
     };
-    let ended = serve(rt, alloc, &Lines, streams, size, &Trial::new(Does::Three))?;
+    let served = serve(rt, alloc, &Lines, streams, size, &Trial::new(Does::Three));
+    let Ok(ended) = served else {
+        return Err(NoMemory);
+    };
     let mut said = format!(in alloc; "{}", ended.end.status())?;
     if let Ok(text) = str::from_utf8(ended.sink.bytes()) {
         for line in text.lines() {
@@ -133,7 +136,7 @@ fn lines<R: Threads + Wait + Sync>(rt: &R, alloc: Global, words: &str) -> Result
     Ok(said)
 }
 
-// The status, and what was put.
+// Returns the status and the output in hexadecimal.
 fn said(alloc: Global, end: KitEnd, sink: &Kept) -> Result<String, NoMemory> {
     let status = end.status();
     if sink.bytes().is_empty() {
@@ -143,12 +146,12 @@ fn said(alloc: Global, end: KitEnd, sink: &Kept) -> Result<String, NoMemory> {
     Ok(format!(in alloc; "{status} {}", put.as_str())?)
 }
 
-// The number of a word, or 0.
+// Returns the number that a word gives, or 0.
 fn number_of(word: Option<&str>) -> u32 {
     word.unwrap_or("").parse::<u32>().unwrap_or(0)
 }
 
-// The bytes that hexadecimal digits stand for; of any other text none.
+// Returns the bytes of these hexadecimal digits, or none if the string isn't hexadecimal.
 fn bytes_of(alloc: Global, digits: &str) -> Result<Vec<u8>, NoMemory> {
     match hex::decode(alloc, digits) {
         Ok(bytes) => Ok(bytes),

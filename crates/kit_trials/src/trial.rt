@@ -1,4 +1,4 @@
-// What the handlers of the trials do.
+// The handlers of the trials.
 ghost use Rattle.std.specs.Prelude.{◌≡◌, []};
 
 use plain_values::{NoMemory, Text};
@@ -10,10 +10,10 @@ use std::thread::yield_now;
 use wire_messages::WorkRequest;
 use worker_kit::{CancelFlag, Handled, Handler, LaneHandler};
 
-/// For how many turns a handler waits.
+/// The number of turns that a handler waits at most.
 const MOST_TURNS: u64 = 10_000_000;
 
-/// What a handler does. It answers exit 3, or 9 where it has waited in vain.
+/// The behaviour of a handler. It answers with exit code 3, or with 9 if it has waited in vain.
 #[derive(Clone, Copy, PartialEq, Eq)]
 pub enum Does {
     /// It answers at once.
@@ -22,11 +22,11 @@ pub enum Does {
     Meets,
     /// Number 1 waits until it is cancelled, and stops.
     Stops,
-    /// Number 2 finds no memory.
+    /// Memory runs out for number 2.
     Starves,
 }
 
-/// The handler of all lanes.
+/// The handler that all lanes share.
 #[derive(Drop)]
 pub struct Trial {
     does: Does,
@@ -41,7 +41,7 @@ impl Trial {
         }
     }
 
-    // Waits for what this request waits for. Whether that has come.
+    // Waits for the event that this request needs. Returns true if it has happened.
     fn awaits(&self, request: &WorkRequest, flag: &CancelFlag) -> bool {
         if request.request_id != 1 {
             return true;
@@ -86,7 +86,7 @@ impl Handler for Trial {
     }
 }
 
-/// A handler of a lane's own, which answers how many requests it has had.
+/// A lane's own handler, which answers with the number of requests it has received.
 #[derive(Drop)]
 pub struct Counts {
     count: i32,

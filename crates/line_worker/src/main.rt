@@ -1,11 +1,12 @@
-//! A worker that counts lines, four requests at once: the example from which a worker of one's own is made. The words of a
-//! request are the path of its output, and then the files whose lines are counted.
+//! A worker that counts lines, and answers four requests at once. It is the example from which you make
+//! your own worker. The arguments of a request are the path of its output, followed by the files whose
+//! lines are counted.
 #![tactic(auto)]
 
 ghost use Rattle.std.specs.Prelude.{◌≡◌, ◌⊎◌, IfOk, pos};
 
 use outside::{Io, Read, Shop};
-use outside_real::{RealInput, RealShop, RealSink, open_standard, tell_about};
+use outside_real::{OutputFlag, RealInput, RealShop, RealSink, open_standard, tell_about};
 use plain_values::{NoMemory, Text};
 use std::alloc::Global;
 use std::process::ExitCode;
@@ -21,7 +22,7 @@ files whose lines are counted. It is an example: crates/line_worker is to be cop
   --help, --version    alone: this text, or the version
 ";
 
-/// Counts the lines of files of a shop, which all lanes share.
+/// A counter of lines in the files of a shop, which all lanes share.
 #[derive(Drop)]
 struct LineCounter<S> {
     shop: Mutex<S>,
@@ -66,7 +67,7 @@ impl<S: Shop + Send> Handler for LineCounter<S> {
     }
 }
 
-// Where a path of the request lies: in the request's own folder, if it has one.
+// Returns the path of a request's file: in the request's own folder, if it has one.
 fn placed(alloc: Global, request: &WorkRequest, path: &Text) -> Result<String, NoMemory> {
     match request.sandbox_dir.as_str() {
         "" => Ok(String::from_str(alloc, path.as_str())?),
@@ -105,11 +106,12 @@ fn main(rt: HostRuntime) -> ExitCode {
     }
     let alloc = rt.alloc();
     let counter = LineCounter {
-        shop: Mutex::new(RealShop::for_worker(rt, alloc)),
+        shop: Mutex::new(RealShop::for_worker(rt, alloc, 0)),
     };
+    let output = OutputFlag::new();
     let streams = Streams {
-        tap: RealInput::new(rt.stdin()),
-        sink: RealSink::new(rt),
+        tap: RealInput::answered(rt.stdin(), &output),
+        sink: RealSink::flagged(rt, &output),
     };
     let size = Size {
         handlers: 4,
@@ -117,7 +119,7 @@ fn main(rt: HostRuntime) -> ExitCode {
     };
     let end = match serve(&rt, alloc, &Delimited, streams, size, &counter) {
         Ok(ended) => ended.end,
-        Err(NoMemory) => KitEnd::NoMemory,
+        Err(_) => KitEnd::NoMemory,
     };
     ExitCode::from(end.status())
 }

@@ -19,10 +19,10 @@ pub const READER: u32 = 0;
 /// The number of the lane that takes them out.
 pub const TAKER: u32 = 1;
 
-/// As long as fewer messages than this wait there is room for more.
+/// The number of waiting messages from which there is no room for more.
 pub const AHEAD: usize = 4_096;
 
-/// How the reader has stopped.
+/// The reason why the reader has stopped.
 #[derive(Clone, Copy, PartialEq, Eq)]
 pub enum Stop {
     /// The input has ended.
@@ -33,14 +33,14 @@ pub enum Stop {
     BadInput,
     /// The input can't be read.
     InputFault,
-    /// So many pieces were read that no more are.
+    /// The number of pieces has reached its limit, so no more are read.
     TooLong,
 }
 
 /// A call of a mailbox.
 #[derive(Drop)]
 pub enum Ask<X> {
-    /// To put these messages in, which go in with the call.
+    /// Puts these messages in. They are handed over with the call.
     Put(Snapshot<Vec<X>>),
     /// Asks for room for more.
     Room,
@@ -48,7 +48,7 @@ pub enum Ask<X> {
     Stop(Stop),
     /// Asks if the taker has left.
     Left,
-    /// To take out all messages that wait.
+    /// Takes out all waiting messages.
     Take,
     /// Leaves, so that nothing more will be put in.
     Leave,
@@ -57,17 +57,17 @@ pub enum Ask<X> {
 /// The reply to a call.
 #[derive(Clone, Copy, PartialEq, Eq)]
 pub enum Answer {
-    /// It is done.
+    /// The call is carried out.
     Done,
     /// There is room.
     Open,
-    /// There is nothing now.
+    /// There is nothing to do now.
     Idle,
     /// The mailbox is empty, and nothing more will come.
     Stopped(Stop),
-    /// The taker has left, or the call isn't the lane's to make.
+    /// The taker has left, or this lane may not make the call.
     Gone,
-    /// There was no memory for the messages.
+    /// Memory ran out, so the messages weren't put in.
     NoRoom,
 }
 
@@ -75,7 +75,7 @@ pub enum Answer {
 #[derive(Drop)]
 pub struct Nothing;
 
-/// The messages that wait, how the reader has stopped, and whether the taker has left.
+/// The waiting messages, how the reader has stopped, and if the taker has left.
 #[derive(Drop)]
 pub struct Mailbox<X> {
     alloc: Global,
@@ -85,7 +85,7 @@ pub struct Mailbox<X> {
 }
 
 impl<X: Drop> Mailbox<X> {
-    /// A mailbox in which nothing waits.
+    /// Returns a mailbox with no waiting messages.
     pub fn new(alloc: Global) -> Mailbox<X>
         ensures { Matches result (state_of []) }
     {
@@ -97,14 +97,14 @@ impl<X: Drop> Mailbox<X> {
         }
     }
 
-    // Whether this lane may still put in.
+    // Returns true if this lane may still put messages in.
     fn reads(&self, lane: u32) -> bool
         ensures { result ≡ ((lane == reader) && not_stopped self.now.stop) }
     {
         lane == READER && self.stop.is_none()
     }
 
-    // Puts messages behind those that wait.
+    // Appends messages to the waiting ones.
     fn add(&mut self, batch: Option<Vec<X>>) -> Answer
         ensures rest { (self.new.stop ≡ self.old.stop) × (self.new.left ≡ self.old.left) }
         ensures added { IfSome batch (λ b.
@@ -119,7 +119,7 @@ impl<X: Drop> Mailbox<X> {
         }
     }
 
-    // Takes out all that wait.
+    // Takes out all waiting messages.
     fn take_out(&mut self) -> (Answer, Option<Vec<X>>)
         ensures rest { (self.new.stop ≡ self.old.stop) × (self.new.left ≡ self.old.left) }
         ensures taken { (result.0 ≡ taken_from self.old.waiting.items self.old.stop)

@@ -13,10 +13,10 @@ use plain_values::NoMemory;
 use std::snapshot::Snapshot;
 use std::sync::Wait;
 
-/// True if there is a taker for what is read.
+/// The reply to a reader: if there is still a taker for its messages.
 #[derive(Clone, Copy, PartialEq, Eq)]
 pub enum Offered {
-    /// It was put in, or there is room.
+    /// The messages were put in, or there is room.
     Done,
     /// The taker has left.
     Gone,
@@ -33,7 +33,7 @@ fn look<X: Drop, R: Wait>(rt: &R, caller: &mut Caller<Mailbox<X>>, question: Ask
     caller.call_paid(rt, question, None).0
 }
 
-// What a reader whose messages were answered so is told.
+// Returns the result for a reader that received this reply.
 fn told(reply: Answer) -> Result<Offered, NoMemory>
     ensures { result ≡ offered_by reply }
 {
@@ -70,7 +70,7 @@ pub fn await_room<X: Drop, R: Wait>(
 ///
 /// # Errors
 ///
-/// `NoMemory`, and then they are lost.
+/// Returns `NoMemory` if memory runs out, and then the messages are lost.
 pub fn put<X: Drop, R: Wait>(
     rt: &R,
     caller: &mut Caller<Mailbox<X>>,
@@ -91,7 +91,7 @@ pub fn put<X: Drop, R: Wait>(
     }
 }
 
-/// Says how the reader has stopped, unless the taker has left. It takes no memory.
+/// Reports how the reader has stopped, unless the taker has left. It takes no memory.
 pub fn stop<X: Drop, R: Wait>(rt: &R, caller: &mut Caller<Mailbox<X>>, stop: Stop)
     requires lane { caller.old.pass.lane ≡ reader }
     requires reads { (state_at caller.old.pass).stop ≡ None }

@@ -1,4 +1,4 @@
-//! The state that is known once both lanes have ended.
+//! The state that both lanes know once they have ended.
 ghost use Rattle.std.specs.Prelude.{◌≡◌, ℕ, true, [], length};
 ghost use Rattle.seat_desk.specs.Passes.{IsPassOf, IsRootOf, joined};
 ghost use Rattle.message_box.specs.Sides.{state_at};
@@ -6,8 +6,8 @@ ghost use Rattle.message_box.specs.Sides.{state_at};
 use crate::mailbox::Mailbox;
 use seat_desk::{Desk, Pass, Root};
 
-/// Takes both passes back and ends the desk. Both lanes have seen the mailbox in the same state,
-/// since nothing changes once the taker has left.
+/// Takes both passes back and ends the desk. Both lanes have seen the mailbox in the same state, because
+/// nothing changes once the taker has left.
 pub fn settle<X: Drop, R>(
     rt: &R,
     desk: Desk<Mailbox<X>>,

@@ -15,13 +15,13 @@ use std::sync::Wait;
 /// The result of a take.
 #[derive(Drop)]
 pub enum Took<X> {
-    /// All messages that waited.
+    /// All messages that were waiting.
     Messages(Vec<X>),
-    /// None: the reader has stopped so, and nothing waits.
+    /// The reader has stopped for this reason, and no message waits.
     Stopped(Stop),
 }
 
-// What was taken by a reply, or `None` where there is nothing now.
+// Returns what a reply gives to the taker, or `None` if there is nothing now.
 fn what_came<X: Drop>(reply: Answer, good: Option<Vec<X>>) -> Option<Took<X>>
     ensures { result ≡ took_by reply good }
 {
@@ -35,7 +35,7 @@ fn what_came<X: Drop>(reply: Answer, good: Option<Vec<X>>) -> Option<Took<X>>
     }
 }
 
-// Takes all messages that wait now, or `None` where there is nothing now.
+// Takes all waiting messages. Returns `None` if there is nothing now.
 fn take_once<X: Drop, R: Wait>(
     rt: &R,
     caller: &mut Caller<Mailbox<X>>,
@@ -54,11 +54,11 @@ fn take_once<X: Drop, R: Wait>(
     }
 }
 
-/// Takes all messages that wait, once there are any, or returns how the reader has stopped.
+/// Takes all waiting messages once there are any, or returns how the reader has stopped.
 ///
 /// # Errors
 ///
-/// `NoMemory`, and then nothing was taken.
+/// Returns `NoMemory` if memory runs out, and then nothing was taken.
 pub fn take<X: Drop, R: Wait>(
     rt: &R,
     bells: &Bells,
@@ -82,7 +82,7 @@ pub fn take<X: Drop, R: Wait>(
     unreachable!()
 }
 
-/// Takes all messages that wait now, which may be none. So no message that was put in by then is lost.
+/// Takes all messages that wait now, perhaps none. So no message that was put in by then is lost.
 ///
 /// # Errors
 ///
@@ -106,7 +106,7 @@ pub fn take_waiting<X: Drop, R: Wait>(
     }
 }
 
-/// Leaves: from then on nothing changes. It takes no memory.
+/// Leaves the mailbox. From then on nothing changes. It takes no memory.
 pub fn leave<X: Drop, R: Wait>(rt: &R, caller: &mut Caller<Mailbox<X>>)
     requires lane { caller.old.pass.lane ≡ taker }
     requires here { (state_at caller.old.pass).left ≡ false }

@@ -1,4 +1,4 @@
-// Messages that have been read are dealt with, one after another.
+// Handles messages that have been read, one after another.
 ghost use Rattle.std.specs.Prelude.{◌≡◌, ◌++◌, [], IfErr};
 ghost use Rattle.message_service.specs.Ends.{end_of};
 ghost use Rattle.message_service.specs.Serves.{Handled};
@@ -13,7 +13,7 @@ use std::alloc::Global;
 ///
 /// # Errors
 ///
-/// Returns `NoMemory`, or `OutputFault`, and then does nothing more.
+/// Returns `NoMemory` or `OutputFault`, and then does nothing more.
 pub fn answer_all<O: Sink, S: Shop, V: Service<S>>(
     alloc: Global,
     service: &V,
@@ -31,11 +31,11 @@ pub fn answer_all<O: Sink, S: Shop, V: Service<S>>(
     Ok(())
 }
 
-/// Deals with one message, before these others.
+/// Handles one message. `behind` is the messages that were read after it.
 ///
 /// # Errors
 ///
-/// As of [`answer_all`].
+/// Same as [`answer_all`].
 pub fn answer_one<O: Sink, S: Shop, V: Service<S>>(
     alloc: Global,
     service: &V,

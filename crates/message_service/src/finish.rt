@@ -1,7 +1,7 @@
 ghost use Rattle.std.specs.Prelude.{◌≡◌};
 ghost use Rattle.message_service.specs.Ends.{status_of};
 
-/// Why a program that reads messages has ended.
+/// The reason why a program that reads messages has ended.
 #[derive(Clone, Copy, PartialEq, Eq)]
 pub enum Finish {
     /// The input has ended.
@@ -14,12 +14,12 @@ pub enum Finish {
     InputFault,
     /// The output can't be written.
     OutputFault,
-    /// So many pieces were taken that no more are.
+    /// The number of pieces has reached its limit, so no more are read.
     TooLong,
 }
 
 impl Finish {
-    /// The status with which the program ends.
+    /// Returns the status with which the program ends.
     pub fn status(self) -> u8
         ensures { result ≡ status_of self }
     {

@@ -1,4 +1,4 @@
-// What has come of the input, as messages.
+// Splits the input into messages.
 ghost use Rattle.std.specs.Prelude.{◌≡◌, ◌++◌, List, ℕ, IfOk, IfErr};
 ghost use Rattle.delimited_framing.specs.Splitter.{Held};
 ghost use Rattle.json_framing.specs.Cutter.{form_of, framing_of, held};
@@ -12,7 +12,7 @@ use plain_values::NoMemory;
 use std::alloc::Global;
 use std::sync::Wait;
 
-/// The messages that have come whole, in order.
+/// The messages that are complete, in order.
 #[derive(Drop)]
 pub struct Come<M> {
     pub messages: Vec<M>,
@@ -20,12 +20,12 @@ pub struct Come<M> {
     pub goes_on: bool,
 }
 
-/// Reads one more piece of the input, and returns all messages that are complete with it, up to bytes that
-/// spell none.
+/// Reads one more piece of the input, and returns all messages that are complete with it. Stops at bytes
+/// that spell no message.
 ///
 /// # Errors
 ///
-/// Returns `NoMemory`. The bytes read before the piece still begin the input.
+/// Returns `NoMemory` if memory runs out. The bytes read before the piece still begin the input.
 pub fn hear_piece<S: Shop, V: Service<S>, R: Wait>(
     rt: &R,
     alloc: Global,
@@ -52,7 +52,7 @@ pub fn hear_piece<S: Shop, V: Service<S>, R: Wait>(
     }
 }
 
-// Gives all messages that have come whole, up to what spells none.
+// Returns all complete messages, up to bytes that spell none.
 fn hear_all<S: Shop, V: Service<S>, R: Wait>(
     rt: &R,
     alloc: Global,

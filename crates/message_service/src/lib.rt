@@ -1,7 +1,7 @@
-//! Programs that read messages from their input, and answer each by calls on a shop.
+//! Programs that read messages from their input and answer each by calls on a shop.
 //!
-//! What kind of messages they are, and how each is answered, is a [`Service`]. [`serve`] does the rest: it
-//! reads the available messages, handles them one after another, and reads on, up to the end of the input.
+//! A [`Service`] defines the kind of messages and how each is answered. [`serve`] does the rest. It reads
+//! the available messages, handles them one after another, and reads on, up to the end of the input.
 //! [`hear_piece`] and [`answer_one`] are for programs that read while messages are handled.
 #![tactic(auto)]
 

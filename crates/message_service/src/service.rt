@@ -10,41 +10,41 @@ use outside::Shop;
 use plain_values::{Items, NoMemory};
 use std::alloc::Global;
 
-/// One kind of messages, and how each of them is answered by calls on a shop.
+/// A kind of messages, and how each of them is answered by calls on a shop.
 pub trait Service<S: Shop> {
     /// The meaning of a frame of the input.
     type Message: Drop;
 
-    // How the frames of the input are marked.
+    // The framing of the input.
     ghost framing: { Framing };
 
-    // Which message a frame spells.
+    // The message that a frame spells.
     ghost spells: { List ℕ → Self.Message → Type 0 };
 
-    // The calls that are made for a message, behind which these others had been read by then, with
-    // their answers; and what is put for it, if anything is, or that memory ran out before that was
-    // known.
+    // The calls that are made for a message, with their answers, and the bytes that are written for it, if
+    // any. The second argument is the messages that had been read after it by then. The result is an error
+    // if memory ran out before the bytes were known.
     ghost answers: { Self.Message → List Self.Message → List ShopCall
         → Result (Option (List ℕ)) NoMemory → Type 0 };
 
-    /// How the frames of the input are marked.
+    /// Returns the framing of the input.
     fn framing(&self) -> Framing
         ensures { result ≡ framing };
 
-    /// Returns the message that a frame spells; `None` if it spells none.
+    /// Returns the message that a frame spells, or `None` if it spells none.
     ///
     /// # Errors
     ///
-    /// `NoMemory`.
+    /// Returns `NoMemory` if memory runs out.
     fn read(&self, alloc: Global, frame: &[u8]) -> Result<Option<Self::Message>, NoMemory>
         ensures { IfOk result (ReadsFrame spells frame.now) };
 
     /// Makes the calls for a message, and returns the bytes to write for it, if there are any. `behind` is
-    /// what has been read after it.
+    /// the messages that have been read after it.
     ///
     /// # Errors
     ///
-    /// Returns `NoMemory`, perhaps after some of the calls.
+    /// Returns `NoMemory` if memory runs out, perhaps after some of the calls.
     fn answer(
         &self,
         alloc: Global,

@@ -1,4 +1,4 @@
-// From the start of the input to its end.
+// Reads the input from its start to its end.
 ghost use Rattle.std.specs.Prelude.{◌++◌, [], List, ℕ, IfErr};
 ghost use Rattle.delimited_framing.specs.Splitter.{Held};
 ghost use Rattle.json_framing.specs.Cutter.{form_of};
@@ -15,20 +15,20 @@ use plain_values::NoMemory;
 use std::alloc::Global;
 use std::sync::Wait;
 
-/// The largest message, in bytes.
+/// The limit for the bytes of one message.
 const LARGEST: u64 = 67_108_864;
 
-/// The most bytes of one read.
+/// The limit for the bytes of one read.
 const PIECE: usize = 65_536;
 
-/// The most reads, each of which takes at least one byte.
+/// The limit for the number of reads. Each takes at least one byte.
 const READS: u64 = 1 << 40;
 
-/// Reads the available input, answers its messages one after another, and reads on, up to the end of the
-/// input or to bytes that spell no message.
+/// Reads the available input, answers its messages one after another, and reads on. It stops at the end of
+/// the input or at bytes that spell no message.
 ///
-/// It returns the cause of its end. Until then each message is handled by its service, in order; nothing
-/// more is written, and no other call is made.
+/// Returns the cause of its end. Until then each message is handled by its service, in order. Nothing more
+/// is written, and no other call is made.
 pub fn serve<T: Tap, O: Sink, S: Shop, V: Service<S>, R: Wait>(
     rt: &R,
     alloc: Global,
@@ -61,7 +61,7 @@ pub fn serve<T: Tap, O: Sink, S: Shop, V: Service<S>, R: Wait>(
     Finish::TooLong
 }
 
-// Answers what has come with one piece more.
+// Answers the messages that are complete with one more piece.
 fn round<O: Sink, S: Shop, V: Service<S>>(
     alloc: Global,
     service: &V,

@@ -1,4 +1,4 @@
-//! The worker: deals with the messages that were read, one after another.
+//! The worker: it answers the messages that were read, one after another.
 ghost use Rattle.std.specs.Prelude.{◌≡◌, ◌<◌, [], false, Some, vec_len};
 ghost use Rattle.seat_desk.specs.Passes.{IsSamePass};
 ghost use Rattle.message_service.specs.Ends.{end_of};
@@ -18,8 +18,8 @@ use plain_values::NoMemory;
 use std::alloc::Global;
 use std::sync::Wait;
 
-/// Deals with the messages that come out of the mailbox, in order, each with all those behind it in
-/// sight that had been put in by its turn. It answers with the cause of its end.
+/// Answers the messages that come out of the mailbox, in order. Each message is answered with all messages
+/// in sight that follow it and were put in by its turn. Returns the cause of its end.
 pub(crate) fn work<O: Sink, S: Shop, V: Service<S>, R: Wait>(
     rt: &R,
     hall: &Hall<'_, V>,
@@ -52,7 +52,7 @@ pub(crate) fn work<O: Sink, S: Shop, V: Service<S>, R: Wait>(
     unreachable!()
 }
 
-// Takes all that waits. Where nothing is to be done it waits for more.
+// Takes all waiting messages. If there is nothing to do, it waits for more.
 fn refill<X: Drop, R: Wait>(
     rt: &R,
     alloc: Global,
@@ -79,7 +79,7 @@ fn refill<X: Drop, R: Wait>(
     }
 }
 
-// Waits for more messages, while none is to be done.
+// Waits for messages while none is left to answer.
 fn begin<X: Drop, R: Wait>(
     rt: &R,
     bells: &Bells,
@@ -104,7 +104,7 @@ fn begin<X: Drop, R: Wait>(
     }
 }
 
-// How the program ends whose reader has stopped so.
+// Returns how the program ends if its reader has stopped for this reason.
 fn finish(stop: Stop) -> Finish
     ensures { result ≡ finish_of stop }
 {
@@ -117,7 +117,7 @@ fn finish(stop: Stop) -> Finish
     }
 }
 
-// Deals with the first message, before the others.
+// Answers the first message. The others come after it.
 fn answer_first<O: Sink, S: Shop, V: Service<S>>(
     alloc: Global,
     service: &V,

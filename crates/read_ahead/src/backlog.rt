@@ -1,25 +1,25 @@
-//! How the worker holds the reader back.
+//! The worker's means to hold the reader back.
 use lane_bells::Bells;
 use message_box::{AHEAD, READER};
 use std::sync::atomic::AtomicBool;
 use std::sync::atomic::Ordering::SeqCst;
 
-/// Whether so much is to be done that no more is read for now. It is a hint, and no clause speaks
-/// of it.
+/// A flag that is set if the worker has too many messages left to read more for now. It is a hint, and no
+/// clause covers it.
 #[derive(Drop)]
 pub(crate) struct Backlog {
     is_long: AtomicBool,
 }
 
 impl Backlog {
-    /// Nothing is to be done.
+    /// Returns a backlog with nothing to do.
     pub(crate) fn new() -> Backlog {
         Backlog {
             is_long: AtomicBool::new(false),
         }
     }
 
-    /// Notes how many messages are to be done. The reader is rung where they have become few.
+    /// Records if `count` messages are too many to read more. Rings the reader if they have become few.
     pub(crate) fn note(&self, bells: &Bells, count: usize) {
         let is_long = count >= AHEAD;
         if is_long == self.is_long() {
@@ -31,7 +31,7 @@ impl Backlog {
         }
     }
 
-    /// Whether much is to be done.
+    /// Returns true if the worker has many messages left.
     pub(crate) fn is_long(&self) -> bool {
         self.is_long.load(SeqCst)
     }

@@ -1,19 +1,19 @@
-//! Two at once: one reads, the other works.
+//! Runs a reader and a worker at the same time.
 //!
-//! The threads are started over plain types, since the prover covers no closure that names a desk
-//! of a type parameter.
+//! The threads are started over plain types, because the prover covers no closure that names a desk of a
+//! type parameter.
 use std::sync::Wait;
 use std::thread::{Threads, join_mut};
 
-/// Who reads an input, for a kind of shop. It calls a machine by `C`.
+/// A reader of an input, for a kind of shop. It calls a machine through a `C`.
 pub(crate) trait Reads<T, S, C> {
-    /// What it ends with.
+    /// The result of the reader.
     type Pause;
 
-    // What is asked of it before it reads.
+    // The condition that must hold before it reads.
     ghost can_read: { Self → C → Type 0 };
 
-    // How its caller and the input before, its end, and both after it are related.
+    // The relation between its caller and the input before, its result, and its caller and the input after.
     ghost has_read: { C → T → Self.Pause → C → T → Type 0 };
 
     /// Reads the input.
@@ -22,31 +22,30 @@ pub(crate) trait Reads<T, S, C> {
         ensures { has_read caller.old input.old result caller.new input.new };
 }
 
-/// Who answers what was read. It calls a machine by `C`.
+/// A worker that answers what was read. It calls a machine through a `C`.
 pub(crate) trait Works<O, S, C> {
-    /// What it ends with.
+    /// The result of the worker.
     type Finish;
 
-    // What is asked of it before it works.
+    // The condition that must hold before it works.
     ghost can_work: { Self → C → Type 0 };
 
-    // How its caller, the output and the shop before, its end, and all three after it are related.
+    // The relation between its caller, the output and the shop before, its result, and all three after.
     ghost has_worked: { C → O → S → Self.Finish → C → O → S → Type 0 };
 
-    /// Works.
+    /// Answers what was read.
     fn work<R: Wait>(&self, rt: &R, caller: &mut C, out: &mut O, shop: &mut S) -> Self::Finish
         requires { can_work self.now caller.old }
         ensures { has_worked caller.old out.old shop.old result caller.new out.new shop.new };
 }
 
-/// By whom the reader and the worker call their machine.
+/// The callers through which the reader and the worker call their machine.
 pub(crate) struct Callers<C> {
     pub(crate) reading: C,
     pub(crate) working: C,
 }
 
-/// Lets both do their part at once, the reader on a thread of its own, and returns once both have
-/// ended.
+/// Runs both parts at the same time, the reader on its own thread. Returns once both have ended.
 pub(crate) fn run_both<
     T: Send,
     O,

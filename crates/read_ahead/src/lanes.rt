@@ -21,7 +21,7 @@ use outside::{Shop, Sink, Tap};
 use std::alloc::Global;
 use std::sync::Wait;
 
-/// What both lanes know.
+/// The state that both lanes share.
 #[derive(Drop)]
 pub(crate) struct Hall<'a, V> {
     pub(crate) alloc: Global,
@@ -81,8 +81,8 @@ impl<'a, O: Sink, S: Shop, V: Service<S>> Works<O, S, Caller<'a, Mailbox<V::Mess
     }
 }
 
-// The reader's lane where the run was called off before it began: it reads nothing, and waits until
-// the taker has left.
+// Runs the reader's lane if the run was called off before it began. It reads nothing, and waits until the
+// taker has left.
 fn stay_out<S: Shop, V: Service<S>, R: Wait>(
     rt: &R,
     bells: &Bells,
@@ -99,7 +99,7 @@ fn stay_out<S: Shop, V: Service<S>, R: Wait>(
     Pause::Gone
 }
 
-// The worker's lane where the run is called off: it answers nothing, and leaves.
+// Runs the worker's lane if the run is called off. It answers nothing, and leaves.
 fn call_off<S: Shop, V: Service<S>, R: Wait>(
     rt: &R,
     caller: &mut Caller<Mailbox<V::Message>>,
@@ -114,7 +114,7 @@ fn call_off<S: Shop, V: Service<S>, R: Wait>(
     Finish::NoMemory
 }
 
-// The reader's lane: it reads, says how it has stopped, and waits until the taker has left.
+// Runs the reader's lane. It reads, reports how it has stopped, and waits until the taker has left.
 fn read_lane<T: Tap, S: Shop, V: Service<S>, R: Wait>(
     rt: &R,
     hall: &Hall<'_, V>,
@@ -134,7 +134,7 @@ fn read_lane<T: Tap, S: Shop, V: Service<S>, R: Wait>(
     pause
 }
 
-// Says how the reader has stopped, where somebody still takes what it reads.
+// Reports how the reader has stopped, if the taker still takes messages.
 fn say_end<X: Drop, R: Wait>(rt: &R, caller: &mut Caller<Mailbox<X>>, pause: Pause)
     requires lane { caller.old.pass.lane ≡ reader }
     requires reads { (state_at caller.old.pass).stop ≡ None }
@@ -147,7 +147,7 @@ fn say_end<X: Drop, R: Wait>(rt: &R, caller: &mut Caller<Mailbox<X>>, pause: Pau
     }
 }
 
-// The worker's lane: it works, and leaves.
+// Runs the worker's lane. It works, and then leaves.
 fn work_lane<O: Sink, S: Shop, V: Service<S>, R: Wait>(
     rt: &R,
     hall: &Hall<'_, V>,

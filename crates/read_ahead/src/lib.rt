@@ -1,7 +1,7 @@
-//! Programs that read messages on a thread of their own while earlier ones are dealt with.
+//! Programs that read messages on a separate thread while earlier ones are answered.
 //!
-//! [`serve_ahead`] does what `message_service::serve` does, and keeps its clause. But what comes
-//! while a message is dealt with is read at once, and is in sight by the turn of the next.
+//! [`serve_ahead`] does the same as `message_service::serve`, and satisfies its clause. But input that
+//! arrives while a message is answered is read at once, and is in sight by the turn of the next message.
 #![tactic(auto)]
 
 mod answering;

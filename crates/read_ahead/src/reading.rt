@@ -1,4 +1,4 @@
-//! The reader: from the start of the input to its end.
+//! The reader: it reads from the start of the input to its end.
 ghost use Rattle.std.specs.Prelude.{◌≡◌, ◌<◌, ◌++◌, [], None, List, ℕ, IfErr};
 ghost use Rattle.seat_desk.specs.Passes.{IsSamePass};
 ghost use Rattle.json_framing.specs.Cutter.{form_of, framing_of, held};
@@ -17,26 +17,26 @@ use plain_values::NoMemory;
 use std::alloc::Global;
 use std::sync::Wait;
 
-/// The largest message, in bytes.
+/// The limit for the bytes of one message.
 const LARGEST: u64 = 67_108_864;
 
-/// The most bytes of one read.
+/// The limit for the bytes of one read.
 const PIECE: usize = 65_536;
 
-/// The most reads, each of which takes at least one byte.
+/// The limit for the number of reads. Each takes at least one byte.
 const READS: u64 = 1 << 40;
 
-/// Why no more is read.
+/// The reason why no more is read.
 #[derive(Clone, Copy, PartialEq, Eq)]
 pub(crate) enum Pause {
-    /// The reader has stopped so.
+    /// The reader has stopped for this reason.
     Stopped(Stop),
-    /// Nobody takes any more what is read.
+    /// The taker has left.
     Gone,
 }
 
-/// Reads whatever comes, and puts the messages that it spells into the mailbox, up to the end of
-/// the input or to what spells no message, or until nobody takes them any more.
+/// Reads the available input, and puts its messages into the mailbox. It stops at the end of the input, at
+/// bytes that spell no message, or once the taker has left.
 pub(crate) fn read_all<T: Tap, S: Shop, V: Service<S>, R: Wait>(
     rt: &R,
     hall: &Hall<'_, V>,
@@ -71,8 +71,7 @@ pub(crate) fn read_all<T: Tap, S: Shop, V: Service<S>, R: Wait>(
     Pause::Stopped(Stop::TooLong)
 }
 
-// Waits until there is room for more and not much is to be done, or nobody takes any more what is
-// read.
+// Waits until there is room for more and the worker has few messages left, or until the taker has left.
 fn await_ease<V, X: Drop, R: Wait>(
     rt: &R,
     hall: &Hall<'_, V>,
@@ -92,7 +91,7 @@ fn await_ease<V, X: Drop, R: Wait>(
     unreachable!()
 }
 
-// Hears one piece more, and puts in the messages that have come with it.
+// Reads one more piece, and puts in the messages that are complete with it.
 fn hand_on<S: Shop, V: Service<S>, R: Wait>(
     rt: &R,
     hall: &Hall<'_, V>,

@@ -1,4 +1,4 @@
-//! From the start of the input to its end.
+//! Reads the input from its start to its end.
 ghost use Rattle.std.specs.Prelude.{◌≡◌, [], IfOk};
 ghost use Rattle.seat_desk.specs.Passes.{IsRootOf, IsPassOf, joined};
 ghost use Rattle.message_box.specs.States.{reader, taker, first};
@@ -21,18 +21,17 @@ use std::alloc::Global;
 use std::sync::Wait;
 use std::thread::Threads;
 
-/// How many lanes there are.
+/// The number of lanes.
 const LANES: u32 = 2;
 
-/// Reads messages on a thread of its own, and meanwhile answers those that have come, one after
-/// another, up to the end of the input or to what spells no message.
+/// Reads messages on a separate thread, and at the same time answers those that have arrived, one after
+/// another. It stops at the end of the input or at bytes that spell no message.
 ///
-/// It answers with the cause of its end. Until then each message is dealt with as its service says,
-/// in order, with all that had been read behind it by its turn in sight, and nothing else is put
-/// and no other call is made. It returns once the reader has ended too, which may wait for the
-/// input.
+/// Returns the cause of its end. Until then each message is handled by its service, in order. The service
+/// sees all messages that follow it and had been read by its turn. Nothing else is written, and no other
+/// call is made. It returns once the reader has ended too, and the reader may wait for the input.
 ///
-/// Where no thread can be started it ends with `NoMemory` after ten seconds, and has read nothing and
+/// If no thread can be started, it ends with `NoMemory` after ten seconds, and has read nothing and
 /// answered nothing.
 pub fn serve_ahead<
     T: Tap + Send,
@@ -74,7 +73,7 @@ where
     finish
 }
 
-/// A desk with its root and the passes of the reader and the taker.
+/// A desk, its root, and the passes of the reader and the taker.
 type Opened<X> = (
     Desk<Mailbox<X>>,
     Root<Mailbox<X>>,
@@ -82,7 +81,7 @@ type Opened<X> = (
     Pass<Mailbox<X>>,
 );
 
-// A mailbox behind a desk. Nothing was put in, and nothing taken.
+// Opens a desk over an empty mailbox. Nothing was put in or taken yet.
 fn open<X: Drop, R>(rt: &R, alloc: Global) -> Result<Opened<X>, NoMemory>
     ensures desk { IfOk result (λ d. IsRootOf d.0 d.1 × IsPassOf d.0 d.2 × IsPassOf d.0 d.3) }
     ensures root { IfOk result (λ d. (d.1.made ≡ 2) × (joined d.1 ≡ [])) }

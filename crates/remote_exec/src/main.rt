@@ -1,9 +1,10 @@
-//! The executor: runs the jobs that its standard input brings, and puts the result of each on
-//! standard output.
+//! The executor: it runs the jobs of its standard input, and writes each result to standard output.
 #![tactic(auto)]
 
 use demo_programs::execute;
-use outside_real::{RealInput, RealShop, RealSink, lock_jobs, open_standard, tell_about};
+use outside_real::{
+    OutputFlag, RealInput, RealShop, RealSink, lock_jobs, open_standard, tell_about,
+};
 use std::env::{self, Env};
 use std::io::{self, ErrorKind};
 use std::process::ExitCode;
@@ -18,13 +19,13 @@ Statuses: 0 the input ended, 2 other words, 3 no memory, 4 the input is no job, 
 is at work in the folder, 6 a result can't be put. The messages: docs/FORMATS.md
 ";
 
-/// The status of a program whose words aren't accepted.
+/// The status of a program whose arguments are invalid.
 const WRONG_WORDS: u8 = 2;
 
-/// The status of a program for which there is no memory.
+/// The status of a program that runs out of memory.
 const NO_MEMORY: u8 = 3;
 
-/// The status of an executor that can't have its folder alone.
+/// The status of an executor that can't have its folder to itself.
 const NOT_ALONE: u8 = 5;
 
 fn main(rt: HostRuntime) -> ExitCode {
@@ -51,15 +52,16 @@ fn main(rt: HostRuntime) -> ExitCode {
             return ExitCode::from(NOT_ALONE);
         }
     };
-    let mut input = RealInput::new(rt.stdin());
-    let mut out = RealSink::new(rt);
+    let output = OutputFlag::new();
+    let mut input = RealInput::answered(rt.stdin(), &output);
+    let mut out = RealSink::flagged(rt, &output);
     let mut shop = RealShop::for_jobs(rt, alloc);
     let finish = execute(&rt, alloc, &mut input, &mut out, &mut shop);
     shop.leave();
     ExitCode::from(finish.status())
 }
 
-// Whether the words after the program's name are `--serve` alone.
+// Returns true if the only argument after the program's name is `--serve`.
 fn is_to_serve(rt: &(impl Env + AllocGlobal)) -> io::Result<bool> {
     let mut words = env::args(rt)?.skip(1);
     let serves = matches!(words.next(), Some(word) if word.as_str() == "--serve");

@@ -1,6 +1,8 @@
 -- The calls of the lanes, as what they tell of the queue's state.
 use Rattle.std.proofs.Common.{◌≡◌, ℕ, ℤ, Bool, true, false, ◌==◌, cond, List, Option, Some, None}
-use Rattle.std.proofs.Common.{◌⊎◌, [], ◌∷◌, inl, inr, refl, ap, ◌∙◌, subst}
+use Rattle.std.proofs.Common.{◌⊎◌, [], ◌∷◌, ◌++◌, ◌+◌, length, inl, inr, refl, ap, sym, ◌∙◌, subst, arith}
+use Rattle.std.proofs.Common.{Result, Err, length-append}
+use Rattle.plain_values.specs.declared.no_memory.NoMemory.{NoMemory}
 use Rattle.std.specs.Prelude.{Ok, IfSome, IfNone}
 use Rattle.std.specs.declared.snapshot.Snapshot.{Snapshot}
 use Rattle.plain_values.specs.declared.entry.Entry.{Entry}
@@ -15,10 +17,10 @@ use Rattle.work_queue.specs.declared.queue.Told.TheVariants as told
 use Rattle.work_queue.specs.declared.queue.Load.{Load}
 use Rattle.work_queue.specs.declared.queue.Load.TheVariants as load
 use Rattle.work_queue.specs.States.{State, Task, reader, task_at, answer_to, is_kept, is_short}
-use Rattle.work_queue.specs.States.{heard_by, begun_by, has_some, FirstIs, ComesOut}
-use Rattle.work_queue.proofs.Sided.{Called, called, heard_on, still_heard, now_heard, now_taken}
+use Rattle.work_queue.specs.States.{Read, read_in, heard_in, heard_by, begun_by, has_some, FirstIs, ComesOut}
+use Rattle.work_queue.proofs.Sided.{Called, called, read_on, still_read, now_roomed, now_heard, now_taken}
 use Rattle.work_queue.proofs.Sided.{still_there, now_cancelled, begun_on, still_begun, answer_begun, take_begun}
-use Rattle.work_lanes.specs.Calls.{after_all, GivesNone, HasHeard, HasTaken, HasBegun, InHand}
+use Rattle.work_lanes.specs.Calls.{after_all, GivesNone, HasRoom, HearsMore, HasHeard, HasTaken, HasBegun, InHand}
 use Rattle.work_lanes.specs.Calls.{is_open, done_by}
 
 abbrev Puts : Type 0 → Type 0
@@ -53,6 +55,74 @@ comes_first : {X : Type 0} (ts : List (Task X)) (good : Puts X) → told.Done �
 comes_first [] good is c = absurd (done_idle is)
 comes_first (t ∷ ts) good is c = (t.work, c)
 
+-- ---- what the reader has done
+
+module _ {X : Type 0} where
+  in_heard : (m : X) (b : Bool) (r : Read X) → (heard_in m b r).heard ≡ r.heard ++ m ∷ []
+  in_heard m true r = refl
+  in_heard m false r = refl
+
+  -- nothing was heard
+  pub more_same : (old new : Read X) → new ≡ old → HearsMore old new
+  more_same old new e =
+      let heard = ap (λ (r : Read X). length r.heard) e in
+      let room = ap (λ (r : Read X). r.room) e in
+      let most = ap (λ (r : Read X). r.most) e in record {
+        count = 0;
+        heard = omega (arith, heard);
+        room = omega (arith, room);
+        most = omega (arith, most);
+      }
+
+  more_in : (m : X) (b : Bool) (r : Read X) → HearsMore r (heard_in m b r)
+  more_in m true r = record {
+    count = 1;
+    heard = length-append r.heard (m ∷ []);
+    room = omega arith;
+    most = omega arith;
+  }
+  more_in m false r = record {
+    count = 1;
+    heard = length-append r.heard (m ∷ []);
+    room = omega arith;
+    most = omega arith;
+  }
+
+  -- and so where requests were heard before
+  pub more_on : (old mid new : Read X) → HearsMore old mid → HearsMore mid new
+      → HearsMore old new
+  more_on old mid new a b =
+      let heard = a.heard in let heard' = b.heard in
+      let room = a.room in let room' = b.room in
+      let most = a.most in let most' = b.most in record {
+        count = a.count + b.count;
+        heard = omega (arith, heard, heard');
+        room = omega (arith, room, room');
+        most = omega (arith, room, most, most');
+      }
+
+  pub room_heard : (depth : ℕ) (b : Bool) (old new : Read X) → HasRoom depth (Ok b) old new
+      → new.heard ≡ old.heard
+  room_heard depth true old new e = ap (λ (r : Read X). r.heard) e
+  room_heard depth false old new e = ap (λ (r : Read X). r.heard) e
+
+module _ {X : Type 0} (cancels : X → Bool) where
+  abbrev pub HeardBy : X → Result (Unit {0}) NoMemory → Read X → Read X → Type 0
+  HeardBy m (Ok done) old new = new ≡ heard_in m (cancels m) old
+  HeardBy m (Err e) old new = new ≡ old
+
+  pub heard_of : (m : X) (res : Result (Unit {0}) NoMemory) (old new : Read X)
+      → HeardBy m res old new → HasHeard m res old.heard new.heard
+  heard_of m (Ok done) old new e =
+      ap (λ (r : Read X). r.heard) e ∙ in_heard m (cancels m) old
+  heard_of m (Err x) old new e = ap (λ (r : Read X). r.heard) e
+
+  pub more_of : (m : X) (res : Result (Unit {0}) NoMemory) (old new : Read X)
+      → HeardBy m res old new → HearsMore old new
+  more_of m (Ok done) old new e =
+      subst (λ (r : Read X). HearsMore old r) (sym e) (more_in m (cancels m) old)
+  more_of m (Err x) old new e = more_same old new e
+
 module _ {X Y : Type 0} (number : X → ℤ) (cancels : X → Bool) where
   abbrev After : History X Y → State X Y
   After h = after_all number cancels h
@@ -65,17 +135,17 @@ module _ {X Y : Type 0} (number : X → ℤ) (cancels : X → Bool) where
   pub hear_so : (lane : ℕ) (seen seen' : History X Y) (m : X) (call : Ask X Y)
       → IsHearOf m call → (r : Told) (good : Puts X) → lane ≡ reader
       → Tells lane seen call r good seen'
-      → HasHeard m (done_by r) (After seen).heard (After seen').heard
+      → HeardBy cancels m (done_by r) (read_in (After seen)) (read_in (After seen'))
   hear_so lane seen seen' m (ask.Hear about) e told.Done good is k =
       now_heard number cancels lane seen seen' (ask.Hear about) m good is
       (λ s. ap (λ (x : X). cond (lane == reader)
       (heard_by number cancels s x (cancels x)) s) e) refl k
   hear_so lane seen seen' m (ask.Hear about) e told.Open good is k =
-      still_heard number cancels lane seen seen' (ask.Hear about) told.Open good is refl k
+      still_read number cancels lane seen seen' (ask.Hear about) told.Open good is refl k
   hear_so lane seen seen' m (ask.Hear about) e told.Idle good is k =
-      still_heard number cancels lane seen seen' (ask.Hear about) told.Idle good is refl k
+      still_read number cancels lane seen seen' (ask.Hear about) told.Idle good is refl k
   hear_so lane seen seen' m (ask.Hear about) e told.Closed good is k =
-      still_heard number cancels lane seen seen' (ask.Hear about) told.Closed good is refl k
+      still_read number cancels lane seen seen' (ask.Hear about) told.Closed good is refl k
   hear_so lane seen seen' m (ask.Room depth) e r good is k = absurd e
   hear_so lane seen seen' m ask.Take e r good is k = absurd e
   hear_so lane seen seen' m ask.IsCancelled e r good is k = absurd e
@@ -86,25 +156,31 @@ module _ {X Y : Type 0} (number : X → ℤ) (cancels : X → Bool) where
   pub room_so : (lane depth : ℕ) (seen seen' : History X Y) (r : Told) (good : Puts X)
       → lane ≡ reader
       → Tells lane seen (ask.Room depth) r good seen'
-      → (After seen').heard ≡ (After seen).heard
-  room_so lane depth seen seen' r good is k =
-      still_heard number cancels lane seen seen' (ask.Room depth) r good is refl k
+      → HasRoom depth (Ok (is_open r)) (read_in (After seen)) (read_in (After seen'))
+  room_so lane depth seen seen' told.Open good is k =
+      now_roomed number cancels lane depth seen seen' good is k
+  room_so lane depth seen seen' told.Done good is k =
+      still_read number cancels lane seen seen' (ask.Room depth) told.Done good is refl k
+  room_so lane depth seen seen' told.Idle good is k =
+      still_read number cancels lane seen seen' (ask.Room depth) told.Idle good is refl k
+  room_so lane depth seen seen' told.Closed good is k =
+      still_read number cancels lane seen seen' (ask.Room depth) told.Closed good is refl k
 
   pub close_so : (lane : ℕ) (seen seen' : History X Y) (r : Told) (good : Puts X)
       → lane ≡ reader → Tells lane seen ask.Close r good seen'
-      → (After seen').heard ≡ (After seen).heard
+      → read_in (After seen') ≡ read_in (After seen)
   close_so lane seen seen' r good is k =
-      still_heard number cancels lane seen seen' ask.Close r good is refl k
+      still_read number cancels lane seen seen' ask.Close r good is refl k
 
   pub halt_so : (lane : ℕ) (seen seen' : History X Y) (r : Told) (good : Puts X)
       → lane ≡ reader → Tells lane seen ask.Halt r good seen'
-      → (After seen').heard ≡ (After seen).heard
+      → read_in (After seen') ≡ read_in (After seen)
   halt_so lane seen seen' r good is k =
-      still_heard number cancels lane seen seen' ask.Halt r good is refl k
+      still_read number cancels lane seen seen' ask.Halt r good is refl k
 
   pub refused_so : (lane : ℕ) (seen seen' : History X Y) → lane ≡ reader → GoesOn lane seen seen'
-      → (After seen').heard ≡ (After seen).heard
-  refused_so lane seen seen' is on = heard_on number cancels lane seen seen' is on
+      → read_in (After seen') ≡ read_in (After seen)
+  refused_so lane seen seen' is on = read_on number cancels lane seen seen' is on
 
   -- ---- those who answer
 

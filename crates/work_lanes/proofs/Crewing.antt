@@ -15,13 +15,13 @@ use Rattle.lane_crew.specs.Pairs.{MayRunOfKind, HasRunOfKind}
 use Rattle.lane_crew.specs.LaneJobs.{MayRunInOrder, KeepsPasses, EachLane, LaneEnds}
 use Rattle.work_queue.specs.declared.queue.Ask.{Ask}
 use Rattle.work_queue.specs.declared.queue.Told.{Told}
-use Rattle.work_queue.specs.States.{begun_by}
-use Rattle.work_queue.proofs.Sided.{heard_on, begun_on}
+use Rattle.work_queue.specs.States.{begun_by, read_in}
+use Rattle.work_queue.proofs.Sided.{read_on, begun_on}
 use Rattle.work_lanes.specs.declared.reading.Reader.{Reader}
 use Rattle.work_lanes.specs.declared.reading.ReaderLeft.{ReaderLeft}
 use Rattle.work_lanes.specs.declared.handling.Hands.{Hands}
 use Rattle.work_lanes.specs.declared.handling.HandsLeft.{HandsLeft}
-use Rattle.work_lanes.specs.Calls.{after_all, heard_at, begun_at}
+use Rattle.work_lanes.specs.Calls.{after_all, read_at, begun_at}
 use Rattle.work_lanes.specs.Handles.{Follows, EachFollows}
 use Rattle.work_lanes.specs.Crews.{AreHands, AreLanes, handlers_in}
 use Rattle.work_lanes.proofs.Following.{follows_on}
@@ -29,13 +29,13 @@ use Rattle.work_lanes.proofs.Following.{follows_on}
 abbrev pub LaneEntry : Type 0 → Type 0 → Type 0
 LaneEntry X Y = Entry (Ask X Y) Told
 
--- what the reader had seen in the end is all that was ever heard
-pub all_heard : {X Y : Type 0} (number : X → ℤ) (cancels : X → Bool)
+-- what the reader had done in the end is all that it ever did
+pub all_read : {X Y : Type 0} (number : X → ℤ) (cancels : X → Bool)
     (h seen mine : List (LaneEntry X Y)) (lane : ℕ) → lane ≡ 0 → StartsWith h seen
     → calls_by lane seen ≡ mine → mine ≡ calls_by 0 h
-    → (after_all number cancels h).heard ≡ (after_all number cancels seen).heard
-all_heard number cancels h seen mine lane is starts idle made =
-    heard_on number cancels lane seen h is (
+    → read_in (after_all number cancels h) ≡ read_in (after_all number cancels seen)
+all_read number cancels h seen mine lane is starts idle made =
+    read_on number cancels lane seen h is (
       starts.0,
       starts.1,
       others_only lane seen starts.0 h mine idle
@@ -88,15 +88,15 @@ module _ {X Y M G Q : Type 0} {g : Ghosts M (Ask X Y) Told G Q} {T H : Type 0} w
       hands_may q (k + 1) xs lanes (omega (arith, some)) a.2,
     )
 
-    pub lanes_may : (q : Q) (input : T) (xs : List H) (lanes : List (Either (Reader T) (Hands H)))
-        → AreLanes input xs lanes → MayRunInOrder (MayRunOfKind reads works) q 0 lanes
-    lanes_may q input xs [] a = absurd a
-    lanes_may q input xs (First r ∷ lanes) a = (
+    pub lanes_may : (q : Q) (input : T) (depth : ℕ) (xs : List H) (lanes : List (Either (Reader T) (Hands H)))
+        → AreLanes input depth xs lanes → MayRunInOrder (MayRunOfKind reads works) q 0 lanes
+    lanes_may q input depth xs [] a = absurd a
+    lanes_may q input depth xs (First r ∷ lanes) a = (
       λ desk bells pass of fresh lane bell by. can_read r desk bells pass of fresh lane
           (subst (λ (i : ℕ). i < bells) (sym lane) bell),
-      hands_may q 1 xs lanes (omega arith) a.1,
+      hands_may q 1 xs lanes (omega arith) a.2,
     )
-    lanes_may q input xs (Second h ∷ lanes) a = absurd a
+    lanes_may q input depth xs (Second h ∷ lanes) a = absurd a
 
   module _ (number : X → ℤ) (cancels : X → Bool)
       (reads : FactOfRun (Reader T) (ReaderLeft T) (LanePass g))
@@ -116,29 +116,32 @@ module _ {X Y M G Q : Type 0} {g : Ghosts M (Ask X Y) Told G Q} {T H : Type 0} w
     lanes_keep (Second w) p (Second e) p' h = work_keeps w p e p' h
 
     -- how the reader has ended, and what the whole history has of it
-    pub record ReaderEnds (input : T) (h : List (LaneEntry X Y)) (left : ReaderLeft T) : Type 0 where
+    pub record ReaderEnds (input : T) (depth : ℕ) (h : List (LaneEntry X Y)) (left : ReaderLeft T)
+        : Type 0 where
       pub lane : Reader T
       pub is : lane.input ≡ input
+      pub depth_is : lane.depth ≡ depth
       pub before : LanePass g
       pub after : LanePass g
       pub ran : reads lane before left after
-      pub heard : (after_all number cancels h).heard ≡ heard_at number cancels after
+      pub read : read_in (after_all number cancels h) ≡ read_at number cancels after
 
-    first_ends : (q : Q) (input : T) (h : List (LaneEntry X Y)) (r : Reader T)
-        (e : Either (ReaderLeft T) (HandsLeft H)) → r.input ≡ input
+    first_ends : (q : Q) (input : T) (depth : ℕ) (h : List (LaneEntry X Y)) (r : Reader T)
+        (e : Either (ReaderLeft T) (HandsLeft H)) → r.input ≡ input → r.depth ≡ depth
         → LaneEnds (HasRunOfKind reads works) q h 0 (First r) e
-        → (left : ReaderLeft T) × (e ≡ First left) × ReaderEnds input h left
-    first_ends q input h r (Second e) is x = absurd x.ran
-    first_ends q input h r (First left) is x = (
+        → (left : ReaderLeft T) × (e ≡ First left) × ReaderEnds input depth h left
+    first_ends q input depth h r (Second e) is deep x = absurd x.ran
+    first_ends q input depth h r (First left) is deep x = (
       left,
       refl,
       record {
         lane = r;
         is = is;
+        depth_is = deep;
         before = x.before;
         after = x.after;
         ran = x.ran;
-        heard = all_heard number cancels h (seen x.after) (mine x.after) x.after.lane
+        read = all_read number cancels h (seen x.after) (mine x.after) x.after.lane
             (x.same.1 ∙ x.number) x.saw x.after.idle.3 x.made;
       },
     )
@@ -180,20 +183,20 @@ module _ {X Y M G Q : Type 0} {g : Ghosts M (Ask X Y) Told G Q} {T H : Type 0} w
           ap suc rest.1,
         )
 
-    pub crew_ends : (q : Q) (input : T) (xs : List H) (h : List (LaneEntry X Y))
+    pub crew_ends : (q : Q) (input : T) (depth : ℕ) (xs : List H) (h : List (LaneEntry X Y))
         (lanes : List (Either (Reader T) (Hands H)))
         (ends : List (Either (ReaderLeft T) (HandsLeft H)))
-        → AreLanes input xs lanes → EachLane (HasRunOfKind reads works) q h 0 lanes ends
+        → AreLanes input depth xs lanes → EachLane (HasRunOfKind reads works) q h 0 lanes ends
         → (left : ReaderLeft T) × (rest : List (Either (ReaderLeft T) (HandsLeft H)))
-        × (ends ≡ First left ∷ rest) × ReaderEnds input h left
+        × (ends ≡ First left ∷ rest) × ReaderEnds input depth h left
         × EachFollows answers breaks 1 (after_all number cancels h).taken xs (handlers_in rest)
         × (length rest ≡ length xs)
-    crew_ends q input xs h [] ends a x = absurd a
-    crew_ends q input xs h (Second w ∷ lanes) ends a x = absurd a
-    crew_ends q input xs h (First r ∷ lanes) [] a x = absurd x
-    crew_ends q input xs h (First r ∷ lanes) (e ∷ ends) a x =
-        let f = first_ends q input h r e a.0 x.0 in
-        let w = hands_end q 1 h xs lanes ends a.1 x.1 in (
+    crew_ends q input depth xs h [] ends a x = absurd a
+    crew_ends q input depth xs h (Second w ∷ lanes) ends a x = absurd a
+    crew_ends q input depth xs h (First r ∷ lanes) [] a x = absurd x
+    crew_ends q input depth xs h (First r ∷ lanes) (e ∷ ends) a x =
+        let f = first_ends q input depth h r e a.0 a.1 x.0 in
+        let w = hands_end q 1 h xs lanes ends a.2 x.1 in (
           f.0,
           ends,
           ap (λ (y : Either (ReaderLeft T) (HandsLeft H)). y ∷ ends) f.1,
@@ -209,34 +212,34 @@ LanesOf A B = List (Either (Reader A) (Hands B))
 
 module _ {T H : Type 0} where
   -- whatever lanes the handlers to come have, these stand before them
-  abbrev pub StandBefore : T → List H → ℕ → List H → LanesOf T H → Type 0
-  StandBefore input xs k left lanes =
+  abbrev pub StandBefore : T → ℕ → List H → ℕ → List H → LanesOf T H → Type 0
+  StandBefore input depth xs k left lanes =
       (more : List (Either (Reader T) (Hands H))) → AreHands k left more
-      → AreLanes input xs (lanes ++ more)
+      → AreLanes input depth xs (lanes ++ more)
 
-  pub lanes_begin : (input : T) (xs left : List H) (r : Reader T) (none lanes : LanesOf T H)
-      → lanes ≡ none ++ First r ∷ [] → none ≡ [] → r.input ≡ input → left ≡ xs
-      → StandBefore input xs 1 left lanes
-  lanes_begin input xs left r none lanes is empty from all more a =
-      subst (λ (ls : LanesOf T H). AreLanes input xs (ls ++ more))
+  pub lanes_begin : (input : T) (depth : ℕ) (xs left : List H) (r : Reader T) (none lanes : LanesOf T H)
+      → lanes ≡ none ++ First r ∷ [] → none ≡ [] → r.input ≡ input → r.depth ≡ depth → left ≡ xs
+      → StandBefore input depth xs 1 left lanes
+  lanes_begin input depth xs left r none lanes is empty from deep all more a =
+      subst (λ (ls : LanesOf T H). AreLanes input depth xs (ls ++ more))
       (sym (is ∙ ap (λ (ls : LanesOf T H). ls ++ First r ∷ []) empty))
-      (from, subst (λ (ys : List H). AreHands 1 ys more) all a)
+      (from, deep, subst (λ (ys : List H). AreHands 1 ys more) all a)
 
-  pub lanes_go_on : (input : T) (xs : List H) (k : ℕ) (left left' : List H) (h : Hands H)
+  pub lanes_go_on : (input : T) (depth : ℕ) (xs : List H) (k : ℕ) (left left' : List H) (h : Hands H)
       (lanes lanes' : LanesOf T H) → lanes' ≡ lanes ++ Second h ∷ [] → h.number ≡ k
-      → left ≡ h.handler ∷ left' → StandBefore input xs k left lanes
-      → StandBefore input xs (k + 1) left' lanes'
-  lanes_go_on input xs k left left' h lanes lanes' is number fewer so_far more a =
-      subst (λ (ls : LanesOf T H). AreLanes input xs ls)
+      → left ≡ h.handler ∷ left' → StandBefore input depth xs k left lanes
+      → StandBefore input depth xs (k + 1) left' lanes'
+  lanes_go_on input depth xs k left left' h lanes lanes' is number fewer so_far more a =
+      subst (λ (ls : LanesOf T H). AreLanes input depth xs ls)
       (sym (ap (λ (ls : LanesOf T H). ls ++ more) is
       ∙ append_assoc lanes (Second h ∷ []) more))
       (so_far (Second h ∷ more) (subst (λ (ys : List H). AreHands k ys (Second h ∷ more))
       (sym fewer) (number, refl, a)))
 
-  pub lanes_end : (input : T) (xs : List H) (k : ℕ) (left : List H) (lanes : LanesOf T H)
-      → left ≡ [] → StandBefore input xs k left lanes → AreLanes input xs lanes
-  lanes_end input xs k left lanes none so_far =
-      subst (λ (ls : LanesOf T H). AreLanes input xs ls) (append-nil lanes)
+  pub lanes_end : (input : T) (depth : ℕ) (xs : List H) (k : ℕ) (left : List H) (lanes : LanesOf T H)
+      → left ≡ [] → StandBefore input depth xs k left lanes → AreLanes input depth xs lanes
+  lanes_end input depth xs k left lanes none so_far =
+      subst (λ (ls : LanesOf T H). AreLanes input depth xs ls) (append-nil lanes)
       (so_far [] (subst (λ (ys : List H). AreHands {T = T} k ys []) (sym none) tt))
 
   hands_many : (k : ℕ) (xs : List H) (lanes : LanesOf T H) → AreHands k xs lanes
@@ -248,10 +251,10 @@ module _ {T H : Type 0} where
   hands_many k (x ∷ xs) (Second h ∷ lanes) a = ap suc (hands_many (k + 1) xs lanes a.2)
 
   -- how many there are
-  pub lanes_many : (input : T) (xs : List H) (lanes : LanesOf T H) → AreLanes input xs lanes
+  pub lanes_many : (input : T) (depth : ℕ) (xs : List H) (lanes : LanesOf T H) → AreLanes input depth xs lanes
       → length lanes ≡ length xs + 1
-  lanes_many input xs [] a = absurd a
-  lanes_many input xs (Second h ∷ lanes) a = absurd a
-  lanes_many input xs (First r ∷ lanes) a =
-      let i = hands_many 1 xs lanes a.1 in
+  lanes_many input depth xs [] a = absurd a
+  lanes_many input depth xs (Second h ∷ lanes) a = absurd a
+  lanes_many input depth xs (First r ∷ lanes) a =
+      let i = hands_many 1 xs lanes a.2 in
       let goal : suc (length lanes) ≡ length xs + 1 = omega (arith, i) in goal

@@ -1,6 +1,7 @@
 -- How all is over, by how the queue and the reader have ended.
 use Rattle.std.proofs.Common.{◌≡◌, ℕ, ℤ, ◌≤◌, Bool, true, false, List, [], ◌∷◌, map, length, Some}
-use Rattle.std.proofs.Common.{refl, ap, sym, ◌∙◌, subst, arith}
+use Rattle.std.proofs.Common.{refl, ap, sym, ◌∙◌, ◌+◌, subst, arith}
+use Rattle.std.proofs.lemmas.List.{length-map}
 use Rattle.std.specs.List.{flat_map, AllByRecursion}
 use Rattle.outside.specs.Told.{TapTold, SinkTold}
 use Rattle.json_framing.specs.Cutter.{form_of}
@@ -13,12 +14,13 @@ use Rattle.message_service.specs.Serves.{ReadsBy}
 use Rattle.work_queue.specs.declared.queue.How.{How}
 use Rattle.work_queue.specs.declared.queue.How.TheVariants as how
 use Rattle.work_queue.specs.declared.queue.WorkQueue.{WorkQueue}
-use Rattle.work_queue.specs.States.{State, Task, InHand, asked_from, IsProper, PutSo, PutAll, PutFront, times}
+use Rattle.work_queue.specs.States.{State, Task, InHand, asked_from, IsProper, IsTaken, PutSo, PutAll, PutFront, times}
 use Rattle.work_queue.specs.States.{places_waiting}
 use Rattle.work_queue.specs.StateLaws.{Stands, EndsSo, row_of}
 use Rattle.work_lanes.specs.Handles.{EachFollows}
-use Rattle.work_lanes.specs.Serves.{Outside, ServesBy, HasRead, AnswersBy, IsOfReading, answered}
+use Rattle.work_lanes.specs.Serves.{Outside, ServesBy, HasRead, AnswersBy, IsOfReading, answered, piece}
 use Rattle.work_lanes.specs.Crews.{finish_by}
+use Rattle.work_queue.proofs.Proper.{all_more, taken_up}
 use Rattle.work_lanes.proofs.Fronts.{reads_begin}
 
 put_all : (bytes : List ℕ) (old new : SinkTold) → PutAll bytes old new → ends.PutAll bytes old new
@@ -75,13 +77,22 @@ module _ {X Y : Type 0} (number : X → ℤ) (cancels : X → Bool)
       times k (map (λ x. x.task.place) hs)) h in
       omega (arith, e, a, b)
 
+  -- no more wait than may
+  few_wait : (s : State X Y) (most : ℕ) → IsFine s → s.most ≤ most
+      → length (places_waiting s) ≤ most
+  few_wait s most p fits =
+      let l = length-map s.waiting (λ (t : Task X). t.place) in
+      let w = p.room in
+      let m = p.most in omega (arith, l, w, m, fits)
+
 module _ {X Y H : Type 0} (number : X → ℤ) (cancels : X → Bool)
     (Says : X → Bool → Y → Type 0) (written : Y → List ℕ) (f : Framing)
     (spells : List ℕ → X → Type 0) (answers : H → X → Y → H → Type 0)
     (breaks : H → X → H → Type 0) where
-  abbrev pub Ends : Finish → List H → List H → Outside → Outside → Type 0
-  Ends how olds news old new =
-      ServesBy number cancels Says written (form_of f) spells answers breaks how [] olds news old new
+  abbrev pub Ends : ℕ → Finish → List H → List H → Outside → Outside → Type 0
+  Ends depth how olds news old new =
+      ServesBy number cancels Says written (form_of f) spells answers breaks depth how [] olds news
+      old new
 
   abbrev put_for : State X Y → List ℕ
   put_for s = flat_map (λ r. written r.response) s.replies
@@ -106,15 +117,15 @@ module _ {X Y H : Type 0} (number : X → ℤ) (cancels : X → Bool)
         (subst (λ (x : Bool). PutSo x (put_for s) (told_of m.outlet.start.value)
         (told_of m.outlet.sink)) flag st.put))
 
-    pub ends_so : (m : WorkQueue O X Y K) (s : State X Y) (how : How)
+    pub ends_so : (depth : ℕ) (m : WorkQueue O X Y K) (s : State X Y) (how : How)
         (reading : Finish) (sink start : O) (heard : List X) (olds news : List H)
         (input input' : TapTold)
         → Fine m s → EndsSo m sink how → m.outlet.start.value ≡ start → s.heard ≡ heard
-        → Handled olds news s
+        → s.most ≤ depth + piece → Handled olds news s
         → HasRead (form_of f) spells reading heard input input'
-        → Ends (finish_by how reading) olds news (record { tap = input; sink = told_of start })
+        → Ends depth (finish_by how reading) olds news (record { tap = input; sink = told_of start })
         (record { tap = input'; sink = told_of sink })
-    ends_so m s how.Failed reading sink start heard olds news input input' st e was same by read =
+    ends_so depth m s how.Failed reading sink start heard olds news input input' st e was same fits by read =
         record {
           serves = record {
             bytes = read.bytes;
@@ -130,13 +141,20 @@ module _ {X Y H : Type 0} (number : X → ℤ) (cancels : X → Bool)
                 (put_by_flag m s true sink start e.1 e.0 was st);
             said = st.proper.said;
             once = most number cancels Says s st.proper;
-            took = st.proper.took;
-            order = (places_waiting s, st.proper.order);
+            took = all_more (IsTaken number cancels s.heard s.most)
+                (IsTaken number cancels s.heard (depth + piece))
+                (taken_up number cancels s.heard s.most (depth + piece) fits) s.taken
+                st.proper.took;
+            order = (
+              places_waiting s,
+              few_wait number cancels Says s (depth + piece) st.proper fits,
+              st.proper.order,
+            );
           };
           lanes = by.0;
           each = by.1;
         }
-    ends_so m s how.Halted reading sink start heard olds news input input' st e was same by read =
+    ends_so depth m s how.Halted reading sink start heard olds news input input' st e was same fits by read =
         record {
           serves = record {
             bytes = read.bytes;
@@ -152,13 +170,20 @@ module _ {X Y H : Type 0} (number : X → ℤ) (cancels : X → Bool)
                 (put_by_flag m s false sink start e.1 e.0 was st);
             said = st.proper.said;
             once = most number cancels Says s st.proper;
-            took = st.proper.took;
-            order = (places_waiting s, st.proper.order);
+            took = all_more (IsTaken number cancels s.heard s.most)
+                (IsTaken number cancels s.heard (depth + piece))
+                (taken_up number cancels s.heard s.most (depth + piece) fits) s.taken
+                st.proper.took;
+            order = (
+              places_waiting s,
+              few_wait number cancels Says s (depth + piece) st.proper fits,
+              st.proper.order,
+            );
           };
           lanes = by.0;
           each = by.1;
         }
-    ends_so m s how.Whole reading sink start heard olds news input input' st e was same by read =
+    ends_so depth m s how.Whole reading sink start heard olds news input input' st e was same fits by read =
         record {
           serves = record {
             bytes = read.bytes;
@@ -177,8 +202,15 @@ module _ {X Y H : Type 0} (number : X → ℤ) (cancels : X → Bool)
                 (exactly number cancels Says s st.proper
                 (none_left (λ (t : Task X). t.work) s.waiting (sym e.2.0 ∙ st.rows.0))
                 (none_left (row_of number) s.hands (sym e.2.1 ∙ st.rows.1)));
-            took = st.proper.took;
-            order = (places_waiting s, st.proper.order);
+            took = all_more (IsTaken number cancels s.heard s.most)
+                (IsTaken number cancels s.heard (depth + piece))
+                (taken_up number cancels s.heard s.most (depth + piece) fits) s.taken
+                st.proper.took;
+            order = (
+              places_waiting s,
+              few_wait number cancels Says s (depth + piece) st.proper fits,
+              st.proper.order,
+            );
           };
           lanes = by.0;
           each = by.1;

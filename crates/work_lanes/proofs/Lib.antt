@@ -1,7 +1,9 @@
 -- Lemmas of this crate.
 pub mod Fronts
+pub mod Pieces
 pub mod Ends
 pub mod Following
 pub mod Crewing
 pub mod Calling
 pub mod Leaving
+pub mod Idle

@@ -1,6 +1,6 @@
 -- What the calls of the lanes say of the queue's state.
-use Rattle.std.specs.Prelude.{◌≡◌, ℕ, ℤ, Bool, true, false, List, [], ◌∷◌, ◌++◌, Option, Some, None}
-use Rattle.std.specs.Prelude.{Result, Ok, Err}
+use Rattle.std.specs.Prelude.{◌≡◌, ℕ, ℤ, ◌+◌, ◌≤◌, max, Bool, true, false, List, [], ◌∷◌, ◌++◌}
+use Rattle.std.specs.Prelude.{length, Option, Some, None, Result, Ok, Err}
 use Rattle.plain_values.specs.declared.no_memory.NoMemory.{NoMemory}
 use Rattle.seat_desk.specs.declared.machine.Machine.{Ghosts}
 use Rattle.seat_desk.specs.declared.desk.Pass.{Pass}
@@ -14,6 +14,7 @@ use Rattle.work_queue.specs.declared.queue.Load.{Load}
 use Rattle.work_queue.specs.declared.queue.Load.TheVariants as load
 use Rattle.work_queue.specs.declared.rows.Asked.{Asked}
 use Rattle.work_queue.specs.States.{State, Task, state_of, task_at, begun_by, unless, is_kept}
+use Rattle.work_queue.specs.States.{Read, read_in, roomed_in}
 use Rattle.std.proofs.Common.{refl}
 
 module _ {X Y : Type 0} (number : X → ℤ) (cancels : X → Bool) where
@@ -29,6 +30,14 @@ module _ {X Y : Type 0} (number : X → ℤ) (cancels : X → Bool) where
     -- all that had been heard then
     abbrev pub heard_at : Pass M (Ask X Y) Told G Q g → List X
     heard_at p = (state_at p).heard
+
+    -- what the reader had done then
+    abbrev pub read_at : Pass M (Ask X Y) Told G Q g → Read X
+    read_at p = read_in (state_at p)
+
+    -- the most that ever might wait by then
+    abbrev pub most_at : Pass M (Ask X Y) Told G Q g → ℕ
+    most_at p = (state_at p).most
 
     -- the requests that the lane had begun then, in order, but for those that were cancelled before
     abbrev pub begun_at : Pass M (Ask X Y) Told G Q g → List X
@@ -98,6 +107,19 @@ abbrev pub HasBegun : {X : Type 0} → Result (Option (Asked X)) NoMemory → Li
 HasBegun (Ok (Some w)) old new = new ≡ old ++ unless w.cancelled w.request
 HasBegun (Ok None) old new = new ≡ old
 HasBegun (Err e) old new = new ≡ old
+
+-- The reader was told that fewer than this wait, or all is over.
+abbrev pub HasRoom : {X : Type 0} → ℕ → Result Bool NoMemory → Read X → Read X → Type 0
+HasRoom depth (Ok true) old new = new ≡ roomed_in depth old
+HasRoom depth (Ok false) old new = new ≡ old
+HasRoom depth (Err e) old new = new ≡ old
+
+-- Requests were heard, and at most as many more may wait.
+pub record HearsMore {X : Type 0} (old new : Read X) : Type 0 where
+  pub count : ℕ
+  pub heard : length new.heard ≡ length old.heard + count
+  pub room : new.room ≤ old.room + count
+  pub most : new.most ≤ max old.most (old.room + count)
 
 -- the request was heard, or all is over
 abbrev pub HasHeard : {X : Type 0} → X → Result (Unit {0}) NoMemory → List X → List X → Type 0

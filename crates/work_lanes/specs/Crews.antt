@@ -26,11 +26,23 @@ module _ {T H : Type 0} where
   AreHands k (x ∷ xs) (Second h ∷ lanes) =
       (h.number ≡ k) × (h.handler ≡ x) × AreHands (k + 1) xs lanes
 
-  -- the reader's lane, and one for each of these handlers
-  abbrev pub AreLanes : T → List H → List (Either (Reader T) (Hands H)) → Type 0
-  AreLanes input xs [] = ⊥
-  AreLanes input xs (First r ∷ lanes) = (r.input ≡ input) × AreHands 1 xs lanes
-  AreLanes input xs (Second h ∷ lanes) = ⊥
+  -- the reader's lane, for this depth, and one for each of these handlers
+  abbrev pub AreLanes : T → ℕ → List H → List (Either (Reader T) (Hands H)) → Type 0
+  AreLanes input depth xs [] = ⊥
+  AreLanes input depth xs (First r ∷ lanes) =
+      (r.input ≡ input) × (r.depth ≡ depth) × AreHands 1 xs lanes
+  AreLanes input depth xs (Second h ∷ lanes) = ⊥
+
+  -- the reader's lane stands first
+  abbrev pub HasReaderLane : List (Either (Reader T) (Hands H)) → Type 0
+  HasReaderLane lanes = (reader : Reader T) × (rest : List (Either (Reader T) (Hands H)))
+      × (lanes ≡ First reader ∷ rest)
+
+  -- the handlers of lanes
+  abbrev pub handlers_held : List (Either (Reader T) (Hands H)) → List H
+  handlers_held [] = []
+  handlers_held (First reader ∷ lanes) = handlers_held lanes
+  handlers_held (Second hands ∷ lanes) = hands.handler ∷ handlers_held lanes
 
   -- the handlers that lanes have left
   abbrev pub handlers_in : List (Either (ReaderLeft T) (HandsLeft H)) → List H

@@ -1,5 +1,5 @@
 -- What the lanes do from the start of the input to its end.
-use Rattle.std.specs.Prelude.{◌≡◌, ℕ, ℤ, ◌≤◌, ◌++◌, Bool, List, Some, map, length}
+use Rattle.std.specs.Prelude.{◌≡◌, ℕ, ℤ, ◌+◌, ◌≤◌, ◌++◌, Bool, List, Some, map, length}
 use Rattle.std.specs.List.{flat_map, AllByRecursion}
 use Rattle.outside.specs.Lists.{Adds}
 use Rattle.outside.specs.Told.{TapTold, SinkTold}
@@ -18,6 +18,10 @@ AreHandlers n = (1 ≤ n) × (n ≤ 64)
 -- so many requests may wait
 abbrev pub IsDepth : ℕ → Type 0
 IsDepth n = (1 ≤ n) × (n ≤ 1024)
+
+-- The most bytes of one read. No more requests come with it, since each takes a byte.
+abbrev pub piece : ℕ
+piece = 65536
 
 -- what the tap and the sink tell at one moment
 pub record Outside : Type 0 where
@@ -47,8 +51,9 @@ module _ {X Y : Type 0} (number : X → ℤ) (cancels : X → Bool) (Says : X �
   -- each whole, one after another. Each is said to the request at its place. It says that it was
   -- cancelled only where a request that cancels its number stands behind it, and it does so where one
   -- did by the time that a lane took the request. What lanes took, in the order in which they took it,
-  -- are the first of the requests that are to be answered.
-  pub record Serves (f : Finish) (before : List ℕ) (old new : Outside) : Type 0 where
+  -- are the first of the requests that are to be answered. Whenever a lane took one, and in the end, no
+  -- more waited than the depth and the requests of one read.
+  pub record Serves (depth : ℕ) (f : Finish) (before : List ℕ) (old new : Outside) : Type 0 where
     pub bytes : List ℕ
     pub requests : List X
     pub replies : List (Reply Y)
@@ -60,16 +65,16 @@ module _ {X Y : Type 0} (number : X → ℤ) (cancels : X → Bool) (Says : X �
         new.sink
     pub said : AllByRecursion (IsReply number cancels Says requests) replies
     pub once : AnswersBy f (answered replies) (asked_from number cancels 0 requests)
-    pub took : AllByRecursion (IsTaken number cancels requests) begun
-    pub order : (rest : List ℕ)
+    pub took : AllByRecursion (IsTaken number cancels requests (depth + piece)) begun
+    pub order : (rest : List ℕ) × (length rest ≤ depth + piece)
         × (map (λ h. h.task.place) begun ++ rest ≡ asked_from number cancels 0 requests)
 
   module _ {H : Type 0} (answers : H → X → Y → H → Type 0) (breaks : H → X → H → Type 0) where
     -- So do lanes with these handlers. Each request that was taken was taken by one of them, and each
     -- handler has answered those that its lane took, in order, each once, and done nothing else.
-    pub record ServesBy (f : Finish) (before : List ℕ) (olds news : List H) (old new : Outside)
-        : Type 0 where
-      pub serves : Serves f before old new
+    pub record ServesBy (depth : ℕ) (f : Finish) (before : List ℕ) (olds news : List H)
+        (old new : Outside) : Type 0 where
+      pub serves : Serves depth f before old new
       pub lanes : AllByRecursion (λ h. h.lane ≤ length olds) serves.begun
       pub each : EachFollows answers breaks 1 serves.begun olds news
 

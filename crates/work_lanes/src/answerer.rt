@@ -13,8 +13,8 @@ use work_queue::{CancelFlag, Kind};
 #[derive(Drop)]
 pub struct Made<Y> {
     pub response: Y,
-    /// The work was left unfinished, since the request was cancelled. Where a cancel request was
-    /// read behind it, it is given up, without this response.
+    /// The work was left unfinished, since the request was cancelled. The response isn't put: where
+    /// a cancel request was read behind it, the request is given up, and else all lanes end.
     pub stopped: bool,
 }
 
@@ -66,7 +66,8 @@ pub trait Answerer<X, Y>: Kind<X, Y> + Drop {
         request: &X,
         flag: &CancelFlag,
     ) -> Result<Made<Y>, NoMemory>
-        ensures says { IfOk result (λ made. Self.says request.now false made.response) }
+        ensures says { IfOk result (λ made. made.stopped ≡ false
+            → Self.says request.now false made.response) }
         ensures answers { IfOk result (λ made.
             answers self.old request.now made.response self.new) }
         ensures breaks { OnErr result (breaks self.old request.now self.new) };

@@ -5,7 +5,7 @@ ghost use Rattle.work_queue.specs.declared.queue.Ask.TheVariants as ask;
 ghost use Rattle.work_queue.specs.declared.queue.Told.TheVariants as told;
 ghost use Rattle.work_queue.specs.declared.queue.Load.TheVariants as load;
 ghost use Rattle.work_queue.specs.States.{reader};
-ghost use Rattle.work_lanes.specs.Calls.{state_at, heard_at, begun_at, is_idle, is_open, done_by, idle_not_kept, InHand, GivesNone, HasHeard, HasTaken, HasBegun, HasLooked};
+ghost use Rattle.work_lanes.specs.Calls.{state_at, heard_at, read_at, most_at, begun_at, is_idle, is_open, done_by, idle_not_kept, InHand, GivesNone, HasRoom, HearsMore, HasHeard, HasTaken, HasBegun, HasLooked};
 
 use lane_crew::{Caller, Question};
 use outside::Sink;
@@ -96,6 +96,8 @@ pub(crate) fn await_room<O: Sink, X: Drop, Y: Drop, K: Kind<X, Y>, R: Wait>(
     ensures same { IsSamePass caller.old.pass caller.new.pass }
     ensures heard { heard_at K.number K.cancels caller.new.pass
         ≡ heard_at K.number K.cancels caller.old.pass }
+    ensures room { HasRoom depth result (read_at K.number K.cancels caller.old.pass)
+        (read_at K.number K.cancels caller.new.pass) }
 {
     match caller.ask(rt, &Room { depth }) {
         Ok((reply, _)) => Ok(is_open(reply)),
@@ -117,6 +119,8 @@ pub(crate) fn hear<O: Sink, X: Drop, Y: Drop, K: Kind<X, Y>, R: Wait>(
     ensures same { IsSamePass caller.old.pass caller.new.pass }
     ensures heard { HasHeard request result (heard_at K.number K.cancels caller.old.pass)
         (heard_at K.number K.cancels caller.new.pass) }
+    ensures more { HearsMore (read_at K.number K.cancels caller.old.pass)
+        (read_at K.number K.cancels caller.new.pass) }
 {
     let about = Snapshot::of(&request);
     match caller.call(rt, Ask::Hear(about), Some(Load::Request(request))) {
@@ -134,6 +138,8 @@ pub(crate) fn close<O: Sink, X: Drop, Y: Drop, K: Kind<X, Y>, R: Wait>(
     ensures same { IsSamePass caller.old.pass caller.new.pass }
     ensures heard { heard_at K.number K.cancels caller.new.pass
         ≡ heard_at K.number K.cancels caller.old.pass }
+    ensures most { most_at K.number K.cancels caller.new.pass
+        ≡ most_at K.number K.cancels caller.old.pass }
 {
     caller.call_paid(rt, Ask::Close, None);
 }
@@ -147,6 +153,8 @@ pub(crate) fn halt_reading<O: Sink, X: Drop, Y: Drop, K: Kind<X, Y>, R: Wait>(
     ensures same { IsSamePass caller.old.pass caller.new.pass }
     ensures heard { heard_at K.number K.cancels caller.new.pass
         ≡ heard_at K.number K.cancels caller.old.pass }
+    ensures most { most_at K.number K.cancels caller.new.pass
+        ≡ most_at K.number K.cancels caller.old.pass }
 {
     caller.call_paid(rt, Ask::Halt, None);
 }

@@ -27,17 +27,41 @@ pub(crate) struct Hands<H> {
     pub(crate) flag: CancelFlag,
 }
 
-/// What it ends with: its handler.
+impl<H> Hands<H> {
+    pub(crate) fn into_handler(self) -> H
+        ensures { result ≡ self.handler }
+    {
+        let Hands { handler, .. } = self;
+        handler
+    }
+}
+
+/// What it ends with: its handler, and whether that had stopped a request that wasn't cancelled.
 #[derive(Drop)]
 pub(crate) struct HandsLeft<H> {
     pub(crate) handler: H,
+    pub(crate) false_stop: bool,
+}
+
+/// Why a lane that answers ends before all is over.
+#[derive(Clone, Copy, PartialEq, Eq)]
+pub(crate) enum Broken {
+    NoMemory,
+    /// Its handler has stopped a request that wasn't cancelled.
+    FalseStop,
+}
+
+impl From<NoMemory> for Broken {
+    fn from(_cause: NoMemory) -> Broken {
+        Broken::NoMemory
+    }
 }
 
 impl<H> HandsLeft<H> {
     pub(crate) fn into_handler(self) -> H
         ensures { result ≡ self.handler }
     {
-        let HandsLeft { handler } = self;
+        let HandsLeft { handler, .. } = self;
         handler
     }
 }
@@ -70,10 +94,16 @@ impl<O: Sink, X: Drop, Y: Drop, H: Answerer<X, Y>> Lane<
         } = self;
         let mut handler = handler;
         let mut caller = Caller::new(desk, bells, pass, number);
-        if work(rt, alloc, &mut caller, &mut handler, &flag).is_err() {
+        let end = work(rt, alloc, &mut caller, &mut handler, &flag);
+        if end.is_err() {
             halt(rt, &mut caller);
         }
-        (HandsLeft { handler }, caller.into_pass())
+        let false_stop = matches!(end, Err(Broken::FalseStop));
+        let left = HandsLeft {
+            handler,
+            false_stop,
+        };
+        (left, caller.into_pass())
     }
 }
 
@@ -84,7 +114,7 @@ fn work<O: Sink, X: Drop, Y: Drop, H: Answerer<X, Y>, R: Wait>(
     caller: &mut Caller<WorkQueue<O, X, Y, H>>,
     handler: &mut H,
     flag: &CancelFlag,
-) -> Result<(), NoMemory>
+) -> Result<(), Broken>
     requires hand { caller.old.pass.lane ≡ reader → ⊥ }
     requires fresh { begun_at H.number H.cancels caller.old.pass ≡ [] }
     ensures same { IsSamePass caller.old.pass caller.new.pass }
@@ -108,7 +138,7 @@ fn answer_one<O: Sink, X: Drop, Y: Drop, H: Answerer<X, Y>, R: Wait>(
     handler: &mut H,
     flag: &CancelFlag,
     asked: Asked<X>,
-) -> Result<(), NoMemory>
+) -> Result<(), Broken>
     requires hand { InHand caller.old.pass.lane asked.request asked.cancelled asked.cancelled
         (state_at H.number H.cancels caller.old.pass) }
     ensures same { IsSamePass caller.old.pass caller.new.pass }
@@ -122,13 +152,13 @@ fn answer_one<O: Sink, X: Drop, Y: Drop, H: Answerer<X, Y>, R: Wait>(
     let Asked { request, cancelled } = asked;
     if cancelled {
         let response = H::give_up(alloc, &request);
-        return put(rt, alloc, caller, &request, true, true, response);
+        return Ok(put(rt, alloc, caller, &request, true, true, response)?);
     }
     let Said {
         response,
         cancelled,
     } = handle(rt, alloc, caller, handler, flag, &request)?;
-    put(rt, alloc, caller, &request, false, cancelled, response)
+    Ok(put(rt, alloc, caller, &request, false, cancelled, response)?)
 }
 
 // Puts the response to the request that the lane has in hand.
@@ -160,7 +190,8 @@ struct Said<Y> {
     cancelled: bool,
 }
 
-// Lets the handler do what the request asks.
+// Lets the handler do what the request asks. What it has made of one that it has stopped isn't put,
+// even if the request wasn't cancelled.
 fn handle<O: Sink, X: Drop, Y: Drop, H: Answerer<X, Y>, R: Wait>(
     rt: &R,
     alloc: Global,
@@ -168,7 +199,7 @@ fn handle<O: Sink, X: Drop, Y: Drop, H: Answerer<X, Y>, R: Wait>(
     handler: &mut H,
     flag: &CancelFlag,
     request: &X,
-) -> Result<Said<Y>, NoMemory>
+) -> Result<Said<Y>, Broken>
     requires hand { InHand caller.old.pass.lane request.now false false
         (state_at H.number H.cancels caller.old.pass) }
     ensures same { IsSamePass caller.old.pass caller.new.pass }
@@ -193,8 +224,5 @@ fn handle<O: Sink, X: Drop, Y: Drop, H: Answerer<X, Y>, R: Wait>(
             cancelled: true,
         });
     }
-    Ok(Said {
-        response,
-        cancelled: false,
-    })
+    Err(Broken::FalseStop)
 }

@@ -11,7 +11,9 @@ mod calls;
 mod handling;
 mod reading;
 mod serving;
+mod unbegun;
 
 pub use answerer::{Answerer, Made};
 pub use serving::{LanesEnded, Streams, run_lanes};
+pub use unbegun::Unbegun;
 pub use work_queue::{CancelFlag, Kind};

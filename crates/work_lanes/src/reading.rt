@@ -1,12 +1,12 @@
 // The lane that reads requests.
-ghost use Rattle.std.specs.Prelude.{◌≡◌, ◌<◌, ◌++◌, [], List, ℕ, IfOk, IfErr};
+ghost use Rattle.std.specs.Prelude.{◌≡◌, ◌<◌, ◌≤◌, ◌+◌, ◌++◌, [], List, ℕ, max, IfOk, IfErr};
 ghost use Rattle.seat_desk.specs.Passes.{IsPassOf, IsSamePass};
 ghost use Rattle.json_framing.specs.Cutter.{form_of, framing_of, held};
 ghost use Rattle.lane_crew.specs.Lanes.{IsFresh};
 ghost use Rattle.message_service.specs.Stream.{Heard};
 ghost use Rattle.work_queue.specs.States.{reader};
-ghost use Rattle.work_lanes.specs.Calls.{heard_at};
-ghost use Rattle.work_lanes.specs.Serves.{HasRead};
+ghost use Rattle.work_lanes.specs.Calls.{heard_at, read_at, most_at, HearsMore};
+ghost use Rattle.work_lanes.specs.Serves.{HasRead, piece};
 ghost use Rattle.work_lanes.specs.Reading.{GivesNext, HandsOn, BreaksOff};
 
 use crate::answerer::Answerer;
@@ -60,7 +60,8 @@ impl<T: Tap, O: Sink, X: Drop, Y: Drop, H: Answerer<X, Y>> Lane<
 
     ghost has_run = { λ self pass end after. IsSamePass pass after
         × HasRead (form_of H.framing) H.spells end.finish (heard_at H.number H.cancels after)
-        (T.told self.input) (T.told end.input) };
+        (T.told self.input) (T.told end.input)
+        × (most_at H.number H.cancels after ≤ self.depth + piece) };
 
     fn run<R: Threads + Wait + Sync>(
         self,
@@ -99,6 +100,8 @@ fn read_all<T: Tap, O: Sink, X: Drop, Y: Drop, H: Answerer<X, Y>, R: Wait>(
     ensures same { IsSamePass caller.old.pass caller.new.pass }
     ensures read { HasRead (form_of H.framing) H.spells result
         (heard_at H.number H.cancels caller.new.pass) (T.told input.old) (T.told input.new) }
+    ensures most { most_at H.number H.cancels caller.new.pass
+        ≤ max (most_at H.number H.cancels caller.old.pass) (depth + piece) }
 {
     let mut cutter = Cutter::new(alloc, H::framing(), LARGEST);
     let mut piece = [0u8; PIECE];
@@ -137,6 +140,8 @@ fn hand_on<O: Sink, X: Drop, Y: Drop, H: Answerer<X, Y>, R: Wait>(
         (held cutter.old)
         → HandsOn (form_of H.framing) H.spells result (fed ++ piece.now)
         (heard_at H.number H.cancels caller.new.pass) (held cutter.new) }
+    ensures more { HearsMore (read_at H.number H.cancels caller.old.pass)
+        (read_at H.number H.cancels caller.new.pass) }
     ensures err { IfErr result BreaksOff }
 {
     let Ok(()) = cutter.feed(piece) else {
@@ -161,6 +166,8 @@ fn hear_all<O: Sink, X: Drop, Y: Drop, H: Answerer<X, Y>, R: Wait>(
         (held cutter.old)
         → HandsOn (form_of H.framing) H.spells result fed
         (heard_at H.number H.cancels caller.new.pass) (held cutter.new) }
+    ensures more { HearsMore (read_at H.number H.cancels caller.old.pass)
+        (read_at H.number H.cancels caller.new.pass) }
     ensures err { IfErr result BreaksOff }
 {
     for _ in rt.forever() {

@@ -1,13 +1,15 @@
 // From the start of the input to its end.
-ghost use Rattle.std.specs.Prelude.{◌≡◌, ◌∷◌, ◌≤◌, [], length, vec_capacity, IfOk};
+ghost use Rattle.std.specs.Prelude.{◌≡◌, ◌∷◌, ◌≤◌, ◌+◌, [], length, vec_capacity, IfOk, IfErr};
 ghost use Rattle.json_framing.specs.Cutter.{form_of};
 ghost use Rattle.lane_crew.specs.declared.pair.Either.TheVariants.{First};
+ghost use Rattle.message_service.specs.Ends.{PutAll};
 ghost use Rattle.work_lanes.specs.Serves.{AreHandlers, IsDepth, ServesBy, told_by};
 ghost use Rattle.work_lanes.specs.Crews.{AreLanes, HasReaderFirst, finish_by, handlers_in};
 
 use crate::answerer::Answerer;
 use crate::handling::{Hands, HandsLeft};
 use crate::reading::{Reader, ReaderLeft};
+use crate::unbegun::{Unbegun, unbegun_of};
 use lane_crew::{Crew, Either, run_crew};
 use message_service::Finish;
 use outside::{Sink, Tap};
@@ -30,6 +32,9 @@ pub struct Streams<T, O> {
 pub struct LanesEnded<T, O, H> {
     /// Why all is over.
     pub finish: Finish,
+    /// A handler has stopped a request that wasn't cancelled. All lanes have ended for it, and then
+    /// `finish` says `NoMemory`, unless putting failed.
+    pub false_stop: bool,
     pub tap: T,
     pub sink: O,
     /// The handlers, in their order.
@@ -43,14 +48,16 @@ pub struct LanesEnded<T, O, H> {
 /// Whatever lanes do first: each request that doesn't cancel others is answered at most once, and
 /// exactly once unless memory ran out or putting failed. It is given up only where a request that
 /// cancels its number stands behind it. Responses are put whole, one after another, and nothing else
-/// is put but, where putting failed, a front of one.
+/// is put but, where putting failed, a front of one. Whenever a lane takes a request, and in the end,
+/// no more wait than `depth` and the requests of one read, of which there are 65,536 at most.
 ///
 /// The handlers come back. Each was asked for what its lane took, the earliest first, each request
 /// once; not for what was cancelled by then, and for nothing else.
 ///
 /// # Errors
 ///
-/// `NoMemory` before the input is read, or once all lanes have ended.
+/// What it was given, where memory ran out or a thread couldn't be started before the first lane began:
+/// the input and the handlers as they were, and the sink, to which nothing was put.
 pub fn run_lanes<
     T: Tap + Send,
     O: Sink + Send,
@@ -64,33 +71,43 @@ pub fn run_lanes<
     streams: Streams<T, O>,
     depth: u32,
     handlers: Vec<H>,
-) -> Result<LanesEnded<T, O, H>, NoMemory>
+) -> Result<LanesEnded<T, O, H>, Unbegun<T, O, H>>
     requires handlers { AreHandlers (length handlers.items) }
     requires depth { IsDepth depth }
-    ensures { IfOk result (λ s. ServesBy H.number H.cancels H.says H.written (form_of H.framing)
-        H.spells H.answers H.breaks s.finish [] handlers.items s.handlers.items
+    ensures serves { IfOk result (λ s. ServesBy H.number H.cancels H.says H.written
+        (form_of H.framing) H.spells H.answers H.breaks depth s.finish [] handlers.items
+        s.handlers.items
         (told_by T.told O.told streams.tap streams.sink) (told_by T.told O.told s.tap s.sink)) }
+    ensures back { IfErr result (λ u. (u.streams.tap ≡ streams.tap)
+        × (u.handlers.items ≡ handlers.items)
+        × PutAll [] (O.told streams.sink) (O.told u.streams.sink)) }
 {
-    let Streams { tap, sink } = streams;
-    let flags = Arc::new(alloc, Flags::new(alloc, 1 + handlers.len() as u32)?)?;
-    let back = Vec::with_capacity(alloc, handlers.len())?;
-    let lanes = lanes_of(alloc, &flags, tap, depth, handlers)?;
-    let queue: WorkQueue<O, X, Y, H> = WorkQueue::new(alloc, sink, flags);
-    let Ok(crew) = run_crew(rt, alloc, queue, lanes) else {
-        return Err(NoMemory);
+    let Ok(room) = room_for(alloc, handlers.len()) else {
+        return Err(Unbegun { streams, handlers });
     };
-    let Crew {
-        machine,
-        history: _,
-        ends,
-    } = crew;
+    let Room {
+        shared,
+        flags,
+        lanes,
+        back,
+    } = room;
+    let Streams { tap, sink } = streams;
+    let lanes = lanes_of(alloc, flags, lanes, tap, depth, handlers);
+    let queue: WorkQueue<O, X, Y, H> = WorkQueue::new(alloc, sink, shared);
+    let crew = match run_crew(rt, alloc, queue, lanes) {
+        Ok(crew) => crew,
+        Err(unstarted) => return Err(unbegun_of(unstarted, back)),
+    };
+    let Crew { machine, ends, .. } = crew;
     let mut ends = VecDeque::from_vec(ends);
     let ReaderLeft { input, finish } = reader_left(&mut ends);
+    let false_stop = has_false_stop(&ends);
     let handlers = handlers_left(ends, back);
     let (sink, how) = machine.into_end();
     let finish = finish_by(how, finish);
     Ok(LanesEnded {
         finish,
+        false_stop,
         tap: input,
         sink,
         handlers,
@@ -109,6 +126,11 @@ fn reader_left<T: Drop, H: Drop>(ends: &mut VecDeque<WorkEnd<T, H>>) -> ReaderLe
         Some(Either::First(left)) => left,
         Some(Either::Second(_)) | None => unreachable!(),
     }
+}
+
+// Returns true if one of the lanes ended because its handler had stopped a request that wasn't cancelled.
+fn has_false_stop<T: Drop, H: Drop>(ends: &VecDeque<WorkEnd<T, H>>) -> bool {
+    ends.iter().any(|end| matches!(end, Either::Second(left) if left.false_stop))
 }
 
 // The handlers that the other lanes have left, in this room.
@@ -140,29 +162,73 @@ fn finish_by(how: How, finish: Finish) -> Finish
 }
 
 /// The lane that reads, or one that answers.
-type WorkLane<T, H> = Either<Reader<T>, Hands<H>>;
+pub(crate) type WorkLane<T, H> = Either<Reader<T>, Hands<H>>;
 
-// The reader's lane, and one for each handler.
+// All that needs memory: what the lanes share, a flag for each that answers, and room for the lanes, and
+// for the handlers that come back.
+struct Room<T, H> {
+    shared: Arc<Flags>,
+    flags: Vec<CancelFlag>,
+    lanes: Vec<WorkLane<T, H>>,
+    back: Vec<H>,
+}
+
+fn room_for<T: Drop, H: Drop>(alloc: Global, count: usize) -> Result<Room<T, H>, NoMemory>
+    requires { AreHandlers count }
+    ensures flags { IfOk result (λ r. length r.flags.items ≡ count) }
+    ensures lanes { IfOk result (λ r. (r.lanes.items ≡ []) × (count + 1 ≤ vec_capacity r.lanes)) }
+    ensures back { IfOk result (λ r. (r.back.items ≡ []) × (count ≤ vec_capacity r.back)) }
+{
+    let shared = Arc::new(alloc, Flags::new(alloc, 1 + count as u32)?)?;
+    let flags = flags_of(alloc, &shared, count as u32)?;
+    Ok(Room {
+        shared,
+        flags,
+        lanes: Vec::with_capacity(alloc, count + 1)?,
+        back: Vec::with_capacity(alloc, count)?,
+    })
+}
+
+// The flags of so many lanes, the first of which has the number 1.
+fn flags_of(alloc: Global, shared: &Arc<Flags>, count: u32) -> Result<Vec<CancelFlag>, NoMemory>
+    requires { AreHandlers count }
+    ensures { IfOk result (λ flags. length flags.items ≡ count) }
+{
+    let mut flags = Vec::with_capacity(alloc, count as usize)?;
+    for before in 0..count {
+        flags.push_reserved(CancelFlag::of(Arc::try_clone(shared)?, 1 + before));
+    }
+    Ok(flags)
+}
+
+// The reader's lane, and one for each handler, in this room. It takes no memory.
 fn lanes_of<T: Drop, H: Drop>(
     alloc: Global,
-    flags: &Arc<Flags>,
+    flags: Vec<CancelFlag>,
+    room: Vec<WorkLane<T, H>>,
     input: T,
     depth: u32,
     handlers: Vec<H>,
-) -> Result<Vec<WorkLane<T, H>>, NoMemory>
-    requires { AreHandlers (length handlers.items) }
-    ensures { IfOk result (λ lanes. AreLanes input handlers.items lanes.items) }
+) -> Vec<WorkLane<T, H>>
+    requires handlers { AreHandlers (length handlers.items) }
+    requires flags { length flags.items ≡ length handlers.items }
+    requires empty { room.items ≡ [] }
+    requires room { length handlers.items + 1 ≤ vec_capacity room }
+    ensures { AreLanes input depth handlers.items result.items }
 {
-    let mut lanes = Vec::with_capacity(alloc, handlers.len() + 1)?;
+    let mut lanes = room;
     lanes.push_reserved(Either::First(Reader {
         alloc,
         input,
         depth,
     }));
+    let mut flags = VecDeque::from_vec(flags);
     let mut rest = VecDeque::from_vec(handlers);
     let mut number = 1;
     while let Some(handler) = rest.pop_front() {
-        let flag = CancelFlag::of(Arc::try_clone(flags)?, number);
+        let Some(flag) = flags.pop_front() else {
+            unreachable!()
+        };
         lanes.push_reserved(Either::Second(Hands {
             alloc,
             number,
@@ -171,5 +237,5 @@ fn lanes_of<T: Drop, H: Drop>(
         }));
         number += 1;
     }
-    Ok(lanes)
+    lanes
 }

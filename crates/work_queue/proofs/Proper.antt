@@ -1,13 +1,15 @@
 -- What holds of each state is kept by each call.
-use Rattle.std.proofs.Common.{◌≡◌, ℕ, ℤ, suc, ◌+◌, ◌==◌, ◌&&◌, ◌||◌, Bool, true, false, cond}
+use Rattle.std.proofs.Common.{◌≡◌, ℕ, ℤ, suc, ◌+◌, ◌≤◌, ◌<◌, ◌==◌, ◌&&◌, ◌||◌, Bool, true, false, cond, max}
 use Rattle.std.proofs.Common.{List, [], ◌∷◌, ◌++◌, length, map, Option, Some, None}
 use Rattle.std.proofs.Common.{refl, ap, sym, ◌∙◌, subst, append_assoc, append-nil, length-append, arith}
 use Rattle.std.specs.List.{list_any, AllByRecursion}
 use Rattle.std.specs.Ordering.{int_eq}
-use Rattle.std.proofs.lemmas.List.{map-append}
+use Rattle.std.proofs.Common.{eq-eqb, ne_eqb}
+use Rattle.std.proofs.Math.Nat.{le-max_left, le-max_right}
+use Rattle.std.proofs.lemmas.List.{map-append, length-map}
 use Rattle.work_queue.specs.States.{State, Task, InHand, Reply, task_at, hands_without, task_marked}
 use Rattle.work_queue.specs.States.{in_hand_marked, heard_by, taken_by, answered_by, has_cancel}
-use Rattle.work_queue.specs.States.{reader, begun, new_task, IsTask, IsBegun, IsTaken, IsReply, IsProper, asked_from, times, places_waiting}
+use Rattle.work_queue.specs.States.{reader, roomed, begun, new_task, IsTask, IsBegun, IsTaken, IsReply, IsProper, asked_from, times, places_waiting}
 use Rattle.work_queue.specs.States.{places_answered, places_taken}
 
 false_not_true : false ≡ true → ⊥
@@ -61,6 +63,47 @@ times_on k (x ∷ xs) ys =
     let e = times_on k xs ys in
     let d : ℕ = cond (k == x) 1 0 in
     let goal : d + times k (xs ++ ys) ≡ d + times k xs + times k ys = omega (arith, e) in goal
+
+abbrev head_or : ℕ → List ℕ → ℕ
+head_or other [] = other
+head_or other (x ∷ xs) = x
+
+abbrev tail_of : List ℕ → List ℕ
+tail_of [] = []
+tail_of (x ∷ xs) = xs
+
+not_once : (p x n : ℕ) → p ≡ x → cond (p == x) 1 0 + n ≡ 0 → ⊥
+not_once p x n is e =
+    let d = ap {B = ℕ} (λ (b : Bool). cond b 1 0) (eq-eqb p x is) in omega (arith, d, e)
+
+more_none : (p x n : ℕ) → cond (p == x) 1 0 + n ≡ 0 → n ≡ 0
+more_none p x n e = let d : ℕ = cond (p == x) 1 0 in let s : d + n ≡ 0 = e in omega (arith, s)
+
+-- the same number stands once in each: as many stand behind it
+same_rest : (p : ℕ) (us vs xs ys : List ℕ) → us ++ p ∷ xs ≡ vs ++ p ∷ ys → times p us ≡ 0
+    → times p vs ≡ 0 → length xs ≡ length ys
+same_rest p [] [] xs ys e a b =
+    let l = ap (λ (zs : List ℕ). length zs) e in
+    let k : suc (length xs) ≡ suc (length ys) = l in omega (arith, k)
+same_rest p [] (y ∷ vs) xs ys e a b =
+    absurd (not_once p y (times p vs) (ap (λ (zs : List ℕ). head_or p zs) e) b)
+same_rest p (x ∷ us) [] xs ys e a b =
+    absurd (not_once p x (times p us) (sym (ap (λ (zs : List ℕ). head_or p zs) e)) a)
+same_rest p (x ∷ us) (y ∷ vs) xs ys e a b =
+    same_rest p us vs xs ys (ap (λ (zs : List ℕ). tail_of zs) e) (more_none p x (times p us) a)
+    (more_none p y (times p vs) b)
+
+asked_none : (b : Bool) (k i : ℕ) (xs : List ℕ) → (k == i) ≡ false → times k xs ≡ 0
+    → times k (cond b xs (i ∷ xs)) ≡ 0
+asked_none true k i xs n e = e
+asked_none false k i xs n e =
+    let d = ap {B = ℕ} (λ (x : Bool). cond x 1 0) n in
+    let goal : cond (k == i) 1 0 + times k xs ≡ 0 = omega (arith, d, e) in goal
+
+long_step : (b : Bool) (i j : ℕ) (xs ys : List ℕ) → length xs ≡ length ys
+    → length (cond b xs (i ∷ xs)) ≡ length (cond b ys (j ∷ ys))
+long_step true i j xs ys e = e
+long_step false i j xs ys e = ap suc e
 
 module _ {X : Type 0} (number : X → ℤ) (cancels : X → Bool) where
   asked_first : (b : Bool) (k i : ℕ)
@@ -204,9 +247,10 @@ module _ {X : Type 0} (number : X → ℤ) (cancels : X → Bool) where
         (append_assoc k.between k.behind (m ∷ []));
   }
 
-  taken_more : (heard : List X) (m : X) (h : InHand X) → IsTaken number cancels heard h
-      → IsTaken number cancels (heard ++ m ∷ []) h
-  taken_more heard m h k = record {
+  taken_more : (heard : List X) (most more : ℕ) (m : X) → most ≤ more → (h : InHand X)
+      → IsTaken number cancels heard most h
+      → IsTaken number cancels (heard ++ m ∷ []) more h
+  taken_more heard most more m up h k = record {
     hand = k.hand;
     before = k.before;
     between = k.between;
@@ -216,13 +260,14 @@ module _ {X : Type 0} (number : X → ℤ) (cancels : X → Bool) where
     begun = k.begun;
     asks = k.asks;
     was = k.was;
+    waited = let w = k.waited in omega (arith, w, up);
   }
 
-  -- what a lane takes it has in hand
-  taken_hand : (heard : List X) (h : InHand X) → (h.lane ≡ reader → ⊥)
-      → IsBegun number cancels heard h.task → IsTaken number cancels heard h
-  taken_hand heard h hand k = record {
-    hand = hand;
+  -- and once more may wait
+  pub taken_up : (heard : List X) (most more : ℕ) → most ≤ more → (h : InHand X)
+      → IsTaken number cancels heard most h → IsTaken number cancels heard more h
+  taken_up heard most more up h k = record {
+    hand = k.hand;
     before = k.before;
     between = k.between;
     behind = k.behind;
@@ -231,6 +276,7 @@ module _ {X : Type 0} (number : X → ℤ) (cancels : X → Bool) where
     begun = k.begun;
     asks = k.asks;
     was = k.was;
+    waited = let w = k.waited in omega (arith, w, up);
   }
 
   -- a lane begins it
@@ -253,6 +299,100 @@ module _ {X : Type 0} (number : X → ℤ) (cancels : X → Bool) where
         marked = k.marked
             ∙ ap (λ (xs : List X). has_cancel number cancels (number t.work.request) xs)
             (sym (append-nil k.behind));
+      }
+
+  -- ---- who waits behind the first that waits
+
+  asked_below : (k i : ℕ) (xs : List X) → i + length xs ≤ k
+      → times k (asked_from number cancels i xs) ≡ 0
+  asked_below k i [] le = refl
+  asked_below k i (x ∷ xs) le =
+      let rest = asked_below k (i + 1) xs (let l : i + suc (length xs) ≤ k = le in omega (arith, l)) in
+      let other : (k == i) ≡ false = ne_eqb k i (λ e.
+      let l : i + suc (length xs) ≤ k = le in omega (arith, l, e)) in
+      asked_none (cancels x) k i (asked_from number cancels (i + 1) xs) other rest
+
+  asked_above : (k i : ℕ) (xs : List X) → k < i
+      → times k (asked_from number cancels i xs) ≡ 0
+  asked_above k i [] lt = refl
+  asked_above k i (x ∷ xs) lt =
+      let rest = asked_above k (i + 1) xs (omega (arith, lt)) in
+      let other : (k == i) ≡ false = ne_eqb k i (λ e. omega (arith, lt, e)) in
+      asked_none (cancels x) k i (asked_from number cancels (i + 1) xs) other rest
+
+  asked_long : (i j : ℕ) (xs : List X)
+      → length (asked_from number cancels i xs) ≡ length (asked_from number cancels j xs)
+  asked_long i j [] = refl
+  asked_long i j (x ∷ xs) = long_step (cancels x) i j (asked_from number cancels (i + 1) xs)
+      (asked_from number cancels (j + 1) xs) (asked_long (i + 1) (j + 1) xs)
+
+  asked_split : (i : ℕ) (xs : List X) (m : X) (ys : List X) → cancels m ≡ false
+      → asked_from number cancels i (xs ++ m ∷ ys)
+      ≡ asked_from number cancels i xs
+      ++ (i + length xs) ∷ asked_from number cancels (i + length xs + 1) ys
+  asked_split i [] m ys c =
+      let same : i ≡ i + 0 = omega arith in
+      ap {B = List ℕ} (λ (b : Bool). cond b (asked_from number cancels (i + 1) ys)
+      (i ∷ asked_from number cancels (i + 1) ys)) c
+      ∙ ap (λ (n : ℕ). n ∷ asked_from number cancels (n + 1) ys) same
+  asked_split i (x ∷ xs) m ys c =
+      let same : i + 1 + length xs ≡ i + suc (length xs) = omega arith in
+      asked_put (cancels x) i (asked_from number cancels (i + 1) (xs ++ m ∷ ys))
+      (asked_from number cancels (i + 1) xs)
+      ((i + suc (length xs)) ∷ asked_from number cancels (i + suc (length xs) + 1) ys)
+      (asked_split (i + 1) xs m ys c
+      ∙ ap (λ (n : ℕ). asked_from number cancels (i + 1) xs
+      ++ n ∷ asked_from number cancels (n + 1) ys) same)
+
+  -- those that wait behind it are those that were heard behind it
+  waits_behind : (heard : List X) (t : Task X) (took waits : List ℕ)
+      → (k : IsTask number cancels heard t)
+      → took ++ t.place ∷ waits ≡ asked_from number cancels 0 heard
+      → length waits ≡ length (asked_from number cancels 0 k.behind)
+  waits_behind heard t took waits k order =
+      let p = t.place in
+      let front = asked_from number cancels 0 k.before in
+      let back = asked_from number cancels (length k.before + 1) k.behind in
+      let here : 0 + length k.before ≡ length k.before = omega arith in
+      let is : took ++ p ∷ waits ≡ front ++ p ∷ back =
+      order ∙ (ap (λ (xs : List X). asked_from number cancels 0 xs) k.stands
+      ∙ (asked_split 0 k.before t.work.request k.behind k.asks
+      ∙ (ap (λ (n : ℕ). front ++ n ∷ asked_from number cancels (n + 1) k.behind) here
+      ∙ ap (λ (n : ℕ). front ++ n ∷ back) k.place))) in
+      let low = asked_below p 0 k.before (let e = k.place in omega (arith, e)) in
+      let high = asked_above p (length k.before + 1) k.behind (let e = k.place in omega (arith, e)) in
+      same_rest p took front waits back is
+      (let all = ap (λ (xs : List ℕ). times p xs) is in
+      let a = times_on p took (p ∷ waits) in
+      let b = times_on p front (p ∷ back) in
+      let one = eq-eqb p p refl in
+      let c : times p (p ∷ waits) ≡ 1 + times p waits =
+      ap (λ (x : Bool). cond x 1 0 + times p waits) one in
+      let d : times p (p ∷ back) ≡ 1 + times p back =
+      ap (λ (x : Bool). cond x 1 0 + times p back) one in
+      omega (arith, all, a, b, c, d, low, high)) low
+      ∙ asked_long (length k.before + 1) 0 k.behind
+
+  -- what a lane takes, and how many waited
+  taken_now : (heard : List X) (most lane : ℕ) (t : Task X) (took waits : List ℕ)
+      → (lane ≡ reader → ⊥) → 1 + length waits ≤ most
+      → took ++ t.place ∷ waits ≡ asked_from number cancels 0 heard
+      → IsTask number cancels heard t
+      → IsTaken number cancels heard most (record { lane = lane; task = begun (length heard) t })
+  unfolding task_begun
+  taken_now heard most lane t took waits hand fits order k =
+      let b = task_begun heard t k in
+      let same = waits_behind heard t took waits k order in record {
+        hand = hand;
+        before = b.before;
+        between = k.behind;
+        behind = b.behind;
+        stands = b.stands;
+        place = b.place;
+        begun = b.begun;
+        asks = b.asks;
+        was = b.was;
+        waited = omega (arith, same, fits);
       }
 
   task_new : (heard : List X) (m : X) → cancels m ≡ false
@@ -372,8 +512,12 @@ module _ {X Y : Type 0} (number : X → ℤ) (cancels : X → Bool) (Says : X �
         let a = asked_last number cancels k 0 s.heard m in
         let z = ap {B = ℕ} (λ (x : Bool). cond x 0 (cond (k == 0 + length s.heard) 1 0)) c in
         let e = p.each k in omega (arith, w, h, a, z, e);
-    took = all_more (IsTaken number cancels s.heard) (IsTaken number cancels (s.heard ++ m ∷ []))
-        (taken_more number cancels s.heard m) s.taken p.took;
+    took = all_more (IsTaken number cancels s.heard s.most)
+        (IsTaken number cancels (s.heard ++ m ∷ []) s.most)
+        (taken_more number cancels s.heard s.most s.most m (omega arith)) s.taken p.took;
+    room = let l = length-map s.waiting (task_marked number (number m)) in
+        let r = p.room in omega (arith, l, r);
+    most = p.most;
     order =
         let old = asked_from number cancels 0 s.heard in
         ap (λ (xs : List ℕ). places_taken s ++ xs)
@@ -402,8 +546,15 @@ module _ {X Y : Type 0} (number : X → ℤ) (cancels : X → Bool) (Says : X �
         let n : 0 + length s.heard ≡ length s.heard = omega arith in
         let d = ap {B = ℕ} (λ i. cond (k == i) 1 0) n in
         let e = p.each k in omega (arith, w, a, z, d, e);
-    took = all_more (IsTaken number cancels s.heard) (IsTaken number cancels (s.heard ++ m ∷ []))
-        (taken_more number cancels s.heard m) s.taken p.took;
+    took = all_more (IsTaken number cancels s.heard s.most)
+        (IsTaken number cancels (s.heard ++ m ∷ []) (max s.most (s.room + 1)))
+        (taken_more number cancels s.heard s.most (max s.most (s.room + 1)) m
+        (le-max_left s.most (s.room + 1))) s.taken p.took;
+    room =
+        let new : Task X = new_task number (length s.heard) m in
+        let l = length-append s.waiting (new ∷ []) in
+        let r = p.room in omega (arith, l, r);
+    most = le-max_right s.most (s.room + 1);
     order =
         let new : Task X = new_task number (length s.heard) m in
         let old = asked_from number cancels 0 s.heard in
@@ -442,8 +593,20 @@ module _ {X Y : Type 0} (number : X → ℤ) (cancels : X → Bool) (Says : X �
             ∙ (append_assoc (places_taken s) (t.place ∷ []) (map (λ (x : Task X). x.place) ts)
             ∙ (sym (ap (λ (ws : List (Task X)). places_taken s ++ map (λ (x : Task X). x.place) ws)
             is) ∙ p.order));
-        took = all_last (IsTaken number cancels s.heard) s.taken one p.took
-            (taken_hand number cancels s.heard one hand (task_begun number cancels s.heard t all.0));
+        took = all_last (IsTaken number cancels s.heard s.most) s.taken one p.took
+            (taken_now number cancels s.heard s.most lane t (places_taken s)
+            (map (λ (x : Task X). x.place) ts) hand
+            (let long = ap (λ (xs : List (Task X)). length xs) is in
+            let l = length-map ts (λ (x : Task X). x.place) in
+            let n : length s.waiting ≡ suc (length ts) = long in
+            let r = p.room in let o = p.most in omega (arith, n, l, r, o))
+            (sym (ap (λ (ws : List (Task X)). places_taken s ++ map (λ (x : Task X). x.place) ws) is)
+            ∙ p.order) all.0);
+        room =
+            let long = ap (λ (xs : List (Task X)). length xs) is in
+            let n : length s.waiting ≡ suc (length ts) = long in
+            let r = p.room in omega (arith, n, r);
+        most = p.most;
       }
 
   pub proper_taken : (lane : ℕ) (s : State X Y) → (lane ≡ reader → ⊥)
@@ -481,4 +644,23 @@ module _ {X Y : Type 0} (number : X → ℤ) (cancels : X → Bool) (Says : X �
             let e = p.each k in omega (arith, h, w, e);
         took = p.took;
         order = p.order;
+        room = p.room;
+        most = p.most;
       }
+
+  -- the reader was told that fewer than this wait
+  pub proper_roomed : (depth : ℕ) (s : State X Y) → length s.waiting < depth
+      → IsProper number cancels Says s → IsProper number cancels Says (roomed depth s)
+  proper_roomed depth s lt p = record {
+    waits = p.waits;
+    holds = p.holds;
+    said = p.said;
+    each = p.each;
+    took = all_more (IsTaken number cancels s.heard s.most)
+        (IsTaken number cancels s.heard (max s.most depth))
+        (taken_up number cancels s.heard s.most (max s.most depth) (le-max_left s.most depth))
+        s.taken p.took;
+    order = p.order;
+    room = omega (arith, lt);
+    most = le-max_right s.most depth;
+  }

@@ -17,7 +17,8 @@ use Rattle.work_queue.specs.declared.queue.Told.TheVariants as told
 use Rattle.work_queue.specs.declared.queue.Load.{Load}
 use Rattle.work_queue.specs.declared.queue.Load.TheVariants as load
 use Rattle.work_queue.specs.States.{State, Task, InHand, begun, begun_by, unless, reader, first}
-use Rattle.work_queue.specs.States.{state_of, state_then, moved, heard_by}
+use Rattle.work_queue.specs.States.{state_of, state_then, moved, heard_by, roomed}
+use Rattle.work_queue.specs.States.{Read, read_in, heard_in, roomed_in}
 use Rattle.work_queue.specs.States.{taken_by, answered_by, task_at, is_cancelled, has_some}
 use Rattle.work_queue.specs.States.{answer_to, is_kept, is_short, ComesOut, FirstIs}
 use Rattle.work_queue.specs.StateLaws.{HasStill, other_lane, on_from, rest_still}
@@ -70,45 +71,49 @@ module _ {X Y : Type 0} (number : X → ℤ) (cancels : X → Bool) where
 
   -- ---- what was heard
 
-  heard_either : (b : Bool) (s s' : State X Y) → b ≡ false → (cond b s' s).heard ≡ s.heard
-  heard_either true s s' e = absurd (let x : false ≡ true = sym e in false_not_true x)
-  heard_either false s s' e = refl
+  read_either : (b : Bool) (s s' : State X Y) → b ≡ false → read_in (cond b s' s) ≡ read_in s
+  read_either true s s' e = absurd (let x : false ≡ true = sym e in false_not_true x)
+  read_either false s s' e = refl
 
-  heard_taken : (lane : ℕ) (s : State X Y) (ts : List (Task X))
-      → (taken_by lane s ts).heard ≡ s.heard
-  heard_taken lane s [] = refl
-  heard_taken lane s (t ∷ ts) = refl
+  read_taken : (lane : ℕ) (s : State X Y) (ts : List (Task X))
+      → read_in (taken_by lane s ts) ≡ read_in s
+  read_taken lane s [] = refl
+  read_taken lane s (t ∷ ts) = refl
 
-  heard_answered : (lane : ℕ) (s : State X Y) (y : Y) (o : Option (Task X))
-      → (answered_by lane s y o).heard ≡ s.heard
-  heard_answered lane s y None = refl
-  heard_answered lane s y (Some t) = refl
+  read_answered : (lane : ℕ) (s : State X Y) (y : Y) (o : Option (Task X))
+      → read_in (answered_by lane s y o) ≡ read_in s
+  read_answered lane s y None = refl
+  read_answered lane s y (Some t) = refl
 
-  heard_step : (s : State X Y) (lane : ℕ) (c : Ask X Y) → (lane == reader) ≡ false
-      → (moved number cancels s lane c).heard ≡ s.heard
-  heard_step s lane (ask.Hear about) n = heard_either (lane == reader) s _ n
-  heard_step s lane ask.Take n = heard_taken lane s s.waiting
-  heard_step s lane (ask.Answer about) n =
-      heard_answered lane s about.value (task_at lane s.hands)
-  heard_step s lane (ask.Room depth) n = refl
-  heard_step s lane ask.IsCancelled n = refl
-  heard_step s lane ask.Close n = refl
-  heard_step s lane ask.Halt n = refl
+  read_step : (s : State X Y) (lane : ℕ) (c : Ask X Y) → (lane == reader) ≡ false
+      → read_in (moved number cancels s lane c) ≡ read_in s
+  read_step s lane (ask.Hear about) n = read_either (lane == reader) s _ n
+  read_step s lane ask.Take n = read_taken lane s s.waiting
+  read_step s lane (ask.Answer about) n =
+      read_answered lane s about.value (task_at lane s.hands)
+  read_step s lane (ask.Room depth) n = read_either (lane == reader) s (roomed depth s) n
+  read_step s lane ask.IsCancelled n = refl
+  read_step s lane ask.Close n = refl
+  read_step s lane ask.Halt n = refl
 
-  heard_rest : (s : State X Y) (rest : List (Entry (Ask X Y) Told)) → calls_by reader rest ≡ []
-      → (fold (state_then number cancels) s rest).heard ≡ s.heard
-  heard_rest s [] none = refl
-  heard_rest s (e ∷ es) none =
+  read_rest : (s : State X Y) (rest : List (Entry (Ask X Y) Told)) → calls_by reader rest ≡ []
+      → read_in (fold (state_then number cancels) s rest) ≡ read_in s
+  read_rest s [] none = refl
+  read_rest s (e ∷ es) none =
       let o = other_lane number cancels reader e es none in
-      heard_rest (state_then number cancels s e) es o.1 ∙ heard_step s e.lane e.call o.0
+      read_rest (state_then number cancels s e) es o.1 ∙ read_step s e.lane e.call o.0
 
-  -- what was heard stays while others call
+  -- what the reader has done stays while others call
+  pub read_on : (lane : ℕ) (seen h : List (Entry (Ask X Y) Told)) → lane ≡ reader
+      → GoesOn lane seen h → read_in (At h) ≡ read_in (At seen)
+  read_on lane seen h is on =
+      ap (λ (x : List (Entry (Ask X Y) Told)). read_in (At x)) on.1
+      ∙ (ap (λ (s : State X Y). read_in s) (on_from number cancels seen on.0)
+      ∙ read_rest (At seen) on.0 (subst (λ (k : ℕ). calls_by k on.0 ≡ []) is on.2))
+
   pub heard_on : (lane : ℕ) (seen h : List (Entry (Ask X Y) Told)) → lane ≡ reader
       → GoesOn lane seen h → (At h).heard ≡ (At seen).heard
-  heard_on lane seen h is on =
-      ap (λ (x : List (Entry (Ask X Y) Told)). (At x).heard) on.1
-      ∙ (ap (λ (s : State X Y). s.heard) (on_from number cancels seen on.0)
-      ∙ heard_rest (At seen) on.0 (subst (λ (k : ℕ). calls_by k on.0 ≡ []) is on.2))
+  heard_on lane seen h is on = ap (λ (r : Read X). r.heard) (read_on lane seen h is on)
 
   -- ---- a call
 
@@ -176,7 +181,9 @@ module _ {X Y : Type 0} (number : X → ℤ) (cancels : X → Bool) where
   begun_step lane s other (ask.Answer about) n =
       ap (λ (hs : List (InHand X)). begun_by lane hs)
       (taken_answered other s about.value (task_at other s.hands))
-  begun_step lane s other (ask.Room depth) n = refl
+  begun_step lane s other (ask.Room depth) n =
+      ap (λ (hs : List (InHand X)). begun_by lane hs)
+      (taken_either (other == reader) s (roomed depth s) refl)
   begun_step lane s other ask.IsCancelled n = refl
   begun_step lane s other ask.Close n = refl
   begun_step lane s other ask.Halt n = refl
@@ -246,7 +253,9 @@ module _ {X Y : Type 0} (number : X → ℤ) (cancels : X → Bool) where
   below_step n s lane (ask.Answer about) lt f =
       below_same n s (moved number cancels s lane (ask.Answer about))
       (taken_answered lane s about.value (task_at lane s.hands)) f
-  below_step n s lane (ask.Room depth) lt f = f
+  below_step n s lane (ask.Room depth) lt f =
+      below_same n s (moved number cancels s lane (ask.Room depth))
+      (taken_either (lane == reader) s (roomed depth s) refl) f
   below_step n s lane ask.IsCancelled lt f = f
   below_step n s lane ask.Close lt f = f
   below_step n s lane ask.Halt lt f = f
@@ -289,20 +298,31 @@ module _ {X Y : Type 0} (number : X → ℤ) (cancels : X → Bool) where
 
   -- ---- the reader's calls
 
-  heard_so : (s : State X Y) (m : X) (b : Bool)
-      → (heard_by number cancels s m b).heard ≡ s.heard ++ m ∷ []
-  heard_so s m true = refl
-  heard_so s m false = refl
+  read_so : (s : State X Y) (m : X) (b : Bool)
+      → read_in (heard_by number cancels s m b) ≡ heard_in m b (read_in s)
+  read_so s m true = refl
+  read_so s m false = refl
 
-  -- a question changes nothing of what was heard
-  pub still_heard : (lane : ℕ) (seen seen' : List (Entry (Ask X Y) Told)) (call : Ask X Y)
+  -- a call that isn't kept changes nothing of what the reader has done
+  pub still_read : (lane : ℕ) (seen seen' : List (Entry (Ask X Y) Told)) (call : Ask X Y)
       (reply : Told) (good : Option (Load X)) → lane ≡ reader
       → is_kept call reply ≡ false
-      → Called lane seen call reply good seen' → (At seen').heard ≡ (At seen).heard
-  still_heard lane seen seen' call reply good is not k =
-      ap (λ (s : State X Y). s.heard) k.left
-      ∙ (ap (λ (b : Bool). (cond b (moved number cancels (At k.point) lane call)
-      (At k.point)).heard) not ∙ heard_on lane seen k.point is k.on)
+      → Called lane seen call reply good seen' → read_in (At seen') ≡ read_in (At seen)
+  still_read lane seen seen' call reply good is not k =
+      ap (λ (s : State X Y). read_in s) k.left
+      ∙ (ap (λ (b : Bool). read_in (cond b (moved number cancels (At k.point) lane call)
+      (At k.point))) not ∙ read_on lane seen k.point is k.on)
+
+  -- the reader was told that fewer than this wait
+  pub now_roomed : (lane depth : ℕ) (seen seen' : List (Entry (Ask X Y) Told))
+      (good : Option (Load X)) → lane ≡ reader
+      → Called lane seen (ask.Room depth) told.Open good seen'
+      → read_in (At seen') ≡ roomed_in depth (read_in (At seen))
+  now_roomed lane depth seen seen' good is k =
+      ap (λ (s : State X Y). read_in s) k.left
+      ∙ (ap (λ (b : Bool). read_in (cond b (roomed depth (At k.point)) (At k.point)))
+      (eq-eqb lane reader is)
+      ∙ ap (λ (r : Read X). roomed_in depth r) (read_on lane seen k.point is k.on))
 
   -- the request was heard
   pub now_heard : (lane : ℕ) (seen seen' : List (Entry (Ask X Y) Told)) (call : Ask X Y)
@@ -311,16 +331,16 @@ module _ {X Y : Type 0} (number : X → ℤ) (cancels : X → Bool) where
       ≡ cond (lane == reader) (heard_by number cancels s m (cancels m)) s)
       → is_kept call told.Done ≡ true
       → Called lane seen call told.Done good seen'
-      → (At seen').heard ≡ (At seen).heard ++ m ∷ []
+      → read_in (At seen') ≡ heard_in m (cancels m) (read_in (At seen))
   now_heard lane seen seen' call m good is moves done k =
-      ap (λ (s : State X Y). s.heard) k.left
-      ∙ (ap (λ (b : Bool). (cond b (moved number cancels (At k.point) lane call)
-      (At k.point)).heard) done
-      ∙ (ap (λ (s : State X Y). s.heard) (moves (At k.point))
-      ∙ (ap (λ (b : Bool). (cond b (heard_by number cancels (At k.point) m (cancels m))
-      (At k.point)).heard) (eq-eqb lane reader is)
-      ∙ (heard_so (At k.point) m (cancels m)
-      ∙ ap (λ (xs : List X). xs ++ m ∷ []) (heard_on lane seen k.point is k.on)))))
+      ap (λ (s : State X Y). read_in s) k.left
+      ∙ (ap (λ (b : Bool). read_in (cond b (moved number cancels (At k.point) lane call)
+      (At k.point))) done
+      ∙ (ap (λ (s : State X Y). read_in s) (moves (At k.point))
+      ∙ (ap (λ (b : Bool). read_in (cond b (heard_by number cancels (At k.point) m (cancels m))
+      (At k.point))) (eq-eqb lane reader is)
+      ∙ (read_so (At k.point) m (cancels m)
+      ∙ ap (λ (r : Read X). heard_in m (cancels m) r) (read_on lane seen k.point is k.on)))))
 
   -- ---- the calls of those who answer
 

@@ -1,7 +1,9 @@
 -- A turn of the queue.
-use Rattle.std.proofs.Common.{◌≡◌, ℕ, ℤ, ◌==◌, Bool, true, false, cond, List, [], ◌∷◌, ◌++◌}
+use Rattle.std.proofs.Common.{◌≡◌, ℕ, ℤ, ◌<◌, ◌==◌, Bool, true, false, cond, List, [], ◌∷◌, ◌++◌, length}
 use Rattle.std.proofs.Common.{Option, Some, None, refl, ap, sym, ◌∙◌, subst, inl, append-nil}
-use Rattle.std.proofs.Common.{eq-eqb}
+use Rattle.std.proofs.Common.{eq-eqb, arith}
+use Rattle.std.proofs.lemmas.Bool.{lt-ltb}
+use Rattle.std.proofs.lemmas.List.{length-map}
 use Rattle.std.specs.Global.{Vec}
 use Rattle.std.proofs.lemmas.List.Concat.{flat_map-append}
 use Rattle.outside.specs.Told.{SinkTold}
@@ -19,12 +21,13 @@ use Rattle.work_queue.specs.declared.queue.Load.{Load}
 use Rattle.work_queue.specs.declared.queue.Load.TheVariants as load
 use Rattle.work_queue.specs.Rows.{waiting_then, hands_then, rows_without, row_at, is_marked}
 use Rattle.work_queue.specs.Rows.{HasTaken}
-use Rattle.work_queue.specs.States.{State, Task, Reply, reader, state_of, moved, heard_by, taken_by}
+use Rattle.work_queue.specs.States.{State, Task, Reply, reader, state_of, moved, heard_by, taken_by, roomed}
 use Rattle.work_queue.specs.States.{answered_by, task_at, has_some, FirstIs, is_kept, PutSo, put_by}
-use Rattle.work_queue.specs.StateLaws.{Stands, TurnsSo, HearOnly, TakeOnly, LookOnly, AnswerOnly}
+use Rattle.work_queue.specs.StateLaws.{Stands, TurnsSo, HearOnly, RoomOnly, TakeOnly, LookOnly}
+use Rattle.work_queue.specs.StateLaws.{AnswerOnly}
 use Rattle.work_queue.specs.StateLaws.{one_more}
 use Rattle.work_queue.proofs.Rowing.{rows_heard, rows_taken, rows_answered, hand_marked_so}
-use Rattle.work_queue.proofs.Proper.{proper_hears, proper_taken, proper_answered}
+use Rattle.work_queue.proofs.Proper.{proper_hears, proper_taken, proper_answered, proper_roomed}
 
 module _ {X Y : Type 0} (number : X → ℤ) (cancels : X → Bool) (Says : X → Bool → Y → Type 0)
     (written : Y → List ℕ) where
@@ -296,6 +299,41 @@ module _ {O X Y K : Type 0} (number : X → ℤ) (cancels : X → Bool) (Says : 
   turn_look m m' lane put r o w h is (ask.Answer about) one = absurd one
   turn_look m m' lane put r o w h is ask.Close one = absurd one
   turn_look m m' lane put r o w h is ask.Halt one = absurd one
+
+module _ {O X Y K : Type 0} (number : X → ℤ) (cancels : X → Bool) (Says : X → Bool → Y → Type 0)
+    (written : Y → List ℕ) (told_of : O → SinkTold) where
+  -- fewer than this wait, and the reader may have been told so
+  roomed_so : (b : Bool) (m : WorkQueue O X Y K) (s : State X Y) (depth : ℕ)
+      → length s.waiting < depth → Stands number cancels Says written told_of m s
+      → Stands number cancels Says written told_of m (cond b (roomed depth s) s)
+  roomed_so true m s depth lt st = record {
+    rows = st.rows;
+    put = st.put;
+    proper = proper_roomed number cancels Says depth s lt st.proper;
+  }
+  roomed_so false m s depth lt st = st
+
+  pub turn_room : (m : WorkQueue O X Y K) (lane depth : ℕ) (put : Option (Load X))
+      → length m.rows.waiting.items < depth → (call : Ask X Y) → RoomOnly depth call
+      → TurnsSo number cancels Says written told_of m lane call put told.Open None m
+  turn_room m lane depth put lt (ask.Room asked) one = (
+    refl,
+    λ s st goes.
+        let long = ap (λ (ws : List (Asked X)). length ws) st.rows.0
+        ∙ length-map s.waiting (λ (t : Task X). t.work) in
+        let few : length s.waiting < asked = omega (arith, long, lt, one) in (
+          inl (ap (λ (b : Bool). cond b told.Open told.Idle)
+              (sym (lt-ltb (length s.waiting) asked few))),
+          roomed_so (lane == reader) m s asked few st,
+          tt,
+        ),
+  )
+  turn_room m lane depth put lt (ask.Hear about) one = absurd one
+  turn_room m lane depth put lt ask.Take one = absurd one
+  turn_room m lane depth put lt ask.IsCancelled one = absurd one
+  turn_room m lane depth put lt (ask.Answer about) one = absurd one
+  turn_room m lane depth put lt ask.Close one = absurd one
+  turn_room m lane depth put lt ask.Halt one = absurd one
 
 module _ {O X Y K : Type 0} (number : X → ℤ) (cancels : X → Bool) (Says : X → Bool → Y → Type 0)
     (written : Y → List ℕ) (told_of : O → SinkTold) where

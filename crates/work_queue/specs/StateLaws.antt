@@ -21,7 +21,7 @@ use Rattle.work_queue.specs.declared.queue.How.{How}
 use Rattle.work_queue.specs.declared.queue.How.TheVariants as how
 use Rattle.work_queue.specs.Rows.{hand_of}
 use Rattle.work_queue.specs.States.{State, Task, InHand, first, state_then, state_of, moved}
-use Rattle.work_queue.specs.States.{begun, heard_by, taken_by, answered_by, task_at, hands_without}
+use Rattle.work_queue.specs.States.{begun, roomed, heard_by, taken_by, answered_by, task_at, hands_without}
 use Rattle.work_queue.specs.States.{task_marked, in_hand_marked, answer_to, is_short, is_kept}
 use Rattle.work_queue.specs.States.{IsPaid, MayBeShort, IsProper, GoesIn, ComesOut, PutSo, put_by}
 
@@ -264,7 +264,9 @@ module _ {X Y : Type 0} (number : X → ℤ) (cancels : X → Bool) where
   step_still s lane other ask.Take t n e = taken_still s s.waiting lane other t n e
   step_still s lane other (ask.Answer response) t n e =
       answered_still s response.value (task_at other s.hands) lane other t n e
-  step_still s lane other (ask.Room depth) t n e = still_same lane s.hands t e
+  step_still s lane other (ask.Room depth) t n e =
+      either_still (other == 0) s (roomed depth s) lane t (still_same lane s.hands t e)
+      (still_same lane s.hands t e)
   step_still s lane other ask.IsCancelled t n e = still_same lane s.hands t e
   step_still s lane other ask.Close t n e = still_same lane s.hands t e
   step_still s lane other ask.Halt t n e = still_same lane s.hands t e

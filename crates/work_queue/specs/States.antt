@@ -1,6 +1,6 @@
 -- What a work queue has after a history, and what it answers then.
 use Rattle.std.specs.Prelude.{◌≡◌, ℕ, ◌+◌, ◌==◌, ◌&&◌, ◌≤◌, ℤ, Bool, true, false, cond, List}
-use Rattle.std.specs.Prelude.{[], ◌∷◌, ◌++◌, length, map, Option, Some, None, ltb}
+use Rattle.std.specs.Prelude.{[], ◌∷◌, ◌++◌, length, map, max, Option, Some, None, ltb}
 use Rattle.std.specs.Global.{Vec}
 use Rattle.std.specs.List.{fold, flat_map, list_any, AllByRecursion}
 use Rattle.std.specs.Ordering.{int_eq}
@@ -41,13 +41,36 @@ pub record Reply (Y : Type 0) : Type 0 where
   pub response : Y
 
 -- All that was heard, with the requests that cancel others; what waits, what is in hand, what was
--- answered, and what lanes have taken, as it was then, each in its order.
+-- answered, and what lanes have taken, as it was then, each in its order. How many may wait: the
+-- depth below which there was room when the reader was told so last, and one more for each request
+-- that waits since. And the most that ever might.
 pub record State (X Y : Type 0) : Type 0 where
   pub heard : List X
   pub waiting : List (Task X)
   pub hands : List (InHand X)
   pub replies : List (Reply Y)
   pub taken : List (InHand X)
+  pub room : ℕ
+  pub most : ℕ
+
+-- what the reader has done: what was heard, how many may wait, and the most that ever might
+pub record Read (X : Type 0) : Type 0 where
+  pub heard : List X
+  pub room : ℕ
+  pub most : ℕ
+
+-- once the reader was told that fewer than this wait
+abbrev pub roomed_in : {X : Type 0} → ℕ → Read X → Read X
+roomed_in depth r = record { heard = r.heard; room = depth; most = max r.most depth }
+
+-- once a request was heard, which cancels others or waits
+abbrev pub heard_in : {X : Type 0} → X → Bool → Read X → Read X
+heard_in m true r = record { heard = r.heard ++ m ∷ []; room = r.room; most = r.most }
+heard_in m false r = record {
+  heard = r.heard ++ m ∷ [];
+  room = r.room + 1;
+  most = max r.most (r.room + 1);
+}
 
 -- these bytes were put
 pub record PutAll (bytes : List ℕ) (old new : SinkTold) : Type 0 where
@@ -57,6 +80,7 @@ pub record PutAll (bytes : List ℕ) (old new : SinkTold) : Type 0 where
 -- some front of them was put, and the sink failed
 pub record PutFront (bytes : List ℕ) (old new : SinkTold) : Type 0 where
   pub given : AddsFront bytes old.contents new.contents
+  pub count : old.faults ≤ new.faults
   pub rose : Rose old.faults new.faults
 
 abbrev pub PutSo : Bool → List ℕ → SinkTold → SinkTold → Type 0
@@ -138,9 +162,15 @@ module _ {X : Type 0} (number : X → ℤ) (cancels : X → Bool) where
     pub was : t.was ≡ has_cancel (number t.work.request) between
     pub marked : t.work.cancelled ≡ has_cancel (number t.work.request) (between ++ behind)
 
+  -- the places of the requests that are to be answered: those that don't cancel
+  abbrev pub asked_from : ℕ → List X → List ℕ
+  asked_from k [] = []
+  asked_from k (m ∷ ms) = cond (cancels m) (asked_from (k + 1) ms) (k ∷ asked_from (k + 1) ms)
+
   -- A lane that doesn't read has taken the request at its place, when so many were heard. It was
-  -- cancelled by then exactly where one that cancels its number stood behind it.
-  pub record IsTaken (heard : List X) (h : InHand X) : Type 0 where
+  -- cancelled by then exactly where one that cancels its number stood behind it. At most so many
+  -- waited then: it, and those that had been heard behind it and are to be answered.
+  pub record IsTaken (heard : List X) (most : ℕ) (h : InHand X) : Type 0 where
     pub hand : h.lane ≡ reader → ⊥
     pub before : List X
     pub between : List X
@@ -150,11 +180,7 @@ module _ {X : Type 0} (number : X → ℤ) (cancels : X → Bool) where
     pub begun : length before + 1 + length between ≡ h.task.heard
     pub asks : cancels h.task.work.request ≡ false
     pub was : h.task.was ≡ has_cancel (number h.task.work.request) between
-
-  -- the places of the requests that are to be answered: those that don't cancel
-  abbrev pub asked_from : ℕ → List X → List ℕ
-  asked_from k [] = []
-  asked_from k (m ∷ ms) = cond (cancels m) (asked_from (k + 1) ms) (k ∷ asked_from (k + 1) ms)
+    pub waited : 1 + length (asked_from 0 between) ≤ most
 
 -- ---- calls and replies
 
@@ -170,19 +196,22 @@ is_short told.Open = false
 is_short told.Idle = false
 is_short told.Closed = true
 
-module _ {X Y : Type 0} where
-  -- the calls that change what waits, what is in hand or what was answered
-  abbrev pub changes : Ask X Y → Bool
-  changes (ask.Hear request) = true
-  changes (ask.Room depth) = false
-  changes ask.Take = true
-  changes ask.IsCancelled = false
-  changes (ask.Answer response) = true
-  changes ask.Close = false
-  changes ask.Halt = false
+abbrev pub is_open : Told → Bool
+is_open told.Done = false
+is_open told.Open = true
+is_open told.Idle = false
+is_open told.Closed = false
 
+module _ {X Y : Type 0} where
+  -- the calls that changed what waits, what is in hand, what was answered or how many may wait
   abbrev pub is_kept : Ask X Y → Told → Bool
-  is_kept c r = changes c && is_done r
+  is_kept (ask.Hear request) r = is_done r
+  is_kept (ask.Room depth) r = is_open r
+  is_kept ask.Take r = is_done r
+  is_kept ask.IsCancelled r = false
+  is_kept (ask.Answer response) r = is_done r
+  is_kept ask.Close r = false
+  is_kept ask.Halt r = false
 
   -- the calls that take no memory
   abbrev pub IsPaid : Ask X Y → Type 0
@@ -215,7 +244,31 @@ module _ {X Y : Type 0} where
   answer_to s lane ask.Halt = told.Done
 
   abbrev pub first : State X Y
-  first = record { heard = []; waiting = []; hands = []; replies = []; taken = [] }
+  first = record {
+    heard = [];
+    waiting = [];
+    hands = [];
+    replies = [];
+    taken = [];
+    room = 0;
+    most = 0;
+  }
+
+  -- what the reader has done
+  abbrev pub read_in : State X Y → Read X
+  read_in s = record { heard = s.heard; room = s.room; most = s.most }
+
+  -- the state after the reader was told that fewer than this wait
+  abbrev pub roomed : ℕ → State X Y → State X Y
+  roomed depth s = record {
+    heard = s.heard;
+    waiting = s.waiting;
+    hands = s.hands;
+    replies = s.replies;
+    taken = s.taken;
+    room = depth;
+    most = max s.most depth;
+  }
 
   -- the state after the lane has taken the first of these
   abbrev pub taken_by : ℕ → State X Y → List (Task X) → State X Y
@@ -226,6 +279,8 @@ module _ {X Y : Type 0} where
     hands = (record { lane = lane; task = begun (length s.heard) t }) ∷ s.hands;
     replies = s.replies;
     taken = s.taken ++ (record { lane = lane; task = begun (length s.heard) t }) ∷ [];
+    room = s.room;
+    most = s.most;
   }
 
   -- the state after the lane has answered so what it has in hand
@@ -237,6 +292,8 @@ module _ {X Y : Type 0} where
     hands = hands_without lane s.hands;
     replies = s.replies ++ (record { place = t.place; heard = t.heard; response = r }) ∷ [];
     taken = s.taken;
+    room = s.room;
+    most = s.most;
   }
 
   module _ (number : X → ℤ) (cancels : X → Bool) where
@@ -249,6 +306,8 @@ module _ {X Y : Type 0} where
       hands = map (in_hand_marked number (number m)) s.hands;
       replies = s.replies;
       taken = s.taken;
+      room = s.room;
+      most = s.most;
     }
     heard_by s m false = record {
       heard = s.heard ++ m ∷ [];
@@ -257,6 +316,8 @@ module _ {X Y : Type 0} where
       hands = s.hands;
       replies = s.replies;
       taken = s.taken;
+      room = s.room + 1;
+      most = max s.most (s.room + 1);
     }
 
     -- the state after a call that was kept
@@ -266,7 +327,7 @@ module _ {X Y : Type 0} where
     moved s lane ask.Take = taken_by lane s s.waiting
     moved s lane (ask.Answer response) =
         answered_by lane s response.value (task_at lane s.hands)
-    moved s lane (ask.Room depth) = s
+    moved s lane (ask.Room depth) = cond (lane == reader) (roomed depth s) s
     moved s lane ask.IsCancelled = s
     moved s lane ask.Close = s
     moved s lane ask.Halt = s
@@ -319,7 +380,8 @@ module _ {X Y : Type 0} where
   module _ (number : X → ℤ) (cancels : X → Bool) (Says : X → Bool → Y → Type 0) where
     -- Whatever waits, is in hand or was answered stands at its place, and each request that is to
     -- be answered waits, is in hand or was answered, once. What was taken, in the order in which it
-    -- was taken, and then what waits are the requests that are to be answered, in their order.
+    -- was taken, and then what waits are the requests that are to be answered, in their order. No more
+    -- wait than may.
     pub record IsProper (s : State X Y) : Type 0 where
       pub waits : AllByRecursion (IsTask number cancels s.heard) s.waiting
       pub holds : AllByRecursion (λ h. IsBegun number cancels s.heard h.task) s.hands
@@ -327,8 +389,10 @@ module _ {X Y : Type 0} where
       pub each : (k : ℕ)
           → times k (places_waiting s) + times k (places_in_hand s) + times k (places_answered s)
           ≡ times k (asked_from number cancels 0 s.heard)
-      pub took : AllByRecursion (IsTaken number cancels s.heard) s.taken
+      pub took : AllByRecursion (IsTaken number cancels s.heard s.most) s.taken
       pub order : places_taken s ++ places_waiting s ≡ asked_from number cancels 0 s.heard
+      pub room : length s.waiting ≤ s.room
+      pub most : s.room ≤ s.most
 
     module _ (written : Y → List ℕ) where
       -- what was put for these

@@ -329,7 +329,8 @@ impl<O: Sink, X: Drop, Y, K: Kind<X, Y>> Machine for WorkQueue<O, X, Y, K> {
     fn is_kept(_lane: u32, call: &Ask<X, Y>, reply: &Told) -> bool {
         match call {
             Ask::Hear(_) | Ask::Take | Ask::Answer(_) => matches!(reply, Told::Done),
-            Ask::Room(_) | Ask::IsCancelled | Ask::Close | Ask::Halt => false,
+            Ask::Room(_) => matches!(reply, Told::Open),
+            Ask::IsCancelled | Ask::Close | Ask::Halt => false,
         }
     }
 

@@ -57,13 +57,13 @@ module _ {X Y W H : Type 0} (number : X → ℤ) (cancels : X → Bool) (Says : 
     (written : Y → List ℕ) (form : Form) (Spells : List ℕ → X → Type 0) (of : W → H)
     (answers : H → X → Y → H → Type 0) (breaks : H → X → H → Type 0) where
   -- what is said of lanes with such handlers is said of the handlers in them
-  pub serves_of : (f : Finish) (before : List ℕ) (olds news : List W) (xs ys : List H)
+  pub serves_of : (depth : ℕ) (f : Finish) (before : List ℕ) (olds news : List W) (xs ys : List H)
       (old new : Outside) → map of olds ≡ xs → ys ≡ map of news
       → ServesBy number cancels Says written form Spells
-      (λ a m y b. answers (of a) m y (of b)) (λ a m b. breaks (of a) m (of b)) f before olds news
+      (λ a m y b. answers (of a) m y (of b)) (λ a m b. breaks (of a) m (of b)) depth f before olds news
       old new
-      → ServesBy number cancels Says written form Spells answers breaks f before xs ys old new
-  serves_of f before olds news xs ys old new from back s = record {
+      → ServesBy number cancels Says written form Spells answers breaks depth f before xs ys old new
+  serves_of depth f before olds news xs ys old new from back s = record {
     serves = s.serves;
     lanes = subst (λ (n : ℕ). AllByRecursion (λ (h : InHand X). h.lane ≤ n) s.serves.begun)
         (sym (many_mapped of olds) ∙ ap length from) s.lanes;

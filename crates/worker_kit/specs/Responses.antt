@@ -24,11 +24,12 @@ abbrev pub cancelled_response : ℤ → WorkResponse
 cancelled_response n =
     record { exit_code = pos 0; output = []; request_id = n; was_cancelled = true }
 
--- The response is what the request was answered, under its number; or the request was cancelled,
--- and the response says so.
+-- The response is what the request was answered, under its number, by a handler that hasn't stopped;
+-- or the request was cancelled, and the response says so.
 abbrev pub Says : (WorkRequest → Handled → Type 0) → WorkRequest → Bool → WorkResponse → Type 0
 Says answers m true r = r ≡ cancelled_response m.request_id
-Says answers m false r = (o : Handled) × answers m o × (r ≡ response_of m o)
+Says answers m false r =
+    (o : Handled) × answers m o × (o.stopped ≡ false) × (r ≡ response_of m o)
 
 -- the handler before and after, where this response is of what it has made of the request
 abbrev pub Makes : {H : Type 0} → (H → WorkRequest → Handled → H → Type 0) → H → WorkRequest

@@ -20,8 +20,9 @@ pub struct Handled {
     pub exit: i32,
     /// What there is to say, for people.
     pub output: Text,
-    /// The work was left unfinished, since the request was cancelled. Where a cancel request was
-    /// read behind it, it is answered as cancelled, without the exit code and the output.
+    /// The work was left unfinished, since the request was cancelled. The exit code and the output
+    /// aren't put: where a cancel request was read behind it, the request is answered as cancelled,
+    /// and else the worker ends by `FalseStop`.
     pub stopped: bool,
 }
 

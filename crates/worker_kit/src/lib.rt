@@ -19,4 +19,4 @@ pub use end::KitEnd;
 pub use handler::{Handled, Handler, LaneHandler};
 pub use serving::{EachEnded, KitEnded, Size, serve, serve_each};
 pub use speech::{Delimited, Speech};
-pub use work_lanes::{CancelFlag, Streams};
+pub use work_lanes::{CancelFlag, Streams, Unbegun};

@@ -1,6 +1,7 @@
 // From the start of the input to its end.
-ghost use Rattle.std.specs.Prelude.{◌≡◌, ◌≤◌, [], length, vec_capacity, IfOk};
+ghost use Rattle.std.specs.Prelude.{◌≡◌, ◌≤◌, [], length, vec_capacity, IfOk, IfErr};
 ghost use Rattle.json_framing.specs.Cutter.{form_of};
+ghost use Rattle.message_service.specs.Ends.{PutAll};
 ghost use Rattle.work_lanes.specs.Serves.{AreHandlers, IsDepth, told_by};
 ghost use Rattle.worker_kit.specs.Serves.{Serves, ServesEach, finish_of, handlers_of};
 
@@ -13,7 +14,7 @@ use std::alloc::Global;
 use std::collections::VecDeque;
 use std::sync::Wait;
 use std::thread::Threads;
-use work_lanes::{LanesEnded, Streams, run_lanes};
+use work_lanes::{LanesEnded, Streams, Unbegun, run_lanes};
 
 /// How many requests are handled at once, from 1 to 64, and how many may wait, from 1 to 1,024.
 /// While so many wait nothing more is read; those that came whole with one read all wait.
@@ -49,11 +50,14 @@ pub struct EachEnded<T, O, H> {
 /// Whatever lanes do first: each request that isn't a cancel request is answered at most once,
 /// under its number, and exactly once unless memory ran out or putting failed. It is said to be
 /// cancelled only where a cancel request of its number stands behind it. Responses are put whole,
-/// one after another, and nothing else is put but, where putting failed, a front of one.
+/// one after another, and nothing else is put but, where putting failed, a front of one. Whenever a
+/// thread takes a request, and in the end, no more wait than `depth` and the requests of one read, of
+/// which there are 65,536 at most.
 ///
 /// # Errors
 ///
-/// `NoMemory` before the input is read, or once all lanes have ended.
+/// The streams, where memory ran out or a thread couldn't be started before the input was read: the
+/// input as it was, and the sink, to which nothing was put.
 pub fn serve<T: Tap + Send, O: Sink + Send, H: Handler, V: Speech + Send, R: Threads + Wait + Sync>(
     rt: &R,
     alloc: Global,
@@ -61,18 +65,22 @@ pub fn serve<T: Tap + Send, O: Sink + Send, H: Handler, V: Speech + Send, R: Thr
     streams: Streams<T, O>,
     size: Size,
     handler: &H,
-) -> Result<KitEnded<T, O>, NoMemory>
+) -> Result<KitEnded<T, O>, Streams<T, O>>
     requires handlers { AreHandlers size.handlers }
     requires depth { IsDepth size.depth }
-    ensures { IfOk result (λ s. Serves (form_of V.framing) V.spells H.answers V.written
-        (finish_of s.end) (told_by T.told O.told streams.tap streams.sink)
+    ensures serves { IfOk result (λ s. Serves (form_of V.framing) V.spells H.answers V.written
+        size.depth (finish_of s.end) (told_by T.told O.told streams.tap streams.sink)
         (told_by T.told O.told s.tap s.sink)) }
+    ensures back { IfErr result (λ s. (s.tap ≡ streams.tap)
+        × PutAll [] (O.told streams.sink) (O.told s.sink)) }
 {
-    let handlers = shares_of(alloc, handler, size.handlers)?;
-    let EachEnded { end, tap, sink, .. } = serve_each(
-        rt, alloc, speech, streams, size.depth, handlers,
-    )?;
-    Ok(KitEnded { end, tap, sink })
+    let Ok(handlers) = shares_of(alloc, handler, size.handlers) else {
+        return Err(streams);
+    };
+    match serve_each(rt, alloc, speech, streams, size.depth, handlers) {
+        Ok(EachEnded { end, tap, sink, .. }) => Ok(KitEnded { end, tap, sink }),
+        Err(Unbegun { streams, .. }) => Err(streams),
+    }
 }
 
 // So many shares in the handler.
@@ -92,7 +100,7 @@ fn shares_of<H>(alloc: Global, handler: &H, count: u32) -> Result<Vec<Shared<'_,
 ///
 /// # Errors
 ///
-/// As of [`serve`].
+/// As of [`serve`], with the handlers as they were.
 pub fn serve_each<
     T: Tap + Send,
     O: Sink + Send,
@@ -106,39 +114,88 @@ pub fn serve_each<
     streams: Streams<T, O>,
     depth: u32,
     handlers: Vec<H>,
-) -> Result<EachEnded<T, O, H>, NoMemory>
+) -> Result<EachEnded<T, O, H>, Unbegun<T, O, H>>
     requires handlers { AreHandlers (length handlers.items) }
     requires depth { IsDepth depth }
-    ensures { IfOk result (λ s. ServesEach (form_of V.framing) V.spells H.answers H.does H.breaks
-        V.written (finish_of s.end) handlers.items s.handlers.items
+    ensures serves { IfOk result (λ s. ServesEach (form_of V.framing) V.spells H.answers H.does
+        H.breaks V.written depth (finish_of s.end) handlers.items s.handlers.items
         (told_by T.told O.told streams.tap streams.sink) (told_by T.told O.told s.tap s.sink)) }
+    ensures back { IfErr result (λ u. (u.streams.tap ≡ streams.tap)
+        × (u.handlers.items ≡ handlers.items)
+        × PutAll [] (O.told streams.sink) (O.told u.streams.sink)) }
 {
-    let back = Vec::with_capacity(alloc, handlers.len())?;
-    let works: Vec<Works<H, V>> = works_of(alloc, handlers)?;
+    let Ok(room) = room_for(alloc, handlers.len()) else {
+        return Err(Unbegun { streams, handlers });
+    };
+    let Room { works, back } = room;
+    let works: Vec<Works<H, V>> = works_of(handlers, works);
+    let ended = match run_lanes(rt, alloc, streams, depth, works) {
+        Ok(ended) => ended,
+        Err(unbegun) => return Err(handed_back(unbegun, back)),
+    };
     let LanesEnded {
         finish,
+        false_stop,
         tap,
         sink,
         handlers: works,
-    } = run_lanes(rt, alloc, streams, depth, works)?;
+    } = ended;
     Ok(EachEnded {
-        end: KitEnd::of(finish),
+        end: KitEnd::of(finish, false_stop),
         tap,
         sink,
         handlers: handlers_of(works, back),
     })
 }
 
-// Each handler, in a speech.
-fn works_of<H: Drop, V>(alloc: Global, handlers: Vec<H>) -> Result<Vec<Works<H, V>>, NoMemory>
-    ensures { IfOk result (λ works. handlers_of works.items ≡ handlers.items) }
+// What the lanes were given, in no speech.
+fn handed_back<T: Drop, O: Drop, H: Drop, V>(
+    unbegun: Unbegun<T, O, Works<H, V>>,
+    room: Vec<H>,
+) -> Unbegun<T, O, H>
+    requires empty { room.items ≡ [] }
+    requires room { length unbegun.handlers.items ≤ vec_capacity room }
+    ensures { (result.streams ≡ unbegun.streams)
+        × (result.handlers.items ≡ handlers_of unbegun.handlers.items) }
 {
-    let mut works = Vec::with_capacity(alloc, handlers.len())?;
+    let Unbegun {
+        streams,
+        handlers: works,
+    } = unbegun;
+    Unbegun {
+        streams,
+        handlers: handlers_of(works, room),
+    }
+}
+
+// Room for so many handlers in a speech, and for as many that come back.
+struct Room<H, V> {
+    works: Vec<Works<H, V>>,
+    back: Vec<H>,
+}
+
+fn room_for<H: Drop, V>(alloc: Global, count: usize) -> Result<Room<H, V>, NoMemory>
+    ensures works { IfOk result (λ r. (r.works.items ≡ []) × (count ≤ vec_capacity r.works)) }
+    ensures back { IfOk result (λ r. (r.back.items ≡ []) × (count ≤ vec_capacity r.back)) }
+{
+    Ok(Room {
+        works: Vec::with_capacity(alloc, count)?,
+        back: Vec::with_capacity(alloc, count)?,
+    })
+}
+
+// Each handler, in a speech and in this room.
+fn works_of<H: Drop, V>(handlers: Vec<H>, room: Vec<Works<H, V>>) -> Vec<Works<H, V>>
+    requires empty { room.items ≡ [] }
+    requires room { length handlers.items ≤ vec_capacity room }
+    ensures { handlers_of result.items ≡ handlers.items }
+{
+    let mut works = room;
     let mut rest = VecDeque::from_vec(handlers);
     while let Some(handler) = rest.pop_front() {
         works.push_reserved(Works::of(handler));
     }
-    Ok(works)
+    works
 }
 
 // The handlers of these, in this room.

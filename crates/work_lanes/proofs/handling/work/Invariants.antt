@@ -1,4 +1,3 @@
-use Rattle.std.proofs.Common.{◌≡◌}
 use Rattle.seat_desk.specs.Passes.{IsSamePass}
 use Rattle.work_lanes.specs.Calls.{begun_at}
 use Rattle.work_lanes.specs.Handles.{AnswersAll}

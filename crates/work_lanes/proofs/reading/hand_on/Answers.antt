@@ -1,8 +1,9 @@
-use Rattle.std.proofs.Common.{◌++◌, subst}
+use Rattle.std.proofs.Common.{◌++◌, subst, refl}
 use Rattle.json_framing.specs.Cutter.{held}
 use Rattle.json_framing.specs.declared.cutter.Framing.{Framing}
 use Rattle.message_service.proofs.Streams.{Fed, heard_first, heard_piece, first_more}
-use Rattle.work_lanes.specs.Calls.{heard_at}
+use Rattle.work_lanes.specs.Calls.{heard_at, read_at}
+use Rattle.work_lanes.proofs.Calling.{more_same}
 use Rattle.work_lanes.proofs.reading.hand_on.Goals as goal
 
 pub returns-in_default-clause-hands : goal.returns-in_default-clause-hands
@@ -12,6 +13,11 @@ returns-in_default-clause-hands g c =
     let before = heard_at g.H.Kind.number g.H.Kind.cancels c.args.caller.now.pass in
     λ fed x. first_more f spells fed c.args.piece.now before
     (heard_first f spells fed before (held c.args.cutter.now) x)
+
+pub returns-in_default-clause-more : goal.returns-in_default-clause-more
+returns-in_default-clause-more g c =
+    let before = read_at g.H.Kind.number g.H.Kind.cancels c.args.caller.now.pass in
+    more_same before before refl
 
 pub returns-clause-hands : goal.returns-clause-hands
 returns-clause-hands g c =

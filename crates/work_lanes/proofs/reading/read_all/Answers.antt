@@ -1,12 +1,16 @@
-use Rattle.std.proofs.Common.{◌∙◌, refl, sym, take, subst, [], ◌++◌, List, true, arith}
+use Rattle.std.proofs.Common.{◌≡◌, ◌∙◌, refl, sym, take, subst, [], ◌++◌, List, true, Ok, Err, arith, rules}
+use Rattle.std.proofs.Common.{length-take}
 use Rattle.delimited_framing.specs.Splitter.{StandsFor}
 use Rattle.json_framing.specs.Cutter.{form_of, held}
 use Rattle.json_framing.specs.declared.cutter.Framing.{Framing}
-use Rattle.message_service.specs.Stream.{Heard, HeardAll}
+use Rattle.message_service.specs.Stream.{Heard, HeardAll, IsWhole}
 use Rattle.message_service.proofs.Made.{adds_nothing, adds_on}
 use Rattle.message_service.proofs.Streams.{heard_new, whole_new}
 use Rattle.message_service.proofs.Rounds.{one_more}
+use Rattle.work_queue.specs.States.{roomed_in}
+use Rattle.work_lanes.specs.Calls.{read_at, most_at}
 use Rattle.work_lanes.proofs.Fronts.{breaks_cause, breaks_reading}
+use Rattle.work_lanes.proofs.Pieces.{most_on}
 use Rattle.work_lanes.proofs.reading.read_all.Goals as goal
 
 pub loop-init : goal.loop-init
@@ -31,6 +35,7 @@ loop-init g c =
             whole_new f spells,
           );
       reads = omega arith;
+      most = omega arith;
     }
 
 pub returns-in-Err-clause-read : goal.returns-in-Err-clause-read
@@ -79,4 +84,42 @@ loop-preserved g c =
           (held c.loop.cutter)) (sym c.await_room.ensures.heard) i.heard.0);
       reads = one_more i.bytes c.read.new.into c.in-Bytes.count c.loop.counter took.0 took.1
           i.reads;
+      most =
+          let number = g.H.Kind.number in
+          let cancels = g.H.Kind.cancels in
+          let old = read_at number cancels c.loop.caller.pass in
+          let mid = read_at number cancels c.await_room.new.caller.pass in
+          let room : mid ≡ roomed_in c.args.depth old = search rules in
+          most_on spells f i.bytes piece (Ok tt) (held c.hand_on.new.cutter) c.args.depth
+          (most_at number cancels c.args.caller.now.pass) old mid
+          (read_at number cancels c.hand_on.new.caller.pass) room
+          (subst (λ (ms : List g.row.X.Denot). IsWhole (form_of f) spells i.bytes ms)
+          (sym c.await_room.ensures.heard) i.heard.1)
+          (c.in_default.ensures.hands i.bytes
+          (subst (λ (ms : List g.row.X.Denot). Heard (form_of f) spells i.bytes ms
+          (held c.loop.cutter)) (sym c.await_room.ensures.heard) i.heard.0))
+          c.in_default.ensures.more
+          (omega (arith, length-take c.in-Bytes.count c.read.new.into, took.1)) i.most;
     }
+
+pub returns-in-Err-clause-most : goal.returns-in-Err-clause-most
+returns-in-Err-clause-most g c =
+    let f = g.H.Answerer.framing in
+    let spells = g.H.Answerer.spells in
+    let number = g.H.Kind.number in
+    let cancels = g.H.Kind.cancels in
+    let i = c.loop.invariant in
+    let took = c.in-Bytes.ensures.taken in
+    let old = read_at number cancels c.loop.caller.pass in
+    let mid = read_at number cancels c.await_room.new.caller.pass in
+    let room : mid ≡ roomed_in c.args.depth old = search rules in
+    most_on spells f i.bytes (take c.in-Bytes.count c.read.new.into) (Err c.in-Err.finish)
+    (held c.hand_on.new.cutter) c.args.depth (most_at number cancels c.args.caller.now.pass) old mid
+    (read_at number cancels c.hand_on.new.caller.pass) room
+    (subst (λ (ms : List g.row.X.Denot). IsWhole (form_of f) spells i.bytes ms)
+    (sym c.await_room.ensures.heard) i.heard.1)
+    (c.in-Err.ensures.hands i.bytes
+    (subst (λ (ms : List g.row.X.Denot). Heard (form_of f) spells i.bytes ms
+    (held c.loop.cutter)) (sym c.await_room.ensures.heard) i.heard.0))
+    c.in-Err.ensures.more
+    (omega (arith, length-take c.in-Bytes.count c.read.new.into, took.1)) i.most

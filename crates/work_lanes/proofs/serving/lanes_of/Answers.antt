@@ -11,16 +11,16 @@ loop-handler-init g c =
         n,
         c.push_reserved.ensures.len,
         c.push_reserved.ensures.capacity,
-        c.in_ok-lanes.ensures.len,
-        c.in_ok-lanes.ensures.capacity,
-        c.len.ensures,
+        ap length c.requires.empty,
+        c.requires.room,
       );
-      few = omega (arith, n, c.requires.1);
-      so_far = lanes_begin c.args.input c.args.handlers.items c.from_vec-rest.result.items
+      flags = omega (arith, n, ap length c.from_vec-flags.ensures.items, c.requires.flags);
+      few = omega (arith, n, c.requires.handlers.1);
+      so_far = lanes_begin c.args.input c.args.depth c.args.handlers.items c.from_vec-rest.result.items
           (record { alloc = c.args.alloc; input = c.args.input; depth = c.args.depth })
-          c.in_ok-lanes.lanes.items c.push_reserved.new.self.items
-          c.push_reserved.ensures.items c.in_ok-lanes.ensures.items
-          refl c.from_vec-rest.ensures.items;
+          c.args.room.items c.push_reserved.new.self.items
+          c.push_reserved.ensures.items c.requires.empty
+          refl refl c.from_vec-rest.ensures.items;
     }
 
 pub loop-handler-preserved : goal.loop-handler-preserved
@@ -35,8 +35,9 @@ loop-handler-preserved g c =
         c.push_reserved-in-Some.ensures.len,
         c.push_reserved-in-Some.ensures.capacity,
       );
+      flags = omega (arith, fewer, ap length c.in-Some-pop_front.ensures.items, i.flags);
       few = omega (arith, fewer, i.few);
-      so_far = lanes_go_on c.args.input c.args.handlers.items c.loop-handler.number
+      so_far = lanes_go_on c.args.input c.args.depth c.args.handlers.items c.loop-handler.number
           c.loop-handler.rest.items c.pop_front.new.self.items _
           c.loop-handler.lanes.items c.push_reserved-in-Some.new.self.items
           c.push_reserved-in-Some.ensures.items refl c.in-Some.ensures.items i.so_far;
@@ -45,6 +46,6 @@ loop-handler-preserved g c =
 pub returns : goal.returns
 returns g c =
     let none : c.loop-handler.rest.items ≡ [] = search rules in
-    lanes_end c.args.input c.args.handlers.items c.loop-handler.number
+    lanes_end c.args.input c.args.depth c.args.handlers.items c.loop-handler.number
     c.loop-handler.rest.items c.loop-handler.lanes.items none
     c.loop-handler.invariant.so_far

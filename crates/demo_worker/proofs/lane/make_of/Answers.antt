@@ -1,4 +1,4 @@
-use Rattle.demo_worker.proofs.sharing.do_request.Goals as goal
+use Rattle.demo_worker.proofs.lane.make_of.Goals as goal
 
 pub returns : goal.returns
 returns g c =
