@@ -8,19 +8,19 @@ use std::os::unix::fs::{MetadataExt, OpenOptionsExt};
 use std::path::Path;
 use std::rt::Files;
 
-/// What a new file may be used for, less what the process's mask takes away: all, as a compiler's output may be a program.
+/// The mode of a new file, before the process's umask: all permissions, since a compiler's output may be a program.
 const MODE: u32 = 0o777;
 
-/// How many bytes a file may have: 4 GiB.
+/// The largest size of a file in bytes: 4 GiB.
 pub(crate) const MOST_BYTES: u64 = 1 << 32;
 
 /// Linux's RLIMIT_FSIZE, for which the kit has no name.
 const LIMIT_OF_FILES: i32 = 1;
 
-/// How many bytes are read at once of a file that is longer than it was.
+/// The size of each further read, in bytes, if a file is longer than it was.
 const PART: usize = 65536;
 
-/// The bytes of a regular file, also behind a link; `None` where there is no such file.
+/// Returns the bytes of a regular file, or `None` if there is no such file. Links are followed.
 pub fn read_regular<R: Files + AllocGlobal>(rt: &R, path: &str) -> io::Result<Option<Vec<u8>>> {
     match fs::metadata(rt, path) {
         Ok(found) if !found.is_file() => Ok(None),
@@ -31,9 +31,9 @@ pub fn read_regular<R: Files + AllocGlobal>(rt: &R, path: &str) -> io::Result<Op
     }
 }
 
-/// The bytes of what a look at the path found, if that is a regular file. What isn't one is never opened: the opening
-/// of a fifo would wait for its other end. A file of more than `most` bytes is an error, and isn't opened either. What was
-/// opened has to be what was looked at, and no longer than it was then.
+/// Returns the bytes of the file that a look at the path found, or `None` if it isn't a regular file. Anything else is
+/// never opened, since opening a fifo would wait for its other end. A file of more than `most` bytes isn't opened
+/// either, and is an error. The opened file must be the file that was looked at, and not longer than it was then.
 pub(crate) fn read_same<R: Files + AllocGlobal>(
     rt: &R,
     path: &str,
@@ -61,9 +61,9 @@ pub(crate) fn read_same<R: Files + AllocGlobal>(
     }
 }
 
-// All bytes of a file. There is room for one byte more than a look found, so a read that takes as many as were found has
-// come to the end. After any other read the file is read on to its end: it has changed since the look, or gives its bytes
-// in parts, or its length says nothing. More than `most` bytes are an error.
+// Reads all bytes of a file. The buffer has room for one byte more than the look found. So a first read that returns
+// exactly the number found has reached the end. After any other first read the file is read to its end: it has changed,
+// gives its bytes in parts, or reports no real length. More than `most` bytes are an error.
 fn read_whole<R: Files + AllocGlobal>(
     rt: &R,
     mut file: R::File,
@@ -84,7 +84,7 @@ fn read_whole<R: Files + AllocGlobal>(
     Ok(bytes)
 }
 
-// Reads a file on to its end, unless it gets too long.
+// Reads the rest of a file, unless it gets too long.
 fn read_on<F: Read>(file: &mut F, bytes: &mut Vec<u8>, most: u64) -> io::Result<()> {
     let mut part = [0u8; PART];
     for _ in 0..u64::MAX {
@@ -103,9 +103,9 @@ fn read_on<F: Read>(file: &mut F, bytes: &mut Vec<u8>, most: u64) -> io::Result<
     Ok(())
 }
 
-/// Writes a file whole, with the folders above it. It is written beside, under the given name, and
-/// renamed, so that nobody who has the old file open sees the new bytes, and a link at the path is
-/// replaced. Two writers into one folder at once need two names.
+/// Writes a whole file, including any missing parent folders. It is written under the given name in the same folder and
+/// then renamed. So nobody who has the old file open sees the new bytes, and a link at the path is replaced. Two
+/// writers into one folder at once need two names.
 pub fn write_beside<R: Files>(
     rt: &R,
     alloc: Global,
@@ -119,7 +119,7 @@ pub fn write_beside<R: Files>(
     undo_if_failed(rt, beside.as_str(), written)
 }
 
-/// Writes a file where nothing stands. `None` where something does, and then nothing was written.
+/// Writes a file if nothing exists at its path. Otherwise writes nothing and returns `None`.
 pub(crate) fn write_new<R: Files>(rt: &R, path: &str, bytes: &[u8]) -> io::Result<Option<()>> {
     match create_new(rt, path) {
         Err(error) if error.kind() == ErrorKind::AlreadyExists => Ok(None),
@@ -128,7 +128,7 @@ pub(crate) fn write_new<R: Files>(rt: &R, path: &str, bytes: &[u8]) -> io::Resul
     }
 }
 
-// What was begun in vain isn't left behind. That it couldn't be removed says less than why it was begun in vain.
+// Removes a file that could not be finished. A failure to remove it is ignored, since the first failure tells more.
 fn undo_if_failed<R: Files>(rt: &R, path: &str, written: io::Result<()>) -> io::Result<()> {
     if written.is_err() {
         let _ = fs::remove_file(rt, path);
@@ -136,8 +136,8 @@ fn undo_if_failed<R: Files>(rt: &R, path: &str, written: io::Result<()>) -> io::
     written
 }
 
-// A file that wasn't there before, so that no link is followed. What an earlier run left is
-// removed, and the folders are made if they aren't there.
+// Creates a file that didn't exist before, so that no link is followed. A file that an earlier run left is removed, and
+// missing folders are made.
 fn new_file<R: Files>(rt: &R, path: &str) -> io::Result<R::File> {
     match create_new(rt, path) {
         Err(error) if error.kind() == ErrorKind::AlreadyExists => fs::remove_file(rt, path)?,
@@ -160,7 +160,8 @@ fn make_folders<R: Files>(rt: &R, path: &str) -> io::Result<()> {
     }
 }
 
-// Writes all of a new file. One that may not be so large isn't begun: the write would end the process by a signal.
+// Writes all bytes of a new file. A file above the size limit isn't begun, since the write would end the process by a
+// signal.
 fn fill<W: Write + Drop>(mut file: W, bytes: &[u8]) -> io::Result<()> {
     if u64::try_from(bytes.len()).unwrap_or(u64::MAX) > most_of_limit() {
         return Err(io::Error::from_raw_os_error(libc::EFBIG));
@@ -168,7 +169,7 @@ fn fill<W: Write + Drop>(mut file: W, bytes: &[u8]) -> io::Result<()> {
     file.write_all(bytes)
 }
 
-// How many bytes a file may have that this process writes.
+// Returns the largest size of a file that this process may write, in bytes.
 fn most_of_limit() -> u64 {
     let mut limit = rlimit {
         rlim_cur: u64::MAX,
@@ -181,7 +182,7 @@ fn most_of_limit() -> u64 {
     }
 }
 
-/// Nothing is at the path, also where a file stands for a folder on its way.
+/// Returns true if nothing is at the path, including if a file takes the place of a folder on the way.
 pub(crate) fn is_absent(error: &io::Error) -> bool {
     matches!(error.kind(), ErrorKind::NotFound | ErrorKind::NotADirectory)
 }

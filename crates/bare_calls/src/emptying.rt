@@ -1,7 +1,7 @@
-// The bare calls that remove what stands in a folder. What they do is trusted.
+// The bare calls that remove the contents of a folder. What they do is trusted.
 //
-// Each folder is opened in the one above it, and what it has is removed in it: no link is followed, also none that is put
-// there meanwhile, and names needn't be text.
+// Each folder is opened in the one above it, and its entries are removed in it. So no link is followed, even if it is
+// put there meanwhile, and names needn't be UTF-8.
 use crate::disk::is_absent;
 use crate::folder::{Folder, is_entry, is_no_folder, open_below, split};
 use crate::paths::path_in;
@@ -10,19 +10,20 @@ use std::fs;
 use std::io::{self, ErrorKind};
 use std::rt::Files;
 
-/// How many bytes of names are read at once. Any one name finds room.
+/// The size of the buffer for names, in bytes. Any single name fits into it.
 const MOST_NAMES: usize = 4096;
 
-/// How many folders are open at once. What lies deeper is removed by the library, which begins at the top for each level.
+/// The largest number of folders that are open at once. Deeper ones are removed by the library, which begins at the top for
+/// each level.
 const MOST_OPEN: usize = 100;
 
-/// How often folders are looked through again in which something was made meanwhile.
+/// The largest number of times that folders are looked through again because something was made in them meanwhile.
 const TRIES: u32 = 100;
 
-/// How many names a folder that is put aside is given in turn.
+/// The number of names that are tried for a folder that is put aside.
 const MOST_ASIDE: u32 = 1000;
 
-/// Removes what stands at a path below a folder, if anything does. Behind a link nothing of the folder stands.
+/// Removes whatever exists at a path below a folder. Nothing is removed behind a link.
 pub(crate) fn remove_below<R: Files + AllocGlobal>(
     rt: &R,
     alloc: Global,
@@ -38,8 +39,8 @@ pub(crate) fn remove_below<R: Files + AllocGlobal>(
     }
 }
 
-/// Removes what stands at a name in a folder, if anything does, as far as it can be removed. It gets another name before, so
-/// that a process which was left running in it doesn't find what is made there from now on.
+/// Removes the entry with this name in a folder, if it exists, as far as possible. It is renamed first. So a process
+/// that was left running in it doesn't find what is made at the name from now on.
 pub fn put_aside<R: Files + AllocGlobal>(
     rt: &R,
     alloc: Global,
@@ -50,7 +51,7 @@ pub fn put_aside<R: Files + AllocGlobal>(
     let path = path_in(alloc, folder, name)?;
     for number in 0..MOST_ASIDE {
         let aside = format!(in alloc; ".gone.{name}.{number}")?;
-        // An earlier one may be left there.
+        // An earlier one may still be there.
         let _ = remove_entry(rt, alloc, &top, aside.as_bytes());
         match fs::rename(rt, path.as_str(), path_in(alloc, folder, aside.as_str())?) {
             Ok(()) => {
@@ -75,7 +76,8 @@ fn is_taken(error: &io::Error) -> bool {
     )
 }
 
-/// Removes a file, a link (and not what it leads to) or a whole folder that was made for a process, if one has this name.
+/// Removes the entry of this name, if it exists: a file, a link (not its target), or a whole folder that was made for a
+/// process.
 pub(crate) fn remove_entry<R: Files + AllocGlobal>(
     rt: &R,
     alloc: Global,
@@ -89,7 +91,7 @@ pub(crate) fn remove_entry<R: Files + AllocGlobal>(
     Ok(())
 }
 
-// Removes what is no folder, and says whether it is one.
+// Removes an entry unless it is a folder. Returns false if it is a folder.
 fn remove_plain<R: Files>(rt: &R, alloc: Global, folder: &Folder, name: &[u8]) -> io::Result<bool> {
     let removed = match folder.unlink(name) {
         Err(error) if error.kind() == ErrorKind::PermissionDenied => {
@@ -120,14 +122,14 @@ fn remove_empty<R: Files>(rt: &R, alloc: Global, folder: &Folder, name: &[u8]) -
     }
 }
 
-// A folder that is being emptied, and the names of the folders that are left in it.
+// A folder that is being emptied, and the names of the folders that remain in it.
 #[derive(Drop)]
 struct Emptied {
     folder: Folder,
     left: Vec<Vec<u8>>,
 }
 
-/// Removes all that stands in a folder. The folder itself stays, since a process may be running in it.
+/// Removes the contents of a folder. The folder itself stays, since a process may be running in it.
 pub(crate) fn empty_folder<R: Files + AllocGlobal>(
     rt: &R,
     alloc: Global,
@@ -162,7 +164,7 @@ pub(crate) fn empty_folder<R: Files + AllocGlobal>(
             Ok(None) => {
                 last.left.pop();
             }
-            // Something else stands there now.
+            // The entry was replaced by something that isn't a folder.
             Err(error) if is_no_folder(&error) => {
                 if let Some(name) = last.left.pop() {
                     remove_plain(rt, alloc, &last.folder, name.as_slice())?;
@@ -174,7 +176,7 @@ pub(crate) fn empty_folder<R: Files + AllocGlobal>(
     Ok(())
 }
 
-// Removes the folder that has been emptied, which is the last one that is left in the one above it.
+// Removes the folder that has been emptied. It is the last one that remains in the folder above it.
 fn remove_last<R: Files>(
     rt: &R,
     alloc: Global,
@@ -212,7 +214,7 @@ fn remove_deep<R: Files + AllocGlobal>(
     }
 }
 
-// Removes what is in a folder and is no folder, and notes the folders.
+// Removes all entries of a folder that aren't folders, and notes the folders.
 fn look_through<R: Files>(rt: &R, alloc: Global, folder: Folder) -> io::Result<Emptied> {
     let mut left = Vec::new(alloc);
     let mut names = [0u8; MOST_NAMES];

@@ -1,7 +1,7 @@
 // Folders that are held open. What the calls do is trusted.
 //
-// A path is walked folder by folder. Each is opened in the one above it and no link is followed, so that nothing that a
-// process puts on the way meanwhile leads the walk elsewhere.
+// A path is walked folder by folder. Each folder is opened in the one above it, and no link is followed. So nothing
+// that a process puts on the way meanwhile can lead the walk elsewhere.
 ghost use Rattle.std.specs.Prelude.{◌≤◌, IfOk, length};
 
 use crate::disk::is_absent;
@@ -11,16 +11,16 @@ use std::io::{self, ErrorKind};
 use std::os::unix::fs::PermissionsExt;
 use std::rt::Files;
 
-/// A folder of the owner's, who may list it, change it and go through it.
+/// The mode that lets the owner of a folder list it, change it and enter it.
 const OPEN_FOLDER: u32 = 0o700;
 
-/// Where the system has a link to each file and folder that the process holds open, by its descriptor.
+/// The folder in which the system has a link, by descriptor, to each file and folder that the process holds open.
 const OPEN_FILES: &str = "/proc/self/fd";
 
 /// A folder that is held open. It is closed when it is dropped.
 pub(crate) struct Folder {
     fd: i32,
-    // Whether it was made for a process, so that its mode may be changed where it stands in the way.
+    // True if the folder was made for a process, so its mode may be changed if it is in the way.
     is_own: bool,
 }
 
@@ -40,13 +40,13 @@ impl Folder {
         }
     }
 
-    /// Opens the folder at a path, also behind links. It is the user's.
+    /// Opens the folder at a path. It is the user's, so links are followed.
     pub(crate) fn at(alloc: Global, path: &str) -> io::Result<Folder> {
         let path = format!(in alloc; "{path}/")?;
         Folder::of(os::open_dir_at(libc::AT_FDCWD, path.as_bytes()), false)
     }
 
-    /// The same, and makes the folder, with those above it, if it isn't there.
+    /// Same as `at`, but makes the folder and its parent folders if it is missing.
     pub(crate) fn made_at<R: Files + AllocGlobal>(
         rt: &R,
         alloc: Global,
@@ -61,7 +61,7 @@ impl Folder {
         }
     }
 
-    /// Opens a folder in this one. A link is no folder.
+    /// Opens a folder in this one. A link doesn't count as a folder.
     pub(crate) fn open(&self, name: &[u8]) -> io::Result<Folder> {
         Folder::of(os::open_dir_at(self.fd, name), self.is_own)
     }
@@ -71,7 +71,8 @@ impl Folder {
         self.open(b".")
     }
 
-    /// The same, of a folder whose owner may not list it, too: where this one was made for a process it is made listable.
+    /// Same as `open`, but also opens a folder that its owner may not list. If this one was made for a process, that
+    /// folder is first made listable.
     pub(crate) fn open_by_force<R: Files>(
         &self,
         rt: &R,
@@ -109,7 +110,7 @@ impl Folder {
         self
     }
 
-    // Lets the owner of a folder in this one list it and change it.
+    // Lets the owner list and change a folder in this one.
     fn make_listable<R: Files>(&self, rt: &R, alloc: Global, name: &[u8]) -> io::Result<()> {
         let Ok(name) = str::from_utf8(name) else {
             return Err(io::Error::from(ErrorKind::PermissionDenied));
@@ -121,13 +122,13 @@ impl Folder {
         Ok(())
     }
 
-    /// A path by which the system finds what has this name in the folder, whatever stands on the way to the folder now.
+    /// Returns a path by which the system finds this name in the folder, even if the way to the folder has changed.
     pub(crate) fn path_of(&self, alloc: Global, name: &str) -> Result<String, AllocError> {
         let fd = self.fd;
         format!(in alloc; "{OPEN_FILES}/{fd}/{name}")
     }
 
-    /// Makes a folder in this one, and says whether nothing stood there.
+    /// Makes a folder in this one. Returns true if nothing had this name.
     pub(crate) fn make_new<R: Files>(&self, rt: &R, alloc: Global, name: &str) -> io::Result<bool> {
         let path = self.path_of(alloc, name)?;
         match fs::create_dir(rt, path.as_str()) {
@@ -136,7 +137,7 @@ impl Folder {
         }
     }
 
-    /// Opens a folder in this one, which is made if it isn't there. What stands there and isn't one makes room for it.
+    /// Opens a folder in this one, and makes it if it is missing. Anything else of this name is replaced by a folder.
     pub(crate) fn open_or_make<R: Files>(
         &self,
         rt: &R,
@@ -154,7 +155,7 @@ impl Folder {
         }
     }
 
-    /// Removes what has this name in the folder, and is no folder.
+    /// Removes the entry of this name, if it isn't a folder.
     pub(crate) fn unlink(&self, name: &[u8]) -> io::Result<()> {
         done(os::unlink_at(self.fd, name))
     }
@@ -164,7 +165,7 @@ impl Folder {
         done(os::rmdir_at(self.fd, name))
     }
 
-    /// Lets the owner change what stands in the folder, if it was made for a process.
+    /// Lets the owner change the contents of the folder, if it was made for a process.
     pub(crate) fn make_writable<R: Files>(&self, rt: &R, alloc: Global) -> io::Result<()> {
         if !self.is_own {
             return Err(io::Error::from(ErrorKind::PermissionDenied));
@@ -174,8 +175,8 @@ impl Folder {
         fs::set_permissions(rt, path.as_str(), Permissions::from_mode(OPEN_FOLDER))
     }
 
-    /// Puts the names of the folder's next entries at the start of these bytes, each ended by a NUL, and says how many bytes
-    /// they take: none at the end.
+    /// Writes the names of the folder's next entries to the start of these bytes, each followed by a NUL. Returns the
+    /// number of bytes written, which is 0 at the end.
     pub(crate) fn names(&self, into: &mut [u8]) -> io::Result<usize>
         ensures { IfOk result (λ n. n ≤ length into.new) }
     {
@@ -187,7 +188,7 @@ impl Folder {
     }
 }
 
-/// Whether folders that are held open can be named to the system, as they are here.
+/// Returns true if the system can be given the paths of open folders that this file uses.
 pub fn can_name_open_folders<R: Files>(rt: &R) -> bool {
     fs::metadata(rt, OPEN_FILES).is_ok()
 }
@@ -200,17 +201,17 @@ fn done(status: i32) -> io::Result<()> {
     }
 }
 
-/// No folder is there, and a link to one is none.
+/// Returns true if the error means that there is no folder. A link to a folder doesn't count as one.
 pub(crate) fn is_no_folder(error: &io::Error) -> bool {
     is_absent(error) || error.kind() == ErrorKind::FilesystemLoop
 }
 
-/// Whether a name is that of an entry, and neither empty nor that of the folder itself or of the one above it.
+/// Returns true if a name is that of an entry: not empty, and neither the folder itself nor its parent.
 pub(crate) fn is_entry(name: &[u8]) -> bool {
     !matches!(name, b"" | b"." | b"..")
 }
 
-/// The folders above the last name of a path, and that name.
+/// Splits a path into the folders above its last name, and that name.
 pub(crate) fn split(path: &str) -> (&str, &str) {
     match path.rsplit_once('/') {
         Some((folders, name)) => (folders, name),
@@ -218,7 +219,7 @@ pub(crate) fn split(path: &str) -> (&str, &str) {
     }
 }
 
-/// Opens the folder at a path below another one. `None` where the path is empty, and so names that one itself.
+/// Opens the folder at a path below another one. Returns `None` if the path is empty, which means that other folder.
 pub(crate) fn open_below<R: Files>(
     rt: &R,
     alloc: Global,
@@ -235,7 +236,7 @@ pub(crate) fn open_below<R: Files>(
     Ok(last)
 }
 
-/// The same, and makes the folders that aren't there. What isn't a folder on the way makes room for one.
+/// Same as `open_below`, but makes missing folders. Anything on the way that isn't a folder is replaced by one.
 pub(crate) fn make_below<R: Files>(
     rt: &R,
     alloc: Global,

@@ -1,15 +1,15 @@
-// The bare calls on files and folders below a folder that is held open, where no link is followed. What they do is trusted.
+// The bare calls on files and folders below an open folder. No link is followed there. What they do is trusted.
 use crate::disk::{MOST_BYTES, read_same, write_beside, write_new};
 use crate::folder::{Folder, is_no_folder, make_below, open_below, split};
 use std::alloc::Global;
 use std::rt::Files;
 use std::{fs, io};
 
-// One lane alone writes below such a folder.
-const BESIDE: &str = ".worker_tool.part";
+/// The temporary name of a file that is being written, if only one writer writes below a folder.
+pub const BESIDE: &str = ".worker_tool.part";
 
-/// The bytes of a regular file at a path below a folder. A link is no such file, nor is what lies
-/// behind one. A file that is larger than 4 GiB is an error, and so is one that changes while it is read.
+/// Returns the bytes of a regular file at a path below a folder. A link doesn't count, nor does a file behind one. A
+/// file that is larger than 4 GiB is an error, and so is one that changes while it is read.
 pub fn read_inside<R: Files + AllocGlobal>(
     rt: &R,
     alloc: Global,
@@ -19,25 +19,27 @@ pub fn read_inside<R: Files + AllocGlobal>(
     read_below(rt, alloc, &Folder::at(alloc, folder)?, path)
 }
 
-/// Writes a file below a folder. What isn't a folder on its way there makes room for one. Where a file stands already,
-/// whoever has it open keeps the old bytes.
+/// Writes a file below a folder. Anything on the way that isn't a folder is replaced by one. If a file exists already,
+/// a process that has it open keeps the old bytes, since the new file is first written under the name `beside`. Two
+/// writers into one folder at once need two such names.
 pub fn write_inside<R: Files + AllocGlobal>(
     rt: &R,
     alloc: Global,
     folder: &str,
     path: &str,
+    beside: &str,
     bytes: &[u8],
 ) -> io::Result<()> {
     let top = Folder::made_at(rt, alloc, folder)?;
     let (folders, name) = split(path);
     match make_below(rt, alloc, &top, folders)? {
-        Some(below) => write_in(rt, alloc, &below, name, bytes),
-        None => write_in(rt, alloc, &top, name, bytes),
+        Some(below) => write_in(rt, alloc, &below, name, beside, bytes),
+        None => write_in(rt, alloc, &top, name, beside, bytes),
     }
 }
 
-/// Makes a folder below another one, with those above it. What isn't a folder on its way there makes
-/// room for one.
+/// Makes a folder below another one, including any missing parent folders. Anything on the way that isn't a folder is
+/// replaced by one.
 pub fn make_folder_inside<R: Files + AllocGlobal>(
     rt: &R,
     alloc: Global,
@@ -47,7 +49,7 @@ pub fn make_folder_inside<R: Files + AllocGlobal>(
     make_below(rt, alloc, &Folder::made_at(rt, alloc, folder)?, path).map(|_| ())
 }
 
-/// As `read_inside`, below a folder that is held open.
+/// Same as `read_inside`, below a folder that is held open.
 pub(crate) fn read_below<R: Files + AllocGlobal>(
     rt: &R,
     alloc: Global,
@@ -80,11 +82,12 @@ pub(crate) fn write_in<R: Files>(
     alloc: Global,
     folder: &Folder,
     name: &str,
+    beside: &str,
     bytes: &[u8],
 ) -> io::Result<()> {
     let path = folder.path_of(alloc, name)?;
     match write_new(rt, path.as_str(), bytes)? {
         Some(()) => Ok(()),
-        None => write_beside(rt, alloc, BESIDE, path.as_str(), bytes),
+        None => write_beside(rt, alloc, beside, path.as_str(), bytes),
     }
 }

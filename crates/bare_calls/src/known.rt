@@ -1,18 +1,18 @@
-// What is known to stand in a room, so that it needn't be looked for. What the calls do is trusted.
+// The known contents of a room, which needn't be searched for. What the calls do is trusted.
 use crate::folder::{Folder, split};
 use std::alloc::{AllocError, Global};
 use std::io;
 use std::rt::Files;
 
-/// How many folders of a room are held open at most, the room itself among them.
+/// The largest number of folders of a room that are held open, the room itself included.
 const MOST_FOLDERS: usize = 6;
 
-/// How many files of a folder are known at most. Others are searched for.
+/// The largest number of known files in a folder. Others are searched for.
 const MOST_FILES: usize = 4096;
 
-/// Folders of a room that are held open, with the files that were put into them and found in them. The first one is the room
-/// itself. Once somebody else has had a reason to change the room, a folder that is held open may be another one than that which stands
-/// at its path: to remove by what is known does no harm then, and to write is another matter.
+/// Folders of a room that are held open, with the files that were put into them or found in them. The first one is the
+/// room itself. Once somebody else has had a reason to change the room, an open folder may no longer be the one at its
+/// path. Removing what is known then does no harm, but writing might.
 #[derive(Drop)]
 pub(crate) struct Known {
     top: Folder,
@@ -20,7 +20,7 @@ pub(crate) struct Known {
     folders: Vec<KnownFolder>,
 }
 
-// A folder of a room, each behind the one in which it stands.
+// A folder of a room. In the list each folder comes after the one that contains it.
 #[derive(Drop)]
 struct KnownFolder {
     path: String,
@@ -29,7 +29,7 @@ struct KnownFolder {
 }
 
 impl Known {
-    /// A room of which nothing is known.
+    /// Returns a room about which nothing is known.
     pub(crate) fn new(alloc: Global, top: Folder) -> Known {
         Known {
             top,
@@ -38,12 +38,12 @@ impl Known {
         }
     }
 
-    /// The room itself.
+    /// Returns the room itself.
     pub(crate) fn top(&self) -> &Folder {
         &self.top
     }
 
-    /// The folder at a path of the room, if it is held open.
+    /// Returns the folder at a path of the room, if it is held open.
     pub(crate) fn folder(&self, path: &str) -> Option<&Folder> {
         if path.is_empty() {
             return Some(&self.top);
@@ -55,7 +55,8 @@ impl Known {
             .map(|known| &known.folder)
     }
 
-    /// Has the folder at a path of the room be held open. It is made if it isn't there, with those above it.
+    /// Opens the folder at a path of the room and holds it open. It is made if it is missing, and so are its parent
+    /// folders.
     pub(crate) fn reach<R: Files>(&mut self, rt: &R, alloc: Global, path: &str) -> io::Result<()> {
         if self.folder(path).is_some() {
             return Ok(());
@@ -74,7 +75,7 @@ impl Known {
         Ok(())
     }
 
-    // Opens a folder that stands in one that is held open.
+    // Opens a folder whose parent folder is held open.
     fn open_next<R: Files>(&mut self, rt: &R, alloc: Global, path: &str) -> io::Result<()> {
         let (above, name) = split(path);
         let folder = match self.folder(above) {
@@ -92,7 +93,8 @@ impl Known {
         Ok(())
     }
 
-    /// Notes a file that stands at a path of the room. Where its folder isn't held open, it is searched for.
+    /// Notes a file at a path of the room. If its folder isn't held open, the file isn't noted and is searched for
+    /// later.
     pub(crate) fn note_file(&mut self, alloc: Global, path: &str) -> Result<(), AllocError> {
         let (above, name) = split(path);
         if above.is_empty() {
@@ -105,7 +107,7 @@ impl Known {
         }
     }
 
-    /// Removes what is known, as far as it can be removed. The room itself stays, and is held open.
+    /// Removes what is known, as far as possible. The room itself stays and is held open.
     pub(crate) fn remove_all(&mut self) {
         for _ in 0..MOST_FOLDERS {
             let Some(known) = self.folders.pop() else {
@@ -121,13 +123,13 @@ impl Known {
         self.top_files.clear();
     }
 
-    /// Of the folders in the room nothing is known any more.
+    /// Forgets the folders in the room.
     pub(crate) fn forget_folders(&mut self) {
         self.folders.clear();
     }
 }
 
-// Where the next name of a path ends, behind a slash if one stands before it.
+// Returns the end of the next name of a path. If an earlier name ends at `end`, a slash comes first.
 fn next_end(end: usize, name: &str) -> usize {
     let begin = if end == 0 { 0 } else { end.saturating_add(1) };
     begin.saturating_add(name.len())

@@ -1,4 +1,4 @@
-// The bare calls by which one run at a time is at work in a folder. What they do is trusted.
+// The bare calls that let only one run work in a folder at a time. What they do is trusted.
 use crate::disk::is_absent;
 use crate::paths::path_in;
 use crate::pipes::rest;
@@ -10,7 +10,7 @@ use std::rt::Files;
 
 /// A file that can be locked, until it is closed.
 pub trait LockFile {
-    /// Locks it, unless somebody else has; says whether it did.
+    /// Locks the file and returns true, or returns false if somebody else holds the lock.
     fn lock_now(&self) -> io::Result<bool>;
 }
 
@@ -24,29 +24,29 @@ impl LockFile for File {
     }
 }
 
-/// What came of a lock.
+/// The result of taking a lock.
 #[derive(Drop)]
 pub enum Locked<F: Drop> {
-    /// It is held as long as this file is open. The system ends it with the process, however that ends.
+    /// The lock is held as long as this file is open. The system ends it with the process, however the process ends.
     Held(F),
-    /// Somebody else has it.
+    /// Somebody else holds the lock.
     Taken,
-    /// Something else than a regular file stands there. It isn't opened, since that might wait.
+    /// Something other than a regular file is at the path. It isn't opened, since that might wait.
     NoFile,
-    /// The system said so.
+    /// The system refused, with this error.
     Refused(io::Error),
 }
 
-/// How often a lock is tried that somebody else has, every `PAUSE` milliseconds: one that is given up right now is waited
-/// for, also by a process between its making and its start.
+/// The number of tries, every `PAUSE` milliseconds, while somebody else holds the lock. A lock that is about to be
+/// released is waited for, even if a process between its creation and its start holds it.
 const TRIES: u32 = 40;
 
 const PAUSE: i32 = 25;
 
-/// Nobody but the owner opens it, and so nobody else can hold it.
+/// Only the owner may open the file, so nobody else can hold the lock.
 const MODE: u32 = 0o600;
 
-/// Locks the file of this name in a folder, both of which are made if they aren't there.
+/// Locks the file of this name in a folder. The file and the folder are made if they are missing.
 pub fn lock_inside<R: Files<File: LockFile>>(
     rt: &R,
     alloc: Global,
@@ -74,7 +74,7 @@ fn lock_at<R: Files<File: LockFile>>(
             fs::create_dir_all(rt, folder)?;
             open(rt, path.as_str())?
         }
-        // A process may have taken the owner's right.
+        // A process may have removed the owner's permission.
         Err(error) if error.kind() == ErrorKind::PermissionDenied => {
             fs::set_permissions(rt, path.as_str(), Permissions::from_mode(MODE))?;
             open(rt, path.as_str())?

@@ -1,22 +1,22 @@
-// How paths are put together. No call of the system is made here.
+// How paths are joined. This file makes no system call.
 ghost use Rattle.std.specs.Prelude.{◌≡◌, IfOk, string_bytes};
 ghost use Rattle.bare_calls.specs.Paths.{below, program_from};
 
 use std::alloc::{AllocError, Global};
 
-/// The path of what has this name, or this path, in a folder.
+/// Returns the path of a name, or of a relative path, in a folder.
 ///
 /// # Errors
 ///
-/// `AllocError` where it finds no memory.
+/// Returns `AllocError` if memory runs out.
 pub fn path_in(alloc: Global, folder: &str, name: &str) -> Result<String, AllocError>
     ensures { IfOk result (λ p. string_bytes p ≡ below folder.now name.now) }
 {
     format!(in alloc; "{folder}/{name}")
 }
 
-/// A program's path as the system is given it: one that begins with a slash as it is, another one from the folder by
-/// which it is named.
+/// Returns a program's path for the system. A path that begins with a slash stays as it is. Any other is joined to
+/// `base`.
 pub(crate) fn program_from(alloc: Global, base: &str, program: &str) -> Result<String, AllocError>
     ensures { IfOk result (λ p. string_bytes p ≡ program_from base.now program.now) }
 {
@@ -27,7 +27,7 @@ pub(crate) fn program_from(alloc: Global, base: &str, program: &str) -> Result<S
     }
 }
 
-/// The path beside another one at which what has this name stands.
+/// Returns the path of this name in the same folder as another path.
 pub(crate) fn path_beside(alloc: Global, name: &str, path: &str) -> Result<String, AllocError> {
     match path.rsplit_once('/') {
         Some((folder, _)) => path_in(alloc, folder, name),

@@ -1,43 +1,43 @@
 // The rooms of a berth's processes. What the calls do is trusted.
 use crate::emptying::{empty_folder, remove_below, remove_entry};
 use crate::folder::{Folder, split};
-use crate::inside::{read_below, write_in};
+use crate::inside::{BESIDE, read_below, write_in};
 use crate::known::Known;
 use std::alloc::{AllocError, Global};
 use std::io;
 use std::rt::Files;
 
-/// The folder of all rooms, which may be a link of the user's. From there on no link is followed,
-/// also where a worker put one in the place of its own room.
+/// The folder of all rooms. The user may make it a symbolic link. Below it no link is followed, even if a worker
+/// replaced its room by one.
 pub const ROOMS: &str = ".worker_rooms";
 
-/// How many bytes of names are read at once. Any one name finds room.
+/// The size of the buffer for names, in bytes. Any single name fits into it.
 const MOST_NAMES: usize = 4096;
 
-/// A room's number is smaller. A name that has a greater one was made by somebody else.
+/// The bound of a room's number. A name with a greater number was made by somebody else.
 const MOST_ROOMS: u64 = 1 << 40;
 
-/// How many names are tried for a new room, where others have taken some of them.
+/// The number of names that are tried for a new room if some are taken.
 const TRIES: u64 = 1000;
 
-/// The folder in which a berth's process works. It belongs to that process alone: the next process gets a new one, under a
-/// name that no earlier one had, in this run or in another. So what a process that was left behind still writes goes
-/// nowhere, by whatever path it knows its room.
+/// The folder in which a berth's process works. It belongs to that process alone. The next process gets a new one,
+/// under a name that no earlier room had, in this run or another. So what a process that was left running still writes
+/// reaches no later room, whichever path to its own room it uses.
 ///
 /// The rooms of berth 3 are called `3`, `3.1`, `3.2` and so on in the folder of all rooms.
 #[derive(Drop)]
 pub struct Room {
     alloc: Global,
     berth: u32,
-    // The room that stands, once one was made.
+    // The current room, once one was made.
     made: Option<Made>,
-    // Whether a process that was started in the room hasn't been ended yet.
+    // True if a process that was started in the room hasn't been ended yet.
     is_lived_in: bool,
-    // Whether since the last clear nobody else has had a reason to change what is written into: folders stay what they are.
+    // True if nobody else has had a reason to change the room since the last clear, so its folders are still the same.
     is_fresh: bool,
 }
 
-// A room that stands.
+// A room that exists.
 #[derive(Drop)]
 struct Made {
     number: u64,
@@ -45,7 +45,7 @@ struct Made {
 }
 
 impl Room {
-    /// The room of a berth, which is made by its first clear.
+    /// Returns the room of a berth. Its folder is made by the first clear.
     pub fn new(alloc: Global, berth: u32) -> Room {
         Room {
             alloc,
@@ -56,11 +56,11 @@ impl Room {
         }
     }
 
-    /// The path of the room, or of the berth's first one while none was made.
+    /// Returns the path of the room, or of the berth's first room if none was made yet.
     ///
     /// # Errors
     ///
-    /// `AllocError` where it finds no memory.
+    /// Returns `AllocError` if memory runs out.
     pub fn path(&self) -> Result<String, AllocError> {
         let number = match &self.made {
             Some(made) => made.number,
@@ -70,14 +70,14 @@ impl Room {
         format!(in self.alloc; "{ROOMS}/{name}")
     }
 
-    /// A process is started in the room, or has been ended.
+    /// Records that a process was started in the room, or that it has been ended.
     pub fn set_lived_in(&mut self, is_lived_in: bool) {
         self.is_lived_in = is_lived_in;
         self.is_fresh = false;
     }
 
-    /// Removes what stands at a path in the room. For the empty path it is all that stands there, where a process lives in
-    /// the room; else the room is made anew.
+    /// Removes everything at a path in the room. The empty path means the whole contents if a process lives in the
+    /// room. Otherwise a new room is made for the empty path.
     pub fn clear<R: Files + AllocGlobal>(&mut self, rt: &R, path: &str) -> io::Result<()> {
         self.is_fresh = true;
         if path.is_empty() && !self.is_lived_in {
@@ -94,25 +94,25 @@ impl Room {
         }
     }
 
-    /// Makes a folder in the room, with those above it.
+    /// Makes a folder in the room, including any missing parent folders.
     pub fn make<R: Files>(&mut self, rt: &R, path: &str) -> io::Result<()> {
         let alloc = self.alloc;
         self.known_now()?.reach(rt, alloc, path)
     }
 
-    /// Writes a file in the room, with the folders above it.
+    /// Writes a file in the room, including any missing parent folders.
     pub fn write<R: Files>(&mut self, rt: &R, path: &str, bytes: &[u8]) -> io::Result<()> {
         let alloc = self.alloc;
         let (above, name) = split(path);
         let known = self.known_now()?;
         known.reach(rt, alloc, above)?;
         let folder = known.folder(above).unwrap_or(known.top());
-        write_in(rt, alloc, folder, name, bytes)?;
+        write_in(rt, alloc, folder, name, BESIDE, bytes)?;
         known.note_file(alloc, path)?;
         Ok(())
     }
 
-    /// The bytes of a regular file at a path in the room; `None` where there is no such file.
+    /// Returns the bytes of a regular file at a path in the room, or `None` if there is no such file.
     pub fn read<R: Files + AllocGlobal>(
         &mut self,
         rt: &R,
@@ -121,7 +121,7 @@ impl Room {
         let alloc = self.alloc;
         self.is_fresh = false;
         let known = self.known()?;
-        // The folders on the way may be others by now, so each is opened anew.
+        // The folders on the way may have been replaced, so each is opened again.
         let found = read_below(rt, alloc, known.top(), path)?;
         if found.is_some() {
             known.note_file(alloc, path)?;
@@ -129,7 +129,7 @@ impl Room {
         Ok(found)
     }
 
-    // What is known, without the folders that may be others by now.
+    // Returns what is known, without the folders if they may have been replaced.
     fn known_now(&mut self) -> io::Result<&mut Known> {
         let is_fresh = self.is_fresh;
         let known = self.known()?;
@@ -146,7 +146,7 @@ impl Room {
         }
     }
 
-    // Makes a room that no process has had, and removes those from before as far as they can be removed.
+    // Makes a room that no process has had, and removes the earlier rooms as far as possible.
     fn renew<R: Files + AllocGlobal>(&mut self, rt: &R) -> io::Result<()> {
         let rooms = Folder::made_at(rt, self.alloc, ROOMS)?;
         let old = match self.made.take() {
@@ -167,7 +167,7 @@ impl Room {
     }
 }
 
-// The name of a berth's room.
+// Returns the name of a berth's room.
 fn name_of(alloc: Global, berth: u32, number: u64) -> Result<String, AllocError> {
     if number == 0 {
         format!(in alloc; "{berth}")
@@ -176,7 +176,7 @@ fn name_of(alloc: Global, berth: u32, number: u64) -> Result<String, AllocError>
     }
 }
 
-// The number of the room with this name, if it is one of the berth's.
+// Returns the number of the room with this name, if it is one of the berth's rooms.
 fn number_in(name: &str, berth: &str) -> Option<u64> {
     let rest = name.strip_prefix(berth)?;
     if rest.is_empty() {
@@ -190,7 +190,7 @@ fn number_in(name: &str, berth: &str) -> Option<u64> {
     }
 }
 
-// The numbers of the berth's rooms that stand in the folder of all rooms.
+// Returns the numbers of the berth's rooms in the folder of all rooms.
 fn rooms_of(alloc: Global, rooms: &Folder, berth: u32) -> io::Result<Vec<u64>> {
     let berth = format!(in alloc; "{berth}")?;
     let mut found = Vec::new(alloc);
@@ -212,7 +212,7 @@ fn rooms_of(alloc: Global, rooms: &Folder, berth: u32) -> io::Result<Vec<u64>> {
     Ok(found)
 }
 
-// Makes the room behind the last of these.
+// Makes the room that follows the last of the old ones.
 fn make_behind<R: Files>(
     rt: &R,
     alloc: Global,

@@ -10,27 +10,27 @@ use std::alloc::{AllocError, Global};
 use std::io::{self, ErrorKind, Read};
 use std::process::{self, ChildStdout, ExitStatus, Processes, Stdio, SystemProcess};
 
-/// For how many milliseconds a start rests that was refused for want of processes or memory, each time.
+/// The pauses, in milliseconds, after each start that was refused because processes or memory were short.
 const WANT_PAUSES: [i32; 4] = [20, 60, 200, 600];
 
-/// How many bytes are read at once.
+/// The size of the buffer for reads, in bytes.
 const PART: usize = 16384;
 
-/// How many bytes a pipe can hold. More than that isn't left by a process that has ended.
+/// The largest number of bytes that a pipe can hold. A process that has ended can't have left more.
 const MOST_LEFT: usize = 1 << 20;
 
-/// How many bytes a process may write to its standard output: 4 GiB.
+/// The largest number of bytes that a process may write to its standard output: 4 GiB.
 const MOST_WRITTEN: usize = 1 << 32;
 
 const MOST_SIGNALS: u32 = 1000;
 
-/// How often one that can't be killed is looked for, every `END_PAUSE` milliseconds, before it is left to itself.
+/// The number of tries, every `END_PAUSE` milliseconds, to kill and wait for a process before it is left alone.
 const END_TRIES: u32 = 400;
 
 const END_PAUSE: i32 = 25;
 
-/// Starts the command's program in a room, with pipes for its standard input and output and with the command's
-/// environment alone. A program's path that doesn't begin with a slash begins at `base`. Its standard error is ours.
+/// Starts the command's program in a room, with pipes for its standard input and output. Its environment is only the
+/// command's. A program's path without a leading slash is relative to `base`. Standard error is inherited.
 pub fn start<R: Processes<Started = SystemProcess>>(
     rt: &R,
     alloc: Global,
@@ -46,7 +46,7 @@ pub fn start<R: Processes<Started = SystemProcess>>(
     spawned(rt, &mut start)
 }
 
-// Starts a program. Where the system has no process or no memory for it right now, it is tried again a few times.
+// Starts a program. If the system is short of processes or memory, the start is tried again a few times.
 fn spawned<R: Processes<Started = SystemProcess>>(
     rt: &R,
     start: &mut process::Command,
@@ -60,14 +60,14 @@ fn spawned<R: Processes<Started = SystemProcess>>(
     start.spawn(rt)
 }
 
-// A want that may pass.
+// Returns true if the shortage may pass.
 fn is_for_now(error: &io::Error) -> bool {
     matches!(error.kind(), ErrorKind::WouldBlock | ErrorKind::OutOfMemory)
 }
 
-/// Runs words in a folder to their end, with an empty standard input and with these variables alone
-/// as environment. Gives how they ended and what they wrote to standard output. Standard error is
-/// ours. The folder lies below a room, so that a program's path begins three folders above it.
+/// Runs the words in a folder to their end, with an empty standard input and only these variables as environment.
+/// Returns how the process ended and what it wrote to standard output. Standard error is inherited. The folder is below
+/// a room, so a program's path begins three folders above it.
 pub fn run_to_end<R: Processes<Started = SystemProcess>>(
     rt: &R,
     alloc: Global,
@@ -84,7 +84,7 @@ pub fn run_to_end<R: Processes<Started = SystemProcess>>(
     ended(alloc, spawned(rt, &mut start)?)
 }
 
-// How a process ended and what it wrote. One whose output can't be read is killed.
+// Returns how a process ended and what it wrote. If its output can't be read, the process is killed.
 fn ended(alloc: Global, mut child: process::Child) -> io::Result<(ExitStatus, Vec<u8>)> {
     match written_by(alloc, &mut child) {
         Ok(written) => Ok((waited(&mut child)?, written)),
@@ -95,8 +95,8 @@ fn ended(alloc: Global, mut child: process::Child) -> io::Result<(ExitStatus, Ve
     }
 }
 
-// All that a process writes to its standard output until it ends. What it started and left running may hold its output
-// for as long as it likes: that isn't waited for.
+// Returns all that a process writes to its standard output until it ends. A process that it started may hold the output
+// open for longer. That isn't waited for.
 fn written_by(alloc: Global, child: &mut process::Child) -> io::Result<Vec<u8>> {
     let mut written = Vec::new(alloc);
     let Some(mut stdout) = child.stdout.take() else {
@@ -105,7 +105,7 @@ fn written_by(alloc: Global, child: &mut process::Child) -> io::Result<Vec<u8>> 
     let mut part = [0u8; PART];
     let mut left = MOST_LEFT;
     for _ in 0..u64::MAX {
-        // In this order: what it wrote before its end is in the pipe by the time of the look.
+        // The order matters: what it wrote before its end is in the pipe by the time of the look.
         let is_over = child.try_wait()?.is_some();
         if !wait_to_read(&stdout)? {
             if is_over {
@@ -131,7 +131,7 @@ fn written_by(alloc: Global, child: &mut process::Child) -> io::Result<Vec<u8>> 
     Ok(written)
 }
 
-// Reads on where a signal came first.
+// Reads from the pipe, and reads again if a signal came first.
 fn read_some(pipe: &mut ChildStdout, into: &mut [u8]) -> io::Result<usize>
     ensures { IfOk result (λ n. n ≤ length into.new) }
 {
@@ -144,7 +144,7 @@ fn read_some(pipe: &mut ChildStdout, into: &mut [u8]) -> io::Result<usize>
     Err(io::Error::from(ErrorKind::Interrupted))
 }
 
-// A program in a folder, with these words and with these variables alone as environment.
+// Prepares a program in a folder, with these words and with only these variables as environment.
 fn command_in(
     alloc: Global,
     base: &str,
@@ -194,13 +194,13 @@ pub fn kill(child: &mut process::Child) {
     let _ = child.kill();
 }
 
-/// Whether a process has ended by itself, as far as can be seen.
+/// Returns true if a process is seen to have ended by itself.
 pub fn has_ended(child: &mut process::Child) -> bool {
     matches!(child.try_wait(), Ok(Some(_)))
 }
 
-/// Waits for a process that was killed, and says how it ended. One that couldn't be killed, since it runs as another user,
-/// say, is tried again for a while, and then left to itself.
+/// Waits for a process that was killed, and returns how it ended. If it couldn't be killed (it may run as another
+/// user), the kill is tried again for a while. Then the process is left alone.
 pub fn wait_for(child: &mut process::Child) -> io::Result<ExitStatus> {
     for _ in 0..END_TRIES {
         if let Ok(Some(status)) = child.try_wait() {
@@ -224,7 +224,7 @@ fn waited(child: &mut process::Child) -> io::Result<ExitStatus> {
     Err(io::Error::from(ErrorKind::TimedOut))
 }
 
-/// Kills a process and waits for it, and says how it ended. One that has ended already is waited for all the same.
+/// Kills a process, waits for it, and returns how it ended. This also works if it has ended already.
 pub fn end(child: &mut process::Child) -> io::Result<ExitStatus> {
     kill(child);
     wait_for(child)

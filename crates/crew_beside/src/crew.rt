@@ -1,4 +1,4 @@
-//! A crew, and the lane beside it, from the first room to what they leave.
+//! A crew and an extra lane, from the first room to their results.
 ghost use Rattle.std.specs.Prelude.{◌≡◌, ◌+◌, ◌<◌, [], length, IfOk, IfErr};
 ghost use Rattle.seat_desk.specs.History.{StandsUnder};
 ghost use Rattle.seat_desk.specs.Turns.{NoneFrom};
@@ -7,33 +7,32 @@ ghost use Rattle.lane_crew.specs.LaneJobs.{MayRunInOrder, KeepsPasses, EachLane}
 ghost use Rattle.crew_beside.specs.Beside.{MayRunBeside, EndsBeside, count_of};
 
 use crate::parts::{lay_together, take_apart};
-use lane_crew::{Crew, Either, Lane, Unstarted, run_crew};
+use lane_crew::{Crew, Either, Lack, Lane, Unstarted, run_crew};
 use plain_values::NoMemory;
 use seat_desk::{Desk, Machine, Pass};
 use std::alloc::Global;
 use std::sync::Wait;
 use std::thread::Threads;
 
-/// What a crew leaves, with the end of the lane beside it.
+/// The result of a crew's run, with the end of the extra lane.
 #[derive(Drop)]
 pub struct CrewBeside<M: Machine, E, X> {
     /// The machine, the history and the ends of the crew's own lanes.
     pub crew: Crew<M, E>,
-    /// What the lane beside ended with, where there was one.
+    /// The end of the extra lane, if there was one.
     pub beside: Option<X>,
 }
 
-/// What was to run, where none has begun.
+/// The parts of a crew with an extra lane, if no lane has begun.
 #[derive(Drop)]
 pub struct UnstartedBeside<M, L, X> {
-    /// The machine, which no lane has called, and the crew's own lanes, as they were.
+    /// The machine, which no lane has called, and the crew's own lanes, unchanged.
     pub crew: Unstarted<M, L>,
-    /// The lane beside, as it was.
+    /// The extra lane, unchanged.
     pub beside: Option<X>,
 }
 
-// Room for so many lanes in one list, and for what comes of them: their ends, or they
-// themselves.
+// Room for all lanes in one list, and for what comes back: their ends, or the lanes themselves.
 struct Room<L, X, E> {
     all: Vec<Either<L, X>>,
     ends: Vec<E>,
@@ -55,23 +54,23 @@ fn room_for<L: Drop, X: Drop, E: Drop>(
     })
 }
 
-/// Runs up to 255 lanes at one desk and, where there is one, a lane of another kind beside them,
-/// each on a thread of its own, and closes the desk once all have ended. The lanes have the numbers
-/// from 0 on, in their order, and the one beside has the number behind theirs.
+/// Runs up to 255 lanes at one desk, each on its own thread, with one extra lane of another kind if
+/// there is one. Closes the desk after all have ended. The lanes are numbered from 0 on, in their
+/// order. The extra lane has the number after theirs.
 ///
-/// Each lane's end is related to what the one history has of it, as `run_crew` says, and so is the
-/// end of the lane beside. The machine stands for the history, and no lane but these has a call in
-/// it. A lane behind the first 128 isn't woken by a call, the one beside no more than others.
+/// The clauses relate each lane's end, and that of the extra lane, to its entries in the one
+/// history, as `run_crew` does. The machine stands for the history, and no other lane has a call in
+/// it. A call doesn't wake a lane after the first 128, which applies to the extra lane too.
 ///
-/// The room for all lanes in one list, and for what comes of them, is made before they are laid
-/// together. So from there on it takes no memory but the crew's, and neither what ran nor what
-/// didn't is lost. That the lanes end is for them to see to: no clause speaks of waiting.
+/// The room for all lanes in one list, and for what comes back, is made before the lanes are put
+/// into that list. So from there on only the crew takes memory, and nothing is lost, whether it ran
+/// or not. The lanes themselves must see to it that they end: no clause covers waiting.
 ///
 /// # Errors
 ///
-/// `UnstartedBeside` if there is no memory before the lanes, or the system starts no thread for one
-/// of them. Then none has begun, and all lanes come back with the machine, which stands for the
-/// empty history.
+/// Returns `UnstartedBeside` if memory runs out before the lanes begin, or if the system starts no
+/// thread for one of them. Then no lane has begun, and all lanes come back with the machine, which
+/// stands for the empty history.
 pub fn run_crew_beside<
     M: Machine + Send,
     L: Lane<Desk<M>, Pass<M>> + Send,
@@ -108,7 +107,12 @@ where
         × StandsUnder M.basis M.stands (M.basis machine) u.crew.machine []) }
 {
     let Ok(room) = room_for(alloc, lanes.len() + 1) else {
-        let crew = Unstarted { machine, lanes };
+        let lack = Lack::Memory;
+        let crew = Unstarted {
+            machine,
+            lanes,
+            lack,
+        };
         return Err(UnstartedBeside { crew, beside });
     };
     let Room {
@@ -136,11 +140,13 @@ where
             let Unstarted {
                 machine,
                 lanes: all,
+                lack,
             } = unstarted;
             let beside = take_apart(all, &mut back);
             let crew = Unstarted {
                 machine,
                 lanes: back,
+                lack,
             };
             Err(UnstartedBeside { crew, beside })
         }

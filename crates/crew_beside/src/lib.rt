@@ -1,8 +1,8 @@
-//! A crew with one lane more, of a kind of its own.
+//! A crew with one extra lane of a different kind.
 //!
-//! [`run_crew_beside`] runs the lanes of a crew and, where there is one, a lane of another kind
-//! beside them, at the same desk. What it says of the lanes and of the history is what a crew says,
-//! and the lane beside has the number behind theirs.
+//! [`run_crew_beside`] runs the lanes of a crew and, if there is one, an extra lane of another kind
+//! at the same desk. It states the same about the lanes and the history as a crew does. The extra
+//! lane has the number after theirs.
 #![tactic(auto)]
 
 mod crew;

@@ -1,4 +1,4 @@
-//! Some of one kind and at most one of another, in one list and apart again.
+//! Values of one kind and at most one of another, in one list and apart again.
 ghost use Rattle.std.specs.Prelude.{◌≡◌, ◌+◌, length};
 ghost use Rattle.lane_crew.specs.Jobs.{HasRoomFor};
 ghost use Rattle.crew_beside.specs.Parts.{HasParts, in_one_list};
@@ -6,7 +6,7 @@ ghost use Rattle.crew_beside.specs.Parts.{HasParts, in_one_list};
 use lane_crew::Either;
 use std::collections::VecDeque;
 
-// Lays the others in a list, and the one beside behind them. It takes no memory.
+// Puts the others into a list, followed by the extra one. The function takes no memory.
 pub(crate) fn lay_together<A: Drop, B: Drop>(
     others: Vec<A>,
     beside: Option<B>,
@@ -24,8 +24,8 @@ pub(crate) fn lay_together<A: Drop, B: Drop>(
     }
 }
 
-// Takes the others out of the list, and gives back the one beside, behind which there is none. It
-// takes no memory.
+// Takes the others out of the list, and returns the extra one, which is the last if there is one.
+// The function takes no memory.
 pub(crate) fn take_apart<A: Drop, B: Drop>(all: Vec<Either<A, B>>, others: &mut Vec<A>) -> Option<B>
     requires parts { HasParts all.items }
     requires room { HasRoomFor (length all.items) others.old }

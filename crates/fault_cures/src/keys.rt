@@ -1,4 +1,4 @@
-// The keys that mean something, and which of them was probably meant by another one.
+// The known keys, and the choice of the one that an unknown key probably means.
 use std::cmp::{max, min};
 
 /// The keys of an action.
@@ -14,7 +14,7 @@ pub const OF_ACTION: [&str; 9] = [
     "strategy",
 ];
 
-/// The requirements that mean something.
+/// The known requirements.
 pub const OF_REQUIREMENTS: [&str; 6] = [
     "supports-workers",
     "supports-multiplex-workers",
@@ -30,19 +30,19 @@ pub const STRATEGIES: [&str; 3] = ["worker", "remote", "dynamic"];
 /// The keys of the whole list.
 pub const OF_LIST: [&str; 1] = ["actions"];
 
-// How many letters of a known key may be another's or left out, at one place.
+// The largest number of a known key's letters that may differ or be left out, at one place.
 const MOST_LETTERS: usize = 2;
 
-// How many letters of a known key the beginning of it has at least.
+// The smallest number of letters of a known key that count as its beginning.
 const LEAST_LETTERS: usize = 3;
 
-/// Whether the key is one of these.
+/// Returns true if the key is one of these.
 pub fn is_known(key: &str, known: &[&'static str]) -> bool {
     known.iter().any(|one| *one == key)
 }
 
-/// The first known key that is like this one: they differ at one place in two letters at most, or one of them begins
-/// the other.
+/// Returns the first known key that is like this one: they differ at one place in two letters at most, or one of them
+/// begins the other.
 pub fn nearest(key: &str, known: &[&'static str]) -> Option<&'static str> {
     for one in known {
         if is_like(key.as_bytes(), one.as_bytes()) {

@@ -1,4 +1,4 @@
-// What to look at in a list that is refused, or whose flag files are.
+// Hints for a list that is refused, or whose flag files are refused.
 ghost use Rattle.std.specs.Prelude.{IfOk, string_bytes};
 ghost use Rattle.fault_cures.specs.Lines.{AreBehind};
 
@@ -11,11 +11,11 @@ use plain_values::NoMemory;
 use serde_json::{Error, Value};
 use std::alloc::Global;
 
-/// The lines behind a fault of the list that these bytes are.
+/// Returns the lines that follow a fault of the list with these bytes.
 ///
 /// # Errors
 ///
-/// `NoMemory` where the list's values or the lines find no memory.
+/// Returns `NoMemory` if memory runs out.
 pub fn list_lines(alloc: Global, bytes: &[u8], fault: &ListFault) -> Result<String, NoMemory>
     ensures { IfOk result (λ lines. AreBehind (string_bytes lines)) }
 {
@@ -31,11 +31,11 @@ pub fn list_lines(alloc: Global, bytes: &[u8], fault: &ListFault) -> Result<Stri
     Ok(page.text())
 }
 
-/// The lines behind a fault of the flag files of the action with this number.
+/// Returns the lines that follow a fault of the flag files of the action with this number.
 ///
 /// # Errors
 ///
-/// As for `list_lines`.
+/// Same as `list_lines`.
 pub fn flag_lines(
     alloc: Global,
     bytes: &[u8],
@@ -57,7 +57,26 @@ pub fn flag_lines(
     Ok(page.text())
 }
 
-/// The value of these bytes, where they are a JSON text.
+/// Returns the lines about keys that look misspelled, in the actions with these numbers of the list with these bytes.
+///
+/// # Errors
+///
+/// Returns `NoMemory` if memory runs out.
+pub fn key_lines(alloc: Global, bytes: &[u8], actions: &[u32]) -> Result<String, NoMemory>
+    ensures { IfOk result (λ lines. AreBehind (string_bytes lines)) }
+{
+    let mut page = Page::new(alloc);
+    if let Some(top) = value_of(alloc, bytes) {
+        for number in actions {
+            if let Some(listed) = Listed::of(&top, *number) {
+                listed.add_misspelled(alloc, &mut page)?;
+            }
+        }
+    }
+    Ok(page.text())
+}
+
+/// Returns the value of these bytes, if they are JSON.
 pub fn value_of(alloc: Global, bytes: &[u8]) -> Option<Value> {
     let Ok(text) = str::from_utf8(bytes) else {
         return None;
@@ -65,7 +84,7 @@ pub fn value_of(alloc: Global, bytes: &[u8]) -> Option<Value> {
     Value::from_str(alloc, text).ok()
 }
 
-// Where a text stops being JSON.
+// Adds the place at which a string stops being JSON.
 fn add_place(alloc: Global, page: &mut Page, text: &str, error: &Error) -> Result<(), NoMemory> {
     if text.is_empty() {
         page.add(alloc, "it is empty")?;
@@ -108,7 +127,7 @@ fn add_top(alloc: Global, page: &mut Page, top: &Value) -> Result<(), NoMemory> 
     }
 }
 
-// What of the action the fault means, where its own line leaves it open.
+// Adds the part of the action that the fault means, if the fault's own line leaves it open.
 fn add_cause(
     alloc: Global,
     page: &mut Page,
@@ -143,7 +162,7 @@ fn add_strategy(alloc: Global, page: &mut Page, listed: &Listed) -> Result<(), N
     page.add(alloc, line.as_str())
 }
 
-// Which key has the path.
+// Adds the key that lists the path.
 fn add_path_key(
     alloc: Global,
     page: &mut Page,
@@ -160,7 +179,7 @@ fn add_path_key(
     Ok(())
 }
 
-// What may stand at a key.
+// Adds the kind of value that a key takes.
 fn add_kind(alloc: Global, page: &mut Page, listed: &Listed, key: Key) -> Result<(), NoMemory> {
     let kind = match key {
         Key::Name | Key::Mnemonic | Key::Strategy => "a text that isn't empty",
@@ -202,7 +221,7 @@ fn add_flag_file(
     page.add(alloc, line.as_str())
 }
 
-// The number of the action, if the fault is one of an action.
+// Returns the number of the action, if the fault is one of an action.
 fn action_of(fault: &ListFault) -> Option<u32> {
     match fault {
         ListFault::TooMany { .. } | ListFault::NotJson => None,

@@ -1,4 +1,4 @@
-// Lines as they are gathered.
+// The lines that are gathered.
 ghost use Rattle.std.specs.Prelude.{string_bytes};
 ghost use Rattle.fault_cures.specs.Lines.{AreBehind};
 
@@ -19,7 +19,7 @@ impl Page {
         }
     }
 
-    /// Adds a line behind two spaces. A text that isn't one line is left out.
+    /// Adds a line after two spaces. A string of more than one line is left out.
     pub fn add(&mut self, alloc: Global, line: &str) -> Result<(), NoMemory> {
         if line.as_bytes().contains(&b'\n') {
             return Ok(());
@@ -29,7 +29,7 @@ impl Page {
         Ok(())
     }
 
-    /// The whole text.
+    /// Returns the whole text.
     pub fn text(self) -> String
         ensures { AreBehind (string_bytes result) }
     {

@@ -1,4 +1,4 @@
-// Which action wants the file at a path, and what stands there.
+// The action that needs the file at a path, and what is at that path.
 ghost use Rattle.std.specs.Prelude.{IfOk, string_bytes};
 ghost use Rattle.fault_cures.specs.Lines.{AreBehind};
 
@@ -9,12 +9,12 @@ use plain_values::NoMemory;
 use serde_json::Value;
 use std::alloc::Global;
 
-/// The lines behind a fault of the file at a path that the list of these bytes names: the first action that names it, and
-/// by which key. No line where none does.
+/// Returns the lines that follow a fault of the file at a path named by the list of these bytes. They give the first
+/// action that names the path, and the key. There are no lines if no action names it.
 ///
 /// # Errors
 ///
-/// `NoMemory` where the list's values or the lines find no memory.
+/// Returns `NoMemory` if memory runs out.
 pub fn path_lines(alloc: Global, bytes: &[u8], path: &str) -> Result<String, NoMemory>
     ensures { IfOk result (λ lines. AreBehind (string_bytes lines)) }
 {
@@ -33,7 +33,7 @@ pub fn path_lines(alloc: Global, bytes: &[u8], path: &str) -> Result<String, NoM
     Ok(page.text())
 }
 
-/// What a look at a path found where a file is wanted.
+/// What is at a path that should be a file.
 #[derive(Clone, Copy)]
 pub enum AtPath<'a> {
     /// A folder.
@@ -44,11 +44,11 @@ pub enum AtPath<'a> {
     NothingIn(&'a str),
 }
 
-/// The line that says what was found.
+/// Returns the line about what was found.
 ///
 /// # Errors
 ///
-/// `NoMemory` where the line finds no memory.
+/// Returns `NoMemory` if memory runs out.
 pub fn at_path_line(alloc: Global, found: AtPath<'_>) -> Result<String, NoMemory>
     ensures { IfOk result (λ lines. AreBehind (string_bytes lines)) }
 {
@@ -64,7 +64,7 @@ pub fn at_path_line(alloc: Global, found: AtPath<'_>) -> Result<String, NoMemory
     Ok(page.text())
 }
 
-// The first action that names the path among its tools or inputs, and the key.
+// Returns the first action that names the path among its tools or inputs, and the key.
 fn wanted_by<'a>(top: &'a Value, path: &str) -> Option<(Listed<'a>, &'static str)> {
     let actions = top.get("actions")?.as_array()?;
     for (number, value) in (0..u32::MAX).zip(actions.iter()) {

@@ -1,4 +1,4 @@
-// Which word of the command isn't accepted.
+// The words of the command that aren't accepted.
 ghost use Rattle.std.specs.Prelude.{IfOk, string_bytes};
 ghost use Rattle.fault_cures.specs.Lines.{AreBehind};
 
@@ -7,12 +7,12 @@ use plain_values::NoMemory;
 use std::alloc::Global;
 use tool_words::read_words;
 
-/// The lines behind words that aren't accepted: each that isn't by itself, or, where each is, what is asked of them
-/// together. No line where there are none.
+/// Returns the lines that follow words that aren't accepted: one for each word that isn't accepted by itself. If each
+/// word is, the line is the rule for all of them together. There are no lines if there are no words.
 ///
 /// # Errors
 ///
-/// `NoMemory` where the words or the lines find no memory.
+/// Returns `NoMemory` if memory runs out.
 pub fn word_lines(alloc: Global, words: &[String], together: &str) -> Result<String, NoMemory>
     ensures { IfOk result (λ lines. AreBehind (string_bytes lines)) }
 {
@@ -32,7 +32,7 @@ pub fn word_lines(alloc: Global, words: &[String], together: &str) -> Result<Str
     Ok(page.text())
 }
 
-// Whether a command may have this word: alone, or beside a list.
+// Returns true if a command may have this word, alone or together with a list.
 fn is_accepted(alloc: Global, word: &str) -> Result<bool, NoMemory> {
     let mut words = Vec::new(alloc);
     words.push(String::from_str(alloc, word)?)?;

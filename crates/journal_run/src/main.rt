@@ -1,13 +1,12 @@
-//! Runs the actions of a list as `worker_tool` does, and prints behind the report the text of the run's journal.
+//! Runs the actions of a list as `worker_tool` does, and prints the text of the run's journal after the report.
 //!
-//! A list that is generated is run in memory: its sources are there, and its workers do at once what
-//! they are asked.
+//! A generated list is run in memory: its sources are there, and its workers carry out each request at once.
 #![tactic(auto)]
 
 use outside_mem::MemFloor;
 use outside_real::{RealFloor, RealSink, open_standard};
-use recorded_runs::run_recorded;
-use run_command::{OPTIONS, Program, TOGETHER, end, end_unread, tell, tell_ended, words};
+use recorded_runs::{run_recorded, run_told_recorded};
+use run_command::{Cause, OPTIONS, Program, TOGETHER, end, end_unread, tell, tell_ended, words};
 use std::alloc::Global;
 use std::io::{Eprint, Print};
 use std::process::ExitCode;
@@ -20,6 +19,7 @@ const PROGRAM: Program = Program {
     name: "journal_run",
     together: TOGETHER,
     options: OPTIONS,
+    generates: true,
 };
 
 fn main(rt: HostRuntime) -> ExitCode {
@@ -34,11 +34,11 @@ fn main(rt: HostRuntime) -> ExitCode {
     }
     let floor = RealFloor::new(rt, alloc);
     let mut out = RealSink::new(rt);
-    let ended = run_recorded(&rt, alloc, &words, floor, &mut out);
+    let ended = run_told_recorded(&rt, alloc, &words, floor, &mut out);
     tell_ended(&rt, alloc, &PROGRAM, &words, ended)
 }
 
-// Runs a list of so many actions that is generated, in memory.
+// Runs a generated list with this many actions, in memory.
 fn run_generated<R: Threads + Wait + Print + Eprint + Copy + Drop + Send + Sync + 'static>(
     rt: R,
     alloc: Global,
@@ -49,9 +49,19 @@ fn run_generated<R: Threads + Wait + Print + Eprint + Copy + Drop + Send + Sync 
         return end(&rt, alloc, &PROGRAM, &RunFault::NoMemory(Stage::Before));
     };
     let mut out = RealSink::new(rt);
-    let Ended { status, fault, .. } = run_recorded(&rt, alloc, words, floor, &mut out);
+    let Ended {
+        status,
+        fault,
+        lack,
+        ..
+    } = run_recorded(&rt, alloc, words, floor, &mut out);
     if let Some(fault) = &fault {
-        tell(&rt, alloc, &PROGRAM, words, fault, None);
+        let cause = Cause {
+            fault,
+            lack,
+            last_error: None,
+        };
+        tell(&rt, alloc, &PROGRAM, words, &cause);
     }
     ExitCode::from(status)
 }

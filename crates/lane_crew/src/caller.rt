@@ -1,4 +1,4 @@
-//! What a lane calls the machine with.
+//! The caller, with which a lane calls the machine.
 ghost use Rattle.std.specs.Prelude.{◌≡◌, ◌<◌, Bool, true, false, IfOk, IfErr, None};
 ghost use Rattle.plain_values.specs.declared.entry.Entry.{Entry};
 ghost use Rattle.seat_desk.specs.Passes.{IsPassOf, IsSamePass, Suits, IsPaidFor, MakesCall, MakesPaidCall, MakesNoCall, MayMakeThen, MakesCallThen};
@@ -9,33 +9,33 @@ use lane_bells::{Bells, Ringer};
 use seat_desk::{Desk, Machine, Pass, Refused, Then};
 use std::sync::Wait;
 
-/// A call that a lane makes until it is answered otherwise than "nothing for you now". It is made anew
-/// each time, since a machine's call need not be one that can be copied.
+/// A call that a lane makes until the reply is other than "nothing for you now". It is made again
+/// each time, since a machine's call may not be copyable.
 pub trait Question<M: Machine> {
     // The call.
     ghost asks: { Self → M.Call };
 
-    // The replies that say that there is nothing for the lane now.
+    // The replies that mean "nothing for the lane now".
     ghost idles: { M.Reply → Bool };
 
-    /// The call, made anew.
+    /// Makes the call.
     fn call(&self) -> M::Call
         ensures { result ≡ asks self.now };
 
-    /// Whether the reply says that there is nothing for the lane now.
+    /// Returns true if the reply means "nothing for the lane now".
     fn is_idle(&self, reply: &M::Reply) -> bool
         ensures { result ≡ idles reply.now };
 
-    // Such a reply is not kept.
+    // Such a reply is not recorded.
     ghost idle_is_not_kept: { (e : Entry M.Call M.Reply) → idles e.reply ≡ true
         → M.keeps e ≡ false };
 }
 
-/// The one way by which lanes call: a pass with its desk and the bells of all lanes.
+/// The one way in which lanes call: a pass with its desk and the bells of all lanes.
 ///
-/// Each of its calls rings, right after its turn and in the same thread, the lanes that the turn stirred,
-/// once, so that no ring is lost. A clause reads its pass and what it has rung, and no clause speaks of
-/// waiting.
+/// Each call rings the lanes that its turn stirred, right after the turn and in the same thread. It
+/// rings them once, so that no ring is lost. A clause reads the caller's pass and what it has rung.
+/// No clause covers waiting.
 pub struct Caller<'a, M: Machine> {
     desk: &'a Desk<M>,
     ringer: Ringer<'a>,
@@ -46,8 +46,8 @@ pub struct Caller<'a, M: Machine> {
 }
 
 impl<'a, M: Machine> Caller<'a, M> {
-    /// A caller with this pass, which rests on the bell of this number. It is to be the pass's own
-    /// lane: others ring that bell.
+    /// Creates a caller with this pass, which waits for the bell of this number. The number must be
+    /// that of the pass's own lane, because other lanes ring that bell.
     pub fn new(desk: &'a Desk<M>, bells: &'a Bells, pass: Pass<M>, lane: u32) -> Caller<'a, M>
         requires desk { IsPassOf desk.now pass }
         requires bell { lane < bells.now }
@@ -61,7 +61,7 @@ impl<'a, M: Machine> Caller<'a, M> {
         }
     }
 
-    /// The pass, once no more calls are to be made.
+    /// Returns the pass, after the last call.
     pub fn into_pass(self) -> Pass<M>
         ensures { result ≡ self.entry.pass }
     {
@@ -74,11 +74,11 @@ impl<'a, M: Machine> Caller<'a, M> {
         pass
     }
 
-    /// Makes the call, and answers the machine's reply with the good that came out.
+    /// Makes the call. Returns the machine's reply and the good that came out.
     ///
     /// # Errors
     ///
-    /// As of [`Desk::call`], and then nothing was called.
+    /// Same as [`Desk::call`]. Then nothing was called.
     pub fn call<R: Wait>(
         &mut self,
         rt: &R,
@@ -97,8 +97,8 @@ impl<'a, M: Machine> Caller<'a, M> {
         answer
     }
 
-    /// Makes a call that the pass's history has paid for. It takes no memory, and its reply is not
-    /// short.
+    /// Makes a call that the pass's history has paid for. The call takes no memory, and its reply
+    /// is not short.
     pub fn call_paid<R: Wait>(
         &mut self,
         rt: &R,
@@ -117,12 +117,12 @@ impl<'a, M: Machine> Caller<'a, M> {
         answer
     }
 
-    /// Makes the call and, if `work` answers a call to its reply, that call too in the same turn. It
-    /// answers as [`Desk::call_then`] does.
+    /// Makes the call. If `work` returns a second call for its reply, makes that call too, in the
+    /// same turn. Returns the same as [`Desk::call_then`].
     ///
     /// # Errors
     ///
-    /// As of [`Desk::call_then`]. The work is as it was.
+    /// Same as [`Desk::call_then`]. The work is unchanged.
     pub fn call_then<W: Then<M>, R: Wait>(
         &mut self,
         rt: &R,
@@ -143,14 +143,14 @@ impl<'a, M: Machine> Caller<'a, M> {
         answer
     }
 
-    /// Makes the question's call, again and again, until the reply is not idle. In between it rests
-    /// until the lane's bell rings. Of the last call it says what [`Desk::call`] says, over the pass as
-    /// it was before all of them, since the calls before it were not kept. A good that came out with an
-    /// idle reply is dropped.
+    /// Makes the question's call again and again until the reply is not idle. Between two calls, it
+    /// waits for the lane's bell. For the last call, it states what [`Desk::call`] states, about
+    /// the pass before all of the calls, since the earlier ones were not recorded. A good that came
+    /// out with an idle reply is dropped.
     ///
     /// # Errors
     ///
-    /// As of [`Desk::call`].
+    /// Same as [`Desk::call`].
     pub fn ask<Q: Question<M>, R: Wait>(
         &mut self,
         rt: &R,

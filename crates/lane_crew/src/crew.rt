@@ -1,4 +1,4 @@
-//! A crew: a desk, its lanes on threads, and what they leave.
+//! A crew: a desk, its lanes on threads, and the results.
 ghost use Rattle.std.specs.Prelude.{◌≡◌, ◌≤◌, [], length, All, IfOk, IfErr};
 ghost use Rattle.seat_desk.specs.History.{StandsUnder};
 ghost use Rattle.seat_desk.specs.Turns.{NoneFrom};
@@ -6,7 +6,7 @@ ghost use Rattle.seat_desk.specs.Passes.{IsRootOf, joined, root_basis, root_seen
 ghost use Rattle.lane_crew.specs.Jobs.{HasRoomFor};
 ghost use Rattle.lane_crew.specs.LaneJobs.{MayRunInOrder, KeepsPasses, IsNew, IsEnlisted, JobsFrom, AreJobs, AreIdle, HasItsEnd, HandedOver, EachLane};
 
-use crate::job::{Slot, end_of, job_of, run_list};
+use crate::job::{Lack, NotBegun, Slot, end_of, job_of, run_list};
 use crate::lane::Lane;
 use crate::lane_job::{LaneDone, LaneJob, Shared};
 use lane_bells::Bells;
@@ -17,27 +17,29 @@ use std::collections::VecDeque;
 use std::sync::Wait;
 use std::thread::Threads;
 
-/// What a crew leaves.
+/// The result of a crew's run.
 #[derive(Drop)]
 pub struct Crew<M: Machine, E> {
     /// The machine, as the last call left it.
     pub machine: M,
-    /// The calls that were kept, the oldest first.
+    /// The recorded calls, the oldest first.
     pub history: Vec<HistoryEntry<M>>,
-    /// What each lane ended with, in the order of the lanes.
+    /// The end of each lane, in the order of the lanes.
     pub ends: Vec<E>,
 }
 
-/// What a crew was to be of, where none has begun.
+/// The parts of a crew of which no lane has begun.
 #[derive(Drop)]
 pub struct Unstarted<M, L> {
     /// The machine, which no lane has called.
     pub machine: M,
-    /// The lanes, as they were.
+    /// The lanes, unchanged.
     pub lanes: Vec<L>,
+    /// The reason why none has begun. No clause covers it.
+    pub lack: Lack,
 }
 
-// A lane with its pass, or what it left.
+// A lane with its pass, or its end.
 type LanePost<M, L, E> = Slot<LaneJob<M, L>, LaneDone<M, E>>;
 
 // Gives each lane a pass, in order. It takes no memory.
@@ -62,7 +64,7 @@ fn enlist<M: Machine, L: Drop, E: Drop, R>(
     }
 }
 
-// Takes each pass back, and lays the ends side by side. It takes no memory.
+// Takes each pass back, and collects the ends in one list. It takes no memory.
 fn collect<M: Machine, L: Drop, E: Drop, R>(
     rt: &R,
     desk: &Desk<M>,
@@ -86,7 +88,7 @@ fn collect<M: Machine, L: Drop, E: Drop, R>(
     }
 }
 
-// Takes each pass back from a lane that has not begun, and the lane. It takes no memory.
+// Takes each pass back from a lane that has not begun, and takes the lane back. It takes no memory.
 fn dismiss<M: Machine, L: Drop, E: Drop, R>(
     rt: &R,
     desk: &Desk<M>,
@@ -111,7 +113,7 @@ fn dismiss<M: Machine, L: Drop, E: Drop, R>(
     }
 }
 
-// Room for a crew of so many: all that takes memory beside the desk and the threads.
+// Room for a crew of this size: all that takes memory, except for the desk and the threads.
 struct Room<M: Machine, L, E> {
     bells: Bells,
     slots: Vec<LanePost<M, L, E>>,
@@ -137,21 +139,23 @@ fn room_for<M: Machine, L: Drop, E: Drop>(
     })
 }
 
-/// Runs up to 256 lanes at one desk, each on a thread of its own, and closes the desk once all have
-/// ended. The lanes have the numbers from 0 on, in their order. A machine's hints speak of the first 128:
-/// a lane behind them isn't woken by a call, and looks again after its rest, which is a second at most.
+/// Runs up to 256 lanes at one desk, each on its own thread, and closes the desk after all have
+/// ended. The lanes are numbered from 0 on, in their order. A machine's hints cover the first 128
+/// lanes. A call doesn't wake a later lane, which looks again after a rest of at most a second.
 ///
-/// Each lane's end is related to what the one history has of it, which is all calls that it made, in
-/// order, and no others. The machine stands for the history, and no lane but these has a call in it.
+/// The clauses relate each lane's end to its entries in the one history. These are all calls that
+/// the lane made, in order, and no others. The machine stands for the history, and no other lane
+/// has a call in it.
 ///
-/// All that needs memory is made first, and all threads are there before the first lane begins. So
-/// from the first lane's start on the crew itself takes none, and what ran is never lost. That the lanes
-/// end is for them to see to: no clause speaks of waiting.
+/// All memory is taken first, and all threads exist before the first lane begins. So from the first
+/// lane's start on, the crew itself takes no memory, and no result is lost. The lanes themselves
+/// must see to it that they end: no clause covers waiting.
 ///
 /// # Errors
 ///
-/// `Unstarted` if there is no memory before the lanes, or the system starts no thread for one of them.
-/// Then none has begun, and the lanes come back with the machine, which stands for the empty history.
+/// Returns `Unstarted` if memory runs out before the lanes begin, or if the system starts no thread
+/// for one of them. `Unstarted` gives the reason. Then no lane has begun, and the lanes come back
+/// with the machine, which stands for the empty history.
 pub fn run_crew<M: Machine + Send, L: Lane<Desk<M>, Pass<M>> + Send, R: Threads + Wait + Sync>(
     rt: &R,
     alloc: Global,
@@ -176,7 +180,12 @@ where
         × StandsUnder M.basis M.stands (M.basis machine) u.machine []) }
 {
     let Ok(room) = room_for(alloc, lanes.len()) else {
-        return Err(Unstarted { machine, lanes });
+        let lack = Lack::Memory;
+        return Err(Unstarted {
+            machine,
+            lanes,
+            lack,
+        });
     };
     let Room {
         bells,
@@ -186,7 +195,14 @@ where
     } = room;
     let (desk, mut root) = match Desk::new_or_back(alloc, machine) {
         Ok(opened) => opened,
-        Err(machine) => return Err(Unstarted { machine, lanes }),
+        Err(machine) => {
+            let lack = Lack::Memory;
+            return Err(Unstarted {
+                machine,
+                lanes,
+                lack,
+            });
+        }
     };
     enlist(rt, &desk, &mut root, lanes, &mut slots);
     let shared = Shared { desk, bells };
@@ -202,7 +218,8 @@ where
                 ends,
             })
         }
-        Err(slots) => {
+        Err(left) => {
+            let NotBegun { slots, lack } = left;
             dismiss(rt, &desk, &mut root, slots, &mut back);
             let Closed {
                 machine,
@@ -211,6 +228,7 @@ where
             Err(Unstarted {
                 machine,
                 lanes: back,
+                lack,
             })
         }
     }

@@ -1,4 +1,4 @@
-//! Jobs, each on a thread of its own.
+//! Jobs, each on its own thread.
 ghost use Rattle.std.specs.Prelude.{◌≡◌, ◌+◌, ◌≤◌, [], length, vec_len, vec_capacity, All, IfOk, IfErr};
 ghost use Rattle.std.specs.List.{AllZip, list_any};
 ghost use Rattle.lane_crew.specs.Jobs.{CanRun, CanRunIfLeft, EndsAs, HasEnd, HasEnded, MayHaveEnded, IsOver, HasRoomFor, IsReady, has_end, slots_of};
@@ -11,16 +11,17 @@ use std::sync::{OnceLock, Wait};
 use std::thread;
 use std::thread::{Promise, PromisedHandle, Threads};
 
-/// What one thread does, beside others that share the context. It knows no machine: threads are started
-/// over plain types, since the prover covers no closure that names a `Desk` of a type parameter.
+/// The work of one thread, at the same time as other threads that share the context. It knows no
+/// machine. Threads are started over plain types, since the prover covers no closure that names a
+/// `Desk` of a type parameter.
 pub trait Job<C>: Send + Drop {
-    /// What it ends with.
+    /// The result of the job.
     type End: Send + Drop;
 
-    // What is asked of the job before it runs.
+    // The conditions for the job to run.
     ghost can_run: { C → Self → Type 0 };
 
-    // How the job before it ran and its end are related.
+    // The relation between the job before it ran and its end.
     ghost ends: { C → Self → Self.End → Type 0 };
 
     /// Does the job.
@@ -29,16 +30,33 @@ pub trait Job<C>: Send + Drop {
         ensures { ends context.now self result };
 }
 
+/// The resource that was lacking, if no job has begun.
+#[derive(Clone, Copy, PartialEq, Eq)]
+pub enum Lack {
+    /// Memory.
+    Memory,
+    /// Threads: the system started only `started` of the `wanted` threads.
+    Threads { wanted: usize, started: usize },
+}
+
+/// Jobs of which none has begun.
+#[derive(Drop)]
+pub struct NotBegun<J, E> {
+    /// The slots, unchanged.
+    pub slots: Vec<Slot<J, E>>,
+    pub lack: Lack,
+}
+
 /// A job before it runs, or its end.
 #[derive(Drop)]
 pub enum Slot<J, E> {
     /// The job has not run.
     Ready(J),
-    /// The job has run, and ended so.
+    /// The job has run, with this end.
     Ended(E),
 }
 
-/// What the job of this slot ended with.
+/// Returns the end of this slot's job.
 pub(crate) fn end_of<J: Drop, E: Drop>(slot: Slot<J, E>) -> E
     requires { HasEnd slot }
     ensures { slot ≡ Slot.Ended result }
@@ -49,7 +67,7 @@ pub(crate) fn end_of<J: Drop, E: Drop>(slot: Slot<J, E>) -> E
     }
 }
 
-/// The job of this slot, which has not run.
+/// Returns the job of this slot, which has not run.
 pub(crate) fn job_of<J: Drop, E: Drop>(slot: Slot<J, E>) -> J
     requires { IsReady slot }
     ensures { slot ≡ Slot.Ready result }
@@ -60,7 +78,7 @@ pub(crate) fn job_of<J: Drop, E: Drop>(slot: Slot<J, E>) -> J
     }
 }
 
-// Whether the job of some slot has run.
+// Returns true if the job of some slot has run.
 fn any_ended<J, E>(slots: &[Slot<J, E>]) -> bool
     ensures { result ≡ list_any has_end slots.now }
 {
@@ -73,7 +91,7 @@ fn has_end<J, E>(slot: &Slot<J, E>) -> bool
     matches!(slot, Slot::Ended(_))
 }
 
-// What a thread is to do: to run the job of this slot over this context, or to leave it as it is.
+// A thread's task: run the job of this slot over this context, or leave it as it is.
 #[derive(Drop)]
 struct Task<C, J, E> {
     context: Snapshot<C>,
@@ -84,7 +102,7 @@ impl<C, J: Job<C>> Promise<Slot<J, J::End>> for Task<C, J, J::End> {
     ghost kept_by = { λ task slot. MayHaveEnded J.ends task.context.value task.slot.value slot };
 }
 
-// Waits until it is told whether all threads are there, and runs the job of this slot if they are.
+// Waits for the signal that tells if all threads exist, and runs the job of this slot if they do.
 fn run_when_told<C, J: Job<C>, R: Threads + Wait + Sync>(
     rt: &R,
     context: &C,
@@ -158,8 +176,8 @@ fn run_left<C, J: Job<C>, R: Threads + Wait + Sync>(
     }
 }
 
-// Room for the threads of so many slots, for those that no thread has, for all that come back, and for
-// their ends.
+// Room for the threads of all slots, for the slots without a thread, for all slots that come back,
+// and for their ends.
 struct Room<C, J: Job<C>> {
     threads: Vec<Doing<C, J, J::End>>,
     late: Vec<Slot<J, J::End>>,
@@ -181,43 +199,46 @@ fn room_for<C, J: Job<C>>(alloc: Global, count: usize) -> Result<Room<C, J>, NoM
     })
 }
 
-/// Runs the jobs of all slots, each on a thread of its own, and returns once all have ended. The ends
-/// stand in the order of the jobs.
+/// Runs the jobs of all slots, each on its own thread, and returns after all have ended. The ends
+/// are in the order of the jobs.
 ///
-/// Jobs may wait for each other. So none begins before all threads are there, and from then on this
-/// takes no memory.
+/// Jobs may wait for each other. So none begins before all threads exist, and from then on this
+/// function takes no memory.
 ///
 /// # Errors
 ///
-/// The slots, as they were, if there is no memory for this, or the system starts no further thread.
-/// Then no job was run.
+/// Returns `NotBegun` if memory runs out, or if the system starts no further thread. Then no job
+/// was run.
 pub fn run_list<C: Sync, J: Job<C>, R: Threads + Wait + Sync>(
     rt: &R,
     alloc: Global,
     context: &C,
     slots: Vec<Slot<J, J::End>>,
-) -> Result<Vec<Slot<J, J::End>>, Vec<Slot<J, J::End>>>
+) -> Result<Vec<Slot<J, J::End>>, NotBegun<J, J::End>>
     requires { All (CanRun J.can_run context.now) slots.items }
     ensures ends { IfOk result (λ ends.
         AllZip (HasEnded J.ends context.now) slots.items ends.items) }
-    ensures back { IfErr result (λ back. back.items ≡ slots.items) }
+    ensures back { IfErr result (λ back. back.slots.items ≡ slots.items) }
 {
     if slots.len() == 0 {
         return Ok(slots);
     }
     match room_for(alloc, slots.len()) {
         Ok(room) => run_in(rt, context, slots, room),
-        Err(NoMemory) => Err(slots),
+        Err(NoMemory) => {
+            let lack = Lack::Memory;
+            Err(NotBegun { slots, lack })
+        }
     }
 }
 
-// Runs them in this room, which is enough for all.
+// Runs the jobs in this room, which is enough for all.
 fn run_in<C: Sync, J: Job<C>, R: Threads + Wait + Sync>(
     rt: &R,
     context: &C,
     slots: Vec<Slot<J, J::End>>,
     room: Room<C, J>,
-) -> Result<Vec<Slot<J, J::End>>, Vec<Slot<J, J::End>>>
+) -> Result<Vec<Slot<J, J::End>>, NotBegun<J, J::End>>
     requires run { All (CanRun J.can_run context.now) slots.items }
     requires threads { HasRoomFor (length slots.items) room.threads }
     requires late { HasRoomFor (length slots.items) room.late }
@@ -225,7 +246,7 @@ fn run_in<C: Sync, J: Job<C>, R: Threads + Wait + Sync>(
     requires ends { HasRoomFor (length slots.items) room.ends }
     ensures ends { IfOk result (λ ends.
         AllZip (HasEnded J.ends context.now) slots.items ends.items) }
-    ensures back { IfErr result (λ back. back.items ≡ slots.items) }
+    ensures back { IfErr result (λ back. back.slots.items ≡ slots.items) }
 {
     let Room {
         mut threads,
@@ -235,16 +256,17 @@ fn run_in<C: Sync, J: Job<C>, R: Threads + Wait + Sync>(
     } = room;
     let all_there = OnceLock::new();
     let told = &all_there;
+    let wanted = slots.len();
     thread::scope(
         thread::scope_env(),
         rt,
-        move |scope| -> Result<Vec<Slot<J, J::End>>, Vec<Slot<J, J::End>>>
+        move |scope| -> Result<Vec<Slot<J, J::End>>, NotBegun<J, J::End>>
             requires { All (CanRun J.can_run context.now) slots.items
                 × HasRoomFor (length slots.items) threads × HasRoomFor (length slots.items) late
                 × HasRoomFor (length slots.items) back × HasRoomFor (length slots.items) ends }
             ensures { IfOk result (λ ends.
                 AllZip (HasEnded J.ends context.entry.now) slots.items ends.items)
-                × IfErr result (λ back. back.items ≡ slots.items) }
+                × IfErr result (λ back. back.slots.items ≡ slots.items) }
         {
             let mut rest = VecDeque::from_vec(slots);
             while let Some(slot) = rest.pop_front() {
@@ -262,7 +284,8 @@ fn run_in<C: Sync, J: Job<C>, R: Threads + Wait + Sync>(
                     match scope.spawn_with(task, run) {
                         Ok(thread) => threads.push_reserved(thread),
                         Err(refused) => {
-                            // Told that not all are there, it gives its slot back at once.
+                            // A thread that learns that not all threads exist gives its slot back
+                            // at once.
                             let _ = told.set(rt, false);
                             late.push_reserved((refused.value)());
                         }
@@ -270,16 +293,21 @@ fn run_in<C: Sync, J: Job<C>, R: Threads + Wait + Sync>(
                 }
             }
             let _ = told.set(rt, late.len() == 0);
+            let started = threads.len();
             join_all(rt, threads, &mut back);
             let Ok(()) = back.append(&mut late) else {
                 unreachable!()
             };
             if any_ended(back.as_slice()) {
-                // All have ended then: none runs before all are told to, and nothing is left to run.
+                // All have ended then: none runs before all are told to run, and no job is left to
+                // run.
                 run_left(rt, context, back, &mut ends);
                 Ok(ends)
             } else {
-                Err(back)
+                Err(NotBegun {
+                    slots: back,
+                    lack: Lack::Threads { wanted, started },
+                })
             }
         },
     )

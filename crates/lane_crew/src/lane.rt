@@ -1,28 +1,29 @@
-//! What one thread of a crew does.
+//! The work of one thread of a crew.
 ghost use Rattle.std.specs.Prelude.{ℕ};
 
 use lane_bells::Bells;
 use std::sync::Wait;
 use std::thread::Threads;
 
-/// What one thread of a crew does: it calls the machine of the desk on a lane of its own, and gives
-/// back what it ends with.
+/// The work of one thread of a crew: it calls the desk's machine on its own lane, and returns its
+/// end.
 ///
-/// `D` is `Desk<M>` and `P` is `Pass<M>`. They are parameters, since the prover covers no method of
-/// a trait that names a `Desk` of a type parameter, and no impl of one that names a `Pass` of a bound.
-/// `Send` stands above none of these traits. It is asked where threads start, by `run_crew`.
+/// `D` is `Desk<M>` and `P` is `Pass<M>`. They are parameters for two reasons. The prover covers no
+/// method of a trait that names a `Desk` of a type parameter. It also covers no impl of a trait that
+/// names a `Pass` of a bound. None of these traits has `Send` as a supertrait. `run_crew`, which
+/// starts the threads, requires it.
 pub trait Lane<D, P>: Drop {
-    /// What the lane ends with, beside its pass.
+    /// The end of the lane, in addition to its pass.
     type End: Drop;
 
-    // The lane may run at this desk, with so many bells and with this pass.
+    // The lane may run at this desk, with this number of bells and with this pass.
     ghost may_run: { Self → D → ℕ → P → Type 0 };
 
-    // How the lane, its pass before it ran, its end and its pass after are related.
+    // The relation between the lane, its pass before it ran, its end and its pass after.
     ghost has_run: { Self → P → Self.End → P → Type 0 };
 
-    /// Makes the lane's calls, and gives back its end with its pass. A lane that halts early ends as
-    /// any other, and says so in its end.
+    /// Makes the lane's calls, and returns its end with its pass. A lane that halts early ends like
+    /// any other, and reports this in its end.
     fn run<R: Threads + Wait + Sync>(
         self,
         rt: &R,

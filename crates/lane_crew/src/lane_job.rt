@@ -6,7 +6,7 @@ use seat_desk::{Desk, Machine, Pass};
 use std::sync::Wait;
 use std::thread::Threads;
 
-/// What the lanes share, which is the context of their jobs.
+/// The shared data of the lanes, which is the context of their jobs.
 #[derive(Drop)]
 pub struct Shared<M: Machine> {
     /// The desk at which all of them call.
@@ -18,18 +18,18 @@ pub struct Shared<M: Machine> {
 /// A lane with its pass, before it runs.
 #[derive(Drop)]
 pub struct LaneJob<M: Machine, L> {
-    /// What is to run.
+    /// The lane that will run.
     pub lane: L,
-    /// The pass that it is given.
+    /// The pass that it receives.
     pub pass: Pass<M>,
 }
 
 /// A lane's end, with its pass.
 #[derive(Drop)]
 pub struct LaneDone<M: Machine, E> {
-    /// What the lane ended with.
+    /// The end of the lane.
     pub end: E,
-    /// The pass that it gave back.
+    /// The pass that the lane gave back.
     pub pass: Pass<M>,
 }
 

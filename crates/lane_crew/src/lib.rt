@@ -1,9 +1,10 @@
-//! Lanes at one desk, each on a thread of its own, from the first split to the closed history.
+//! Lanes at one desk, each on its own thread, from the first split to the closed history.
 //!
-//! A [`Lane`] says what it asks before it runs and how its pass and its end are related afterwards.
-//! [`run_crew`] gives each lane a pass, runs all of them, joins the passes and closes the desk, and hands
-//! down what each lane says of its pass as what the one history has of that lane. Lanes call through a
-//! [`Caller`], which rests while there is nothing for the lane and rings whom its calls may concern.
+//! A [`Lane`] states what it requires before it runs, and how its pass and its end are related
+//! afterwards. [`run_crew`] gives each lane a pass, runs all lanes, joins the passes and closes the
+//! desk. It turns what each lane states about its pass into a statement about that lane's entries
+//! in the one history. Lanes call through a [`Caller`], which waits while there is nothing for the
+//! lane, and rings the lanes that its calls may concern.
 #![tactic(auto)]
 
 mod caller;
@@ -15,6 +16,6 @@ mod pair;
 
 pub use caller::{Caller, Question};
 pub use crew::{Crew, Unstarted, run_crew};
-pub use job::{Job, Slot, run_list};
+pub use job::{Job, Lack, NotBegun, Slot, run_list};
 pub use lane::Lane;
 pub use pair::Either;

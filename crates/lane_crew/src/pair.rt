@@ -1,4 +1,4 @@
-//! One of two: a lane of one kind or the other, and what it ends with.
+//! One of two: a lane of one kind or the other, and its end.
 ghost use Rattle.lane_crew.specs.Pairs.{MayRunOfKind, HasRunOfKind};
 
 use crate::lane::Lane;
@@ -6,13 +6,13 @@ use lane_bells::Bells;
 use std::sync::Wait;
 use std::thread::Threads;
 
-/// Something of the first kind or of the second. A lane of either kind is a lane, and its end is of its
-/// kind, so lanes of two kinds stand in one list without a box.
+/// A value of the first kind or of the second. A lane of either kind is a lane, and its end has the
+/// same kind. So lanes of two kinds fit into one list without a box.
 #[derive(Drop)]
 pub enum Either<A, B> {
-    /// Of the first kind.
+    /// A value of the first kind.
     First(A),
-    /// Of the second.
+    /// A value of the second kind.
     Second(B),
 }
 

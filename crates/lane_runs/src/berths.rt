@@ -1,4 +1,4 @@
-//! What the lanes of each berth leave.
+//! The results of each berth's lanes.
 ghost use Rattle.std.specs.Prelude.{◌≡◌, ◌∷◌, map, length};
 ghost use Rattle.lane_crew.specs.declared.pair.Either.TheVariants.{First, Second};
 ghost use Rattle.lane_runs.specs.Apart.{Alternate, BeginsWithTwo, berths_of, lefts_of, unsaid_of};
@@ -15,9 +15,9 @@ use proxy_steps::EndedFeed;
 use std::collections::VecDeque;
 use tap_lane::TapLeft;
 
-/// Lays the ends of the lanes by, which stand berth by berth, with the tap that was left on the shelf
-/// for each: the berths, the lines that weren't reported, and the halves of all others at their
-/// numbers. It takes no memory.
+/// Stores the results of all lanes: the berths, the lines that weren't reported, and the halves of all
+/// other lines at their numbers. `ends` contains the ends of the lanes berth by berth. `shelved`
+/// contains the tap that was left on the shelf for each berth. The call takes no memory.
 pub(crate) fn lay_berths<B: Drop, D: Drop, T: Drop, K: Drop>(
     ends: Vec<Either<ProxyLeft<B, D, K>, TapLeft<T>>>,
     shelved: Vec<Option<T>>,
@@ -55,7 +55,7 @@ pub(crate) fn lay_berths<B: Drop, D: Drop, T: Drop, K: Drop>(
     }
 }
 
-// The ends of the next berth's two lanes.
+// Removes and returns the ends of the next berth's two lanes.
 fn next_two<B: Drop, D: Drop, T: Drop, K: Drop>(
     ends: &mut VecDeque<Either<ProxyLeft<B, D, K>, TapLeft<T>>>,
 ) -> (ProxyLeft<B, D, K>, TapLeft<T>)

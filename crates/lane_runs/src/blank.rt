@@ -1,4 +1,4 @@
-//! Room for what a run leaves.
+//! The room for everything that a run leaves.
 ghost use Rattle.std.specs.Prelude.{IfOk};
 ghost use Rattle.lane_runs.specs.Blanks.{IsBlankFor};
 
@@ -7,8 +7,8 @@ use plain_values::NoMemory;
 use proxy_steps::EndedFeed;
 use std::alloc::Global;
 
-/// Empty lists, with room for what a run leaves. It is made before the lanes begin, so that what they
-/// leave is laid out without memory.
+/// Empty lists, with room for everything that a run leaves. They are made before the lanes begin, so
+/// that no memory is needed to arrange what the lanes leave.
 #[derive(Drop)]
 pub struct Blank<B, D, T, K, P> {
     pub(crate) berths: Vec<B>,
@@ -18,11 +18,11 @@ pub struct Blank<B, D, T, K, P> {
 }
 
 impl<B: Drop, D: Drop, T: Drop, K: Drop, P: Drop> Blank<B, D, T, K, P> {
-    /// Room for so many berths, lines and places.
+    /// Returns room for `berths` berths, `lines` lines and `places` places.
     ///
     /// # Errors
     ///
-    /// `NoMemory`.
+    /// Returns `NoMemory` if memory runs out.
     pub(crate) fn new(
         alloc: Global,
         berths: usize,

@@ -1,4 +1,4 @@
-//! What is left of lines.
+//! The halves that are left of lines.
 
 /// The feed, the tap and the child of a line.
 #[derive(Drop)]
@@ -8,11 +8,11 @@ pub struct Halves<D, T, K> {
     pub child: K,
 }
 
-/// A line, with what it had where it was started.
+/// A line, with its halves if it was started.
 #[derive(Drop)]
 pub struct EndedLine<D, T, K> {
-    /// The line, numbered from 0 in the order in which the run's journal orders to launch them.
+    /// The line's number, counted from 0 in the order in which the run's journal orders the launches.
     pub number: u32,
-    /// `None` where it failed to launch.
+    /// `None` if the line failed to launch.
     pub halves: Option<Halves<D, T, K>>,
 }

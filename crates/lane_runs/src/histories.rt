@@ -1,4 +1,4 @@
-//! What every history of a core says. The function does nothing: it is a law.
+//! A law about every history of a core. The function does nothing: it is a law.
 ghost use Rattle.lane_runs.specs.Laws.{HistoryLaws, LinesFit, StandLegal};
 
 use core_contract::Rules;
@@ -8,7 +8,7 @@ use lane_laws::{
     started_lines_are_apart, started_lines_have_taps, taken_lines_have_taps,
 };
 
-/// What the laws of lanes that have ended, and of their taps, say of this kind of core.
+/// Combines the laws about lanes that have ended, and about their taps, for this kind of core.
 pub(crate) fn histories_say<C: Rules>()
     ensures laws { HistoryLaws C.legal C.terms }
     ensures stands { StandLegal C.stands C.plan C.legal }

@@ -1,11 +1,11 @@
-//! What a run's journal says of all of it.
+//! Facts about a whole run, read from its journal.
 ghost use Rattle.std.specs.Prelude.{◌≡◌, count_by};
 ghost use Rattle.std.specs.List.{list_any};
 ghost use Rattle.lane_runs.specs.Layout.{orders_line, tells_halt};
 
 use exec_journal::{Call, Entry, Reply};
 
-/// How many lines were ordered.
+/// Returns the number of lines that were ordered.
 pub(crate) fn lines_ordered(entries: &[Entry]) -> usize
     ensures { result ≡ count_by orders_line entries.now }
 {
@@ -24,7 +24,7 @@ fn orders_line(entry: &Entry) -> bool
     matches!(entry.reply, Reply::Launch { .. })
 }
 
-/// Some lane has halted.
+/// Returns true if some lane has halted.
 pub(crate) fn has_halt(entries: &[Entry]) -> bool
     ensures { result ≡ list_any tells_halt entries.now }
 {

@@ -13,8 +13,9 @@ use tap_lane::TapSeat;
 /// A lane of a berth: its proxy lane, or its tap lane.
 pub(crate) type BerthLane<'a, B> = Either<ProxySeat<'a, B>, TapSeat>;
 
-/// For each berth, in order, its proxy lane and then its tap lane, in the room that was made for them.
-/// Lane `2w` is the proxy lane of the berth `w`, and lane `2w + 1` its tap lane. It takes no memory.
+/// Returns the lanes of the berths, in order: for each berth its proxy lane and then its tap lane. Lane
+/// `2w` is the proxy lane of the berth `w`, and lane `2w + 1` its tap lane. It uses the space in `room`
+/// and takes no memory.
 pub(crate) fn lanes_of<'a, B: Drop>(
     alloc: Global,
     berths: Vec<B>,

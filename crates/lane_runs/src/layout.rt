@@ -1,4 +1,4 @@
-//! What a run leaves, laid out by number.
+//! Everything that a run leaves, arranged by number.
 ghost use Rattle.std.specs.Prelude.{◌≡◌, length, map, Some};
 ghost use Rattle.lane_runs.specs.Layout.{AllThere, IsLaid, MayBeLaid};
 ghost use Rattle.lane_runs.specs.Blanks.{HasRoom};
@@ -16,7 +16,8 @@ use proxy_steps::EndedFeed;
 use std::collections::VecDeque;
 use tap_lane::TapLeft;
 
-/// What a run of lanes leaves. The type has no bound: [`LaidOut`] names it by the outside.
+/// The result of a run of lanes, arranged by number. The type has no bounds: [`LaidOut`] names it with the
+/// types of the outside.
 #[derive(Drop)]
 pub struct Laid<B, D, T, K, P> {
     /// Every call that changed the state, with its reply, in order.
@@ -25,20 +26,20 @@ pub struct Laid<B, D, T, K, P> {
     pub berths: Vec<B>,
     /// The lines, one for each launch that was ordered, by their numbers.
     pub lines: Vec<EndedLine<D, T, K>>,
-    /// For each berth the line that was started and not reported, since its lane found no memory for
-    /// that and halted. Its child was killed, and its tap is gone.
+    /// For each berth the line that was started but not reported, if there is one. Its lane halted,
+    /// because memory for the report ran out. The line's child was killed, and its tap is gone.
     pub unsaid: Vec<Option<EndedFeed<D, K>>>,
     /// The places, by the numbers of their actions.
     pub places: Vec<P>,
-    /// Some lane has halted.
+    /// True if some lane has halted.
     pub halted: bool,
 }
 
-/// What the outside of a run leaves.
+/// The result of a run of lanes, with the types of the outside.
 pub type LaidOut<B, P> = Laid<B, <B as Berth>::Feed, <B as Berth>::Tap, <B as Berth>::Child, P>;
 
-/// Lays out what the lanes leave, with the taps and the places that lay on the shelf, in the room that
-/// was made for it. It takes no memory.
+/// Arranges by number what the lanes leave, and the taps and the places that were on the shelf. It uses
+/// the room in `blank` and takes no memory.
 pub(crate) fn lay_out<B: Drop, D: Drop, T: Drop, K: Drop, P: Drop>(
     blank: Blank<B, D, T, K, P>,
     history: Vec<Entry>,
@@ -70,7 +71,7 @@ pub(crate) fn lay_out<B: Drop, D: Drop, T: Drop, K: Drop, P: Drop>(
     }
 }
 
-/// The places, all of which lie there. It takes no memory.
+/// Returns the places in these slots, which are all filled. It uses the room in `kept` and takes no memory.
 pub(crate) fn all_there<P: Drop>(slots: Vec<Option<P>>, kept: Vec<P>) -> Vec<P>
     requires there { AllThere slots.items }
     requires room { HasRoom (length slots.items) kept }

@@ -1,11 +1,11 @@
-//! Makes the two lanes of every berth that is to have lanes, runs them at one bench, each on a thread
-//! of its own, and lays out what they leave: the journal, the berths, the lines and the places.
+//! Creates two lanes for each berth in use, and runs them at one bench, each on its own thread. Then
+//! arranges by number what they leave: the journal, the berths, the lines and the places.
 //!
 //! A proxy lane leaves the feeds of its lines with their children, and a tap lane the taps that it
-//! took. The halves of each line are put together, whatever they are, at the line's number. All room
-//! for that is made before the lanes begin, so that no run is lost behind them.
-//! `proofs/FactsAt.antt` says that what is known of each feed and of each tap by its line is known of
-//! the halves that stand at the line.
+//! took. The halves of each line are put together at the line's number, regardless of what they are.
+//! All room for that is made before the lanes begin, so that no run is lost once its lanes have ended.
+//! `proofs/FactsAt.antt` shows that facts known of each feed and each tap by its line are known of the
+//! halves at that line.
 #![tactic(auto)]
 
 mod berths;
@@ -25,4 +25,4 @@ pub use halves::{EndedLine, Halves};
 pub use layout::{Laid, LaidOut};
 pub use means::AllMeans;
 pub use proxy_steps::EndedFeed;
-pub use run::{Run, Unrun, run_lanes};
+pub use run::{NotStarted, Run, Unrun, run_lanes};

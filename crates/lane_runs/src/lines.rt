@@ -10,7 +10,7 @@ use proxy_steps::EndedFeed;
 use std::collections::VecDeque;
 use tap_lane::EndedTap;
 
-/// So many lines, numbered from 0, of which nothing is known yet. It takes no memory.
+/// Appends `count` lines, numbered from 0, with no halves yet. It takes no memory.
 pub(crate) fn number_lines<D: Drop, T: Drop, K: Drop>(
     lines: &mut Vec<EndedLine<D, T, K>>,
     count: usize,
@@ -28,8 +28,8 @@ pub(crate) fn number_lines<D: Drop, T: Drop, K: Drop>(
     }
 }
 
-/// Puts the halves of a berth's lines at their numbers: each feed with its child, and the tap in the
-/// same place. It takes no memory.
+/// Stores the halves of a berth's lines at the lines' numbers. Each feed is stored with its child, and
+/// with the tap at the same position. It takes no memory.
 pub(crate) fn put_halves<D: Drop, T: Drop, K: Drop>(
     lines: &mut Vec<EndedLine<D, T, K>>,
     feeds: Vec<EndedFeed<D, K>>,
@@ -56,7 +56,7 @@ pub(crate) fn put_halves<D: Drop, T: Drop, K: Drop>(
     }
 }
 
-// The next tap of these, or else the shelved one.
+// Removes and returns the next of these taps, or the shelved tap if none of these is left.
 fn next_tap<T: Drop>(taps: &mut VecDeque<EndedTap<T>>, shelved: &mut Option<T>) -> Option<T>
     ensures { MatchOption result (taps_left taps.old.items shelved.old ≡ [])
         (λ tap. taps_left taps.old.items shelved.old ≡ tap ∷ taps_left taps.new.items shelved.new) }

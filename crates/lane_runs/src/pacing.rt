@@ -4,7 +4,7 @@ ghost use Rattle.lane_runs.specs.Paced.{pacer_back, pacer_left, seat_for};
 
 use tick_lane::{TickLeft, TickSeat};
 
-/// The proxy lane of this berth with the pacer, where there is one.
+/// Returns the proxy lane of this berth with the pacer, if there is a pacer.
 pub(crate) fn seat_for<W: Drop>(berth: u32, pacer: Option<W>) -> Option<TickSeat<W>>
     ensures { result ≡ seat_for berth pacer }
 {
@@ -14,7 +14,7 @@ pub(crate) fn seat_for<W: Drop>(berth: u32, pacer: Option<W>) -> Option<TickSeat
     }
 }
 
-/// The pacer of the lane that has run.
+/// Returns the pacer of the lane that has run.
 pub(crate) fn pacer_left<W: Drop>(left: Option<TickLeft<W>>) -> Option<W>
     ensures { result ≡ pacer_left left }
 {
@@ -24,7 +24,7 @@ pub(crate) fn pacer_left<W: Drop>(left: Option<TickLeft<W>>) -> Option<W>
     }
 }
 
-/// The pacer of a lane that has not run.
+/// Returns the pacer of a lane that has not run.
 pub(crate) fn pacer_back<W: Drop>(seat: Option<TickSeat<W>>) -> Option<W>
     ensures { result ≡ pacer_back seat }
 {

@@ -24,21 +24,21 @@ use std::alloc::Global;
 use std::sync::Wait;
 use std::thread::Threads;
 
-/// What the proxy lane of a berth works with.
+/// The resources of a berth's proxy lane.
 #[derive(Drop)]
 pub(crate) struct ProxySeat<'a, B> {
     pub(crate) alloc: Global,
     pub(crate) berth: B,
     /// The berth's number.
     pub(crate) number: u32,
-    /// What the berth's lines speak.
+    /// The speech of the berth's lines.
     pub(crate) speech: Speech,
     pub(crate) settings: &'a Settings<'a>,
     /// The work of all actions, by their numbers.
     pub(crate) actions: &'a [WorkAction],
 }
 
-/// What it leaves. Its pass is given back beside that.
+/// The result of a proxy lane. The lane's pass is returned separately.
 pub(crate) type ProxyLeft<B, D, K> = LaneEnd<(), B, D, K>;
 
 impl<'a, B: Berth, P: Place, C: Rules> Lane<Desk<Bench<B, P, C>>, Pass<Bench<B, P, C>>>

@@ -1,4 +1,4 @@
-//! The lanes of all berths on threads.
+//! Runs the lanes of all berths on threads.
 ghost use Rattle.std.specs.Prelude.{◌≡◌, ◌≤◌, [], length, map, IfOk, IfErr};
 ghost use Rattle.core_bench.specs.Objects.{AreFresh};
 ghost use Rattle.lane_runs.specs.Seats.{SpeechesFit, berths_in};
@@ -19,7 +19,7 @@ use crate::pacing::{pacer_back, pacer_left, seat_for};
 use core_bench::Bench;
 use core_contract::Rules;
 use crew_beside::{CrewBeside, UnstartedBeside, run_crew_beside};
-use lane_crew::{Crew, Unstarted};
+use lane_crew::{Crew, Lack, Unstarted};
 use outside::{Berth, Place};
 use seat_desk::Machine;
 use std::alloc::Global;
@@ -27,18 +27,25 @@ use std::sync::Wait;
 use std::thread::Threads;
 use tick_lane::{Pacer, TickSeat};
 
-/// What lanes are to work with, as long as none was started.
+/// The objects that lanes will work with, as long as no lane was started.
 #[derive(Drop)]
 pub struct Unrun<B, P, W> {
     /// The berths, one for each speech.
     pub berths: Vec<B>,
     /// The places, to which nothing was written, one for each action.
     pub places: Vec<P>,
-    /// What paces the lane that makes Ticks, where there is one.
+    /// The pacer of the lane that makes Ticks, if there is such a lane.
     pub pacer: Option<W>,
 }
 
-/// What lanes leave.
+/// The objects of lanes that could not be started, and the resource that was lacking.
+#[derive(Drop)]
+pub struct NotStarted<B, P, W> {
+    pub unrun: Unrun<B, P, W>,
+    pub lack: Lack,
+}
+
+/// The result of lanes that have run.
 #[derive(Drop)]
 pub struct Run<B: Berth, P, W> {
     pub laid: LaidOut<B, P>,
@@ -46,27 +53,27 @@ pub struct Run<B: Berth, P, W> {
     pub pacer: Option<W>,
 }
 
-/// Runs the lanes of these berths, each on a thread of its own, over this core, until each was told
-/// to stop or has halted, and lays out what they leave. The room for that is made before the lanes
-/// begin, so that no run is lost behind them.
+/// Runs the lanes of these berths with this core, each on its own thread, until each has received Stop
+/// or halted. Then arranges by number what they leave. The room for that is made before the lanes begin,
+/// so that no run is lost once its lanes have ended.
 ///
-/// There is a speech for each berth that has lanes. The core may know of more berths: these have none,
-/// and so no entry, no line and no tap. What is said of the run is said of those that have lanes.
+/// There is a speech for each berth that has lanes. The core may know of more berths. These have no
+/// lanes, and so no entry, no line and no tap. The contract covers the berths that have lanes.
 ///
-/// Where there is a pacer, the core knows of one more berth behind these, whose proxy lane makes
-/// Ticks, and that lane runs beside the others.
+/// If there is a pacer, the core knows of one more berth after these. Its proxy lane makes Ticks, and
+/// runs at the same time as the other lanes.
 ///
 /// # Errors
 ///
-/// The berths and the pacer, as they were, and the places, if there is no memory before the lanes.
-/// Then none was started, and the core is dropped.
+/// Returns `NotStarted` if memory or threads are lacking before the lanes are started. It has the berths
+/// and the pacer, unchanged, and the places. No lane was started, and the core is dropped.
 pub fn run_lanes<B: Berth, P: Place, C: Rules, W: Pacer, R: Threads + Wait + Sync>(
     rt: &R,
     alloc: Global,
     core: C,
     unrun: Unrun<B, P, W>,
     means: &AllMeans<'_>,
-) -> Result<Run<B, P, W>, Unrun<B, P, W>>
+) -> Result<Run<B, P, W>, NotStarted<B, P, W>>
 where
     B: Send,
     P: Send,
@@ -91,17 +98,19 @@ where
         (laid_told B.told B.Feed.told B.Tap.told B.Child.told P.told run.laid)) }
     ensures ticks { IfOk result (λ run. HasPaced W.told (proxy_lane (length means.now.speeches.now))
         unrun.pacer run.pacer run.laid.journal) }
-    ensures back { IfErr result (λ u. (u.berths.items ≡ unrun.berths.items)
-        × AreFresh P.told (C.terms (C.plan core)).actions u.places.items
-        × (u.pacer ≡ unrun.pacer)) }
+    ensures back { IfErr result (λ u. (u.unrun.berths.items ≡ unrun.berths.items)
+        × AreFresh P.told (C.terms (C.plan core)).actions u.unrun.places.items
+        × (u.unrun.pacer ≡ unrun.pacer)) }
 {
     let lines = core.most_lines() as usize;
     let seats = means.speeches.len();
     let Ok(blank) = Blank::new(alloc, seats, lines, means.actions.len()) else {
-        return Err(unrun);
+        let lack = Lack::Memory;
+        return Err(NotStarted { unrun, lack });
     };
     let Ok(room) = Vec::with_capacity(alloc, 2 * seats) else {
-        return Err(unrun);
+        let lack = Lack::Memory;
+        return Err(NotStarted { unrun, lack });
     };
     let Unrun {
         berths,
@@ -111,11 +120,13 @@ where
     let bench = match Bench::new(alloc, core, places) {
         Ok(bench) => bench,
         Err(places) => {
-            return Err(Unrun {
+            let unrun = Unrun {
                 berths,
                 places,
                 pacer,
-            });
+            };
+            let lack = Lack::Memory;
+            return Err(NotStarted { unrun, lack });
         }
     };
     let lanes = lanes_of(alloc, berths, means, room);
@@ -136,12 +147,18 @@ where
             let pacer = pacer_left(beside);
             Ok(Run { laid, pacer })
         }
-        Err(unstarted) => Err(take_back(blank, unstarted)),
+        Err(unstarted) => {
+            let lack = unstarted.crew.lack;
+            Err(NotStarted {
+                unrun: take_back(blank, unstarted),
+                lack,
+            })
+        }
     }
 }
 
-// The berths, the places and the pacer back from a crew that has not begun, in the room for what it
-// would have left. It takes no memory.
+// Takes the berths, the places and the pacer back from a crew that has not begun. It uses the room for
+// what the crew would have left, and takes no memory.
 fn take_back<B: Berth, P: Place, C: Rules, W: Pacer>(
     blank: Blank<B, B::Feed, B::Tap, B::Child, P>,
     unstarted: UnstartedBeside<Bench<B, P, C>, BerthLane<'_, B>, TickSeat<W>>,
@@ -164,7 +181,7 @@ fn take_back<B: Berth, P: Place, C: Rules, W: Pacer>(
         places: kept,
     } = blank;
     let UnstartedBeside { crew, beside } = unstarted;
-    let Unstarted { machine, lanes } = crew;
+    let Unstarted { machine, lanes, .. } = crew;
     let (_core, _taps, slots) = machine.into_parts();
     berths_of(lanes, &mut berths);
     let places = all_there(slots, kept);

@@ -1,16 +1,16 @@
-//! What a program tells of itself.
+//! The help and version texts of the programs.
 use std::env::{self, Env};
 use std::io::{self, Print};
 use std::process::ExitCode;
 
-/// The version of all programs, which is that of the file `VERSION`.
+/// The version of all programs, the same as in the file `VERSION`.
 pub const VERSION: &str = "0.1.0";
 
-/// The status of a program whose text wasn't put whole.
+/// The status of a program whose text couldn't be written completely.
 const NOT_PUT: u8 = 6;
 
-/// Answers `--help`, by these texts one behind the other, and `--version`, where one of them is the only word: on standard output, with
-/// the status 0, or 6 where it couldn't be put. `None` for all other words.
+/// Answers `--help` and `--version` if one of them is the only argument. `--help` prints the given texts one after the
+/// other. The status is 0, or 6 if standard output failed. Returns `None` for any other arguments.
 pub fn tell_about<R: Env + Print + AllocGlobal>(
     rt: &R,
     name: &str,
@@ -35,7 +35,7 @@ fn put_each<R: Print>(rt: &R, texts: &[&str]) -> io::Result<()> {
     Ok(())
 }
 
-// The word behind the program's name, if there is one alone.
+// Returns the argument after the program's name, if it is the only one.
 fn only_word<R: Env + AllocGlobal>(rt: &R) -> Option<String> {
     let mut words = env::args(rt).ok()?.skip(1);
     let word = words.next()?;

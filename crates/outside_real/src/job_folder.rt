@@ -4,18 +4,18 @@ use std::alloc::Global;
 use std::io;
 use std::rt::Files;
 
-/// The folder of the start, in which the jobs' folders are.
+/// The start folder, which contains the jobs' folders.
 pub(crate) const HERE: &str = ".";
 
 const LOCK: &str = ".executor_lock";
 
-/// The folder of the job that is under way, or of the last one. Each job has one that is made for it and removed behind it,
-/// so that it finds nothing of another job, and nothing that another one's processes still write.
+/// The folder of the current job, or of the last one. Each job has a folder that is made for it and removed afterwards.
+/// So a job finds nothing of another job, and nothing that another job's processes still write.
 #[derive(Drop)]
 pub(crate) struct JobFolder {
     // `None` before the first job.
     name: Option<String>,
-    // Whether the job is under way whose folder it is, and hasn't been run.
+    // True if the folder's job is under way and hasn't been run.
     is_filled: bool,
 }
 
@@ -27,7 +27,8 @@ impl JobFolder {
         }
     }
 
-    /// Before a call by which a job's folder is filled, or the job is run: the first one of a job has its folder made anew.
+    /// Prepares for a call that fills a job's folder or runs the job. The first call of a job removes any old folder of
+    /// that name.
     pub(crate) fn enter<R: Files + AllocGlobal>(
         &mut self,
         rt: &R,
@@ -45,12 +46,13 @@ impl JobFolder {
         Ok(())
     }
 
-    /// The job is run, or isn't, since a call went wrong: what is filled next is another job's folder.
+    /// Records that the job is run, or was given up since a call failed. The next call that fills a folder begins
+    /// another job.
     pub(crate) fn close(&mut self) {
         self.is_filled = false;
     }
 
-    /// Removes the folder of the last job, as far as it can be removed.
+    /// Removes the folder of the last job, as far as possible.
     pub(crate) fn leave<R: Files + AllocGlobal>(&mut self, rt: &R, alloc: Global) {
         if let Some(last) = self.name.take() {
             let _ = put_aside(rt, alloc, HERE, last.as_str());
@@ -62,11 +64,12 @@ impl JobFolder {
     }
 }
 
-/// Has the folder of the start, in which jobs are run, for this executor alone, as long as what this gives is kept.
+/// Locks the start folder, in which jobs are run, for this executor. The lock is held as long as the returned file is
+/// kept.
 ///
 /// # Errors
 ///
-/// Another executor is at work in the folder, or the lock can't be had.
+/// Returns an error if another executor is at work in the folder, or if the lock can't be taken.
 pub fn lock_jobs<R: Files<File: LockFile>>(rt: &R, alloc: Global) -> io::Result<R::File> {
     if !can_name_open_folders(rt) {
         return Err(io::Error::other(

@@ -1,5 +1,6 @@
-//! The outside itself: files, folders and processes below the folder in which the program was started. These objects keep
-//! the traits' counts, and tell nothing of what they hold. What they do they do by `bare_calls`, which is trusted.
+//! The real outside: files, folders and processes below the start folder. These objects keep the traits' counts, and
+//! record the calls that were made on them, with their answers. They don't record the contents of the floor's files,
+//! nor what a child leaves in its room. They work by the calls of `bare_calls`, which are trusted.
 #![tactic(auto)]
 
 mod about;
@@ -7,12 +8,15 @@ mod floor;
 mod input;
 mod job_folder;
 mod line;
+mod notes;
+mod output_flag;
 mod pipe;
 mod place;
 mod reason;
 mod room;
 mod shop;
 mod sink;
+mod unended;
 
 pub use about::{VERSION, tell_about};
 pub use bare_calls::open_standard;
@@ -20,6 +24,8 @@ pub use floor::RealFloor;
 pub use input::RealInput;
 pub use job_folder::lock_jobs;
 pub use line::{RealChild, RealFeed, RealTap};
+pub use output_flag::OutputFlag;
+pub use pipe::ProcessEnd;
 pub use place::RealPlace;
 pub use reason::Reason;
 pub use room::RealBerth;

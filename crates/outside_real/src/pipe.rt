@@ -1,5 +1,5 @@
-//! What the feed, the tap and the child of a line share, and the thread that empties a feed into its pipe.
-use bare_calls::{has_ended, kill, wait_for, wait_to_write, write_now};
+//! The state that the feed, the tap and the child of a line share, and the thread that empties a feed into its pipe.
+use bare_calls::{has_ended, kill, rest, wait_for, wait_to_write, write_now};
 use std::alloc::Global;
 use std::io::{self, ErrorKind};
 use std::os::fd::{AsRawFd, RawFd};
@@ -9,32 +9,42 @@ use std::sync::{Arc, Mutex, Wait};
 use std::thread;
 use std::thread::{Parker, Threads};
 
-/// What the feed, the tap and the child of a line share.
+/// How a line's process ended.
+#[derive(Clone, Copy)]
+pub struct ProcessEnd {
+    pub status: ExitStatus,
+    /// True if it had ended before it was killed.
+    pub by_itself: bool,
+}
+
+/// The state that the feed, the tap and the child of a line share.
 #[derive(Drop)]
 pub(crate) struct SharedLine {
     feed: Mutex<FeedPipe>,
-    // Where whoever closes the feed rests until the writer has ended.
+    // A thread that closes the feed rests here until the writer has ended.
     rest: Parker,
     is_killed: AtomicBool,
-    // Whether the process ended by itself soon after bytes of it had been taken.
+    // True if the process was seen to have closed a pipe. Then it usually ends soon, or has ended.
+    is_ending: AtomicBool,
+    // True if the process ended by itself soon after bytes of it had been taken.
     is_brief: AtomicBool,
     // `None` before it is started.
     child: Mutex<Option<Child>>,
 }
 
-// The pipe into a process. It never waits. What it doesn't take at once waits here, and a writer, a thread of its own,
-// gives it on. There is a writer only while something waits.
+// The pipe into a process. A write to it never waits. Bytes that the pipe doesn't take at once wait here, and a writer,
+// a separate thread, writes them. There is a writer only while bytes wait.
 #[derive(Drop)]
 struct FeedPipe {
     // `None` before the process is started, and once the pipe is closed.
     pipe: Option<ChildStdin>,
     waiting: Vec<u8>,
-    // How many of the bytes that wait the pipe has taken.
+    // The number of waiting bytes that the pipe has taken.
     taken: usize,
     is_writing: bool,
 }
 
-// What a writer does next.
+// A writer's next step.
 #[derive(Clone, Copy)]
 enum Next {
     GoOn,
@@ -43,65 +53,81 @@ enum Next {
 }
 
 impl SharedLine {
-    /// A line without a process.
+    /// Returns a line without a process.
     pub(crate) fn new(alloc: Global) -> SharedLine {
         SharedLine {
             feed: Mutex::new(FeedPipe::new(alloc)),
             rest: Parker::new(),
             is_killed: AtomicBool::new(false),
+            is_ending: AtomicBool::new(false),
             is_brief: AtomicBool::new(false),
             child: Mutex::new(None),
         }
     }
 
-    /// Has the line feed a process by this pipe, which never waits.
+    /// Sets the non-blocking pipe by which the line feeds its process.
     pub(crate) fn open<R: Wait>(&self, rt: &R, pipe: ChildStdin) {
         self.feed.lock(rt).pipe = Some(pipe);
     }
 
-    /// Has the line have this process.
+    /// Sets the line's process.
     pub(crate) fn own<R: Wait>(&self, rt: &R, child: Child) {
         *self.child.lock(rt) = Some(child);
     }
 
-    /// The process ended by itself soon after bytes of it had been taken.
+    /// Records that the process ended by itself soon after bytes of it had been taken.
     pub(crate) fn be_brief(&self) {
         self.is_brief.store(true, Ordering::SeqCst);
     }
 
-    /// Whether the process ended by itself soon after bytes of it had been taken.
+    /// Returns true if the process ended by itself soon after bytes of it had been taken.
     pub(crate) fn is_brief(&self) -> bool {
         self.is_brief.load(Ordering::SeqCst)
     }
 
-    /// Whether the process has been killed. What it had written until then stands in its pipe.
+    /// Returns true if the process has been killed. All that it had written by then is in its pipe.
     pub(crate) fn is_killed(&self) -> bool {
         self.is_killed.load(Ordering::SeqCst)
     }
 
-    /// Whether the process has ended, by itself or since it was killed. What it had written until then stands in its pipe.
+    /// Returns true if the process has ended, by itself or because it was killed. All that it had written by then is in
+    /// its pipe.
     pub(crate) fn is_over(&self) -> bool {
         self.is_killed()
             || match self.child.try_lock() {
                 Some(mut child) => child.as_mut().is_some_and(has_ended),
-                // It is being ended.
+                // Another thread is ending it.
                 None => false,
             }
     }
 
-    /// Kills the process, closes its feed and waits for it, and says how it ended. One that can't be killed ends at the end
-    /// of its input, or is left to itself.
-    pub(crate) fn end<R: Wait>(&self, rt: &R) -> Option<ExitStatus> {
+    /// Records that the process has closed a pipe.
+    pub(crate) fn be_ending(&self) {
+        self.is_ending.store(true, Ordering::SeqCst);
+    }
+
+    /// Kills the process, closes its feed, waits for it, and returns how it ended. A process that has closed a pipe
+    /// first gets a moment to end by itself, so that its own end is reported and not the kill. A process that can't be
+    /// killed ends at the end of its input, or is left alone.
+    pub(crate) fn end<R: Wait>(&self, rt: &R) -> Option<ProcessEnd> {
+        let mut by_itself = false;
         if let Some(child) = self.child.lock(rt).as_mut() {
+            let tries = if self.is_ending.load(Ordering::SeqCst) {
+                MOMENT
+            } else {
+                1
+            };
+            by_itself = ends_within(child, tries);
             kill(child);
         }
         self.close(rt);
         let mut child = self.child.lock(rt);
-        wait_for(child.as_mut()?).ok()
+        let status = wait_for(child.as_mut()?).ok()?;
+        Some(ProcessEnd { status, by_itself })
     }
 
-    /// Closes the feed of a process that was killed, once a writer has ended. A process that was started by that one, and
-    /// has the other end too, finds the end of its input then.
+    /// Closes the feed of a process that was killed, once any writer has ended. A process that it started, and that
+    /// holds the other end too, then reaches the end of its input.
     pub(crate) fn close<R: Wait>(&self, rt: &R) {
         self.is_killed.store(true, Ordering::SeqCst);
         for _ in rt.forever() {
@@ -112,12 +138,12 @@ impl SharedLine {
         }
     }
 
-    // Gives on what waits, until all is given or the pipe is closed.
+    // Writes the waiting bytes until none are left or the pipe is closed.
     fn empty(&self) {
         for _ in 0..u64::MAX {
             match self.next() {
                 Next::GoOn => thread::yield_now(),
-                // What the wait says is seen by the next write.
+                // The next write sees what the wait found.
                 Next::WaitFor(pipe) => drop(wait_to_write(pipe)),
                 Next::End => break,
             }
@@ -134,11 +160,28 @@ impl SharedLine {
     }
 }
 
-/// Gives bytes to a line's process: to the pipe, as many as it takes at once, and the others to the writer.
+// The time, in milliseconds, in which a process that has closed a pipe may end by itself.
+const MOMENT: i32 = 50;
+
+// Looks at the process up to `looks` times, a millisecond apart. Returns true if it has ended.
+fn ends_within(child: &mut Child, looks: i32) -> bool {
+    for look in 0..looks {
+        if look > 0 {
+            rest(1);
+        }
+        if has_ended(child) {
+            return true;
+        }
+    }
+    false
+}
+
+/// Gives bytes to a line's process: as many to the pipe as it takes at once, and the rest to the writer.
 ///
 /// # Errors
 ///
-/// The pipe is closed or broken, or there is no memory or no thread for what it doesn't take at once.
+/// Returns an error if the pipe is closed or broken. Also returns one if there is no memory or no thread for the bytes
+/// that it doesn't take at once.
 pub(crate) fn give<R: Threads + Wait>(
     rt: &R,
     line: &Arc<SharedLine>,
@@ -146,14 +189,19 @@ pub(crate) fn give<R: Threads + Wait>(
 ) -> io::Result<()> {
     let mut guard = line.feed.lock(rt);
     let feed = &mut *guard;
-    feed.give(bytes)?;
+    if let Err(error) = feed.give(bytes) {
+        if error.kind() == ErrorKind::BrokenPipe {
+            line.be_ending();
+        }
+        return Err(error);
+    }
     if feed.taken < feed.waiting.len() && !feed.is_writing {
         start_writer(rt, line, feed)?;
     }
     Ok(())
 }
 
-// Starts a writer. Nobody joins it: whoever closes the feed waits for it.
+// Starts a writer. No thread joins it, but a thread that closes the feed waits for it.
 fn start_writer<R: Threads>(rt: &R, line: &Arc<SharedLine>, feed: &mut FeedPipe) -> io::Result<()> {
     let shared = Arc::try_clone(line)?;
     feed.is_writing = thread::spawn(rt, move || shared.empty()).is_ok();
@@ -174,7 +222,7 @@ impl FeedPipe {
         }
     }
 
-    // Gives bytes to the pipe behind those that wait.
+    // Gives bytes to the pipe, after the bytes that wait.
     fn give(&mut self, bytes: &[u8]) -> io::Result<()> {
         let Some(pipe) = &mut self.pipe else {
             return Err(io::Error::from(ErrorKind::BrokenPipe));
@@ -188,8 +236,8 @@ impl FeedPipe {
         Ok(())
     }
 
-    // What a writer does once, and what it does next. The pipe is closed by the writer, if there is one, since it may be
-    // waiting for it.
+    // Makes one step of a writer, and returns the next step. If there is a writer, the writer closes the pipe, since it
+    // may be waiting for the pipe.
     fn give_on(&mut self, is_killed: bool) -> Next {
         if is_killed {
             self.pipe = None;
@@ -218,14 +266,14 @@ impl FeedPipe {
         next
     }
 
-    // Nothing waits any more.
+    // Clears the waiting bytes, and records that no writer runs.
     fn forget(&mut self) {
         self.waiting.clear();
         self.taken = 0;
         self.is_writing = false;
     }
 
-    // Closes the pipe, unless a writer is at work, which closes it. Says whether it is closed.
+    // Closes the pipe if no writer is at work. Otherwise the writer closes it. Returns true if it is closed.
     fn close(&mut self) -> bool {
         if !self.is_writing {
             self.pipe = None;

@@ -1,73 +1,92 @@
-//! Files and commands below the folder of the start, for workers and for executors.
-ghost use Rattle.std.specs.Prelude.{◌≡◌, None};
+//! Files and commands below the start folder, for workers and for executors.
+ghost use Rattle.std.specs.Prelude.{◌≡◌, Some, []};
 ghost use Rattle.outside.specs.Causes.{Counts};
 
 use crate::job_folder::{HERE, JobFolder};
-use bare_calls::{make_folder_inside, read_inside, read_regular, run_to_end, write_inside};
-use outside::{Io, JobEnd, Read, Shop, Variable};
+use crate::notes::{Got, Made, Put, Ran};
+use bare_calls::{BESIDE, make_folder_inside, read_inside, read_regular, run_to_end, write_inside};
+use outside::{Io, JobEnd, Read, Shop, ShopCall, Variable};
 use plain_values::{Blob, NoMemory, Text};
 use std::alloc::Global;
 use std::io;
+use std::marker::Model;
 use std::process::{ExitStatus, Processes, SystemProcess};
 use std::rt::Files;
+use told_logs::Told;
 
-/// Files and commands below the folder of the start.
+/// Files and commands below the start folder.
 #[derive(Drop)]
 pub struct RealShop<R> {
     rt: R,
     alloc: Global,
     faults: u64,
     purpose: Purpose,
+    log: Told<ShopCall>,
 }
 
-// Whom a shop serves.
+impl<R> Model for RealShop<R> {
+    ghost use Rattle.outside_real.specs.Telling.{ShopSeen};
+
+    ghost Value = { ShopSeen };
+
+    ghost view = { λ s. record { faults = s.faults; log = s.log.items } };
+}
+
+// The client that a shop serves.
 #[derive(Drop)]
 enum Purpose {
     // Anyone: nothing is read behind a link.
     Anyone,
-    // A worker. Its client chose its inputs, so they are read behind links, too.
-    Worker,
-    // An executor, whose paths begin with the folder of a job.
+    // A worker's lane, by its number. Its client chose its inputs, so links to them are followed.
+    Worker(u32),
+    // An executor, whose paths begin with a job's folder.
     Jobs(JobFolder),
 }
 
 impl<R> RealShop<R> {
-    /// The shop in the folder of the start. What stands behind a link isn't read.
+    /// Returns the shop in the start folder. Nothing behind a link is read.
     pub fn new(rt: R, alloc: Global) -> RealShop<R>
-        ensures { result.faults ≡ 0 }
+        ensures faults { result.faults ≡ 0 }
+        ensures log { result.log ≡ [] }
     {
         RealShop::of(rt, alloc, Purpose::Anyone)
     }
 
-    /// The shop of a worker in the folder of the start. Its client chooses the inputs, and so they are read behind links,
-    /// too: in a folder of Bazel's each input is one.
-    pub fn for_worker(rt: R, alloc: Global) -> RealShop<R>
-        ensures { result.faults ≡ 0 }
+    /// Returns the shop of a worker's lane in the start folder. Its client chooses the inputs, so links to them are
+    /// followed: in Bazel's folders each input is a link. Shops that may write into one folder at once each have their
+    /// own number.
+    pub fn for_worker(rt: R, alloc: Global, number: u32) -> RealShop<R>
+        ensures faults { result.faults ≡ 0 }
+        ensures log { result.log ≡ [] }
     {
-        RealShop::of(rt, alloc, Purpose::Worker)
+        RealShop::of(rt, alloc, Purpose::Worker(number))
     }
 
-    /// The shop of an executor in the folder of the start, in which each job has a folder that is made for it and removed
-    /// behind it. What stands behind a link isn't read.
+    /// Returns the shop of an executor in the start folder. Each job gets its own folder, which is made for it and
+    /// removed afterwards. Nothing behind a link is read.
     pub fn for_jobs(rt: R, alloc: Global) -> RealShop<R>
-        ensures { result.faults ≡ 0 }
+        ensures faults { result.faults ≡ 0 }
+        ensures log { result.log ≡ [] }
     {
         RealShop::of(rt, alloc, Purpose::Jobs(JobFolder::new()))
     }
 
     fn of(rt: R, alloc: Global, purpose: Purpose) -> RealShop<R>
-        ensures { result.faults ≡ 0 }
+        ensures faults { result.faults ≡ 0 }
+        ensures log { result.log ≡ [] }
     {
         RealShop {
             rt,
             alloc,
             faults: 0,
             purpose,
+            log: Told::new(),
         }
     }
 
     fn fails(&mut self) -> Io
         ensures answer { result ≡ Io.Failed }
+        ensures log { self.new.log ≡ self.old.log }
         ensures count { Counts self.old.faults self.new.faults (result ≡ Io.Failed) }
     {
         self.faults = self.faults.saturating_add(1);
@@ -79,15 +98,17 @@ impl<R> RealShop<R> {
 }
 
 impl<R: Files + AllocGlobal> RealShop<R> {
-    /// Removes the folder of the last job, as far as it can be removed.
-    pub fn leave(&mut self) {
+    /// Removes the folder of the last job, as far as possible. The call isn't recorded.
+    pub fn leave(&mut self)
+        ensures { self.new ≡ self.old }
+    {
         if let Purpose::Jobs(job) = &mut self.purpose {
             job.leave(&self.rt, self.alloc);
         }
     }
 }
 
-// Before a call that begins a job or goes on with it.
+// Prepares for a call that begins a job or continues one.
 fn enter<R: Files + AllocGlobal>(
     rt: &R,
     alloc: Global,
@@ -96,7 +117,7 @@ fn enter<R: Files + AllocGlobal>(
 ) -> io::Result<()> {
     match purpose {
         Purpose::Jobs(job) => job.enter(rt, alloc, path),
-        Purpose::Anyone | Purpose::Worker => Ok(()),
+        Purpose::Anyone | Purpose::Worker(_) => Ok(()),
     }
 }
 
@@ -108,7 +129,13 @@ fn put<R: Files + AllocGlobal>(
     bytes: &[u8],
 ) -> io::Result<()> {
     enter(rt, alloc, purpose, path)?;
-    write_inside(rt, alloc, HERE, path, bytes)
+    match purpose {
+        Purpose::Worker(number) => {
+            let beside = format!(in alloc; "{BESIDE}.{}", *number)?;
+            write_inside(rt, alloc, HERE, path, beside.as_str(), bytes)
+        }
+        Purpose::Anyone | Purpose::Jobs(_) => { write_inside(rt, alloc, HERE, path, BESIDE, bytes) }
+    }
 }
 
 fn folder<R: Files + AllocGlobal>(
@@ -128,12 +155,12 @@ fn get<R: Files + AllocGlobal>(
     path: &str,
 ) -> io::Result<Option<Vec<u8>>> {
     match purpose {
-        Purpose::Worker => read_regular(rt, path),
+        Purpose::Worker(_) => read_regular(rt, path),
         Purpose::Anyone | Purpose::Jobs(_) => read_inside(rt, alloc, HERE, path),
     }
 }
 
-// Makes the folder, and runs the words there to their end.
+// Makes the folder, and runs the words in it to their end.
 fn run<R: Files + AllocGlobal + Processes<Started = SystemProcess>>(
     rt: &R,
     alloc: Global,
@@ -151,47 +178,65 @@ fn run<R: Files + AllocGlobal + Processes<Started = SystemProcess>>(
 }
 
 impl<R: Files + AllocGlobal + Processes<Started = SystemProcess> + Drop> Shop for RealShop<R> {
-    ghost told = { λ s. record { faults = s.faults; log = None } };
+    ghost told = { λ s. record { faults = s.faults; log = Some s.log } };
 
     fn faults(&self) -> u64 {
         self.faults
     }
 
     fn put(&mut self, path: &str, bytes: &[u8]) -> Io {
-        match put(&self.rt, self.alloc, &mut self.purpose, path, bytes) {
+        let end = match put(&self.rt, self.alloc, &mut self.purpose, path, bytes) {
             Ok(()) => Io::Done,
             Err(_) => self.fails(),
-        }
+        };
+        self.log = self.log.with(&Put { path, bytes, end });
+        end
     }
 
     fn folder(&mut self, path: &str) -> Io {
-        match folder(&self.rt, self.alloc, &mut self.purpose, path) {
+        let end = match folder(&self.rt, self.alloc, &mut self.purpose, path) {
             Ok(()) => Io::Done,
             Err(_) => self.fails(),
-        }
+        };
+        self.log = self.log.with(&Made { path, end });
+        end
     }
 
     fn get(&mut self, path: &str) -> Result<Read, NoMemory> {
-        match get(&self.rt, self.alloc, &self.purpose, path) {
-            Ok(Some(bytes)) => Ok(Read::Found(Blob::of(self.alloc, bytes)?)),
-            Ok(None) => Ok(Read::Absent),
+        let answer = match get(&self.rt, self.alloc, &self.purpose, path) {
+            Ok(Some(bytes)) => Read::Found(Blob::of(self.alloc, bytes)?),
+            Ok(None) => Read::Absent,
             Err(_) => {
                 self.faults = self.faults.saturating_add(1);
-                Ok(Read::Failed)
+                Read::Failed
             }
-        }
+        };
+        let got = Got {
+            path,
+            answer: &answer,
+        };
+        self.log = self.log.with(&got);
+        Ok(answer)
     }
 
     fn run(&mut self, folder: &str, words: &[Text], env: &[Variable]) -> Result<JobEnd, NoMemory> {
-        match run(&self.rt, self.alloc, &mut self.purpose, folder, words, env) {
+        let end = match run(&self.rt, self.alloc, &mut self.purpose, folder, words, env) {
             Ok((status, written)) => match status.code() {
-                Some(code) => Ok(JobEnd::Exit(code, Blob::of(self.alloc, written)?)),
-                None => Ok(JobEnd::Signal),
+                Some(code) => JobEnd::Exit(code, Blob::of(self.alloc, written)?),
+                None => JobEnd::Signal,
             },
             Err(_) => {
                 self.faults = self.faults.saturating_add(1);
-                Ok(JobEnd::Failed)
+                JobEnd::Failed
             }
-        }
+        };
+        let ran = Ran {
+            folder,
+            words,
+            env,
+            end: &end,
+        };
+        self.log = self.log.with(&ran);
+        Ok(end)
     }
 }

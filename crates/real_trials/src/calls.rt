@@ -1,7 +1,8 @@
-// The bare calls on files and folders, over files whose calls are printed.
+// The bare calls on files and folders, over files that print their calls.
 use crate::recorder::Recorder;
 use bare_calls::{
-    Room, make_folder_inside, put_aside, read_inside, read_regular, write_beside, write_inside,
+    BESIDE, Room, make_folder_inside, put_aside, read_inside, read_regular, write_beside,
+    write_inside,
 };
 use plain_values::NoMemory;
 use std::alloc::Global;
@@ -10,15 +11,16 @@ use std::rt::Files;
 use std::str;
 use std::sync::atomic::AtomicU64;
 
-/// The folder in which calls are made that aren't made in a room.
+/// The folder for calls that aren't made in a room.
 const FOLDER: &str = "files";
 
-/// Makes the bare call that a line says, as `write made/first 3`: its name, a path, and which of the calls that it makes
-/// of the system is refused. Says what it comes to; the calls have been printed.
+/// Makes the bare call that a line specifies, for example `write made/first 3`. The line gives its name, a
+/// path, and the number of the system call that is refused. Returns its result. The system calls have been
+/// printed.
 ///
 /// # Errors
 ///
-/// `NoMemory`.
+/// Returns `NoMemory` if memory runs out.
 pub fn play<R: Files + Print + Copy + Drop>(
     rt: &R,
     alloc: Global,
@@ -34,7 +36,7 @@ pub fn play<R: Files + Print + Copy + Drop>(
     );
     let done = match name {
         "beside" => write_beside(&files, alloc, ".part", path, b"new"),
-        "write" => write_inside(&files, alloc, FOLDER, path, b"new"),
+        "write" => write_inside(&files, alloc, FOLDER, path, BESIDE, b"new"),
         "folder" => make_folder_inside(&files, alloc, FOLDER, path),
         "aside" => put_aside(&files, alloc, FOLDER, path),
         "clear" => room.clear(&files, ""),

@@ -1,8 +1,9 @@
-// Lines: a shell that hears its feed, has the command's environment alone, leaves links and a fifo
-// in its room, moves that, and puts a link to the folder of the start in its place. Beside
-// the outputs it leaves a link at the name under which they are written. Another one runs what was put into its room, looks
-// whether the first is gone, and leaves what is hard to remove: a name that is no text, folders that nobody may change, a link
-// to a folder of others. A third looks whether all that is gone, and nothing else was touched.
+// Lines, each with a shell. The first shell reads its feed and has only the command's environment. It
+// leaves links and a fifo in its room, moves the room, and puts a link to the start folder at the room's
+// path. Next to the outputs it leaves a link at the name under which they are written. The second shell
+// runs a file that was put into its room, and looks if the first is gone. It leaves what is hard to remove:
+// a name that isn't UTF-8, folders that nobody may change, and a link to a folder of others. The third
+// shell looks if all that is gone, and if nothing else was touched.
 use crate::page::Page;
 use outside::{Berth, Child, Command, Feed, Launch, Taken, Tap, Variable};
 use plain_values::{Items, NoMemory, Text};
@@ -60,7 +61,7 @@ pub fn play<P: Print, B: Berth>(page: &mut Page<'_, P>, alloc: Global, berth: &m
     page.counts("faults of the berth", &[berth.faults()]);
 }
 
-// A shell that does this, unless it can't be started.
+// Starts a shell with this script. Returns `None` if it can't be started.
 fn shell<P: Print, B: Berth>(
     page: &mut Page<'_, P>,
     alloc: Global,
@@ -100,7 +101,7 @@ fn command(alloc: Global, program: &str, script: &str) -> Result<Command, NoMemo
     })
 }
 
-/// These words, in memory of their own.
+/// Returns these words in memory of their own.
 pub fn words(alloc: Global, each: &[&str]) -> Result<Vec<Text>, NoMemory> {
     let mut words = Vec::new(alloc);
     for word in each {
@@ -109,7 +110,7 @@ pub fn words(alloc: Global, each: &[&str]) -> Result<Vec<Text>, NoMemory> {
     Ok(words)
 }
 
-/// A greeting and where programs are looked for.
+/// Returns an environment: a greeting and the path on which programs are found.
 pub fn environment(alloc: Global) -> Result<Vec<Variable>, NoMemory> {
     let mut variables = Vec::new(alloc);
     for (name, value) in [("GREETING", "hello"), ("PATH", "/usr/bin:/bin")] {
@@ -156,7 +157,7 @@ fn talk<P: Print, B: Berth>(
     );
 }
 
-// Takes so many lines, in whatever pieces they come.
+// Takes `lines` lines, in pieces of any size.
 fn take_all<P: Print, T: Tap>(page: &mut Page<'_, P>, alloc: Global, tap: &mut T, lines: usize) {
     let mut taken = Vec::new(alloc);
     for _ in 0..256 {

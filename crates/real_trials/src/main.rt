@@ -1,13 +1,19 @@
-//! Makes bare calls on files, with each call of the system that they make printed, and drives each real object once. No
-//! clause says what files, folders, pipes and processes do, so this is their test.
+//! Makes bare calls on files, and prints each system call that they make. Also drives each real object
+//! once. No clause states what files, folders, pipes and processes do, so this program is their test.
 //!
 //! | A line of standard input | Does |
 //! |---|---|
-//! | `CALL PATH`, `CALL PATH NTH` | the bare call `source`, `read`, `write`, `beside`, `folder` or `aside` at this path, all but `source` and `beside` in the folder `files`; or `clear`, `part`, `make`, `put` or `get` in the room of berth 3, which a process may `enter` and `leave`: each call of the system that names a path, of which the NTH is refused, and what it comes to. `*/NAME` is NAME in a folder that is held open |
-//! | `objects` | each real object is driven once |
-//! | `# ..` | is printed as it is |
+//! | `CALL PATH`, `CALL PATH NTH` | makes the bare call at this path, and prints its system calls and its result |
+//! | `objects` | drives each real object once |
+//! | `# ..` | prints the line as it is |
 //!
-//! The program runs in a folder of its own with the files of `data/`. `dev/real-vectors` writes `stdin` and `stdout`.
+//! CALL is `source`, `read`, `write`, `beside`, `folder` or `aside`. All but `source` and `beside` are made
+//! in the folder `files`. Or CALL is `clear`, `part`, `make`, `put` or `get` in the room of berth 3, which
+//! a process may `enter` and `leave`. Each system call that names a path is printed, and the NTH of them is
+//! refused. `*/NAME` is NAME in a folder that is held open.
+//!
+//! The program runs in its own folder with the files of `data/`. `dev/real-vectors` writes `stdin` and
+//! `stdout`.
 #![tactic(auto)]
 
 mod calls;

@@ -1,4 +1,4 @@
-// Each real object, driven once.
+// The drive of each real object.
 use crate::page::Page;
 use crate::{lines, places, rooms, shops};
 use outside::Floor;
@@ -62,7 +62,7 @@ fn play<P: Print, F: Floor>(page: &mut Page<'_, P>, alloc: Global, floor: &mut F
     }
 }
 
-/// The system's word for lack of memory.
+/// Returns the system's error for lack of memory.
 pub fn no_memory(_: NoMemory) -> io::Error {
     io::Error::from(ErrorKind::OutOfMemory)
 }

@@ -1,10 +1,10 @@
-// What is said of the real objects, line by line.
+// The output about the real objects, line by line.
 use outside::{Io, Read};
 use plain_values::NoMemory;
 use std::io::{self, ErrorKind, Print};
 use std::str;
 
-/// Lines of standard output. The first failure is kept for the end, so that nothing between has to end early.
+/// Lines of standard output. The first failure is kept for the end, so that nothing has to end early.
 #[derive(Drop)]
 pub struct Page<'a, P> {
     rt: &'a P,
@@ -19,12 +19,12 @@ impl<'a, P: Print> Page<'a, P> {
         }
     }
 
-    /// The first failure.
+    /// Returns the first failure, if there was one.
     pub fn end(self) -> io::Result<()> {
         self.printed
     }
 
-    /// Notes how a line was printed, or why there is none.
+    /// Records how a line was printed, or why there is none.
     fn note(&mut self, printed: io::Result<()>) {
         if self.printed.is_ok() {
             self.printed = printed;
@@ -40,7 +40,7 @@ impl<'a, P: Print> Page<'a, P> {
         self.note(printed);
     }
 
-    /// What was counted, at most three of a kind.
+    /// Prints counts, at most three of a kind.
     pub fn counts(&mut self, what: &str, counts: &[u64]) {
         let printed = match counts {
             [one] => println!(self.rt; "  {what} {one}"),
@@ -73,19 +73,19 @@ impl<'a, P: Print> Page<'a, P> {
         self.note(printed);
     }
 
-    /// How many bytes there are at the path.
+    /// Prints the number of bytes at the path.
     pub fn size(&mut self, path: &str, count: usize) {
         let printed = println!(self.rt; "  {path}: {count} bytes");
         self.note(printed);
     }
 
-    /// The status with which a job ended.
+    /// Prints the status with which a job ended.
     pub fn code(&mut self, code: i32) {
         let printed = println!(self.rt; "  exit {code}");
         self.note(printed);
     }
 
-    /// What the system said, if it did.
+    /// Prints the system's error, if there is one.
     pub fn error(&mut self, error: Option<&io::Error>) {
         let printed = match error {
             Some(error) => println!(self.rt; "  the system said: {error}"),
@@ -94,7 +94,7 @@ impl<'a, P: Print> Page<'a, P> {
         self.note(printed);
     }
 
-    /// The bytes that were taken.
+    /// Prints the bytes that were taken.
     pub fn taken(&mut self, bytes: &[u8]) {
         let text = str::from_utf8(bytes).unwrap_or("no text");
         let printed = println!(self.rt; "  taken {text:?}");

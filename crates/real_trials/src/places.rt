@@ -1,5 +1,5 @@
-// Places: outputs are written with their folders, over links, and each place beside under a name of
-// its own.
+// Places: outputs are written with their folders and over links. The temporary file next to an output has a
+// different name for each place.
 use crate::page::Page;
 use outside::{Floor, Place};
 use plain_values::NoMemory;
@@ -16,7 +16,7 @@ pub fn play<P: Print, F: Floor>(page: &mut Page<'_, P>, alloc: Global, floor: &m
     page.counts("faults of the places", &[alone, first, second]);
 }
 
-// Writes through a place of its own, and gives that one's faults.
+// Writes through a separate place, and returns its faults.
 fn write_many<P: Print, F: Floor>(page: &mut Page<'_, P>, alloc: Global, floor: &mut F) -> u64 {
     match floor.make_place(0) {
         Ok(mut place) => {
@@ -44,7 +44,7 @@ fn write_all<P: Print, F: Floor>(
     page.read("aside/file", floor.read("aside/file"));
     write_long(page, alloc, place, "a name of 255 bytes", 255);
     write_long(page, alloc, place, "a name of 256 bytes", 256);
-    // What stands in the way of one place's name stands in the way of no other.
+    // An obstacle at one place's name is no obstacle for other places.
     page.io(
         "in the way",
         &place.write("made/.worker_tool.1.part/x", b""),
@@ -64,7 +64,7 @@ fn write_long<O: Print, P: Place>(
     }
 }
 
-// Writes once through a place of its own, and gives that one's faults.
+// Writes once through a separate place, and returns its faults.
 fn write_one<P: Print, F: Floor>(
     page: &mut Page<'_, P>,
     floor: &mut F,
@@ -84,7 +84,7 @@ fn write_one<P: Print, F: Floor>(
     }
 }
 
-/// A name of so many bytes.
+/// Returns a name of `length` bytes.
 pub fn name(alloc: Global, length: usize) -> Result<String, NoMemory> {
     let mut name = String::new(alloc);
     for _ in 0..length {

@@ -1,4 +1,4 @@
-// The files of the system, with each call on them printed; one of the calls is refused, if that is asked.
+// The files of the system. Each call on them is printed, and one call is refused on request.
 use std::alloc::Allocator;
 use std::fs::{Metadata, OpenFile, OpenOptions, Permissions};
 use std::io::{self, ErrorKind, Print, Read, Seek, SeekFrom, Write};
@@ -6,7 +6,7 @@ use std::path::PathBuf;
 use std::rt::Files;
 use std::sync::atomic::{AtomicU64, Ordering};
 
-/// How many bytes a read of a file gives at most, so that none is read by one.
+/// The number of bytes that a read of a file returns at most, so that one read never returns a whole file.
 const MOST_READ: usize = 2;
 
 /// Files whose calls are printed.
@@ -17,7 +17,7 @@ pub struct Recorder<'a, R> {
     refused: u64,
 }
 
-/// A file or a folder of these.
+/// A file or a folder of a recorder.
 #[derive(Drop)]
 pub struct Recorded<'a, R, F> {
     of: Recorder<'a, R>,
@@ -26,12 +26,13 @@ pub struct Recorded<'a, R, F> {
 }
 
 impl<'a, R: Print> Recorder<'a, R> {
-    /// The files of this runtime, whose calls are counted here. The call with this number is refused.
+    /// Returns the files of this runtime. Their calls are counted in `made`, and the call with the number
+    /// `refused` is refused.
     pub fn new(rt: R, made: &'a AtomicU64, refused: u64) -> Recorder<'a, R> {
         Recorder { rt, made, refused }
     }
 
-    // Prints a call, which is refused if it is that one.
+    // Prints a call, and refuses it if it has that number.
     fn call(&self, what: &str, path: &str) -> io::Result<()> {
         let (front, path) = shown(path);
         let before = self.made.fetch_add(1, Ordering::SeqCst);
@@ -43,7 +44,8 @@ impl<'a, R: Print> Recorder<'a, R> {
     }
 }
 
-// A path as it is printed: one in a folder that is held open without the number by which the system knows that.
+// Returns a path as it is printed. If it is in a folder that is held open, the system's number of that
+// folder is left out.
 fn shown(path: &str) -> (&str, &str) {
     match path.strip_prefix("/proc/self/fd/") {
         Some(rest) => match rest.split_once('/') {

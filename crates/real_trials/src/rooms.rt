@@ -1,4 +1,4 @@
-// A room: what is put is found, and what is cleared is gone.
+// A room: files that were put are found, and files that were cleared are gone.
 use crate::page::Page;
 use outside::{Berth, Io, Read};
 use plain_values::NoMemory;
@@ -22,7 +22,7 @@ pub fn play<P: Print, B: Berth>(page: &mut Page<'_, P>, alloc: Global, berth: &m
     page.counts("faults of the berth", &[berth.faults()]);
 }
 
-// Files on the way to what is put and to a folder, which make room.
+// Puts files and makes a folder whose paths lead through existing files. Those files make way.
 fn play_way<P: Print, B: Berth>(page: &mut Page<'_, P>, berth: &mut B) {
     page.io("put e", &berth.room_put("e", b"x"));
     page.io("put e/f/g", &berth.room_put("e/f/g", b"y"));
@@ -33,7 +33,7 @@ fn play_way<P: Print, B: Berth>(page: &mut Page<'_, P>, berth: &mut B) {
     page.read("e/f/g/h", berth.room_get("e/f/g/h"));
 }
 
-// A large file and an empty one, and more names than one read of a folder gives.
+// Puts a large file, an empty one, and more names than one read of a folder returns.
 fn play_much<P: Print, B: Berth>(page: &mut Page<'_, P>, alloc: Global, berth: &mut B) {
     play_large(page, alloc, berth);
     page.io("put empty", &berth.room_put("empty", b""));
@@ -61,12 +61,12 @@ fn large(alloc: Global) -> Result<Vec<u8>, NoMemory> {
     Ok(vec![in alloc; b'x'; 100_000]?)
 }
 
-// A name of 202 bytes.
+// Returns a name of 202 bytes.
 fn long_name(alloc: Global, number: u32) -> Result<String, NoMemory> {
     Ok(format!(in alloc; "{number}{:x<200}", "")?)
 }
 
-// Nothing is said of what is put as it should.
+// Puts a file, and prints nothing if that succeeds.
 fn put_long<P: Print, B: Berth>(page: &mut Page<'_, P>, alloc: Global, berth: &mut B, number: u32) {
     match long_name(alloc, number) {
         Ok(name) => {

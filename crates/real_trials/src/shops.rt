@@ -1,4 +1,5 @@
-// A shop: what is put there is found, and a job has its words, its environment alone, and no input.
+// A shop: files that were put there are found. A job has its arguments, only its own environment, and no
+// input.
 use crate::lines::{environment, words};
 use crate::page::Page;
 use outside::{JobEnd, Shop};

@@ -8,6 +8,10 @@ use Rattle.build_report.specs.declared.fault.Stage.TheVariants as stage
 use Rattle.outside.specs.Causes.{Counts}
 use Rattle.outside.specs.Lists.{Adds, AddsFront}
 use Rattle.outside.specs.Told.{SinkTold}
+use Rattle.outside_real.specs.Telling.{SinkSeen}
+use Rattle.real_run.proofs.Whole.{has_put}
+use Rattle.real_run.specs.Objects.{sink_told}
+use Rattle.real_run.specs.Whole.{HasPut}
 use Rattle.journal_text.specs.Lines.{text_of}
 use Rattle.recorded_runs.specs.Recorded.{IsJudgedYes, Records, RecordsBy, WherePut, YesIfPut, text_by}
 use Rattle.run_tasks.specs.declared.task.Task.{Task}
@@ -154,3 +158,13 @@ counts_late a b c P Q R first second goes = record {
   rose = λ r. let up : min (b + 1) (2 ^ 64 - 1) ≤ c = second.rose (goes r) in
       let low = first.later in omega (arith, low, up);
 }
+
+-- ---- standard output that tells
+
+-- with no fault it was given the report and the text, unless a call on it failed
+pub whole_records : (end : Option RunFault) (report text : List ℕ) (old new : SinkSeen)
+    → RecordsBy end report text (sink_told old) (sink_told new) → end ≡ None
+    → HasPut (report ++ text) old new
+whole_records None report text old new records none =
+    has_put (report ++ text) old.faults new.faults old.said new.said records
+whole_records (Some f) report text old new records none = absurd (cc)

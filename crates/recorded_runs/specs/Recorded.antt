@@ -13,7 +13,7 @@ use Rattle.outside.specs.Told.{SinkTold}
 use Rattle.outside.specs.declared.answers.Io.TheVariants as io
 use Rattle.run_plan.specs.declared.plan.Plan.{Plan}
 use Rattle.run_tasks.specs.declared.task.Task.{Task}
-use Rattle.worker_run.specs.Ends.{report_by}
+use Rattle.worker_run.specs.Ends.{MayPut, report_by}
 use Rattle.worker_run.specs.Headline.{OnRun}
 use Rattle.worker_run.specs.Seen.{EndedTold}
 
@@ -25,14 +25,15 @@ text_by None journal = []
 text_by (Some t) journal = text_of t.plan journal
 
 -- With no fault the report and the text are put, and a front of the two where the sink failed. Where
--- memory ran out behind the lanes, it was before the report or between the two. With any other
--- fault nothing is put.
+-- memory ran out behind the lanes, it was before the report or between the two. Where lanes halted, the
+-- report is put if that can be done. With any other fault nothing is put.
 abbrev pub RecordsBy : Option RunFault → List ℕ → List ℕ → SinkTold → SinkTold → Type 0
 RecordsBy None report text old new = Gives io.Done (report ++ text) old.contents new.contents
 RecordsBy (Some fault.SinkFailed) report text old new =
     Gives io.Failed (report ++ text) old.contents new.contents
 RecordsBy (Some (fault.NoMemory stage.After)) report text old new =
     (new.contents ≡ old.contents) ⊎ Gives io.Done report old.contents new.contents
+RecordsBy (Some (fault.NoMemory stage.During)) report text old new = MayPut report old new
 RecordsBy (Some f) report text old new = new.contents ≡ old.contents
 
 -- the report, and the text of the journal that is told

@@ -1,4 +1,4 @@
-// The run, and the text of its journal behind the report.
+// The run, and the text of its journal after the report.
 ghost use Rattle.std.specs.Prelude.{◌≡◌, None, Some, map, reverse, string_bytes};
 ghost use Rattle.build_report.specs.Faults.{fault_status};
 ghost use Rattle.exec_journal.specs.Legal.{Legal};
@@ -21,11 +21,11 @@ use std::sync::Wait;
 use std::thread::Threads;
 use worker_run::{Ended, RunFault, Stage, run_build};
 
-/// Does what `run_build` does, and with status 0 or 1 puts the text of the run's journal behind the report: a line for the plan,
-/// and one for each entry.
+/// Does what `run_build` does. With status 0 or 1, also writes the text of the run's journal after the report. The text has a
+/// line for the plan, and one for each entry.
 ///
-/// Lack of memory for the text is the fault `NoMemory(After)`. Then the report may have been put. A sink that fails in the text
-/// is the fault `SinkFailed`. With each of them the run is told as before.
+/// If memory for the text runs out, the fault is `NoMemory(After)`. In that case the report may have been written. If the sink
+/// fails in the text, the fault is `SinkFailed`. With either fault, `task` is present as before.
 pub fn run_recorded<R: Threads + Wait + Sync, F: Floor, O: Sink>(
     rt: &R,
     alloc: Global,
@@ -39,11 +39,11 @@ where
     <F::Berth as Berth>::Feed: Send,
     <F::Berth as Berth>::Tap: Send,
     <F::Berth as Berth>::Child: Send,
-    // All that `run_build` promises, but for what is put.
+    // Everything that `run_build` promises, except about what is written.
     ensures run { RunKeeps (options_of (map string_bytes words.now)) (F.told floor) result }
-    // The report and the text of the journal that is told.
+    // The report and the text of the journal in the result.
     ensures report { Records result (O.told out.old) (O.told out.new) }
-    // Whoever checks that text finds it legal.
+    // A check of that text finds it legal.
     ensures judged { YesIfPut result }
     ensures sink { Counts (O.told out.old).faults (O.told out.new).faults
         (result.fault ≡ Some faults.SinkFailed) }
@@ -61,7 +61,7 @@ where
     }
 }
 
-// The same run, with a fault behind its report.
+// Returns the same run, with a fault after its report.
 fn end_late<F: Floor>(ended: Ended<F>, fault: RunFault) -> Ended<F>
     ensures fault { result.fault ≡ Some fault }
     ensures status { result.status ≡ fault_status fault }
@@ -75,7 +75,7 @@ fn end_late<F: Floor>(ended: Ended<F>, fault: RunFault) -> Ended<F>
     ended
 }
 
-// Puts the text of a journal, which is then judged legal.
+// Writes the text of a journal, which is then judged legal.
 fn put_text<O: Sink>(alloc: Global, plan: &Plan, journal: &Journal, out: &mut O) -> Option<RunFault>
     requires sound { Sound plan.now }
     requires legal { Legal plan.now (reverse journal.now) }

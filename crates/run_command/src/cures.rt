@@ -1,6 +1,6 @@
-// What else to look at where a list, a flag file or a path is at fault. The list is read once more for it, since a fault
-// has the number of its action alone.
-use fault_cures::{AtPath, at_path_line, flag_lines, list_lines, path_lines};
+// Further hints for a fault of a list, a flag file or a path. The list is read once more for them, since a fault has
+// only the number of its action.
+use fault_cures::{AtPath, at_path_line, flag_lines, key_lines, list_lines, path_lines};
 use outside::{Floor, Read};
 use plain_values::{Blob, NoMemory};
 use std::alloc::Global;
@@ -13,11 +13,11 @@ use worker_run::RunFault;
 // The folder of all rooms.
 const ROOMS: &str = ".worker_rooms";
 
-/// The lines, each behind two spaces; none where there is nothing to add.
+/// Returns the hints, each after two spaces. There are none if there is nothing to add.
 ///
 /// # Errors
 ///
-/// `NoMemory` where the list, its values or the lines find no memory.
+/// Returns `NoMemory` if memory runs out.
 pub fn lines<R: Env + Files + AllocGlobal>(
     rt: &R,
     alloc: Global,
@@ -41,7 +41,24 @@ pub fn lines<R: Env + Files + AllocGlobal>(
     Ok(lines)
 }
 
-// The bytes of the list, if it is still there.
+/// Returns the lines about keys that look misspelled, in the actions with these numbers.
+///
+/// # Errors
+///
+/// Returns `NoMemory` if memory runs out.
+pub fn lines_of_keys(
+    alloc: Global,
+    words: &[String],
+    floor: &mut impl Floor,
+    actions: &[u32],
+) -> Result<String, NoMemory> {
+    match list_bytes(alloc, words, floor)? {
+        Some(list) => key_lines(alloc, list.bytes(), actions),
+        None => Ok(String::new(alloc)),
+    }
+}
+
+// Returns the bytes of the list, if it is still there.
 fn list_bytes(
     alloc: Global,
     words: &[String],
@@ -70,7 +87,7 @@ fn list_lines_of(alloc: Global, list: &[u8], fault: &RunFault) -> Result<String,
     }
 }
 
-// Whether something else than a folder stands at a path.
+// Returns true if something other than a folder is at a path.
 fn is_no_folder(rt: &impl Files, path: &str) -> bool {
     match fs::metadata(rt, path) {
         Ok(found) => !found.is_dir(),
@@ -78,7 +95,7 @@ fn is_no_folder(rt: &impl Files, path: &str) -> bool {
     }
 }
 
-// Where a path was looked for, or what stands there.
+// Returns the folder in which a path was looked for, or what is at the path.
 fn folder_line<R: Env + Files + AllocGlobal>(
     rt: &R,
     alloc: Global,

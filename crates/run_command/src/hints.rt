@@ -1,20 +1,44 @@
-// What standard error has behind the line of a fault: lines that begin with two spaces and say what to look at.
+// The hints that follow the line of a fault on standard error. They begin with two spaces.
 use fault_cures::word_lines;
+use list_actions::ListFault;
 use plain_values::NoMemory;
 use std::alloc::Global;
 use std::io;
-use worker_run::RunFault;
+use worker_run::{Lack, RunFault, Stage};
 
-/// What standard error says of a program and its words.
+/// The texts about a program and its words on standard error.
 pub struct Program {
     pub name: &'static str,
-    /// What is asked of its words together.
+    /// The rule for all its words together.
     pub together: &'static str,
-    /// Its options, one a line.
+    /// Its options, one per line.
     pub options: &'static str,
+    /// True if --generate is one of its words.
+    pub generates: bool,
 }
 
-/// What is asked together of the words of a program that runs a list or a generated one.
+/// The reason that a run ended without its whole report.
+#[derive(Drop)]
+pub struct Cause<'a, 'b> {
+    pub fault: &'a RunFault,
+    /// The resource that was lacking, if no lane was started.
+    pub lack: Option<Lack>,
+    /// The last error of the floor.
+    pub last_error: Option<&'b io::Error>,
+}
+
+impl<'a, 'b> Cause<'a, 'b> {
+    /// Returns a cause that consists only of the fault.
+    pub fn of(fault: &'a RunFault) -> Cause<'a, 'b> {
+        Cause {
+            fault,
+            lack: None,
+            last_error: None,
+        }
+    }
+}
+
+/// The rule for all words of a program that runs a list or a generated one.
 pub const TOGETHER: &str =
     "there is one list or one --generate, and every option but --extra_flag stands once at most";
 
@@ -31,28 +55,53 @@ pub const OPTIONS: &str =
   more: docs/GUIDE.md
 ";
 
-/// The lines of a fault of this program with these words, each with its line feed; no line where there is nothing to add.
+/// Returns the lines about a fault of this program with these words, each with its line feed. There are none if there
+/// is nothing to add.
 ///
 /// # Errors
 ///
-/// `NoMemory` where they find no memory.
+/// Returns `NoMemory` if memory runs out.
 pub fn lines(
     alloc: Global,
     program: &Program,
     words: &[String],
-    fault: &RunFault,
-    last_error: Option<&io::Error>,
+    cause: &Cause<'_, '_>,
 ) -> Result<String, NoMemory> {
-    match (fault, last_error) {
+    match (cause.fault, cause.last_error) {
         (RunFault::Words, _) => {
-            let mut lines = word_lines(alloc, words, program.together)?;
+            let mut lines = match words.iter().find(|word| word.starts_with("--generate=")) {
+                Some(word) if !program.generates => {
+                    format!(in alloc; "  this word isn't accepted: {:?}\n", word.as_str())?
+                }
+                _ => word_lines(alloc, words, program.together)?,
+            };
             let name = program.name;
             lines.push_str(format!(in alloc; "  usage: {name} [OPTION].. LIST\n")?.as_str())?;
             lines.push_str(program.options)?;
             Ok(lines)
         }
+        // The cures report what the action lacks, since they name the requirement.
+        (RunFault::List(ListFault::NoStrategy { .. }), _) => Ok(String::new(alloc)),
         (RunFault::List(fault), _) => Ok(format!(in alloc; "  {fault}\n")?),
         (RunFault::FloorFailed { .. }, Some(error)) => Ok(format!(in alloc; "  {error}\n")?),
+        (RunFault::NoMemory(stage), _) => stage_line(alloc, *stage, cause.lack),
         _ => Ok(String::new(alloc)),
     }
+}
+
+// Returns the line that tells how far a run came that lacked memory or threads.
+fn stage_line(alloc: Global, stage: Stage, lack: Option<Lack>) -> Result<String, NoMemory> {
+    let line = match (stage, lack) {
+        (Stage::Before, Some(Lack::Threads { wanted, started })) => {
+            return Ok(format!(in alloc;
+                "  the system started {started} of {wanted} threads, so nothing was begun: look at ulimit -u and pids.max\n"
+            )?);
+        }
+        (Stage::Before, _) => "  nothing was begun\n",
+        (Stage::During, _) => {
+            "  memory ran out during the run: outputs of actions that are ok in the report are in place, the others are open\n"
+        }
+        (Stage::After, _) => "  the outputs are in place, and only the report is missing\n",
+    };
+    Ok(String::from_str(alloc, line)?)
 }

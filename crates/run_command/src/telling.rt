@@ -1,5 +1,10 @@
-// The words of a command, and what standard error has of its run. All of it is printed as far as there is memory for it.
-use crate::hints::Program;
+// The words of a command, and its run's output on standard error. All of it is printed if memory suffices.
+ghost use Rattle.std.specs.Prelude.{◌≡◌, ◌⊎◌, IfSome};
+ghost use Rattle.std.specs.Process.{exit_status};
+ghost use Rattle.build_report.specs.Faults.{fault_status};
+ghost use Rattle.run_plan.specs.Sound.{Sound};
+
+use crate::hints::{Cause, Program};
 use crate::reasons::Left;
 use crate::{cures, hints, reasons};
 use bare_calls::LockFile;
@@ -14,14 +19,14 @@ use std::sync::Wait;
 use std::thread::Threads;
 use worker_run::{Ended, RunFault, Stage, fault_line};
 
-// The program that the line of a fault names.
+// The program's name in the line of a fault.
 const NAMED: &str = "worker_tool";
 
-/// The words behind the program's name.
+/// Returns the words after the program's name.
 ///
 /// # Errors
 ///
-/// `OutOfMemory` where there is no memory for them, and else where one of them isn't text.
+/// Returns `OutOfMemory` if memory runs out, and another error if a word isn't UTF-8.
 pub fn words(rt: &(impl Env + AllocGlobal), alloc: Global) -> io::Result<Vec<String>> {
     let mut words = Vec::new(alloc);
     for word in env::args(rt)?.skip(1) {
@@ -30,13 +35,11 @@ pub fn words(rt: &(impl Env + AllocGlobal), alloc: Global) -> io::Result<Vec<Str
     Ok(words)
 }
 
-/// Tells that the words weren't read: there was no memory for them, or they aren't text, and then they are wrong words.
-pub fn end_unread(
-    rt: &impl Eprint,
-    alloc: Global,
-    program: &Program,
-    error: &io::Error,
-) -> ExitCode {
+/// Reports that the words weren't read, and returns the exit code. Either memory ran out, or a word isn't UTF-8 and so
+/// the words aren't accepted.
+pub fn end_unread(rt: &impl Eprint, alloc: Global, program: &Program, error: &io::Error) -> ExitCode
+    ensures { (exit_status result ≡ 2) ⊎ (exit_status result ≡ 3) }
+{
     let fault = match error.kind() {
         ErrorKind::OutOfMemory => RunFault::NoMemory(Stage::Before),
         _ => RunFault::Words,
@@ -44,35 +47,35 @@ pub fn end_unread(
     end(rt, alloc, program, &fault)
 }
 
-/// Tells the fault of a run that was not begun, and ends with its status.
-pub fn end(rt: &impl Eprint, alloc: Global, program: &Program, fault: &RunFault) -> ExitCode {
-    tell(rt, alloc, program, &[], fault, None);
+/// Reports the fault of a run that was not begun, and returns its status.
+pub fn end(rt: &impl Eprint, alloc: Global, program: &Program, fault: &RunFault) -> ExitCode
+    ensures { exit_status result ≡ fault_status fault.now }
+{
+    tell(rt, alloc, program, &[], &Cause::of(fault));
     ExitCode::from(fault.status())
 }
 
-/// Prints the fault's line, in this program's name, and what to look at.
+/// Prints the fault's line, in this program's name, and the hints.
 pub fn tell(
     rt: &impl Eprint,
     alloc: Global,
     program: &Program,
     words: &[String],
-    fault: &RunFault,
-    last_error: Option<&io::Error>,
+    cause: &Cause<'_, '_>,
 ) {
-    if let Ok(line) = fault_line(alloc, fault) {
+    if let Ok(line) = fault_line(alloc, cause.fault) {
         let line = line.as_str();
         let _ = rt.eprint(program.name);
         let _ = rt.eprint(line.strip_prefix(NAMED).unwrap_or(line));
         let _ = rt.eprint("\n");
     }
-    if let Ok(lines) = hints::lines(alloc, program, words, fault, last_error) {
+    if let Ok(lines) = hints::lines(alloc, program, words, cause) {
         let _ = rt.eprint(lines.as_str());
     }
 }
 
-/// Prints what a run with real objects came to beside its report, and gives its exit status: the
-/// fault with its cures, or why branches came to nothing. The words are those that worker_tool has
-/// too.
+/// Prints the outcome of a run with real objects, apart from its report, and returns the exit status. It prints the
+/// fault with its cures, or why branches were dropped or spoiled. The words are only those that worker_tool has too.
 pub fn tell_ended<R>(
     rt: &R,
     alloc: Global,
@@ -83,31 +86,46 @@ pub fn tell_ended<R>(
 where
     R: Files<File: LockFile> + Processes<Started = SystemProcess>,
     R: AllocGlobal + Env + Eprint + Threads + Wait + Clone + Drop,
+    requires { IfSome ended.task (λ t. Sound t.plan) }
+    ensures { exit_status result ≡ ended.status }
 {
     let Ended {
         status,
         fault,
+        lack,
         task,
         mut floor,
         laid,
     } = ended;
     if let Some(fault) = &fault {
-        tell(rt, alloc, program, words, fault, floor.last_error());
+        let cause = Cause {
+            fault,
+            lack,
+            last_error: floor.last_error(),
+        };
+        tell(rt, alloc, program, words, &cause);
         tell_cures(rt, alloc, words, &mut floor, fault);
     } else if let Some(task) = &task {
         let left = Left {
             plan: &task.plan,
-            entries: laid.journal.entries(),
+            actions: task.work.actions.as_slice(),
+            journal: &laid.journal,
             berths: &laid.berths,
             lines: &laid.lines,
             places: &laid.places,
         };
         tell_reasons(rt, alloc, status, &left);
+        if status != 0
+            && let Ok(actions) = reasons::unsuccessful(alloc, &task.plan, &laid.journal)
+            && let Ok(lines) = cures::lines_of_keys(alloc, words, &mut floor, actions.as_slice())
+        {
+            let _ = rt.eprint(lines.as_str());
+        }
     }
     ExitCode::from(status)
 }
 
-// Prints what else to look at: which action is meant, and what of it.
+// Prints further hints: the action that is meant, and the part of it.
 fn tell_cures(
     rt: &(impl Eprint + Env + Files + AllocGlobal),
     alloc: Global,
@@ -120,8 +138,10 @@ fn tell_cures(
     }
 }
 
-// Prints why branches came to nothing, if some action has no success.
-fn tell_reasons<R>(rt: &impl Eprint, alloc: Global, status: u8, left: &Left<'_, R>) {
+// Prints why branches were dropped or spoiled, if some action has no success.
+fn tell_reasons<R>(rt: &impl Eprint, alloc: Global, status: u8, left: &Left<'_, R>)
+    requires { Sound left.now.plan.now }
+{
     if status != 0
         && let Ok(lines) = reasons::lines(alloc, left)
     {

@@ -3,8 +3,8 @@
 #![tactic(auto)]
 
 use outside_real::{RealFloor, RealSink, open_standard, tell_about};
+use real_shared::run_told_shared;
 use run_command::{Program, end_unread, tell_ended, words};
-use shared_runs::run_shared;
 use shared_tasks::other_words;
 use std::process::ExitCode;
 
@@ -30,6 +30,7 @@ const PROGRAM: Program = Program {
     name: "shared_tool",
     together: "there is one list and one --max_workers=N, and every option but --extra_flag stands once",
     options: OPTIONS,
+    generates: false,
 };
 
 fn main(rt: HostRuntime) -> ExitCode {
@@ -44,7 +45,7 @@ fn main(rt: HostRuntime) -> ExitCode {
     };
     let floor = RealFloor::new(rt, alloc);
     let mut out = RealSink::new(rt);
-    let ended = run_shared(&rt, alloc, &words, floor, &mut out);
+    let ended = run_told_shared(&rt, alloc, &words, floor, &mut out);
     let others = other_words(alloc, &words).unwrap_or(Vec::new(alloc));
     tell_ended(&rt, alloc, &PROGRAM, &others, ended)
 }

@@ -3,8 +3,9 @@
 #![tactic(auto)]
 
 use outside_real::{RealFloor, RealSink, open_standard, tell_about};
+use real_spawn::run_told_strategies;
 use run_command::{Program, end_unread, tell_ended, words};
-use spawn_runs::{Strategic, run_strategies};
+use spawn_runs::Strategic;
 use spawn_tasks::other_words;
 use std::alloc::Global;
 use std::io::Eprint;
@@ -35,8 +36,9 @@ const OPTIONS: &str = "  LIST                              the path of the actio
 
 const PROGRAM: Program = Program {
     name: "spawn_tool",
-    together: "there is one list, every option but --strategy and --extra_flag stands once at most, and each mnemonic has one --strategy",
+    together: "there is one list, every option but --strategy and --extra_flag stands once at most, each mnemonic has one --strategy, and --remote and --sandboxed are 16 together at most",
     options: OPTIONS,
+    generates: false,
 };
 
 fn main(rt: HostRuntime) -> ExitCode {
@@ -55,7 +57,7 @@ fn main(rt: HostRuntime) -> ExitCode {
         ended,
         refused,
         pacer: _,
-    } = run_strategies(&rt, alloc, &words, floor, ClockPacer::new(&rt), &mut out);
+    } = run_told_strategies(&rt, alloc, &words, floor, ClockPacer::new(&rt), &mut out);
     if let Some(action) = refused {
         tell_refused(&rt, alloc, action);
     }
@@ -63,7 +65,7 @@ fn main(rt: HostRuntime) -> ExitCode {
     tell_ended(&rt, alloc, &PROGRAM, &others, ended)
 }
 
-// Tells that no strategy supports this action, and what may be done.
+// Reports that no strategy supports this action, and what can be done about it.
 fn tell_refused(rt: &impl Eprint, alloc: Global, action: u32) {
     if let Ok(line) = format!(in alloc; "spawn_tool: no strategy for action {action}\n") {
         let _ = rt.eprint(line.as_str());

@@ -3,6 +3,7 @@ pub mod Histories
 pub mod Keeping
 pub mod Made
 pub mod Numbered
+pub mod Putting
 pub mod Reading
 pub mod Said
 mod Unsaid

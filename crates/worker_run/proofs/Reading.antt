@@ -186,7 +186,8 @@ module _ {X : Type 0} (course : List FloorRead → Result X RunFault → Type 0)
   fault_told (fault.FloorFailed at) h = refl
 
   pub fault_puts : (f : RunFault) (sink : SinkTold) → Led f → Puts (Some f) [] sink sink
-  fault_puts (fault.NoMemory when) sink h = refl
+  fault_puts (fault.NoMemory when) sink h =
+      subst (λ (s : Stage). Puts (Some (fault.NoMemory s)) [] sink sink) (sym h) refl
   fault_puts fault.SinkFailed sink h = absurd (silent h.0 h.3)
   fault_puts fault.Words sink h = refl
   fault_puts (fault.List x) sink h = refl

@@ -1,5 +1,5 @@
 -- How a run ends: what led to it, its fault, its report and its status.
-use Rattle.std.specs.Prelude.{◌≡◌, ℕ, List, [], Bool, true, false, Option, Some, None, Result, Ok, Err, IfSome, reverse}
+use Rattle.std.specs.Prelude.{◌≡◌, ℕ, List, [], Bool, true, false, Option, Some, None, Result, Ok, Err, IfSome, reverse, ◌⊎◌}
 use Rattle.build_report.specs.Faults.{fault_status}
 use Rattle.build_report.specs.Report.{report_of, status_of}
 use Rattle.build_report.specs.declared.fault.RunFault.{RunFault}
@@ -7,6 +7,7 @@ use Rattle.build_report.specs.declared.fault.RunFault.TheVariants as fault
 use Rattle.build_report.specs.declared.fault.Stage.{Stage}
 use Rattle.build_report.specs.declared.fault.Stage.TheVariants as stage
 use Rattle.exec_journal.specs.Entry.{Entry}
+use Rattle.outside.specs.Causes.{Rose}
 use Rattle.outside.specs.Lists.{Gives}
 use Rattle.outside.specs.Told.{FloorTold, SinkTold}
 use Rattle.outside.specs.declared.answers.Io.TheVariants as io
@@ -124,11 +125,18 @@ abbrev pub report_by : Option Task → List Entry → List ℕ
 report_by None journal = []
 report_by (Some t) journal = report_of t.plan (reverse journal) t.short
 
--- These bytes are put whole with no fault, and a front of them where the sink failed; with any
--- other fault nothing is put.
+-- These bytes are put if that can be done: whole, or a front of them where the sink failed, or none where memory ran out.
+abbrev pub MayPut : List ℕ → SinkTold → SinkTold → Type 0
+MayPut report old new = Gives io.Done report old.contents new.contents
+    ⊎ ((Gives io.Failed report old.contents new.contents × Rose old.faults new.faults)
+    ⊎ (new.contents ≡ old.contents))
+
+-- These bytes are put whole with no fault, and a front of them where the sink failed. Where lanes halted, they are put if that
+-- can be done. With any other fault nothing is put.
 abbrev pub Puts : Option RunFault → List ℕ → SinkTold → SinkTold → Type 0
 Puts None report old new = Gives io.Done report old.contents new.contents
 Puts (Some fault.SinkFailed) report old new = Gives io.Failed report old.contents new.contents
+Puts (Some (fault.NoMemory stage.During)) report old new = MayPut report old new
 Puts (Some f) report old new = new.contents ≡ old.contents
 
 abbrev pub Reports : EndedTold → SinkTold → SinkTold → Type 0

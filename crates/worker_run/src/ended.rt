@@ -1,4 +1,4 @@
-// What a run leaves.
+// The result of a run.
 ghost use Rattle.std.specs.Prelude.{◌≡◌, Some, None, IfSome};
 ghost use Rattle.build_report.specs.Faults.{fault_status};
 ghost use Rattle.run_plan.specs.Sound.{Sound};
@@ -8,20 +8,21 @@ ghost use Rattle.worker_run.specs.Seen.{ended_told, nothing_left};
 use crate::running::Ran;
 use build_report::{RunFault, status};
 use exec_journal::Journal;
+use lane_crew::Lack;
 use lane_runs::LaidOut;
 use outside::{Berth, Floor};
 use run_tasks::Task;
 use std::alloc::Global;
 use std::marker::Model;
 
-/// A line, with what it had where it was started.
+/// A line, with its feed, tap and child if it was started.
 pub type EndedLine<F> = lane_runs::EndedLine<
     <<F as Floor>::Berth as Berth>::Feed,
     <<F as Floor>::Berth as Berth>::Tap,
     <<F as Floor>::Berth as Berth>::Child,
 >;
 
-/// The feed and the child of a line that was started, and not reported.
+/// The feed and the child of a line that was started but not reported.
 pub type UnsaidLine<F> = lane_runs::EndedFeed<
     <<F as Floor>::Berth as Berth>::Feed,
     <<F as Floor>::Berth as Berth>::Child,
@@ -34,17 +35,21 @@ pub type Halves<F> = lane_runs::Halves<
     <<F as Floor>::Berth as Berth>::Child,
 >;
 
-/// All that a run leaves.
+/// The result of a run, with everything that the run leaves.
 #[derive(Drop)]
 pub struct Ended<F: Floor> {
-    /// The exit status: 0 where all actions succeeded, 1 where some didn't, and else by the fault.
+    /// The exit status. Without a fault it is 0 if every action succeeded, and 1 if any did not.
+    /// With a fault it is the fault's status.
     pub status: u8,
     pub fault: Option<RunFault>,
-    /// What was run. `None` where no lane was started: then the lists are empty, but for the berths and
-    /// the places that were made before memory ran out.
+    /// The resource that was lacking, if no lane was started. The contract does not cover it.
+    pub lack: Option<Lack>,
+    /// The task that was run, or `None` if no lane was started. In that case all lists are empty,
+    /// except for the berths and the places that were made before memory ran out.
     pub task: Option<Task>,
     pub floor: F,
-    /// The journal, the berths, the lines and the places, and whether a lane has halted.
+    /// The journal and, by number, the berths, the lines and the places. It also records if a lane
+    /// has halted.
     pub laid: LaidOut<F::Berth, F::Place>,
 }
 
@@ -59,7 +64,7 @@ impl<F: Floor> Model for Ended<F> {
 }
 
 impl<F: Floor> Ended<F> {
-    /// A run that this fault ended before its lanes were started.
+    /// Returns the result of a run that this fault ended before its lanes were started.
     pub fn with_no_lane(alloc: Global, floor: F, fault: RunFault) -> Ended<F>
         ensures { result ≡ ended_told (fault_status fault) (Some fault) (F.told floor) None
             nothing_left }
@@ -67,7 +72,7 @@ impl<F: Floor> Ended<F> {
         Ended::of(Ran::with_nothing(alloc, floor, None), None, Some(fault))
     }
 
-    /// What is left of a run of lanes, as one that ends with this fault.
+    /// Returns the result of a run of this task that left `ran` and ends with this fault.
     pub fn of(ran: Ran<F>, task: Option<Task>, fault: Option<RunFault>) -> Ended<F>
         requires { IfSome task (λ t. Sound t.plan) }
         ensures { result ≡ ended_told (status_by fault task ran.left.journal) fault ran.floor
@@ -75,12 +80,14 @@ impl<F: Floor> Ended<F> {
     {
         let Ran {
             fault: _,
+            lack,
             floor,
             laid,
         } = ran;
         Ended {
             status: status_of(&fault, &task, &laid.journal),
             fault,
+            lack,
             task,
             floor,
             laid,
@@ -88,7 +95,7 @@ impl<F: Floor> Ended<F> {
     }
 }
 
-// The exit status of a run of this task, by its journal, that ends so.
+// Returns the exit status of a run with this fault, task and journal.
 fn status_of(fault: &Option<RunFault>, task: &Option<Task>, journal: &Journal) -> u8
     requires { IfSome task.now (λ t. Sound t.plan) }
     ensures { result ≡ status_by fault.now task.now journal.now }

@@ -8,7 +8,7 @@ ghost use Rattle.run_plan.specs.Limits.{most_actions, most_berths};
 use outside::Floor;
 use std::alloc::Global;
 
-/// What the lanes of a plan work with.
+/// The places and the berths with which the lanes of a plan work.
 #[derive(Drop)]
 pub struct NewObjects<F: Floor> {
     pub places: Vec<F::Place>,
@@ -16,7 +16,7 @@ pub struct NewObjects<F: Floor> {
 }
 
 impl<F: Floor> NewObjects<F> {
-    /// Whether so many berths and places are there.
+    /// Returns true if there are `berths` berths and `actions` places.
     pub fn has_all(&self, berths: usize, actions: usize) -> bool
         ensures { result ≡ true → (length self.now.berths.items ≡ berths)
             × (length self.now.places.items ≡ actions) }
@@ -25,8 +25,8 @@ impl<F: Floor> NewObjects<F> {
     }
 }
 
-/// Makes so many places and berths, each in the order of their numbers, and the places first; or of
-/// either as many as there is memory for.
+/// Makes `actions` places and then `berths` berths, both in the order of their numbers. If memory
+/// runs out, fewer are made.
 pub fn make_objects<F: Floor>(
     alloc: Global,
     floor: &mut F,
@@ -50,7 +50,7 @@ pub fn make_objects<F: Floor>(
     NewObjects { places, berths }
 }
 
-// Makes places for the first so many actions, in order; or as many as there is memory for.
+// Makes places for the first `count` actions, in order. If memory runs out, fewer are made.
 #[tactic(auto, using(crate::proofs::Numbered::no_places, crate::proofs::Numbered::one_more_place))]
 fn make_places<F: Floor>(alloc: Global, floor: &mut F, count: usize) -> Vec<F::Place>
     requires { count ≤ most_actions }
@@ -72,7 +72,7 @@ fn make_places<F: Floor>(alloc: Global, floor: &mut F, count: usize) -> Vec<F::P
     places
 }
 
-// Makes the first so many berths, in order; or as many as there is memory for.
+// Makes the first `count` berths, in order. If memory runs out, fewer are made.
 #[tactic(auto, using(crate::proofs::Numbered::no_berths, crate::proofs::Numbered::one_more_berth))]
 fn make_berths<F: Floor>(alloc: Global, floor: &mut F, count: usize) -> Vec<F::Berth>
     requires { count ≤ most_berths }

@@ -1,4 +1,4 @@
-// The top call.
+// The top calls.
 ghost use Rattle.std.specs.Prelude.{◌≡◌, ℕ, [], Some, None, length, map, string_bytes};
 ghost use Rattle.build_report.specs.Report.{report_of};
 ghost use Rattle.outside.specs.Causes.{Counts};
@@ -29,16 +29,17 @@ use std::sync::Wait;
 use std::thread::Threads;
 use tick_lane::{EagerPacer, Pacer};
 
-/// Runs the actions of the list that the words name, on this floor, and puts the report.
+/// Runs the actions of the list that the arguments name, on this floor, and writes the report.
 ///
-/// The words are those after the program's name. The order of work: the words; the list, which is
-/// read from the floor or generated; the tools and then the inputs of each action, each path read
-/// once; the flag files; the places and the berths; the two lanes of each berth, each on a thread
-/// of its own; the report, in one put. An earlier step's fault goes before a later one's.
+/// `words` are the arguments after the program's name. The steps come in this order: the arguments,
+/// the list, the source files, the flag files, the places and the berths, the lanes, the report.
+/// The list is read from the floor or generated. For each action the tools are read before the
+/// inputs, and each path is read once. Each berth has two lanes, each on its own thread. The report
+/// is written in one put. An earlier step's fault takes precedence over a later one's.
 ///
-/// Where a run is told (`task` is there), all that is left is what one history says, and that is
-/// the journal. Where memory ran out before the lanes, new berths and places are left, as many as
-/// were made. Contents are meant where the objects tell them, and counts always.
+/// If `task` is present, everything that is left agrees with one history, which is the journal. If
+/// memory ran out before the lanes were started, all berths and places that were made are left, new.
+/// The contract covers contents if the objects record them, and counts always.
 pub fn run_build<R: Threads + Wait + Sync, F: Floor, O: Sink>(
     rt: &R,
     alloc: Global,
@@ -52,7 +53,7 @@ where
     <F::Berth as Berth>::Feed: Send,
     <F::Berth as Berth>::Tap: Send,
     <F::Berth as Berth>::Child: Send,
-    // All that one history says, and how the run ended: a field for each.
+    // Everything that one history records, and how the run ended, with a field for each.
     ensures run { RunKeeps (options_of (map string_bytes words.now)) (F.told floor) result }
     ensures report { Reports result (O.told out.old) (O.told out.new) }
     ensures sink { Counts (O.told out.old).faults (O.told out.new).faults
@@ -61,8 +62,8 @@ where
     run_build_watched(rt, alloc, words, floor, out, Notes::nowhere())
 }
 
-/// Does what `run_build` does, by the same contract, and notes meanwhile how far the run is. No
-/// clause speaks of what is noted.
+/// Does what `run_build` does, by the same contract, and also records the run's progress. The
+/// contract does not cover what is recorded in `notes`.
 pub fn run_build_watched<R: Threads + Wait + Sync, F: Floor, O: Sink>(
     rt: &R,
     alloc: Global,
@@ -96,8 +97,8 @@ where
     }
 }
 
-/// Runs the lanes of a task by a core that has answered no call yet, and puts the report: what
-/// `run_build` does once a list was read, by whichever core.
+/// Runs the lanes of a task with a core that has answered no call yet, and writes the report. This
+/// is what `run_build` does after it has read a list, but with any core.
 pub fn run_and_report<C: Rules, R: Threads + Wait + Sync, F: Floor, O: Sink>(
     rt: &R,
     alloc: Global,
@@ -116,12 +117,12 @@ where
     requires core { C.stands core [] }
     requires sound { Sound task.plan }
     requires fits { FitsTerms (C.terms (C.plan core)) task }
-    // By each discipline that the core goes by, all that is said of a run but what was read.
+    // For each discipline that the core follows: all promises of a run, except those about reading.
     ensures run { (q : Task → Discipline) (lanes : Task → ℕ)
         → GoesBy (C.legal (C.plan core)) (C.rule (C.plan core)) (C.terms (C.plan core)) task
         (q task) (lanes task) → TaskKeeps (λ t. head_of (q t) (lanes t)) (F.told floor) result }
     ensures ended { IsEndOf task result.fault result.task }
-    // The floor is read no more.
+    // Nothing more is read from the floor.
     ensures log { result.floor.log ≡ (F.told floor).log }
     ensures report { Reports result (O.told out.old) (O.told out.new) }
     ensures sink { Counts (O.told out.old).faults (O.told out.new).faults
@@ -132,12 +133,12 @@ where
     ended
 }
 
-/// Does what `run_and_report` does, with a lane that makes Ticks beside the others where there is a
-/// pacer. It is the proxy lane of the berth behind those that have speeches.
+/// Does what `run_and_report` does. If there is a pacer, also runs a lane that makes Ticks. It is
+/// the proxy lane of the berth after those that have speeches.
 ///
-/// It gives back the pacer too. Where a run is told, that lane has made Ticks and nothing else,
-/// until it was told to stop or has halted; as many were noted as the pacer has counted ticks,
-/// unless its count stands at its last value.
+/// Also returns the pacer. If `task` is present, that lane has made only Ticks, until it received
+/// Stop or halted. The journal contains as many of its Ticks as the pacer has counted, unless the
+/// pacer's count has reached its last value.
 pub fn run_paced<C: Rules, W: Pacer, R: Threads + Wait + Sync, F: Floor, O: Sink>(
     rt: &R,
     alloc: Global,
@@ -159,14 +160,14 @@ where
     requires fits { FitsTerms (C.terms (C.plan core)) task }
     requires paced { MayPace (C.terms (C.plan core)) (C.ticks (C.plan core))
         (length task.speeches.items) around.pacer }
-    // By each discipline that the core goes by, all that is said of a run but what was read.
+    // For each discipline that the core follows: all promises of a run, except those about reading.
     ensures run { (q : Task → Discipline) (lanes : Task → ℕ)
         → GoesBy (C.legal (C.plan core)) (C.rule (C.plan core)) (C.terms (C.plan core)) task
         (q task) (lanes task)
         → TaskKeeps (λ t. head_of (q t) (lanes t)) (F.told around.floor) result.0 }
     ensures ticks { PacesRun W.told around.pacer result.1 result.0 }
     ensures ended { IsEndOf task result.0.fault result.0.task }
-    // The floor is read no more.
+    // Nothing more is read from the floor.
     ensures log { result.0.floor.log ≡ (F.told around.floor).log }
     ensures report { Reports result.0 (O.told out.old) (O.told out.new) }
     ensures sink { Counts (O.told out.old).faults (O.told out.new).faults
@@ -186,7 +187,8 @@ where
     (conclude(alloc, task, ran, out), pacer)
 }
 
-// Ends the run: with the report where memory was never wanted.
+// Ends the run. If any lane was started, writes the report of what was settled. If a lane halted,
+// the run ends with the fault `NoMemory(During)`.
 fn conclude<F: Floor, O: Sink>(alloc: Global, task: Task, ran: Ran<F>, out: &mut O) -> Ended<F>
     requires sound { Sound task.plan }
     requires in_time { WhereWhole ran.fault (Unit {0}) }
@@ -204,6 +206,7 @@ fn conclude<F: Floor, O: Sink>(alloc: Global, task: Task, ran: Ran<F>, out: &mut
             Ended::of(ran, Some(task), fault)
         }
         Some(Stage::During) => {
+            let _ = put_report(alloc, &task, &ran.laid.journal, out);
             let fault = RunFault::NoMemory(Stage::During);
             Ended::of(ran, Some(task), Some(fault))
         }

@@ -17,7 +17,8 @@ use crate::objects::{NewObjects, make_objects};
 use build_report::Stage;
 use core_contract::Rules;
 use exec_journal::Journal;
-use lane_runs::{AllMeans, Laid, LaidOut, Run, Unrun, run_lanes};
+use lane_crew::Lack;
+use lane_runs::{AllMeans, Laid, LaidOut, NotStarted, Run, Unrun, run_lanes};
 use outside::{Berth, Floor};
 use std::alloc::Global;
 use std::marker::Model;
@@ -25,20 +26,22 @@ use std::sync::Wait;
 use std::thread::Threads;
 use tick_lane::Pacer;
 
-/// What a run is given of the outside beside its sink.
+/// The outside objects that a run receives in addition to its sink.
 #[derive(Drop)]
 pub struct Surroundings<F, W> {
-    /// Where files are read, and berths and places are made.
+    /// The floor, from which files are read, and which makes berths and places.
     pub floor: F,
-    /// What paces the lane that makes Ticks, where the core has one.
+    /// The pacer of the lane that makes Ticks, if the core has such a lane.
     pub pacer: Option<W>,
 }
 
-/// What a run of lanes leaves.
+/// The result of running a plan's lanes.
 #[derive(Drop)]
 pub struct Ran<F: Floor> {
-    /// When memory ran out, if it was: `Before` the lanes, or `During` their work.
+    /// The stage at which memory ran out, if it did: `Before` the lanes, or `During` their work.
     pub fault: Option<Stage>,
+    /// The resource that was lacking, if no lane was started. The contract does not cover it.
+    pub lack: Option<Lack>,
     pub floor: F,
     /// The journal, the berths, the lines and the places.
     pub laid: LaidOut<F::Berth, F::Place>,
@@ -55,18 +58,19 @@ impl<F: Floor> Model for Ran<F> {
 }
 
 impl<F: Floor> Ran<F> {
-    /// Nothing is left but the floor.
+    /// Returns the result of a run that leaves only the floor.
     pub fn with_nothing(alloc: Global, floor: F, fault: Option<Stage>) -> Ran<F>
         ensures { result ≡ ran_told fault (F.told floor) nothing_left }
     {
-        Ran::unused(alloc, floor, fault, Vec::new(alloc), Vec::new(alloc))
+        Ran::unused(alloc, floor, fault, None, Vec::new(alloc), Vec::new(alloc))
     }
 
-    // The floor is left, and berths and places with which no lane has worked.
+    // Returns the result of a run that leaves the floor, and berths and places that no lane has used.
     fn unused(
         alloc: Global,
         floor: F,
         fault: Option<Stage>,
+        lack: Option<Lack>,
         berths: Vec<F::Berth>,
         places: Vec<F::Place>,
     ) -> Ran<F>
@@ -81,10 +85,15 @@ impl<F: Floor> Ran<F> {
             places,
             halted: false,
         };
-        Ran { fault, floor, laid }
+        Ran {
+            fault,
+            lack,
+            floor,
+            laid,
+        }
     }
 
-    // What the lanes left, with the floor.
+    // Returns the result of a run whose lanes left `laid`, with the floor.
     fn of(floor: F, laid: LaidOut<F::Berth, F::Place>) -> Ran<F>
         ensures { result ≡ ran_by (F.told floor) (laid_told F.Berth.told F.Berth.Feed.told
             F.Berth.Tap.told F.Berth.Child.told F.Place.told laid) }
@@ -94,17 +103,24 @@ impl<F: Floor> Ran<F> {
         } else {
             None
         };
-        Ran { fault, floor, laid }
+        let lack = None;
+        Ran {
+            fault,
+            lack,
+            floor,
+            laid,
+        }
     }
 }
 
-/// Runs the actions of a plan by this core: makes a place for each action and a berth for each
-/// speech, both in order and the places first, and runs the two lanes of each berth on threads. Where
-/// there is a pacer, the lane that makes Ticks runs beside them.
+/// Runs the actions of a plan with this core. First makes a place for each action and then a berth
+/// for each speech, both in order. Then runs the two lanes of each berth on threads. If there is a
+/// pacer, the lane that makes Ticks runs at the same time.
 ///
-/// The fault says when memory ran out. With `During` some lane has halted. With `Before` no lane
-/// was started, and what was made is left, new. What lanes left is laid out without memory. The pacer
-/// is given back, with the ticks that it has counted.
+/// The fault records when memory ran out. If it is `During`, some lane has halted. If it is `Before`,
+/// no lane was started, because memory or threads were lacking. In that case all objects that were
+/// made are left, new. Arranging what the lanes left takes no memory. Also returns the pacer, with
+/// the ticks that it has counted.
 pub fn run_plan<F: Floor, C: Rules, W: Pacer, R: Threads + Wait + Sync>(
     rt: &R,
     alloc: Global,
@@ -129,7 +145,7 @@ where
     requires speeches { SpeechesFit (C.terms (C.plan core)).remote means.now.speeches.now }
     requires settings { AreOfPlan (C.terms (C.plan core)).plan means.now.settings.now }
     requires work { IsWorkOf (C.terms (C.plan core)) means.now.actions.now }
-    // Where lanes ran, what is left is what their one history says.
+    // If lanes ran, what is left agrees with their one history.
     ensures run { WhereWhole result.0.fault (LanesRan (C.legal (C.plan core))
         (C.rule (C.plan core)) (C.terms (C.plan core)) means.now.speeches.now
         means.now.settings.now means.now.actions.now (count_of around.pacer) result.0.fault
@@ -139,7 +155,7 @@ where
         result.0.left.journal) }
     ensures lost { WhereLost result.0.fault (IsUnused result.0.left) }
     ensures unpaced { WhereLost result.0.fault (result.1 ≡ around.pacer) }
-    // All that the floor has made is left, and it has never made more than a plan may have.
+    // Everything that the floor has made is left, and it never makes more than a plan may have.
     ensures made { HasMade (F.told around.floor) result.0.floor result.0.left }
     ensures few { MakesUpTo most_berths most_actions (F.told around.floor) result.0.floor }
     ensures files { SameFiles (F.told around.floor) result.0.floor }
@@ -152,7 +168,8 @@ where
     let all = objects.has_all(seats, means.actions.len());
     let NewObjects { places, berths } = objects;
     if !all {
-        let ran = Ran::unused(alloc, floor, Some(Stage::Before), berths, places);
+        let (fault, lack) = (Some(Stage::Before), Some(Lack::Memory));
+        let ran = Ran::unused(alloc, floor, fault, lack, berths, places);
         return (ran, pacer);
     }
     let unrun = Unrun {
@@ -165,13 +182,15 @@ where
             let Run { laid, pacer } = run;
             (Ran::of(floor, laid), pacer)
         }
-        Err(unrun) => {
+        Err(left) => {
+            let NotStarted { unrun, lack } = left;
             let Unrun {
                 berths,
                 places,
                 pacer,
             } = unrun;
-            let ran = Ran::unused(alloc, floor, Some(Stage::Before), berths, places);
+            let (fault, lack) = (Some(Stage::Before), Some(lack));
+            let ran = Ran::unused(alloc, floor, fault, lack, berths, places);
             (ran, pacer)
         }
     }

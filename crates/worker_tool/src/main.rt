@@ -1,18 +1,23 @@
 //! Runs the actions of a list through their workers, and prints a line for each.
 //!
-//! A list that is generated is run in memory: its sources are there, and its workers do at once what
-//! they are asked.
+//! A generated list is run in memory: its sources are there, and its workers carry out each request at once.
 #![tactic(auto)]
+
+ghost use Rattle.std.specs.Prelude.{map, string_bytes};
+ghost use Rattle.real_run.specs.Tells.{AllTell};
+ghost use Rattle.tool_words.specs.Options.{options_of};
+ghost use Rattle.worker_run.specs.Headline.{RunKeeps};
 
 mod names;
 mod screen;
 
-use crate::screen::{BehindLine, Screen};
+use crate::screen::Screen;
 use outside::{Berth, Floor, Sink};
 use outside_mem::MemFloor;
 use outside_real::{RealFloor, RealSink, open_standard};
 use plain_values::NoMemory;
-use run_command::{OPTIONS, Program, TOGETHER, end, end_unread, tell, tell_ended, words};
+use real_run::{Telling, run_told, run_told_watched};
+use run_command::{Cause, OPTIONS, Program, TOGETHER, end, end_unread, tell, tell_ended, words};
 use std::alloc::Global;
 use std::env::{self, Env};
 use std::io::{Eprint, IsTerminal, Print};
@@ -27,6 +32,7 @@ const PROGRAM: Program = Program {
     name: "worker_tool",
     together: TOGETHER,
     options: OPTIONS,
+    generates: true,
 };
 
 fn main(rt: HostRuntime) -> ExitCode {
@@ -46,11 +52,15 @@ fn main(rt: HostRuntime) -> ExitCode {
     } else {
         None
     };
-    let ended = run(rt, alloc, &words, floor, screen);
+    let mut out = RealSink::new(rt);
+    let ended = match screen {
+        Some(screen) => run_shown(rt, alloc, &words, floor, out, screen),
+        None => run_told(&rt, alloc, &words, floor, &mut out),
+    };
     tell_ended(&rt, alloc, &PROGRAM, &words, ended)
 }
 
-// Runs a list of so many actions that is generated, in memory.
+// Runs a generated list with this many actions, in memory.
 fn run_generated<R: Threads + Wait + Clock + Print + Eprint + Copy + Drop + Send + Sync + 'static>(
     rt: R,
     alloc: Global,
@@ -66,36 +76,35 @@ fn run_generated<R: Threads + Wait + Clock + Print + Eprint + Copy + Drop + Send
     } else {
         None
     };
-    let Ended { status, fault, .. } = run(rt, alloc, words, floor, screen);
+    let mut out = RealSink::new(rt);
+    let ended = match screen {
+        Some(screen) => {
+            let mut out = screen.before(rt, out);
+            let ended = run_build_watched(&rt, alloc, words, floor, &mut out, screen.notes());
+            drop(out);
+            screen.close(&rt);
+            ended
+        }
+        None => run_build(&rt, alloc, words, floor, &mut out),
+    };
+    let Ended {
+        status,
+        fault,
+        lack,
+        ..
+    } = ended;
     if let Some(fault) = &fault {
-        tell(&rt, alloc, &PROGRAM, words, fault, None);
+        let cause = Cause {
+            fault,
+            lack,
+            last_error: None,
+        };
+        tell(&rt, alloc, &PROGRAM, words, &cause);
     }
     ExitCode::from(status)
 }
 
-// Makes the run, and shows meanwhile how far it is, if standard error is a terminal. The report goes to standard output.
-fn run<R: Threads + Wait + Clock + Print + Eprint + Copy + Drop + Send + Sync + 'static, F: Floor>(
-    rt: R,
-    alloc: Global,
-    words: &[String],
-    floor: F,
-    screen: Option<Screen>,
-) -> Ended<F>
-where
-    F::Berth: Send,
-    F::Place: Send,
-    <F::Berth as Berth>::Feed: Send,
-    <F::Berth as Berth>::Tap: Send,
-    <F::Berth as Berth>::Child: Send,
-{
-    let mut out = RealSink::new(rt);
-    match screen {
-        Some(screen) => run_shown(rt, alloc, words, floor, out, screen),
-        None => run_build(&rt, alloc, words, floor, &mut out),
-    }
-}
-
-// A line in which actions have these names. Without memory or a thread for it none is shown.
+// Returns a line with these names for the actions. No line is shown if there is no memory or no thread for it.
 fn screen_of<R: Threads + Wait + Clock + Eprint + Copy + Drop + Send + 'static>(
     rt: R,
     alloc: Global,
@@ -104,12 +113,13 @@ fn screen_of<R: Threads + Wait + Clock + Eprint + Copy + Drop + Send + 'static>(
     Screen::open(rt, alloc, names.ok()?)
 }
 
-// A terminal that only prints.
+// Returns true if the terminal can only print.
 fn is_dumb(rt: &(impl Env + AllocGlobal)) -> bool {
     matches!(env::var(rt, "TERM"), Ok(kind) if kind.as_str() == "dumb")
 }
 
-fn run_shown<R: Threads + Wait + Eprint + Copy + Drop + Sync, F: Floor, O: Sink>(
+// Makes the run, and meanwhile shows its progress. The report goes to standard output.
+fn run_shown<R: Threads + Wait + Eprint + Copy + Drop + Sync, F: Floor + Telling, O: Sink>(
     rt: R,
     alloc: Global,
     words: &[String],
@@ -123,10 +133,11 @@ where
     <F::Berth as Berth>::Feed: Send,
     <F::Berth as Berth>::Tap: Send,
     <F::Berth as Berth>::Child: Send,
+    ensures run { RunKeeps (options_of (map string_bytes words.now)) (F.told floor) result }
+    ensures told { AllTell result }
 {
-    let line = screen.line();
-    let mut out = BehindLine { rt, line, out };
-    let ended = run_build_watched(&rt, alloc, words, floor, &mut out, screen.notes());
+    let mut out = screen.before(rt, out);
+    let ended = run_told_watched(&rt, alloc, words, floor, &mut out, screen.notes());
     drop(out);
     screen.close(&rt);
     ended

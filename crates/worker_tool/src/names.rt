@@ -1,15 +1,15 @@
-// The names of a list's actions, for which the list is read once more, since looks have numbers.
+// The names of a list's actions. The list is read once more for them, since looks contain only numbers.
 use outside::{Floor, Read};
 use plain_values::NoMemory;
 use serde_json::Value;
 use std::alloc::Global;
 use tool_words::read_words;
 
-/// The names of all actions, in the list's order, as far as the list can be read and they are there.
+/// Returns the names of all actions, in the list's order, as far as the list can be read and gives them.
 ///
 /// # Errors
 ///
-/// `NoMemory` where the list, its values or the names find no memory.
+/// Returns `NoMemory` if memory runs out.
 pub fn all(
     alloc: Global,
     words: &[String],
@@ -31,7 +31,7 @@ pub fn all(
     Ok(names)
 }
 
-// An action without a name has an empty one.
+// Appends the name of each action, or an empty one if it has none.
 fn push_names(alloc: Global, list: &Value, names: &mut Vec<String>) -> Result<(), NoMemory> {
     let Some(actions) = list.get("actions").and_then(|actions| actions.as_array()) else {
         return Ok(());

@@ -1,4 +1,4 @@
-// The line on the terminal that says how far a run is.
+// The line on the terminal that shows a run's progress.
 use outside::{Io, Sink};
 use plain_values::NoMemory;
 use run_progress::{Look, Notes, Oldest, Progress, Watcher};
@@ -9,23 +9,23 @@ use std::thread;
 use std::thread::{JoinHandle, Parker, Threads};
 use std::time::{Clock, Duration};
 
-/// How many milliseconds a line stands before it is written again.
+/// The time, in milliseconds, after which the line is written again.
 const PAUSE: u64 = 200;
 
-/// Erases all from the start of the row on. The cursor stands in an empty row above the line, where a worker's words on the
-/// same terminal go.
+/// Erases everything from the start of the row on. The cursor is in an empty row above the line. A worker's output on
+/// the same terminal goes there.
 const ERASE: &str = "\r\x1b[J";
 
-/// Goes to the row below, from which on nothing is carried over into the next row.
+/// Goes to the row below. From there on nothing is carried over into the next row.
 const BEGIN: &str = "\n\x1b[?7l";
 
 /// Goes back to the start of the row above.
 const END: &str = "\x1b[?7h\x1b[A\r";
 
-/// For how many seconds an action runs before the line says that no answer has come.
+/// The number of seconds after which the line reports that an action has no answer yet.
 const LONG: u64 = 10;
 
-/// A terminal whose last line says how far a run is, with the thread that writes it.
+/// A terminal whose last line shows a run's progress, with the thread that writes the line.
 #[derive(Drop)]
 pub struct Screen {
     line: Arc<Line>,
@@ -36,15 +36,15 @@ pub struct Screen {
 #[derive(Drop)]
 pub struct Line {
     progress: Arc<Progress>,
-    // Whoever has it may write. It says whether anything stands there.
+    // A thread that holds it may write. It is true if the line is shown.
     pen: Mutex<bool>,
-    // Where the watcher rests.
+    // The watcher rests here.
     rest: Parker,
-    // Those of the actions, in the list's order, as far as they could be read.
+    // The actions' names, in the list's order, as far as they could be read.
     names: Vec<String>,
 }
 
-/// A sink before whose bytes the line is erased, since they may go to the same terminal.
+/// A sink that erases the line before it writes, since its bytes may go to the same terminal.
 #[derive(Drop)]
 pub struct BehindLine<'a, R, O> {
     pub rt: R,
@@ -53,7 +53,8 @@ pub struct BehindLine<'a, R, O> {
 }
 
 impl Screen {
-    /// Begins to show a line, in which actions have these names. `None` where there is no memory or no thread for that.
+    /// Begins to show a line, with these names for the actions. Returns `None` if there is no memory or no thread for
+    /// it.
     pub fn open<R: Threads + Wait + Clock + Eprint + Copy + Drop + Send + 'static>(
         rt: R,
         alloc: Global,
@@ -65,14 +66,18 @@ impl Screen {
         Some(Screen { line, watcher })
     }
 
-    /// Where the run is to note how far it is.
+    /// Returns the notes in which the run should record its progress.
     pub fn notes(&self) -> Notes {
         self.line.notes()
     }
 
-    /// The line, for a sink that may write to the same terminal.
-    pub fn line(&self) -> &Line {
-        &self.line
+    /// Returns a sink that erases the line before it writes to `out`, which may be the same terminal.
+    pub fn before<R, O>(&self, rt: R, out: O) -> BehindLine<'_, R, O> {
+        BehindLine {
+            rt,
+            line: &self.line,
+            out,
+        }
     }
 
     /// Erases the line, and ends the thread that writes it.
@@ -100,7 +105,7 @@ impl Line {
         }
     }
 
-    // Writes the line again and again, until it is closed.
+    // Writes the line repeatedly until it is closed.
     fn show<R: Eprint + Clock + Wait>(&self, rt: &R, alloc: Global) {
         let Ok(mut watcher) = Watcher::new(alloc) else {
             return;
@@ -115,7 +120,7 @@ impl Line {
         }
     }
 
-    // Writes the line once, unless it is closed. Without memory or a clock it is left out.
+    // Writes the line once, unless it is closed. If there is no memory or no clock, nothing is written.
     fn write<R: Eprint + Clock + Wait>(&self, rt: &R, alloc: Global, watcher: &mut Watcher) {
         let Ok(now) = rt.monotonic() else {
             return;
@@ -134,7 +139,7 @@ impl Line {
         }
     }
 
-    // All that is written for a look: the rows of what has failed, and the line below them.
+    // Returns the text for a look: the rows of new failures, and the line below them.
     fn text(&self, alloc: Global, look: &Look, failures: &str) -> Result<String, AllocError> {
         let Look {
             all,
@@ -151,7 +156,7 @@ impl Line {
         format!(in alloc; "{ERASE}{failures}{BEGIN}{counts}{oldest}{END}")
     }
 
-    // A row for each action that has failed since the last look. It stays above the line.
+    // Returns a row for each action that has failed since the last look. The rows stay above the line.
     fn failures(&self, alloc: Global, watcher: &mut Watcher) -> Result<String, NoMemory> {
         let mut rows = String::new(alloc);
         for action in watcher.new_failures(alloc, &self.progress)? {
@@ -162,7 +167,7 @@ impl Line {
         Ok(rows)
     }
 
-    // What the action is called, or its place in the list if its name isn't known.
+    // Returns the action's name, or its place in the list if its name isn't known.
     fn name(&self, alloc: Global, action: u32) -> Result<String, AllocError> {
         match self.names.get(action as usize) {
             Some(name) => String::from_str(alloc, name.as_str()),
@@ -181,7 +186,7 @@ impl Line {
         format!(in alloc; ", {seconds} s: {name}{waits}")
     }
 
-    // The run is over, or about to put its report: the line is erased, and none is written any more.
+    // Erases the line, since the run is over or about to write its report. No line is written after that.
     fn close<R: Eprint + Wait>(&self, rt: &R) {
         let mut stands = self.pen.lock(rt);
         self.progress.finish();

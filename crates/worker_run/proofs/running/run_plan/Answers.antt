@@ -60,13 +60,13 @@ returns-in-Err-clause-lost g c =
     let berths = subst (λ (bs : List g.row.F-Berth.Denot). AreNewBerths (length c.make_objects-objects.result.berths.items)
     (map g.F.Berth.Berth.told bs)) (sym c.in-Err.ensures.back.0) c.make_objects-objects.ensures.berths in
     rw (c.unused-ran-in-Err.ensures) (unused g.F.Berth.Berth.told g.F.Place.Place.told _ _
-    c.in-Err.unrun.berths.items c.in-Err.unrun.places.items berths c.in-Err.ensures.back.1)
+    c.in-Err.left.unrun.berths.items c.in-Err.left.unrun.places.items berths c.in-Err.ensures.back.1)
 
 pub returns-in-Err-clause-made : goal.returns-in-Err-clause-made
 returns-in-Err-clause-made g c =
     let all = c.has_all-all.ensures c.if-not-all.false in
     rw (c.unused-ran-in-Err.ensures) (made_unused g.F.Berth.Berth.told g.F.Place.Place.told _ _
-    c.in-Err.unrun.berths.items c.in-Err.unrun.places.items (g.F.Floor.told c.args.around.floor)
+    c.in-Err.left.unrun.berths.items c.in-Err.left.unrun.places.items (g.F.Floor.told c.args.around.floor)
     (g.F.Floor.told c.make_objects-objects.new.floor) c.make_objects-objects.ensures.made
     (ap length c.in-Err.ensures.back.0)
     (c.in-Err.ensures.back.1.as_many ∙ (sym c.requires.work.as_many ∙ sym all.1)))

@@ -1,0 +1,4 @@
+pub mod Each
+mod Told
+mod Serving
+pub mod Whole

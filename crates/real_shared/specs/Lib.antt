@@ -1,0 +1,2 @@
+-- What contracts cite of a run of shared berths over real objects.
+pub mod Shared
