@@ -1,4 +1,4 @@
-// The faults of one action: each key's, in the order in which the keys are looked at.
+// The faults of one action: each key's, in the order in which the keys are checked.
 ghost use Rattle.std.specs.Prelude.{◌≡◌, ◌==◌, ◌&&◌, not, nat_le, map, Some, Err};
 ghost use Rattle.std.specs.List.{list_all};
 ghost use Rattle.list_actions.specs.Answers.{Settles, Refuses, first};

@@ -1,4 +1,4 @@
-// An action as its object gives it, before its faults are looked for.
+// An action as its object gives it, before it is checked for faults.
 ghost use Rattle.std.specs.Prelude.{◌≡◌, IfOk, map};
 ghost use Rattle.serde_json.specs.Find.{as_str, get};
 ghost use Rattle.serde_json.specs.View.{view};
@@ -8,7 +8,7 @@ use plain_values::{Items, NoMemory, Text, Variable};
 use serde_json::{Map, Value};
 use std::alloc::Global;
 
-/// What stands at a key: nothing, a value of another kind, or one of the key's kind.
+/// The value at a key: nothing, a value of another kind, or one of the key's kind.
 #[derive(Drop)]
 pub enum Slot<T> {
     Missing,

@@ -1,4 +1,4 @@
-// Which actions share a worker key, as far as the list says.
+// The worker keys that actions share, as far as the list gives them.
 ghost use Rattle.std.specs.Prelude.{◌≡◌, ◌≤◌, ◌+◌, length, IfOk, OnOk, map};
 ghost use Rattle.list_actions.specs.Answers.{Settles};
 ghost use Rattle.action_list.specs.Checks.{has_local, has_remote};
@@ -13,16 +13,16 @@ use plain_values::{Blob, Items, NoMemory, Text, Variable};
 use std::alloc::Global;
 use worker_key::{Mode, Named, WorkerKey};
 
-/// The keys of the actions with a local branch. Each is seen by the bytes that stand for it alone.
+/// The keys of the actions with a local branch. Each key is known only by the bytes that represent it.
 #[derive(Drop)]
 pub struct Keys {
-    /// Each action's, where it has a local branch.
+    /// The key of each action, if it has a local branch.
     pub held: Items<Option<Blob>>,
-    /// The different ones, in the order of their first actions.
+    /// The different keys, in the order of their first actions.
     pub keys: Items<Blob>,
 }
 
-/// Looks whether the actions with a local branch have at most so many keys.
+/// Checks that the actions with a local branch have at most `limit` keys.
 pub fn check_keys(alloc: Global, limit: usize, actions: &[ListAction]) -> Result<(), ListRefusal>
     ensures { Settles result (keys_check limit actions.now) }
 {
@@ -30,11 +30,11 @@ pub fn check_keys(alloc: Global, limit: usize, actions: &[ListAction]) -> Result
     check_count(What::Keys, limit, made.keys.as_slice().len())
 }
 
-/// The keys of these actions. Each action's key is made once.
+/// Returns the keys of these actions. Each action's key is computed once.
 ///
 /// # Errors
 ///
-/// `NoMemory`.
+/// Returns `NoMemory` if memory runs out.
 pub fn keys_of(alloc: Global, actions: &[ListAction]) -> Result<Keys, NoMemory>
     ensures held { IfOk result (λ made. made.held ≡ map local_key actions.now) }
     ensures keys { IfOk result (λ made. made.keys ≡ keys_of actions.now) }
@@ -51,7 +51,7 @@ pub fn keys_of(alloc: Global, actions: &[ListAction]) -> Result<Keys, NoMemory>
     })
 }
 
-// The key of the action, where it has a local branch. It is added, unless it is there.
+// Returns the key of the action, if it has a local branch. The key is added, unless it is there.
 fn add_key(
     alloc: Global,
     keys: &mut Vec<Blob>,
@@ -71,14 +71,14 @@ fn add_key(
     Ok(Some(key))
 }
 
-// These bytes are one of them.
+// Returns true if these bytes are one of the keys.
 fn is_among(keys: &[Blob], bytes: &[u8]) -> bool
     ensures { result ≡ is_among keys.now bytes.now }
 {
     keys.iter().any(|key| key.bytes() == bytes)
 }
 
-/// The action may run on a worker.
+/// Returns true if the action may run on a worker.
 pub fn has_local(strategy: Strategy) -> bool
     ensures { result ≡ has_local strategy }
 {
@@ -88,7 +88,7 @@ pub fn has_local(strategy: Strategy) -> bool
     }
 }
 
-/// The action may run on the executor.
+/// Returns true if the action may run on the executor.
 pub fn has_remote(strategy: Strategy) -> bool
     ensures { result ≡ has_remote strategy }
 {
@@ -98,7 +98,7 @@ pub fn has_remote(strategy: Strategy) -> bool
     }
 }
 
-/// The bytes that stand for the key of an action's worker.
+/// Returns the bytes that represent the key of an action's worker.
 #[tactic(auto, unfolding(crate::specs::Keys::key_bytes))]
 fn key_bytes(alloc: Global, action: &ListAction) -> Result<Vec<u8>, NoMemory>
     ensures { IfOk result (λ v. v.items ≡ key_bytes action.now) }
@@ -124,7 +124,7 @@ fn list_key(alloc: Global, action: &ListAction) -> Result<WorkerKey, NoMemory>
     })
 }
 
-/// How the requests of an action's worker run.
+/// Returns how the requests of an action's worker run.
 pub fn mode_of(action: &ListAction) -> Mode
     ensures { result ≡ mode_of action.now }
 {
@@ -170,7 +170,7 @@ fn unread_tools(alloc: Global, paths: &[Text]) -> Result<Items<Named>, NoMemory>
     Ok(Items::of(named))
 }
 
-/// The words that an action's worker is started with, or none where no flag file gives it requests.
+/// Returns the words that an action's worker is started with, or none if no flag file gives it requests.
 pub fn worker_words(alloc: Global, argv: &[Text], extra: &[Text]) -> Result<Items<Text>, NoMemory>
     ensures { IfOk result (λ l. l ≡ worker_words argv.now extra.now) }
 {

@@ -1,4 +1,5 @@
-//! The action list: its JSON text read and checked, the plan of a run, and what each group of workers runs.
+//! The action list: its JSON text is read and checked. Also the plan of a run, and the commands of each group of
+//! workers.
 #![tactic(auto)]
 
 mod checks;
@@ -32,9 +33,13 @@ pub use twin::plan_again;
 ///
 /// # Errors
 ///
-/// The first fault, in this order: the bytes, the JSON, the object and its `actions`; then each action
-/// with its keys in their order; then, over all actions in order, a name that an earlier action has, an
-/// output that is made before, an input that is made later; then too many worker keys.
+/// Returns the first fault, in this order:
+///
+/// - the bytes, the JSON, the object and its `actions`
+/// - each action, with its keys in their order
+/// - for each action in order: a name that an earlier action has, an output that is made before, an input that is made
+///   later
+/// - too many worker keys
 pub fn read_list(alloc: Global, bytes: &[u8]) -> Result<ActionList, ListRefusal>
     ensures answer { Answers result (list_of most_local_berths bytes.now) }
     ensures whole { IfOk result (λ l. IsWhole l.actions) }
@@ -42,11 +47,11 @@ pub fn read_list(alloc: Global, bytes: &[u8]) -> Result<ActionList, ListRefusal>
     listed::list_of(alloc, MOST_LOCAL_BERTHS as usize, bytes)
 }
 
-/// Reads an action list that may have so many worker keys.
+/// Reads an action list that may have up to `keys` worker keys.
 ///
 /// # Errors
 ///
-/// Those of `read_list`.
+/// Same as `read_list`.
 pub fn read_list_with(alloc: Global, bytes: &[u8], keys: u32) -> Result<ActionList, ListRefusal>
     ensures answer { Answers result (list_of keys bytes.now) }
     ensures whole { IfOk result (λ l. IsWhole l.actions) }

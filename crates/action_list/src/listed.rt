@@ -19,7 +19,7 @@ use plain_values::Items;
 use serde_json::Value;
 use std::alloc::Global;
 
-/// The list that the bytes are, where it may have so many worker keys.
+/// Returns the list that the bytes spell, if it has at most `limit` worker keys.
 pub fn list_of(alloc: Global, limit: usize, bytes: &[u8]) -> Result<ActionList, ListRefusal>
     ensures { Answers result (list_of limit bytes.now) }
 {

@@ -10,7 +10,7 @@ use crate::{ListAction, Needs, Strategy};
 use plain_values::{Items, NoMemory, Text, Variable};
 use std::alloc::Global;
 
-/// The action of a draft, with defaults for what it doesn't hold.
+/// Returns the action of a draft, with defaults for missing parts.
 #[tactic(auto, unfolding(crate::specs::Actions::action_of))]
 pub fn action_of(alloc: Global, draft: Draft) -> Result<ListAction, NoMemory>
     ensures { IfOk result (λ x. x ≡ action_of draft) }

@@ -1,4 +1,4 @@
-// What an action's requirements and its strategy say.
+// The settings that an action's requirements and its strategy give.
 ghost use Rattle.std.specs.Prelude.{◌≡◌, ◌==◌, length, not, codes, option_map, IfOk};
 ghost use Rattle.std.specs.Option.{option_copied};
 ghost use Rattle.flag_files.specs.Split.{request_words};
@@ -15,7 +15,7 @@ use std::alloc::Global;
 
 const MAX_REQUIREMENTS: usize = 64;
 
-/// The value of the variable with this name.
+/// Returns the value of the variable with this name.
 pub fn value_of<'a>(variables: &'a [Variable], name: &str) -> Option<&'a str>
     ensures { option_copied result ≡ value_of name.now variables.now }
 {
@@ -27,7 +27,7 @@ pub fn value_of<'a>(variables: &'a [Variable], name: &str) -> Option<&'a str>
     None
 }
 
-/// The requirement is set.
+/// Returns true if the requirement is set.
 pub fn is_set(requirements: &[Variable], name: &str) -> bool
     ensures { result ≡ is_set name.now requirements.now }
 {
@@ -103,7 +103,7 @@ fn check_known(alloc: Global, action: u32, draft: &Draft, text: &str) -> Result<
     }
 }
 
-/// The strategy that a text names.
+/// Returns the strategy of this name.
 pub fn strategy_named(text: &str) -> Option<Strategy>
     ensures { result ≡ strategy_named text.now }
 {
@@ -128,7 +128,7 @@ fn check_local(alloc: Global, action: u32, draft: &Draft) -> Result<(), ListRefu
     }
 }
 
-/// What a key holds, or nothing.
+/// Returns the list at a key, or nothing.
 pub fn list_in<T>(slot: &Slot<Items<T>>) -> &[T]
     ensures { result.now ≡ list_in slot.now }
 {

@@ -1,4 +1,4 @@
-// What the workers of each group run, and what is spoken with them.
+// The commands that the workers of each group run, and the protocol with them.
 ghost use Rattle.std.specs.Prelude.{◌≡◌, IfOk, position, slice_get};
 ghost use Rattle.std.specs.Option.{option_copied};
 ghost use Rattle.run_plan.specs.Groups.{is_remote};
@@ -11,22 +11,22 @@ use plain_values::{Command, Items, NoMemory, Text, Variable, texts_again, variab
 use run_plan::{Group, Kind, Plan, PlanAction, Speech};
 use std::alloc::Global;
 
-/// What the workers of a group run, and what is spoken with them.
+/// The command that the workers of a group run, and the protocol with them.
 #[derive(Drop)]
 pub struct GroupPart {
     pub command: Command,
     pub speech: Speech,
 }
 
-/// The part of each group of the plan, in order.
+/// Returns the part of each group of the plan, in order.
 ///
-/// The executor's command is the `executor` with the word `--serve` and an empty environment. Every
-/// other group has the start-up words, with the extra flags, and the environment of the least action
-/// whose local branch is the group's.
+/// The executor's command is the `executor` with the word `--serve` and an empty environment. Every other group takes
+/// its command from the first action whose local branch is the group's. It has that action's start-up words, with the
+/// extra flags, and that action's environment.
 ///
 /// # Errors
 ///
-/// `NoMemory` where the parts find no memory.
+/// Returns `NoMemory` if memory runs out.
 pub fn group_parts(
     alloc: Global,
     list: &ActionList,
@@ -48,7 +48,7 @@ pub fn group_parts(
     Ok(parts)
 }
 
-// The part of a group that this action is the first to use.
+// Returns the part of a group. This action is the first to use the group.
 fn part_of(
     alloc: Global,
     group: &Group,

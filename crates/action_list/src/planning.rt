@@ -16,7 +16,7 @@ use run_plan::{Group, Kind, MOST_LOCAL_BERTHS, Plan, PlanAction};
 use std::alloc::Global;
 use worker_key::Mode;
 
-/// The greatest number of berths a key, at most `instances`, with which all keys have at most 48.
+/// Returns the greatest number of berths per key, at most `instances`, with which all keys have at most 48.
 fn share(counts: &[u32], instances: u32) -> u32
     requires few { length counts.now ≤ most_actions }
     requires instances { instances ≤ most_local_berths }
@@ -47,7 +47,7 @@ fn is_key(key: &[u8], held: &Option<Blob>) -> bool
     }
 }
 
-/// How many actions have the key.
+/// Returns the number of actions with the key.
 fn users(held: &[Option<Blob>], key: &[u8]) -> u32
     requires { length held.now ≤ most_actions }
     ensures { result ≡ users held.now key.now }
@@ -210,7 +210,7 @@ fn plan_actions(
     Ok(Items::of(planned))
 }
 
-// The key of the action with this number.
+// Returns the key of the action with this number.
 fn held_at(held: &[Option<Blob>], number: u32) -> &Option<Blob>
     requires { number < length held.now }
     ensures { slice_get held.now number ≡ Some result.now }
@@ -294,17 +294,16 @@ fn remote_of(keys: &[Blob], action: &ListAction) -> Option<u32>
     }
 }
 
-/// The plan of a list: its groups of workers with their berths, and the branches of each action.
+/// Returns the plan of a list: its groups of workers with their berths, and the branches of each action.
 ///
-/// Each worker key is a group, in the order of the keys' first actions, and so is the executor where an
-/// action has a remote branch. A key has at most `instances` berths and at most as many as it has
-/// actions; where all keys would then have more than 48, the number for each is lowered until they don't.
-/// The executor has at most `remote` berths and at most as many as there are actions with a remote
-/// branch. A branch has `1 + retries` attempts.
+/// Each worker key is a group, in the order of the keys' first actions. The executor is a group if an action has a
+/// remote branch. A key has at most `instances` berths, and at most as many as it has actions. If all keys together
+/// would then have more than 48 berths, the number for each is lowered until they don't. The executor has at most
+/// `remote` berths, and at most as many as there are actions with a remote branch. A branch has `1 + retries` attempts.
 ///
 /// # Errors
 ///
-/// `NoMemory` where the plan finds no memory.
+/// Returns `NoMemory` if memory runs out.
 #[tactic(auto, unfolding(crate::specs::Plans::plan_of))]
 pub fn plan(
     alloc: Global,

@@ -15,7 +15,7 @@ use std::alloc::Global;
 
 const MAX_BYTES: usize = 33_554_432;
 
-/// The JSON value of these bytes.
+/// Returns the JSON value of these bytes.
 pub fn read_json(alloc: Global, bytes: &[u8]) -> Result<Value, ListRefusal>
     ensures { MatchResult result
         (λ v. json_in bytes.now ≡ Ok (view v))
@@ -60,7 +60,7 @@ fn parse(alloc: Global, text: &str) -> Result<Value, ListRefusal>
     }
 }
 
-/// The values of the actions, of which there are not too many.
+/// Returns the values of the actions, if there are not too many.
 pub fn actions_in(top: &Value) -> Result<&[Value], ListRefusal>
     ensures { MatchResult result
         (λ l. (actions_in (view top.now) ≡ Ok (map view l.now)) × (length l.now ≤ most_actions))

@@ -1,15 +1,15 @@
-// A plan once more.
+// A copy of a plan.
 ghost use Rattle.std.specs.Prelude.{◌≡◌, IfOk};
 
 use plain_values::{Items, NoMemory, Text, texts_again};
 use run_plan::{Plan, PlanAction};
 use std::alloc::Global;
 
-/// The same plan, in memory of its own.
+/// Returns the same plan in separate memory.
 ///
 /// # Errors
 ///
-/// `NoMemory` where that memory is not there.
+/// Returns `NoMemory` if memory runs out.
 pub fn plan_again(alloc: Global, plan: &Plan) -> Result<Plan, NoMemory>
     ensures { IfOk result (λ twin. twin ≡ plan.now) }
 {

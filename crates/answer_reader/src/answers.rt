@@ -1,4 +1,4 @@
-// The answer that one frame spells.
+// The answer in one frame.
 ghost use Rattle.std.specs.Prelude.{◌≡◌, IfOk};
 ghost use Rattle.wire_messages.specs.Response.{SpellsResponse};
 ghost use Rattle.answer_reader.specs.Answers.{of_response, SpellsLine, ReadsResult};
@@ -15,7 +15,7 @@ use run_plan::Speech;
 use std::alloc::Global;
 use wire_messages::{MessageFault, WorkResponse, decode_response};
 
-/// What one frame says in this speech.
+/// Returns the content of one frame in this protocol.
 pub(crate) fn spoken_by(
     alloc: Global,
     speech: Speech,
@@ -31,7 +31,7 @@ pub(crate) fn spoken_by(
     }
 }
 
-// The answer of an executor, whose results come in parts.
+// Returns the answer of an executor, whose results come in parts.
 fn executor_answer(alloc: Global, parts: &mut Parts, frame: &[u8]) -> Result<Spoken, NoMemory>
     ensures { IfOk result (λ out. ReadsResult frame.now parts.old out parts.new) }
 {
@@ -47,7 +47,7 @@ fn executor_answer(alloc: Global, parts: &mut Parts, frame: &[u8]) -> Result<Spo
     }
 }
 
-// The answer of a worker that speaks the binary form.
+// Returns the answer of a worker that uses the binary form.
 fn worker_answer(alloc: Global, frame: &[u8]) -> Result<Spoken, NoMemory>
     ensures { IfOk result (Reads SpellsResponse of_response frame.now) }
 {
@@ -60,7 +60,7 @@ fn worker_answer(alloc: Global, frame: &[u8]) -> Result<Spoken, NoMemory>
     }
 }
 
-// The answer of a worker that speaks JSON.
+// Returns the answer of a worker that uses JSON.
 fn line_answer(alloc: Global, line: &[u8]) -> Result<Spoken, NoMemory>
     ensures { IfOk result (Reads SpellsLine of_response line.now) }
 {
@@ -73,7 +73,7 @@ fn line_answer(alloc: Global, line: &[u8]) -> Result<Spoken, NoMemory>
     }
 }
 
-// It takes no memory.
+// Returns the answer of a response. The function takes no memory.
 fn answer_of_response(alloc: Global, response: WorkResponse) -> Answer
     ensures { result ≡ of_response response }
 {

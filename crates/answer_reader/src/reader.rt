@@ -16,7 +16,7 @@ use std::alloc::Global;
 /// The largest message, in bytes.
 const LARGEST: u64 = 67_108_864;
 
-/// What a reader gives next.
+/// The next result of a reader.
 #[derive(Drop)]
 pub enum Spoken {
     /// The next answer.
@@ -25,11 +25,11 @@ pub enum Spoken {
     More,
     /// No whole message has come, and no fault.
     NotYet,
-    /// What stands next spells nothing. Nothing is read behind it.
+    /// The next bytes spell nothing. No later bytes are read.
     Bad,
 }
 
-/// Reads the answers of one line.
+/// A reader of the answers of one line.
 #[derive(Drop)]
 pub struct AnswerReader {
     cutter: Cutter,
@@ -38,7 +38,7 @@ pub struct AnswerReader {
 }
 
 impl AnswerReader {
-    /// A reader of a line that speaks so.
+    /// Creates a reader of a line with this protocol.
     pub fn new(alloc: Global, speech: Speech) -> AnswerReader
         ensures hears { Hears speech [] [] result }
         ensures waits { SaysAll speech [] [] }
@@ -54,7 +54,7 @@ impl AnswerReader {
     ///
     /// # Errors
     ///
-    /// `NoMemory`.
+    /// Returns `NoMemory` if memory runs out.
     pub fn feed(&mut self, piece: &[u8]) -> Result<(), NoMemory>
         ensures ok { OnOk result ((speech : Speech) (fed : List ℕ) (answers : List Answer)
             → Hears speech fed answers self.old
@@ -63,11 +63,11 @@ impl AnswerReader {
         self.cutter.feed(piece)
     }
 
-    /// Gives the next answer, if all of it has come.
+    /// Returns the next answer, if all of it has come.
     ///
     /// # Errors
     ///
-    /// `NoMemory`.
+    /// Returns `NoMemory` if memory runs out.
     pub fn next(&mut self, alloc: Global) -> Result<Spoken, NoMemory>
         ensures ok { IfOk result (λ spoken. (speech : Speech) (fed : List ℕ) (answers : List Answer)
             → Hears speech fed answers self.old
@@ -81,7 +81,8 @@ impl AnswerReader {
     }
 }
 
-// Workers that speak JSON write lines; all others write frames behind their lengths.
+// Returns the framing of a protocol. Workers that use JSON write lines. All others write frames,
+// each preceded by its length.
 fn framing_of(speech: Speech) -> Framing
     ensures { result ≡ framing_for speech }
 {

@@ -1,4 +1,4 @@
-//! Lanes that call an adder without a pause: at a desk, through callers, behind a bare `Mutex`, and alone.
+//! Lanes that call an adder without a pause: at a desk, through callers, in a bare `Mutex`, and alone.
 ghost use Rattle.std.specs.Prelude.{◌≡◌, ◌+◌, ◌<◌, ◌≤◌, ◌^◌, ◌-◌, All, IfOk};
 ghost use Rattle.seat_desk.specs.Passes.{IsPassOf, IsRootOf};
 
@@ -13,19 +13,19 @@ use std::sync::{Barrier, Mutex, Wait};
 use std::thread;
 use std::thread::Threads;
 
-/// How the lanes of a crowd call their adder.
+/// The way in which the lanes of a crowd call their adder.
 #[derive(Drop, Clone, Copy)]
 pub enum Crowd {
     /// At a desk.
     Desk,
     /// At a desk, through callers.
     Callers,
-    /// Behind a bare `Mutex`.
+    /// In a bare `Mutex`.
     Mutex,
 }
 
 impl Crowd {
-    /// Its name in a line of figures.
+    /// Returns its name in a line of figures.
     pub fn name(self) -> &'static str {
         match self {
             Crowd::Desk => "desk",
@@ -34,7 +34,7 @@ impl Crowd {
         }
     }
 
-    /// Who stands where, in a line of counts.
+    /// Returns the name of its lanes in a line of counts.
     pub fn words(self) -> &'static str {
         match self {
             Crowd::Desk => "lanes at the desk",
@@ -43,11 +43,12 @@ impl Crowd {
         }
     }
 
-    /// So many lanes make so many turns each, all at once. Answers how many turns there were.
+    /// Runs `lanes` lanes that make `turns` turns each, all at once. Returns the number of turns.
     ///
     /// # Errors
     ///
-    /// `NoMemory` where there is none for the lanes and what they call. A lane that finds none makes fewer turns.
+    /// Returns `NoMemory` if memory runs out for the lanes or what they call. A lane that runs out of
+    /// memory makes fewer turns.
     pub fn run<R: Threads + Wait + Sync>(
         self,
         rt: &R,
@@ -65,7 +66,7 @@ impl Crowd {
     }
 }
 
-/// An adder with its history, and nothing round it.
+/// An adder with its history, and nothing around it.
 #[derive(Drop)]
 struct Bare {
     adder: Adder,
@@ -110,11 +111,12 @@ fn passes<R>(
     Ok(passes)
 }
 
-/// So many lanes make so many turns each at a desk, all at once. Answers how many turns there were.
+/// Runs `lanes` lanes that make `turns` turns each at a desk, all at once. Returns the number of turns.
 ///
 /// # Errors
 ///
-/// `NoMemory` where there is none for the desk or the lanes. A lane that finds none makes fewer turns.
+/// Returns `NoMemory` if memory runs out for the desk or the lanes. A lane that runs out of memory makes
+/// fewer turns.
 fn at_desk<R: Threads + Wait + Sync>(
     rt: &R,
     alloc: Global,
@@ -140,11 +142,11 @@ fn at_desk<R: Threads + Wait + Sync>(
     Ok(total(made))
 }
 
-/// The same at a desk that each lane calls through a [`Caller`], as the lanes of a crew do.
+/// Does the same at a desk that each lane calls through a [`Caller`], as the lanes of a crew do.
 ///
 /// # Errors
 ///
-/// As of [`at_desk`].
+/// Same as [`at_desk`].
 fn by_callers<R: Threads + Wait + Sync>(
     rt: &R,
     alloc: Global,
@@ -170,7 +172,7 @@ fn by_callers<R: Threads + Wait + Sync>(
     Ok(total(made))
 }
 
-// The adder stirs nobody and no call of it rests, so each lane has bells of its own.
+// Adds through a caller. The adder wakes nobody and no call of it rests, so each lane has its own bells.
 fn adds_by_caller<R: Wait>(
     rt: &R,
     alloc: Global,
@@ -193,11 +195,11 @@ fn adds_by_caller<R: Wait>(
     Ok(made)
 }
 
-/// The same behind a bare `Mutex`.
+/// Does the same in a bare `Mutex`.
 ///
 /// # Errors
 ///
-/// As of [`at_desk`].
+/// Same as [`at_desk`].
 fn behind_mutex<R: Threads + Wait + Sync>(
     rt: &R,
     alloc: Global,
@@ -229,7 +231,8 @@ fn adds_locked<R: Wait>(rt: &R, bare: &Mutex<Bare>, lane: u32, turns: usize) -> 
     made
 }
 
-/// So many turns of the adder alone, in this thread, with its history and no lock.
+/// Makes `turns` turns of the adder in this thread, with its history and no lock. Returns the number of
+/// turns.
 pub fn alone(alloc: Global, turns: usize) -> usize {
     let mut bare = Bare::new(alloc);
     let mut made = 0usize;

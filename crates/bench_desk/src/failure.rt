@@ -1,12 +1,12 @@
-//! Why the benchmark ended early.
+//! The reasons why the benchmark ended early.
 use plain_values::NoMemory;
 use std::alloc::{AllocError, AllocFailed};
 use std::io;
 
-/// Why the benchmark ended early.
+/// The reason why the benchmark ended early.
 #[derive(Debug, Drop)]
 pub enum Failure {
-    /// There was no memory.
+    /// Memory ran out.
     NoMemory,
     /// A pipe, a clock or standard output failed.
     Io(io::Error),

@@ -1,4 +1,4 @@
-//! What the threads of the traffic share beside the desk.
+//! The state that the threads of the traffic share in addition to the desk.
 ghost use Rattle.std.specs.Prelude.{◌≡◌};
 
 use crate::rounds::{Answer, Ask, Rounds};
@@ -10,7 +10,7 @@ use std::sync::atomic::Ordering::SeqCst;
 use std::sync::atomic::{AtomicBool, AtomicU64};
 use std::sync::{Mutex, Wait};
 
-/// The traffic's machine with its history, and nothing round it.
+/// The traffic's machine with its history, and nothing around it.
 #[derive(Drop)]
 pub struct Bare {
     rounds: Rounds,
@@ -18,7 +18,7 @@ pub struct Bare {
 }
 
 impl Bare {
-    /// The machine with an empty history.
+    /// Returns the machine with an empty history.
     pub fn new(alloc: Global, rounds: Rounds) -> Bare {
         Bare {
             rounds,
@@ -37,7 +37,7 @@ impl Bare {
     }
 }
 
-/// The bells of the lanes, and what the threads count.
+/// The bells of the lanes, and the counts of the threads.
 #[derive(Drop)]
 pub struct Hall {
     /// A bell for each lane.
@@ -49,8 +49,8 @@ pub struct Hall {
 }
 
 impl Hall {
-    /// A hall with these bells. With a bare machine the lanes call that behind a `Mutex`, and else the
-    /// machine at the desk.
+    /// Returns the shared state with these bells. If there is a bare machine, the lanes call it in a
+    /// `Mutex`. Otherwise they call the machine at the desk.
     pub fn new(bells: Bells, bare: Option<Bare>) -> Hall
         ensures { result.bells ≡ bells }
     {
@@ -67,8 +67,8 @@ impl Hall {
         }
     }
 
-    /// The call behind the bare `Mutex`, with the lanes that may have news. `None` where the lanes call
-    /// at the desk.
+    /// Makes a call in the bare `Mutex`. Returns the reply with the lanes that may have news, or `None` if
+    /// the lanes call at the desk.
     pub fn call_bare<R: Wait>(
         &self,
         rt: &R,
@@ -81,12 +81,12 @@ impl Hall {
         }
     }
 
-    /// Whether a thread has failed.
+    /// Returns true if a thread has failed.
     pub fn has_stopped(&self) -> bool {
         self.stopped.load(SeqCst)
     }
 
-    /// Ends all lanes, since one has failed.
+    /// Ends all lanes because one has failed.
     pub fn stop(&self) {
         self.stopped.store(true, SeqCst);
         self.bells.ring_all();
@@ -97,17 +97,17 @@ impl Hall {
         self.actions.fetch_add(1, SeqCst);
     }
 
-    /// How many actions were counted.
+    /// Returns the number of actions that were counted.
     pub fn actions(&self) -> u64 {
         self.actions.load(SeqCst)
     }
 
-    /// Notes the microseconds of processor that were spent while the lanes rested.
+    /// Records the processor time, in microseconds, that was spent while the lanes rested.
     pub fn note_spent(&self, micros: u64) {
         self.spent.store(micros, SeqCst);
     }
 
-    /// The microseconds that were noted.
+    /// Returns the recorded microseconds.
     pub fn spent(&self) -> u64 {
         self.spent.load(SeqCst)
     }

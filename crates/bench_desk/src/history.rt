@@ -10,18 +10,18 @@ use std::io;
 use std::sync::Wait;
 use std::time::{Clock, Instant};
 
-/// So many turns at a desk, one behind the other. Answers the nanoseconds of the slowest.
+/// Makes `turns` turns at a desk, one after another. Returns the nanoseconds of the slowest.
 ///
 /// # Errors
 ///
-/// Where there is no memory for the desk, or a clock can't be read.
+/// Returns a failure if memory runs out for the desk, or if a clock can't be read.
 pub fn slowest_turn<R: Wait + Clock>(rt: &R, alloc: Global, turns: usize) -> Result<u64, Failure> {
     let (desk, mut root) = Desk::new(alloc, Adder::new())?;
     let pass = desk.split(rt, &mut root);
     Ok(slowest_of(rt, &desk, pass, turns)?)
 }
 
-// A turn for which there is no memory is the last.
+// Returns the slowest of the turns. If memory runs out for a turn, no more turns are made.
 fn slowest_of<R: Wait + Clock>(
     rt: &R,
     desk: &Desk<Adder>,

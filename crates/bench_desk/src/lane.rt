@@ -4,7 +4,7 @@ use crate::rounds::{Answer, Ask, Rounds};
 use seat_desk::{Desk, Pass};
 use std::sync::Wait;
 
-/// A pass, with the number of its lane.
+/// A pass and the number of its lane.
 #[derive(Drop)]
 pub struct Lane {
     pub pass: Pass<Rounds>,
@@ -31,8 +31,8 @@ impl Lane {
         Some((answer, self.pass.stirs()))
     }
 
-    /// Makes this step once the seat has come to it, and rings the lanes that may have news. `None`
-    /// where the traffic is over, or has failed.
+    /// Makes this step once the seat has reached it, and rings the lanes that may have news. Returns `None`
+    /// if the traffic is over or has failed.
     pub fn step<R: Wait>(
         &mut self,
         rt: &R,

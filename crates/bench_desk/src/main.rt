@@ -1,11 +1,11 @@
-//! Measures the desk beside a bare `Mutex`, and lanes that call it through callers.
+//! Measures the desk in comparison with a bare `Mutex`, and lanes that call it through callers.
 //!
 //! ```text
 //! bench_desk                          the trials and a small run, which print counts and no times
 //! bench_desk crowd LANES TURNS        lanes that call an adder without a pause, TURNS each
 //! bench_desk traffic SEATS ROUNDS     64 seats, of which SEATS make ROUNDS actions each
 //! bench_desk rest MILLISECONDS        the lanes of 64 idle seats
-//! bench_desk history TURNS            the slowest of so many turns at a desk
+//! bench_desk history TURNS            the slowest of TURNS turns at a desk
 //! ```
 #![tactic(auto)]
 
@@ -34,10 +34,10 @@ use std::time::{Clock, CpuClock};
 use trials::tell_trials;
 use watch::Watch;
 
-// The lanes of a crowd at most.
+// The limit for the lanes of a crowd.
 const MOST_LANES: u32 = 999;
 
-// The number at this place among the words.
+// Returns the number at this place among the arguments.
 fn number<R: Env + Alloc>(rt: &R, at: usize) -> Result<u32, Failure> {
     match env::args(rt)?.nth(at) {
         Some(word) => Ok(word.parse::<u32>().unwrap_or(0)),
@@ -63,7 +63,7 @@ fn small_run<R: Threads + Wait + Clock + CpuClock + Files + Print + Sync>(
     rung_alone(rt, alloc)
 }
 
-// Traffic in which a rest ends by a ring alone, so that it ends only if whoever has news is rung.
+// Runs traffic in which only a ring ends a rest. So it ends only if every lane with news is rung.
 fn rung_alone<R: Threads + Wait + Clock + CpuClock + Files + Print + Sync>(
     rt: &R,
     alloc: Global,

@@ -1,5 +1,5 @@
-//! The machine of the traffic: seats that each go round eight steps, three of one lane and then three
-//! of another, and then two of the first again.
+//! The machine of the traffic: seats that each repeat eight steps. One lane makes three steps, then another
+//! lane makes three, and then the first lane makes two.
 ghost use Rattle.std.specs.Prelude.{◌≡◌, ◌+◌, ℕ, List, true, false};
 ghost use Rattle.std.proofs.Common.{rules};
 ghost use Rattle.bench_desk.specs.Answers.{is_done, is_short, not_kept};
@@ -7,27 +7,27 @@ ghost use Rattle.bench_desk.specs.Answers.{is_done, is_short, not_kept};
 use desk_trials::Nothing;
 use seat_desk::Machine;
 
-/// How many seats there are. Seat `k` has the lanes `2 k`, its front, and `2 k + 1`, its back.
+/// The number of seats. Seat `k` has the lanes `2 k`, its front, and `2 k + 1`, its back.
 pub const SEATS: u32 = 64;
 
-/// What a lane asks.
+/// The call of a lane.
 #[derive(Drop, Clone, Copy)]
 pub enum Ask {
-    /// To make this step of its seat, from 0 to 7.
+    /// Makes this step of its seat, from 0 to 7.
     Step(u8),
-    /// That all seats stop.
+    /// Stops all seats.
     Stop,
 }
 
-/// What it is answered. `Idle` and `Over` are said to be lack of memory, so that the benchmark needs
-/// no definition of when they come: of its replies nothing is claimed.
+/// The reply to a call. `Idle` and `Over` are declared as lack of memory, so that the benchmark needs no
+/// definition of when they come. Nothing is claimed about its replies.
 #[derive(Drop, Clone, Copy)]
 pub enum Answer {
-    /// The step is made, and is kept in the history.
+    /// The step is made, and is recorded in the history.
     Done,
-    /// The seat has not come to this step.
+    /// The seat has not reached this step.
     Idle,
-    /// No seat has a round to make.
+    /// No seat has a round left to make.
     Over,
 }
 
@@ -36,9 +36,9 @@ pub enum Answer {
 pub struct Rounds {
     // The next step of each seat.
     steps: [u8; 64],
-    // How many rounds it has yet to make.
+    // The number of rounds that each seat has left.
     left: [u32; 64],
-    // How many seats have a round to make.
+    // The number of seats that have a round left.
     busy: u32,
 }
 
@@ -113,7 +113,7 @@ impl Machine for Rounds {
         (answer, put)
     }
 
-    /// The other lane of the seat where its step is next, and all lanes once no seat is busy.
+    /// Wakes the other lane of the seat if its step is next, and all lanes once no seat is busy.
     fn stirs(&self, lane: u32, reply: &Answer) -> u128 {
         match reply {
             Answer::Done if self.busy == 0 => u128::MAX,
@@ -128,7 +128,7 @@ impl Machine for Rounds {
 }
 
 impl Rounds {
-    /// The first `busy` seats have so many rounds to make.
+    /// Returns a machine whose first `busy` seats have `rounds` rounds to make.
     pub fn new(busy: u32, rounds: u32) -> Rounds {
         let busy = if rounds == 0 { 0 } else { busy.min(SEATS) };
         let mut left = [0; 64];
@@ -140,7 +140,7 @@ impl Rounds {
         }
     }
 
-    /// No seat has a round to make, and it is not over before a `Stop`.
+    /// Returns a machine in which no seat has a round to make. It is not over before a `Stop`.
     pub fn idle() -> Rounds {
         Rounds {
             steps: [0; 64],

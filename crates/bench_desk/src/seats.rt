@@ -18,17 +18,17 @@ use std::thread::Threads;
 use std::time::{Clock, CpuClock};
 use std::{io, thread};
 
-/// What the lanes call.
+/// The object that the lanes call.
 #[derive(Drop, Clone, Copy)]
 pub enum Behind {
     /// The machine at a desk.
     Desk,
-    /// The machine behind a bare `Mutex`.
+    /// The machine in a bare `Mutex`.
     Mutex,
 }
 
 impl Behind {
-    /// Its name in a line of figures.
+    /// Returns its name in a line of figures.
     pub fn name(self) -> &'static str {
         match self {
             Behind::Desk => "desk",
@@ -37,7 +37,7 @@ impl Behind {
     }
 }
 
-/// How long a lane rests at most.
+/// The longest time that a lane rests.
 #[derive(Drop, Clone, Copy)]
 pub enum Limit {
     /// A second.
@@ -46,12 +46,12 @@ pub enum Limit {
     None,
 }
 
-/// Runs the traffic: the first `busy` of 64 seats make so many rounds each. Answers how many actions
-/// there were, which is `busy` times `rounds` where no thread failed.
+/// Runs the traffic: the first `busy` of 64 seats make `rounds` rounds each. Returns the number of actions,
+/// which is `busy` times `rounds` if no thread failed.
 ///
 /// # Errors
 ///
-/// Where there is no memory, no pipe or no thread.
+/// Returns a failure if there is no memory, no pipe or no thread.
 pub fn traffic<R: Threads + Wait + Clock + CpuClock + Files + Sync>(
     rt: &R,
     alloc: Global,
@@ -71,12 +71,12 @@ pub fn traffic<R: Threads + Wait + Clock + CpuClock + Files + Sync>(
     Ok(hall.actions())
 }
 
-/// Lets the lanes of 64 idle seats rest for so many milliseconds. Answers the microseconds of processor
-/// that the process took meanwhile.
+/// Lets the lanes of 64 idle seats rest for `millis` milliseconds. Returns the processor time that the
+/// process took during that time, in microseconds.
 ///
 /// # Errors
 ///
-/// As of [`traffic`].
+/// Same as [`traffic`].
 pub fn rest<R: Threads + Wait + Clock + CpuClock + Files + Sync>(
     rt: &R,
     alloc: Global,
@@ -100,7 +100,7 @@ fn bells(alloc: Global, limit: Limit) -> Result<Bells, NoMemory>
     }
 }
 
-// The jobs of all seats.
+// Returns the jobs of all seats.
 fn seats<R: Files>(
     rt: &R,
     alloc: Global,
@@ -152,7 +152,7 @@ fn open_seat<R: Files>(
     Ok(())
 }
 
-// Runs each job in a thread of its own, to the end of all.
+// Runs each job in its own thread, until all have ended.
 fn run<R: Threads + Wait + Clock + CpuClock + Sync>(
     rt: &R,
     hall: &Hall,

@@ -1,7 +1,7 @@
-//! Traffic at a desk: each seat has a front lane, a back lane and a worker, in three threads. A round
-//! of a seat is one action: the front makes three steps and, after the second, writes to the worker;
-//! the back makes three and, after the first, reads the worker's answer; the front makes two. So an
-//! action is eight kept calls, two hops through pipes and two handings-over between the lanes.
+//! Traffic at a desk. Each seat has a front lane, a back lane and a worker, in three threads. A round of a
+//! seat is one action. The front makes three steps and, after the second, writes to the worker. The back
+//! makes three steps and, after the first, reads the worker's answer. Then the front makes two steps. So an
+//! action is eight recorded calls, two transfers through pipes and two handovers between the lanes.
 use crate::hall::Hall;
 use crate::lane::Lane;
 use crate::rounds::{Ask, Rounds};
@@ -11,7 +11,7 @@ use std::sync::Wait;
 use std::thread;
 use std::time::{Clock, CpuClock, Duration};
 
-/// What one thread does.
+/// The job of one thread.
 #[derive(Drop)]
 pub enum Job {
     /// The front lane of a seat, which writes to the worker.
@@ -20,7 +20,7 @@ pub enum Job {
     Back(Lane, PipeReader),
     /// The worker, which answers each message.
     Worker(PipeReader, PipeWriter),
-    /// Lets the lanes rest for so many milliseconds, and then stops them.
+    /// Lets the lanes rest for this number of milliseconds, and then stops them.
     Rest(Pass<Rounds>, u64),
 }
 
@@ -31,7 +31,7 @@ impl Job {
     ghost use Rattle.seat_desk.specs.Passes.{IsPassOf};
     ghost use Rattle.bench_desk.specs.Jobs.{IsLaneOf, IsJobOf};
 
-    /// Does the job, until the traffic is over or a thread has failed.
+    /// Runs the job until the traffic is over or a thread has failed.
     pub fn run<R: Wait + Clock + CpuClock>(self, rt: &R, hall: &Hall, desk: &Desk<Rounds>)
         requires { IsJobOf desk.now hall.now self }
     {
@@ -139,7 +139,7 @@ impl Job {
     }
 }
 
-// The microseconds of processor that the process has taken.
+// Returns the processor time that the process has taken, in microseconds.
 fn cpu_micros<C: CpuClock>(clock: &C) -> u64 {
     match clock.process_cpu_time() {
         Ok(spent) => u64::try_from(spent.as_micros()).unwrap_or(u64::MAX),

@@ -1,4 +1,5 @@
-//! The machines and the crew on which the desk and its threads are tried: each is run, and what it comes to printed.
+//! The machines and the crew on which the desk and its threads are tried. Each is run, and its result is
+//! printed.
 ghost use Rattle.std.specs.Prelude.{◌<◌};
 
 use crate::failure::Failure;
@@ -14,15 +15,15 @@ use std::alloc::Global;
 use std::sync::Wait;
 use std::thread::Threads;
 
-// How often the crew is run. A ring that is lost would show as a second's delay, and lanes that never end as a program
-// that doesn't.
+// The number of times that the crew is run. A lost ring would show as a delay of a second, and lanes that
+// never end as a program that never ends.
 const CREWS: u32 = 200;
 
-/// Prints what each of them comes to, which is the same whatever the schedule.
+/// Prints the result of each trial, which is the same for every schedule.
 ///
 /// # Errors
 ///
-/// `Failure` where there is no memory for them, or standard output fails.
+/// Returns a `Failure` if memory runs out for them, or if standard output fails.
 pub fn tell_trials<R: Threads + Wait + Print + Sync>(rt: &R, alloc: Global) -> Result<(), Failure> {
     tell_four(rt, alloc)?;
     tell_two(rt, alloc, 7)?;
@@ -32,8 +33,8 @@ pub fn tell_trials<R: Threads + Wait + Print + Sync>(rt: &R, alloc: Global) -> R
     tell_slots(rt, alloc)
 }
 
-// Four lanes that add ones: how many calls each made, by its own count and by the history, and how many of the replies are
-// the sum so far.
+// Runs four lanes that add ones. Prints the number of calls that each made, by its own count and by the
+// history. Also prints the number of replies that are the sum so far.
 fn tell_four<R: Threads + Wait + Print + Sync>(rt: &R, alloc: Global) -> Result<(), Failure> {
     let tally = count_by_four(rt, alloc, 250)?;
     let (first, second, third, fourth) = tally.made;
@@ -65,7 +66,7 @@ fn sums_so_far(history: &[HistoryEntry<Adder>]) -> usize {
     sums
 }
 
-// Two lanes that add 5 at a counter of this modulus. Which of them comes first differs.
+// Runs two lanes that add 5 at a counter of this modulus. Which of them comes first differs.
 fn tell_two<R: Threads + Wait + Print + Sync>(
     rt: &R,
     alloc: Global,
@@ -81,7 +82,7 @@ fn tell_two<R: Threads + Wait + Print + Sync>(
     Ok(())
 }
 
-// A counter that has room for one look.
+// Tries a counter that has room for one look.
 fn tell_looks<R: Wait + Print>(rt: &R, alloc: Global) -> Result<(), Failure> {
     let (desk, mut root) = Desk::new(alloc, Counter::new(10, 1))?;
     let pass = desk.split(rt, &mut root);
@@ -94,7 +95,7 @@ fn tell_looks<R: Wait + Print>(rt: &R, alloc: Global) -> Result<(), Failure> {
     Ok(())
 }
 
-// A lane that leaves a token, stamps it and takes it.
+// Runs a lane that leaves a token, stamps it and takes it.
 fn tell_token<R: Wait + Print>(rt: &R, alloc: Global) -> Result<(), Failure> {
     let (desk, mut root) = Desk::new(alloc, Locker::new())?;
     let mut pass = desk.split(rt, &mut root);
@@ -117,7 +118,7 @@ fn tell_token<R: Wait + Print>(rt: &R, alloc: Global) -> Result<(), Failure> {
     Ok(())
 }
 
-// Three pairs of lanes that fill and empty a slot, again and again.
+// Runs three pairs of lanes that fill and empty a slot repeatedly.
 fn tell_slots<R: Threads + Wait + Print + Sync>(rt: &R, alloc: Global) -> Result<(), Failure> {
     let mut in_turn = 0usize;
     let mut right = 0usize;
@@ -135,7 +136,7 @@ fn tell_slots<R: Threads + Wait + Print + Sync>(rt: &R, alloc: Global) -> Result
     Ok(())
 }
 
-// Whether every other call fills the slot, the first one too.
+// Returns true if every other call fills the slot, beginning with the first.
 fn are_in_turn(history: &[HistoryEntry<Slot>]) -> bool {
     history.iter().enumerate().all(|(at, entry)| match entry.call {
         SlotAsk::Fill => at % 2 == 0,
@@ -143,7 +144,8 @@ fn are_in_turn(history: &[HistoryEntry<Slot>]) -> bool {
     })
 }
 
-// How many lanes end so: those with even numbers have filled the slot 20 times, the others have emptied it as often.
+// Returns the number of lanes that end as they should. Lanes with even numbers have filled the slot 20
+// times, and the others have emptied it 20 times.
 fn right_ends(ends: &[SlotEnd]) -> usize {
     ends.iter()
         .enumerate()

@@ -8,7 +8,7 @@ use flag_files::FlagFault;
 use plain_values::{NoMemory, Text};
 use std::alloc::Global;
 
-/// Why a run ended without its report.
+/// The reason that a run ended without its report.
 #[derive(Drop)]
 pub enum RunFault {
     /// The words of the command aren't accepted.
@@ -23,11 +23,11 @@ pub enum RunFault {
     Absent { path: Text },
     /// The file at this path wasn't read.
     FloorFailed { path: Text },
-    /// The report wasn't written whole.
+    /// The report wasn't written completely.
     SinkFailed,
 }
 
-/// When memory ran out.
+/// The stage in which memory ran out.
 #[derive(Clone, Copy, PartialEq, Eq)]
 pub enum Stage {
     /// Before a lane was started.
@@ -38,7 +38,7 @@ pub enum Stage {
     After,
 }
 
-/// Memory that is wanted outside the lanes is wanted before them.
+/// Lack of memory outside the lanes counts as lack of memory before them.
 impl From<NoMemory> for RunFault {
     ghost from_gives = { λ _ e. e ≡ NoMemory Before };
 
@@ -48,7 +48,7 @@ impl From<NoMemory> for RunFault {
 }
 
 impl RunFault {
-    /// The exit status of a run that ends with this fault.
+    /// Returns the exit status of a run that ends with this fault.
     pub fn status(&self) -> u8
         ensures { result ≡ fault_status self.now }
     {
@@ -62,11 +62,11 @@ impl RunFault {
     }
 }
 
-/// The line that is printed on standard error, without its line feed.
+/// Returns the line that is printed on standard error, without its line feed.
 ///
 /// # Errors
 ///
-/// `NoMemory` where the text finds no memory.
+/// Returns `NoMemory` if memory runs out.
 pub fn fault_line(alloc: Global, fault: &RunFault) -> Result<Text, NoMemory>
     ensures { IfOk result (λ line. line ≡ fault_text fault.now) }
 {

@@ -1,4 +1,4 @@
-//! What a run says of itself: the report of its actions, the status, and why it ended without a report.
+//! The results of a run: the report on its actions, the status, and the reason if it ended without a report.
 #![tactic(auto)]
 
 mod fault;

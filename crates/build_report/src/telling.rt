@@ -9,13 +9,13 @@ use journal_ends::{action_ends, is_all_success, winning_answers};
 use plain_values::{NoMemory, Text};
 use std::alloc::Global;
 
-/// The report of a run, by its journal: for each action of the plan a line with its outcome and the fates of its
-/// branches, behind it the text of the answer by which it was won, and at last a line with the totals. A short
-/// report is that last line alone.
+/// Returns the report of a run, by its journal. It has a line for each action of the plan, with its outcome and the
+/// fates of its branches. The text of the answer that won the action follows that line. The last line contains the
+/// totals. A short report is only that last line.
 ///
 /// # Errors
 ///
-/// `NoMemory` where the text finds no memory.
+/// Returns `NoMemory` if memory runs out.
 pub fn report(alloc: Global, plan: &Plan, j: &Journal, short: bool) -> Result<Text, NoMemory>
     requires { Sound plan.now }
     ensures { IfOk result (λ text. text ≡ report_of plan.now (reverse j.now) short) }
@@ -25,7 +25,7 @@ pub fn report(alloc: Global, plan: &Plan, j: &Journal, short: bool) -> Result<Te
     Ok(Text::of(text))
 }
 
-/// The status of a run without a fault: 0 where every action has success, else 1. It takes no memory.
+/// Returns the status of a run without a fault: 0 if every action has success, otherwise 1. It takes no memory.
 pub fn status(plan: &Plan, j: &Journal) -> u8
     requires { Sound plan.now }
     ensures { result ≡ status_of plan.now (reverse j.now) }
@@ -54,7 +54,7 @@ fn report_text(
     Ok(text)
 }
 
-// The lines of all actions.
+// Appends the lines of all actions.
 fn push_lines(
     alloc: Global,
     text: &mut String,

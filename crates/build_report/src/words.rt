@@ -15,7 +15,7 @@ fn branch_name(branch: Branch) -> &'static str
     }
 }
 
-/// The outcome as the report says it.
+/// Returns the outcome in the words of the report.
 pub fn outcome_text(alloc: Global, plan: &Plan, outcome: Outcome) -> Result<String, NoMemory>
     ensures { IfOk result (λ s. string_bytes s ≡ outcome_words plan.now outcome) }
 {
@@ -59,7 +59,7 @@ fn output_path(plan: &Plan, action: u32, output: u32) -> &str
     }
 }
 
-/// The fate of a branch of the action as the report says it.
+/// Returns the fate of a branch of the action in the words of the report.
 pub fn fate_text(alloc: Global, plan: &Plan, action: u32, fate: Fate) -> Result<String, NoMemory>
     ensures { IfOk result (λ s. string_bytes s ≡ fate_words plan.now action fate) }
 {
@@ -100,7 +100,7 @@ fn cause_text(alloc: Global, plan: &Plan, action: u32, cause: Cause) -> Result<S
     Ok(text)
 }
 
-/// Puts the text behind the report, each of its lines marked.
+/// Appends the text to the report, with each of its lines marked.
 pub fn push_marked(report: &mut String, text: &str) -> Result<(), NoMemory>
     ensures { OnOk result (string_bytes report.new ≡ string_bytes report.old ++ marked text.now) }
 {

@@ -9,19 +9,19 @@ use std::collections::VecDeque;
 use std::marker::Model;
 use std::mem;
 
-/// How many bytes a piece has.
+/// The size of a piece in bytes.
 const PIECE: usize = 16_384;
 
-/// Bytes in the order in which they came. They stand in pieces of 16,384 bytes that stay where they
-/// are, and a piece is dropped as soon as all of it was read; but the last one is kept as room for
-/// what comes next. So beside what is unread at most two pieces are held.
+/// Bytes in the order in which they came. They are in pieces of 16,384 bytes that don't move. A piece is dropped as
+/// soon as all of it was read, except the last one, which is kept as room for the next bytes. So at most two pieces are
+/// held in addition to the unread bytes.
 #[derive(Drop)]
 pub struct Pieces {
     full: VecDeque<Vec<u8>>,
     last: Vec<u8>,
-    /// How many bytes all pieces have.
+    /// The number of bytes in all pieces.
     total: usize,
-    /// How many of them were read.
+    /// The number of these bytes that were read.
     read: usize,
 }
 
@@ -38,7 +38,7 @@ impl Model for Pieces {
 }
 
 impl Pieces {
-    /// No bytes.
+    /// Returns a queue without bytes.
     pub fn new(alloc: Global) -> Pieces
         ensures { result ≡ [] }
     {
@@ -50,23 +50,23 @@ impl Pieces {
         }
     }
 
-    /// The allocator of the pieces.
+    /// Returns the allocator of the pieces.
     pub fn allocator(&self) -> Global {
         *self.last.allocator()
     }
 
-    /// How many bytes are unread.
+    /// Returns the number of unread bytes.
     pub fn len(&self) -> usize
         ensures { result ≡ length self.now }
     {
         self.total - self.read
     }
 
-    /// Puts these bytes behind the others.
+    /// Appends these bytes.
     ///
     /// # Errors
     ///
-    /// `NoMemory`, and then nothing was put.
+    /// Returns `NoMemory` if memory runs out. Then nothing was appended.
     pub fn feed(&mut self, bytes: &[u8]) -> Result<(), NoMemory>
         ensures ok { OnOk result (self.new ≡ self.old ++ bytes.now) }
         ensures err { OnErr result (self.new ≡ self.old) }
@@ -93,7 +93,7 @@ impl Pieces {
         Ok(())
     }
 
-    /// The bytes from this place on that stand in one piece: at least one, if there is one.
+    /// Returns the bytes from `at` on that are in one piece: at least one, if there is one.
     pub fn part(&self, at: usize) -> &[u8]
         requires { at ≤ length self.now }
         ensures { IsPartAt self.now at result.now }
@@ -102,11 +102,11 @@ impl Pieces {
         part_of(&self.full, &self.last, place)
     }
 
-    /// A copy of the bytes between these places.
+    /// Returns a copy of the bytes between these places.
     ///
     /// # Errors
     ///
-    /// `NoMemory`.
+    /// Returns `NoMemory` if memory runs out.
     pub fn copy(&self, start: usize, end: usize) -> Result<Vec<u8>, NoMemory>
         requires { (start ≤ end) × (end ≤ length self.now) }
         ensures { IfOk result (λ v. v.items ≡ take (end - start) (drop start self.now)) }
@@ -122,7 +122,7 @@ impl Pieces {
         Ok(copied)
     }
 
-    /// Drops so many bytes at the front.
+    /// Drops `count` bytes at the front.
     pub fn drop_front(&mut self, count: usize)
         requires { count ≤ length self.old }
         ensures { self.new ≡ drop count self.old }
@@ -144,7 +144,7 @@ impl Pieces {
     }
 }
 
-// The bytes from this place on that stand in one of the pieces.
+// Returns the bytes from `place` on that are in one of the pieces.
 fn part_of<'a>(full: &'a VecDeque<Vec<u8>>, last: &'a [u8], place: usize) -> &'a [u8]
     requires full { All IsFull full.now.items }
     requires within { place ≤ length (bytes_of full.now.items ++ last.now) }
@@ -156,7 +156,7 @@ fn part_of<'a>(full: &'a VecDeque<Vec<u8>>, last: &'a [u8], place: usize) -> &'a
     }
 }
 
-// These bytes, of which there is one at least, as full pieces and a last one.
+// Splits these bytes, at least one, into full pieces and a last one.
 fn pieces_of(alloc: Global, bytes: &[u8]) -> Result<(Vec<Vec<u8>>, Vec<u8>), NoMemory>
     ensures bytes { IfOk result (λ p. bytes_of p.0.items ++ p.1.items ≡ bytes.now) }
     ensures full { IfOk result (λ p. All IsFull p.0.items) }
@@ -172,7 +172,7 @@ fn pieces_of(alloc: Global, bytes: &[u8]) -> Result<(Vec<Vec<u8>>, Vec<u8>), NoM
     Ok((full, piece_of(alloc, rest)?))
 }
 
-// These bytes in a piece of their own.
+// Returns these bytes in a separate piece.
 fn piece_of(alloc: Global, bytes: &[u8]) -> Result<Vec<u8>, NoMemory>
     requires { length bytes.now ≤ 16384 }
     ensures bytes { IfOk result (λ p. p.items ≡ bytes.now) }
@@ -183,7 +183,7 @@ fn piece_of(alloc: Global, bytes: &[u8]) -> Result<Vec<u8>, NoMemory>
     Ok(piece)
 }
 
-// How many bytes more the last piece takes.
+// Returns the number of further bytes that the last piece takes.
 fn free_in(last: &Vec<u8>) -> usize
     requires { HasRoom last.now × (length last.now.items ≤ 16384) }
     ensures { IsFree last.now result }
@@ -195,7 +195,7 @@ fn free_in(last: &Vec<u8>) -> usize
     }
 }
 
-// Puts the piece, if it has bytes, and then the others behind the full ones, which have room for them.
+// Appends the piece, if it has bytes, and then the others to the full ones, which have room for them.
 fn put_behind(full: &mut VecDeque<Vec<u8>>, before: Vec<u8>, pieces: Vec<Vec<u8>>)
     requires { deque_len full.old + length pieces.items + 1 ≤ deque_capacity full.old }
     ensures { full.new.items ≡ full.old.items ++ filled before ++ pieces.items }

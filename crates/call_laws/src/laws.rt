@@ -1,5 +1,5 @@
-//! Laws for the moment of a call: of the lines, requests and attempts that it names. The functions do
-//! nothing: each is a law, for a core that answers such calls.
+//! Laws for the moment of a call, about the lines, requests and attempts that it names. The
+//! functions do nothing. Each one is a law, for a core that answers such calls.
 ghost use Rattle.std.specs.Prelude.{◌≡◌, ◌⊎◌, ◌+◌, ◌*◌, ◌/◌, ◌<◌, ◌≤◌, ◌==◌, ◌&&◌, ◌||◌, not, ℕ, ℤ, true, false, List, ◌∷◌, Some, None, is_some, length, filter, option_map};
 ghost use Rattle.std.specs.List.{list_any};
 ghost use Rattle.std.specs.Ordering.{int_eq};
@@ -40,8 +40,8 @@ pub fn calls_name_last_lines()
         → in_script p j lane c ≡ true → call_line c ≡ Some l → last_line j (lane / 2) ≡ Some l }
 {}
 
-/// A berth's live line is its last, and so is a line to which a branch is bound: the berth belongs to the
-/// plan, and the branch to its group.
+/// A berth's live line is its last. So is a line to which a branch is bound. The berth of such a
+/// line belongs to the plan, and the branch to the berth's group.
 pub fn lines_here_are_last()
     ensures live { (p : Plan) (j : List Entry) (l w : ℕ) → Lawful p j → IsOfBerth j l w
         → live j l ≡ true → last_line j w ≡ Some l }
@@ -63,10 +63,12 @@ pub fn asking_lanes_have_reported()
         → failed j l ≡ not (started j l) }
 {}
 
-/// A pending request is known by its line and its number, as the berth's kind gives it. On an unbroken line
-/// its Wrote has no fault, and no Gather of it was ordered; on a line that takes no cancels no Cancel of it
-/// was. Only the newest request of a line can have FeedFault; and the request of a Wrote was answered, if
-/// it isn't pending on a line that hasn't ended.
+/// A pending request is known by its line and its number, as the berth's kind gives it. On an
+/// unbroken line, its Wrote has no fault, and no Gather of it was ordered. On a line that takes no
+/// cancels, no Cancel of it was ordered.
+///
+/// Only the newest request of a line can have FeedFault. The request of a Wrote was answered, if it
+/// isn't pending on a line that hasn't ended.
 pub fn requests_are_known()
     ensures known { (p : Plan) (j : List Entry) (l w : ℕ) → Lawful p j → IsOfBerth j l w
         → EachRequest (λ x. KnownByNumber j l x.number x.attempt) (pending j l) }
@@ -105,7 +107,7 @@ pub fn named_actions_are_planned()
         → Lawful p j → in_script p j lane (call.Committed a b how) ≡ true → a < length p.actions }
 {}
 
-/// A Send has room on its line; it begins the next attempt of its branch, or sends the latest,
+/// A Send has room on its line. It begins the next attempt of its branch, or sends the latest,
 /// which is bound to that line. A Launch has room for its line.
 pub fn orders_have_room()
     ensures sends { (p : Plan) (j : List Entry) (lane l : ℕ) (n : ℤ) (t : Attempt) → Sound p
@@ -118,8 +120,9 @@ pub fn orders_have_room()
         → IsLaunchOf p j t }
 {}
 
-/// A Gather is ordered for the oldest match since the berth's last Send that still waits. Those matches and
-/// the pending requests of the berth's last line are at most eight, and a match waits when it comes.
+/// A Gather is ordered for the oldest match since the berth's last Send that still waits. Those
+/// matches and the pending requests of the berth's last line are at most eight. A match waits when
+/// it comes.
 pub fn recent_matches_suffice()
     ensures gathers { (p : Plan) (j : List Entry) (lane : ℕ) → Lawful p j
         → in_script p j lane call.Ask ≡ true → gathers_next j (lane / 2)
@@ -132,9 +135,10 @@ pub fn recent_matches_suffice()
         → is_spent j t ≡ false }
 {}
 
-/// The one attempt that can end with a fault: of a failed Launched, the attempt that is bound only to that
-/// line; of a Wrote that reports unwritten, or of a failed feed once its line has ended, the attempt of the
-/// request; and of a refused Claim, the attempt that it names.
+/// With a fault, only one attempt can end. With a failed Launched, it is the attempt that is bound
+/// only to that line. With a Wrote that reports unwritten, or with a failed feed after its line has
+/// ended, it is the attempt of the request. With a refused Claim, it is the attempt that the Claim
+/// names.
 pub fn faults_end_one()
     ensures launched { (p : Plan) (e : Entry) (j : List Entry) (l m : ℕ) (how : Started)
         (t : Attempt) → Sound p → Lawful p (e ∷ j) → e.call ≡ call.Launched l how
@@ -152,10 +156,10 @@ pub fn faults_end_one()
         → Lawful p (e ∷ j) → refused_in e.call e.reply ≡ Some y → EndsJust p j e y.0 }
 {}
 
-/// A line's end ends exactly the attempts that it carries, unless their action has a grant: those pending
-/// there, those for which its feed failed, and the one bound to it. Their list has each once, and each was
-/// under way. A line carries at most one attempt of an action. An attempt that was launched on the line and
-/// never sent is bound to it when it ends.
+/// A line's end ends exactly the attempts that it carries, unless their action has a grant. These are
+/// the attempts that are pending there, those for which its feed failed, and the one bound to it.
+/// Their list has each once, and each was under way. A line carries at most one attempt of an action.
+/// An attempt that was launched on the line and never sent is bound to it when it ends.
 pub fn lines_end_these()
     ensures these { (p : Plan) (e : Entry) (j : List Entry) (l : ℕ) (how : HowEnded)
         → Lawful p (e ∷ j) → e.call ≡ call.Ended l how
@@ -178,8 +182,9 @@ pub fn lines_end_these()
         → was_sent j t ≡ false → granted j t.action ≡ false → bound p j l ≡ Some t }
 {}
 
-/// These end, grant and commit nothing: a Launched or a Wrote with Done, a Wrote of a Cancel, a Wrote whose
-/// feed failed on a line that hasn't ended, and a Claim that is lost.
+/// These entries end, grant and commit nothing: a Launched or a Wrote with Done, a Wrote of a
+/// Cancel, and a lost Claim. The same holds for a Wrote whose feed failed on a line that hasn't
+/// ended.
 pub fn reports_change_nothing()
     ensures started { (p : Plan) (e : Entry) (j : List Entry) (l : ℕ) → Lawful p (e ∷ j)
         → e.call ≡ call.Launched l start.Done → SameActions j (e ∷ j) }
@@ -194,9 +199,9 @@ pub fn reports_change_nothing()
         → SameActions j (e ∷ j) }
 {}
 
-/// Every order is done, or its lane still owes it: a Launch its Launched, a Send its Wrote, a Gather its
-/// Claim, a Kill its Killed, and a grant of files its Committed. A line that was given to its tap lane has
-/// ended, or is still read.
+/// Every order is done, or its lane still owes the report. A Launch is followed by its Launched, a
+/// Send by its Wrote, a Gather by its Claim and a Kill by its Killed. A grant of files is followed
+/// by its Committed. A line that was given to its tap lane has ended, or is still read.
 pub fn orders_are_met()
     ensures launches { (p : Plan) (j : List Entry) (l m : ℕ) (t : Attempt) → Lawful p j
         → launch_of j l ≡ Some (m, t) → ((started j l || failed j l) ≡ true)
@@ -214,8 +219,8 @@ pub fn orders_are_met()
         → was_taken j l ≡ true → (has_ended j l ≡ true) ⊎ IsRead j l }
 {}
 
-/// A Launched answers its line's Launch, and a Wrote that reports unwritten a Send, each the newest work of
-/// its lane. While a Wrote is owed, no feed of its line has failed.
+/// A Launched answers its line's Launch, and a Wrote that reports unwritten answers a Send. The order
+/// is the newest work of the report's lane. While a Wrote is owed, no feed of its line has failed.
 pub fn reports_answer_orders()
     ensures launched { (p : Plan) (j : List Entry) (lane l m : ℕ) (how : Started) (t : Attempt)
         → Lawful p j → in_script p j lane (call.Launched l how) ≡ true

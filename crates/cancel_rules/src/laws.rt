@@ -1,4 +1,5 @@
-//! How the table follows a journal. The functions do nothing: each is a law, for those who keep a table of a journal.
+//! How the table follows a journal. The functions do nothing. Each one is a law, for a program that
+//! keeps a table of a journal.
 ghost use Rattle.std.specs.Prelude.{◌≡◌, ◌<◌, ℕ, ℤ, List, ◌∷◌, Some, None, true, false, ◌&&◌, not, option_map, length, filter};
 ghost use Rattle.exec_journal.specs.declared.attempt.Attempt.{Attempt};
 ghost use Rattle.exec_journal.specs.declared.call.Answer.{Answer};
@@ -20,7 +21,7 @@ ghost use Rattle.cancel_rules.specs.Entries.{WantedByGrant};
 ghost use Rattle.cancel_rules.specs.Marks.{Facts, rows_of, with_sent, with_gone, with_ended, with_asked, with_unwanted, cancel_of};
 ghost use Rattle.cancel_rules.specs.Stands.{Stands};
 
-/// A Send: `sent` is called.
+/// After a Send, `sent` is called.
 pub fn sends_are_kept()
     ensures { (p : Plan) (f : Facts) (j : List Entry) (lane l : ℕ) (n : ℤ) (a : ℕ) (b : Branch)
         (t : ℕ) → Stands p f j → IsNewRequest j l (attempt_of a b t)
@@ -28,7 +29,7 @@ pub fn sends_are_kept()
         (record { lane = lane; call = call.Ask; reply = reply.Send l n a b t } ∷ j) }
 {}
 
-/// An Answer that is consumed, whether its reply is Matched or Late: `gone` is called.
+/// After a consumed Answer, whether its reply is Matched or Late, `gone` is called.
 pub fn answers_are_kept()
     ensures { (p : Plan) (f : Facts) (j : List Entry) (lane l : ℕ) (x : Answer) (r : Reply)
         (s : Attempt) → Stands p f j → consumed_in r ≡ Some s → IsKnownBy j l x.number s
@@ -36,7 +37,7 @@ pub fn answers_are_kept()
         (record { lane = lane; call = call.Answer l x; reply = r } ∷ j) }
 {}
 
-/// A Wrote that says of a pending request that it wasn't written: `gone` is called.
+/// After a Wrote which reports that a pending request wasn't written, `gone` is called.
 pub fn faults_are_kept()
     ensures { (p : Plan) (f : Facts) (j : List Entry) (lane l : ℕ) (n : ℤ) (how : Written)
         (q : Request) → Stands p f j → order_of j lane ≡ Some q → is_unwritten how ≡ true
@@ -45,8 +46,8 @@ pub fn faults_are_kept()
         (record { lane = lane; call = call.Wrote l n how; reply = reply.Noted } ∷ j) }
 {}
 
-/// Any other Wrote: nothing is called, whether it says that the request was written, or is about a request that was
-/// answered or whose line has ended.
+/// After any other Wrote, nothing is called. It may report that the request was written, or be
+/// about a request that was answered or whose line has ended.
 pub fn other_writes_change_nothing()
     ensures written { (p : Plan) (f : Facts) (j : List Entry) (lane l : ℕ) (n : ℤ)
         (how : Written) → Stands p f j → is_unwritten how ≡ false
@@ -56,14 +57,14 @@ pub fn other_writes_change_nothing()
         → Stands p f (record { lane = lane; call = call.Wrote l n how; reply = reply.Noted } ∷ j) }
 {}
 
-/// A Cancel: `asked` is called.
+/// After a Cancel, `asked` is called.
 pub fn cancels_are_kept()
     ensures { (p : Plan) (f : Facts) (j : List Entry) (lane l : ℕ) (n : ℤ) → Stands p f j
         → Stands p (with_asked f l n)
         (record { lane = lane; call = call.Ask; reply = reply.Cancel l n } ∷ j) }
 {}
 
-/// An Ended, whether or not attempts end with it: `ended` is called.
+/// After an Ended, `ended` is called, whether or not attempts end with it.
 pub fn ends_are_kept()
     ensures { (p : Plan) (f : Facts) (j : List Entry) (lane l : ℕ) (how : HowEnded)
         → Stands p f j
@@ -71,7 +72,7 @@ pub fn ends_are_kept()
         (record { lane = lane; call = call.Ended l how; reply = reply.Noted } ∷ j) }
 {}
 
-/// A Claim that is granted: `unwanted` is called.
+/// After a granted Claim, `unwanted` is called.
 pub fn grants_are_kept()
     ensures { (p : Plan) (f : Facts) (j : List Entry) (lane a : ℕ) (b : Branch) (t : ℕ)
         (found : Found) → Stands p f j
@@ -79,14 +80,15 @@ pub fn grants_are_kept()
         (record { lane = lane; call = call.Claim a b t found; reply = reply.Granted } ∷ j) }
 {}
 
-/// Any other entry, and so an Answer that isn't consumed: nothing is called.
+/// After any other entry, including an Answer that isn't consumed, nothing is called.
 pub fn others_change_nothing()
     ensures { (p : Plan) (f : Facts) (j : List Entry) (e : Entry) → Stands p f j
         → is_still e.reply ≡ true → is_calm e.call ≡ true → granted_in e.call e.reply ≡ None
         → Stands p f (e ∷ j) }
 {}
 
-/// The request that `cancel_order` names is the rules', and as many places are taken as requests are pending.
+/// The request that `cancel_order` names is the rules', and as many places are taken as requests
+/// are pending.
 pub fn orders_are_the_journals()
     ensures order { (p : Plan) (f : Facts) (j : List Entry) (l : ℕ) → Stands p f j
         → l < line_room p → WantedByGrant p j l

@@ -1,4 +1,4 @@
-//! Which pending requests aren't wanted any longer, and which of them is to be cancelled next.
+//! The pending requests that are no longer wanted, and the next of them to cancel.
 #![tactic(auto)]
 
 ghost use Rattle.std.specs.Prelude.{◌≡◌, ◌*◌, ◌<◌, IfOk, [], ◌&&◌, not, false, option_copied, option_map, find, filter, map, replicate, length};
@@ -21,7 +21,8 @@ pub struct RequestRow {
     pub asked: bool,
 }
 
-/// The pending requests of a run, by line, the earliest sent first, and which actions don't want theirs any longer.
+/// The pending requests of a run, by line, the earliest sent first, and the actions that no longer
+/// want theirs.
 #[derive(Drop)]
 pub struct Cancels {
     lines: Vec<ArrayVec<RequestRow, 8>>,
@@ -37,11 +38,11 @@ impl Model for Cancels {
 }
 
 impl Cancels {
-    /// The table of a run in which nothing was sent yet.
+    /// Creates the table of a run before any request.
     ///
     /// # Errors
     ///
-    /// `NoMemory` where so many lines as the plan has attempts find no memory.
+    /// Returns `NoMemory` if memory runs out for one line per attempt of the plan.
     pub fn new(alloc: Global, plan: &Plan) -> Result<Cancels, NoMemory>
         ensures facts { IfOk result (λ t. t ≡ new_facts plan.now) }
         ensures stands { IfOk result (λ t. Stands plan.now t []) }
@@ -66,7 +67,7 @@ impl Cancels {
         });
     }
 
-    /// Notes that the request was answered or wasn't written: it isn't pending any longer.
+    /// Notes that the request was answered or wasn't written, so it is no longer pending.
     pub fn gone(&mut self, line: u32, number: i32)
         requires { line < length self.old.lines }
         ensures { self.new ≡ with_gone self.old line number }
@@ -90,7 +91,8 @@ impl Cancels {
         set_asked(&mut self.lines[line as usize], number);
     }
 
-    /// The number of the line's earliest sent pending request that isn't wanted and has no Cancel.
+    /// Returns the number of the line's earliest sent pending request that isn't wanted and has no
+    /// Cancel.
     pub fn cancel_order(&self, line: u32) -> Option<i32>
         requires { line < length self.now.lines }
         ensures { result ≡ cancel_of self.now line }
@@ -99,7 +101,7 @@ impl Cancels {
         Some(place.number)
     }
 
-    /// Notes that the action's requests aren't wanted any longer.
+    /// Notes that the action's requests are no longer wanted.
     pub fn unwanted(&mut self, action: u32)
         requires { action < length self.old.unwanted }
         ensures { self.new ≡ with_unwanted self.old action }
@@ -127,7 +129,7 @@ fn set_asked(places: &mut [RequestRow], number: i32)
     }
 }
 
-// The first of the places whose action is marked and that has no Cancel.
+// Returns the first of the places whose action is marked and that has no Cancel.
 fn first_due<'a>(places: &'a [RequestRow], unwanted: &[bool]) -> Option<&'a RequestRow>
     ensures { option_copied result ≡ find (is_due unwanted.now) places.now }
 {
@@ -147,7 +149,7 @@ fn is_marked(unwanted: &[bool], action: u32) -> bool
 
 // ---- a new table
 
-// As many lines as there can be attempts.
+// Returns the number of possible attempts, each of which may have a line.
 fn line_room(plan: &Plan) -> Result<usize, NoMemory>
     ensures { IfOk result (λ n. n ≡ length plan.now.actions * 2 * plan.now.limit) }
 {

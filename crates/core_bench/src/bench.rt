@@ -30,13 +30,13 @@ pub struct Bench<B: Berth, P: Place, C: Rules> {
 }
 
 impl<B: Berth, P: Place, C: Rules> Bench<B, P, C> {
-    /// A bench of this core, on whose shelf the places of all actions lie, in the order of the
-    /// actions, and nothing else. All slots of the shelf are made here, so that a turn only moves
-    /// what is there.
+    /// Creates a bench of this core. Its shelf contains the places of all actions, in the order of
+    /// the actions, and nothing else. All slots of the shelf are made here, so a turn only moves
+    /// objects.
     ///
     /// # Errors
     ///
-    /// The places, as they were, if there is no memory for the slots. The core is dropped.
+    /// Returns the places, unchanged, if memory runs out for the slots. The core is dropped.
     pub fn new(alloc: Global, core: C, places: Vec<P>) -> Result<Bench<B, P, C>, Vec<P>>
         requires core { C.stands core [] }
         requires places { AreFresh P.told (C.terms (C.plan core)).actions places.items }
@@ -55,8 +55,8 @@ impl<B: Berth, P: Place, C: Rules> Bench<B, P, C> {
         }
     }
 
-    /// The core, for each berth the tap that no lane has taken, and for each action its place, if no
-    /// lane has it. It takes no memory.
+    /// Returns the core, each berth's tap if no lane has taken it, and each action's place if no
+    /// lane has it. The function takes no memory.
     pub fn into_parts(self) -> (C, Vec<Option<B::Tap>>, Vec<Option<P>>)
         ensures basis { C.plan result.0 ≡ ⟦<Bench<B, P, C> as Machine>⟧.basis self }
         ensures parts { (h : List (Entry Call Reply))

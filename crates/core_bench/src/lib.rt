@@ -1,11 +1,12 @@
-//! The machine of the desk: a scheduling core with a shelf, on which children, taps and places lie
-//! while no lane has them.
+//! The machine of the desk: a scheduling core with a shelf, which contains children, taps and
+//! places while no lane has them.
 //!
-//! What lies on the shelf is a function of the history: a started line puts its child and its tap
-//! there, its tap lane takes the tap, a Kill or its proxy lane's Halt takes the child, a grant of
-//! files takes the action's place, and its Committed puts the place back.
+//! The contents of the shelf are a function of the history. A started line puts its child and its
+//! tap there. Its tap lane takes the tap. A Kill, or its proxy lane's Halt, takes the child. A
+//! grant of files takes the action's place, and its Committed puts the place back.
 //!
-//! The bench also keeps who has news, and names after each call the lanes to which it gave some.
+//! The bench also records which lanes have news, and after each call names the lanes that got news
+//! by it.
 #![tactic(auto)]
 
 mod bench;

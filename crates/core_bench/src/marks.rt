@@ -3,7 +3,7 @@ ghost use Rattle.std.specs.Prelude.{◌≡◌, ◌<◌, ◌+◌, ◌==◌, ◌&&
 ghost use Rattle.std.specs.Int.{bit_at};
 ghost use Rattle.core_bench.specs.Marks.{Marks};
 
-/// These lanes, which are below this one, and this one where it is to be marked.
+/// Returns these lanes, which are below `lane`, together with `lane` if it must be marked.
 pub(crate) fn mark(lanes: u128, lane: u32, is: bool) -> u128
     requires { lane < 128 }
     ensures { (f : ℕ → Bool) → Marks lanes lane f → f lane ≡ is → Marks result (lane + 1) f }
@@ -11,7 +11,7 @@ pub(crate) fn mark(lanes: u128, lane: u32, is: bool) -> u128
     if is { lanes | (1 << lane) } else { lanes }
 }
 
-// The lane isn't the one that calls, and is none of these.
+// Returns true if the lane isn't the caller and is none of these.
 fn is_apart(lanes: u128, caller: u32, lane: u32) -> bool
     requires { lane < 128 }
     ensures { result ≡ (not (lane == caller) && (bit_at lanes lane == 0)) }
@@ -19,7 +19,7 @@ fn is_apart(lanes: u128, caller: u32, lane: u32) -> bool
     lane != caller && (lanes >> lane) % 2 == 0
 }
 
-/// A lane that has news, isn't the one that calls, and is none of these.
+/// Returns true if the lane has news, isn't the caller and is none of these.
 pub(crate) fn is_stirred(has_news: bool, lanes: u128, caller: u32, lane: u32) -> bool
     requires { lane < 128 }
     ensures { result ≡ (has_news && (not (lane == caller) && (bit_at lanes lane == 0))) }

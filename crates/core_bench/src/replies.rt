@@ -5,7 +5,7 @@ ghost use Rattle.core_bench.specs.Replies.{is_start, is_order, is_of_tap};
 
 use exec_journal::Reply;
 
-/// An equal reply, if it joins the history, and else Idle. It takes no memory.
+/// Returns an equal reply if it joins the history, otherwise Idle. The function takes no memory.
 pub(crate) fn copy_of(reply: &Reply) -> Reply
     ensures { is_kept reply.now ≡ true → result ≡ reply.now }
 {
@@ -31,7 +31,7 @@ pub(crate) fn copy_of(reply: &Reply) -> Reply
     }
 }
 
-/// Of an order by which an attempt starts.
+/// Copies an order by which an attempt starts.
 fn copy_of_start(reply: &Reply) -> Reply
     ensures { is_start reply.now ≡ true → result ≡ reply.now }
 {
@@ -64,7 +64,7 @@ fn copy_of_start(reply: &Reply) -> Reply
     }
 }
 
-/// Of any other order.
+/// Copies any other order.
 fn copy_of_order(reply: &Reply) -> Reply
     ensures { is_order reply.now ≡ true → result ≡ reply.now }
 {
@@ -93,7 +93,7 @@ fn copy_of_order(reply: &Reply) -> Reply
     }
 }
 
-/// Of a reply to a tap lane, which is given a line and says what comes out of it.
+/// Copies a reply to a tap lane, which is given a line and reports what the line writes.
 fn copy_of_tap_reply(reply: &Reply) -> Reply
     ensures { is_of_tap reply.now ≡ true → result ≡ reply.now }
 {

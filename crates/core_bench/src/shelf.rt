@@ -9,8 +9,8 @@ use core_contract::Shift;
 use plain_values::NoMemory;
 use std::alloc::Global;
 
-/// What goes in with a call of a lane, and comes out with its reply. The type has no bound, so that
-/// a contract may speak of it whatever the outside is.
+/// The objects that go in with a call of a lane, or come out with its reply. The type has no bound,
+/// so a contract may name it for any outside.
 #[derive(Drop)]
 pub enum Good<K, T, P> {
     /// The child and the tap of a line that was started.
@@ -32,11 +32,11 @@ pub struct Shelf<K, T, P> {
 }
 
 impl<K: Drop, T: Drop, P: Drop> Shelf<K, T, P> {
-    /// A shelf for so many berths, on which these places lie. No other call takes memory.
+    /// Creates a shelf for `berths` berths, with these places on it. No other call takes memory.
     ///
     /// # Errors
     ///
-    /// The places, as they were, if there is no memory for the slots.
+    /// Returns the places, unchanged, if memory runs out for the slots.
     pub(crate) fn new(
         alloc: Global,
         berths: usize,
@@ -63,7 +63,7 @@ impl<K: Drop, T: Drop, P: Drop> Shelf<K, T, P> {
         })
     }
 
-    // A shelf for so many berths, on which nothing lies, with room for so many places.
+    // Creates an empty shelf for `berths` berths, with room for `places` places.
     fn empty(alloc: Global, berths: usize, places: usize) -> Result<Shelf<K, T, P>, NoMemory>
         ensures children { IfOk result (λ s. s.children.items ≡ replicate berths None) }
         ensures taps { IfOk result (λ s. s.taps.items ≡ replicate berths None) }
@@ -80,7 +80,7 @@ impl<K: Drop, T: Drop, P: Drop> Shelf<K, T, P> {
         })
     }
 
-    /// Moves what is to be moved in the slots of this berth, or of an action.
+    /// Moves the objects of this shift into or out of the slots of this berth or of an action.
     pub(crate) fn shift(
         &mut self,
         berth: usize,

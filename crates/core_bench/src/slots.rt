@@ -1,4 +1,4 @@
-//! Lists of slots, in each of which something lies or nothing does.
+//! Lists of slots, each of which is empty or contains one object.
 ghost use Rattle.std.specs.Prelude.{◌≡◌, ◌<◌, ◌≤◌, ◌+◌, [], IfOk, Some, None, length, map, set, replicate, vec_len, vec_capacity};
 ghost use Rattle.core_bench.specs.Slots.{lies_in};
 
@@ -6,7 +6,7 @@ use plain_values::NoMemory;
 use std::alloc::Global;
 use std::collections::VecDeque;
 
-/// So many slots, in which nothing lies.
+/// Creates `count` empty slots.
 pub(crate) fn empty_slots<X: Drop>(alloc: Global, count: usize) -> Result<Vec<Option<X>>, NoMemory>
     ensures { IfOk result (λ v. v.items ≡ replicate count None) }
 {
@@ -17,8 +17,8 @@ pub(crate) fn empty_slots<X: Drop>(alloc: Global, count: usize) -> Result<Vec<Op
     Ok(slots)
 }
 
-/// A slot for each of these things, in their order, in which it lies. It takes no memory: there is room
-/// for them in `room`.
+/// Returns a slot for each of these things, in their order, with the thing in it. The function
+/// takes no memory: there is room for them in `room`.
 pub(crate) fn full_slots<X: Drop>(things: Vec<X>, room: Vec<Option<X>>) -> Vec<Option<X>>
     requires empty { room.items ≡ [] }
     requires room { vec_len room + length things.items ≤ vec_capacity room }
@@ -32,7 +32,7 @@ pub(crate) fn full_slots<X: Drop>(things: Vec<X>, room: Vec<Option<X>>) -> Vec<O
     slots
 }
 
-/// Takes what lies in the slot.
+/// Takes the thing out of the slot, if there is one.
 pub(crate) fn take_at<X: Drop>(slots: &mut Vec<Option<X>>, index: usize) -> Option<X>
     ensures taken { result ≡ lies_in slots.old.items index }
     ensures left { slots.new.items ≡ set slots.old.items index None }
@@ -40,7 +40,7 @@ pub(crate) fn take_at<X: Drop>(slots: &mut Vec<Option<X>>, index: usize) -> Opti
     slots.get_mut(index)?.take()
 }
 
-/// Puts it into the slot, if there is one.
+/// Puts the thing into the slot, if there is such a slot.
 pub(crate) fn put_at<X: Drop>(slots: &mut Vec<Option<X>>, index: usize, thing: X)
     ensures { slots.new.items ≡ set slots.old.items index (Some thing) }
 {

@@ -1,4 +1,4 @@
-//! Who has news, and to whom the newest call gave some.
+//! The lanes that have news, and those to which the newest call gave some.
 ghost use Rattle.std.specs.Prelude.{◌≡◌, ◌≤◌, ℕ, Bool, []};
 ghost use Rattle.exec_journal.specs.declared.call.Call.{Call};
 ghost use Rattle.exec_journal.specs.declared.reply.Reply.{Reply};
@@ -9,20 +9,20 @@ use crate::marks::{is_stirred, mark};
 use core_contract::Rules;
 use exec_journal::Reply;
 
-/// The most lanes of which a hint speaks, a bit for each.
+/// The most lanes that a hint covers, a bit for each.
 const MOST_LANES: u32 = 128;
 
 /// Lanes as the bits of a number: bit `k` is lane `k`.
 #[derive(Clone, Copy, PartialEq, Eq)]
 pub struct Waking {
-    /// Lanes that have news. All others may be told no more than Idle.
+    /// The lanes that have news. Any other lane may get no more than Idle.
     pub(crate) with_news: u128,
-    /// The lanes to which the newest call whose entry is kept gave news.
+    /// The lanes that got news by the newest recorded call.
     pub(crate) stirred: u128,
 }
 
 impl Waking {
-    /// Before any call.
+    /// Returns the value before any call.
     pub(crate) fn new() -> Waking
         ensures { (rule : History → ℕ → Call → Reply) (ticks : ℕ → Bool) → Wakes rule ticks [] result }
     {
@@ -32,8 +32,8 @@ impl Waking {
         }
     }
 
-    /// After a call of this lane that was answered so: if its entry is kept, looks which lanes the
-    /// core has news for, and which of them had none before.
+    /// Updates the value after a call of this lane with this reply. If the entry is recorded,
+    /// checks which lanes the core has news for, and which of them had none before.
     pub(crate) fn look_round<C: Rules>(&mut self, core: &C, caller: u32, reply: &Reply)
         ensures { LooksRound (C.news core.now) (lanes_of (C.terms (C.plan core.now)).berths)
             caller reply.now self.old self.new }
@@ -53,7 +53,7 @@ impl Waking {
         self.stirred = stirred;
     }
 
-    /// The lanes to which a call gave news that was answered so.
+    /// Returns the lanes that got news by the call with this reply.
     pub(crate) fn stirred_by(&self, reply: &Reply) -> u128
         ensures { (rule : History → ℕ → Call → Reply) (ticks : ℕ → Bool)
             → Hints rule ticks self.now reply.now result }
@@ -62,7 +62,7 @@ impl Waking {
     }
 }
 
-// How many lanes the core's plan has, of those that a hint speaks of.
+// Returns how many of the plan's lanes a hint covers.
 fn lanes_of<C: Rules>(core: &C) -> u32
     ensures all { result ≡ lanes_of (C.terms (C.plan core.now)).berths }
     ensures most { result ≤ 128 }

@@ -31,16 +31,17 @@ pub trait Rules: Sized + Drop {
     /// The basis of a core. It never changes, and no value of it is made at run time.
     type Plan;
 
-    // What this core goes by.
+    // The plan of this core.
     ghost plan: { Self → Self.Plan };
 
     // Some plan.
     ghost blank: { Self.Plan };
 
-    // The core may have come about by these calls, the oldest first: it stands for this history.
+    // The core stands for this history, the oldest call first: these calls may have led to its
+    // state.
     ghost stands: { Self → List (Entry Call Reply) → Type 0 };
 
-    // Some core may come about by these calls.
+    // These calls may lead to the state of some core.
     ghost legal: { Self.Plan → List (Entry Call Reply) → Type 0 };
 
     // The reply to this lane's call after a history.
@@ -49,16 +50,16 @@ pub trait Rules: Sized + Drop {
     // The calls of a lane that a history has paid for.
     ghost paid: { Self.Plan → List (Entry Call Reply) → ℕ → Call → Type 0 };
 
-    // How many paid entries are still to come after a history.
+    // The number of paid entries that are still to come after a history.
     ghost owes: { Self.Plan → List (Entry Call Reply) → ℕ };
 
-    // What lanes and the bench go by of the plan.
+    // The parts of the plan that lanes and the bench use.
     ghost terms: { Self.Plan → Terms };
 
     // The lanes that make Ticks, each of which is a berth's proxy lane.
     ghost ticks: { Self.Plan → ℕ → Bool };
 
-    // Whether a lane has news, by what the core keeps.
+    // True if a lane has news, as a function of the core's state.
     ghost news: { Self → ℕ → Bool };
 
     /// Answers the call of this lane. If the reply should be a file, it may be lack of memory instead.
@@ -83,27 +84,27 @@ pub trait Rules: Sized + Drop {
     fn most_lines(&self) -> u32
         ensures { result ≡ (terms (plan self.now)).line_room };
 
-    // A paid call is answered Noted, and so never by lack of memory.
+    // A paid call gets the reply Noted, and so never a lack of memory.
     ghost paid_is_noted: { (m : Self) (h : List (Entry Call Reply)) (lane : ℕ) (c : Call)
         → stands m h → paid (plan m) h lane c → rule (plan m) h lane c ≡ reply.Noted };
 
-    // What a history pays for stays paid for after entries of other lanes.
+    // A call that a history has paid for stays paid for after entries of other lanes.
     ghost paid_stays: { (m : Self) (h more : List (Entry Call Reply)) (lane : ℕ) (c : Call)
         → stands m (h ++ more) → calls_by lane more ≡ []
         → paid (plan m) h lane c → paid (plan m) (h ++ more) lane c };
 
-    // A paid call pays one of what is owed.
+    // A paid call lowers the number of owed entries by one.
     ghost owes_less: { (m : Self) (h : List (Entry Call Reply)) (lane : ℕ) (c : Call)
         → stands m h → paid (plan m) h lane c
         → owes (plan m) (h ++ entry lane c reply.Noted ∷ []) + 1 ≡ owes (plan m) h };
 
-    // Any call raises it by two at most.
+    // Any call raises that number by at most two.
     ghost owes_more: { (m : Self) (h : List (Entry Call Reply)) (lane : ℕ) (c : Call)
         → stands m h → is_kept (rule (plan m) h lane c) ≡ true
         → owes (plan m) (h ++ entry lane c (rule (plan m) h lane c) ∷ [])
         ≤ owes (plan m) h + 2 };
 
-    // A call in its lane's script is answered by a reply of its kind.
+    // A call in its lane's script gets a reply of its kind.
     ghost replies: { (q : Self.Plan) (h : List (Entry Call Reply)) (lane : ℕ) (c : Call)
         → Fits c (rule q h lane c) };
 
@@ -111,61 +112,61 @@ pub trait Rules: Sized + Drop {
     ghost lanes_are_known: { (q : Self.Plan) (h : List (Entry Call Reply)) (lane : ℕ) (c : Call)
         → InScript (rule q) h lane c → lane / 2 < (terms q).berths };
 
-    // It stays in the script after entries of other lanes.
+    // A call in a script stays there after entries of other lanes.
     ghost script_stays: { (q : Self.Plan) (h more : List (Entry Call Reply)) (lane : ℕ) (c : Call)
         → calls_by lane more ≡ []
         → InScript (rule q) h lane c → InScript (rule q) (h ++ more) lane c };
 
-    // Which calls are in a tap lane's script, its own entries say alone.
+    // The calls in a tap lane's script depend only on the lane's own entries.
     ghost taps_hear: { (q : Self.Plan) (h : List (Entry Call Reply)) (w : ℕ) (c : Call)
         → w < (terms q).berths → may_hear (hearing_of (calls_by (tap_lane w) h)) c ≡ true
         → InScript (rule q) h (tap_lane w) c };
 
-    // After a history that came about no other call is.
+    // After a history that a core can reach, no other call is in the script.
     ghost taps_hear_only: { (q : Self.Plan) (h : List (Entry Call Reply)) (w : ℕ) (c : Call)
         → legal q h → InScript (rule q) h (tap_lane w) c
         → may_hear (hearing_of (calls_by (tap_lane w) h)) c ≡ true };
 
-    // Its Halt is paid for, until it was told to stop or has halted.
+    // A tap lane's Halt is paid for until the lane was told to stop or has halted.
     ghost taps_may_halt: { (q : Self.Plan) (h : List (Entry Call Reply)) (w : ℕ)
         → w < (terms q).berths → (hearing_of (calls_by (tap_lane w) h) ≡ Over → ⊥)
         → paid q h (tap_lane w) call.Halt };
 
-    // Which calls are in a proxy lane's script, its own entries say alone.
+    // The calls in a proxy lane's script depend only on the lane's own entries.
     ghost proxies_do: { (q : Self.Plan) (h : List (Entry Call Reply)) (w : ℕ) (c : Call)
         → w < (terms q).berths
         → may_do (terms q) w (duty_of (calls_by (proxy_lane w) h)) c ≡ true
         → InScript (rule q) h (proxy_lane w) c };
 
-    // No other call is, but a Halt of a lane that owes a Committed, and a Committed of one that has
-    // left.
+    // No other call is in it, except the Halt of a lane that owes a Committed and the Committed of
+    // a lane that has left.
     ghost proxies_do_only: { (q : Self.Plan) (h : List (Entry Call Reply)) (w : ℕ) (c : Call)
         → InScript (rule q) h (proxy_lane w) c
         → may_make (terms q) w (duty_of (calls_by (proxy_lane w) h)) c ≡ true };
 
-    // One that makes Ticks may make one wherever it owes nothing.
+    // A lane that makes Ticks may make one whenever it owes nothing.
     ghost tickers_may_tick: { (q : Self.Plan) (h : List (Entry Call Reply)) (w : ℕ)
         → w < (terms q).berths → ticks q (proxy_lane w) ≡ true
         → duty_of (calls_by (proxy_lane w) h) ≡ Asks
         → InScript (rule q) h (proxy_lane w) call.Tick };
 
-    // Its Halt is paid for, until it was told to stop or has halted.
+    // A proxy lane's Halt is paid for until the lane was told to stop or has halted.
     ghost proxies_may_halt: { (q : Self.Plan) (h : List (Entry Call Reply)) (w : ℕ)
         → w < (terms q).berths → (duty_of (calls_by (proxy_lane w) h) ≡ Left → ⊥)
         → paid q h (proxy_lane w) call.Halt };
 
-    // So is the Committed of an action's branch that it was granted files of.
+    // The Committed of an action's branch whose files were granted to the lane is paid for too.
     ghost commits_are_paid: { (q : Self.Plan) (h : List (Entry Call Reply)) (w a : ℕ) (b : Branch)
         (fs : List (List ℕ)) (how : CommitEnd)
         → w < (terms q).berths → duty_of (calls_by (proxy_lane w) h) ≡ Commits a b fs
         → paid q h (proxy_lane w) (call.Committed a b how) };
 
-    // An Answer and an Ended come from the tap lane that hears the line.
+    // An Answer or an Ended comes from the tap lane that reads the line.
     ghost only_hears: { (q : Self.Plan) (h : List (Entry Call Reply)) (lane : ℕ) (c : Call) (l : ℕ)
         → tells_of l c ≡ true → InScript (rule q) h lane c
         → hearing_of (calls_by lane h) ≡ Hears l };
 
-    // A lane that the core has news for may ask, and is told more than Idle; and no other is.
+    // `news` is true exactly if the lane may ask and would get more than Idle.
     ghost news_are: { (m : Self) (h : List (Entry Call Reply)) (lane : ℕ)
         → stands m h → SaysNews (rule (plan m)) (ticks (plan m)) h lane (news m lane) };
 
@@ -173,39 +174,41 @@ pub trait Rules: Sized + Drop {
     ghost stands_legal: { (m : Self) (h : List (Entry Call Reply))
         → stands m h → legal (plan m) h };
 
-    // So is a legal history without its last entry, whose reply is the rule's, and is kept.
+    // A legal history stays legal without its last entry. That entry's reply is the rule's, and is
+    // recorded.
     ghost legal_before: { (q : Self.Plan) (h : List (Entry Call Reply)) (e : Entry Call Reply)
         → legal q (h ++ e ∷ [])
         → legal q h × (e.reply ≡ rule q h e.lane e.call) × (is_kept e.reply ≡ true) };
 
-    // What an order says holds: which line it names, which action, and what lies on the shelf then.
+    // The facts in an order hold: the line that it names, the action, and the objects on the shelf
+    // at that time.
     ghost orders_hold: { (q : Self.Plan) (h : List (Entry Call Reply)) (lane : ℕ)
         → legal q h
         → OrderHolds (terms q).actions (child_at (lane / 2) h) (lines_in h)
         (rule q h lane call.Ask) };
 
-    // An order is of an attempt whose group is an executor's exactly where the berth is.
+    // An order's attempt is of an executor's group exactly if the berth is an executor's.
     ghost orders_fit: { (q : Self.Plan) (h : List (Entry Call Reply)) (lane : ℕ)
         → legal q h
         → OrderFits (terms q).plan ((terms q).remote (lane / 2)) (rule q h lane call.Ask) };
 
-    // No more lines are ordered than there may be.
+    // The number of ordered lines is at most `line_room`.
     ghost lines_fit: { (q : Self.Plan) (h : List (Entry Call Reply))
         → legal q h → lines_in h ≤ (terms q).line_room };
 
-    // The made inputs of a request that was ordered are there when its lane looks at them.
+    // The made inputs of an ordered request are present when its lane looks at them.
     ghost inputs_are_there: { (q : Self.Plan) (h : List (Entry Call Reply)) (w l : ℕ) (n : ℤ)
         (t : Attempt) (c o : ℕ)
         → legal q h → duty_of (calls_by (proxy_lane w) h) ≡ Sends l n t
         → is_maker ((terms q).makers t.action) c o ≡ true
         → says_file (rule q h (proxy_lane w) (call.Look (wanted.Made c o))) ≡ true };
 
-    // Nothing lies on the shelf for the berth where a line is put there.
+    // The berth's shelf slots are empty when a line is put there.
     ghost lines_find_room: { (q : Self.Plan) (h : List (Entry Call Reply)) (lane l : ℕ)
         → legal q h → InScript (rule q) h lane (call.Launched l start.Done)
         → (child_at (lane / 2) h ≡ None) × (tap_at (lane / 2) h ≡ None) };
 
-    // A line is given to a tap lane while its tap lies on the shelf for its berth.
+    // A line is given to a tap lane while its tap is on the shelf for its berth.
     ghost takes_there: { (q : Self.Plan) (h : List (Entry Call Reply)) (lane l : ℕ)
         → legal q h → rule q h lane call.Take ≡ reply.Line l → tap_at (lane / 2) h ≡ Some l };
 
@@ -213,14 +216,14 @@ pub trait Rules: Sized + Drop {
     ghost takes_once: { (q : Self.Plan) (h : List (Entry Call Reply)) (lane l : ℕ)
         → legal q h → rule q h lane call.Take ≡ reply.Line l → is_taken l h ≡ false };
 
-    // Files are granted once at most for each action, and only for one of the plan.
+    // Files are granted at most once for each action, and only for an action of the plan.
     ghost grants_once: { (q : Self.Plan) (h : List (Entry Call Reply)) (lane a : ℕ) (b : Branch)
         (t : ℕ) (fs : List (List ℕ))
         → legal q h → rule q h lane (call.Claim a b t (found.Files fs)) ≡ reply.Granted
         → (a < (terms q).actions) × (place_at a h ≡ Fresh) };
 
-    // A Committed comes from the lane that was granted the action's files, and the files are those
-    // of its last grant.
+    // A Committed comes from the lane that was granted the action's files. The files are those of
+    // its last grant.
     ghost commits_own: { (q : Self.Plan) (h : List (Entry Call Reply)) (lane a : ℕ) (b : Branch)
         (how : CommitEnd)
         → legal q h → InScript (rule q) h lane (call.Committed a b how)

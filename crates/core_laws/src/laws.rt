@@ -1,4 +1,4 @@
-//! How what the core keeps follows a journal. The functions do nothing: each is a law.
+//! How the core's tables follow a journal. The functions do nothing: each is a law.
 ghost use Rattle.std.specs.Prelude.{◌≡◌, ◌/◌, ℕ, List, ◌∷◌, Some, true, false};
 ghost use Rattle.run_plan.specs.declared.plan.Kind.{Kind};
 ghost use Rattle.run_plan.specs.declared.plan.Plan.{Plan};
@@ -22,15 +22,16 @@ ghost use Rattle.core_laws.specs.Ends.{chain_counts, chain_states};
 ghost use Rattle.core_laws.specs.Premises.{AllBegun, EndsTogether};
 ghost use Rattle.core_laws.specs.Stands.{MayCall, SeatFits, Stands};
 
-/// What the lanes allow is what their scripts have, whatever kind of lines is at their berths.
+/// The lanes allow exactly the calls in their scripts, regardless of the kind of the lines at their
+/// berths.
 pub fn scripts_are_kept()
     ensures { (p : Plan) (seats : ℕ) (k : Kind) (s : State) (j : List Entry) (lane : ℕ) (c : Call)
         → Stands p seats s j → allows_by p k s.lanes lane c
         ≡ seat_script seats (λ _. k) p j lane c }
 {}
 
-/// An entry with which several attempts end: the end of each is called, in any order, also of one
-/// that has ended before.
+/// After an entry with which several attempts end, the end of each is called, in any order. This
+/// includes attempts that have ended before.
 pub fn ends_come_together()
     ensures counts { (p : Plan) (seats : ℕ) (s : State) (j : List Entry) (e : Entry)
         (ts : List Attempt) → Stands p seats s j → AllBegun p j ts → EndsTogether j e ts
@@ -40,8 +41,8 @@ pub fn ends_come_together()
         → queues.Stands p (chain_states p s.race s.attempts s.ready ts) (e ∷ j) }
 {}
 
-/// An Ask, whatever is chosen: where its reply has its reasons and is kept, the state stands for the
-/// journal with its entry after the choice was carried out.
+/// The state follows an Ask, for any choice. If the Ask's reply has its reasons and is recorded,
+/// the state after the choice was applied stands for the journal with the Ask's entry.
 pub fn asks_are_kept()
     ensures { (p : Plan) (seats : ℕ) (s : State) (j : List Entry) (lane : ℕ) (x : Choice)
         → Stands p seats s j → MayCall p seats j lane Ask
@@ -52,8 +53,8 @@ pub fn asks_are_kept()
         (record { lane = lane; call = Ask; reply = carried_reply s (lane / 2) x } ∷ j) }
 {}
 
-/// Each call but an Ask and a Look: its reply is the one that is its own, and after it the state
-/// stands for the journal with its entry, where the reply is kept.
+/// Each call but an Ask and a Look gets its own reply. If the reply is recorded, the state after
+/// the call stands for the journal with its entry.
 pub fn calls_are_kept()
     ensures told { (p : Plan) (seats : ℕ) (s : State) (j : List Entry) (lane : ℕ)
         (seat : BerthGroup)
@@ -67,8 +68,8 @@ pub fn calls_are_kept()
         (record { lane = lane; call = c; reply = made_reply s lane seat c } ∷ j) }
 {}
 
-/// All that a call in its lane's script asks of the tables is there, and all that is asked where a
-/// choice is carried out.
+/// All requirements of a call in its lane's script on the tables hold. So do those of applying a
+/// choice whose reply has its reasons.
 pub fn calls_may_be_made()
     ensures calls { (p : Plan) (seats : ℕ) (s : State) (j : List Entry) (lane : ℕ)
         (seat : BerthGroup)

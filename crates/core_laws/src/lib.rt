@@ -1,5 +1,5 @@
-//! What holds of the scheduling core's tables together: how they follow a journal. The functions do
-//! nothing: each is a law, for whoever keeps the tables.
+//! Facts about the scheduling core's tables together: how they follow a journal. The functions do
+//! nothing. Each one is a law, for a program that keeps the tables.
 #![tactic(auto)]
 
 pub mod laws;

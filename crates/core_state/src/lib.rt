@@ -1,4 +1,4 @@
-//! All that is kept of a run, and what each call makes of it.
+//! The scheduler's state: one table for each concern, and how each call changes them.
 #![tactic(auto)]
 
 mod choice;

@@ -1,4 +1,4 @@
-// What a call in its lane's script makes of the tables, and what is noted of its entry.
+// The effect of a call in its lane's script on the tables, and what is noted of its entry.
 ghost use Rattle.std.specs.Prelude.{◌≡◌, true, ◌<◌, ◌/◌, length};
 ghost use Rattle.core_state.specs.Noted.{noted_if_kept};
 ghost use Rattle.core_state.specs.Steps.{CanMake, is_report, made_reply, made};
@@ -8,8 +8,8 @@ use core_tables::BerthGroup;
 use exec_journal::{Attempt, Call, Reply};
 
 impl State {
-    /// The reply to a call that is in its lane's script, and what it makes of the tables. For an Ask
-    /// what was chosen is carried out, and a Look asks nothing of them.
+    /// Applies a call other than Ask and Look, which must be in the lane's script, and returns the
+    /// reply.
     pub fn make(&mut self, lane: u32, seat: BerthGroup, call: &Call) -> Reply
         requires can { CanMake self.old lane seat call.now }
         requires report { is_report call.now ≡ true }
@@ -43,7 +43,7 @@ impl State {
         }
     }
 
-    /// Notes the entry that the call makes with its reply, where it is kept.
+    /// Updates the per-lane tables for this call and reply, if the entry is recorded.
     pub fn note(&mut self, lane: u32, call: &Call, reply: &Reply)
         requires lane { lane < length self.old.lanes }
         requires berth { lane / 2 < length self.old.greetings }

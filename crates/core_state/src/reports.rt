@@ -1,4 +1,4 @@
-// What a tap lane hears, and what became of a write.
+// The messages that a tap lane reads, and the outcomes of writes.
 ghost use Rattle.std.specs.Prelude.{◌≡◌, ◌<◌, ◌≤◌, length, Some};
 ghost use Rattle.request_table.specs.declared.RequestRow.{RequestRow};
 ghost use Rattle.core_state.specs.Choices.{row_at};
@@ -20,7 +20,7 @@ use request_table::{Matching, RequestRow};
 use retry_rules::Attempts;
 
 impl State {
-    /// An Answer that the tap lane of this berth has heard on its line.
+    /// Handles Answer: an answer that the tap lane of this berth has read from its line.
     pub fn answer(&mut self, berth: u32, seat: BerthGroup, line: u32, answer: &Answer) -> Reply
         requires { CanAnswer self.old berth seat line answer.now.number }
         ensures reply { result ≡ answer_reply_by self.old berth seat line answer.now }
@@ -35,7 +35,7 @@ impl State {
         self.answer_to(berth, seat, line, answer)
     }
 
-    // An answer that comes from a line that isn't broken, and is no greeting.
+    // Handles an answer that comes from an unbroken line and is no greeting.
     fn answer_to(&mut self, berth: u32, seat: BerthGroup, line: u32, answer: &Answer) -> Reply
         requires { CanAnswer self.old berth seat line answer.now.number }
         ensures reply { result ≡ told_reply self.old seat line answer.now }
@@ -73,7 +73,7 @@ impl State {
         Reply::Breach(why)
     }
 
-    // On a Single line an answer that finds no request is a Breach.
+    // Handles an answer that finds no request. On a Single line it is a Breach.
     fn unmatched(&mut self, berth: u32, seat: BerthGroup, line: u32, why: StrayWhy) -> Reply
         requires line { line < length self.old.pool.lines }
         requires last { berth < length self.old.last }
@@ -87,7 +87,7 @@ impl State {
         }
     }
 
-    // The group of a line says which branch of the action it runs.
+    // Returns the attempt of this number. Its branch is the one that the line's group runs.
     fn attempt_in(&self, seat: BerthGroup, action: u32, number: u32) -> Attempt
         ensures { result ≡ attempt_in self.now.plan seat action number }
     {
@@ -121,7 +121,7 @@ impl State {
         }
     }
 
-    /// A Wrote of the lane's order, on its berth's last line.
+    /// Handles Wrote: the outcome of the lane's order to write, on its berth's last line.
     pub fn wrote(&mut self, lane: u32, berth: u32, line: u32, number: i32, how: Written) -> Reply
         requires { CanWrite self.old lane berth line (sent_in (order_at self.old lane)) }
         ensures reply { result ≡ Reply.Noted }
@@ -134,8 +134,8 @@ impl State {
         }
     }
 
-    // The feed takes nothing more: the line broke. Where it has ended before, the attempt is lost
-    // with it.
+    // Handles a feed that takes nothing more: the line broke. If the line had ended before, the
+    // attempt is lost with it.
     fn feed_fault(&mut self, lane: u32, berth: u32, line: u32) -> Reply
         requires { CanWrite self.old lane berth line (sent_in (order_at self.old lane)) }
         ensures reply { result ≡ Reply.Noted }
@@ -188,7 +188,7 @@ impl State {
         }
     }
 
-    // The request wasn't written. Where it was answered already, its line broke.
+    // Handles a request that wasn't written. If it was answered already, its line broke.
     fn unwritten(
         &mut self,
         lane: u32,
@@ -221,8 +221,8 @@ impl State {
         self.last.broke(berth, Cause::Breach);
     }
 
-    /// An Ended of this berth's last line: what is pending on it, bound to it, or wasn't written
-    /// whole to it, ends.
+    /// Handles Ended: ends every attempt that is pending on the berth's last line, bound to it, or
+    /// not fully written to it.
     pub fn ended(&mut self, berth: u32, seat: BerthGroup, line: u32, how: HowEnded) -> Reply
         requires { CanEndAll self.old berth seat line }
         ensures reply { result ≡ Reply.Noted }
@@ -253,7 +253,7 @@ impl State {
     }
 }
 
-// An executor's first answer, with the number 0 and the version 2 or more.
+// Returns true if this is an executor's first answer, with the number 0 and the version 2 or more.
 fn is_greeting(seat: BerthGroup, said: Greeting, answer: &Answer) -> bool
     ensures { result ≡ is_greeting_by seat (Some said) answer.now }
 {
@@ -273,7 +273,7 @@ fn new_match(line: u32, answer: &Answer, attempt: Attempt) -> Match
     }
 }
 
-// Of those that are pending each attempt ends.
+// Ends the attempt of each pending request.
 fn end_places(
     plan: &Plan,
     race: &Race,
@@ -324,7 +324,7 @@ fn branch_in(plan: &Plan, action: u32, group: u32) -> Branch
     }
 }
 
-// The attempt's request is pending.
+// Returns true if the attempt's request is pending.
 fn is_waiting(places: &[RequestRow], attempt: Attempt) -> bool
     ensures { result ≡ list_any (is_open_for attempt) places.now }
 {

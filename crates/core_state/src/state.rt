@@ -1,4 +1,4 @@
-// The tables together, and what each call makes of them.
+// The tables together, and how each call changes them.
 ghost use Rattle.std.specs.Prelude.{◌≡◌, ◌≢◌, ◌<◌, ◌≤◌, ◌+◌, ◌^◌, length, slice_get, option_and_then, Some, ℕ};
 ghost use Rattle.exec_journal.specs.Seated.{kind_for, kind_in};
 ghost use Rattle.run_plan.specs.Groups.{group_of};
@@ -17,7 +17,7 @@ use request_table::Requests;
 use retry_rules::{After, Attempts};
 use worker_pool::Pool;
 
-/// All that is kept of a run.
+/// The state of a run: the plan, the tables, and whether a lane has halted.
 #[derive(Drop)]
 pub struct State {
     pub plan: Plan,
@@ -35,7 +35,8 @@ pub struct State {
 }
 
 impl State {
-    /// What was chosen for an Ask of this berth's proxy lane is ordered, and the tables follow.
+    /// Applies a decision for the Ask of this berth's proxy lane: updates the tables and returns
+    /// the order.
     pub fn carry_out(&mut self, berth: u32, choice: Choice) -> Reply
         requires { CanCarry self.old berth choice }
         ensures reply { result ≡ carried_reply self.old berth choice }
@@ -88,7 +89,7 @@ impl State {
         self.send_as(berth, line, attempt, bound)
     }
 
-    // Of what is bound to the line, or of another attempt.
+    // Sends the attempt that is bound to the line, or another one.
     fn send_as(&mut self, berth: u32, line: u32, attempt: Attempt, bound: bool) -> Reply
         requires { CanSend self.old berth line attempt }
         ensures reply { result ≡ sent_reply self.old line attempt }
@@ -129,8 +130,7 @@ impl State {
 }
 
 impl State {
-    /// A Launched of the lane's line: where it says a fault, the attempt for which the line was
-    /// launched ends.
+    /// Handles Launched: if the launch failed, ends the attempt that the line was launched for.
     pub fn launched(&mut self, lane: u32, line: u32, how: Started) -> Reply
         requires lane { lane < length self.old.lanes }
         requires line { line < length self.old.pool.lines }
@@ -150,7 +150,7 @@ impl State {
         Reply::Noted
     }
 
-    /// A Killed.
+    /// Handles Killed: marks the line as killed.
     pub fn killed(&mut self, line: u32) -> Reply
         requires { line < length self.old.pool.lines }
         ensures reply { result ≡ Reply.Noted }
@@ -160,7 +160,8 @@ impl State {
         Reply::Noted
     }
 
-    /// A Take of this berth's tap lane.
+    /// Handles Take: gives this berth's tap lane the berth's last line if that line was started and
+    /// not yet taken.
     pub fn take(&mut self, berth: u32) -> Reply
         requires reads { Reads self.old berth }
         ensures reply { result ≡ take_reply self.old (takeable self.old berth) }
@@ -176,7 +177,8 @@ impl State {
         }
     }
 
-    // The berth's last line, where it was launched with success and not given to a tap lane yet.
+    // Returns the berth's last line, if it was launched with success and not yet given to a tap
+    // lane.
     fn takeable(&self, berth: u32) -> Option<u32>
         requires { Reads self.now berth }
         ensures { result ≡ takeable self.now berth }
@@ -189,7 +191,8 @@ impl State {
         }
     }
 
-    /// A Committed.
+    /// Handles Committed: records whether all outputs of the granted branch were written, and settles
+    /// the action.
     pub fn committed(&mut self, action: u32, how: CommitEnd) -> Reply
         requires race { action < length self.old.race }
         requires ready { action < length self.old.ready }
@@ -202,7 +205,8 @@ impl State {
         Reply::Noted
     }
 
-    /// A Claim of an attempt that was gathered.
+    /// Handles Claim of a gathered attempt: grants it the action, unless the action has a grant. Ends
+    /// the attempt instead if it was refused or its outputs weren't found.
     pub fn claim(&mut self, attempt: Attempt, found: &Found) -> Reply
         requires { CanClaim self.old attempt }
         ensures reply { result ≡ claim_reply_by self.old attempt found.now }
@@ -248,7 +252,7 @@ impl State {
         }
     }
 
-    // The attempt ends, unless it has ended, or its action has a grant.
+    // Ends the attempt, unless it has ended or its action has a grant.
     pub fn end(&mut self, attempt: Attempt)
         requires { CanEnd self.old attempt }
         ensures { self.new ≡ with_end self.old attempt }
@@ -263,7 +267,7 @@ impl State {
     }
 }
 
-// The kind of the group that runs the attempt.
+// Returns the kind of the group that runs the attempt.
 fn kind_for(plan: &Plan, attempt: Attempt) -> Kind
     ensures { result ≡ kind_for plan.now attempt }
 {
@@ -288,7 +292,7 @@ fn is_done(how: CommitEnd) -> bool
     matches!(how, CommitEnd::Done)
 }
 
-// Nothing is bound any longer to the lines that were launched for the action.
+// Unbinds the lines that were launched for the action.
 fn unbind(pool: &mut Pool, last: &LastLines, action: u32)
     requires seats { length last.now ≤ length pool.old.seats }
     requires few { length last.now < 2 ^ 32 }
@@ -344,7 +348,7 @@ pub fn end_attempt(
     }
 }
 
-// The branch is dropped: where the other one is too, or isn't used, the action is settled.
+// Handles a dropped branch: settles the action if the other branch is dropped too, or isn't used.
 fn settle_spent(plan: &Plan, attempts: &Attempts, ready: &mut Ready, action: u32, branch: Branch)
     requires counts { action < length attempts.now.ended }
     requires states { action < length ready.old }
@@ -372,7 +376,7 @@ fn uses(plan: &Plan, action: u32, branch: Branch) -> bool
     group_of(plan, action, branch).is_some()
 }
 
-// The group that runs the branch, where the action uses it.
+// Returns the group that runs the branch, if the action uses it.
 fn group_of(plan: &Plan, action: u32, branch: Branch) -> Option<u32>
     ensures { result ≡ option_and_then (λ x. group_of x branch)
         (slice_get plan.now.actions action) }
@@ -384,7 +388,7 @@ fn group_of(plan: &Plan, action: u32, branch: Branch) -> Option<u32>
     }
 }
 
-// One place of the line is taken: by what was bound to it, or by another request.
+// Takes one place of the line, for the bound attempt or for another request.
 fn occupy(pool: &mut Pool, line: u32, bound: bool)
     requires known { line < length pool.old.lines }
     requires place { pending_of pool.old line < capacity_of pool.old line }
@@ -396,7 +400,7 @@ fn occupy(pool: &mut Pool, line: u32, bound: bool)
     }
 }
 
-// A branch that isn't bound begins an attempt.
+// Notes that the branch begins an attempt, unless the attempt is bound.
 fn begin(ready: &mut Ready, attempt: Attempt, bound: bool)
     requires { attempt.action < length ready.old }
     ensures { ready.new ≡ begun_by ready.old attempt bound }

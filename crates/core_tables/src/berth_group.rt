@@ -1,10 +1,10 @@
-// What the plan says of a berth.
+// The plan's data about a berth.
 ghost use Rattle.std.specs.Prelude.{◌≡◌, ◌<◌, ◌^◌, length};
 ghost use Rattle.core_tables.specs.Seats.{seat_from};
 
 use exec_journal::{Group, Kind, Plan};
 
-/// A berth's group: its number, its first berth and how many it has, its kind, and whether it has
+/// A berth's group: its number, its first berth, its number of berths, its kind, and whether it has
 /// cancellation.
 #[derive(Clone, Copy)]
 pub struct BerthGroup {
@@ -15,7 +15,7 @@ pub struct BerthGroup {
     pub cancel: bool,
 }
 
-/// The berth's group, where the plan has the berth.
+/// Returns the berth's group, if the plan has the berth.
 pub fn group_of_berth(plan: &Plan, berth: u32) -> Option<BerthGroup>
     requires { length plan.now.groups < 2 ^ 32 }
     ensures { result ≡ seat_from 0 0 plan.now.groups berth }

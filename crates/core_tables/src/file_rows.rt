@@ -9,7 +9,7 @@ use plain_values::{Blob, NoMemory, Text};
 use std::alloc::Global;
 use std::marker::Model;
 
-/// Of an action: a slot for each of its outputs.
+/// The row of an action: a slot for each of its outputs.
 #[derive(Drop)]
 pub struct Row {
     slots: Vec<Slot>,
@@ -24,7 +24,7 @@ impl Model for Row {
     ghost view = { λ r. r.slots.items };
 }
 
-/// A row of empty slots for each action.
+/// Creates a row of empty slots for each action.
 pub fn new_rows(alloc: Global, works: &[PlanAction]) -> Result<Vec<Row>, NoMemory>
     ensures { IfOk result (λ rows. AreNew works.now rows.items) }
 {
@@ -35,7 +35,7 @@ pub fn new_rows(alloc: Global, works: &[PlanAction]) -> Result<Vec<Row>, NoMemor
     Ok(rows)
 }
 
-/// The action was granted these files.
+/// Fills the row of the action with the files that it was granted.
 pub fn fill_made(rows: &mut [Row], action: u32, files: &[Blob])
     ensures { RowFilled action (λ o. slice_get files.now o) rows.old rows.new }
 {
@@ -45,7 +45,8 @@ pub fn fill_made(rows: &mut [Row], action: u32, files: &[Blob])
     }
 }
 
-/// An answer that has these files was matched for the action with these outputs.
+/// Fills the row of the action with these outputs from an answer that was matched for it and has
+/// these files.
 pub fn fill_answered(rows: &mut [Row], action: u32, outputs: &[Text], files: &[NamedFile])
     ensures { RowFilled action (file_for files.now outputs.now) rows.old rows.new }
 {
@@ -55,7 +56,7 @@ pub fn fill_answered(rows: &mut [Row], action: u32, outputs: &[Text], files: &[N
     }
 }
 
-/// What a Look of this output is answered.
+/// Returns the reply to a Look of this output.
 pub fn reply_of(rows: &[Row], action: u32, output: u32) -> Reply
     ensures { Told (slot_at rows.now action output) result }
 {
@@ -132,7 +133,7 @@ fn find_at(outputs: &[Text], files: &[NamedFile], output: usize) -> Slot
     }
 }
 
-// Of the files with this path the last.
+// Returns the last of the files with this path.
 fn last_with(files: &[NamedFile], path: &Text) -> Slot
     ensures { Tells result (last_file files.now path.now) }
 {
@@ -153,7 +154,7 @@ impl Slot {
         }
     }
 
-    // The content of this file in its place, where it has the path.
+    // Returns the content of this file instead, if it has the path.
     fn or_of(self, file: &NamedFile, path: &Text) -> Slot
         ensures { (o : Option (List ℕ)) → Tells self o → Tells result (newer file.now path.now o) }
     {

@@ -1,5 +1,5 @@
-// The files that actions were granted, and those that matched answers have for the outputs of
-// their actions: contents are shared, and never copied.
+// The files that actions were granted, and the files of matched answers for the outputs of their
+// actions. Contents are shared, and never copied.
 ghost use Rattle.std.specs.Prelude.{◌≡◌, IfOk, slice_get};
 ghost use Rattle.core_tables.specs.Slots.{AreNew, FoundFiles, Follows, Granted, IsNewFiles, Matched, Told, outputs_at, rows_of, slot_at};
 
@@ -9,17 +9,17 @@ use plain_values::{Blob, Items, NoMemory, Text};
 use std::alloc::Global;
 use std::marker::Model;
 
-/// What is kept of one output.
+/// The record of one output.
 #[derive(Drop)]
 pub enum Slot {
     Absent,
     Here(Blob),
-    /// A content was there, and couldn't be shared once more.
+    /// There was a content, but it couldn't be shared once more.
     Short,
 }
 
-/// By action, and for each in the order of its outputs: the files that the action was granted, and
-/// those that the newest matched answer of each of its branches has.
+/// The files by action, each in the order of its outputs. For each action, the table has the files
+/// that it was granted, and those in the newest matched answer of each of its branches.
 #[derive(Drop)]
 pub struct Files {
     made: Vec<Row>,
@@ -40,11 +40,12 @@ impl Model for Files {
 }
 
 impl Files {
-    /// The table of a run in which nothing was called yet, with room for each output.
+    /// Creates the table of a run before any call, with room for each output. No other call takes
+    /// memory.
     ///
     /// # Errors
     ///
-    /// `NoMemory` where that room is not there. No other call takes any.
+    /// Returns `NoMemory` if memory runs out.
     pub fn new(alloc: Global, plan: &Plan) -> Result<Files, NoMemory>
         ensures { IfOk result (λ t. IsNewFiles plan.now.actions t) }
     {
@@ -56,8 +57,7 @@ impl Files {
         })
     }
 
-    /// Keeps the files of an entry: those of a Claim that is granted, and those of an Answer that
-    /// is matched.
+    /// Records the files of an entry: those of a granted Claim, or those of a matched Answer.
     pub fn keep(&mut self, plan: &Plan, call: &Call, reply: &Reply)
         ensures { Follows plan.now call.now reply.now self.old self.new }
     {
@@ -101,14 +101,14 @@ impl Files {
         }
     }
 
-    /// The reply to a Look of an output that the action made.
+    /// Returns the reply to a Look of an output that the action made.
     pub fn made(&self, action: u32, output: u32) -> Reply
         ensures { Told (slot_at self.now.made action output) result }
     {
         reply_of(self.made.as_slice(), action, output)
     }
 
-    /// The reply to a Look of what the newest matched answer of the branch has for this output.
+    /// Returns the reply to a Look of this output in the newest matched answer of the branch.
     pub fn answered(&self, action: u32, branch: Branch, output: u32) -> Reply
         ensures { Told (slot_at (rows_of branch self.now) action output) result }
     {

@@ -1,4 +1,4 @@
-// What the last line of each berth has said.
+// The messages of each berth's last line.
 ghost use Rattle.std.specs.Prelude.{◌≡◌, ◌<◌, length, IfOk, replicate, slice_get, Some};
 ghost use Rattle.core_tables.specs.Greetings.{silent, said_by, with_said};
 
@@ -7,14 +7,15 @@ use plain_values::NoMemory;
 use std::alloc::Global;
 use std::marker::Model;
 
-/// Of a berth's last line: whether an answer of it came, and whether one was a greeting.
+/// The messages of a berth's last line: whether an answer of it came, and whether one was a
+/// greeting.
 #[derive(Clone, Copy)]
 pub struct Greeting {
     pub spoken: bool,
     pub greeted: bool,
 }
 
-/// What the last line of each berth has said. A contract sees the list of these, by berth.
+/// The messages of each berth's last line. A contract sees them as a list, by berth.
 #[derive(Drop)]
 pub struct Greetings {
     rows: Vec<Greeting>,
@@ -30,11 +31,11 @@ impl Model for Greetings {
 }
 
 impl Greetings {
-    /// The table of a run in which nothing was called yet.
+    /// Creates the table of a run before any call. No other call takes memory.
     ///
     /// # Errors
     ///
-    /// `NoMemory` where the rows find no memory. No other call takes any.
+    /// Returns `NoMemory` if memory runs out.
     pub fn new(alloc: Global, berths: usize) -> Result<Greetings, NoMemory>
         ensures { IfOk result (λ t. t ≡ replicate berths silent) }
     {
@@ -46,7 +47,7 @@ impl Greetings {
         Ok(Greetings { rows })
     }
 
-    /// What the berth's last line has said.
+    /// Returns the record of the berth's last line.
     pub fn of(&self, berth: u32) -> Greeting
         requires { berth < length self.now }
         ensures { slice_get self.now berth ≡ Some result }
@@ -65,7 +66,8 @@ impl Greetings {
 }
 
 impl Greeting {
-    // A new line has said nothing; an answer says something, and maybe is a greeting.
+    // Returns the record after this entry. A new line has sent nothing. An answer is a message, and
+    // may be a greeting.
     fn after(self, call: &Call, reply: &Reply) -> Greeting
         ensures { result ≡ said_by call.now reply.now self }
     {

@@ -1,4 +1,4 @@
-// What each lane owes.
+// The outstanding work of each lane.
 ghost use Rattle.std.specs.Prelude.{◌≡◌, ◌<◌, length, IfOk, replicate, slice_get, Some};
 ghost use Rattle.std.specs.List.{list_any};
 ghost use Rattle.exec_journal.specs.Scripts.{is_made, outputs_of, makes, may_find, is_gathered, is_exit, is_refusal, is_whole_or_fault};
@@ -11,7 +11,7 @@ use plain_values::NoMemory;
 use std::alloc::Global;
 use std::marker::Model;
 
-/// What the reply of a lane's newest work orders.
+/// The order in the reply of a lane's newest work.
 #[derive(Clone, Copy)]
 pub enum Owed {
     Nothing,
@@ -44,17 +44,17 @@ pub enum Owed {
     Stop,
 }
 
-/// What the call of a lane's newest work leaves to do.
+/// The work that the call of a lane's newest work leaves.
 #[derive(Clone, Copy)]
 pub enum Said {
     Nothing,
-    /// An answer of this line, which the lane still hears.
+    /// An answer of this line, which the lane still reads.
     Answer { line: u32 },
     /// The branch was granted files.
     Won { action: u32, branch: Branch },
 }
 
-/// Of a lane: its newest work, and whether it was told to stop or has halted.
+/// The state of a lane: its newest work, and whether it was told to stop or has halted.
 #[derive(Clone, Copy)]
 pub struct LaneState {
     pub order: Owed,
@@ -63,7 +63,7 @@ pub struct LaneState {
     pub halted: bool,
 }
 
-/// What each lane of a plan owes.
+/// The outstanding work of each lane of a plan.
 #[derive(Drop)]
 pub struct Lanes {
     lanes: Vec<LaneState>,
@@ -92,7 +92,7 @@ impl Lanes {
         Ok(Lanes { lanes })
     }
 
-    /// The call is in the lane's script.
+    /// Returns true if the call is in the lane's script.
     pub fn allows(&self, plan: &Plan, kind: Kind, lane: u32, call: &Call) -> bool
         ensures { result ≡ allows_by plan.now kind self.now lane call.now }
     {
@@ -102,7 +102,7 @@ impl Lanes {
         }
     }
 
-    /// All that is known of the lane.
+    /// Returns the state of the lane.
     pub fn state(&self, lane: u32) -> LaneState
         requires { lane < length self.now }
         ensures { slice_get self.now lane ≡ Some result }
@@ -217,7 +217,7 @@ fn owes_commit(said: Said, call: &Call) -> bool
     }
 }
 
-// What the order asks of the lane.
+// Returns true if the order requires the call of the lane.
 fn is_owed(plan: &Plan, kind: Kind, order: Owed, call: &Call) -> bool
     ensures { result ≡ is_owed_by plan.now kind call.now order }
 {
@@ -327,7 +327,7 @@ fn may_look(plan: &Plan, wanted: Wanted, order: Owed) -> bool
     }
 }
 
-// This output of an action is an input of the action `user`.
+// Returns true if this output of an action is an input of the action `user`.
 fn makes(plan: &Plan, user: u32, action: u32, output: u32) -> bool
     ensures { result ≡ makes plan.now user action output }
 {

@@ -1,4 +1,4 @@
-// What is known of the last line of each berth, beside what the pool knows.
+// Facts about the last line of each berth, in addition to those in the pool.
 ghost use Rattle.std.specs.Prelude.{◌≡◌, ◌<◌, ◌^◌, length, IfOk, replicate, slice_get, Some};
 ghost use Rattle.core_tables.specs.Last.{no_line, set_launched, set_taken, set_cause, set_fed};
 ghost use Rattle.list_lemmas.specs.Places.{update};
@@ -8,9 +8,9 @@ use plain_values::NoMemory;
 use std::alloc::Global;
 use std::marker::Model;
 
-/// Of a berth's last line: the attempt for which it was launched, whether a tap lane was given it,
-/// the cause of its first break, and the attempt whose request could not be written for a fault of
-/// its feed.
+/// The record of a berth's last line: the attempt for which it was launched, whether a tap lane was
+/// given it, and the cause of its first break. `fed` is the attempt whose request could not be
+/// written because of a fault of the line's feed.
 #[derive(Clone, Copy)]
 pub struct LastLine {
     pub attempt: Option<Attempt>,
@@ -61,7 +61,7 @@ impl LastLines {
         self.rows[berth as usize]
     }
 
-    /// The berth has a new last line, launched for this attempt.
+    /// Notes that the berth has a new last line, launched for this attempt.
     pub fn launched(&mut self, berth: u32, attempt: Attempt)
         requires { berth < length self.old }
         ensures { self.new ≡ update (set_launched attempt) self.old berth }
@@ -82,7 +82,7 @@ impl LastLines {
         self.rows[berth as usize] = LastLine { taken: true, ..row };
     }
 
-    /// The line broke with this cause, unless it broke before.
+    /// Notes that the line broke with this cause, unless it broke before.
     pub fn broke(&mut self, berth: u32, cause: Cause)
         requires { berth < length self.old }
         ensures { self.new ≡ update (set_cause cause) self.old berth }

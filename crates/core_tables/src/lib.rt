@@ -1,6 +1,6 @@
-//! What the scheduling core keeps beside the six tables: what each lane owes, what is known of each
-//! berth's last line and of its greeting, the matches that wait there, and the files that were granted
-//! or that matched answers have.
+//! The scheduling core's tables in addition to the six. They record the outstanding work of each
+//! lane, facts about each berth's last line and its greeting, and the matches that wait there. They
+//! also contain the files that were granted or that matched answers have.
 #![tactic(auto)]
 
 mod berth_group;

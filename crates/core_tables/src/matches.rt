@@ -1,4 +1,4 @@
-// The matches of each berth since its last Send: those of them that are not spent wait for a
+// The matches of each berth since its last Send. Those of them that are not spent wait for a
 // Gather.
 ghost use Rattle.std.specs.Prelude.{◌≡◌, ◌<◌, length, IfOk, replicate, option_copied, find, map};
 ghost use Rattle.core_tables.specs.Matches.{no_matches, matches_of, spend_if, spend_won, with_match, with_clear, with_spent, with_won, spent_row, won_row, is_waiting};
@@ -9,8 +9,8 @@ use plain_values::NoMemory;
 use std::alloc::Global;
 use std::marker::Model;
 
-/// A match, and whether it waits no longer: a Gather of it was ordered, its request wasn't written
-/// whole, or its action has a grant.
+/// A match, and whether it is spent, so that it no longer waits. It is spent if a Gather of it was
+/// ordered, its request wasn't written whole, or its action has a grant.
 #[derive(Clone, Copy)]
 pub struct Match {
     pub line: u32,
@@ -65,7 +65,7 @@ impl Matches {
         Ok(Matches { rows })
     }
 
-    /// The berth's earliest match that waits.
+    /// Returns the berth's earliest match that waits.
     pub fn waiting(&self, berth: u32) -> Option<Match>
         requires { berth < length self.now }
         ensures { result ≡ find is_waiting (matches_of self.now berth) }
@@ -81,7 +81,7 @@ impl Matches {
         self.rows[berth as usize].push(found);
     }
 
-    /// A Send: all earlier matches of the berth wait no longer.
+    /// Notes a Send: no earlier match of the berth waits any longer.
     pub fn sent(&mut self, berth: u32)
         requires { berth < length self.old }
         ensures { self.new ≡ with_clear self.old berth }
@@ -89,14 +89,14 @@ impl Matches {
         self.rows[berth as usize].clear();
     }
 
-    /// The match of this attempt waits no longer.
+    /// Notes that the match of this attempt no longer waits.
     pub fn spent(&mut self, attempt: Attempt)
         ensures { self.new ≡ with_spent self.old attempt }
     {
         spend_each(self.rows.as_mut_slice(), attempt);
     }
 
-    /// No match of the action waits any longer.
+    /// Notes that no match of the action waits any longer.
     pub fn won(&mut self, action: u32)
         ensures { self.new ≡ with_won self.old action }
     {

@@ -15,10 +15,10 @@ use std::alloc::Global;
 use std::sync::Wait;
 use std::thread::Threads;
 
-/// Asks until it is done.
+/// A question that is asked until it is done.
 #[derive(Drop)]
 pub struct Until {
-    /// What is asked.
+    /// The call that is made.
     pub ask: Ask,
 }
 
@@ -41,35 +41,35 @@ impl Question<Slot> for Until {
     }
 }
 
-/// Fills the slot.
+/// A lane that fills the slot.
 #[derive(Drop)]
 pub struct Filler {
     /// The number of its lane.
     pub number: u32,
-    /// How many times.
+    /// The number of times.
     pub count: usize,
 }
 
-/// Empties it.
+/// A lane that empties the slot.
 #[derive(Drop)]
 pub struct Emptier {
     /// The number of its lane.
     pub number: u32,
-    /// How many times.
+    /// The number of times.
     pub count: usize,
 }
 
-/// A lane of one kind or the other.
+/// A lane of either kind.
 #[derive(Drop)]
 pub enum SlotLane {
     /// It fills the slot.
     Fills(Filler),
-    /// It empties it.
+    /// It empties the slot.
     Empties(Emptier),
 }
 
 impl SlotLane {
-    // Asks so many times, each until it is done, and answers how many were done.
+    // Asks `count` times, each time until it is done. Returns the number of times that it was done.
     fn ask_until<R: Wait>(
         rt: &R,
         caller: &mut Caller<'_, Slot>,
@@ -91,12 +91,12 @@ impl SlotLane {
     }
 }
 
-/// What such a lane ends with: how many calls it made.
+/// The result of such a lane: the number of calls that it made.
 #[derive(Drop)]
 pub enum SlotEnd {
-    /// So many times it filled the slot.
+    /// It filled the slot this number of times.
     Filled(usize),
-    /// So many times it emptied it.
+    /// It emptied the slot this number of times.
     Emptied(usize),
 }
 
@@ -133,7 +133,7 @@ impl Lane<Desk<Slot>, Pass<Slot>> for SlotLane {
     }
 }
 
-// So many pairs of lanes, by their numbers.
+// Returns `pairs` pairs of lanes, ordered by their numbers.
 fn lanes_of(alloc: Global, pairs: u32, count: usize) -> Result<Vec<SlotLane>, NoMemory>
     requires { pairs ≤ 64 }
     ensures numbered { IfOk result (λ v. NumberedFrom count 0 v.items) }
@@ -149,12 +149,12 @@ fn lanes_of(alloc: Global, pairs: u32, count: usize) -> Result<Vec<SlotLane>, No
     Ok(lanes)
 }
 
-/// Up to 64 pairs of lanes, of which one fills the slot and the other empties it, so many times each.
-/// Each end is the number of calls that the history has of its lane.
+/// Runs up to 64 pairs of lanes. In each pair one lane fills the slot and the other empties it, `count`
+/// times each. Each end is the number of its lane's calls in the history.
 ///
 /// # Errors
 ///
-/// `NoMemory` where [`run_crew`] starts no lane.
+/// Returns `NoMemory` if [`run_crew`] starts no lane.
 pub fn exchange<R: Threads + Wait + Sync>(
     rt: &R,
     alloc: Global,

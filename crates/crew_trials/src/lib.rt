@@ -1,5 +1,5 @@
-//! A crew on which the threads are tried: lanes that fill and empty one slot, so that each call waits
-//! for another lane's.
+//! A crew on which the threads are tried. Its lanes fill and empty one slot, so that each call waits for
+//! the call of another lane.
 #![tactic(auto)]
 
 mod exchanging;

@@ -5,20 +5,20 @@ ghost use Rattle.crew_trials.specs.Slots.{full_after, answer_to, is_done, fills}
 
 use seat_desk::Machine;
 
-/// A good that no call takes and no reply gives, or the basis of a machine that goes by none.
+/// A good that no call takes and no reply gives, or the basis of a machine that has none.
 #[derive(Drop)]
 pub struct Nothing;
 
-/// What a lane asks.
+/// The call of a lane.
 #[derive(Drop, Clone, Copy)]
 pub enum Ask {
-    /// To fill the slot.
+    /// Fills the slot.
     Fill,
-    /// To empty it.
+    /// Empties the slot.
     Empty,
 }
 
-/// What it is answered.
+/// The reply to a call.
 #[derive(Drop, Clone, Copy)]
 pub enum Answer {
     /// It is done.
@@ -34,7 +34,7 @@ pub struct Slot {
 }
 
 impl Slot {
-    /// An empty slot.
+    /// Returns an empty slot.
     pub fn new() -> Slot
         ensures { result.full ≡ false }
     {
@@ -114,7 +114,8 @@ impl Machine for Slot {
         (Answer::Done, put)
     }
 
-    /// Lanes of even numbers fill the slot, those of odd ones empty it.
+    /// Wakes the lanes with odd numbers to empty a full slot, and those with even numbers to fill an empty
+    /// one.
     fn stirs(&self, _lane: u32, reply: &Answer) -> u128 {
         match reply {
             Answer::Done if self.full => EMPTIERS,
@@ -128,7 +129,7 @@ impl Machine for Slot {
     }
 }
 
-// The lanes of even numbers.
+// The lanes with even numbers.
 const FILLERS: u128 = u128::MAX / 3;
-// The lanes of odd numbers.
+// The lanes with odd numbers.
 const EMPTIERS: u128 = u128::MAX / 3 * 2;

@@ -1,4 +1,4 @@
-//! What holds of every journal with a delay. The functions do nothing: each is a law.
+//! Facts about every journal with a delay. The functions do nothing: each is a law.
 ghost use Rattle.std.specs.Prelude.{◌≡◌, ℕ, true, false, List, Some, slice_get};
 ghost use Rattle.run_plan.specs.declared.plan.Plan.{Plan};
 ghost use Rattle.run_plan.specs.declared.plan.PlanAction.{PlanAction};
@@ -18,8 +18,8 @@ ghost use Rattle.core_contract.specs.Disciplines.{LegalBy};
 ghost use Rattle.delay_rules.specs.Bounds.{TicksAreFew};
 ghost use Rattle.delay_rules.specs.Delayed.{delayed_discipline, delayed_rule};
 
-/// A legal journal with a delay is lawful: so one branch of an action wins, and each consumed
-/// answer has a request of its own.
+/// A legal journal with a delay is lawful. So one branch of an action wins, and each consumed
+/// answer has its own request.
 pub fn delays_are_lawful()
     ensures lawful { (p : Plan) (n : ℕ) (j : List Entry) → LegalBy (delayed_discipline p n) j
         → Lawful p j }
@@ -29,13 +29,13 @@ pub fn delays_are_lawful()
         → Paired p j }
 {}
 
-/// What is said of each order where groups have berths of their own holds when it is given.
+/// The clauses about each order on groups' own berths hold when it is given.
 pub fn delayed_orders_are_kept()
     ensures { (p : Plan) (n : ℕ) (j : List Entry) → Sound p → LegalBy (delayed_discipline p n) j
         → Kept p j }
 {}
 
-/// A run is finished when a lane is told to stop and none has halted; and if every worker did its
+/// A run is finished when a lane is told to stop and none has halted. If every worker also did its
 /// part, every action has success.
 pub fn delayed_stops_finish_runs()
     ensures stops { (p : Plan) (n : ℕ) (j : List Entry) (lane : ℕ) (c : Call) → Sound p
@@ -48,8 +48,8 @@ pub fn delayed_stops_finish_runs()
         → is_ok (outcome_of p j a) ≡ true }
 {}
 
-/// Ticks end by themselves: for each action that uses both branches at most as many are noted as
-/// its local branch waits for.
+/// Ticks end by themselves. For each action that uses both branches, at most as many Ticks are
+/// noted as its local branch waits for.
 pub fn noted_ticks_are_few()
     ensures { (p : Plan) (n : ℕ) (j : List Entry) → LegalBy (delayed_discipline p n) j
         → TicksAreFew p n j }

@@ -1,5 +1,5 @@
-//! The rules of scheduling by which the local branch of an action that an executor may run too
-//! waits for Ticks first. Each law is the contract of a function without a body.
+//! The scheduling rules with a delay: if an executor may also run an action, the action's local
+//! branch waits for Ticks first. Each law is the contract of a function without a body.
 #![tactic(auto)]
 
 pub mod laws;

@@ -7,7 +7,7 @@ use byte_pieces::Pieces;
 use plain_values::NoMemory;
 use wire_fields::{Varint, read_varint};
 
-/// What is wrong with a stream.
+/// The fault of a stream.
 #[derive(Clone, Copy, Debug, PartialEq)]
 pub enum FrameFault {
     /// The next length is above the limit.
@@ -35,7 +35,7 @@ pub(crate) enum Found {
     Bad(FrameFault),
 }
 
-// How many bytes a length takes at most.
+// The largest number of bytes of a length.
 const LONGEST: usize = 10;
 
 #[tactic(auto, unfolding(crate::specs::Frame::frame_at))]
@@ -63,7 +63,7 @@ pub(crate) fn find_frame(held: &Pieces, limit: u64) -> Result<Found, NoMemory>
     }
 }
 
-// The length at the front. It is read where it stands, unless it may go on in a second piece.
+// Returns the length at the front. It is read in place, unless it may continue in a second piece.
 fn length_at(held: &Pieces) -> Result<Varint, NoMemory>
     ensures { IfOk result (IsVarintAt held.now) }
 {

@@ -1,10 +1,10 @@
-// What holds of all streams.
+// Laws about all streams.
 ghost use Rattle.delimited_framing.specs.Front.{OneReading};
 ghost use Rattle.delimited_framing.specs.Frame.{delimited_form, DelimitedIsRead};
 ghost use Rattle.delimited_framing.specs.Splitter.{GivenFirst};
 
-/// Each stream is read in exactly one way: as frames and a rest without a whole frame or a fault, or as frames
-/// and a fault.
+/// Each stream is read in exactly one way. Either it consists of frames and a rest without a whole frame or a fault, or
+/// of frames and a fault.
 pub fn one_reading()
     ensures { OneReading delimited_form }
 {}

@@ -1,4 +1,4 @@
-// Frames of a stream that comes in pieces.
+// The frames of a stream that comes in pieces.
 ghost use Rattle.std.specs.Prelude.{◌≡◌, ◌++◌, List, ℕ, [], length, None, Ok, OnOk, OnErr, IfOk, IfSome};
 ghost use Rattle.delimited_framing.specs.Frame.{delimited_form};
 ghost use Rattle.delimited_framing.specs.Splitter.{Held, Stands, Gives, fed_more};
@@ -26,7 +26,7 @@ impl Model for Splitter {
 }
 
 impl Splitter {
-    /// Makes a splitter of frames of at most `limit` bytes.
+    /// Returns a splitter of frames of at most `limit` bytes.
     pub fn new(alloc: Global, limit: u64) -> Splitter
         ensures limit { result.limit ≡ limit }
         ensures stands { Stands [] [] result }
@@ -43,7 +43,7 @@ impl Splitter {
     ///
     /// # Errors
     ///
-    /// Returns `NoMemory` if the piece finds no room; the splitter is then as it was.
+    /// Returns `NoMemory` if memory runs out. The splitter is then as it was.
     pub fn feed(&mut self, piece: &[u8]) -> Result<(), NoMemory>
         ensures ok { OnOk result ((fed : List ℕ) (given : List (List ℕ)) → Stands fed given self.old
             → Stands (fed_more self.old.fault fed piece.now) given self.new) }
@@ -58,12 +58,12 @@ impl Splitter {
         Ok(())
     }
 
-    /// Returns the next frame, if all of it has come. A fault is returned as soon as the last byte of the
-    /// length has come, and from then on for good.
+    /// Returns the next frame, if all of it has come. A fault is returned as soon as the last byte of the length has
+    /// come, and by each later call.
     ///
     /// # Errors
     ///
-    /// Returns `NoMemory` if the frame finds no memory; the splitter is then as it was.
+    /// Returns `NoMemory` if memory runs out. The splitter is then as it was.
     pub fn next(&mut self) -> Result<Next, NoMemory>
         ensures after_bad { IfSome self.old.fault (λ fault. result ≡ Ok (Next.Bad fault)) }
         ensures ok { IfOk result (λ next. (fed : List ℕ) (given : List (List ℕ))
@@ -89,7 +89,7 @@ impl Splitter {
         }
     }
 
-    /// The number of bytes that were fed and not yet returned as part of a frame, its length included.
+    /// Returns the number of bytes that were fed and not yet returned as part of a frame, its length included.
     pub fn unread(&self) -> usize
         ensures { result ≡ length self.now.rest }
     {

@@ -12,7 +12,7 @@ pub struct Add {
     pub number: u64,
 }
 
-/// Adds numbers, modulo 2^64. Each call is answered by the sum so far.
+/// An adder of numbers modulo 2^64. The reply to each call is the sum so far.
 #[derive(Drop)]
 pub struct Adder {
     pub sum: u64,
@@ -89,7 +89,7 @@ impl Machine for Adder {
 }
 
 impl Adder {
-    /// One that has added nothing.
+    /// Returns an adder that has added nothing.
     pub fn new() -> Adder
         ensures { result.sum ≡ 0 }
     {

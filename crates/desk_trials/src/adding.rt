@@ -25,7 +25,7 @@ pub struct Tally {
     pub made: (usize, usize, usize, usize),
 }
 
-/// Adds one, `count` times or until there is no memory.
+/// Adds one, `count` times or until memory runs out.
 pub fn adds<R: Wait>(rt: &R, desk: &Desk<Adder>, mut pass: Pass<Adder>, count: usize) -> Done
     requires { IsPassOf desk.now pass }
     ensures { HasMade count desk.now pass result.pass result.made }
@@ -47,7 +47,7 @@ pub struct Pair {
     pub second: Pass<Adder>,
 }
 
-/// Two lanes at once.
+/// Runs two lanes at once.
 pub fn two<R: Threads + Wait + Sync>(
     rt: &R,
     desk: &Desk<Adder>,
@@ -72,7 +72,7 @@ pub fn two<R: Threads + Wait + Sync>(
     )
 }
 
-/// Four lanes at once.
+/// Runs four lanes at once.
 pub fn four<R: Threads + Wait + Sync>(
     rt: &R,
     desk: &Desk<Adder>,
@@ -102,12 +102,12 @@ pub fn four<R: Threads + Wait + Sync>(
     )
 }
 
-/// Four lanes add ones, `count` times each, on four threads. The history has exactly the calls that each
-/// lane made, each reply in it is the sum so far, and the machine's sum is their sum.
+/// Runs four lanes that add ones, `count` times each, on four threads. The history contains exactly the
+/// calls that each lane made. Each reply in it is the sum so far, and the machine's sum is the sum of all.
 ///
 /// # Errors
 ///
-/// Returns `NoMemory` if there is none for the desk. A lane that finds none makes fewer calls.
+/// Returns `NoMemory` if memory runs out for the desk. A lane that runs out of memory makes fewer calls.
 pub fn count_by_four<R: Threads + Wait + Sync>(
     rt: &R,
     alloc: Global,

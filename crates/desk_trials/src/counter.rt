@@ -11,22 +11,22 @@ use seat_desk::Machine;
 /// A call of a counter.
 #[derive(Drop, Clone, Copy)]
 pub enum Ask {
-    /// To add this number.
+    /// Adds this number.
     Add(u64),
-    /// The sum so far.
+    /// Asks for the sum so far.
     Look,
 }
 
-/// What it is answered.
+/// The reply to a call.
 #[derive(Drop, Clone, Copy)]
 pub enum Answer {
     /// The sum so far, modulo the counter's modulus.
     Sum(u64),
-    /// There was no room for an answer. Only a Look may get it.
+    /// There was no room for a reply. Only a Look may get this.
     NoRoom,
 }
 
-/// Adds numbers modulo its own, which are its rules.
+/// A counter that adds numbers modulo its own modulus, which is its rules.
 #[derive(Drop)]
 pub struct Counter {
     pub modulus: u64,
@@ -124,7 +124,7 @@ impl Machine for Counter {
 }
 
 impl Counter {
-    /// Makes a counter that has added nothing, with room for `room` looks.
+    /// Returns a counter that has added nothing, with room for `room` looks.
     pub fn new(modulus: u64, room: u64) -> Counter
         requires { 0 < modulus }
         ensures numbers { (result.modulus ≡ modulus) × (result.room ≡ room) }

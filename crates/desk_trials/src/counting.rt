@@ -12,8 +12,8 @@ use std::alloc::Global;
 use std::sync::Wait;
 use std::thread::{Threads, join};
 
-/// Adds a number. The reply is the sum so far modulo the number of the pass's machine, and never
-/// [`Answer::NoRoom`]; `None` if there was no memory for the call.
+/// Adds a number. Returns the sum so far modulo the number of the pass's machine, or `None` if memory ran
+/// out for the call. The reply is never [`Answer::NoRoom`].
 pub fn add<R: Wait>(
     rt: &R,
     desk: &Desk<Counter>,
@@ -45,7 +45,7 @@ pub fn look<R: Wait>(rt: &R, desk: &Desk<Counter>, pass: &mut Pass<Counter>) -> 
     }
 }
 
-/// Two lanes at once.
+/// Runs two lanes at once.
 pub fn two<R: Threads + Wait + Sync>(
     rt: &R,
     desk: &Desk<Counter>,
@@ -73,12 +73,12 @@ pub fn two<R: Threads + Wait + Sync>(
     )
 }
 
-/// A counter of this modulus, called by two threads. Each reply in the history is the sum so far modulo it,
-/// and the history has each lane's replies.
+/// Runs a counter of this modulus that two threads call. Each reply in the history is the sum so far modulo
+/// it, and the history contains each lane's replies.
 ///
 /// # Errors
 ///
-/// Returns `NoMemory` if there is none for the desk or for a call.
+/// Returns `NoMemory` if memory runs out for the desk or for a call.
 pub fn run<R: Threads + Wait + Sync>(
     rt: &R,
     alloc: Global,

@@ -10,7 +10,7 @@ use plain_values::NoMemory;
 use seat_desk::{Desk, Pass, Then};
 use std::sync::Wait;
 
-/// Raises the number of a token that was lent, and requires that it be put back.
+/// A step that raises the number of a lent token and requires that the token be put back.
 #[derive(Drop)]
 pub struct Stamp;
 
@@ -30,12 +30,12 @@ impl Then<Locker> for Stamp {
     }
 }
 
-/// Borrows the lane's token, raises its number and puts it back, in one turn. The history has both calls,
-/// the one right after the other, and the token is still there.
+/// Borrows the lane's token, raises its number and puts it back, in one turn. The history contains both
+/// calls, one right after the other, and the token is still there.
 ///
 /// # Errors
 ///
-/// Returns `NoMemory` if there is none for the calls. Then none was made.
+/// Returns `NoMemory` if memory runs out for the calls. Then no call was made.
 pub fn stamp_token<R: Wait>(
     rt: &R,
     desk: &Desk<Locker>,

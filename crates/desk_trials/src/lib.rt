@@ -1,6 +1,6 @@
-//! Machines for trials of the desk: an adder, on four threads; an adder whose modulus is known only at run
-//! time, with a reply for lack of room; and a shelf with goods and paid calls, on which a lane leaves a
-//! token.
+//! Machines for trials of the desk. An adder is called on four threads. Another adder has a modulus that is
+//! known only at run time, and a reply for lack of room. A shelf has goods and paid calls, and a lane
+//! leaves a token on it.
 #![tactic(auto)]
 
 pub mod adder;

@@ -11,17 +11,17 @@ use seat_desk::Machine;
 /// A call of a locker.
 #[derive(Drop, Clone, Copy)]
 pub enum Ask {
-    /// To leave a token, which goes in.
+    /// Leaves a token, which is handed over with the call.
     Leave,
-    /// To take its token away.
+    /// Takes the lane's token away.
     Take,
-    /// To have its token for a while.
+    /// Borrows the lane's token.
     Borrow,
-    /// To put back the token that it borrowed, which goes in.
+    /// Returns the token that the lane borrowed. The token is handed over with the call.
     Return,
 }
 
-/// What it is answered.
+/// The reply to a call.
 #[derive(Drop, Clone, Copy)]
 pub enum Answer {
     /// The token is on the shelf.
@@ -30,7 +30,7 @@ pub enum Answer {
     Busy,
     /// The token is handed out, and the shelf is empty.
     Taken,
-    /// There is no token of the lane.
+    /// The lane has no token.
     Nothing,
     /// The token is handed out, and must be returned.
     Lent,
@@ -41,11 +41,11 @@ pub enum Answer {
 /// The owner of the token that is on the shelf, or was lent from it.
 #[derive(Drop, Clone, Copy)]
 pub enum Spot {
-    /// Nobody's.
+    /// There is no token.
     Empty,
-    /// It is there, and is this lane's.
+    /// The token is there, and belongs to this lane.
     Here(u32),
-    /// This lane has borrowed it.
+    /// This lane has borrowed the token.
     Away(u32),
 }
 
@@ -55,11 +55,11 @@ pub struct Token {
     pub number: u64,
 }
 
-/// One shelf. A token that is there or was borrowed must be returned to its lane: its `Take` and its
+/// One shelf. A token that is there or was borrowed must be returned to its lane, so its `Take` and its
 /// `Return` are paid for.
 #[derive(Drop)]
 pub struct Locker {
-    /// Whose token it is.
+    /// The owner of the token.
     pub spot: Spot,
     /// The contents of the shelf.
     pub shelf: Option<Token>,
@@ -153,7 +153,7 @@ impl Machine for Locker {
         }
     }
 
-    /// Once the shelf is empty, any lane may leave a token.
+    /// Wakes all lanes once the shelf is empty, because any lane may then leave a token.
     fn stirs(&self, _lane: u32, reply: &Answer) -> u128 {
         match reply {
             Answer::Taken => u128::MAX,
@@ -171,7 +171,7 @@ impl Machine for Locker {
 }
 
 impl Locker {
-    /// An empty shelf.
+    /// Returns an empty shelf.
     pub fn new() -> Locker
         ensures { (result.spot ≡ Spot.Empty) × (result.shelf ≡ None) }
     {

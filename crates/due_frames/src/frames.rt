@@ -14,23 +14,23 @@ use sandbox_rooms::Room;
 use std::alloc::Global;
 use wire_messages::encode_delimited;
 
-/// The longest message that is written, in bytes.
+/// The size of the longest message that is written, in bytes.
 const LARGEST: u64 = 67_108_864;
 
-/// What is due for a Send.
+/// The data to write for a Send.
 #[derive(Drop)]
 pub enum Due {
     /// These bytes.
     Frame(Items<u8>),
-    /// Nothing. The job would have more than 67,108,864 bytes.
+    /// Nothing, because the job would have more than 67,108,864 bytes.
     TooLarge,
 }
 
-/// What is due for a Send of this work: the request, or the job.
+/// Returns the data to write for a Send of this work: the request, or the job.
 ///
 /// # Errors
 ///
-/// `NoMemory`.
+/// Returns `NoMemory` if memory runs out.
 pub fn send_frame(
     alloc: Global,
     speech: Speech,
@@ -55,11 +55,11 @@ pub fn send_frame(
     }
 }
 
-/// What is due for a Cancel of the request, or the job, with this number.
+/// Returns the bytes to write for a Cancel of the request, or the job, with this number.
 ///
 /// # Errors
 ///
-/// `NoMemory`.
+/// Returns `NoMemory` if memory runs out.
 pub fn cancel_frame(alloc: Global, speech: Speech, number: i32) -> Result<Items<u8>, NoMemory>
     ensures { IfOk result (λ frame. frame ≡ cancel_due speech number) }
 {

@@ -1,4 +1,4 @@
-//! The bytes that are due for an order: what is written to a worker, or to the executor, for a Send and for a Cancel.
+//! The bytes to write for an order: to a worker or to the executor, for a Send or for a Cancel.
 #![tactic(auto)]
 
 mod frames;

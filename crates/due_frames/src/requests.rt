@@ -12,10 +12,11 @@ use sandbox_rooms::Room;
 use std::alloc::Global;
 use wire_messages::{Input, WorkRequest};
 
-/// How much a worker may print that was asked to say more.
+/// The verbosity of a worker that must print more.
 const VERBOSE: i32 = 10;
 
-/// The room of a request with this number, by the kind of its line. The executor has rooms of its own.
+/// Returns the room of a request with this number, by the kind of its line. The executor has its
+/// own rooms.
 pub fn room_of(kind: Kind, number: i32) -> Room
     ensures { result ≡ room_for kind number }
 {
@@ -26,8 +27,8 @@ pub fn room_of(kind: Kind, number: i32) -> Room
     }
 }
 
-/// What is due on a line: the work of an action, with the files of its inputs in their order, under
-/// this number.
+/// The work to write to a line: an action's work, with the files of its inputs in their order,
+/// under this number.
 #[derive(Drop)]
 pub struct DueWork<'a> {
     pub number: i32,
@@ -35,11 +36,11 @@ pub struct DueWork<'a> {
     pub inputs: &'a [NamedFile],
 }
 
-/// The request of a Send. A source's digest is taken from the source.
+/// Returns the request of a Send. A source's digest is taken from the source.
 ///
 /// # Errors
 ///
-/// `NoMemory`.
+/// Returns `NoMemory` if memory runs out.
 pub fn request_of(
     alloc: Global,
     room: Room,
@@ -60,7 +61,7 @@ pub fn request_of(
     })
 }
 
-/// The request of a Cancel. It takes no memory.
+/// Returns the request of a Cancel. The function takes no memory.
 pub fn cancelling(alloc: Global, number: i32) -> WorkRequest
     ensures { result ≡ cancelling number }
 {
@@ -86,7 +87,7 @@ fn sandbox_of(alloc: Global, room: Room) -> Result<Text, NoMemory>
     }
 }
 
-// A source, in the order of the files, is asked for its digest.
+// Returns the inputs. A source, in the order of the files, supplies its own digest.
 fn inputs_of(
     alloc: Global,
     sources: &[WorkInput],
@@ -105,7 +106,8 @@ fn inputs_of(
     Ok(Items::of(inputs))
 }
 
-// The digits of the file's bytes. A source at its place has them, and the bytes aren't looked at.
+// Returns the digits of the file's bytes. If there is a source at its place, the digits are the
+// source's, and the bytes aren't looked at.
 fn digits_at(
     alloc: Global,
     sources: &[WorkInput],
@@ -132,11 +134,12 @@ fn digits_from(alloc: Global, origin: &Origin, file: &NamedFile) -> Result<Items
     }
 }
 
-/// The 64 lower-case hexadecimal digits of the SHA-256 of the bytes, as an input of a request has them.
+/// Returns the 64 lower-case hexadecimal digits of the SHA-256 of the bytes, in the form for an
+/// input of a request.
 ///
 /// # Errors
 ///
-/// `NoMemory`.
+/// Returns `NoMemory` if memory runs out.
 pub fn digest_text(alloc: Global, bytes: &[u8]) -> Result<Items<u8>, NoMemory>
     ensures { IfOk result (λ digits. digits ≡ digest_text bytes.now) }
 {

@@ -1,4 +1,4 @@
-//! What is chosen is what the rules order. The functions do nothing: each is a law.
+//! The choices are the orders of the rules. The functions do nothing: each is a law.
 ghost use Rattle.std.specs.Prelude.{◌≡◌, ◌/◌, ◌<◌, ℕ, List, Option, Some, true, option_map, unwrap_or};
 ghost use Rattle.run_plan.specs.declared.plan.Plan.{Plan};
 ghost use Rattle.run_plan.specs.Groups.{berths};
@@ -19,7 +19,7 @@ ghost use Rattle.core_state.specs.Machine.{carried_reply};
 ghost use Rattle.core_laws.specs.Stands.{SeatFits, Stands};
 ghost use Rattle.earliest_first.specs.Choices.{chosen, first_choice};
 
-/// What is chosen for an Ask is the rules' reply, where the tables stand for a legal journal on the
+/// The choice for an Ask gives the rules' reply, if the tables stand for a legal journal on the
 /// plan's own berths.
 pub fn choices_are_the_rules()
     ensures { (p : Plan) (s : State) (j : List Entry) (lane : ℕ) → Stands p (berths p) s j
@@ -27,8 +27,8 @@ pub fn choices_are_the_rules()
         → carried_reply s (lane / 2) (chosen s (lane / 2)) ≡ rule p j lane Ask }
 {}
 
-/// On any berth of which the seat tells the last line, what the first rules choose, or else more, is
-/// what they order, or else that: whatever a policy launches, and where.
+/// The first rules' choice, or `more` if they choose nothing, gives what the rules order. This
+/// holds on any berth whose last line the seat describes, regardless of a policy's launches.
 pub fn first_choices_are_the_rules()
     ensures { (p : Plan) (seats : ℕ) (s : State) (j : List Entry) (lane : ℕ) (seat : BerthGroup)
         (next : Option Attempt) (more : Option Reply) → Stands p seats s j

@@ -1,7 +1,10 @@
-//! What is ordered next on a plan's own berths: where a line may be given something new, it is what is
-//! next in its berth's group, and a line is launched for that where no live one of the group has a free
-//! place. [`choose`] takes the earliest queued action of the group; [`choose_next`] is told what is next.
-//! [`choose_first`] has the rules that ask nothing of where new lines come.
+//! The next order on a plan's own berths. If a line may be given something new, it gets the next
+//! branch of its berth's group. If no live line of the group has a free place, a line is launched
+//! for that branch.
+//!
+//! [`choose`] takes the earliest queued action of the group. [`choose_next`] receives the next
+//! attempt from its caller. [`choose_first`] contains the rules that don't depend on where new
+//! lines are launched.
 #![tactic(auto)]
 
 ghost use Rattle.std.specs.Prelude.{◌≡◌, ◌<◌, Some, length, slice_get};
@@ -18,7 +21,7 @@ use core_tables::{BerthGroup, group_of_berth};
 use exec_journal::{Attempt, Cause, Kind, Why};
 use worker_pool::LineRow;
 
-/// What the Ask of this berth's proxy lane is to do.
+/// Returns the decision for the Ask of this berth's proxy lane.
 pub fn choose(state: &State, berth: u32) -> Choice
     requires { ReadsOwn state.now berth }
     ensures { result ≡ chosen state.now berth }
@@ -29,7 +32,7 @@ pub fn choose(state: &State, berth: u32) -> Choice
     }
 }
 
-/// What it is to do on a berth of this group, where this attempt is next in the group.
+/// Returns the decision on a berth of this group, if `next` is the group's next attempt.
 pub fn choose_next(state: &State, berth: u32, seat: BerthGroup, next: Option<Attempt>) -> Choice
     requires reads { ReadsOwn state.now berth }
     requires seated { seat_at state.now.plan berth ≡ Some seat }
@@ -44,10 +47,10 @@ pub fn choose_next(state: &State, berth: u32, seat: BerthGroup, next: Option<Att
     Choice::Idle
 }
 
-/// What it is to do by the first rules, whatever is launched and where: quit, kill a broken line, kill
-/// an unwanted request's line, gather, cancel, send. The seat tells the kind, the group and the
-/// cancellation of the berth's last line, and this attempt is next in that group. None where no rule
-/// fits.
+/// Returns the decision by the first rules, regardless of the launches. They are: quit, kill a
+/// broken line, kill an unwanted request's line, gather, cancel, send. The seat contains the kind,
+/// the group and the cancellation of the berth's last line, and `next` is that group's next
+/// attempt. Returns `None` if no rule applies.
 pub fn choose_first(
     state: &State,
     berth: u32,
@@ -63,7 +66,8 @@ pub fn choose_first(
     }
 }
 
-/// The berth has no line, or its last failed to launch, or has ended and was killed.
+/// Returns true if the berth has no line, or if its last line failed to launch, or has ended and
+/// was killed.
 pub fn is_vacant(state: &State, berth: u32) -> bool
     requires { Reads state.now berth }
     ensures { result ≡ is_vacant state.now berth }
@@ -132,7 +136,8 @@ fn kill_broken(state: &State, berth: u32, line: u32, row: LineRow) -> Option<Cho
     })
 }
 
-// A Single line without cancellation, of which a pending request isn't wanted.
+// Returns true if the line is Single without cancellation, and a pending request of it isn't
+// wanted.
 fn is_unwanted(state: &State, seat: BerthGroup, line: u32, row: LineRow) -> bool
     requires { line < length state.now.cancels.lines }
     ensures { result ≡ unwanted_by state.now seat line row }
@@ -161,7 +166,8 @@ fn cancel_next(
     Some(Choice::Cancel { line, number })
 }
 
-// The line's group has cancellation, or it is an executor's line and has greeted.
+// Returns true if the line's group has cancellation, or if it is an executor's line that has sent
+// its greeting.
 fn may_cancel(state: &State, berth: u32, seat: BerthGroup) -> bool
     requires { berth < length state.now.greetings }
     ensures { result ≡ may_cancel_by state.now berth seat }
@@ -208,7 +214,7 @@ fn launch_next(state: &State, berth: u32, seat: BerthGroup, next: Option<Attempt
     }
 }
 
-/// The next attempt of the group's queued branch of the least action.
+/// Returns the next attempt of the group's queued branch of the least action.
 pub fn earliest(state: &State, berth: u32, group: u32) -> Option<Attempt>
     requires { Reads state.now berth }
     ensures { result ≡ earliest_of state.now group }
@@ -223,7 +229,7 @@ pub fn earliest(state: &State, berth: u32, group: u32) -> Option<Attempt>
     }
 }
 
-// Some live line of the group has a free place.
+// Returns true if some live line of the group has a free place.
 fn some_room(state: &State, berth: u32, seat: BerthGroup) -> bool
     requires reads { ReadsOwn state.now berth }
     requires seated { seat_at state.now.plan berth ≡ Some seat }
@@ -237,7 +243,7 @@ fn some_room(state: &State, berth: u32, seat: BerthGroup) -> bool
     false
 }
 
-/// The berth's last line is live and has a free place.
+/// Returns true if the berth's last line is live and has a free place.
 pub fn has_room(state: &State, berth: u32) -> bool
     requires { berth < length state.now.pool.seats }
     ensures { result ≡ has_room state.now.pool berth }
@@ -273,7 +279,7 @@ fn is_runner(row: LineRow) -> bool
     row.started && !row.killed
 }
 
-// It failed to launch, or has ended and was killed.
+// Returns true if the line failed to launch, or has ended and was killed.
 fn is_vacant_row(row: LineRow) -> bool
     ensures { result ≡ is_vacant_row row }
 {

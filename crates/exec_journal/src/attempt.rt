@@ -12,7 +12,7 @@ pub struct Attempt {
 }
 
 impl Attempt {
-    /// It is this attempt.
+    /// Returns true if it is this attempt.
     pub fn is(self, action: u32, branch: Branch, number: u32) -> bool
         ensures { result ≡ same_attempt (attempt_of action branch number) self }
     {

@@ -1,7 +1,7 @@
 // How actions, branches and attempts end.
 use run_plan::Branch;
 
-/// How an action ended, by a journal.
+/// The outcome of an action, according to a journal.
 #[derive(Clone, Copy, Debug, PartialEq, Eq)]
 pub enum Outcome {
     /// The branch was granted its files, and all of them were committed.
@@ -19,7 +19,7 @@ pub enum Outcome {
     Unsettled,
 }
 
-/// How a branch of an action ended, by a journal.
+/// The fate of a branch of an action, according to a journal.
 #[derive(Clone, Copy, Debug, PartialEq, Eq)]
 pub enum Fate {
     /// The action doesn't use the branch.
@@ -36,7 +36,7 @@ pub enum Fate {
     Idle,
 }
 
-/// How an action and its branches ended, by a journal.
+/// The outcome of an action and the fates of its branches, according to a journal.
 #[derive(Clone, Copy, Debug, PartialEq, Eq)]
 pub struct ActionEnd {
     pub outcome: Outcome,
@@ -44,14 +44,14 @@ pub struct ActionEnd {
     pub remote: Fate,
 }
 
-/// Why an attempt ended.
+/// The reason that an attempt ended.
 #[derive(Clone, Copy, Debug, PartialEq, Eq)]
 pub enum Cause {
     /// The worker closed its output.
     Died,
     /// The worker's output could not be read.
     Tap,
-    /// What the worker wrote is no message.
+    /// The worker wrote something that is no message.
     Frame,
     /// The worker's output was longer than the limit.
     Long,
@@ -71,7 +71,7 @@ pub enum Cause {
     Missing(u32),
 }
 
-/// What is known of an action: whether it is settled, and how.
+/// The standing of an action: open, or settled with or without success.
 #[derive(Clone, Copy, Debug, PartialEq, Eq)]
 pub enum Standing {
     /// It isn't settled yet.

@@ -19,18 +19,18 @@ impl Fits for Digits {
     ghost fits = { λ content d. d.digits ≡ digest_text content };
 }
 
-/// The 64 lower-case hexadecimal digits of the SHA-256 of the bytes.
+/// Returns the 64 lower-case hexadecimal digits of the SHA-256 of the bytes.
 ///
 /// # Errors
 ///
-/// `NoMemory` where there is no memory for them.
+/// Returns `NoMemory` if memory runs out.
 pub fn digest_of(alloc: Global, bytes: &[u8]) -> Result<Text, NoMemory>
     ensures { IfOk result (λ t. t ≡ digest_text bytes.now) }
 {
     Ok(Text::of(encode(alloc, Sha256::digest(bytes))?))
 }
 
-/// The same digits as a list of bytes, as an input of a request has them.
+/// Returns the same digits as a list of bytes, the form in an input of a request.
 pub(crate) fn digits_of(alloc: Global, bytes: &[u8]) -> Result<Items<u8>, NoMemory>
     ensures { IfOk result (λ digits. digits ≡ digest_text bytes.now) }
 {

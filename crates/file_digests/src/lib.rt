@@ -1,5 +1,5 @@
-//! The digest of a file, as digits, and the contents of a source file: many requests may name it, and its
-//! digest is computed once.
+//! The digest of a file, as digits, and the contents of a source file. Many requests may name the file, and its digest
+//! is computed once.
 #![tactic(auto)]
 
 mod digest;

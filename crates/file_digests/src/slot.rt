@@ -7,17 +7,17 @@ use counted_slot::{Claim, Counted, FREE, MOST_READERS, ONE_READER, PRESENT, TAKE
 use plain_values::{Blob, Items, NoMemory};
 use std::alloc::Global;
 
-/// How often a reader tries to be counted. Each try that fails is one that another reader won.
+/// The number of times that a reader tries to be counted. Each try that fails is one that another reader won.
 const TRIES: u32 = 1_000_000;
 
-/// Room for the digits of the digest of some contents, which are put once and then read by all.
+/// Room for the digits of the digest of some contents. They are put once and then read by all.
 #[derive(Drop)]
 pub(crate) struct DigitSlot {
     slot: Counted<Option<Digits>>,
 }
 
 impl DigitSlot {
-    /// Room for the digits of these contents. It is empty.
+    /// Returns empty room for the digits of these contents.
     pub(crate) fn of(content: &Blob) -> DigitSlot
         ensures { result.slot ≡ content.now }
     {
@@ -26,7 +26,7 @@ impl DigitSlot {
         }
     }
 
-    /// The digits were put.
+    /// Returns true if the digits were put.
     pub(crate) fn is_filled(&self) -> bool {
         self.slot.load() % 4 == PRESENT
     }
@@ -43,11 +43,11 @@ impl DigitSlot {
         }
     }
 
-    /// A copy of the digits, if they were put.
+    /// Returns a copy of the digits, if they were put.
     ///
     /// # Errors
     ///
-    /// `NoMemory`.
+    /// Returns `NoMemory` if memory runs out.
     pub(crate) fn digits(&self, alloc: Global) -> Result<Option<Items<u8>>, NoMemory>
         ensures { IfOk result (λ known. IfSome known (λ digits.
             digits ≡ digest_text self.now.slot)) }
@@ -67,7 +67,7 @@ impl DigitSlot {
     }
 }
 
-// The word with one more reader, if the value is there and one more may read it.
+// Returns the word with one more reader, if the value is there and one more may read it.
 fn one_more(word: u64) -> Option<u64>
     ensures turn { IfSome result (λ new. IsTurn word new) }
     ensures reads { IfSome result (λ new. (new % 4 < 3) × (readers word < readers new)) }

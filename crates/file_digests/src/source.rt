@@ -17,10 +17,10 @@ pub struct Source {
     known: Arc<Known>,
 }
 
-/// The digits, and who may compute them.
+/// The digits, and the lock of the thread that may compute them.
 #[derive(Drop)]
 struct Known {
-    // Held by the one that computes the digits.
+    // Held by the thread that computes the digits.
     computing: Mutex<()>,
     digits: DigitSlot,
 }
@@ -34,11 +34,11 @@ impl Model for Source {
 }
 
 impl Source {
-    /// The source file with these contents. No digest is computed.
+    /// Returns the source file with these contents. No digest is computed.
     ///
     /// # Errors
     ///
-    /// `NoMemory`.
+    /// Returns `NoMemory` if memory runs out.
     pub fn of(alloc: Global, content: Blob) -> Result<Source, NoMemory>
         ensures { IfOk result (λ s. s ≡ content) }
     {
@@ -52,22 +52,22 @@ impl Source {
         })
     }
 
-    /// The contents, shared.
+    /// Returns the contents, shared.
     ///
     /// # Errors
     ///
-    /// `NoMemory` where the count of owners can grow no further.
+    /// Returns `NoMemory` if the count of owners can grow no further.
     pub fn content(&self) -> Result<Blob, NoMemory>
         ensures { IfOk result (λ b. b ≡ self.now) }
     {
         self.content.again()
     }
 
-    /// An equal one, which shares the contents and the digest.
+    /// Returns an equal value that shares the contents and the digest.
     ///
     /// # Errors
     ///
-    /// `NoMemory` where the count of owners can grow no further.
+    /// Returns `NoMemory` if the count of owners can grow no further.
     pub fn again(&self) -> Result<Source, NoMemory>
         ensures { IfOk result (λ s. s ≡ self.now) }
     {
@@ -77,12 +77,12 @@ impl Source {
         })
     }
 
-    /// Computes the digest, unless a copy has done so. One of several that come at once computes it, and
-    /// the others wait.
+    /// Computes the digest, unless a copy has done so. If several threads come at once, one of them computes it and the
+    /// others wait.
     ///
     /// # Errors
     ///
-    /// `NoMemory`.
+    /// Returns `NoMemory` if memory runs out.
     pub fn know_digest<R: Wait>(&self, rt: &R, alloc: Global) -> Result<(), NoMemory> {
         if self.known.digits.is_filled() {
             return Ok(());
@@ -94,12 +94,12 @@ impl Source {
         Ok(())
     }
 
-    /// The 64 lower-case hexadecimal digits of the SHA-256 of the contents. They are computed here where
-    /// they aren't known.
+    /// Returns the 64 lower-case hexadecimal digits of the SHA-256 of the contents. If they aren't known, they are
+    /// computed here.
     ///
     /// # Errors
     ///
-    /// `NoMemory`.
+    /// Returns `NoMemory` if memory runs out.
     pub fn digits(&self, alloc: Global) -> Result<Items<u8>, NoMemory>
         ensures { IfOk result (λ digits. digits ≡ digest_text self.now) }
     {

@@ -6,7 +6,7 @@ use std::test::Fail;
 use std::thread;
 use std::thread::Threads;
 
-/// The digest of `abc`, as the standard of SHA-256 has it.
+/// The digest of `abc` in the standard of SHA-256.
 const ABC: &[u8] = b"ba7816bf8f01cfea414140de5dae2223b00361a396177a9cb410ff61f20015ad";
 
 fn source(alloc: Global) -> Result<Source, Fail> {
@@ -21,7 +21,7 @@ fn has_digits(alloc: Global, source: &Source) -> bool {
     }
 }
 
-// As a lane asks for them.
+// Computes the digest, as a lane does, and returns true if the digits are right.
 fn comes_to_know<R: Wait>(rt: &R, alloc: Global, source: &Source) -> bool {
     source.know_digest(rt, alloc).is_ok() && has_digits(alloc, source)
 }

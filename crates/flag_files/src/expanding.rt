@@ -18,12 +18,12 @@ const MAX_WORDS: usize = 262_144;
 
 const MAX_BYTES: usize = 16_777_216;
 
-/// Why the words of a request can't be expanded.
+/// The reason that the words of a request can't be expanded.
 #[derive(Drop)]
 pub enum FlagFault {
-    /// The file isn't among those that were given.
+    /// The file isn't among the given ones.
     NoSuchFile { path: Text },
-    /// The file would stand 17 levels deep; it was not looked for.
+    /// The file would be 17 levels deep. It was not looked for.
     TooDeep { path: Text },
     /// The file isn't UTF-8.
     NotText { path: Text },
@@ -32,16 +32,15 @@ pub enum FlagFault {
     NoMemory,
 }
 
-/// The words of a request with each flag file replaced by its lines, which are expanded in the same way.
+/// Returns the words of a request with each flag file replaced by its lines, which are expanded in the same way.
 ///
-/// A word `@f` is replaced by the lines of the file `f` where `f` isn't empty and the word neither
-/// begins with `@@` nor holds `//`. Every other word stays. A line ends at a line feed, and one carriage
-/// return directly before it is dropped. Bytes after the last line feed are a line where there are any.
-/// An empty line is an empty word.
+/// A word `@f` is replaced by the lines of the file `f` if `f` isn't empty and the word neither begins with `@@` nor
+/// contains `//`. Every other word stays. A line ends at a line feed, and one carriage return directly before it is
+/// dropped. Bytes after the last line feed, if there are any, are a line. An empty line is an empty word.
 ///
 /// # Errors
 ///
-/// The first fault that a walk from the left meets.
+/// Returns the first fault that a walk from the left meets.
 pub fn expand(alloc: Global, words: &[Text], files: &[SourceFile]) -> Result<Vec<Text>, FlagFault>
     ensures { AnswersAll result (expansion words.now files.now) }
 {
@@ -72,7 +71,7 @@ impl Expanded {
         }
     }
 
-    // Adds what a word stands for, where a file may still name files `levels` deep.
+    // Adds the words that a word expands to. A file may still name files `levels` deep.
     #[cycle(expanding)]
     fn add_word(
         &mut self,
@@ -128,7 +127,7 @@ impl Expanded {
     }
 }
 
-// The path of the file that a word names.
+// Returns the path of the file that a word names.
 fn file_name(word: &str) -> Option<&str>
     ensures { option_copied result ≡ file_name word.now }
 {

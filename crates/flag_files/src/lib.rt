@@ -1,5 +1,5 @@
-//! Flag files: which words of an action start a worker and which go into a request, and the words that a
-//! request's flag files stand for.
+//! Flag files: the words of an action that start a worker, the words that go into a request, and the words to which a
+//! request's flag files expand.
 #![tactic(auto)]
 
 mod expanding;

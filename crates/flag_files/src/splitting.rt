@@ -24,11 +24,11 @@ pub enum SplitFault {
 
 /// Splits an action's argument words, of which the first is the program.
 ///
-/// A word names a flag file where it is `@`, `-flagfile=` or `--flagfile=` with at least one more byte.
+/// A word names a flag file if it is `@`, `-flagfile=` or `--flagfile=` with at least one more byte.
 ///
 /// # Errors
 ///
-/// `NoFlagFile` exactly where no word after the program names a flag file.
+/// Returns `NoFlagFile` exactly if no word after the program names a flag file.
 pub fn split_args(alloc: Global, argv: &[Text], extra: &[Text]) -> Result<Split, SplitFault>
     requires { 0 < length argv.now }
     ensures { Splits argv.now extra.now result }
@@ -47,11 +47,11 @@ pub fn split_args(alloc: Global, argv: &[Text], extra: &[Text]) -> Result<Split,
     })
 }
 
-/// The words of an action's requests: those after the program that name a flag file, in order.
+/// Returns the words of an action's requests: the words after the program that name a flag file, in order.
 ///
 /// # Errors
 ///
-/// `NoMemory`.
+/// Returns `NoMemory` if memory runs out.
 pub fn request_words(alloc: Global, argv: &[Text]) -> Result<Items<Text>, NoMemory>
     ensures { IfOk result (λ words. words ≡ request_words argv.now) }
 {

@@ -1,6 +1,6 @@
-//! The list that is generated for trials of whole runs: as many actions as are asked for, of every strategy, way to
-//! be asked and protocol, each of which makes one file, and from the eighth on reads the one that the seventh before it
-//! made.
+//! The list that is generated for trials of whole runs. It has as many actions as requested, of every strategy, request
+//! mode and protocol. Each action makes one file. From the eighth action on, each reads the file of the action seven
+//! places before it.
 #![tactic(auto)]
 
 ghost use Rattle.std.specs.Prelude.{◌≡◌, ◌++◌, ◌%◌, ◌-◌, ◌==◌, [], ◌∷◌, IfOk, OnOk};
@@ -12,13 +12,13 @@ use plain_values::NoMemory;
 use serde_json::{Map, Value, put};
 use std::alloc::Global;
 
-/// The text of the list of this many actions: compact JSON, whose keys stand in the order of their bytes. It has no
-/// environments and no tools. Its sources are the flag files `flags/0` and so on, each of which names its action's
-/// output by a word `--out=`.
+/// Returns the text of the list with this many actions. It is compact JSON, with keys in the order of their bytes. It
+/// has no environments and no tools. Its sources are the flag files `flags/0` and so on. Each of them gives its
+/// action's output in a word `--out=`.
 ///
 /// # Errors
 ///
-/// `NoMemory` where the text finds no memory.
+/// Returns `NoMemory` if memory runs out.
 pub fn generated_list(alloc: Global, actions: u32) -> Result<Vec<u8>, NoMemory>
     ensures { IfOk result (λ v. v.items ≡ generated_text actions) }
 {
@@ -74,7 +74,7 @@ fn text(alloc: Global, text: &str) -> Result<Value, NoMemory>
     Ok(Value::String(String::from_str(alloc, text)?))
 }
 
-// The text with the number behind it.
+// Returns the text followed by the number.
 fn named(alloc: Global, text: &str, number: u32) -> Result<Value, NoMemory>
     ensures { IfOk result (λ v. view v ≡ numbered text.now number) }
 {
@@ -110,8 +110,8 @@ fn inputs(alloc: Global, number: u32) -> Result<Value, NoMemory>
     Ok(Value::Array(inputs))
 }
 
-// Every worker can be asked to cancel. Each second one takes several requests at a time, and each second one of those
-// speaks JSON.
+// Returns an action's requirements. Every worker can be asked to cancel. Each second one takes several requests at a
+// time, and each second one of those uses JSON.
 fn needs(alloc: Global, number: u32) -> Result<Value, NoMemory>
     ensures { IfOk result (λ v. view v ≡ needs_data number) }
 {

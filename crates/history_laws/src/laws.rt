@@ -33,7 +33,7 @@ pub fn duties_are_newest_works()
         → DutyIs (duty_of (calls_by lane h)) (journal_of h) lane }
 {}
 
-/// A call in its lane's script is answered by a reply of its kind.
+/// A call in its lane's script gets a reply of its kind.
 pub fn replies_fit()
     ensures { (q : Discipline) → IsDiscipline q
         → (h : List (Entry Call Reply)) (lane : ℕ) (c : Call)
@@ -51,10 +51,10 @@ pub fn scripts_are_lanes()
         → InScript (answer_after q) (h ++ more) lane c }
 {}
 
-/// Only a proxy lane's own entries determine its script: the calls that its duty requires, and otherwise
-/// only a Halt if it owes a Committed, a Committed if it has left, and a Tick of a lane that makes them, if
-/// it owes nothing. Its Halt is paid for until it has received Stop or has halted, and so is the Committed
-/// that it owes.
+/// A proxy lane's own entries alone determine its script. It contains the calls that the lane's
+/// duty requires. Otherwise, it contains only a Halt if the lane owes a Committed, a Committed if
+/// it has left, and a Tick if it makes Ticks and owes nothing. Its Halt is paid for until it has
+/// received Stop or has halted. The Committed that it owes is paid for too.
 pub fn proxies_do_their_duties()
     ensures does { (q : Discipline) → IsDiscipline q
         → (h : List (Entry Call Reply)) (w : ℕ) (c : Call) → w < q.seats
@@ -101,8 +101,8 @@ pub fn taps_are_heard()
         → hearing_of (calls_by lane h) ≡ Hears l }
 {}
 
-/// A paid call is answered Noted, stays paid for after entries of other lanes, and reduces the number of
-/// owed calls by one; any call raises that number by at most two.
+/// A paid call gets the reply Noted, stays paid for after entries of other lanes, and reduces the
+/// number of owed calls by one. Any call raises that number by at most two.
 pub fn paid_calls_are_counted()
     ensures noted { (q : Discipline) → IsDiscipline q
         → (h : List (Entry Call Reply)) (lane : ℕ) (c : Call)
@@ -120,9 +120,9 @@ pub fn paid_calls_are_counted()
         → owes_after q (h ++ entry lane c (answer_after q h lane c) ∷ []) ≤ owes_after q h + 2 }
 {}
 
-/// If a lane is ordered to launch or to stop, there is no child on the shelf for its berth; if it must
-/// send, cancel or kill, the child of that line is there. A new line has the next number, and a Send or a
-/// Gather names an action of the plan.
+/// If a lane is ordered to launch or to stop, there is no child on the shelf for its berth. If it
+/// must send, cancel or kill, the child of that line is there. A new line has the next number, and
+/// a Send or a Gather names an action of the plan.
 pub fn orders_hold()
     ensures { (q : Discipline) → IsDiscipline q
         → (h : List (Entry Call Reply)) (lane : ℕ) → CameAbout q h
@@ -130,8 +130,8 @@ pub fn orders_hold()
         (answer_after q h lane call.Ask) }
 {}
 
-/// An order is of an attempt that a group of the plan runs, which is an executor's exactly where
-/// the lane's berth is.
+/// An order's attempt is run by a group of the plan. This group is an executor's exactly if the
+/// lane's berth is.
 pub fn orders_fit()
     ensures { (q : Discipline) → IsDiscipline q
         → (h : List (Entry Call Reply)) (lane : ℕ) → CameAbout q h
@@ -171,7 +171,7 @@ pub fn files_are_granted_once()
         → place_at a h ≡ Away (claimed (calls_by lane h)) }
 {}
 
-/// The made inputs of a request that was ordered are there when its lane looks at them.
+/// The made inputs of an ordered request are present when its lane looks at them.
 pub fn inputs_are_there()
     ensures { (q : Discipline) → IsDiscipline q
         → (h : List (Entry Call Reply)) (w l : ℕ) (n : ℤ) (t : Attempt) (c o : ℕ)
@@ -180,8 +180,8 @@ pub fn inputs_are_there()
         → says_file (answer_after q h (proxy_lane w) (call.Look (wanted.Made c o))) ≡ true }
 {}
 
-/// A legal history without its last entry is legal; and that entry's reply is the rule's, and is
-/// kept.
+/// A legal history without its last entry is legal. That entry's reply is the rule's, and is
+/// recorded.
 pub fn histories_grow_by_rule()
     ensures { (q : Discipline) → IsDiscipline q
         → (h : List (Entry Call Reply)) (e : Entry Call Reply)

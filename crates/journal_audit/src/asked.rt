@@ -1,4 +1,4 @@
-// The scheduling core, as an auditor asks it.
+// The scheduling core in the form that an auditor uses.
 use exec_journal::{Call, Plan, Reply};
 use journal_replay::Replayed;
 use plain_values::NoMemory;

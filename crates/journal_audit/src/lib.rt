@@ -24,7 +24,7 @@ pub use texts::{audit_again, legal_texts_are_judged};
 ///
 /// # Errors
 ///
-/// Returns `NoMemory`, which implies nothing about the text.
+/// Returns `NoMemory` if memory runs out, which means nothing about the text.
 pub fn audit(alloc: Global, bytes: &[u8]) -> Result<Verdict, NoMemory>
     ensures answer { IfOk result (Judges Legal bytes.now) }
     ensures only { IfOk result (λ v. (w : Verdict) → Judges Legal bytes.now w → w ≡ v) }
@@ -32,9 +32,9 @@ pub fn audit(alloc: Global, bytes: &[u8]) -> Result<Verdict, NoMemory>
     audit_with::<Asked>(alloc, bytes)
 }
 
-/// Reads a text to its end, or until it is too long, and writes a line with the verdict. The status is 0 if
-/// it is legal, 1 if it isn't, 4 if it isn't a journal of a sound plan, 3 if memory ran out, 5 if the tap
-/// failed and 6 if the sink did.
+/// Reads a text to its end, or until it is too long, and writes a line with the verdict. The status is 0 if the text is
+/// legal, 1 if it isn't, and 4 if it is no journal of a sound plan. It is 3 if memory ran out, 5 if the tap failed, and
+/// 6 if the sink failed.
 pub fn check_stream<T: Tap, O: Sink>(alloc: Global, input: &mut T, out: &mut O) -> u8
     ensures streamed { Streamed Legal (T.told input.old) (T.told input.new)
         (O.told out.old) (O.told out.new) result }

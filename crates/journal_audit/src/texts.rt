@@ -19,7 +19,7 @@ use journal_text::journal_text;
 use plain_values::NoMemory;
 use std::alloc::Global;
 
-/// The written text of a legal journal of a sound plan is judged so, unless it is too long.
+/// The written text of a legal journal of a sound plan is judged legal, unless it is too long.
 pub fn legal_texts_are_judged()
     ensures { (p : Plan) (j : List Entry) → Sound p → Legal p (reverse j) → IsWrittenPlan p
         → Each IsWrittenEntry j → length (text_of p j) ≤ 268435456
@@ -35,7 +35,7 @@ pub fn legal_texts_are_judged()
 ///
 /// # Errors
 ///
-/// Returns `NoMemory` if the text or its check finds none.
+/// Returns `NoMemory` if memory runs out.
 pub fn audit_again(alloc: Global, plan: &Plan, journal: &Journal) -> Result<Verdict, NoMemory>
     requires sound { Sound plan.now }
     requires legal { Legal plan.now (reverse journal.now) }

@@ -1,5 +1,4 @@
-//! Reads the text of a run's journal from standard input, and prints what it comes to: `legal
-//! actions=A entries=N`, or the first fault.
+//! Reads the text of a run's journal from standard input. Prints `legal actions=A entries=N`, or the first fault.
 #![tactic(auto)]
 
 use journal_audit::check_stream;
@@ -39,7 +38,7 @@ fn main(rt: HostRuntime) -> ExitCode {
     ExitCode::from(status)
 }
 
-// The line on standard error where nothing was said of the text: the cause, and what to do.
+// Returns the line on standard error if no verdict was printed: the cause, and what to do.
 fn unsaid(status: u8) -> Option<&'static str> {
     match status {
         3 => Some("journal_check: no memory; free some\n"),

@@ -1,4 +1,4 @@
-// How the actions of a plan end, by what was gathered from a journal.
+// The ends of a plan's actions, from the facts that were gathered from a journal.
 ghost use Rattle.std.specs.Prelude.{◌≡◌, ◌≤◌, ◌<◌, [], length, reverse, IfOk, is_some};
 ghost use Rattle.run_plan.specs.Sound.{Sound};
 ghost use Rattle.exec_journal.specs.Ends.{ends_of};
@@ -35,7 +35,7 @@ pub fn action_ends(alloc: Global, plan: &Plan, j: &Journal) -> Result<Vec<Action
     Ok(ends)
 }
 
-/// How an action ends but for its producers.
+/// The end of an action, apart from its producers.
 #[derive(Clone, Copy)]
 pub struct Verdict {
     pub own: Option<Outcome>,
@@ -44,7 +44,7 @@ pub struct Verdict {
     pub remote: Fate,
 }
 
-/// Those of all actions of the plan, by one pass over the journal.
+/// Returns the verdicts on all actions of the plan, by one pass over the journal.
 pub fn verdicts(alloc: Global, plan: &Plan, entries: &[Entry]) -> Result<Vec<Verdict>, NoMemory>
     requires { length plan.now.actions ≤ most_actions }
     ensures { IfOk result (λ vs. vs.items ≡ verdicts_from plan.now
@@ -211,7 +211,7 @@ fn is_granted(branch: Branch, grant: Option<Grant>) -> bool
 
 // ---- with the producers
 
-/// The facts of each action, in their order.
+/// Returns the facts of each action, in their order.
 pub fn standings_by(
     alloc: Global,
     works: &[PlanAction],
@@ -244,7 +244,7 @@ fn next_standing(verdict: &Verdict, work: &PlanAction, earlier: &[Standing]) -> 
     }
 }
 
-/// How each action ends.
+/// Returns how each action ends.
 pub fn ends_by(
     alloc: Global,
     works: &[PlanAction],

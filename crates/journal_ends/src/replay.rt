@@ -1,4 +1,4 @@
-// What a journal says of all actions and lines, gathered by going through it once.
+// The facts about all actions and lines in a journal, gathered by going through it once.
 ghost use Rattle.std.specs.Prelude.{◌≡◌, ◌∷◌, ℕ, true, List, reverse, option_copied, option_map, unwrap_or, if◌then◌else◌};
 ghost use Rattle.exec_journal.specs.Entry.{Entry};
 ghost use Rattle.exec_journal.specs.Entries.{attempt_of, send_of_entry, launch_of_entry, consumed_in};
@@ -20,15 +20,15 @@ const LANES: usize = 128;
 /// The numbers of a branch's attempts are below this: they are 1 to at most 10.
 const NUMBERS: usize = 11;
 
-/// Of a line: the cause for which it broke, and whether it has ended.
+/// The facts of a line: the cause for which it broke, and whether it has ended.
 #[derive(Clone, Copy)]
 pub struct LineFact {
     pub cause: Option<Cause>,
     pub ended: bool,
 }
 
-/// Of a branch: how it was committed, whether it was ever sent, which of its attempts were answered, by their
-/// numbers, and its last attempt.
+/// The facts of a branch: how it was committed, whether it was ever sent, the numbers of its attempts that were
+/// answered, and its last attempt.
 #[derive(Clone, Copy)]
 pub struct BranchFact {
     pub commit: Option<CommitEnd>,
@@ -37,7 +37,7 @@ pub struct BranchFact {
     pub track: Track,
 }
 
-/// Of an action: its grant and its branches.
+/// The facts of an action: its grant and its branches.
 #[derive(Clone, Copy)]
 pub struct ActionFact {
     pub grant: Option<Grant>,
@@ -138,7 +138,8 @@ pub fn gather(actions: &mut [ActionFact], lines: &mut [LineFact], limit: u32, en
     }
 }
 
-/// The facts of the lines and of the actions after one more entry. `orders` has the newest work of each lane before it.
+/// Updates the facts of the lines and of the actions for one more entry. `orders` has the newest work of each lane
+/// before it.
 fn note(
     actions: &mut [ActionFact],
     lines: &mut [LineFact],
@@ -185,7 +186,7 @@ fn order_at<'a>(orders: &[Option<&'a Entry>], before: &'a [Entry], lane: u32) ->
     }
 }
 
-/// The newest work of each lane after one more entry.
+/// Updates the newest work of each lane for one more entry.
 fn note_order<'a>(orders: &mut [Option<&'a Entry>], entry: &'a Entry)
     ensures { (j : List Entry) → AreOrders option_copied orders.old j
         → AreOrders option_copied orders.new (entry.now ∷ j) }
@@ -251,7 +252,7 @@ fn mark(flags: &mut [bool], number: Option<u32>)
     }
 }
 
-/// The number of the branch's attempt whose answer the reply consumes.
+/// Returns the number of the branch's attempt whose answer the reply consumes.
 fn answered_number(attempt: Attempt, reply: &Reply) -> Option<u32>
     ensures { result ≡ number_if attempt.action attempt.branch (consumed_in reply.now) }
 {

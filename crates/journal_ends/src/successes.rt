@@ -1,4 +1,4 @@
-// Whether all actions of a plan succeed.
+// Finds out if all actions of a plan succeed.
 ghost use Rattle.std.specs.Prelude.{◌≡◌, ◌∷◌, ℕ, List, length, reverse, option_map, unwrap_or};
 ghost use Rattle.std.specs.List.{list_all};
 ghost use Rattle.run_plan.specs.Sound.{Sound};
@@ -66,7 +66,7 @@ impl Chance {
     }
 }
 
-/// Every action of the plan has success. It takes no memory, and goes through the journal once.
+/// Returns true if every action of the plan has success. It takes no memory, and goes through the journal once.
 pub fn is_all_success(plan: &Plan, j: &Journal) -> bool
     requires { Sound plan.now }
     ensures { result ≡ list_all has_succeeded (ends_of plan.now (reverse j.now)) }

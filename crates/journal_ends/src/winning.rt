@@ -1,4 +1,4 @@
-// By which answer each action of a plan was won.
+// The answer by which each action of a plan was won.
 ghost use Rattle.std.specs.Prelude.{◌≡◌, ◌≤◌, length, reverse, IfOk, None, option_copied, unwrap_or};
 ghost use Rattle.journal_ends.specs.Replay.{AllNew};
 ghost use Rattle.list_lemmas.specs.Places.{update_if};
@@ -43,7 +43,7 @@ fn find_winners(winners: &mut [Option<Attempt>], entries: &[Entry])
     }
 }
 
-// The first grant counts.
+// Records a grant. The first one counts.
 fn note_winner(winners: &mut [Option<Attempt>], attempt: Attempt)
     ensures { winners.new ≡ winners_after winners.old attempt }
 {
@@ -87,7 +87,7 @@ fn find_answers<'a>(
     }
 }
 
-// The first answer counts.
+// Records an answer. The first one counts.
 fn note_answer<'a>(
     answers: &mut [Option<&'a Answer>],
     winners: &[Option<Attempt>],

@@ -113,10 +113,9 @@ pub fn clean_runs_succeed()
         → slice_get p.actions a ≡ Some x → is_ok (outcome_of p j a) ≡ true }
 {}
 
-/// An entry that begins an attempt for the first time ends, grants and commits nothing. A Launch is of a
-/// new line, and of a wanted branch's attempt that no entry has named yet. A Send is for a line of the
-/// lane's berth that hasn't ended and has a place for it, with the line's next number, and no entry has
-/// named its request yet.
+/// An entry that begins an attempt for the first time ends, grants and commits nothing. A Launch is of a new line, and
+/// of a wanted branch's attempt that no entry has named yet. A Send is for a line of the lane's berth that hasn't ended
+/// and has a place for it. It has the line's next number, and no entry has named its request yet.
 pub fn begins_are_fresh()
     ensures begins { (p : Plan) (e : Entry) (j : List Entry) (t : Attempt) → Lawful p (e ∷ j)
         → begun_in e.reply ≡ Some t → begun j t ≡ false → BeginsOne j e t }
@@ -129,8 +128,8 @@ pub fn begins_are_fresh()
         → 1 ≤ p.limit → send_in e.reply ≡ Some x → IsNumberedSend p j e.lane x }
 {}
 
-/// An attempt ends only by its own fault, or when its line has ended and it has no answer or its feed
-/// failed; and each of these ends it, unless its action has a grant.
+/// An attempt ends only by its own fault, or when its line has ended and it has no answer or its feed failed. Each of
+/// these ends it, unless its action has a grant.
 pub fn ends_are_told()
     ensures only { (p : Plan) (e : Entry) (j : List Entry) (t : Attempt) → Lawful p (e ∷ j)
         → ended (e ∷ j) t ≡ true → ended j t ≡ false → EndsWith j e t }
@@ -138,9 +137,8 @@ pub fn ends_are_told()
         → EndsWith j e t → granted (e ∷ j) t.action ≡ false → ended (e ∷ j) t ≡ true }
 {}
 
-/// A Claim is of an attempt under way that was gathered and not claimed before. A grant is its
-/// action's first, and its attempt never ends. A Committed is the first of its branch, and that
-/// was granted files.
+/// A Claim is of an attempt under way that was gathered and not claimed before. A grant is its action's first, and its
+/// attempt never ends. A Committed is the first of its branch, which was granted files.
 pub fn claims_are_due()
     ensures claims { (p : Plan) (e : Entry) (j : List Entry) (t : Attempt) → Lawful p (e ∷ j)
         → claims_it t e.call ≡ true → IsClaimable j t }
@@ -153,11 +151,10 @@ pub fn claims_are_due()
         → IsGrantedFiles j a b }
 {}
 
-/// A branch that isn't wanted never becomes wanted again, and a branch that is bound to a line is carried
-/// by it. A pending request is of an action of the plan, and is unwanted exactly when that has a grant. The
-/// requests of a line are numbered; of all pending ones exactly those of the attempt that an Answer or a
-/// Wrote is about have its number on its line; a request has one Wrote; and once a line has ended, no
-/// attempt that it carries is pending.
+/// A branch that isn't wanted never becomes wanted again, and a branch that is bound to a line is carried by it. A
+/// pending request is of an action of the plan, and is unwanted exactly when that action has a grant. The requests of a
+/// line are numbered. Of all pending requests, exactly those of the attempt that an Answer or a Wrote is about have its
+/// number on its line. A request has one Wrote. Once a line has ended, no attempt that it carries is pending.
 pub fn branches_stand()
     ensures wanted { (p : Plan) (e : Entry) (j : List Entry) → Lawful p (e ∷ j)
         → WantedFollows p j e }
@@ -177,10 +174,14 @@ pub fn branches_stand()
         → line_of j s ≡ Some l → has_ended j l ≡ true → IsPastAttempt j s }
 {}
 
-/// Exactly which attempts end with an entry. With a Launched that failed, a Wrote that reports unwritten
-/// and a refused Claim, it is the attempt that they name; with an Ended, each one that is left on the line;
-/// with a failed feed, that request's if its line has ended; with any other call, none. If an action has a
-/// grant, none of its attempts ends.
+/// States exactly which attempts end with an entry:
+///
+/// - With a Launched that failed, a Wrote that reports unwritten or a refused Claim, it is the attempt that they name.
+/// - With an Ended, it is each attempt that is left on the line.
+/// - With a failed feed, it is the request's attempt, if its line has ended.
+/// - With any other call, there is none.
+///
+/// If an action has a grant, none of its attempts ends.
 pub fn ends_are_exact()
     ensures launched { (p : Plan) (e : Entry) (j : List Entry) (l m : ℕ) (how : Started)
         (s : Attempt) → Lawful p (e ∷ j) → e.call ≡ call.Launched l how → is_done how ≡ false
@@ -207,12 +208,11 @@ pub fn ends_are_exact()
         → ended (e ∷ j) t ≡ true → ended j t ≡ false → begun_in e.reply ≡ None → IsGoing j t }
 {}
 
-/// An attempt that was begun and hasn't ended is its branch's latest, within the limit, with its
-/// inputs made, and wanted unless its action has a grant. Such are those that a Launched is
-/// about, or a Wrote unless its line has ended without an answer to it, the pending ones, and
-/// those that were written, answered and not claimed. What is gathered, or is claimed of an
-/// action without a grant, is of an action that isn't settled; and a branch that was granted
-/// makes no Claim again.
+/// An attempt that was begun and hasn't ended is its branch's latest, within the limit, with its inputs made. It is
+/// wanted unless its action has a grant. Such are the attempts that a Launched is about, or a Wrote unless its line has
+/// ended without an answer to it. Such are also the pending ones, and those that were written, answered and not
+/// claimed. An attempt that is gathered, or claimed while its action has no grant, is of an action that isn't settled.
+/// A branch that was granted makes no Claim again.
 pub fn attempts_stand()
     ensures going { (p : Plan) (j : List Entry) (t : Attempt) → Lawful p j → begun j t ≡ true
         → ended j t ≡ false → IsGoing j t }
@@ -268,8 +268,7 @@ pub fn standings_grow()
         → list_all (is_request_accounted j) (each (λ _ e. send_in e.reply) j) ≡ true }
 {}
 
-/// A line is killed once and ends once; and one that was given up has nothing left to do, if no
-/// lane has halted.
+/// A line is killed once and ends once. A line that was given up has nothing left to do, if no lane has halted.
 pub fn lines_end_once()
     ensures kills { (p : Plan) (e : Entry) (j : List Entry) (l : ℕ) → Lawful p (e ∷ j)
         → orders_kill l e.reply ≡ true → KillsOnce j e l }
@@ -294,9 +293,9 @@ pub fn lines_end_once()
         → given_up j l ≡ true → IsDone p j l }
 {}
 
-/// There are at most as many lines as the two branches of all actions have attempts, and a Single line has
-/// at most one pending request. The request of an Answer or a Wrote is among the requests of its line, an
-/// answered request is no longer pending, and an answer that reports cancelled is never matched.
+/// There are at most as many lines as the two branches of all actions have attempts. A Single line has at most one
+/// pending request. The request of an Answer or a Wrote is among the requests of its line. An answered request is no
+/// longer pending. An answer that reports cancelled is never matched.
 pub fn requests_have_places()
     ensures lines { (p : Plan) (j : List Entry) (l : ℕ) → Lawful p j → 1 ≤ p.limit
         → l < line_count j → l < 2 * length p.actions * p.limit }
@@ -371,8 +370,8 @@ pub fn paid_calls_are_noted()
         → seats_owe seats (after j lane c x) ≤ seats_owe seats j + 1 }
 {}
 
-/// If each group has its own berths, a legal journal is lawful, each line runs the group of its berth, and
-/// the conditions of orders there hold too.
+/// If each group has its own berths, a legal journal is lawful. Each line then runs the group of its berth, and the
+/// conditions of orders hold there too.
 pub fn own_berths_are_lawful()
     ensures lawful { (p : Plan) (j : List Entry) → Legal p j → Lawful p j }
     ensures seated { (p : Plan) (j : List Entry) (l w : ℕ) → Legal p j → IsOfBerth j l w

@@ -1,4 +1,4 @@
-// What a journal says of one attempt, kept while its entries are gone through.
+// The facts about one attempt in a journal, while its entries are gone through.
 ghost use Rattle.std.specs.Prelude.{◌≡◌, option_copied, option_map};
 ghost use Rattle.exec_journal.specs.Entries.{is_for, consumed_in, send_of_entry, launch_of_entry};
 ghost use Rattle.exec_journal.specs.Words.{wrote_if};
@@ -8,7 +8,8 @@ ghost use Rattle.journal_lookback.specs.Lookback.{concerns, end_now, track_after
 use crate::grant::grant_in;
 use exec_journal::{Attempt, Call, Cause, Entry, Found, Reply, Started, Written};
 
-/// `ended` may be set late: that an attempt was lost with its line is noticed at the next look at it.
+/// The state of an attempt. `ended` may be set late: the loss of an attempt with its line is noticed at the next look
+/// at it.
 #[derive(Clone, Copy)]
 pub struct Track {
     pub line: Option<u32>,
@@ -28,7 +29,7 @@ impl Track {
         ended: None,
     };
 
-    /// The cause with which the attempt has ended by now. `line` is the cause of its line, if the line has
+    /// Returns the cause with which the attempt has ended by now. `line` is the cause of its line, if the line has
     /// ended.
     pub fn end_now(&self, won: bool, line: Option<Cause>) -> Option<Cause>
         ensures { result ≡ end_now self.now won line }
@@ -68,7 +69,7 @@ impl Track {
     }
 }
 
-/// The line on which the reply orders the attempt to be launched or sent.
+/// Returns the line on which the reply orders the attempt to be launched or sent.
 pub fn carrier(attempt: Attempt, reply: &Reply) -> Option<u32>
     ensures { result ≡ carrier_in attempt reply.now }
 {
@@ -90,7 +91,7 @@ pub fn carrier(attempt: Attempt, reply: &Reply) -> Option<u32>
     }
 }
 
-/// The reply consumes the answer of the attempt.
+/// True if the reply consumes the answer of the attempt.
 pub fn is_consumed(attempt: Attempt, reply: &Reply) -> bool
     ensures { result ≡ is_for attempt (consumed_in reply.now) }
 {
@@ -119,7 +120,7 @@ pub fn wrote(attempt: Attempt, order: Option<&Entry>, entry: &Entry) -> Option<W
     }
 }
 
-/// The fault of the attempt's own at this entry: of its Launched, its Wrote or its Claim.
+/// Returns the attempt's own fault at this entry: of its Launched, its Wrote or its Claim.
 pub fn fault(attempt: Attempt, order: Option<&Entry>, entry: &Entry) -> Option<Cause>
     ensures { result ≡ fault_by attempt (option_copied order.entry) entry.now.call entry.now.reply }
 {

@@ -18,7 +18,7 @@ pub enum GrantKind {
     Nothing,
 }
 
-/// The grant of the action at this entry.
+/// Returns the grant of the action at this entry.
 pub fn grant_in(entry: &Entry, action: u32) -> Option<Grant>
     ensures { result ≡ option_map grant_fact (grants action entry.now) }
 {

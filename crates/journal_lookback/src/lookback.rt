@@ -1,4 +1,4 @@
-// Words of the rules, found in a journal by looking through its entries.
+// The terms of the rules, found in a journal by looking through its entries.
 ghost use Rattle.std.specs.Prelude.{◌≡◌, reverse, option_copied, option_map, is_some, find};
 ghost use Rattle.std.specs.List.{list_any};
 ghost use Rattle.exec_journal.specs.Entries.{is_for, consumed_in, send_of_entry, ends, committed_in, send_in, matched_in};
@@ -12,7 +12,7 @@ use exec_journal::{
     Answer, Attempt, Branch, Call, Cause, CommitEnd, Entry, HowEnded, Reply, Written,
 };
 
-/// The lane's newest entry that is neither a Look nor a Halt.
+/// Returns the lane's newest entry that is neither a Look nor a Halt.
 pub fn last_work(front: &[Entry], lane: u32) -> Option<&Entry>
     ensures { option_copied result ≡ last_work (reverse front.now) lane }
 {
@@ -71,7 +71,7 @@ pub fn line_cause(front: &[Entry], line: u32) -> Option<Cause>
     None
 }
 
-/// The cause for which the line breaks at this entry.
+/// Returns the cause for which the line breaks at this entry.
 fn break_in(before: &[Entry], entry: &Entry, line: u32) -> Option<Cause>
     ensures { result ≡ break_at line (reverse before.now) entry.now }
 {
@@ -107,7 +107,7 @@ pub fn is_unwritten(call: &Call) -> bool
     )
 }
 
-/// It is an order to send a request, and an answer to that was consumed.
+/// True if it is an order to send a request, and an answer to that request was consumed.
 fn was_answered(before: &[Entry], order: Option<&Entry>) -> bool
     ensures { result ≡ was_answered (reverse before.now) (send_of_entry
         (option_copied order.entry)) }
@@ -176,7 +176,7 @@ fn end_break(how: HowEnded) -> Cause
     }
 }
 
-/// An answer to the attempt was consumed.
+/// True if an answer to the attempt was consumed.
 pub fn is_answered(front: &[Entry], attempt: Attempt) -> bool
     ensures { result ≡ answered (reverse front.now) attempt }
 {
@@ -191,7 +191,7 @@ fn has_consumed(front: &[Entry], attempt: Attempt) -> bool
 
 // ---- actions and attempts
 
-/// The action's first claim that was granted.
+/// Returns the action's first claim that was granted.
 pub fn grant(entries: &[Entry], action: u32) -> Option<Grant>
     ensures { result ≡ option_map grant_fact (grant_of (reverse entries.now) action) }
 {
@@ -207,7 +207,7 @@ fn granting(entries: &[Entry], action: u32) -> Option<&Entry>
     entries.iter().find(|e| grant_in(e, action).is_some())
 }
 
-/// How the branch was committed, by its first Committed.
+/// Returns how the branch was committed, by its first Committed.
 pub fn commit(entries: &[Entry], action: u32, branch: Branch) -> Option<CommitEnd>
     ensures { result ≡ commit_of (reverse entries.now) action branch }
 {
@@ -240,7 +240,7 @@ pub fn commit_in(entry: &Entry, action: u32, branch: Branch) -> Option<CommitEnd
     }
 }
 
-/// Some attempt of the branch was sent.
+/// True if an attempt of the branch was sent.
 pub fn ever_sent(entries: &[Entry], action: u32, branch: Branch) -> bool
     ensures { result ≡ ever_sent (reverse entries.now) action branch }
 {
@@ -253,7 +253,7 @@ fn has_send_of(entries: &[Entry], action: u32, branch: Branch) -> bool
     entries.iter().any(|e| is_send_of(e, action, branch))
 }
 
-/// The reply orders to send a request of the branch.
+/// True if the reply orders to send a request of the branch.
 pub fn is_send_of(entry: &Entry, action: u32, branch: Branch) -> bool
     ensures { result ≡ is_of_branch action branch (send_in entry.now.reply) }
 {
@@ -263,7 +263,7 @@ pub fn is_send_of(entry: &Entry, action: u32, branch: Branch) -> bool
     )
 }
 
-/// The answer that is matched with the attempt at this entry.
+/// Returns the answer that is matched with the attempt at this entry.
 pub fn match_in(entry: &Entry, attempt: Attempt) -> Option<&Answer>
     ensures { option_copied result ≡ match_at attempt entry.now.call entry.now.reply }
 {
@@ -286,7 +286,7 @@ fn is_match(attempt: Attempt, reply: &Reply) -> bool
     }
 }
 
-/// The cause with which the attempt has ended.
+/// Returns the cause with which the attempt has ended.
 pub fn end(entries: &[Entry], attempt: Attempt) -> Option<Cause>
     ensures { result ≡ end_of (reverse entries.now) attempt }
 {

@@ -17,8 +17,8 @@ use exec_journal::{
 };
 use run_plan::MOST_ACTIONS;
 
-/// The outcome of the action, by the journal. It takes no memory: it looks through the journal for each
-/// action on which this one may depend.
+/// Returns the outcome of the action, by the journal. It takes no memory, and looks through the journal for each action
+/// on which this one may depend.
 pub fn outcome(plan: &Plan, j: &Journal, action: u32) -> Outcome
     requires sound { Sound plan.now }
     requires within { action < length plan.now.actions }
@@ -28,7 +28,7 @@ pub fn outcome(plan: &Plan, j: &Journal, action: u32) -> Outcome
     outcome_in(plan, j.entries(), action, work)
 }
 
-/// The fate of the branch of the action, by the journal. It takes no memory.
+/// Returns the fate of the branch of the action, by the journal. It takes no memory.
 pub fn fate(plan: &Plan, j: &Journal, action: u32, branch: Branch) -> Fate
     requires sound { Sound plan.now }
     requires within { action < length plan.now.actions }
@@ -106,7 +106,7 @@ fn is_winner(entries: &[Entry], action: u32, branch: Branch) -> bool
     }
 }
 
-/// The fate of the branch that was granted, by its commit.
+/// Returns the fate of the branch that was granted, by its commit.
 pub fn winner_fate(commit: Option<CommitEnd>) -> Fate
     ensures { result ≡ won_or_spoiled commit }
 {
@@ -116,7 +116,7 @@ pub fn winner_fate(commit: Option<CommitEnd>) -> Fate
     }
 }
 
-/// The fate of another branch, by the cause with which its last attempt ended and whether any was sent.
+/// Returns the fate of another branch, by the cause with which its last attempt ended and whether any was sent.
 pub fn loser_fate(limit: u32, cause: Option<Cause>, sent: bool) -> Fate
     ensures { result ≡ lost_fate limit cause sent }
 {
@@ -144,7 +144,7 @@ fn granted_outcome(entries: &[Entry], action: u32) -> Option<Outcome>
     }
 }
 
-/// The outcome of an action whose branch was granted for its files, by the commit.
+/// Returns the outcome of an action whose branch was granted for its files, by the commit.
 pub fn committed_outcome(branch: Branch, commit: Option<CommitEnd>) -> Option<Outcome>
     ensures { result ≡ commit_outcome branch commit }
 {
@@ -214,7 +214,7 @@ fn is_all_dropped(plan: &Plan, entries: &[Entry], action: u32, work: &PlanAction
 
 // ---- by the producers
 
-/// The state of each action of the plan, in their order.
+/// Finds the standing of each action of the plan, in their order.
 fn find_standings(all: &mut [Standing], plan: &Plan, entries: &[Entry])
     requires few { length plan.now.actions ≤ most_actions }
     requires room { length plan.now.actions ≤ length all.old }
@@ -249,7 +249,7 @@ fn standing_next(
     }
 }
 
-/// One of the inputs is made by an action that has ended without success.
+/// True if one of the inputs is made by an action that has ended without success.
 pub fn is_input_lost(makers: &[Maker], standings: &[Standing]) -> bool
     ensures { result
         ≡ list_any (λ m. is_unsuccessful (slice_get standings.now m.action)) makers.now }
@@ -278,7 +278,7 @@ fn skipped_outcome(standings: &[Standing], work: &PlanAction) -> Outcome
     }
 }
 
-/// The least action of these producers that has no success.
+/// Returns the least action of these producers that has no success.
 fn least_unmade(standings: &[Standing], makers: &[Maker]) -> Option<u32>
     ensures { result ≡ least_without standings.now makers.now }
 {

@@ -40,7 +40,7 @@ fn call_by(alloc: Global, name: &str, row: &[Value]) -> Result<Call, Misread>
     }
 }
 
-// A call of a tap lane, or any lane's Halt.
+// Returns a call of a tap lane, or any lane's Halt.
 fn heard_by(alloc: Global, name: &str, row: &[Value]) -> Result<Call, Misread>
     ensures { Reads result (heard_by name.now (map view row.now)) }
 {

@@ -1,4 +1,4 @@
-// The fields of a row, from its front: a value, and what stands behind it.
+// The fields of a row, from its front: a value, and the rest of the row.
 ghost use Rattle.std.specs.Prelude.{◌≡◌, map};
 ghost use Rattle.serde_json.specs.View.{view};
 ghost use Rattle.journal_reading.specs.Readings.{Reads, ReadsAs};
@@ -34,7 +34,7 @@ fn first(row: &[Value]) -> Result<(&Value, &[Value]), Misread>
     }
 }
 
-/// Nothing more stands there.
+/// Checks that the row has no more values.
 pub(crate) fn at_end(row: &[Value]) -> Result<(), Misread>
     ensures { Reads result (at_end (map view row.now)) }
 {
@@ -54,7 +54,7 @@ pub(crate) fn name_at(row: &[Value]) -> Result<(&str, &[Value]), Misread>
     }
 }
 
-/// An attempt: its action, its branch and its number.
+/// Returns an attempt: its action, its branch and its number.
 pub(crate) fn attempt_at(row: &[Value]) -> Result<(Attempt, &[Value]), Misread>
     ensures { ReadsAs (λ x. (x.0, map view x.1.now)) result (attempt_at (map view row.now)) }
 {

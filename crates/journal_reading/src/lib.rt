@@ -1,4 +1,4 @@
-//! Reads the lines of a journal's text: what each spells, or that it spells nothing.
+//! Reads the lines of a journal's text. Each spells a plan or an entry, or nothing.
 #![tactic(auto)]
 
 mod answers;

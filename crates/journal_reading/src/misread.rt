@@ -1,15 +1,15 @@
-// Why a value is read as nothing.
+// The reasons that a value can't be read.
 ghost use Rattle.std.specs.Prelude.{◌≡◌};
 
 use plain_values::NoMemory;
 use std::alloc::{AllocError, AllocFailed};
 
-/// Why nothing was read.
+/// The reason that nothing was read.
 #[derive(Clone, Copy, Debug, PartialEq, Eq)]
 pub enum Misread {
     /// The value is of another form.
     Otherwise,
-    /// Memory ran out, and the value may be of that form or not.
+    /// Memory ran out. The value may have that form or not.
     NoMemory,
 }
 

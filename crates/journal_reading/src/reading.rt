@@ -1,4 +1,4 @@
-// What a line spells.
+// The plan or the entry that a line spells.
 ghost use Rattle.std.specs.Prelude.{◌≡◌, true, false, map, MatchOption};
 ghost use Rattle.std.specs.Str.{is_utf8};
 ghost use Rattle.serde_json.specs.Read.{read};
@@ -15,11 +15,11 @@ use exec_journal::{Entry, Plan};
 use serde_json::Value;
 use std::alloc::Global;
 
-/// The plan that a line spells, without its line feed.
+/// Returns the plan that a line spells, without its line feed.
 ///
 /// # Errors
 ///
-/// `Otherwise` where it spells none; or `NoMemory`.
+/// Returns `Otherwise` if it spells none, or `NoMemory` if memory runs out.
 pub fn read_plan(alloc: Global, line: &[u8]) -> Result<Plan, Misread>
     ensures { Reads result (plan_of line.now) }
 {
@@ -27,11 +27,11 @@ pub fn read_plan(alloc: Global, line: &[u8]) -> Result<Plan, Misread>
     plan_in(alloc, &value)
 }
 
-/// The entry that a line spells, without its line feed.
+/// Returns the entry that a line spells, without its line feed.
 ///
 /// # Errors
 ///
-/// `Otherwise` where it spells none; or `NoMemory`.
+/// Returns `Otherwise` if it spells none, or `NoMemory` if memory runs out.
 pub fn read_entry(alloc: Global, line: &[u8]) -> Result<Entry, Misread>
     ensures { Reads result (entry_of line.now) }
 {

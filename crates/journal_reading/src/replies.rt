@@ -33,7 +33,7 @@ fn reply_by(alloc: Global, name: &str, row: &[Value]) -> Result<Reply, Misread>
     }
 }
 
-// A reply that orders nothing.
+// Returns a reply that orders nothing.
 fn told_by(alloc: Global, name: &str, row: &[Value]) -> Result<Reply, Misread>
     ensures { Reads result (told_by name.now (map view row.now)) }
 {
@@ -48,7 +48,7 @@ fn told_by(alloc: Global, name: &str, row: &[Value]) -> Result<Reply, Misread>
     }
 }
 
-// One without fields.
+// Returns a reply without fields.
 fn plain_by(name: &str, row: &[Value]) -> Result<Reply, Misread>
     ensures { Reads result (plain_by name.now (map view row.now)) }
 {

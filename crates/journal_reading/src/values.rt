@@ -15,7 +15,7 @@ use plain_values::{Blob, Items, Text};
 use serde_json::Value;
 use std::alloc::Global;
 
-/// The elements of an array.
+/// Returns the elements of an array.
 pub(crate) fn row_in(value: &Value) -> Result<&[Value], Misread>
     ensures { ReadsAs (λ vs. map view vs.now) result (row_in (view value.now)) }
 {
@@ -133,7 +133,7 @@ fn each_content(alloc: Global, row: &[Value]) -> Result<Items<Blob>, Misread>
     Ok(Items::of(contents))
 }
 
-/// The name of a variant, and its fields.
+/// Returns the name of a variant, and its fields.
 pub(crate) fn variant_in(value: &Value) -> Result<(&str, &[Value]), Misread>
     ensures { ReadsAs (λ x. (x.0.now, map view x.1.now)) result (variant_in (view value.now)) }
 {
@@ -141,7 +141,7 @@ pub(crate) fn variant_in(value: &Value) -> Result<(&str, &[Value]), Misread>
     name_at(row)
 }
 
-/// A name that has no fields.
+/// Returns a name that has no fields.
 pub(crate) fn word_in(value: &Value) -> Result<&str, Misread>
     ensures { ReadsAs (λ x. x.now) result (word_in (view value.now)) }
 {

@@ -1,4 +1,4 @@
-// Variants without fields: each is a row of its name alone.
+// Variants without fields: each is a row of only its name.
 ghost use Rattle.serde_json.specs.View.{view};
 ghost use Rattle.journal_reading.specs.Readings.{Reads};
 ghost use Rattle.journal_text.specs.Words.{branch_in, branch_named, breach_in, breach_named, how_ended_in, how_ended_named, kind_in, kind_named, started_in, started_named, stray_in, stray_named, why_in, why_named, written_in, written_named};

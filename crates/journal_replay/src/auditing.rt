@@ -13,11 +13,12 @@ use std::alloc::Global;
 
 const LIMIT: usize = 268_435_456;
 
-/// What the text comes to. Whoever made it isn't trusted: where the answer is Yes, the journal that it spells is legal.
+/// Returns the verdict on the text. The author of the text isn't trusted: if the verdict is Yes, the journal that it
+/// spells is legal.
 ///
 /// # Errors
 ///
-/// `NoMemory`, which says nothing of the text.
+/// Returns `NoMemory` if memory runs out, which means nothing about the text.
 pub fn audit_with<C: Replayed>(alloc: Global, bytes: &[u8]) -> Result<Verdict, NoMemory>
     ensures answer { IfOk result (Judges C.makes bytes.now) }
     ensures only { IfOk result (λ v. (w : Verdict) → Judges C.makes bytes.now w → w ≡ v) }

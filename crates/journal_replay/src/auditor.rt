@@ -1,4 +1,4 @@
-// What is known of the lines so far, and what the next line makes of it.
+// The findings about the lines so far, and how the next line changes them.
 ghost use Rattle.std.specs.Prelude.{◌≡◌, ◌+◌, ◌<◌, ◌^◌, ◌++◌, ◌∷◌, [], ℕ, List, IfOk, Some, None, true, is_some, length, reverse};
 ghost use Rattle.run_plan.specs.Sound.{Sound};
 ghost use Rattle.journal_text.specs.Lines.{entry_of, plan_of};
@@ -16,22 +16,22 @@ use journal_reading::{Misread, read_entry, read_plan};
 use plain_values::NoMemory;
 use std::alloc::Global;
 
-/// What is known of the lines so far.
+/// The findings about the lines so far.
 #[derive(Drop)]
 pub(crate) enum Found<C: Drop> {
-    /// There was none.
+    /// There was no line.
     Nothing,
     /// This line was the first that doesn't spell what it should.
     Bad { line: u64 },
-    /// They spell a plan that isn't sound, and entries.
+    /// The lines spell a plan that isn't sound, and entries.
     Unsound,
-    /// They spell a sound plan and entries, of which this is the first that the rules don't make.
+    /// The lines spell a sound plan and entries. The entry with this number is the first that the rules don't allow.
     Wrong { entry: u64, beyond: bool },
-    /// They spell a sound plan and entries, which are legal.
+    /// The lines spell a sound plan and entries, which are legal.
     Going(Going<C>),
 }
 
-/// A sound plan, how many entries there were, and a core that was called as they say.
+/// A sound plan, the number of entries so far, and a core that was called as the entries say.
 #[derive(Drop)]
 pub(crate) struct Going<C: Drop> {
     core: C,
@@ -40,7 +40,7 @@ pub(crate) struct Going<C: Drop> {
     entries: u64,
 }
 
-/// What is known with one more line, which has this number from 1.
+/// Adds a line to the findings. It has this number, counted from 1.
 pub(crate) fn with_line<C: Replayed>(
     alloc: Global,
     found: Found<C>,
@@ -70,7 +70,7 @@ fn first_line<C: Replayed>(alloc: Global, line: &[u8]) -> Result<Found<C>, NoMem
     }
 }
 
-// The plan is what the line spells.
+// Begins the replay of the plan that the line spells.
 fn begun<C: Replayed>(alloc: Global, plan: Plan, line: &[u8]) -> Result<Found<C>, NoMemory>
     requires { plan_of line.now ≡ Some plan }
     ensures { IfOk result (λ f. Knows C.makes C.stands f (line.now ∷ [])) }
@@ -89,7 +89,7 @@ fn begun<C: Replayed>(alloc: Global, plan: Plan, line: &[u8]) -> Result<Found<C>
     }))
 }
 
-// The plan of a line that spells one.
+// Returns the plan of a line that spells one.
 fn read_again(alloc: Global, line: &[u8]) -> Result<Plan, NoMemory>
     requires { is_some (plan_of line.now) ≡ true }
     ensures { IfOk result (λ p. plan_of line.now ≡ Some p) }
@@ -156,7 +156,7 @@ fn next_line<C: Replayed>(
     }
 }
 
-// The core is called as the entry says, and what it replies is compared with what the entry says.
+// Calls the core as the entry says, and compares its reply with the entry's.
 fn judged<C: Replayed>(going: Going<C>, entry: Entry) -> Found<C>
     ensures { (ls : List (List ℕ)) (line : List ℕ) → IsLegalSoFar C.makes C.stands ls going
         → entry_of line ≡ Some entry → length ls < 2 ^ 63
@@ -185,7 +185,7 @@ fn judged<C: Replayed>(going: Going<C>, entry: Entry) -> Found<C>
     }
 }
 
-/// The verdict on these lines.
+/// Returns the verdict on these lines.
 pub(crate) fn verdict_of<C: Replayed>(found: Found<C>) -> Verdict
     ensures { (ls : List (List ℕ)) → Knows C.makes C.stands found ls → Says C.makes ls result }
 {

@@ -1,4 +1,4 @@
-// A text that comes in pieces, of which the line that has begun is all that is kept.
+// A text that comes in pieces. Only the unfinished line is kept.
 ghost use Rattle.std.specs.Prelude.{◌≡◌, ◌≤◌, ◌<◌, ◌+◌, ◌++◌, ◌∷◌, ◌^◌, ℕ, List, [], IfOk, OnOk, length};
 ghost use Rattle.journal_replay.specs.Fed.{Fed, FedSo};
 ghost use Rattle.journal_replay.specs.Verdicts.{Judges};
@@ -10,18 +10,18 @@ use plain_values::NoMemory;
 use std::alloc::Global;
 use std::mem;
 
-/// What is known of the bytes so far.
+/// The findings about the bytes so far.
 #[derive(Drop)]
 pub(crate) struct Auditor<C: Replayed> {
     alloc: Global,
     found: Found<C>,
-    // The number of the line that has begun, from 1.
+    // The number of the unfinished line, from 1.
     number: u64,
     begun: Vec<u8>,
 }
 
 impl<C: Replayed> Auditor<C> {
-    /// One to which nothing came yet.
+    /// Returns an auditor that has received nothing.
     pub(crate) fn new(alloc: Global) -> Auditor<C>
         ensures { Fed C.makes C.stands result [] }
     {
@@ -33,7 +33,7 @@ impl<C: Replayed> Auditor<C> {
         }
     }
 
-    /// These bytes come next. After lack of memory it isn't to be used.
+    /// Takes the next bytes. After a lack of memory the auditor must not be used.
     pub(crate) fn feed(&mut self, piece: &[u8]) -> Result<(), NoMemory>
         ensures { (bytes : List ℕ) → Fed C.makes C.stands self.old bytes
             → length bytes + length piece.now < 2 ^ 63
@@ -50,7 +50,7 @@ impl<C: Replayed> Auditor<C> {
         Ok(())
     }
 
-    // The line that has begun ends with these bytes, and a line feed stands behind them.
+    // Ends the unfinished line with these bytes. A line feed follows them.
     fn end_line(&mut self, rest: &[u8]) -> Result<(), NoMemory>
         ensures { (bytes : List ℕ) → FedSo C.makes C.stands self.old.found self.old.number
             (self.old.begun.items ++ rest.now) bytes → length bytes < 2 ^ 63
@@ -64,7 +64,7 @@ impl<C: Replayed> Auditor<C> {
         Ok(())
     }
 
-    /// The verdict on all that came.
+    /// Returns the verdict on all bytes so far.
     pub(crate) fn verdict(self) -> Result<Verdict, NoMemory>
         ensures { (bytes : List ℕ) → Fed C.makes C.stands self bytes
             → length bytes ≤ 268435456 → IfOk result (Judges C.makes bytes) }

@@ -1,4 +1,4 @@
-//! What holds of the text of a legal journal. The function does nothing: it is a law.
+//! A law about the text of a legal journal. The function does nothing.
 ghost use Rattle.std.specs.Prelude.{◌≤◌, List, length, reverse};
 ghost use Rattle.run_plan.specs.declared.plan.Plan.{Plan};
 ghost use Rattle.run_plan.specs.Sound.{Sound};
@@ -12,7 +12,7 @@ ghost use Rattle.journal_replay.specs.declared.verdict.Verdict.TheVariants as ve
 
 use crate::replayed::Replayed;
 
-/// The written text of a legal journal of a sound plan is judged so, unless it is too long.
+/// The written text of a legal journal of a sound plan is judged legal, unless it is too long.
 pub fn texts_are_legal<C: Replayed>()
     ensures { (p : Plan) (j : List Entry) → Sound p → C.makes p (reverse j) → Race (reverse j)
         → Paired p (reverse j) → IsWrittenPlan p → Each IsWrittenEntry j

@@ -1,4 +1,4 @@
-//! Checks the text of a run's journal: whether it spells a legal one. Whoever made the text isn't trusted.
+//! Checks if the text of a run's journal spells a legal journal. The author of the text isn't trusted.
 #![tactic(auto)]
 
 mod auditing;

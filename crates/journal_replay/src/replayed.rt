@@ -1,4 +1,4 @@
-// What an auditor asks of a scheduling core.
+// The interface of a scheduling core for an auditor.
 ghost use Rattle.std.specs.Prelude.{◌≡◌, ◌∷◌, List, [], IfOk, true};
 ghost use Rattle.run_plan.specs.declared.plan.Plan.{Plan};
 ghost use Rattle.run_plan.specs.Sound.{Sound};
@@ -14,23 +14,22 @@ use exec_journal::{Call, Plan, Reply};
 use plain_values::NoMemory;
 use std::alloc::Global;
 
-/// A scheduling core with rules of its own: it answers each call as they say, and stands for the journal of the calls
-/// so far.
+/// A scheduling core with its own rules. It answers each call by them, and represents the journal of the calls so far.
 pub trait Replayed: Drop {
     /// The journals that its rules make, the newest entry first.
     ghost makes: { Plan → List Entry → Type 0 };
 
-    /// The journal is that of the calls which it answered.
+    /// The journal contains the calls that the core answered.
     ghost stands: { Plan → Self → List Entry → Type 0 };
 
-    /// One in which nothing was called yet.
+    /// Returns a core that hasn't been called yet.
     fn begin(alloc: Global, plan: Plan) -> Result<Self, NoMemory>
     where
         Self: Sized,
         requires { Sound plan }
         ensures { IfOk result (λ c. stands plan c []) };
 
-    /// The reply to a call. With no other than this one do the rules make the journal.
+    /// Returns the reply to a call. The rules make the journal with no other reply.
     fn reply(&mut self, lane: u32, call: &Call) -> Reply
         ensures only { (p : Plan) (j : List Entry) (x : Reply) → stands p self.old j
             → makes p (joined j lane call.now x) → result ≡ x }

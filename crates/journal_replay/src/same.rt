@@ -1,11 +1,11 @@
-// Whether a kept reply is the one that was told.
+// Compares a recorded reply with the one that the core gave.
 ghost use Rattle.std.specs.Prelude.{◌≡◌};
 ghost use Rattle.exec_journal.specs.Entries.{attempt_of};
 ghost use Rattle.journal_replay.specs.Same.{is_breach, is_cancel, is_gather, is_kill, is_late, is_launch, is_line, is_matched, is_send, is_stray, is_told, same_breach, same_stray, same_why};
 
 use exec_journal::{Attempt, Branch, BreachWhy, Reply, StrayWhy, Why};
 
-/// It is this reply, and it is kept.
+/// Returns true if it is this reply, and it is recorded.
 pub(crate) fn is_told(reply: &Reply, told: &Reply) -> bool
     ensures { result ≡ is_told reply.now told.now }
 {

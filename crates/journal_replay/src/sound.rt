@@ -1,4 +1,4 @@
-// Whether a plan is sound.
+// Checks if a plan is sound.
 ghost use Rattle.std.specs.Prelude.{◌≡◌, ◌≤◌, ◌+◌, ◌<◌, ◌^◌, ◌&&◌, nat_le, sum_by, slice_get, length};
 ghost use Rattle.std.specs.List.{list_all};
 ghost use Rattle.run_plan.specs.Sound.{are_different, are_sound_from, has_branches, is_earlier, is_sound_action, is_sound_group, names_group};
@@ -8,7 +8,7 @@ ghost use Rattle.run_plan.specs.Limits.{most_berths};
 use exec_journal::{Group, Kind, Maker, Plan, PlanAction};
 use run_plan::{MOST_ACTIONS, MOST_ATTEMPTS, MOST_BERTHS};
 
-/// Whether it has all that is asked of a plan.
+/// Returns true if the plan meets all that is required of one.
 pub(crate) fn is_sound(plan: &Plan) -> bool
     ensures { result ≡ is_sound plan.now }
 {
@@ -17,7 +17,7 @@ pub(crate) fn is_sound(plan: &Plan) -> bool
         && are_sound(plan, plan.actions.as_slice())
 }
 
-// 1 to 10 attempts, and at most 4,096 actions.
+// Returns true for 1 to 10 attempts and at most 4,096 actions.
 fn has_limits(plan: &Plan) -> bool
     ensures { result ≡ has_limits plan.now }
 {
@@ -36,7 +36,7 @@ fn is_each_sound(groups: &[Group]) -> bool
     groups.iter().all(is_sound_group)
 }
 
-// At most 64 berths in all groups.
+// Returns true if all groups together have at most 64 berths.
 fn has_few_berths(groups: &[Group]) -> bool
     ensures { result ≡ nat_le (sum_by (λ g. g.berths) groups.now) most_berths }
 {

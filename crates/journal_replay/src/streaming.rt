@@ -1,4 +1,4 @@
-// A text that comes through a pipe, and the line that says what it comes to.
+// A text that comes through a pipe, and the line with the verdict on it.
 ghost use Rattle.std.specs.Prelude.{◌≡◌, ◌≤◌, IfOk, Err, string_bytes};
 ghost use Rattle.outside.specs.Causes.{Counts};
 ghost use Rattle.journal_replay.specs.Streams.{IsPut, IsRead, Streamed};
@@ -16,10 +16,10 @@ const LIMIT: usize = 268_435_456;
 
 const PIECE: usize = 65_536;
 
-// After so many reads of a byte or more there is too much.
+// After this many reads of a byte or more the text is too long.
 const MOST_READS: usize = LIMIT + 1;
 
-// What ended the reading.
+// The reason that the reading ended early.
 #[derive(Clone, Copy, Debug, PartialEq, Eq)]
 enum Broke {
     NoMemory,
@@ -36,9 +36,9 @@ impl From<NoMemory> for Broke {
     }
 }
 
-/// Reads a text to its end, or until it is too long, and puts a line that says what it comes to. No more of it is kept
-/// than the line that has begun. The status is 0 where it is legal, 1 where it isn't, 4 where it is no journal of a sound
-/// plan, 3 where memory ran out, 5 where the tap failed and 6 where the sink did.
+/// Reads a text to its end, or until it is too long, and writes a line with the verdict. Only the unfinished line of it
+/// is kept. The status is 0 if the text is legal, 1 if it isn't, and 4 if it is no journal of a sound plan. It is 3 if
+/// memory ran out, 5 if the tap failed, and 6 if the sink failed.
 pub fn check_stream_with<C: Replayed, T: Tap, O: Sink>(
     alloc: Global,
     input: &mut T,

@@ -1,5 +1,5 @@
-//! The journal of a run as text: a JSON line for the plan, and one for each entry. The definitions say both how a line is
-//! written and what it spells; the code writes.
+//! The journal of a run as text: a JSON line for the plan, and one for each entry. The definitions cover both how a
+//! line is written and what it spells. The code writes.
 #![tactic(auto)]
 
 mod calls;

@@ -29,7 +29,7 @@ impl Row {
         }
     }
 
-    /// The row of a variant, with its name.
+    /// Returns the row of a variant, with its name.
     pub(crate) fn variant(alloc: Global, name: &str) -> Result<Row, NoMemory>
         ensures { IfOk result (λ r. map view r.values.items ≡ string name.now ∷ []) }
     {
@@ -113,7 +113,7 @@ impl Row {
     }
 }
 
-/// A variant without fields.
+/// Returns a variant without fields.
 pub(crate) fn word_value(alloc: Global, name: &str) -> Result<Value, NoMemory>
     ensures { IfOk result (λ v. view v ≡ word_data name.now) }
 {

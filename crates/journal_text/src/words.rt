@@ -1,4 +1,4 @@
-// Variants without fields: each is a row of its name alone.
+// Variants without fields: each is a row of only its name.
 ghost use Rattle.std.specs.Prelude.{◌≡◌, IfOk};
 ghost use Rattle.serde_json.specs.View.{view};
 ghost use Rattle.journal_text.specs.Words.{branch_data, branch_name, breach_data, breach_name, how_ended_data, how_ended_name, kind_data, kind_name, started_data, started_name, stray_data, stray_name, why_data, why_name, written_data, written_name};

@@ -17,11 +17,12 @@ use plain_values::{NoMemory, Text};
 use serde_json::Value;
 use std::alloc::Global;
 
-/// The text of a journal: a line for the plan, and one for each entry. Each line, read again, is the plan or the entry.
+/// Returns the text of a journal: a line for the plan, and one for each entry. Each line, read again, is the plan or
+/// the entry.
 ///
 /// # Errors
 ///
-/// `NoMemory` where the text finds no memory.
+/// Returns `NoMemory` if memory runs out.
 pub fn journal_text(alloc: Global, plan: &Plan, journal: &Journal) -> Result<Text, NoMemory>
     ensures text { IfOk result (λ t. t ≡ text_of plan.now journal.now) }
     ensures plan { OnOk result (IsWrittenPlan plan.now) }
@@ -40,7 +41,7 @@ fn plan_line(alloc: Global, plan: &Plan) -> Result<String, NoMemory>
     line_of(alloc, &value)
 }
 
-// Each entry behind a line feed, and a line feed at the end.
+// Writes each entry after a line feed, and a line feed at the end.
 fn write_entries(alloc: Global, text: &mut String, entries: &[Entry]) -> Result<(), NoMemory>
     ensures text { OnOk result
         (string_bytes text.new ≡ entries_text (string_bytes text.old) entries.now) }
@@ -74,7 +75,7 @@ fn entry_value(alloc: Global, entry: &Entry) -> Result<Value, NoMemory>
     Ok(row.into_value())
 }
 
-// A value's text.
+// Returns a value's text.
 fn line_of(alloc: Global, value: &Value) -> Result<String, NoMemory>
     requires plain { has_float (view value.now) ≡ false }
     requires shallow { depth (view value.now) ≤ 127 }

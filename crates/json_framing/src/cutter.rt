@@ -8,10 +8,10 @@ use delimited_framing::{Next, Splitter};
 use plain_values::NoMemory;
 use std::alloc::Global;
 
-/// How the frames of a stream are marked.
+/// The way in which the frames of a stream are marked.
 #[derive(Clone, Copy, PartialEq, Eq)]
 pub enum Framing {
-    /// Each frame stands behind its length.
+    /// Each frame comes after its length.
     Delimited,
     /// Each frame is a line.
     Lines,
@@ -25,7 +25,7 @@ pub enum Cutter {
 }
 
 impl Cutter {
-    /// A cutter of frames of at most so many bytes.
+    /// Returns a cutter of frames of at most `limit` bytes.
     pub fn new(alloc: Global, framing: Framing, limit: u64) -> Cutter
         ensures framing { framing_of result ≡ framing }
         ensures stands { StandsFor (form_of framing) [] [] (held result) }
@@ -41,7 +41,7 @@ impl Cutter {
     ///
     /// # Errors
     ///
-    /// `NoMemory` if the piece finds no room; the cutter is then as it was.
+    /// Returns `NoMemory` if memory runs out. The cutter is then as it was.
     pub fn feed(&mut self, piece: &[u8]) -> Result<(), NoMemory>
         ensures ok { OnOk result ((fed : List ℕ) (given : List (List ℕ))
             → StandsFor (form_of (framing_of self.old)) fed given (held self.old)
@@ -57,11 +57,11 @@ impl Cutter {
         }
     }
 
-    /// Gives the next frame, if all of it has come.
+    /// Returns the next frame, if all of it has come.
     ///
     /// # Errors
     ///
-    /// `NoMemory` if the frame finds no memory; the cutter is then as it was.
+    /// Returns `NoMemory` if memory runs out. The cutter is then as it was.
     pub fn next(&mut self) -> Result<Next, NoMemory>
         ensures after_bad { IfSome (held self.old).fault (λ fault. result ≡ Ok (Next.Bad fault)) }
         ensures ok { IfOk result (λ next. (fed : List ℕ) (given : List (List ℕ))

@@ -5,7 +5,7 @@ ghost use Rattle.json_framing.specs.Lines.{IsLineAt, is_blank, line_length};
 use byte_pieces::Pieces;
 use memchr::memchr;
 
-/// The place of the line at the front, behind the blank lines before it.
+/// The place of the line at the front, after any blank lines.
 #[derive(Clone, Copy)]
 pub(crate) enum Found {
     Whole { start: usize, end: usize },
@@ -37,7 +37,7 @@ pub(crate) fn find_line(held: &Pieces, looked: usize, limit: u64) -> Found
     Found::Whole { start, end }
 }
 
-// The place of the first line feed from here on, or the end.
+// Returns the place of the first line feed from here on, or the end.
 fn line_end(held: &Pieces, from: usize) -> usize
     requires { from ≤ length held.now }
     ensures place { result ≡ from + line_length (drop from held.now) }
@@ -54,7 +54,7 @@ fn line_end(held: &Pieces, from: usize) -> usize
     at
 }
 
-// Nothing but spaces, tabs and carriage returns stands between these places.
+// Returns true if only spaces, tabs and carriage returns are between these places.
 fn is_blank(held: &Pieces, start: usize, end: usize) -> bool
     requires { (start ≤ end) × (end ≤ length held.now) }
     ensures { result ≡ is_blank (take (end - start) (drop start held.now)) }

@@ -1,4 +1,4 @@
-// Lines of a stream that comes in pieces.
+// The lines of a stream that comes in pieces.
 ghost use Rattle.std.specs.Prelude.{◌≡◌, ◌≤◌, ◌++◌, List, ℕ, [], length, drop, None, Ok, OnOk, OnErr, IfOk, IfSome};
 ghost use Rattle.delimited_framing.specs.Splitter.{Held, Gives, StandsFor, fed_more};
 ghost use Rattle.json_framing.specs.Lines.{line_form, line_length};
@@ -37,7 +37,7 @@ impl Model for LineSplitter {
 }
 
 impl LineSplitter {
-    /// A splitter of lines of at most so many bytes.
+    /// Returns a splitter of lines of at most `limit` bytes.
     pub fn new(alloc: Global, limit: u64) -> LineSplitter
         ensures limit { result.limit ≡ limit }
         ensures stands { StandsFor line_form [] [] result }
@@ -55,7 +55,7 @@ impl LineSplitter {
     ///
     /// # Errors
     ///
-    /// `NoMemory` if the piece finds no room; the splitter is then as it was.
+    /// Returns `NoMemory` if memory runs out. The splitter is then as it was.
     pub fn feed(&mut self, piece: &[u8]) -> Result<(), NoMemory>
         ensures ok { OnOk result ((fed : List ℕ) (given : List (List ℕ))
             → StandsFor line_form fed given self.old
@@ -71,12 +71,12 @@ impl LineSplitter {
         Ok(())
     }
 
-    /// Gives the next line without its line feed, if all of it has come. A line that is too long is
-    /// told as soon as it is, and from then on for good.
+    /// Returns the next line without its line feed, if all of it has come. A line that is too long is reported as soon
+    /// as it is too long, and by each later call.
     ///
     /// # Errors
     ///
-    /// `NoMemory` if the line finds no memory; the splitter is then as it was.
+    /// Returns `NoMemory` if memory runs out. The splitter is then as it was.
     pub fn next(&mut self) -> Result<Next, NoMemory>
         ensures after_bad { IfSome self.old.fault (λ fault. result ≡ Ok (Next.Bad fault)) }
         ensures ok { IfOk result (λ next. (fed : List ℕ) (given : List (List ℕ))
@@ -107,7 +107,7 @@ impl LineSplitter {
         }
     }
 
-    // So many bytes more were read, and so many of those behind them were looked through.
+    // Drops `count` more bytes, which were read. After them, `looked` bytes were looked through.
     fn drop_read(&mut self, count: usize, looked: usize)
         requires count { count ≤ length self.old.rest }
         requires looked { looked ≤ line_length (drop count self.old.rest) }

@@ -1,4 +1,4 @@
-// The names of the keys, and what stands at one.
+// The names of the keys, and the value at a key.
 ghost use Rattle.std.specs.Prelude.{◌≡◌};
 ghost use Rattle.std.specs.Option.{option_map};
 ghost use Rattle.serde_json.specs.View.{view};
@@ -7,7 +7,7 @@ ghost use Rattle.json_messages.specs.Keys.{camel, snake, unless_null, value_at};
 use serde_json::Value;
 use wire_messages::JsonKey;
 
-/// The name of a key, as it is written.
+/// Returns the name of a key, as it is written.
 pub(crate) fn camel(key: JsonKey) -> &'static str
     ensures { result.now ≡ camel key }
 {
@@ -26,7 +26,7 @@ pub(crate) fn camel(key: JsonKey) -> &'static str
     }
 }
 
-// The other name under which a key is read.
+// Returns the other name under which a key is read.
 fn snake(key: JsonKey) -> &'static str
     ensures { result.now ≡ snake key }
 {
@@ -39,7 +39,7 @@ fn snake(key: JsonKey) -> &'static str
     }
 }
 
-/// What stands at a key, if anything but `null` does. Of its two names the first one counts.
+/// Returns the value at a key, unless it is `null`. If both of the key's names occur, the first one counts.
 pub(crate) fn value_at(object: &Value, key: JsonKey) -> Option<&Value>
     ensures { option_map (λ v. view v.now) result ≡ value_at key (view object.now) }
 {

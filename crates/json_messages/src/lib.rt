@@ -1,8 +1,7 @@
 //! Work requests and responses as JSON, one object on a line.
 //!
-//! Reading looks at the keys of a message in the order of its field numbers and answers the first
-//! fault. Writing gives the one written form: compact, keys in the order of their bytes, parts at
-//! their default left out.
+//! Reading looks at the keys of a message in the order of its field numbers and returns the first fault. Writing
+//! returns the only written form: compact, with keys in the order of their bytes, and without parts at their default.
 #![tactic(auto)]
 
 mod keys;

@@ -13,12 +13,12 @@ use serde_json::Value;
 use std::alloc::Global;
 use wire_messages::{Input, JsonKey, MessageFault, WorkRequest, WorkResponse};
 
-/// The response that a line is, without its line feed.
+/// Returns the response that a line spells, without its line feed.
 ///
 /// # Errors
 ///
-/// `NotJson`, `NotObject`, or the first `WrongKind` or `OutOfRange` in the order of the field numbers; or
-/// `NoMemory`.
+/// Returns `NotJson`, `NotObject`, or the first `WrongKind` or `OutOfRange` in the order of the field numbers. Returns
+/// `NoMemory` if memory runs out.
 pub fn read_response_line(alloc: Global, line: &[u8]) -> Result<WorkResponse, MessageFault>
     ensures { Answers result (response_of line.now) }
 {
@@ -37,12 +37,12 @@ fn response_in(alloc: Global, object: &Value) -> Result<WorkResponse, MessageFau
     })
 }
 
-/// The request that a line is, without its line feed.
+/// Returns the request that a line spells, without its line feed.
 ///
 /// # Errors
 ///
-/// `NotJson`, `NotObject`, or the first `WrongKind` or `OutOfRange` in the order of the field numbers, the elements
-/// of a list from its front, a path before its digest; or `NoMemory`.
+/// Returns `NotJson`, `NotObject`, or the first `WrongKind` or `OutOfRange` in the order of the field numbers. The
+/// elements of a list are read from its front, and a path before its digest. Returns `NoMemory` if memory runs out.
 pub fn read_request_line(alloc: Global, line: &[u8]) -> Result<WorkRequest, MessageFault>
     ensures { Answers result (request_of line.now) }
 {

@@ -1,4 +1,4 @@
-// From a line to the object that it is.
+// The object that a line spells.
 ghost use Rattle.std.specs.Prelude.{◌≡◌, true, false, MatchOption};
 ghost use Rattle.std.specs.Str.{is_utf8};
 ghost use Rattle.serde_json.specs.Read.{read};
@@ -10,7 +10,7 @@ use serde_json::Value;
 use std::alloc::Global;
 use wire_messages::MessageFault;
 
-/// The object that the line is.
+/// Returns the object that the line spells.
 pub(crate) fn read_object(alloc: Global, line: &[u8]) -> Result<Value, MessageFault>
     ensures { AnswersAs view result (object_in line.now) }
 {

@@ -1,4 +1,4 @@
-// What stands at a key, as a value of the key's kind.
+// The value at a key, as a value of the key's kind.
 ghost use Rattle.std.specs.Prelude.{◌≡◌, map, Some};
 ghost use Rattle.serde_json.specs.View.{view};
 ghost use Rattle.json_messages.specs.Answers.{Answers, AnswersAs};
@@ -21,7 +21,7 @@ pub(crate) fn number_at(object: &Value, key: JsonKey) -> Result<i32, MessageFaul
     }
 }
 
-// A number, or a text that is one.
+// Returns a number, which may also be given as a string.
 fn number_in(value: &Value, key: JsonKey) -> Result<i32, MessageFault>
     ensures { Answers result (number_in key (view value.now)) }
 {
@@ -64,7 +64,7 @@ fn number_of_text(text: &str, key: JsonKey) -> Result<i32, MessageFault>
     }
 }
 
-// An optional minus and decimal digits, the first of which is 0 only if it stands alone.
+// Returns true for an optional minus and decimal digits. The first digit is 0 only if it is the only one.
 fn is_whole_text(text: &[u8]) -> bool
     ensures { result ≡ is_whole_text text.now }
 {
@@ -131,7 +131,7 @@ pub(crate) fn digest_at(alloc: Global, object: &Value) -> Result<Items<u8>, Mess
     }
 }
 
-// Bytes in padded base64.
+// Returns bytes in padded base64.
 fn digest_in(alloc: Global, value: &Value) -> Result<Items<u8>, MessageFault>
     ensures { Answers result (digest_in (view value.now)) }
 {
@@ -164,7 +164,7 @@ pub(crate) fn texts_at(
     }
 }
 
-/// The elements of an array.
+/// Returns the elements of an array.
 pub(crate) fn elements(value: &Value, key: JsonKey) -> Result<&[Value], MessageFault>
     ensures { AnswersAs (λ vs. map view vs.now) result (elements key (view value.now)) }
 {

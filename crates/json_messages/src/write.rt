@@ -17,11 +17,12 @@ use serde_json::Value;
 use std::alloc::Global;
 use wire_messages::{Input, JsonKey, WorkRequest, WorkResponse};
 
-/// The line of a response, with the only line feed in it at its end. Read without it, it is the response again.
+/// Returns the line of a response. Its only line feed is at its end. If it is read without it, the result is the
+/// response again.
 ///
 /// # Errors
 ///
-/// `NoMemory` if the line finds no memory.
+/// Returns `NoMemory` if memory runs out.
 pub fn response_line(alloc: Global, m: &WorkResponse) -> Result<Vec<u8>, NoMemory>
     ensures written { IfOk result (λ v. v.items ≡ response_text m.now ++ 10 ∷ []) }
     ensures spelled { OnOk result (response_of (response_text m.now) ≡ Ok m.now) }
@@ -44,11 +45,12 @@ fn response_object(alloc: Global, m: &WorkResponse) -> Result<Value, NoMemory>
     Ok(parts.into_object())
 }
 
-/// The line of a request, with the only line feed in it at its end. Read without it, it is the request again.
+/// Returns the line of a request. Its only line feed is at its end. If it is read without it, the result is the request
+/// again.
 ///
 /// # Errors
 ///
-/// `NoMemory` if the line finds no memory.
+/// Returns `NoMemory` if memory runs out.
 pub fn request_line(alloc: Global, m: &WorkRequest) -> Result<Vec<u8>, NoMemory>
     ensures written { IfOk result (λ v. v.items ≡ request_text m.now ++ 10 ∷ []) }
     ensures spelled { OnOk result (request_of (request_text m.now) ≡ Ok m.now) }
@@ -75,7 +77,7 @@ fn request_object(alloc: Global, m: &WorkRequest) -> Result<Value, NoMemory>
     Ok(parts.into_object())
 }
 
-// An object's text and a line feed.
+// Returns an object's text and a line feed.
 fn line_of(alloc: Global, object: &Value) -> Result<Vec<u8>, NoMemory>
     requires plain { has_float (view object.now) ≡ false }
     requires shallow { depth (view object.now) ≤ 127 }

@@ -7,7 +7,7 @@ use std::sync::Wait;
 use std::thread::Parker;
 use std::time::Duration;
 
-/// How long a lane rests at most, in seconds.
+/// The longest rest of a lane, in seconds.
 const LONGEST_REST: u64 = 1;
 
 /// A bell for each lane. A contract sees how many there are.
@@ -24,23 +24,23 @@ impl Model for Bells {
 }
 
 impl Bells {
-    /// Bells for the lanes from 0 up to this number. A rest ends after a second at most.
+    /// Creates bells for `lanes` lanes, numbered from 0. A rest ends after a second at most.
     ///
     /// # Errors
     ///
-    /// `NoMemory` where there is none for the bells.
+    /// Returns `NoMemory` if memory runs out.
     pub fn new(alloc: Global, lanes: u32) -> Result<Bells, NoMemory>
         ensures { IfOk result (λ b. b ≡ lanes) }
     {
         Bells::with(alloc, lanes, Some(Duration::from_secs(LONGEST_REST)))
     }
 
-    /// The same, where a rest ends by a ring alone: a lane that nobody rings rests forever. It is for
-    /// tests of those who ring.
+    /// Creates the same bells, but only a ring ends a rest: a lane that nobody rings rests forever.
+    /// This is for tests of callers that ring.
     ///
     /// # Errors
     ///
-    /// As of [`Bells::new`].
+    /// Same as [`Bells::new`].
     pub fn without_limit(alloc: Global, lanes: u32) -> Result<Bells, NoMemory>
         ensures { IfOk result (λ b. b ≡ lanes) }
     {
@@ -60,7 +60,7 @@ impl Bells {
         })
     }
 
-    /// Rings these lanes, a bit for each: bit `k` is lane `k`. A bit of no lane rings nothing.
+    /// Rings these lanes, a bit for each: bit `k` is lane `k`. A bit without a lane rings nothing.
     pub fn ring(&self, lanes: u128) {
         let mut left = lanes;
         for _ in 0..lanes.count_ones() {
@@ -71,16 +71,16 @@ impl Bells {
         }
     }
 
-    /// Rings every lane, as after a stop or a failure.
+    /// Rings every lane, for example after a stop or a failure.
     pub fn ring_all(&self) {
         for parker in &self.parkers {
             parker.unpark();
         }
     }
 
-    /// Rests until the lane is rung, or was rung since it last rested, or a second has gone by. It may
-    /// also end for no cause. One thread at a time rests for a lane, and only straight after it was
-    /// answered that there is nothing for it.
+    /// Rests until the lane is rung, or was rung since it last rested, or a second has gone by. The
+    /// rest may also end without a cause. Only one thread at a time may rest for a lane, and only
+    /// directly after the reply that there is nothing for the lane.
     pub fn rest<R: Wait>(&self, rt: &R, lane: u32)
         requires { lane < self.now }
     {
@@ -92,8 +92,8 @@ impl Bells {
     }
 }
 
-/// The bells in the hands of one who rings them. A contract sees how many bells there are, how often
-/// it has rung, modulo 2^64, and whom it rang last.
+/// The bells, as one ringer uses them. A contract sees how many bells there are, how often it has
+/// rung, modulo 2^64, and which lanes it rang last.
 #[derive(Drop)]
 pub struct Ringer<'a> {
     bells: &'a Bells,
@@ -104,7 +104,7 @@ pub struct Ringer<'a> {
 impl<'a> Ringer<'a> {
     ghost use Rattle.lane_bells.specs.Rings.{Rings};
 
-    /// These bells, of which it has rung none.
+    /// Creates a ringer of these bells, which has rung none.
     pub fn new(bells: &'a Bells) -> Ringer<'a>
         ensures bells { result.bells.now ≡ bells.now }
         ensures none { (result.rings ≡ 0) × (result.last ≡ 0) }
@@ -116,7 +116,7 @@ impl<'a> Ringer<'a> {
         }
     }
 
-    /// Rings these lanes, as [`Bells::ring`] does.
+    /// Rings these lanes. Same as [`Bells::ring`].
     pub fn ring(&mut self, lanes: u128)
         ensures { Rings self.old lanes self.new }
     {
@@ -125,7 +125,7 @@ impl<'a> Ringer<'a> {
         self.last = lanes;
     }
 
-    /// Rests on the lane's bell, as [`Bells::rest`] does.
+    /// Rests on the lane's bell. Same as [`Bells::rest`].
     pub fn rest<R: Wait>(&self, rt: &R, lane: u32)
         requires { lane < self.now.bells.now }
     {

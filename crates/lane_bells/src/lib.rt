@@ -1,17 +1,19 @@
-//! A bell for each lane, on which it rests until it may have news.
+//! A bell for each lane, for which the lane waits until it may have news.
 //!
-//! A lane that was answered "nothing for you now" rests, and asks again only once it is rung. Whoever
-//! makes a call that may be news for other lanes rings them right after its turn, in the same thread,
-//! before it reads, writes or calls anything else. Then no ring is lost: let lane L be answered
-//! "nothing" in turn i, and let turn j be the call after which L would be answered otherwise. Turn j is
-//! after turn i, since turns stand in one order. Its caller rings after j, so after L took any earlier
-//! ring, and L either finds that ring as it comes to rest or is woken by it.
+//! A lane that got the reply "nothing for you now" rests, and asks again only after it is rung. If a
+//! call may be news for other lanes, its caller rings them right after its turn, in the same thread.
+//! Before that it reads, writes and calls nothing else.
+//!
+//! Then no ring is lost. Let lane L get "nothing" in turn i, and let turn j be the first call after
+//! which L would get another reply. Turn j is after turn i, since turns have one order. Its caller
+//! rings after j, so after L took any earlier ring. L either finds that ring when it begins to
+//! rest, or is woken by it.
 //!
 //! Waking every lane at every call is right too, and a thousand times slower.
 //!
-//! A rest ends by itself after a second at most, so that a caller who forgot a lane costs a second and
-//! no more. A [`Ringer`] says how often it has rung and whom last, so that a call can promise its ring.
-//! That a thread is woken, no contract can say.
+//! A rest ends by itself after a second at most, so a caller that forgets a lane costs only a
+//! second. A [`Ringer`] records how often it has rung and which lanes it rang last, so that a call
+//! can promise its ring. No contract can state that a thread is woken.
 #![tactic(auto)]
 
 mod bells;

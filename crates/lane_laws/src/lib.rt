@@ -1,5 +1,5 @@
-//! Laws of a run's history: for the lines of its tap lanes, and once its lanes have ended. The functions do
-//! nothing: each is a law.
+//! Laws of a run's history, for the lines of its tap lanes, and after its lanes have ended. The
+//! functions do nothing: each is a law.
 #![tactic(auto)]
 
 ghost use Rattle.lane_laws.specs.Places.{PlacesAreBack};
@@ -17,7 +17,7 @@ pub fn places_are_back<C: Rules>()
     ensures { PlacesAreBack C.legal C.terms }
 {}
 
-/// The lines that a proxy lane started are the lines that the tap lane of its berth took, in order, and
+/// The lines that a proxy lane started are those that the tap lane of its berth took, in order, and
 /// then the line whose tap is still on the shelf.
 pub fn started_lines_have_taps<C: Rules>()
     ensures { StartedAreTapped C.legal }
@@ -43,14 +43,14 @@ pub fn taken_lines_have_taps()
     ensures { TakenAreTapped }
 {}
 
-/// A proxy lane that has ended has left, and halted, if at all, when it owed no Committed. If it didn't
-/// halt, its last reply is Stop.
+/// A proxy lane that has ended has left. If it halted, it did so when it owed no Committed. If it
+/// didn't halt, its last reply is Stop.
 pub fn ended_lanes_have_left()
     ensures { EndedHaveLeft }
 {}
 
-/// A lane that reports a halt has made a Halt, and a tap lane that reports none made none: its last reply
-/// is Stop.
+/// A lane that reports a halt has made a Halt. A tap lane that reports none made none: its last
+/// reply is Stop.
 pub fn ends_tell_halts()
     ensures { EndsTellHalts }
 {}
@@ -60,9 +60,10 @@ pub fn halts_are_by_lanes()
     ensures { HaltsAreByLanes }
 {}
 
-/// If a lane's entries in a core's history are just what a tap lane leaves, the history has, for each line
-/// that the lane took, the answers that the bytes of its tap spell, and how it has ended. Other lanes'
-/// entries don't report on these lines, and none of them was taken twice.
+/// Let a lane's entries in a core's history be just what a tap lane leaves. Then the history
+/// contains, for each line that the lane took, the answers that the bytes of its tap spell, and how
+/// it has ended. Other lanes' entries don't report on these lines, and none of them was taken
+/// twice.
 pub fn history_says_what_taps_tell<C: Rules>()
     ensures { SaysWhatTapsTell C.legal }
 {}

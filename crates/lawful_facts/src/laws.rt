@@ -1,8 +1,8 @@
-//! What the core asks.
+//! The core's requirements on a journal.
 ghost use Rattle.lawful_facts.specs.Moments.{AllLawful};
 
-/// Each lawful journal of a sound plan has all that the tables of a core ask, with each call that
-/// is in a lane's script, and each entry that joins.
+/// Each lawful journal of a sound plan meets all requirements of a core's tables, with each call in
+/// a lane's script, and each entry that joins.
 pub fn all_facts()
     ensures { AllLawful }
 {}

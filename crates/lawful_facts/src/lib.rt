@@ -1,5 +1,5 @@
-//! What a core's tables ask of a journal follows of each lawful one. The functions do nothing: each
-//! is a law.
+//! The requirements of a core's tables on a journal follow for each lawful one. The functions do
+//! nothing: each is a law.
 #![tactic(auto)]
 
 mod laws;

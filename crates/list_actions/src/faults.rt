@@ -6,7 +6,7 @@ use plain_values::{NoMemory, Text};
 use std::alloc::{AllocError, AllocFailed};
 use std::fmt;
 
-/// What there are too many of.
+/// The things of which there can be too many.
 #[derive(Clone, Copy, PartialEq, Eq)]
 pub enum What {
     Bytes,
@@ -37,7 +37,7 @@ pub enum Key {
     Strategy,
 }
 
-/// Why bytes aren't an action list.
+/// The reason that bytes aren't an action list.
 #[derive(Drop)]
 pub enum ListFault {
     TooMany {
@@ -114,7 +114,7 @@ impl<T: Drop> From<AllocFailed<T>> for ListRefusal {
     }
 }
 
-/// The place as a reader of the list finds it: a key's own name, with `.` before it as behind `actions[3]`.
+/// The place as a reader of the list finds it: a key's name after a `.`, since it follows `actions[3]`.
 impl fmt::Display for Key {
     fn fmt<W: fmt::Write>(&self, f: &mut fmt::Formatter<W>) -> fmt::Result {
         f.write_str(match self {
@@ -134,7 +134,7 @@ impl fmt::Display for Key {
     }
 }
 
-/// What is counted, with the most that there may be.
+/// The thing that is counted, with its limit.
 impl fmt::Display for What {
     fn fmt<W: fmt::Write>(&self, f: &mut fmt::Formatter<W>) -> fmt::Result {
         f.write_str(match self {
@@ -151,7 +151,7 @@ impl fmt::Display for What {
     }
 }
 
-/// Where the list is at fault, and what to look at there.
+/// The place at which the list is at fault, and what to look at there.
 impl fmt::Display for ListFault {
     fn fmt<W: fmt::Write>(&self, f: &mut fmt::Formatter<W>) -> fmt::Result {
         match self {
@@ -207,7 +207,7 @@ impl fmt::Display for ListFault {
     }
 }
 
-// An action, and what is wrong with it.
+// Writes an action, and what is wrong with it.
 fn fmt_action<W: fmt::Write>(f: &mut fmt::Formatter<W>, action: u32, wrong: &str) -> fmt::Result {
     write!(f, "actions[{action}]{wrong}")
 }

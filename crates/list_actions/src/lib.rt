@@ -1,4 +1,4 @@
-//! The actions of a list, and what must hold between them: names, outputs, and the inputs that others make.
+//! The actions of a list, and the rules between them: for names, outputs, and the inputs that other actions make.
 #![tactic(auto)]
 
 mod faults;

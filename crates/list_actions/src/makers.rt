@@ -1,4 +1,4 @@
-// Which action is the last that makes a path.
+// The last action that makes each path.
 ghost use Rattle.std.specs.Prelude.{◌≡◌, ◌≤◌, ℕ, List, length, OnOk, IfOk, if◌then◌else◌, Some};
 ghost use Rattle.std.specs.Str.{bytes_eq};
 ghost use Rattle.list_actions.specs.Order.{is_among, is_late, last_from};
@@ -18,7 +18,7 @@ pub struct LastMakers {
 impl LastMakers {
     ghost use Rattle.list_actions.specs.Makers.{last_maker};
 
-    /// The table of these actions.
+    /// Returns the table of these actions.
     pub fn of(alloc: Global, actions: &[ListAction]) -> Result<LastMakers, NoMemory>
         requires { length actions.now ≤ most_actions }
         ensures { IfOk result (λ m. (q : List ℕ) → last_maker m q ≡ last_from 0 actions.now q) }
@@ -54,7 +54,7 @@ impl LastMakers {
         Ok(())
     }
 
-    /// This path is made by the action with this number, or by a later one.
+    /// Returns true if the action with this number, or a later one, makes this path.
     pub fn is_late(&self, path: &str, number: u32) -> bool
         ensures { result ≡ is_late number (last_maker self.now path.now) }
     {

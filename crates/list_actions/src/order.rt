@@ -1,4 +1,4 @@
-// What holds between the actions: names, outputs and the inputs that others make.
+// The rules between the actions: for names, outputs and the inputs that others make.
 ghost use Rattle.std.specs.Prelude.{◌≡◌, ◌≤◌, ◌++◌, ◌∷◌, ℕ, List, [], length, find, OnOk};
 ghost use Rattle.list_actions.specs.Answers.{Settles};
 ghost use Rattle.list_actions.specs.Order.{first_again, is_among, made_later, made_twice, name_twice, order_check, orders_check, outputs_of};
@@ -12,8 +12,8 @@ use crate::{ListAction, ListFault, ListRefusal};
 use plain_values::Text;
 use std::alloc::Global;
 
-/// Looks for the first action that has a name or makes a path that an earlier one has, or that has an
-/// input that it makes itself or a later one makes.
+/// Looks for the first action that breaks a rule. It has a name or makes a path that an earlier one has, or it has an
+/// input that it or a later action makes.
 pub fn check_order(alloc: Global, actions: &[ListAction]) -> Result<(), ListRefusal>
     requires { length actions.now ≤ most_actions }
     ensures { Settles result (orders_check [] actions.now) }

@@ -1,4 +1,4 @@
-// Which action makes a path, and as which of its outputs.
+// The action that makes each path, and the number of that output.
 ghost use Rattle.std.specs.Prelude.{◌≡◌, ◌≤◌, ◌+◌, ◌^◌, ◌<◌, ℕ, List, length, None, IfOk, OnOk, Some, if◌then◌else◌};
 ghost use Rattle.std.specs.List.{filter_map};
 ghost use Rattle.std.specs.Str.{bytes_eq};
@@ -10,7 +10,7 @@ use plain_values::{Items, NoMemory, Text};
 use run_plan::Maker;
 use std::alloc::Global;
 
-/// Which action makes each path, and as which of its outputs.
+/// The action that makes each path, and the number of that output.
 #[derive(Drop)]
 pub struct Producers {
     makers: IndexMap<String, Maker>,
@@ -51,18 +51,18 @@ impl Producers {
         Ok(())
     }
 
-    /// The place of a path.
+    /// Returns the maker of a path.
     pub fn get(&self, path: &str) -> Option<Maker>
         ensures { result ≡ producer_of self.now path.now }
     {
         self.makers.get(path).copied()
     }
 
-    /// The places of those of the paths that are made, in order.
+    /// Returns the makers of the paths, in order. A path that no action makes is left out.
     ///
     /// # Errors
     ///
-    /// `NoMemory` where the list finds no memory.
+    /// Returns `NoMemory` if memory runs out.
     pub fn makers_of(&self, alloc: Global, paths: &[Text]) -> Result<Items<Maker>, NoMemory>
         ensures { IfOk result (λ m. m ≡ filter_map (producer_of self.now) paths.now) }
     {

@@ -1,4 +1,4 @@
-// Texts that were seen, looked up without comparing all of them.
+// Strings that were seen. They are looked up without comparing all of them.
 ghost use Rattle.std.specs.Prelude.{◌≡◌, ◌||◌, ℕ, List, not, IfOk, OnOk, false};
 ghost use Rattle.std.specs.Str.{bytes_eq};
 ghost use Rattle.indexmap.specs.IndexSet.{contains_text};
@@ -7,7 +7,7 @@ use indexmap::IndexSet;
 use plain_values::NoMemory;
 use std::alloc::Global;
 
-/// The texts that were seen.
+/// The strings that were seen.
 #[derive(Drop)]
 pub struct Seen {
     pub texts: IndexSet<String>,
@@ -24,7 +24,7 @@ impl Seen {
         }
     }
 
-    /// Notes a text, and says whether it is new.
+    /// Notes a string, and returns true if it is new.
     pub fn note(&mut self, alloc: Global, text: &str) -> Result<bool, NoMemory>
         ensures fresh { IfOk result (λ b. b ≡ not (has_seen self.old text.now)) }
         ensures noted { OnOk result ((q : List ℕ)

@@ -6,7 +6,7 @@ pub struct ActionList {
     pub actions: Items<ListAction>,
 }
 
-/// One action: a command of a tool, with what it reads and what it makes.
+/// One action: a tool's command, with its inputs and outputs.
 #[derive(Drop)]
 pub struct ListAction {
     pub name: Text,
@@ -21,7 +21,7 @@ pub struct ListAction {
     pub strategy: Strategy,
 }
 
-/// What an action asks of its worker.
+/// The requirements of an action on its worker.
 #[derive(Drop)]
 pub struct Needs {
     pub workers: bool,
@@ -29,7 +29,7 @@ pub struct Needs {
     pub cancel: bool,
     pub sandboxing: bool,
     pub json: bool,
-    /// What stands in place of the mnemonic in the worker's key.
+    /// The replacement for the mnemonic in the worker's key, if there is one.
     pub key_mnemonic: Option<Text>,
 }
 

@@ -1,4 +1,4 @@
-// What the policy keeps, and what is next in a group by it.
+// The policy's tables, and the next attempt in a group by this policy.
 ghost use Rattle.std.specs.Prelude.{◌≡◌, ◌-◌, ◌<◌, ◌≤◌, false, IfOk, length, map, replicate};
 ghost use Rattle.run_plan.specs.Sound.{Sound};
 ghost use Rattle.core_state.specs.Choices.{Reads};
@@ -19,10 +19,10 @@ use std::marker::Model;
 #[derive(Drop)]
 pub struct LocalDelay {
     pub(crate) ticks: u32,
-    // Of each action how many came since its inputs were made, up to `ticks`.
+    // The number of Ticks since the action's inputs were made, up to `ticks`, for each action.
     pub(crate) counts: Vec<u32>,
-    // A 1 for each action, unless it is known that its local branch waits. So a search passes over
-    // all that are held back at once.
+    // A 1 for each action, unless its local branch is known to wait. So a search skips all actions
+    // that are held back.
     pub(crate) marks: Vec<u8>,
 }
 
@@ -43,12 +43,11 @@ impl Model for LocalDelay {
 }
 
 impl LocalDelay {
-    /// Makes the policy of a run in which no Tick was made yet. With it a local branch waits for `ticks`
-    /// Ticks.
+    /// Makes the policy of a run before any Tick. With it, a local branch waits for `ticks` Ticks.
     ///
     /// # Errors
     ///
-    /// Returns `NoMemory` if there is none for its tables. Its other calls take none.
+    /// Returns `NoMemory` if memory runs out for its tables. Its other calls take none.
     pub fn new(alloc: Global, plan: &Plan, ticks: u32) -> Result<LocalDelay, NoMemory>
         requires { Sound plan.now }
         ensures { IfOk result (λ d. d ≡ record {
@@ -70,7 +69,8 @@ impl LocalDelay {
         })
     }
 
-    // The next attempt of the least action whose branch in the group is queued and has waited.
+    // Returns the next attempt of the least action whose branch in the group is queued and has
+    // waited.
     pub(crate) fn next(&self, state: &State, berth: u32, group: u32) -> Option<Attempt>
         requires actions { ReadsDelay self.now state.now }
         requires berth { Reads state.now berth }
@@ -84,7 +84,7 @@ impl LocalDelay {
         })
     }
 
-    // That action, and its branch.
+    // Returns that action, and its branch.
     fn first(&self, state: &State, group: u32) -> Option<(u32, Branch)>
         requires { ReadsDelay self.now state.now }
         ensures { result ≡ first_in self.now state.now group }
@@ -97,7 +97,8 @@ impl LocalDelay {
         }
     }
 
-    // The first from this action on, in any group. On executors hardly anything queued waits.
+    // Returns the first one from this action on, in any group. On executors hardly anything queued
+    // waits.
     fn first_of_all(&self, state: &State, group: u32, from: u32) -> Option<(u32, Branch)>
         requires { ReadsDelay self.now state.now }
         ensures { result ≡ first_among self.now state.now group from
@@ -112,7 +113,7 @@ impl LocalDelay {
         None
     }
 
-    // The first from this action on, in a group of workers.
+    // Returns the first one from this action on, in a group of workers.
     fn first_marked(&self, state: &State, group: u32, from: u32) -> Option<(u32, Branch)>
         requires reads { ReadsDelay self.now state.now }
         requires group { runs_executors state.now.plan group ≡ false }
@@ -130,7 +131,7 @@ impl LocalDelay {
         None
     }
 
-    // The least marked action from this one on.
+    // Returns the least marked action from this one on.
     fn next_mark(&self, from: u32) -> Option<u32>
         requires { from ≤ length self.now.marks }
         ensures { IsNextMark self.now from result }
@@ -139,7 +140,7 @@ impl LocalDelay {
         Some(from + place as u32)
     }
 
-    // The branch of the action that is queued in the group and has waited.
+    // Returns the branch of the action that is queued in the group and has waited.
     fn branch(&self, state: &State, action: u32, group: u32) -> Option<Branch>
         requires actions { ReadsDelay self.now state.now }
         requires known { action < length state.now.ready }
@@ -160,7 +161,7 @@ impl LocalDelay {
         !is_dual(state, action) || self.count(action) >= self.ticks || is_dropped(state, action)
     }
 
-    // How many Ticks came since the inputs of the action were made, up to the delay.
+    // Returns how many Ticks came since the inputs of the action were made, up to the delay.
     pub(crate) fn count(&self, action: u32) -> u32
         ensures { result ≡ count_at self.now action }
     {
@@ -171,7 +172,7 @@ impl LocalDelay {
     }
 }
 
-// A 0 where the local branch of the action waits as long as no Tick came.
+// Returns 0 if the local branch of the action waits until a Tick comes, otherwise 1.
 fn first_mark(plan: &Plan, ticks: u32, action: &PlanAction) -> u8
     ensures { result ≡ first_mark plan.now ticks action.now }
 {
@@ -182,7 +183,7 @@ fn first_mark(plan: &Plan, ticks: u32, action: &PlanAction) -> u8
     }
 }
 
-// The action uses both branches, the remote one on executors.
+// Returns true if the action uses both branches, the remote one on executors.
 fn may_wait(plan: &Plan, action: &PlanAction) -> bool
     ensures { result ≡ may_wait plan.now action.now }
 {
@@ -201,7 +202,7 @@ fn runs_executors(plan: &Plan, group: u32) -> bool
     }
 }
 
-// The action uses both branches.
+// Returns true if the action uses both branches.
 pub fn is_dual(state: &State, action: u32) -> bool
     ensures { result ≡ is_dual_at state.now action }
 {
@@ -211,7 +212,7 @@ pub fn is_dual(state: &State, action: u32) -> bool
     }
 }
 
-// The remote branch of the action has no attempt left.
+// Returns true if the remote branch of the action has no attempt left.
 fn is_dropped(state: &State, action: u32) -> bool
     requires { action < length state.now.attempts.ended }
     ensures { result ≡ is_dropped state.now action }

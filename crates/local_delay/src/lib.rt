@@ -1,6 +1,6 @@
-//! A policy of scheduling with a local delay: if an action uses both branches, its local one waits for a
-//! number of Ticks, or until the remote one is dropped. The proxy lane of one more berth, after the plan's,
-//! makes the Ticks.
+//! A scheduling policy with a local delay. If an action uses both branches, its local one waits for
+//! a number of Ticks, or until the remote one is dropped. The proxy lane of one more berth, after
+//! the plan's, makes the Ticks.
 #![tactic(auto)]
 
 mod delay;

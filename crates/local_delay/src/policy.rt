@@ -29,11 +29,11 @@ pub struct DelayedPlan {
 pub type DelayCore = Core<LocalDelay>;
 
 impl LocalDelay {
-    /// Makes the core of a run in which nothing was called yet. A local branch waits for `ticks` Ticks.
+    /// Makes the core of a run before any call. A local branch waits for `ticks` Ticks.
     ///
     /// # Errors
     ///
-    /// `NoMemory` where there is none for its tables.
+    /// Returns `NoMemory` if memory runs out for its tables.
     pub fn core(alloc: Global, plan: Plan, ticks: u32) -> Result<DelayCore, NoMemory>
         requires { Sound plan }
         ensures { IfOk result (λ c. StandsIn (delayed_discipline plan ticks)
@@ -65,12 +65,13 @@ impl Policy for LocalDelay {
 
     ghost ticked = { λ m s. ticked m s };
 
-    // One more stands behind the plan's: its proxy lane makes the Ticks.
+    // Returns one berth more than the plan has. The proxy lane of the last one makes the Ticks.
     fn berths(&self, plan: &Plan) -> u32 {
         EarliestFirst.berths(plan) + 1
     }
 
-    // Behind the plan's berths no line is ever launched, so that what is said there is said of none.
+    // Returns what is at the berth. No line is ever launched after the plan's berths, so an answer
+    // there is about no line.
     fn seat(&self, state: &State, berth: u32) -> Option<BerthGroup> {
         match group_of_berth(&state.plan, berth) {
             Some(seat) => Some(seat),
@@ -128,7 +129,7 @@ fn is_tick(call: &Call) -> bool
     matches!(call, Call::Tick)
 }
 
-// A berth behind the plan's, of no group: no line is ever launched there.
+// Returns a berth after the plan's, of no group. No line is ever launched there.
 fn spare(plan: &Plan) -> BerthGroup
     requires { length plan.now.groups < 2 ^ 32 }
     ensures { result ≡ spare plan.now }
@@ -142,7 +143,7 @@ fn spare(plan: &Plan) -> BerthGroup
     }
 }
 
-// What the Ask of a lane is to do whose berth never has a line.
+// Returns the decision for the Ask of a lane whose berth never has a line.
 fn leave(state: &State) -> Choice
     ensures { result ≡ leave_idly state.now }
 {

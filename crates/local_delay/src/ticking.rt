@@ -1,4 +1,4 @@
-// What a Tick is answered, what it counts, and which actions are known to wait.
+// The reply to a Tick, its effect on the counts, and the actions that are known to wait.
 ghost use Rattle.std.specs.Prelude.{◌≡◌, nat_le};
 ghost use Rattle.exec_journal.specs.Attempts.{begun_in};
 ghost use Rattle.local_delay.specs.Choices.{ReadsDelay, last_of, some_waits, ticked, waits_at};
@@ -10,7 +10,8 @@ use exec_journal::{Attempt, Branch, Reply};
 use ready_order::Ready;
 
 impl LocalDelay {
-    // Noted while some local branch waits for more Ticks: so they end by themselves.
+    // Returns the reply to a Tick: Noted only while some local branch waits for more Ticks. So Ticks
+    // end by themselves.
     pub(crate) fn answer_tick(&self, state: &State) -> Reply
         requires { ReadsDelay self.now state.now }
         ensures { result ≡ ticked self.now state.now }
@@ -37,7 +38,7 @@ impl LocalDelay {
         false
     }
 
-    // The local branch of the action waits for more Ticks.
+    // Returns true if the local branch of the action waits for more Ticks.
     fn waits(&self, state: &State, action: u32) -> bool
         ensures { result ≡ waits_at self.now state.now action }
     {
@@ -47,8 +48,8 @@ impl LocalDelay {
             && self.count(action) < self.ticks
     }
 
-    // Counts one more Tick of each action whose inputs are made, and marks those that wait for no
-    // more.
+    // Counts one more Tick for each action whose inputs are made, and marks the actions that wait
+    // no longer.
     pub(crate) fn count_tick(&mut self, ready: &Ready)
         ensures { IsCounted ready.now self.old self.new }
     {
@@ -78,8 +79,8 @@ impl LocalDelay {
         }
     }
 
-    // Where a remote branch begins its last attempt it may be dropped, so that its local branch may
-    // go before the Ticks have come.
+    // Marks an action whose remote branch begins its last attempt. The branch may be dropped, so
+    // the local branch may go before the Ticks have come.
     pub(crate) fn mark_last(&mut self, limit: u32, reply: &Reply)
         ensures { IsMarked (last_of limit (begun_in reply.now)) self.old self.new }
     {
@@ -91,7 +92,7 @@ impl LocalDelay {
     }
 }
 
-// The action whose remote branch begins its last attempt.
+// Returns the action whose remote branch begins its last attempt.
 fn last_of(limit: u32, begun: Option<Attempt>) -> Option<u32>
     ensures { result ≡ last_of limit begun }
 {
@@ -103,7 +104,7 @@ fn last_of(limit: u32, begun: Option<Attempt>) -> Option<u32>
     }
 }
 
-// The attempt that a lane is told to begin.
+// Returns the attempt that a lane is told to begin.
 fn begun_in(reply: &Reply) -> Option<Attempt>
     ensures { result ≡ begun_in reply.now }
 {
@@ -128,7 +129,7 @@ fn begun_in(reply: &Reply) -> Option<Attempt>
     }
 }
 
-// One more, where the inputs are made, up to the most.
+// Returns one more than the count, up to `most`, if the inputs are made.
 fn more(made: bool, most: u32, count: u32) -> u32
     ensures { result ≡ more made most count }
 {

@@ -8,10 +8,10 @@ use plain_values::NoMemory;
 use std::alloc::Global;
 use std::sync::Wait;
 
-/// How far a child was played.
+/// The result of playing a child.
 #[derive(Clone, Copy, PartialEq, Eq)]
 pub enum Acted {
-    /// It has done what it had to do next.
+    /// It has done its next step.
     On,
     /// It has ended.
     Ended,
@@ -19,7 +19,7 @@ pub enum Acted {
     Late,
 }
 
-/// What plays a child.
+/// The player of a child.
 #[derive(Drop)]
 pub enum Actor {
     Scripted(Scripted),
@@ -27,7 +27,7 @@ pub enum Actor {
 }
 
 impl Actor {
-    /// The actor of the line with this number.
+    /// Returns the actor of the line with this number.
     pub fn new(alloc: Global, script: &Script, number: u32, serves: bool) -> Actor {
         let ears = Ears::new(alloc, serves);
         match script.lines.get(number as usize) {

@@ -9,10 +9,10 @@ use plain_values::{Blob, NoMemory, Text};
 use std::alloc::Global;
 use std::sync::{Arc, Mutex, Wait};
 
-/// The word of a command whose child is an executor.
+/// The argument of a command whose child is an executor.
 const SERVE: &str = "--serve";
 
-/// A seat in memory. It tells its calls, unless memory to note one was wanted.
+/// A berth in memory. It records its calls, unless memory ran out for an entry.
 #[derive(Drop)]
 pub struct MemBerth<R> {
     rt: R,
@@ -21,13 +21,13 @@ pub struct MemBerth<R> {
     gates: Arc<Gates>,
     room: Arc<Mutex<Files>>,
     number: u32,
-    /// `None` once memory for a failed call's entry was wanted.
+    /// `None` once memory ran out for a failed call's entry.
     log: Option<Vec<BerthCall>>,
     calls: CallsOfBerth,
     faults: u64,
 }
 
-/// How many calls of each kind came.
+/// The number of calls of each kind.
 #[derive(Clone, Copy)]
 struct CallsOfBerth {
     launches: Calls,
@@ -38,11 +38,11 @@ struct CallsOfBerth {
 }
 
 impl<R: Drop> MemBerth<R> {
-    /// The berth with this number, whose room is empty.
+    /// Returns the berth with this number. Its room is empty.
     ///
     /// # Errors
     ///
-    /// `NoMemory`.
+    /// Returns `NoMemory` if memory runs out.
     pub fn new(
         rt: R,
         alloc: Global,
@@ -73,7 +73,7 @@ impl<R: Drop> MemBerth<R> {
         })
     }
 
-    /// The calls so far, unless memory to note one was wanted.
+    /// Returns the calls so far, or `None` if memory ran out for an entry.
     pub fn log(&self) -> Option<&[BerthCall]> {
         match &self.log {
             Some(log) => Some(log),
@@ -82,7 +82,7 @@ impl<R: Drop> MemBerth<R> {
     }
 }
 
-// Whether the command makes its child an executor.
+// Returns true if the command makes its child an executor.
 fn serves(command: &Command) -> bool {
     command
         .words
@@ -120,7 +120,7 @@ fn clear_call(alloc: Global, part: &str, end: Io) -> Result<BerthCall, NoMemory>
 }
 
 impl<R: Wait + Clone + Drop> MemBerth<R> {
-    // What the objects of a new line share, and the objects.
+    // Makes the objects of a new line, with the state that they share.
     fn start(
         &self,
         line: u32,

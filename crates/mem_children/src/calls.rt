@@ -3,7 +3,7 @@ ghost use Rattle.std.specs.Prelude.{◌≡◌, ◌+◌, ◌-◌, ◌^◌, min};
 use crate::script::is_to_fail;
 use crate::{FailAt, Object};
 
-/// How many calls of one kind came.
+/// The number of calls of one kind.
 #[derive(Clone, Copy, PartialEq, Eq)]
 pub struct Calls {
     made: u64,
@@ -16,7 +16,7 @@ impl Calls {
         Calls { made: 0 }
     }
 
-    /// The number of the call that came now, which is 1 for the first.
+    /// Counts a call, and returns its number, which is 1 for the first.
     pub fn count(&mut self) -> u64
         ensures counted { self.new.made ≡ min (self.old.made + 1) (2 ^ 64 - 1) }
         ensures number { result ≡ self.new.made }
@@ -25,7 +25,7 @@ impl Calls {
         self.made
     }
 
-    /// Whether the call that came now is to fail.
+    /// Counts a call, and returns true if it must fail.
     pub fn fails_now(&mut self, fails: &[FailAt], on: Object) -> bool {
         let nth = self.count();
         is_to_fail(fails, on, nth)

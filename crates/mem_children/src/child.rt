@@ -5,18 +5,18 @@ use crate::line::Line;
 use outside::Child;
 use std::sync::{Arc, Wait};
 
-/// A child. It tells how often it has been killed.
+/// A child. It records how often it has been killed.
 #[derive(Drop)]
 pub struct MemChild<R> {
     rt: R,
     shared: Arc<Line>,
     line: u32,
-    /// `None` once it was killed more often than there are numbers.
+    /// `None` once it was killed more often than a `u64` can count.
     kills: Option<u64>,
 }
 
 impl<R> MemChild<R> {
-    /// The child of this line.
+    /// Returns the child of this line.
     pub fn new(rt: R, shared: Arc<Line>, line: u32) -> MemChild<R>
         ensures line { result.line ≡ line }
         ensures killed { result.kills ≡ Some 0 }
@@ -29,13 +29,13 @@ impl<R> MemChild<R> {
         }
     }
 
-    /// Whether it has been killed.
+    /// Returns true if it has been killed.
     pub fn is_killed(&self) -> bool {
         !matches!(self.kills, Some(0))
     }
 }
 
-// One more, unless there is no such number.
+// Returns the next number, or `None` if there is no such number.
 fn more(kills: Option<u64>) -> Option<u64>
     ensures { OnceMore kills result }
 {

@@ -5,15 +5,15 @@ use plain_values::NoMemory;
 use std::alloc::Global;
 use std::sync::Wait;
 
-/// How a JSON line begins.
+/// The first bytes of a JSON line.
 const OBJECT: &[u8] = b"{\"";
 
-/// How a child hears what it is given: frame by frame. After a frame that is bad it hears none.
+/// The part of a child that reads its input frame by frame. After a bad frame it reads none.
 #[derive(Drop)]
 pub struct Ears {
     alloc: Global,
     serves: bool,
-    /// What was heard before the framing was known.
+    /// The bytes that were read before the framing was known.
     first: Vec<u8>,
     cutter: Option<(Framing, Cutter)>,
 }
@@ -28,7 +28,7 @@ impl Ears {
         }
     }
 
-    /// Hears what was given since.
+    /// Reads the bytes that were given since the last call.
     pub fn listen<R: Wait>(&mut self, rt: &R, line: &Line) -> Result<(), NoMemory> {
         let bytes = line.hear(rt);
         match &mut self.cutter {
@@ -47,7 +47,7 @@ impl Ears {
         Ok(())
     }
 
-    /// The next whole frame.
+    /// Returns the next whole frame, if there is one.
     pub fn next(&mut self) -> Result<Option<(Framing, Vec<u8>)>, NoMemory> {
         let Some((framing, cutter)) = &mut self.cutter else {
             return Ok(None);
@@ -59,7 +59,7 @@ impl Ears {
     }
 }
 
-// How the frames are marked, once the first bytes show it.
+// Returns the framing of the input, once the first bytes show it.
 fn framing_of(serves: bool, first: &[u8]) -> Option<Framing> {
     if !serves && first.starts_with(OBJECT) {
         return Some(Framing::Lines);

@@ -7,7 +7,7 @@ use outside::{Feed, Io};
 use std::alloc::Global;
 use std::sync::{Arc, Wait};
 
-/// The pipe into a child. It tells the bytes given.
+/// The pipe into a child. It records the bytes given.
 #[derive(Drop)]
 pub struct MemFeed<R> {
     rt: R,
@@ -20,7 +20,7 @@ pub struct MemFeed<R> {
 }
 
 impl<R> MemFeed<R> {
-    /// The feed of this line.
+    /// Returns the feed of this line.
     pub fn new(
         rt: R,
         alloc: Global,
@@ -43,7 +43,7 @@ impl<R> MemFeed<R> {
         }
     }
 
-    /// The bytes given.
+    /// Returns the bytes given.
     pub fn given(&self) -> &[u8] {
         &self.given
     }

@@ -1,12 +1,13 @@
-//! Children in memory: what a process would do with what it is given, played from a script; and berths, feeds and taps
-//! over them.
+//! Children in memory, and berths, feeds and taps over them. A child plays from a script what a process
+//! would do with its input.
 //!
-//! The feed, the tap and the child of a line, and its berth, share what a process and its folder would: the bytes that
-//! were given and not yet heard, the files of the room, whether the child was killed. Nothing of that is told: each
-//! object tells what was done with itself alone.
+//! The feed, the tap and the child of a line, and its berth, share what a process and its folder would
+//! share. These are the bytes that were given and not yet read, the files of the room, and if the child was
+//! killed. None of that is recorded: each object records only what was done with itself.
 //!
-//! A child has no thread of its own. It is played where its tap is read, up to the next bytes, and waits there. A wait
-//! looks again for some hundred turns and then rests until it is rung, so that no object that waits burns a processor.
+//! A child has no thread of its own. It is played when its tap is read, up to the next bytes, and waits
+//! there. A wait looks again for some hundred turns. Then it rests until it is rung, so that no waiting
+//! object burns a processor.
 #![tactic(auto)]
 
 mod actor;

@@ -1,9 +1,9 @@
-// The log of an object's calls, which tells them until memory to note one was wanted.
+// The log of an object's calls. It is given up once memory runs out for an entry.
 ghost use Rattle.std.specs.Prelude.{◌≡◌, ◌∷◌, [], ◌++◌, OnOk, OnErr, IfOk, IsOk, None, option_map, true, false};
 
 use plain_values::NoMemory;
 
-/// One more call at the end of a log that is kept.
+/// Appends a call to a log, unless the log was given up.
 pub fn note<C: Drop>(log: &mut Option<Vec<C>>, call: C) -> Result<(), NoMemory>
     ensures ok { OnOk result (option_map (λ v. v.items) log.new ≡ option_map (λ v. v.items
         ++ call ∷ []) log.old) }
@@ -16,8 +16,8 @@ pub fn note<C: Drop>(log: &mut Option<Vec<C>>, call: C) -> Result<(), NoMemory>
     Ok(())
 }
 
-/// Notes a call that is answered by an `Io`, and says whether there was memory to note it. Where there was none the log
-/// is given up.
+/// Records a call that is answered by an `Io`. Returns true if there was memory to record it. Otherwise the
+/// log is given up.
 pub fn note_end<C: Drop>(log: &mut Option<Vec<C>>, call: Result<C, NoMemory>) -> bool
     ensures noted { result ≡ true
         → IfOk call (λ c. option_map (λ v. v.items) log.new ≡ option_map (λ v. v.items

@@ -1,4 +1,4 @@
-//! A child that does at once what it is asked.
+//! A child that carries out each request at once.
 ghost use Rattle.std.specs.Prelude.{◌≡◌, [], map, IfOk};
 ghost use Rattle.mem_children.specs.Obliging.{response_to, result_to, made_file, made_content, under};
 
@@ -17,7 +17,7 @@ use wire_messages::{
     Message, MessageFault, WorkRequest, WorkResponse, decode_request, encode_delimited,
 };
 
-/// The version of the remote protocol that it speaks as an executor.
+/// The version of the remote protocol that it understands as an executor.
 const VERSION: i32 = 2;
 
 #[derive(Drop)]
@@ -36,7 +36,7 @@ impl Obliging {
         }
     }
 
-    /// Answers until bytes are ready or, where nothing is left to answer, the child was killed.
+    /// Answers until bytes are ready, or until nothing is left to answer and the child was killed.
     pub fn play<R: Wait>(
         &mut self,
         rt: &R,
@@ -66,7 +66,7 @@ impl Obliging {
         unreachable!()
     }
 
-    // Answers the next frame, and says whether there was one.
+    // Answers the next frame. Returns true if there was one.
     fn answer_next<R: Wait>(
         &mut self,
         rt: &R,
@@ -82,7 +82,7 @@ impl Obliging {
         }
     }
 
-    // Answers one frame. One that spells no message gets no answer.
+    // Answers one frame. A frame that spells no message gets no answer.
     fn answer<R: Wait>(
         &self,
         rt: &R,
@@ -155,7 +155,7 @@ fn add_response(
     }
 }
 
-// The message, where the frame spells one.
+// Returns the message, if the frame spells one.
 fn read<M>(message: Result<M, MessageFault>) -> Result<Option<M>, NoMemory> {
     match message {
         Ok(message) => Ok(Some(message)),
@@ -191,7 +191,7 @@ fn greeting(alloc: Global) -> JobResult {
     }
 }
 
-// The answer to a request, which a cancel request doesn't get.
+// Returns the response to a request. A cancel request gets none.
 fn response_of(alloc: Global, request: &WorkRequest) -> Option<WorkResponse>
     ensures { result ≡ response_to request.now }
 {
@@ -206,7 +206,7 @@ fn response_of(alloc: Global, request: &WorkRequest) -> Option<WorkResponse>
     })
 }
 
-// The result of a job, which a cancelling one doesn't get.
+// Returns the result of a job. A cancelling job gets none.
 fn result_of(alloc: Global, job: &Job) -> Result<Option<JobResult>, NoMemory>
     ensures { IfOk result (λ r. r ≡ result_to job.now) }
 {
@@ -244,7 +244,7 @@ fn made_file_of(alloc: Global, path: &str) -> Result<NamedFile, NoMemory>
     })
 }
 
-// The bytes of an output: its path and a line feed.
+// Returns the bytes of an output: its path and a line feed.
 fn content_of(alloc: Global, path: &str) -> Result<Blob, NoMemory>
     ensures { IfOk result (λ b. b ≡ made_content path.now) }
 {
@@ -254,7 +254,8 @@ fn content_of(alloc: Global, path: &str) -> Result<Blob, NoMemory>
     Blob::of(alloc, bytes)
 }
 
-// Where an output of a request is left: under the folder that it names, if it names one.
+// Returns the path at which an output of a request is left. It is below the folder that the request names,
+// if it names one.
 fn left_path(alloc: Global, request: &WorkRequest, path: &str) -> Result<Text, NoMemory>
     ensures { IfOk result (λ left. left ≡ under request.now.sandbox_dir path.now) }
 {

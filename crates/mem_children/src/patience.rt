@@ -2,17 +2,17 @@ use crate::bell::Bell;
 use std::sync::Wait;
 use std::thread;
 
-/// For how many turns a wait looks again without a rest.
+/// The number of turns for which a wait looks again without a rest.
 const BRISK_TURNS: u64 = 200;
 
-/// For how many turns a wait that has an end goes on.
+/// The number of turns that a wait with an end takes at most.
 const MOST_TURNS: u64 = 10_000_000;
 
-/// What a rest counts that no ring has ended. A turn without a rest takes about a microsecond, and such a rest takes
-/// a hundred thousand.
+/// The number of turns that a rest counts if no ring has ended it. A turn without a rest takes about a
+/// microsecond, and such a rest takes a hundred thousand.
 const TURNS_OF_A_REST: u64 = 100_000;
 
-/// How long one wait has gone on.
+/// The length of one wait so far.
 #[derive(Drop)]
 pub struct Patience {
     turns: u64,
@@ -23,7 +23,7 @@ impl Patience {
         Patience { turns: 0 }
     }
 
-    /// One turn of a wait that goes on until there is news.
+    /// Takes one turn of a wait that goes on until there is news.
     pub fn turn<R: Wait>(&mut self, rt: &R, bell: &Bell, rings: u32) {
         thread::yield_now();
         self.turns = self.turns.saturating_add(1);
@@ -32,7 +32,7 @@ impl Patience {
         }
     }
 
-    /// One turn of a wait that has an end. `false` once it has come.
+    /// Takes one turn of a wait that has an end. Returns `false` once the end has come.
     pub fn turn_to_the_end<R: Wait>(&mut self, rt: &R, bell: &Bell, rings: u32) -> bool {
         if self.turns >= MOST_TURNS {
             return false;

@@ -34,7 +34,7 @@ impl Ready {
         self.at == self.bytes.len()
     }
 
-    /// Puts bytes behind those that are there.
+    /// Appends bytes.
     pub fn add(&mut self, bytes: &[u8]) -> Result<(), NoMemory>
         ensures { OnOk result (self.new ≡ self.old ++ bytes.now) }
     {
@@ -42,7 +42,7 @@ impl Ready {
         Ok(())
     }
 
-    /// Takes as many bytes as there are and as there is room for, and says how many that is.
+    /// Takes all bytes that fit into `into`, and returns their number.
     #[tactic(auto, using(crate::proofs::Lists::front_and_rest))]
     pub fn take(&mut self, into: &mut [u8]) -> usize
         requires some { 0 < length self.old }
@@ -57,7 +57,7 @@ impl Ready {
     }
 }
 
-// Copies as much as there is room for, and says how much that is.
+// Copies all bytes that fit, and returns their number.
 fn copy_front(from: &[u8], into: &mut [u8]) -> usize
     requires some { 0 < length from.now }
     requires room { 0 < length into.old }

@@ -10,7 +10,7 @@ struct Kept {
     bytes: Blob,
 }
 
-/// What stands in a room: what was put there and what children left there.
+/// The files of a room: those that were put there and those that children left there.
 #[derive(Drop)]
 pub struct Files {
     alloc: Global,
@@ -25,7 +25,7 @@ impl Files {
         }
     }
 
-    /// Puts a file, in place of one with that path.
+    /// Puts a file, replacing any existing file with that path.
     pub fn put(&mut self, path: &str, bytes: Blob) -> Result<(), NoMemory> {
         let path = Text::copy_of(self.alloc, path)?;
         self.files.reserve(1)?;
@@ -35,12 +35,13 @@ impl Files {
         Ok(())
     }
 
-    /// Removes the file with that path and what stands in the folder with that path, or all where the path is empty.
+    /// Removes the file with that path and all files in the folder with that path. If the path is empty,
+    /// removes all files.
     pub fn clear(&mut self, path: &str) {
         self.files.retain(|file| !path.is_empty() && !is_in(file.path.as_str(), path));
     }
 
-    /// What stands at a path.
+    /// Returns the file at a path.
     pub fn get(&self, path: &str) -> Result<Read, NoMemory> {
         for file in &self.files {
             if file.path.as_str() == path {
@@ -51,7 +52,7 @@ impl Files {
     }
 }
 
-// Whether a file's path is this one, or that of something in this folder.
+// Returns true if a file's path is this one, or is in this folder.
 fn is_in(file: &str, path: &str) -> bool {
     match file.strip_prefix(path) {
         Some(rest) => rest.is_empty() || rest.starts_with("/"),

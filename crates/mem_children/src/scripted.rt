@@ -13,9 +13,9 @@ use std::sync::Wait;
 #[derive(Drop)]
 pub struct Scripted {
     ears: Ears,
-    /// How many whole frames it has heard.
+    /// The number of whole frames that it has read.
     heard: u32,
-    /// The beat that comes next.
+    /// The next beat.
     next: usize,
 }
 
@@ -28,7 +28,8 @@ impl Scripted {
         }
     }
 
-    /// Plays beats until bytes are ready or the child has ended. A beat that has waited too long comes again.
+    /// Plays beats until bytes are ready or the child has ended. A beat that has waited too long is played
+    /// again.
     pub fn play<R: Wait>(
         &mut self,
         rt: &R,
@@ -70,7 +71,7 @@ impl Scripted {
         Ok(Acted::On)
     }
 
-    // Waits until so many whole frames were given.
+    // Waits until `frames` whole frames were given.
     fn hear<R: Wait>(&mut self, rt: &R, line: &Line, frames: u32) -> Result<Acted, NoMemory> {
         let mut patience = Patience::new();
         for _ in rt.forever() {
@@ -87,7 +88,7 @@ impl Scripted {
         unreachable!()
     }
 
-    // Counts the frames that were given since.
+    // Counts the frames that were given since the last call.
     fn listen<R: Wait>(&mut self, rt: &R, line: &Line) -> Result<(), NoMemory> {
         self.ears.listen(rt, line)?;
         for _ in rt.forever() {
@@ -100,14 +101,15 @@ impl Scripted {
     }
 }
 
-// What an executor gives, or else what a worker does.
+// Returns the first bytes for an executor, and the second for a worker.
 fn chosen<'a>(serves: bool, first: &'a [u8], second: &'a [u8]) -> &'a [u8]
     ensures { result.now ≡ (if serves then first.now else second.now) }
 {
     if serves { first } else { second }
 }
 
-// Whether a wait is over: it goes on where what it waits for has come, and a child that was killed does nothing more.
+// Returns how a wait ends, or `None` if it isn't over. If the awaited event has come, the child goes on.
+// Otherwise a killed child ends.
 fn came(is_there: bool, killed: bool) -> Option<Acted>
     ensures there { is_there ≡ true → result ≡ Some Acted.On }
     ensures killed { is_there ≡ false → killed ≡ true → result ≡ Some Acted.Ended }
@@ -135,7 +137,7 @@ fn await_gate<R: Wait>(rt: &R, line: &Line, gate: u32) -> Acted {
     unreachable!()
 }
 
-// After its last beat a child ends where it is killed, and not before.
+// Rests until the child is killed. After its last beat a child ends only then.
 fn rest_until_killed<R: Wait>(rt: &R, line: &Line) -> Acted {
     let mut patience = Patience::new();
     for _ in rt.forever() {

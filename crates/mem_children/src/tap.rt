@@ -9,7 +9,7 @@ use outside::{Taken, Tap};
 use std::alloc::Global;
 use std::sync::{Arc, Wait};
 
-/// The pipe out of a child, which is played where it is read. It tells the bytes that were taken.
+/// The pipe out of a child, which is played when the tap is read. It records the bytes that were taken.
 #[derive(Drop)]
 pub struct MemTap<R> {
     rt: R,
@@ -25,7 +25,7 @@ pub struct MemTap<R> {
 }
 
 impl<R> MemTap<R> {
-    /// The tap of this line.
+    /// Returns the tap of this line.
     pub fn new(rt: R, alloc: Global, script: Arc<Script>, shared: Arc<Line>, line: u32) -> MemTap<R>
         ensures line { result.line ≡ line }
         ensures taken { result.taken.items ≡ [] }

@@ -8,11 +8,11 @@ use plain_values::{NoMemory, Text};
 use sandbox_rooms::{Gathered, Room, gather};
 use std::alloc::Global;
 
-/// For a Gather on a local line whose answer has exit code 0: looks at the outputs.
+/// Looks at the outputs, for a Gather on a local line whose answer has exit code 0.
 ///
 /// # Errors
 ///
-/// `NoMemory`.
+/// Returns `NoMemory` if memory runs out.
 pub fn gather_line<B: Berth>(
     alloc: Global,
     berth: &mut B,

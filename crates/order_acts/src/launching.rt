@@ -5,7 +5,7 @@ ghost use Rattle.order_acts.specs.Acts.{Launches, Starts, OnOpened};
 use outside::{Berth, Command, Io, Launch};
 use plain_values::NoMemory;
 
-/// What came of a Launch.
+/// The result of a Launch.
 #[derive(Drop)]
 pub enum Opened<D, T, C> {
     /// The line's feed, its tap and its child.
@@ -16,11 +16,11 @@ pub enum Opened<D, T, C> {
     LaunchFault,
 }
 
-/// For a Launch: empties the room, and starts the line's command in it.
+/// Empties the room for a Launch, and starts the line's command in it.
 ///
 /// # Errors
 ///
-/// `NoMemory`, after the room was emptied.
+/// Returns `NoMemory` if memory runs out. The room was emptied before.
 pub fn launch_line<B: Berth>(
     berth: &mut B,
     line: u32,

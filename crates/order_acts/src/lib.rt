@@ -1,4 +1,5 @@
-//! What is done outside for an order, between the order and its report: on the berth, and on the feed of the line.
+//! The work outside for an order, between the order and its report: on the berth, and on the feed
+//! of the line.
 #![tactic(auto)]
 
 mod gathering;

@@ -9,8 +9,7 @@ use remote_messages::NamedFile;
 use sandbox_rooms::{Room, prepare};
 use std::alloc::Global;
 
-/// The files of a local line's room: the inputs that are put there for a request, and the paths of
-/// the outputs that are looked for.
+/// The files of a local line's room: the inputs of a request, and the paths of its outputs.
 #[derive(Drop)]
 pub struct RoomFiles<'a> {
     pub room: Room,
@@ -18,11 +17,11 @@ pub struct RoomFiles<'a> {
     pub outputs: &'a [Text],
 }
 
-/// For a Send to a local line: makes the room ready, and gives the frame to the line.
+/// Prepares the room for a Send to a local line, and writes the frame to the line.
 ///
 /// # Errors
 ///
-/// `NoMemory`, and then nothing was given.
+/// Returns `NoMemory` if memory runs out. Then nothing was written to the line.
 pub fn send_line<B: Berth>(
     alloc: Global,
     berth: &mut B,
@@ -39,7 +38,7 @@ pub fn send_line<B: Berth>(
     }
 }
 
-/// Gives a frame to a line, for a Cancel or a Send to the executor.
+/// Writes a frame to a line, for a Cancel or a Send to the executor.
 pub fn give<F: Feed>(feed: &mut F, frame: &[u8]) -> Written
     ensures { GivesFrame frame.now result (F.told feed.old) (F.told feed.new) }
 {

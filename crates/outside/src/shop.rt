@@ -11,7 +11,7 @@ ghost use Rattle.outside.specs.declared.shop.ShopCall.TheVariants as call;
 use crate::{Io, Read, Variable};
 use plain_values::{Blob, Items, NoMemory, Text};
 
-/// How a command that was run ended.
+/// The end of a command that was run.
 #[derive(Drop)]
 pub enum JobEnd {
     /// With this exit code, and these bytes on its standard output.
@@ -63,14 +63,13 @@ pub enum ShopCall {
     },
 }
 
-/// Files in folders, and commands that run there. Paths are relative to the shop's own folder. What
-/// a
-/// command leaves in its folder is the outside's.
+/// Files in folders, and commands that run there. Paths are relative to the shop's own folder. The files that a command
+/// leaves in its folder belong to the outside.
 pub trait Shop: Drop {
-    /// How often it has failed, and the calls so far with their answers, if it records them.
+    /// The number of its faults, and the calls so far with their answers, if it records them.
     ghost told: { Self → ShopTold };
 
-    /// The count of faults. It never falls.
+    /// Returns the count of faults, which never falls.
     fn faults(&self) -> u64
         ensures { result ≡ (told self.now).faults };
 
@@ -80,7 +79,7 @@ pub trait Shop: Drop {
         ensures log { Adds (call.Put path.now bytes.now result ∷ []) (told self.old).log
             (told self.new).log };
 
-    /// Makes a folder, with the folders above it. One that is there is `Done`.
+    /// Makes a folder, with the folders above it. If it is there, the answer is `Done`.
     fn folder(&mut self, path: &str) -> Io
         ensures count { Counts (told self.old).faults (told self.new).faults (result ≡ io.Failed) }
         ensures log { Adds (call.Folder path.now result ∷ []) (told self.old).log
@@ -90,7 +89,7 @@ pub trait Shop: Drop {
     ///
     /// # Errors
     ///
-    /// `NoMemory`, and then the call isn't in the log.
+    /// Returns `NoMemory` if memory runs out. The call then isn't in the log.
     fn get(&mut self, path: &str) -> Result<Read, NoMemory>
         ensures count { Counts (told self.old).faults (told self.new).faults (result
             ≡ Ok read.Failed) }
@@ -103,7 +102,7 @@ pub trait Shop: Drop {
     ///
     /// # Errors
     ///
-    /// `NoMemory`, and then the call isn't in the log.
+    /// Returns `NoMemory` if memory runs out. The call then isn't in the log.
     fn run(&mut self, folder: &str, words: &[Text], env: &[Variable]) -> Result<JobEnd, NoMemory>
         ensures count { Counts (told self.old).faults (told self.new).faults (result
             ≡ Ok end.Failed) }

@@ -2,11 +2,12 @@ use outside::SourceFile;
 use plain_values::{Blob, NoMemory, Text};
 use std::alloc::Global;
 
-/// The sources of the list of this many actions that is generated: the flag file of each, which names its output.
+/// Returns the sources of the generated list of `actions` actions. They are the flag file of each action,
+/// which names its output.
 ///
 /// # Errors
 ///
-/// `NoMemory`.
+/// Returns `NoMemory` if memory runs out.
 pub fn generated_sources(alloc: Global, actions: u32) -> Result<Vec<SourceFile>, NoMemory> {
     let mut files = Vec::new(alloc);
     for action in 0..actions {

@@ -6,9 +6,8 @@ use plain_values::{Blob, Items, NoMemory, Text, texts_again};
 use std::alloc::Global;
 use std::collections::VecDeque;
 
-/// A shop in memory. It finds what it was made with and what was put, the later one counting, and
-/// its runs end as it was
-/// told. It tells its calls, unless memory to note one was wanted.
+/// A shop in memory. It finds the files that it was made with and the files that were put; the later one
+/// counts. Its runs end as its maker specified. It records its calls, unless memory ran out for an entry.
 #[derive(Drop)]
 pub struct MemShop {
     alloc: Global,
@@ -18,18 +17,18 @@ pub struct MemShop {
     puts: Calls,
     folders: Calls,
     gets: Calls,
-    /// `None` once memory for a failed call's entry was wanted.
+    /// `None` once memory ran out for a failed call's entry.
     log: Option<Vec<ShopCall>>,
     faults: u64,
 }
 
 impl MemShop {
-    /// A shop with these files, whose runs end so, one after another, and after the last with
-    /// `Failed`.
+    /// Returns a shop with these files. Its runs end as `ends` lists, one after another. After the last,
+    /// runs end with `Failed`.
     ///
     /// # Errors
     ///
-    /// `NoMemory`.
+    /// Returns `NoMemory` if memory runs out.
     pub fn new(
         alloc: Global,
         files: Vec<SourceFile>,
@@ -56,7 +55,7 @@ impl MemShop {
         })
     }
 
-    /// The calls so far, unless memory to note one was wanted.
+    /// Returns the calls so far, or `None` if memory ran out for an entry.
     pub fn log(&self) -> Option<&[ShopCall]> {
         match &self.log {
             Some(log) => Some(log),

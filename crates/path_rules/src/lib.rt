@@ -1,4 +1,4 @@
-//! Which texts are paths of the tree that a run works in: relative, in one spelling, and inside the tree.
+//! The rules for paths of the tree that a run works in: relative, in one spelling, and inside the tree.
 #![tactic(auto)]
 
 ghost use Rattle.std.specs.Prelude.{◌≡◌, nat_eq};
@@ -7,10 +7,10 @@ ghost use Rattle.path_rules.specs.Paths.{checked, has_fault, has_part_name, has_
 
 use thiserror::Error;
 
-/// The most bytes that a path may have.
+/// The largest number of bytes in a path.
 const MAX_PATH: usize = 4096;
 
-/// What is wrong with a path. The faults stand in the order in which they are looked for.
+/// The fault of a path. The faults are in the order in which they are looked for.
 #[derive(Clone, Copy, Debug, PartialEq, Eq, Error)]
 pub enum PathFault {
     #[error("the path is empty")]
@@ -35,10 +35,9 @@ pub enum PathFault {
 ///
 /// # Errors
 ///
-/// The first fault that the path has. A path is one or more segments with one slash between two
-/// of them, at most 4,096 bytes long. No segment is empty, `.` or `..`, and no byte is zero. The run
-/// keeps some names for itself: the first segment is neither `__sandbox` nor `.worker_rooms`, and no
-/// segment begins with `.worker_tool.`.
+/// Returns the first fault that the path has. A path is one or more segments with one slash between two of them, at
+/// most 4,096 bytes long. No segment is empty, `.` or `..`, and no byte is zero. The run reserves some names. The first
+/// segment is neither `__sandbox` nor `.worker_rooms`, and no segment begins with `.worker_tool.`.
 pub fn check_path(path: &str) -> Result<(), PathFault>
     ensures { result ≡ checked (path_fault path.now) }
 {
@@ -97,7 +96,7 @@ fn is_reserved(path: &str) -> bool
     first == "__sandbox" || first == ".worker_rooms" || has_part_name(path)
 }
 
-// Whether some segment is the name of a file that is written beside an output.
+// Returns true if a segment begins like the temporary name of an output.
 fn has_part_name(path: &str) -> bool
     ensures { result ≡ has_part_name path.now }
 {

@@ -17,14 +17,14 @@ impl Model for Text {
 }
 
 impl Text {
-    /// The text of a `String`, whose memory it takes over.
+    /// Returns the text of a `String`, whose memory it takes over.
     pub fn of(text: String) -> Text
         ensures { result ≡ string_bytes text }
     {
         Text { text }
     }
 
-    /// The text itself.
+    /// Returns the text as a `str`.
     pub fn as_str(&self) -> &str
         ensures { result.now ≡ self.now }
     {

@@ -1,4 +1,4 @@
-//! What a proxy lane is ordered.
+//! The orders of a proxy lane.
 ghost use Rattle.std.specs.Prelude.{◌≡◌, ◌<◌, false, true, IfOk, IfErr};
 ghost use Rattle.seat_desk.specs.Passes.{IsSamePass, mine};
 ghost use Rattle.exec_journal.specs.declared.call.Call.TheVariants as call;
@@ -17,7 +17,7 @@ use outside::{Berth, Place};
 use proxy_deeds::ProxyHalt;
 use std::sync::Wait;
 
-/// An answer to a request of a line, that is to be gathered, and the attempt that it is of.
+/// An answer waiting to be gathered, with its line and its attempt.
 #[derive(Drop)]
 pub struct Answered {
     pub line: u32,
@@ -27,28 +27,28 @@ pub struct Answered {
     pub refused: bool,
 }
 
-/// What a lane is ordered.
+/// An order to a lane.
 #[derive(Drop)]
 pub enum Order<K> {
-    /// To start a line, for the attempt.
+    /// Start a line for the attempt.
     Launch {
         line: u32,
         attempt: Attempt,
     },
-    /// To write a request of the attempt to the line.
+    /// Write a request of the attempt to the line.
     Send {
         line: u32,
         number: i32,
         attempt: Attempt,
     },
-    /// To give a request up.
+    /// Cancel a request.
     Cancel {
         line: u32,
         number: i32,
     },
-    /// To look at what came of this answer, and claim it.
+    /// Look at the result of this answer, and claim it.
     Gather(Answered),
-    /// To kill this child, which is the line's.
+    /// Kill this child, which is the line's.
     Kill {
         line: u32,
         child: K,
@@ -75,12 +75,12 @@ impl<B: Berth, P: Place, C: Rules> Question<Bench<B, P, C>> for NextOrder {
     }
 }
 
-/// Asks until there is an order, or the lane is told to stop, which is `None`. While there is
-/// neither, the lane rests by its bell.
+/// Asks until there is an order, or until the lane is told to stop, which is `None`. While there is
+/// neither, the lane waits for its bell.
 ///
 /// # Errors
 ///
-/// The Ask, if the desk had no memory for its entry. Then nothing was asked.
+/// Returns the Ask if the desk had no memory for its entry. Then nothing was asked.
 pub fn ask<B: Berth, P: Place, C: Rules, R: Wait>(
     rt: &R,
     caller: &mut Caller<'_, Bench<B, P, C>>,
@@ -100,7 +100,7 @@ pub fn ask<B: Berth, P: Place, C: Rules, R: Wait>(
     }
 }
 
-// The order that a reply gives, with what came out.
+// Returns the order in a reply, with the good that came out.
 fn order_of<B: Berth, P: Place>(
     reply: Reply,
     good: Option<Good<B::Child, B::Tap, P>>,

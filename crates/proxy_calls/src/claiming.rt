@@ -1,4 +1,4 @@
-//! The Claim of what was found for an answer, and the commit of files that were granted.
+//! The Claim of an answer's result, and the commit of files that were granted.
 ghost use Rattle.std.specs.Prelude.{◌≡◌, ◌<◌, ◌^◌, true, length, IfOk, IfErr};
 ghost use Rattle.seat_desk.specs.Passes.{IsSamePass, mine, basis};
 ghost use Rattle.core_contract.specs.Shelf.{Fresh, Back};
@@ -21,12 +21,12 @@ use proxy_deeds::ProxyHalt;
 use seat_desk::Refused;
 use std::sync::Wait;
 
-/// Claims what was found for the attempt. If files were claimed and granted, it gives the action's
+/// Claims what was found for the attempt. If files were claimed and granted, returns the action's
 /// place, to which nothing was written.
 ///
 /// # Errors
 ///
-/// The Claim, if the desk had no memory for its entry. Then it was not made.
+/// Returns the Claim if the desk had no memory for its entry. Then it was not made.
 pub fn claim<B: Berth, P: Place, C: Rules, R: Wait>(
     rt: &R,
     caller: &mut Caller<'_, Bench<B, P, C>>,
@@ -57,8 +57,8 @@ pub fn claim<B: Berth, P: Place, C: Rules, R: Wait>(
     }
 }
 
-/// What an attempt was granted: that these files, one for each of its action's outputs, are written
-/// to the action's place.
+/// A grant to an attempt: these files, one for each of its action's outputs, may be written to the
+/// action's place.
 #[derive(Drop)]
 pub struct Grant<'a, P> {
     pub attempt: Attempt,
@@ -67,8 +67,8 @@ pub struct Grant<'a, P> {
     pub place: P,
 }
 
-/// Writes the files that were granted to the action's place, and reports how that ended. The place
-/// goes back onto the shelf. It takes no memory.
+/// Writes the files that were granted to the action's place, and reports the outcome. The place
+/// goes back onto the shelf. The function takes no memory.
 pub fn commit_files<B: Berth, P: Place, C: Rules, R: Wait>(
     rt: &R,
     caller: &mut Caller<'_, Bench<B, P, C>>,
@@ -97,7 +97,7 @@ pub fn commit_files<B: Berth, P: Place, C: Rules, R: Wait>(
     let _answer = caller.call_paid(rt, call, Some(Good::Place(place)));
 }
 
-// Writes the files, and says how that ended.
+// Writes the files, and returns the outcome.
 fn write_out<P: Place>(place: &mut P, action: u32, outputs: &[Text], files: &[Blob]) -> CommitEnd
     requires place { IsPlaceAt action outputs.now Fresh (P.told place.old) }
     requires fits { length files.now ≡ length outputs.now }

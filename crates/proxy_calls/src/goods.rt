@@ -1,10 +1,10 @@
-//! What came out of the desk, or comes back from it.
+//! The goods that came out of the desk, or come back from it.
 ghost use Rattle.std.specs.Prelude.{◌≡◌};
 ghost use Rattle.proxy_calls.specs.Goods.{child_good, line_child, place_good};
 
 use core_bench::Good;
 
-/// The child that came out.
+/// Returns the child that came out.
 pub(crate) fn child_in<K: Drop, T: Drop, P: Drop>(good: Option<Good<K, T, P>>) -> Option<K>
     ensures { result ≡ child_good good }
 {
@@ -17,7 +17,7 @@ pub(crate) fn child_in<K: Drop, T: Drop, P: Drop>(good: Option<Good<K, T, P>>) -
     }
 }
 
-/// The child of the line that comes back.
+/// Returns the child of the line that comes back.
 pub(crate) fn child_back<K: Drop, T: Drop, P: Drop>(good: Option<Good<K, T, P>>) -> Option<K>
     ensures { result ≡ line_child good }
 {
@@ -30,7 +30,7 @@ pub(crate) fn child_back<K: Drop, T: Drop, P: Drop>(good: Option<Good<K, T, P>>)
     }
 }
 
-/// The place that came out.
+/// Returns the place that came out.
 pub(crate) fn place_in<K: Drop, T: Drop, P: Drop>(good: Option<Good<K, T, P>>) -> Option<P>
     ensures { result ≡ place_good good }
 {

@@ -17,7 +17,7 @@ use lane_crew::Caller;
 use outside::{Berth, Place};
 use std::sync::Wait;
 
-/// Halts, and gives the berth's child if it lies on the shelf. It takes no memory.
+/// Halts, and returns the berth's child if it is on the shelf. The call takes no memory.
 pub fn halt<B: Berth, P: Place, C: Rules, R: Wait>(
     rt: &R,
     caller: &mut Caller<'_, Bench<B, P, C>>,

@@ -1,5 +1,5 @@
-//! The calls of a proxy lane, one by one: what each makes of the lane's own entries, and what it
-//! owes then. None is answered as a call off its script.
+//! The calls of a proxy lane, one by one: how each changes the lane's own entries, and what the
+//! lane owes then. No call is answered as one off its script.
 #![tactic(auto)]
 
 mod asking;

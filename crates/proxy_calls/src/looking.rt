@@ -16,11 +16,11 @@ use plain_values::{Blob, NoMemory};
 use run_plan::Maker;
 use std::sync::Wait;
 
-/// The bytes that the core has of what is wanted, or `None` if it has none.
+/// Returns the wanted bytes, or `None` if the core has none.
 ///
 /// # Errors
 ///
-/// `NoMemory`.
+/// Returns `NoMemory` if memory runs out.
 pub fn look<B: Berth, P: Place, C: Rules, R: Wait>(
     rt: &R,
     caller: &mut Caller<'_, Bench<B, P, C>>,
@@ -39,7 +39,7 @@ pub fn look<B: Berth, P: Place, C: Rules, R: Wait>(
     }
 }
 
-// The bytes that a Look told, or `None` where it told that there are none.
+// Returns the bytes in the reply to a Look, or `None` if the reply reports that there are none.
 fn found_in(reply: Reply) -> Result<Option<Blob>, NoMemory>
     ensures { IfOk result (λ found. reply ≡ reply_for found) }
 {
@@ -50,11 +50,11 @@ fn found_in(reply: Reply) -> Result<Option<Blob>, NoMemory>
     }
 }
 
-/// The bytes of a made input of the request that is to be sent. They are there.
+/// Returns the bytes of a made input of the request that the lane must send. They are present.
 ///
 /// # Errors
 ///
-/// `NoMemory`.
+/// Returns `NoMemory` if memory runs out.
 pub fn look_made<B: Berth, P: Place, C: Rules, R: Wait>(
     rt: &R,
     caller: &mut Caller<'_, Bench<B, P, C>>,

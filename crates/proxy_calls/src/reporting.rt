@@ -19,11 +19,11 @@ use proxy_deeds::ProxyHalt;
 use seat_desk::Refused;
 use std::sync::Wait;
 
-/// Makes a report with which nothing goes in: Wrote, Killed, or Launched with a fault.
+/// Makes a report without a good: Wrote, Killed, or Launched with a fault.
 ///
 /// # Errors
 ///
-/// The report, if the desk had no memory for its entry. Then it was not made.
+/// Returns the report if the desk had no memory for its entry. Then it was not made.
 pub fn tell<B: Berth, P: Place, C: Rules, R: Wait>(
     rt: &R,
     caller: &mut Caller<'_, Bench<B, P, C>>,
@@ -54,7 +54,7 @@ pub struct Unsaid<K> {
 ///
 /// # Errors
 ///
-/// `Unsaid`, if the desk had no memory for the entry. Then it was not made.
+/// Returns `Unsaid` if the desk had no memory for the entry. Then the report was not made.
 pub fn tell_started<B: Berth, P: Place, C: Rules, R: Wait>(
     rt: &R,
     caller: &mut Caller<'_, Bench<B, P, C>>,

@@ -1,10 +1,10 @@
 use exec_journal::Call;
 
-/// Why a lane halts. It is lack of memory, and nothing else.
+/// The reason why a lane halts. It is always lack of memory.
 #[derive(Drop)]
 pub enum ProxyHalt {
-    /// There was none for what was to be done. Whatever was done went well.
+    /// Memory ran out for the next step. All steps before went well.
     NoMemory,
-    /// There was none for the entry of this call. What it was to report is done.
+    /// Memory ran out for the entry of this call. The work that it reports is done.
     Refused(Call),
 }

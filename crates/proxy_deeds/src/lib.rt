@@ -1,4 +1,4 @@
-//! What a proxy lane has done for each of its entries, between an order and its report.
+//! The work of a proxy lane for each of its entries, between an order and its report.
 #![tactic(auto)]
 
 mod halt;

@@ -6,18 +6,18 @@ use exec_journal::Attempt;
 use outside::Command;
 use run_plan::{Branch, Kind, Plan};
 
-/// What lines are set up by: the plan, whose groups run the branches, a command for each group, and
-/// whether workers are asked to say more.
+/// The settings for lines: the plan, whose groups run the branches, a command for each group, and
+/// whether workers must print more.
 #[derive(Drop)]
 pub struct Settings<'a> {
     pub plan: &'a Plan,
     pub commands: &'a [Command],
-    /// A worker is asked to say more.
+    /// True if workers must print more.
     pub verbose: bool,
 }
 
 impl<'a> Settings<'a> {
-    /// The kind of the attempt's group.
+    /// Returns the kind of the attempt's group.
     pub fn kind_of(&self, attempt: Attempt) -> Kind
         requires { HasGroup self.now attempt }
         ensures { result ≡ kind_for self.now.plan.now attempt }
@@ -28,7 +28,7 @@ impl<'a> Settings<'a> {
         }
     }
 
-    /// What is started for the lines of the attempt's group.
+    /// Returns the command that starts the lines of the attempt's group.
     pub fn command_of(&self, attempt: Attempt) -> &Command
         requires { HasGroup self.now attempt }
         ensures { command_for self.now attempt ≡ Some result.now }
@@ -40,7 +40,7 @@ impl<'a> Settings<'a> {
     }
 }
 
-// The group that runs the attempt, where its action uses the branch.
+// Returns the group that runs the attempt, if its action uses the branch.
 fn group_of(plan: &Plan, attempt: Attempt) -> Option<u32>
     ensures { result ≡ group_for plan.now attempt }
 {

@@ -1,4 +1,4 @@
-//! What a proxy lane does for a Gather.
+//! A proxy lane's work for a Gather.
 ghost use Rattle.std.specs.Prelude.{◌≡◌, IfOk, OnErr};
 ghost use Rattle.proxy_calls.specs.declared.asking.Order.TheVariants as order;
 ghost use Rattle.proxy_calls.specs.Calls.{Stays};
@@ -23,12 +23,11 @@ use remote_messages::WorkAction;
 use std::alloc::Global;
 use std::sync::Wait;
 
-/// Finds what came of an answer, and claims it. Files that are granted are written to the action's
-/// place.
+/// Finds the result of an answer, and claims it. Writes the granted files to the action's place.
 ///
 /// # Errors
 ///
-/// Why the lane is to halt.
+/// Returns the reason if the lane must halt.
 pub(crate) fn gather<B: Berth, P: Place, C: Rules, R: Wait>(
     site: &Site<'_, R>,
     caller: &mut Caller<'_, Bench<B, P, C>>,
@@ -48,9 +47,9 @@ pub(crate) fn gather<B: Berth, P: Place, C: Rules, R: Wait>(
     }
 }
 
-// What was found for the answer. Its outputs are looked at if its exit code is 0 and it wasn't
-// refused: in the room, or, for the executor's answer, among its files. With `NoMemory` no look has
-// failed.
+// Returns what was found for the answer. The outputs are looked at if the exit code is 0 and the
+// answer wasn't refused. They are in the room or, for an executor's answer, among its files. If the
+// function returns `NoMemory`, no look has failed.
 fn act_gather<B: Berth, P: Place, C: Rules, R: Wait>(
     site: &Site<'_, R>,
     work: &WorkAction,
@@ -79,7 +78,8 @@ fn act_gather<B: Berth, P: Place, C: Rules, R: Wait>(
     gather_line(site.alloc, berth, room, work.outputs.as_slice())
 }
 
-// The files that an executor's answer has of the outputs, or the first that it lacks.
+// Returns the files of the outputs in an executor's answer, or the first output that the answer
+// lacks.
 fn answered<B: Berth, P: Place, C: Rules, R: Wait>(
     site: &Site<'_, R>,
     work: &WorkAction,
@@ -108,7 +108,7 @@ fn answered<B: Berth, P: Place, C: Rules, R: Wait>(
     Ok(Found::Files(Items::of(files)))
 }
 
-// Claims what was found. Files are shared beforehand, so that no lack of memory lies between a
+// Claims what was found. The files are shared beforehand, so no lack of memory can occur between a
 // grant and its Committed.
 fn claim_found<B: Berth, P: Place, C: Rules, R: Wait>(
     site: &Site<'_, R>,
@@ -139,7 +139,7 @@ fn claim_found<B: Berth, P: Place, C: Rules, R: Wait>(
     }
 }
 
-// The files that were found, with shared contents.
+// Returns the files that were found, with shared contents.
 fn copies_of(alloc: Global, found: &Found) -> Result<Vec<Blob>, NoMemory>
     ensures ok { IfOk result (λ copies. copies.items ≡ files_in found.now) }
     ensures err { OnErr result (HasFiles found.now) }

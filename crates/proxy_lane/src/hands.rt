@@ -7,7 +7,7 @@ use proxy_steps::Hands;
 use remote_messages::WorkAction;
 use run_plan::Speech;
 
-/// The work of an action.
+/// Returns the work of an action.
 pub(crate) fn action_at(actions: &[WorkAction], number: u32) -> &WorkAction
     requires { number < length actions.now }
     ensures { slice_get actions.now number ≡ Some result.now }
@@ -18,7 +18,7 @@ pub(crate) fn action_at(actions: &[WorkAction], number: u32) -> &WorkAction
     }
 }
 
-/// The line that is open.
+/// Returns the line that is open.
 pub(crate) fn open_line<B, D, K>(hands: &Hands<B, D, K>) -> Option<u32>
     ensures { result ≡ open_in hands.now }
 {
@@ -28,7 +28,7 @@ pub(crate) fn open_line<B, D, K>(hands: &Hands<B, D, K>) -> Option<u32>
     }
 }
 
-/// It is what an executor's lines speak.
+/// Returns true if this is the protocol of an executor's lines.
 pub(crate) fn is_executor(speech: Speech) -> bool
     ensures { result ≡ speaks_remote speech }
 {

@@ -20,12 +20,12 @@ use run_plan::{Maker, Speech};
 use std::alloc::Global;
 use std::sync::Wait;
 
-/// The files of a request's inputs, in order. The core is asked for those that other actions made;
-/// their contents are shared.
+/// Returns the files of a request's inputs, in order. The core supplies the files that other
+/// actions made, and their contents are shared.
 ///
 /// # Errors
 ///
-/// `NoMemory`.
+/// Returns `NoMemory` if memory runs out.
 pub(crate) fn inputs_of<B: Berth, P: Place, C: Rules, R: Wait>(
     site: &Site<'_, R>,
     caller: &mut Caller<'_, Bench<B, P, C>>,
@@ -47,7 +47,7 @@ pub(crate) fn inputs_of<B: Berth, P: Place, C: Rules, R: Wait>(
     Ok(files)
 }
 
-// The bytes of one input.
+// Returns the bytes of one input.
 fn content_of<B: Berth, P: Place, C: Rules, R: Wait>(
     site: &Site<'_, R>,
     caller: &mut Caller<'_, Bench<B, P, C>>,
@@ -77,13 +77,13 @@ fn content_of<B: Berth, P: Place, C: Rules, R: Wait>(
     }
 }
 
-/// Computes the digests of the sources among the inputs of a request, unless they are known. Where
-/// several lanes come to a source at once, one computes its digest and the others wait. The executor is
-/// given no digests.
+/// Computes the digests of the sources among the inputs of a request, unless they are known. If
+/// several lanes need a source at once, one computes its digest and the others wait. The executor
+/// receives no digests.
 ///
 /// # Errors
 ///
-/// `NoMemory`.
+/// Returns `NoMemory` if memory runs out.
 pub(crate) fn know_digests<R: Wait>(
     rt: &R,
     alloc: Global,

@@ -1,4 +1,4 @@
-//! What a proxy lane does for a Kill, and where it halts.
+//! A proxy lane's work for a Kill and for its Halt.
 ghost use Rattle.std.specs.Prelude.{◌≡◌, Some};
 ghost use Rattle.outside.specs.Launches.{IsNewChild};
 ghost use Rattle.proxy_calls.specs.declared.asking.Order.TheVariants as order;
@@ -18,11 +18,12 @@ use proxy_deeds::ProxyHalt;
 use proxy_steps::{EndedFeed, Hands, OpenFeed};
 use std::sync::Wait;
 
-/// Has the berth end the open line's child, which is laid by with the line's feed, and reports it.
+/// Has the berth end the open line's child, stores the child with the line's feed, and reports the
+/// Kill.
 ///
 /// # Errors
 ///
-/// Why the lane is to halt.
+/// Returns the reason if the lane must halt.
 pub(crate) fn kill<B: Berth, P: Place, C: Rules, R: Wait>(
     site: &Site<'_, R>,
     caller: &mut Caller<'_, Bench<B, P, C>>,
@@ -39,7 +40,7 @@ pub(crate) fn kill<B: Berth, P: Place, C: Rules, R: Wait>(
     tell(site.rt, caller, site.berth, Call::Killed { line })
 }
 
-// Has the berth end the child, and puts it with the open line's feed behind the lines that ended.
+// Has the berth end the child, and appends it with the open line's feed to the lines that ended.
 fn lay_by<B: Berth>(hands: &mut Hands<B, B::Feed, B::Child>, line: u32, child: B::Child)
     requires open { open_in hands.old ≡ Some line }
     requires child { IsNewChild line (B.Child.told child) }
@@ -58,7 +59,7 @@ fn lay_by<B: Berth>(hands: &mut Hands<B, B::Feed, B::Child>, line: u32, child: B
     }
 }
 
-/// Halts. If a line is open, its child comes off the shelf, and the berth ends it.
+/// Halts. If a line is open, takes its child off the shelf, and the berth ends the child.
 pub(crate) fn give_up<B: Berth, P: Place, C: Rules, R: Wait>(
     site: &Site<'_, R>,
     caller: &mut Caller<'_, Bench<B, P, C>>,

@@ -21,7 +21,7 @@ use proxy_steps::{EndedFeed, Hands};
 use seat_desk::{Desk, Pass};
 use std::sync::Wait;
 
-/// What a proxy lane leaves. The type has no bound: [`ProxyEnd`] names it by the outside and the
+/// The result of a proxy lane. The type has no bound: [`ProxyEnd`] names it by the outside and the
 /// core.
 #[derive(Drop)]
 pub struct LaneEnd<S, B, D, K> {
@@ -29,13 +29,13 @@ pub struct LaneEnd<S, B, D, K> {
     pub berth: B,
     /// The feeds of the lines that were started, in order, with their children, which were killed.
     pub feeds: Vec<EndedFeed<D, K>>,
-    /// A line that was started, and there was no memory to report it.
+    /// A line that was started, but not reported because memory ran out.
     pub unsaid: Option<EndedFeed<D, K>>,
-    /// Why it halted, if it wasn't told to stop.
+    /// The reason why the lane halted, unless it was told to stop.
     pub halted: Option<ProxyHalt>,
 }
 
-/// What the proxy lane of a bench leaves.
+/// The result of the proxy lane of a bench.
 pub type ProxyEnd<B, P, C> = LaneEnd<
     Pass<Bench<B, P, C>>,
     B,
@@ -43,10 +43,9 @@ pub type ProxyEnd<B, P, C> = LaneEnd<
     <B as Berth>::Child,
 >;
 
-/// Serves this berth, which is the site's: asks for orders, carries each out and reports how that
-/// went, until the lane is told to stop. Where there is no memory for an order, or for its report,
-/// the lane halts, and the child of the line that is open is killed. While there is nothing to do
-/// it rests.
+/// Serves the berth of the site until the lane is told to stop: asks for orders, carries each out
+/// and reports the outcome. If memory runs out for an order or for its report, the lane halts, and
+/// the child of the open line is killed. While there is nothing to do, the lane waits.
 pub fn run<B: Berth, P: Place, C: Rules, R: Wait>(
     site: &Site<'_, R>,
     desk: &Desk<Bench<B, P, C>>,
@@ -88,7 +87,7 @@ pub fn run<B: Berth, P: Place, C: Rules, R: Wait>(
     }
 }
 
-// Carries out orders until the lane is told to stop, or halts. It gives why it halted.
+// Carries out orders until the lane is told to stop, or halts. Returns the reason if it halts.
 fn serve<B: Berth, P: Place, C: Rules, R: Wait>(
     site: &Site<'_, R>,
     caller: &mut Caller<'_, Bench<B, P, C>>,
@@ -112,7 +111,7 @@ fn serve<B: Berth, P: Place, C: Rules, R: Wait>(
     unreachable!()
 }
 
-// One round: asks, and carries out what is ordered. It gives `false` if the lane was told to stop.
+// Runs one round: asks, and carries out the order. Returns `false` if the lane was told to stop.
 fn next<B: Berth, P: Place, C: Rules, R: Wait>(
     site: &Site<'_, R>,
     caller: &mut Caller<'_, Bench<B, P, C>>,

@@ -1,4 +1,4 @@
-//! What a proxy lane does for a Launch.
+//! A proxy lane's work for a Launch.
 ghost use Rattle.std.specs.Prelude.{◌<◌, vec_len, vec_capacity};
 ghost use Rattle.proxy_calls.specs.declared.asking.Order.TheVariants as order;
 ghost use Rattle.proxy_steps.specs.Lanes.{held_of};
@@ -16,11 +16,11 @@ use proxy_deeds::ProxyHalt;
 use proxy_steps::{EndedFeed, Hands, OpenFeed};
 use std::sync::Wait;
 
-/// Starts a line for the attempt, and reports how that went.
+/// Starts a line for the attempt, and reports the outcome.
 ///
 /// # Errors
 ///
-/// Why the lane is to halt. A child that was started by then is killed.
+/// Returns the reason if the lane must halt. If a child was started by then, it is killed.
 pub(crate) fn launch<B: Berth, P: Place, C: Rules, R: Wait>(
     site: &Site<'_, R>,
     caller: &mut Caller<'_, Bench<B, P, C>>,
@@ -39,7 +39,7 @@ pub(crate) fn launch<B: Berth, P: Place, C: Rules, R: Wait>(
     }
 }
 
-// The same, where there is room for the line when it ends.
+// Does the same, given that there is room for the line when it ends.
 fn start<B: Berth, P: Place, C: Rules, R: Wait>(
     site: &Site<'_, R>,
     caller: &mut Caller<'_, Bench<B, P, C>>,

@@ -1,8 +1,8 @@
-//! The lane that carries out what the scheduling core orders of one berth.
+//! The lane that carries out the scheduling core's orders for one berth.
 //!
-//! It asks for an order, does what a Launch, a Send, a Cancel, a Gather or a Kill asks, and reports
-//! how that went, until it is told to stop. Where there is no memory it halts. Each step says what
-//! it makes of what the lane has done so far.
+//! It asks for an order, carries it out and reports the outcome, until it is told to stop. An order
+//! is a Launch, a Send, a Cancel, a Gather or a Kill. If memory runs out, the lane halts. The contract
+//! of each step relates the lane's record of its work before and after.
 #![tactic(auto)]
 
 mod gathering;

@@ -1,4 +1,4 @@
-//! What is done for a Send and for a Cancel.
+//! The work for a Send and for a Cancel.
 ghost use Rattle.seat_desk.specs.Passes.{mine};
 ghost use Rattle.proxy_calls.specs.declared.asking.Order.TheVariants as order;
 ghost use Rattle.proxy_calls.specs.Calls.{Stays};
@@ -28,12 +28,12 @@ use proxy_steps::{Hands, OpenFeed};
 use sandbox_rooms::Room;
 use std::sync::Wait;
 
-/// For a Send: takes the inputs together, makes the room ready, and writes the request to the line.
-/// To the executor it writes the job, whose room is its own.
+/// Carries out a Send: collects the inputs, prepares the room, and writes the request to the line.
+/// To the executor it writes the job, which has its own room.
 ///
 /// # Errors
 ///
-/// `NoMemory`, and then nothing was given.
+/// Returns `NoMemory` if memory runs out. Then nothing was written.
 pub(crate) fn act_send<B: Berth, P: Place, C: Rules, R: Wait>(
     site: &Site<'_, R>,
     caller: &mut Caller<'_, Bench<B, P, C>>,
@@ -60,7 +60,7 @@ pub(crate) fn act_send<B: Berth, P: Place, C: Rules, R: Wait>(
     }
 }
 
-// Makes the room ready, and writes what is due.
+// Prepares the room and writes the frame, unless the frame is too large.
 fn write<B: Berth, R: Wait>(
     site: &Site<'_, R>,
     berth: &mut B,
@@ -91,7 +91,7 @@ fn write<B: Berth, R: Wait>(
     }
 }
 
-// Makes the room ready, where the line isn't an executor's, and writes the frame.
+// Prepares the room, unless the line is an executor's, and writes the frame.
 fn write_frame<B: Berth, R>(
     site: &Site<'_, R>,
     berth: &mut B,
@@ -115,11 +115,11 @@ fn write_frame<B: Berth, R>(
     send_line(site.alloc, berth, feed, &files, frame)
 }
 
-/// For a Cancel: writes to the line that the request is to be given up.
+/// Carries out a Cancel: writes the cancellation of the request to the line.
 ///
 /// # Errors
 ///
-/// `NoMemory`, and then nothing was given.
+/// Returns `NoMemory` if memory runs out. Then nothing was written.
 pub(crate) fn act_cancel<D: Feed, R>(
     site: &Site<'_, R>,
     feed: &mut D,
@@ -136,11 +136,11 @@ pub(crate) fn act_cancel<D: Feed, R>(
     }
 }
 
-/// Carries out a Send on the open line, and reports how that went.
+/// Carries out a Send on the open line, and reports the outcome.
 ///
 /// # Errors
 ///
-/// Why the lane is to halt.
+/// Returns the reason if the lane must halt.
 pub(crate) fn send<B: Berth, P: Place, C: Rules, R: Wait>(
     site: &Site<'_, R>,
     caller: &mut Caller<'_, Bench<B, P, C>>,
@@ -179,11 +179,11 @@ pub(crate) fn send<B: Berth, P: Place, C: Rules, R: Wait>(
     }
 }
 
-/// Carries out a Cancel on the open line, and reports how that went.
+/// Carries out a Cancel on the open line, and reports the outcome.
 ///
 /// # Errors
 ///
-/// Why the lane is to halt.
+/// Returns the reason if the lane must halt.
 pub(crate) fn cancel<B: Berth, P: Place, C: Rules, R: Wait>(
     site: &Site<'_, R>,
     caller: &mut Caller<'_, Bench<B, P, C>>,
@@ -213,7 +213,7 @@ pub(crate) fn cancel<B: Berth, P: Place, C: Rules, R: Wait>(
     }
 }
 
-// Reports what was written, if there was memory to write it.
+// Reports what was written, unless memory ran out before the write.
 fn report<B: Berth, P: Place, C: Rules, R: Wait>(
     site: &Site<'_, R>,
     caller: &mut Caller<'_, Bench<B, P, C>>,

@@ -1,4 +1,4 @@
-//! Where a proxy lane works, and a request that is due there.
+//! The context of a proxy lane, and a request for a line.
 
 use exec_journal::Attempt;
 use proxy_deeds::Settings;
@@ -6,23 +6,21 @@ use remote_messages::WorkAction;
 use run_plan::Speech;
 use std::alloc::Global;
 
-/// Where a proxy lane works: at the berth of this number, which speaks so, by these
-/// settings, for these actions.
+/// The context of a proxy lane: the berth's number, its protocol, the settings and the actions.
 #[derive(Drop)]
 pub struct Site<'a, R> {
     pub rt: &'a R,
     pub alloc: Global,
     /// The berth's number.
     pub berth: u32,
-    /// What the berth's lines speak.
+    /// The protocol of the berth's lines.
     pub speech: Speech,
     pub settings: &'a Settings<'a>,
     /// The work of all actions, by their numbers.
     pub actions: &'a [WorkAction],
 }
 
-/// A request that is due on a line: its number, and the attempt that it is of, with its
-/// action's work.
+/// A request for a line: its number, and its attempt with the action's work.
 #[derive(Drop)]
 pub(crate) struct Request<'a> {
     pub line: u32,

@@ -1,4 +1,4 @@
-//! What a proxy lane has in its hands.
+//! The local state of a proxy lane, its hands.
 
 /// The feed of a line that has ended, with the line's child, which was killed.
 #[derive(Drop)]
@@ -8,20 +8,20 @@ pub struct EndedFeed<D, K> {
     pub child: K,
 }
 
-/// The feed of a line that was started. Its child lies on the shelf.
+/// The feed of a line that was started. Its child is on the shelf.
 #[derive(Drop)]
 pub struct OpenFeed<D> {
     pub line: u32,
     pub feed: D,
 }
 
-/// The berth, the feed of the line that is open, and what came of the lines before it. There is
-/// room in `ended` for the line that is open.
+/// The berth, the feed of the open line, and the results of the lines before it. `ended` has room
+/// for the open line.
 #[derive(Drop)]
 pub struct Hands<B, D, K> {
     pub berth: B,
     pub open: Option<OpenFeed<D>>,
     pub ended: Vec<EndedFeed<D, K>>,
-    /// A line that was started, and there was no memory to report it.
+    /// A line that was started, but not reported because memory ran out.
     pub unsaid: Option<EndedFeed<D, K>>,
 }

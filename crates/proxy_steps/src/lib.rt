@@ -1,5 +1,5 @@
-//! What each step of a proxy lane asks and leaves, and what the lane has in its hands, with the lemmas
-//! that say what a step makes of what the lane has done so far.
+//! The requirements and results of each step of a proxy lane, and the lane's local state. Lemmas
+//! state how a step changes the record of the lane's work.
 #![tactic(auto)]
 
 mod hands;

@@ -1,4 +1,5 @@
-//! How the table follows a journal. The functions do nothing: each is a law, for those who keep a table of a journal.
+//! How the table follows a journal. The functions do nothing. Each one is a law, for a program that
+//! keeps a table of a journal.
 ghost use Rattle.std.specs.Prelude.{◌≡◌, ◌≢◌, ◌<◌, ℕ, List, ◌∷◌, Some, is_some, length};
 ghost use Rattle.exec_journal.specs.declared.call.Call.TheVariants.{Claim, Committed};
 ghost use Rattle.exec_journal.specs.declared.call.CommitEnd.{CommitEnd};
@@ -15,7 +16,7 @@ ghost use Rattle.race_core.specs.Entries.{IsOpen, WonBy, SameRace};
 ghost use Rattle.race_core.specs.Rows.{winner_of, with_claim, with_commit};
 ghost use Rattle.race_core.specs.Stands.{Stands, branch_in, is_done};
 
-/// A Claim that is granted: `claim` is called once.
+/// After a granted Claim, `claim` is called once.
 pub fn grants_are_kept()
     ensures { (p : Plan) (rows : List Won) (j : List Entry) (lane a t : ℕ) (b : Branch)
         (found : Found) → Stands p rows j → IsOpen j a
@@ -23,7 +24,7 @@ pub fn grants_are_kept()
         (record { lane = lane; call = Claim a b t found; reply = Granted } ∷ j) }
 {}
 
-/// A Committed of the winner: `committed` is called once.
+/// After a Committed of the winner, `committed` is called once.
 pub fn commits_are_kept()
     ensures { (p : Plan) (rows : List Won) (j : List Entry) (lane a : ℕ) (b : Branch)
         (how : CommitEnd) (reply : Reply) → Stands p rows j → WonBy j a b
@@ -31,14 +32,14 @@ pub fn commits_are_kept()
         (record { lane = lane; call = Committed a b how; reply = reply } ∷ j) }
 {}
 
-/// Any other entry: nothing is called.
+/// After any other entry, nothing is called.
 pub fn others_change_nothing()
     ensures { (p : Plan) (rows : List Won) (j k : List Entry) → Stands p rows j → SameRace j k
         → Stands p rows k }
 {}
 
-/// The table's winner is the journal's; so where the claiming branch isn't the winner, there is a winner exactly where
-/// the other branch was granted.
+/// The table's winner is the journal's. So if the claiming branch isn't the winner, there is a
+/// winner exactly if the other branch was granted.
 pub fn winners_are_the_journals()
     ensures winner { (p : Plan) (rows : List Won) (j : List Entry) (a : ℕ) → Stands p rows j
         → a < length p.actions → winner_of rows a ≡ branch_in (grant_of j a) }

@@ -1,4 +1,4 @@
-//! Which branch of each action was granted, and how it was committed.
+//! The granted branch of each action, and how it was committed.
 #![tactic(auto)]
 
 ghost use Rattle.std.specs.Prelude.{◌≡◌, ◌≢◌, ◌<◌, IfOk, [], Some, length};
@@ -12,23 +12,23 @@ use plain_values::NoMemory;
 use std::alloc::Global;
 use std::marker::Model;
 
-/// What a claim is answered.
+/// The reply to a claim.
 #[derive(Clone, Copy, Debug, PartialEq, Eq)]
 pub enum ClaimReply {
     /// The branch is the action's winner.
     Granted,
-    /// The other branch is.
+    /// The other branch is the action's winner.
     Lost,
 }
 
-/// Of an action: its winner, and whether all that it was granted was committed, where it was committed.
+/// The race of an action: its winner, and, once it was committed, whether the commit was complete.
 #[derive(Clone, Copy, Debug, PartialEq, Eq)]
 pub struct Won {
     pub winner: Option<Branch>,
     pub committed: Option<bool>,
 }
 
-/// The winners of a plan's actions. A contract sees the list of what is known of each action.
+/// The winners of a plan's actions. A contract sees the facts about each action as a list.
 #[derive(Drop)]
 pub struct Race {
     rows: Vec<Won>,
@@ -44,7 +44,7 @@ impl Model for Race {
 }
 
 impl Race {
-    /// The table of a run in which nothing was claimed yet.
+    /// Creates the table of a run before any claim.
     pub fn new(alloc: Global, plan: &Plan) -> Result<Race, NoMemory>
         ensures rows { IfOk result (λ t. t ≡ new_rows plan.now) }
         ensures stands { IfOk result (λ t. Stands plan.now t []) }
@@ -69,7 +69,7 @@ impl Race {
         row.answer()
     }
 
-    /// Notes that the winner was committed, and whether the whole of it was.
+    /// Notes that the winner was committed, and whether the commit was complete.
     pub fn committed(&mut self, action: u32, done: bool)
         requires { action < length self.old }
         ensures { self.new ≡ with_commit self.old action done }
@@ -78,7 +78,7 @@ impl Race {
         self.rows[action as usize] = row.commit(done);
     }
 
-    /// The branch to which the action was granted.
+    /// Returns the branch to which the action was granted.
     pub fn winner(&self, action: u32) -> Option<Branch>
         requires { action < length self.now }
         ensures { result ≡ winner_of self.now action }

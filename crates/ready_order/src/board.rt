@@ -1,4 +1,4 @@
-// What is noted beside the states, so that no search goes through them all.
+// Notes that are stored in addition to the states, so that no search goes through all states.
 ghost use Rattle.std.specs.Prelude.{◌≡◌, ◌≢◌, ◌==◌, ◌<◌, ◌≤◌, ◌^◌, ℕ, Bool, true, false, Some, IfOk, IfSome, if◌then◌else◌, length, map, replicate, slice_get, slice_index_or, []};
 ghost use Rattle.ready_order.specs.Matches.{IsLeast, IsLeastAmong, MayAsk, least_number};
 ghost use Rattle.ready_order.specs.Queue.{has_success, is_ready};
@@ -33,7 +33,7 @@ impl Model for Board {
 }
 
 impl Board {
-    // It takes all the memory that later calls need.
+    // Makes the board of these states. Takes all the memory that later calls need.
     pub fn of(alloc: Global, actions: &[ActionState]) -> Result<Board, NoMemory>
         requires { length actions.now ≤ 2 ^ 32 }
         ensures fits { IfOk result (λ b. Fits (shapes actions.now) b) }
@@ -54,7 +54,8 @@ impl Board {
         Ok(board)
     }
 
-    // Notes again what the action's state is now. As many of its producers have success as had it before.
+    // Notes the action's current state again. At least as many of its producers have success as
+    // before.
     pub fn refresh(&mut self, actions: &[ActionState], number: usize)
         requires small { length actions.now ≤ 2 ^ 32 }
         requires known { number < length actions.now }
@@ -68,7 +69,7 @@ impl Board {
         self.note(actions, number, known);
     }
 
-    // An action has success now, or has it no longer: what its users' states are now is noted again.
+    // Notes the current states of an action's users again, after the action gained or lost success.
     pub fn follow(&mut self, actions: &[ActionState], users: &[u32], success: bool)
         requires small { length actions.now ≤ 2 ^ 32 }
         requires known { (a : ℕ) → is_in a users.now ≡ true → a < length actions.now }
@@ -93,7 +94,8 @@ impl Board {
         if success { self.supplied[number] } else { 0 }
     }
 
-    // Notes what the action's state is now, where it is known that so many of its producers have success.
+    // Notes the action's current state, if the first `known` of its producers are known to have
+    // success.
     fn note(&mut self, actions: &[ActionState], number: usize, known: usize)
         requires small { length actions.now ≤ 2 ^ 32 }
         requires known { number < length actions.now }
@@ -113,14 +115,14 @@ impl Board {
         self.queues.post(action.remote.group, number, action, ready);
     }
 
-    // The least number in the queue of the group.
+    // Returns the least number in the queue of the group.
     pub fn first(&self, group: u32) -> u64
         ensures { IsLeast (slice_index_or self.now.queues group []) result }
     {
         self.queues.first(group)
     }
 
-    // The least number in the queues of the set's groups.
+    // Returns the least number in the queues of the set's groups.
     pub fn least_among<G: GroupSet>(&self, groups: &G) -> u64
         requires { MayAsk (G.can_ask groups.now) (map least_number self.now.queues) }
         ensures { IsLeastAmong (G.contains groups.now) (map least_number self.now.queues) result }
@@ -128,7 +130,8 @@ impl Board {
         self.queues.least_among(groups)
     }
 
-    // So many of the action's producers, from the first on, have success as it has producers.
+    // Returns true if the noted number of the action's producers with success, counted from the
+    // first on, is `producers`.
     pub fn has_supplied(&self, number: usize, producers: usize) -> bool
         requires { number < length self.now.supplied }
         ensures { result ≡ (slice_index_or self.now.supplied number 0 == producers) }
@@ -136,7 +139,7 @@ impl Board {
         self.supplied[number] == producers
     }
 
-    // The least number among the actions that wait.
+    // Returns the least number among the actions that wait.
     pub fn first_waiting(&self) -> u64
         ensures { IsLeast self.now.waiting result }
     {
@@ -144,7 +147,8 @@ impl Board {
     }
 }
 
-// How many producers, from the first on, have success, where it is known that so many have.
+// Returns how many producers, from the first on, have success. The first `known` are known to have
+// it.
 fn supplied_from(actions: &[ActionState], producers: &[u32], known: usize) -> usize
     requires { known ≤ supplied_by actions.now producers.now }
     ensures { result ≡ supplied_by actions.now producers.now }
@@ -156,7 +160,7 @@ fn supplied_from(actions: &[ActionState], producers: &[u32], known: usize) -> us
     supplied
 }
 
-// One more than the greatest group that runs a branch.
+// Returns one more than the greatest group that runs a branch.
 fn named_groups(actions: &[ActionState]) -> usize
     ensures named { (a g : ℕ) (s : Shape) → slice_get (shapes actions.now) a ≡ Some s
         → names g s ≡ true → g < result }

@@ -1,4 +1,4 @@
-//! Which branches are queued: what each group begins next.
+//! The queued branches, and what each group begins next.
 #![tactic(auto)]
 
 ghost use Rattle.std.specs.Prelude.{◌≡◌, ◌<◌, ◌≤◌, ◌^◌, ◌&&◌, ℕ, not, true, is_some, IfOk, if◌then◌else◌, [], length};
@@ -27,16 +27,18 @@ use run_progress::Notes;
 use std::alloc::Global;
 use std::marker::Model;
 
-/// Of a branch of an action: the group that runs it, where the action uses the branch, and whether it may begin an
-/// attempt: none of its attempts is under way, and there may be one more.
+/// The state of an action's branch: the group that runs it, if the action uses the branch, and
+/// whether it may begin an attempt. It may if none of its attempts is under way and one more is
+/// allowed.
 #[derive(Clone, Copy, PartialEq, Eq)]
 pub struct BranchState {
     pub group: Option<u32>,
     pub free: bool,
 }
 
-/// Of an action: the actions that make its inputs, its branches, whether a branch was granted, and its standing by
-/// its own grant, commit and drops, whatever those of its producers are.
+/// The state of an action: the actions that make its inputs, its branches, whether a branch was
+/// granted, and its own standing. The standing follows from its own grant, commit and drops,
+/// regardless of its producers.
 #[derive(Drop)]
 pub struct ActionState {
     pub producers: Items<u32>,
@@ -46,14 +48,15 @@ pub struct ActionState {
     pub own: Standing,
 }
 
-/// The states of a plan's actions, by which their branches are queued. A contract sees the list of these states.
+/// The states of a plan's actions, by which their branches are queued. A contract sees the list of
+/// these states.
 #[derive(Drop)]
 pub struct Ready {
     actions: Vec<ActionState>,
     users: Users,
     // Follows the states at each call.
     board: Board,
-    // No contract speaks of what is noted here.
+    // No contract covers what is noted here.
     notes: Notes,
 }
 
@@ -70,11 +73,11 @@ impl Model for Ready {
 }
 
 impl Ready {
-    /// The table of a run in which nothing was begun yet.
+    /// Creates the table of a run in which nothing has begun. No other call takes memory.
     ///
     /// # Errors
     ///
-    /// `NoMemory` where the states find no memory. No other call takes any.
+    /// Returns `NoMemory` if memory runs out.
     pub fn new(alloc: Global, plan: &Plan) -> Result<Ready, NoMemory>
         requires { length plan.now.actions ≤ 2 ^ 32 }
         ensures states { IfOk result (λ t. t ≡ new_states plan.now) }
@@ -95,7 +98,8 @@ impl Ready {
         })
     }
 
-    /// From now on notes there what begins, what ends below the limit and what is settled.
+    /// Notes in `notes`, from now on, which attempts begin, which end, and which actions are
+    /// settled.
     pub fn watch(&mut self, notes: Notes)
         ensures { self.new ≡ self.old }
     {
@@ -103,8 +107,8 @@ impl Ready {
         self.notes = notes;
     }
 
-    /// Notes that the action is settled by itself: it was committed whole (`success`), or not so; or it was granted an
-    /// exit code, or its last branch was dropped.
+    /// Notes that the action is settled by itself. With `success`, it was committed whole. Without,
+    /// it was not, or it was granted an exit code, or its last branch was dropped.
     pub fn settle(&mut self, action: u32, success: bool)
         requires { action < length self.old }
         ensures { self.new ≡ with_settled self.old action success }
@@ -119,8 +123,8 @@ impl Ready {
         self.notes.settled(action, success);
     }
 
-    /// The group's queued branch of the least action, with that action; `None` exactly where nothing of the group is
-    /// queued.
+    /// Returns the group's queued branch of the least action, with that action. Returns `None`
+    /// exactly if nothing of the group is queued.
     pub fn earliest(&self, group: u32) -> Option<(u32, Branch)>
         ensures first { IsEarliest self.now group result }
         ensures search { result ≡ earliest_in self.now group }
@@ -133,10 +137,12 @@ impl Ready {
         Some((first as u32, branch))
     }
 
-    /// Of the actions with a branch queued in a group of the set the least, with that branch: the
-    /// local one, where both are. The set is asked about groups with something queued alone, and
-    /// about few of them: first about the one whose least action is the least of all, and then only
-    /// where that of a group comes before the best that was found.
+    /// Returns the least action with a branch queued in a group of the set, with that branch. If
+    /// both branches are queued, it returns the local one.
+    ///
+    /// The set is queried only for groups with something queued, and for few of them. The first is
+    /// the group whose least action is the least of all. A later group is queried only if its least
+    /// action comes before the best that was found.
     pub fn least_among<G: GroupSet>(&self, groups: &G) -> Option<(u32, Branch)>
         requires { (g a : ℕ) (b : Branch) → is_queued self.now g a b ≡ true
             → G.can_ask groups.now g }
@@ -150,7 +156,7 @@ impl Ready {
         Some((first as u32, branch))
     }
 
-    /// Whatever of the action is queued in the group: the local branch, where both are.
+    /// Returns the action's branch that is queued in the group: the local one if both are.
     pub fn queued(&self, action: u32, group: u32) -> Option<Branch>
         requires { action < length self.now }
         ensures { result ≡ queued_at self.now group action }
@@ -163,7 +169,8 @@ impl Ready {
         state.queued_if(ready, group)
     }
 
-    /// Every producer of the action has success. No action of another number is ready.
+    /// Returns true if every producer of the action has success. An action of an unknown number
+    /// isn't ready.
     pub fn is_ready(&self, action: u32) -> bool
         ensures { result ≡ is_ready_at self.now action }
     {
@@ -176,7 +183,8 @@ impl Ready {
         }
     }
 
-    /// The action isn't settled by itself, and has no grant. No action of another number is open.
+    /// Returns true if the action isn't settled by itself and has no grant. An action of an unknown
+    /// number isn't open.
     pub fn is_open(&self, action: u32) -> bool
         ensures { result ≡ is_open_at self.now action }
     {
@@ -186,7 +194,8 @@ impl Ready {
         }
     }
 
-    /// Every action is settled: each that isn't so by itself has a producer without success.
+    /// Returns true if every action is settled: each that isn't settled by itself has a producer
+    /// without success.
     pub fn all_settled(&self) -> bool
         ensures { result ≡ none_waits self.now }
     {
@@ -211,12 +220,13 @@ impl Ready {
         self.notes.ended(action, branch);
     }
 
-    /// The branch's latest attempt has ended at the limit. It changes no state by itself.
+    /// Notes that the branch's latest attempt has ended at the limit. The call changes no state by
+    /// itself.
     pub fn spent(&self, action: u32, branch: Branch) {
         self.notes.ended(action, branch);
     }
 
-    /// Notes that a branch of the action was granted, so that none is wanted any more.
+    /// Notes that a branch of the action was granted, so that no further attempt is wanted.
     pub fn unwanted(&mut self, action: u32)
         requires { action < length self.old }
         ensures { self.new ≡ with_unwanted self.old action }
@@ -300,7 +310,8 @@ impl ActionState {
         self.own = standing_by(success);
     }
 
-    // The branch of the action that is queued in the group, where its producers are ready: the local one, where both are.
+    // Returns the action's branch that is queued in the group if its producers are ready: the local
+    // one if both are.
     fn queued_if(&self, ready: bool, group: u32) -> Option<Branch>
         ensures { result ≡ queued_if ready group self.now }
     {
@@ -319,8 +330,8 @@ impl ActionState {
         seat.is_of(group) && seat.free && self.is_open() && ready
     }
 
-    // The branch of the action that is queued in a group of the set, where its producers are ready:
-    // the local one, where both are. Of a branch that isn't queued the set isn't asked.
+    // Returns the action's branch that is queued in a group of the set if its producers are ready:
+    // the local one if both are. The set isn't queried for a branch that isn't queued.
     fn queued_among<G: GroupSet>(&self, ready: bool, groups: &G) -> Option<Branch>
         requires { (g : ℕ) → is_some (queued_if ready g self.now) ≡ true
             → G.can_ask groups.now g }
@@ -345,14 +356,14 @@ impl ActionState {
         seat.free && self.is_open() && ready && seat.is_of_any(groups)
     }
 
-    // It isn't settled by itself, and its producers are ready.
+    // Returns true if the action isn't settled by itself and its producers are ready.
     fn waits(&self, ready: bool) -> bool
         ensures { result ≡ (not (is_settled self.now.own) && ready) }
     {
         self.own == Standing::Open && ready
     }
 
-    // It isn't settled by itself, and has no grant.
+    // Returns true if the action isn't settled by itself and has no grant.
     fn is_open(&self) -> bool
         ensures { result ≡ is_open self.now }
     {

@@ -1,4 +1,4 @@
-// The queue of each group, and which group has the least number in its queue.
+// The queue of each group, and the group with the least number in its queue.
 ghost use Rattle.std.specs.Prelude.{◌≡◌, ◌<◌, ◌≤◌, ◌^◌, IfOk, IfSome, length, map, replicate, slice_index_or, slice_set, []};
 ghost use Rattle.ready_order.specs.Matches.{IsLeast, IsLeastAmong, MayAsk, least_number};
 ghost use Rattle.ready_order.specs.Board.{mark, posted};
@@ -10,12 +10,12 @@ use plain_values::NoMemory;
 use std::alloc::Global;
 use std::marker::Model;
 
-// Of each group from 0 on a queue, with a place for each action: its number, where it is queued. A
-// contract sees the list of the queues.
+// A queue for each group from 0 on, with a place for each action. The place contains the action's
+// number if it is queued. A contract sees the list of the queues.
 #[derive(Drop)]
 pub struct Queues {
     queues: Vec<Tournament>,
-    // At the place of each group the least number of its queue.
+    // The least number of each group's queue, at the group's place.
     firsts: Tournament,
 }
 
@@ -31,7 +31,7 @@ impl Model for Queues {
 }
 
 impl Queues {
-    // So many queues, with so many places each, none of which has a number yet. No other call takes
+    // Creates `groups` queues with `places` places each, without numbers. No other call takes
     // memory.
     pub fn new(alloc: Global, groups: usize, places: usize) -> Result<Queues, NoMemory>
         requires few { groups ≤ 2 ^ 32 }
@@ -43,7 +43,7 @@ impl Queues {
         Ok(Queues { queues, firsts })
     }
 
-    // Notes in the queue of the group whether it has a queued branch of the action.
+    // Notes in the queue of the group whether the group has a queued branch of the action.
     pub fn post(&mut self, group: Option<u32>, number: usize, action: &ActionState, ready: bool)
         requires { IfSome group (λ g. number < length (slice_index_or self.old g [])) }
         ensures { self.new ≡ posted self.old group number action.now ready }
@@ -54,7 +54,7 @@ impl Queues {
         }
     }
 
-    // Puts the number at the place of the action in the queue of the group, or `ABSENT`.
+    // Puts the number, or `ABSENT`, at the action's place in the queue of the group.
     fn put(&mut self, group: usize, number: usize, here: u64)
         requires group { group < length self.old }
         requires number { number < length (slice_index_or self.old group []) }
@@ -67,7 +67,7 @@ impl Queues {
         self.firsts.put(group, first);
     }
 
-    // The least number in the queue of the group.
+    // Returns the least number in the queue of the group.
     pub fn first(&self, group: u32) -> u64
         ensures { IsLeast (slice_index_or self.now group []) result }
     {
@@ -77,8 +77,8 @@ impl Queues {
         }
     }
 
-    // The least number in the queues of the set's groups. The set is asked about groups with a number
-    // in their queue alone.
+    // Returns the least number in the queues of the set's groups. The set is queried only for
+    // groups with a number in their queue.
     pub fn least_among<G: GroupSet>(&self, groups: &G) -> u64
         requires { MayAsk (G.can_ask groups.now) (map least_number self.now) }
         ensures { IsLeastAmong (G.contains groups.now) (map least_number self.now) result }

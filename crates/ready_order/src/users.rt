@@ -1,4 +1,4 @@
-// Which actions take an input from an action.
+// The users of each action: the actions that take an input from it.
 ghost use Rattle.std.specs.Prelude.{◌≡◌, ◌<◌, ◌≤◌, ◌^◌, IfOk, length, map, replicate, slice_index_or, []};
 ghost use Rattle.ready_order.specs.Board.{affected, AreUsers, IsAdded, shapes};
 
@@ -7,7 +7,7 @@ use plain_values::NoMemory;
 use std::alloc::Global;
 use std::marker::Model;
 
-// Of each action the actions that take an input from it. It doesn't change.
+// For each action, the actions that take an input from it. The table doesn't change.
 #[derive(Drop)]
 pub struct Users {
     lists: Vec<Vec<u32>>,
@@ -40,7 +40,8 @@ impl Users {
         self.lists[number].as_slice()
     }
 
-    // The users of the action, where it has had another success: what they take is about to change.
+    // Returns the users of the action if its success changes. The state of their inputs is about to
+    // change.
     pub fn affected(&self, actions: &[ActionState], action: u32, success: bool) -> &[u32]
         requires { action < length self.now }
         ensures { result.now ≡ affected actions.now self.now action success }
@@ -63,7 +64,7 @@ fn empty_lists(alloc: Global, count: usize) -> Result<Vec<Vec<u32>>, NoMemory>
     Ok(lists)
 }
 
-// The user is put on the list of each producer.
+// Adds the user to the list of each producer.
 fn add_user(lists: &mut [Vec<u32>], producers: &[u32], user: u32) -> Result<(), NoMemory>
     ensures { IfOk result (λ _. IsAdded producers.now user
         (map (λ l. l.items) lists.old) (map (λ l. l.items) lists.new)) }

@@ -1,5 +1,5 @@
-// The least of many numbers, each of which may change: a tournament whose matches are kept. The winner is read at once, and
-// a change plays again only the matches above its place.
+// The least of many numbers, each of which may change. It is a tournament whose matches are stored.
+// The winner is read at once, and a change repeats only the matches above its place.
 ghost use Rattle.std.specs.Prelude.{◌≡◌, ◌≢◌, ◌<◌, ◌≤◌, ◌+◌, ◌*◌, ◌/◌, ◌^◌, IfOk, length, replicate, slice_index, slice_set, drop};
 ghost use Rattle.ready_order.specs.Matches.{IsLeast, IsLeastAmong, IsLeastBelow, IsPlayed, IsPlayedBut, MayAsk};
 
@@ -8,13 +8,14 @@ use plain_values::NoMemory;
 use std::alloc::Global;
 use std::marker::Model;
 
-/// What stands at a place that has no number.
+/// The value at a place that has no number.
 pub const ABSENT: u64 = u64::MAX;
 
 /// Numbers at places, the least of which is known. A contract sees the list of the numbers.
 #[derive(Drop)]
 pub struct Tournament {
-    // The numbers stand in the second half. In the first, each node k from 1 on has the winner of nodes 2k and 2k + 1.
+    // The numbers are in the second half. In the first half, each node k from 1 on has the winner
+    // of nodes 2k and 2k + 1.
     nodes: Vec<u64>,
     places: usize,
 }
@@ -31,11 +32,11 @@ impl Model for Tournament {
 }
 
 impl Tournament {
-    /// One with so many places, none of which has a number yet.
+    /// Creates a tournament with `places` places, without numbers. No other call takes memory.
     ///
     /// # Errors
     ///
-    /// `NoMemory` where the nodes find no memory. No other call takes any.
+    /// Returns `NoMemory` if memory runs out.
     pub fn new(alloc: Global, places: usize) -> Result<Tournament, NoMemory>
         requires { places < 2 ^ 60 }
         ensures { IfOk result (λ t. t ≡ replicate places ABSENT) }
@@ -44,7 +45,7 @@ impl Tournament {
         Ok(Tournament { nodes, places })
     }
 
-    /// Puts the number at a place, or `ABSENT`.
+    /// Puts the number, or `ABSENT`, at a place.
     pub fn put(&mut self, place: usize, number: u64)
         requires { place < length self.old }
         ensures { self.new ≡ slice_set self.old place number }
@@ -54,7 +55,7 @@ impl Tournament {
         play_above(self.nodes.as_mut_slice(), self.places, node);
     }
 
-    /// The least number of all, and `ABSENT` where there is none.
+    /// Returns the least number of all, or `ABSENT` if there is none.
     pub fn least(&self) -> u64
         ensures { IsLeast self.now result }
     {
@@ -65,8 +66,8 @@ impl Tournament {
         }
     }
 
-    /// The least number at the places of these groups, and `ABSENT` where there is none. The set is
-    /// asked about places with a number alone.
+    /// Returns the least number at the places of these groups, or `ABSENT` if there is none. The
+    /// set is queried only for places with a number.
     pub fn least_among<G: GroupSet>(&self, groups: &G) -> u64
         requires asked { MayAsk (G.can_ask groups.now) self.now }
         requires few { length self.now ≤ 2 ^ 32 }
@@ -79,9 +80,11 @@ impl Tournament {
     }
 }
 
-// The least number at the places of these groups that stand below the node, or the bound where none
-// of them is less. It leaves out a node that has no less than the bound, and takes the lesser of two
-// nodes first, so that the bound soon is low: it asks about few groups.
+// Returns the least number below the node at the places of these groups. If none of them is less
+// than the bound, it returns the bound.
+//
+// The search skips a node whose number isn't less than the bound. It takes the lesser of two nodes
+// first, so the bound is soon low and few groups are queried.
 fn least_below<G: GroupSet>(
     nodes: &[u64],
     places: usize,
@@ -111,7 +114,7 @@ fn least_below<G: GroupSet>(
     }
 }
 
-// The two nodes below this one, that with the lesser number first.
+// Returns the two nodes below this one, the one with the lesser number first.
 fn lesser_first(nodes: &[u64], node: usize) -> (usize, usize)
     requires small { node < 2 ^ 60 }
     requires within { 2 * node + 1 < length nodes.now }
@@ -128,7 +131,7 @@ fn lesser_first(nodes: &[u64], node: usize) -> (usize, usize)
     }
 }
 
-// Plays the matches above a node again, up to one whose winner is the one that it had.
+// Repeats the matches above a node, up to a match whose winner stays the same.
 fn play_above(nodes: &mut [u64], places: usize, changed: usize)
     requires node { 0 < changed }
     requires within { changed < 2 * places }

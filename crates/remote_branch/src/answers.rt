@@ -6,11 +6,11 @@ use plain_values::{Items, NoMemory, Text};
 use remote_messages::JobResult;
 use std::alloc::Global;
 
-/// The answer of a result that comes in one part.
+/// Returns the answer of a result that comes in one part.
 ///
 /// # Errors
 ///
-/// `NoMemory`.
+/// Returns `NoMemory` if memory runs out.
 pub fn answer_of(alloc: Global, part: JobResult) -> Result<Answer, NoMemory>
     ensures { IfOk result (λ answer. answer ≡ answer_for part) }
 {
@@ -18,7 +18,7 @@ pub fn answer_of(alloc: Global, part: JobResult) -> Result<Answer, NoMemory>
     Ok(answer_with(part, files))
 }
 
-// What the result says, with these files. It takes no memory.
+// Returns the result's answer with these files. The function takes no memory.
 pub(crate) fn answer_with(part: JobResult, files: Vec<exec_journal::NamedFile>) -> Answer
     ensures { result ≡ answer_with part files.items }
 {
@@ -33,7 +33,7 @@ pub(crate) fn answer_with(part: JobResult, files: Vec<exec_journal::NamedFile>) 
     }
 }
 
-// Puts files behind those that are there. Their contents are shared.
+// Appends files to those that are there. Their contents are shared.
 pub(crate) fn push_files(
     alloc: Global,
     before: Vec<exec_journal::NamedFile>,

@@ -5,12 +5,13 @@ use plain_values::{Items, NoMemory, Text, texts_again, variables_again};
 use remote_messages::{Job, NamedFile, WorkAction};
 use std::alloc::Global;
 
-/// The job of an action, for a request with this number: the action's own argument words, as they were written, its
-/// outputs and its environment, and these inputs, whose contents are shared.
+/// Returns the job of an action, for a request with this number. It has the action's own arguments,
+/// as they were written, its outputs, its environment, and these inputs. The inputs' contents are
+/// shared.
 ///
 /// # Errors
 ///
-/// `NoMemory`.
+/// Returns `NoMemory` if memory runs out.
 pub fn job_of(
     alloc: Global,
     number: i32,
@@ -29,7 +30,7 @@ pub fn job_of(
     })
 }
 
-/// The job that gives up the one with this number. It takes no memory.
+/// Returns the job that cancels the one with this number. The function takes no memory.
 pub fn cancel_of(alloc: Global, number: i32) -> Job
     ensures { result ≡ cancel_for number }
 {

@@ -10,15 +10,15 @@ use remote_messages::JobResult;
 use std::alloc::Global;
 use std::marker::Model;
 
-/// A file that came with a result of this job after which more are to come.
+/// A file that came with a result of this job that wasn't the job's last.
 #[derive(Drop)]
 pub struct Waiting {
     pub id: i32,
     pub file: NamedFile,
 }
 
-/// What has come so far, in parts, of the jobs of one line that aren't answered yet. A contract sees the files that
-/// wait, in the order in which they came.
+/// The parts that have come so far, of the jobs of one line that aren't answered yet. A contract
+/// sees the waiting files, in the order of their arrival.
 #[derive(Drop)]
 pub struct Parts {
     waiting: Vec<Waiting>,
@@ -34,7 +34,7 @@ impl Model for Parts {
 }
 
 impl Parts {
-    /// Of a line from which nothing has come.
+    /// Creates the value for a line from which nothing has come.
     pub fn new(alloc: Global) -> Parts
         ensures { StandsFor result [] }
     {
@@ -43,12 +43,12 @@ impl Parts {
         }
     }
 
-    /// Takes the next result of the line. It gives the job's answer where the result is its last, with all files of its
-    /// parts, and `None` where more are to come.
+    /// Takes the next result of the line. If the result is its job's last, returns the job's answer
+    /// with all files of its parts. Otherwise returns `None`.
     ///
     /// # Errors
     ///
-    /// `NoMemory`, and then it is unchanged.
+    /// Returns `NoMemory` if memory runs out. Then `self` is unchanged.
     pub fn add(&mut self, alloc: Global, part: JobResult) -> Result<Option<Answer>, NoMemory>
         ensures answer { (rs : List JobResult) → StandsFor self.old rs
             → IfOk result (λ answer. answer ≡ answer_at part rs) }

@@ -97,17 +97,17 @@ impl Message for Job {
     }
 }
 
-/// The job that the bytes spell.
+/// Returns the job that the bytes spell.
 ///
 /// # Errors
 ///
-/// The first fault from the left, or `NoMemory`.
+/// Returns the first fault from the left, or `NoMemory` if memory runs out.
 pub fn decode_job(alloc: Global, bytes: &[u8]) -> Result<Job, MessageFault>
-    // What is read is spelled so.
+    // The bytes spell the job that is returned.
     ensures found { IfOk result (SpellsJob bytes.now) }
-    // A fault is the first one.
+    // A fault that is returned is the first one.
     ensures fault { IfErr result (λ e. Fails e (FaultyJob bytes.now)) }
-    // What is spelled so is read, and the first fault is told, unless memory runs out.
+    // A job that the bytes spell is returned, and so is the first fault, unless memory runs out.
     ensures only { (m : Job) → SpellsJob bytes.now m → Answers result (Ok m) }
     ensures only_fault { (x : Fault) → FaultyJob bytes.now x → Answers result (Err x) }
 {
@@ -126,8 +126,8 @@ pub fn encode_job(alloc: Global, m: &Job) -> Result<Vec<u8>, NoMemory>
     encode(alloc, m)
 }
 
-/// Returns the length of the job's spelling, or 2^64 - 1 if that is more. It takes no memory, and looks at
-/// each part of the job a fixed number of times, at no content.
+/// Returns the length of the job's spelling, or 2^64 - 1 if that is more. It takes no memory. It looks at each part of
+/// the job a fixed number of times, and at no content.
 pub fn job_length(m: &Job) -> u64
     ensures { result ≡ capped (length (job_spelling m.now)) }
 {

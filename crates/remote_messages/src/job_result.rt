@@ -112,17 +112,17 @@ impl Message for JobResult {
     }
 }
 
-/// The result that the bytes spell.
+/// Returns the result that the bytes spell.
 ///
 /// # Errors
 ///
-/// The first fault from the left, or `NoMemory`.
+/// Returns the first fault from the left, or `NoMemory` if memory runs out.
 pub fn decode_result(alloc: Global, bytes: &[u8]) -> Result<JobResult, MessageFault>
-    // What is read is spelled so.
+    // The bytes spell the result that is returned.
     ensures found { IfOk result (SpellsJobResult bytes.now) }
-    // A fault is the first one.
+    // A fault that is returned is the first one.
     ensures fault { IfErr result (λ e. Fails e (FaultyJobResult bytes.now)) }
-    // What is spelled so is read, and the first fault is told, unless memory runs out.
+    // A result that the bytes spell is returned, and so is the first fault, unless memory runs out.
     ensures only { (m : JobResult) → SpellsJobResult bytes.now m → Answers result (Ok m) }
     ensures only_fault { (x : Fault) → FaultyJobResult bytes.now x → Answers result (Err x) }
 {

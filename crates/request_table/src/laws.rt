@@ -1,4 +1,5 @@
-//! How the table follows a journal. The functions do nothing: each is a law, for those who keep a table of a journal.
+//! How the table follows a journal. The functions do nothing. Each one is a law, for a program that
+//! keeps a table of a journal.
 ghost use Rattle.std.specs.Prelude.{Option, ◌≡◌, ◌+◌, ◌<◌, ◌≤◌, ◌/◌, ℕ, ℤ, List, ◌∷◌, Some, None, true, false, filter, length, map, pos, reverse};
 ghost use Rattle.std.specs.List.{find};
 ghost use Rattle.std.specs.Ordering.{int_eq};
@@ -21,7 +22,7 @@ ghost use Rattle.request_table.specs.Entries.{IsOfGroup, NumberedBy, IsNextSend,
 ghost use Rattle.request_table.specs.Rows.{Facts, is_open, line_room, last_of, next_number, open_of, places_of, single_of, capacity_of, matching_of, with_send, with_answer, with_reopened, with_unwritten, with_cancelled, with_ended};
 ghost use Rattle.request_table.specs.Stands.{Stands, Numbered, of_sent, of_pending, request_row};
 
-/// A Send: `send` is called.
+/// After a Send, `send` is called.
 pub fn sends_are_kept()
     ensures { (p : Plan) (f : Facts) (j : List Entry) (lane : ℕ) (g : Option ℕ) (l : ℕ)
         (n : ℤ) (a : ℕ) (b : Branch) (t : ℕ) → Stands p f j → l < line_room p
@@ -30,7 +31,7 @@ pub fn sends_are_kept()
         (record { lane = lane; call = call.Ask; reply = reply.Send l n a b t } ∷ j) }
 {}
 
-/// An Answer that is consumed, whether its reply is Matched or Late: `answer` is called.
+/// After a consumed Answer, whether its reply is Matched or Late, `answer` is called.
 pub fn answers_are_kept()
     ensures { (p : Plan) (f : Facts) (j : List Entry) (lane l : ℕ) (x : Answer) (r : Reply)
         (s : Attempt) → Stands p f j → consumed_in r ≡ Some s → IsKnownBy j l x.number s
@@ -38,7 +39,8 @@ pub fn answers_are_kept()
         (record { lane = lane; call = call.Answer l x; reply = r } ∷ j) }
 {}
 
-/// An Answer that found a pending request and yet is a Breach: `answer` and then `reopened` are called.
+/// After an Answer that found a pending request and yet is a Breach, `answer` and then `reopened`
+/// are called.
 pub fn breaches_are_taken_back()
     ensures { (p : Plan) (f : Facts) (j : List Entry) (lane l : ℕ) (x : Answer) (r : Reply)
         → Stands p f j → is_still r ≡ true
@@ -46,7 +48,7 @@ pub fn breaches_are_taken_back()
         (record { lane = lane; call = call.Answer l x; reply = r } ∷ j) }
 {}
 
-/// An Answer that finds no pending request: `answer` is called.
+/// After an Answer that finds no pending request, `answer` is called.
 pub fn strays_change_nothing()
     ensures { (p : Plan) (f : Facts) (j : List Entry) (lane l : ℕ) (x : Answer) (r : Reply)
         → Stands p f j → is_still r ≡ true → finds_none (matching_of f l x.number) ≡ true
@@ -54,7 +56,7 @@ pub fn strays_change_nothing()
         (record { lane = lane; call = call.Answer l x; reply = r } ∷ j) }
 {}
 
-/// A Wrote that says of a pending request that it wasn't written: `unwritten` is called.
+/// After a Wrote which reports that a pending request wasn't written, `unwritten` is called.
 pub fn faults_are_kept()
     ensures { (p : Plan) (f : Facts) (j : List Entry) (lane l : ℕ) (n : ℤ) (how : Written)
         (q : Request) → Stands p f j → order_of j lane ≡ Some q → is_unwritten how ≡ true
@@ -63,8 +65,8 @@ pub fn faults_are_kept()
         (record { lane = lane; call = call.Wrote l n how; reply = reply.Noted } ∷ j) }
 {}
 
-/// Any other Wrote: nothing is called, whether it says that the request was written, or is about a request that was
-/// answered or whose line has ended.
+/// After any other Wrote, nothing is called. It may report that the request was written, or be
+/// about a request that was answered or whose line has ended.
 pub fn other_writes_change_nothing()
     ensures written { (p : Plan) (f : Facts) (j : List Entry) (lane l : ℕ) (n : ℤ)
         (how : Written) → Stands p f j → is_unwritten how ≡ false
@@ -74,14 +76,14 @@ pub fn other_writes_change_nothing()
         → Stands p f (record { lane = lane; call = call.Wrote l n how; reply = reply.Noted } ∷ j) }
 {}
 
-/// A Cancel: `cancelled` is called.
+/// After a Cancel, `cancelled` is called.
 pub fn cancels_are_kept()
     ensures { (p : Plan) (f : Facts) (j : List Entry) (lane l : ℕ) (n : ℤ) → Stands p f j
         → Stands p (with_cancelled f l n)
         (record { lane = lane; call = call.Ask; reply = reply.Cancel l n } ∷ j) }
 {}
 
-/// An Ended, whether or not attempts end with it: `ended` is called.
+/// After an Ended, `ended` is called, whether or not attempts end with it.
 pub fn ends_are_kept()
     ensures { (p : Plan) (f : Facts) (j : List Entry) (lane l : ℕ) (how : HowEnded)
         → Stands p f j
@@ -89,14 +91,15 @@ pub fn ends_are_kept()
         (record { lane = lane; call = call.Ended l how; reply = reply.Noted } ∷ j) }
 {}
 
-/// Any other entry: nothing is called.
+/// After any other entry, nothing is called.
 pub fn others_change_nothing()
     ensures { (p : Plan) (f : Facts) (j : List Entry) (e : Entry) → Stands p f j
         → is_still e.reply ≡ true → is_calm e.call ≡ true → Stands p f (e ∷ j) }
 {}
 
-/// The number that `send` gives is the rules', and what it asks for is there: the numbers so far leave room for it, as
-/// many places are taken as requests are pending, and the line's capacity is the rules'.
+/// The number that `send` returns is the rules', and what `send` requires holds. The numbers so far
+/// leave room for it, as many places are taken as requests are pending, and the line's capacity is
+/// the rules'.
 pub fn numbers_are_the_journals()
     ensures number { (p : Plan) (f : Facts) (j : List Entry) (g : Option ℕ) (l a : ℕ)
         (b : Branch) → Stands p f j → l < line_room p → IsOfGroup p g a b → NumberedBy p j g l
@@ -110,8 +113,8 @@ pub fn numbers_are_the_journals()
         → capacity_of (single_of f a b) ≡ capacity (kind_in p g) }
 {}
 
-/// What `answer` finds is what the rules find: on a Single line its pending request, and on every other line the
-/// request with the answer's number.
+/// The request that `answer` finds is the one that the rules find. On a Single line it is the
+/// pending request, and on every other line the request with the answer's number.
 pub fn answers_are_the_journals()
     ensures multi { (p : Plan) (f : Facts) (j : List Entry) (l : ℕ) (z : ℤ) → Stands p f j
         → l < line_room p → Numbered false (sends j l)
@@ -121,7 +124,8 @@ pub fn answers_are_the_journals()
         → matching_of f l (pos 0) ≡ of_pending j l (head (pending j l)) }
 {}
 
-/// Of what `places` gives, those that are pending are the line's pending requests, the earliest first.
+/// The pending requests among those that `places` returns are the line's pending requests, the
+/// earliest first.
 pub fn places_are_the_journals()
     ensures { (p : Plan) (f : Facts) (j : List Entry) (l : ℕ) → Stands p f j → l < line_room p
         → filter is_open (places_of f l) ≡ reverse (map (request_row j) (pending j l)) }

@@ -1,4 +1,5 @@
-//! Which requests of each line wait for an answer, and how an answer's number is matched with them.
+//! The requests of each line that wait for an answer, and how an answer's number is matched with
+//! them.
 #![tactic(auto)]
 
 ghost use Rattle.std.specs.Prelude.{◌≡◌, ◌+◌, ◌*◌, ◌<◌, ◌^◌, IfOk, [], option_copied, unwrap_or, find, filter, map, replicate, length, pos};
@@ -13,14 +14,14 @@ use plain_values::NoMemory;
 use std::alloc::Global;
 use std::marker::Model;
 
-/// What an answer finds. The two numbers are action and attempt.
+/// The result of matching an answer. The two numbers are action and attempt.
 #[derive(Clone, Copy, PartialEq, Eq)]
 pub enum Matching {
     /// A pending request without a Cancel.
     Pending(u32, u32),
     /// A pending request with a Cancel.
     Cancelled(u32, u32),
-    /// Such a request was sent, and isn't pending any longer.
+    /// Such a request was sent, and is no longer pending.
     Closed,
     /// No such request was sent.
     Never,
@@ -36,22 +37,23 @@ pub struct RequestRow {
     pub cancelled: bool,
 }
 
-/// Of a line: the number of its last request, where one was sent, and those that are pending, the earliest first. The
-/// one that was answered last stands among them until the line's next answer or Send, so that it can be opened again.
+/// The requests of a line: the number of its last request, if one was sent, and the pending
+/// requests, the earliest first. The request that was answered last stays among them until the
+/// line's next answer or Send, so that it can be reopened.
 #[derive(Drop)]
 pub struct LineRow {
     pub last: Option<u32>,
     pub places: ArrayVec<RequestRow, 8>,
 }
 
-/// Of an action: whether the groups that run its branches send one request at a time.
+/// For the branches of an action, whether the groups that run them send one request at a time.
 #[derive(Clone, Copy, PartialEq, Eq)]
 pub struct Singles {
     pub local: bool,
     pub remote: bool,
 }
 
-/// The requests of a run, by line. A contract sees what is known of each line and of each action.
+/// The requests of a run, by line. A contract sees the facts about each line and each action.
 #[derive(Drop)]
 pub struct Requests {
     lines: Vec<LineRow>,
@@ -70,11 +72,12 @@ impl Model for Requests {
 }
 
 impl Requests {
-    /// The table of a run in which nothing was sent yet.
+    /// Creates the table of a run before any request.
     ///
     /// # Errors
     ///
-    /// `NoMemory` where so many lines as the plan has attempts find no memory, or are more than an `i32` can number.
+    /// Returns `NoMemory` if memory runs out for one line per attempt of the plan, or if an `i32`
+    /// can't number that many.
     pub fn new(alloc: Global, plan: &Plan) -> Result<Requests, NoMemory>
         ensures facts { IfOk result (λ t. t ≡ new_facts plan.now) }
         ensures stands { IfOk result (λ t. Stands plan.now t []) }
@@ -86,8 +89,8 @@ impl Requests {
         })
     }
 
-    /// Notes one more pending request of the line, and gives its number: 0 where the branch's group is Single, and else
-    /// one more than the line's last.
+    /// Notes one more pending request of the line, and returns its number. The number is 0 if the
+    /// branch's group is Single, otherwise one more than the line's last.
     pub fn send(&mut self, line: u32, action: u32, branch: Branch, attempt: u32) -> i32
         requires known { line < length self.old.lines }
         requires planned { action < length self.old.singles }
@@ -103,7 +106,8 @@ impl Requests {
         number as i32
     }
 
-    /// What an answer with this number finds on the line. A pending request is answered from now on.
+    /// Returns what an answer with this number finds on the line. If it finds a pending request,
+    /// the request counts as answered from now on.
     pub fn answer(&mut self, line: u32, number: i32) -> Matching
         requires { line < length self.old.lines }
         ensures matching { result ≡ matching_of self.old line number }
@@ -115,7 +119,7 @@ impl Requests {
         self.lines[line as usize].answer(number)
     }
 
-    /// Notes that the request wasn't written: it isn't pending any longer.
+    /// Notes that the request wasn't written, so it is no longer pending.
     pub fn unwritten(&mut self, line: u32, number: i32)
         requires { line < length self.old.lines }
         ensures { self.new ≡ with_unwritten self.old line number }
@@ -125,8 +129,8 @@ impl Requests {
         }
     }
 
-    /// Takes back the line's last `answer`, which had this number and whose reply was a Breach: its request is pending
-    /// again.
+    /// Takes back the line's last `answer`, which had this number and whose reply was a Breach. Its
+    /// request is pending again.
     pub fn reopened(&mut self, line: u32, number: i32)
         requires { line < length self.old.lines }
         ensures { self.new ≡ with_reopened self.old line number }
@@ -146,7 +150,8 @@ impl Requests {
         }
     }
 
-    /// The line's requests, the earliest first: those that are pending, and maybe one that was answered.
+    /// Returns the line's requests, the earliest first: those that are pending, and possibly one
+    /// that was answered.
     pub fn places(&self, line: u32) -> &[RequestRow]
         requires { line < length self.now.lines }
         ensures { result.now ≡ places_of self.now line }
@@ -289,7 +294,7 @@ impl Singles {
     }
 }
 
-// The pending request with this number.
+// Returns the pending request with this number.
 fn waiting_at(places: &[RequestRow], number: u32) -> Option<&RequestRow>
     ensures { option_copied result ≡ find (waits_at number) places.now }
 {
@@ -314,7 +319,7 @@ fn set_cancelled(places: &mut [RequestRow], number: u32)
     }
 }
 
-// Whether a request with this number was sent, where the last one has that number.
+// Returns true if a request with this number was sent, given the number of the last one.
 fn was_sent(last: Option<u32>, number: u32) -> bool
     ensures { result ≡ was_sent_by last number }
 {
@@ -327,8 +332,8 @@ fn was_sent(last: Option<u32>, number: u32) -> bool
 
 // ---- a new table
 
-// As many lines as there can be attempts, where the numbers of so many requests fit an `i32`: a table of more lines
-// would find no memory.
+// Returns the number of possible attempts, each of which may have a line. The numbers of as many
+// requests must fit an `i32`. A table of more lines would find no memory.
 fn line_room(plan: &Plan) -> Result<usize, NoMemory>
     ensures room { IfOk result (λ n. n ≡ length plan.now.actions * 2 * plan.now.limit) }
     ensures fits { IfOk result (λ n. n < 2 ^ 31) }

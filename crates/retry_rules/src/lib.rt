@@ -1,4 +1,4 @@
-//! How many attempts of each branch have ended, and whether there is one more.
+//! The number of ended attempts of each branch, and whether there is one more.
 #![tactic(auto)]
 
 ghost use Rattle.std.specs.Prelude.{◌≡◌, ◌+◌, ◌<◌, ◌^◌, IfOk, [], length};
@@ -12,7 +12,7 @@ use plain_values::NoMemory;
 use std::alloc::Global;
 use std::marker::Model;
 
-/// What comes after the end of an attempt.
+/// The continuation after the end of an attempt.
 #[derive(Clone, Copy, Debug, PartialEq, Eq)]
 pub enum After {
     /// The attempt with this number may begin.
@@ -21,14 +21,14 @@ pub enum After {
     Spent,
 }
 
-/// Of an action: how many attempts of each of its branches have ended.
+/// For an action, the number of ended attempts of each of its branches.
 #[derive(Clone, Copy, Debug, PartialEq, Eq)]
 pub struct EndedCounts {
     pub local: u32,
     pub remote: u32,
 }
 
-/// How many attempts of each branch of a plan have ended, and how many there may be.
+/// The number of ended attempts of each branch of a plan, and the limit.
 #[derive(Drop)]
 pub struct Attempts {
     ended: Vec<EndedCounts>,
@@ -44,7 +44,7 @@ impl Model for Attempts {
 }
 
 impl Attempts {
-    /// The table of a run in which nothing was tried yet.
+    /// Creates the table of a run before any attempt.
     pub fn new(alloc: Global, plan: &Plan) -> Result<Attempts, NoMemory>
         ensures facts { IfOk result (λ t. t ≡ new_facts plan.now) }
         ensures stands { IfOk result (λ t. Stands plan.now t []) }
@@ -60,8 +60,9 @@ impl Attempts {
         })
     }
 
-    /// Counts one more attempt of the branch that has ended, whatever ended it, and says whether a next one may
-    /// begin: the attempts that ended are the first so many, so this one's number is their count.
+    /// Counts one more ended attempt of the branch, regardless of how it ended, and returns whether
+    /// a next one may begin. The ended attempts have the least numbers, so this one's number is
+    /// their count.
     pub fn after_end(&mut self, action: u32, branch: Branch) -> After
         requires known { action < length self.old.ended }
         requires unspent { ended_of self.old action branch < self.old.limit }
@@ -75,7 +76,8 @@ impl Attempts {
         what_follows(row.of(branch), limit)
     }
 
-    /// How many attempts of the branch have ended: those with the numbers from 1 up to it.
+    /// Returns how many attempts of the branch have ended: those with the numbers from 1 to the
+    /// result.
     pub fn ended(&self, action: u32, branch: Branch) -> u32
         requires { action < length self.now.ended }
         ensures { result ≡ ended_of self.now action branch }
@@ -111,7 +113,7 @@ impl EndedCounts {
     }
 }
 
-// What comes after the end of the attempt with this number.
+// Returns the continuation after the end of the attempt with this number.
 fn what_follows(number: u32, limit: u32) -> After
     ensures { result ≡ after_attempt number limit }
 {

@@ -1,4 +1,4 @@
-//! Reads a list of actions and the files that they read, and makes their work of both.
+//! Reads a list of actions and the files that the actions read, and computes the actions' work from both.
 #![tactic(auto)]
 
 mod loading;

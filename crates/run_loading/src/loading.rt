@@ -1,4 +1,4 @@
-//! The public calls: a list, its work, and both.
+//! The public calls, which read a list, its work, or both.
 ghost use Rattle.std.specs.Prelude.{◌≡◌, IfOk};
 ghost use Rattle.list_actions.specs.Producers.{producer_of};
 ghost use Rattle.list_actions.specs.Made.{maker_of};
@@ -26,17 +26,18 @@ pub struct Loaded {
     pub work: Work,
 }
 
-/// Reads the list at this path, which may have so many worker keys, and all that its actions read.
+/// Reads the list at this path, which may have at most `keys` worker keys, and all files that its actions read.
 ///
-/// The list is read first, then each action's tools and those of its inputs that no action makes, in
-/// order and each path once, up to the first that isn't found. Then the words of each action's request
-/// are expanded over its own source inputs. File contents are shared, not copied.
+/// The list is read first. Then each action's tools are read, followed by its inputs that no action
+/// makes. They are read in order, each path once, up to the first path that isn't found. Then the
+/// arguments of each action's request are expanded over the action's own source inputs. File contents
+/// are shared, not copied.
 ///
 /// # Errors
 ///
-/// The first of these: `Absent` or `FloorFailed` for the list, `List` with its first fault, `Absent`
-/// or `FloorFailed` for a tool or an input, `Flags` of the first action that has such a fault.
-/// `NoMemory` with `Before` at any time.
+/// Returns the first of these faults: `Absent` or `FloorFailed` for the list, `List` with its first
+/// fault, `Absent` or `FloorFailed` for a tool or an input, `Flags` of the first action that has such a
+/// fault. Returns `NoMemory` with `Before` if memory runs out at any time.
 pub fn load<F: Floor>(
     alloc: Global,
     path: &str,
@@ -55,11 +56,12 @@ pub fn load<F: Floor>(
     Ok(Loaded { list, work })
 }
 
-/// Reads the list at this path, which may have so many worker keys.
+/// Reads the list at this path, which may have at most `keys` worker keys.
 ///
 /// # Errors
 ///
-/// `Absent`, `FloorFailed`, `List` with its first fault; `NoMemory` with `Before`.
+/// Returns `Absent` or `FloorFailed` for the list, and `List` with the list's first fault.
+/// Returns `NoMemory` with `Before` if memory runs out.
 pub fn read_actions<F: Floor>(
     alloc: Global,
     path: &str,
@@ -81,12 +83,12 @@ pub fn read_actions<F: Floor>(
     }
 }
 
-/// Reads what the actions of a list read, and makes their work.
+/// Reads the files that the actions of a list read, and returns the work of the actions.
 ///
 /// # Errors
 ///
-/// `Absent` or `FloorFailed` for the first path that isn't found, `Flags` of the first action whose
-/// words can't be expanded; `NoMemory` with `Before`.
+/// Returns `Absent` or `FloorFailed` for the first path that isn't found, and `Flags` of the first action
+/// whose request arguments can't be expanded. Returns `NoMemory` with `Before` if memory runs out.
 pub fn load_work<F: Floor>(
     alloc: Global,
     list: &ActionList,
@@ -105,7 +107,7 @@ pub fn load_work<F: Floor>(
     work_of(alloc, actions, &producers, &sources)
 }
 
-/// The table of what the actions make.
+/// Returns the table of the files that the actions make.
 fn producers_of(alloc: Global, actions: &[ListAction]) -> Result<Producers, NoMemory>
     requires { IsWhole actions.now }
     ensures { IfOk result (λ producers. producer_of producers ≡ maker_of actions.now) }

@@ -8,7 +8,7 @@ use outside::{Floor, Read};
 use plain_values::{Blob, Text};
 use std::alloc::Global;
 
-/// Reads one file. Any answer but Found is a fault.
+/// Reads one file. If the floor answers anything other than Found, returns a fault.
 pub fn read_found<F: Floor>(alloc: Global, floor: &mut F, path: &str) -> Result<Blob, RunFault>
     ensures course { Leads (F.told floor.old) (F.told floor.new) result (OneRead path.now) }
     ensures floor { Counts (F.told floor.old).faults (F.told floor.new).faults

@@ -19,13 +19,13 @@ use outside::Floor;
 use plain_values::{Blob, NoMemory, Text};
 use std::alloc::Global;
 
-/// The files that were found, by their paths, in the order of their reads.
+/// The files that were found, by path, in the order in which they were read.
 #[derive(Drop)]
 pub struct Sources {
     files: IndexMap<String, Source>,
 }
 
-/// Reads what the actions want, up to the first path that isn't found.
+/// Reads the files that the actions need, up to the first path that isn't found.
 pub fn read_sources<F: Floor>(
     alloc: Global,
     floor: &mut F,
@@ -61,7 +61,7 @@ impl Sources {
         self.files.get(path)
     }
 
-    /// The bytes of a file that was found.
+    /// Returns the contents of a file that was found.
     pub fn bytes_at(&self, path: &str) -> &Source
         requires { IsSome (file_at (held self.now) path.now) }
         ensures { file_at (held self.now) path.now ≡ Some result.now }
@@ -97,7 +97,7 @@ impl Sources {
         self.read_inputs(alloc, floor, action.inputs.as_slice(), producers)
     }
 
-    // Reads those of the paths that weren't read before.
+    // Reads the paths that weren't read before.
     fn read_all<F: Floor>(
         &mut self,
         alloc: Global,
@@ -116,7 +116,7 @@ impl Sources {
         Ok(())
     }
 
-    // Reads those of the paths that no action makes and that weren't read before.
+    // Reads the paths that no action makes and that weren't read before.
     fn read_inputs<F: Floor>(
         &mut self,
         alloc: Global,

@@ -1,4 +1,4 @@
-// The work of each action, made of the list and of the files that were found.
+// The work of each action, computed from the list and the files that were found.
 ghost use Rattle.std.specs.Prelude.{◌≡◌, ◌≤◌, ◌++◌, ◌∷◌, [], IfOk, OnOk, None, length, map};
 ghost use Rattle.std.specs.Option.{IsSome};
 ghost use Rattle.list_actions.specs.Producers.{producer_of};
@@ -17,7 +17,7 @@ use plain_values::{Items, NoMemory, Text, texts_again};
 use remote_messages::{Origin, Work, WorkAction, WorkInput};
 use std::alloc::Global;
 
-/// The work of the actions, where these are their sources.
+/// Returns the work of the actions, which have these sources.
 pub fn work_of(
     alloc: Global,
     actions: &[ListAction],
@@ -49,7 +49,7 @@ fn push_work(works: &mut Vec<WorkAction>, work: WorkAction) -> Result<(), NoMemo
     Ok(())
 }
 
-// The work of the action with this number, which has these inputs.
+// Returns the work of the action with this number, which has these inputs.
 fn work_with(
     alloc: Global,
     number: u32,
@@ -68,7 +68,7 @@ fn work_with(
     })
 }
 
-// The words of the request of the action with this number, where it has a local branch.
+// Returns the request arguments of the action with this number, or none if it has no local branch.
 fn words_of(
     alloc: Global,
     number: u32,
@@ -92,11 +92,11 @@ fn words_of(
     }
 }
 
-/// The source files among an action's inputs. They share the bytes.
+/// Returns the source files among an action's inputs. They share the bytes.
 ///
 /// # Errors
 ///
-/// `NoMemory`.
+/// Returns `NoMemory` if memory runs out.
 pub fn source_files(alloc: Global, inputs: &[WorkInput]) -> Result<Items<SourceFile>, NoMemory>
     ensures { IfOk result (λ files. files ≡ source_files inputs.now) }
 {
@@ -143,7 +143,7 @@ fn inputs_of(
     Ok(Items::of(inputs))
 }
 
-// Where the bytes of this input come from.
+// Returns the origin of this input's bytes: the action that makes them, or the source file.
 fn origin_of(path: &str, producers: &Producers, sources: &Sources) -> Result<Origin, NoMemory>
     requires { producer_of producers.now path.now ≡ None
         → IsSome (file_at (held sources.now) path.now) }

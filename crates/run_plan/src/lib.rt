@@ -1,4 +1,4 @@
-//! The plan of a run: its actions and groups, and what every call that takes a plan asks of it.
+//! The plan of a run: its actions and groups, and the conditions of every call that takes a plan.
 #![tactic(auto)]
 
 mod limits;

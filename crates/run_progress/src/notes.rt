@@ -1,4 +1,4 @@
-// Where progress is noted.
+// The record of progress, if a run has one.
 use crate::Progress;
 use run_plan::Branch;
 use std::sync::Arc;
@@ -10,12 +10,12 @@ pub struct Notes {
 }
 
 impl Notes {
-    /// The run isn't watched.
+    /// Returns the notes of a run that isn't watched.
     pub fn nowhere() -> Notes {
         Notes { progress: None }
     }
 
-    /// The owner of this progress watches the run.
+    /// Returns the notes of a run that the owner of this progress watches.
     pub fn on(progress: Arc<Progress>) -> Notes {
         Notes {
             progress: Some(progress),

@@ -1,4 +1,4 @@
-// What is noted of a run.
+// The record of a run's progress.
 use plain_values::NoMemory;
 use run_plan::{Branch, MOST_ACTIONS};
 use std::alloc::Global;
@@ -13,14 +13,14 @@ pub struct Progress {
     all: AtomicU64,
     settled: AtomicU64,
     failed: AtomicU64,
-    // The numbers of those that failed, in the order in which they did, and `NOBODY` behind them.
+    // The numbers of the actions that failed, in the order of their failures, followed by `NOBODY`.
     failures: Vec<AtomicU32>,
-    // Of each action, by its number.
+    // The marks of each action, by its number.
     marks: Vec<Marks>,
     over: AtomicBool,
 }
 
-// Which branches of an action have an attempt under way.
+// The branches of an action that have an attempt under way.
 #[derive(Drop)]
 struct Marks {
     local: AtomicBool,
@@ -80,35 +80,35 @@ impl Progress {
         self.over.store(true, Ordering::SeqCst);
     }
 
-    /// True if the run is over.
+    /// Returns true if the run is over.
     pub fn is_over(&self) -> bool {
         self.over.load(Ordering::SeqCst)
     }
 
-    /// The number of actions of the run: 0, before that is known.
+    /// Returns the number of actions of the run, or 0 before it is known.
     pub fn all(&self) -> u64 {
         self.all.load(Ordering::SeqCst)
     }
 
-    /// The number of settled actions.
+    /// Returns the number of settled actions.
     pub fn settled_so_far(&self) -> u64 {
         self.settled.load(Ordering::SeqCst)
     }
 
-    /// The number of actions that are settled without success.
+    /// Returns the number of actions that are settled without success.
     pub fn failed_so_far(&self) -> u64 {
         self.failed.load(Ordering::SeqCst)
     }
 
-    /// Returns the action that was settled without success after `behind` others. `None` if there is none,
-    /// or it isn't noted yet.
+    /// Returns the action that was settled without success after `behind` others. Returns `None` if
+    /// there is none, or if it isn't noted yet.
     pub fn failure(&self, behind: u64) -> Option<u32> {
         let behind = usize::try_from(behind).ok()?;
         let action = self.failures.get(behind)?.load(Ordering::SeqCst);
         (action != NOBODY).then_some(action)
     }
 
-    /// True if a branch of the action has an attempt under way.
+    /// Returns true if a branch of the action has an attempt under way.
     pub fn is_running(&self, action: u32) -> bool {
         match self.marks.get(action as usize) {
             Some(marks) => marks.any(),
@@ -116,7 +116,8 @@ impl Progress {
         }
     }
 
-    // Whoever counts a failure has a place of its own for its number.
+    // Notes the number of a failed action. Each caller that counts a failure has its own place for
+    // the number.
     fn failed(&self, action: u32) {
         let behind = self.failed.fetch_add(1, Ordering::SeqCst);
         let place = usize::try_from(behind)

@@ -1,4 +1,4 @@
-// What a watcher sees.
+// The watcher of a run.
 use crate::Progress;
 use plain_values::NoMemory;
 use run_plan::MOST_ACTIONS;
@@ -6,13 +6,13 @@ use std::alloc::Global;
 use std::fmt;
 use std::time::Duration;
 
-/// Looks at a run from time to time, and remembers since when each action runs and which failures it has
-/// reported.
+/// A watcher, which looks at a run from time to time. It remembers since when each action runs and
+/// which failures it has reported.
 #[derive(Drop)]
 pub struct Watcher {
-    // How many failures it has told of.
+    // The number of failures that it has reported.
     told: u64,
-    // Of each action, by its number: when it was first seen to run, if it ran at the last look.
+    // For each action, by its number: when it was first seen to run, if it ran at the last look.
     since: Vec<Option<Duration>>,
 }
 
@@ -26,7 +26,7 @@ pub struct Look {
     pub oldest: Option<Oldest>,
 }
 
-/// Of the actions that run, the one that was first seen to.
+/// The action that was first seen to run, among those that run.
 #[derive(Clone, Copy, Drop, PartialEq, Eq)]
 pub struct Oldest {
     pub action: u32,
@@ -48,11 +48,12 @@ impl Watcher {
         Ok(Watcher { told: 0, since })
     }
 
-    /// The actions that were settled without success since the last call that found memory, in that order.
+    /// Returns the actions that were settled without success since the last call that found memory,
+    /// in that order.
     ///
     /// # Errors
     ///
-    /// `NoMemory`. The next call has them too then.
+    /// Returns `NoMemory` if memory runs out. Then the next call returns them too.
     pub fn new_failures(
         &mut self,
         alloc: Global,
@@ -86,7 +87,7 @@ impl Watcher {
         look
     }
 
-    // When the action was first seen to run, if it runs.
+    // Returns when the action was first seen to run, if it runs.
     fn seen(&mut self, progress: &Progress, action: u32, now: Duration) -> Option<Duration> {
         let since = self.since.get_mut(action as usize)?;
         *since = if progress.is_running(action) {
@@ -115,7 +116,7 @@ impl Look {
     }
 }
 
-/// The line that is shown: it fits into a row of 80 columns.
+/// The line for display, which fits into a row of 80 columns.
 impl fmt::Display for Look {
     fn fmt<W: fmt::Write>(&self, f: &mut fmt::Formatter<W>) -> fmt::Result {
         let Look {

@@ -1,9 +1,10 @@
-//! From the words of a command to what is run: the plan of its list, the work of its actions, and
-//! what the lanes go by: a speech for each berth, and a command for each group.
+//! From the arguments of a command to a task: the plan of its list, the work of its actions, and the
+//! settings of the lanes. The settings are a speech (a protocol) for each berth, and a command for each
+//! group.
 //!
-//! A plan numbers its berths group by group, and all berths of a group speak the same.
-//! [`speeches_of`] writes this out berth by berth, and [`commands_of`] has what is started for the
-//! lines of each group.
+//! A plan numbers its berths group by group, and all berths of a group have the same speech.
+//! [`speeches_of`] returns the speeches berth by berth. [`commands_of`] returns the command that starts
+//! the lines (worker processes) of each group.
 #![tactic(auto)]
 
 pub mod laws;

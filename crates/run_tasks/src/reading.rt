@@ -1,4 +1,4 @@
-// What is read before anything is started: the words, the list, and what its actions read.
+// The reads before anything is started: the arguments, the list, and the files that its actions read.
 ghost use Rattle.std.specs.Prelude.{◌≡◌, IfOk, map, string_bytes};
 ghost use Rattle.action_list.specs.Lists.{list_of};
 ghost use Rattle.list_actions.specs.Whole.{IsWhole};
@@ -20,17 +20,18 @@ use run_plan::{MOST_LOCAL_BERTHS, Plan};
 use std::alloc::Global;
 use tool_words::{Options, read_words};
 
-/// What the words of a command come to before its lanes are started, and the plan once more: who
-/// schedules takes one, and who reports the other.
+/// Returns the task that the arguments of a command yield, before its lanes are started, and a second
+/// copy of the plan. The scheduler takes one copy, and the report is made from the other.
 ///
-/// In this order: the words are looked at; the list is read at its path, or generated; its actions'
-/// tools and source inputs are read; then the plan is made, its commands and its speeches.
+/// First the arguments are read. Then the list is read at its path, or generated. Then its actions'
+/// tools and source inputs are read. Last, the plan is made, with its commands and its speeches.
 ///
 /// # Errors
 ///
-/// The first of these: `Words` where the words aren't accepted, and then nothing is read; `Absent` or
-/// `FloorFailed` for the list, `List` with its first fault, `Absent` or `FloorFailed` for a tool or an
-/// input, `Flags` of the first action that has such a fault. `NoMemory` with `Before` at any time.
+/// Returns the first of these: `Words` if the arguments aren't accepted, and then nothing is read;
+/// `Absent` or `FloorFailed` for the list, `List` with its first fault, `Absent` or `FloorFailed` for a
+/// tool or an input, `Flags` of the first action that has such a fault. Returns `NoMemory` with `Before`
+/// if memory runs out at any time.
 pub fn read_task<F: Floor>(
     alloc: Global,
     words: &[String],
@@ -73,12 +74,12 @@ fn read_by_options<F: Floor>(
     }
     match &options.list {
         Some(path) => read_at(alloc, floor, options, path.as_str()),
-        // Either a list or a generator is there.
+        // The options name either a list or a number of actions to generate.
         None => unreachable!(),
     }
 }
 
-// Reads the list at this path, and goes on by it.
+// Reads the list at this path, and continues with it.
 fn read_at<F: Floor>(
     alloc: Global,
     floor: &mut F,
@@ -99,7 +100,7 @@ fn read_at<F: Floor>(
     read_by_list(alloc, floor, options, &list, false)
 }
 
-// Generates the list of so many actions, and goes on by it.
+// Generates the list of `actions` actions, and continues with it.
 fn read_generated<F: Floor>(
     alloc: Global,
     floor: &mut F,
@@ -120,7 +121,7 @@ fn read_generated<F: Floor>(
     read_by_list(alloc, floor, options, &list, true)
 }
 
-// The list of so many actions that is generated, read as a list's bytes are.
+// Returns the generated list of `actions` actions, which is read from its bytes like any list.
 fn list_generated(alloc: Global, actions: u32) -> Result<ActionList, RunFault>
     ensures list { ListGives (list_of most_local_berths (generated_text actions)) result }
     ensures whole { IfOk result (λ list. IsWhole list.actions) }
@@ -133,7 +134,7 @@ fn list_generated(alloc: Global, actions: u32) -> Result<ActionList, RunFault>
     }
 }
 
-// Reads what the list's actions read, and makes the task of both.
+// Reads the files that the list's actions read, and returns the task of both.
 fn read_by_list<F: Floor>(
     alloc: Global,
     floor: &mut F,

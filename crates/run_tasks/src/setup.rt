@@ -1,4 +1,4 @@
-//! What is spoken at each berth, and what is started for each group, made of the groups' parts.
+//! The speech of each berth and the command of each group, taken from the groups' parts.
 ghost use Rattle.std.specs.Prelude.{◌≡◌, ◌++◌, IfOk, OnOk, length};
 ghost use Rattle.run_tasks.specs.Setup.{commands_for, group_speeches, speeches_for};
 
@@ -7,11 +7,11 @@ use plain_values::{Command, NoMemory};
 use run_plan::{Group, Plan, Speech};
 use std::alloc::Global;
 
-/// What is spoken at each berth, in the order of the berths: the speech of its group's part.
+/// Returns the speech of each berth, in the order of the berths. It is the speech of its group's part.
 ///
 /// # Errors
 ///
-/// `NoMemory` if there is none for the speeches.
+/// Returns `NoMemory` if memory runs out.
 pub fn speeches_of(alloc: Global, plan: &Plan, parts: &[GroupPart]) -> Result<Vec<Speech>, NoMemory>
     requires { length parts.now ≡ length plan.now.groups }
     ensures { IfOk result (λ v. v.items ≡ speeches_for plan.now parts.now) }
@@ -34,11 +34,12 @@ fn add_speeches(speeches: &mut Vec<Speech>, group: &Group, part: &GroupPart) -> 
     Ok(())
 }
 
-/// What is started for the lines of each group, in the order of the groups: the command of its part.
+/// Returns the command that starts the lines of each group, in the order of the groups. It is the
+/// command of the group's part.
 ///
 /// # Errors
 ///
-/// `NoMemory` if there is none for the commands.
+/// Returns `NoMemory` if memory runs out.
 pub fn commands_of(alloc: Global, parts: &[GroupPart]) -> Result<Vec<Command>, NoMemory>
     ensures { IfOk result (λ v. v.items ≡ commands_for parts.now) }
 {

@@ -1,4 +1,4 @@
-// What a list comes to, made of the list, its work and the options.
+// The task of a list, computed from the list, its work and the options.
 ghost use Rattle.std.specs.Prelude.{◌≡◌, IfOk};
 ghost use Rattle.run_plan.specs.Sound.{Sound};
 ghost use Rattle.list_actions.specs.Whole.{IsWhole};
@@ -13,28 +13,28 @@ use run_plan::{Plan, Speech};
 use std::alloc::Global;
 use tool_words::Options;
 
-/// What a list comes to before its lanes are started.
+/// The task that a list yields, before its lanes are started.
 #[derive(Drop)]
 pub struct Task {
     /// The plan of the list.
     pub plan: Plan,
-    /// What is started for the lines of each group, by the groups' numbers.
+    /// The command that starts the lines of each group, by the groups' numbers.
     pub commands: Vec<Command>,
-    /// What is spoken at each berth, by the berths' numbers.
+    /// The speech of each berth, by the berths' numbers.
     pub speeches: Vec<Speech>,
-    /// Workers are asked to say more.
+    /// True if workers are asked for more output.
     pub verbose: bool,
     /// The work of its actions.
     pub work: Work,
-    /// The report is the line of totals alone: the list was generated.
+    /// True if the report is only the line of totals, because the list was generated.
     pub short: bool,
 }
 
-/// The task of a list that has this work, and its plan once more.
+/// Returns the task of a list that has this work, and a second copy of its plan.
 ///
 /// # Errors
 ///
-/// `NoMemory`.
+/// Returns `NoMemory` if memory runs out.
 pub fn task_of(
     alloc: Global,
     options: &Options,
@@ -71,7 +71,7 @@ pub fn task_of(
     Ok((task, twin))
 }
 
-// The plan of the list by these options.
+// Returns the plan of the list with these options.
 fn plan_of(alloc: Global, options: &Options, list: &ActionList) -> Result<Plan, NoMemory>
     requires options { AreInLimits options.now }
     requires list { IsWhole list.now.actions }

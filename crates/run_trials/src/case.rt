@@ -1,10 +1,10 @@
-// What the next run has: sources, what the child leaves and gives, and which calls fail.
+// The case of the next run: its sources, the child's outputs and answer, and the calls that fail.
 use outside::SourceFile;
 use outside_mem::{Beat, FailAt, Object, Script};
 use plain_values::{Blob, NoMemory, Text};
 use std::alloc::Global;
 
-/// What the lines before have said.
+/// The case that the lines so far define.
 #[derive(Drop)]
 pub struct Case {
     files: Vec<SourceFile>,
@@ -25,7 +25,8 @@ impl Case {
         }
     }
 
-    /// Notes what a line says; what is printed for it is the line itself, unless it says something.
+    /// Records a line of a case. Returns the text to print, which is the line itself if it isn't part of a
+    /// case.
     pub fn note(&mut self, alloc: Global, line: &str) -> Result<String, NoMemory> {
         let (kind, rest) = line.split_once(' ').unwrap_or((line, ""));
         match kind {
@@ -72,7 +73,7 @@ impl Case {
         Ok(())
     }
 
-    // Hears one request, leaves the outputs and gives the answer, and ends.
+    // Returns the beats of a child that reads one request, leaves the outputs, gives the answer, and ends.
     fn one_child(&self, alloc: Global) -> Result<Vec<Beat>, NoMemory> {
         let mut beats = Vec::new(alloc);
         beats.push(Beat::Hear(1))?;
@@ -85,7 +86,7 @@ impl Case {
         Ok(beats)
     }
 
-    /// The script of one run, after which no call is to fail.
+    /// Returns the script of one run, and then clears the failing calls and the children of the case.
     pub fn script(&mut self, alloc: Global) -> Result<Script, NoMemory> {
         let mut files = Vec::new(alloc);
         for file in &self.files {
@@ -107,8 +108,8 @@ impl Case {
     }
 }
 
-// The children of the lines, from line 0 on, with a lone `/` between two of them. One without beats is
-// obliging.
+// Returns the children of the lines, from line 0 on. A single `/` separates two of them. A child without
+// beats is obliging.
 fn children(alloc: Global, words: &str) -> Result<Vec<Option<Vec<Beat>>>, NoMemory> {
     let mut lines = Vec::new(alloc);
     for child in words.split(" / ") {
@@ -152,7 +153,7 @@ fn bytes_of(alloc: Global, digits: &str) -> Vec<u8> {
     hex::decode(alloc, digits).unwrap_or(Vec::new(alloc))
 }
 
-// The objects of this number: a berth, a line or an action, by the kind of call.
+// Returns the object with this number, which is a berth, a line or an action, by the kind of call.
 fn object_of(kind: &str, number: u32) -> Object {
     match kind {
         "floor" => Object::FloorRead,

@@ -1,4 +1,4 @@
-// A core with a local delay: what lanes are told while the worker's branch of an action waits.
+// A core with a local delay, and its replies while the worker's branch of an action waits.
 ghost use Rattle.list_actions.specs.Whole.{IsWhole};
 
 use action_list::{ActionList, plan, read_list};
@@ -12,17 +12,17 @@ const LIST: &str = "{\"actions\":[{\"name\":\"a\",\"mnemonic\":\"T\",\"argv\":[\
 \"inputs\":[\"f\"],\"outputs\":[\"o\"],\"strategy\":\"dynamic\",\
 \"requirements\":{\"supports-workers\":\"1\"}}]}";
 
-// For how many Ticks the worker waits.
+// The number of Ticks for which the worker waits.
 const TICKS: u32 = 2;
 
-// The proxy lanes of the worker's berth, of the executor's, and of the berth behind both.
+// The proxy lanes of the worker's berth, of the executor's berth, and of the berth after both.
 const WORKER: u32 = 0;
 
 const EXECUTOR: u32 = 2;
 
 const TICKER: u32 = 4;
 
-// Which lane calls, and whether it makes a Tick: else it asks.
+// The calls: the lane that calls, and true for a Tick or false for an Ask.
 const CALLS: [(u32, bool); 8] = [
     (WORKER, false),
     (EXECUTOR, false),
@@ -34,11 +34,11 @@ const CALLS: [(u32, bool); 8] = [
     (WORKER, true),
 ];
 
-/// What each of these lanes is told, a line for each call.
+/// Returns the replies to these lanes, one line for each call.
 ///
 /// # Errors
 ///
-/// `NoMemory` where there is none for the core or for what is told.
+/// Returns `NoMemory` if memory runs out for the core or for the replies.
 pub fn tell_delay(alloc: Global) -> Result<String, NoMemory> {
     match read_list(alloc, LIST.as_bytes()) {
         Ok(list) => tell_list(alloc, &list),

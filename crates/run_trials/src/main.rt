@@ -1,25 +1,35 @@
-//! Plays whole runs in memory, and prints what each came to.
+//! Plays whole runs in memory, and prints the result of each.
 //!
 //! | A line of standard input | Does |
 //! |---|---|
-//! | `new` | no source and no output from now on |
-//! | `file PATH TEXT` | a source from now on, in place of one with that path; `␊` in TEXT stands for a line feed |
-//! | `big PATH COUNT` | a source of so many zero bytes |
-//! | `leave PATH` | the child leaves this output from now on |
-//! | `give BYTES` | the child's answer from now on, in hexadecimal |
-//! | `fail OBJECT NTH`, `fail OBJECT:NUMBER NTH` | the NTH call on this object fails in the next run; the number is 0 if it is left out |
-//! | `children BEAT .. / BEAT ..` | in the next run the children of the lines do this, from line 0 on: `hear=N`, `leave=PATH`, `leave=PATH,TEXT`, `give=BYTES`, `choose=BYTES,BYTES`, `raise=N`, `await=N`, `die`; one without beats does what it is asked |
-//! | `play WORD WORD ..` | a run with these words: its status, how many berths it had, whether all children were killed, how many lines it had and how many of them were started, its report, and the line of its fault |
-//! | `race WORD WORD ..` | the same without the run's lines, and of its report how many lines it has and the last one, where more isn't determined |
-//! | `shared WORD WORD ..`, `crowd WORD WORD ..` | the same as `play` and `race`, where worker keys share berths |
-//! | `choose WORD WORD ..` | the same as `play`, by strategies, with a delay by the clock; first the action that no strategy supports, if there is one |
-//! | `meet WORD WORD ..` | its status and its report, where each of two actions writes only once the other does too |
-//! | `delay` | what lanes are told, call after call, by a core whose worker's branch waits for two Ticks |
-//! | `reads`, `writes` | what the floor and the places tell of the last run |
-//! | `room`, `given` | what its first berth and its first line tell |
+//! | `new` | starts a case without sources and outputs |
+//! | `file PATH TEXT` | adds a source, replacing any existing one with that path; `␊` in TEXT is a line feed |
+//! | `big PATH COUNT` | adds a source of COUNT zero bytes |
+//! | `leave PATH` | adds an output that the child leaves |
+//! | `give BYTES` | sets the child's answer, in hexadecimal |
+//! | `fail OBJECT NTH`, `fail OBJECT:NUMBER NTH` | makes the NTH call on this object fail in the next run; NUMBER is 0 by default |
+//! | `children BEAT .. / BEAT ..` | sets the beats of the lines' children in the next run, from line 0 on |
+//! | `play WORD WORD ..` | makes a run with these arguments |
+//! | `race WORD WORD ..` | does the same as `play`, and prints only what is determined |
+//! | `shared WORD WORD ..`, `crowd WORD WORD ..` | does the same as `play` and `race`, with worker keys that share berths |
+//! | `choose WORD WORD ..` | does the same as `play`, by strategies, with a delay by the clock |
+//! | `meet WORD WORD ..` | makes a run in which each of two actions writes only once the other does too |
+//! | `delay` | prints the replies, call after call, of a core whose worker's branch waits for two Ticks |
+//! | `reads`, `writes` | prints the reads of the floor, or the writes to the places, of the last run |
+//! | `room`, `given` | prints the calls on its first berth, or the bytes that its first line was given |
 //!
-//! Other lines are printed as they are. `dev/run-vectors` writes `stdin` and `stdout`, and `dev/fail-alloc` plays two runs with
-//! each allocation refused in turn. Runs with real objects are played from outside, by `tests/programs`.
+//! A beat is `hear=N`, `leave=PATH`, `leave=PATH,TEXT`, `give=BYTES`, `choose=BYTES,BYTES`, `raise=N`,
+//! `await=N` or `die`. A child without beats carries out each request at once.
+//!
+//! `play` prints the run's status, the number of its berths, and if all children were killed. Then it
+//! prints the number of its lines, the number of those that were started, its report, and its fault line.
+//! `race` leaves out the run's lines, and prints only the number of the report's lines and the last one.
+//! `choose` first prints the action that no strategy supports, if there is one. `meet` prints the status
+//! and the report.
+//!
+//! Other lines are printed as they are. `dev/run-vectors` writes `stdin` and `stdout`, and `dev/fail-alloc`
+//! plays two runs with each allocation refused in turn. `tests/programs` plays runs with real objects from
+//! outside.
 #![tactic(auto)]
 
 mod case;
@@ -63,7 +73,8 @@ fn play_all<R: Threads + Wait + Clock + Print + Copy + Drop + Send + Sync>(
     play_lines(rt, alloc, text, &mut case, &mut last)
 }
 
-// What the next run has, and what became of the last one, is lent to what may end early.
+// Plays lines. It borrows the case of the next run and the result of the last one, because it may end
+// early.
 fn play_lines<R: Threads + Wait + Clock + Print + Copy + Drop + Send + Sync>(
     rt: &R,
     alloc: Global,
@@ -78,7 +89,7 @@ fn play_lines<R: Threads + Wait + Clock + Print + Copy + Drop + Send + Sync>(
     Ok(())
 }
 
-// What is printed for the line.
+// Returns the text to print for a line.
 fn play<R: Threads + Wait + Clock + Copy + Drop + Send + Sync>(
     rt: &R,
     alloc: Global,
@@ -100,14 +111,14 @@ fn play<R: Threads + Wait + Clock + Copy + Drop + Send + Sync>(
     }
 }
 
-// By which core a run is made.
+// The core that makes a run.
 #[derive(Clone, Copy)]
 enum By {
     Own,
     Shared,
 }
 
-// By which core a run is made, and how much of it is printed.
+// The core that makes a run, and how much of the run is printed.
 #[derive(Clone, Copy)]
 struct How {
     by: By,

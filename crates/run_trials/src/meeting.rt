@@ -1,4 +1,4 @@
-// A floor whose places wait for each other: a write goes on only once so many writes have begun.
+// A floor whose places wait for each other. A write goes on only once `wanted` writes have begun.
 ghost use Rattle.std.specs.Prelude.{◌≡◌};
 
 use outside::{Floor, Io, Place, Read};
@@ -8,10 +8,10 @@ use std::sync::Arc;
 use std::sync::atomic::{AtomicU64, Ordering};
 use std::thread;
 
-/// For how many turns a write waits before it fails.
+/// The number of turns that a write waits before it fails.
 const MOST_TURNS: u32 = 10_000_000;
 
-/// A floor like another, whose places wait.
+/// A floor over another one, whose places wait.
 #[derive(Drop)]
 pub struct MeetingFloor<F> {
     floor: F,
@@ -19,7 +19,7 @@ pub struct MeetingFloor<F> {
     wanted: u64,
 }
 
-/// A place like another, whose writes wait.
+/// A place over another one, whose writes wait.
 #[derive(Drop)]
 pub struct MeetingPlace<P> {
     place: P,
@@ -29,11 +29,11 @@ pub struct MeetingPlace<P> {
 }
 
 impl<F: Floor> MeetingFloor<F> {
-    /// Each write to a place of this floor waits until so many have begun.
+    /// Returns a floor over `floor`. Each write to its places waits until `wanted` writes have begun.
     ///
     /// # Errors
     ///
-    /// `NoMemory`.
+    /// Returns `NoMemory` if memory runs out.
     pub fn new(alloc: Global, floor: F, wanted: u64) -> Result<MeetingFloor<F>, NoMemory> {
         Ok(MeetingFloor {
             floor,
@@ -95,7 +95,7 @@ impl<P: Place> Place for MeetingPlace<P> {
     }
 }
 
-// Begins one more write, and waits for the others.
+// Begins one more write, and waits for the others. Returns true if they have begun.
 fn all_begin(begun: &AtomicU64, wanted: u64) -> bool {
     begun.fetch_add(1, Ordering::SeqCst);
     for _ in 0..MOST_TURNS {

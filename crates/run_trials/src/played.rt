@@ -1,4 +1,4 @@
-// One run, and what its objects tell.
+// One run, and the records of its objects.
 use crate::case::Case;
 use outside::{BerthCall, Command, PlaceWrite};
 use outside_mem::{FailAt, MemFloor, MemSink, Script};
@@ -7,17 +7,17 @@ use std::alloc::Global;
 use std::sync::Wait;
 use worker_run::{Ended, fault_line};
 
-/// How much of a run is printed. Of lanes that run beside each other some things differ from one run
-/// to the next.
+/// The part of a run that is printed. If lanes run in parallel, some things differ from one run to the
+/// next.
 #[derive(Clone, Copy, PartialEq, Eq)]
 pub enum Shown {
-    /// How many lines and writes there were, and its report.
+    /// The number of lines and writes, and the report.
     All,
-    /// How many lines its report has, and the last of them.
+    /// The number of the report's lines, and the last of them.
     Totals,
 }
 
-/// The script of the next run, its sink, and the words of this line.
+/// Returns the script of the next run, its sink, and the arguments of this line.
 pub fn stage(
     alloc: Global,
     case: &mut Case,
@@ -47,7 +47,7 @@ fn words(alloc: Global, line: &str) -> Result<Vec<String>, NoMemory> {
     Ok(words)
 }
 
-/// What the run came to.
+/// Returns the result of a run as text.
 pub fn tell<R: Wait + Clone + Drop>(
     alloc: Global,
     ended: &Ended<MemFloor<R>>,
@@ -110,8 +110,8 @@ fn push_line(line: &str, told: &mut String) -> Result<(), NoMemory> {
     Ok(())
 }
 
-/// What was written to each action's place, one write a line: the action's number, the path, and the
-/// bytes in hexadecimal.
+/// Returns the writes to each action's place, one a line: the action's number, the path, and the bytes in
+/// hexadecimal.
 pub fn writes<R: Wait + Clone + Drop>(
     alloc: Global,
     ended: &Ended<MemFloor<R>>,
@@ -137,7 +137,7 @@ fn tell_writes(
     Ok(())
 }
 
-/// The paths that the floor was asked for, in order.
+/// Returns the paths that the floor was asked for, in order.
 pub fn reads<R: Wait + Clone + Drop>(
     alloc: Global,
     ended: &Ended<MemFloor<R>>,
@@ -151,7 +151,7 @@ pub fn reads<R: Wait + Clone + Drop>(
     Ok(told)
 }
 
-/// The calls on the first berth, one a line.
+/// Returns the calls on the first berth, one a line.
 pub fn room<R: Wait + Clone + Drop>(
     alloc: Global,
     ended: &Ended<MemFloor<R>>,
@@ -201,7 +201,7 @@ fn push_word(word: &Text, line: &mut String) -> Result<(), NoMemory> {
     Ok(())
 }
 
-/// The bytes that the first line was given, in hexadecimal.
+/// Returns the bytes that the first line was given, in hexadecimal.
 pub fn given<R: Wait + Clone + Drop>(
     alloc: Global,
     ended: &Ended<MemFloor<R>>,

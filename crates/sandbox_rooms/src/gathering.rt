@@ -9,12 +9,12 @@ use outside::{Berth, Read};
 use plain_values::{Blob, Items, NoMemory, Text};
 use std::alloc::Global;
 
-/// What the looks at the outputs gave.
+/// The result of looking at the outputs.
 #[derive(Drop)]
 pub enum Gathered {
-    /// Each output's bytes, in order.
+    /// The bytes of each output, in order.
     Files(Items<Blob>),
-    /// The output with this index isn't there, and all before it are.
+    /// The output with this index isn't there, but all before it are.
     Missing(u32),
     /// A look failed.
     RoomFault,
@@ -24,7 +24,7 @@ pub enum Gathered {
 ///
 /// # Errors
 ///
-/// `NoMemory`, after looks that all found their outputs.
+/// Returns `NoMemory` if memory runs out. All looks before found their outputs.
 pub fn gather<B: Berth>(
     alloc: Global,
     berth: &mut B,

@@ -9,14 +9,13 @@ use plain_values::{NoMemory, Text};
 use remote_messages::NamedFile;
 use std::alloc::Global;
 
-/// Makes the room ready for a request, up to the first call that fails: clears what the room says,
-/// makes the
-/// folders of the outputs, and puts the inputs, in order. Contents are put as they are, and not
-/// copied.
+/// Prepares the room for a request, up to the first call that fails. Clears what the kind of room
+/// requires, makes the folders of the outputs, and puts the inputs there, in order. Contents are
+/// passed on as they are, and not copied.
 ///
 /// # Errors
 ///
-/// `NoMemory`, after calls that all went well.
+/// Returns `NoMemory` if memory runs out. All calls before went well.
 pub fn prepare<B: Berth>(
     alloc: Global,
     berth: &mut B,
@@ -59,7 +58,7 @@ fn clear_one<B: Berth>(berth: &mut B, part: &str) -> Io
     berth.room_clear(part)
 }
 
-// Makes a folder anew.
+// Clears a folder and makes it again.
 fn renew<B: Berth>(berth: &mut B, part: &str) -> Io
     ensures { MakesRun (io_end result) (Clear part.now ∷ Folder part.now ∷ [])
         (B.told berth.old) (B.told berth.new) }
@@ -123,7 +122,7 @@ fn make_folders<B: Berth>(
     Ok(Io::Done)
 }
 
-// Makes the folder of a path, where it has one.
+// Makes the folder of a path, if it has one.
 fn make_folder<B: Berth>(
     alloc: Global,
     berth: &mut B,
@@ -142,7 +141,7 @@ fn make_folder<B: Berth>(
     }
 }
 
-/// The folder of a path: what stands before its last slash, where it has one.
+/// Returns the folder of a path: the part before its last slash, if it has one.
 pub fn folder_of(path: &str) -> Option<&str>
     ensures { option_copied result ≡ folder_of path.now }
 {

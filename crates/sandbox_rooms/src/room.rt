@@ -4,22 +4,23 @@ ghost use Rattle.sandbox_rooms.specs.Rooms.{in_room};
 use plain_values::{NoMemory, Text};
 use std::alloc::Global;
 
-/// Which part of its berth's room a request has.
+/// The part of its berth's room that a request uses.
 #[derive(Clone, Copy, PartialEq, Eq)]
 pub enum Room {
-    /// All of it, emptied before: for a worker that has one request at a time.
+    /// All of it, emptied before. This is for a worker that has one request at a time.
     Whole,
-    /// All of it, beside other requests: what stands where its outputs go is removed before.
+    /// All of it, shared with other requests. Anything at its outputs' paths is removed before.
     Shared,
-    /// A folder of its own, `__sandbox/` and its number, made anew before.
+    /// A separate folder, `__sandbox/` and the request's number, which is cleared and made again
+    /// before.
     Part { number: i32 },
 }
 
-/// A path of the request, as it stands in the room.
+/// Returns the path of a request's file in the room.
 ///
 /// # Errors
 ///
-/// `NoMemory`.
+/// Returns `NoMemory` if memory runs out.
 pub fn path_in(alloc: Global, room: Room, path: &str) -> Result<Text, NoMemory>
     ensures { IfOk result (λ t. t ≡ in_room room path.now) }
 {

@@ -20,13 +20,14 @@ use std::snapshot::Snapshot;
 use std::sync::{Mutex, Wait};
 use std::thread::yield_now;
 
-/// The entries that one call may need room for: its own, and two that the machine may owe after it.
+/// The number of entries that one call may need room for: its own, and two that the machine may owe
+/// after it.
 const ROOM_OF_A_CALL: u64 = 3;
 
-/// The right to call, on a lane of its own.
+/// The right to call on one lane.
 ///
-/// What it has seen is a front of the one history, which has of its lane just the calls that were made
-/// with it.
+/// The entries that it has seen are a front of the one history. In them, the entries of its lane
+/// are exactly the calls that were made with this pass.
 #[derive(Drop)]
 pub struct Pass<M: Machine> {
     lane: u32,
@@ -35,7 +36,7 @@ pub struct Pass<M: Machine> {
     pub ghost idle: { IsIdle lane seat.me },
 }
 
-/// Splits passes off the desk, joins them again, and closes it.
+/// The root of a desk, which splits passes off, joins them again and closes the desk.
 #[derive(Drop)]
 pub struct Root<M: Machine> {
     made: u32,
@@ -43,19 +44,20 @@ pub struct Root<M: Machine> {
     pub ghost idle: { IsRoot made seat.me },
 }
 
-/// The machine that a desk had, and its one history.
+/// The machine of a closed desk, and the one history.
 #[derive(Drop)]
 pub struct Closed<M: Machine> {
     /// The machine, as the last call left it.
     pub machine: M,
-    /// The calls that were kept, the oldest first.
+    /// The recorded calls, the oldest first.
     pub history: Vec<HistoryEntry<M>>,
 }
 
-/// A ticket lock round a machine with its history.
+/// A ticket lock around a machine and its history.
 ///
-/// Each turn is made behind the `gate`, so that its ticket is served at once: a first-come ticket
-/// alone costs a context switch a turn once lanes outnumber processors. No proof rests on the gate.
+/// Each turn is made while the `gate` is held, so its ticket is served at once. A first-come ticket
+/// alone costs a context switch a turn once there are more lanes than processors. No proof rests on
+/// the gate.
 #[derive(Drop)]
 pub struct Desk<M: Machine> {
     table: Table<
@@ -69,19 +71,19 @@ pub struct Desk<M: Machine> {
     pub ghost sized: { (table.shared.table_id.words ≡ 2) × (table.shared.table_id.slots ≡ 1) },
 }
 
-/// There was no memory for the entries of a call, and it was not made.
+/// A call that was not made because there was no memory for its entries.
 #[derive(Drop)]
 pub struct Refused<M: Machine> {
-    /// The call that was to be made.
+    /// The call that was not made.
     pub call: M::Call,
-    /// What was to go in with it.
+    /// The good that should have gone in with the call.
     pub put: Option<M::Good>,
 }
 
-/// The slot of a desk, in which nothing lies yet.
+/// The slots of a desk's table.
 type Slots<M> = Vec<Option<Held<M, <M as Machine>::Call, <M as Machine>::Reply>>>;
 
-// Room for the slot of a desk, and a history with room for so many entries.
+// Makes room for the slot of a desk, and for a history with room for `owed` entries.
 fn room_for<M: Machine>(
     alloc: Global,
     owed: u64,
@@ -96,7 +98,7 @@ fn room_for<M: Machine>(
     Ok((slots, history))
 }
 
-// The machine in the one slot.
+// Returns the machine in the one slot.
 fn machine_in<M: Machine>(slots: Slots<M>) -> M
     requires { (m : M) × LiesAlone m slots.items }
     ensures { LiesAlone result slots.items }
@@ -109,9 +111,9 @@ fn machine_in<M: Machine>(slots: Slots<M>) -> M
 }
 
 impl<M: Machine> Pass<M> {
-    /// The lanes that may have news after the last call of this pass, or after its last two if they
-    /// were made in one turn, a bit for each: bit `k` is lane `k`. It is the machine's hint
-    /// (`Machine::stirs`).
+    /// Returns the lanes that may have news after the last call of this pass, or after its last two
+    /// if one turn made both. Each lane has a bit: bit `k` is lane `k`. The set is the machine's
+    /// hint (`Machine::stirs`).
     pub fn stirs(&self) -> u128
         ensures { result ≡ self.now.stirs }
     {
@@ -122,12 +124,12 @@ impl<M: Machine> Pass<M> {
 impl<M: Machine> Desk<M> {
     ghost use Rattle.seat_desk.specs.Passes.{IsPassOf, IsRootOf, IsSamePass, IsSameRoot, IsNewRoot, IsNewPass, SplitsOne, Suits, IsPaidFor, MakesCall, MakesPaidCall, MakesNoCall, MayMakeThen, MakesCallThen, Stirs, joined, mine, seen, root_basis, root_seen};
 
-    /// A desk with this machine, which stands for the empty history, and its root.
+    /// Creates a desk for this machine, which stands for the empty history, and the desk's root.
     ///
     /// # Errors
     ///
-    /// `NoMemory` where there is no memory for the table, or for the entries that the machine owes at
-    /// first.
+    /// Returns `NoMemory` if memory runs out for the table, or for the entries that the machine
+    /// owes at first.
     pub fn new(alloc: Global, machine: M) -> Result<(Desk<M>, Root<M>), NoMemory>
         requires { M.stands machine [] }
         ensures { IfOk result (λ d. IsRootOf d.0 d.1 × IsNewRoot (M.basis machine) d.1) }
@@ -138,11 +140,11 @@ impl<M: Machine> Desk<M> {
         }
     }
 
-    /// As [`Desk::new`].
+    /// Same as [`Desk::new`], but hands the machine back.
     ///
     /// # Errors
     ///
-    /// The machine, as it was, where `Desk::new` wants memory.
+    /// Returns the machine, unchanged, if memory runs out.
     pub fn new_or_back(alloc: Global, machine: M) -> Result<(Desk<M>, Root<M>), M>
         requires { M.stands machine [] }
         ensures desk { IfOk result (λ d. IsRootOf d.0 d.1 × IsNewRoot (M.basis machine) d.1) }
@@ -162,8 +164,8 @@ impl<M: Machine> Desk<M> {
         }
     }
 
-    /// A pass of a lane of its own, the next from 0 upwards, which has seen what the root has. It takes
-    /// no memory.
+    /// Splits off the pass of a new lane. Lanes are numbered from 0 upwards. The pass has seen what
+    /// the root has seen. The function takes no memory.
     pub fn split<R>(&self, rt: &R, root: &mut Root<M>) -> Pass<M>
         requires desk { IsRootOf self.now root.old }
         requires room { root.old.made < 2 ^ 32 - 1 }
@@ -181,12 +183,12 @@ impl<M: Machine> Desk<M> {
         }
     }
 
-    /// Makes the call in a turn of its own, and answers the machine's reply with the good that came out.
+    /// Makes the call in its own turn. Returns the machine's reply and the good that came out.
     ///
     /// # Errors
     ///
-    /// `Refused` where the history finds no memory for the call's entry and for what the machine may
-    /// owe after it. Then the turn ended without a call.
+    /// Returns `Refused` if memory runs out for the call's entry and for the entries that the
+    /// machine may owe after it. Then the turn ended without a call.
     pub fn call<R: Wait>(
         &self,
         rt: &R,
@@ -218,7 +220,8 @@ impl<M: Machine> Desk<M> {
         Ok((reply, good))
     }
 
-    /// Makes a call that the pass's history has paid for. It takes no memory, and its reply is not short.
+    /// Makes a call that the pass's history has paid for. The call takes no memory, and its reply
+    /// is not short.
     pub fn call_paid<R: Wait>(
         &self,
         rt: &R,
@@ -244,13 +247,14 @@ impl<M: Machine> Desk<M> {
         (reply, good)
     }
 
-    /// Makes the call and, where `work` answers a call to its reply, that call too in the same turn. It
-    /// answers the reply of the last call that it made, with the good that came out of the second call,
-    /// or none where it made one call. No other lane's call stands between the two.
+    /// Makes the call. If `work` returns a second call for its reply, makes that call too, in the
+    /// same turn. Returns the reply of the last call that was made. The good is the one that came
+    /// out of the second call, or none if only one call was made. No other lane's call comes between
+    /// the two.
     ///
     /// # Errors
     ///
-    /// `Refused` as in [`Desk::call`]. The work is as it was.
+    /// Returns `Refused` as [`Desk::call`] does. The work is unchanged.
     pub fn call_then<W: Then<M>, R: Wait>(
         &self,
         rt: &R,
@@ -285,7 +289,7 @@ impl<M: Machine> Desk<M> {
         Ok((reply, good))
     }
 
-    /// Takes a pass back. The root sees all that the pass has seen, and keeps its calls.
+    /// Takes a pass back. The root then has seen all that the pass has seen, and keeps its calls.
     pub fn join_pass<R>(&self, rt: &R, root: &mut Root<M>, pass: Pass<M>)
         requires { IsRootOf self.now root.old × IsPassOf self.now pass }
         ensures same { IsSameRoot root.old root.new }
@@ -304,9 +308,9 @@ impl<M: Machine> Desk<M> {
         self.table.shared.load::<Gather<M>>(&mut root.seat, 0);
     }
 
-    /// Ends the desk, once each pass was joined. The history begins with all that the root has seen,
-    /// the calls of each lane in it are those that its pass made, no other lane has a call in it, and
-    /// the machine stands for it. It takes no memory.
+    /// Ends the desk after every pass was joined. The history begins with all that the root has
+    /// seen. The calls of each lane in it are those that the lane's pass made. No other lane has a
+    /// call in it, and the machine stands for it. The function takes no memory.
     pub fn close<R>(self, rt: &R, root: Root<M>) -> Closed<M>
         requires desk { IsRootOf self root }
         requires all { length (joined root) ≡ root.made }
@@ -327,7 +331,7 @@ impl<M: Machine> Desk<M> {
         Closed { machine, history }
     }
 
-    // Draws a ticket. In all private functions the seat is one of this desk's table.
+    // Draws a ticket. In all private functions, the seat belongs to this desk's table.
     fn draw(
         &self,
         seat: &mut Seat<Option<Held<M, M::Call, M::Reply>>, View<M::Call, M::Reply, M::Basis>>,
@@ -360,7 +364,7 @@ impl<M: Machine> Desk<M> {
         }
     }
 
-    // Begins a turn: the machine with its history is taken out of the slot.
+    // Begins a turn: takes the machine with its history out of the slot.
     fn enter<R: Wait>(
         &self,
         rt: &R,
@@ -378,7 +382,7 @@ impl<M: Machine> Desk<M> {
         self.table.shared.exchange(seat, 0, None).unwrap()
     }
 
-    // Ends the turn: the machine is put back, and the next ticket is served.
+    // Ends the turn: puts the machine back, and serves the next ticket.
     fn leave(
         &self,
         seat: &mut Seat<Option<Held<M, M::Call, M::Reply>>, View<M::Call, M::Reply, M::Basis>>,

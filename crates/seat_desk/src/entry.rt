@@ -1,4 +1,4 @@
-//! What the history has of one call.
+//! The history's record of one call.
 use crate::machine::Machine;
 use plain_values::Entry;
 

@@ -1,8 +1,8 @@
-//! What lies in the desk's slot.
+//! The contents of the desk's slot.
 use crate::pieces::Pieces;
 use plain_values::Entry;
 
-/// The machine, and the calls by which it came about.
+/// The machine, and the history of the calls that led to its state.
 #[derive(Drop)]
 pub struct Held<M, C, R> {
     pub machine: M,

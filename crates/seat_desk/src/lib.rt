@@ -1,14 +1,17 @@
-//! A desk: many lanes call one machine, each call in a turn of its own, and there is one history of
-//! all calls.
+//! A desk: many lanes call one machine. Each call has its own turn, and there is one history of all
+//! calls.
 //!
 //! A [`Machine`] is a sequential object whose meaning is a list of entries, its history. A [`Desk`]
-//! holds it behind a ticket lock. Each lane has a [`Pass`], with which it calls; the [`Root`] splits
-//! passes off and joins them again. Contracts see of a pass a front of the one history that it has
-//! `seen`, and the list of its own calls, `mine`: what the history has of its lane is just that list.
-//! So a caller knows the reply of each call as the machine's reply at a point of the history, and
-//! after [`Desk::close`] the whole history, with the machine that stands for it.
+//! holds it under a ticket lock. Each lane has a [`Pass`], with which it calls. The [`Root`] splits
+//! passes off and joins them again.
 //!
-//! Nothing is promised of waiting: a call waits for its turn, and no clause says that it comes.
+//! A contract sees two lists of a pass. `seen` is a front of the one history. `mine` contains the
+//! pass's own calls: in the history, the entries of its lane are exactly this list. So a caller
+//! knows the reply of each call as the machine's reply at a point of the history. After
+//! [`Desk::close`], it knows the whole history, with the machine that stands for it.
+//!
+//! Nothing is promised about waiting: a call waits for its turn, and no clause states that the turn
+//! comes.
 #![tactic(auto)]
 
 mod desk;

@@ -1,4 +1,4 @@
-//! A history in pieces: a further entry moves none of those before it.
+//! A history in pieces: adding an entry moves no earlier entry.
 ghost use Rattle.std.specs.Prelude.{◌≡◌, ◌<◌, ◌≤◌, ◌+◌, ◌^◌, ◌++◌, ◌∷◌, [], IfOk, OnOk};
 
 use plain_values::NoMemory;
@@ -7,18 +7,18 @@ use std::collections::VecDeque;
 use std::marker::Model;
 use std::mem;
 
-/// How many entries a piece has, where no more are asked for at once.
+/// The number of entries of a piece, unless more are asked for at once.
 const PIECE: usize = 1_024;
 
-/// Entries in the order in which they came, in pieces that stay where they are. So a turn that adds
-/// one costs the same however long the history is.
+/// Entries in their order of arrival, in pieces that don't move. So a turn that adds an entry costs
+/// the same at any length of the history.
 ///
-/// `whole` is room in which all of them will stand as one list. Nothing is written there before
-/// [`Pieces::into_list`], so that it costs addresses and no memory until then.
+/// `whole` is room for all of them as one list. Nothing is written there before
+/// [`Pieces::into_list`], so until then it costs addresses and no memory.
 #[derive(Drop)]
 pub struct Pieces<E> {
     full: Vec<Vec<E>>,
-    /// How many entries the full pieces have.
+    /// The number of entries in the full pieces.
     behind: usize,
     last: Vec<E>,
     spare: Vec<E>,
@@ -39,7 +39,7 @@ impl<E> Model for Pieces<E> {
 }
 
 impl<E: Drop> Pieces<E> {
-    /// No entries, and no room for any.
+    /// Returns an empty history without room for entries.
     pub fn new(alloc: Global) -> Pieces<E>
         ensures { (result.items ≡ []) × (result.room ≡ 0) }
     {
@@ -52,11 +52,11 @@ impl<E: Drop> Pieces<E> {
         }
     }
 
-    /// Makes room for so many entries more.
+    /// Makes room for `count` more entries.
     ///
     /// # Errors
     ///
-    /// `NoMemory`; the entries stay.
+    /// Returns `NoMemory` if memory runs out. The entries stay.
     pub fn reserve(&mut self, count: usize) -> Result<(), NoMemory>
         ensures items { self.new.items ≡ self.old.items }
         ensures room { self.old.room ≤ self.new.room }
@@ -93,7 +93,7 @@ impl<E: Drop> Pieces<E> {
         self.last.push_reserved(entry);
     }
 
-    /// All entries as one list. It takes no memory.
+    /// Returns all entries as one list. The function takes no memory.
     pub fn into_list(self) -> Vec<E>
         ensures { result.items ≡ self.items }
     {
@@ -117,7 +117,7 @@ impl<E: Drop> Pieces<E> {
     }
 }
 
-// The sum, if it is a number of entries.
+// Returns the sum, if it is a possible number of entries.
 fn all_of(behind: usize, last: usize, spare: usize) -> Result<usize, NoMemory>
     ensures { IfOk result (λ n. n ≡ behind + last + spare) }
 {

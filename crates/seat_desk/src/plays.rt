@@ -1,4 +1,4 @@
-//! What each step on the table tells the seat that makes it.
+//! The steps on the table, and what the seat that makes each step learns from it.
 ghost use Rattle.seat_desk.specs.Helds.{log_of, IsGood};
 ghost use Rattle.seat_desk.specs.Turns.{TellsDraw, TellsLook, TellsEnd, TellsGather, root_after_split, new_pass_view, root_after_join, view_gone};
 
@@ -8,7 +8,7 @@ use crate::view::View;
 use atomic_table::{Join, Play, Split};
 use std::marker::PhantomData;
 
-/// Draws a ticket.
+/// The step that draws a ticket.
 pub(crate) struct Draw<M> {
     machine: PhantomData<M>,
 }
@@ -18,7 +18,7 @@ impl<M: Machine> Play<Option<Held<M, M::Call, M::Reply>>, View<M::Call, M::Reply
     ghost then = { λ _. TellsDraw log_of (IsGood M.basis M.stands M.owes) };
 }
 
-/// Looks whether the ticket is served, and takes the slot if it is.
+/// The step that checks if the ticket is served, and takes the slot if it is.
 pub(crate) struct Look<M> {
     machine: PhantomData<M>,
 }
@@ -28,7 +28,7 @@ impl<M: Machine> Play<Option<Held<M, M::Call, M::Reply>>, View<M::Call, M::Reply
     ghost then = { λ _. TellsLook log_of (IsGood M.basis M.stands M.owes) };
 }
 
-/// Ends the turn: the next ticket is served.
+/// The step that ends the turn: the next ticket is served.
 pub(crate) struct End<M> {
     machine: PhantomData<M>,
 }
@@ -38,7 +38,7 @@ impl<M: Machine> Play<Option<Held<M, M::Call, M::Reply>>, View<M::Call, M::Reply
     ghost then = { λ _. TellsEnd log_of (IsGood M.basis M.stands M.owes) };
 }
 
-/// The root looks at the history so far.
+/// The step by which the root looks at the history so far.
 pub(crate) struct Gather<M> {
     machine: PhantomData<M>,
 }
@@ -48,7 +48,7 @@ impl<M: Machine> Play<Option<Held<M, M::Call, M::Reply>>, View<M::Call, M::Reply
     ghost then = { λ _. TellsGather log_of (IsGood M.basis M.stands M.owes) };
 }
 
-/// Splits the seat of a new pass from that of the root.
+/// The split of a new pass's seat from the root's seat.
 pub(crate) struct Cut;
 
 impl<C, R, Q> Split<View<C, R, Q>> for Cut {
@@ -57,7 +57,7 @@ impl<C, R, Q> Split<View<C, R, Q>> for Cut {
     ghost right = { new_pass_view };
 }
 
-/// Joins the seat of a pass to that of the root.
+/// The join of a pass's seat to the root's seat.
 pub(crate) struct Glue<M> {
     machine: PhantomData<M>,
 }

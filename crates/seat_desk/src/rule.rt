@@ -1,5 +1,5 @@
-//! The rule of the desk's table: word 0 is the next ticket, word 1 the ticket that is served, and the
-//! slot has the machine with its history.
+//! The rule of the desk's table. Word 0 is the next ticket, word 1 is the ticket that is served,
+//! and the slot contains the machine with its history.
 ghost use Rattle.seat_desk.specs.Helds.{log_of, IsGood};
 ghost use Rattle.seat_desk.specs.Turns.{Kept, first_view};
 

@@ -1,4 +1,4 @@
-//! What happens in a turn, while the machine is out of the slot.
+//! The work of a turn, while the machine is out of the slot.
 ghost use Rattle.std.specs.Prelude.{◌≡◌, ◌<◌, ◌+◌, true, false, cond};
 ghost use Rattle.seat_desk.specs.History.{entry, after, IsReply};
 ghost use Rattle.seat_desk.specs.Helds.{IsGood, HasRoom};
@@ -9,7 +9,7 @@ use crate::machine::{Machine, Then};
 use crate::pieces::Pieces;
 use plain_values::Entry;
 
-// Adds the entry to the history, where it is kept. It takes no memory.
+// Adds the entry to the history, if it is recorded. The function takes no memory.
 fn write<M: Machine>(
     history: &mut Pieces<Entry<M::Call, M::Reply>>,
     lane: u32,
@@ -56,7 +56,7 @@ pub(crate) fn step<M: Machine>(
     (reply, good)
 }
 
-/// Makes the call that the work answers to the first one's reply, if it answers one.
+/// Makes the call that the work returns for the first call's reply, if it returns one.
 pub(crate) fn follow<M: Machine, W: Then<M>>(
     held: &mut Held<M, M::Call, M::Reply>,
     lane: u32,

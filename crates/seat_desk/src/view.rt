@@ -1,25 +1,26 @@
-//! What each seat at the table knows. No value of these types is made: they are data of the proofs.
+//! The knowledge of each seat at the table. No value of these types is made: they are data of the
+//! proofs.
 //!
-//! Seat 0 is the root's, and seat `k + 1` that of lane `k`.
+//! Seat 0 is the root's, and seat `k + 1` is lane `k`'s.
 use plain_values::Entry;
 use std::collections::LinkedList;
 
-/// Whose seat it is.
+/// The owner of a seat.
 pub enum Role {
-    /// The root's, after so many passes were split.
+    /// The root, after this number of passes were split.
     Root(u64),
-    /// That of this lane's pass.
+    /// The pass of this lane.
     Lane(u64),
-    /// That of a pass that was joined.
+    /// A pass that was joined.
     Gone,
 }
 
-/// Where the seat stands in the line. Tickets are counted from the first; the table's words hold
+/// The stage of a seat in the queue. Tickets are counted from the first one. The table's words hold
 /// them modulo 2^64.
 pub enum Stage {
-    /// It has no ticket.
+    /// The seat has no ticket.
     Idle,
-    /// It has drawn this ticket.
+    /// The seat has drawn this ticket.
     Waits(u64),
     /// This ticket is served, and the seat has the machine.
     Turn(u64),
@@ -31,17 +32,17 @@ pub struct Joined<C, R> {
     pub calls: LinkedList<Entry<C, R>>,
 }
 
-/// What a seat knows.
+/// The knowledge of a seat.
 pub struct View<C, R, Q> {
-    /// Whose it is.
+    /// The seat's owner.
     pub role: Role,
     /// The basis of the machine that the table has.
     pub basis: Q,
-    /// Where it stands in the line.
+    /// The seat's stage in the queue.
     pub stage: Stage,
     /// A front of the one history.
     pub seen: LinkedList<Entry<C, R>>,
-    /// What the seat was told of: a front of the history too.
+    /// The entries that the seat has learned of, also a front of the history.
     pub told: LinkedList<Entry<C, R>>,
     /// The calls of the seat's own lane.
     pub mine: LinkedList<Entry<C, R>>,

@@ -1,4 +1,4 @@
-// The pools of a plan, and which of them each group stands in.
+// The pools of a plan, and the pool of each group.
 ghost use Rattle.std.specs.Prelude.{◌≡◌, IfOk, Some, slice_get};
 ghost use Rattle.list_lemmas.specs.Places.{update};
 ghost use Rattle.shared_rules.specs.Pools.{has_group, usable_seats};
@@ -10,7 +10,7 @@ use shared_rules::SharedPool;
 use std::alloc::Global;
 use std::marker::Model;
 
-/// Pools in one of which each group stands. A contract sees the list of the pools.
+/// Pools, one of which contains each group. A contract sees the list of the pools.
 #[derive(Drop)]
 pub struct Pools {
     pools: Items<SharedPool>,
@@ -31,11 +31,11 @@ impl Model for Pools {
 }
 
 impl Pools {
-    /// The pools of so many groups.
+    /// Creates the table of the pools for `groups` groups. No other call takes memory.
     ///
     /// # Errors
     ///
-    /// `NoMemory` where there is no room for a note of each group's pool. No other call takes any.
+    /// Returns `NoMemory` if memory runs out for the note of each group's pool.
     pub fn of(alloc: Global, groups: usize, pools: Items<SharedPool>) -> Result<Pools, NoMemory>
         requires { StandOnce groups pools }
         ensures { IfOk result (λ p. p ≡ pools) }
@@ -44,21 +44,21 @@ impl Pools {
         Ok(Pools { pools, homes })
     }
 
-    /// The pools themselves.
+    /// Returns the pools themselves.
     pub fn as_slice(&self) -> &[SharedPool]
         ensures { result.now ≡ self.now }
     {
         self.pools.as_slice()
     }
 
-    /// How many berths they have, where a run may have as many; else none.
+    /// Returns the number of berths of the pools, or 0 if a run may not have as many.
     pub fn berths(&self) -> u32
         ensures { result ≡ usable_seats self.now }
     {
         berths_of(self.pools.as_slice())
     }
 
-    /// The group stands in the pool at this place.
+    /// Returns true if the group is in the pool at this place.
     pub fn is_home(&self, place: usize, group: u32) -> bool
         ensures { (pool : _) → slice_get self.now place ≡ Some pool
             → result ≡ has_group pool group }
@@ -67,7 +67,7 @@ impl Pools {
     }
 }
 
-// It is noted that the group stands in the pool at this place.
+// Returns true if the notes have this place for the group's pool.
 fn is_noted(homes: &[usize], group: u32, place: usize) -> bool
     ensures { result ≡ is_home homes.now group place }
 {
@@ -77,7 +77,7 @@ fn is_noted(homes: &[usize], group: u32, place: usize) -> bool
     }
 }
 
-// The place of each group's pool, where there are so many groups.
+// Returns the place of each group's pool, for `groups` groups.
 fn homes_of(alloc: Global, groups: usize, pools: &[SharedPool]) -> Result<Vec<usize>, NoMemory>
     requires { StandOnce groups pools.now }
     ensures { IfOk result (λ v. AreHomes pools.now v.items) }
@@ -89,7 +89,7 @@ fn homes_of(alloc: Global, groups: usize, pools: &[SharedPool]) -> Result<Vec<us
     Ok(homes)
 }
 
-// These groups stand in the pool at this place.
+// Notes that these groups are in the pool at this place.
 fn put_homes(homes: &mut [usize], groups: &[u32], place: usize)
     ensures { homes.new ≡ with_homes place groups.now homes.old }
 {

@@ -1,7 +1,7 @@
-//! Shared berths: worker keys run on a few local processes. A berth of a pool runs whichever of the
-//! pool's groups needs it, and an idle line is given up for a group that has none.
+//! Shared berths: worker keys run on a few local processes. A berth of a pool runs any group of the
+//! pool that needs it. If a group has no line, an idle line of another group is given up for it.
 //!
-//! [`SharedBerths`] is the policy by which a core does so; [`shared_core`] makes that core.
+//! [`SharedBerths`] is the policy by which a core does so, and [`shared_core`] makes that core.
 #![tactic(auto)]
 
 ghost use Rattle.std.specs.Prelude.{[], IfOk};
@@ -26,25 +26,26 @@ use shared_rules::SharedPlan;
 use spawn_core::Core;
 use std::alloc::Global;
 
-/// Runs the groups of pools on the pools' berths. The earliest queued action of a line's group goes
-/// first; where a berth is free, that of a group which needs a line.
+/// The policy that runs the groups of pools on the pools' berths. On a line, the earliest queued
+/// action of its group goes first. On a free berth, the earliest action of a group that needs a
+/// line goes first.
 #[derive(Drop)]
 pub struct SharedBerths {
     pools: Pools,
     instances: u32,
-    // The berths in the order in which they have said something, the one silent longest first.
+    // The berths in the order of their last message, the one that was silent longest first.
     spoken: ArrayVec<u32, 64>,
 }
 
 /// The scheduling core of a run on shared berths.
 pub type SharedCore = Core<SharedBerths>;
 
-/// The core of a run on shared berths, in which nothing was called yet. It makes the room for all that
-/// later calls need.
+/// Creates the core of a run on shared berths, before any call. Makes the room for all that later
+/// calls need.
 ///
 /// # Errors
 ///
-/// `NoMemory` where that room is not there.
+/// Returns `NoMemory` if memory runs out.
 pub fn shared_core(alloc: Global, shared: SharedPlan) -> Result<SharedCore, NoMemory>
     requires plan { Sound shared.plan }
     requires pools { SoundPools shared }

@@ -1,4 +1,4 @@
-// What the tables say of a berth's last line.
+// Facts about a berth's last line, as the tables record them.
 ghost use Rattle.std.specs.Prelude.{◌≡◌, ◌*◌, ◌<◌, ◌&&◌, length};
 ghost use Rattle.exec_journal.specs.Seated.{group_for};
 ghost use Rattle.core_state.specs.Choices.{Reads};
@@ -13,7 +13,7 @@ use earliest_first::has_room;
 use exec_journal::{Attempt, Branch, Plan};
 use worker_pool::LineRow;
 
-/// The group of the berth's last line.
+/// Returns the group of the berth's last line.
 pub fn group_at(state: &State, berth: u32) -> Option<u32>
     requires { Reads state.now berth }
     ensures { result ≡ group_at state.now berth }
@@ -22,7 +22,7 @@ pub fn group_at(state: &State, berth: u32) -> Option<u32>
     group_for(&state.plan, attempt)
 }
 
-// The group that runs the attempt.
+// Returns the group that runs the attempt.
 fn group_for(plan: &Plan, attempt: Attempt) -> Option<u32>
     ensures { result ≡ group_for plan.now attempt }
 {
@@ -33,7 +33,7 @@ fn group_for(plan: &Plan, attempt: Attempt) -> Option<u32>
     }
 }
 
-/// What is known of the berth's last line.
+/// Returns the pool's row of the berth's last line.
 pub fn line_at(state: &State, berth: u32) -> Option<LineRow>
     requires { Reads state.now berth }
     ensures { result ≡ line_at state.now berth }
@@ -42,7 +42,7 @@ pub fn line_at(state: &State, berth: u32) -> Option<LineRow>
     Some(state.pool.line(line))
 }
 
-// What the berth's proxy lane was ordered last.
+// Returns the last order of the berth's proxy lane.
 fn order_at(state: &State, berth: u32) -> Owed
     requires lane { 2 * berth < length state.now.lanes }
     requires reads { Reads state.now berth }
@@ -51,7 +51,7 @@ fn order_at(state: &State, berth: u32) -> Owed
     state.lanes.state(2 * berth).order
 }
 
-/// The berth's last line may still have a process.
+/// Returns true if the berth's last line may still have a process.
 pub fn holds(state: &State, berth: u32) -> bool
     requires lane { 2 * berth < length state.now.lanes }
     requires reads { Reads state.now berth }
@@ -65,8 +65,8 @@ pub fn holds(state: &State, berth: u32) -> bool
     }
 }
 
-/// The berth's last line is idle: live, with nothing pending on it or bound to it, and no match of the
-/// berth waits.
+/// Returns true if the berth's last line is idle: it is live, nothing is pending on it or bound to
+/// it, and no match of the berth waits.
 pub fn rests(state: &State, berth: u32) -> bool
     requires lane { 2 * berth < length state.now.lanes }
     requires reads { Reads state.now berth }
@@ -86,7 +86,7 @@ fn line_rests(line: Option<LineRow>) -> bool
     }
 }
 
-/// It is idle, and nothing of its group is queued.
+/// Returns true if the line is idle and nothing of its group is queued.
 pub fn may_go(state: &State, berth: u32) -> bool
     requires lane { 2 * berth < length state.now.lanes }
     requires reads { Reads state.now berth }
@@ -96,7 +96,7 @@ pub fn may_go(state: &State, berth: u32) -> bool
     rests(state, berth) && state.ready.earliest(group).is_none()
 }
 
-/// The berth's last line was killed and hasn't ended.
+/// Returns true if the berth's last line was killed and hasn't ended.
 pub fn is_killed(state: &State, berth: u32) -> bool
     requires { Reads state.now berth }
     ensures { result ≡ line_is_killed (line_at state.now berth) }
@@ -117,7 +117,7 @@ fn is_of_group(state: &State, group: u32, berth: u32) -> bool
     }
 }
 
-// The berth's last line is a live one of the group with a free place.
+// Returns true if the berth's last line is a live line of the group with a free place.
 fn has_free(state: &State, group: u32, berth: u32) -> bool
     requires { Reads state.now berth }
     ensures { result ≡ (is_of_group state.now group berth && has_room state.now.pool berth) }
@@ -125,7 +125,7 @@ fn has_free(state: &State, group: u32, berth: u32) -> bool
     is_of_group(state, group, berth) && has_room(state, berth)
 }
 
-// The berth's last line is one of the group, and may still have a process.
+// Returns true if the berth's last line is one of the group and may still have a process.
 fn is_held(state: &State, group: u32, berth: u32) -> bool
     requires lane { 2 * berth < length state.now.lanes }
     requires reads { Reads state.now berth }
@@ -134,7 +134,7 @@ fn is_held(state: &State, group: u32, berth: u32) -> bool
     is_of_group(state, group, berth) && holds(state, berth)
 }
 
-/// One of the first so many berths has a live line of the group with a free place.
+/// Returns true if one of the first `berths` berths has a live line of the group with a free place.
 pub fn some_free(state: &State, group: u32, berths: u32) -> bool
     requires { ReadsBelow berths state.now }
     ensures { result ≡ some_free state.now group berths }
@@ -147,7 +147,8 @@ pub fn some_free(state: &State, group: u32, berths: u32) -> bool
     false
 }
 
-/// So many of the first so many berths have a line of the group that may still have a process.
+/// Returns how many of the first `berths` berths have a line of the group that may still have a
+/// process.
 pub fn lines_held(state: &State, group: u32, berths: u32) -> u32
     requires { ReadsBelow berths state.now }
     ensures { result ≡ lines_held state.now group berths }

@@ -70,7 +70,7 @@ impl Policy for SharedBerths {
         false
     }
 
-    // No lane asks it.
+    // Returns Idle: no lane makes Ticks.
     fn tick(&self, _state: &State) -> Reply {
         Reply::Idle
     }
@@ -101,7 +101,7 @@ impl Policy for SharedBerths {
 }
 
 impl SharedBerths {
-    // What stands at the berth: its line's group, where it has a line.
+    // Returns what is at the berth: its line's group, if it has a line.
     fn seat_here(&self, state: &State, berth: u32) -> BerthGroup
         requires { Reads state.now berth }
         ensures { result ≡ seat_here (shared_by self.now state.now.plan) state.now berth }
@@ -112,7 +112,7 @@ impl SharedBerths {
         }
     }
 
-    // The kind of a berth without a line.
+    // Returns the kind of a berth without a line.
     fn berth_kind(&self, plan: &Plan, berth: u32) -> Kind
         ensures { result ≡ berth_kind (shared_by self.now plan.now) berth }
     {
@@ -122,7 +122,8 @@ impl SharedBerths {
         }
     }
 
-    // What the pool orders: the line there is given up, or a line is launched for a starved group.
+    // Returns the pool's order for the berth: give up the line there, or launch a line for a
+    // starved group.
     fn choose_more(&self, state: &State, berth: u32) -> Option<Choice>
         requires shared { ReadsShared (shared_by self.now state.now.plan) state.now }
         requires berth { berth < seats (shared_by self.now state.now.plan) }
@@ -169,7 +170,7 @@ impl SharedBerths {
     }
 }
 
-// A group of the pool is an executor's.
+// Returns true if a group of the pool is an executor's.
 fn has_executor(plan: &Plan, pool: &SharedPool) -> bool
     ensures { result ≡ list_any (λ g. is_remote (kind_in plan.now (Some g))) pool.now.groups }
 {

@@ -1,4 +1,4 @@
-// Which pool a berth is of.
+// The pool of a berth.
 ghost use Rattle.std.specs.Prelude.{◌≡◌, Some, option_copied};
 ghost use Rattle.run_plan.specs.Groups.{is_remote};
 ghost use Rattle.exec_journal.specs.Seated.{kind_in};
@@ -8,7 +8,7 @@ use exec_journal::{Kind, Plan};
 use run_plan::MOST_BERTHS;
 use shared_rules::SharedPool;
 
-/// How many berths these pools have, where a run may have as many; else none.
+/// Returns the number of berths of these pools, or 0 if a run may not have as many.
 pub fn berths_of(pools: &[SharedPool]) -> u32
     ensures { result ≡ usable_seats pools.now }
 {
@@ -22,7 +22,7 @@ pub fn berths_of(pools: &[SharedPool]) -> u32
     berths as u32
 }
 
-/// The berth's pool.
+/// Returns the berth's pool.
 pub fn pool_of(pools: &[SharedPool], berth: u32) -> Option<&SharedPool>
     ensures { option_copied result ≡ pool_from pools.now berth }
 {
@@ -36,7 +36,7 @@ pub fn pool_of(pools: &[SharedPool], berth: u32) -> Option<&SharedPool>
     None
 }
 
-/// The place of the berth's pool among these.
+/// Returns the place of the berth's pool among these.
 pub fn pool_at(pools: &[SharedPool], berth: u32) -> usize
     ensures { result ≡ pool_at pools.now 0 berth }
 {
@@ -50,7 +50,7 @@ pub fn pool_at(pools: &[SharedPool], berth: u32) -> usize
     pools.len()
 }
 
-/// The kind of the group, where it is one of the plan's.
+/// Returns the kind of the group, if it is one of the plan's.
 pub fn kind_of(plan: &Plan, group: u32) -> Kind
     ensures { result ≡ kind_in plan.now (Some group) }
 {
@@ -60,7 +60,7 @@ pub fn kind_of(plan: &Plan, group: u32) -> Kind
     }
 }
 
-/// The group is an executor's.
+/// Returns true if the group is an executor's.
 pub fn is_executor(plan: &Plan, group: u32) -> bool
     ensures { result ≡ is_remote (kind_in plan.now (Some group)) }
 {

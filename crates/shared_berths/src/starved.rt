@@ -1,4 +1,4 @@
-// Which groups of a pool are starved, what is launched for them, and which line is given up.
+// The starved groups of a pool, the launches for them, and the line that is given up.
 ghost use Rattle.std.specs.Prelude.{◌≡◌, ◌*◌, ◌<◌, ◌==◌, ◌&&◌, Some, not, length};
 ghost use Rattle.std.specs.List.{list_any};
 ghost use Rattle.core_state.specs.Choices.{Reads};
@@ -19,7 +19,7 @@ use exec_journal::{Attempt, Branch, Plan};
 use ready_order::GroupSet;
 use shared_rules::SharedPool;
 
-// The groups that are starved of the pool at this place.
+// The groups that are starved in the pool at this place.
 #[derive(Clone, Copy)]
 struct StarvedGroups<'a> {
     policy: &'a SharedBerths,
@@ -41,7 +41,7 @@ impl GroupSet for StarvedGroups<'_> {
 }
 
 impl SharedBerths {
-    /// How many berths there are.
+    /// Returns the number of berths.
     pub fn all_berths(&self, state: &State) -> u32
         requires { ReadsShared (shared_by self.now state.now.plan) state.now }
         ensures { result ≡ seats (shared_by self.now state.now.plan) }
@@ -49,7 +49,7 @@ impl SharedBerths {
         self.pools.berths()
     }
 
-    // So many lines the group may hold.
+    // Returns how many lines the group may hold.
     fn most_lines(&self, plan: &Plan, pool: &SharedPool, group: u32) -> u32
         ensures { result ≡ most_lines (shared_by self.now plan.now) pool.now group }
     {
@@ -60,7 +60,8 @@ impl SharedBerths {
         }
     }
 
-    // Something of the group is queued, it has no free place, and it holds fewer lines than it may.
+    // Returns true if something of the group is queued, it has no free place, and it holds fewer
+    // lines than it may.
     fn is_starved(&self, state: &State, pool: &SharedPool, group: u32) -> bool
         requires { ReadsShared (shared_by self.now state.now.plan) state.now }
         ensures { result ≡ is_starved (shared_by self.now state.now.plan) state.now pool.now group }
@@ -71,7 +72,7 @@ impl SharedBerths {
             && lines_held(state, group, berths) < self.most_lines(&state.plan, pool, group)
     }
 
-    // Some group of the berth's pool is starved.
+    // Returns true if some group of the berth's pool is starved.
     fn some_starved(&self, state: &State, berth: u32, pool: &SharedPool) -> bool
         requires shared { ReadsShared (shared_by self.now state.now.plan) state.now }
         requires own { pool_of (shared_by self.now state.now.plan) berth ≡ Some pool.now }
@@ -82,7 +83,7 @@ impl SharedBerths {
         self.first_starved(state, berth, pool).is_some()
     }
 
-    // The first branch of all that is queued in a starved group of the berth's pool.
+    // Returns the first of all branches that are queued in a starved group of the berth's pool.
     fn first_starved(&self, state: &State, berth: u32, pool: &SharedPool) -> Option<(u32, Branch)>
         requires shared { ReadsShared (shared_by self.now state.now.plan) state.now }
         requires own { pool_of (shared_by self.now state.now.plan) berth ≡ Some pool.now }
@@ -98,7 +99,7 @@ impl SharedBerths {
         state.ready.least_among(&starved)
     }
 
-    /// What is launched for the pool: the next attempt of that branch.
+    /// Returns the attempt to launch for the pool: the next attempt of that branch.
     pub fn next_starved(&self, state: &State, berth: u32, pool: &SharedPool) -> Option<Attempt>
         requires shared { ReadsShared (shared_by self.now state.now.plan) state.now }
         requires own { pool_of (shared_by self.now state.now.plan) berth ≡ Some pool.now }
@@ -116,14 +117,14 @@ impl SharedBerths {
         }
     }
 
-    // The two berths are of one pool.
+    // Returns true if the two berths are of one pool.
     fn same_pool(&self, one: u32, other: u32) -> bool
         ensures { result ≡ (pool_at self.now.pools 0 one == pool_at self.now.pools 0 other) }
     {
         pool_at(self.pools.as_slice(), one) == pool_at(self.pools.as_slice(), other)
     }
 
-    // A berth of the pool of this one is vacant.
+    // Returns true if a berth of this berth's pool is vacant.
     fn some_vacant(&self, state: &State, berth: u32) -> bool
         requires { ReadsShared (shared_by self.now state.now.plan) state.now }
         ensures { result ≡ some_vacant (shared_by self.now state.now.plan) state.now berth
@@ -138,7 +139,7 @@ impl SharedBerths {
         false
     }
 
-    // The other berth is of the same pool, and vacant.
+    // Returns true if the other berth is of the same pool and vacant.
     fn is_vacant(&self, state: &State, berth: u32, other: u32) -> bool
         requires lane { 2 * other < length state.now.lanes }
         requires reads { Reads state.now other }
@@ -148,8 +149,8 @@ impl SharedBerths {
         self.same_pool(other, berth) && !holds(state, other)
     }
 
-    // The line of the other berth was killed and hasn't ended, or it may go and has been silent for
-    // longer.
+    // Returns true if the line of the other berth was killed and hasn't ended, or if it may go and
+    // has been silent for longer.
     fn goes_before(&self, state: &State, berth: u32, other: u32) -> bool
         requires lane { 2 * other < length state.now.lanes }
         requires reads { Reads state.now other }
@@ -161,7 +162,7 @@ impl SharedBerths {
                 && is_before(other, berth, self.spoken.as_slice())
     }
 
-    // The line of some berth of the pool goes before that of this one.
+    // Returns true if the line of some berth of the pool goes before this berth's line.
     fn some_before(&self, state: &State, berth: u32) -> bool
         requires { ReadsShared (shared_by self.now state.now.plan) state.now }
         ensures { result ≡ some_before (shared_by self.now state.now.plan) state.now
@@ -176,7 +177,8 @@ impl SharedBerths {
         false
     }
 
-    // The other berth is of the same pool, and its line goes before.
+    // Returns true if the other berth is of the same pool and its line goes before this berth's
+    // line.
     fn goes_first(&self, state: &State, berth: u32, other: u32) -> bool
         requires lane { 2 * other < length state.now.lanes }
         requires reads { Reads state.now other }
@@ -186,7 +188,7 @@ impl SharedBerths {
         self.same_pool(other, berth) && self.goes_before(state, berth, other)
     }
 
-    /// The line of this berth of the pool is given up for a starved group.
+    /// Returns true if the line of this berth of the pool is given up for a starved group.
     pub fn may_evict(&self, state: &State, berth: u32, pool: &SharedPool) -> bool
         requires shared { ReadsShared (shared_by self.now state.now.plan) state.now }
         requires berth { berth < seats (shared_by self.now state.now.plan) }

@@ -1,4 +1,4 @@
-//! What holds of every journal of shared berths. The functions do nothing: each is a law.
+//! Facts about every journal of shared berths. The functions do nothing: each is a law.
 ghost use Rattle.std.specs.Prelude.{◌≡◌, ℕ, true, false, List, [], ◌∷◌, Some, None, slice_get};
 ghost use Rattle.run_plan.specs.declared.plan.Plan.{Plan};
 ghost use Rattle.run_plan.specs.declared.plan.PlanAction.{PlanAction};
@@ -25,8 +25,8 @@ ghost use Rattle.shared_rules.specs.Shared.{shared_discipline, shared_rule};
 ghost use Rattle.shared_rules.specs.Kept.{SharedKept};
 ghost use Rattle.shared_rules.specs.Evicted.{was_evicted};
 
-/// A legal journal of shared berths is lawful: so one branch of an action wins, and each consumed
-/// answer has a request of its own.
+/// A legal journal of shared berths is lawful. So one branch of an action wins, and each consumed
+/// answer has its own request.
 pub fn shared_berths_are_lawful()
     ensures lawful { (s : SharedPlan) (j : List Entry) → LegalBy (shared_discipline s) j
         → Lawful s.plan j }
@@ -35,14 +35,14 @@ pub fn shared_berths_are_lawful()
         → Paired s.plan j }
 {}
 
-/// What is said of each order holds when it is given: a line is launched for a starved group, and
-/// given up only where the rule says so; and a pool never has more lines than berths.
+/// The clauses about each order hold when it is given. A line is launched for a starved group, and
+/// given up only if the rule requires it. A pool never has more lines than berths.
 pub fn shared_orders_are_kept()
     ensures { (s : SharedPlan) (j : List Entry) → Sound s.plan → LegalBy (shared_discipline s) j
         → SharedKept s j }
 {}
 
-/// A run is finished when a lane is told to stop and none has halted; and if every worker did its
+/// A run is finished when a lane is told to stop and none has halted. If every worker also did its
 /// part, every action has success.
 pub fn shared_stops_finish_runs()
     ensures stops { (s : SharedPlan) (j : List Entry) (lane : ℕ) (c : Call) → Sound s.plan
@@ -56,8 +56,8 @@ pub fn shared_stops_finish_runs()
         → is_ok (outcome_of s.plan j a) ≡ true }
 {}
 
-/// In any lawful journal a line that was evicted has nothing pending and nothing bound, and gets no
-/// Send any more; so no attempt ends with it.
+/// In any lawful journal, an evicted line has nothing pending and nothing bound, and gets no
+/// further Send. So no attempt ends with it.
 pub fn evictions_end_nothing()
     ensures empty { (p : Plan) (j : List Entry) (l : ℕ) → Lawful p j → was_evicted j l ≡ true
         → (pending j l ≡ []) × (bound p j l ≡ None) }

@@ -1,6 +1,6 @@
-//! The rules of scheduling by which worker keys share berths: a berth of a pool runs whichever of
-//! the pool's groups needs it, and an idle line is given up for a group that has none. Each law is
-//! the contract of a function without a body.
+//! The scheduling rules by which worker keys share berths. A berth of a pool runs any group of the
+//! pool that needs it. If a group has no line, an idle line of another group is given up for it.
+//! Each law is the contract of a function without a body.
 #![tactic(auto)]
 
 pub mod laws;

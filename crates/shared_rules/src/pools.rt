@@ -1,8 +1,8 @@
 use plain_values::Items;
 use run_plan::Plan;
 
-/// A plan whose groups have no berths of their own: each stands in one pool, whose berths its
-/// groups share. A group that isn't an executor's has at most so many instances.
+/// A plan whose groups have no berths of their own. Each group is in one pool, and the pool's
+/// groups share its berths. `instances` limits the lines of a group, unless it is an executor's.
 #[derive(Drop)]
 pub struct SharedPlan {
     pub plan: Plan,

@@ -1,5 +1,5 @@
-//! The top call of a run whose worker keys share berths: it reads a list of actions, which may have
-//! 4,096 keys, runs the lanes of few workers on threads, and reports.
+//! The top call of a run whose worker keys share berths. It reads a list of actions, which may have
+//! 4,096 keys, runs the lanes of a few workers on threads, and reports.
 #![tactic(auto)]
 
 ghost use Rattle.std.specs.Prelude.{◌≡◌, Some, map, string_bytes};
@@ -16,17 +16,17 @@ use std::sync::Wait;
 use std::thread::Threads;
 use worker_run::{Ended, RunFault, Stage, run_and_report};
 
-/// Runs the actions of the list that the words name, on this floor, and puts the report. Local
-/// worker keys share berths: there are at most as many workers of each protocol as the words say.
+/// Runs the actions of the list that the arguments name, on this floor, and writes the report. Local
+/// worker keys share berths. The arguments give the maximum number of workers of each protocol.
 ///
-/// The words are those after the program's name. The order of work: the words; the list, which is
-/// read from the floor; the tools and then the inputs of each action, each path read once; the flag
-/// files; the places and the berths; the two lanes of each berth, each on a thread of its own; the
-/// report, in one put. An earlier step's fault goes before a later one's.
+/// `words` are the arguments after the program's name. The steps come in this order: the arguments,
+/// the list, the source files, the flag files, the places and the berths, the lanes, the report.
+/// The list is read from the floor. For each action the tools are read before the inputs, and each
+/// path is read once. Each berth has two lanes, each on its own thread. The report is written in one
+/// put. An earlier step's fault takes precedence over a later one's.
 ///
-/// Where a run is told (`task` is there), all that is left is what one history says, and that is
-/// the journal. Where memory ran out before the lanes, new berths and places are left, as many as
-/// were made.
+/// If `task` is present, everything that is left agrees with one history, which is the journal. If
+/// memory ran out before the lanes were started, all berths and places that were made are left, new.
 pub fn run_shared<R: Threads + Wait + Sync, F: Floor, O: Sink>(
     rt: &R,
     alloc: Global,
@@ -40,7 +40,7 @@ where
     <F::Berth as Berth>::Feed: Send,
     <F::Berth as Berth>::Tap: Send,
     <F::Berth as Berth>::Child: Send,
-    // All that one history says, and how the run ended: a field for each.
+    // Everything that one history records, and how the run ended, with a field for each.
     ensures run { SharedKeeps (shared_options_of (map string_bytes words.now)) (F.told floor)
         result }
     ensures report { Reports result (O.told out.old) (O.told out.new) }

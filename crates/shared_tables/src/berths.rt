@@ -14,8 +14,8 @@ ghost use Rattle.shared_rules.specs.Shared.{shared_discipline};
 ghost use Rattle.shared_tables.specs.Berths.{holds, may_evict, rests};
 ghost use Rattle.shared_tables.specs.Spoken.{IsSpoken};
 
-/// The tables' facts about a berth's last line agree with the journal, as long as no lane has halted: that
-/// it may still have a process, and that it is idle.
+/// The tables' facts about a berth's last line agree with the journal, as long as no lane has
+/// halted. The facts are that the line may still have a process, and that it is idle.
 pub fn lines_are_told()
     ensures holds { (q : SharedPlan) (s : State) (j : List Entry) (w l : ℕ)
         → Stands q.plan (seats q) s j → LegalBy (shared_discipline q) j → halted j ≡ false

@@ -1,5 +1,5 @@
-//! From the arguments of the command with shared berths to a task: the plan of its list, whose groups have
-//! no own berths, the pools that they share, and the task.
+//! From the arguments of the command with shared berths to a task. The result has the plan of the list,
+//! whose groups have no berths of their own, the pools that the groups share, and the task.
 #![tactic(auto)]
 
 mod plans;

@@ -1,4 +1,4 @@
-// What a list comes to, made of the list, its work and the options.
+// The task of a list, computed from the list, its work and the options.
 ghost use Rattle.std.specs.Prelude.{◌≡◌, ◌<◌, ◌^◌, IfOk, length, map, sum_by};
 ghost use Rattle.list_actions.specs.Whole.{IsWhole};
 ghost use Rattle.run_plan.specs.Sound.{Sound};
@@ -17,11 +17,11 @@ use run_tasks::{Task, commands_of};
 use shared_rules::SharedPlan;
 use std::alloc::Global;
 
-/// The task of a list that has this work, with the plan of its core.
+/// Returns the task of a list that has this work, and the plan of its core.
 ///
 /// # Errors
 ///
-/// `NoMemory`.
+/// Returns `NoMemory` if memory runs out.
 pub fn shared_task_of(
     alloc: Global,
     options: &SharedOptions,
@@ -70,7 +70,7 @@ fn all_berths(groups: &[Group]) -> u32
     groups.iter().map(|group| group.berths).sum()
 }
 
-// The groups, with no berths of their own.
+// Returns the groups without berths.
 fn bare(alloc: Global, groups: &[Group]) -> Result<Items<Group>, NoMemory>
     ensures { IfOk result (λ v. v ≡ map without_berths groups.now) }
 {

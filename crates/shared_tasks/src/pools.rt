@@ -1,4 +1,4 @@
-// The pools of a plan, and what is spoken at each berth of them.
+// The pools of a plan, and the speech of each of their berths.
 ghost use Rattle.std.specs.Prelude.{◌≡◌, ◌++◌, ◌^◌, ◌<◌, IfOk, OnOk, length};
 ghost use Rattle.shared_tasks.specs.Pools.{is_same, pool_if, pools_in, speaking_from, speeches_in, spoken_pools};
 
@@ -15,12 +15,12 @@ pub struct SpokenPools {
     pub speeches: Vec<Speech>,
 }
 
-/// Returns the pools of the groups with these parts, with the given numbers of workers for each protocol
-/// and of executors.
+/// Returns the pools of the groups with these parts. The pool of a worker protocol has `workers` berths,
+/// and the pool of the executors has `executors` berths.
 ///
 /// # Errors
 ///
-/// `NoMemory`.
+/// Returns `NoMemory` if memory runs out.
 pub fn pools_of(
     alloc: Global,
     parts: &[GroupPart],
@@ -52,7 +52,7 @@ pub fn pools_of(
 }
 
 impl SpokenPools {
-    // Adds the pool of these groups, where there are any, with so many berths.
+    // Adds the pool of these groups, with `berths` berths. If there are no groups, adds nothing.
     fn add(&mut self, groups: Vec<u32>, berths: u32, speech: Speech) -> Result<(), NoMemory>
         ensures pools { OnOk result (self.new.pools.items
             ≡ self.old.pools.items ++ pools_in (pool_if speech groups.items berths)) }
@@ -73,7 +73,7 @@ impl SpokenPools {
     }
 }
 
-// The groups whose part has this speech.
+// Returns the groups whose part has this speech.
 fn speaking(alloc: Global, parts: &[GroupPart], speech: Speech) -> Result<Vec<u32>, NoMemory>
     requires { length parts.now < 2 ^ 32 }
     ensures { IfOk result (λ v. v.items ≡ speaking_from speech 0 parts.now) }

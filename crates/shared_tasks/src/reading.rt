@@ -1,4 +1,4 @@
-// What is read before anything is started.
+// The reads before anything is started.
 ghost use Rattle.std.specs.Prelude.{◌≡◌, IfOk, Some, map, string_bytes};
 ghost use Rattle.list_actions.specs.Whole.{IsWhole};
 ghost use Rattle.outside.specs.Causes.{Counts};
@@ -17,10 +17,10 @@ use run_tasks::Task;
 use shared_rules::SharedPlan;
 use std::alloc::Global;
 
-// So many worker keys may a list have.
+// The maximum number of worker keys of a list.
 const MOST_KEYS: u32 = 4096;
 
-/// The task of a list, and the plan of the core that runs it.
+/// The task of a list, and the plan of the core that runs the task.
 #[derive(Drop)]
 pub struct SharedTask {
     pub task: Task,
@@ -29,15 +29,16 @@ pub struct SharedTask {
 
 /// Returns the task that the arguments of a command yield, before its lanes are started.
 ///
-/// In this order: the arguments are read; the list is read at its path, which may have 4,096 worker keys;
-/// its actions' tools and source inputs are read; then the plan is made, with its pools, its commands and
-/// its protocols.
+/// First the arguments are read. Then the list is read at its path. It may have at most 4,096 worker keys. Then
+/// its actions' tools and source inputs are read. Last, the plan is made, with its pools, its commands
+/// and its protocols.
 ///
 /// # Errors
 ///
 /// Returns the first of these: `Words` if the arguments aren't accepted, and then nothing is read; `Absent`
 /// or `FloorFailed` for the list, `List` with its first fault, `Absent` or `FloorFailed` for a tool or an
-/// input, `Flags` of the first action that has such a fault. `NoMemory` with `Before` at any time.
+/// input, `Flags` of the first action that has such a fault. Returns `NoMemory` with `Before` if memory
+/// runs out at any time.
 pub fn read_shared_task<F: Floor>(
     alloc: Global,
     words: &[String],
@@ -75,7 +76,7 @@ fn read_by_options<F: Floor>(
     }
 }
 
-// Reads the list at this path, and goes on by it.
+// Reads the list at this path, and continues with it.
 fn read_at<F: Floor>(
     alloc: Global,
     floor: &mut F,
@@ -94,7 +95,7 @@ fn read_at<F: Floor>(
     read_by_list(alloc, floor, options, &list)
 }
 
-// Reads what the list's actions read, and makes the task of both.
+// Reads the files that the list's actions read, and returns the task of both.
 fn read_by_list<F: Floor>(
     alloc: Global,
     floor: &mut F,

@@ -1,4 +1,4 @@
-// The words of the command with shared berths.
+// The arguments of the command with shared berths.
 ghost use Rattle.std.specs.Prelude.{◌≡◌, IfOk, IfSome, map, string_bytes, filter_map};
 ghost use Rattle.shared_tasks.specs.Words.{AreShared, IsWithin, only, others, shared_options_of, workers_in};
 
@@ -9,17 +9,17 @@ use tool_words::{Options, number_behind, read_words};
 /// The options of the command with shared berths.
 #[derive(Drop)]
 pub struct SharedOptions {
-    /// The options of `worker_tool` among the words. They name a list.
+    /// The options of `worker_tool` among the arguments. They name a list.
     pub options: Options,
-    /// The most local workers of each protocol, 1 to 24.
+    /// The maximum number of local workers of each protocol, 1 to 24.
     pub workers: u32,
 }
 
-/// Returns the options that these words give, the words after the program's name; `None` exactly if the
-/// words aren't accepted.
+/// Returns the options that these arguments give, or `None` exactly if the arguments aren't accepted.
+/// `words` are the arguments after the program's name.
 ///
-/// Exactly one word is `--max_workers=N`, N from 1 to 24. The others are options of `worker_tool`, without
-/// `--generate`.
+/// Exactly one argument is `--max_workers=N`, with N from 1 to 24. The others are options of
+/// `worker_tool`, without `--generate`.
 ///
 /// # Errors
 ///
@@ -38,7 +38,7 @@ pub fn read_shared_words(alloc: Global, words: &[String]) -> Result<Option<Share
     }
 }
 
-// The number that one of the words gives, and only one.
+// Returns the number that an argument gives, if exactly one argument gives a number.
 fn only_number(words: &[String]) -> Option<u32>
     ensures only { result ≡ only (filter_map workers_in (map string_bytes words.now)) }
     ensures few { IfSome result (IsWithin 1 24) }
@@ -55,7 +55,7 @@ fn only_number(words: &[String]) -> Option<u32>
     found
 }
 
-/// Returns the words of the command that are options of `worker_tool`.
+/// Returns the arguments of the command that are options of `worker_tool`.
 ///
 /// # Errors
 ///

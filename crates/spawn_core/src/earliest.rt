@@ -1,4 +1,4 @@
-//! The policy of a plan whose groups have berths of their own.
+//! The policy of a plan whose groups have their own berths.
 ghost use Rattle.std.specs.Prelude.{refl};
 ghost use Rattle.exec_journal.specs.Kept.{Kept};
 ghost use Rattle.exec_journal.specs.declared.reply.Reply.TheVariants as reply;
@@ -16,8 +16,8 @@ use core_tables::{BerthGroup, group_of_berth};
 use earliest_first::choose;
 use exec_journal::{Call, Plan, Reply};
 
-/// Orders the earliest queued action of the berth's group first, on the plan's own berths. It keeps
-/// nothing of its own.
+/// Orders the earliest queued action of the berth's group first, on the plan's own berths. The
+/// policy has no tables.
 #[derive(Drop)]
 pub struct EarliestFirst;
 
@@ -58,7 +58,7 @@ impl Policy for EarliestFirst {
         false
     }
 
-    // No lane asks it.
+    // Returns Idle: no lane makes Ticks.
     fn tick(&self, _state: &State) -> Reply {
         Reply::Idle
     }

@@ -1,4 +1,4 @@
-// How many berths there are, and what each of their lanes owes.
+// The number of berths, and what each of their lanes owes.
 ghost use Rattle.std.specs.Prelude.{◌≡◌, ◌≤◌, ◌<◌, ◌*◌, ℕ, List, sum_by};
 ghost use Rattle.run_plan.specs.declared.plan.Plan.{Plan};
 ghost use Rattle.exec_journal.specs.Entry.{Entry};
@@ -11,7 +11,7 @@ use core_state::State;
 use core_tables::{LaneState, Said};
 use exec_journal::Group;
 
-/// The number of berths of these groups.
+/// Returns the number of berths of these groups.
 pub fn all_berths(groups: &[Group]) -> u32
     requires { sum_by (λ g. g.berths) groups.now ≤ 64 }
     ensures { result ≡ sum_by (λ g. g.berths) groups.now }
@@ -23,8 +23,8 @@ pub fn all_berths(groups: &[Group]) -> u32
     berths
 }
 
-/// How many paid entries the lane still owes: its Halt, and the Committed of what it was granted. A
-/// lane of no berth of the tables owes none.
+/// Returns how many paid entries the lane still owes: its Halt, and the Committed of each grant to
+/// it. A lane without a berth in the tables owes none.
 pub fn lane_owes(state: &State, lane: u32) -> u64
     requires { HasTables state.now }
     ensures owes { (p : Plan) (seats : ℕ) (j : List Entry) → Stands p seats state.now j
@@ -39,7 +39,7 @@ pub fn lane_owes(state: &State, lane: u32) -> u64
     }
 }
 
-// How many a lane owes that stands there.
+// Returns how many entries a lane in this state owes.
 fn owes(lane: LaneState) -> u64
     ensures { result ≡ owes_by lane }
 {

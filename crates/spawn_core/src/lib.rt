@@ -1,7 +1,7 @@
-//! The scheduling core: the reply to each call of a lane is that of its policy's discipline, and what
-//! the core keeps stands for the journal of the calls so far. It keeps the laws of `Rules`, by which
-//! the bench and the lanes know a core. The policy says what stands at a berth, and what is ordered
-//! next there.
+//! The scheduling core. Its reply to each call of a lane is that of its policy's discipline. Its
+//! state stands for the journal of the calls so far. The core keeps the laws of `Rules`, the trait
+//! by which the bench and the lanes know a core. The policy decides which group each berth has, and
+//! what the core orders there next.
 #![tactic(auto)]
 
 mod earliest;

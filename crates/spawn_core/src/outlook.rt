@@ -1,4 +1,4 @@
-// What is known of a lane before it calls.
+// The outlook of a lane before it calls.
 ghost use Rattle.std.specs.Prelude.{◌≡◌, ◌<◌, ◌/◌, not, is_some};
 ghost use Rattle.run_plan.specs.Sound.{Sound};
 ghost use Rattle.core_state.specs.Choices.{Reads};
@@ -11,8 +11,8 @@ use crate::policy::Policy;
 use core_state::{Choice, State};
 use exec_journal::{Call, Plan, Reply};
 
-/// What a lane asks that owes nothing: one that makes Ticks a Tick, any other proxy lane an order, a
-/// tap lane a line.
+/// Returns the call of a lane that owes nothing: a Tick if the lane makes Ticks, otherwise Ask for
+/// a proxy lane and Take for a tap lane.
 pub fn question<P: Policy>(policy: &P, plan: &Plan, lane: u32) -> Call
     requires { Sound plan.now }
     ensures { result ≡ question (P.discipline (P.basis policy.now plan.now)).ticks lane }
@@ -26,7 +26,7 @@ pub fn question<P: Policy>(policy: &P, plan: &Plan, lane: u32) -> Call
     }
 }
 
-/// Whether a lane that may ask would be told anything but Idle.
+/// Returns true if the reply to a lane that may ask would be anything but Idle.
 pub fn is_awaited<P: Policy>(policy: &P, state: &State, lane: u32) -> bool
     requires there { P.reads policy.now state.now }
     requires berth { lane / 2 < (P.discipline (P.basis policy.now state.now.plan)).seats }
@@ -45,7 +45,7 @@ pub fn is_awaited<P: Policy>(policy: &P, state: &State, lane: u32) -> bool
     }
 }
 
-// The berth's last line was launched with success and not given to a tap lane yet.
+// Returns true if the berth's last line was launched with success and not yet given to a tap lane.
 fn may_take(state: &State, berth: u32) -> bool
     requires { Reads state.now berth }
     ensures { result ≡ is_some (takeable state.now berth) }

@@ -1,4 +1,4 @@
-// The core as its callers see it: it always stands for some journal.
+// The core as its callers see it. It always stands for some journal.
 ghost use Rattle.std.specs.Prelude.{◌≡◌, List, [], IfOk, false};
 ghost use Rattle.run_plan.specs.Sound.{Sound};
 ghost use Rattle.exec_journal.specs.Entry.{Entry};
@@ -34,14 +34,14 @@ use run_progress::Notes;
 use std::alloc::Global;
 use std::marker::Model;
 
-/// The scheduling core of a run, of this policy. A contract sees what it keeps; it always stands
+/// The scheduling core of a run with this policy. A contract sees its contents. It always stands
 /// for some journal.
 #[derive(Drop)]
 pub struct Core<P: Policy> {
     policy: P,
     state: State,
     files: Files,
-    // How many paid entries are still to come.
+    // The number of paid entries that are still to come.
     owed: u64,
 }
 
@@ -66,12 +66,12 @@ impl<P: Policy> Model for Core<P> {
 }
 
 impl Core<EarliestFirst> {
-    /// The core of a run on the plan's own berths, in which nothing was called yet. It makes the
-    /// room for all that later calls need.
+    /// Creates the core of a run on the plan's own berths, before any call. Makes the room for all
+    /// that later calls need.
     ///
     /// # Errors
     ///
-    /// `NoMemory` where that room is not there.
+    /// Returns `NoMemory` if memory runs out.
     pub fn new(alloc: Global, plan: Plan) -> Result<Core<EarliestFirst>, NoMemory>
         requires { Sound plan }
         ensures { IfOk result (λ c. Stands plan c []) }
@@ -81,12 +81,12 @@ impl Core<EarliestFirst> {
 }
 
 impl<P: Policy> Core<P> {
-    /// The core of a run by this policy, in which nothing was called yet. It makes the room for all
-    /// that later calls need.
+    /// Creates the core of a run with this policy, before any call. Makes the room for all that
+    /// later calls need.
     ///
     /// # Errors
     ///
-    /// `NoMemory` where that room is not there.
+    /// Returns `NoMemory` if memory runs out.
     pub fn with_policy(alloc: Global, policy: P, plan: Plan) -> Result<Core<P>, NoMemory>
         requires sound { Sound plan }
         requires begins { P.stands (P.basis policy plan) policy [] }
@@ -121,11 +121,12 @@ impl<P: Policy> Core<P> {
         })
     }
 
-    /// The reply to a lane's call: the discipline's, or Astray where the call isn't in its lane's
-    /// script. Only a Look takes memory, and may say that there is none in place of a file.
+    /// Returns the reply to a lane's call: the discipline's reply, or Astray if the call isn't in
+    /// its lane's script. Only a Look takes memory. If memory runs out, the reply to a Look may
+    /// report this instead of a file.
     ///
-    /// Where a lane is told to stop, and none has halted, the run is finished; and every action has
-    /// success, where every worker did its part.
+    /// If a lane is told to stop and none has halted, the run is finished. If every worker also did
+    /// its part, every action has success.
     pub fn step(&mut self, lane: u32, call: &Call) -> Reply
         ensures plan { self.new.state.plan ≡ self.old.state.plan }
         ensures basis { basis_of P.basis self.new ≡ basis_of P.basis self.old }
@@ -158,7 +159,7 @@ impl<P: Policy> Core<P> {
         reply
     }
 
-    /// From now on notes there how far the run is. No reply knows of it.
+    /// Records the run's progress in `notes` from now on. Replies don't depend on it.
     pub fn watch(&mut self, notes: Notes)
         ensures { self.new ≡ self.old }
     {
@@ -192,7 +193,7 @@ impl<P: Policy> Rules for Core<P> {
         (orders_of P.chosen P.ticked m.policy m.state lane)
         (P.discipline (basis_of P.basis m)).ticks lane };
 
-    // The core's own step, whose clauses speak of journals.
+    // Makes the core's own step, whose clauses are about journals.
     fn step(&mut self, lane: u32, call: &Call) -> Reply {
         Core::step(self, lane, call)
     }
@@ -224,7 +225,8 @@ impl<P: Policy> Rules for Core<P> {
         self.policy.berths(&self.state.plan)
     }
 
-    // One for each attempt of either branch of each action.
+    // Returns the number of possible attempts: one line for each attempt of either branch of each
+    // action.
     fn most_lines(&self) -> u32 {
         let actions = self.state.plan.actions.as_slice().len() as u32;
         2 * actions * self.state.plan.limit

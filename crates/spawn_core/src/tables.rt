@@ -1,4 +1,5 @@
-// The tables of a new core, in groups, so that none of these functions holds many when one more finds no memory.
+// The tables of a new core, in groups. So no function holds many tables when another one finds no
+// memory.
 ghost use Rattle.std.specs.Prelude.{◌≡◌, ◌<◌, ◌*◌, ◌^◌, [], IfOk, replicate};
 ghost use Rattle.run_plan.specs.Sound.{Sound};
 ghost use Rattle.worker_pool.specs.Stands as pools;
@@ -23,7 +24,7 @@ use retry_rules::Attempts;
 use std::alloc::Global;
 use worker_pool::Pool;
 
-/// The tables of the workers' lines, which stand on so many berths.
+/// Creates the tables of the workers' lines, on `berths` berths.
 pub fn line_tables(
     alloc: Global,
     plan: &Plan,
@@ -39,7 +40,7 @@ pub fn line_tables(
     Ok((pool, requests, cancels))
 }
 
-/// The tables of the actions.
+/// Creates the tables of the actions.
 pub fn action_tables(alloc: Global, plan: &Plan) -> Result<(Ready, Race, Attempts), NoMemory>
     requires { Sound plan.now }
     ensures { IfOk result (λ t. queues.Stands plan.now t.0 []
@@ -51,7 +52,7 @@ pub fn action_tables(alloc: Global, plan: &Plan) -> Result<(Ready, Race, Attempt
     Ok((ready, race, attempts))
 }
 
-/// The tables of the lanes, two of each berth, and of the berths.
+/// Creates the tables of the lanes, two for each berth, and of the berths.
 pub fn lane_tables(
     alloc: Global,
     berths: usize,

@@ -15,7 +15,7 @@ use core_state::State;
 use core_tables::{BerthGroup, Files, Owed};
 use exec_journal::{Call, Reply, Wanted};
 
-/// The reply to a lane's call, and what it makes of the tables.
+/// Returns the reply to a lane's call, and updates the tables.
 pub fn step<P: Policy>(
     policy: &mut P,
     state: &mut State,
@@ -41,8 +41,8 @@ pub fn step<P: Policy>(
     }
 }
 
-/// The lane may make the call, where this stands at its berth. One that makes Ticks may make one
-/// wherever it may ask.
+/// Returns true if the lane may make the call, given this group at its berth. A lane that makes
+/// Ticks may make one whenever it may ask.
 pub fn may_make<P: Policy>(
     policy: &P,
     state: &State,
@@ -61,7 +61,7 @@ pub fn may_make<P: Policy>(
     }
 }
 
-// A call that is in its lane's script.
+// Makes a call that is in its lane's script.
 fn in_script<P: Policy>(
     policy: &mut P,
     state: &mut State,
@@ -93,7 +93,7 @@ fn in_script<P: Policy>(
     reply
 }
 
-// Any call but a Look.
+// Makes any call but a Look.
 fn make<P: Policy>(policy: &P, state: &mut State, lane: u32, seat: BerthGroup, call: &Call) -> Reply
     requires there { P.reads policy.now state.old }
     requires berth { lane / 2 < (P.discipline (P.basis policy.now state.old.plan)).seats }
@@ -115,7 +115,8 @@ fn make<P: Policy>(policy: &P, state: &mut State, lane: u32, seat: BerthGroup, c
     }
 }
 
-// A Look, of an output that an action made, or that the answer has which the lane is to gather.
+// Answers a Look. The output is one that an action made, or one in the answer that the lane must
+// gather.
 fn look(state: &State, files: &Files, lane: u32, wanted: &Wanted) -> Reply
     requires { lane < length state.now.lanes }
     ensures { ToldLook state.now files.now lane wanted.now result }

@@ -1,6 +1,6 @@
-//! The top call of a run by strategies: it reads a list of actions, chooses the strategy of each,
-//! runs the lanes of its workers on threads, with a delay of local branches where one is said, and
-//! reports.
+//! The top call of a run with strategies. It reads a list of actions, chooses the strategy of each,
+//! runs the lanes of the workers on threads, and reports. If a delay is given, local branches are
+//! delayed.
 #![tactic(auto)]
 
 ghost use Rattle.std.specs.Prelude.{◌≡◌, None, Some, map, string_bytes};
@@ -25,29 +25,30 @@ use worker_run::{Ended, Ran, RunFault, Stage, Surroundings, run_and_report, run_
 /// The exit status of a run in which no strategy supports some action.
 pub const NO_STRATEGY: u8 = 8;
 
-/// All that a run by strategies leaves.
+/// The result of a run with strategies, with everything that the run leaves.
 #[derive(Drop)]
 pub struct Strategic<F: Floor, W> {
     pub ended: Ended<F>,
-    /// The number of the first action that no strategy of its list supports. Then no lane was
-    /// started, nothing was put, and `ended` has the status 8 and no fault.
+    /// The number of the first action that no strategy of its strategy list supports. If it is
+    /// present, no lane was started, nothing was written, and `ended` has status 8 and no fault.
     pub refused: Option<u32>,
     /// The pacer, which has counted the ticks that the lane of a delay waited for.
     pub pacer: W,
 }
 
-/// Runs the actions of the list that the words name by their strategies, on this floor, and puts the
-/// report. Where the words say a delay, the local branch of an action that an executor may run too
-/// waits for as many ticks of the pacer, or until the remote branch is dropped.
+/// Runs the actions of the list that the arguments name, on this floor, with their strategies, and
+/// writes the report. If the arguments give a delay, it applies to each action that an executor may
+/// run too. The action's local branch waits for that number of the pacer's ticks, or until the remote
+/// branch is dropped.
 ///
-/// The words are those after the program's name. The order of work: the words; the list, which is
-/// read from the floor; the tools and then the inputs of each action, each path read once; the flag
-/// files; the strategy of each action; the places and the berths; the two lanes of each berth, each
-/// on a thread of its own; the report, in one put. An earlier step's fault goes before a later one's.
+/// `words` are the arguments after the program's name. The steps come in this order: the arguments,
+/// the list, the source files, the flag files, the strategies, the places and the berths, the lanes,
+/// the report. The list is read from the floor. For each action the tools are read before the inputs,
+/// and each path is read once. Each berth has two lanes, each on its own thread. The report is written
+/// in one put. An earlier step's fault takes precedence over a later one's.
 ///
-/// Where a run is told (`ended.task` is there), all that is left is what one history says, and that
-/// is the journal. Where memory ran out before the lanes, new berths and places are left, as many as
-/// were made.
+/// If `ended.task` is present, everything that is left agrees with one history, which is the journal.
+/// If memory ran out before the lanes were started, all berths and places that were made are left, new.
 pub fn run_strategies<R: Threads + Wait + Sync, F: Floor, O: Sink, W: Pacer>(
     rt: &R,
     alloc: Global,
@@ -63,7 +64,7 @@ where
     <F::Berth as Berth>::Feed: Send,
     <F::Berth as Berth>::Tap: Send,
     <F::Berth as Berth>::Child: Send,
-    // All that one history says, and how the run ended, or why there was none.
+    // Everything that one history records, and how the run ended, or why there was no run.
     ensures run { StrategicKeeps (spawn_options_of (map string_bytes words.now)) (F.told floor)
         W.told pacer result.pacer result.ended result.refused }
     ensures report { Reports result.ended (O.told out.old) (O.told out.new) }
@@ -109,7 +110,7 @@ where
     ensures task { TaskKeeps (spawn_head made.delay) (F.told floor) result.ended }
     ensures paces { SpawnPaces W.told made.delay pacer result.pacer result.ended }
     ensures ended { IsEndOf made.task result.ended.fault result.ended.task }
-    // The floor is read no more.
+    // Nothing more is read from the floor.
     ensures log { result.ended.floor.log ≡ (F.told floor).log }
     ensures report { Reports result.ended (O.told out.old) (O.told out.new) }
     ensures sink { Counts (O.told out.old).faults (O.told out.new).faults
@@ -150,7 +151,7 @@ where
     }
 }
 
-// A run that ended since no strategy supports some action.
+// Returns the result of a run that ended because some action is supported by no strategy.
 fn refused<F: Floor>(alloc: Global, floor: F) -> Ended<F>
     ensures { result ≡ ended_told 8 None (F.told floor) None nothing_left }
 {

@@ -1,4 +1,4 @@
-// Which strategy an action runs by.
+// The strategy by which an action runs.
 ghost use Rattle.std.specs.Prelude.{◌≡◌, find, IfOk};
 ghost use Rattle.std.specs.Option.{option_copied};
 ghost use Rattle.std.specs.Str.{bytes_eq};
@@ -10,16 +10,16 @@ use flag_files::request_words;
 use plain_values::NoMemory;
 use std::alloc::Global;
 
-/// The first name of the action's list that supports it, or `None` where no name of it does. Its
-/// list is that of its mnemonic, else the common one where that isn't empty. Where it has no list
-/// it is its own strategy.
+/// Returns the first name of the action's list that supports the action, or `None` if no name does. The list is that of
+/// its mnemonic. If its mnemonic has none, it is the common list, unless that is empty. If the action has no list, its
+/// own strategy is returned.
 ///
-/// `Worker` and `Dynamic` support an action that may go to workers and has a word that names a flag
-/// file, the others support every action.
+/// `Worker` and `Dynamic` support an action if it may go to workers and one of its words names a flag file. The others
+/// support every action.
 ///
 /// # Errors
 ///
-/// `NoMemory` where the words of its requests find no memory.
+/// Returns `NoMemory` if memory runs out.
 pub fn chosen(
     alloc: Global,
     words: &Strategies,
@@ -44,14 +44,14 @@ fn names_for<'a>(words: &'a Strategies, mnemonic: &str) -> Option<&'a [Name]>
     }
 }
 
-// The rule of this mnemonic.
+// Returns the rule of this mnemonic.
 fn rule_for<'a>(rules: &'a [Rule], mnemonic: &str) -> Option<&'a Rule>
     ensures { option_copied result ≡ find (λ r. bytes_eq r.mnemonic mnemonic.now) rules.now }
 {
     rules.iter().find(|rule| rule.mnemonic.as_str() == mnemonic)
 }
 
-// The common names, where there are any.
+// Returns the common names, if there are any.
 fn common_names(names: &[Name]) -> Option<&[Name]>
     ensures { option_copied result ≡ common_names names.now }
 {
@@ -71,7 +71,7 @@ fn own_name(strategy: Strategy) -> Name
     }
 }
 
-// The action may go to a worker, and a flag file gives it the words of a request.
+// Returns true if the action may go to a worker and a flag file gives it the words of a request.
 fn can_work(alloc: Global, action: &ListAction) -> Result<bool, NoMemory>
     ensures { IfOk result (λ works. works ≡ can_work action.now) }
 {
@@ -89,7 +89,7 @@ fn first_supporting(names: &[Name], works: bool) -> Option<Name>
 }
 
 impl Name {
-    // The strategy of this name supports an action that can or can't work.
+    // Returns true if the strategy of this name supports an action. `works` is true if the action can run on a worker.
     fn supports(self, works: bool) -> bool
         ensures { result ≡ supports works self }
     {

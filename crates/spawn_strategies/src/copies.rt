@@ -1,5 +1,4 @@
-// The chosen names of a list's actions, and the list with their strategies in place of the actions'
-// own.
+// The chosen names of a list's actions, and a copy of the list with these strategies instead of the actions' own.
 ghost use Rattle.std.specs.Prelude.{◌≡◌, ◌<◌, ◌≤◌, IfOk, IfSome, Ok, is_some, length, map, not, position};
 ghost use Rattle.std.specs.Option.{option_copied};
 ghost use Rattle.run_plan.specs.Limits.{most_actions};
@@ -13,11 +12,11 @@ use action_list::{ActionList, ListAction, Needs, Strategy};
 use plain_values::{Items, NoMemory, Text, texts_again, variables_again};
 use std::alloc::Global;
 
-/// The chosen name of each action.
+/// Returns the chosen name of each action.
 ///
 /// # Errors
 ///
-/// `NoneSupports` of the first action that no name of its list supports.
+/// Returns `NoneSupports` with the first action that no name of its list supports, or `NoMemory` if memory runs out.
 pub fn chosen_names(
     alloc: Global,
     words: &Strategies,
@@ -65,11 +64,11 @@ fn names_in(alloc: Global, choices: &[Option<Name>]) -> Result<Items<Name>, NoMe
     Ok(Items::of(names))
 }
 
-/// The list with a strategy by its name in place of each action's own.
+/// Returns the list with each action's own strategy replaced by the one of its name.
 ///
 /// # Errors
 ///
-/// `NoMemory` where the copies find no memory.
+/// Returns `NoMemory` if memory runs out.
 pub fn with_names(
     alloc: Global,
     actions: &[ListAction],
@@ -87,7 +86,7 @@ pub fn with_names(
     })
 }
 
-// A copy of the action that has the strategy of this name.
+// Returns a copy of the action with the strategy of this name.
 fn with_name(alloc: Global, action: &ListAction, name: Name) -> Result<ListAction, NoMemory>
     ensures { IfOk result (λ copy. copy ≡ with_name name action.now) }
 {
@@ -127,7 +126,7 @@ fn mnemonic_again(alloc: Global, mnemonic: &Option<Text>) -> Result<Option<Text>
 }
 
 impl Name {
-    // What an action with this name is to the worker keys: a sandboxed one has no key.
+    // Returns the strategy that counts for the worker keys. A sandboxed action has no key.
     fn strategy(self) -> Strategy
         ensures { result ≡ strategy_by self }
     {

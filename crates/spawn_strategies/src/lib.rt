@@ -1,5 +1,4 @@
-//! The strategies by which actions are run: which one each action's list chooses, and the plan of
-//! these.
+//! The strategies by which actions run: the choice from each action's list, and the plan that follows.
 #![tactic(auto)]
 
 mod choosing;

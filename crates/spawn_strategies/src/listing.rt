@@ -1,4 +1,4 @@
-// The names that a text lists, and what a word says of strategies.
+// The names that a string lists, and the strategies that a word gives.
 ghost use Rattle.std.specs.Prelude.{◌≡◌, IfOk, filter_map, length, map, MatchOption};
 ghost use Rattle.std.specs.Option.{option_copied};
 ghost use Rattle.std.specs.List.{after_first, before_first, list_all, position_or_len};
@@ -10,11 +10,11 @@ use crate::types::{Name, Rule};
 use plain_values::{Items, NoMemory, Text};
 use std::alloc::{AllocError, Global};
 
-/// The rule that `--strategy=M=LIST` gives.
+/// Returns the rule that `--strategy=M=LIST` gives.
 ///
 /// # Errors
 ///
-/// `NoMemory`.
+/// Returns `NoMemory` if memory runs out.
 pub fn rule_in(alloc: Global, word: &str) -> Result<Option<Rule>, NoMemory>
     ensures { IfOk result (λ rule. rule ≡ rule_in word.now) }
 {
@@ -24,11 +24,11 @@ pub fn rule_in(alloc: Global, word: &str) -> Result<Option<Rule>, NoMemory>
     }
 }
 
-/// The list that `--spawn_strategy=LIST` gives.
+/// Returns the list that `--spawn_strategy=LIST` gives.
 ///
 /// # Errors
 ///
-/// `NoMemory`.
+/// Returns `NoMemory` if memory runs out.
 pub fn common_in(alloc: Global, word: &str) -> Result<Option<Items<Name>>, NoMemory>
     ensures { IfOk result (λ names. names ≡ common_in word.now) }
 {
@@ -38,18 +38,18 @@ pub fn common_in(alloc: Global, word: &str) -> Result<Option<Items<Name>>, NoMem
     }
 }
 
-/// The text that `--sandbox_executor=TEXT` gives.
+/// Returns the string that `--sandbox_executor=TEXT` gives.
 pub fn executor_in(word: &str) -> Option<&str>
     ensures { option_copied result ≡ executor_in word.now }
 {
     behind("--sandbox_executor=", word)
 }
 
-/// The word says something of strategies, sandboxes or the delay.
+/// Returns true if the word gives a strategy, a sandbox setting or the delay.
 ///
 /// # Errors
 ///
-/// `NoMemory`.
+/// Returns `NoMemory` if memory runs out.
 pub fn is_taken(alloc: Global, word: &str) -> Result<bool, NoMemory>
     ensures { IfOk result (λ taken. taken ≡ is_taken word.now) }
 {
@@ -80,7 +80,7 @@ fn rule_of(alloc: Global, text: &str) -> Result<Option<Rule>, NoMemory>
     }
 }
 
-// What stands before the first `=` and behind it.
+// Returns the parts before and after the first `=`.
 fn cut_at_equals(text: &str) -> Option<(&str, &str)>
     ensures { MatchOption result
         (position_or_len is_equals text.now ≡ length text.now)
@@ -100,7 +100,7 @@ fn names_of(alloc: Global, text: &str) -> Result<Option<Items<Name>>, NoMemory>
     Ok(Some(names_in(alloc, pieces.as_slice())?))
 }
 
-// What stands between the commas.
+// Returns the pieces between the commas.
 fn pieces_of(alloc: Global, text: &str) -> Result<Vec<Text>, NoMemory>
     ensures { IfOk result (λ v. v.items ≡ pieces_of text.now) }
 {
@@ -124,7 +124,7 @@ fn texts_of(alloc: Global, parts: &[&str]) -> Result<Vec<Text>, NoMemory>
     Ok(texts)
 }
 
-// Each of them is a name, and no two are the same.
+// Returns true if each piece is a name, and no two are the same.
 fn are_names(pieces: &[Text]) -> bool
     ensures { result ≡ are_names pieces.now }
 {
@@ -152,7 +152,7 @@ fn no_two_alike(texts: &[Text]) -> bool
     }
 }
 
-// This text is one of them.
+// Returns true if this string is one of them.
 fn is_among(texts: &[Text], text: &str) -> bool
     ensures { result ≡ is_among texts.now text.now }
 {
@@ -171,7 +171,7 @@ fn names_in(alloc: Global, pieces: &[Text]) -> Result<Items<Name>, NoMemory>
     Ok(Items::of(names))
 }
 
-// The strategy that a text names.
+// Returns the strategy of this name.
 fn name_named(text: &str) -> Option<Name>
     ensures { result ≡ name_named text.now }
 {

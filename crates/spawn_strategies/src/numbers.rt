@@ -1,4 +1,4 @@
-// What stands behind the front of a word, as text or as a number.
+// The rest of a word after its front, as a string or as a number.
 ghost use Rattle.std.specs.Prelude.{◌≡◌};
 ghost use Rattle.std.specs.Option.{option_copied};
 ghost use Rattle.tool_words.specs.Words.{after_front, behind};
@@ -16,7 +16,7 @@ pub enum Number {
 }
 
 impl Number {
-    /// The number, where the word gives it.
+    /// Returns the number, if the word gives it.
     pub fn number_in(self, word: &str) -> Option<u32>
         ensures { result ≡ number_in self word.now }
     {
@@ -27,7 +27,7 @@ impl Number {
     }
 }
 
-/// What stands behind the front of the word, where something does.
+/// Returns the rest of the word after the front, if it isn't empty.
 pub fn behind<'a>(front: &str, word: &'a str) -> Option<&'a str>
     ensures { option_copied result ≡ behind front.now word.now }
 {
@@ -37,7 +37,7 @@ pub fn behind<'a>(front: &str, word: &'a str) -> Option<&'a str>
     }
 }
 
-/// What stands behind the front of the word, maybe nothing.
+/// Returns the rest of the word after the front, which may be empty.
 pub fn after_front<'a>(front: &str, word: &'a str) -> Option<&'a str>
     ensures { option_copied result ≡ after_front front.now word.now }
 {

@@ -15,18 +15,18 @@ use plain_values::{Items, NoMemory};
 use run_plan::{Group, Kind, MOST_LOCAL_BERTHS, Plan, PlanAction};
 use std::alloc::Global;
 
-/// The plan of a list whose actions run by their chosen strategies.
+/// Returns the plan of a list whose actions run by their chosen strategies.
 ///
-/// It is the plan that `action_list::plan` makes where each action has its chosen strategy, but for
-/// the sandboxed actions: such an action has a local branch alone, on a group of kind `Remote` that
-/// stands between the worker keys and the executor, where there is such an action. That group has
-/// at most `words.sandboxed` berths, and at most as many as it has actions.
+/// It is the plan that `action_list::plan` makes if each action has its chosen strategy, except for the sandboxed
+/// actions. Such an action has only a local branch, on a group of kind `Remote`. If there is such an action, that group
+/// comes after the groups of the worker keys and before the executor's. It has at most `words.sandboxed` berths, and at
+/// most as many as it has actions.
 ///
 /// # Errors
 ///
-/// `NoneSupports` exactly where no name of an action's list supports it, with the first such
-/// action; else `TooManyKeys` exactly where the actions whose chosen strategy is `Worker` or
-/// `Dynamic` have more than 48 keys. `NoMemory` where the plan finds no memory.
+/// Returns `NoneSupports` exactly if no name of an action's list supports it, with the first such action. Otherwise
+/// returns `TooManyKeys` exactly if the actions whose chosen strategy is `Worker` or `Dynamic` have more than 48 keys.
+/// Returns `NoMemory` if memory runs out.
 pub fn chosen_plan(
     alloc: Global,
     list: &ActionList,
@@ -53,7 +53,7 @@ pub fn chosen_plan(
     placed_plan(alloc, planned, names.as_slice(), words.sandboxed, remote)
 }
 
-// The plan with its actions placed by their names, unless it has too many keys.
+// Returns the plan with its actions placed by their names, unless it has too many keys.
 fn placed_plan(
     alloc: Global,
     plan: Plan,
@@ -81,7 +81,7 @@ fn placed_plan(
     })
 }
 
-// The groups of the keys.
+// Returns the groups of the keys.
 fn keyed(alloc: Global, groups: &[Group]) -> Result<Vec<Group>, NoMemory>
     ensures keyed { IfOk result (λ v. v.items ≡ keyed groups.now) }
     ensures few { IfOk result (λ v. length v.items ≤ length groups.now) }
@@ -104,7 +104,7 @@ fn is_remote(kind: Kind) -> bool
     }
 }
 
-// A group of executors, where it has berths.
+// Appends a group of executors if `berths` isn't 0.
 fn push_remote(groups: &mut Vec<Group>, berths: u32) -> Result<(), NoMemory>
     ensures { OnOk result (groups.new.items ≡ groups.old.items ++ executor_groups berths) }
 {
@@ -152,7 +152,7 @@ impl Name {
     }
 }
 
-// The actions, placed by their names.
+// Returns the actions, placed by their names.
 fn all_placed(
     actions: Items<PlanAction>,
     names: &[Name],
@@ -176,8 +176,8 @@ fn place_all(actions: &mut [PlanAction], names: &[Name], sandbox: u32, executor:
     }
 }
 
-// Gives the action the branches of its name, where these are the numbers of the group of the
-// sandboxed actions and of the executor.
+// Gives the action the branches of its name. `sandbox` and `executor` are the numbers of the groups of the sandboxed
+// actions and of the executor.
 fn place(action: &mut PlanAction, name: Name, sandbox: u32, executor: u32)
     ensures { action.new ≡ placed sandbox executor name action.old }
 {

@@ -10,19 +10,24 @@ use run_plan::MOST_REMOTE_BERTHS;
 use std::alloc::Global;
 use tool_words::{Options, read_words};
 
-/// The options that these words give, which are the words after the program's name; `None` exactly
-/// where the words aren't accepted.
+/// Returns the options that these words give, the words after the program's name. Returns `None` exactly if the words
+/// aren't accepted.
 ///
-/// Each word is `--strategy=M=LIST`, at most once for each mnemonic M, `--spawn_strategy=LIST`,
-/// `--sandboxed=N` with N from 1 to 16, `--sandbox_executor=TEXT`, `--local_delay=N` with N from 0
-/// to 9999, each of these at most once, or a word of `tool_words::read_words` but for `--generate`.
-/// M isn't empty and has no `=`. LIST is one to four different names of `worker`, `sandboxed`,
-/// `remote` and `dynamic`, joined by commas. The numbers of `--remote` and `--sandboxed` are at
-/// most 16 together.
+/// A word is one of the following.
+///
+/// - `--strategy=M=LIST`, at most once for each mnemonic M
+/// - `--spawn_strategy=LIST`, at most once
+/// - `--sandboxed=N` with N from 1 to 16, at most once
+/// - `--sandbox_executor=TEXT`, at most once
+/// - `--local_delay=N` with N from 0 to 9999, at most once
+/// - a word of `tool_words::read_words`, except `--generate`
+///
+/// M isn't empty and has no `=`. LIST is one to four different names of `worker`, `sandboxed`, `remote` and `dynamic`,
+/// joined by commas. The numbers of `--remote` and `--sandboxed` add up to 16 at most.
 ///
 /// # Errors
 ///
-/// `NoMemory` where the options find no memory.
+/// Returns `NoMemory` if memory runs out.
 pub fn read_spawn_words(alloc: Global, words: &[String]) -> Result<Option<SpawnOptions>, NoMemory>
     ensures words { IfOk result (λ o. o ≡ spawn_options_of (map string_bytes words.now)) }
     ensures limits { IfOk result (λ o. IfSome o AreSpawnLimits) }
@@ -48,7 +53,7 @@ fn if_fitting(spawn: SpawnOptions) -> Option<SpawnOptions>
     }
 }
 
-// A list is given and not generated, and there are few enough executors and sandboxes together.
+// Returns true if a list is given and not generated, and executors and sandboxes together are few enough.
 fn fits_together(spawn: &SpawnOptions) -> bool
     ensures { result ≡ fits_together spawn.now }
 {

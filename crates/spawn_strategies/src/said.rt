@@ -1,4 +1,4 @@
-// What the words of a command say of strategies, sandboxes and the delay.
+// The settings of strategies, sandboxes and the delay that the words of a command give.
 ghost use Rattle.std.specs.Prelude.{◌≡◌, IfOk, filter_map, map, string_bytes};
 ghost use Rattle.std.specs.List.{list_any};
 ghost use Rattle.std.specs.Str.{bytes_eq};
@@ -12,7 +12,7 @@ use crate::types::{Name, Rule};
 use plain_values::{Items, NoMemory, Text};
 use std::alloc::Global;
 
-/// All that words say of strategies, sandboxes and the delay, in order.
+/// All settings of strategies, sandboxes and the delay that words give, in order.
 #[derive(Drop)]
 pub struct Said {
     pub rules: Items<Rule>,
@@ -23,11 +23,11 @@ pub struct Said {
 }
 
 impl Said {
-    /// What these words say.
+    /// Returns the settings that these words give.
     ///
     /// # Errors
     ///
-    /// `NoMemory`.
+    /// Returns `NoMemory` if memory runs out.
     pub fn of(alloc: Global, words: &[String]) -> Result<Said, NoMemory>
         ensures { IfOk result (λ said. said ≡ said_of (map string_bytes words.now)) }
     {
@@ -40,7 +40,7 @@ impl Said {
         })
     }
 
-    /// No two rules have one mnemonic, and each other thing is said at most once.
+    /// Returns true if no two rules have the same mnemonic, and each other setting is given at most once.
     pub fn is_single(&self) -> bool
         ensures { result ≡ is_single self.now }
     {
@@ -61,7 +61,7 @@ fn are_different(rules: &[Rule]) -> bool
     }
 }
 
-// One of the rules is of this mnemonic.
+// Returns true if one of the rules is of this mnemonic.
 fn has_rule(rules: &[Rule], mnemonic: &str) -> bool
     ensures { result ≡ list_any (λ r. bytes_eq r.mnemonic mnemonic.now) rules.now }
 {
@@ -116,12 +116,11 @@ fn numbers(alloc: Global, kind: Number, words: &[String]) -> Result<Items<u32>, 
     Ok(Items::of(numbers))
 }
 
-/// The words that say nothing of strategies, sandboxes or the delay, in order: those of
-/// `tool_words`.
+/// Returns the words that give no strategy, sandbox setting or delay, in order. They are for `tool_words`.
 ///
 /// # Errors
 ///
-/// `NoMemory`.
+/// Returns `NoMemory` if memory runs out.
 pub fn other_words(alloc: Global, words: &[String]) -> Result<Vec<String>, NoMemory>
     ensures { IfOk result
         (λ v. map string_bytes v.items ≡ other_words (map string_bytes words.now)) }

@@ -5,7 +5,7 @@ use plain_values::{Items, NoMemory, Text};
 use std::alloc::AllocFailed;
 use tool_words::Options;
 
-/// How an action may be run.
+/// A strategy: a way to run an action.
 #[derive(Clone, Copy, Debug, PartialEq, Eq)]
 pub enum Name {
     /// On a worker.
@@ -18,43 +18,42 @@ pub enum Name {
     Dynamic,
 }
 
-/// What the actions with one mnemonic may be run by, the first choice first.
+/// The strategies for the actions of one mnemonic, the first choice first.
 #[derive(Drop)]
 pub struct Rule {
     pub mnemonic: Text,
     pub names: Items<Name>,
 }
 
-/// What actions may be run by.
+/// The strategies for the actions.
 #[derive(Drop)]
 pub struct Strategies {
-    /// One for each mnemonic that has a list of its own.
+    /// One rule for each mnemonic with its own list.
     pub rules: Items<Rule>,
-    /// The list of every other action; empty where those have none.
+    /// The list of every other action. Empty if these have no list.
     pub common: Items<Name>,
-    /// The most sandboxes.
+    /// The largest number of sandboxes.
     pub sandboxed: u32,
 }
 
-/// What the words of a command say.
+/// The options that the words of a command give.
 #[derive(Drop)]
 pub struct SpawnOptions {
-    /// What they say beside strategies. It has a list.
+    /// The options other than strategies. They contain a list.
     pub options: Options,
     pub strategies: Strategies,
-    /// The program of the sandboxes; `remote_exec` where nothing is said.
+    /// The program of the sandboxes. The default is `remote_exec`.
     pub sandbox_executor: Text,
-    /// How many milliseconds a local branch waits while a remote one runs, 0 to 9999; 0 where
-    /// nothing is said.
+    /// The delay of a local branch while a remote one runs, in milliseconds, 0 to 9999. The default is 0.
     pub local_delay: u32,
 }
 
-/// Why there is no plan of the chosen strategies.
+/// The reason that the chosen strategies yield no plan.
 #[derive(Clone, Copy, Debug, PartialEq, Eq)]
 pub enum ChoiceFault {
-    /// No name of the list of the action with this number supports it.
+    /// No name in the list of the action with this number supports it.
     NoneSupports(u32),
-    /// So many worker keys, which are more than 48.
+    /// This many worker keys, more than 48.
     TooManyKeys(u32),
     NoMemory,
 }

@@ -9,12 +9,12 @@ use plain_values::NoMemory;
 use run_loading::{RunFault, Stage};
 use spawn_strategies::ChoiceFault;
 
-/// Why there is no task.
+/// The reason why there is no task.
 #[derive(Drop)]
 pub enum NoSpawn {
-    /// A fault that a run by the list's own strategies may have too.
+    /// A fault that a run with the list's own strategies may have too.
     Fault(RunFault),
-    /// No strategy of its list supports the action with this number.
+    /// The action with this number is supported by no strategy of its strategy list.
     NoStrategy(u32),
 }
 
@@ -26,7 +26,7 @@ impl From<RunFault> for NoSpawn {
     }
 }
 
-/// Memory that runs out here runs out before the lanes.
+/// If memory runs out here, it runs out before the lanes.
 impl From<NoMemory> for NoSpawn {
     ghost from_gives = { λ _ e. e ≡ Fault (no_memory Before) };
 

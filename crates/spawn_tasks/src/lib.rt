@@ -1,5 +1,6 @@
-//! From the arguments of the command with strategies to a task: the plan of the chosen strategies, the work
-//! of its actions with the request arguments that these strategies need, and the lanes' settings.
+//! From the arguments of the command with strategies to a task. The task has the plan of the chosen
+//! strategies, the work of its actions, and the lanes' settings. The work has the request arguments that
+//! these strategies need.
 #![tactic(auto)]
 
 mod faults;

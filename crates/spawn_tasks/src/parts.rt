@@ -1,4 +1,4 @@
-// What the workers of each group run, where the sandboxed actions have an executor of their own.
+// The part of each group, with a separate executor for the sandboxed actions.
 ghost use Rattle.std.specs.Prelude.{◌≡◌, ◌<◌, IfOk, IfSome, length, position};
 ghost use Rattle.std.specs.List.{list_any};
 ghost use Rattle.action_list.specs.Parts.{executor_part};
@@ -17,7 +17,7 @@ use std::alloc::Global;
 ///
 /// # Errors
 ///
-/// `NoMemory`.
+/// Returns `NoMemory` if memory runs out.
 pub fn parts_by(
     alloc: Global,
     options: &SpawnOptions,
@@ -43,7 +43,7 @@ pub fn parts_by(
     Ok(parts)
 }
 
-// The group of the sandboxed actions, where there are any.
+// Returns the group of the sandboxed actions, if there are any.
 fn sandbox_group(groups: &[Group], names: &[Name]) -> Option<usize>
     ensures group { result ≡ sandbox_group groups.now names.now }
     ensures within { IfSome result (λ g. g < length groups.now) }

@@ -1,4 +1,4 @@
-// What is read before anything is started: the words, the list, and what its actions read.
+// The reads before anything is started: the arguments, the list, and the files that its actions read.
 ghost use Rattle.std.specs.Prelude.{◌≡◌, IfOk, Some, map, string_bytes};
 ghost use Rattle.outside.specs.Causes.{Counts};
 ghost use Rattle.outside.specs.Told.{SameFloor};
@@ -15,25 +15,32 @@ use run_loading::{Loaded, RunFault, load};
 use spawn_strategies::{SpawnOptions, read_spawn_words};
 use std::alloc::Global;
 
-// So many worker keys may the list have by its own strategies.
+// The maximum number of worker keys of the list with its own strategies.
 const MOST_KEYS: u32 = 4096;
 
 /// Returns the task that the arguments of a command yield, before its lanes are started.
 ///
-/// In this order: the arguments are read; the list is read at its path, which may have 4,096 worker keys;
-/// its actions' tools and source inputs are read; each action's strategy is chosen; the request arguments
-/// of the actions that only their chosen strategy brings to a worker are expanded; then the commands and
-/// the protocols are made. The group of the sandboxed actions has the command of the sandbox executor with
-/// the word `--serve`.
+/// First the arguments are read. Then the list is read at its path. It may have at most 4,096 worker keys. Then
+/// its actions' tools and source inputs are read, and each action's strategy is chosen. Then request
+/// arguments are expanded, for the actions that only their chosen strategy brings to a worker. Last, the
+/// commands and the protocols are made. The group of the sandboxed actions has the command of the
+/// sandbox executor with the argument `--serve`.
 ///
 /// # Errors
 ///
-/// Returns the first of these. `Fault`: `Words` if the arguments aren't accepted, and then nothing is read;
-/// `Absent` or `FloorFailed` for the list, `List` with its first fault, `Absent` or `FloorFailed` for a
-/// tool or an input, `Flags` of the first action whose own strategy has a worker and whose request
-/// arguments can't be expanded. `NoStrategy` of the first action that no name of its list supports.
-/// `Fault`: `List` with `TooMany` keys if the chosen strategies have more than 48, `Flags` of the first
-/// other action with such a fault. `NoMemory` with `Before` at any time.
+/// Returns the first of these, each in `Fault` except for `NoStrategy`:
+///
+/// - `Words` if the arguments aren't accepted. In that case nothing is read.
+/// - `Absent` or `FloorFailed` for the list.
+/// - `List` with the list's first fault.
+/// - `Absent` or `FloorFailed` for a tool or an input.
+/// - `Flags` of the first action whose own strategy has a worker and whose request arguments can't be
+///   expanded.
+/// - `NoStrategy` of the first action that no name of its strategy list supports.
+/// - `List` with `TooMany` keys if the chosen strategies have more than 48.
+/// - `Flags` of the first other action with such a fault.
+///
+/// Returns `NoMemory` with `Before` in `Fault` if memory runs out at any time.
 pub fn read_spawn_task<F: Floor>(
     alloc: Global,
     words: &[String],
@@ -71,7 +78,7 @@ fn read_by_options<F: Floor>(
     }
 }
 
-// Reads the list at this path with its work, and makes the task of both.
+// Reads the list at this path with its work, and returns the task of both.
 fn read_at<F: Floor>(
     alloc: Global,
     floor: &mut F,

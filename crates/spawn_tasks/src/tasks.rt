@@ -1,4 +1,4 @@
-// What a list comes to by its chosen strategies, made of the list, its work and the options.
+// The task that a list yields under the chosen strategies, computed from the list, its work and the options.
 ghost use Rattle.std.specs.Prelude.{◌≡◌, IfOk, length};
 ghost use Rattle.list_actions.specs.Whole.{IsWhole};
 ghost use Rattle.run_plan.specs.Sound.{Sound};
@@ -32,9 +32,10 @@ pub struct SpawnTask {
 ///
 /// # Errors
 ///
-/// Returns `NoStrategy` of the first action that no name of its list supports; otherwise `Fault`: `List`
-/// with `TooMany` keys if the chosen strategies have more than 48, `Flags` of the first action whose
-/// request arguments can't be expanded. `NoMemory` with `Before` at any time.
+/// Returns `NoStrategy` of the first action that no name of its strategy list supports. Otherwise returns
+/// a `Fault`: `List` with `TooMany` keys if the chosen strategies have more than 48, and otherwise `Flags`
+/// of the first action whose request arguments can't be expanded. Returns `NoMemory` with `Before` if
+/// memory runs out at any time.
 pub fn spawn_task_of(
     alloc: Global,
     options: &SpawnOptions,
@@ -53,7 +54,7 @@ pub fn spawn_task_of(
     Ok(task_with(alloc, options, list, plan, names.as_slice(), work)?)
 }
 
-// The plan of the chosen strategies.
+// Returns the plan of the chosen strategies.
 fn plan_by(alloc: Global, options: &SpawnOptions, list: &ActionList) -> Result<Plan, ChoiceFault>
     requires options { AreSpawnLimits options.now }
     requires list { IsWhole list.now.actions }
@@ -71,7 +72,7 @@ fn plan_by(alloc: Global, options: &SpawnOptions, list: &ActionList) -> Result<P
     )
 }
 
-// The chosen name of each action. Where there is a plan each has one, and the default isn't seen.
+// Returns the chosen name of each action. If there is a plan, each action has one, and the default is unused.
 fn chosen_names(
     alloc: Global,
     words: &Strategies,
@@ -86,7 +87,7 @@ fn chosen_names(
     Ok(names)
 }
 
-// The task with this plan, which has these names, and this work.
+// Returns the task with this plan, these chosen names and this work.
 fn task_with(
     alloc: Global,
     options: &SpawnOptions,

@@ -1,4 +1,4 @@
-// The request words that the chosen strategies ask of the work of the list.
+// The request arguments that the chosen strategies need in the work of the list.
 ghost use Rattle.std.specs.Prelude.{◌≡◌, ◌≤◌, length};
 ghost use Rattle.run_loading.specs.Works.{Gives, Works};
 ghost use Rattle.run_plan.specs.Limits.{most_actions};
@@ -12,12 +12,13 @@ use run_loading::{RunFault, Stage, source_files};
 use spawn_strategies::Name;
 use std::alloc::Global;
 
-/// The work of the list's actions, with the words of the requests of those that their names bring
-/// to a worker and their own strategies don't.
+/// Returns the work of the list's actions with additional request arguments. They are added for the
+/// actions that their chosen names bring to a worker and their own strategies don't.
 ///
 /// # Errors
 ///
-/// `Flags` of the first action whose words can't be expanded; `NoMemory` with `Before`.
+/// Returns `Flags` of the first action whose request arguments can't be expanded. Returns `NoMemory`
+/// with `Before` if memory runs out.
 pub fn reworded(
     alloc: Global,
     actions: &[ListAction],
@@ -53,7 +54,7 @@ fn reword_all(
     Ok(())
 }
 
-// Gives the work of the action with this number the words of its request, where it lacks them.
+// Adds the request arguments to the work of the action with this number, if they are missing.
 fn reword(
     alloc: Global,
     number: u32,
@@ -84,7 +85,7 @@ fn uses_worker(name: Name) -> bool
     }
 }
 
-// The words of the request of the action with this number, which has these inputs.
+// Returns the request arguments of the action with this number, which has these inputs.
 fn own_words(
     alloc: Global,
     number: u32,

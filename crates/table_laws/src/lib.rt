@@ -35,8 +35,9 @@ ghost use Rattle.request_table.specs.Entries as table;
 ghost use Rattle.cancel_rules.specs.Entries as rules;
 ghost use Rattle.table_laws.specs.Asked.{is_commit, lines_bound_for, EndsOne};
 
-/// Exactly one attempt ends with each of these entries: a refused Claim, a Launched with a fault, a Wrote
-/// that reports that its request wasn't written, and a Wrote with FeedFault after the line's Ended.
+/// Exactly one attempt ends with each of these entries: a refused Claim, a Launched with a fault,
+/// and a Wrote which reports that its request wasn't written. The same holds for a Wrote with
+/// FeedFault after the line's Ended.
 pub fn one_ends()
     ensures claimed { (p : Plan) (e : Entry) (j : List Entry) (y : Attempt × Found)
         → Lawful p (e ∷ j) → refused_in e.call e.reply ≡ Some y → EndsOne j e y.0 }
@@ -142,8 +143,9 @@ pub fn retry_facts()
         → retry.EndsThese j e (lost_with p j l) }
 {}
 
-/// The premises of the pool of lines: on the lines with a bound branch, the lines of an action, and the
-/// line of a fault; and on the line at which the request of a Wrote or an Answer is pending.
+/// The premises of the pool of lines. They are about the lines with a bound branch, the lines of an
+/// action, and the line of a fault. They are also about the line on which the request of a Wrote or
+/// an Answer is pending.
 pub fn pool_facts()
     ensures wanted { (p : Plan) (e : Entry) (j : List Entry) → Lawful p (e ∷ j)
         → pool.WantedStays p j e }

@@ -19,15 +19,15 @@ use outside::{Berth, Place};
 use plain_values::NoMemory;
 use std::sync::Wait;
 
-/// What a Take was answered.
+/// The reply to a Take.
 #[derive(Drop)]
 pub(crate) enum Took<T> {
-    /// This line, whose tap came out.
+    /// This line, with its tap.
     Line(u32, T),
     Stop,
 }
 
-// Asks for the next line, until there is one or the lane is to stop.
+// The question for the next line, asked until there is one or the lane must stop.
 struct NextLine;
 
 impl<B: Berth, P: Place, C: Rules> Question<Bench<B, P, C>> for NextLine {
@@ -51,7 +51,7 @@ impl<'a, B: Berth, P: Place, C: Rules> TapLane<'a, Bench<B, P, C>> {
     ///
     /// # Errors
     ///
-    /// `NoMemory`, and then no line was taken.
+    /// Returns `NoMemory` if memory runs out. Then no line was taken.
     pub(crate) fn take<R: Wait>(&mut self, rt: &R) -> Result<Took<B::Tap>, NoMemory>
         requires { IsAt C.terms Free self.old }
         ensures same { IsSameLane self.old self.new }
@@ -72,11 +72,11 @@ impl<'a, B: Berth, P: Place, C: Rules> TapLane<'a, Bench<B, P, C>> {
         }
     }
 
-    /// Tells an answer of the line.
+    /// Reports an answer of the line.
     ///
     /// # Errors
     ///
-    /// `NoMemory`, and then it wasn't told.
+    /// Returns `NoMemory` if memory runs out. Then nothing was reported.
     pub(crate) fn tell_answer<R: Wait>(
         &mut self,
         rt: &R,
@@ -95,11 +95,11 @@ impl<'a, B: Berth, P: Place, C: Rules> TapLane<'a, Bench<B, P, C>> {
         }
     }
 
-    /// Tells how the line has ended.
+    /// Reports how the line has ended.
     ///
     /// # Errors
     ///
-    /// `NoMemory`, and then it wasn't told.
+    /// Returns `NoMemory` if memory runs out. Then nothing was reported.
     pub(crate) fn tell_end<R: Wait>(
         &mut self,
         rt: &R,
@@ -119,7 +119,7 @@ impl<'a, B: Berth, P: Place, C: Rules> TapLane<'a, Bench<B, P, C>> {
         }
     }
 
-    /// Halts. It takes no memory.
+    /// Halts. The call takes no memory.
     pub(crate) fn halt<R: Wait>(&mut self, rt: &R)
         requires lane { IsOfBerth C.terms self.old }
         requires goes_on { hearing_of (own self.old) ≢ Over }

@@ -1,31 +1,31 @@
-//! What a tap lane leaves.
+//! The results of a tap lane.
 use exec_journal::HowEnded;
 
-/// A tap that a lane took, with the line of which it took it.
+/// A tap that a lane took, with its line.
 #[derive(Drop)]
 pub struct EndedTap<T> {
     /// The line.
     pub line: u32,
-    /// Its tap, as the lane left it.
+    /// The tap, as the lane left it.
     pub tap: T,
 }
 
-/// What there was no memory for when a lane halted. Nothing else makes a lane halt.
+/// The step for which memory ran out when a lane halted. Nothing else makes a lane halt.
 #[derive(Clone, Copy, PartialEq, Eq)]
 pub enum TapHalt {
-    /// To take a line, between two of them.
+    /// Taking a line, between two lines.
     Line,
-    /// For bytes or an answer of a line that hadn't ended.
+    /// Reading bytes or an answer of a line that hadn't ended.
     Answers,
-    /// To tell how a line has ended.
+    /// Reporting how a line has ended.
     End(HowEnded),
 }
 
-/// What a lane leaves, beside its pass.
+/// The result of a lane, in addition to its pass.
 #[derive(Drop)]
 pub struct TapLeft<T> {
     /// The taps that it took, in the order of their lines.
     pub taps: Vec<EndedTap<T>>,
-    /// Why it has halted, if it wasn't told to stop.
+    /// The reason why the lane halted, unless it was told to stop.
     pub halted: Option<TapHalt>,
 }

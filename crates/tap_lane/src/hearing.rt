@@ -27,11 +27,11 @@ const PIECE: usize = 65_536;
 const READS: u64 = 1 << 40;
 
 impl<'a, B: Berth, P: Place, C: Rules> TapLane<'a, Bench<B, P, C>> {
-    /// Hears a line to its end: tells each answer, and how it has ended.
+    /// Reads a line to its end: reports each answer, and how the line has ended.
     ///
     /// # Errors
     ///
-    /// What there was no memory for. The line's end wasn't told then.
+    /// Returns the step for which memory ran out. Then the line's end wasn't reported.
     pub(crate) fn hear<R: Wait>(
         &mut self,
         rt: &R,
@@ -57,7 +57,7 @@ impl<'a, B: Berth, P: Place, C: Rules> TapLane<'a, Bench<B, P, C>> {
         }
     }
 
-    // Tells each answer of a line, up to its end. Memory runs out only for bytes that were taken,
+    // Reports each answer of a line, up to its end. Memory runs out only for bytes that were taken,
     // while the tap is open.
     fn listen<R: Wait>(&mut self, rt: &R, line: u32, tap: &mut B::Tap) -> Result<HowEnded, NoMemory>
         requires hears { IsAt C.terms (laws.Hears line) self.old }
@@ -86,7 +86,8 @@ impl<'a, B: Berth, P: Place, C: Rules> TapLane<'a, Bench<B, P, C>> {
         Ok(HowEnded::Long)
     }
 
-    // Tells each answer that has come whole. `false` if what follows them spells nothing.
+    // Reports each answer that has arrived completely. Returns `false` if the bytes after them are
+    // no answer.
     fn tell_all<R: Wait>(
         &mut self,
         rt: &R,

@@ -20,13 +20,14 @@ use std::sync::Wait;
 /// The tap lane of a berth, from its first call to its last.
 pub(crate) struct TapLane<'a, M: Machine> {
     pub(crate) alloc: Global,
-    /// What the berth's lines speak.
+    /// The protocol of the berth's lines.
     pub(crate) speech: Speech,
     pub(crate) caller: Caller<'a, M>,
 }
 
 impl<'a, B: Berth, P: Place, C: Rules> TapLane<'a, Bench<B, P, C>> {
-    /// Hears line after line, until the lane is told to stop, or memory runs out. Then it halts.
+    /// Reads one line after another until the lane is told to stop. If memory runs out, the lane
+    /// halts.
     pub(crate) fn hear_all<R: Wait>(&mut self, rt: &R) -> TapLeft<B::Tap>
         requires free { IsAt C.terms Free self.old }
         requires fresh { own self.old ≡ [] }
@@ -45,7 +46,7 @@ impl<'a, B: Berth, P: Place, C: Rules> TapLane<'a, Bench<B, P, C>> {
         TapLeft { taps, halted }
     }
 
-    // Hears line after line, until the lane is told to stop.
+    // Reads one line after another until the lane is told to stop.
     fn hear_lines<R: Wait>(
         &mut self,
         rt: &R,

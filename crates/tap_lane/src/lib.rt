@@ -1,7 +1,7 @@
-//! The lane that reads what the processes of one berth write, and tells the scheduling core.
+//! The lane that reads the output of one berth's processes, and reports it to the scheduling core.
 //!
-//! It takes one line after the other. Of each it reads the tap, piece by piece, and tells each
-//! answer that the bytes spell, and then how the line has ended.
+//! It takes one line after another. It reads the tap of each piece by piece, reports each answer
+//! that the bytes spell, and then reports how the line has ended.
 #![tactic(auto)]
 
 mod calls;

@@ -19,17 +19,17 @@ use std::alloc::Global;
 use std::sync::Wait;
 use std::thread::Threads;
 
-/// What the tap lane of a berth works with.
+/// The parameters of a berth's tap lane.
 ///
-/// It hears the lines of the berth, one after the other, until the core says Stop, or memory is
-/// wanted. Then it halts. The calls of the pass that it gives back are, line after line, its Take, the
-/// answers that the bytes of its tap spell in this speech, in order, and its Ended.
+/// The lane reads the lines of the berth, one after another, until the core replies Stop. If memory
+/// runs out, it halts. It gives its pass back. For each line, the pass's calls are its Take, the
+/// answers that the bytes of its tap spell in this protocol, in order, and its Ended.
 #[derive(Drop)]
 pub struct TapSeat {
     pub alloc: Global,
     /// The number of its berth.
     pub berth: u32,
-    /// What the berth's lines speak.
+    /// The protocol of the berth's lines.
     pub speech: Speech,
 }
 

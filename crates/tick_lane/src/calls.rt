@@ -15,14 +15,14 @@ use outside::{Berth, Place};
 use plain_values::NoMemory;
 use std::sync::Wait;
 
-/// What a Tick was answered.
+/// The reply to a Tick.
 #[derive(Clone, Copy, PartialEq, Eq)]
 pub(crate) enum Ticked {
     Noted,
     Stop,
 }
 
-// A Tick, until somebody waits for one or the lane is to stop.
+// The question that makes a Tick, asked until somebody waits for a Tick or the lane must stop.
 struct NextTick;
 
 impl<B: Berth, P: Place, C: Rules> Question<Bench<B, P, C>> for NextTick {
@@ -41,12 +41,12 @@ impl<B: Berth, P: Place, C: Rules> Question<Bench<B, P, C>> for NextTick {
     }
 }
 
-/// Makes a Tick, again and again until it is noted or the lane is told to stop. While nobody waits
-/// for one, the lane rests by its bell.
+/// Makes a Tick again and again, until it is noted or the lane is told to stop. While nobody waits
+/// for a Tick, the lane waits for its bell.
 ///
 /// # Errors
 ///
-/// `NoMemory` for its entry, and then no Tick was made.
+/// Returns `NoMemory` if memory runs out for the Tick's entry. Then no Tick was made.
 pub(crate) fn make_tick<B: Berth, P: Place, C: Rules, R: Wait>(
     rt: &R,
     caller: &mut Caller<'_, Bench<B, P, C>>,

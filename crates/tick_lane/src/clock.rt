@@ -5,10 +5,10 @@ use crate::pacer::Pacer;
 use std::thread;
 use std::time::{Clock, Duration};
 
-/// How many milliseconds a tick takes.
+/// The length of a tick, in milliseconds.
 const TICK: u64 = 1;
 
-/// A pacer whose ticks take a millisecond of the clock each. Its thread sleeps meanwhile.
+/// A pacer with ticks of one millisecond of the clock. Its thread sleeps in the meantime.
 #[derive(Drop)]
 pub struct ClockPacer<'a, R: Clock> {
     clock: &'a R,
@@ -16,7 +16,7 @@ pub struct ClockPacer<'a, R: Clock> {
 }
 
 impl<'a, R: Clock> ClockPacer<'a, R> {
-    /// One that goes by this clock, and has waited for no tick.
+    /// Creates a pacer with this clock, which has waited for no tick.
     pub fn new(clock: &'a R) -> ClockPacer<'a, R>
         ensures { ⟦<ClockPacer<'a, R> as Pacer>⟧.told result ≡ 0 }
     {

@@ -15,12 +15,12 @@ use outside::{Berth, Place};
 use plain_values::NoMemory;
 use std::sync::Wait;
 
-/// Makes Tick after Tick, until the lane is told to stop. After each that was noted it waits for
+/// Makes one Tick after another, until the lane is told to stop. After each noted Tick, waits for
 /// the pacer's next tick.
 ///
 /// # Errors
 ///
-/// `NoMemory` for the entry of a Tick. The lane hasn't halted then.
+/// Returns `NoMemory` if memory runs out for the entry of a Tick. The lane hasn't halted then.
 pub(crate) fn tick_on<W: Pacer, B: Berth, P: Place, C: Rules, R: Wait>(
     rt: &R,
     caller: &mut Caller<'_, Bench<B, P, C>>,

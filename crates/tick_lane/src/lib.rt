@@ -1,7 +1,8 @@
 //! The lane that makes Ticks: the calls by which a scheduling core with a delay counts time.
 //!
-//! It is the proxy lane of a berth that is never given an order. It makes a Tick, and where that is
-//! noted it waits for its pacer's next tick. Where nobody waits for a Tick it rests at the bench.
+//! It is the proxy lane of a berth that never gets an order. It makes a Tick. If the Tick is noted,
+//! the lane waits for its pacer's next tick. If nobody waits for a Tick, the lane waits at the
+//! bench.
 #![tactic(auto)]
 
 mod calls;

@@ -1,20 +1,20 @@
-//! What paces a lane that makes Ticks.
+//! The pacer of a lane that makes Ticks.
 ghost use Rattle.std.specs.Prelude.{◌≡◌, ℕ};
 ghost use Rattle.tick_lane.specs.Pacers.{next_tick};
 
-/// Waits for one tick after the other, and counts them.
+/// A pacer, which waits for one tick after another and counts them.
 ///
-/// How long a tick takes is its own affair, and no clause speaks of it. A pacer belongs to one
-/// lane, and waits in the lane's thread without using the processor.
+/// Each pacer sets the length of its ticks, and no clause covers it. A pacer belongs to one lane,
+/// and waits in the lane's thread without using the processor.
 pub trait Pacer: Sized + Drop {
-    // How many ticks it has waited for.
+    // The number of ticks that it has waited for.
     ghost told: { Self → ℕ };
 
-    /// How many ticks it has waited for.
+    /// Returns the number of ticks that it has waited for.
     fn ticks(&self) -> u64
         ensures { result ≡ told self.now };
 
-    /// Waits for the next tick, and counts it. A count that stands at its last value stays there.
+    /// Waits for the next tick, and counts it. A count at its last value stays there.
     fn tick(&mut self)
         ensures { told self.new ≡ next_tick (told self.old) };
 }
@@ -26,7 +26,7 @@ pub struct EagerPacer {
 }
 
 impl EagerPacer {
-    /// One that has waited for none.
+    /// Creates a pacer that has waited for no tick.
     pub fn new() -> EagerPacer
         ensures { ⟦<EagerPacer as Pacer>⟧.told result ≡ 0 }
     {

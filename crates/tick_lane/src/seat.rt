@@ -17,29 +17,29 @@ use seat_desk::{Desk, Pass};
 use std::sync::Wait;
 use std::thread::Threads;
 
-/// What the lane that makes Ticks works with.
+/// The parameters of the lane that makes Ticks.
 ///
-/// It makes Ticks until the core says Stop, or memory is wanted. Then it halts. The calls of the
-/// pass that it gives back are the Ticks that were noted, for each of which its pacer waited for a
-/// tick, and then a Tick that was answered Stop, or its Halt.
+/// The lane makes Ticks until the core replies Stop. If memory runs out, it halts. It gives its
+/// pass back. The pass's calls are the noted Ticks, for each of which its pacer waited for a tick,
+/// and then its last call. The last call is a Tick with the reply Stop, or the lane's Halt.
 #[derive(Drop)]
 pub struct TickSeat<W> {
-    /// The number of its berth, of which it is the proxy lane.
+    /// The number of its berth. The lane is the berth's proxy lane.
     pub berth: u32,
     pub pacer: W,
 }
 
-/// How a lane that makes Ticks has ended.
+/// The end of a lane that makes Ticks.
 #[derive(Clone, Copy, PartialEq, Eq)]
 pub enum TickEnd {
-    /// It was told to stop.
+    /// The lane was told to stop.
     Stopped,
-    /// It has halted, since there was no memory for the entry of a Tick. Nothing else makes it do
-    /// so.
+    /// The lane has halted, since memory ran out for the entry of a Tick. Nothing else makes it
+    /// halt.
     Halted,
 }
 
-/// What the lane leaves, beside its pass.
+/// The result of the lane, in addition to its pass.
 #[derive(Drop)]
 pub struct TickLeft<W> {
     /// Its pacer, which has counted the ticks that it waited for.
@@ -69,7 +69,7 @@ impl<W: Pacer, B: Berth, P: Place, C: Rules> Lane<Desk<Bench<B, P, C>>, Pass<Ben
         let end = match tick_on(rt, &mut caller, berth, &mut pacer) {
             Ok(()) => TickEnd::Stopped,
             Err(NoMemory) => {
-                // No child lies on the shelf for a berth whose lane was given no order.
+                // The shelf contains no child for a berth whose lane was given no order.
                 let _none = halt(rt, &mut caller, berth);
                 TickEnd::Halted
             }

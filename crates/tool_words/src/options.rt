@@ -21,7 +21,7 @@ const KINDS: [Kind; 8] = [
     Kind::ExtraFlag,
 ];
 
-// The kinds that stand at most once.
+// The kinds that occur at most once.
 const SINGLE_KINDS: [Kind; 7] = [
     Kind::List,
     Kind::Verbose,
@@ -32,18 +32,18 @@ const SINGLE_KINDS: [Kind; 7] = [
     Kind::Executor,
 ];
 
-/// The options of a command. Exactly one of `list` and `generate` is there.
+/// The options of a command. It has exactly one of `list` and `generate`.
 #[derive(Drop)]
 pub struct Options {
     /// The path of the list.
     pub list: Option<Text>,
     /// The number of actions to generate instead of reading a list, 1 to 1000.
     pub generate: Option<u32>,
-    /// Requests ask the workers for more output.
+    /// True if requests ask the workers for more output.
     pub verbose: bool,
-    /// Workers of one key at most, 1 to 48; default 4.
+    /// The largest number of workers of one key, 1 to 48; default 4.
     pub instances: u32,
-    /// Executors at most, 1 to 16; default 1.
+    /// The largest number of executors, 1 to 16; default 1.
     pub remote: u32,
     /// The number of further attempts of a branch, 0 to 9; default 1.
     pub retries: u32,
@@ -104,7 +104,7 @@ fn is_all_known(words: &[String]) -> bool
     true
 }
 
-// All but the extra flags stand at most once.
+// Returns true if each kind except the extra flags occurs at most once.
 fn stand_once(words: &[String]) -> bool
     ensures { result ≡ list_all (λ k. nat_le (count k
         (map string_bytes words.now)) 1) single_kinds }
@@ -112,7 +112,7 @@ fn stand_once(words: &[String]) -> bool
     SINGLE_KINDS.iter().all(|k| count(*k, words) <= 1)
 }
 
-// There is one list or one generator.
+// Returns true if there is either one list or one generator.
 fn has_one_source(words: &[String]) -> bool
     ensures { result ≡ (count Kind.List (map string_bytes words.now) + count Kind.Generate
         (map string_bytes words.now) == 1) }

@@ -1,4 +1,4 @@
-// What one word of the command means.
+// The meaning of one word of the command.
 ghost use Rattle.std.specs.Prelude.{◌≡◌, ◌≤◌, ◌-◌, true};
 ghost use Rattle.std.specs.List.{list_all};
 ghost use Rattle.std.specs.Option.{option_copied};
@@ -26,7 +26,7 @@ pub enum Kind {
 }
 
 impl Kind {
-    /// The word is of this kind.
+    /// Returns true if the word is of this kind.
     pub fn fits(self, word: &str) -> bool
         ensures { result ≡ fits self word.now }
     {
@@ -39,7 +39,7 @@ impl Kind {
         }
     }
 
-    /// The number that a word of this kind gives.
+    /// Returns the number that a word of this kind gives.
     pub fn number_in(self, word: &str) -> Option<u32>
         ensures { result ≡ number_in self word.now }
     {
@@ -52,7 +52,7 @@ impl Kind {
         }
     }
 
-    /// The text that a word of this kind gives.
+    /// Returns the string that a word of this kind gives.
     pub fn text_in(self, word: &str) -> Option<&str>
         ensures { option_copied result ≡ text_in self word.now }
     {
@@ -74,7 +74,7 @@ fn names_a_list(word: &[u8]) -> bool
     }
 }
 
-// What stands behind the front of the word, where something does.
+// Returns the rest of the word after the front, if it isn't empty.
 fn behind<'a>(front: &str, word: &'a str) -> Option<&'a str>
     ensures { option_copied result ≡ behind front.now word.now }
 {
@@ -84,7 +84,7 @@ fn behind<'a>(front: &str, word: &'a str) -> Option<&'a str>
     }
 }
 
-// What stands behind the front of the word, maybe nothing.
+// Returns the rest of the word after the front, which may be empty.
 fn after_front<'a>(front: &str, word: &'a str) -> Option<&'a str>
     ensures { option_copied result ≡ after_front front.now word.now }
 {
@@ -127,7 +127,7 @@ fn is_digit(c: u8) -> bool
     b'0' <= c && c <= b'9'
 }
 
-// The number of at most four digits.
+// Returns the number of at most four digits.
 fn value_of(digits: &[u8]) -> u32
     requires { is_short_number digits.now ≡ true }
     ensures { result ≡ value_of digits.now }

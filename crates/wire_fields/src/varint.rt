@@ -8,18 +8,18 @@ use plain_values::NoMemory;
 // Nine bytes hold 63 bits, and a number has 64.
 const TENTH_BYTE_MAX: u8 = 1;
 
-/// What stands at the front of some bytes, read as a number.
+/// The front of some bytes, read as a number.
 #[derive(Clone, Copy, Debug, PartialEq)]
 pub enum Varint {
-    /// The number, and how many bytes it takes.
+    /// The number, and the number of its bytes.
     Whole { value: u64, used: usize },
     /// The bytes end inside the number.
     Cut,
-    /// The number passes ten bytes or 64 bits.
+    /// The number has more than ten bytes or more than 64 bits.
     Bad,
 }
 
-/// The number at the front of the bytes.
+/// Returns the number at the front of the bytes.
 #[tactic(auto, using(crate::proofs::Grammar::spelled_so))]
 pub fn read_varint(bytes: &[u8]) -> Varint
     ensures read { IsVarintAt bytes.now result }
@@ -52,11 +52,11 @@ fn add_groups(bytes: &[u8]) -> Varint
     }
 }
 
-/// Puts the fewest bytes of the number at the end.
+/// Appends the number in the fewest bytes.
 ///
 /// # Errors
 ///
-/// `NoMemory` where they find no room; the vector is then as it was.
+/// Returns `NoMemory` if memory runs out. The vector is then as it was.
 pub fn push_varint(value: u64, out: &mut Vec<u8>) -> Result<(), NoMemory>
     ensures ok { OnOk result (out.new.items ≡ out.old.items ++ varint value) }
     ensures err { OnErr result (out.new.items ≡ out.old.items) }
@@ -74,7 +74,7 @@ pub fn push_varint(value: u64, out: &mut Vec<u8>) -> Result<(), NoMemory>
     Ok(())
 }
 
-/// How many bytes `push_varint` puts for the number.
+/// Returns the number of bytes that `push_varint` appends for the number.
 pub fn varint_length(value: u64) -> u64
     ensures exact { result ≡ length (varint value) }
     ensures short { result ≤ 10 }
@@ -88,8 +88,8 @@ pub fn varint_length(value: u64) -> u64
     length
 }
 
-/// Which bytes spell which number, which are cut and which are bad: the one function of the bytes that
-/// contracts use says what the grammar of the encoding page says.
+/// States which bytes spell which number, which are cut and which are bad. The one function of the bytes that contracts
+/// use agrees with the grammar of the encoding page.
 pub fn varint_grammar()
     ensures { VarintGrammar }
 {}

@@ -1,12 +1,12 @@
-// Why bytes are no message.
+// The reasons that bytes aren't a message.
 ghost use Rattle.std.specs.Prelude.{◌≡◌};
 
 use plain_values::NoMemory;
 use std::alloc::{AllocError, AllocFailed};
 use wire_fields::FieldFault;
 
-/// The first fault from the left. Bytes in the binary form have one of the first four; the four after them
-/// are those of a line in the JSON form, and never come from this crate.
+/// The first fault from the left. Bytes in the binary form have one of the first four. The next four are the faults of
+/// a line in the JSON form, and never come from this crate.
 #[derive(Clone, Copy, Debug, PartialEq, Eq)]
 pub enum MessageFault {
     /// The bytes end inside a number, inside four or eight bytes, or before the end of a counted span.
@@ -15,17 +15,17 @@ pub enum MessageFault {
     BadVarint,
     /// A tag is 2^32 or more, has the field number 0, or a wire type that isn't 0, 1, 2 or 5.
     BadTag,
-    /// What stands where a text belongs isn't UTF-8.
+    /// A string isn't UTF-8.
     BadText,
     /// The line isn't JSON.
     NotJson,
     /// The line's value isn't an object.
     NotObject,
-    /// The value of a key has another type.
+    /// The value of a key has the wrong type.
     WrongKind(JsonKey),
     /// The number of a key doesn't fit 32 bits.
     OutOfRange(JsonKey),
-    /// Memory ran out, and the bytes may have a fault or none.
+    /// Memory ran out. The bytes may have a fault or none.
     NoMemory,
 }
 

@@ -1,9 +1,9 @@
 //! Work requests and responses in the binary form of Protocol Buffers.
 //!
-//! Each kind of message is a [`Message`]: which of its fields it refuses, what a list of its fields means, and
-//! which fields are written of it. One decoder and one encoder do the rest. The `push_` functions put fields, the
-//! `_len` functions measure them, and the methods of [`Value`] take them; a crate with messages of its own builds
-//! on these.
+//! Each kind of message is a [`Message`]. It defines which of its fields it refuses, what a list of fields means, and
+//! which fields are written for it. One decoder and one encoder do the rest. The `push_` functions append fields, the
+//! `_len` functions measure them, and the methods of [`Value`] take them. A crate with its own messages builds on
+//! these.
 #![tactic(auto)]
 
 mod fault;

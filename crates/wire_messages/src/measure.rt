@@ -1,4 +1,4 @@
-// How many bytes fields take, without a byte put. A length that passes 64 bits is the largest one.
+// The lengths of fields in bytes, without writing any. A length of more than 64 bits is returned as the largest one.
 ghost use Rattle.std.specs.Prelude.{◌≡◌, ◌++◌, ◌+◌, ◌<◌, ◌≤◌, ◌^◌, List, ℕ, length, map};
 ghost use Rattle.wire_fields.specs.Spelling.{spelling, capped, number_field, int32_field, bool_field, bytes_field, one_bytes, repeated_field};
 
@@ -6,7 +6,7 @@ use crate::message::Message;
 use plain_values::Text;
 use wire_fields::varint_length;
 
-/// The length of what `push_number` puts.
+/// Returns the length of what `push_number` appends.
 pub fn number_len(number: u32, value: u64) -> u64
     requires { number < 2 ^ 29 }
     ensures { result ≡ capped (length (spelling (number_field number value))) }
@@ -17,7 +17,7 @@ pub fn number_len(number: u32, value: u64) -> u64
     varint_length(8 * u64::from(number)) + varint_length(value)
 }
 
-/// The length of what `push_int32` puts.
+/// Returns the length of what `push_int32` appends.
 pub fn int32_len(number: u32, value: i32) -> u64
     requires { number < 2 ^ 29 }
     ensures { result ≡ capped (length (spelling (int32_field number value))) }
@@ -25,7 +25,7 @@ pub fn int32_len(number: u32, value: i32) -> u64
     number_len(number, i64::from(value).cast_unsigned())
 }
 
-/// The length of what `push_bool` puts.
+/// Returns the length of what `push_bool` appends.
 pub fn bool_len(number: u32, value: bool) -> u64
     requires { number < 2 ^ 29 }
     ensures { result ≡ capped (length (spelling (bool_field number value))) }
@@ -33,7 +33,7 @@ pub fn bool_len(number: u32, value: bool) -> u64
     number_len(number, u64::from(value))
 }
 
-/// The length of a field that holds so many bytes.
+/// Returns the length of a field that holds `count` bytes.
 pub fn span_len(number: u32, count: u64) -> u64
     requires { number < 2 ^ 29 }
     ensures { (s : List ℕ) → count ≡ capped (length s)
@@ -43,7 +43,7 @@ pub fn span_len(number: u32, count: u64) -> u64
     head.saturating_add(count)
 }
 
-// The length of bytes in a field, even if there are none.
+// Returns the length of bytes in a field, even if there are none.
 fn one_len(number: u32, bytes: &[u8]) -> u64
     requires { number < 2 ^ 29 }
     ensures { result ≡ capped (length (spelling (one_bytes number bytes.now))) }
@@ -51,7 +51,7 @@ fn one_len(number: u32, bytes: &[u8]) -> u64
     span_len(number, bytes.len() as u64)
 }
 
-/// The length of what `push_bytes` puts.
+/// Returns the length of what `push_bytes` appends.
 pub fn bytes_len(number: u32, bytes: &[u8]) -> u64
     requires { number < 2 ^ 29 }
     ensures { result ≡ capped (length (spelling (bytes_field number bytes.now))) }
@@ -62,7 +62,7 @@ pub fn bytes_len(number: u32, bytes: &[u8]) -> u64
     one_len(number, bytes)
 }
 
-/// The length of what `push_texts` puts.
+/// Returns the length of what `push_texts` appends.
 pub fn texts_len(number: u32, texts: &[Text]) -> u64
     requires { number < 2 ^ 29 }
     ensures { result ≡ capped (length (spelling (repeated_field number texts.now))) }
@@ -74,7 +74,7 @@ pub fn texts_len(number: u32, texts: &[Text]) -> u64
     total
 }
 
-/// The length of what `push_messages` puts.
+/// Returns the length of what `push_messages` appends.
 pub fn messages_len<M: Message>(number: u32, messages: &[M]) -> u64
     requires { number < 2 ^ 29 }
     ensures { result ≡ capped (length (spelling (repeated_field number (map (λ m. spelling

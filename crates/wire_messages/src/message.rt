@@ -15,35 +15,35 @@ use wire_fields::{push_varint, varint_length};
 
 /// A kind of message, which takes its fields in order.
 pub trait Message: Sized + Drop {
-    /// What the fields mean.
+    /// The meaning of the fields.
     ghost means: { List WireField → Self → Type 0 };
 
-    /// Which whole fields are at fault.
+    /// The whole fields that are at fault.
     ghost refuses: { WireField → Fault → Type 0 };
 
     /// The fields that are written.
     ghost fields: { Self → List WireField };
 
-    /// What holds of each value: its texts are UTF-8, and its numbers fit their types.
+    /// The form of each value: its strings are UTF-8, and its numbers fit their types.
     ghost has_form: { Self → Type 0 };
 
-    /// The message of no fields.
+    /// Returns the message without fields.
     fn empty(alloc: Global) -> Result<Self, MessageFault>
         ensures ok { IfOk result (λ m. means [] m) }
         ensures err { IfErr result (λ e. Fails e (λ x. ⊥)) };
 
-    /// Takes one field more.
+    /// Takes one more field.
     fn take(&mut self, alloc: Global, number: u32, value: Value<'_>) -> Result<(), MessageFault>
         ensures meaning { OnOk result ((fs : List WireField) → means fs self.old
             → means (fs ++ field number value.entry ∷ []) self.new) }
         ensures sound { OnOk result ((x : Fault) → refuses (field number value.entry) x → ⊥) }
         ensures err { IfErr result (λ e. Fails e (refuses (field number value.entry))) };
 
-    /// How many bytes `put` puts, or 2^64 - 1 where that is more. It takes no memory.
+    /// Returns the number of bytes that `put` appends, or 2^64 - 1 if that is more. It takes no memory.
     fn encoded_len(&self) -> u64
         ensures { result ≡ capped (length (spelling (fields self.now))) };
 
-    /// Puts the written form at the end.
+    /// Appends the written form.
     fn put(&self, out: &mut Vec<u8>) -> Result<(), NoMemory>
         ensures written { OnOk result (out.new.items ≡ out.old.items ++ spelling
             (fields self.now)) }
@@ -56,7 +56,7 @@ pub trait Message: Sized + Drop {
     ghost one_fault: { (f : WireField) (x y : Fault) → refuses f x → refuses f y → x ≡ y };
 }
 
-/// The message that the bytes spell, all of the bytes.
+/// Returns the message that all of the bytes spell.
 pub fn decode<M: Message>(alloc: Global, bytes: &[u8]) -> Result<M, MessageFault>
     ensures found { IfOk result (λ m. Spells M.refuses M.means bytes.now m) }
     ensures fault { IfErr result (λ e. Fails e (FirstFault M.refuses bytes.now)) }
@@ -80,7 +80,7 @@ fn read<M: Message>(alloc: Global, bytes: &[u8]) -> Result<M, MessageFault>
     Ok(message)
 }
 
-/// The one written form of the message.
+/// Returns the only written form of the message.
 pub fn encode<M: Message>(alloc: Global, m: &M) -> Result<Vec<u8>, NoMemory>
     ensures written { IfOk result (λ v. v.items ≡ spelling (M.fields m.now)) }
     ensures spelled { IfOk result (λ v. Spells M.refuses M.means v.items m.now) }
@@ -91,8 +91,8 @@ pub fn encode<M: Message>(alloc: Global, m: &M) -> Result<Vec<u8>, NoMemory>
     Ok(out)
 }
 
-/// The written form behind its length, as a frame of a stream. The message goes straight to its place, so its
-/// parts are copied once.
+/// Returns the written form after its length, as a frame of a stream. The message is written directly to its place, so
+/// its parts are copied once.
 pub fn encode_delimited<M: Message>(alloc: Global, m: &M) -> Result<Vec<u8>, NoMemory>
     ensures written { IfOk result (λ v. v.items ≡ delimited (spelling (M.fields m.now))) }
     ensures spelled { OnOk result (Spells M.refuses M.means (spelling (M.fields m.now)) m.now) }

@@ -1,4 +1,4 @@
-// Fields put at the end of some bytes.
+// Functions that append fields to bytes.
 ghost use Rattle.std.specs.Prelude.{◌≡◌, ◌++◌, ◌+◌, ◌<◌, ◌≤◌, ◌^◌, length, map, All, OnOk};
 ghost use Rattle.wire_fields.specs.Spelling.{spelling, number_field, int32_field, bool_field, bytes_field, one_bytes, repeated_field};
 ghost use Rattle.wire_fields.specs.After.{IsText};
@@ -7,7 +7,7 @@ use crate::message::Message;
 use plain_values::{NoMemory, Text};
 use wire_fields::push_varint;
 
-/// Puts a number, if it is not 0.
+/// Appends a number, if it is not 0.
 pub fn push_number(out: &mut Vec<u8>, number: u32, value: u64) -> Result<(), NoMemory>
     requires { number < 2 ^ 29 }
     ensures { OnOk result (out.new.items ≡ out.old.items ++ spelling (number_field number value)) }
@@ -19,7 +19,7 @@ pub fn push_number(out: &mut Vec<u8>, number: u32, value: u64) -> Result<(), NoM
     push_varint(value, out)
 }
 
-/// Puts a signed number, if it is not 0. A negative one takes ten bytes.
+/// Appends a signed number, if it is not 0. A negative one takes ten bytes.
 pub fn push_int32(out: &mut Vec<u8>, number: u32, value: i32) -> Result<(), NoMemory>
     requires { number < 2 ^ 29 }
     ensures { OnOk result (out.new.items ≡ out.old.items ++ spelling (int32_field number value)) }
@@ -27,7 +27,7 @@ pub fn push_int32(out: &mut Vec<u8>, number: u32, value: i32) -> Result<(), NoMe
     push_number(out, number, i64::from(value).cast_unsigned())
 }
 
-/// Puts a flag, if it is set.
+/// Appends a flag, if it is set.
 pub fn push_bool(out: &mut Vec<u8>, number: u32, value: bool) -> Result<(), NoMemory>
     requires { number < 2 ^ 29 }
     ensures { OnOk result (out.new.items ≡ out.old.items ++ spelling (bool_field number value)) }
@@ -35,7 +35,7 @@ pub fn push_bool(out: &mut Vec<u8>, number: u32, value: bool) -> Result<(), NoMe
     push_number(out, number, u64::from(value))
 }
 
-// Puts bytes, even if there are none.
+// Appends bytes, even if there are none.
 fn push_one(out: &mut Vec<u8>, number: u32, bytes: &[u8]) -> Result<(), NoMemory>
     requires { number < 2 ^ 29 }
     ensures put { OnOk result (out.new.items ≡ out.old.items ++ spelling
@@ -48,7 +48,7 @@ fn push_one(out: &mut Vec<u8>, number: u32, bytes: &[u8]) -> Result<(), NoMemory
     Ok(())
 }
 
-/// Puts bytes, if there are some.
+/// Appends bytes, if there are any.
 pub fn push_bytes(out: &mut Vec<u8>, number: u32, bytes: &[u8]) -> Result<(), NoMemory>
     requires { number < 2 ^ 29 }
     ensures put { OnOk result (out.new.items ≡ out.old.items ++ spelling
@@ -61,7 +61,7 @@ pub fn push_bytes(out: &mut Vec<u8>, number: u32, bytes: &[u8]) -> Result<(), No
     push_one(out, number, bytes)
 }
 
-/// Puts each text.
+/// Appends each string.
 pub fn push_texts(out: &mut Vec<u8>, number: u32, texts: &[Text]) -> Result<(), NoMemory>
     requires { number < 2 ^ 29 }
     ensures put { OnOk result (out.new.items ≡ out.old.items ++ spelling
@@ -74,7 +74,7 @@ pub fn push_texts(out: &mut Vec<u8>, number: u32, texts: &[Text]) -> Result<(), 
     Ok(())
 }
 
-/// Puts a message, even if its form is empty. It goes straight to its place, behind its length.
+/// Appends a message, even if its form is empty. It is written directly to its place, after its length.
 pub fn push_message<M: Message>(out: &mut Vec<u8>, number: u32, message: &M) -> Result<(), NoMemory>
     requires { number < 2 ^ 29 }
     ensures put { OnOk result (out.new.items ≡ out.old.items ++ spelling (one_bytes number
@@ -88,7 +88,7 @@ pub fn push_message<M: Message>(out: &mut Vec<u8>, number: u32, message: &M) -> 
     Ok(())
 }
 
-/// Puts each message.
+/// Appends each message.
 pub fn push_messages<M: Message>(
     out: &mut Vec<u8>,
     number: u32,

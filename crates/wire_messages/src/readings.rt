@@ -1,4 +1,4 @@
-// What holds of all bytes.
+// Laws about all bytes.
 ghost use Rattle.wire_fields.specs.Readings.{IsReadOneWay};
 ghost use Rattle.wire_messages.specs.Request.{IsRequest, request_refuses};
 ghost use Rattle.wire_messages.specs.Response.{IsResponse, response_refuses};

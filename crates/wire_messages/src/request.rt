@@ -14,18 +14,18 @@ use crate::value::Value;
 use plain_values::{Items, NoMemory, Text};
 use std::alloc::Global;
 
-/// What a worker is asked.
+/// A request to a worker.
 #[derive(Drop)]
 pub struct WorkRequest {
     pub arguments: Items<Text>,
     pub inputs: Items<Input>,
     /// 0 for a worker that has one request at a time.
     pub request_id: i32,
-    /// The request of this number is to be cancelled; the other parts are then at their defaults.
+    /// True if the request with this number should be cancelled. The other parts are then at their defaults.
     pub cancel: bool,
-    /// How much the worker may print; 0 is the least.
+    /// The amount of output that the worker may print; 0 is the least.
     pub verbosity: i32,
-    /// The directory that a multiplex worker is to work in, or empty.
+    /// The directory in which a multiplex worker should work, or empty.
     pub sandbox_dir: Text,
 }
 
@@ -100,28 +100,28 @@ impl Message for WorkRequest {
     }
 }
 
-/// The request that the bytes spell.
+/// Returns the request that the bytes spell.
 ///
 /// # Errors
 ///
-/// The first fault from the left, or `NoMemory`.
+/// Returns the first fault from the left, or `NoMemory` if memory runs out.
 pub fn decode_request(alloc: Global, bytes: &[u8]) -> Result<WorkRequest, MessageFault>
-    // What is read is spelled so.
+    // The bytes spell the request that is returned.
     ensures found { IfOk result (SpellsRequest bytes.now) }
-    // A fault is the first one.
+    // A fault that is returned is the first one.
     ensures fault { IfErr result (λ e. Fails e (FaultyRequest bytes.now)) }
-    // What is spelled so is read, and the first fault is told, unless memory runs out.
+    // A request that the bytes spell is returned, and so is the first fault, unless memory runs out.
     ensures only { (m : WorkRequest) → SpellsRequest bytes.now m → Answers result (Ok m) }
     ensures only_fault { (x : Fault) → FaultyRequest bytes.now x → Answers result (Err x) }
 {
     decode::<WorkRequest>(alloc, bytes)
 }
 
-/// The one spelling of the request.
+/// Returns the only spelling of the request.
 ///
 /// # Errors
 ///
-/// `NoMemory` where the bytes find no memory.
+/// Returns `NoMemory` if memory runs out.
 pub fn encode_request(alloc: Global, m: &WorkRequest) -> Result<Vec<u8>, NoMemory>
     ensures written { IfOk result (λ v. v.items ≡ request_spelling m.now) }
     ensures spelled { IfOk result (λ v. SpellsRequest v.items m.now) }

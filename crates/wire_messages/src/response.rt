@@ -13,15 +13,15 @@ use crate::value::Value;
 use plain_values::{NoMemory, Text};
 use std::alloc::Global;
 
-/// What a worker answers.
+/// A worker's response.
 #[derive(Drop)]
 pub struct WorkResponse {
     pub exit_code: i32,
-    /// What the worker has to say, for people.
+    /// The worker's output, for people.
     pub output: Text,
-    /// The number of the request that is answered.
+    /// The number of the request.
     pub request_id: i32,
-    /// The request was cancelled; exit code and output say nothing then.
+    /// True if the request was cancelled. Exit code and output then mean nothing.
     pub was_cancelled: bool,
 }
 
@@ -86,28 +86,28 @@ impl Message for WorkResponse {
     }
 }
 
-/// The response that the bytes spell.
+/// Returns the response that the bytes spell.
 ///
 /// # Errors
 ///
-/// The first fault from the left, or `NoMemory`.
+/// Returns the first fault from the left, or `NoMemory` if memory runs out.
 pub fn decode_response(alloc: Global, bytes: &[u8]) -> Result<WorkResponse, MessageFault>
-    // What is read is spelled so.
+    // The bytes spell the response that is returned.
     ensures found { IfOk result (SpellsResponse bytes.now) }
-    // A fault is the first one.
+    // A fault that is returned is the first one.
     ensures fault { IfErr result (λ e. Fails e (FaultyResponse bytes.now)) }
-    // What is spelled so is read, and the first fault is told, unless memory runs out.
+    // A response that the bytes spell is returned, and so is the first fault, unless memory runs out.
     ensures only { (m : WorkResponse) → SpellsResponse bytes.now m → Answers result (Ok m) }
     ensures only_fault { (x : Fault) → FaultyResponse bytes.now x → Answers result (Err x) }
 {
     decode::<WorkResponse>(alloc, bytes)
 }
 
-/// The one spelling of the response.
+/// Returns the only spelling of the response.
 ///
 /// # Errors
 ///
-/// `NoMemory` where the bytes find no memory.
+/// Returns `NoMemory` if memory runs out.
 pub fn encode_response(alloc: Global, m: &WorkResponse) -> Result<Vec<u8>, NoMemory>
     ensures written { IfOk result (λ v. v.items ≡ response_spelling m.now) }
     ensures spelled { IfOk result (λ v. SpellsResponse v.items m.now) }

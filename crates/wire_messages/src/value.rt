@@ -1,4 +1,4 @@
-// Fields with their bytes, and what one field does to a part of a message.
+// The values of fields, and the effect of one field on a part of a message.
 ghost use Rattle.std.specs.Prelude.{◌≡◌, ◌≢◌, ◌++◌, ◌∷◌, [], ◌<◌, length, Ok, Err, IfOk, IfErr, OnOk, IsUtf8};
 ghost use Rattle.wire_fields.specs.Varint.{Fault, BadText};
 ghost use Rattle.wire_fields.specs.Message.{HoldsNoText, HoldsFaulty, Spells, FirstFault, bytes_in};
@@ -15,12 +15,12 @@ use std::alloc::Global;
 use std::mem;
 use wire_fields::{Field, FieldValue, next_field};
 
-/// What a field holds.
+/// The value of a field.
 #[derive(Clone, Copy)]
 pub enum Value<'a> {
     /// A varint, wire type 0.
     Number(u64),
-    /// Eight bytes, wire type 1. No message knows such a field, so its bytes are left out.
+    /// Eight bytes, wire type 1. No message has such a field, so its bytes are left out.
     Eight,
     /// A counted span of bytes, wire type 2.
     Bytes(&'a [u8]),
@@ -28,11 +28,11 @@ pub enum Value<'a> {
     Four,
 }
 
-/// The number and the value of the field at the front, and the bytes after it.
+/// Returns the number and the value of the field at the front, and the bytes after it.
 ///
 /// # Errors
 ///
-/// The fault of the field's tag or value; never lack of memory.
+/// Returns the fault of the field's tag or value, but never lack of memory.
 pub(crate) fn split_field(bytes: &[u8]) -> Result<(u32, Value<'_>, &[u8]), MessageFault>
     requires { 0 < length bytes.now }
     ensures ok { IfOk result (λ p. field_at bytes.now ≡ Ok (field p.0 p.1, p.2.now)) }
@@ -59,7 +59,7 @@ pub(crate) fn split_field(bytes: &[u8]) -> Result<(u32, Value<'_>, &[u8]), Messa
     }
 }
 
-/// Puts an element at the end of a list. Where memory runs out the list is lost, with the message that it is for.
+/// Appends an element to a list. If memory runs out, the list is lost, and so is the message that it is for.
 pub fn push_item<T: Drop>(alloc: Global, slot: &mut Items<T>, item: T) -> Result<(), NoMemory>
     ensures { OnOk result (slot.new ≡ slot.old ++ item ∷ []) }
 {
@@ -80,7 +80,7 @@ fn text_of(alloc: Global, bytes: &[u8]) -> Result<Text, MessageFault>
 }
 
 impl Value<'_> {
-    /// Sets a signed number, if this is one: the low 32 bits count.
+    /// Sets a signed number, if this is one. Only the low 32 bits count.
     pub fn set_int32(self, slot: &mut i32)
         ensures { slot.new ≡ int32_after slot.old (content self.entry) }
     {
@@ -89,7 +89,7 @@ impl Value<'_> {
         }
     }
 
-    /// Sets a flag, if this is one: every number but 0 is true.
+    /// Sets a flag, if this is one. Every number except 0 is true.
     pub fn set_bool(self, slot: &mut bool)
         ensures { slot.new ≡ bool_after slot.old (content self.entry) }
     {
@@ -98,11 +98,11 @@ impl Value<'_> {
         }
     }
 
-    /// Sets a text, if this is one.
+    /// Sets a string, if this is one.
     ///
     /// # Errors
     ///
-    /// `BadText` where the span isn't UTF-8.
+    /// Returns `BadText` if the span isn't UTF-8.
     pub fn set_text(self, alloc: Global, slot: &mut Text) -> Result<(), MessageFault>
         ensures ok { OnOk result (slot.new ≡ bytes_after slot.old (content self.entry)) }
         ensures sound { OnOk result (HoldsNoText (content self.entry) → ⊥) }
@@ -115,7 +115,7 @@ impl Value<'_> {
         Ok(())
     }
 
-    /// Sets bytes, if this is some.
+    /// Sets bytes, if this is a span of bytes.
     pub fn set_bytes(self, alloc: Global, slot: &mut Items<u8>) -> Result<(), MessageFault>
         ensures ok { OnOk result (slot.new ≡ bytes_after slot.old (content self.entry)) }
         ensures err { IfErr result (λ e. Fails e (λ x. ⊥)) }
@@ -126,7 +126,7 @@ impl Value<'_> {
         Ok(())
     }
 
-    /// Sets bytes that may be shared, if this is some.
+    /// Sets bytes that may be shared, if this is a span of bytes.
     pub fn set_blob(self, alloc: Global, slot: &mut Blob) -> Result<(), MessageFault>
         ensures ok { OnOk result (slot.new ≡ bytes_after slot.old (content self.entry)) }
         ensures err { IfErr result (λ e. Fails e (λ x. ⊥)) }
@@ -137,11 +137,11 @@ impl Value<'_> {
         Ok(())
     }
 
-    /// Puts a text at the end, if this is one.
+    /// Appends a string, if this is one.
     ///
     /// # Errors
     ///
-    /// `BadText` where the span isn't UTF-8.
+    /// Returns `BadText` if the span isn't UTF-8.
     pub fn push_text(self, alloc: Global, slot: &mut Items<Text>) -> Result<(), MessageFault>
         ensures ok { OnOk result (slot.new ≡ slot.old ++ bytes_in (content self.entry)) }
         ensures sound { OnOk result (HoldsNoText (content self.entry) → ⊥) }
@@ -154,11 +154,11 @@ impl Value<'_> {
         Ok(())
     }
 
-    /// Puts a message at the end, if this is one.
+    /// Appends a message, if this is one.
     ///
     /// # Errors
     ///
-    /// The first fault inside the span.
+    /// Returns the first fault inside the span.
     pub fn push_message<M: Message>(
         self,
         alloc: Global,

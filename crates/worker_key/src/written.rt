@@ -10,11 +10,18 @@ use plain_values::{NoMemory, Text};
 use std::alloc::Global;
 
 impl WorkerKey {
-    /// Returns the key's bytes: each of its strings after the string's length, which takes eight bytes, the
-    /// highest first. The strings are the mnemonic; the number of startup arguments in decimal, then each
-    /// argument; the number of variables, then the name and the value of each; the number of tools, then
-    /// the path and the digest of each; `p` or `j` for the protocol; `s`, `m` or `b` for the mode; `0` or
-    /// `1` for cancellation. No other key has the same bytes.
+    /// Returns the key's bytes: each of its strings after the string's length, which takes eight bytes, the highest
+    /// first. The strings are, in this order:
+    ///
+    /// - the mnemonic
+    /// - the number of startup arguments in decimal, then each argument
+    /// - the number of variables, then the name and the value of each
+    /// - the number of tools, then the path and the digest of each
+    /// - `p` or `j` for the protocol
+    /// - `s`, `m` or `b` for the mode
+    /// - `0` or `1` for cancellation
+    ///
+    /// Different keys have different bytes.
     ///
     /// # Errors
     ///

@@ -1,4 +1,5 @@
-//! How the table follows a journal. The functions do nothing: each is a law, for those who keep a table of a journal.
+//! How the table follows a journal. The functions do nothing. Each one is a law, for a program that
+//! keeps a table of a journal.
 ghost use Rattle.std.specs.Prelude.{◌≡◌, ◌*◌, ◌/◌, ◌<◌, length, slice_get, true, false, Some, None, ℕ, ℤ, List, ◌∷◌};
 ghost use Rattle.exec_journal.specs.declared.attempt.Attempt.{Attempt};
 ghost use Rattle.exec_journal.specs.declared.call.Answer.{Answer};
@@ -25,7 +26,7 @@ ghost use Rattle.worker_pool.specs.Entries.{entry, is_aside, ends_nothing, Wante
 ghost use Rattle.worker_pool.specs.Rows.{Facts, change, set_started, set_broken, set_ended, set_killed, set_unbound, one_more, one_fewer, with_unbound, with_launch, last_of, live_of, free_of, pending_of, capacity_of};
 ghost use Rattle.worker_pool.specs.Stands.{Stands, live_in};
 
-/// A Launch of a berth of the plan: `launch` is called for it, which gives the line's number.
+/// After a Launch of a berth of the plan, `launch` is called for it, which gives the line's number.
 pub fn launches_are_kept()
     ensures { (p : Plan) (seats : ℕ) (f : Facts) (j : List Entry) (lane : ℕ) (t : Attempt)
         → Stands p seats f j
@@ -35,15 +36,15 @@ pub fn launches_are_kept()
         (line_count j) t.action t.branch t.number) ∷ j) }
 {}
 
-/// A Launched with Done: `started` is called.
+/// After a Launched with Done, `started` is called.
 pub fn starts_are_kept()
     ensures { (p : Plan) (seats : ℕ) (f : Facts) (j : List Entry) (lane l : ℕ) → Stands p seats f j
         → Stands p seats (change f l set_started) (entry lane
         (call.Launched l start.Done) reply.Noted ∷ j) }
 {}
 
-/// A Send: `sent` is called, and also `unbound` if it sends the branch that is bound to the line. Any other
-/// branch is sent only if nothing is bound to the line.
+/// After a Send, `sent` is called, and also `unbound` if it sends the branch that is bound to the
+/// line. Any other branch is sent only if nothing is bound to the line.
 pub fn sends_are_kept()
     ensures bound { (p : Plan) (seats : ℕ) (f : Facts) (j : List Entry) (lane l : ℕ) (n : ℤ)
         (t : Attempt)
@@ -57,7 +58,8 @@ pub fn sends_are_kept()
         (reply.Send l n t.action t.branch t.number) ∷ j) }
 {}
 
-/// An Answer that is Matched or Late: `freed` is called for the line on which its request is pending.
+/// After an Answer that is Matched or Late, `freed` is called for the line on which its request is
+/// pending.
 pub fn answers_are_kept()
     ensures { (p : Plan) (seats : ℕ) (f : Facts) (j : List Entry) (lane l : ℕ) (a : Answer)
         (x : Reply)
@@ -65,9 +67,10 @@ pub fn answers_are_kept()
         → Stands p seats (change f l one_fewer) (entry lane (call.Answer l a) x ∷ j) }
 {}
 
-/// A Wrote with RoomFault or TooLarge. If the request isn't answered, `freed` is called for the line on
-/// which it is pending, and nothing if it isn't pending (after the Ended of its line). If the request was
-/// answered, only `broke` is called.
+/// After a Wrote with RoomFault or TooLarge, the call depends on the request. If the request isn't
+/// answered, `freed` is called for the line on which it is pending. If it isn't pending either
+/// (after the Ended of its line), nothing is called. If the request was answered, only `broke` is
+/// called.
 pub fn faulty_writes_are_kept()
     ensures pending { (p : Plan) (seats : ℕ) (f : Facts) (j : List Entry) (lane k : ℕ) (n : ℤ)
         (how : Written)
@@ -88,7 +91,7 @@ pub fn faulty_writes_are_kept()
         → Stands p seats (change f k set_broken) (entry lane (call.Wrote k n how) reply.Noted ∷ j) }
 {}
 
-/// A Wrote with FeedFault: `broke` is called.
+/// After a Wrote with FeedFault, `broke` is called.
 pub fn feed_faults_are_kept()
     ensures { (p : Plan) (seats : ℕ) (f : Facts) (j : List Entry) (lane l : ℕ) (n : ℤ)
         → Stands p seats f j
@@ -97,7 +100,7 @@ pub fn feed_faults_are_kept()
         (call.Wrote l n write.FeedFault) reply.Noted ∷ j) }
 {}
 
-/// An Answer whose reply is a Breach: `broke` is called.
+/// After an Answer whose reply is a Breach, `broke` is called.
 pub fn breaches_are_kept()
     ensures { (p : Plan) (seats : ℕ) (f : Facts) (j : List Entry) (lane l : ℕ) (a : Answer)
         (y : BreachWhy)
@@ -106,7 +109,7 @@ pub fn breaches_are_kept()
         (reply.Breach y) ∷ j) }
 {}
 
-/// An Ended: `ended` is called, regardless of what is pending on the line.
+/// After an Ended, `ended` is called, regardless of what is pending on the line.
 pub fn ends_are_kept()
     ensures { (p : Plan) (seats : ℕ) (f : Facts) (j : List Entry) (lane l : ℕ) (how : HowEnded)
         → Stands p seats f j → WantedStays p j (entry lane (call.Ended l how) reply.Noted)
@@ -114,13 +117,14 @@ pub fn ends_are_kept()
         → Stands p seats (change f l set_ended) (entry lane (call.Ended l how) reply.Noted ∷ j) }
 {}
 
-/// A Killed: `killed` is called.
+/// After a Killed, `killed` is called.
 pub fn kills_are_kept()
     ensures { (p : Plan) (seats : ℕ) (f : Facts) (j : List Entry) (lane l : ℕ) → Stands p seats f j
         → Stands p seats (change f l set_killed) (entry lane (call.Killed l) reply.Noted ∷ j) }
 {}
 
-/// A Claim that is granted: `unbound` is called for each line to which a branch of the action is bound.
+/// After a granted Claim, `unbound` is called for each line to which a branch of the action is
+/// bound.
 pub fn grants_are_kept()
     ensures { (p : Plan) (seats : ℕ) (f : Facts) (j : List Entry) (lane a n : ℕ) (b : Branch)
         (found : Found)
@@ -131,8 +135,8 @@ pub fn grants_are_kept()
         (call.Claim a b n found) reply.Granted ∷ j) }
 {}
 
-/// Any other entry: `unbound` is called for each line if the entry reports a fault of the branch that is
-/// bound to it (a Launched with a fault, for example).
+/// After any other entry, `unbound` is called for each line to which a branch is bound whose fault
+/// the entry reports. A Launched with a fault is an example of such an entry.
 pub fn faults_are_kept()
     ensures { (p : Plan) (seats : ℕ) (f : Facts) (j : List Entry) (e : Entry) (ls : List ℕ)
         → Stands p seats f j
@@ -146,8 +150,9 @@ pub fn others_change_nothing()
         → is_aside e ≡ true → ends_nothing e.call ≡ true → Stands p seats f (e ∷ j) }
 {}
 
-/// If attempts begin in order, which they do in each legal journal, each attempt has only one request; so
-/// only that one can be pending, and a branch that is bound to a line or sent to it has no other line.
+/// If attempts begin in order, which they do in each legal journal, each attempt has only one
+/// request. So only that one can be pending, and a branch that is bound to a line or sent to it has
+/// no other line.
 pub fn attempts_are_sent_once()
     ensures pending { (j : List Entry) (l i : ℕ) (q : Request) → BeginInOrder j
         → slice_get (sends j l) i ≡ Some q → is_pending j q ≡ true → IsPendingOn j q.attempt l }

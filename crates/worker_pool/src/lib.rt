@@ -31,14 +31,14 @@ pub struct LineRow {
     pub pending: u32,
 }
 
-/// The lines of a run, and the last one of each berth. Lines are numbered from 0 in the order of their
-/// launches, over all berths. A contract sees the facts of each line and of each berth, and how many lines
-/// there may be.
+/// The lines of a run, and the last one of each berth. Lines are numbered from 0 in the order of
+/// their launches, over all berths. A contract sees the facts of each line and of each berth, and
+/// the maximal number of lines.
 #[derive(Drop)]
 pub struct Pool {
-    // Never fuller than its capacity, which is the room for all lines that a run may launch.
+    // The length never exceeds the capacity, which is the room for all lines that a run may launch.
     lines: Vec<LineRow>,
-    // Of each berth its last line.
+    // The last line of each berth.
     berths: Vec<Option<u32>>,
 }
 
@@ -58,8 +58,8 @@ impl Model for Pool {
 }
 
 impl Pool {
-    /// Makes the table of a run on `seats` berths in which nothing was launched yet, with room for all
-    /// lines that the run may launch.
+    /// Makes the table of a run on `seats` berths before any launch, with room for all lines that
+    /// the run may launch.
     pub fn new(alloc: Global, plan: &Plan, seats: usize) -> Result<Pool, NoMemory>
         requires { Sound plan.now }
         ensures facts { IfOk result (λ t. t ≡ new_facts plan.now seats) }
@@ -72,9 +72,9 @@ impl Pool {
         Ok(Pool { lines, berths })
     }
 
-    /// Makes the next line, the last of this berth, with a branch bound to it, and gives its number. Its
-    /// room for requests follows from this kind, the kind of the branch's group. Each attempt of each
-    /// branch may have a separate line: there may be 2 × actions × limit of them.
+    /// Makes the next line, the last of this berth, with a branch bound to it, and returns its
+    /// number. Its room for requests follows from this kind, the kind of the branch's group. Each
+    /// attempt of each branch may have a separate line: there may be 2 × actions × limit of them.
     pub fn launch(&mut self, berth: u32, kind: Kind) -> u32
         requires known { berth < length self.old.seats }
         requires room { length self.old.lines < self.old.room }
@@ -88,7 +88,7 @@ impl Pool {
         line
     }
 
-    /// The line was launched with success.
+    /// Notes that the line was launched with success.
     pub fn started(&mut self, line: u32)
         requires { line < length self.old.lines }
         ensures { self.new ≡ change self.old line set_started }
@@ -97,7 +97,7 @@ impl Pool {
         row.started = true;
     }
 
-    /// The line broke, otherwise than by its end.
+    /// Notes that the line broke, but not by its end.
     pub fn broke(&mut self, line: u32)
         requires { line < length self.old.lines }
         ensures { self.new ≡ change self.old line set_broken }
@@ -106,7 +106,8 @@ impl Pool {
         row.broken = true;
     }
 
-    /// The line has ended. So it broke, its pending requests are pending no longer, and nothing is bound to it.
+    /// Notes that the line has ended. So it broke, its requests are no longer pending, and nothing
+    /// is bound to it.
     pub fn ended(&mut self, line: u32)
         requires { line < length self.old.lines }
         ensures { self.new ≡ change self.old line set_ended }
@@ -118,7 +119,7 @@ impl Pool {
         row.pending = 0;
     }
 
-    /// The line was killed.
+    /// Notes that the line was killed.
     pub fn killed(&mut self, line: u32)
         requires { line < length self.old.lines }
         ensures { self.new ≡ change self.old line set_killed }
@@ -127,7 +128,7 @@ impl Pool {
         row.killed = true;
     }
 
-    /// The branch that the line's launch bound is bound no longer.
+    /// Notes that the branch that the line's launch bound is no longer bound.
     pub fn unbound(&mut self, line: u32)
         requires { line < length self.old.lines }
         ensures { self.new ≡ change self.old line set_unbound }
@@ -136,7 +137,7 @@ impl Pool {
         row.bound = false;
     }
 
-    /// One request more is pending on the line.
+    /// Notes that one more request is pending on the line.
     pub fn sent(&mut self, line: u32)
         requires known { line < length self.old.lines }
         requires place { pending_of self.old line < capacity_of self.old line }
@@ -147,7 +148,7 @@ impl Pool {
         row.pending += 1;
     }
 
-    /// One request fewer is pending on the line.
+    /// Notes that one request fewer is pending on the line.
     pub fn freed(&mut self, line: u32)
         requires known { line < length self.old.lines }
         requires pending { 0 < pending_of self.old line }
@@ -175,7 +176,7 @@ impl Pool {
         self.lines[line as usize].free_places()
     }
 
-    /// The berth's last line, live or not.
+    /// Returns the berth's last line, live or not.
     pub fn last_line(&self, berth: u32) -> Option<u32>
         requires { berth < length self.now.seats }
         ensures { result ≡ last_of self.now berth }
@@ -183,7 +184,7 @@ impl Pool {
         self.berths[berth as usize]
     }
 
-    /// All that is known of the line.
+    /// Returns the facts of the line.
     pub fn line(&self, line: u32) -> LineRow
         requires { line < length self.now.lines }
         ensures { slice_get self.now.lines line ≡ Some result }
@@ -213,7 +214,8 @@ impl LineRow {
         self.started && !self.broken && !self.killed
     }
 
-    // More may be taken than there are places: a branch is bound to a full line too.
+    // Returns the number of free places, or 0 if more are taken than there are: a branch is bound
+    // to a full line too.
     fn free_places(&self) -> u32
         ensures { result ≡ free_in self.now }
     {
@@ -223,7 +225,7 @@ impl LineRow {
     }
 }
 
-// How many requests a line has room for.
+// Returns the number of requests that a line has room for.
 fn capacity_of(kind: Kind) -> u32
     ensures { result ≡ capacity kind }
 {
