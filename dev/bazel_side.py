@@ -1,4 +1,4 @@
-"""The same copies by Bazel with the same worker: a workspace, the server that builds it, and what that takes."""
+"""The same copies by Bazel with the same worker: a workspace, the server that builds it, and their cost."""
 from __future__ import annotations
 
 import dataclasses
@@ -71,7 +71,7 @@ filegroup(name = "{set}_first", srcs = [":{set}0"])
 
 @dataclasses.dataclass(frozen=True)
 class Row:
-    """How the actions are done: by how many workers, and whether one has several requests at once."""
+    """A way to run the actions: the number of workers, and true if a worker gets several requests at once."""
 
     name: str
     workers: int
@@ -86,7 +86,7 @@ ROWS = (
 
 
 def run(command: list[str], folder: pathlib.Path) -> float:
-    """Runs a command, ends this one if it fails, and gives the seconds that it took."""
+    """Runs a command, and returns the seconds that it took. If it fails, this process ends."""
     begun = time.monotonic()
     done = subprocess.run(command, cwd=folder, stdout=subprocess.PIPE, stderr=subprocess.STDOUT, text=True, timeout=SECONDS)
     if done.returncode != 0:
@@ -103,7 +103,7 @@ class Taken(NamedTuple):
 
 
 def fields_of(process: int) -> list[str]:
-    """The fields of a process's stat behind its name, from its state on; none if it has ended."""
+    """Returns the fields of a process's stat after its name, from its state on, or none if it has ended."""
     try:
         with open(f"/proc/{process}/stat", encoding="utf-8", errors="replace") as file:
             return file.read().rsplit(")", 1)[1].split()
@@ -112,7 +112,7 @@ def fields_of(process: int) -> list[str]:
 
 
 def tree_of(root: int) -> list[int]:
-    """A process and all below it."""
+    """Returns a process and all processes below it."""
     parents = {int(it): int(fields[1]) for it in os.listdir("/proc") if it.isdigit() and (fields := fields_of(int(it)))}
     found = [root]
     for it in found:
@@ -121,18 +121,18 @@ def tree_of(root: int) -> list[int]:
 
 
 def spent(root: int) -> float:
-    """The seconds of processor of a process, all below it, and those among them that were waited for."""
+    """Returns the processor seconds of a process and all below it, including their children that were waited for."""
     return sum(sum(map(int, fields[11:15])) / TICKS for it in tree_of(root) if (fields := fields_of(it)))
 
 
 def spent_by_clients() -> float:
-    """The seconds of processor of the commands that this process has waited for."""
+    """Returns the processor seconds of the commands that this process has waited for."""
     usage = resource.getrusage(resource.RUSAGE_CHILDREN)
     return usage.ru_utime + usage.ru_stime
 
 
 def most_memory(root: int) -> float:
-    """The most MB that one of these processes has held."""
+    """Returns the most MB that a process, or one below it, has had in memory."""
     most = 0.0
     for it in tree_of(root):
         try:
@@ -156,22 +156,22 @@ class Bazel:
         shutil.copy(TOP / "bin/demo_tool", self.folder / "bin/demo_tool")
 
     def call(self, *words: str) -> float:
-        """Runs a command of Bazel's, and gives the seconds that it took."""
+        """Runs a command of Bazel, and returns the seconds that it took."""
         overrides = [f"--override_repository={it}={MOCKS / it}" for it in ("rules_cc", "rules_java", "rules_proto")]
         start = ["bazel", f"--output_user_root={self.root}", "--nohome_rc", "--max_idle_secs=300"]
         return run([*start, words[0], *(overrides if words[0] == "build" else []), *words[1:]], self.folder)
 
     def server(self) -> int:
-        """The process of the server."""
+        """Returns the process of the server."""
         words = ["bazel", f"--output_user_root={self.root}", "--nohome_rc", "info", "server_pid"]
         return int(subprocess.run(words, cwd=self.folder, capture_output=True, text=True, timeout=SECONDS, check=True).stdout)
 
     def measure(self, row: Row, round_: int) -> Taken:
-        """What the row's actions take in outputs that were never made: of the client, the server and its workers."""
+        """Returns the cost of the row's actions, with new outputs, for the client, the server and its workers."""
         name = f"set{round_}_{ROWS.index(row)}_"
         text = BUILD.format(set=name, several="1" if row.several else "", actions=self.actions)
         (self.folder / "BUILD").write_text(text)
-        # One instance of a worker with several requests at once is a proxy of one request, so eight are eight at once.
+        # If a worker takes several requests at once, an instance is a proxy for one request, so eight mean eight at once.
         instances = 8 if row.several else row.workers
         words = ["--strategy=Bench=worker", f"--worker_max_instances=Bench={instances}", "--noshow_progress"]
         words += ["--experimental_worker_multiplex" if row.several else "--noexperimental_worker_multiplex"]
@@ -188,7 +188,7 @@ class Bazel:
 
 
 def measure_bazel(bazel: Bazel, rounds: int) -> Iterator[tuple[str, list[Taken]]]:
-    """Each row with what it took in each round. The first round isn't counted: Bazel's server compiles itself while it runs."""
+    """Yields each row with its cost in each round. The first round doesn't count: Bazel's server compiles itself in it."""
     found = [[bazel.measure(row, round_) for row in ROWS] for round_ in range(rounds + 1)][1:]
     for at, row in enumerate(ROWS):
         yield row.name, [it[at] for it in found]

@@ -1,4 +1,4 @@
-"""The folder of one run that is played for dev/edge-hazards: its workers, its sources, and how the run ended."""
+"""The folder of one run that dev/edge-hazards plays: its workers, its sources, and the end of the run."""
 from __future__ import annotations
 
 import contextlib
@@ -11,7 +11,7 @@ import time
 from collections.abc import Callable, Iterable, Iterator
 from typing import Any
 
-# What a run's process does to itself before it begins.
+# A function that a run's process calls before it begins, for example to limit itself.
 Limit = Callable[[], None] | None
 Action = dict[str, Any]
 
@@ -20,7 +20,7 @@ TOOLS = HERE.parent / "tools"
 LIMIT = 300
 NOBODY = 65534
 
-# Answers requests in JSON, each after BODY, where `name` is that of the request's one file in the folder `f`.
+# Answers requests in JSON, each after BODY. `name` is the name of the request's only file in the folder `f`.
 WORKER = """#!/bin/sh
 while read -r request; do
     for path in f/*; do name=${path#f/}; done
@@ -32,11 +32,11 @@ MAKE = 'echo done >"o/$name"'
 
 
 class Wrong(Exception):
-    """What went wrong."""
+    """A fault that a case found."""
 
 
 class Skipped(Exception):
-    """Why a case can't be played here."""
+    """The reason why a case can't be played here."""
 
 
 def want(holds: bool, what: str) -> None:
@@ -45,7 +45,7 @@ def want(holds: bool, what: str) -> None:
 
 
 def wait_until(holds: Callable[[], bool], what: str, seconds: float = 20) -> None:
-    """Waits until this holds, which is looked at every few milliseconds."""
+    """Waits until this holds. It is checked every few milliseconds."""
     end = time.monotonic() + seconds
     while not holds():
         want(time.monotonic() < end, f"{what} didn't come within {seconds} seconds")
@@ -57,7 +57,7 @@ def all_ok(count: int) -> str:
 
 
 class End:
-    """How a run ended."""
+    """The end of a run: its status, its report and its standard error."""
 
     def __init__(self, status: int, report: str, errors: str) -> None:
         self.status, self.report, self.errors = status, report, errors
@@ -69,7 +69,7 @@ class End:
 
 
 class Folder:
-    """The folder of one run: its workers, its sources, and what is run there."""
+    """The folder of one run: its workers, its sources, and its runs."""
 
     def __init__(self, path: str, programs: pathlib.Path, tool: str) -> None:
         self.path, self.programs, self.tool = pathlib.Path(path), programs, tool
@@ -81,7 +81,7 @@ class Folder:
         path.chmod(mode)
 
     def read(self, name: str) -> str | None:
-        """The text of a file, or `None` if there is none."""
+        """Returns the text of a file, or `None` if there is none."""
         try:
             return (self.path / name).read_text()
         except FileNotFoundError:
@@ -94,28 +94,28 @@ class Folder:
         self.write(name, head.replace("BODY", body))
 
     def program(self, name: str) -> str:
-        """One of the programs beside the tool. A case that lacks one is passed over."""
+        """Returns the path of a program next to the tool. If the program is missing, the case is skipped."""
         path = self.programs / name
         if not path.exists():
             raise Skipped(f"there is no {path}")
         return str(path)
 
     def action(self, name: str, worker: str = "worker", strategy: str = "worker", words: str = "") -> Action:
-        """An action with the source `f/NAME`, which is its flag file, and the output `o/NAME`."""
+        """Returns an action with the source `f/NAME`, which is its flag file, and the output `o/NAME`."""
         self.write(f"f/{name}", words, 0o644)
         needs = {"supports-workers": "1", "requires-worker-protocol": "json"}
         return {"name": name, "mnemonic": "Make", "argv": [worker, f"@f/{name}"], "inputs": [f"f/{name}"],
                 "outputs": [f"o/{name}"], "strategy": strategy, "requirements": needs}
 
     def start(self, actions: list[Action], *options: str, name: str = "list.json", limit: Limit = None) -> subprocess.Popen[bytes]:
-        """Starts a run of these actions. What it prints goes into files, which a process that it leaves may hold open."""
+        """Starts a run of these actions. Its output goes into files, which a process that it leaves may hold open."""
         self.write(name, json.dumps({"actions": actions}), 0o644)
         with open(self.path / f"{name}.out", "w") as out, open(self.path / f"{name}.err", "w") as errors:
             return subprocess.Popen([self.tool, *options, name], cwd=self.path, stdin=subprocess.DEVNULL, stdout=out,
                                     stderr=errors, start_new_session=True, preexec_fn=limit)
 
     def end(self, run: subprocess.Popen[bytes], name: str = "list.json", is_left: bool = False) -> End:
-        """How a run ended. All that it started and left is ended, unless it is to be left; so is the run if it takes too long."""
+        """Returns the end of a run. Kills the run if it takes too long, and the processes that it left unless `is_left`."""
         try:
             status = run.wait(timeout=LIMIT)
         except subprocess.TimeoutExpired:
@@ -131,18 +131,18 @@ class Folder:
         return self.end(self.start(actions, *options, limit=limit))
 
     def made(self, names: Iterable[str]) -> int:
-        """How many of these outputs are there, and whole."""
+        """Returns the number of these outputs that exist and are whole."""
         return sum(self.read(f"o/{name}") == "done\n" for name in names)
 
 
 def end_session(leader: int) -> None:
-    """Ends all that has the group of a run's own."""
+    """Kills all processes of a run's group."""
     with contextlib.suppress(ProcessLookupError, PermissionError):
         os.killpg(leader, signal.SIGKILL)
 
 
 def processes_in(folder: pathlib.Path) -> list[int]:
-    """The processes that work in a folder or below it, also where that was removed."""
+    """Returns the processes that work in a folder or below it, even if the folder was removed."""
     found = []
     for process in process_numbers():
         with contextlib.suppress(OSError):
@@ -152,7 +152,7 @@ def processes_in(folder: pathlib.Path) -> list[int]:
 
 
 def is_at_work(process: int) -> bool:
-    """Whether a process is there and hasn't ended; one that has may not have been waited for yet."""
+    """Returns true if a process exists and hasn't ended. A process that has ended may not have been waited for yet."""
     try:
         with open(f"/proc/{process}/stat", encoding="utf-8", errors="replace") as file:
             return file.read().rsplit(")", 1)[1].split()[0] != "Z"
@@ -168,7 +168,7 @@ def process_numbers() -> Iterator[int]:
 
 @contextlib.contextmanager
 def none_left_in(folder: pathlib.Path) -> Iterator[None]:
-    """Ends, behind a case, all that still works in its folder."""
+    """Kills, after a case, all processes that still work in its folder."""
     try:
         yield
     finally:
@@ -178,7 +178,7 @@ def none_left_in(folder: pathlib.Path) -> Iterator[None]:
 
 
 def as_nobody(folder: Folder) -> Limit:
-    """Root may change any folder, so it becomes another user, who owns the folder."""
+    """Returns a limit that makes root another user, who owns the folder, since root may change any folder."""
     if os.getuid() != 0:
         return None
     for path in [folder.path, *folder.path.rglob("*")]:

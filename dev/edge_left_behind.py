@@ -1,6 +1,6 @@
-"""Cases of processes that outlive their line, and of lines whose ends are slow to come.
+"""Cases of processes that outlive their line, and of lines that end late.
 
-Which comes first is settled by files that one side makes and the other one waits for, and not by sleeps.
+Files determine the order of events, not sleeps: one side makes a file, and the other waits for it.
 """
 from __future__ import annotations
 
@@ -12,8 +12,8 @@ import time
 from edge_folder import (HERE, MAKE, TOOLS, WORKER, Folder, Skipped, all_ok, as_nobody, end_session, is_at_work, none_left_in,
                          wait_until, want)
 
-# Makes its output of its source. The first process says that it is ready, and writes the old output again, by its relative and
-# its whole path, once a later one has made the new one. The later one answers behind that.
+# Makes its output from its source. The first process reports that it is ready. When a later process has made the new output,
+# the first one writes the old output again, by its relative and its absolute path. Then the later process answers.
 ORPHAN = """#!/bin/sh
 top=TOP
 here=$(pwd -P)
@@ -44,7 +44,7 @@ def orphan_script(folder: Folder, first: str) -> str:
 
 
 def play_orphan(folder: Folder, ending: signal.Signals) -> None:
-    """A run is ended while its worker works. The worker writes on while the next run's works on the changed source."""
+    """Ends a run while its worker works. The worker writes again while the next run's worker works on the changed source."""
     folder.write("worker", orphan_script(folder, LINGER + "\n        exit"))
     first = folder.start([folder.action("a", words="old")], name="first.json")
     wait_until(lambda: folder.has("first.ready"), "the first worker's word")
@@ -56,17 +56,17 @@ def play_orphan(folder: Folder, ending: signal.Signals) -> None:
 
 
 def orphan_of_a_killed_run(folder: Folder) -> None:
-    """A worker that outlives a run which was killed writes nothing into the next run's room, by no path."""
+    """Checks that a worker of a killed run can't write into the next run's room, by any path."""
     play_orphan(folder, signal.SIGKILL)
 
 
 def orphan_of_an_ended_run(folder: Folder) -> None:
-    """The same behind a run that was ended by TERM."""
+    """Checks the same after a run that TERM ended."""
     play_orphan(folder, signal.SIGTERM)
 
 
 def orphan_of_an_attempt(folder: Folder) -> None:
-    """The first attempt answers nothing that can be read and leaves a process, which writes while the second one works."""
+    """Plays a first attempt with an unreadable answer. It leaves a process that writes while the second attempt works."""
     first = f"(text=stale; {LINGER}) &\n        echo garbage\n        exit"
     folder.write("worker", orphan_script(folder, first))
     with none_left_in(folder.path):
@@ -76,14 +76,14 @@ def orphan_of_an_attempt(folder: Folder) -> None:
 
 
 def late_executor(folder: Folder) -> str:
-    """An executor that answers once a worker has begun with the same output, as files in `begun` say."""
+    """Returns the option for an executor that answers when a worker has begun the same output. Files in `begun` show that."""
     folder.write("executor", f"#!/bin/sh\nexec {HERE / 'edge-executor'} {folder.path}/begun\n")
     (folder.path / "begun").mkdir(exist_ok=True)
     return f"--executor={folder.path}/executor"
 
 
 def orphan_of_a_lost_race(folder: Folder) -> None:
-    """A worker whose executor was faster is killed. What it started writes on while the next run's worker works."""
+    """Plays a race that the executor wins. The killed worker's child writes while the next run's worker works."""
     first = f"({LINGER}) &\n        touch $top/begun/$name; sleep 60"
     folder.write("worker", orphan_script(folder, first))
     with none_left_in(folder.path):
@@ -94,7 +94,7 @@ def orphan_of_a_lost_race(folder: Folder) -> None:
 
 
 def commands_of_lost_races(folder: Folder) -> None:
-    """Twenty raced actions by `as-worker` and four workers: at most four commands at once, and none behind the run."""
+    """Races twenty actions with `as-worker` and four workers. At most four commands run at once, and none after the run."""
     begin = f"for path in f/*; do echo $$ >>{folder.path}/started; touch {folder.path}/begun/${{path#f/}}; done"
     folder.write("compiler", f"#!/bin/sh\n{begin}\nexec sleep 60\n")
     actions = []
@@ -116,12 +116,12 @@ def commands_of_lost_races(folder: Folder) -> None:
 
 
 def commands_at_work(folder: Folder) -> int:
-    """How many of the compilers that were started haven't ended."""
+    """Returns the number of started compilers that haven't ended."""
     return sum(is_at_work(int(process)) for process in (folder.read("started") or "").split())
 
 
 def worker_leaves_a_helper(folder: Folder) -> None:
-    """A worker ends behind its answer and leaves a process that holds its output open."""
+    """Plays a worker that ends after its answer and leaves a process that holds its output open."""
     folder.worker("worker", f"{MAKE}; sleep 50 &\n    echo '{{}}'; exit")
     begun = time.monotonic()
     with none_left_in(folder.path):
@@ -130,7 +130,7 @@ def worker_leaves_a_helper(folder: Folder) -> None:
 
 
 def job_leaves_a_helper(folder: Folder) -> None:
-    """A job of either executor leaves a process that holds its output open; the job behind it is run all the same."""
+    """Plays a job that leaves a process that holds its output open, with each executor. The next job is run all the same."""
     folder.write("job", "#!/bin/sh\necho done >\"o/${1#@f/}\"\n/bin/sleep 50 &\n")
     for executor in ("remote_exec", "job_pool"):
         begun = time.monotonic()
@@ -142,7 +142,7 @@ def job_leaves_a_helper(folder: Folder) -> None:
 
 
 def worker_of_another_user(folder: Folder) -> None:
-    """A worker that has become another user can't be killed. It ends with its input, and doesn't hold the run."""
+    """Plays a worker that has become another user and can't be killed. It ends with its input, and doesn't delay the run."""
     python = "/usr/bin/python3"
     if os.getuid() != 0 or not os.path.exists(python):
         raise Skipped("only root can make a program that becomes another user")
@@ -164,9 +164,9 @@ def worker_of_another_user(folder: Folder) -> None:
 
 
 def idle_ends(folder: Folder) -> None:
-    """Six hundred actions by a worker that ends behind each answer, with the default words: nearly all are ok.
+    """Runs six hundred actions with a worker that ends after each answer, with the default options. Nearly all must be ok.
 
-    How soon an end is heard of depends on what else the machine has to do, so the best of three runs counts.
+    The time until an end is noticed depends on the machine's load, so the best of three runs counts.
     """
     folder.worker("worker", MAKE, WORKER.replace("echo '{}'", "echo '{}'; exit"))
     names = [f"a{number}" for number in range(600)]

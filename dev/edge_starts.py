@@ -1,4 +1,4 @@
-"""Cases of what a run finds at its start, of its limits, and of what stands in a room while it is looked at."""
+"""Cases of a run's environment at its start, of its limits, and of rooms that change while they are read."""
 from __future__ import annotations
 
 import json
@@ -9,7 +9,7 @@ import subprocess
 
 from edge_folder import MAKE, TOOLS, Folder, Limit, all_ok, as_nobody, want
 
-# Swaps the folder `o` of its room for a link to one of the user's, and back, as fast as it can, while it answers.
+# Swaps the folder `o` of its room for a link to a folder of the user's, and back, as fast as it can, while it answers.
 SWAPPER = f"""#!/usr/bin/env python3
 import ctypes, os, sys, threading
 sys.path.insert(0, {str(TOOLS)!r})
@@ -37,7 +37,7 @@ for request in requests(sys.stdin.buffer, as_json=True):
 
 
 def run_with(folder: Folder, redirection: str, *options: str) -> tuple[int, str]:
-    """Runs one action with descriptors closed or put elsewhere by the shell: the status, and what was said."""
+    """Runs one action with descriptors that the shell closed or redirected. Returns the status and the output."""
     folder.worker("worker", MAKE)
     folder.write("list.json", json.dumps({"actions": [folder.action("a")]}), 0o644)
     command = " ".join([folder.tool, *options, "list.json", redirection])
@@ -47,7 +47,7 @@ def run_with(folder: Folder, redirection: str, *options: str) -> tuple[int, str]
 
 
 def closed_output(folder: Folder) -> None:
-    """With standard output closed the report can't be put, and no file of the run's own gets it."""
+    """Closes standard output. The report can't be written, and no file of the run itself gets it."""
     for closed in (">&-", "<&- >&- 2>&-"):
         status, said = run_with(folder, closed)
         want(status == 6, f"with {closed} the status is {status} and not 6: {said}")
@@ -58,7 +58,7 @@ def closed_output(folder: Folder) -> None:
 
 
 def unwaiting_output(folder: Folder) -> None:
-    """Standard output that never waits, and is read slowly: the report is whole."""
+    """Uses a non-blocking standard output that is read slowly. The report must be whole."""
     names = [f"{'n' * 200}{number}" for number in range(600)]
     folder.worker("worker", MAKE)
     folder.write("list.json", json.dumps({"actions": [folder.action(name) for name in names]}), 0o644)
@@ -74,7 +74,7 @@ def unwaiting_output(folder: Folder) -> None:
 
 
 def file_limit(folder: Folder) -> None:
-    """A limit on the size of files spoils the action whose file is larger, and not the run."""
+    """Limits the size of files. The action whose file is larger fails, and the run doesn't."""
     folder.worker("worker", MAKE)
     end = folder.run([folder.action("a", words="x" * 9_000), folder.action("b")], "--retries=0", limit=small_files)
     end.want(1, "a broken local=dropped:room:1 remote=unused")
@@ -86,7 +86,7 @@ def small_files() -> None:
 
 
 def lock_is_a_fifo(folder: Folder) -> None:
-    """Where the lock's file is something else the run doesn't wait for it, and names it."""
+    """Checks that the run doesn't wait if the lock's file isn't a regular file, and names it."""
     folder.worker("worker", MAKE)
     (folder.path / ".worker_rooms").mkdir()
     os.mkfifo(folder.path / ".worker_rooms/lock")
@@ -94,7 +94,7 @@ def lock_is_a_fifo(folder: Folder) -> None:
 
 
 def lock_without_rights(folder: Folder) -> None:
-    """A lock's file that its owner may not open is opened all the same: a worker can't keep the next run out."""
+    """Checks that a lock's file without permissions is opened all the same. A worker can't keep the next run out."""
     folder.worker("worker", f"{MAKE}; chmod 000 ../lock")
     limit = as_nobody(folder)
     for _ in range(2):
@@ -102,7 +102,7 @@ def lock_without_rights(folder: Folder) -> None:
 
 
 def links_in_a_room(folder: Folder) -> None:
-    """A worker swaps a folder for a link to one of the user's: nothing is removed there, and nothing read."""
+    """Plays a worker that swaps a folder for a link to a folder of the user's. No file there is removed or read."""
     users = folder.path / "users"
     users.mkdir()
     names = [f"a{number}" for number in range(150)]
@@ -119,7 +119,7 @@ def links_in_a_room(folder: Folder) -> None:
     want(not foreign, f"{len(foreign)} outputs are files from outside of the room")
 
 
-# Answers several requests at once, in JSON, and removes the folder of the inputs behind each.
+# Answers several requests at once, in JSON, and removes the folder of the inputs after each.
 REMOVER = """#!/usr/bin/env python3
 import json, os, shutil, sys
 for line in sys.stdin:
@@ -134,7 +134,7 @@ for line in sys.stdin:
 
 
 def replaced_folders(folder: Folder) -> None:
-    """A worker with several requests at once, whose room isn't emptied, removes a folder: the next request has one again."""
+    """Plays a multiplex worker, whose room isn't emptied, that removes a folder. The next request has the folder again."""
     folder.write("worker", REMOVER)
     actions = []
     for number in range(10):
@@ -142,7 +142,7 @@ def replaced_folders(folder: Folder) -> None:
         action = folder.action(name, words=name)
         action["requirements"]["supports-multiplex-workers"] = "1"
         action["env"] = {"PATH": os.environ["PATH"]}
-        # One behind the other, so that no request lacks what another one has removed.
+        # One after another, so that no request lacks files that another one has removed.
         action["inputs"] += [f"o/a{number - 1}"] * (number > 0)
         actions.append(action)
     folder.run(actions, "--instances=1", "--retries=0").want(0, all_ok(10))
@@ -150,7 +150,7 @@ def replaced_folders(folder: Folder) -> None:
 
 
 def growing_output(folder: Folder) -> None:
-    """An output that grows while it is read spoils its own action, and the other one is ok."""
+    """Plays an output that grows while it is read. Its own action fails, and the other one is ok."""
     grow = 'head -c 40000000 /dev/zero >"o/$name"; (while :; do head -c 4000000 /dev/zero; done >>"o/$name") & sleep 0.1'
     folder.worker("growing", grow)
     folder.worker("worker", MAKE)
@@ -160,12 +160,12 @@ def growing_output(folder: Folder) -> None:
 
 
 def some_bytes() -> None:
-    """So that the disk isn't filled by a case that goes wrong."""
+    """Limits the size of files, so that a failing case doesn't fill the disk."""
     resource.setrlimit(resource.RLIMIT_FSIZE, (2_000_000_000, 2_000_000_000))
 
 
 def own_names(folder: Folder) -> None:
-    """What the run writes for itself is no output of a list."""
+    """Checks that files that the run writes for itself can't be outputs of a list."""
     folder.worker("worker", MAKE)
     for path in (".worker_rooms/lock", ".worker_rooms/1/x", "o/.worker_tool.0.part"):
         action = folder.action("a")
@@ -174,7 +174,7 @@ def own_names(folder: Folder) -> None:
 
 
 def wedged_room(folder: Folder) -> None:
-    """A worker leaves folders that nobody may change, behind names that are no text: each later action has a room again."""
+    """Plays a worker that leaves read-only folders with names that aren't UTF-8. Each later action must get a room."""
     left = "mkdir -p \"$(printf 'm\\351')/n\"; printf x >\"$(printf 'm\\351')/n/z\"; chmod 555 \"$(printf 'm\\351')/n\""
     folder.worker("worker", f"{MAKE}; {left}; chmod 555 \"$(printf 'm\\351')\"")
     actions = [folder.action(f"a{number}") for number in range(3)]
@@ -184,7 +184,7 @@ def wedged_room(folder: Folder) -> None:
 
 
 def rooms_that_stay(folder: Folder) -> None:
-    """Behind a run each worker's last room is there, and no other one."""
+    """Checks that after a run each worker's last room is there, and no other one."""
     folder.worker("worker", MAKE)
     for number in range(3):
         folder.run([folder.action("a")], "--instances=1").want(0, all_ok(1))

@@ -1,4 +1,4 @@
-"""The rows of dev/measure: what each group prepares in its folder, and the commands that run there in turn."""
+"""The rows of dev/measure: each group's preparation in its folder, and the commands that run there in turn."""
 from __future__ import annotations
 
 import dataclasses
@@ -19,16 +19,16 @@ MIB = 1 << 20
 
 @dataclasses.dataclass(frozen=True)
 class Row:
-    """A command, and how many units of work it does; its figures are for one unit."""
+    """A command and its number of units of work. Its figures are for one unit."""
 
     name: str
     command: tuple[str, ...]
     count: int
     unit: str = "action"
-    outputs: int = 0  # how many files out/ has to have afterwards
+    outputs: int = 0  # the number of files that out/ must contain afterwards
     status: int = 0
     reads: str = ""  # the file on standard input
-    needs: tuple[str, ...] = ()  # what has to be installed besides the command's program
+    needs: tuple[str, ...] = ()  # programs that must be installed in addition to the command's program
 
 
 def program(name: str) -> str:
@@ -42,7 +42,7 @@ def write(path: str, content: str | bytes) -> None:
 
 
 def copy_action(number: int, inputs: list[str], **more: Any) -> dict[str, Any]:
-    """An action that copies the first of its inputs to its output, by demo_tool as a worker."""
+    """Returns an action that copies the first of its inputs to its output, with demo_tool as a worker."""
     flags = f"flags/{number}"
     write(flags, f"--out=out/{number}\n--in={inputs[0]}\n")
     words = ["--json"] if "json" in more.get("requirements", {}).values() else []
@@ -58,18 +58,18 @@ def write_list(name: str, actions: list[dict[str, Any]]) -> None:
 
 
 def copies(count: int, **more: Any) -> list[dict[str, Any]]:
-    """Actions that each copy one file of ten bytes."""
+    """Returns actions that each copy one file of ten bytes."""
     write("in/0", "x" * 10)
     return [copy_action(it, ["in/0"], **more) for it in range(count)]
 
 
 def tool(name: str, words: str, count: int, outputs: int, by: str = "worker_tool") -> Row:
-    """A row of a program that runs a list."""
+    """Returns a row of a program that runs a list."""
     return Row(name, (program(by), *words.split()), count, outputs=outputs)
 
 
 def small_files() -> list[Row]:
-    """1,000 copies of ten bytes: by worker_tool in its modes, by its floor, and by tools that start a process for each."""
+    """Returns rows of 1,000 copies of ten bytes: by worker_tool in its modes, by its floor, and by tools with a process for each."""
     count = 1000
     write_list("plain", copies(count))
     write_list("several", copies(count, requirements=SEVERAL))
@@ -84,7 +84,7 @@ def small_files() -> list[Row]:
 
 
 def floors(count: int) -> list[Row]:
-    """The same files and frames with no scheduling, by the fewest system calls."""
+    """Returns rows of the same files and frames without scheduling, with the fewest system calls."""
     floor = os.path.abspath("floor")
     if shutil.which("rustc"):
         subprocess.run(["rustc", "-O", "--edition", "2021", "-o", floor, str(TOP / "dev/bench-floor.rs")], check=True)
@@ -95,7 +95,7 @@ def floors(count: int) -> list[Row]:
 
 
 def processes(count: int) -> list[Row]:
-    """A process for each copy: /bin/cp, and with make also demo_tool as an ordinary command."""
+    """Returns rows with a process for each copy: /bin/cp, and with make also demo_tool as an ordinary command."""
     made = " ".join(f"out/{it}" for it in range(count))
     write("cp.mk", f"all: {made}\nout/%: in/0\n\t/bin/cp in/0 $@\n")
     write("demo.mk", f"all: {made}\nout/%: in/0\n\t{program('demo_tool')} --in=in/0 --out=$@\n")
@@ -113,7 +113,7 @@ def processes(count: int) -> list[Row]:
 
 
 def sizes() -> list[Row]:
-    """Lists of 64 to 4,096 such copies by one worker."""
+    """Returns rows of lists of 64 to 4,096 such copies by one worker."""
     rows = []
     for count in (64, 256, 1024, 4096):
         write_list(f"of{count}", copies(count))
@@ -122,7 +122,7 @@ def sizes() -> list[Row]:
 
 
 def large_inputs() -> list[Row]:
-    """Actions with many, large, made or scattered inputs."""
+    """Returns rows of actions with many, large, made or scattered inputs."""
     write("in/0", "x" * 10)
     names = [f"many/{it}" for it in range(200)]
     for it in names:
@@ -138,7 +138,7 @@ def large_inputs() -> list[Row]:
 
 
 def made_inputs() -> list[Row]:
-    """40 readers of 4 MiB, as a source and as an output of an earlier action."""
+    """Returns rows of 40 readers of 4 MiB, as a source and as an output of an earlier action."""
     write("big", b"x" * 4 * MIB)
     write_list("source", [copy_action(it, ["in/0", "big"]) for it in range(40)])
     maker = copy_action(40, ["big"])
@@ -148,7 +148,7 @@ def made_inputs() -> list[Row]:
 
 
 def scattered_inputs() -> list[Row]:
-    """2,000 small inputs in few and in many folders."""
+    """Returns rows of 2,000 small inputs in few and in many folders."""
     rows = []
     for folders in (1, 100, 900):
         names = [f"f{folders}/{it % folders}/{it}" for it in range(2000)]
@@ -160,7 +160,7 @@ def scattered_inputs() -> list[Row]:
 
 
 def memory() -> list[Row]:
-    """What a run holds in memory: sources, outputs, keys, large lists."""
+    """Returns rows about a run's memory: sources, outputs, keys, large lists."""
     rows = []
     for count in (10, 20):
         write("sixteen", b"x" * 16 * MIB)
@@ -178,7 +178,7 @@ def memory() -> list[Row]:
 
 
 def lists() -> list[Row]:
-    """Lists of 30 inputs an action, read up to the first source, which isn't there."""
+    """Returns rows of lists with 30 inputs per action. Each list is read up to the first source, which is missing."""
     rows = []
     for count in (512, 1024, 2048, 4096):
         made = subprocess.run([TOP / "dev/make-action-list", str(count)], capture_output=True, check=True).stdout
@@ -189,7 +189,7 @@ def lists() -> list[Row]:
 
 
 def journals() -> list[Row]:
-    """The same list without and with a journal, and that journal checked."""
+    """Returns rows of the same list without and with a journal, and of a check of that journal."""
     write_list("plain", copies(1000))
     rows = [tool(f"`{by}`, four workers, {what} journal", "--instances=4 plain.json", 1000, 1000, by)
             for by, what in (("worker_tool", "no"), ("journal_run", "with its"))]
@@ -205,12 +205,12 @@ def journals() -> list[Row]:
 
 
 def in_memory() -> list[Row]:
-    """A made-up list without a file or a process: the scheduler, its lanes and their desk."""
+    """Returns rows of a generated list without files or processes: the scheduler, its lanes and their desk."""
     return [tool(f"`--generate=1000`, workers of a key at most: {it}", f"--generate=1000 --instances={it}", 1000, 0) for it in (1, 4, 48)]
 
 
 def jobs() -> list[Row]:
-    """Eight jobs of one second by one executor; by the clock, that is their order."""
+    """Returns rows of eight jobs of one second by one executor. The time by the clock shows their order."""
     write_list("jobs", [{
         "name": f"j{it}", "mnemonic": "Sleep", "argv": ["/bin/sh", "-c", "sleep 1; echo >$0", f"out/{it}"],
         "inputs": [], "outputs": [f"out/{it}"], "requirements": {}, "strategy": "remote"} for it in range(8)])
@@ -218,7 +218,7 @@ def jobs() -> list[Row]:
 
 
 def waiting() -> list[Row]:
-    """32 workers that never answer and end after five seconds: what 64 lanes cost that wait."""
+    """Returns rows of 32 workers that never answer and end after five seconds: the cost of 64 waiting lanes."""
     actions = [{**copy_action(it, ["in/0"]), "argv": ["/bin/sh", "-c", "exec /bin/sleep 5", f"@flags/{it}"], "env": {"NUMBER": str(it)}}
                for it in range(32)]
     write("in/0", "x")
@@ -227,7 +227,7 @@ def waiting() -> list[Row]:
 
 
 def several_rooms() -> list[Row]:
-    """Requests with a folder each, of one worker that has eight at once."""
+    """Returns rows of requests that each have a folder, for one worker that takes eight at once."""
     write_list("boxed", copies(1000, requirements=BOXED))
     return [tool("one worker, eight requests at once, a folder each", "--instances=1 boxed.json", 1000, 1000)]
 
@@ -238,7 +238,7 @@ GROUPS: dict[str, Callable[[], list[Row]]] = {
     "journals": journals, "generated": in_memory, "jobs": jobs, "waiting": waiting,
 }
 
-# What other scripts measure; each runs only if it is named, since it proves or builds first, or takes many minutes.
+# Scripts that measure something else. Each runs only if it is named, since it proves or builds first, or takes many minutes.
 SCRIPTS: dict[str, tuple[str, tuple[str, ...]]] = {
     "desk": ("dev/bench-desk 4", ("rt",)),
     "core": ("dev/bench-core times", ("rt",)),

@@ -7,7 +7,7 @@ CRATES = pathlib.Path(__file__).resolve().parent.parent / "crates"
 
 
 def put(crate: str, heading: str, asked: list[str], told: list[str]) -> None:
-    """Puts the lines behind the heading, which begins with `##`, up to the next such line or the end."""
+    """Writes the lines after the heading, which begins with `##`, up to the next heading or the end."""
     for name, lines in (("stdin", asked), ("stdout", told)):
         file = CRATES / crate / name
         stands = file.read_text().splitlines()

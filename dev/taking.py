@@ -46,7 +46,7 @@ int main(int count, char **words) {
 
 
 class Taken(NamedTuple):
-    """A run's status; its seconds by the clock, of processor in all, of its own process; MB of its largest process."""
+    """The status of a run, its seconds by the clock, of processor in all and of its own process, and its largest MB."""
 
     status: int
     seconds: float
@@ -56,7 +56,7 @@ class Taken(NamedTuple):
 
 
 def make_starter(folder: str) -> str:
-    """The path of the starter, built there; nothing if there is no C compiler."""
+    """Builds the starter in the folder, and returns its path, or nothing if there is no C compiler."""
     compiler = shutil.which("cc") or shutil.which("clang") or shutil.which("gcc")
     if compiler is None:
         return ""

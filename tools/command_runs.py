@@ -1,4 +1,4 @@
-"""Runs a command for a worker: in a process group of its own, which ends with the command and with the worker, however these end."""
+"""Runs a command for a worker in a separate process group, which ends with the command or the worker, even if they are killed."""
 from __future__ import annotations
 
 import ctypes
@@ -13,7 +13,7 @@ PR_SET_PDEATHSIG = 1
 
 
 def keep_watch() -> int:
-    """Starts a watch that ends the group that it was told last once this process is gone, however that ends."""
+    """Starts a process that waits for this one to end for any reason. It then kills the group that it received last."""
     heard, told = os.pipe()
     if os.fork():
         os.close(heard)
@@ -32,7 +32,7 @@ def keep_watch() -> int:
 
 
 def die_with(parent: int, told: int) -> None:
-    """In the child, before its command: a group of its own, and an end with the parent, however that ends."""
+    """Runs in the child before its command. Gives it its own group, and lets it end with the parent in every case."""
     os.setpgid(0, 0)
     if told >= 0:
         os.write(told, os.getpid().to_bytes(4, "little"))
@@ -42,7 +42,7 @@ def die_with(parent: int, told: int) -> None:
 
 
 def end_group(group: int) -> None:
-    """Ends what is left of a command's group. What has a session of its own, as daemons have, isn't in it."""
+    """Kills the rest of a command's group. Processes with their own session, such as daemons, aren't in it."""
     try:
         os.killpg(group, signal.SIGKILL)
     except (ProcessLookupError, PermissionError):
@@ -50,9 +50,9 @@ def end_group(group: int) -> None:
 
 
 def written(command: list[str], folder: str | None, told: int, env: Mapping[str, str] | None = None) -> tuple[int, bytes]:
-    """Runs a command to its end, which isn't that of its output: a helper that it leaves may hold that for hours.
+    """Runs a command to its own end. It doesn't wait for the end of the output, which a helper may hold open for hours.
 
-    Its output goes to a file, so nothing has to be read meanwhile.
+    The output goes to a file, so nothing has to be read during the run.
     """
     parent = os.getpid()
     with tempfile.TemporaryFile() as output:
@@ -71,5 +71,5 @@ def written(command: list[str], folder: str | None, told: int, env: Mapping[str,
 
 
 def shell_code(code: int) -> int:
-    """Returns the exit code that a shell gives a command: of one that a signal ended, 128 and the signal's number."""
+    """Returns the exit code that a shell gives a command. If a signal ended it, this is 128 plus the signal's number."""
     return code if code >= 0 else 128 - code

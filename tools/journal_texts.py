@@ -1,4 +1,4 @@
-"""The text of a journal, in the form of docs/FORMATS.md. Anything before its plan, for example a report, is skipped."""
+"""Reads the text of a journal, in the form of docs/FORMATS.md. Anything before its plan, for example a report, is skipped."""
 from __future__ import annotations
 
 import dataclasses
@@ -10,7 +10,7 @@ Entry = tuple[int, list[Any], list[Any]]
 
 
 class NoPlan(Exception):
-    """No line spells a plan."""
+    """No line is a plan."""
 
 
 @dataclasses.dataclass(frozen=True)
@@ -24,7 +24,7 @@ class Plan:
 
 @dataclasses.dataclass(frozen=True)
 class Text:
-    """A plan, its entries, and the number of the line from which on nothing could be read, if there is one."""
+    """A plan, its entries, and the number of the first line that couldn't be read, if any."""
 
     plan: Plan
     entries: list[Entry]
@@ -32,7 +32,7 @@ class Text:
 
 
 def value_of(line: str) -> Any:
-    """The JSON value of a line; `None` where it is none."""
+    """Returns the JSON value of a line, or `None` if it isn't JSON."""
     try:
         return json.loads(line)
     except ValueError:
@@ -50,7 +50,7 @@ def entry_in(value: Any) -> Entry | None:
 
 
 def read(lines: Iterable[str]) -> Text:
-    """The text, up to the first line that spells no entry."""
+    """Returns the text, up to the first line that isn't an entry."""
     plan: Plan | None = None
     entries: list[Entry] = []
     for number, line in enumerate(lines, 1):
@@ -68,9 +68,10 @@ def read(lines: Iterable[str]) -> Text:
 
 
 def split(out: bytes) -> tuple[bytes, bytes]:
-    """What stands in front of the first line that spells a plan, as a report does, and the text from there on; no text where none does.
+    """Returns the part before the first line that is a plan, for example a report, and the text from that line on.
 
-    No line of a report is a JSON value: a name has words behind it, and a text of an answer stands behind `  | `.
+    If no line is a plan, the text is empty. No line of a report is a JSON value: words follow a name, and `  | ` precedes a
+    line of a response's text.
     """
     at = 0
     for line in out.splitlines(keepends=True):
@@ -81,5 +82,5 @@ def split(out: bytes) -> tuple[bytes, bytes]:
 
 
 def line_of(value: Any) -> str:
-    """A value as a line, written as the programs write it."""
+    """Returns a value as a line, as the programs write it."""
     return json.dumps(value, separators=(",", ":"), ensure_ascii=False)

@@ -1,4 +1,4 @@
-"""The man pages and the completion of the programs, made from the usage that the programs print."""
+"""Makes the man pages and the completion of the programs from the usage that the programs print."""
 from __future__ import annotations
 
 import dataclasses
@@ -9,9 +9,9 @@ import subprocess
 
 @dataclasses.dataclass(frozen=True)
 class Command:
-    """What a man page says of a command beside its usage."""
+    """The text of a man page in addition to the command's usage."""
 
-    does: str  # behind the name, in one line
+    does: str  # printed after the name, in one line
     more: str  # a paragraph
     runs_list: bool = False  # its statuses are those of a run
 
@@ -71,7 +71,7 @@ NO_STRATEGY = "8 no strategy supports an action; nothing was started\n"
 
 
 def usage_of(program: str) -> str:
-    """Returns the usage that the program at this path prints, from the word `usage` on; empty if it prints none."""
+    """Returns the usage that the program at this path prints, from the word `usage` on, or nothing if it prints none."""
     try:
         done = subprocess.run([program, "--help"], stdin=subprocess.DEVNULL, capture_output=True, text=True, timeout=60,
                               errors="replace", check=False)
@@ -83,7 +83,7 @@ def usage_of(program: str) -> str:
 
 
 def _escaped(text: str) -> str:
-    """Returns the text as troff takes it: as it is."""
+    """Returns the text with escapes, so that troff prints it unchanged."""
     text = text.replace("\\", "\\e").replace("-", "\\-").replace("`", "\\(ga").replace("'", "\\(aq")
     return re.sub(r"(?m)^\.", r"\\&.", text)
 
@@ -132,5 +132,5 @@ complete -o default -F _lenthuvi {' '.join(usages)}
 
 
 def completion_paths(folder: str) -> dict[str, str]:
-    """Returns where a shell looks for the completion of each command, below a folder of completions."""
+    """Returns the path of each command's completion, which a shell looks for in the folder of completions."""
     return {it: os.path.join(folder, it) for it in COMMANDS}

@@ -19,7 +19,7 @@ from program_state import PROVED, State, record, state_of, sum_of_file
 
 TOP = os.path.dirname(os.path.dirname(os.path.realpath(__file__)))
 
-# What of tools/ isn't for those who have no checkout.
+# The names in tools/ that are only for a checkout.
 FOR_A_CHECKOUT = {"release", "__pycache__", ".mypy_cache"}
 PAGES = ("README.md", "CHANGELOG.md")
 EXAMPLE = tuple(f"examples/first/{it}" for it in ("hello", "list.json", "worker"))
@@ -36,7 +36,7 @@ NOT_PROVED = "This is a trial: of the programs below that have a line `trial`, N
 
 
 class Refused(Exception):
-    """Why nothing is laid out or installed."""
+    """The reason why nothing is laid out or installed."""
 
 
 def version(top: str = TOP) -> str:
@@ -56,7 +56,7 @@ def put(path: str, text: str) -> None:
 
 
 def copy(source: str, to: str) -> None:
-    """Copies a file with its right to execute, and makes the folders."""
+    """Copies a file with its execute permission, and makes the folders."""
     os.makedirs(os.path.dirname(to), exist_ok=True)
     shutil.copyfile(source, to)
     os.chmod(to, 0o755 if os.access(source, os.X_OK) else 0o644)
@@ -129,14 +129,14 @@ def lay_out(to: str, states: dict[str, State]) -> None:
     os.symlink("../tools/lenthuvi", f"{to}/bin/lenthuvi")
     put(f"{to}/PROOF", proof(states, to))
     lay_out_share(to)
-    # What Python kept when lenthuvi was asked for its pages isn't packed.
+    # Python wrote caches when lenthuvi printed its pages. They aren't packed.
     for cache in glob.glob(f"{to}/tools/**/__pycache__", recursive=True):
         shutil.rmtree(cache)
     put(f"{to}/SHA256SUMS", sums(to))
 
 
 def placed(of: str) -> dict[str, str]:
-    """Returns where each file of a release goes below the prefix; those of bin and tools stay together."""
+    """Returns the path below the prefix for each file of a release. Files of bin and tools stay together."""
     where = {}
     for it in files_below(of):
         head = it.split(os.sep)[0]
@@ -161,7 +161,7 @@ def check_sums(of: str) -> None:
 
 
 def replace(source: str, to: str) -> None:
-    """Puts a copy of a file or link in the place of another, at once."""
+    """Replaces a file or link with a copy of another in one step."""
     os.makedirs(os.path.dirname(to), exist_ok=True)
     part = f"{to}.{os.getpid()}.part"
     if os.path.islink(source):
@@ -172,8 +172,8 @@ def replace(source: str, to: str) -> None:
 
 
 def install(of: str, prefix: str, root: str = "") -> None:
-    """Installs a release below a prefix; below ROOT, if a package is made there. What an older one had and this one
-    hasn't is removed."""
+    """Installs a release below a prefix, or below ROOT and the prefix if a package is made there. Removes files of an
+    older release that this one lacks."""
     check_sums(of)
     base = root + prefix
     where = placed(of)
@@ -213,7 +213,7 @@ def remove(prefix: str, root: str = "") -> None:
 
 
 def release_here() -> bool:
-    """Returns whether this is an unpacked release, and not a checkout."""
+    """Returns true if this is an unpacked release, and not a checkout."""
     return os.path.isfile(f"{TOP}/SHA256SUMS") and os.path.isfile(f"{TOP}/PROOF")
 
 

@@ -14,12 +14,12 @@ WHOLE, EIGHT, SPAN, FOUR = 0, 1, 2, 5
 
 
 class NoMessage(ValueError):
-    """Bytes that are no message."""
+    """Bytes that aren't a message."""
 
 
 @dataclasses.dataclass(frozen=True)
 class Request:
-    """What a worker is asked: words, the paths that it may read, and where they lie, if not in its room."""
+    """A request to a worker: arguments, the paths that it may read, and their folder, if it isn't the room."""
 
     id: int = 0
     arguments: tuple[str, ...] = ()
@@ -30,7 +30,7 @@ class Request:
 
 @dataclasses.dataclass(frozen=True)
 class Response:
-    """What a worker answers."""
+    """A worker's response."""
 
     id: int = 0
     exit_code: int = 0
@@ -38,7 +38,7 @@ class Response:
 
 
 def read_number(stream: BinaryIO) -> int | None:
-    """The number at the front of a stream, in groups of seven bits; None at the stream's end or inside the number."""
+    """Returns the number at the start of a stream, in groups of seven bits, or None if the stream ends first."""
     number = 0
     for place in range(MAX_NUMBER_BYTES):
         byte = stream.read(1)
@@ -51,7 +51,7 @@ def read_number(stream: BinaryIO) -> int | None:
 
 
 def number_bytes(number: int) -> bytes:
-    """A number below 2^64 in the fewest bytes."""
+    """Returns a number below 2^64 in the fewest bytes."""
     out = bytearray()
     while number >= 0x80:
         out.append(number & 0x7F | 0x80)
@@ -60,7 +60,7 @@ def number_bytes(number: int) -> bytes:
 
 
 def fields(message: bytes) -> Iterator[tuple[int, int | bytes]]:
-    """Each field of a message: its number, and its value or its bytes."""
+    """Yields each field of a message: its number, and its value or its bytes."""
     stream = io.BytesIO(message)
     while stream.tell() < len(message):
         tag = whole(read_number(stream))
@@ -76,14 +76,14 @@ def fields(message: bytes) -> Iterator[tuple[int, int | bytes]]:
 
 
 def whole(number: int | None) -> int:
-    """The number, which has to be there."""
+    """Returns the number. Raises NoMessage if it is None."""
     if number is None:
         raise NoMessage("the bytes end inside a number")
     return number
 
 
 def exactly(stream: BinaryIO, length: int) -> bytes:
-    """The next bytes of a stream, which have to be there."""
+    """Returns the next bytes of a stream. Raises NoMessage if there are fewer."""
     span = stream.read(length)
     if len(span) < length:
         raise NoMessage("the bytes end inside a field")
@@ -91,12 +91,12 @@ def exactly(stream: BinaryIO, length: int) -> bytes:
 
 
 def signed(number: int) -> int:
-    """A number of 64 bits as the int32 that its low bits are."""
+    """Returns the low 32 bits of a number as an int32."""
     return ((number & 0xFFFFFFFF) ^ 0x80000000) - 0x80000000
 
 
 def framed(message: bytes) -> bytes:
-    """A message behind its length."""
+    """Returns a message, preceded by its length."""
     return number_bytes(len(message)) + message
 
 
@@ -107,7 +107,7 @@ def text_of(value: int | bytes) -> str:
 
 
 def request_of(message: bytes, as_json: bool) -> Request:
-    """The request that a message is, without its length."""
+    """Returns the request in a message without its length."""
     if as_json:
         held = object_of(message)
         inputs = tuple(it["path"] for it in held.get("inputs") or [])
@@ -122,7 +122,7 @@ def request_of(message: bytes, as_json: bool) -> Request:
 
 
 def response_of(message: bytes, as_json: bool) -> Response:
-    """The response that a message is, without its length. `NoMessage` if it is none."""
+    """Returns the response in a message without its length. Raises `NoMessage` if it isn't one."""
     try:
         if as_json:
             held = object_of(message)
@@ -137,7 +137,7 @@ def response_of(message: bytes, as_json: bool) -> Response:
 
 
 def object_of(line: bytes) -> dict[str, Any]:
-    """The JSON object that a line is."""
+    """Returns the JSON object of a line."""
     try:
         held = json.loads(line)
     except ValueError as error:
@@ -148,7 +148,7 @@ def object_of(line: bytes) -> dict[str, Any]:
 
 
 def number_at(held: dict[str, Any], *keys: str) -> int:
-    """The number at the first of the keys that is there; 0 if none is."""
+    """Returns the number at the first key that is there, or 0 if there is none."""
     for key in keys:
         if held.get(key) is not None:
             return int(held[key])
@@ -156,7 +156,7 @@ def number_at(held: dict[str, Any], *keys: str) -> int:
 
 
 def response_bytes(response: Response, as_json: bool) -> bytes:
-    """A response as it goes over the pipe."""
+    """Returns the bytes of a response as they are sent."""
     if as_json:
         held = {"exitCode": response.exit_code, "output": response.output, "requestId": response.id}
         return json.dumps({key: value for key, value in held.items() if value}).encode() + b"\n"
@@ -164,17 +164,17 @@ def response_bytes(response: Response, as_json: bool) -> bytes:
 
 
 def number(field: int, value: int) -> bytes:
-    """A field that has a number; nothing for 0."""
+    """Returns a field with a number, or no bytes for 0."""
     return number_bytes(8 * field) + number_bytes(value % 2**64) if value else b""
 
 
 def span(field: int, value: bytes) -> bytes:
-    """A field that has bytes; nothing for none."""
+    """Returns a field with bytes, or no bytes if there are none."""
     return number_bytes(8 * field + 2) + number_bytes(len(value)) + value if value else b""
 
 
 def requests(stream: BinaryIO, as_json: bool) -> Iterator[Request]:
-    """The requests of a stream, up to its end."""
+    """Yields the requests of a stream, up to its end."""
     if as_json:
         for line in stream:
             if line.strip():
@@ -185,7 +185,7 @@ def requests(stream: BinaryIO, as_json: bool) -> Iterator[Request]:
 
 
 class Cutter:
-    """Cuts a stream into messages, in whatever pieces it comes."""
+    """Cuts a stream into messages, regardless of its pieces."""
 
     def __init__(self, as_json: bool) -> None:
         self.as_json = as_json
@@ -193,7 +193,7 @@ class Cutter:
         self.searched = 0
 
     def feed(self, piece: bytes) -> Iterator[bytes]:
-        """Each message that is whole with this piece, without its length. What isn't whole is held."""
+        """Yields each message that this piece completes, without its length. Keeps an incomplete message."""
         self.held += piece
         while (found := self.first()) is not None:
             begin, end = found
@@ -203,7 +203,7 @@ class Cutter:
             yield message
 
     def first(self) -> tuple[int, int] | None:
-        """Where the first message begins and ends, if it is whole."""
+        """Returns the start and the end of the first message, if it is complete."""
         if self.as_json:
             end = self.held.find(b"\n", self.searched) + 1
             self.searched = len(self.held)

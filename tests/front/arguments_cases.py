@@ -1,4 +1,4 @@
-"""Cases: what a user can mistype on the command line, in the settings and in a list, each told with its cause."""
+"""Cases of a user's mistakes on the command line, in the settings and in a list. Each is reported with its cause."""
 from __future__ import annotations
 
 import json
@@ -12,7 +12,7 @@ from case import Folder, TOP
 
 
 class Arguments(Folder):
-    """Command lines, settings and lists that are refused."""
+    """Cases of command lines, settings and lists that are refused."""
 
     def test_options(self) -> None:
         self.worker()
@@ -49,7 +49,7 @@ class Arguments(Folder):
 
 
     def test_values(self) -> None:
-        """Each is refused before anything is run, also where there is nothing to do."""
+        """Checks that each is refused before anything is run, even if there is nothing to do."""
         self.worker()
         self.write_list(self.actions(1))
         self.front()
@@ -72,7 +72,7 @@ class Arguments(Folder):
                 self.assertIn(why, self.front(*(["run"] if command else []), *words, status=status))
 
     def test_settings_of_another_user(self) -> None:
-        """A settings file may name programs, so one of another user isn't read."""
+        """Checks that a settings file of another user isn't read, since it may name programs."""
         if os.geteuid() != 0:
             self.skipTest("only root can make files of another user")
         self.worker()
@@ -88,7 +88,7 @@ class Arguments(Folder):
         self.assertEqual(self.front("-q", "--plain"), "")
 
     def test_lists(self) -> None:
-        """Faults of lists are told by the front itself, all at once, and by check."""
+        """Checks that both a build and `check` report the faults of a list."""
         self.worker()
         good = self.actions(2)
         changes: list[tuple[dict[str, Any], str]] = [({"outputs": ["out/1"]}, "out/1 is made twice"), ({"name": "a1"}, "an earlier action has it"),

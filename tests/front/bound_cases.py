@@ -1,4 +1,4 @@
-"""Cases: what bounds a run: -j over all keys, --alone, --isolate, limits, Ctrl-Z, full disks."""
+"""Cases of a run's bounds: -j over all keys, --alone, --isolate, limits, Ctrl-Z, full disks."""
 from __future__ import annotations
 
 import json
@@ -36,7 +36,7 @@ def handle(held):
 for line in sys.stdin:
     threading.Thread(target=handle, args=[json.loads(line)]).start()
 '''
-# A worker that has several requests at once, and dies over that of a3.
+# A worker that takes several requests at once, and dies when it handles the request of a3.
 DEADLY = '''#!/usr/bin/python3
 import json, os, sys, threading, time
 lock = threading.Lock()
@@ -69,7 +69,7 @@ class Bounds(Folder):
         return int(pathlib.Path("level").read_text().split()[1])
 
     def test_jobs_over_all_keys(self) -> None:
-        """Six worker keys that have several requests at once, and never more than -j requests at work."""
+        """Checks that six worker keys with several requests at once never have more than -j requests at work."""
         self.script(COUNTS.format(folder=self.folder))
         actions = self.actions(36, requirements=SEVERAL)
         for place, it in enumerate(actions):
@@ -78,11 +78,11 @@ class Bounds(Folder):
         for words, most in ((["-j3"], 3), (["-j", "8"], 8), (["-j1", "--keep=20"], 1)):
             pathlib.Path("level").write_text("0 0")
             self.assertIn("36 actions made", self.front("run", *words))
-            # How many are at work at once hangs on the machine, but never more, and several where several may be.
+            # How many are at work at once depends on the machine. It is never more than -j, and at least two if -j allows two.
             self.assertTrue(min(most, 2) <= self.most_at_once() <= most, (words, self.most_at_once()))
 
     def test_jobs_over_workers_and_executors(self) -> None:
-        """Half of the actions are jobs of job_pool, which has eight at once; -j counts them too."""
+        """Checks that -j also counts the jobs of job_pool, which takes eight at once."""
         self.put("job", '#!/bin/sh\necho $$ >"$1"\nsleep 0.2\n')
         os.chmod("job", 0o755)
         self.script(COUNTS.format(folder=self.folder))
@@ -98,7 +98,7 @@ class Bounds(Folder):
         self.assertLessEqual(self.most_at_once(), 2)
 
     def test_a_turn_comes_back_from_a_worker_that_dies(self) -> None:
-        """Each worker dies over a request, and yet -j 1 goes on."""
+        """Checks that a run with -j1 goes on although each worker dies during a request."""
         self.worker(f'''
 if not os.path.exists("{self.folder}/died-" + words["name"]):
     open("{self.folder}/died-" + words["name"], "w").close()
@@ -110,7 +110,7 @@ if not os.path.exists("{self.folder}/died-" + words["name"]):
         self.assertIn("6 actions made", self.front("-j1"))
 
     def test_alone(self) -> None:
-        """One action that kills its worker costs the seven others of that worker no attempt."""
+        """Checks that an action that kills its worker costs the seven others of that worker no attempt."""
         self.script(DEADLY)
         self.write_list(self.actions(16, requirements=SEVERAL))
         said = self.front("--alone", "--retries=0", "-j8", status=1)
@@ -120,7 +120,7 @@ if not os.path.exists("{self.folder}/died-" + words["name"]):
         self.assertFalse(os.path.exists("out/3"))
 
     def test_alone_by_the_watcher(self) -> None:
-        """Eight requests at once, of which one kills the worker: the watcher answers all, and only that one has failed."""
+        """Checks that the watcher answers eight requests of which one kills the worker, and that only this one fails."""
         self.script(DEADLY)
         config = {"events": "events", "logs": ".", "rooms": "", "stop": "stop", "stops": False, "limit": 0.0, "keep": 0.0, "tools": "",
                   "local": False, "in_turn": False, "start": ".", "form": "json", "kind": "Die", "names": {}, "alone": True, "outputs": {}}
@@ -141,7 +141,7 @@ if not os.path.exists("{self.folder}/died-" + words["name"]):
         self.assertEqual([it for it in range(8) if it != 3 and pathlib.Path(f"out/{it}").read_text() != f"a{it}"], [])
 
     def test_isolated(self) -> None:
-        """A worker of --isolate can't write outside of its room, sees no other file of the start folder, and has no network."""
+        """Checks that an isolated worker can't write outside of its room, sees no other file of the start folder, and has no network."""
         if shutil.which("bwrap") is None:
             self.worker()
             self.write_list(self.actions(1))
@@ -176,7 +176,7 @@ code = 7''')
         self.assertFalse(os.path.exists("own"))
 
     def test_stopped_and_continued(self) -> None:
-        """Ctrl-Z stops the program and its workers too, and the time doesn't count for --limit."""
+        """Checks that Ctrl-Z also stops the program and its workers, and that the time doesn't count for --limit."""
         self.worker(f'''
 for _ in range(10):
     time.sleep(0.1)
@@ -208,13 +208,13 @@ for _ in range(10):
         time.sleep(0.2)
         run.send_signal(signal.SIGINT)
         run.communicate(timeout=SECONDS)
-        # It ends by itself, or by the second one if that comes while it ends.
+        # It ends by itself, or by the second signal if that arrives while it ends.
         self.assertIn(run.returncode, (130, -signal.SIGINT))
         self.assertLess(time.monotonic() - begun, SECONDS)
         self.until(lambda: not self.sleepers(self.folder + "/worker"))
 
     def test_full_disk(self) -> None:
-        """No file may grow beyond a few bytes: whatever can't be written is told, and the next call is right."""
+        """Checks that a run reports what it can't write, and that the next call is right. No file may grow beyond a few bytes."""
         self.worker()
         self.write_list(self.actions(30))
 
@@ -238,7 +238,7 @@ for _ in range(10):
         return [FRONT]
 
     def test_outputs_that_cant_be_written(self) -> None:
-        """Events, reports, pages and traces: the build is done and remembered, and the status says what is missing."""
+        """Checks that a build whose output files can't be written is done and remembered, and that the status shows it."""
         self.worker()
         for words in (["--json=/dev/full"], ["--report=nix/report"], ["--page=nix/page"], ["--trace=nix/trace"], ["--journal=nix/journal"]):
             self.write_list(self.actions(2))
@@ -249,7 +249,7 @@ for _ in range(10):
                 self.assertIn("2 up to date", self.front())
 
     def test_nobody_reads(self) -> None:
-        """Standard error is closed in the middle: the run goes on."""
+        """Checks that the run goes on if standard error is closed in the middle."""
         self.worker("time.sleep(0.05)")
         self.write_list(self.actions(30))
         run = subprocess.Popen([*self.command(), "-v", "-j2"], stderr=subprocess.PIPE, text=True)
@@ -261,7 +261,7 @@ for _ in range(10):
 
 
 class Hangs(Folder):
-    """Workers and executors that never answer end by --limit, and each is told its cause."""
+    """Cases of workers and executors that never answer. --limit ends them, and the front prints the cause."""
 
     def hang(self, worker: str, cause: str, words: tuple[str, ...] = (), **more: Any) -> None:
         """Runs an action whose worker hangs."""
@@ -321,7 +321,7 @@ class Hangs(Folder):
         self.until(lambda: not self.sleepers(f"3{os.getpid()}"))
 
     def test_a_jobs_time_begins_when_its_turn_does(self) -> None:
-        """Eight jobs of half a second in one remote_exec: none is over a limit of two seconds."""
+        """Checks that no job exceeds a limit of two seconds if one remote_exec gets eight jobs of half a second."""
         self.put("job", '#!/bin/sh\nsleep 0.5\n: >"$1"\n')
         os.chmod("job", 0o755)
         self.write_list([{"name": f"job{it}", "mnemonic": "Job", "argv": ["job", f"out/{it}"], "inputs": [], "outputs": [f"out/{it}"],

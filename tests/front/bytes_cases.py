@@ -15,7 +15,7 @@ from front import wire
 
 
 class Bytes(Folder):
-    """What a watcher passes on."""
+    """Cases of the bytes that a watcher passes on."""
 
     def test_any_pieces(self) -> None:
         self.put("echo", """#!/usr/bin/python3

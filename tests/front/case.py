@@ -1,4 +1,4 @@
-"""What the cases of `lenthuvi` share: a folder for each, workers, lists, and the front itself as a user runs it."""
+"""The common part of `lenthuvi`'s cases: a folder for each, workers, lists, and the front as a user runs it."""
 from __future__ import annotations
 
 import glob
@@ -18,8 +18,8 @@ TOP = pathlib.Path(__file__).resolve().parent.parent.parent
 FRONT = str(TOP / "tools" / "lenthuvi")
 BIN = os.environ.setdefault("LENTHUVI_BIN", str(TOP / "bin"))
 sys.path.insert(0, str(TOP / "tools"))
-SECONDS = 240  # within which each call has to end, also on a machine with much else to do
-# Where the tests are started in the background the shell has had SIGINT ignored, which what they start would inherit.
+SECONDS = 240  # the limit of each call, which holds on a busy machine too
+# If the tests are started in the background, the shell makes them ignore SIGINT, and their children would inherit this.
 signal.signal(signal.SIGINT, signal.default_int_handler)
 
 WORKER = '''#!/usr/bin/python3
@@ -41,7 +41,7 @@ for line in sys.stdin:
 
 
 class Folder(unittest.TestCase):
-    """A case with a folder of its own."""
+    """A case with its own folder."""
 
     def setUp(self) -> None:
         self.before = os.getcwd()
@@ -62,7 +62,7 @@ class Folder(unittest.TestCase):
         os.chmod(name, 0o755)
 
     def actions(self, number: int, width: int = 0, **more: Any) -> list[dict[str, Any]]:
-        """Returns actions that each copy a source, and in levels of `width` also what the one before them made."""
+        """Returns actions that each copy a source. With `width`, each also copies the output of an action one level before."""
         found: list[dict[str, Any]] = []
         for place in range(number):
             self.put(f"src/{place}", f"source {place}\n")
@@ -118,7 +118,7 @@ class Folder(unittest.TestCase):
         return [it for it in found if it != os.getpid()]
 
     def copies(self, number: int, width: int = 0, **more: Any) -> list[dict[str, Any]]:
-        """Returns the same actions for demo_tool, and puts that into the folder."""
+        """Returns the same actions for demo_tool, and puts demo_tool into the folder."""
         pathlib.Path("worker").unlink(missing_ok=True)  # It may be at work.
         shutil.copy(os.path.join(BIN, "demo_tool"), "worker")
         found = self.actions(number, width, **more)
@@ -129,5 +129,5 @@ class Folder(unittest.TestCase):
         return found
 
     def made(self) -> int:
-        """Returns how many outputs there are."""
+        """Returns the number of outputs."""
         return len(glob.glob("out/*"))

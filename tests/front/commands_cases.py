@@ -1,4 +1,4 @@
-"""Cases: tools/from-compile-commands and tools/as-worker. A script stands for the compiler; one case takes cc, if there is one."""
+"""Cases of tools/from-compile-commands and tools/as-worker. A script replaces the compiler; one case uses cc, if there is one."""
 from __future__ import annotations
 
 import json
@@ -11,7 +11,7 @@ from typing import Any
 from case import TOP, Folder
 
 CONVERTER, AS_WORKER = str(TOP / "tools" / "from-compile-commands"), str(TOP / "tools" / "as-worker")
-# Says with -MM what a source includes, and otherwise copies it with the folder that it runs in. With a -I word it looks there too.
+# Prints with -MM the headers that a source includes, and otherwise copies it with its own arguments. It also looks in -I folders.
 COMPILER = '''#!/usr/bin/python3
 import os, re, sys
 words = sys.argv[1:]
@@ -33,7 +33,7 @@ else:
 
 
 class Commands(Folder):
-    """What becomes of compile_commands.json."""
+    """Cases of lists that are made from compile_commands.json."""
 
     def setUp(self) -> None:
         super().setUp()
@@ -44,7 +44,7 @@ class Commands(Folder):
         os.mkdir("build")
 
     def convert(self, commands: list[dict[str, Any]], status: int = 0) -> str:
-        """Converts commands into list.json. Returns what was said."""
+        """Converts commands into list.json. Returns what was printed on standard error."""
         whole = [{"directory": f"{self.folder}/build", "file": "../src/a.c", **it} for it in commands]
         with open("list.json", "w", encoding="utf-8") as file:
             done = subprocess.run([CONVERTER], input=json.dumps(whole), stdout=file, stderr=subprocess.PIPE, text=True, check=False)
@@ -52,7 +52,7 @@ class Commands(Folder):
         return done.stderr
 
     def test_words_as_they_are(self) -> None:
-        """Whole paths stay whole for the command, and it runs in its own folder."""
+        """Checks that a command runs in its own folder with its arguments unchanged."""
         compiler = f"{self.folder}/cc"
         self.assertEqual(self.convert([{"command": f"{compiler} -c ../src/a.c -o a.o"}, {"command": f"{compiler} -c {self.folder}/src/a.c"}]),
                          "from-compile-commands: left out: an earlier command makes build/a.o too\n")
@@ -90,7 +90,7 @@ class Commands(Folder):
         self.assertTrue(os.path.exists("build/a b.o"))
 
     def test_a_new_include_is_named(self) -> None:
-        """The list is older than an #include: the failure says which input it lacks."""
+        """Checks that a failure names the missing input if an #include is newer than the list."""
         os.mkdir("inc")
         self.convert([{"command": f"{self.folder}/cc -c ../src/a.c -I../inc -o a.o"}])
         self.put("inc/new.h", "")
@@ -104,7 +104,7 @@ class Commands(Folder):
         self.assertIn("flags isn't a folder, and the flag files go into a folder of that name", self.convert([], 1))
 
     def test_as_worker(self) -> None:
-        """Each request has its folder and its command; messages name the project; too few words are told."""
+        """Checks that each request has its folder and command, that messages name the project, and that too few words are reported."""
         requests = [{"arguments": ["sub", "/bin/sh", "-c", "pwd; echo {room}"], "requestId": 1}, {"arguments": ["sub"]},
                     {"arguments": [".", "/bin/sh", "-c", "kill -9 $$"]}, {"arguments": [".", "/nix"]}]
         done = subprocess.run([AS_WORKER, "--root=/the/project", "--commands", "--persistent_worker"], input="".join(json.dumps(it) + "\n" for it in requests),
@@ -115,7 +115,7 @@ class Commands(Folder):
         self.assertIn("a folder, a command and its words", answers[1]["output"])
 
     def test_as_by_hand(self) -> None:
-        """Objects with what a debugger reads are those of the commands themselves, each time."""
+        """Checks that objects with debug information equal those of the commands themselves, each time."""
         compiler = shutil.which("cc")
         if compiler is None:
             self.skipTest("there is no cc")

@@ -1,4 +1,4 @@
-"""Cases: runs that are stopped, and workers or executors that hang, die, or leave something behind."""
+"""Cases of runs that are stopped, and of workers or executors that hang, die, or leave processes or files."""
 from __future__ import annotations
 
 import glob
@@ -12,9 +12,20 @@ import time
 
 from case import BIN, SECONDS, Folder
 
+# Replaces worker_tool: acts like a run that made its first action, and then ran out of memory.
+HALTS = """#!/bin/sh
+mkdir -p out
+cp src/0 out/0
+echo 'a0 ok local local=won remote=unused'
+echo 'a1 open local=idle remote=unused'
+echo 'actions=2 ok=1 failed=0 broken=0 skipped=0'
+echo 'worker_tool: no memory' >&2
+exit 3
+"""
+
 
 class Ends(Folder):
-    """Runs that are stopped, and workers that hang or die."""
+    """Cases of runs that are stopped, and of workers that hang or die."""
 
     def slow(self, number: int, seconds: float = 0.2, width: int = 0) -> None:
         self.worker(f"time.sleep({seconds})")
@@ -261,6 +272,18 @@ tee {self.folder}/jobs.$$ | {BIN}/remote_exec "$@"
         os.remove("src/0")
         said = self.front(status=5)
         self.assertIn("src/0", said)
+
+    def test_program_halts(self) -> None:
+        """Checks that an action that was reported as ok is remembered if the run ran out of memory after that."""
+        self.worker()
+        self.write_list(self.actions(2))
+        os.mkdir("bin")
+        self.put("bin/worker_tool", HALTS)
+        os.chmod("bin/worker_tool", 0o755)
+        said = self.front("--plain", status=3, env={**os.environ, "LENTHUVI_BIN": os.path.abspath("bin")})
+        self.assertIn("worker_tool ended with status 3; what is ok is remembered", said)
+        self.assertIn("worker_tool: no memory", said)
+        self.assertIn("1 action made, 1 up to date", self.front())
 
     def test_strategies(self) -> None:
         self.write_list(self.copies(8))

@@ -1,4 +1,4 @@
-"""Cases: examples/ssh/executor, with hosts that are gone. A script stands for ssh, and starts the commands on this machine."""
+"""Cases of examples/ssh/executor with hosts that are gone. A script replaces ssh, and starts the commands on this machine."""
 from __future__ import annotations
 
 import os
@@ -8,7 +8,7 @@ import subprocess
 
 from case import BIN, SECONDS, TOP, Folder
 
-# A host that is named in the file `down` doesn't answer. A command that is to stay leads a process group, which stands for its connection.
+# A host that the file `down` names doesn't answer. A command that stays leads a process group, which represents its connection.
 SSH = '''#!/usr/bin/python3
 import os, sys
 host, command = sys.argv[-2:]
@@ -23,7 +23,7 @@ os.execv("/bin/sh", ["sh", "-c", command])
 
 
 class Hosts(Folder):
-    """Jobs by two hosts."""
+    """Cases of jobs on two hosts."""
 
     def setUp(self) -> None:
         super().setUp()
@@ -34,7 +34,7 @@ class Hosts(Folder):
         self.put("settings", f'HOSTS="one two"\nREMOTE_EXEC={BIN}/remote_exec\nSSH={self.folder}/ssh\nSSH_WORDS=\n')
 
     def jobs(self, *words: str) -> str:
-        """Runs twenty jobs by tools/try-executor. Returns what it printed."""
+        """Runs twenty jobs with tools/try-executor. Returns what it printed."""
         done = subprocess.run([TOP / "tools/try-executor", f"{BIN}/worker_tool", "executor", *words], stdout=subprocess.PIPE,
                               stderr=subprocess.STDOUT, text=True, timeout=SECONDS, check=False)
         self.assertEqual(done.returncode, 0, done.stdout)
@@ -50,12 +50,12 @@ class Hosts(Folder):
         self.assertLessEqual(set(self.connected()), {"one", "two"})
 
     def test_one_is_gone_from_the_start(self) -> None:
-        """Each of its lines takes the other host at once, and no job costs an attempt."""
+        """Checks that each line of the executor takes the other host at once, and that no job costs an attempt."""
         self.assertIn(" 20 jobs were begun", self.jobs("--gone", f"echo two >{self.folder}/down"))
         self.assertEqual(set(self.connected()), {"one"})
 
     def test_one_goes_for_good(self) -> None:
-        """As soon as it is used it goes, whatever its jobs have done by then."""
+        """Plays a host that goes as soon as it is used, regardless of the state of its jobs."""
         self.put("go", f"until grep -q two connections; do sleep 0.05; done\necho two >down\nfor it in $(sed -n 's/^two //p' connections); do\n"
                        "    kill -KILL -$it\ndone\necho >gone\n")
         self.put("connections", "")

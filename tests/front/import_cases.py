@@ -1,4 +1,4 @@
-"""Cases: builds of ninja's that are imported. A compiler in Python stands for a real one; one case takes cc, if there is one."""
+"""Cases of imported ninja builds. A compiler in Python replaces a real one. One case uses cc, if there is one."""
 from __future__ import annotations
 
 import os
@@ -9,7 +9,7 @@ import subprocess
 
 from case import Folder
 
-# Reads a source with all that it includes, and writes the texts. <..> is looked for in the -I folders and then in $SYSTEM/include.
+# Reads a source with all its includes, and writes their texts. It looks for <..> in the -I folders and then in $SYSTEM/include.
 COMPILER = '''#!/usr/bin/python3
 import os, re, sys
 words = sys.argv[1:]
@@ -66,16 +66,16 @@ class Ninja(Folder):
         return self.front("import", "ninja", "build", f"--root={self.root}", *words)
 
     def plain(self, *words: str) -> None:
-        """Imports two sources and what is linked of them."""
+        """Imports two sources and a file that is linked from them."""
         self.ninja("build a.o: cc ../src/a.c\nbuild b.o: cc ../src/b.c\n  FLAGS = -I../inc\nbuild all.txt: link a.o b.o\n", *words)
 
     def text(self, path: str = "build/all.txt") -> str:
-        """Returns what was made."""
+        """Returns the text of an output."""
         return pathlib.Path(path).read_text()
 
 
 class Fresh(Ninja):
-    """What is made again after which change."""
+    """Cases of what is made again after a change."""
 
     def test_first_second_and_edits(self) -> None:
         self.plain()
@@ -111,7 +111,7 @@ class Fresh(Ninja):
         self.assertIn("1 action made, 2 up to date", self.front("build", "build"))
 
     def test_generated_header_that_includes_another(self) -> None:
-        """What a generated header includes is found once it is there, and what includes it waits for it."""
+        """Checks that a generated header's includes are found once it exists, and that its readers wait for it."""
         self.put("src/behind.h", "behind\n")
         self.put("src/c.c", "#include <made.h>\nc\n")
         self.put("src/made.in", "#include <behind.h>\nmade\n")
@@ -127,7 +127,7 @@ class Fresh(Ninja):
         self.assertIn("1 action made, 1 up to date", self.front("build", "build"))
 
     def test_what_only_has_to_be_before(self) -> None:
-        """As in ninja, it is made first and there to be read, and its change makes nothing else again."""
+        """Checks that an order-only input is made first and can be read, and that its change makes nothing else again, as in ninja."""
         self.put("src/one", "1\n")
         self.ninja("build one: link ../src/one\nbuild two: CUSTOM_COMMAND ../src/a.c || one\n  COMMAND = cat ../src/a.c one > two\n")
         self.assertIn("2 actions made", self.front("build", "build"))
@@ -135,7 +135,7 @@ class Fresh(Ninja):
         self.assertIn("1 action made, 1 up to date", self.front("build", "build"))
 
     def test_build_file_is_made_again(self) -> None:
-        """If what it is made of is newer, its own step runs first."""
+        """Checks that the step of build.ninja runs first if one of its inputs is newer."""
         self.put("src/next", "")
         parts = ("build build.ninja: CUSTOM_COMMAND ../src/next\n  generator = 1\n  COMMAND = cp ../src/next build.ninja\n"
                  "build a.o: cc ../src/a.c\nbuild b.o: cc ../src/b.c\n  FLAGS = -I../inc\nbuild all.txt: link a.o")
@@ -151,7 +151,7 @@ class Fresh(Ninja):
         self.assertIn("build.ninja isn't up to date, and what makes it again ended with status 1", self.front("build", "build", status=4))
 
     def test_interrupted(self) -> None:
-        """What was made before Ctrl-C isn't made again."""
+        """Checks that outputs that were made before Ctrl-C aren't made again."""
         self.ninja("".join(f"build s{it}: CUSTOM_COMMAND ../src/a.c\n  COMMAND = sleep 0.3; echo {it} > s{it}\n" for it in range(12)))
         run = self.begin("build", "build", "-j1")
         self.until(lambda: len(list(pathlib.Path("build").glob("s*"))) >= 3)
@@ -163,10 +163,10 @@ class Fresh(Ninja):
 
 
 class Guarded(Ninja):
-    """What an import must not get wrong in silence."""
+    """Cases that an import must not get wrong silently."""
 
     def test_missing_input_isnt_taken_from_the_system(self) -> None:
-        """The project has the header, the scan of includes doesn't see it, and the system has one of that name: the step fails."""
+        """Checks that a step fails if the scan misses a header of the project and the system has one of that name."""
         self.put("../system/include/inc.h", "the system's\n")
         self.put("src/b.c", "@include <inc.h>\nb\n")
         self.plain()
@@ -196,7 +196,7 @@ class Guarded(Ninja):
         self.assertIn("build/a.o:\nwarning: of ../src/a.c", self.front("build", "build"))
 
     def test_room_isnt_in_what_is_made(self) -> None:
-        """Whether the room is mounted at the project's path, or the words are changed."""
+        """Checks that outputs are right if the room is mounted at the project's path, and if the words are changed instead."""
         self.put("src/tool", "#!/bin/sh\npwd\n")
         os.chmod("src/tool", 0o755)
         for words in ([], ["--mount=never"]):
@@ -214,7 +214,7 @@ class Guarded(Ninja):
 
 
 class InPlace(Ninja):
-    """Steps that no list can have."""
+    """Cases of steps that no list can contain."""
 
     def test_many_outputs_and_inputs(self) -> None:
         for number in range(4200):
@@ -233,7 +233,7 @@ class InPlace(Ninja):
         self.assertIn("3 steps, 2 of them in place, no problems found", self.front("check", "build"))
 
     def test_a_target_that_makes_no_file(self) -> None:
-        """It runs each time; what waits for it isn't made again."""
+        """Checks that the target runs each time, and that the steps that wait for it aren't made again."""
         self.ninja("build CMakeFiles/note: CUSTOM_COMMAND\n  COMMAND = echo >> notes\nbuild note: phony CMakeFiles/note\n"
                    "build a.o: cc ../src/a.c || note\nbuild all.txt: link a.o || note\n")
         for number, made in ((1, 3), (2, 1), (3, 1)):
@@ -259,7 +259,7 @@ class InPlace(Ninja):
         self.until(lambda: not [it for it in self.sleepers("sleep\x001234") if os.path.realpath(f"/proc/{it}/cwd").startswith(self.root)])
 
     def test_asked_for(self) -> None:
-        """A step that reads what it doesn't declare fails in a room, with --also it has the file, and in place it finds all."""
+        """Checks that a step that reads an undeclared file fails in a room. It succeeds with --also, and in place."""
         text = "build it: CUSTOM_COMMAND ../src/a.c\n  COMMAND = cat ../src/b.c > it\n"
         self.ninja(text)
         self.front("build", "build", status=1)
@@ -270,7 +270,7 @@ class InPlace(Ninja):
             os.remove("build/it")
 
     def test_links_of_a_library(self) -> None:
-        """A link can't be an output: it is copied in the run, and is a link after it."""
+        """Checks that a link, which can't be an output, is a copy during the run and a link after it."""
         self.put("src/tool", '#!/bin/sh\nln -sf "$3" "$4"\nln -sf "$4" "$5"\n')
         os.chmod("src/tool", 0o755)
         self.ninja("rule lib\n  command = ../src/tool -E cmake_symlink_library $in $out\n"
@@ -285,7 +285,7 @@ class InPlace(Ninja):
 
 
 class Words(Ninja):
-    """The build file's language, and what a user can get wrong."""
+    """Cases of the build file's language, and of a user's mistakes."""
 
     def test_language(self) -> None:
         self.put("build/more.ninja", "rule say\n  command = echo $what > $out\n  what = rule\n")
@@ -300,7 +300,7 @@ class Words(Ninja):
                          ["rule\n", "outer-long\n", "blank\n", "blank\n", "head\n#include <inc.h>\nb\n", "inner\n"])
 
     def test_looks(self) -> None:
-        """Every command that takes a list takes the folder, from wherever it is called."""
+        """Checks that commands that take a list also take the folder, from several folders."""
         self.plain()
         self.front("build", "build", "--json=events")
         self.assertTrue(os.path.exists("events"))
@@ -355,10 +355,10 @@ class Words(Ninja):
 
 
 class Compiled(Ninja):
-    """A real compiler, if there is one."""
+    """A case with a real compiler, if there is one."""
 
     def test_as_by_hand(self) -> None:
-        """Objects with what a debugger reads, a library and a program are those that the commands make by hand."""
+        """Checks that objects with debug information, a library and a program equal those that the commands make by hand."""
         compiler = shutil.which("cc")
         if compiler is None:
             self.skipTest("there is no cc")

@@ -1,4 +1,4 @@
-"""Cases: workers that outlive a run."""
+"""Cases of workers that outlive a run."""
 from __future__ import annotations
 
 import os
@@ -10,7 +10,7 @@ from case import Folder
 
 
 class Kept(Folder):
-    """Workers that outlive a run."""
+    """Workers that are kept after a run."""
 
     def pids(self) -> list[int]:
         """Returns the workers that are kept."""
@@ -100,7 +100,7 @@ class Kept(Folder):
         self.assertIn("1 action made", self.front("--keep=900"))
 
     def test_another_folder_has_its_own(self) -> None:
-        """The same list, worker and contents in two folders: no worker is shared, since each has its own room."""
+        """Checks that two folders with the same list, worker and contents share no worker, since each has its own room."""
         self.worker("text = os.getcwd()")
         self.write_list(self.actions(1))
         self.front("--keep=900")
@@ -116,7 +116,7 @@ class Kept(Folder):
         self.assertIn(first[0], self.pids())
 
     def test_another_user_has_none_of_it(self) -> None:
-        """The sockets are in a folder of the user's own. One that others may write to, or that is a link, is refused."""
+        """Checks that only the user may use the folder of the sockets. A folder that others may use, or a link, is refused."""
         self.worker()
         self.write_list(self.actions(1))
         self.front("--keep=900")
@@ -145,7 +145,7 @@ class Kept(Folder):
             os.chmod("kept", 0o700)
 
     def test_a_tool_that_changes_in_the_run(self) -> None:
-        """A worker that may have loaded another version than the one by which it would be found isn't kept."""
+        """Checks that a worker isn't kept if it may have loaded a version other than the one it would be found by."""
         self.put("table", "1")
         self.worker(f'''
 open("{self.folder}/table", "w").write("2")
@@ -155,7 +155,7 @@ text = open("{self.folder}/table").read()''')
         self.until(lambda: self.pids() == [] and not self.sleepers(self.folder + "/worker"))
 
     def test_the_same_version_again(self) -> None:
-        """A tool that was changed and put back finds the worker of its contents."""
+        """Checks that a tool that was changed and changed back finds the worker with its contents."""
         self.worker()
         self.put("table", "1")
         self.write_list(self.actions(1, tools=["table"]))
@@ -169,7 +169,7 @@ text = open("{self.folder}/table").read()''')
         self.assertIn(first[0], self.pids())
 
     def test_memory(self) -> None:
-        """Kept workers that have too much memory together are ended, the one idle for longest first."""
+        """Checks that kept workers are ended, the longest idle first, if together they have too much memory."""
         self.worker("keeps = bytearray(60_000_000)")
         actions = self.actions(3)
         for place, it in enumerate(actions):
@@ -181,7 +181,7 @@ text = open("{self.folder}/table").read()''')
         self.until(lambda: self.pids() == [])
 
     def test_stray_bytes_end_it(self) -> None:
-        """What a worker writes between two runs would be taken for an answer."""
+        """Checks that output between two runs ends a worker, since it would be taken for an answer."""
         self.worker(f"""
 def stray():
     while not os.path.exists("{self.folder}/go"): time.sleep(0.02)

@@ -1,4 +1,4 @@
-"""Cases: what runs, why, and what is remembered."""
+"""Cases of which actions run, of the reasons, and of what is remembered."""
 from __future__ import annotations
 
 import json
@@ -10,7 +10,7 @@ from case import Folder
 
 
 class Rounds(Folder):
-    """What runs, why, and what is remembered."""
+    """Cases of rounds and of the memory of successes."""
 
     def test_build_then_nothing(self) -> None:
         self.worker()
@@ -146,7 +146,7 @@ class Rounds(Folder):
         first.communicate()
 
     def test_page_of_the_last_run_that_ran(self) -> None:
-        """A build that finds nothing to do doesn't replace the events of the one before."""
+        """Checks that a build with nothing to do doesn't replace the events of the build before."""
         self.worker()
         self.write_list(self.actions(3))
         self.front()
@@ -154,7 +154,7 @@ class Rounds(Folder):
         self.assertIn("answered: exit 0", self.front("explain", "a1"))
 
     def test_recovered_under_another_choice(self) -> None:
-        """What a killed run had made is remembered also if the next call builds something else."""
+        """Checks that the successes of a killed run are remembered even if the next call builds something else."""
         self.worker("time.sleep(0.2)")
         self.write_list(self.actions(12))
         run = self.begin("-j2")
@@ -167,7 +167,7 @@ class Rounds(Folder):
         self.assertIn(f"{12 - kept} actions would run", self.front("-n", "--only=a*"))
 
     def test_memory_that_was_cut_off(self) -> None:
-        """A line that a full disk cut off is no success, and spoils no later one."""
+        """Checks that a line that a full disk cut off doesn't count as a success, and doesn't spoil a later line."""
         self.worker()
         self.write_list(self.actions(4))
         self.front()

@@ -44,7 +44,7 @@ serve(async request => {
 
 
 class Workers(Folder):
-    """What tools do to a worker, and what they mustn't do to its answers."""
+    """Cases of what tools do to a worker, and must not do to its answers."""
 
     def talk(self, command: list[str], words: list[str]) -> dict[str, dict[str, Any]]:
         """Asks for all words at once, cancels the one `late`, and returns the answers by word."""

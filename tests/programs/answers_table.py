@@ -1,7 +1,7 @@
-"""What worker_tool makes of the bytes that a worker or an executor answers: messages by protoc, lines by Python's json.
+"""How worker_tool reads responses of workers and results of executors: messages by protoc, lines by Python's json.
 
-Each answer is that of one action without outputs, so that the report tells its exit code and its text. A worker that has
-one request at a time must answer the number 0; of one that has several, an answer counts that has the number of a request.
+Each response belongs to one action without outputs, so the report shows its exit code and its text. A worker with one
+request at a time must answer with number 0. If it has several, a response counts if its number is a request's number.
 """
 from __future__ import annotations
 
@@ -19,7 +19,7 @@ PROTOC = json.loads((pathlib.Path(__file__).resolve().parent / "protoc.json").re
 
 @dataclasses.dataclass(frozen=True)
 class Answer:
-    """The bytes of one answer with what they say; nothing where they say nothing."""
+    """The bytes of one response, and its fields. If the bytes aren't a response, `fault` is the cause."""
 
     given: bytes
     exit_code: int = 0
@@ -32,7 +32,7 @@ class Answer:
         return self.fault is not None or self.number != 0 or self.cancelled
 
     def lines(self, name: str) -> list[str]:
-        """The lines of the report of an action whose worker, one request at a time, answered so."""
+        """Returns the report's lines for an action whose singleplex worker gave this response."""
         if self.ends_its_line():
             return [f"{name} broken local=dropped:{self.fault or 'breach'}:1 remote=unused"]
         how = f"failed local {self.exit_code}" if self.exit_code else "ok local"
@@ -46,7 +46,7 @@ def of_protoc(vector: dict) -> Answer:
 
 
 def of_value(value: dict, **how: object) -> Answer:
-    """An answer that Python's json writes."""
+    """Returns a response that Python's json writes."""
     line = json.dumps(value, **how).encode() + b"\n"  # type: ignore[arg-type]
     code = value.get("exitCode", value.get("exit_code", 0))
     number = value.get("requestId", value.get("request_id", 0))
@@ -76,7 +76,7 @@ GOOD_LINES = [
     of_value({"output": "Gr\u00fc\u00dfe, \u4e16\u754c \U0001f600"}, ensure_ascii=False),
     of_value({"exit_code": 1, "request_id": 7, "was_cancelled": True, "other": [1.5, None, {"a": 1e300}]}),
     of_value({"exit_code": 1, "other": [1.5, None, {"a": 1e300}]}),
-    # A number may be a text of digits; null is the default, whatever stands under the other name; of two the last counts.
+    # A number may be a string of digits. null is the default, even if the other name has a value. Of two values the last counts.
     Answer(b'{"exitCode":"-0","requestId":"-12"}\n', number=-12),
     Answer(b'{"exitCode":"-7","requestId":"0"}\n', -7), Answer(b'{"exitCode":null,"exit_code":"x"}\n'),
     Answer(b'{"exit_code":"2","requestId":null}\n', 2), Answer(b'{"exitCode":1,"exitCode":2}\n', 2),
@@ -85,7 +85,7 @@ GOOD_LINES = [
 
 
 def plays_of(answers: Sequence[Answer], hear: str, bytewise: bool) -> list[Steps]:
-    """One process after another: each answers until an answer ends its line."""
+    """Returns the parts of the processes. Each process answers until a response ends its line."""
     plays: list[list[list[object]]] = [[]]
     for it in answers:
         pieces = [it.given[at : at + 1].hex() for at in range(len(it.given))] if bytewise else [it.given.hex()]
@@ -113,7 +113,7 @@ def answered(name: str, answers: Sequence[Answer], lines: bool = False, bytewise
 
 def numbered(name: str, needs: tuple[str, ...], give: list[bytes], wanted: list[str], lines: bool = False, count: int = 2,
              ok: int = 0, failed: int = 0) -> Case:
-    """Answers of a worker that has several requests at once, which are given once it has heard all."""
+    """Returns a case with a multiplex worker that gives its responses after it has read all requests."""
     def played(programs: Programs, folder: pathlib.Path) -> None:
         requirements = supports(*needs, **({"requires-worker-protocol": "json"} if lines else {}))
         actions = [action(f"a{n}", outputs=[], requirements=requirements) for n in range(count)]
@@ -125,7 +125,7 @@ def numbered(name: str, needs: tuple[str, ...], give: list[bytes], wanted: list[
 
 
 def several() -> Iterator[Case]:
-    """The numbers of answers, by which they are told apart."""
+    """Yields cases for the numbers that match responses to requests."""
     first, second = wire.response(1, 3), wire.response(2, 0, b"two")
     local = "local=won remote=unused"
     wanted = [f"a0 failed local 3 {local}", f"a1 ok local {local}", "  | two"]
@@ -136,7 +136,7 @@ def several() -> Iterator[Case]:
                            wanted, ok=1, failed=1)
     give = [wire.line(requestId=9, exitCode=5), wire.line(requestId=2, output="two"), b'{"request_id":"1","exit_code":"3"}\n']
     yield numbered("numbers of answers in lines", ("multiplex-workers",), give, wanted, True, ok=1, failed=1)
-    # Nine actions: eight requests at most are at once with a worker, and the ninth is sent once there is room.
+    # A worker has at most eight requests at once. The ninth is sent after a response.
     # A hundred and thirty actions, so that numbers take two bytes.
     def many(programs: Programs, folder: pathlib.Path) -> None:
         actions = [action(f"a{n}", outputs=[], requirements=supports("multiplex-workers")) for n in range(130)]
@@ -153,11 +153,11 @@ def several() -> Iterator[Case]:
     yield Case("numbers of more than one byte", many)
 
 
-# A result of two parts, as a stream: the first says that another comes.
+# A result in two parts, as a stream. The first part announces the second.
 PARTS = wire.framed(wire.result(1, more=True, files=[(b"o", b"part")])) + wire.framed(wire.result(1, files=[(b"p", b"")]))
 
 RESULTS = [
-    # Each result, its line in the report, and how the action ended.
+    # Each result, its lines in the report, the totals, and the output.
     (wire.result(1, said=b"hello\n", files=[(b"o", b"x")]), ["a ok remote local=unused remote=won", "  | hello"], {"ok": 1}, b"x"),
     (wire.result(1, 7, b"no", [(b"o", b"x")]), ["a failed remote 7 local=unused remote=won", "  | no"], {"failed": 1}, None),
     (wire.result(1, -1), ["a failed remote -1 local=unused remote=won"], {"failed": 1}, None),
@@ -165,9 +165,9 @@ RESULTS = [
     (wire.result(1, files=[(b"p", b"x")]), ["a broken local=unused remote=dropped:missing(o):1"], {"broken": 1}, None),
     (wire.result(1, files=[(b"o", b"x"), (b"p", b"y"), (b"o", b"")]), ["a ok remote local=unused remote=won"], {"ok": 1}, b""),
     (wire.result(1, refusal=b"cannot start"), ["a broken local=unused remote=dropped:refused:1"], {"broken": 1}, None),
-    # A longer number, an unknown field, an embedded message in two spellings, and fields in another order.
+    # A number in a longer encoding, an unknown field, and fields in another order, also in an embedded message.
     (bytes.fromhex("2206120178" "0a016f" "1080808080f0ffffffff01" "8201017a" "0881808000"), ["a ok remote local=unused remote=won"], {"ok": 1}, b"x"),
-    # A part, after which another comes.
+    # A part that is followed by another.
     (PARTS, ["a ok remote local=unused remote=won"], {"ok": 1}, b"part"),
     (bytes.fromhex("08"), ["a broken local=unused remote=dropped:frame:1"], {"broken": 1}, None),
     (bytes.fromhex("2a01ff"), ["a broken local=unused remote=dropped:frame:1"], {"broken": 1}, None),
@@ -190,7 +190,7 @@ def remote(at: int) -> Case:
 
 
 def spelling(programs: Programs, folder: pathlib.Path) -> None:
-    """Python's own spelling of responses is protoc's."""
+    """Checks that Python encodes responses as protoc does."""
     for it in PROTOC["responses"]:
         read = of_protoc(it)
         compare(it["parts"], it["written"], wire.response(read.number, read.exit_code, read.said, read.cancelled).hex())

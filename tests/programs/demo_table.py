@@ -1,4 +1,4 @@
-"""demo_tool as a command and as a worker: what it puts, how it ends, and what stands at its paths afterwards."""
+"""demo_tool as a command and as a worker: its output, its status, and the files at its paths afterwards."""
 from __future__ import annotations
 
 import base64
@@ -6,6 +6,7 @@ import dataclasses
 import json
 import os
 import pathlib
+import select
 import socket
 import subprocess
 from collections.abc import Iterator, Mapping, Sequence
@@ -20,16 +21,16 @@ AB = b"one\ntwo\n"
 WORKER = "--persistent_worker"
 LINES = WORKER + " --json"
 
-# Longer than the name of a file may be, so that it can neither be read nor written.
+# A name that is too long for a file, so that it can neither be read nor written.
 LONG = "n" * 300
 
-# So many small requests that a whole piece has no others, and that splitting them must take linear time.
+# A number of small requests that fill a whole piece. Splitting them must take linear time.
 MANY = 30_000
 
 
 @dataclasses.dataclass(frozen=True)
 class Row:
-    """One run: the words, the input piece by piece, and what is to come of it."""
+    """One run: the arguments, the pieces of the input, and the expected results."""
 
     words: str
     status: int = 0
@@ -48,19 +49,19 @@ def framed_response(id: int, exit_code: int = 0, said: str = "") -> bytes:
 
 
 def once() -> Iterator[Row]:
-    """Its own words, done once."""
+    """Yields runs as a command, with arguments that are carried out once."""
     yield Row("")
     yield Row("--in=a --out=p --in=b --out=o other", there={"o": AB, "p": None})
     yield Row("--out=o", there={"o": b""})
     yield Row("--in=b --in=a --in=b --out=d/e/o", there={"d/e/o": b"two\none\ntwo\n"})
     yield Row("--in=a --out=a --in=a", there={"a": b"one\none\n"})
-    # The last exit code counts; words that name none are passed over, and so are all others.
+    # The last exit code counts. Invalid exit codes and all other arguments are ignored.
     yield Row("--exit=7 --exit=255", 255)
     yield Row("--exit=7 --exit=256 --exit=0001 --exit= --exit=+1 --exit=-1 --exit=1.0 --exit", 7)
     yield Row("--exit=9 --exit=009", 9)
     yield Row("--exit=9 --exit=0", 0)
     yield Row("-x --help --version --in --out --In=a in=a a ---in=a @ --json --persistent_workers=1 --exit=5", 5)
-    # It stops at the first call that doesn't go well.
+    # It stops at the first call that fails.
     yield Row("--in= --out=o", 1, b"missing: ", {"o": None})
     yield Row("--exit=7 --in=a --in=gone --in=b --out=o", 1, b"missing: gone", {"o": None})
     yield Row(f"--in=a --in={LONG} --in=gone --out=o", 1, f"cannot read: {LONG}".encode(), {"o": None})
@@ -71,7 +72,7 @@ def once() -> Iterator[Row]:
 
 
 def flag_files() -> Iterator[Row]:
-    """A word that stands for a file is replaced by its lines, once."""
+    """Yields runs with flag files. An argument @FILE is replaced by the file's lines, once."""
     files = {**FILES, "words": b"--in=a\r\n--out=o\n--in=b", "more": b"@words\n--exit=2\n", "empty": b"", "bytes": b"\xff\n",
              "worker": WORKER.encode()}
     yield Row("@words", there={"o": AB}, files=files)
@@ -86,7 +87,10 @@ def flag_files() -> Iterator[Row]:
 
 
 def requests() -> Iterator[Row]:
-    """As a worker, in one piece, cut inside a frame, and byte by byte. Requests are answered at once, so none needs another's output."""
+    """Yields runs as a worker: in one piece, cut inside a frame, and byte by byte.
+
+    Requests are carried out at once, so no request needs another's output.
+    """
     first, second = framed_request(3, "--in=a", "--out=o"), framed_request(4, "--in=b", "--in=a", "--out=p", "--exit=9")
     said, there = framed_response(3) + framed_response(4, 9), {"o": b"one\n", "p": b"two\none\n"}
     yield Row(WORKER)
@@ -94,12 +98,12 @@ def requests() -> Iterator[Row]:
     yield Row(WORKER, 0, said, there, [first + second])
     yield Row(WORKER, 0, said, there, [first[:5], first[5:] + second[:1], second[1:]])
     yield Row(WORKER, 0, said, there, [bytes([byte]) for byte in first + second])
-    # Its own other words are passed over, and so are a request's inputs and its words of files.
+    # The worker's other arguments are ignored. So are a request's inputs and its arguments @FILE.
     yield Row(f"--exit=5 @gone {WORKER} --in=gone --out=q", 0, framed_response(0, 2), {"o": b"", "q": None},
               [framed_request(0, "@gone", "--out=o", "--exit=2", WORKER, "--json", inputs=[(b"gone", b"abc")], verbosity=10)])
     numbers = [0, 2**31 - 1, -1, -1, -(2**31), 128, 16384]
     yield Row(WORKER, 0, b"".join(map(framed_response, numbers)), {}, [b"".join(map(framed_request, numbers))])
-    # A request with a folder of its own: inputs and outputs lie there, and texts say so.
+    # A request with its own folder. Inputs and outputs are there, and messages contain it.
     files = {**FILES, "__sandbox/7/a": b"seven\n"}
     yield Row(WORKER, 0, framed_response(7) + framed_response(8, 1, "missing: __sandbox/8/a"),
               {"__sandbox/7/d/o": b"seven\n", "d/o": None, "__sandbox/8/o": None},
@@ -111,14 +115,14 @@ def requests() -> Iterator[Row]:
 
 
 def faulty_requests() -> Iterator[Row]:
-    """Requests that fail, an input that ends inside one, and what is none."""
+    """Yields runs with requests that fail, an input that ends inside a request, and frames that aren't requests."""
     yield Row(WORKER, 0, framed_response(1, 1, "missing: gone") + framed_response(2, 1, f"cannot read: {LONG}") + framed_response(3),
               {"o": b"one\n"}, [framed_request(1, "--in=a", "--in=gone", "--out=o", "--exit=4") + framed_request(2, f"--in={LONG}")
                                 + framed_request(3, "--in=a", "--out=o")])
     whole, next_one = framed_request(1, "--exit=2"), framed_request(2, "--in=a", "--out=o")
     for cut in [b"\x05", b"\x80", next_one[:-1]]:
         yield Row(WORKER, 0, framed_response(1, 2), {"o": None}, [whole + cut])
-    # No text, a bad tag, a number that is too long, a cut field, and bad lengths.
+    # Invalid UTF-8, a bad tag, a number that is too long, a cut field, and bad lengths.
     bad = ["0a01ff", "0b", "18" + "ff" * 10, "0a0561", "00", "07", "08", "18", "120100", "12030a01ff", "3201ff", "180880"]
     for digits in bad:
         yield Row(WORKER, 4, framed_response(1, 2), {"o": None}, [whole + framed(bytes.fromhex(digits)) + next_one])
@@ -127,19 +131,19 @@ def faulty_requests() -> Iterator[Row]:
 
 
 def lines() -> Iterator[Row]:
-    """As a worker that is asked in lines."""
+    """Yields runs as a worker that reads requests in JSON lines."""
     first = line(arguments=["--in=a", "--out=o"], requestId=3)
     second = line(arguments=["--in=b", "--in=a", "--out=p", "--exit=9"], request_id=4)
     said, there = line(requestId=3) + line(exitCode=9, requestId=4), {"o": b"one\n", "p": b"two\none\n"}
     yield Row("--json " + WORKER)
     yield Row(LINES, 0, said, there, [first + b"\n \t\r\n" + second])
     yield Row(LINES, 0, said, there, [bytes([byte]) for byte in first + second])
-    # One after another: the second reads what the first has made, and a cancel behind a request comes too late.
+    # One after another: the second reads the first one's output, and a cancel after a request comes too late.
     yield Row(LINES, 0, line(requestId=1) + line(requestId=2), {"c": b"one\n"},
               [line(arguments=["--in=a", "--out=o"], requestId=1) + line(arguments=["--in=o", "--out=c"], requestId=2)])
     yield Row(LINES, 0, line(requestId=3) + line(requestId=5), {"o": b"one\n", "p": None},
               [first + line(cancel=True, requestId=3) + line(cancel=True, requestId=4, arguments=["--in=b", "--out=p"]) + line(requestId=5)])
-    # A cancel, a folder of its own, verbosity, inputs, a null, a key that isn't known, and a text that isn't plain.
+    # A cancel, a request's own folder, verbosity, inputs, a null, an unknown key, and a string with escapes.
     yield Row(LINES, 0, line() + line(exitCode=1, output='missing: s/q"\u00e9\x1f\U0001f600', requestId=-2), {"s/o": None, "o": None},
               [line(cancel=True, requestId=1, arguments=["--in=a"])
                + line(arguments=["--exit=0"], requestId=None, verbosity=10, inputs=[{"path": "a", "digest": "YWJj"}], later=[1])
@@ -153,7 +157,7 @@ def lines() -> Iterator[Row]:
     ]
     wanted = b"".join(line(requestId=int(it.get("requestId", 0))) for it in good)
     yield Row(LINES, 0, wanted, {}, [b"".join(json.dumps(it).encode() + b"\n" for it in good)])
-    # A line without its end is no request, and that is no fault.
+    # A line without a line feed isn't a request, and it isn't a fault.
     yield Row(LINES, 0, line(requestId=3), {"p": None}, [first + second[:-1]])
     wrong = ["[]", "{", '{"requestId":2147483648}', '{"arguments":"--in=a"}', '{"arguments":[null]}', '{"inputs":[null]}',
              '{"inputs":[{"digest":"YWI","path":1}]}', '{"inputs":[{"digest":"YWI"}]}', '{"inputs":[{"digest":"YWJ="}]}',
@@ -164,7 +168,7 @@ def lines() -> Iterator[Row]:
 
 
 def vectors() -> Iterator[Row]:
-    """Requests that protoc wrote or read; their numbers come back, and their exit codes."""
+    """Yields runs with requests that protoc wrote or read. The responses have their numbers and exit codes."""
     place = pathlib.Path(__file__).resolve().parent / "protoc.json"
     for it in json.loads(place.read_text(encoding="utf-8"))["requests"]:
         parts, exit_code, said = it["parts"], 0, ""
@@ -178,7 +182,7 @@ def vectors() -> Iterator[Row]:
 
 
 def fed(programs: Programs, folder: pathlib.Path, row: Row) -> play.Ended:
-    """Runs it with its input piece by piece."""
+    """Runs it and sends its input piece by piece."""
     if len(row.pieces) < 2:
         return run([programs.demo_tool, *row.words.split(" ")] if row.words else [programs.demo_tool], folder, b"".join(row.pieces))
     mine, its = socket.socketpair()
@@ -194,7 +198,7 @@ def fed(programs: Programs, folder: pathlib.Path, row: Row) -> play.Ended:
 
 
 def answers(words: str, put: bytes) -> bytes | list[bytes]:
-    """What was put; where requests are answered at once the responses in the order of their bytes, since they come in any."""
+    """Returns the output. If requests are carried out at once, returns the responses sorted, since their order may vary."""
     return sorted(wire.messages(put)) if WORKER in words.split() and "--json" not in words.split() else put
 
 
@@ -209,11 +213,11 @@ def played(row: Row) -> Case:
 
 
 def failing_input(programs: Programs, folder: pathlib.Path) -> None:
-    """The input can't be read: at once, between two requests, and inside one."""
+    """Checks an input that can't be read: at the start, between two requests, and inside a request."""
     first, second = framed_request(1, "--exit=2"), framed_request(2, "--out=o")
     for words, given, put in [(WORKER, b"", b""), (WORKER, first, framed_response(1, 2)), (WORKER, first + second[:3], framed_response(1, 2)),
                               (LINES, line(requestId=3), line(requestId=3))]:
-        # A socket whose other end is closed while bytes wait there ends in a failed read, behind what was sent.
+        # If the other end of a socket closes while it has unread bytes, a read fails after the sent bytes.
         mine, its = socket.socketpair()
         its.sendall(b"unread")
         mine.sendall(given)
@@ -224,7 +228,7 @@ def failing_input(programs: Programs, folder: pathlib.Path) -> None:
 
 
 def failing_output(programs: Programs, folder: pathlib.Path) -> None:
-    """What is put can't be written: what was asked for is done, and of lines the next isn't."""
+    """Checks an output that can't be written. The requests are carried out, but with lines the next one isn't."""
     fill(folder, FILES)
     rows = [("--in=gone", b""), (WORKER, framed_request(2, "--in=a", "--out=o") + framed_request(3, "--in=b", "--exit=3")),
             (LINES, line(arguments=["--in=a", "--out=q"]) + line(arguments=["--out=p"]))]
@@ -238,8 +242,32 @@ def failing_output(programs: Programs, folder: pathlib.Path) -> None:
     compare("what was done", (b"one\n", b"one\n", None), tuple(found(folder, path) for path in ["o", "q", "p"]))
 
 
+def output_gone(programs: Programs, folder: pathlib.Path) -> None:
+    """Checks that it ends if nobody reads its output, even though its input is open."""
+    for words, given in [(WORKER, framed_request(1)), (LINES, line(requestId=1))]:
+        status = play.ended_unheard([programs.demo_tool, *words.split()], folder, 0, given)
+        compare((words, given), 6, status)
+
+
+def unended_line(programs: Programs, folder: pathlib.Path) -> None:
+    """Sends whole JSON without a line feed. It prints one hint, and answers when the line feed arrives."""
+    requests = [line(arguments=["--exit=2", '\\{"'], requestId=3), line(requestId=4)]
+    with subprocess.Popen([programs.demo_tool, *LINES.split()], cwd=folder, stdin=subprocess.PIPE, stdout=subprocess.PIPE,
+                          stderr=subprocess.PIPE) as demo:
+        assert demo.stdin is not None and demo.stderr is not None
+        demo.stdin.write(requests[0][:-1])
+        demo.stdin.flush()
+        if not select.select([demo.stderr], [], [], play.MOST_SECONDS)[0]:
+            demo.kill()
+            raise play.Wrong(f"wanted a line on standard error within {play.MOST_SECONDS} seconds")
+        told = os.read(demo.stderr.fileno(), 4096)
+        out, err = demo.communicate(b"\n" + requests[1], timeout=play.MOST_SECONDS)
+    compare("what was told", (b"standard input: whole JSON", 1), (told[:26], told.count(b"\n")))
+    compare(requests, (0, line(exitCode=2, requestId=3) + line(requestId=4), b""), (demo.returncode, out, err))
+
+
 def cancelled(programs: Programs, folder: pathlib.Path) -> None:
-    """A request that cancels has no response, and nothing is done for it; the one that it cancels is done, or is said to be cancelled."""
+    """Checks that a cancel has no response and no effect of its own. The cancelled request is done or reported as cancelled."""
     for number in range(20):
         room = folder / str(number)
         fill(room, FILES)
@@ -252,7 +280,7 @@ def cancelled(programs: Programs, folder: pathlib.Path) -> None:
 
 
 def asked_again(programs: Programs, folder: pathlib.Path) -> None:
-    """A request that comes once the one before is answered finds what that has made."""
+    """Checks that a request sent after an earlier response finds the earlier request's output."""
     fill(folder, FILES)
     with subprocess.Popen([programs.demo_tool, WORKER], cwd=folder, stdin=subprocess.PIPE, stdout=subprocess.PIPE) as demo:
         assert demo.stdin is not None and demo.stdout is not None
@@ -264,7 +292,7 @@ def asked_again(programs: Programs, folder: pathlib.Path) -> None:
 
 
 def links(programs: Programs, folder: pathlib.Path) -> None:
-    """An input is read behind a link, as it has to be in Bazel's folders, and a link that stands at an output is replaced."""
+    """Checks that a link at an input is followed, which Bazel's folders require, and that a link at an output is replaced."""
     fill(folder, FILES)
     (folder / "link").symlink_to("a")
     ended = run([programs.demo_tool, "--in=link", "--out=o"], folder)
@@ -275,7 +303,7 @@ def links(programs: Programs, folder: pathlib.Path) -> None:
 
 
 def odd_word(programs: Programs, folder: pathlib.Path) -> None:
-    """A word that isn't UTF-8."""
+    """Checks an argument that isn't UTF-8."""
     ended = run([programs.demo_tool, b"\xff"], folder)
     compare("ff", (2, b"", b"demo_tool: words are not accepted"), (ended.status, ended.out, ended.err.split(b"\n")[0]))
 
@@ -283,5 +311,5 @@ def odd_word(programs: Programs, folder: pathlib.Path) -> None:
 def cases() -> Iterator[Case]:
     for rows in [once, flag_files, requests, faulty_requests, lines, vectors]:
         yield from map(played, rows())
-    for case in [failing_input, failing_output, cancelled, asked_again, links, odd_word]:
+    for case in [failing_input, failing_output, output_gone, unended_line, cancelled, asked_again, links, odd_word]:
         yield Case(f"demo: {case.__name__.replace('_', ' ')}", case)

@@ -1,4 +1,4 @@
-"""remote_exec over jobs that Python spells: the results, how it ends, and what it leaves outside a job's folder."""
+"""remote_exec with jobs that Python encodes: the results, its status, and the files outside a job's folder."""
 from __future__ import annotations
 
 import os
@@ -15,27 +15,27 @@ from wire import GREETING, framed, job, result
 SHELL = (b"/bin/sh", b"-c")
 PATH = (b"PATH", b"/usr/bin:/bin")
 
-# Longer than the name of a file may be, so that it can neither be read nor written.
+# A name that is too long for a file, so that it can neither be read nor written.
 LONG = b"n" * 300
 
-# Jobs, each with its result, or with none.
+# Jobs, each with its result, or None if it gets no result.
 JOBS = [
     (job(1, [*SHELL, b"printf x > o"], outputs=[b"o"]), result(1, files=[(b"o", b"x")])),
-    # The input stands in the job's folder, and so is found there as an output. Another output is missing.
+    # The input is in the job's folder, so it is found there as an output. Another output is missing.
     (job(2, [*SHELL, b"printf ran"], [(b"a/i", b"in")], [b"a/i", b"gone"]), result(2, said=b"ran", files=[(b"a/i", b"in")])),
-    # A text that isn't UTF-8 is none; the exit code is no refusal; an input without bytes.
+    # Output that isn't UTF-8 is dropped. An exit code isn't a refusal. The input is empty.
     (job(3, [*SHELL, b"printf '\\377'; exit 3"], [(b"i", b"")], [b"i"]), result(3, 3, files=[(b"i", b"")])),
     (job(4, [*SHELL, b"tr a-z A-Z <i >made/deep/o; echo $WHO"], [(b"i", b"abc")], [b"made/deep/o"], [(b"WHO", b"me"), PATH]),
      result(4, said=b"me\n", files=[(b"made/deep/o", b"ABC")])),
-    # Its environment is the job's alone, its input is empty, and it runs in its folder.
+    # The environment is only the job's own, standard input is empty, and the job runs in its folder.
     (job(5, [b"/usr/bin/env"], env=[(b"A", b""), (b"B", b"2")]), result(5, said=b"A=\nB=2\n")),
     (job(6, [*SHELL, b"cat; basename $(pwd)"], env=[PATH]), result(6, said=b"job6\n")),
     (job(7, [*SHELL, b"kill -9 $$"]), result(7, refusal=b"ended by a signal")),
     (job(8, [b"/no/such/program"]), result(8, refusal=b"cannot start")),
     (job(9, []), result(9, refusal=b"cannot start")),
-    # A word without a slash at its front is looked for in the folder of the tool's start.
+    # A program without a leading slash is looked up in the folder where the tool was started.
     (job(10, [b"tool"], outputs=[b"o"]), result(10, files=[(b"o", b"from the tool\n")])),
-    # Paths that lead out of the job's folder, and what can't be written or read.
+    # Paths that lead out of the job's folder, and files that can't be written or read.
     (job(11, [b"tool"], [(b"../i", b"x")]), result(11, refusal=b"bad path")),
     (job(12, [b"tool"], outputs=[b"/o"]), result(12, refusal=b"bad path")),
     (job(-1, [b"tool"], outputs=[b""]), result(-1, refusal=b"bad path")),
@@ -44,10 +44,10 @@ JOBS = [
     (job(14, [b"tool"], outputs=[LONG + b"/o"]), result(14, refusal=b"cannot write")),
     (job(15, [*SHELL, b":"], outputs=[b"o", LONG]), result(15, refusal=b"cannot read")),
     (job(16, [*SHELL, b"ln -s /etc/passwd o; mkdir p"], outputs=[b"o", b"p"], env=[PATH]), result(16)),
-    # A longer number, an unknown field, an empty content, and parts in another order.
+    # A number in a longer encoding, an unknown field, empty content, and parts in another order.
     (bytes.fromhex("22016f" "1a050a01661200" "82010178" "08918000") + b"".join(wire.span(2, it) for it in (*SHELL, b"cp f o"))
      + wire.span(5, wire.span(2, PATH[1]) + wire.span(1, PATH[0])), result(17, files=[(b"o", b"")])),
-    # The job of another number isn't given up.
+    # A cancel of a different number doesn't cancel a job.
     (job(99, cancel=True), None),
     (job(18, [*SHELL, b"exit 255"]), result(18, 255)),
 ]
@@ -56,7 +56,7 @@ BAD_JOBS = ["08", "2a030a01ff", "1201ff", "0b", "1a020801ff"]
 
 
 def rooms(folder: pathlib.Path) -> pathlib.Path:
-    """The room of an executor below the folder of the start, which has a program `tool`."""
+    """Creates a start folder with a program `tool`, and returns an executor's room below it."""
     fill(folder, {"tool": b"#!/bin/sh\necho from the tool >o\n"})
     (folder / "tool").chmod(0o755)
     room = folder / ".worker_rooms" / "0"
@@ -65,7 +65,7 @@ def rooms(folder: pathlib.Path) -> pathlib.Path:
 
 
 def one_after_another(programs: Programs, folder: pathlib.Path) -> None:
-    """All jobs in one piece, and byte by byte."""
+    """Sends all jobs in one piece, and byte by byte."""
     given = b"".join(framed(it) for it, _ in JOBS)
     wanted = [wire.messages(GREETING)[0], *(it for _, it in JOBS if it is not None)]
     for bytewise in (False, True):
@@ -86,7 +86,7 @@ def one_after_another(programs: Programs, folder: pathlib.Path) -> None:
 
 
 def bad_jobs(programs: Programs, folder: pathlib.Path) -> None:
-    """A frame that spells no job: what stands before it is done, and nothing behind it."""
+    """Sends a frame that isn't a job. The job before it is run, and the job after it isn't."""
     first, behind = job(1, [*SHELL, b":"]), job(2, [*SHELL, b":"])
     for number, digits in enumerate(BAD_JOBS):
         given = framed(first) + framed(bytes.fromhex(digits)) + framed(behind)
@@ -98,10 +98,10 @@ def bad_jobs(programs: Programs, folder: pathlib.Path) -> None:
 
 
 def given_up(programs: Programs, folder: pathlib.Path) -> None:
-    """A cancelling job that comes while another job is run: that one's run ends only once all has been read.
+    """Cancels a job while another job runs. The run ends only after all jobs have been written.
 
-    That the cancelling job was read shows in the size of the pipe: it stands behind more bytes than a pipe holds, so the
-    last of them can be written only while the executor reads on beside the run.
+    The jobs have more bytes than a pipe holds. So the last bytes can be written only if the executor continues to read
+    during the run, and the cancelling job is then read too.
     """
     room = rooms(folder)
     filler = job(3, [*SHELL, b":"], [(b"big", b"x" * 1_000_000)])
@@ -118,7 +118,7 @@ def given_up(programs: Programs, folder: pathlib.Path) -> None:
 
 
 def streams(programs: Programs, folder: pathlib.Path) -> None:
-    """Other words, an input that ends inside a job or can't be read, and an output that takes nothing."""
+    """Checks invalid arguments, an input that ends inside a job or can't be read, and an output that is full."""
     room = rooms(folder)
     for words in [[], ["--server"], ["--serve", "--serve"], [""]]:
         ended = run([programs.remote_exec, *words], room)
@@ -139,7 +139,7 @@ def streams(programs: Programs, folder: pathlib.Path) -> None:
 
 
 def too_large(programs: Programs, folder: pathlib.Path) -> None:
-    """A result whose message would have more than 64 MiB is none: the job is refused, and the one behind it is run."""
+    """Checks that a job is refused if its result's message exceeds 64 MiB, and that the next job is run."""
     room = rooms(folder)
     whole = job(1, [*SHELL, b"truncate -s 67108864 o"], outputs=[b"o"], env=[PATH])
     said = job(2, [*SHELL, b"truncate -s 67108864 o; cat o; rm o"], outputs=[b"o"], env=[PATH])
@@ -149,7 +149,7 @@ def too_large(programs: Programs, folder: pathlib.Path) -> None:
 
 
 def sessions(programs: Programs, folder: pathlib.Path) -> None:
-    """Two sessions in one folder: a job finds nothing of the earlier one, and two at once aren't let in."""
+    """Runs two sessions in one folder. A job finds no files of the earlier session; two at once are refused."""
     room = rooms(folder)
     first = framed(job(1, [*SHELL, b"printf old > o"], outputs=[b"o"]))
     compare("the first session", (0, GREETING + framed(result(1, files=[(b"o", b"old")]))), told(run([programs.remote_exec, "--serve"], room, first)))
@@ -157,7 +157,7 @@ def sessions(programs: Programs, folder: pathlib.Path) -> None:
     compare("the second session", (0, GREETING + framed(result(1))), told(run([programs.remote_exec, "--serve"], room, second)))
     with subprocess.Popen([programs.remote_exec, "--serve"], cwd=room, stdin=subprocess.PIPE, stdout=subprocess.PIPE) as one:
         assert one.stdin is not None and one.stdout is not None
-        # Its greeting says that it has the folder.
+        # Once it has written the greeting, it holds the folder.
         greeting = one.stdout.read(len(GREETING))
         other = run([programs.remote_exec, "--serve"], room)
         one.stdin.close()
@@ -171,6 +171,12 @@ def told(ended: play.Ended) -> tuple[int, bytes]:
     return ended.status, ended.out
 
 
+def output_gone(programs: Programs, folder: pathlib.Path) -> None:
+    """Checks that it ends if nobody reads past the greeting, even though its input is open."""
+    words, given = [programs.remote_exec, "--serve"], framed(job(1, [*SHELL, b":"]))
+    compare(given, 6, play.ended_unheard(words, rooms(folder), len(GREETING), given))
+
+
 def cases() -> Iterator[Case]:
-    for case in [one_after_another, bad_jobs, given_up, streams, too_large, sessions]:
+    for case in [one_after_another, bad_jobs, given_up, streams, too_large, sessions, output_gone]:
         yield Case(f"executor: {case.__name__.replace('_', ' ')}", case)

@@ -1,7 +1,7 @@
-"""The rules of the scheduling core, read from docs/CORE.md and written anew: the reply to each call of a lane.
+"""The rules of the scheduling core, implemented again from docs/CORE.md: the reply to each call of a lane.
 
-Nothing here is the project's own code. A plan and an entry are the values of the lines of docs/FORMATS.md. A `History` keeps
-what the words of docs/CORE.md say of the entries so far.
+This uses no code of the programs. A plan and an entry are the values of the lines of docs/FORMATS.md. A `History` keeps the
+state that docs/CORE.md defines by the entries so far.
 """
 from __future__ import annotations
 
@@ -21,7 +21,7 @@ WHY = {"breach": "Breach", "feed": "Feed"}
 
 @dataclasses.dataclass(frozen=True)
 class Attempt:
-    """A try of a branch."""
+    """An attempt at a branch."""
 
     action: int
     branch: str
@@ -69,7 +69,7 @@ def attempt_in(parts: list[Any]) -> Attempt:
 
 
 class History:
-    """A plan, and what is known of the entries so far."""
+    """A plan, and the state after the entries so far."""
 
     def __init__(self, plan: Plan) -> None:
         self.actions, self.groups, self.limit = plan
@@ -93,7 +93,7 @@ class History:
     # ---- what an entry changes
 
     def add(self, entry: Entry) -> None:
-        """One more entry, which the rules made."""
+        """Adds an entry that follows the rules."""
         lane, call, reply = entry
         before = self.newest.get(lane)
         self.note_call(lane, call, reply, before)
@@ -188,7 +188,7 @@ class History:
         self.on_line[attempt] = line
 
     def request_in(self, reply: Reply) -> Request | None:
-        """The request that a Send ordered."""
+        """Returns the request that a Send ordered, if the reply is one."""
         return next((it for it in self.lines[reply[1]].sends if it.number == reply[2] and it.attempt == attempt_in(reply[3:6])),
                     None) if reply[0] == "Send" else None
 
@@ -209,7 +209,7 @@ class History:
     # ---- actions
 
     def standings(self) -> list[str]:
-        """Of each action whether it is open, succeeded, or is settled otherwise."""
+        """Returns for each action if it is open, succeeded, or is settled otherwise."""
         found: list[str] = []
         for action, (_, _, makers, _, _) in enumerate(self.actions):
             found.append(self.standing(action, any(found[maker] == "other" for maker, _ in makers)))
@@ -239,7 +239,7 @@ class History:
         return is_ready and not is_under_way and self.is_wanted(action, branch)
 
     def earliest(self, group: int) -> Attempt | None:
-        """The next attempt of the group's queued branch of the least action."""
+        """Returns the next attempt of the group's queued branch with the lowest action."""
         for action in range(len(self.actions)):
             for branch in ("Local", "Remote"):
                 if self.group_of(action, branch) == group and self.is_queued(action, branch):
@@ -276,7 +276,7 @@ class History:
     # ---- replies
 
     def reply(self, lane: int, call: Call) -> Reply:
-        """The reply to any call."""
+        """Returns the reply to any call."""
         return self.rule(lane, call) if self.is_in_script(lane, call) else ["Astray"]
 
     def rule(self, lane: int, call: Call) -> Reply:
@@ -395,7 +395,7 @@ class History:
 
     @staticmethod
     def heard(newest: Entry | None) -> int | None:
-        """The line that a tap lane hears."""
+        """Returns the line that a tap lane reads."""
         if newest is None:
             return None
         if newest[2][0] == "Line":
@@ -432,7 +432,7 @@ class History:
 
     @staticmethod
     def owed_commit(newest: Entry | None) -> list[Any] | None:
-        """The action and the branch that a lane is to commit."""
+        """Returns the action and the branch that a lane must commit, if any."""
         if newest is None or newest[1][0] != "Claim" or newest[2][0] != "Granted" or newest[1][4][0] != "Files":
             return None
         return newest[1][1:3]
@@ -442,7 +442,7 @@ class History:
 
 
 def first_wrong(plan: Plan, entries: list[Entry]) -> int | None:
-    """The first entry, from 0, that the rules don't make."""
+    """Returns the number of the first entry, from 0, that breaks the rules, or None."""
     history = History(plan)
     for at, entry in enumerate(entries):
         lane, call, reply = entry

@@ -1,5 +1,5 @@
-"""The texts of journals: what journal_check says of them. The journals are played by the rules of journal_rules, with lanes that
-take turns at random and workers that fail now and then; and texts in which one thing was changed."""
+"""Texts of journals, and the verdicts of journal_check. The journals are played by the rules of journal_rules: lanes take turns
+at random, and workers sometimes fail. In other texts one thing is changed."""
 from __future__ import annotations
 
 import base64
@@ -45,11 +45,11 @@ def text_of(plan: Plan, entries: list[Entry]) -> bytes:
     return b"".join(json.dumps(line, separators=(",", ":")).encode() + b"\n" for line in [plan, *entries])
 
 
-# ---- journals that the rules make
+# ---- journals that follow the rules
 
 
 class Lanes:
-    """The lanes of a run: what each calls next, at random."""
+    """The lanes of a run. Each lane's next call is chosen at random."""
 
     def __init__(self, plan: Plan, seed: int, trouble: float) -> None:
         self.history, self.dice, self.trouble = History(plan), random.Random(seed), trouble
@@ -61,7 +61,7 @@ class Lanes:
         return base64.b64encode(self.dice.randbytes(self.dice.randrange(6))).decode()
 
     def call(self, lane: int) -> list[Any] | None:
-        """A call in the lane's script; nothing after it was told to stop."""
+        """Returns a call of the lane's script, or None if there is none. After Stop there is none."""
         if lane in self.history.stopped:
             return None
         newest = self.history.newest.get(lane)
@@ -116,7 +116,7 @@ class Lanes:
 
 
 def played(plan: Plan, seed: int, trouble: float, most: int = 600) -> list[Entry]:
-    """A journal of the plan, to its end or to so many turns."""
+    """Returns a journal of the plan, which ends after at most `most` turns."""
     lanes = Lanes(plan, seed, trouble)
     entries: list[Entry] = []
     for _ in range(most):
@@ -130,7 +130,7 @@ def played(plan: Plan, seed: int, trouble: float, most: int = 600) -> list[Entry
 
 
 def plan_of(dice: random.Random) -> Plan:
-    """A sound plan of a few actions, workers of any kind and, now and then, an executor."""
+    """Returns a sound plan with a few actions, workers of any kind and sometimes an executor."""
     kinds = [["Single", False], ["Single", True], ["Multi", False], ["Boxed", True]]
     groups = [[[kind], cancels, dice.randrange(1, 3)] for kind, cancels in dice.sample(kinds, dice.randrange(1, 3))]
     executor = len(groups)
@@ -145,11 +145,11 @@ def plan_of(dice: random.Random) -> Plan:
     return [actions, groups, dice.randrange(1, 4)]
 
 
-# ---- what is wanted
+# ---- the expected results
 
 
 def wanted(plan: Plan, entries: list[Entry]) -> tuple[int, bytes]:
-    """The status and the line for a sound plan and entries."""
+    """Returns the expected status and line for a sound plan and entries."""
     at = first_wrong(plan, entries)
     if at is None:
         return 0, f"legal actions={len(plan[0])} entries={len(entries)}\n".encode()
@@ -169,18 +169,18 @@ def journal(name: str, plan: Plan, entries: list[Entry]) -> Case:
     return case(name, text_of(plan, entries), *wanted(plan, entries))
 
 
-# ---- texts in which one thing was changed
+# ---- texts with one change
 
 
 def changed_entry(at: int, change: Any) -> list[Entry]:
-    """The journal of one action, in which this entry is another."""
+    """Returns the journal of one action with a change to this entry."""
     entries = copy.deepcopy(ONE)
     change(entries[at])
     return entries
 
 
 def put(*path: int, value: Any) -> Any:
-    """Puts a value at a place of an entry."""
+    """Returns a function that puts a value at a path in an entry."""
     def change(entry: Any) -> None:
         for step in path[:-1]:
             entry = entry[step]
@@ -189,7 +189,7 @@ def put(*path: int, value: Any) -> Any:
 
 
 def one_thing(entry: Entry, dice: random.Random, actions: int) -> None:
-    """Another reply, lane or number."""
+    """Changes the reply, the lane, a number or the call of an entry."""
     lane, call, reply = entry
     which = dice.randrange(4)
     if which == 0:
@@ -209,7 +209,7 @@ CALLS: list[list[Any]] = [["Ask"], ["Take"], ["Tick"], ["Killed", 0], ["Ended", 
 
 
 def changed(number: int) -> Case:
-    """A journal of which one entry is changed, left out, said twice, or another follows in its place."""
+    """Returns a case with a journal in which one entry is changed, removed or repeated."""
     dice = random.Random(10_000 + number)
     plan = plan_of(dice)
     entries = played(plan, number, 0.1)
@@ -225,7 +225,7 @@ def changed(number: int) -> Case:
 
 
 def slim(value: Any) -> Any:
-    """An entry whose contents are replaced by their SHA-256."""
+    """Returns a copy of an entry with each content replaced by its SHA-256."""
     entry = copy.deepcopy(value)
     call = entry[1]
     if call[0] == "Claim" and call[4][0] == "Files":
@@ -243,7 +243,7 @@ def digest(content: str) -> str:
 
 
 def lines() -> Iterator[Case]:
-    """What a text may look like, and what spells nothing."""
+    """Yields texts in every permitted form, and lines that can't be read."""
     text = text_of(ONE_PLAN, ONE)
     rows = text.splitlines(keepends=True)
     yes = (0, b"legal actions=1 entries=14\n")
@@ -261,7 +261,7 @@ def lines() -> Iterator[Case]:
 
 
 def spellings() -> Iterator[Case]:
-    """Values that spell nothing, each in one line."""
+    """Yields texts with an invalid value in one line."""
     for name, at, old, new in [
         ("a limit with a fraction", 0, b",2]", b",2.0]"), ("a lane of 2^32", 3, b"[1,", b"[4294967296,"),
         ("a lane below 0", 3, b"[1,", b"[-1,"), ("base64 with unused bits", 8, b"eA==", b"eB=="),
@@ -275,7 +275,7 @@ def spellings() -> Iterator[Case]:
 
 
 def plans() -> Iterator[Case]:
-    """Plans that aren't sound, and what goes before."""
+    """Yields unsound plans, and the faults that take precedence."""
     action = ONE_PLAN[0][0]
     groups = ONE_PLAN[1]
     for name, plan in {
@@ -299,7 +299,7 @@ def plans() -> Iterator[Case]:
 
 
 def entries_of_one() -> Iterator[Case]:
-    """The journal of one action, and near misses of it."""
+    """Yields the journal of one action, and slightly different texts."""
     yield journal("one action", ONE_PLAN, ONE)
     yield case("one action, said", text_of(ONE_PLAN, ONE), 0, b"legal actions=1 entries=14\n")
     for name, at, change, status, line in [
@@ -316,7 +316,7 @@ def entries_of_one() -> Iterator[Case]:
 
 
 def runs() -> Iterator[Case]:
-    """Journals of other plans."""
+    """Yields journals of other plans."""
     for number in range(20):
         dice = random.Random(number)
         plan = plan_of(dice)
@@ -328,7 +328,7 @@ def runs() -> Iterator[Case]:
 
 
 def too_long() -> Case:
-    """A text past the limit, from a file: lines of spaces."""
+    """Returns a case with a text that exceeds the limit: a file with lines of spaces."""
     def check(programs: Programs, folder: pathlib.Path) -> None:
         path = folder / "text"
         with path.open("wb") as text:

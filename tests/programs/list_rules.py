@@ -1,6 +1,6 @@
-"""The rules of action lists, read from docs/FORMATS.md and written anew: the first fault of a list, by Python's json.
+"""The rules of action lists, implemented again from docs/FORMATS.md: the first fault of a list, by Python's json.
 
-Nothing here is the project's own code, so that both agree shows more than that one of them doesn't change.
+This uses no code of the programs. So if both agree, that shows more than that one of them doesn't change.
 """
 from __future__ import annotations
 
@@ -11,14 +11,15 @@ from collections.abc import Callable
 MOST_BYTES = 33_554_432
 MOST_ACTIONS = 4_096
 MOST_KEYS = 48
+STRATEGIES = ("worker", "remote", "dynamic")
 MOST_DEEP = 127
 
-# The keys that must stand.
+# The required keys.
 NEEDED = {"name", "mnemonic", "argv", "outputs"}
 
 
 class Refused(Exception):
-    """A list is refused: the words of its fault's line, and what the line behind it must have."""
+    """A list is refused: the text of its fault's line, and the text that the next line must contain."""
 
     def __init__(self, fault: str, hint: str, action: int | None = None) -> None:
         super().__init__(fault)
@@ -27,7 +28,7 @@ class Refused(Exception):
 
 
 def depth(text: str) -> int:
-    """How deep arrays and objects stand in each other."""
+    """Returns how deeply arrays and objects are nested."""
     deepest = now = 0
     quoted = escaped = False
     for letter in text:
@@ -63,7 +64,7 @@ def parsed(given: bytes) -> object:
 
 
 def path_fault(path: str) -> str | None:
-    """What the line behind a bad path says of it."""
+    """Returns the hint for a bad path, or None if the path is good."""
     parts = path.split("/")
     rules = [
         (not path, "is empty"),
@@ -80,7 +81,7 @@ def path_fault(path: str) -> str | None:
 
 
 class Action:
-    """One action's keys, looked at in their order."""
+    """One action's keys, checked in their order."""
 
     def __init__(self, number: int, value: object) -> None:
         self.number = number
@@ -144,10 +145,13 @@ class Action:
 
     def check_strategy(self, strategy: str) -> None:
         can = self.requirements.get("supports-workers") == "1" or strategy == "remote"
-        self.check(strategy in ("worker", "remote", "dynamic") and can, "NoStrategy", "strategy")
+        if strategy not in STRATEGIES:
+            self.refuse("NoStrategy", f"actions[{self.number}].strategy: ")
+        if not can:
+            self.refuse("NoStrategy", f"actions[{self.number}].requirements")
 
     def key(self) -> object:
-        """What makes two actions share a worker; their tools are the same files in one list."""
+        """Returns the worker key. Actions with equal keys share a worker. In a list, equal tools are one file."""
         has = {key: self.requirements.get(f"supports-{key}") == "1" for key in
                ("multiplex-workers", "worker-cancellation", "multiplex-sandboxing")}
         boxed = has["multiplex-workers"] and has["multiplex-sandboxing"]
@@ -182,7 +186,7 @@ def check_between(actions: list[Action]) -> None:
 
 
 def read(given: bytes) -> list[Action]:
-    """The actions of a list, or its first fault."""
+    """Returns the actions of a list. Raises Refused for its first fault."""
     if len(given) > MOST_BYTES:
         raise Refused("TooMany", f"{len(given)} bytes")
     value = parsed(given)
@@ -203,7 +207,7 @@ def read(given: bytes) -> list[Action]:
 
 
 def first_source(actions: list[Action]) -> str | None:
-    """The file that is read first: a tool or an input of the first action that has one, if no action makes it."""
+    """Returns the file that is read first: a tool or input that no action makes, of the first action that has one."""
     made = {path for action in actions for path in action.outputs}
     for action in actions:
         for path in [*action.tools, *(it for it in action.inputs if it not in made)]:

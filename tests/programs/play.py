@@ -1,4 +1,4 @@
-"""Runs the programs in folders of their own, and compares what came of it with what was wanted."""
+"""Runs each program in its own folder, and compares the result with the expected one."""
 from __future__ import annotations
 
 import dataclasses
@@ -13,17 +13,17 @@ import tempfile
 import threading
 from collections.abc import Callable, Iterable, Mapping, Sequence
 
-# How long one run of a program may take, in seconds.
+# The longest time that one run of a program may take, in seconds.
 MOST_SECONDS = 300
 
-# How much of a value is shown where it isn't as wanted.
+# The most characters of a value that a failing case shows.
 MOST_SHOWN = 1500
 
 PLAYER = pathlib.Path(__file__).resolve().parent / "player.py"
 
 
 class Wrong(Exception):
-    """A case isn't as wanted."""
+    """The result of a case differs from the expected one."""
 
 
 @dataclasses.dataclass(frozen=True)
@@ -42,7 +42,7 @@ class Programs:
 
 @dataclasses.dataclass(frozen=True)
 class Case:
-    """A case: its name, and what plays it in an empty folder."""
+    """A case: its name, and the function that plays it in an empty folder."""
 
     name: str
     play: Callable[[Programs, pathlib.Path], None]
@@ -50,7 +50,7 @@ class Case:
 
 @dataclasses.dataclass(frozen=True)
 class Ended:
-    """How a program ended, and what it wrote."""
+    """The status of a program that has ended, and the output that it wrote."""
 
     status: int
     out: bytes
@@ -58,19 +58,19 @@ class Ended:
 
 
 def shown(value: object) -> str:
-    """A value as text, cut where it is long."""
+    """Returns a value as text, cut if it is longer than `MOST_SHOWN`."""
     told = repr(value)
     return told if len(told) <= MOST_SHOWN else f"{told[:MOST_SHOWN]}.. ({len(told)} characters)"
 
 
 def compare(given: object, wanted: object, got: object) -> None:
-    """Fails where what was got isn't what was wanted, and says what was given."""
+    """Raises `Wrong`, with the given value, if the result differs from the wanted value."""
     if got != wanted:
         raise Wrong(f"given  {shown(given)}\nwanted {shown(wanted)}\ngot    {shown(got)}")
 
 
 def fill(folder: pathlib.Path, files: Mapping[str, bytes]) -> None:
-    """Puts files at their paths below a folder."""
+    """Writes files at their paths below a folder."""
     for path, content in files.items():
         place = folder / path
         place.parent.mkdir(parents=True, exist_ok=True)
@@ -78,14 +78,14 @@ def fill(folder: pathlib.Path, files: Mapping[str, bytes]) -> None:
 
 
 def found(folder: pathlib.Path, path: str) -> bytes | None:
-    """What stands at a path; nothing where no file is there."""
+    """Returns the content of the file at a path, or None if there is no file."""
     place = folder / path
     return place.read_bytes() if place.is_file() else None
 
 
 def run(words: Sequence[str | bytes | pathlib.Path], folder: pathlib.Path, given: bytes = b"", stdin: int | None = None,
         stdout: int | None = None) -> Ended:
-    """Runs a program there; it is ended, with all that it has started, where it takes too long."""
+    """Runs a program in a folder. If it takes too long, kills it and the processes of its group."""
     source = {"stdin": subprocess.PIPE if stdin is None else stdin}
     out = subprocess.PIPE if stdout is None else stdout
     program = subprocess.Popen(words, cwd=folder, stdout=out, stderr=subprocess.PIPE, start_new_session=True, **source)
@@ -98,8 +98,25 @@ def run(words: Sequence[str | bytes | pathlib.Path], folder: pathlib.Path, given
     return Ended(program.returncode, told or b"", said)
 
 
+def ended_unheard(words: Sequence[str | bytes | pathlib.Path], folder: pathlib.Path, heard: int, given: bytes) -> int:
+    """Returns the status of a program. Only `heard` bytes of its output are read, and its input stays open after `given`."""
+    reading, writing = os.pipe()
+    with subprocess.Popen(words, cwd=folder, stdin=subprocess.PIPE, stdout=writing, stderr=subprocess.DEVNULL) as program:
+        os.close(writing)
+        for _ in range(heard):
+            os.read(reading, 1)
+        os.close(reading)
+        assert program.stdin is not None
+        try:
+            os.write(program.stdin.fileno(), given)
+            return program.wait(MOST_SECONDS)
+        except subprocess.TimeoutExpired:
+            program.kill()
+            raise Wrong(f"given  {shown((words, given))}\nwanted an end within {MOST_SECONDS} seconds, with the input open") from None
+
+
 def fault_line(err: bytes) -> str:
-    """The line of a fault on standard error. Lines behind it begin with two spaces and say what to look at."""
+    """Returns the fault's line on standard error. The lines after it must begin with two spaces; they give hints."""
     first, *behind = err.decode().split("\n")
     if any(line and not line.startswith("  ") for line in behind):
         raise Wrong(f"wanted lines that begin with two spaces behind a fault's line\ngot    {shown(err)}")
@@ -107,20 +124,23 @@ def fault_line(err: bytes) -> str:
 
 
 def no_fault(ended: Ended) -> None:
-    """Fails where standard error has more than reasons: lines behind a report without success, which begin with two spaces."""
+    """Raises `Wrong` if standard error contains a fault.
+
+    At status 1 it may contain reasons, which are lines that begin with two spaces. At other statuses it must be empty.
+    """
     lines = ended.err.decode().splitlines()
     if (lines and ended.status != 1) or any(not line.startswith("  ") for line in lines):
         raise Wrong(f"wanted no fault on standard error, and at status 1 lines that begin with two spaces\ngot    {shown(ended)}")
 
 
 def action(name: str = "a", **more: object) -> dict[str, object]:
-    """An action of the worker `t`, with the flag file `f` and the output `o`; what is given stands in place of that."""
+    """Returns an action of the worker `t`, with the flag file `f` and the output `o`. The given keys replace these."""
     base = {"name": name, "mnemonic": "T", "argv": ["t", "@f"], "inputs": ["f"], "outputs": ["o"]}
     return {**base, "requirements": {"supports-workers": "1"}, **more}
 
 
 def supports(*what: str, **more: str) -> dict[str, str]:
-    """The requirements that a worker fulfils, `workers` among them."""
+    """Returns the requirements of a worker that supports `what`. They include `supports-workers`."""
     return {"supports-workers": "1", **{f"supports-{it}": "1" for it in what}, **more}
 
 
@@ -128,13 +148,13 @@ def json_list(*actions: Mapping[str, object]) -> bytes:
     return json.dumps({"actions": actions}).encode()
 
 
-# What a process does that is played: its steps, as `player.py` reads them.
+# The steps of a played process, in the form that `player.py` reads.
 Steps = Sequence[Sequence[object]]
 
 
 @dataclasses.dataclass(frozen=True)
 class Heard:
-    """What one process was started with and heard."""
+    """The arguments and the environment of one process, and the bytes that it read."""
 
     words: list[str]
     env: dict[str, str]
@@ -142,10 +162,10 @@ class Heard:
 
 
 def made_player() -> tempfile.TemporaryDirectory:
-    """The player as a program, in a folder of its own.
+    """Returns a folder that contains the player as a program.
 
-    It is written once, before a case begins: the system starts no program that is still open for writing, and a process
-    that another case is just starting may have it open.
+    The program is written once, before any case begins. The system refuses to start a program that is open for writing,
+    and a process that another case is starting may hold it open.
     """
     folder = tempfile.TemporaryDirectory()
     place = pathlib.Path(folder.name) / "player"
@@ -158,7 +178,7 @@ PLAYERS = made_player()
 
 
 def put_player(folder: pathlib.Path, name: str, plays: Iterable[Steps]) -> None:
-    """Puts a program of this name, whose nth process does what the nth of these says."""
+    """Puts a program of this name into the folder. Its nth process plays the nth list of steps."""
     place = folder / name
     place.parent.mkdir(parents=True, exist_ok=True)
     place.symlink_to(pathlib.Path(PLAYERS.name) / "player")
@@ -166,7 +186,7 @@ def put_player(folder: pathlib.Path, name: str, plays: Iterable[Steps]) -> None:
 
 
 def heard(folder: pathlib.Path, name: str) -> list[Heard]:
-    """What each process of this program was started with and heard, in the order of their starts."""
+    """Returns what each process of this program was started with and read, in the order of their starts."""
     out = []
     while (place := folder / f"{name}.{len(out)}").is_dir():
         start = json.loads((place / "start").read_text(encoding="utf-8")) if (place / "start").exists() else [[], {}]
@@ -176,7 +196,7 @@ def heard(folder: pathlib.Path, name: str) -> list[Heard]:
 
 def exchange(programs: Programs, folder: pathlib.Path, actions: Sequence[Mapping[str, object]], words: Sequence[str] = (),
              files: Mapping[str, bytes] | None = None, **players: Iterable[Steps]) -> Ended:
-    """Runs a list with these players in place of its workers and of the executor, which is named `x`."""
+    """Runs a list. These players replace its workers and its executor; the executor's player is named `x`."""
     fill(folder, {"f": b"flag\n", **(files or {}), "list": json_list(*actions)})
     for name, plays in players.items():
         put_player(folder, name, plays)
@@ -185,19 +205,20 @@ def exchange(programs: Programs, folder: pathlib.Path, actions: Sequence[Mapping
 
 
 def report(*lines: str, ok: int = 0, failed: int = 0, broken: int = 0, skipped: int = 0) -> bytes:
-    """The report of a run: these lines, and the totals."""
+    """Returns the report of a run: these lines, and the totals."""
     count = ok + failed + broken + skipped
     total = f"actions={count} ok={ok} failed={failed} broken={broken} skipped={skipped}"
     return "".join(f"{line}\n" for line in [*lines, total]).encode()
 
 
 def marked(said: bytes) -> list[str]:
-    """The lines of an answer's text, as they stand behind its action."""
+    """Returns the lines of a response's text in the form in which they follow their action."""
     lines = said.decode().split("\n")
     return [f"  | {line}" for line in (lines if lines[-1] else lines[:-1])]
 
 
-# Cases are played on threads: of two folders made at once one would be removed as soon as its case has its name.
+# Cases are played on threads. Without the lock two cases could make a folder each, and one folder would be removed while its
+# case uses it.
 MAKING = threading.Lock()
 
 
@@ -210,12 +231,12 @@ def folder_of(links: tuple[tuple[str, pathlib.Path], ...]) -> tempfile.Temporary
 
 
 def stand_in(script: pathlib.Path, *programs: pathlib.Path) -> pathlib.Path:
-    """A program that stands in for worker_tool, and finds these programs beside itself."""
+    """Returns the path of a program that replaces worker_tool. These programs are in the same folder."""
     links = (("worker_tool", script), *((it.name, it) for it in programs))
     with MAKING:
         return pathlib.Path(folder_of(links).name) / "worker_tool"
 
 
 def copy(program: pathlib.Path, folder: pathlib.Path, name: str) -> None:
-    """Puts a program there under another name, by a link for the same reason."""
+    """Links a program into the folder under another name. A link avoids a program that is open for writing."""
     (folder / name).symlink_to(program.resolve())

@@ -1,18 +1,18 @@
-"""A process that does what it is told: a worker, or an executor, whose part a case plays.
+"""A process that plays the part of a worker or of an executor in a case.
 
-It stands in the folder of the start as a program, and is started in a room two folders below. The nth process of a
-program takes the nth part of PROGRAM.plays, and notes in the folder PROGRAM.n how it was started and each byte that it
-heard. A part is a list of steps:
+The program is in the start folder, and is started in a room two folders below. The nth process of a program takes the
+nth part of PROGRAM.plays. It records its arguments, its environment and each byte that it reads in the folder
+PROGRAM.n. A part is a list of steps:
 
-    ["hear", N]             waits until N more frames have come, each behind its length
-    ["hear lines", N]       waits until N more lines have come
+    ["hear", N]             reads N more frames, each preceded by its length
+    ["hear lines", N]       reads N more lines
     ["give", DIGITS, ..]    writes bytes, piece by piece
     ["leave", PATH, TEXT]   puts a file into the room
-    ["raise", NAME]         lets those go on that wait for this name
-    ["await", NAME, ..]     waits until all these names were raised, for thirty seconds at most
+    ["raise", NAME]         lets the processes continue that wait for this name
+    ["await", NAME, ..]     waits until all these names are raised, for at most 200 seconds each
     ["end"]                 ends at once
 
-Behind the last step it reads on until its input ends or it is killed.
+After the last step it continues to read until its input ends or it is killed.
 """
 import json
 import os
@@ -25,7 +25,7 @@ MOST_SECONDS = 200
 
 
 def claim() -> int:
-    """The number of this process among those of its program."""
+    """Returns the number of this process among the processes of its program."""
     number = 0
     while True:
         try:
@@ -36,7 +36,7 @@ def claim() -> int:
 
 
 class Ear:
-    """Standard input, of which each byte is noted."""
+    """Standard input. Each byte that is read is also recorded."""
 
     def __init__(self, place: str) -> None:
         self.note = open(f"{place}/heard", "wb", buffering=0)

@@ -1,4 +1,4 @@
-"""job_pool over jobs that Python spells: its results, which jobs are run at once, what is given up, and how it ends."""
+"""job_pool with jobs that Python encodes: its results, the jobs that run at once, cancelled jobs, and its status."""
 from __future__ import annotations
 
 import contextlib
@@ -14,7 +14,7 @@ from executor_table import BAD_JOBS, JOBS, PATH, SHELL, rooms
 from play import Case, Programs, action, compare, exchange, run
 from wire import GREETING, framed, job, result
 
-# The words of the command, and how many jobs are then run at once.
+# The arguments of the command, and the number of jobs that then run at once.
 SIZES = [(["--serve"], 8), (["--serve", "--jobs=2"], 2), (["--serve", "--jobs=64"], 64)]
 
 WRONG_WORDS = [
@@ -23,23 +23,23 @@ WRONG_WORDS = [
 ]
 
 
-# Within so many seconds eight jobs of a second end that are run at once, also beside other tests on two processors.
+# Eight jobs of a second that run at once end within this many seconds, even if other tests run on two processors.
 MOST_AT_ONCE = 4
 
 
 def meeting(folder: str, count: int) -> bytes:
-    """A command that ends once so many are in this folder at once."""
+    """Returns a command that ends when `count` of them are in this folder at once."""
     return f"mkdir -p {folder}; : >{folder}/$$; while test $(ls {folder} | wc -l) -lt {count}; do sleep 0.01; done".encode()
 
 
 def until(path: str) -> list[bytes]:
-    """The words of a command that ends once there is a file there."""
+    """Returns the arguments of a command that ends when a file exists at this path."""
     return [*SHELL, f"while ! test -e {path}; do sleep 0.01; done".encode()]
 
 
 @contextlib.contextmanager
 def started(programs: Programs, folder: pathlib.Path, *words: str) -> Iterator[subprocess.Popen[bytes]]:
-    """The program, which has greeted."""
+    """Starts the program, and waits for its greeting."""
     with subprocess.Popen([programs.job_pool, "--serve", *words], cwd=rooms(folder), stdin=subprocess.PIPE, stdout=subprocess.PIPE) as it:
         compare("the greeting", GREETING, read(it, len(GREETING)))
         yield it
@@ -57,18 +57,18 @@ def read(program: subprocess.Popen[bytes], count: int) -> bytes:
 
 
 def comes(program: subprocess.Popen[bytes], wanted: bytes) -> None:
-    """The next result is this one."""
+    """Checks that the next result is this one."""
     compare("the next result", framed(wanted), read(program, len(framed(wanted))))
 
 
 def ends(program: subprocess.Popen[bytes], *wanted: bytes) -> None:
-    """The input ends, and these results are the last."""
+    """Ends the input, and checks that these results are the last."""
     out, _ = program.communicate(timeout=play.MOST_SECONDS)
     compare("the last results", (0, sorted(wanted)), (program.returncode, sorted(wire.messages(out))))
 
 
 def results(programs: Programs, folder: pathlib.Path) -> None:
-    """The results of all jobs are those that remote_exec gives: in their order where one is run at a time."""
+    """Checks that all results equal remote_exec's. If one job runs at a time, they are in the jobs' order."""
     given = b"".join(framed(it) for it, _ in JOBS)
     wanted = [it for _, it in JOBS if it is not None]
     for words, _ in [(["--serve", "--jobs=1"], 1), *SIZES]:
@@ -80,7 +80,7 @@ def results(programs: Programs, folder: pathlib.Path) -> None:
 
 
 def side_by_side(programs: Programs, folder: pathlib.Path) -> None:
-    """As many jobs as are to be run at once, each of which waits for all others; then one that is run by whoever is free."""
+    """Runs as many jobs as may run at once, each of which waits for all others. Then any free lane runs one more."""
     for words, count in SIZES:
         jobs = [job(it + 1, [*SHELL, meeting("../../../met", count)], env=[PATH]) for it in range(count)]
         ended = run([programs.job_pool, *words], rooms(folder / str(count)), b"".join(framed(it) for it in [*jobs, job(100, [*SHELL, b":"])]))
@@ -89,7 +89,7 @@ def side_by_side(programs: Programs, folder: pathlib.Path) -> None:
 
 
 def as_they_end(programs: Programs, folder: pathlib.Path) -> None:
-    """The result of a job that has ended comes while an earlier one is run, and a number is used again."""
+    """Checks that a result arrives while an earlier job still runs, and that a number may be used again."""
     with started(programs, folder) as it:
         give(it, job(1, until("../../../go"), env=[PATH]), job(2, [*SHELL, b"echo one"]))
         comes(it, result(2, said=b"one\n"))
@@ -101,7 +101,7 @@ def as_they_end(programs: Programs, folder: pathlib.Path) -> None:
 
 
 def woken(programs: Programs, folder: pathlib.Path) -> None:
-    """Lanes that rest are woken by a job: a rest that nobody ends takes a second. So the middle one of nine jobs is done sooner."""
+    """Checks that a job wakes idle lanes. An idle lane that isn't woken sleeps for a second, so the median of nine jobs is faster."""
     took = []
     with started(programs, folder) as it:
         for number in range(1, 10):
@@ -114,9 +114,9 @@ def woken(programs: Programs, folder: pathlib.Path) -> None:
 
 
 def given_up(programs: Programs, folder: pathlib.Path) -> None:
-    """While the one lane runs a job, others are given up, and the one that is run is not.
+    """Cancels jobs while the only lane runs a job. Waiting jobs are cancelled, and the running job isn't.
 
-    That the cancelling jobs were read shows in the size of the pipe, which holds less than the last job.
+    The last job is larger than a pipe. So if it could be written, the cancelling jobs before it were read.
     """
     with started(programs, folder, "--jobs=1") as it:
         waits = b": >../../../begun; while ! test -e ../../../go; do sleep 0.01; done"
@@ -133,7 +133,7 @@ def given_up(programs: Programs, folder: pathlib.Path) -> None:
 
 
 def crowd(programs: Programs, folder: pathlib.Path) -> None:
-    """A hundred jobs, each third cancelled: each is answered once, and one that nobody has cancelled isn't given up."""
+    """Sends a hundred jobs, and cancels each third. Each is answered once, and a job without a cancel isn't cancelled."""
     for words, _ in SIZES:
         jobs = [it for n in range(1, 101) for it in [job(n, [*SHELL, f"echo {n}".encode()]), *([job(n, cancel=True)] if n % 3 == 0 else [])]]
         ended = run([programs.job_pool, *words], rooms(folder / words[-1]), b"".join(framed(it) for it in jobs))
@@ -144,7 +144,7 @@ def crowd(programs: Programs, folder: pathlib.Path) -> None:
 
 
 def with_the_tool(programs: Programs, folder: pathlib.Path) -> None:
-    """Eight actions of one executor, each of which waits for all others."""
+    """Runs eight actions of one executor, each of which waits for all others."""
     command = ["/bin/sh", "-c", meeting("../../../met", 8).decode() + "; echo >$0"]
     actions = [action(f"a{it}", strategy="remote", requirements={}, argv=[*command, f"o{it}"], outputs=[f"o{it}"], env={"PATH": "/usr/bin:/bin"})
                for it in range(8)]
@@ -154,7 +154,7 @@ def with_the_tool(programs: Programs, folder: pathlib.Path) -> None:
 
 
 def eight_seconds(programs: Programs, folder: pathlib.Path) -> None:
-    """Eight actions of one executor, of a second each: one after another they would take eight."""
+    """Runs eight actions of one executor that take a second each. One after another they would take eight."""
     actions = [action(f"a{it}", strategy="remote", requirements={}, argv=["/bin/sh", "-c", "sleep 1; echo >$0", f"o{it}"], outputs=[f"o{it}"],
                       env={"PATH": "/usr/bin:/bin"}) for it in range(8)]
     begun = time.monotonic()
@@ -164,7 +164,7 @@ def eight_seconds(programs: Programs, folder: pathlib.Path) -> None:
 
 
 def streams(programs: Programs, folder: pathlib.Path) -> None:
-    """Other words, a frame that spells no job, an input that ends inside one or can't be read, and an output that takes nothing."""
+    """Checks invalid arguments, a frame that isn't a job, an input that ends inside a job or can't be read, and a full output."""
     room, first = rooms(folder), framed(job(1, [*SHELL, b":"]))
     for words in WRONG_WORDS:
         ended = run([programs.job_pool, *words], room)
@@ -186,6 +186,12 @@ def streams(programs: Programs, folder: pathlib.Path) -> None:
         os.close(full)
 
 
+def output_gone(programs: Programs, folder: pathlib.Path) -> None:
+    """Checks that it ends if nobody reads past the greeting, even though its input is open."""
+    words, given = [programs.job_pool, "--serve"], framed(job(1, [*SHELL, b":"]))
+    compare(given, 6, play.ended_unheard(words, rooms(folder), len(GREETING), given))
+
+
 def cases() -> Iterator[Case]:
-    for case in [results, side_by_side, as_they_end, woken, given_up, crowd, with_the_tool, eight_seconds, streams]:
+    for case in [results, side_by_side, as_they_end, woken, given_up, crowd, with_the_tool, eight_seconds, streams, output_gone]:
         yield Case(f"pool: {case.__name__.replace('_', ' ')}", case)

@@ -1,9 +1,9 @@
 #!/usr/bin/env python3
-"""Stands in for worker_tool: plays journal_run with the same words, and sees that the text behind its report is a legal journal.
+"""Replaces worker_tool: runs journal_run with the same arguments, and checks that a legal journal follows its report.
 
-It is started by a link beside links to journal_run and journal_check. Standard output gets the report alone, and standard error
-the words of journal_run in worker_tool's name, so that a case which is written for worker_tool serves for both. Where the journal
-isn't as wanted, standard output says so in place of the report, and the status is 99.
+It is started by a link, which is next to links to journal_run and journal_check. Standard output gets only the report. Standard
+error gets journal_run's messages with worker_tool's name, so that a case for worker_tool works for both programs. If the journal
+isn't as expected, standard output gets the fault instead of the report, and the status is 99.
 """
 from __future__ import annotations
 

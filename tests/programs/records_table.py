@@ -1,5 +1,5 @@
-"""Runs of journal_run: report and faults are worker_tool's, and behind the report stands the text of a legal journal, of which no
-reply and no number may be another."""
+"""Runs of journal_run: its report and faults are the same as worker_tool's. The text of a legal journal follows the report; if a
+reply or a number in it is changed, the journal is refused."""
 from __future__ import annotations
 
 import dataclasses
@@ -23,24 +23,24 @@ from journal_rules import Entry, Plan  # noqa: E402
 from journals_table import ONE, ONE_PLAN, text_of  # noqa: E402
 from play import Case, Ended, Programs, action, compare, exchange, fault_line, json_list, report, run, stand_in  # noqa: E402
 
-# How many changed texts are checked for each of so many generated lists.
+# The number of changed texts for each generated list, and the number of these lists.
 CHANGES, LISTS = 5, 10
 
 
 def recorder(programs: Programs) -> pathlib.Path:
-    """A program that runs journal_run in worker_tool's place, and checks its journal."""
+    """Returns a program that runs journal_run instead of worker_tool, and checks its journal."""
     return stand_in(HERE / "recorder.py", programs.journal_run, programs.journal_check)
 
 
 def recorded(case: Case) -> Case:
-    """A case of worker_tool, played by journal_run, whose journal is checked."""
+    """Returns a case of worker_tool that journal_run plays. Its journal is checked."""
     def play(programs: Programs, folder: pathlib.Path) -> None:
         case.play(dataclasses.replace(programs, worker_tool=recorder(programs)), folder)
     return Case(f"recorded: {case.name}", play)
 
 
 def split(ended: Ended) -> tuple[bytes, Plan, list[Entry]]:
-    """The report, the plan and the entries."""
+    """Returns the report, the plan and the entries."""
     head, text = journal_texts.split(ended.out)
     plan, *entries = [json.loads(line) for line in text.splitlines()] or [None]
     return head, plan, entries
@@ -56,7 +56,7 @@ def of_lane(entries: list[Entry], lane: int) -> list[Entry]:
 
 
 def one_action(programs: Programs, folder: pathlib.Path) -> None:
-    """The plan and, lane by lane, the entries are those that the page on the core has; with a grant told as a loss they are refused."""
+    """Checks the plan and each lane's entries against the page on the core. If a grant is changed to a loss, they are refused."""
     recording = dataclasses.replace(programs, worker_tool=programs.journal_run)
     serve = runs_table.serve("o", "x")
     ended = exchange(recording, folder, [action(inputs=["f"])], ["--instances=1"], t=[serve])
@@ -73,7 +73,7 @@ def one_action(programs: Programs, folder: pathlib.Path) -> None:
 
 
 def changed(number: int) -> Case:
-    """A generated list, run in memory on threads, and its journal with one thing changed."""
+    """Returns a case that runs a generated list in memory on threads, and checks its journal with one thing changed."""
     def play(programs: Programs, folder: pathlib.Path) -> None:
         dice = random.Random(number)
         count = dice.randrange(1, 41)
@@ -89,7 +89,7 @@ def changed(number: int) -> Case:
 
 
 def slimmed(programs: Programs, folder: pathlib.Path) -> None:
-    """What was put, report in front, without its contents."""
+    """Checks the journal without its contents. The report precedes it."""
     given = run([programs.journal_run, "--generate=20"], folder).out
     for words in ([], ["--contents"]):
         slim = run([TOOLS / "journal-slim", *words], folder, given=given)
@@ -99,7 +99,7 @@ def slimmed(programs: Programs, folder: pathlib.Path) -> None:
 
 
 def drawn(programs: Programs, folder: pathlib.Path) -> None:
-    """The page, the picture and the trace of what was put can be made."""
+    """Checks that the page, the picture and the trace of a journal can be made."""
     given = run([programs.journal_run, "--generate=20"], folder).out
     for words, begin in (([], b"<!DOCTYPE html>"), (["--svg"], b"<svg "), (["--trace"], b'{"traceEvents":[')):
         ended = run([TOOLS / "journal-picture", *words], folder, given=given)
@@ -107,7 +107,7 @@ def drawn(programs: Programs, folder: pathlib.Path) -> None:
 
 
 def faults() -> Iterator[Case]:
-    """With a fault nothing is put, and its line names the program."""
+    """Yields faulty runs. Nothing is written to standard output, and the fault's line names the program."""
     def fault(name: str, words: list[str], status: int, line: str, given: bytes | None = None) -> Case:
         def play(programs: Programs, folder: pathlib.Path) -> None:
             if given is not None:
@@ -130,14 +130,14 @@ def faults() -> Iterator[Case]:
 
 
 def no_actions(programs: Programs, folder: pathlib.Path) -> None:
-    """A list without actions has a plan without actions, and no lane."""
+    """Checks that a list without actions has a plan without actions and without lanes."""
     (folder / "list").write_bytes(json_list())
     ended = run([programs.journal_run, "list"], folder)
     compare("no actions", (0, report() + text_of([[], [], 2], [])), (ended.status, ended.out))
 
 
 def cut_off(programs: Programs, folder: pathlib.Path) -> None:
-    """Whoever stops reading within the text is told of a fault, and what was read is a front of it."""
+    """Stops reading within the text. The program reports a fault, and the part that was read is a prefix."""
     run_words = [str(programs.journal_run), "--generate=1000"]
     with subprocess.Popen(run_words, cwd=folder, stdout=subprocess.PIPE, stderr=subprocess.PIPE) as program:
         begin = program.stdout.read(100_000)

@@ -1,4 +1,4 @@
-"""The requests and jobs that worker_tool writes, beside those that Python spells, and what stands in a worker's room."""
+"""The requests and jobs that worker_tool writes, compared with Python's, and the contents of a worker's room."""
 from __future__ import annotations
 
 import base64
@@ -20,7 +20,7 @@ def digest(content: bytes) -> bytes:
 
 FLAG = (b"f", digest(b"flag\n"))
 
-# What a worker supports, the strategy, and whether its requests are numbered and have folders of their own.
+# A worker's features, the strategy, and if its requests are numbered and have their own folders.
 MODES = [
     ((), "worker", False, False), (("multiplex-workers",), "worker", True, False),
     (("multiplex-sandboxing",), "worker", False, False), (("multiplex-workers", "multiplex-sandboxing"), "worker", True, True),
@@ -30,14 +30,14 @@ MODES = [
 
 
 def modes(needs: Sequence[str], strategy: str, numbered: bool, boxed: bool, lines: bool) -> Case:
-    """The bytes of one request, by what its worker supports, as a frame or as a line."""
+    """Returns a case for the bytes of one request, by the features of its worker, as a frame or as a line."""
     def played(programs: Programs, folder: pathlib.Path) -> None:
         requirements = supports(*needs, **({"requires-worker-protocol": "json"} if lines else {}))
         one = action(requirements=requirements, strategy=strategy)
         room, number = ("__sandbox/1" if boxed else ""), int(numbered)
         answer = wire.line(requestId=number) if lines else wire.framed(wire.response(number))
         steps = [["hear lines" if lines else "hear", 1], ["leave", f"{room}/o" if room else "o", "made"], ["give", answer.hex()]]
-        # The executor, where the action races one, waits for what never comes.
+        # If the action races an executor, the executor waits for requests that never come.
         ended = exchange(programs, folder, [one], ["--retries=0", "--worker_verbose"], t=[steps], x=[[["hear", 9]]])
         wanted = report(f"a ok local local=won remote={'unused' if strategy == 'worker' else 'lost'}", ok=1)
         got = ended.out.replace(b"remote=idle", b"remote=lost")
@@ -129,7 +129,7 @@ def of_parts(parts: Mapping[str, object]) -> bytes:
 
 
 def cancelled(programs: Programs, folder: pathlib.Path) -> None:
-    """A request whose action the executor won is asked to be cancelled, and the next one is sent once it has answered."""
+    """Checks that a request gets a cancel if the executor won its action. The next one is sent after the response."""
     needs = supports("worker-cancellation")
     actions = [action("a", requirements=needs, strategy="dynamic"), action("b", outputs=["q"], requirements=needs, inputs=["f", "o"])]
     worker = [["hear", 1], ["raise", "asked"], ["hear", 1], ["give", wire.framed(wire.response(cancelled=True)).hex()],
@@ -144,7 +144,7 @@ def cancelled(programs: Programs, folder: pathlib.Path) -> None:
 
 
 def cancelled_in_lines(programs: Programs, folder: pathlib.Path) -> None:
-    """The same with numbers and lines: the number of the request that lost is cancelled."""
+    """Checks the same with numbers and lines. The losing request's number is cancelled."""
     needs = supports("worker-cancellation", "multiplex-workers", "multiplex-sandboxing", **{"requires-worker-protocol": "json"})
     actions = [action("a", requirements=needs), action("b", outputs=["q"], requirements=needs, strategy="dynamic")]
     worker = [["hear lines", 2], ["raise", "asked"], ["hear lines", 1], ["leave", "__sandbox/1/o", "a"],
@@ -157,7 +157,7 @@ def cancelled_in_lines(programs: Programs, folder: pathlib.Path) -> None:
 
 
 def cancelled_job(programs: Programs, folder: pathlib.Path) -> None:
-    """An executor that greeted is asked to give up a job whose action the worker won; another one is not."""
+    """Checks that an executor gets a cancel for a job whose action the worker won, if the executor has greeted."""
     for version, asked in [(2, True), (0, False)]:
         place = folder / str(version)
         actions = [action("a", strategy="dynamic"), action("b", outputs=["q"], strategy="remote", inputs=["f", "o"])]

@@ -1,4 +1,4 @@
-"""Whole runs: what a worker may do wrong, what races come to, which actions share a worker, and the largest list."""
+"""Whole runs: faults of workers, results of races, actions that share a worker, and the largest list."""
 from __future__ import annotations
 
 import json
@@ -17,16 +17,16 @@ WON = ["give", wire.framed(wire.result(1, files=[(b"o", b"x")])).hex()]
 
 
 def serve(output: str = "o", text: str = "made") -> list[list[object]]:
-    """One request that is done, one at a time."""
+    """Returns the steps that answer one request of a singleplex worker."""
     return [["hear", 1], ["leave", output, text], ["give", OK.hex()]]
 
 
 def played(name: str, actions: Sequence[Mapping[str, object]], wanted: bytes, words: Sequence[str] = ("--instances=1",),
            files: Mapping[str, bytes | None] | None = None, count: int | None = None, others: Sequence[str] = (),
            **players: Sequence[Steps]) -> Case:
-    """A run with its report, what stands at these paths afterwards, and how many processes of `t` it had.
+    """Returns a case that checks a run's report, the files at these paths afterwards, and the number of processes of `t`.
 
-    Of a branch whose fate hangs on which lane is first, `others` are the further ones that it may have.
+    If a branch's fate depends on which lane is first, `others` lists the other fates that it may have.
     """
     def case(programs: Programs, folder: pathlib.Path) -> None:
         ended = exchange(programs, folder, actions, words, **players)
@@ -40,7 +40,7 @@ def played(name: str, actions: Sequence[Mapping[str, object]], wanted: bytes, wo
 
 
 def with_fate(out: bytes, wanted: bytes, others: Sequence[str]) -> bytes:
-    """The report with the fate that is wanted in place of another one that may stand there."""
+    """Returns the report, with each other fate that is allowed replaced by the wanted one."""
     for other in others:
         branch = other.split("=")[0]
         fate = next(word for word in wanted.decode().split() if word.startswith(f"{branch}="))
@@ -49,11 +49,11 @@ def with_fate(out: bytes, wanted: bytes, others: Sequence[str]) -> bytes:
 
 
 def workers() -> Iterator[Case]:
-    """A worker that has one request at a time."""
+    """Yields runs with a worker that gets one request at a time."""
     two = [action("a"), action("b", outputs=["q"])]
     both = report(f"a {LOCAL}", f"b {LOCAL}", ok=2)
     yield played("one worker for two actions", two, both, count=1, files={"o": b"made", "q": b"made"}, t=[[*serve(), *serve("q")]])
-    # The second response was asked for by nobody: the line broke, and yet its first answer counts.
+    # No request belongs to the second response. It breaks the line, but the first response counts.
     twice = [["hear", 1], ["leave", "o", "made"], ["give", (OK + OK).hex()]]
     yield played("a worker answers twice", two[:1], report(f"a {LOCAL}", ok=1), count=1, files={"o": b"made"}, t=[twice])
     yield played("a worker dies before its answer, and after it", two, both, count=3,
@@ -77,7 +77,7 @@ def workers() -> Iterator[Case]:
 
 
 def several() -> Iterator[Case]:
-    """A worker that has several requests at once dies over them, or is cut in a frame."""
+    """Yields runs in which a worker with several requests dies, or writes a bad frame."""
     needs = supports("multiplex-workers")
     three = [action(name, outputs=[], requirements=needs) for name in "abc"]
     answers = [wire.framed(wire.response(number)).hex() for number in (1, 2, 3)]
@@ -92,10 +92,10 @@ def several() -> Iterator[Case]:
 
 
 def races() -> Iterator[Case]:
-    """An action that a worker and the executor race for."""
+    """Yields runs in which a worker and the executor race for an action."""
     one = [action(strategy="dynamic")]
     dies = [["hear", 1], ["end"]]
-    # The branch that lost may have ended by itself before, or not.
+    # The losing branch may have ended earlier by itself.
     yield played("the worker dies twice, and the executor wins", one, report("a ok remote local=dropped:died:2 remote=won", ok=1),
                  files={"o": b"x"}, others=["local=lost", "local=idle"],
                  t=[dies, [["hear", 1], ["raise", "twice"], ["end"]]], x=[[GREET, ["hear", 1], ["await", "twice"], WON]])
@@ -113,7 +113,7 @@ def races() -> Iterator[Case]:
                  report("a ok local local=won remote=dropped:refused:2", ok=1), files={"o": b"made"}, others=["remote=lost"],
                  t=[[["hear", 1], ["await", "refused"], ["leave", "o", "made"], ["give", OK.hex()]]],
                  x=[[GREET, ["hear", 1], refused, ["hear", 1], again, ["raise", "refused"]]])
-    # Both answer before either is known to: exactly one of them is committed.
+    # Both answer before the program reads either answer. Exactly one of them is committed.
     def both(programs: Programs, folder: pathlib.Path) -> None:
         worker = [["hear", 1], ["raise", "worker"], ["await", "executor"], ["leave", "o", "made"], ["give", OK.hex()]]
         executor = [GREET, ["hear", 1], ["raise", "executor"], ["await", "worker"], WON]
@@ -122,14 +122,14 @@ def races() -> Iterator[Case]:
         wanted = [(report("a ok local local=won remote=lost", ok=1), b"made"), (report("a ok remote local=lost remote=won", ok=1), b"x")]
         compare("both branches at once", got if got in wanted else wanted, got)
     yield Case("both branches at once", both)
-    # Without cancellation the worker that lost is killed, and the next action has one of its own.
+    # Without cancellation the losing worker is killed, and the next action gets a new worker.
     two = [*one, action("b", outputs=["q"], inputs=["f", "o"])]
     yield played("the worker that lost is killed", two, report("a ok remote local=lost remote=won", f"b {LOCAL}", ok=2), count=2,
                  t=[[["hear", 1], ["raise", "asked"], ["hear", 1]], serve("q")], x=[[GREET, ["hear", 1], ["await", "asked"], WON]])
 
 
 def keys() -> Iterator[Case]:
-    """Two actions share a worker exactly if their keys are equal."""
+    """Yields cases for the rule that two actions share a worker exactly if their keys are equal."""
     same = [action("a", outputs=[]), action("b", outputs=[])]
     rows = [
         ("equal keys", {}, True), ("the environment", {"env": {"K": "1"}}, False), ("the mnemonic", {"mnemonic": "U"}, False),
@@ -145,7 +145,10 @@ def keys() -> Iterator[Case]:
 
 
 def sharing(two: Sequence[Mapping[str, object]], shared: bool) -> Callable[[Programs, pathlib.Path], None]:
-    """Each process answers the number 0 twice; where the second worker has several requests at once it is a program of its own."""
+    """Returns a function that plays a case.
+
+    Each process answers the number 0 twice. If the second worker is multiplex, it is a separate program.
+    """
     def case(programs: Programs, folder: pathlib.Path) -> None:
         has_several = "supports-multiplex-workers" in json.dumps(two[1])
         plays = {"t": [[["hear", 1], ["give", OK.hex()]] * 2] * 2}
@@ -159,7 +162,7 @@ def sharing(two: Sequence[Mapping[str, object]], shared: bool) -> Callable[[Prog
 
 
 def places() -> Iterator[Case]:
-    """What stands where an output is to be written, and a room in which nothing can be made."""
+    """Yields runs with a file or folder at an output's path, and one whose folder of rooms can't be made."""
     def spoiled(programs: Programs, folder: pathlib.Path) -> None:
         play.fill(folder, {"q/x": b""})
         ended = exchange(programs, folder, [action(outputs=["o", "q", "r"])],
@@ -180,7 +183,7 @@ def places() -> Iterator[Case]:
     yield Case("outputs replace what is there", replaced)
 
     def at_once(programs: Programs, folder: pathlib.Path) -> None:
-        """Eight outputs of four megabytes are written in one folder at the same time, each beside its place at first."""
+        """Writes eight outputs of four megabytes in one folder at the same time, each first to a temporary file there."""
         play.copy(programs.demo_tool, folder, "t")
         contents = {f"i{n}": bytes([65 + n]) * (4 << 20) for n in range(8)}
         flags = {f"f{n}": f"--in=i{n}\n--out=d/o{n}\n".encode() for n in range(8)}
@@ -200,7 +203,7 @@ def places() -> Iterator[Case]:
 
 
 def largest(programs: Programs, folder: pathlib.Path) -> None:
-    """4,096 actions with ten attempts each, the last two hundred of them in chains of ten by what they read and make."""
+    """Runs 4,096 actions with ten attempts each. The last two hundred are chains of ten, linked by their files."""
     play.copy(programs.demo_tool, folder, "t")
     actions, flags = [action(f"a{n}", outputs=[]) for n in range(3896)], {}
     for n in range(3896, 4096):

@@ -1,6 +1,6 @@
-"""spawn_tool: its words, which strategy an action runs by, what is refused first, sandboxes and a delay.
+"""spawn_tool: its arguments, the strategy by which an action runs, the order of its faults, sandboxes and a delay.
 
-The rules are those of docs/FORMATS.md and docs/GUIDE.md, written anew.
+The rules are implemented here a second time, from docs/FORMATS.md and docs/GUIDE.md.
 """
 from __future__ import annotations
 
@@ -34,7 +34,7 @@ REFUSED = [
     "--max_workers=4 l", "--instances=49 l", "--retries=10 l", "--help l", "--version --help",
 ]
 
-# The rules by mnemonic and the list for all others, as words spell them.
+# Arguments that give a list of strategies for a mnemonic, and for all other mnemonics.
 CHOICES = [
     [], ["--strategy=T=worker"], ["--strategy=T=worker,sandboxed"], ["--strategy=T=sandboxed,worker"], ["--strategy=T=remote"],
     ["--strategy=U=remote"], ["--spawn_strategy=dynamic"], ["--spawn_strategy=dynamic,remote"],
@@ -42,7 +42,7 @@ CHOICES = [
     ["--strategy=T=dynamic,worker", "--spawn_strategy=remote"],
 ]
 
-# Actions: their own strategy, whether they may go to workers, and whether a word names a flag file.
+# Actions: the strategy of each, if workers support it, and if an argument names a flag file.
 ACTIONS = [
     ("worker", True, True), ("dynamic", True, True), ("remote", True, True), ("remote", True, False), ("remote", False, True),
     ("remote", False, False),
@@ -54,22 +54,22 @@ WORKER = [["hear", 1], ["leave", "o", "a worker's"], ["give", wire.framed(wire.r
 
 
 def made(text: bytes, number: int = 1) -> list[object]:
-    """A step: an executor's result with the output."""
+    """Returns a step: an executor's result with the output."""
     return ["give", wire.framed(wire.result(number, files=[(b"o", text)])).hex()]
 
 
 def processes(folder: pathlib.Path, name: str) -> int:
-    """How many processes of a program there were. One that lost may have been killed before it noted how it was started."""
+    """Returns the number of a program's processes, including those killed before they recorded their start."""
     return len(list(folder.glob(f"{name}.[0-9]*")))
 
 
 def as_spawn(programs: Programs) -> Programs:
-    """The programs with spawn_tool in place of worker_tool."""
+    """Returns the programs with spawn_tool instead of worker_tool."""
     return dataclasses.replace(programs, worker_tool=programs.spawn_tool)
 
 
 def accepted(words: str) -> Case:
-    """Words that name a list which isn't there: that it is looked for shows that they are accepted."""
+    """Returns a case with a missing list. The program looks for the list only if it accepts the arguments."""
     def played(programs: Programs, folder: pathlib.Path) -> None:
         ended = run([programs.spawn_tool, *words.split()], folder)
         compare(words, (5, b"", "spawn_tool: not there: l"), (ended.status, ended.out, fault_line(ended.err)))
@@ -86,7 +86,7 @@ def refused(words: str) -> Case:
 
 
 def listed(words: Sequence[str], mnemonic: str) -> list[str] | None:
-    """The names that the words list for a mnemonic."""
+    """Returns the strategies that the arguments list for a mnemonic."""
     rules = [word.split("=", 2)[1:] for word in words if word.startswith("--strategy=")]
     common = [word.split("=", 1)[1] for word in words if word.startswith("--spawn_strategy=")]
     own = [names for rule, names in rules if rule == mnemonic]
@@ -94,18 +94,18 @@ def listed(words: Sequence[str], mnemonic: str) -> list[str] | None:
 
 
 def chosen(words: Sequence[str], own: str, workers: bool, flag: bool) -> str | None:
-    """The strategy of an action: the first of its list that supports it, or its own where it has no list."""
+    """Returns an action's strategy: the first of its list that supports it, or its own if it has no list."""
     names = listed(words, "T")
     able = {"sandboxed", "remote"} | ({"worker", "dynamic"} if workers and flag else set())
     return own if names is None else next((name for name in names if name in able), None)
 
 
 def choice(words: Sequence[str], own: str, workers: bool, flag: bool) -> Case:
-    """One action: which of its programs are started, whose output is kept, and what is reported."""
+    """Returns a case with one action. It checks the started programs, the output and the report."""
     name = chosen(words, own, workers, flag)
     argv = ["t", "@f" if flag else "f"]
     one = action(argv=argv, strategy=own, requirements={"supports-workers": "1"} if workers else {})
-    # An executor that races a worker hears its job and says nothing more.
+    # An executor that races a worker reads its job and writes nothing more.
     executor = [GREET, ["hear", 1], *([] if name == "dynamic" else [made(b"an executor's")])]
     players = {"t": [WORKER], "x": [executor], "b": [[GREET, ["hear", 1], made(b"a sandbox's")]]}
 
@@ -134,7 +134,7 @@ def choice(words: Sequence[str], own: str, workers: bool, flag: bool) -> Case:
 
 
 def first_fault(name: str, actions: Sequence[Mapping[str, object]], words: Sequence[str], status: int, line: str) -> Case:
-    """Several things are wrong: this one is told."""
+    """Returns a case with several faults, of which this one is reported."""
     def played(programs: Programs, folder: pathlib.Path) -> None:
         ended = exchange(as_spawn(programs), folder, actions, words)
         compare((name, words), (status, b"", line), (ended.status, ended.out, fault_line(ended.err)))
@@ -143,7 +143,7 @@ def first_fault(name: str, actions: Sequence[Mapping[str, object]], words: Seque
 
 def faults() -> Iterator[Case]:
     unsupported = action("u", outputs=["u"], strategy="remote", requirements={})
-    # Its flag file isn't among its inputs. By its own strategy, or by the chosen one alone, a worker runs it.
+    # The flag file is missing from the inputs. A worker runs `lacks` by its own strategy, and `lacks_later` only by choice.
     lacks = action("l", outputs=["l"], argv=["t", "@g"])
     lacks_later = {**lacks, "strategy": "remote"}
     by_worker = ["--strategy=T=worker"]
@@ -170,7 +170,7 @@ def faults() -> Iterator[Case]:
     def many(count: int, words: list[str]) -> Case:
         def played(programs: Programs, folder: pathlib.Path) -> None:
             ended = exchange(as_spawn(programs), folder, keys[:count], ["--retries=0", "--executor=gone", *words])
-            # No program is there, so each attempt ends at its launch.
+            # The programs are missing, so each attempt ends at its launch.
             compare((count, words), (1, True), (ended.status, f"broken={count} ".encode() in ended.out))
         return Case(f"{count} keys by {words}", played)
 
@@ -180,7 +180,7 @@ def faults() -> Iterator[Case]:
 
 def ended_as(name: str, words: Sequence[str], wanted: Sequence[str], started: Mapping[str, int], count: int = 1,
              **players: Sequence[play.Steps]) -> Case:
-    """Actions that may run everywhere: the line of each, which may be one of these, and how many processes there were."""
+    """Returns a case with actions that may run anywhere. Each line must be in `wanted`; `started` counts processes."""
     actions = [action(f"a{n}", outputs=["o"] if count == 1 else []) for n in range(count)]
 
     def played(programs: Programs, folder: pathlib.Path) -> None:
@@ -197,8 +197,8 @@ def ended_as(name: str, words: Sequence[str], wanted: Sequence[str], started: Ma
 
 def sandboxes() -> Iterator[Case]:
     by_sandbox = ["--strategy=T=sandboxed"]
-    # A sandbox is given up to eight jobs at once, and another is started where all have so many: they wait for each other,
-    # and there are no more of them.
+    # A sandbox gets up to eight jobs at once. If all sandboxes have eight, another one is started, up to the limit. The
+    # sandboxes wait for each other here, so all of them must be started.
     for most in (1, 2, 3):
         count = 8 * most
         answers = [wire.framed(wire.result(n + 1)).hex() for n in range(count)]
@@ -234,7 +234,7 @@ def delays() -> Iterator[Case]:
 
 
 def slept(count: int) -> float:
-    """How many seconds so many pauses of a millisecond take here."""
+    """Returns the seconds that `count` pauses of a millisecond take here."""
     begun = time.monotonic()
     for _ in range(count):
         time.sleep(0.001)
@@ -242,7 +242,10 @@ def slept(count: int) -> float:
 
 
 def a_tick(programs: Programs, folder: pathlib.Path) -> None:
-    """A tick is a millisecond: with a thousand of them a worker starts after a second, or as much later as a pause takes here."""
+    """Checks that a tick is a millisecond.
+
+    With a thousand ticks a worker starts after a second, or later if pauses take longer here.
+    """
     ticks = 1000
     begun = time.monotonic()
     ended = exchange(as_spawn(programs), folder, [action()], ["--strategy=T=dynamic", f"--local_delay={ticks}"], t=[WORKER],
@@ -255,7 +258,7 @@ def a_tick(programs: Programs, folder: pathlib.Path) -> None:
 
 
 def no_strategy(programs: Programs, folder: pathlib.Path) -> None:
-    """What is said of an action that no strategy supports, word by word."""
+    """Checks the exact message for an action that no strategy supports."""
     lacks = action("u", outputs=["u"], strategy="remote", requirements={})
     ended = exchange(as_spawn(programs), folder, [lacks], ["--strategy=T=worker"])
     wanted = """spawn_tool: no strategy for action 0

@@ -1,5 +1,5 @@
-"""What worker_tool shows on a terminal: a line that says how far the run is, a row for each action that fails, and nothing of it
-once the report is put."""
+"""worker_tool's display on a terminal: a line with the run's progress and a row for each action that fails. The line is gone when
+the report is written."""
 from __future__ import annotations
 
 import os
@@ -18,7 +18,7 @@ LOCAL = "ok local local=won remote=unused"
 OK = wire.framed(wire.response())
 BAD = wire.framed(wire.response(0, 7, b"no"))
 
-# What a terminal is told that doesn't only print: here the moves and the colours are taken out.
+# The control sequences for moves and colours, which are removed here.
 ESCAPES = re.compile(r"\x1b\[[?0-9;]*[A-Za-z]|\r")
 
 
@@ -34,20 +34,20 @@ class Terminal:
         self.until = time.monotonic() + MOST_SECONDS
 
     def read(self) -> bool:
-        """Reads what is said within a moment. False at the end."""
+        """Reads output for up to 0.1 seconds. Returns false at the end."""
         with selectors.DefaultSelector() as ready:
             ready.register(self.end, selectors.EVENT_READ)
             if not ready.select(0.1):
                 return True
         try:
             piece = os.read(self.end, 1 << 16)
-        except OSError:  # So a terminal ends whose other end is closed.
+        except OSError:  # A terminal ends like this if its other end is closed.
             return False
         self.said += piece
         return bool(piece)
 
     def wait_for(self, what: str) -> None:
-        """Waits until these words are on the terminal."""
+        """Waits until this text is on the terminal."""
         while what not in self.text():
             if time.monotonic() > self.until or not self.read():
                 raise Wrong(f"wanted {what!r} on the terminal\ngot    {shown(self.said)}")
@@ -56,7 +56,7 @@ class Terminal:
         return ESCAPES.sub("", self.said.decode(errors="replace"))
 
     def finish(self) -> tuple[int, bytes]:
-        """The status and the report, once all that was said is read."""
+        """Reads all output, and returns the status and the report."""
         while self.read():
             if time.monotonic() > self.until:
                 self.run.kill()
@@ -67,19 +67,22 @@ class Terminal:
 
 
 def shows(programs: Programs, folder: pathlib.Path) -> None:
-    """The second of three actions runs until the line was seen that says so, and the first has failed."""
-    actions = [action("first", outputs=[]), action("second", outputs=["q"]), action("third", outputs=["r"], inputs=["f", "q"])]
+    """Plays four actions, so that each number of the line is another one. The second fails, and the third runs until the line that
+    shows it was read."""
+    actions = [action("zeroth", outputs=["p"]), action("first", outputs=[]), action("second", outputs=["q"]),
+               action("third", outputs=["r"], inputs=["f", "q"])]
     fill(folder, {"f": b"flag\n", "list": json_list(*actions)})
-    put_player(folder, "t", [[["hear", 1], ["give", BAD.hex()], ["hear", 1], ["raise", "asked"], ["await", "seen"], ["leave", "q", "made"],
-                              ["give", OK.hex()], ["hear", 1], ["leave", "r", "made"], ["give", OK.hex()]]])
+    answered = [["give", OK.hex()], ["hear", 1]]
+    put_player(folder, "t", [[["hear", 1], ["leave", "p", "made"], *answered, ["give", BAD.hex()], ["hear", 1], ["raise", "asked"],
+                              ["await", "seen"], ["leave", "q", "made"], *answered, ["leave", "r", "made"], ["give", OK.hex()]]])
     terminal = Terminal(programs.worker_tool, ["--instances=1", "list"], folder, "xterm")
     terminal.wait_for("first failed")
-    terminal.wait_for("[1/3] 1 running, 1 failed, ")
+    terminal.wait_for("[2/4] 1 running, 1 failed, ")
     terminal.wait_for(" s: second")
     (folder / "raised.seen").touch()
     status, out = terminal.finish()
-    compare("the report", (1, report("first failed local 7 local=won remote=unused", "  | no", f"second {LOCAL}", f"third {LOCAL}", ok=2, failed=1)),
-            (status, out))
+    lines = [f"zeroth {LOCAL}", "first failed local 7 local=won remote=unused", "  | no", f"second {LOCAL}", f"third {LOCAL}"]
+    compare("the report", (1, report(*lines, ok=3, failed=1)), (status, out))
     compare("the outputs", (b"made", b"made"), (found(folder, "q"), found(folder, "r")))
     compare("the last of it is erased", True, terminal.said.rstrip().endswith(b"\r\x1b[J"))
 

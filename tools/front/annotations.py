@@ -1,4 +1,4 @@
-"""Failures as GitHub shows them beside the lines of a change: `::error file=..,line=..::text` on standard output."""
+"""Failures in the form that GitHub shows next to the lines of a change: `::error file=..,line=..::text` on standard output."""
 from __future__ import annotations
 
 import os
@@ -12,7 +12,7 @@ MOST = 10  # of each action; GitHub itself shows ten of a kind for a step
 
 
 def are_wanted(words: Words) -> bool:
-    """Returns True if annotations are asked for, or the run is one of GitHub's."""
+    """Returns True if annotations are requested, or if GitHub started the run."""
     when = words.last("--annotate", "auto")
     return when == "always" or (when == "auto" and os.environ.get("GITHUB_ACTIONS") == "true")
 
@@ -30,7 +30,7 @@ def annotations_of(name: str, lines: list[str]) -> list[str]:
 
 
 def own_path(path: str) -> str:
-    """Returns a path in a room as one from the top of the checked out repository."""
+    """Converts a path in a room to a path from the top of the checked-out repository."""
     path = ROOM.sub("", path)
     if os.path.isabs(path):
         return path
@@ -39,7 +39,7 @@ def own_path(path: str) -> str:
 
 
 def escaped(text: str, is_property: bool = False) -> str:
-    """Returns a text as the command needs it."""
+    """Returns a text with the escapes that the command needs."""
     for plain, code in (("%", "%25"), ("\r", "%0D"), ("\n", "%0A"), *(((":", "%3A"), (",", "%2C")) if is_property else ())):
         text = text.replace(plain, code)
     return text

@@ -1,4 +1,4 @@
-"""What is useful around a build: a first worker and list, what this folder allows, and the workers that are kept."""
+"""Commands around a build: a first worker and list, a check of this folder, and the workers that are kept."""
 from __future__ import annotations
 
 import json
@@ -35,7 +35,7 @@ PROGRAMS = ("worker_tool", "shared_tool", "spawn_tool", "journal_run", "journal_
 
 
 def init(words: Words) -> int:
-    """Writes a first worker and list into a folder, or the list of a warm tool. Nothing that is there is replaced."""
+    """Writes a first worker and list into a folder, or the list of a warm tool. It replaces no existing file."""
     from .kinds import KINDS, init_kind
 
     if words.rest and words.rest[0] in KINDS:
@@ -58,7 +58,7 @@ def init(words: Words) -> int:
 
 
 def doctor(words: Words) -> int:
-    """Prints what stands in the way of a build here."""
+    """Prints what would prevent a build here."""
     bad = 0
     for is_well, text in (*found_programs(), *folders(), *limits()):
         bad += not is_well
@@ -68,7 +68,7 @@ def doctor(words: Words) -> int:
 
 
 def found_programs() -> Iterator[tuple[bool, str]]:
-    """Yields which programs are there, and whether each is proved. Each is started once with a word that it must refuse."""
+    """Yields which programs exist, and whether each is proved. Each is started once with an argument that it must refuse."""
     folder = programs.bin_folder()
     for name in PROGRAMS:
         path = os.path.join(folder, name)
@@ -83,7 +83,7 @@ def found_programs() -> Iterator[tuple[bool, str]]:
 
 
 def folders() -> Iterator[tuple[bool, str]]:
-    """Yields whether the folders of a run can be written, and whose they are."""
+    """Yields whether the folders of a run can be written, and who owns them."""
     here = os.getcwd()
     yield os.access(here, os.W_OK | os.X_OK), f"this folder can be written: {here}"
     for name in (".worker_rooms", STATE):
@@ -108,7 +108,7 @@ def folders() -> Iterator[tuple[bool, str]]:
 
 
 def limits() -> Iterator[tuple[bool, str]]:
-    """Yields what the system allows."""
+    """Yields the limits and features of the system."""
     files = resource.getrlimit(resource.RLIMIT_NOFILE)[0]
     yield files >= 256 or files < 0, f"{files} files may be open; 256 are enough for 48 workers"
     processes = resource.getrlimit(resource.RLIMIT_NPROC)[0]

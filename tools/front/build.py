@@ -1,4 +1,4 @@
-"""A build: rounds of the actions that aren't up to date. Each round is a call of a program, or several."""
+"""A build: rounds of the actions that aren't up to date. Each round calls a program once or several times."""
 from __future__ import annotations
 
 import fcntl
@@ -29,11 +29,11 @@ PROGRAM_SECONDS = 10.0
 
 
 class Busy(Exception):
-    """Another run is at work, or what this one needs belongs to another user."""
+    """Another run is at work, or something that this run needs belongs to another user."""
 
 
 class Round(NamedTuple):
-    """The actions of a round with the reason of each, those that wait for them, and those that a failure below keeps from running."""
+    """The actions of a round: those that run, each with its reason; those that wait; and those that an earlier failure blocks."""
 
     now: dict[str, str]
     waiting: set[str]
@@ -41,7 +41,7 @@ class Round(NamedTuple):
 
 
 class Build:
-    """A list, what is remembered of it, and what has become of each action in this call."""
+    """A build of a list: the list, the memory of earlier runs, and the result of each action in this call."""
 
     def __init__(self, listing: Listing, words: Words, voice: Voice, recovers: bool = True) -> None:
         self.listing, self.words, self.voice = listing, words, voice
@@ -61,7 +61,7 @@ class Build:
         self.held_back: set[str] = set()
         self.said: list[str] = []
         self.levels: dict[str, int] = {}
-        # A round of an imported build takes longer than the link that it may spare, unless its workers are kept.
+        # A round of an imported build takes longer than a link, which it may save, unless its workers are kept.
         self.at_once = listing.origin is not None and not words.number("--keep", 0)
         self.status = 0
         self.lost = False
@@ -70,12 +70,12 @@ class Build:
         self.total = self.calls = self.early = 0
         self.recovered = self.recover() if recovers else 0
 
-    # What is to be done.
+    # Which actions run.
 
     def sort_out(self, all_at_once: bool) -> Round:
         """Finds the actions of the next round.
 
-        What reads an output of one of them waits, unless it has to run whatever that output becomes.
+        An action that reads one of their outputs waits, unless it must run in any case.
         """
         found = Round({}, set(), {})
         makers: dict[str, str] = {}
@@ -101,7 +101,7 @@ class Build:
         return found
 
     def is_bad(self, name: str) -> bool:
-        """Returns True if an action was run and isn't made."""
+        """Returns True if an action was run and didn't succeed."""
         return name in self.results and self.results[name].outcome != "ok"
 
     def reason(self, action: Action, unsettled: dict[str, str]) -> str | None:
@@ -133,7 +133,7 @@ class Build:
         return OUTPUT_LOST if self.lost and self.status == 0 else self.status
 
     def trim_kept(self) -> None:
-        """Ends kept workers that have more memory together than --keep-memory allows, the one idle for longest first."""
+        """Ends kept workers, the longest idle first, until together they have no more memory than --keep-memory allows."""
         if self.words.number("--keep", 0) and self.calls:
             quarter = os.sysconf("SC_PHYS_PAGES") * os.sysconf("SC_PAGE_SIZE") // 4
             memory = self.words.number("--keep-memory", 0) * 1e6 or quarter
@@ -142,14 +142,14 @@ class Build:
                 self.voice.line(f"lenthuvi: {plural(len(ended), 'kept worker')} ended, since all together had more than {memory / 1e6:,.0f} MB")
 
     def look_again(self, done: list[str]) -> None:
-        """After a round, has the origin of the list find again what the other actions may read."""
+        """After a round, lets the origin of the list find again which files the other actions may read."""
         if self.listing.origin is not None:
             left = [it for it in self.actions if it.name not in self.results]
             self.listing.origin.look_again([self.by_name[name] for name in done], left)
             self.levels = {}
 
     def run_round(self, actions: list[Action], interrupt: Interrupt, sink: Sink) -> bool:
-        """Runs the actions of a round: those in place, and then the others by a program. Returns True if the build goes on."""
+        """Runs the actions of a round: first those in place, then the others by a program. Returns True if the build goes on."""
         for it in actions:
             if it.in_place and not self.run_in_place(it, interrupt, sink):
                 return False
@@ -203,7 +203,7 @@ class Build:
         return 0 if self.words.has("--plain") else Watching(self.listing, self.words, {}, "").more_bytes()
 
     def call(self, chosen: programs.Chosen, actions: list[Action], interrupt: Interrupt, sink: Sink) -> bool:
-        """Runs a program on some actions, and remembers what became of them. Returns True if the build goes on."""
+        """Runs a program on some actions, and remembers their results. Returns True if the build goes on."""
         self.begin_run(sink)
         self.open_round(actions)
         turns = None
@@ -228,15 +228,15 @@ class Build:
             self.lose(str(error.filename), error)
         self.early += 0 if is_whole else remembered
         os.remove(path)
-        if not is_whole and not ended.was_interrupted:
+        if not (is_whole and ended.status in (0, 1)) and not ended.was_interrupted:
             self.status = ended.status if ended.status > 0 else 1
-            self.tell_refusal(chosen.name, ended)
+            self.tell_refusal(chosen.name, ended, is_whole)
             return False
         self.status = max(self.status, ended.status if ended.status in (0, 1) else 1)
         return not interrupt.number
 
     def begin_run(self, sink: Sink) -> None:
-        """Before the first call of a run, removes what earlier runs left beside their events."""
+        """Before the first call of a run, removes what earlier runs left in addition to their events."""
         self.calls += 1
         if self.calls == 1:
             sink.begin()
@@ -245,7 +245,7 @@ class Build:
             sink.put({"t": time.time(), "e": "run", "list": self.listing.path, "actions": len(self.actions)}, keeps=True)
 
     def write_list(self, chosen: programs.Chosen, actions: list[Action], turns: Turns | None) -> tuple[str, list[str]]:
-        """Writes the list that the program is given. Returns its path and the command."""
+        """Writes the list for the program. Returns its path and the command."""
         executor = programs.executor_of(self.words, actions)
         if self.words.has("--plain"):
             objects: list[Any] = [it.object for it in actions]
@@ -263,7 +263,7 @@ class Build:
         return path, [programs.path_of(chosen.name), *chosen.options, *more, path]
 
     def keep_report(self, report: str, program: str) -> None:
-        """Keeps the report, and the journal that journal_run prints after it: that of each later call in a file of its own."""
+        """Keeps the report, and the journal that journal_run prints after it. Each later call has a separate journal file."""
         if not self.words.has("--report") and program != "journal_run":
             return
         with open(report, "rb") as held:
@@ -280,12 +280,12 @@ class Build:
             self.check_journal(path)
 
     def lose(self, path: str, error: OSError) -> None:
-        """Prints that an output file couldn't be written, which the status shows too."""
+        """Prints that an output file couldn't be written. The status shows it too."""
         self.voice.line(f"lenthuvi: {path} can't be written: {error.strerror}")
         self.lost = True
 
     def check_journal(self, path: str) -> None:
-        """Prints whether a journal is legal, by journal_check."""
+        """Runs journal_check on a journal, and prints its verdict."""
         try:
             checker = programs.path_of("journal_check")
         except programs.Missing as error:
@@ -299,7 +299,7 @@ class Build:
     # While a program runs.
 
     def hear(self, event: Event, sink: Sink) -> None:
-        """Takes an event of a watcher, and prints what people want to know at once."""
+        """Takes an event of a watcher, and prints at once what people want to know."""
         what, name = event["e"], event.get("n", "")
         sink.put(event)
         if what == "start":
@@ -324,7 +324,7 @@ class Build:
             self.voice.line(f"{name}: its room wasn't kept whole: {event['trouble']}")
 
     def tick(self, tracker: Tracker) -> None:
-        """Shows how far the run is."""
+        """Shows the progress of the run."""
         name, since = tracker.longest()
         longest = f"longest: {name}, {time.time() - since:.0f} s" if name and time.time() - since >= 1 else ""
         text = joined([f"{counted(self.done)} of {counted(max(self.total, self.done))}", f"{len(tracker.open)} running",
@@ -348,7 +348,9 @@ class Build:
             self.take_action(it, tracker.times.get(name, (0.0, 0.0, 0)), sink)
 
     def take_action(self, it: Reported, times: tuple[float, float, int], sink: Sink) -> None:
-        """Takes in what became of an action. What a project's command printed is shown, as ninja shows it."""
+        """Takes in the result of an action. Shows the output of a project's command, as ninja does."""
+        if it.outcome == "open":
+            return
         if it.outcome != "skipped" and it.name not in self.held_back:
             self.results[it.name] = it
         if self.listing.origin is not None and it.outcome == "ok" and it.text.strip() and not self.words.has("-q"):
@@ -357,17 +359,18 @@ class Build:
                   "detail": it.detail, "local": it.local, "remote": it.remote, "why": self.reasons.get(it.name, ""),
                   "sent": times[0], "answered": times[1], "worker": times[2], "text": it.text[:MOST_TEXT]}, keeps=True)
 
-    def tell_refusal(self, name: str, ended: Ended) -> None:
-        """Prints that a program ended without a report, and what it said."""
+    def tell_refusal(self, name: str, ended: Ended, is_whole: bool) -> None:
+        """Prints that a program ended early, and what it printed. A run that ran out of memory may have written a report."""
         for line in ended.said:
             self.voice.line(line)
         how = f"by signal {-ended.status}" if ended.status < 0 else f"with status {ended.status}"
-        self.voice.line(f"lenthuvi: {name} ended {how} and printed no report; what was answered before is remembered")
+        what = "; what is ok" if is_whole else " and printed no report; what was answered before"
+        self.voice.line(f"lenthuvi: {name} ended {how}{what} is remembered")
 
-    # What is remembered, also after a run that was killed.
+    # The memory of successes, which also covers runs that were killed.
 
     def open_round(self, actions: list[Action]) -> None:
-        """Writes down what there was before some actions run."""
+        """Records the state of the sources and outputs before some actions run."""
         made = {path for it in actions for path in it.outputs}
         sources = self.files.digests({path for it in actions for path in it.may_read() if path not in made})
         held = {"place": os.path.getsize(self.events_path) if os.path.exists(self.events_path) else 0, "sources": sources,
@@ -379,14 +382,14 @@ class Build:
             os.remove(stop)
 
     def close_round(self, tracker: Tracker, found: dict[str, Reported] | None) -> int:
-        """Remembers the successes of a call: by its report, or by what was answered and is there since. Returns how many."""
+        """Remembers the successes of a call, by its report or, without one, by the answers and outputs. Returns how many."""
         good = tracker.good if found is None else {name for name, it in found.items() if it.outcome == "ok"}
         number = self.remember(good, found is None)
         os.remove(self.open_path)
         return number
 
     def remember(self, good: set[str], looks: bool) -> int:
-        """Remembers actions that succeeded and whose sources are as before. Without a report their outputs must be new files."""
+        """Remembers actions that succeeded, if their sources are as before. If `looks`, their outputs must also be new files."""
         with open(self.open_path, encoding="utf-8", errors="surrogateescape") as file:
             held = json.load(file)
         sources = held["sources"]
@@ -406,7 +409,7 @@ class Build:
         return len(found)
 
     def recover(self) -> int:
-        """Remembers what a run that was killed had made. Returns how many actions that is."""
+        """Remembers the successes of a run that was killed. Returns how many there are."""
         if not os.path.exists(self.open_path):
             return 0
         wait_for_program()
@@ -424,7 +427,7 @@ class Build:
 
 
 def wait_for_program() -> None:
-    """Waits until the program of a run whose front was killed has ended too: until then its outputs may still change."""
+    """Waits until the program of a run whose front was killed has ended too. Until then its outputs may still change."""
     try:
         fd = os.open(os.path.join(".worker_rooms", "lock"), os.O_RDWR | os.O_CLOEXEC)
     except OSError:
@@ -444,6 +447,6 @@ def wait_for_program() -> None:
 
 
 def is_new(path: str, stamp: list[int] | None) -> bool:
-    """Returns True if another file is at a path than before."""
+    """Returns True if the file at a path isn't the same as before."""
     now = stamp_of(path)
     return now is not None and (stamp is None or now[3] != stamp[3] or now != tuple(stamp))

@@ -18,7 +18,7 @@ CANT_START = 127
 class Child:
     """A process that was started here, or a kept one: `keeper` is then the socket to the process that holds it.
 
-    `spare` is the read end of its standard input, by which its unread bytes are counted.
+    `spare` is the read end of its standard input. It serves to count the bytes that the process hasn't read.
     """
 
     def __init__(self, pid: int, feed: int, tap: int, errors: int, watch: int, spare: int = -1,
@@ -28,7 +28,7 @@ class Child:
         self.answered = 0
 
     def kill(self) -> None:
-        """Kills the process and every other one of its group."""
+        """Kills the process and all others of its group."""
         kill_group(self.pid)
 
     def unread(self) -> int:
@@ -67,7 +67,7 @@ def kill_group(pid: int, number: int = signal.SIGKILL) -> None:
 
 
 def start(words: list[str], environment: dict[str, str]) -> Child:
-    """Starts a process in a session of its own. The kernel kills it when this process ends."""
+    """Starts a process in a new session. The kernel kills it when this process ends."""
     given, feed = os.pipe()
     tap, said = os.pipe()
     errors, told = os.pipe()

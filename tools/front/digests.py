@@ -38,7 +38,7 @@ def write_whole(path: str, text: str) -> None:
 
 
 class Files:
-    """The digests of files. What was read is remembered from call to call."""
+    """The digests of files. They are remembered from one call to the next."""
 
     def __init__(self, path: str) -> None:
         self.path = path
@@ -87,11 +87,11 @@ class Files:
         return {path: self.digest(path) for path in paths}
 
     def look_again(self) -> None:
-        """Looks at every file's stamp again from now on."""
+        """Forgets all stamps, so that each file's stamp is read again."""
         self.seen.clear()
 
     def save(self) -> None:
-        """Writes what is known, whole or not at all."""
+        """Writes the digests, completely or not at all."""
         if self.is_new:
             lines = (f"{path}\t{stamp[0]}\t{stamp[1]}\t{stamp[2]}\t{stamp[3]}\t{digest}\n"
                      for path, (stamp, digest) in self.known.items() if "\t" not in path and "\n" not in path)

@@ -13,7 +13,7 @@ NAMES = {"n": "name", "w": "watcher"}
 
 
 class Sink:
-    """Where the front's own events go, and where all events are copied to."""
+    """The destination of the front's own events, and of the copy of all events."""
 
     def __init__(self, path: str, own: str) -> None:
         self.own_path = own
@@ -25,7 +25,7 @@ class Sink:
             self.out = sys.stdout if path == "-" else open(path, "w", encoding="utf-8")
 
     def begin(self) -> None:
-        """Begins the file of this run. That of the run before is kept beside it."""
+        """Begins the file of this run. The file of the previous run is kept in the same folder."""
         if self.own_file is None:
             if os.path.exists(self.own_path):
                 os.replace(self.own_path, self.own_path + ".before")
@@ -55,7 +55,7 @@ class Sink:
 
 
 def read_events(state: str) -> list[Event]:
-    """Returns the events of the last run in the order of their times. Lines that were cut off are left out."""
+    """Returns the events of the last run in the order of their times, without lines that were cut off."""
     found = []
     try:
         with open(os.path.join(state, "events.jsonl"), encoding="utf-8", errors="replace") as file:

@@ -28,7 +28,7 @@ def find(listing: Listing, name: str) -> Action:
 
 
 def explain(words: Words) -> int:
-    """Prints all that is known of an action."""
+    """Prints everything that is known about an action."""
     if not words.rest:
         raise Unwanted("explain needs the name of an action, or a path that it makes: lenthuvi explain NAME [LIST]")
     listing = load(words.rest[1] if len(words.rest) > 1 else "list.json")
@@ -75,7 +75,7 @@ def last_run(action: Action, events: list[Event], state: str) -> Iterator[str]:
 
 
 def told(event: Event, at: float, workers: dict[int, Event]) -> Iterator[str]:
-    """Yields what an event tells."""
+    """Yields the lines about an event."""
     what = event["e"]
     if what == "sent":
         start = workers.get(event["w"])
@@ -126,7 +126,7 @@ def deps(action: Action, makers: dict[str, Action]) -> list[str]:
 
 
 def rdeps(path: str, listing: Listing) -> list[str]:
-    """Returns all actions that need a file, or what an action makes."""
+    """Returns all actions that need a file, or that need an output of an action."""
     named = [it for it in listing.actions if it.name == path]
     open_paths = set(named[0].outputs) if named else {path}
     known = {it for action in listing.actions for it in (*action.reads(), *action.outputs)}
@@ -149,7 +149,7 @@ def plain(listing: Listing, makers: dict[str, Action]) -> Iterator[str]:
 
 
 def dot(listing: Listing, makers: dict[str, Action]) -> Iterator[str]:
-    """Yields the graph for dot, colored by what became of each action in the last run."""
+    """Yields the graph for dot, colored by each action's outcome in the last run."""
     outcomes = {it["n"]: it["outcome"] for it in read_events(listing.state) if it["e"] == "action"}
     colors = {"ok": "palegreen", "failed": "tomato", "broken": "tomato", "skipped": "lightgray"}
     yield "digraph lenthuvi {"

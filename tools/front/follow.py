@@ -1,4 +1,4 @@
-"""One call of a program: its start, the events of its watchers while it runs, and its end, also by Ctrl-C and Ctrl-Z."""
+"""One call of a program: its start, the events of its watchers while it runs, its end, and Ctrl-C and Ctrl-Z."""
 from __future__ import annotations
 
 import ctypes
@@ -20,7 +20,7 @@ PROGRAMS = (b"worker_tool", b"shared_tool", b"spawn_tool", b"journal_run")
 
 
 class Tracker:
-    """The state of a run as its events tell it."""
+    """The state of a run, computed from its events."""
 
     def __init__(self, path: str, tells: Callable[[Event], None], place: int | None = None) -> None:
         self.path, self.tells = path, tells
@@ -32,8 +32,8 @@ class Tracker:
         self.slow: set[str] = set()
         self.held_back: set[str] = set()
         self.alive: dict[int, tuple[int, bool]] = {}  # by watcher: the worker's process, and whether it is kept
-        self.causes: dict[str, list[Event]] = {}  # by action: what its watcher noted that wasn't an answer
-        self.stray: dict[int, list[Event]] = {}  # by watcher: the same, of which no action is known yet
+        self.causes: dict[str, list[Event]] = {}  # by action: events of its watcher other than answers
+        self.stray: dict[int, list[Event]] = {}  # by watcher: such events whose action isn't known yet
         self.kinds: dict[int, str] = {}  # by watcher: the mnemonic of its actions
         self.times: dict[str, tuple[float, float, int]] = {}
 
@@ -78,7 +78,7 @@ class Tracker:
             self.slow.update([name] if what == "limit" else [])
 
     def answered(self, watcher: int, event: Event) -> None:
-        """Takes in an answer. That of a branch which was cancelled says nothing."""
+        """Takes in an answer. The answer of a cancelled branch doesn't count."""
         name = event["n"]
         _, since = self.open.pop((watcher, event["id"]), ("", event["t"]))
         if event.get("cancelled"):
@@ -89,19 +89,19 @@ class Tracker:
         self.times[name] = since, event["t"], self.alive.get(watcher, (0, False))[0]
 
     def unclaimed(self) -> dict[str, list[Event]]:
-        """Returns by mnemonic what was noted of workers that never got a request, such as one whose first words were no answer."""
+        """Returns by mnemonic the events of workers that never got a request, for example of one whose first output was no answer."""
         found: dict[str, list[Event]] = {}
         for watcher, events in self.stray.items():
             found.setdefault(self.kinds.get(watcher, ""), []).extend(events)
         return found
 
     def longest(self) -> tuple[str, float]:
-        """Returns the action that has been at work for longest, and since when."""
+        """Returns the action that has been running longest, and its start time."""
         return min(self.open.values(), key=lambda it: it[1], default=("", 0.0))
 
 
 class Ended(NamedTuple):
-    """How a program ended."""
+    """The end of a program."""
 
     status: int
     was_interrupted: bool
@@ -127,18 +127,18 @@ class Interrupt:
         self.stops = True
 
     def restore(self) -> None:
-        """Puts the signals back."""
+        """Restores the previous signal handlers."""
         for number, before in self.before.items():
             signal.signal(number, before)
 
 
 def end_with_parent() -> None:
-    """Has the kernel end this process when the front has ended."""
+    """Tells the kernel to end this process when the front ends."""
     ctypes.CDLL(None).prctl(PR_SET_PDEATHSIG, signal.SIGTERM)
 
 
 class Call:
-    """A program that runs, and all that is looked at meanwhile."""
+    """A running program, and everything that is watched while it runs."""
 
     def __init__(self, command: list[str], report: str, tracker: Tracker, interrupt: Interrupt, passes: Callable[[bytes], None]) -> None:
         self.tracker, self.interrupt = tracker, interrupt
@@ -179,7 +179,7 @@ class Call:
             self.abandon()
 
     def hear(self) -> None:
-        """Reads standard error. Its end isn't waited for, since a process that a worker left may hold it open."""
+        """Reads standard error. The call doesn't wait for its end, since a process that a worker left may hold it open."""
         self.said.read()
         if self.said.is_ended:
             self.ready.unregister(self.errors)
@@ -197,7 +197,7 @@ class Call:
             self.program.kill()
 
     def stop(self) -> None:
-        """Stops the program, its watchers, their workers and this process, until the user goes on."""
+        """Stops the program, its watchers, their workers and this process, until the user continues them."""
         self.tracker.read()
         groups = [self.program.pid, *(pid for pid, _ in self.tracker.alive.values())]
         for pid in groups:
@@ -207,7 +207,7 @@ class Call:
             kill_group(pid, signal.SIGCONT)
 
     def end(self) -> Ended:
-        """Takes in the last that the program and its watchers said, and kills what its workers left behind."""
+        """Reads the last output of the program and the last events of its watchers. Returns how the program ended."""
         status = self.program.wait()
         if not self.said.is_ended:
             with selectors.DefaultSelector() as last:
@@ -219,7 +219,7 @@ class Call:
         return Ended(status, bool(self.interrupt.number), self.said.lines)
 
     def abandon(self) -> None:
-        """Leaves nothing running, however the call ended."""
+        """Kills everything that still runs, however the call ended."""
         if self.program.poll() is None:
             self.program.kill()
             self.program.wait()
@@ -241,7 +241,7 @@ class Said:
         self.is_ended = False
 
     def read(self) -> None:
-        """Passes on the lines that are complete."""
+        """Takes the lines that are complete."""
         while not self.is_ended:
             try:
                 data = os.read(self.pipe, 1 << 16)
@@ -260,7 +260,7 @@ class Said:
             self.passes(line)
 
     def flush(self) -> None:
-        """Passes on the line that isn't complete."""
+        """Takes the line that isn't complete."""
         if self.held:
             self.take(self.held)
             self.held = b""

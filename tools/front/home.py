@@ -1,5 +1,5 @@
-"""The folder in which a kept worker stays. worker_tool gives each process a room of its own, so for a kept worker the watcher
-brings the inputs of a request from that room, by links, and the outputs back into it before the answer is passed on.
+"""The folder of a kept worker. worker_tool gives each process its own room. So for a kept worker the watcher links the
+inputs of a request from that room into the folder, and moves the outputs back before it passes the answer on.
 """
 from __future__ import annotations
 

@@ -1,4 +1,4 @@
-"""The sandbox of --isolate, by bwrap: no network, a process space of its own, and nothing but the room is writable."""
+"""The sandbox of --isolate, made by bwrap: no network, a separate process space, and only the room is writable."""
 from __future__ import annotations
 
 import functools
@@ -10,7 +10,7 @@ from typing import Any
 from .options import Unwanted
 
 SECONDS = 20
-# What is tried in turn: inside another container a new /proc may be refused.
+# These are tried in turn, since a new /proc may be refused inside another container.
 FORMS = (["--unshare-pid", "--proc", "/proc"], ["--ro-bind", "/proc", "/proc"])
 
 
@@ -39,5 +39,5 @@ def bound(words: list[str], start: str, reads: list[str]) -> dict[str, Any]:
 
 
 def is_below(path: str, folder: str) -> bool:
-    """Returns True if a file is below a folder, and there."""
+    """Returns True if a file is below a folder and exists."""
     return os.path.exists(path) and os.path.abspath(path).startswith(os.path.join(folder, ""))

@@ -31,7 +31,7 @@ PAGE = os.sysconf("SC_PAGE_SIZE")
 
 
 def folder() -> str:
-    """Returns the folder of the sockets, which belongs to this user alone."""
+    """Returns the folder of the sockets, which only this user may use."""
     base = os.environ.get("LENTHUVI_KEPT") or f"/tmp/lenthuvi-{os.getuid()}"
     os.makedirs(base, mode=0o700, exist_ok=True)
     held = os.lstat(base)
@@ -65,9 +65,9 @@ def address(base: str, home: str) -> str:
 
 
 def find(base: str, wanted: Wanted, idle: float, most: int, words_in: Callable[[str], list[str]]) -> tuple[Child, str] | None:
-    """Returns a free kept worker, or a new one, and the folder in which it stays. Returns None if none can be kept.
+    """Returns a free kept worker, or a new one, and its folder. Returns None if no worker can be kept.
 
-    `words_in` gives the words by which a worker is started that stays in a folder.
+    `words_in` returns the arguments that start a worker in a folder.
     """
     lock = os.open(os.path.join(base, ".lock"), os.O_RDWR | os.O_CREAT | os.O_CLOEXEC, 0o600)
     try:
@@ -304,7 +304,7 @@ def memory_of(pid: int) -> int:
 
 
 def end_of(line: socket.socket) -> int:
-    """Returns how a kept worker ended, as its keeper tells."""
+    """Returns the status of a kept worker that has ended, as its keeper sends it."""
     line.settimeout(1)
     try:
         data = line.recv(4)

@@ -72,7 +72,7 @@ def sources_below(endings: tuple[str, ...]) -> list[str]:
 
 
 def init_kind(name: str, folder: str) -> int:
-    """Writes a list for the sources of a folder. Nothing that is there is replaced."""
+    """Writes a list for the sources of a folder. It replaces no existing file."""
     kind = KINDS[name]
     try:
         start = kind.start()

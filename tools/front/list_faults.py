@@ -45,7 +45,7 @@ def text_faults(text: str) -> Iterator[str]:
 
 
 def order_faults(actions: list[dict[str, Any]], cycle: set[str]) -> Iterator[str]:
-    """Yields names and outputs that are used twice, and inputs that are made later. A cycle is told as one, so it is left out."""
+    """Yields names and outputs that are used twice, and inputs that are made later. A cycle is one separate fault, so it is left out."""
     names: set[str] = set()
     makers = {path: number for number, action in reversed(list(enumerate(actions))) for path in held(action, "outputs")}
     for number, action in enumerate(actions):
@@ -90,7 +90,7 @@ def cycle_of(actions: list[dict[str, Any]]) -> list[str]:
 
 
 def state_faults(actions: list[dict[str, Any]], path: str) -> Iterator[str]:
-    """Yields outputs that would replace the list, a program, a source or the run's own folders, or that lie below one another."""
+    """Yields outputs that would replace the list, a program, a source or the run's own folders, or that are below one another."""
     made = {out for it in actions for out in held(it, "outputs")}
     programs: set[str] = set()
     for number, it in enumerate(actions):

@@ -14,7 +14,7 @@ from .list_faults import list_faults, state_faults
 Json = dict[str, Any]
 WANTED = ("name", "mnemonic", "argv", "outputs")
 STATE = ".lenthuvi"
-IMPORTED = ".imported"  # the folder, in a build folder, of what was imported
+IMPORTED = ".imported"  # the folder, in a build folder, that an import writes
 
 
 class Action:
@@ -49,15 +49,15 @@ class Action:
         return [*dict.fromkeys([*self.inputs, *self.tools, self.argv[0]])]
 
     def may_read(self) -> list[str]:
-        """Returns what it is given to read, of which `reads` may be a part once it has run."""
+        """Returns the files that it may read. Once it has run, `reads` may return only some of them."""
         return self.reads()
 
     def needs_made(self) -> list[str]:
-        """Returns the paths whose makers come before it."""
+        """Returns the paths whose makers must run before it."""
         return self.inputs
 
     def waits_for(self, maker: Action) -> bool:
-        """Returns True if it can't be in the same call of a program as a maker of what it reads."""
+        """Returns True if it can't be in the same call of a program as `maker`, which makes an input of it."""
         return False
 
     def always(self) -> str:
@@ -65,7 +65,7 @@ class Action:
         return ""
 
     def start_words(self) -> list[str]:
-        """Returns the arguments by which its worker is started."""
+        """Returns the arguments that start its worker."""
         return [it for it in self.argv if not FLAG_WORD.match(it)]
 
     def flag_words(self) -> list[str]:
@@ -87,19 +87,19 @@ class Action:
         return self.known_key
 
     def shape(self, flags: list[str]) -> str:
-        """Returns a digest of everything that the list and the command line say about it."""
+        """Returns a digest of its object in the list and of the extra flags."""
         return hashlib.sha256(json.dumps([self.object, flags], sort_keys=True).encode()).hexdigest()[:32]
 
 
 class Origin:
-    """Where a list comes from that nobody wrote, and what is done for it while a build goes on."""
+    """The origin of a list that no person wrote, and its work during a build."""
 
     def extra_paths(self) -> list[str]:
         """Returns the files on which the list itself depends."""
         raise NotImplementedError
 
     def look_again(self, done: list[Action], left: list[Action]) -> None:
-        """After some actions: finds again what those that are left may read."""
+        """After some actions, finds again which files the remaining ones may read."""
         raise NotImplementedError
 
     def run_in_place(self, action: Action, is_over: Callable[[], bool]) -> tuple[int, str]:
@@ -107,12 +107,12 @@ class Origin:
         raise NotImplementedError
 
     def finish(self) -> None:
-        """Does what is left to do at the end of a build."""
+        """Does the remaining work at the end of a build."""
         raise NotImplementedError
 
 
 class Listing(NamedTuple):
-    """A list: its path, the folder of what is remembered of it, its actions in order, and where it comes from."""
+    """A list: its path, the folder of its memory, its actions in order, and its origin, if it has one."""
 
     path: str
     state: str
@@ -120,7 +120,7 @@ class Listing(NamedTuple):
     origin: Origin | None = None
 
     def makers(self) -> dict[str, Action]:
-        """Returns which action makes a path."""
+        """Returns for each output the action that makes it."""
         return {path: it for it in self.actions for path in it.outputs}
 
     def mnemonics(self) -> set[str]:
@@ -138,7 +138,7 @@ class Listing(NamedTuple):
         return levels
 
     def chosen(self, globs: list[str]) -> list[Action]:
-        """Returns the actions whose names or outputs match, and those that they need."""
+        """Returns the actions whose names or outputs match, and the actions that these need."""
         if not globs:
             return self.actions
         makers, wanted, waiting = self.makers(), set(), []
@@ -156,7 +156,7 @@ class Listing(NamedTuple):
 
 
 class WrongList(Exception):
-    """A list with faults, all of which are named."""
+    """A list with faults. The text names all of them."""
 
     def __init__(self, faults: list[str]) -> None:
         super().__init__("\n".join(faults))
@@ -164,7 +164,7 @@ class WrongList(Exception):
 
 
 def state_folder(path: str) -> str:
-    """Returns the folder of what is remembered of a list. No two lists share one."""
+    """Returns the folder of a list's memory. No two lists share one."""
     name = "stdin" if path == "-" else os.path.basename(path)
     plain = "".join(it if it.isalnum() or it in "-_" else "_" for it in name.removesuffix(".json"))[:80]
     is_plain = path in ("-", f"{plain}.json", f"./{plain}.json") and plain != ""
@@ -173,7 +173,7 @@ def state_folder(path: str) -> str:
 
 
 def load(path: str) -> Listing:
-    """Reads a list, or makes that of a folder that was imported. If anything is wrong that a run wouldn't survive, all faults are told at once."""
+    """Reads a list, or makes the list of an imported folder. If a fault would end a run, WrongList names all faults at once."""
     if is_imported(path):
         from .ninja.folders import load_imported
 
@@ -195,7 +195,7 @@ def load(path: str) -> Listing:
 
 
 def is_sound(actions: list[Action], path: str) -> bool:
-    """Returns True if each name and output is there once, each input is made before, and no output replaces what the run needs."""
+    """Returns True if each name and output occurs once, no input is made later, and no output replaces what the run needs."""
     names: set[str] = set()
     later = {out for it in actions for out in it.outputs}
     for it in actions:
@@ -207,11 +207,11 @@ def is_sound(actions: list[Action], path: str) -> bool:
 
 
 def is_imported(path: str) -> bool:
-    """Returns True if a path is that of the list of a folder that was imported."""
+    """Returns True if a path is the path of an imported folder's list."""
     return path.endswith(f"{IMPORTED}/list.json") and os.path.exists(os.path.join(os.path.dirname(path), "settings.json"))
 
 
 def is_plain(held: Any) -> bool:
-    """Returns True if an action has the keys that the front uses, each of its kind."""
+    """Returns True if an action has the keys that the front needs, and the keys that it uses have the right kinds."""
     return isinstance(held, dict) and all(it in held for it in WANTED) and bool(held["argv"]) and all(
         is_kind(key, held[key]) for key in (*WANTED, "inputs", "tools", "requirements", "env", "strategy") if key in held)

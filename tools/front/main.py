@@ -1,4 +1,4 @@
-"""The commands, and what becomes of their errors."""
+"""The commands, and the handling of their errors."""
 from __future__ import annotations
 
 import errno
@@ -27,7 +27,7 @@ from .settled import settle, settled, unsettle
 from .voice import Voice, counted, joined, of_list, plural, quoted, short
 
 MOST_SHOWN = 20
-CANT_START = (126, 127)  # what a shell answers for a program that it can't start
+CANT_START = (126, 127)  # a shell's status for a program that it can't start
 WRONG_WORDS, WRONG_LIST, MISSING, UNWRITTEN, INTERRUPTED = 2, 4, 5, 6, 130
 OUTPUTS = ("--json", "--report", "--journal", "--trace", "--page")
 
@@ -55,13 +55,13 @@ def lock() -> int:
 
 
 def look_at_rooms() -> None:
-    """Tells of rooms that another user made. The program would only say that the list can't be read."""
+    """Raises Busy if the rooms can't be written, for example because another user made them. The program would not name this cause."""
     lock_path = os.path.join(".worker_rooms", "lock")
     for path in (".", ".worker_rooms", lock_path):
         if not os.path.exists(path) or os.access(path, os.W_OK):
             continue
         owner = os.stat(path).st_uid
-        # A lock of one's own that can't be written is made writable by the program.
+        # If the user's own lock can't be written, the program makes it writable.
         if path != lock_path or owner != os.geteuid():
             raise Busy(f"{path} can't be written here (its owner is user {owner}, you are {os.geteuid()})")
 
@@ -109,7 +109,7 @@ def dry(made: Build) -> int:
 
 
 def run(made: Build, words: Words, voice: Voice) -> int:
-    """Runs a build and prints what became of it."""
+    """Runs a build and prints its result."""
     interrupt = Interrupt()
     sink = Sink(words.last("--json"), made.events_path)
     try:
@@ -129,7 +129,7 @@ def run(made: Build, words: Words, voice: Voice) -> int:
         voice.erase()
         interrupt.restore()
         sink.close()
-    # A signal that came when all was made ends no build, but it ends the watching.
+    # A signal that arrives after everything is made doesn't end the build, but it ends the watching.
     return INTERRUPTED if interrupt.number and words.command == "watch" else status
 
 
@@ -181,7 +181,7 @@ def summary(made: Build, voice: Voice, status: int) -> dict[str, int]:
 
 
 def counts_of(made: Build, bad: list[Reported], status: int) -> dict[str, int]:
-    """Counts what became of the actions, each once."""
+    """Counts the results of the actions, each once."""
     counts = {"ok": sum(it.outcome == "ok" for it in made.results.values()) + made.early,
               "failed": sum(it.outcome == "failed" for it in bad), "broken": sum(it.outcome == "broken" for it in bad)}
     left = [it for it in made.actions if it.name not in made.results]
@@ -193,7 +193,7 @@ def counts_of(made: Build, bad: list[Reported], status: int) -> dict[str, int]:
 
 
 def lines_of(made: Build, it: Reported) -> list[str]:
-    """Returns what is printed below a failure: what was answered, or the causes if there was no answer."""
+    """Returns the lines that are printed below a failure: the answer's text, or the causes if there was no answer."""
     program = made.by_name[it.name].argv[0]
     trouble = program_trouble(program) if it.branch() == "remote" and it.exit() in CANT_START else None
     return [*(short(it.text) or causes_of(made, it)), *([trouble] if trouble else [])]
@@ -247,7 +247,7 @@ def watch(words: Words) -> int:
     from .digests import stamp_of
 
     while True:
-        # Before the build, so that a change in its course isn't lost.
+        # This comes before the build, so that a change during the build isn't lost.
         before = {path: stamp_of(path) for path in watched_paths(list_path(words))}
         try:
             status = build(words)
@@ -277,7 +277,7 @@ def watched_paths(path: str) -> set[str]:
 
 
 def clean(words: Words) -> int:
-    """Removes rooms, logs and what is remembered."""
+    """Removes rooms, logs and the memory of successes."""
     held = lock()
     try:
         folders = [state_folder(list_path(words))] if words.rest else [os.path.join(STATE, "lists"), os.path.join(STATE, "rooms"),
@@ -325,7 +325,7 @@ def version() -> int:
 
 
 def do(words: Words) -> int:
-    """Does what the words ask for."""
+    """Runs the command that the arguments name."""
     if words.command in ("build", "run", "watch", "check", "explain", "page", "graph", "clean"):
         from .ninja.folders import enter
 
@@ -347,7 +347,7 @@ def do(words: Words) -> int:
 
 
 def main(given: list[str]) -> int:
-    """Does what the arguments ask for. Returns the status."""
+    """Runs the command of a command line. Returns the status."""
     try:
         if given == ["--version"]:
             return version()

@@ -12,7 +12,7 @@ SPOILED = "what is remembered of it can't be read"
 
 
 class Success(NamedTuple):
-    """The digests of an action's words, of what it read and of what it made, and those of each file as JSON."""
+    """The digests of an action's words, of its reads and of its outputs, and the digest of each file as JSON."""
 
     shape: str
     reads: str
@@ -67,7 +67,7 @@ def success_of(action: Action, shape: str, files: Files) -> Success:
 
 
 def reason(action: Action, shape: str, last: Success | None, files: Files, unsettled: Container[str]) -> str | None:
-    """Returns why an action isn't up to date, or None if it is, whatever becomes of its unsettled inputs."""
+    """Returns why an action isn't up to date, or None if it is, regardless of its unsettled inputs."""
     if last is None:
         return "it hasn't succeeded before"
     if last.shape != shape:

@@ -1,6 +1,6 @@
-"""What a watcher leaves and asks for outside its own pipes: lines in the run's events, and turns from the front.
+"""A watcher's traffic outside its pipes: it appends lines to the run's events, and asks the front for turns.
 
-Each worker starts a watcher, so these modules load little: no `dataclasses`, no `typing`, no `re` of their own.
+Each worker starts a watcher, so these modules load little: they don't import `dataclasses`, `typing` or `re`.
 """
 from __future__ import annotations
 
@@ -15,7 +15,7 @@ if TYPE_CHECKING:
 
 
 class Notes:
-    """The run's events. Each is a line that is appended by one write, so a run that is killed leaves all that was answered."""
+    """The run's events. Each is a line that one write appends, so a run that is killed leaves all its answers."""
 
     def __init__(self, path: str) -> None:
         self.fd = os.open(path, os.O_WRONLY | os.O_APPEND | os.O_CREAT | os.O_CLOEXEC, 0o666)
@@ -27,11 +27,11 @@ class Notes:
         self.write(json.dumps({"t": round(time.time(), 4), "e": what, "w": self.pid, **more}))
 
     def add_of(self, what: str, name: str, number: int, more: str = "") -> None:
-        """Appends an event of a request. It is spelled by hand, since each request has two."""
+        """Appends an event of a request. It builds the text directly, since each request has two events."""
         self.write(f'{{"t": {time.time():.4f}, "e": "{what}", "w": {self.pid}, "n": {json.dumps(name)}, "id": {number}{more}}}')
 
     def write(self, line: str) -> None:
-        """Appends a line. On a full disk it is lost, and what follows begins a line of its own."""
+        """Appends a line. On a full disk the line is lost, and the next one begins on a new line."""
         data = (b"\n" if self.is_torn else b"") + line.encode("utf-8", "replace") + b"\n"
         try:
             self.is_torn = os.write(self.fd, data) != len(data)
@@ -42,7 +42,7 @@ class Notes:
 class Turns:
     """This watcher's line to the front, which lets at most -j requests be at work at once.
 
-    The front takes back the turns of a watcher that has ended, however it ended. If the front itself is gone, so is the bound.
+    The front takes back the turns of a watcher that has ended, however it ended. If the front is gone, nothing is bounded.
     """
 
     def __init__(self, address: str) -> None:
@@ -56,7 +56,7 @@ class Turns:
             self.has_front = False
 
     def take(self, wanted: int) -> bool:
-        """Takes a turn if one was granted. Otherwise asks for `wanted` turns, as far as they aren't asked for yet."""
+        """Takes a turn if one was granted. Otherwise asks for more turns until `wanted` are asked for."""
         if not self.has_front:
             return True
         if self.free:
@@ -80,7 +80,7 @@ class Turns:
             self.has_front = False
 
     def hear(self, wanted: int) -> None:
-        """Takes the turns that were granted, and gives back those that nobody wants any more."""
+        """Receives the turns that were granted, and gives back all but `wanted`."""
         try:
             data = self.line.recv(4096)
         except BlockingIOError:

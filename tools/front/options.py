@@ -104,7 +104,7 @@ EXCLUDED = (
     *(("--plain", name, "it needs the watchers that --plain leaves out")
       for name in ("--stop", "--alone", "--limit", "--keep", "--keep-rooms", "--isolate", "--trace", "--page")),
 )
-# Of these the last one counts, so that the command line may overrule a settings file.
+# The last one of two opposites counts, so the command line may overrule a settings file.
 OPPOSITES = {"-k": "--stop", "--stop": "-k", "-q": "-v", "-v": "-q"}
 STATUSES = """\
 status  0 all made   1 some not   2 invalid arguments   3 no memory   4 wrong list   5 a file is missing, or a run is at work here
@@ -144,7 +144,7 @@ class Words:
 
 
 def checked_number(shown: str, text: str, least: float, most: float, whole: bool = False) -> float:
-    """Returns the number that a text spells, if it is within its bounds."""
+    """Returns the number in a text. Raises Unwanted if it isn't within its bounds."""
     try:
         value = float(text)
     except ValueError:
@@ -156,7 +156,7 @@ def checked_number(shown: str, text: str, least: float, most: float, whole: bool
 
 
 def parse(given: list[str]) -> Words:
-    """Parses the arguments, preceded by those of the settings file and of the environment."""
+    """Parses the arguments of the settings file, of the environment and of the command line, in this order."""
     names = {it.name for it in COMMANDS}
     if given[:1] in (["--help"], ["-h"]):
         given = ["help", *given[1:]]
@@ -183,7 +183,7 @@ def split(text: str, where: str) -> list[str]:
 
 
 def take(found: Words, given: list[str], where: str) -> None:
-    """Takes arguments from left to right. After `--` none is an option."""
+    """Takes arguments from left to right. An argument after `--` is never an option."""
     known = {it.name: it for it in OPTIONS if found.command in it.commands.split()}
     waiting = list(given)
     while waiting:
@@ -212,7 +212,7 @@ def take(found: Words, given: list[str], where: str) -> None:
 
 
 def from_place(where: str) -> str:
-    """Returns where an argument comes from, unless it is the command line."""
+    """Returns a text about an argument's origin, or nothing for the command line."""
     return f" (from {where})" if where else ""
 
 
@@ -230,7 +230,7 @@ def check_value(option: Option, value: str, where: str) -> None:
 
 
 def check(found: Words) -> None:
-    """Checks what can't be had together, and how many arguments there are."""
+    """Checks for options that exclude each other, and checks the number of arguments."""
     for one, other, why in EXCLUDED:
         if found.has(one) and found.last(other, "0") not in ("0", "0.0"):
             raise Unwanted(f"{one} and {other} can't be had together: {why}")

@@ -17,12 +17,12 @@ from .options import Words
 from .voice import plural
 
 TEMPLATE = os.path.join(os.path.dirname(os.path.realpath(__file__)), "page.html")
-ORDER, MOST_BAD = ("failed", "broken", "skipped"), 50  # what isn't made, the most telling first
-OPEN, CANCELLED = -1000, -1001  # the exits of what was never answered, and of what was cancelled
+ORDER, MOST_BAD = ("failed", "broken", "skipped"), 50  # outcomes other than ok, the most important first
+OPEN, CANCELLED = -1000, -1001  # the exits of requests that were never answered, and of cancelled ones
 
 
 class Span(NamedTuple):
-    """A request that a worker slot had: from when to when, of which action, and with which exit."""
+    """A request that a worker slot had: its row, its begin and end, its action and its exit."""
 
     row: int
     begin: float
@@ -32,7 +32,7 @@ class Span(NamedTuple):
 
 
 class Clock:
-    """The requests of a run by worker slot. If a slot's worker is started again, its row goes on."""
+    """The requests of a run by worker slot. If a slot's worker is started again, it keeps its row."""
 
     def __init__(self, events: list[Event]) -> None:
         self.start = float(events[0]["t"])
@@ -106,7 +106,7 @@ class Clock:
 
 
 def longest_chain(listing: Listing, took: dict[str, float]) -> tuple[float, list[str]]:
-    """Returns the chain of actions, each of which needs the one before it, that took longest."""
+    """Returns the chain of actions that took longest. Each action in it needs the one before it."""
     makers = listing.makers()
     best: dict[str, float] = {}
     before: dict[str, str] = {}
@@ -123,7 +123,7 @@ def longest_chain(listing: Listing, took: dict[str, float]) -> tuple[float, list
 
 
 def waits(listing: Listing, clock: Clock) -> dict[str, float]:
-    """Returns for how long each action was ready and not yet sent."""
+    """Returns the time for which each action was ready but not yet sent."""
     makers = listing.makers()
     first = {it.name: it.begin for it in sorted(clock.spans, key=lambda it: -it.begin)}
     last = {it.name: it.end for it in sorted(clock.spans, key=lambda it: it.end)}
@@ -220,7 +220,7 @@ def data_of(clock: Clock, outcomes: dict[str, Event], chain: list[str], waiting:
 
 
 def page(words: Words) -> int:
-    """Writes the page of the last run, and prints where it is."""
+    """Writes the page of the last run, and prints its path."""
     listing = load(words.rest[0] if words.rest else "list.json")
     path = words.last("--out") or os.path.join(listing.state, "page.html")
     write_page(listing, path)

@@ -1,4 +1,4 @@
-"""Which program runs a list, with which options, and how a list is cut that is too large for one call."""
+"""Chooses the program that runs a list and its options, and cuts a list that is too large for one call."""
 from __future__ import annotations
 
 import json

@@ -9,7 +9,7 @@ TOTAL = re.compile(r"actions=\d+ ok=\d+ failed=\d+ broken=\d+ skipped=\d+$")
 
 
 class Reported(NamedTuple):
-    """What a report contains of an action."""
+    """The part of a report about an action."""
 
     name: str
     outcome: str  # ok, failed, broken, skipped, open

@@ -1,6 +1,6 @@
 """The bound of -j: watchers ask for a turn before they send a request on, and give it back with the answer.
 
-A turn belongs to a connection. The kernel closes that of a watcher that has ended, so no turn is lost, however it ended.
+A turn belongs to a connection. If a watcher ends, the kernel closes its connection. No turn is lost, however it ends.
 """
 from __future__ import annotations
 

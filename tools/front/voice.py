@@ -1,4 +1,4 @@
-"""What people read on standard error: the line of progress, failures, and the totals."""
+"""The output for people on standard error: the line of progress, failures, and the totals."""
 from __future__ import annotations
 
 import os
@@ -28,7 +28,7 @@ class Voice:
         return f"\033[{COLORS[color]}m{text}\033[0m" if self.has_color else text
 
     def line(self, text: str = "") -> None:
-        """Prints a line above that of the progress. If nobody reads it any more, the run goes on."""
+        """Prints a line above the line of progress. If nobody reads standard error any more, the run goes on."""
         try:
             self.erase()
             print(text, file=self.out, flush=True)
@@ -44,7 +44,7 @@ class Voice:
             self.shown = ""
 
     def progress(self, text: str) -> None:
-        """Shows how far the run is: at once on a terminal, otherwise every half minute."""
+        """Shows the progress of the run: at once on a terminal, otherwise every half minute."""
         if self.is_quiet:
             return
         if self.is_terminal:
@@ -59,7 +59,7 @@ class Voice:
             self.line(text)
 
     def seconds(self) -> float:
-        """Returns for how many seconds this has been at work."""
+        """Returns the seconds since this object was made."""
         return time.monotonic() - self.begun
 
 
@@ -78,12 +78,12 @@ def short(text: str) -> list[str]:
 
 
 def quoted(words: list[str]) -> str:
-    """Returns words as a shell takes them."""
+    """Returns words quoted for a shell."""
     return shlex.join(words)
 
 
 def of_list(path: str) -> str:
-    """Returns a list's or a folder's path for the end of a command that is shown, if the command needs it."""
+    """Returns the path of a list or folder for the end of a printed command, or nothing if it isn't needed."""
     return "" if path == "list.json" else f" {shlex.quote(path)}"
 
 

@@ -27,7 +27,7 @@ else:
     from _blake2 import blake2b  # hashlib would load OpenSSL, which takes longer than all the rest
 
 PIECE = 1 << 16
-PATIENCE = 10.0  # seconds after which an answer that is owed is told of
+PATIENCE = 10.0  # seconds after which a pending answer is reported as late
 LAST_READING = 0.2  # seconds for what a process that has ended still has in its pipes
 LAST_SECONDS = 5.0  # seconds for a worker's own end once its input has ended
 JUMP = 1.0  # seconds by which a wait may be late; more means that this process was stopped
@@ -40,7 +40,7 @@ KILLED_BY_TIMER = 137
 
 
 def sum_of(texts: tuple[str, ...] | list[str]) -> str:
-    """Returns a short digest of some texts, by which an action is recognized."""
+    """Returns a short digest of some strings. It identifies an action."""
     return blake2b("\0".join(texts).encode("utf-8", "replace"), digest_size=12).hexdigest()
 
 
@@ -56,7 +56,7 @@ def how_ended(status: int) -> str:
 
 
 class Open:
-    """A request that is owed an answer, or that waits to be sent."""
+    """A request that waits for its answer, or that waits to be sent."""
 
     def __init__(self, asked: wire.Asked, name: str, limit: float, raw: bytes) -> None:
         self.number, self.inputs, self.folder = asked.id, asked.inputs, asked.folder
@@ -66,7 +66,7 @@ class Open:
 
 
 class Watcher:
-    """One worker or executor, with what goes to it and comes from it."""
+    """One worker or executor, with its input and its output."""
 
     def __init__(self, config: dict[str, Any], words: list[str], environment: dict[str, str]) -> None:
         self.config, self.environment = config, environment
@@ -124,7 +124,7 @@ class Watcher:
             return None
 
     def words_in(self, room: str) -> list[str]:
-        """Returns the words that start the worker in a room, isolated if that is wanted."""
+        """Returns the arguments that start the worker in a room, isolated if the config requires it."""
         return isolated(self.config["isolate"], self.words, room) if self.config.get("isolate") else self.words
 
     def room(self) -> str:
@@ -143,7 +143,7 @@ class Watcher:
         return True
 
     def tell_keeper(self, is_busy: bool) -> None:
-        """Tells the keeper whether an answer is owed. A worker that may have loaded a changed tool stays busy, so it isn't kept."""
+        """Tells the keeper if an answer is pending. A worker that may have loaded a changed tool stays busy, so it isn't kept."""
         if self.child is not None and self.child.keeper is not None:
             if not is_busy and not self.tools_are_as_before():
                 return
@@ -160,7 +160,7 @@ class Watcher:
             try:
                 asked = wire.asked_of(message, self.form)
             except (ValueError, TypeError, AttributeError, KeyError):
-                self.send(raw)  # The worker has to judge what can't be read here.
+                self.send(raw)  # The worker must decide about a message that can't be read here.
                 continue
             if asked.cancel:
                 self.cancel(asked.id, raw)
@@ -201,7 +201,7 @@ class Watcher:
         return wire.framed(wire.with_words(message, words)) if words != list(asked.words) else wire.framed(message)
 
     def job_script(self, limit: float) -> str:
-        """Returns the shell's command for a job that runs here: with a timer and a sandbox, as far as they are wanted."""
+        """Returns the shell's command for a job that runs here, with a timer and a sandbox if the config requires them."""
         timer = f"{self.config['timer']} -s KILL {limit:g} " if limit else ""
         bound = self.config.get("isolate")
         box = ""
@@ -210,7 +210,7 @@ class Watcher:
         return f'exec {timer}{box}"$@" 2>&1'
 
     def most_open(self) -> int:
-        """Returns how many requests may be open at once."""
+        """Returns the number of requests that may be open at once."""
         in_turn = self.form == "job" and self.config["in_turn"] and self.turns is not None
         return 1 if self.suspects or in_turn else 1 << 30
 
@@ -236,7 +236,7 @@ class Watcher:
             self.send(now.raw)
 
     def bring(self, now: Open) -> bool:
-        """Brings a request's inputs to where a kept worker stays. If that fails, the request has failed."""
+        """Brings a request's inputs to the folder of a kept worker. If that fails, the request has failed."""
         try:
             assert self.home is not None
             self.home.bring(now.folder, now.inputs, self.config["outputs"].get(now.name, []))
@@ -246,7 +246,7 @@ class Watcher:
             return False
 
     def fail(self, it: Open, text: str) -> None:
-        """Answers a request in the worker's place, that it has failed."""
+        """Answers a request instead of the worker: it has failed."""
         self.open.pop(it.number, None)
         self.stop_all()
         self.notes.add_of("answer", it.name, it.number, f', "exit": 1, "text": {json.dumps(text)}')
@@ -281,7 +281,7 @@ class Watcher:
             self.end_input()
 
     def forget(self, fd: int) -> None:
-        """Waits for a file no longer."""
+        """Stops waiting for a file."""
         try:
             self.poll.unregister(fd)
         except (KeyError, ValueError):
@@ -345,7 +345,7 @@ class Watcher:
             self.keep_room(done)
 
     def take_back(self, done: Open) -> None:
-        """Moves what a kept worker has made into the room of this process."""
+        """Moves a kept worker's outputs into the room of this process."""
         try:
             assert self.home is not None
             self.home.take_back(done.folder, done.inputs, self.config["outputs"].get(done.name))
@@ -353,7 +353,7 @@ class Watcher:
             write_all(2, f"{done.name}: its outputs can't be taken from a kept worker: {error}\n".encode())
 
     def stop_all(self) -> None:
-        """Makes the file by which all watchers know that nothing more is to be started."""
+        """Makes the file that tells all watchers to start nothing more."""
         if self.config["stops"]:
             try:
                 os.close(os.open(self.config["stop"], os.O_WRONLY | os.O_CREAT, 0o666))
@@ -361,7 +361,7 @@ class Watcher:
                 pass
 
     def keep_room(self, done: Open) -> None:
-        """Keeps the request of an attempt that failed, and a copy of its room if that is wanted."""
+        """Keeps the request of an attempt that failed, and a copy of its room if the config requires it."""
         if self.form == "job":
             return
         base = os.path.join(self.config["logs"], file_name(done.name))
@@ -388,7 +388,7 @@ class Watcher:
             self.notes.add("text", text=repr(for_people(text[:SHOWN]))[1:], n=self.owing())
 
     def owing(self) -> str:
-        """Returns the action that has been owed an answer for longest, or nothing."""
+        """Returns the action that has waited longest for its answer, or an empty string."""
         return next(iter(self.open.values())).name if self.open else ""
 
     # Standard error, time, and the end.
@@ -411,11 +411,11 @@ class Watcher:
         return list(self.open.values())[: 1 if self.config["in_turn"] else None]
 
     def begun(self, it: Open) -> float:
-        """Returns when a request began to be at work. An executor may do its jobs in turn, so there it is after the last answer."""
+        """Returns the time at which a request began. An executor may do its jobs in turn, so there it is after the last answer."""
         return max(it.since, self.last_answer) if self.form == "job" else it.since
 
     def wait_ms(self) -> float | None:
-        """Returns for how many milliseconds nothing has to be looked at, or None for ever."""
+        """Returns the number of milliseconds until something must be checked, or None for ever."""
         ends = [self.deadline] if self.deadline else []
         for it in self.judged():
             ends += [self.begun(it) + it.limit] if it.limit else []
@@ -423,7 +423,7 @@ class Watcher:
         return max(0.0, (min(ends) - time.monotonic()) * 1000 + 1) if ends else None
 
     def guard(self) -> None:
-        """Ends the worker if it owes an answer for too long, and tells of one that is late."""
+        """Kills the worker if an answer is overdue, and reports an answer that is late."""
         now = time.monotonic()
         if self.deadline and now >= self.deadline and self.child is not None:
             self.child.kill()
@@ -441,7 +441,7 @@ class Watcher:
                 self.notes.add("late", n=it.name, s=PATIENCE, held=repr(bytes(self.answered.held[:SHOWN]))[1:])
 
     def ended(self) -> None:
-        """Handles the end of the worker's process: reads its last bytes, kills its group, and ends as it did or goes on with a new one."""
+        """Handles the end of the worker's process: reads its last bytes and kills its group. Ends as it did, or starts a new one."""
         child = self.child
         assert child is not None
         status = children.status_of(child.pid) if child.keeper is None else end_of_kept(child)
@@ -464,7 +464,7 @@ class Watcher:
             end_as(status)
 
     def renew(self, child: Child, status: int) -> None:
-        """Goes on with a new process after one that ended by itself having read nothing of what is owed."""
+        """Continues with a new process after one that ended by itself without reading any open request."""
         self.notes.add("end", status=status, owed=[])
         self.leave(child)
         self.give_turns(len(self.open))
@@ -473,7 +473,7 @@ class Watcher:
         self.pump()
 
     def part(self, child: Child, status: int) -> None:
-        """Repeats each request over which a worker died alone. One over which it died alone has failed, and harms no other."""
+        """Repeats separately each request over which a worker died. If the worker dies again, only that request has failed."""
         owed = list(self.open.values())
         self.notes.add("end", status=status, owed=[it.name for it in owed])
         self.leave(child)
@@ -510,7 +510,7 @@ class Watcher:
         self.to_child.clear()
 
     def read_rest(self, child: Child) -> None:
-        """Reads what is in the pipes of a process that has ended, whatever other process holds them open."""
+        """Reads the rest in the pipes of a process that has ended, even if another process holds them open."""
         until = time.monotonic() + LAST_READING
         for fd, take in ((child.tap, self.hear), (child.errors, self.errors)):
             while children.waiting(fd) and time.monotonic() < until:
@@ -617,7 +617,7 @@ def looks_wrong(cutter: wire.Cutter, form: str) -> bool:
 
 
 def for_people(text: bytes) -> bytes:
-    """Returns the lines for people at the front of some bytes, whatever follows in the same piece; all bytes if there is none."""
+    """Returns the lines for people at the start of some bytes, or all bytes if there are no such lines."""
     end = 0
     for line in text.splitlines(keepends=True):
         if not (line.endswith(b"\n") and line.isascii() and line[:-1].decode().isprintable()):

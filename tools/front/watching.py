@@ -86,7 +86,7 @@ class Watching:
         return self.write(f"keys/{mark}.json", config)
 
     def names_of(self, actions: list[Action]) -> Json:
-        """Returns the names and limits of actions by their inputs, with the words of those that inputs don't tell apart."""
+        """Returns the names and limits of actions by their inputs. If several have equal inputs, adds their words."""
         same: dict[str, list[Action]] = {}
         for it in actions:
             same.setdefault(sum_of(it.inputs), []).append(it)
@@ -94,7 +94,7 @@ class Watching:
                 for mark, found in same.items()}
 
     def executor_words(self, program: str, actions: list[Action]) -> list[str]:
-        """Writes the settings of the executor. Returns the words by which it is given, with a watcher before it."""
+        """Writes the settings of the executor. Returns the arguments that specify it, with a watcher before it."""
         if not self.executor:
             return []
         name = os.path.basename(self.executor)
@@ -125,7 +125,7 @@ class Watching:
 
 
 def executor_words(executor: str, program: str) -> list[str]:
-    """Returns the words by which an executor is given."""
+    """Returns the arguments that specify an executor."""
     if not executor:
         return []
     return [f"--executor={executor}", *([f"--sandbox_executor={executor}"] if program == "spawn_tool" else [])]

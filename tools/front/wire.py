@@ -15,11 +15,11 @@ MAX_MESSAGE = 67_108_864
 
 
 class NoMessage(ValueError):
-    """Bytes that spell no message."""
+    """Bytes that aren't a message."""
 
 
 class Asked:
-    """A request or a job: its number, words, paths, and whether it cancels."""
+    """A request or a job: its number, its words, its paths, and true if it cancels."""
 
     def __init__(self, number: int = 0, words: tuple[str, ...] = (), inputs: tuple[str, ...] = (), outputs: tuple[str, ...] = (),
                  cancel: bool = False, folder: str = "") -> None:
@@ -35,7 +35,7 @@ class Told:
 
 
 def number_at(data: bytes, at: int) -> tuple[int, int]:
-    """Returns the number that begins at a place, and where it ends, or -1 as its end if it is cut off."""
+    """Returns the number that begins at a place, and the place of its end, or -1 as its end if it is cut off."""
     number = shift = 0
     for place in range(at, min(at + MAX_NUMBER_BYTES, len(data))):
         byte = data[place]
@@ -59,7 +59,7 @@ def number_bytes(number: int) -> bytes:
 
 
 def fields(data: bytes) -> Iterator[tuple[int, int, int, int]]:
-    """Yields each field: its number, its value (0 for bytes), and where its bytes begin and end."""
+    """Yields each field: its number, its value (0 for bytes), and the begin and end of its bytes."""
     at, end = 0, len(data)
     while at < end:
         tag, at = number_at(data, at)
@@ -81,7 +81,7 @@ def fields(data: bytes) -> Iterator[tuple[int, int, int, int]]:
 
 
 def signed(number: int) -> int:
-    """Returns the int32 that the low bits of a number spell."""
+    """Returns the int32 in the low bits of a number."""
     return ((number & 0xFFFFFFFF) ^ 0x80000000) - 0x80000000
 
 
@@ -206,7 +206,7 @@ def with_words(message: bytes, words: list[str]) -> bytes:
 
 
 class Cutter:
-    """Cuts a stream into frames, in whatever pieces it arrives."""
+    """Cuts a stream into frames, regardless of the pieces in which it arrives."""
 
     def __init__(self, form: str) -> None:
         self.in_lines = form == "json"
@@ -214,7 +214,7 @@ class Cutter:
         self.searched = 0
 
     def feed(self, piece: bytes) -> list[tuple[bytes, bytes]]:
-        """Takes a piece. Returns the frames that it completes, each as it came and without its length."""
+        """Takes a piece. Returns each frame that it completes, once as it arrived and once without its length."""
         self.held += piece
         found: list[tuple[bytes, bytes]] = []
         while True:
@@ -227,7 +227,7 @@ class Cutter:
             found.append((raw, raw[begin:]))
 
     def first(self) -> tuple[int, int]:
-        """Returns where the first message begins and ends, or -1 as its end if it isn't whole."""
+        """Returns the begin and end of the first message, or -1 as its end if it isn't complete."""
         if self.in_lines:
             end = self.held.find(b"\n", self.searched) + 1
             self.searched = len(self.held)

@@ -48,7 +48,7 @@ async function selfTest() {
   console.log('as expected');
 }
 
-const words = process.argv.slice(2);
+const words = process.argv.slice(2).filter(it => it !== '--answers=3');
 if (words.includes('--self-test')) selfTest();
 else if (words.includes('--persistent_worker')) serve(lint);
 else lint({ words: ownWords(words), folder: '.' }).then(code => { process.exitCode = code; });

@@ -63,7 +63,7 @@ function selfTest() {
   console.log('as expected');
 }
 
-const words = process.argv.slice(2);
+const words = process.argv.slice(2).filter(it => it !== '--answers=3');
 if (words.includes('--self-test')) selfTest();
 else if (words.includes('--persistent_worker')) serve(compile);
 else process.exitCode = compile({ words: ownWords(words), digests: new Map(), folder: '.' });

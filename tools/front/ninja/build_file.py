@@ -16,7 +16,7 @@ Bindings = list[tuple[str, str]]
 
 
 class Scope:
-    """Variables and rules, and the scope above, which is asked for those that this one hasn't."""
+    """Variables and rules, and the scope above, which supplies those that this scope lacks."""
 
     def __init__(self, above: Scope | None = None) -> None:
         self.above = above
@@ -56,7 +56,7 @@ def quoted(path: str) -> str:
 
 @dataclasses.dataclass(eq=False)
 class Edge:
-    """A step of the build: what it reads, what it makes, and how."""
+    """A step of the build: its inputs, its outputs, and its rule."""
 
     rule: str
     outputs: list[str]
@@ -82,12 +82,12 @@ class Edge:
 
     @property
     def made(self) -> list[str]:
-        """What it makes."""
+        """Returns all its outputs."""
         return self.outputs + self.implicit_outputs
 
     @property
     def read(self) -> list[str]:
-        """What has to be there before it runs."""
+        """Returns all paths that must exist before it runs."""
         return self.inputs + self.implicit + self.order_only
 
 
@@ -135,7 +135,7 @@ class BuildFile:
             scope.values[name] = filled(value, scope.value)
 
     def wanted(self, targets: list[str]) -> list[Edge]:
-        """Returns the edges that the targets need, makers first. Without targets these are the defaults, or what nothing reads."""
+        """Returns the edges that the targets need, makers first. Without targets it takes the defaults, or all final outputs."""
         read = {path for edge in self.edges for path in edge.read}
         roots = targets or self.defaults or [path for edge in self.edges for path in edge.made if path not in read]
         found: dict[Edge, None] = {}
@@ -147,7 +147,7 @@ class BuildFile:
         return list(found)
 
     def descend(self, top: Edge, entered: set[Edge], found: dict[Edge, None]) -> None:
-        """Adds an edge behind all that it needs."""
+        """Adds to `found` all edges that an edge needs, and then this edge."""
         if top in entered:
             return
         entered.add(top)
@@ -163,7 +163,7 @@ class BuildFile:
                 stack.append((below, iter(below.read)))
 
     def leaves(self, paths: list[str]) -> list[str]:
-        """Returns the files that paths stand for: a phony one stands for those that it names."""
+        """Returns the files for paths. The output of a phony edge is replaced by the files that the edge reads."""
         found: dict[str, None] = {}
         seen: set[str] = set()
         rest = list(reversed(paths))
@@ -205,7 +205,7 @@ def binding(line: str) -> tuple[str, str]:
 
 
 def path_of(text: str, scope: Scope) -> str:
-    """Returns a path of the file in ninja's canonical form."""
+    """Returns a path in ninja's canonical form, with its variables replaced."""
     path = filled(text, scope.value)
     return os.path.normpath(path) if "./" in path or "//" in path or path.endswith(("/", "/.", "/..")) else path
 

@@ -34,7 +34,7 @@ MOUNTED = ("unshare", "--user", "--map-root-user", "--mount", "/bin/sh", "-c",
 
 
 class Order:
-    """What a request orders."""
+    """The order of a request."""
 
     def __init__(self, text: str, room: str) -> None:
         held: dict[str, Any] = json.loads(text)
@@ -50,21 +50,21 @@ class Order:
         self.words = [self.meant(it) for it in words]
 
     def meant(self, text: str) -> str:
-        """Returns a text with the room's path in it."""
+        """Returns a text with {room} replaced by the room's path."""
         return text.replace("{room}", self.room)
 
     def at(self, path: str) -> str:
-        """Returns where a path of the project is in the room."""
+        """Returns the path in the room of a path of the project."""
         return os.path.join(self.room, path)
 
     def command(self) -> list[str]:
-        """Returns the words of the process that is started."""
+        """Returns the arguments of the process that is started."""
         if not self.mounts:
             return self.words
         return [*MOUNTED, self.room, self.root, os.path.normpath(os.path.join(self.root, self.inner)), *self.words]
 
     def prepare(self) -> None:
-        """Makes the folders of what the command makes, and its response files."""
+        """Makes the folders of the command's outputs, and its response files."""
         for folder in {self.inner, *map(os.path.dirname, (*self.makes, *self.files, *self.depfile))}:
             os.makedirs(self.at(folder), exist_ok=True)
         for path, text in self.files.items():
@@ -72,7 +72,7 @@ class Order:
                 file.write(text)
 
     def tidy(self) -> None:
-        """Makes regular files of the links that the command left as outputs, and puts its depfile where it belongs."""
+        """Replaces links that the command left as outputs by regular files, and writes its depfile to its place."""
         for path in map(self.at, self.makes):
             if os.path.islink(path) and os.path.isfile(path):
                 shutil.copy(path, path + ".copy")
@@ -84,7 +84,7 @@ class Order:
                 file.write(text.replace(os.fsencode(self.room), os.fsencode(self.root)))
 
     def missing(self) -> list[str]:
-        """Returns a line for each header of the system that was read though the project has one of that name which isn't here."""
+        """Returns a line for each header of the system that was read instead of one of the project that isn't in the room."""
         if not self.depfile or not os.path.isfile(self.at(self.depfile[1])):
             return []
         from front.ninja.depfiles import words_of
@@ -96,7 +96,7 @@ class Order:
         return [line for name in sorted(foreign) for line in self.shadows(name, own)][:5]
 
     def shadows(self, name: str, own: list[str]) -> list[str]:
-        """Returns a line if the project has a header where the compiler would have looked for it first, and this room hasn't."""
+        """Returns a line if the compiler would have found a header of the project first, but the room lacks it."""
         near = {os.path.dirname(it) for it in own if quotes(self.at(it), name)}
         for folder in (*sorted(near), *self.folders):
             path = os.path.normpath(os.path.join(folder, name))
@@ -106,7 +106,7 @@ class Order:
 
 
 def quotes(path: str, name: str) -> bool:
-    """Returns True if a source includes a name in quotes, which is looked for beside that source first."""
+    """Returns True if a source includes a name in quotes. A compiler first looks for it in that source's folder."""
     from front.ninja.includes import includes_in
 
     try:

@@ -1,4 +1,4 @@
-"""Reads depfiles: what a compiler says that it has read."""
+"""Reads depfiles, in which a compiler lists the files that it has read."""
 from __future__ import annotations
 
 import re

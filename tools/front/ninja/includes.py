@@ -1,7 +1,7 @@
 """Finds which files below a folder a C or C++ source can include: by reading it, with no preprocessor.
 
-Conditions aren't looked at, so more may be found than is read, and never less, except for a name that a macro makes: if there is one,
-the compiler has to be asked.
+It ignores conditions, so it may find more files than the compiler reads, and never fewer, except for a name that a macro makes. If
+there is such a name, the compiler must be asked.
 """
 from __future__ import annotations
 
@@ -19,14 +19,14 @@ SPLICED = re.compile(rb"\\\r?\n")
 
 
 class Folders(NamedTuple):
-    """The folders in which includes are looked for: those for names in quotes alone, and those for all names."""
+    """The folders that are searched for includes: those for only names in quotes, and those for all names."""
 
     quotes: tuple[str, ...]
     all: tuple[str, ...]
 
 
 class Scanner:
-    """What each file includes, remembered by its stamp."""
+    """The includes of each file, remembered with the file's stamp."""
 
     def __init__(self, kept: dict[str, list[Any]], stamp: Callable[[str], Stamp | None], made: set[str], is_old: Callable[[Stamp], bool]) -> None:
         self.kept = kept  # path -> [stamp, [[kind, name]..]]
@@ -35,7 +35,7 @@ class Scanner:
         self.is_new = False
 
     def names(self, path: str) -> list[list[str]]:
-        """Returns the includes of a file: of which kind each is, and its name."""
+        """Returns the includes of a file: the kind and the name of each."""
         stamp = self.stamp(path)
         if stamp is None:
             return []
@@ -50,11 +50,11 @@ class Scanner:
         return names
 
     def there(self, path: str) -> bool:
-        """Returns True if there is a file, or a step that makes one."""
+        """Returns True if the file exists, or if a step makes it."""
         return path in self.made or self.stamp(path) is not None
 
     def places_of(self, name: str, folders: tuple[str, ...]) -> list[str]:
-        """Returns where a name is found in folders, in their order."""
+        """Returns the paths of a name in these folders, in their order."""
         key = name, folders
         if key not in self.places:
             paths = (os.path.normpath(os.path.join(folder, name)) for folder in folders)
@@ -66,7 +66,7 @@ class Scanner:
         self.places.clear()
 
     def closure(self, sources: list[str], folders: Folders) -> tuple[set[str], bool]:
-        """Returns all files that sources can include, with themselves; and whether a macro names one."""
+        """Returns the sources and all files that they can include, and True if a macro names an include."""
         found, rest, is_unsure = set(sources), list(sources), False
         while rest:
             path = rest.pop()
@@ -88,7 +88,7 @@ class Scanner:
 
 
 def includes_in(data: bytes) -> set[tuple[str, str]]:
-    """Returns the includes that stand in a text."""
+    """Returns the includes in a text."""
     return {kind_of(it) for it in INCLUDE.finditer(SPLICED.sub(b"", data) if b"\\" in data else data)}
 
 

@@ -1,4 +1,4 @@
-"""A configured ninja project: its steps as actions, and what is done beside them."""
+"""A configured ninja project: its steps as actions, and the work around them."""
 from __future__ import annotations
 
 import json
@@ -24,7 +24,7 @@ STEP = 0.05  # seconds between two looks at a step that runs in place
 
 
 class Project(Origin):
-    """A build folder. The process has to be in the root."""
+    """A build folder. The process must be in the root."""
 
     def __init__(self, settings: Settings, configures: bool = True) -> None:
         self.settings, self.root, self.folder = settings, settings.root, settings.folder
@@ -42,14 +42,14 @@ class Project(Origin):
         self.load()
 
     def load(self) -> None:
-        """Makes steps of the edges that are wanted."""
+        """Makes the steps. Raises Unreadable if variables of a rule refer to each other."""
         try:
             self.make_steps()
         except RecursionError:
             raise Unreadable(f"{self.folder}/build.ninja: variables of a rule name each other") from None
 
     def make_steps(self) -> None:
-        """Makes them."""
+        """Makes a step of each wanted edge."""
         chosen = [it for it in self.build.wanted(self.settings.targets) if it.rule != "phony" and not it.value("generator") and it.value("command")]
         for edge in chosen:
             if edge.value("dyndep"):
@@ -61,7 +61,7 @@ class Project(Origin):
         self.aliases = {self.below(step.edge.inputs[0]) or "": step.products for step in self.steps if step.links and step.edge.inputs}
 
     def listing(self, path: str) -> Listing:
-        """Returns the list, and writes it if it isn't as before."""
+        """Returns the list, and writes it if it has changed."""
         self.actions = [it.action() for it in self.steps]
         self.keep()
         text = json.dumps({"actions": [it.object for it in self.actions]}, indent=1) + "\n"
@@ -75,7 +75,7 @@ class Project(Origin):
     # Paths, stamps and words.
 
     def below(self, path: str, takes_root: bool = False) -> str | None:
-        """Returns the path from the root of one that is meant from the build folder, or None if it leads out."""
+        """Converts a path relative to the build folder into one relative to the root. Returns None if it isn't below the root."""
         key = path, takes_root
         if key not in self.short:
             found = os.path.normpath(os.path.join(self.folder, path))
@@ -84,7 +84,7 @@ class Project(Origin):
         return self.short[key]
 
     def stamp(self, path: str) -> Stamp | None:
-        """Returns the stamp of a regular file, or None."""
+        """Returns the stamp of a regular file, or None if there is none."""
         if path not in self.stamps:
             self.stamps[path] = stamp_of(path)
         return self.stamps[path]
@@ -99,14 +99,14 @@ class Project(Origin):
         return self.cut[text]
 
     def write_flags(self, path: str, text: str) -> None:
-        """Writes a flag file if it isn't so already."""
+        """Writes a flag file, unless it has this text already."""
         if not is_text(path, text):
             os.makedirs(os.path.dirname(path), exist_ok=True)
             write_whole(path, text)
             self.stamps.pop(path, None)
 
     def read_kept(self) -> dict[str, Any]:
-        """Returns what was found in sources and depfiles by earlier calls."""
+        """Returns what earlier calls found in sources and depfiles."""
         try:
             with open(f"{self.own}/found.json", encoding="utf-8") as file:
                 held = json.load(file)
@@ -128,7 +128,7 @@ class Project(Origin):
         return found if found is not None and found.value("command") else None
 
     def configure(self) -> bool:
-        """Has the build file made again if what it is made of is newer. Returns True if it was."""
+        """Runs the step of the build file if one of its inputs is newer. Returns True if it ran."""
         edge = self.generator()
         own = os.stat(f"{self.folder}/build.ninja").st_mtime_ns
         if edge is None or all(self.time_of(it) <= own for it in self.build.leaves(edge.inputs + edge.implicit)):
@@ -141,16 +141,16 @@ class Project(Origin):
         return True
 
     def time_of(self, path: str) -> int:
-        """Returns the time of a file that the build file is made of; one that is gone counts as new."""
+        """Returns the time of an input of the build file. If the file is gone, returns the current time."""
         try:
             return os.stat(os.path.join(self.folder, path)).st_mtime_ns
         except OSError:
             return time.time_ns()
 
-    # What a build asks of the origin of its list.
+    # The methods that a build calls as the origin of its list.
 
     def shown(self) -> str:
-        """Returns what a person calls the list."""
+        """Returns the name of the list for people."""
         return self.inner
 
     def extra_paths(self) -> list[str]:
@@ -161,7 +161,7 @@ class Project(Origin):
                 *(os.path.normpath(os.path.join(self.inner, it)) for it in more)]
 
     def look_again(self, done: list[Action], left: list[Action]) -> None:
-        """After some actions: finds what those that are left may read, if sources were made."""
+        """After some actions, finds again which files the remaining ones may read, if sources may have been made."""
         if any(isinstance(it, Imported) and (it.in_place or it.step.is_custom) for it in done):
             self.stamps.clear()
             self.scanner.forget_places()
@@ -170,7 +170,7 @@ class Project(Origin):
                     it.look_again()
 
     def finish(self) -> None:
-        """Makes the links that ninja makes of the copies in their places: a link is no output of an action."""
+        """Replaces copies by the links that ninja makes there, since a link can't be an output of an action."""
         for step in self.steps:
             if step.links and any(os.path.isfile(it) and not os.path.islink(it) for it in step.products):
                 subprocess.run(step.text, shell=True, cwd=self.folder, env=self.settings.env, stdin=subprocess.DEVNULL, stdout=subprocess.DEVNULL, check=False)
@@ -199,9 +199,9 @@ class Project(Origin):
 
 
 def wait_for(child: subprocess.Popen[bytes], is_over: Callable[[], bool]) -> int:
-    """Waits for a command, and ends its group when it has ended, or if its time is over. Returns its exit code as a shell gives it."""
+    """Waits until a command ends or `is_over` is true, and kills its group. Returns the exit code that a shell would give."""
     try:
-        # It is waited for later, so that its number stays its group's.
+        # WNOWAIT leaves the child unreaped, so that its number still names its group.
         while os.waitid(os.P_PID, child.pid, os.WEXITED | os.WNOWAIT | os.WNOHANG) is None and not is_over():
             time.sleep(STEP)
     finally:
@@ -211,7 +211,7 @@ def wait_for(child: subprocess.Popen[bytes], is_over: Callable[[], bool]) -> int
 
 
 def is_old(stamp: Stamp) -> bool:
-    """Returns True if a file can't change any more without another stamp."""
+    """Returns True if any later change of the file changes its stamp."""
     return max(stamp[1], stamp[2]) + YOUNG < time.time_ns()
 
 

@@ -1,4 +1,4 @@
-"""What `lenthuvi import` has noted of a build folder, and whether a command can see its room at the project's own path."""
+"""The settings that `lenthuvi import` records for a build folder, and a test whether a room can be mounted at the project's path."""
 from __future__ import annotations
 
 import dataclasses
@@ -19,7 +19,7 @@ KIND, VERSION = "ninja", 1
 
 @dataclasses.dataclass
 class Settings:
-    """What an import decides. `root` has the sources and the build folder below it; both are whole paths."""
+    """The settings of an import. The sources and the build folder are below `root`. `root` and `folder` are absolute paths."""
 
     folder: str
     root: str
@@ -36,7 +36,7 @@ class Settings:
 
     @property
     def own(self) -> str:
-        """Returns the path, from the root, of the folder in which the import has its files."""
+        """Returns the path, from the root, of the folder with the import's files."""
         return os.path.normpath(os.path.join(self.inner, IMPORTED))
 
     def write(self) -> None:
@@ -48,7 +48,7 @@ class Settings:
 
 
 def read_settings(folder: str) -> Settings | None:
-    """Returns what was noted of a build folder, or None if it wasn't imported."""
+    """Returns the settings of a build folder, or None if it wasn't imported."""
     folder = os.path.realpath(folder)
     path = os.path.join(folder, IMPORTED, "settings.json")
     try:

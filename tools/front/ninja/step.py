@@ -20,7 +20,7 @@ if TYPE_CHECKING:
     from .project import Project
 
 COMMAND_WORKER = os.path.join(os.path.dirname(os.path.realpath(__file__)), "command_worker.py")
-# A word as a shell cuts it, with its quotes, or the blanks between two.
+# A word as a shell splits it, with its quotes, or the blanks between two words.
 RAW_WORD = re.compile(r"""(?:[^\s'"\\]|\\.|'[^']*'|"(?:\\.|[^"\\])*")+|\s+""", re.S)
 FOR_SHELL = re.compile(r"[|&;<>()$`*?#~!\n\[\]{}]|^[A-Za-z_]\w*=")
 BETWEEN_WORDS = re.compile(r"[\s'\"]+")
@@ -33,7 +33,7 @@ REQUIREMENTS = {"supports-workers": "1", "requires-worker-protocol": "json", "wo
 
 
 class Step:
-    """An edge of the build file: what it reads, what it makes, and its command."""
+    """An edge of the build file: its inputs, its outputs, and its command."""
 
     def __init__(self, edge: Edge, number: int, project: Project) -> None:
         self.edge, self.number, self.project = edge, number, project  # makers have lower numbers
@@ -59,7 +59,7 @@ class Step:
         return "Compile" if self.compiles else "Command" if self.is_custom else "Link"
 
     def reason_for_place(self, inputs: list[str]) -> str:
-        """Returns why the step has to run in the project's own folder, as ninja runs it; nothing if it can run in a room."""
+        """Returns the reason why the step must run in the project's own folder, as in ninja, or nothing if it can run in a room."""
         if self.is_utility:
             return NO_FILE
         if self.depfile is not None and not self.compiles:
@@ -73,10 +73,10 @@ class Step:
         trouble = next((f"{it!r} {why}" for it in (*self.products, *inputs) if (why := trouble_of(it))), None)
         return trouble or ("" if self.products else "what it makes isn't below the root")
 
-    # What it reads.
+    # The files that it reads.
 
     def declared(self) -> list[str]:
-        """Returns the files that the build file says it reads, and those that its words name; also what only has to be made before."""
+        """Returns the files that the build file or the command's words name as read, including those that only must be made before."""
         if self.compiles and self.known() is not None:
             return self.deciding()
         if "all" not in self.said:
@@ -84,7 +84,7 @@ class Step:
         return self.said["all"]
 
     def deciding(self) -> list[str]:
-        """Returns those of them that decide whether it is up to date: for ninja these aren't what only has to be made before."""
+        """Returns the declared files that decide whether it is up to date. As in ninja, order-only inputs don't."""
         if "deciding" not in self.said:
             edge, leaves = self.edge, self.project.build.leaves
             only_before = set(leaves(edge.order_only)) - set(leaves(edge.inputs + edge.implicit))
@@ -93,7 +93,7 @@ class Step:
         return self.said["deciding"]
 
     def find(self, paths: list[str]) -> list[str]:
-        """Returns the files that paths stand for, with those that the words name."""
+        """Returns the files for paths. Unless the step compiles, adds those that the words or --also name."""
         project = self.project
         found = dict.fromkeys(project.below(it) for it in project.build.leaves(paths))
         if not self.compiles:
@@ -102,7 +102,7 @@ class Step:
         return [it for it in found if it and it not in self.products and self.reads(it)]
 
     def reads(self, path: str) -> bool:
-        """Returns True if a path is a file for this step: no folder, and for a compiler no library that is only to be made before."""
+        """Returns True if the step may read a path: a file, but for a compiler no library that only must be made before."""
         maker = self.project.makers.get(path)
         if maker is None:
             return self.project.stamp(path) is not None
@@ -111,7 +111,7 @@ class Step:
         return not self.compiles or maker.is_custom or path in map(self.project.below, self.edge.inputs + self.edge.implicit)
 
     def named(self) -> Iterator[str]:
-        """Yields the files below the root that the words name, and other names of the libraries among the inputs."""
+        """Yields the files below the root that the words name, and the other names of libraries among the inputs."""
         project = self.project
         for word in map(project.below, BETWEEN_WORDS.split(self.whole)):
             if word and word in project.makers:
@@ -122,11 +122,11 @@ class Step:
             yield from project.aliases.get(path or "", ())  # a linker looks for a library's library by its short name
 
     def known(self) -> list[str] | None:
-        """Returns what the depfile of the last run names, or None if there is no depfile."""
+        """Returns the paths in the depfile of the last run, or None if there is no depfile."""
         return self.project.depfiles.paths(self.own_depfile) if self.depfile is not None else None
 
     def inputs(self) -> list[str]:
-        """Returns all that it may read: what is declared, what it read, and what its sources can include now."""
+        """Returns all files that it may read: those declared, those that it read, and those that its sources can include now."""
         found = dict.fromkeys(self.declared())
         if self.compiles:
             more = [*(self.known() or ()), *sorted(self.included())]
@@ -134,12 +134,12 @@ class Step:
         return list(found)
 
     def is_there(self, path: str) -> bool:
-        """Returns True if a file is there, or is made by a step before this one."""
+        """Returns True if a file exists, or if a step before this one makes it."""
         maker = self.project.makers.get(path)
         return maker.number < self.number if maker is not None else self.project.stamp(path) is not None
 
     def after(self) -> list[str]:
-        """Returns the paths of steps that make no file and have to run before this one."""
+        """Returns the paths of steps that make no file and must run before this one."""
         found = (self.project.below(it) for it in self.project.build.leaves(self.edge.read))
         makers = self.project.makers
         return [it for it in found if it and it in makers and makers[it].is_utility and makers[it].number < self.number]
@@ -154,7 +154,7 @@ class Step:
         return found
 
     def folders(self) -> Folders:
-        """Returns the folders below the root in which includes are looked for, in the compiler's order."""
+        """Returns the folders below the root that the compiler searches for includes, in its order."""
         found: dict[str, list[str]] = {it: [] for it in FOLDER_WORDS}
         words = iter(self.project.split(self.whole))
         for word in words:
@@ -166,13 +166,13 @@ class Step:
         return Folders(quotes, tuple(dict.fromkeys(it for other in others for it in other)))
 
     def forced(self) -> list[str]:
-        """Returns what -include names."""
+        """Returns the files that -include and -imacros name."""
         words = self.project.split(self.whole)
         paths = (self.project.below(words[at + 1]) for at, word in enumerate(words[:-1]) if word in FORCED)
         return [it for it in paths if it and self.project.scanner.there(it)]
 
     def asked(self) -> set[str]:
-        """Returns what the compiler itself says that it reads, with a macro's names in place."""
+        """Runs the compiler with -M, and returns the files that it would read. This includes names that a macro makes."""
         words = list(self.project.split(self.whole))
         for word in ("-o", "-MF", "-MT", "-MQ"):
             if word in words[:-1]:
@@ -182,13 +182,13 @@ class Step:
             done = subprocess.run(words, cwd=self.project.folder, env=self.project.settings.env, stdin=subprocess.DEVNULL, stdout=subprocess.PIPE,
                                   stderr=subprocess.DEVNULL, text=True, errors="surrogateescape", check=False)
         except OSError:
-            return set()  # The step itself will tell that the compiler can't be started.
+            return set()  # The step itself will report that the compiler can't be started.
         return set(self.project.depfiles.named(done.stdout))
 
-    # What it is as an action.
+    # The step as an action.
 
     def order(self) -> Json:
-        """Returns what the command worker is asked."""
+        """Returns the order for the command worker."""
         project, mounts = self.project, self.project.settings.mounts
         order: Json = {"in": project.inner, "root": project.root, "mount": mounts, "makes": self.products}
         if self.compiles:
@@ -205,17 +205,17 @@ class Step:
         return {**order, "words": shlex.split(text)}
 
     def mapped(self, text: str) -> str:
-        """Returns a command in which the room is in the root's place, except in text that is to be in a file."""
+        """Returns a command with the root replaced by the room, except in text that may be written to a file."""
         if self.project.settings.mounts or self.project.root not in text:
             return text
         return "".join(map(self.mapped_word, RAW_WORD.findall(text)))
 
     def mapped_word(self, word: str) -> str:
-        """Returns a word with the room in the root's place."""
+        """Returns a word with the root replaced by the room, unless the word is a -D option."""
         if word.lstrip("'\"").startswith("-D"):
             return word
         moved = self.project.rooted.sub("{room}", word)
-        # A path for the loader is in the program; while it is linked its libraries are in the room.
+        # A path for the loader goes into the program. While it is linked, its libraries are in the room.
         return f"{word} {moved.replace('-rpath,', '-rpath-link,')}" if "-rpath," in word and moved != word else moved
 
     def action(self) -> Imported:
@@ -231,7 +231,7 @@ class Step:
 
 
 class Imported(Action):
-    """The action of a step. What it really read is known by its depfile, and decides whether it is up to date."""
+    """The action of a step. Its depfile lists the files that it really read. They decide whether it is up to date."""
 
     __slots__ = ("step", "in_place", "after")
 
@@ -240,13 +240,13 @@ class Imported(Action):
         self.step, self.in_place, self.after = step, in_place, step.after()
 
     def look_again(self) -> None:
-        """Finds its inputs again, since sources were made."""
+        """Finds its inputs again after sources were made."""
         self.step.said.clear()
         found = self.step.action()
         self.object, self.inputs, self.outputs, self.in_place = found.object, found.inputs, found.outputs, found.in_place
 
     def reads(self) -> list[str]:
-        """Returns what it read when it ran last; what it may read, if that isn't known."""
+        """Returns the files that it read when it ran last. If they aren't known, returns the files that it may read."""
         known = self.step.known()
         if known is None and self.step.compiles:
             return self.may_read()
@@ -254,34 +254,34 @@ class Imported(Action):
         return [*dict.fromkeys([*flags, *self.step.deciding(), *(known or ()), self.argv[0]])]
 
     def may_read(self) -> list[str]:
-        """Returns all that it may read."""
+        """Returns all files that it may read."""
         return super().reads()
 
     def needs_made(self) -> list[str]:
-        """Returns the paths whose makers come before it."""
+        """Returns the paths whose makers must run before it."""
         return [*self.inputs, *self.after]
 
     def waits_for(self, maker: Action) -> bool:
-        """Returns True if it can't be in the same call of a program as a maker of what it reads.
+        """Returns True if it can't be in the same call of a program as `maker`, which makes an input of it.
 
-        What includes a file that is made is looked at again when that is there, and no program runs a step in place.
+        If a step includes a generated file, its inputs are found again once that file exists. No program runs a step in place.
         """
         if self.in_place or maker.in_place:
             return True
         return isinstance(maker, Imported) and self.step.compiles and maker.step.is_custom
 
     def always(self) -> str:
-        """Returns why it is never up to date, or nothing."""
+        """Returns the reason why it is never up to date, or nothing."""
         return NO_FILE if self.step.is_utility else ""
 
     def shape(self, flags: list[str]) -> str:
-        """Returns a digest of its command. What it may read isn't in it, since that is found anew each time."""
+        """Returns a digest of its command. It doesn't cover the files that it may read, since they are found again each time."""
         held: list[Any] = [self.step.text, self.step.response, self.step.project.settings.env, self.step.products, bool(self.in_place), flags]
         return hashlib.sha256(json.dumps(held, sort_keys=True).encode()).hexdigest()[:32]
 
 
 def trouble_of(path: str) -> str | None:
-    """Returns why a path can't be in a list."""
+    """Returns the reason why a path can't be in a list, or None."""
     try:
         path.encode()
     except UnicodeEncodeError:
@@ -290,7 +290,7 @@ def trouble_of(path: str) -> str | None:
 
 
 def printable(name: str) -> str:
-    """Returns an action's name: no blanks, and 256 bytes at most."""
+    """Returns an action's name, without blanks and with at most 256 bytes."""
     name = re.sub(r"[\x00-\x20\x7f\ud800-\udfff]", "_", name)
     if len(name.encode()) <= 256:
         return name
