@@ -20,7 +20,7 @@ from program_state import PROVED, State, record, state_of, sum_of_file
 TOP = os.path.dirname(os.path.dirname(os.path.realpath(__file__)))
 
 # The names in tools/ that are only for a checkout.
-FOR_A_CHECKOUT = {"release", "__pycache__", ".mypy_cache"}
+FOR_A_CHECKOUT = {"release", "__pycache__", ".mypy_cache", "claims.txt"}
 PAGES = ("README.md", "CHANGELOG.md")
 EXAMPLE = tuple(f"examples/first/{it}" for it in ("hello", "list.json", "worker"))
 MAN, COMPLETIONS = "share/man/man1", "share/bash-completion/completions"
