@@ -22,7 +22,8 @@ FUNCTION = re.compile(r"\bfn\s+([A-Za-z_]\w*)")
 HEADER = re.compile(r"^(?:pub(?:\([a-z]+\))?\s+)?((?:impl|trait)\b[^{]*)")
 ENSURES = re.compile(r"\bensures\b\s*([A-Za-z_]\w*)?\s*\{")
 GHOST = re.compile(r"^\s+ghost\s+([A-Za-z_]\w*)\s*(?::[^=]*)?=?\s*\{")
-DEFINED = re.compile(r"\s*(?:pub )?(?:abbrev|unfoldable|record|data)\b(?: pub)?(?: record| data)? +([A-Za-z_]\w*)|(?:pub )?([A-Za-z_]\w*) *:")
+DEFINED = re.compile(r"\s*(?:pub )?(?:abbrev|unfoldable|record|data)\b(?: pub)?(?: record| data)? +([A-Za-z_]\w*)"
+                     r"|(?:pub )?([A-Za-z_]\w*) *:")
 
 
 @dataclass(frozen=True)
@@ -64,10 +65,12 @@ def enclosed(text: str, start: int) -> str:
 
 @functools.cache
 def content(path: pathlib.Path) -> str:
+    """Returns the text of a file."""
     return path.read_text(encoding="utf-8")
 
 
 def sources(crate: str) -> list[pathlib.Path]:
+    """Returns the files of a crate's code."""
     return sorted((TOP / "crates" / crate / "src").rglob("*.rt"))
 
 
@@ -97,6 +100,7 @@ def calls_in(crate: str, path: pathlib.Path) -> Iterator[Call]:
 
 @functools.cache
 def calls(crate: str) -> tuple[Call, ...]:
+    """Returns all functions, traits and `impl`s of a crate."""
     return tuple(call for path in sources(crate) for call in calls_in(crate, path))
 
 
@@ -153,11 +157,13 @@ def defined(path: pathlib.Path) -> dict[str, str]:
 
 
 def path_of(it: Definition) -> pathlib.Path:
+    """Returns the file of a definition."""
     return TOP / "crates" / it.file
 
 
 @functools.cache
 def exists(it: Definition) -> bool:
+    """Returns true if the definition's file defines it."""
     return path_of(it).exists() and it.name in defined(path_of(it))
 
 
