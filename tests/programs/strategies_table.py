@@ -257,6 +257,30 @@ def a_tick(programs: Programs, folder: pathlib.Path) -> None:
         raise Wrong(f"wanted {ticks / 1000:.1f} to {most:.1f} seconds\ngot    {seconds:.1f}")
 
 
+def full_plan(programs: Programs, folder: pathlib.Path) -> None:
+    """Checks that a delay is as short on the most berths, 64, as on fewer.
+
+    Each of four actions waits for the one before it, and for its own delay. If the lane that counts ticks had to wait until it
+    looks by itself, each action would take a second.
+    """
+    others = [action(f"k{n}", mnemonic=f"K{n}", argv=["gone", "@f"], outputs=[f"p{n}"]) for n in range(47)]
+    chain = [action(f"c{n}", inputs=["f", f"o{n - 1}"][:1 + n], outputs=[f"o{n}"]) for n in range(4)]
+    boxed = action("s", mnemonic="S", outputs=["s"])
+    works = [step for n in range(4) for step in (["hear", 1], ["leave", f"o{n}", "a worker's"], WORKER[-1])]
+    words = ["--strategy=T=dynamic", "--strategy=S=sandboxed", "--sandbox_executor=b", "--remote=15", "--instances=1",
+             "--retries=0", "--local_delay=10"]
+    answer = ["give", wire.framed(wire.result(1, files=[(b"s", b"a sandbox's")])).hex()]
+    begun = time.monotonic()
+    ended = exchange(as_spawn(programs), folder, [*others, *chain, boxed], words, t=[works], x=[[GREET, ["hear", 4]]] * 15,
+                     b=[[GREET, ["hear", 1], answer]])
+    seconds = time.monotonic() - begun
+    lines = ended.out.decode().splitlines()
+    compare("its actions", ["ok local"] * 4, [" ".join(it.split()[1:3]) for it in lines if it.startswith("c")])
+    compare("its sum", "actions=52 ok=5 failed=0 broken=47 skipped=0", lines[-1])
+    if seconds > 3 + 100 * slept(10):
+        raise Wrong(f"wanted an end within 3 seconds\ngot    {seconds:.1f}")
+
+
 def no_strategy(programs: Programs, folder: pathlib.Path) -> None:
     """Checks the exact message for an action that no strategy supports."""
     lacks = action("u", outputs=["u"], strategy="remote", requirements={})
@@ -280,4 +304,5 @@ def cases() -> Iterator[Case]:
     yield from sandboxes()
     yield from delays()
     yield Case("the length of a tick", a_tick)
+    yield Case("a delay on the most berths", full_plan)
     yield Case("no strategy: what may be done", no_strategy)

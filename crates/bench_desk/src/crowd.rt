@@ -172,7 +172,8 @@ fn by_callers<R: Threads + Wait + Sync>(
     Ok(total(made))
 }
 
-// Adds through a caller. The adder wakes nobody and no call of it rests, so each lane has its own bells.
+// Adds through a caller. The adder wakes nobody and no call of it rests, so each lane has its own
+// bells.
 fn adds_by_caller<R: Wait>(
     rt: &R,
     alloc: Global,
@@ -182,8 +183,11 @@ fn adds_by_caller<R: Wait>(
 ) -> Result<usize, NoMemory>
     requires { IsPassOf desk.now pass }
 {
-    let bells = Bells::new(alloc, 1)?;
-    let mut caller = Caller::new(desk, &bells, pass, 0);
+    let Some(lanes) = pass.lane().checked_add(1) else {
+        return Err(NoMemory);
+    };
+    let bells = Bells::new(alloc, lanes)?;
+    let mut caller = Caller::new(desk, &bells, pass);
     let mut made = 0usize;
     for _ in 0..turns {
         if caller.call(rt, Add { number: 1 }, None).is_err() {

@@ -3,7 +3,7 @@ use Rattle.std.proofs.Common.{◌≡◌, ℕ, zero, suc, ◌<◌, List, [], ◌�
 use Rattle.std.specs.Prelude.{slice_get}
 use Rattle.std.proofs.lemmas.List.{length-map, length-replicate, get_or-replicate}
 use Rattle.outside.specs.Told.{ChildTold, TapTold, PlaceTold}
-use Rattle.core_contract.specs.Terms.{Terms}
+use Rattle.core_contract.specs.Discipline.{Discipline}
 use Rattle.core_contract.specs.Shelf.{Fresh}
 use Rattle.core_bench.specs.Slots.{Hold, lies_in}
 use Rattle.core_bench.specs.Objects.{AreFresh}
@@ -24,10 +24,10 @@ lies_full [] i = refl
 lies_full (x ∷ xs) zero = refl
 lies_full (x ∷ xs) (suc i) = lies_full xs i
 
-module _ {P : Type 0} (told : P → PlaceTold) (terms : Terms) (n : ℕ)
+module _ {P : Type 0} (told : P → PlaceTold) (q : Discipline) (n : ℕ)
     (places : List P) (fresh : AreFresh told n places) where
   each_lies : (i : ℕ) (o : Option P) → slice_get places i ≡ o → i < length places
-      → IsInSpot (IsPlaceOf told terms i) Fresh o
+      → IsInSpot (IsPlaceOf told q i) Fresh o
   each_lies i (Some p) at lt =
       record { of_action = fresh.numbers i p at; wrote = fresh.unwritten i p at }
   each_lies i None at lt = absurd (none_within places i lt at)
@@ -38,24 +38,24 @@ module _ {P : Type 0} (told : P → PlaceTold) (terms : Terms) (n : ℕ)
       none_within (x ∷ xs) (suc i) lt e = none_within xs i (omega arith) e
 
   places_lie : (slots : List (Option P)) → slots ≡ map Some places
-      → Hold n (λ i o. IsInSpot (IsPlaceOf told terms i) Fresh o) slots
+      → Hold n (λ i o. IsInSpot (IsPlaceOf told q i) Fresh o) slots
   places_lie slots e = subst (λ (xs : List (Option P)).
-      Hold n (λ i (o : Option P). IsInSpot (IsPlaceOf told terms i) Fresh o) xs) (sym e) record {
+      Hold n (λ i (o : Option P). IsInSpot (IsPlaceOf told q i) Fresh o) xs) (sym e) record {
         as_many = length-map places Some ∙ fresh.as_many;
-        each = λ i lt. subst (IsInSpot (IsPlaceOf told terms i) Fresh) (sym (lies_full places i))
+        each = λ i lt. subst (IsInSpot (IsPlaceOf told q i) Fresh) (sym (lies_full places i))
             (each_lies i (slice_get places i) refl
             (subst (λ (k : ℕ). i < k) (sym fresh.as_many) lt));
       }
 
 -- a new shelf lies as the empty history says
 pub begins : {K T P : Type 0} (child : K → ChildTold) (tap : T → TapTold) (place : P → PlaceTold)
-    (terms : Terms) (children : List (Option K))
+    (q : Discipline) (children : List (Option K))
     (taps : List (Option T)) (slots : List (Option P)) (places : List P)
-    → AreFresh place terms.actions places → children ≡ replicate terms.berths None
-    → taps ≡ replicate terms.berths None → slots ≡ map Some places
-    → Lies child tap place terms [] children taps slots
-begins child tap place terms children taps slots places fresh cs ts ps = record {
-  children = nothing_lies (IsChildOf child) terms.berths children cs;
-  taps = nothing_lies (IsTapOf tap) terms.berths taps ts;
-  places = places_lie place terms terms.actions places fresh slots ps;
+    → AreFresh place (length q.plan.actions) places → children ≡ replicate q.seats None
+    → taps ≡ replicate q.seats None → slots ≡ map Some places
+    → Lies child tap place q [] children taps slots
+begins child tap place q children taps slots places fresh cs ts ps = record {
+  children = nothing_lies (IsChildOf child) q.seats children cs;
+  taps = nothing_lies (IsTapOf tap) q.seats taps ts;
+  places = places_lie place q (length q.plan.actions) places fresh slots ps;
 }

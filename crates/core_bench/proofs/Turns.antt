@@ -1,5 +1,5 @@
 -- A turn of the bench: what comes out, and what lies on the shelf then.
-use Rattle.std.proofs.Common.{◌≡◌, ◌≢◌, inl, inr, ⊎_elim, ℕ, ◌/◌, ◌%◌, ◌==◌, ◌<◌, Bool, true, false, cond, List, [], ◌∷◌, ◌++◌, set, Option, Some, None, option_map, refl, ap, sym, subst, ◌∙◌, eq-eqb, ne_eqb}
+use Rattle.std.proofs.Common.{◌≡◌, ◌≢◌, inl, inr, ⊎_elim, ℕ, ◌/◌, ◌%◌, ◌==◌, ◌<◌, Bool, true, false, cond, List, [], ◌∷◌, ◌++◌, set, Option, Some, None, option_map, refl, ap, sym, subst, ◌∙◌, eq-eqb, ne_eqb, length}
 use Rattle.std.proofs.lemmas.Grind.{fold-append}
 use Rattle.seat_desk.specs.History.{entry, after, calls_by, IsReply}
 use Rattle.run_plan.specs.declared.plan.Branch.{Branch}
@@ -14,7 +14,8 @@ use Rattle.exec_journal.specs.declared.reply.Reply.TheVariants as reply
 use Rattle.exec_journal.specs.declared.reply.Why.{Why}
 use Rattle.exec_journal.specs.Entries.{is_kept}
 use Rattle.outside.specs.Told.{ChildTold, TapTold, PlaceTold}
-use Rattle.core_contract.specs.Terms.{Terms}
+use Rattle.core_contract.specs.Discipline.{Discipline}
+use Rattle.core_contract.specs.Ruled.{answer_after}
 use Rattle.core_contract.specs.Moves.{Past, History, Move, PutLine, TakeTap, TakeChild, GiveUp, TakePlace, PutPlace, Nothing, move_in, noted_moves, ask_moves, take_moves, claim_moves, tap_move, proxy_move, shift_for}
 use Rattle.core_contract.specs.Shelf.{Spot, Fresh, Away, Back, child_by, tap_by, place_by, files_of_spot, child_then, tap_then, place_then, child_at, tap_at, place_at}
 use Rattle.core_contract.specs.Laws.{InScript, is_short, claimed}
@@ -87,40 +88,40 @@ moved h lane c r = moved_by h lane c r (is_kept r) refl
 -- ---- each move
 
 module _ {K T P : Type 0} (child : K → ChildTold) (tap : T → TapTold) (place : P → PlaceTold)
-    (terms : Terms) where
+    (q : Discipline) where
   -- what a move finds, for the berth w, and what goes in with it
   abbrev MayMove : History → ℕ → Move → Option (Good K T P) → Type 0
-  MayMove h w (PutLine l) put = IsLine child tap place terms l put
-  MayMove h w (TakeTap l) put = (w < terms.berths) × (tap_at w h ≡ Some l)
-  MayMove h w (TakeChild l) put = (w < terms.berths) × (child_at w h ≡ Some l)
-  MayMove h w GiveUp put = w < terms.berths
-  MayMove h w (TakePlace a fs) put = (a < terms.actions) × (place_at a h ≡ Fresh)
+  MayMove h w (PutLine l) put = IsLine child tap place q l put
+  MayMove h w (TakeTap l) put = (w < q.seats) × (tap_at w h ≡ Some l)
+  MayMove h w (TakeChild l) put = (w < q.seats) × (child_at w h ≡ Some l)
+  MayMove h w GiveUp put = w < q.seats
+  MayMove h w (TakePlace a fs) put = (a < (length q.plan.actions)) × (place_at a h ≡ Fresh)
   MayMove h w (PutPlace a how) put = (fs : List (List ℕ)) × (place_at a h ≡ Away fs)
-      × IsPlace child tap place terms a (Back fs how) put
+      × IsPlace child tap place q a (Back fs how) put
   MayMove h w Nothing put = Unit {0}
 
   -- ---- what comes out
 
   tap_out : (l : ℕ) (o : Option T) → IsOf (IsTapOf tap) (Some l) o
-      → IsTap child tap place terms l (option_map good.Tap o)
+      → IsTap child tap place q l (option_map good.Tap o)
   tap_out l None x = absurd x
   tap_out l (Some t) x = x
 
   child_out : (at : Option ℕ) (o : Option K) → IsOf (IsChildOf child) at o
-      → IsChild child tap place terms at (option_map good.Child o)
+      → IsChild child tap place q at (option_map good.Child o)
   child_out None o x = ap (λ (o : Option K). option_map good.Child o) x
   child_out (Some l) None x = absurd x
   child_out (Some l) (Some k) x = x
 
-  place_out : (a : ℕ) (o : Option P) → IsInSpot (IsPlaceOf place terms a) Fresh o
-      → IsPlace child tap place terms a Fresh (option_map good.Place o)
+  place_out : (a : ℕ) (o : Option P) → IsInSpot (IsPlaceOf place q a) Fresh o
+      → IsPlace child tap place q a Fresh (option_map good.Place o)
   place_out a None x = absurd x
   place_out a (Some p) x = x
 
   -- ---- what lies there then
   module _ (h h' : History) (w : ℕ) (children : List (Option K))
       (taps : List (Option T)) (places : List (Option P))
-      (lies : Lies child tap place terms h children taps places) where
+      (lies : Lies child tap place q h children taps places) where
     abbrev Has_child : ℕ → Option ℕ → Option K → Type 0
     Has_child v at o = IsOf (IsChildOf child) at o
 
@@ -128,38 +129,38 @@ module _ {K T P : Type 0} (child : K → ChildTold) (tap : T → TapTold) (place
     Has_tap v at o = IsOf (IsTapOf tap) at o
 
     abbrev Has_place : ℕ → Spot → Option P → Type 0
-    Has_place a s o = IsInSpot (IsPlaceOf place terms a) s o
+    Has_place a s o = IsInSpot (IsPlaceOf place q a) s o
 
     abbrev Children : List (Option K) → Type 0
-    Children slots = Hold terms.berths (λ v. Has_child v (child_at v h')) slots
+    Children slots = Hold q.seats (λ v. Has_child v (child_at v h')) slots
 
     abbrev Taps : List (Option T) → Type 0
-    Taps slots = Hold terms.berths (λ v. Has_tap v (tap_at v h')) slots
+    Taps slots = Hold q.seats (λ v. Has_tap v (tap_at v h')) slots
 
     abbrev Places : List (Option P) → Type 0
-    Places slots = Hold terms.actions (λ a. Has_place a (place_at a h')) slots
+    Places slots = Hold (length q.plan.actions) (λ a. Has_place a (place_at a h')) slots
 
     children_stay : (m : Move) → Moved h h' w m → ((o : Option ℕ) → child_by o m ≡ o)
         → Children children
-    children_stay m d same = stay Has_child terms.berths (λ v. child_at v h) (λ v. child_at v h')
+    children_stay m d same = stay Has_child q.seats (λ v. child_at v h) (λ v. child_at v h')
         (child_next w m) d.child children
         (λ v o. ap (λ (x : Option ℕ). cond (w == v) x o) (same o) ∙ same_cond (w == v) o)
         lies.children
 
     taps_stay : (m : Move) → Moved h h' w m → ((o : Option ℕ) → tap_by o m ≡ o) → Taps taps
-    taps_stay m d same = stay Has_tap terms.berths (λ v. tap_at v h) (λ v. tap_at v h')
+    taps_stay m d same = stay Has_tap q.seats (λ v. tap_at v h) (λ v. tap_at v h')
         (tap_next w m) d.tap taps
         (λ v o. ap (λ (x : Option ℕ). cond (w == v) x o) (same o) ∙ same_cond (w == v) o)
         lies.taps
 
     places_stay : (m : Move) → Moved h h' w m → ((a : ℕ) (s : Spot) → place_by a s m ≡ s)
         → Places places
-    places_stay m d same = stay Has_place terms.actions (λ a. place_at a h) (λ a. place_at a h')
+    places_stay m d same = stay Has_place (length q.plan.actions) (λ a. place_at a h) (λ a. place_at a h')
         (place_next m) d.place places same lies.places
 
     children_fill : (m : Move) (o : Option K) → Moved h h' w m
         → IsOf (IsChildOf child) (child_by (child_at w h) m) o → Children (set children w o)
-    children_fill m o d is = fill Has_child terms.berths (λ v. child_at v h) (λ v. child_at v h')
+    children_fill m o d is = fill Has_child q.seats (λ v. child_at v h) (λ v. child_at v h')
         (child_next w m) d.child children w o
         (λ lt. subst (λ (x : Option ℕ). IsOf (IsChildOf child) x o)
         (sym (here_is w (child_by (child_at w h) m) (child_at w h))) is)
@@ -167,27 +168,27 @@ module _ {K T P : Type 0} (child : K → ChildTold) (tap : T → TapTold) (place
 
     taps_fill : (m : Move) (o : Option T) → Moved h h' w m
         → IsOf (IsTapOf tap) (tap_by (tap_at w h) m) o → Taps (set taps w o)
-    taps_fill m o d is = fill Has_tap terms.berths (λ v. tap_at v h) (λ v. tap_at v h')
+    taps_fill m o d is = fill Has_tap q.seats (λ v. tap_at v h) (λ v. tap_at v h')
         (tap_next w m) d.tap taps w o
         (λ lt. subst (λ (x : Option ℕ). IsOf (IsTapOf tap) x o)
         (sym (here_is w (tap_by (tap_at w h) m) (tap_at w h))) is)
         (λ v x n. apart_is w v (tap_by x m) x n) lies.taps
 
     places_fill : (m : Move) (a : ℕ) (o : Option P) → Moved h h' w m
-        → (a < terms.actions → Has_place a (place_by a (place_at a h) m) o)
+        → (a < (length q.plan.actions) → Has_place a (place_by a (place_at a h) m) o)
         → ((b : ℕ) (s : Spot) → a ≢ b → place_by b s m ≡ s) → Places (set places a o)
-    places_fill m a o d here apart = fill Has_place terms.actions (λ b. place_at b h) (λ b. place_at b h')
+    places_fill m a o d here apart = fill Has_place (length q.plan.actions) (λ b. place_at b h) (λ b. place_at b h')
         (place_next m) d.place places a o here apart lies.places
 
     abbrev Turned : Move → Option (Good K T P) → Type 0
     Turned m put =
-        Comes child tap place terms h w m (good_then (shift_for m) w children taps places)
-        × Lies child tap place terms h'
+        Comes child tap place q h w m (good_then (shift_for m) w children taps places)
+        × Lies child tap place q h'
         (children_then (shift_for m) w put children)
         (taps_then (shift_for m) w put taps) (places_then (shift_for m) put places)
 
     puts_line : (l : ℕ) (put : Option (Good K T P)) → Moved h h' w (PutLine l)
-        → IsLine child tap place terms l put → Turned (PutLine l) put
+        → IsLine child tap place q l put → Turned (PutLine l) put
     puts_line l (Some (good.Line k t)) d is = (
       refl,
       record {
@@ -201,7 +202,7 @@ module _ {K T P : Type 0} (child : K → ChildTold) (tap : T → TapTold) (place
     puts_line l (Some (good.Tap t)) d is = absurd is
     puts_line l (Some (good.Place p)) d is = absurd is
 
-    takes_tap : (l : ℕ) (put : Option (Good K T P)) → Moved h h' w (TakeTap l) → w < terms.berths
+    takes_tap : (l : ℕ) (put : Option (Good K T P)) → Moved h h' w (TakeTap l) → w < q.seats
         → tap_at w h ≡ Some l → Turned (TakeTap l) put
     takes_tap l put d lt at = (
       tap_out l (lies_in taps w)
@@ -214,7 +215,7 @@ module _ {K T P : Type 0} (child : K → ChildTold) (tap : T → TapTold) (place
       },
     )
 
-    takes_child : (l : ℕ) (put : Option (Good K T P)) → Moved h h' w (TakeChild l) → w < terms.berths
+    takes_child : (l : ℕ) (put : Option (Good K T P)) → Moved h h' w (TakeChild l) → w < q.seats
         → child_at w h ≡ Some l → Turned (TakeChild l) put
     takes_child l put d lt at = (
       child_out (Some l) (lies_in children w)
@@ -227,7 +228,7 @@ module _ {K T P : Type 0} (child : K → ChildTold) (tap : T → TapTold) (place
       },
     )
 
-    gives_up : (put : Option (Good K T P)) → Moved h h' w GiveUp → w < terms.berths → Turned GiveUp put
+    gives_up : (put : Option (Good K T P)) → Moved h h' w GiveUp → w < q.seats → Turned GiveUp put
     gives_up put d lt = (
       child_out (child_at w h) (lies_in children w) (lies.children.each w lt),
       record {
@@ -238,17 +239,17 @@ module _ {K T P : Type 0} (child : K → ChildTold) (tap : T → TapTold) (place
     )
 
     takes_place : (a : ℕ) (fs : List (List ℕ)) (put : Option (Good K T P))
-        → Moved h h' w (TakePlace a fs) → a < terms.actions → place_at a h ≡ Fresh
+        → Moved h h' w (TakePlace a fs) → a < (length q.plan.actions) → place_at a h ≡ Fresh
         → Turned (TakePlace a fs) put
     takes_place a fs put d lt at = (
       place_out a (lies_in places a)
-          (subst (λ (s : Spot). IsInSpot (IsPlaceOf place terms a) s (lies_in places a)) at
+          (subst (λ (s : Spot). IsInSpot (IsPlaceOf place q a) s (lies_in places a)) at
           (lies.places.each a lt)),
       record {
         children = children_stay (TakePlace a fs) d (λ o. refl);
         taps = taps_stay (TakePlace a fs) d (λ o. refl);
         places = places_fill (TakePlace a fs) a None d
-            (λ _. subst (λ (s : Spot). IsInSpot (IsPlaceOf place terms a) s None)
+            (λ _. subst (λ (s : Spot). IsInSpot (IsPlaceOf place q a) s None)
             (sym (here_is a (Away fs) (place_at a h))) refl)
             (λ b s n. apart_is a b (Away fs) s n);
       },
@@ -256,14 +257,14 @@ module _ {K T P : Type 0} (child : K → ChildTold) (tap : T → TapTold) (place
 
     puts_place : (a : ℕ) (how : CommitEnd) (fs : List (List ℕ)) (put : Option (Good K T P))
         → Moved h h' w (PutPlace a how) → place_at a h ≡ Away fs
-        → IsPlace child tap place terms a (Back fs how) put → Turned (PutPlace a how) put
+        → IsPlace child tap place q a (Back fs how) put → Turned (PutPlace a how) put
     puts_place a how fs (Some (good.Place p)) d at is = (
       refl,
       record {
         children = children_stay (PutPlace a how) d (λ o. refl);
         taps = taps_stay (PutPlace a how) d (λ o. refl);
         places = places_fill (PutPlace a how) a (Some p) d
-            (λ _. subst (λ (s : Spot). IsInSpot (IsPlaceOf place terms a) s (Some p))
+            (λ _. subst (λ (s : Spot). IsInSpot (IsPlaceOf place q a) s (Some p))
             (sym (ap (λ (s : Spot). place_by a s (PutPlace a how)) at
             ∙ here_is a (Back fs how) (Away fs))) is)
             (λ b s n. apart_is a b (Back (files_of_spot s) how) s n);
@@ -305,38 +306,39 @@ of_rule rule MayBe h lane c r s long e (inr is) =
     absurd (let x : true ≡ false = sym is.0 ∙ (ap is_short e ∙ long) in cc)
 
 -- what a core keeps to, at this history and for this lane
-pub record LawsAt (rule : History → ℕ → Call → Reply) (terms : Terms) (h : History)
-    (lane : ℕ) : Type 0 where
-  pub known : (c : Call) → InScript rule h lane c → lane / 2 < terms.berths
-  pub takes : (l : ℕ) → rule h lane call.Take ≡ reply.Line l → tap_at (lane / 2) h ≡ Some l
-  pub kills : (l : ℕ) (y : Why) → rule h lane call.Ask ≡ reply.Kill l y
+pub record LawsAt (q : Discipline) (h : History) (lane : ℕ) : Type 0 where
+  pub known : (c : Call) → InScript (answer_after q) h lane c → lane / 2 < q.seats
+  pub takes : (l : ℕ) → answer_after q h lane call.Take ≡ reply.Line l → tap_at (lane / 2) h ≡ Some l
+  pub kills : (l : ℕ) (y : Why) → answer_after q h lane call.Ask ≡ reply.Kill l y
       → child_at (lane / 2) h ≡ Some l
   pub grants : (a : ℕ) (b : Branch) (t : ℕ) (fs : List (List ℕ))
-      → rule h lane (call.Claim a b t (found.Files fs)) ≡ reply.Granted
-      → (a < terms.actions) × (place_at a h ≡ Fresh)
+      → answer_after q h lane (call.Claim a b t (found.Files fs)) ≡ reply.Granted
+      → (a < length q.plan.actions) × (place_at a h ≡ Fresh)
   pub commits : (a : ℕ) (b : Branch) (how : CommitEnd)
-      → InScript rule h lane (call.Committed a b how)
+      → InScript (answer_after q) h lane (call.Committed a b how)
       → place_at a h ≡ Away (claimed (calls_by lane h))
 
 module _ {K T P : Type 0} (child : K → ChildTold) (tap : T → TapTold) (place : P → PlaceTold)
-    (terms : Terms) (rule : History → ℕ → Call → Reply)
-    (MayBe : History → ℕ → Call → Type 0) (h : History) (lane : ℕ)
-    (laws : LawsAt rule terms h lane) where
+    (q : Discipline) (MayBe : History → ℕ → Call → Type 0) (h : History) (lane : ℕ)
+    (laws : LawsAt q h lane) where
+  abbrev rule : History → ℕ → Call → Reply
+  rule = answer_after q
+
   abbrev May : Move → Option (Good K T P) → Type 0
-  May m put = MayMove child tap place terms h (lane / 2) m put
+  May m put = MayMove child tap place q h (lane / 2) m put
 
   abbrev Is : Call → Reply → Type 0
   Is c r = IsReply rule is_short MayBe h lane c r
 
   abbrev Goes : Call → Option (Good K T P) → Type 0
-  Goes c put = GoesIn child tap place terms rule h lane c put
+  Goes c put = GoesIn child tap place q h lane c put
 
   -- where the reply is none that moves anything
   none_may : (m : Move) (put : Option (Good K T P)) → m ≡ Nothing → May m put
   none_may m put e = subst (λ (x : Move). May x put) (sym e) tt
 
   -- the lane is one of the plan's, where a reply other than Astray came
-  here : (c : Call) (s : Reply) → rule h lane c ≡ s → (s ≡ reply.Astray → ⊥) → lane / 2 < terms.berths
+  here : (c : Call) (s : Reply) → rule h lane c ≡ s → (s ≡ reply.Astray → ⊥) → lane / 2 < q.seats
   here c s e other = laws.known c (λ a. other (sym e ∙ a))
 
   takes_tap_may : (r : Reply) (put : Option (Good K T P)) → Is call.Take r → May (take_moves r) put
@@ -430,26 +432,26 @@ module _ {K T P : Type 0} (child : K → ChildTold) (tap : T → TapTold) (place
       (children children' : List (Option K))
       (taps taps' : List (Option T)) (places places' : List (Option P)) (out : Option (Good K T P))
       → Is c r → Goes c put
-      → Lies child tap place terms h children taps places
+      → Lies child tap place q h children taps places
       → children' ≡ children_then (shift_for (move_in lane c r)) (lane / 2) put children
       → taps' ≡ taps_then (shift_for (move_in lane c r)) (lane / 2) put taps
       → places' ≡ places_then (shift_for (move_in lane c r)) put places
       → out ≡ good_then (shift_for (move_in lane c r)) (lane / 2) children taps places
-      → ComesOut child tap place terms h lane c r out
-      × Lies child tap place terms
+      → ComesOut child tap place q h lane c r out
+      × Lies child tap place q
       (History_after h lane c r) children' taps' places'
   turns c r put children children' taps taps' places places' out is goes lies cs ts ps o =
-      let t = turned child tap place terms h (History_after h lane c r) (lane / 2)
+      let t = turned child tap place q h (History_after h lane c r) (lane / 2)
       children taps places lies (move_in lane c r) put (moved h lane c r) (may c r put is goes) in (
-        subst (λ (x : Option (Good K T P)). ComesOut child tap place terms h lane c r x)
+        subst (λ (x : Option (Good K T P)). ComesOut child tap place q h lane c r x)
             (sym o) t.0,
-        subst (λ (x : List (Option K)). Lies child tap place terms
+        subst (λ (x : List (Option K)). Lies child tap place q
             (History_after h lane c r) x taps' places') (sym cs)
-            (subst (λ (x : List (Option T)). Lies child tap place terms
+            (subst (λ (x : List (Option T)). Lies child tap place q
             (History_after h lane c r) (children_then (shift_for (move_in lane c r))
             (lane / 2) put children)
             x places') (sym ts)
-            (subst (λ (x : List (Option P)). Lies child tap place terms
+            (subst (λ (x : List (Option P)). Lies child tap place q
             (History_after h lane c r) (children_then (shift_for (move_in lane c r))
             (lane / 2) put children)
             (taps_then (shift_for (move_in lane c r)) (lane / 2) put taps) x) (sym ps) t.1)),

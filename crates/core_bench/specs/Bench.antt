@@ -1,5 +1,5 @@
 -- What lies on the shelf after a history, and what goes in and comes out with a call.
-use Rattle.std.specs.Prelude.{◌≡◌, ℕ, ◌/◌, List, Option, Some, None}
+use Rattle.std.specs.Prelude.{◌≡◌, ℕ, ◌/◌, List, length, Option, Some, None}
 use Rattle.seat_desk.specs.History.{calls_by}
 use Rattle.exec_journal.specs.declared.call.Call.{Call}
 use Rattle.exec_journal.specs.declared.call.Call.TheVariants as call
@@ -7,7 +7,8 @@ use Rattle.exec_journal.specs.declared.call.Started.TheVariants as start
 use Rattle.exec_journal.specs.declared.reply.Reply.{Reply}
 use Rattle.outside.specs.Launches.{IsNewTap, IsNewChild}
 use Rattle.outside.specs.Told.{ChildTold, TapTold, PlaceTold}
-use Rattle.core_contract.specs.Terms.{Terms}
+use Rattle.core_contract.specs.Discipline.{Discipline, outputs_in}
+use Rattle.core_contract.specs.Ruled.{answer_after}
 use Rattle.core_contract.specs.Moves.{History, Move, PutLine, TakeTap, TakeChild, GiveUp, TakePlace, PutPlace, Nothing, move_in}
 use Rattle.core_contract.specs.Shelf.{Spot, Fresh, Away, Back, child_at, tap_at, place_at}
 use Rattle.core_contract.specs.Laws.{InScript, claimed}
@@ -36,32 +37,36 @@ IsChildOf told l k = IsNewChild l (told k)
 abbrev pub IsTapOf : {T : Type 0} → (T → TapTold) → ℕ → T → Type 0
 IsTapOf told l t = IsNewTap l (told t)
 
--- the place of this action in this spot, by the terms
-abbrev pub IsPlaceOf : {P : Type 0} → (P → PlaceTold) → Terms → ℕ → Spot → P → Type 0
-IsPlaceOf told terms a s p = IsPlaceAt a (terms.outputs a) s (told p)
+-- the place of this action in this spot, by a discipline
+abbrev pub IsPlaceOf : {P : Type 0} → (P → PlaceTold) → Discipline → ℕ → Spot → P → Type 0
+IsPlaceOf told q a s p = IsPlaceAt a (outputs_in q.plan a) s (told p)
 
 -- ---- what lies in the slots after the history
 
-abbrev pub ChildrenLie : {K : Type 0} → (K → ChildTold) → Terms → History → List (Option K) → Type 0
-ChildrenLie told terms h slots =
-    Hold terms.berths (λ w o. IsOf (IsChildOf told) (child_at w h) o) slots
+abbrev pub ChildrenLie : {K : Type 0} → (K → ChildTold) → Discipline → History
+    → List (Option K) → Type 0
+ChildrenLie told q h slots =
+    Hold q.seats (λ w o. IsOf (IsChildOf told) (child_at w h) o) slots
 
-abbrev pub TapsLie : {T : Type 0} → (T → TapTold) → Terms → History → List (Option T) → Type 0
-TapsLie told terms h slots = Hold terms.berths (λ w o. IsOf (IsTapOf told) (tap_at w h) o) slots
+abbrev pub TapsLie : {T : Type 0} → (T → TapTold) → Discipline → History → List (Option T)
+    → Type 0
+TapsLie told q h slots = Hold q.seats (λ w o. IsOf (IsTapOf told) (tap_at w h) o) slots
 
-abbrev pub PlacesLie : {P : Type 0} → (P → PlaceTold) → Terms → History → List (Option P) → Type 0
-PlacesLie told terms h slots =
-    Hold terms.actions (λ a o. IsInSpot (IsPlaceOf told terms a) (place_at a h) o) slots
+abbrev pub PlacesLie : {P : Type 0} → (P → PlaceTold) → Discipline → History → List (Option P)
+    → Type 0
+PlacesLie told q h slots =
+    Hold (length q.plan.actions)
+    (λ a o. IsInSpot (IsPlaceOf told q a) (place_at a h) o) slots
 
--- by what children, taps and places tell, and by the terms
+-- by what children, taps and places tell, and by a discipline
 module _ {K T P : Type 0} (child : K → ChildTold) (tap : T → TapTold) (place : P → PlaceTold)
-    (terms : Terms) where
+    (q : Discipline) where
   -- on the shelf of all berths and actions, after the history
   pub record Lies (h : History) (child_slots : List (Option K))
       (tap_slots : List (Option T)) (place_slots : List (Option P)) : Type 0 where
-    pub children : ChildrenLie child terms h child_slots
-    pub taps : TapsLie tap terms h tap_slots
-    pub places : PlacesLie place terms h place_slots
+    pub children : ChildrenLie child q h child_slots
+    pub taps : TapsLie tap q h tap_slots
+    pub places : PlacesLie place q h place_slots
 
   -- ---- goods
 
@@ -80,20 +85,19 @@ module _ {K T P : Type 0} (child : K → ChildTold) (tap : T → TapTold) (place
   IsChild (Some l) _ = ⊥
 
   abbrev pub IsPlace : ℕ → Spot → Option (Good K T P) → Type 0
-  IsPlace a s (Some (good.Place p)) = IsPlaceOf place terms a s p
+  IsPlace a s (Some (good.Place p)) = IsPlaceOf place q a s p
   IsPlace a s _ = ⊥
 
   -- What goes in, where the call is in its lane's script: the child and the tap of a line that was
   -- started, and a place after its commit, with the files that the lane was granted last. With all
   -- other calls nothing does.
-  abbrev pub GoesIn : (History → ℕ → Call → Reply) → History → ℕ → Call → Option (Good K T P)
-      → Type 0
-  GoesIn rule h lane (call.Launched l start.Done) g =
-      InScript rule h lane (call.Launched l start.Done) × IsLine l g
-  GoesIn rule h lane (call.Committed a b how) g =
-      InScript rule h lane (call.Committed a b how)
+  abbrev pub GoesIn : History → ℕ → Call → Option (Good K T P) → Type 0
+  GoesIn h lane (call.Launched l start.Done) g =
+      InScript (answer_after q) h lane (call.Launched l start.Done) × IsLine l g
+  GoesIn h lane (call.Committed a b how) g =
+      InScript (answer_after q) h lane (call.Committed a b how)
       × IsPlace a (Back (claimed (calls_by lane h)) how) g
-  GoesIn rule h lane _ g = g ≡ None
+  GoesIn h lane _ g = g ≡ None
 
   -- What comes out with a move: a tap, a child, at a Halt the child that lies there, a place to
   -- which nothing was written
@@ -111,7 +115,7 @@ module _ {K T P : Type 0} (child : K → ChildTold) (tap : T → TapTold) (place
 
 -- what is left on the shelf: the taps that no lane has taken, and the places that no lane has
 pub record Remains {T P : Type 0} (tap : T → TapTold) (place : P → PlaceTold)
-    (terms : Terms) (h : History) (tap_slots : List (Option T)) (place_slots : List (Option P))
+    (q : Discipline) (h : History) (tap_slots : List (Option T)) (place_slots : List (Option P))
     : Type 0 where
-  pub taps : TapsLie tap terms h tap_slots
-  pub places : PlacesLie place terms h place_slots
+  pub taps : TapsLie tap q h tap_slots
+  pub places : PlacesLie place q h place_slots

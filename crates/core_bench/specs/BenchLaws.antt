@@ -10,8 +10,9 @@ use Rattle.exec_journal.specs.declared.reply.Reply.{Reply}
 use Rattle.exec_journal.specs.declared.reply.Reply.TheVariants as reply
 use Rattle.exec_journal.specs.Entries.{is_kept}
 use Rattle.outside.specs.Told.{ChildTold, TapTold, PlaceTold}
-use Rattle.core_contract.specs.Terms.{Terms}
+use Rattle.core_contract.specs.Discipline.{Discipline}
 use Rattle.core_contract.specs.Moves.{History}
+use Rattle.core_contract.specs.Ruled.{answer_after}
 use Rattle.core_contract.specs.Shelf.{Back}
 use Rattle.core_contract.specs.Laws.{InScript, is_short, says_file, claimed}
 use Rattle.core_bench.specs.declared.shelf.Good.{Good}
@@ -71,27 +72,26 @@ calls_stay {C} {R} lane (e ∷ es) more others = elim (lane == e.lane) as (λ b.
 
 -- what suits a call still suits it
 module _ {K T P : Type 0} (child : K → ChildTold) (tap : T → TapTold) (place : P → PlaceTold)
-    (terms : Terms) where
-  pub suits_on : (rule : History → ℕ → Call → Reply) (h more : History) (lane : ℕ) (c : Call)
-      (g : Option (Good K T P)) → calls_by lane more ≡ []
-      → (InScript rule h lane c → InScript rule (h ++ more) lane c)
-      → GoesIn child tap place terms rule h lane c g
-      → GoesIn child tap place terms rule (h ++ more) lane c g
-  suits_on rule h more lane (call.Launched l start.Done) g others stays i = (stays i.0, i.1)
-  suits_on rule h more lane (call.Launched l start.RoomFault) g others stays i = i
-  suits_on rule h more lane (call.Launched l start.LaunchFault) g others stays i = i
-  suits_on rule h more lane (call.Committed a b how) g others stays i = (
+    (q : Discipline) where
+  pub suits_on : (h more : History) (lane : ℕ) (c : Call) (g : Option (Good K T P))
+      → calls_by lane more ≡ []
+      → (InScript (answer_after q) h lane c → InScript (answer_after q) (h ++ more) lane c)
+      → GoesIn child tap place q h lane c g → GoesIn child tap place q (h ++ more) lane c g
+  suits_on h more lane (call.Launched l start.Done) g others stays i = (stays i.0, i.1)
+  suits_on h more lane (call.Launched l start.RoomFault) g others stays i = i
+  suits_on h more lane (call.Launched l start.LaunchFault) g others stays i = i
+  suits_on h more lane (call.Committed a b how) g others stays i = (
     stays i.0,
-    subst (λ (own : History). IsPlace child tap place terms a (Back (claimed own) how) g)
+    subst (λ (own : History). IsPlace child tap place q a (Back (claimed own) how) g)
         (sym (calls_stay lane h more others)) i.1,
   )
-  suits_on rule h more lane call.Ask g others stays i = i
-  suits_on rule h more lane (call.Wrote l n how) g others stays i = i
-  suits_on rule h more lane call.Tick g others stays i = i
-  suits_on rule h more lane (call.Look w) g others stays i = i
-  suits_on rule h more lane (call.Claim a b t f) g others stays i = i
-  suits_on rule h more lane (call.Killed l) g others stays i = i
-  suits_on rule h more lane call.Take g others stays i = i
-  suits_on rule h more lane (call.Answer l x) g others stays i = i
-  suits_on rule h more lane (call.Ended l how) g others stays i = i
-  suits_on rule h more lane call.Halt g others stays i = i
+  suits_on h more lane call.Ask g others stays i = i
+  suits_on h more lane (call.Wrote l n how) g others stays i = i
+  suits_on h more lane call.Tick g others stays i = i
+  suits_on h more lane (call.Look w) g others stays i = i
+  suits_on h more lane (call.Claim a b t f) g others stays i = i
+  suits_on h more lane (call.Killed l) g others stays i = i
+  suits_on h more lane call.Take g others stays i = i
+  suits_on h more lane (call.Answer l x) g others stays i = i
+  suits_on h more lane (call.Ended l how) g others stays i = i
+  suits_on h more lane call.Halt g others stays i = i

@@ -1,44 +1,56 @@
--- What a bench remembers of who has news, and whom it names after a call.
-use Rattle.std.specs.Prelude.{◌≡◌, ℕ, ◌*◌, ◌==◌, nat_lt, Bool, true, false, ◌&&◌, not, [], ◌∷◌, ◌++◌, if◌then◌else◌}
+-- The lanes that a bench knows to have news, and those that it names after a call.
+use Rattle.std.specs.Prelude.{◌≡◌, ℕ, ◌*◌, ◌+◌, ◌-◌, ◌<◌, ◌==◌, nat_lt, Bool, true, false, ◌&&◌, not, ◌∷◌, [], ◌++◌, if◌then◌else◌}
 use Rattle.std.specs.Int.{bit_at}
-use Rattle.exec_journal.specs.declared.call.Call.{Call}
+use Rattle.std.specs.Int.RustNames.{bit_or}
 use Rattle.exec_journal.specs.declared.reply.Reply.{Reply}
 use Rattle.exec_journal.specs.Entries.{is_kept}
+use Rattle.core_contract.specs.Discipline.{Discipline}
 use Rattle.core_contract.specs.Moves.{Past, History}
 use Rattle.core_contract.specs.News.{IsQuiet, NamesNews}
+use Rattle.core_bench.specs.declared.waking.Span.{Span}
 use Rattle.core_bench.specs.declared.waking.Waking.{Waking}
 use Rattle.core_bench.specs.Marks.{Marks}
 
--- how many lanes so many berths have, of the first 128
+-- the number of lanes of these berths, at most 128
 abbrev pub lanes_of : ℕ → ℕ
 lanes_of berths = if nat_lt berths 64 then 2 * berths else 128
 
--- it has news after a call of another lane, and is none of those that had news before
-abbrev pub is_stirred : (ℕ → Bool) → ℕ → ℕ → ℕ → Bool
-is_stirred news before caller lane =
-    news lane && (not (lane == caller) && (bit_at before lane == 0))
+-- the lane first + k has news after a call of another lane, and had none before
+abbrev pub is_stirred : (ℕ → Bool) → ℕ → ℕ → ℕ → ℕ → Bool
+is_stirred news first before caller k =
+    news (first + k) && (not (first + k == caller) && (bit_at before k == 0))
 
--- After a call of this lane that was answered so, where these have news: if its entry is kept, all
--- lanes with news are marked anew, and those of them to which the call gave it; else all stays.
-pub record LooksRound (news : ℕ → Bool) (lanes caller : ℕ) (r : Reply) (old new : Waking) : Type 0
-  where
-    pub with_news : is_kept r ≡ true → Marks new.with_news lanes news
-    pub stirred : is_kept r ≡ true
-        → Marks new.stirred lanes (λ lane. is_stirred news old.with_news caller lane)
-    pub same : is_kept r ≡ false → new ≡ old
+-- After a kept call of this lane, of the lanes first + k for each k below count: those with news are
+-- marked, and those of them that had none before.
+pub record Looks (news : ℕ → Bool) (first count caller : ℕ) (old new : Span) : Type 0 where
+  pub with_news : Marks new.with_news count (λ k. news (first + k))
+  pub stirred : Marks new.stirred count (is_stirred news first old.with_news caller)
 
--- by a core's rule, and by which lanes make Ticks
-module _ (rule : History → ℕ → Call → Reply) (ticks : ℕ → Bool) where
-  -- after the history a lane that would be told Idle is none of those with news, and those to which
-  -- the newest entry gave news are stirred
+-- After a call of this lane with this reply, on this many berths: if its entry is kept, all lanes are
+-- looked at; otherwise all stays.
+pub record LooksRound (news : ℕ → Bool) (berths caller : ℕ) (r : Reply) (old new : Waking)
+    : Type 0 where
+  pub near : is_kept r ≡ true → Looks news 0 (lanes_of berths) caller old.near new.near
+  pub far : is_kept r ≡ true → Looks news 128 (lanes_of (berths - 64)) caller old.far new.far
+  pub same : is_kept r ≡ false → new ≡ old
+
+-- bit k of the hint stands for the lanes k and 128 + k
+abbrev pub hint_of : Waking → ℕ
+hint_of w = bit_or w.near.stirred w.far.stirred
+
+-- by a discipline
+module _ (q : Discipline) where
+  -- after the history a lane that would be told Idle is none of those with news, and the hint names
+  -- the lanes to which the newest entry gave news
   pub record Wakes (h : History) (w : Waking) : Type 0 where
-    pub quiet : (lane : ℕ) → IsQuiet rule ticks h lane → bit_at w.with_news lane ≡ 0
+    pub near : (lane : ℕ) → lane < 128 → IsQuiet q h lane → bit_at w.near.with_news lane ≡ 0
+    pub far : (k : ℕ) → IsQuiet q h (128 + k) → bit_at w.far.with_news k ≡ 0
     pub stirred : (before : History) (e : Past) → h ≡ before ++ e ∷ []
-        → NamesNews rule ticks before e w.stirred
+        → NamesNews q before e (hint_of w)
 
-  -- After a call that was answered so: if its entry is kept, the lanes are those to which the newest
-  -- entry gave news; else there are none.
-  pub record Hints (w : Waking) (r : Reply) (lanes : ℕ) : Type 0 where
+  -- After a call with this reply: if its entry is kept, the hint names the lanes to which the newest
+  -- entry gave news; otherwise it names none.
+  pub record Hints (w : Waking) (r : Reply) (hint : ℕ) : Type 0 where
     pub news : is_kept r ≡ true → (h : History) (e : Past) → Wakes (h ++ e ∷ []) w
-        → NamesNews rule ticks h e lanes
-    pub none : is_kept r ≡ false → lanes ≡ 0
+        → NamesNews q h e hint
+    pub none : is_kept r ≡ false → hint ≡ 0

@@ -1,5 +1,6 @@
 //! The bench.
-ghost use Rattle.std.specs.Prelude.{◌≡◌, ◌/◌, true, List, [], IfOk, IfErr};
+ghost use Rattle.std.specs.Prelude.{◌≡◌, ◌/◌, true, List, [], length, IfOk, IfErr};
+ghost use Rattle.core_contract.specs.Ruled.{IsPaidAfter, answer_after, owes_after};
 ghost use Rattle.plain_values.specs.declared.entry.Entry.{Entry};
 ghost use Rattle.exec_journal.specs.declared.call.Call.{Call};
 ghost use Rattle.exec_journal.specs.declared.reply.Reply.{Reply};
@@ -8,7 +9,7 @@ ghost use Rattle.core_contract.specs.Moves.{move_in, shift_for};
 ghost use Rattle.core_contract.specs.Laws.{is_short, says_file, StepReplies, StepStands};
 ghost use Rattle.core_bench.specs.Objects.{AreFresh};
 ghost use Rattle.core_bench.specs.Bench.{Lies, Remains, GoesIn, ComesOut};
-ghost use Rattle.core_bench.specs.Waking.{Hints, LooksRound, Wakes, lanes_of};
+ghost use Rattle.core_bench.specs.Waking.{Hints, LooksRound, Wakes};
 ghost use Rattle.core_bench.specs.Shifts.{children_then, taps_then, places_then, good_then};
 ghost use Rattle.core_bench.specs.BenchLaws.{short_not_kept, noted_not_short, suits_on, pays_one};
 
@@ -39,7 +40,8 @@ impl<B: Berth, P: Place, C: Rules> Bench<B, P, C> {
     /// Returns the places, unchanged, if memory runs out for the slots. The core is dropped.
     pub fn new(alloc: Global, core: C, places: Vec<P>) -> Result<Bench<B, P, C>, Vec<P>>
         requires core { C.stands core [] }
-        requires places { AreFresh P.told (C.terms (C.plan core)).actions places.items }
+        requires places { AreFresh P.told (length (C.discipline (C.plan core)).plan.actions)
+            places.items }
         ensures stands { IfOk result (λ b. ⟦<Bench<B, P, C> as Machine>⟧.stands b []) }
         ensures basis { IfOk result (λ b.
             ⟦<Bench<B, P, C> as Machine>⟧.basis b ≡ C.plan core) }
@@ -61,7 +63,7 @@ impl<B: Berth, P: Place, C: Rules> Bench<B, P, C> {
         ensures basis { C.plan result.0 ≡ ⟦<Bench<B, P, C> as Machine>⟧.basis self }
         ensures parts { (h : List (Entry Call Reply))
             → ⟦<Bench<B, P, C> as Machine>⟧.stands self h → C.stands result.0 h
-            × Remains B.Tap.told P.told (C.terms (C.plan result.0)) h
+            × Remains B.Tap.told P.told (C.discipline (C.plan result.0)) h
             result.1.items result.2.items }
     {
         let Bench {
@@ -92,46 +94,49 @@ impl<B: Berth, P: Place, C: Rules> Machine for Bench<B, P, C> {
     ghost blank = { C.blank };
 
     ghost stands = { λ m h. C.stands m.core h × Lies B.Child.told B.Tap.told P.told
-        (C.terms (C.plan m.core)) h m.shelf.children.items m.shelf.taps.items m.shelf.places.items
-        × Wakes (C.rule (C.plan m.core)) (C.ticks (C.plan m.core)) h m.waking };
+        (C.discipline (C.plan m.core)) h m.shelf.children.items m.shelf.taps.items
+        m.shelf.places.items × Wakes (C.discipline (C.plan m.core)) h m.waking };
 
-    ghost next = { λ q h lane c. C.rule q h lane c };
+    ghost next = { λ q h lane c. answer_after (C.discipline q) h lane c };
 
     ghost keeps = { λ e. is_kept e.reply };
 
-    ghost paid = { λ q h lane c. C.paid q h lane c };
+    ghost paid = { λ q h lane c. IsPaidAfter (C.discipline q) h lane c };
 
     ghost short = { is_short };
 
-    ghost may_be_short = { λ q h lane c. says_file (C.rule q h lane c) ≡ true };
+    ghost may_be_short = { λ q h lane c.
+        says_file (answer_after (C.discipline q) h lane c) ≡ true };
 
-    ghost goes_in = { λ q h lane c g. GoesIn B.Child.told B.Tap.told P.told (C.terms q) (C.rule q)
+    ghost goes_in = { λ q h lane c g. GoesIn B.Child.told B.Tap.told P.told (C.discipline q)
         h lane c g };
 
-    ghost comes_out = { λ q h lane c r g. ComesOut B.Child.told B.Tap.told P.told (C.terms q)
+    ghost comes_out = { λ q h lane c r g. ComesOut B.Child.told B.Tap.told P.told (C.discipline q)
         h lane c r g };
 
-    ghost owes = { λ q h. C.owes q h };
+    ghost owes = { λ q h. owes_after (C.discipline q) h };
 
-    ghost hints = { λ m lane r lanes. Hints (C.rule (C.plan m.core))
-        (C.ticks (C.plan m.core)) m.waking r lanes };
+    ghost hints = { λ m lane r hint. Hints (C.discipline (C.plan m.core)) m.waking r hint };
 
     ghost short_is_not_kept = { λ e s. short_not_kept e.reply s };
 
-    ghost paid_is_not_short = { λ m h lane c s p. noted_not_short (C.rule (C.plan m.core) h lane c)
-        (C.paid_is_noted m.core h lane c s.0 p) };
+    ghost paid_is_not_short = { λ m h lane c s p. noted_not_short
+        (answer_after (C.discipline (C.plan m.core)) h lane c)
+        ((C.keeps (C.plan m.core)).paid_is_noted h lane c (C.came m.core h s.0) p) };
 
-    ghost paid_stays = { λ m h more lane c s none p. C.paid_stays m.core h more lane c s.0 none p };
+    ghost paid_stays = { λ m h more lane c s none p. (C.keeps (C.plan m.core)).paid_stays
+        h more lane c none p };
 
-    ghost owes_less = { λ m h lane c s p k. pays_one (C.owes (C.plan m.core)) h lane c
-        (C.rule (C.plan m.core) h lane c) (C.paid_is_noted m.core h lane c s.0 p)
-        (C.owes_less m.core h lane c s.0 p) };
+    ghost owes_less = { λ m h lane c s p k. pays_one (owes_after (C.discipline (C.plan m.core)))
+        h lane c (answer_after (C.discipline (C.plan m.core)) h lane c)
+        ((C.keeps (C.plan m.core)).paid_is_noted h lane c (C.came m.core h s.0) p)
+        ((C.keeps (C.plan m.core)).owes_less h lane c p) };
 
-    ghost owes_more = { λ m h lane c s k. C.owes_more m.core h lane c s.0 k };
+    ghost owes_more = { λ m h lane c s k. (C.keeps (C.plan m.core)).owes_more h lane c k };
 
     ghost suits_still = { λ m h more lane c g s none i. suits_on B.Child.told B.Tap.told P.told
-        (C.terms (C.plan m.core)) (C.rule (C.plan m.core)) h more lane c g none
-        (C.script_stays (C.plan m.core) h more lane c none) i };
+        (C.discipline (C.plan m.core)) h more lane c g none
+        ((C.keeps (C.plan m.core)).script_stays h more lane c none) i };
 
     fn is_kept(_lane: u32, _call: &Call, reply: &Reply) -> bool {
         reply.is_kept()
@@ -148,8 +153,8 @@ impl<B: Berth, P: Place, C: Rules> Machine for Bench<B, P, C> {
         put: Option<Good<B::Child, B::Tap, P>>,
     ) -> (Reply, Option<Good<B::Child, B::Tap, P>>)
         ensures plan { C.plan self.new.core ≡ C.plan self.old.core }
-        ensures reply { StepReplies C.stands (C.rule (C.plan self.old.core)) self.old.core lane
-            call.now result.0 }
+        ensures reply { StepReplies C.stands (answer_after (C.discipline (C.plan self.old.core)))
+            self.old.core lane call.now result.0 }
         ensures stands { StepStands C.stands self.old.core lane call.now result.0 self.new.core }
         ensures children { self.new.shelf.children.items
             ≡ children_then (shift_for (move_in lane call.now result.0)) (lane / 2) put
@@ -163,7 +168,7 @@ impl<B: Berth, P: Place, C: Rules> Machine for Bench<B, P, C> {
         ensures good { result.1 ≡ good_then (shift_for (move_in lane call.now result.0)) (lane / 2)
             self.old.shelf.children.items self.old.shelf.taps.items self.old.shelf.places.items }
         ensures waking { LooksRound (C.news self.new.core)
-            (lanes_of (C.terms (C.plan self.new.core)).berths) lane result.0
+            (C.discipline (C.plan self.new.core)).seats lane result.0
             self.old.waking self.new.waking }
     {
         let reply = self.core.step(lane, call);

@@ -11,18 +11,18 @@ pub(crate) fn mark(lanes: u128, lane: u32, is: bool) -> u128
     if is { lanes | (1 << lane) } else { lanes }
 }
 
-// Returns true if the lane isn't the caller and is none of these.
-fn is_apart(lanes: u128, caller: u32, lane: u32) -> bool
+// Returns true if the lane is none of these.
+fn is_apart(lanes: u128, lane: u32) -> bool
     requires { lane < 128 }
-    ensures { result ≡ (not (lane == caller) && (bit_at lanes lane == 0)) }
+    ensures { result ≡ (bit_at lanes lane == 0) }
 {
-    lane != caller && (lanes >> lane) % 2 == 0
+    (lanes >> lane) % 2 == 0
 }
 
-/// Returns true if the lane has news, isn't the caller and is none of these.
-pub(crate) fn is_stirred(has_news: bool, lanes: u128, caller: u32, lane: u32) -> bool
+/// Returns true if the lane has news, isn't the caller's own and is none of these.
+pub(crate) fn is_stirred(has_news: bool, lanes: u128, is_own: bool, lane: u32) -> bool
     requires { lane < 128 }
-    ensures { result ≡ (has_news && (not (lane == caller) && (bit_at lanes lane == 0))) }
+    ensures { result ≡ (has_news && (not is_own && (bit_at lanes lane == 0))) }
 {
-    has_news && is_apart(lanes, caller, lane)
+    has_news && !is_own && is_apart(lanes, lane)
 }

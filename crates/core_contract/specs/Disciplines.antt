@@ -13,16 +13,8 @@ use Rattle.exec_journal.specs.Rules.{rule}
 use Rattle.exec_journal.specs.Scripts.{seat_script}
 use Rattle.run_plan.specs.Groups.{berths, is_remote, kind_of}
 use Rattle.run_plan.specs.Sound.{Sound}
+use Rattle.core_contract.specs.Discipline.{Discipline}
 use Rattle.core_contract.specs.Laws.{OrderFits, fits}
-
--- its plan, its berths with the kind of each one's lines, the lanes that make Ticks, and its reply
--- to each call in a script
-pub record Discipline : Type 0 where
-  pub plan : Plan
-  pub seats : ℕ
-  pub kinds : ℕ → Kind
-  pub ticks : ℕ → Bool
-  pub rule : List Entry → ℕ → Call → Reply
 
 abbrev pub berth_script : Discipline → List Entry → ℕ → Call → Bool
 berth_script q j lane c = seat_script q.seats q.kinds q.plan j lane c
@@ -49,7 +41,7 @@ is_plain (call.Answer l x) = false
 is_plain _ = true
 
 -- What a discipline keeps: each order has its reasons, each other reply is the journal's, and an order
--- is of an attempt whose group is an executor's exactly where the berth is.
+-- is of an attempt whose group is an executor's exactly if the berth is.
 pub record IsDiscipline (q : Discipline) : Type 0 where
   pub told : (j : List Entry) (lane : ℕ) (c : Call) → LegalBy q j
       → script_of q j lane c ≡ true → Told q.plan j lane c (q.rule j lane c)
@@ -69,6 +61,7 @@ abbrev pub own_discipline : Plan → Discipline
 own_discipline p = record {
   plan = p;
   seats = berths p;
+  served = berths p;
   kinds = kind_of p;
   ticks = λ _. false;
   rule = own_rule p;

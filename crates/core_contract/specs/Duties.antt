@@ -4,6 +4,7 @@ use Rattle.std.specs.List.{fold, list_any}
 use Rattle.std.specs.Ordering.{int_eq}
 use Rattle.run_plan.specs.declared.plan.Branch.{Branch}
 use Rattle.run_plan.specs.declared.plan.Maker.{Maker}
+use Rattle.run_plan.specs.Groups.{is_remote}
 use Rattle.exec_journal.specs.declared.attempt.Attempt.{Attempt}
 use Rattle.exec_journal.specs.declared.call.Call.{Call}
 use Rattle.exec_journal.specs.declared.call.Call.TheVariants as call
@@ -16,7 +17,7 @@ use Rattle.exec_journal.specs.declared.reply.Reply.TheVariants as reply
 use Rattle.exec_journal.specs.Entries.{attempt_of, same_attempt, same_branch}
 use Rattle.exec_journal.specs.Scripts.{is_made, is_whole_or_fault, may_find}
 use Rattle.core_contract.specs.Moves.{Past, History}
-use Rattle.core_contract.specs.Terms.{Terms}
+use Rattle.core_contract.specs.Discipline.{Discipline, makers_in, outputs_in}
 
 abbrev pub proxy_lane : ℕ → ℕ
 proxy_lane w = 2 * w
@@ -89,11 +90,11 @@ may_besides Left (call.Committed a b how) = true
 may_besides Asks call.Tick = true
 may_besides _ _ = false
 
--- ---- which calls the proxy lane of this berth may make, by the terms
-module _ (terms : Terms) (berth : ℕ) where
+-- ---- which calls the proxy lane of this berth may make, by a discipline
+module _ (q : Discipline) (berth : ℕ) where
   -- while it sends a request, it looks at the made inputs
   abbrev pub may_look : ℕ → Wanted → Bool
-  may_look a (wanted.Made c o) = is_maker (terms.makers a) c o
+  may_look a (wanted.Made c o) = is_maker (makers_in q.plan a) c o
   may_look a (wanted.Answered l n o) = false
 
   -- while it gathers an answer that holds files, it looks at those of its action's outputs
@@ -101,11 +102,11 @@ module _ (terms : Terms) (berth : ℕ) where
   may_look_at l n a exit refused (wanted.Made c o) = false
   may_look_at l n a exit refused (wanted.Answered k m o) =
       ((k == l) && int_eq m n)
-      && (int_eq exit (pos 0) && (not refused && nat_lt o (length (terms.outputs a))))
+      && (int_eq exit (pos 0) && (not refused && nat_lt o (length (outputs_in q.plan a))))
 
   abbrev pub may_claim : Attempt → ℤ → Bool → Attempt → Found → Bool
   may_claim t exit refused u f =
-      same_attempt u t && may_find (length (terms.outputs u.action)) (terms.remote berth) exit refused f
+      same_attempt u t && may_find (length (outputs_in q.plan u.action)) (is_remote (q.kinds berth)) exit refused f
 
   abbrev pub may_do : Duty → Call → Bool
   may_do Asks call.Ask = true

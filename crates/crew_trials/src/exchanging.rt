@@ -117,14 +117,14 @@ impl Lane<Desk<Slot>, Pass<Slot>> for SlotLane {
         pass: Pass<Slot>,
     ) -> (SlotEnd, Pass<Slot>) {
         match self {
-            SlotLane::Fills(Filler { number, count }) => {
-                let mut caller = Caller::new(desk, bells, pass, number);
+            SlotLane::Fills(Filler { number: _, count }) => {
+                let mut caller = Caller::new(desk, bells, pass);
                 let question = Until { ask: Ask::Fill };
                 let made = SlotLane::ask_until(rt, &mut caller, &question, count);
                 (SlotEnd::Filled(made), caller.into_pass())
             }
-            SlotLane::Empties(Emptier { number, count }) => {
-                let mut caller = Caller::new(desk, bells, pass, number);
+            SlotLane::Empties(Emptier { number: _, count }) => {
+                let mut caller = Caller::new(desk, bells, pass);
                 let question = Until { ask: Ask::Empty };
                 let made = SlotLane::ask_until(rt, &mut caller, &question, count);
                 (SlotEnd::Emptied(made), caller.into_pass())

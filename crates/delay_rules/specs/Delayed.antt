@@ -20,7 +20,7 @@ use Rattle.exec_journal.specs.Settled.{settled, ready, uses, queued}
 use Rattle.exec_journal.specs.Kept.{group_at}
 use Rattle.exec_journal.specs.Lawful.{plain_reply}
 use Rattle.exec_journal.specs.Rules.{ask_of, launches_of, is_over, leave}
-use Rattle.core_contract.specs.Disciplines.{Discipline}
+use Rattle.core_contract.specs.Discipline.{Discipline}
 
 -- ---- Ticks
 
@@ -113,6 +113,7 @@ abbrev pub delayed_discipline : Plan → ℕ → Discipline
 delayed_discipline p n = record {
   plan = p;
   seats = delayed_seats p;
+  served = berths p;
   kinds = kind_of p;
   ticks = is_ticker p;
   rule = delayed_rule p n;

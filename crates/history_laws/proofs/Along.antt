@@ -6,7 +6,7 @@ use Rattle.std.proofs.lemmas.Grind.{fold-append}
 use Rattle.exec_journal.specs.Entry.{Entry}
 use Rattle.core_contract.specs.Moves.{Past, History}
 use Rattle.seat_desk.specs.History.{calls_by}
-use Rattle.history_laws.specs.Owed.{journal_of}
+use Rattle.core_contract.specs.Ruled.{journal_of}
 
 -- the journal of a longer history
 pub journal_more : (h more : History)

@@ -10,7 +10,7 @@ use Rattle.list_lemmas.specs.Options.{and_more}
 use Rattle.core_contract.specs.Laws.{lines_in, is_taken}
 use Rattle.core_contract.specs.Moves.{History}
 use Rattle.core_contract.specs.Shelf.{child_at, child_then, tap_at, tap_then}
-use Rattle.history_laws.specs.Owed.{journal_of}
+use Rattle.core_contract.specs.Ruled.{journal_of}
 use Rattle.history_laws.proofs.Along.{along}
 use Rattle.history_laws.proofs.Lying.{child_entry, tap_entry, child_in, tap_in}
 

@@ -22,7 +22,9 @@ use Rattle.exec_journal.specs.Scripts.{is_made, is_owed_commit, may_find, allowe
 use Rattle.core_contract.specs.Moves.{History}
 use Rattle.core_contract.specs.Duties.{Duty, Asks, Launches, Sends, Cancels, Gathers, Commits, Kills, Left, ordered, duty_of_claim, duty_of, proxy_lane, may_do}
 use Rattle.seat_desk.specs.History.{calls_by}
-use Rattle.history_laws.specs.Owed.{journal_of, has_left, duty_of_work, owed_by, terms_for}
+use Rattle.core_contract.specs.Discipline.{Discipline}
+use Rattle.core_contract.specs.Ruled.{journal_of}
+use Rattle.history_laws.specs.Owed.{has_left, duty_of_work, owed_by}
 use Rattle.history_laws.proofs.Going.{duty_is}
 use Rattle.history_laws.proofs.Dues.{neither_left, lane_within}
 use Rattle.std.proofs.Math.Nat.{mul-mod_right, mul-div_cancel_left}
@@ -44,12 +46,15 @@ outputs_so (Some x) = refl
 
 -- ---- which calls an order allows
 
-module _ (p : Plan) (seats : ℕ) (kinds : ℕ → Kind) (w : ℕ) where
+module _ (q : Discipline) (w : ℕ) where
+  abbrev p : Plan
+  p = q.plan
+
   abbrev k : Kind
-  k = kinds w
+  k = q.kinds w
 
   abbrev Do : Duty → Call → Bool
-  Do s c = may_do (terms_for p seats kinds) w s c
+  Do s c = may_do q w s c
 
   -- after this work the call is allowed
   abbrev May : ℕ → Call → Reply → Call → Type 0
@@ -318,21 +323,21 @@ module _ (p : Plan) (seats : ℕ) (kinds : ℕ → Kind) (w : ℕ) where
   still_here Left c h = absurd (cc)
 
 -- what a proxy lane may do by its duty is in its script
-pub duty_is_scripted : (n : ℕ) (kinds : ℕ → Kind) (p : Plan) (h : History) (w : ℕ) (c : Call) → w < n
-    → may_do (terms_for p n kinds) w (duty_of (calls_by (proxy_lane w) h)) c ≡ true
-    → seat_script n kinds p (journal_of h) (proxy_lane w) c ≡ true
-duty_is_scripted n kinds p h w c lt may =
+pub duty_is_scripted : (q : Discipline) (h : History) (w : ℕ) (c : Call) → w < q.seats
+    → may_do q w (duty_of (calls_by (proxy_lane w) h)) c ≡ true
+    → seat_script q.seats q.kinds q.plan (journal_of h) (proxy_lane w) c ≡ true
+duty_is_scripted q h w c lt may =
     let j : List Entry = journal_of h in
     let s : Duty = duty_of (calls_by (proxy_lane w) h) in
     let d = duty_is h (proxy_lane w) in
-    let here : has_left s ≡ false = still_here p n kinds w s c may in
+    let here : has_left s ≡ false = still_here q w s c may in
     let on = neither_left (stopped j (proxy_lane w)) (has_halted j (proxy_lane w))
     (sym d.gone ∙ here) in
     let even : (proxy_lane w % 2 == 0) ≡ true =
     eq-eqb (proxy_lane w % 2) 0 (mul-mod_right 2 w) in
     let half : proxy_lane w / 2 ≡ w = mul-div_cancel_left w {n = 2} (omega arith) in
     let last : Option Entry = last_work j (proxy_lane w) in
-    (λ i. lane_within n w lt i && (not (on.0 i)
-    && cond (on.1 i) (is_owed_commit c last) (allowed p (kinds (half i)) (even i) last c)))
-    ∙ newest_may p n kinds w last c
-    (ap (λ (x : Duty). may_do (terms_for p n kinds) w x c) (sym (d.owed here)) ∙ may)
+    (λ i. lane_within q.seats w lt i && (not (on.0 i)
+    && cond (on.1 i) (is_owed_commit c last) (allowed q.plan (q.kinds (half i)) (even i) last c)))
+    ∙ newest_may q w last c
+    (ap (λ (x : Duty). may_do q w x c) (sym (d.owed here)) ∙ may)

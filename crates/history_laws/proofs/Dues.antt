@@ -16,7 +16,8 @@ use Rattle.journal_laws.specs.Paid.{seat_paid}
 use Rattle.core_contract.specs.Moves.{History}
 use Rattle.core_contract.specs.Duties.{Duty, Asks, Launches, Sends, Cancels, Gathers, Commits, Kills, Left, ordered, duty_of_claim, duty_of, proxy_lane}
 use Rattle.seat_desk.specs.History.{calls_by}
-use Rattle.history_laws.specs.Owed.{journal_of, has_left, duty_of_work, owed_by}
+use Rattle.core_contract.specs.Ruled.{journal_of}
+use Rattle.history_laws.specs.Owed.{has_left, duty_of_work, owed_by}
 use Rattle.history_laws.proofs.Going.{duty_is}
 
 -- ---- which duty is a Committed

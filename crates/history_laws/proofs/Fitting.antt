@@ -17,11 +17,11 @@ use Rattle.exec_journal.proofs.Ruled as ru
 use Rattle.exec_journal.proofs.Ruled.{by_bool}
 use Rattle.core_contract.specs.Laws.{fits, Fits, InScript}
 use Rattle.core_contract.specs.Moves.{History}
-use Rattle.history_laws.specs.Owed.{journal_of}
+use Rattle.core_contract.specs.Discipline.{Discipline}
+use Rattle.core_contract.specs.Ruled.{answer_after, journal_of}
 use Rattle.std.proofs.lemmas.Bool.{and_parts, and_from, or_cases, or_left, or_right}
 use Rattle.journal_laws.proofs.Ours as ours
-use Rattle.core_contract.specs.Disciplines.{Discipline, IsDiscipline, LegalBy, LegalEntryBy, script_of, berth_script}
-use Rattle.history_laws.specs.Ruled.{answer_after}
+use Rattle.core_contract.specs.Disciplines.{IsDiscipline, LegalBy, LegalEntryBy, script_of, berth_script}
 
 -- ---- replies of a call's kind
 

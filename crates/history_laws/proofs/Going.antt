@@ -14,7 +14,8 @@ use Rattle.exec_journal.specs.Entries.{is_stop, is_halt, is_look}
 use Rattle.exec_journal.specs.Words.{last_work, stopped, has_halted}
 use Rattle.core_contract.specs.Moves.{Past, History}
 use Rattle.core_contract.specs.Duties.{Duty, Asks, Launches, Sends, Cancels, Gathers, Commits, Kills, Left, ordered, duty_of_claim, duty_by_call, duty_from, duty_by, duty_then}
-use Rattle.history_laws.specs.Owed.{journal_of, has_left, duty_of_work, owed_by, DutyIs}
+use Rattle.core_contract.specs.Ruled.{journal_of}
+use Rattle.history_laws.specs.Owed.{has_left, duty_of_work, owed_by, DutyIs}
 
 pub by_bool : (b : Bool) (P : Bool → Type 0) → P true → P false → P b
 by_bool true P t f = t

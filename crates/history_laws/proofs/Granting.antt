@@ -4,7 +4,9 @@ use Rattle.std.proofs.Common.{◌≡◌, ℕ, ◌%◌, ◌==◌, ◌<◌, Bool, 
 use Rattle.std.proofs.lemmas.Bool.{and_parts, eqb-true, eq-eqb}
 use Rattle.run_plan.specs.declared.plan.Branch.{Branch}
 use Rattle.run_plan.specs.declared.plan.Plan.{Plan}
-use Rattle.core_contract.specs.Disciplines.{Discipline, IsDiscipline}
+use Rattle.core_contract.specs.Disciplines.{IsDiscipline}
+use Rattle.core_contract.specs.Discipline.{Discipline}
+use Rattle.core_contract.specs.Ruled.{CameAbout, answer_after, journal_of}
 use Rattle.exec_journal.specs.Lawful as lw
 use Rattle.exec_journal.specs.declared.attempt.Attempt.{Attempt}
 use Rattle.exec_journal.specs.declared.call.Call.{Call}
@@ -31,9 +33,7 @@ use Rattle.core_contract.specs.Laws.{InScript, claimed_by, claimed}
 use Rattle.core_contract.specs.Moves.{History, Nothing, move_of, move_in, proxy_move, tap_move}
 use Rattle.core_contract.specs.Shelf.{Fresh, Away, place_at, place_then}
 use Rattle.seat_desk.specs.History.{calls_by}
-use Rattle.history_laws.specs.Owed.{journal_of}
 use Rattle.history_laws.proofs.Going.{flip}
-use Rattle.history_laws.specs.Ruled.{answer_after, CameAbout}
 use Rattle.history_laws.proofs.Along.{after_all, own_then, along, along_own}
 use Rattle.history_laws.proofs.Fitting.{anywhere, lawful, scripted_so}
 use Rattle.history_laws.proofs.Ordering.{ruled_so}

@@ -1,6 +1,8 @@
 -- A legal history is one entry longer than another, by an entry as the rules make it.
 use Rattle.std.proofs.Common.{◌≡◌, ℕ, Bool, true, false, cond, [], ◌∷◌, ◌++◌, refl, sym, subst, ◌∙◌}
-use Rattle.core_contract.specs.Disciplines.{Discipline, LegalBy}
+use Rattle.core_contract.specs.Disciplines.{LegalBy}
+use Rattle.core_contract.specs.Discipline.{Discipline}
+use Rattle.core_contract.specs.Ruled.{CameAbout, answer_after, journal_of}
 use Rattle.exec_journal.specs.declared.call.Call.{Call}
 use Rattle.exec_journal.specs.declared.reply.Reply.{Reply}
 use Rattle.exec_journal.specs.Entries.{is_kept}
@@ -8,8 +10,6 @@ use Rattle.exec_journal.specs.Legal as legal
 use Rattle.core_contract.specs.Moves.{Past, History}
 use Rattle.seat_desk.specs.History as history
 use Rattle.seat_desk.specs.History.{entry}
-use Rattle.history_laws.specs.Owed.{journal_of}
-use Rattle.history_laws.specs.Ruled.{answer_after, CameAbout}
 use Rattle.history_laws.proofs.Along.{journal_next}
 use Rattle.history_laws.proofs.Fitting.{answer_is}
 

@@ -20,7 +20,7 @@ use Rattle.journal_laws.specs.Paid.{seat_paid}
 use Rattle.core_contract.specs.Laws.{Hearing, Free, Hears, Over, leads_by_call, leads_by_line, hearing_from, hearing_by, hearing_then, hearing_of, may_hear, tells_of, tap_lane}
 use Rattle.core_contract.specs.Moves.{History}
 use Rattle.seat_desk.specs.History.{calls_by}
-use Rattle.history_laws.specs.Owed.{journal_of}
+use Rattle.core_contract.specs.Ruled.{journal_of}
 use Rattle.history_laws.proofs.Going.{then, flip, elsewhere}
 use Rattle.history_laws.proofs.Dues.{neither_left}
 use Rattle.history_laws.proofs.Along.{after_all, own_then, along_own}

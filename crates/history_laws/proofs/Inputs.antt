@@ -28,7 +28,9 @@ use Rattle.exec_journal.specs.Entries.{attempt_of, granted_in, same_attempt}
 use Rattle.exec_journal.specs.Lawful.{Lawful}
 use Rattle.exec_journal.specs.Rules as r
 use Rattle.exec_journal.specs.Lawful as lw
-use Rattle.core_contract.specs.Disciplines.{Discipline, IsDiscipline, LegalBy}
+use Rattle.core_contract.specs.Disciplines.{IsDiscipline, LegalBy}
+use Rattle.core_contract.specs.Discipline.{Discipline, makers_in}
+use Rattle.core_contract.specs.Ruled.{CameAbout, answer_after, journal_of}
 use Rattle.exec_journal.specs.Scripts.{is_made, is_owed, is_owed_after, may_find, outputs_of}
 use Rattle.exec_journal.specs.Settled.{all_dropped, by_grant, is_starved, is_success, ready, standings}
 use Rattle.exec_journal.specs.Words.{last_work, grant_of}
@@ -44,10 +46,9 @@ use Rattle.core_contract.specs.Duties.{Duty, Sends, duty_of, duty_of_claim, is_m
 use Rattle.core_contract.specs.Laws.{says_file}
 use Rattle.core_contract.specs.Moves.{History}
 use Rattle.seat_desk.specs.History.{calls_by}
-use Rattle.history_laws.specs.Owed.{journal_of, has_left, duty_of_work, owed_by, makers_in, terms_for}
+use Rattle.history_laws.specs.Owed.{has_left, duty_of_work, owed_by}
 use Rattle.history_laws.proofs.Doing.{duty_is_scripted}
 use Rattle.history_laws.proofs.Going.{duty_is}
-use Rattle.history_laws.specs.Ruled.{answer_after, CameAbout}
 use Rattle.history_laws.proofs.Fitting.{answer_is, lawful, in_seats, seated_so}
 use Rattle.history_laws.proofs.Granting.{granted_files}
 
@@ -298,8 +299,8 @@ inputs_are_there q is h w l n t c o came owes maker =
     let lane = proxy_lane w in
     let order = owes_wrote h lane l n t owes in
     let inside = worker_within q j lane order.order came.legal order.newest in
-    let may = duty_is_scripted q.seats q.kinds p h w (call.Look (wanted.Made c o)) (omega (arith, inside))
-    (ap (λ (s : Duty). may_do (terms_for p q.seats q.kinds) w s
+    let may = duty_is_scripted q h w (call.Look (wanted.Made c o)) (omega (arith, inside))
+    (ap (λ (s : Duty). may_do q w s
     (call.Look (wanted.Made c o))) owes ∙ maker) in
     let fits : owed.is_send t order.order ≡ true =
     ap (λ (x : Reply). owed.is_send t (record { lane = 0; call = call.Ask; reply = x }))

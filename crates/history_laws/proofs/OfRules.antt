@@ -13,16 +13,18 @@ use Rattle.exec_journal.specs.declared.call.Started.TheVariants as start
 use Rattle.exec_journal.specs.declared.call.Wanted.TheVariants as wanted
 use Rattle.exec_journal.specs.declared.reply.Reply.TheVariants as reply
 use Rattle.exec_journal.specs.Entries.{is_kept}
+use Rattle.run_plan.specs.Sound.{Sound}
 use Rattle.seat_desk.specs.History.{entry, calls_by}
 use Rattle.core_contract.specs.Duties.{Asks, Duty, Sends, Commits, Left, proxy_lane, duty_of, is_maker, may_do, may_make}
 use Rattle.core_contract.specs.Laws.{InScript, Fits, tap_lane, hearing_of, may_hear, Hears, Over, tells_of, claimed, says_file, lines_in, is_taken, OrderFits, OrderHolds}
+use Rattle.core_contract.specs.Keeps.{Keeps}
 use Rattle.core_contract.specs.Moves.{Past, History}
 use Rattle.core_contract.specs.Shelf.{child_at, tap_at, place_at, Fresh, Away}
-use Rattle.history_laws.specs.Owed.{journal_of, makers_in}
+use Rattle.core_contract.specs.Discipline.{Discipline, makers_in}
+use Rattle.core_contract.specs.Ruled.{CameAbout, IsPaidAfter, answer_after, journal_of, owes_after}
 use Rattle.call_laws.proofs.Reports.{few_lines}
 use Rattle.history_laws.proofs.Doing.{duty_is_scripted}
 use Rattle.history_laws.proofs.Dues as paying
-use Rattle.history_laws.specs.Ruled.{answer_after, IsPaidAfter, owes_after, CameAbout, terms_in}
 use Rattle.history_laws.proofs.Bridging.{lines_are}
 use Rattle.history_laws.proofs.Fitting.{in_script, lawful, scripted_as, scripted_so, seated_so, replies_fit}
 use Rattle.history_laws.proofs.Ticking as ticking
@@ -32,7 +34,7 @@ use Rattle.history_laws.proofs.Hearing as hearing
 use Rattle.history_laws.proofs.Inputs as inputs
 use Rattle.history_laws.proofs.Ordering as ordering
 use Rattle.history_laws.proofs.Paying as paid
-use Rattle.core_contract.specs.Disciplines.{Discipline, IsDiscipline, berth_script}
+use Rattle.core_contract.specs.Disciplines.{IsDiscipline, berth_script}
 
 module _ (q : Discipline) (is : IsDiscipline q) where
   pub legal_before : (h : History) (e : Past) → CameAbout q (h ++ e ∷ [])
@@ -100,15 +102,15 @@ module _ (q : Discipline) (is : IsDiscipline q) where
       (scripted_as q (journal_of h) lane c (scripted_so q h lane c fit))
 
   pub proxies_do : (h : History) (w : ℕ) (c : Call) → w < q.seats
-      → may_do (terms_in q) w (duty_of (calls_by (proxy_lane w) h)) c ≡ true
+      → may_do (q) w (duty_of (calls_by (proxy_lane w) h)) c ≡ true
       → InScript (answer_after q) h (proxy_lane w) c
   proxies_do h w c lt may = in_script q is h (proxy_lane w) c
       (seated_so q (journal_of h) (proxy_lane w) c
-      (duty_is_scripted q.seats q.kinds q.plan h w c lt may))
+      (duty_is_scripted q h w c lt may))
 
   pub proxies_do_only : (h : History) (w : ℕ) (c : Call)
       → InScript (answer_after q) h (proxy_lane w) c
-      → may_make (terms_in q) w (duty_of (calls_by (proxy_lane w) h)) c ≡ true
+      → may_make (q) w (duty_of (calls_by (proxy_lane w) h)) c ≡ true
   proxies_do_only h w c fit =
       ticking.only_makes q h w c
       (scripted_as q (journal_of h) (proxy_lane w) c (scripted_so q h (proxy_lane w) c fit))
@@ -119,8 +121,8 @@ module _ (q : Discipline) (is : IsDiscipline q) where
   tickers_may_tick h w lt ticks owes =
       let lane = proxy_lane w in
       let ask : berth_script q (journal_of h) lane call.Ask ≡ true =
-      duty_is_scripted q.seats q.kinds q.plan h w call.Ask lt
-      (ap (λ (s : Duty). may_do (terms_in q) w s call.Ask) owes) in
+      duty_is_scripted q h w call.Ask lt
+      (ap (λ (s : Duty). may_do (q) w s call.Ask) owes) in
       in_script q is h lane call.Tick
       (or_left _ _ (and_from _ _ ticks (and_from _ _ ask refl)))
 
@@ -182,3 +184,36 @@ module _ (q : Discipline) (is : IsDiscipline q) where
       → CameAbout q h → InScript (answer_after q) h lane (call.Committed a b how)
       → place_at a h ≡ Away (claimed (calls_by lane h))
   commits_own h lane a b how came fit = granting.commits_own q is h lane a b how came fit
+
+  -- all of it, if a sound plan has few berths
+  pub keeps : (Sound q.plan → q.seats ≤ 128) → Keeps q
+  keeps few = record {
+    is = is;
+    few = few;
+    legal_before = legal_before;
+    paid_is_noted = paid_is_noted;
+    paid_stays = paid_stays;
+    owes_less = owes_less;
+    owes_more = owes_more;
+    replies = replies;
+    lanes_are_known = lanes_are_known;
+    script_stays = script_stays;
+    taps_hear = taps_hear;
+    taps_hear_only = taps_hear_only;
+    taps_may_halt = taps_may_halt;
+    only_hears = only_hears;
+    proxies_do = proxies_do;
+    proxies_do_only = proxies_do_only;
+    tickers_may_tick = tickers_may_tick;
+    proxies_may_halt = proxies_may_halt;
+    commits_are_paid = commits_are_paid;
+    orders_hold = orders_hold;
+    orders_fit = orders_fit;
+    lines_fit = lines_fit;
+    inputs_are_there = inputs_are_there;
+    lines_find_room = lines_find_room;
+    takes_there = takes_there;
+    takes_once = takes_once;
+    grants_once = grants_once;
+    commits_own = commits_own;
+  }

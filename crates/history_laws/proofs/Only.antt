@@ -24,7 +24,9 @@ use Rattle.exec_journal.specs.Scripts.{is_made, may_find, is_commit_of, is_owed,
 use Rattle.core_contract.specs.Moves.{History}
 use Rattle.core_contract.specs.Duties.{Duty, Asks, Launches, Sends, Cancels, Gathers, Commits, Kills, ordered, duty_of, proxy_lane, may_make}
 use Rattle.seat_desk.specs.History.{calls_by}
-use Rattle.history_laws.specs.Owed.{journal_of, has_left, duty_of_work, owed_by, terms_for}
+use Rattle.core_contract.specs.Discipline.{Discipline}
+use Rattle.core_contract.specs.Ruled.{journal_of}
+use Rattle.history_laws.specs.Owed.{has_left, duty_of_work, owed_by}
 use Rattle.history_laws.proofs.Going.{duty_is, left_is, by_bool}
 use Rattle.history_laws.proofs.Doing.{makes_so, outputs_so, is_grant, ungranted, grant_is}
 
@@ -42,9 +44,12 @@ is_order (reply.Gather l n a b t exit refused) = true
 is_order (reply.Kill l y) = true
 is_order _ = false
 
-module _ (p : Plan) (seats : ℕ) (kinds : ℕ → Kind) (w : ℕ) where
+module _ (q : Discipline) (w : ℕ) where
+  abbrev p : Plan
+  p = q.plan
+
   abbrev k : Kind
-  k = kinds w
+  k = q.kinds w
 
   no_look : (w : Wanted) (r : Reply) → is_order r ≡ false → may_look p w r ≡ false
   no_look (wanted.Made c o) (reply.Send l n a b t) e = absurd (cc)
@@ -66,7 +71,7 @@ module _ (p : Plan) (seats : ℕ) (kinds : ℕ → Kind) (w : ℕ) where
   no_order _ r e = refl
 
   abbrev granted : Reply → Bool
-  granted r = is_grant p seats kinds w r
+  granted r = is_grant q w r
 
   files_commit : (a : ℕ) (b : Branch) (c : ℕ) (d : Branch) (t : ℕ) (fs : List (List ℕ)) (r : Reply)
       → granted r ≡ false → is_commit_of a b (call.Claim c d t (found.Files fs)) r ≡ false
@@ -90,7 +95,7 @@ module _ (p : Plan) (seats : ℕ) (kinds : ℕ → Kind) (w : ℕ) where
   -- ---- what the newest work asks for
 
   abbrev Make : Duty → Call → Type 0
-  Make s c = may_make (terms_for p seats kinds) w s c ≡ true
+  Make s c = may_make q w s c ≡ true
 
   -- after this work the call is allowed
   abbrev May : ℕ → Call → Reply → Call → Type 0
@@ -212,11 +217,11 @@ module _ (p : Plan) (seats : ℕ) (kinds : ℕ → Kind) (w : ℕ) where
   work_only : (n : ℕ) (x : Call) (r : Reply) (c : Call) (b : Bool) → granted r ≡ b
       → is_stop r ≡ false → May n x r c → Make (duty_of_work x r) c
   work_only n x r c true e on h = subst (λ (y : Reply). Make (duty_of_work x y) c)
-      (sym (grant_is p seats kinds w r e))
+      (sym (grant_is q w r e))
       (grant_only n x c (ap (λ (y : Reply). allowed p k true (past n x y) c)
-      (sym (grant_is p seats kinds w r e)) ∙ h))
+      (sym (grant_is q w r e)) ∙ h))
   work_only n x r c false e on h =
-      subst (λ (s : Duty). Make s c) (sym (ungranted p seats kinds w x r e)) (order_only n x r c on e h)
+      subst (λ (s : Duty). Make s c) (sym (ungranted q w x r e)) (order_only n x r c on e h)
 
   stop_leaves : (x : Call) (r : Reply) → has_left (duty_of_work x r) ≡ false → is_stop r ≡ false
   stop_leaves (call.Claim a b t (found.Files fs)) reply.Stop e = absurd (cc)
@@ -235,7 +240,7 @@ module _ (p : Plan) (seats : ℕ) (kinds : ℕ → Kind) (w : ℕ) where
   after_halt : (s : Duty) (o : Option Entry) (c : Call) → has_left s ≡ true
       → is_owed_commit c o ≡ true → Make s c
   after_halt s o (call.Committed a b how) gone h =
-      ap (λ (x : Duty). may_make (terms_for p seats kinds) w x (call.Committed a b how))
+      ap (λ (x : Duty). may_make q w x (call.Committed a b how))
       (left_is s gone)
   after_halt s o _ gone h = absurd (cc)
 
@@ -244,10 +249,10 @@ not_so true e = absurd (cc)
 not_so false e = refl
 
 -- a call in a proxy lane's script is one that its duty allows, or what it may do besides
-pub script_is_duty : (n : ℕ) (kinds : ℕ → Kind) (p : Plan) (h : History) (w : ℕ) (c : Call)
-    → seat_script n kinds p (journal_of h) (proxy_lane w) c ≡ true
-    → may_make (terms_for p n kinds) w (duty_of (calls_by (proxy_lane w) h)) c ≡ true
-script_is_duty n kinds p h w c may =
+pub script_is_duty : (q : Discipline) (h : History) (w : ℕ) (c : Call)
+    → seat_script q.seats q.kinds q.plan (journal_of h) (proxy_lane w) c ≡ true
+    → may_make q w (duty_of (calls_by (proxy_lane w) h)) c ≡ true
+script_is_duty q h w c may =
     let j : List Entry = journal_of h in
     let lane : ℕ = proxy_lane w in
     let s : Duty = duty_of (calls_by lane h) in
@@ -255,17 +260,17 @@ script_is_duty n kinds p h w c may =
     let d = duty_is h lane in
     let even : (lane % 2 == 0) ≡ true = eq-eqb (lane % 2) 0 (mul-mod_right 2 w) in
     let half : lane / 2 ≡ w = mul-div_cancel_left w {n = 2} (omega arith) in
-    let parts = and_parts (nat_lt lane (2 * n)) _ may in
+    let parts = and_parts (nat_lt lane (2 * q.seats)) _ may in
     let runs = and_parts (not (stopped j lane)) _ parts.1 in
     let on : stopped j lane ≡ false = not_so (stopped j lane) runs.0 in
     by_bool (has_halted j lane)
     (λ b. has_halted j lane ≡ b
     → cond b (is_owed_commit c last)
-    (allowed p (kinds (lane / 2)) (lane % 2 == 0) last c) ≡ true
-    → Make p n kinds w s c)
-    (λ halts g. after_halt p n kinds w s last c (d.gone ∙ (λ i. on i || halts i)) g)
+    (allowed q.plan (q.kinds (lane / 2)) (lane % 2 == 0) last c) ≡ true
+    → Make q w s c)
+    (λ halts g. after_halt q w s last c (d.gone ∙ (λ i. on i || halts i)) g)
     (λ goes g. let here : has_left s ≡ false = d.gone ∙ (λ i. on i || goes i) in
-    subst (λ (x : Duty). Make p n kinds w x c) (sym (d.owed here))
-    (newest_only p n kinds w last c (ap has_left (sym (d.owed here)) ∙ here)
-    ((λ i. allowed p (kinds (sym half i)) (sym even i) last c) ∙ g)))
+    subst (λ (x : Duty). Make q w x c) (sym (d.owed here))
+    (newest_only q w last c (ap has_left (sym (d.owed here)) ∙ here)
+    ((λ i. allowed q.plan (q.kinds (sym half i)) (sym even i) last c) ∙ g)))
     refl runs.1

@@ -16,7 +16,9 @@ use Rattle.exec_journal.specs.Lawful.{Lawful}
 use Rattle.exec_journal.specs.Rules as r
 use Rattle.exec_journal.specs.Lawful as lw
 use Rattle.exec_journal.specs.Seated.{line_kind}
-use Rattle.core_contract.specs.Disciplines.{Discipline, IsDiscipline, script_of}
+use Rattle.core_contract.specs.Disciplines.{IsDiscipline, script_of}
+use Rattle.core_contract.specs.Discipline.{Discipline}
+use Rattle.core_contract.specs.Ruled.{CameAbout, answer_after, journal_of}
 use Rattle.exec_journal.specs.Scripts.{allowed, is_owed_commit}
 use Rattle.exec_journal.specs.Words.{last_work, last_line, started, was_killed, kill_ordered, live, broke, has_halted, stopped, line_count, was_taken, pending}
 use Rattle.exec_journal.proofs.Histories.{all_filter, all_oldest}
@@ -31,8 +33,6 @@ use Rattle.call_laws.proofs.LastLines as last
 use Rattle.core_contract.specs.Laws.{OrderFits, OrderHolds, InScript, lines_in, is_taken}
 use Rattle.core_contract.specs.Moves.{History}
 use Rattle.core_contract.specs.Shelf.{child_at, tap_at}
-use Rattle.history_laws.specs.Owed.{journal_of}
-use Rattle.history_laws.specs.Ruled.{answer_after, CameAbout}
 use Rattle.history_laws.proofs.Bridging.{child_is, tap_is, lines_are, taken_is}
 use Rattle.history_laws.proofs.Fitting.{answer_is, anywhere, lawful, scripted_so}
 use Rattle.history_laws.proofs.Lying.{child_in, child_of, child_lies, tap_lies, there_is, none_down, none_gone, vacant_child, proxy_of, launched_unstarted}

@@ -9,15 +9,15 @@ use Rattle.exec_journal.specs.declared.reply.Reply.TheVariants as reply
 use Rattle.exec_journal.specs.Entries.{is_kept}
 use Rattle.exec_journal.specs.Legal.{after}
 use Rattle.std.proofs.lemmas.Bool.{and_parts}
-use Rattle.core_contract.specs.Disciplines.{Discipline, IsDiscipline, is_plain}
+use Rattle.core_contract.specs.Disciplines.{IsDiscipline, is_plain}
+use Rattle.core_contract.specs.Discipline.{Discipline}
+use Rattle.core_contract.specs.Ruled.{CameAbout, IsPaidAfter, answer_after, journal_of, owes_after}
 use Rattle.journal_laws.specs.Paid.{seat_paid, seats_owe}
 use Rattle.journal_laws.proofs.Debts as debts
 use Rattle.journal_laws.proofs.Allowed.{paid_allowed}
 use Rattle.core_contract.specs.Moves.{History}
 use Rattle.seat_desk.specs.History.{entry, calls_by}
-use Rattle.history_laws.specs.Owed.{journal_of}
 use Rattle.history_laws.proofs.Going.{flip}
-use Rattle.history_laws.specs.Ruled.{answer_after, IsPaidAfter, owes_after, CameAbout}
 use Rattle.history_laws.proofs.Along.{journal_more, journal_next}
 use Rattle.history_laws.proofs.Fitting.{answer_is, lawful, seated_so}
 

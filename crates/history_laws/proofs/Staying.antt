@@ -12,7 +12,7 @@ use Rattle.exec_journal.specs.Entries.{is_stop, is_halt, is_look}
 use Rattle.exec_journal.specs.Words.{last_work, stopped, has_halted}
 use Rattle.exec_journal.specs.Scripts.{is_owed_commit, allowed, seat_script}
 use Rattle.core_contract.specs.Moves.{Past, History}
-use Rattle.history_laws.specs.Owed.{journal_of}
+use Rattle.core_contract.specs.Ruled.{journal_of}
 use Rattle.history_laws.proofs.Going.{then, flip}
 
 -- what a lane's script hangs on is the same by both journals

@@ -3,31 +3,30 @@ use Rattle.exec_journal.specs.Lawful.{Lawful, may_tick}
 use Rattle.exec_journal.specs.declared.call.Call.{Call}
 use Rattle.exec_journal.specs.Entry.{Entry}
 use Rattle.history_laws.proofs.Hearing.{script_is_hearing, tells_hears}
-use Rattle.core_contract.specs.Disciplines.{Discipline, script_of}
+use Rattle.core_contract.specs.Disciplines.{script_of}
+use Rattle.core_contract.specs.Discipline.{Discipline}
+use Rattle.core_contract.specs.Ruled.{journal_of}
 use Rattle.core_contract.specs.Duties.{Asks, Duty, duty_of, may_make, proxy_lane}
 use Rattle.core_contract.specs.Laws.{Free, Hearing, Hears, Over, hearing_of, may_hear, tap_lane, tells_of}
 use Rattle.core_contract.specs.Moves.{History}
 use Rattle.history_laws.proofs.Only.{script_is_duty}
 use Rattle.history_laws.proofs.Staying.{lane_is_known, script_stays}
-use Rattle.history_laws.specs.Owed.{journal_of}
-use Rattle.history_laws.specs.Ruled.{terms_in}
-use Rattle.core_contract.specs.Terms.{Terms}
 use Rattle.seat_desk.specs.History.{calls_by}
 use Rattle.std.proofs.Common.{List, None, [], refl, true, ℕ, ◌&&◌, ◌++◌, ◌/◌, ◌<◌, ◌||◌, ◌≡◌}
 use Rattle.exec_journal.specs.declared.call.Call.TheVariants as call
 use Rattle.history_laws.proofs.Fitting.{Scripted, Ticks, Seated}
 
-asks_make : (terms : Terms) (w : ℕ) (s : Duty) → may_make terms w s call.Ask ≡ true
-    → may_make terms w s call.Tick ≡ true
-asks_make terms w Asks h = refl
-asks_make terms w _ h = absurd (cc)
+asks_make : (discipline : Discipline) (w : ℕ) (s : Duty) → may_make discipline w s call.Ask ≡ true
+    → may_make discipline w s call.Tick ≡ true
+asks_make discipline w Asks h = refl
+asks_make discipline w _ h = absurd (cc)
 
 pub only_makes : (q : Discipline) (h : History) (w : ℕ) (d : Call) → Scripted q (journal_of h) (proxy_lane w) d
-    → may_make (terms_in q) w (duty_of (calls_by (proxy_lane w) h)) d ≡ true
-only_makes q h w d (Seated _ seat) = script_is_duty q.seats q.kinds q.plan h w d seat
+    → may_make (q) w (duty_of (calls_by (proxy_lane w) h)) d ≡ true
+only_makes q h w d (Seated _ seat) = script_is_duty q h w d seat
 only_makes q h w d (Ticks ask) =
-    asks_make (terms_in q) w (duty_of (calls_by (proxy_lane w) h))
-    (script_is_duty q.seats q.kinds q.plan h w call.Ask ask)
+    asks_make (q) w (duty_of (calls_by (proxy_lane w) h))
+    (script_is_duty q h w call.Ask ask)
 
 pub known : (q : Discipline) (j : List Entry) (lane : ℕ) (d : Call) → Scripted q j lane d → lane / 2 < q.seats
 known q j lane d (Seated _ seat) = lane_is_known q.seats q.kinds q.plan j lane d seat

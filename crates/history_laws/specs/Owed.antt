@@ -9,13 +9,8 @@ use Rattle.run_plan.specs.declared.plan.Kind.{Kind}
 use Rattle.run_plan.specs.declared.plan.Plan.{Plan}
 use Rattle.run_plan.specs.declared.plan.Maker.{Maker}
 use Rattle.run_plan.specs.Groups.{is_remote}
-use Rattle.core_contract.specs.Terms.{Terms}
 use Rattle.core_contract.specs.Moves.{History}
 use Rattle.core_contract.specs.Duties.{Duty, Asks, Launches, Sends, Cancels, Gathers, Commits, Kills, Left, ordered, duty_of_claim}
-
--- the journal of a history, whose newest entry stands first
-abbrev pub journal_of : History → List Entry
-journal_of h = fold (λ j e. e ∷ j) [] h
 
 abbrev pub has_left : Duty → Bool
 has_left Left = true
@@ -40,24 +35,3 @@ owed_by (Some e) = duty_of_work e.call e.reply
 pub record DutyIs (s : Duty) (j : List Entry) (lane : ℕ) : Type 0 where
   pub gone : has_left s ≡ (stopped j lane || has_halted j lane)
   pub owed : has_left s ≡ false → s ≡ owed_by (last_work j lane)
-
--- ---- what a plan says of each action
-
-abbrev pub outputs_in : Plan → ℕ → List (List ℕ)
-outputs_in p a = unwrap_or (option_map (λ x. x.outputs) (slice_get p.actions a)) []
-
-abbrev pub makers_in : Plan → ℕ → List Maker
-makers_in p a = unwrap_or (option_map (λ x. x.makers) (slice_get p.actions a)) []
-
--- what lanes and the bench go by, on this many berths of these kinds
-abbrev pub terms_for : Plan → ℕ → (ℕ → Kind) → Terms
-terms_for p seats kinds = record {
-  plan = p;
-  berths = seats;
-  remote = λ w. is_remote (kinds w);
-  -- one line for each attempt of either branch of each action
-  line_room = 2 * length p.actions * p.limit;
-  actions = length p.actions;
-  outputs = outputs_in p;
-  makers = makers_in p;
-}

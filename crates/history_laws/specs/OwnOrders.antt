@@ -12,7 +12,7 @@ use Rattle.exec_journal.specs.Kept.{group_at}
 use Rattle.exec_journal.specs.Lawful.{IsNextOf, Lawful}
 use Rattle.exec_journal.specs.Rules.{ask_of, launches_of, rule}
 use Rattle.exec_journal.specs.Words.{last_line}
-use Rattle.core_contract.specs.Disciplines.{Discipline}
+use Rattle.core_contract.specs.Discipline.{Discipline}
 
 -- of each group the attempt that is next, if one is queued there
 abbrev pub Order : Type 0
@@ -38,6 +38,7 @@ abbrev pub discipline_by : Order → Plan → Discipline
 discipline_by next p = record {
   plan = p;
   seats = berths p;
+  served = berths p;
   kinds = kind_of p;
   ticks = λ _. false;
   rule = rule_by next p;

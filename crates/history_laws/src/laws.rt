@@ -21,10 +21,11 @@ ghost use Rattle.exec_journal.specs.declared.attempt.Attempt.{Attempt};
 ghost use Rattle.core_contract.specs.Laws.{InScript, Fits, tap_lane, hearing_of, may_hear, Hears, Over, tells_of, OrderFits, OrderHolds, claimed, lines_in, is_taken, says_file};
 ghost use Rattle.core_contract.specs.Shelf.{child_at, tap_at, place_at, Fresh, Away};
 ghost use Rattle.core_contract.specs.Duties.{proxy_lane, duty_of, is_maker, may_do, may_make, Asks, Sends, Commits, Left};
-ghost use Rattle.history_laws.specs.Owed.{DutyIs, journal_of, makers_in};
-ghost use Rattle.core_contract.specs.Disciplines.{Discipline, IsDiscipline, LegalBy};
+ghost use Rattle.core_contract.specs.Discipline.{Discipline, makers_in};
+ghost use Rattle.core_contract.specs.Ruled.{CameAbout, IsPaidAfter, answer_after, journal_of, owes_after};
+ghost use Rattle.history_laws.specs.Owed.{DutyIs};
+ghost use Rattle.core_contract.specs.Disciplines.{IsDiscipline, LegalBy};
 ghost use Rattle.history_laws.specs.OwnOrders.{IsOrder, Order, discipline_by};
-ghost use Rattle.history_laws.specs.Ruled.{answer_after, IsPaidAfter, owes_after, CameAbout, terms_in};
 
 /// In the journal of any history, a lane has left exactly if it received Stop or has halted; otherwise it
 /// owes what its newest work requires.
@@ -58,12 +59,12 @@ pub fn scripts_are_lanes()
 pub fn proxies_do_their_duties()
     ensures does { (q : Discipline) → IsDiscipline q
         → (h : List (Entry Call Reply)) (w : ℕ) (c : Call) → w < q.seats
-        → may_do (terms_in q) w (duty_of (calls_by (proxy_lane w) h)) c ≡ true
+        → may_do (q) w (duty_of (calls_by (proxy_lane w) h)) c ≡ true
         → InScript (answer_after q) h (proxy_lane w) c }
     ensures does_only { (q : Discipline) → IsDiscipline q
         → (h : List (Entry Call Reply)) (w : ℕ) (c : Call)
         → InScript (answer_after q) h (proxy_lane w) c
-        → may_make (terms_in q) w (duty_of (calls_by (proxy_lane w) h)) c ≡ true }
+        → may_make (q) w (duty_of (calls_by (proxy_lane w) h)) c ≡ true }
     ensures ticks { (q : Discipline) → IsDiscipline q
         → (h : List (Entry Call Reply)) (w : ℕ) → w < q.seats
         → q.ticks (proxy_lane w) ≡ true → duty_of (calls_by (proxy_lane w) h) ≡ Asks

@@ -10,6 +10,9 @@ use std::time::Duration;
 /// The longest rest of a lane, in seconds.
 const LONGEST_REST: u64 = 1;
 
+/// The number of bits of a hint.
+const HINTED: usize = 128;
+
 /// A bell for each lane. A contract sees how many there are.
 #[derive(Drop)]
 pub struct Bells {
@@ -60,14 +63,22 @@ impl Bells {
         })
     }
 
-    /// Rings these lanes, a bit for each: bit `k` is lane `k`. A bit without a lane rings nothing.
+    /// Rings these lanes: bit `k` stands for each lane whose number is `k` modulo 128. A bit without a
+    /// lane rings nothing.
     pub fn ring(&self, lanes: u128) {
         let mut left = lanes;
         for _ in 0..lanes.count_ones() {
-            if let Some(parker) = self.parkers.get(left.trailing_zeros() as usize) {
-                parker.unpark();
-            }
+            let bit = left.trailing_zeros() as usize;
+            self.ring_one(bit);
+            self.ring_one(HINTED + bit);
             left &= left.wrapping_sub(1);
+        }
+    }
+
+    // Rings the lane, if there is one of this number.
+    fn ring_one(&self, lane: usize) {
+        if let Some(parker) = self.parkers.get(lane) {
+            parker.unpark();
         }
     }
 

@@ -4,3 +4,5 @@ pub mod Lanes
 pub mod Callers
 pub mod Pairs
 pub mod LaneJobs
+pub mod Parts
+pub mod Beside

@@ -40,24 +40,22 @@ pub struct Caller<'a, M: Machine> {
     desk: &'a Desk<M>,
     ringer: Ringer<'a>,
     pass: Pass<M>,
-    lane: u32,
     pub ghost at_desk: { pass.seat.table_id ≡ desk.now.table.shared.table_id },
-    pub ghost has_bell: { lane < ringer.bells.now },
+    pub ghost has_bell: { pass.lane < ringer.bells.now },
 }
 
 impl<'a, M: Machine> Caller<'a, M> {
-    /// Creates a caller with this pass, which waits for the bell of this number. The number must be
-    /// that of the pass's own lane, because other lanes ring that bell.
-    pub fn new(desk: &'a Desk<M>, bells: &'a Bells, pass: Pass<M>, lane: u32) -> Caller<'a, M>
+    /// Creates a caller with this pass. It waits for the bell of the pass's own lane, and for no
+    /// other.
+    pub fn new(desk: &'a Desk<M>, bells: &'a Bells, pass: Pass<M>) -> Caller<'a, M>
         requires desk { IsPassOf desk.now pass }
-        requires bell { lane < bells.now }
+        requires bell { pass.lane < bells.now }
         ensures pass { result.pass ≡ pass }
     {
         Caller {
             desk,
             ringer: Ringer::new(bells),
             pass,
-            lane,
         }
     }
 
@@ -69,7 +67,6 @@ impl<'a, M: Machine> Caller<'a, M> {
             desk: _,
             ringer: _,
             pass,
-            lane: _,
         } = self;
         pass
     }
@@ -174,7 +171,7 @@ impl<'a, M: Machine> Caller<'a, M> {
                 }
                 Err(refused) => return Err(refused),
             }
-            self.ringer.rest(rt, self.lane);
+            self.ringer.rest(rt, self.pass.lane());
         }
         unreachable!()
     }

@@ -39,6 +39,20 @@ pub struct Unstarted<M, L> {
     pub lack: Lack,
 }
 
+impl<M: Drop, L: Drop> Unstarted<M, L> {
+    /// Returns the parts of a crew for which there was too little memory.
+    pub(crate) fn for_memory(machine: M, lanes: Vec<L>) -> Unstarted<M, L>
+        ensures { (result.machine ≡ machine) × (result.lanes ≡ lanes) }
+    {
+        let lack = Lack::Memory;
+        Unstarted {
+            machine,
+            lanes,
+            lack,
+        }
+    }
+}
+
 // A lane with its pass, or its end.
 type LanePost<M, L, E> = Slot<LaneJob<M, L>, LaneDone<M, E>>;
 
@@ -140,8 +154,8 @@ fn room_for<M: Machine, L: Drop, E: Drop>(
 }
 
 /// Runs up to 256 lanes at one desk, each on its own thread, and closes the desk after all have
-/// ended. The lanes are numbered from 0 on, in their order. A machine's hints cover the first 128
-/// lanes. A call doesn't wake a later lane, which looks again after a rest of at most a second.
+/// ended. The lanes are numbered from 0 on, in their order. A bit of a machine's hint wakes each lane
+/// whose number is the same modulo 128.
 ///
 /// The clauses relate each lane's end to its entries in the one history. These are all calls that
 /// the lane made, in order, and no others. The machine stands for the history, and no other lane
@@ -180,12 +194,7 @@ where
         × StandsUnder M.basis M.stands (M.basis machine) u.machine []) }
 {
     let Ok(room) = room_for(alloc, lanes.len()) else {
-        let lack = Lack::Memory;
-        return Err(Unstarted {
-            machine,
-            lanes,
-            lack,
-        });
+        return Err(Unstarted::for_memory(machine, lanes));
     };
     let Room {
         bells,
@@ -195,14 +204,7 @@ where
     } = room;
     let (desk, mut root) = match Desk::new_or_back(alloc, machine) {
         Ok(opened) => opened,
-        Err(machine) => {
-            let lack = Lack::Memory;
-            return Err(Unstarted {
-                machine,
-                lanes,
-                lack,
-            });
-        }
+        Err(machine) => return Err(Unstarted::for_memory(machine, lanes)),
     };
     enlist(rt, &desk, &mut root, lanes, &mut slots);
     let shared = Shared { desk, bells };

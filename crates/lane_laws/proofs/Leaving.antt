@@ -18,6 +18,9 @@ use Rattle.exec_journal.specs.declared.call.Found.TheVariants as found
 use Rattle.exec_journal.specs.declared.reply.Reply.{Reply}
 use Rattle.exec_journal.specs.declared.reply.Reply.TheVariants as reply
 use Rattle.exec_journal.specs.Entries.{is_kept, is_halt, is_look}
+use Rattle.core_contract.specs.Ruled.{CameAbout, answer_after}
+use Rattle.core_contract.specs.Keeps.{Keeps}
+use Rattle.core_contract.specs.Discipline.{Discipline}
 use Rattle.core_contract.specs.Moves.{Past, History}
 use Rattle.core_contract.specs.Laws.{Fits, InScript}
 use Rattle.core_contract.specs.Duties.{Duty, Asks, Commits, Left, ordered, duty_of_claim, duty_by_call, duty_from, duty_by, duty_then, duty_of}
@@ -40,24 +43,24 @@ use Rattle.lane_laws.proofs.Tapping.{taken_more}
 
 -- ---- whose the entries are
 
-module _ (legal : History → Type 0) (rule : History → ℕ → Call → Reply)
-    (before : (h : History) (e : Past) → legal (h ++ e ∷ [])
-    → legal h × (e.reply ≡ rule h e.lane e.call) × (is_kept e.reply ≡ true))
-    (fitting : (h : History) (lane : ℕ) (c : Call) → Fits c (rule h lane c))
-    (seats : ℕ)
-    (known : (h : History) (lane : ℕ) (c : Call) → InScript rule h lane c → lane / 2 < seats)
-  where
-    abbrev AllKnown : History → Type 0
-    AllKnown h = All (λ (e : Past). e.lane < 2 * seats) h
+module _ (q : Discipline) (law : Keeps q) where
+  abbrev legal : History → Type 0
+  legal = CameAbout q
 
-    lane_known : (lane : ℕ) → lane / 2 < seats → lane < 2 * seats
-    lane_known lane lt = let whole = div-add-mod lane 2 in omega (arith, whole, lt)
+  abbrev rule : History → ℕ → Call → Reply
+  rule = answer_after q
 
-    pub all_known : (h : History) → legal h → AllKnown h
-    all_known = steps.along legal rule before fitting AllKnown
-        (All-nil (λ (e : Past). e.lane < 2 * seats))
-        (λ h e s all. All-push (λ (x : Past). x.lane < 2 * seats) h e all
-        (lane_known e.lane (known h e.lane e.call s.scripted)))
+  abbrev AllKnown : History → Type 0
+  AllKnown h = All (λ (e : Past). e.lane < 2 * q.seats) h
+
+  lane_known : (lane : ℕ) → lane / 2 < q.seats → lane < 2 * q.seats
+  lane_known lane lt = let whole = div-add-mod lane 2 in omega (arith, whole, lt)
+
+  pub all_known : (h : History) → legal h → AllKnown h
+  all_known = steps.along q law AllKnown
+      (All-nil (λ (e : Past). e.lane < 2 * q.seats))
+      (λ h e s all. All-push (λ (x : Past). x.lane < 2 * q.seats) h e all
+      (lane_known e.lane (law.lanes_are_known h e.lane e.call s.scripted)))
 
 -- ---- the lines that a tap lane took
 

@@ -13,7 +13,9 @@ use Rattle.exec_journal.specs.declared.call.Started.TheVariants as start
 use Rattle.exec_journal.specs.declared.reply.Reply.{Reply}
 use Rattle.exec_journal.specs.declared.reply.Reply.TheVariants as reply
 use Rattle.exec_journal.specs.Entries.{is_kept, launch_in}
-use Rattle.core_contract.specs.Terms.{Terms}
+use Rattle.core_contract.specs.Ruled.{CameAbout, answer_after}
+use Rattle.core_contract.specs.Keeps.{Keeps}
+use Rattle.core_contract.specs.Discipline.{Discipline}
 use Rattle.core_contract.specs.Moves.{Past, History}
 use Rattle.core_contract.specs.Laws.{fits, Fits, InScript, OrderHolds, lines_in}
 use Rattle.core_contract.specs.Duties.{Duty, Asks, Launches, Sends, Cancels, Gathers, Commits, Kills, Left, duty_from, duty_by, duty_of, proxy_lane, may_make}
@@ -139,21 +141,19 @@ plain_course s c r none by p f =
 
 -- ---- by the laws of a core for one plan
 
-module _ (legal : History → Type 0) (rule : History → ℕ → Call → Reply)
-    (before : (h : History) (e : Past) → legal (h ++ e ∷ [])
-    → legal h × (e.reply ≡ rule h e.lane e.call) × (is_kept e.reply ≡ true))
-    (fitting : (h : History) (lane : ℕ) (c : Call) → Fits c (rule h lane c))
-    (terms : Terms)
-    (do_only : (h : History) (w : ℕ) (c : Call) → InScript rule h (proxy_lane w) c
-    → may_make terms w (duty_of (calls_by (proxy_lane w) h)) c ≡ true)
-    (orders : (h : History) (lane : ℕ) → legal h
-    → OrderHolds terms.actions (child_at (lane / 2) h) (lines_in h) (rule h lane call.Ask)) where
+module _ (q : Discipline) (law : Keeps q) where
+  abbrev legal : History → Type 0
+  legal = CameAbout q
+
+  abbrev rule : History → ℕ → Call → Reply
+  rule = answer_after q
+
   abbrev Step : History → Past → Type 0
-  Step h e = steps.Step legal rule before fitting h e
+  Step h e = steps.Step q law h e
 
   module _ (w : ℕ) where
     abbrev May : Duty → Call → Type 0
-    May s c = may_make terms w s c ≡ true
+    May s c = may_make q w s c ≡ true
 
     course : (s : Duty) (c : Call) (r : Reply) → May s c → fits c r ≡ true → Course s c r
     course Asks call.Ask (reply.Launch l a b t) may f = Orders l a b t refl refl refl refl
@@ -257,8 +257,8 @@ module _ (legal : History → Type 0) (rule : History → ℕ → Call → Reply
       next : (l a : ℕ) (b : Branch) (t : ℕ) → e.call ≡ call.Ask → e.reply ≡ reply.Launch l a b t
           → l ≡ lines_in h
       next l a b t ask launch = (subst (λ (r : Reply).
-          OrderHolds terms.actions (child_at (e.lane / 2) h) (lines_in h) r)
-          (ap (rule h e.lane) (sym ask) ∙ (sym s.ruled ∙ launch)) (orders h e.lane s.good)).0
+          OrderHolds (length q.plan.actions) (child_at (e.lane / 2) h) (lines_in h) r)
+          (ap (rule h e.lane) (sym ask) ∙ (sym s.ruled ∙ launch)) (law.orders_hold h e.lane s.good)).0
 
       counted : (l a : ℕ) (b : Branch) (t : ℕ) → e.reply ≡ reply.Launch l a b t
           → lines_in (h ++ e ∷ []) ≡ lines_in h + 1
@@ -284,7 +284,7 @@ module _ (legal : History → Type 0) (rule : History → ℕ → Call → Reply
 
       own_turn : Turn h e w
       own_turn = turn_of (course w duty e.call e.reply
-          (do_only h w e.call (subst (λ (n : ℕ). InScript rule h n e.call) (sym lane) s.scripted))
+          (law.proxies_do_only h w e.call (subst (λ (n : ℕ). InScript rule h n e.call) (sym lane) s.scripted))
           s.fit)
 
     turn_by : (w : ℕ) (mine : Bool) → (proxy_lane w == e.lane) ≡ mine → Turn h e w
@@ -349,7 +349,7 @@ module _ (legal : History → Type 0) (rule : History → ℕ → Call → Reply
   }
 
   all_apart : (h : History) → legal h → Apart h
-  all_apart = steps.along legal rule before fitting Apart
+  all_apart = steps.along q law Apart
       (record {
         below = λ w l here. absurd here;
         once = λ w. tt;

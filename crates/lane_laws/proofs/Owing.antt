@@ -13,7 +13,9 @@ use Rattle.exec_journal.specs.declared.call.Started.TheVariants as start
 use Rattle.exec_journal.specs.declared.reply.Reply.{Reply}
 use Rattle.exec_journal.specs.declared.reply.Reply.TheVariants as reply
 use Rattle.exec_journal.specs.Entries.{is_kept, is_halt, same_branch}
-use Rattle.core_contract.specs.Terms.{Terms}
+use Rattle.core_contract.specs.Ruled.{CameAbout, answer_after}
+use Rattle.core_contract.specs.Keeps.{Keeps}
+use Rattle.core_contract.specs.Discipline.{Discipline}
 use Rattle.core_contract.specs.Moves.{Past, History, Move, PutLine, TakeTap, TakeChild, GiveUp, TakePlace, PutPlace, Nothing, claim_moves, noted_moves, proxy_move, tap_move, move_of}
 use Rattle.core_contract.specs.Laws.{fits, Fits, InScript}
 use Rattle.core_contract.specs.Duties.{Duty, Asks, Commits, Left, duty_by, duty_then, duty_of, proxy_lane, may_make}
@@ -148,26 +150,25 @@ gone_holds_none a files own (inr gone) (inl owes) =
 gone_holds_none a files own (inr gone) (inr halted) =
     let y : true ≡ false = sym halted ∙ gone.paid in cc
 
-module _ (legal : History → Type 0) (rule : History → ℕ → Call → Reply)
-    (before : (h : History) (e : Past) → legal (h ++ e ∷ [])
-    → legal h × (e.reply ≡ rule h e.lane e.call) × (is_kept e.reply ≡ true))
-    (fitting : (h : History) (lane : ℕ) (c : Call) → Fits c (rule h lane c))
-    (terms : Terms)
-    (known : (h : History) (lane : ℕ) (c : Call) → InScript rule h lane c → lane / 2 < terms.berths)
-    (do_only : (h : History) (w : ℕ) (c : Call) → InScript rule h (proxy_lane w) c
-    → may_make terms w (duty_of (calls_by (proxy_lane w) h)) c ≡ true) where
+module _ (q : Discipline) (law : Keeps q) where
+  abbrev legal : History → Type 0
+  legal = CameAbout q
+
+  abbrev rule : History → ℕ → Call → Reply
+  rule = answer_after q
+
   abbrev Step : History → Past → Type 0
-  Step h e = steps.Step legal rule before fitting h e
+  Step h e = steps.Step q law h e
 
   -- what is granted files is owed from then on
   grants : (w : ℕ) (s : Duty) (a : ℕ) (b : Branch) (t : ℕ) (files : List (List ℕ))
-      → may_make terms w s (call.Claim a b t (found.Files files)) ≡ true
+      → may_make q w s (call.Claim a b t (found.Files files)) ≡ true
       → duty_by s (call.Claim a b t (found.Files files)) reply.Granted ≡ Commits a b files
   grants w Left a b t files may = absurd (cc)
   grants w s a b t files may = refl
 
   commits_only : (w a : ℕ) (b : Branch) (files : List (List ℕ)) (c : Call)
-      → may_make terms w (Commits a b files) c ≡ true
+      → may_make q w (Commits a b files) c ≡ true
       → (c ≡ call.Halt) ⊎ ((d : Branch) × (how : CommitEnd) × (c ≡ call.Committed a d how))
   commits_only w a b files call.Halt may = inl refl
   commits_only w a b files (call.Committed x d how) may =
@@ -178,7 +179,7 @@ module _ (legal : History → Type 0) (rule : History → ℕ → Call → Reply
   commits_only w a b files _ may = absurd (cc)
 
   abbrev Holder : ℕ → List (List ℕ) → History → Type 0
-  Holder a files h = (w : ℕ) × (w < terms.berths) × Holds a files (calls_by (proxy_lane w) h)
+  Holder a files h = (w : ℕ) × (w < q.seats) × Holds a files (calls_by (proxy_lane w) h)
 
   abbrev AllHeld : History → Type 0
   AllHeld h = (a : ℕ) (files : List (List ℕ)) → place_at a h ≡ Away files → Holder a files h
@@ -191,15 +192,15 @@ module _ (legal : History → Type 0) (rule : History → ℕ → Call → Reply
         let lane : proxy_lane w ≡ e.lane = even_lane e.lane t.0 in
         let b : Branch = t.1.0 in
         let own : History = calls_by (proxy_lane w) h in
-        let may = do_only h w e.call
+        let may = law.proxies_do_only h w e.call
         (subst (λ (n : ℕ). InScript rule h n e.call) (sym lane) s.scripted) in
         let claim = subst (λ (c : Call).
-        may_make terms w (duty_of own) c ≡ true) t.1.2 may in
+        may_make q w (duty_of own) c ≡ true) t.1.2 may in
         let owes : duty_of (calls_by (proxy_lane w) (h ++ e ∷ [])) ≡ Commits a b files =
         ap duty_of (own_call (proxy_lane w) h e (eq-eqb (proxy_lane w) e.lane lane))
         ∙ (duty_more own e ∙ ((λ i. duty_by (duty_of own) (t.1.2 i) (t.1.3 i))
         ∙ grants w (duty_of own) a b t.1.1 files claim)) in
-        (w, known h e.lane e.call s.scripted, inl (b, owes))
+        (w, law.lanes_are_known h e.lane e.call s.scripted, inl (b, owes))
 
     -- by the lane that has the place
     module _ (w : ℕ) (lane : (proxy_lane w == e.lane) ≡ true)
@@ -233,14 +234,14 @@ module _ (legal : History → Type 0) (rule : History → ℕ → Call → Reply
       still : Holds a files own → Holds a files (own ++ e ∷ [])
       still (inr halted) = inr (goes_on halted)
       still (inl owes) =
-          let may = do_only h w e.call
+          let may = law.proxies_do_only h w e.call
           (subst (λ (n : ℕ). InScript rule h n e.call)
           (sym (eqb-true (proxy_lane w) e.lane lane)) s.scripted) in
           ⊎_elim
           (λ halt. inr (halts_now owes.0 owes.1 halt))
           (λ put. absurd (not_put put.1 (puts put.0 put.1 put.2)))
           (commits_only w a owes.0 files e.call
-          (subst (λ (x : Duty). may_make terms w x e.call ≡ true) owes.1 may))
+          (subst (λ (x : Duty). may_make q w x e.call ≡ true) owes.1 may))
 
     stayed_by : (w : ℕ) (mine : Bool) → (proxy_lane w == e.lane) ≡ mine
         → ((how : CommitEnd) → move_of e ≡ PutPlace a how → ⊥)
@@ -259,13 +260,13 @@ module _ (legal : History → Type 0) (rule : History → ℕ → Call → Reply
         (x.0, x.1, stayed_by x.0 (proxy_lane x.0 == e.lane) refl not_put x.2)
 
   all_held : (h : History) → legal h → AllHeld h
-  all_held = steps.along legal rule before fitting AllHeld
+  all_held = steps.along q law AllHeld
       (λ a files e. absurd (let x : Fresh ≡ Away files = e in cc))
       (λ h e s held a files away. stays_held h e s a files held
       (away_after a files (place_at a h) (move_of e) (sym (place_more a h e) ∙ away)))
 
   pub places_back : (h : History) → legal h
-      → ((w : ℕ) → w < terms.berths → IsGone (calls_by (proxy_lane w) h))
+      → ((w : ℕ) → w < q.seats → IsGone (calls_by (proxy_lane w) h))
       → (a : ℕ) (files : List (List ℕ)) → place_at a h ≡ Away files → ⊥
   places_back h good left a files away =
       let x = all_held h good a files away in

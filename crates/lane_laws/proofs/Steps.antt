@@ -9,6 +9,9 @@ use Rattle.exec_journal.specs.declared.call.Call.{Call}
 use Rattle.exec_journal.specs.declared.reply.Reply.{Reply}
 use Rattle.exec_journal.specs.declared.reply.Reply.TheVariants as reply
 use Rattle.exec_journal.specs.Entries.{is_kept}
+use Rattle.core_contract.specs.Ruled.{CameAbout, answer_after}
+use Rattle.core_contract.specs.Keeps.{Keeps}
+use Rattle.core_contract.specs.Discipline.{Discipline}
 use Rattle.core_contract.specs.Moves.{Past, History}
 use Rattle.core_contract.specs.Laws.{fits, Fits, InScript}
 use Rattle.core_contract.specs.Duties.{Asks, duty_then, duty_of, proxy_lane}
@@ -71,10 +74,13 @@ reversed (e ∷ h) =
     (r.0 ++ e ∷ [], ap (λ (g : History). e ∷ g) r.1 ∙ sym (rev_last r.0 e))
 
 -- by the laws of a core for one plan
-module _ (legal : History → Type 0) (rule : History → ℕ → Call → Reply)
-    (before : (h : History) (e : Past) → legal (h ++ e ∷ [])
-    → legal h × (e.reply ≡ rule h e.lane e.call) × (is_kept e.reply ≡ true))
-    (fitting : (h : History) (lane : ℕ) (c : Call) → Fits c (rule h lane c)) where
+module _ (q : Discipline) (law : Keeps q) where
+  abbrev legal : History → Type 0
+  legal = CameAbout q
+
+  abbrev rule : History → ℕ → Call → Reply
+  rule = answer_after q
+
   -- the entry comes after a legal history as the rule makes it
   pub record Step (h : History) (e : Past) : Type 0 where
     pub good : legal h
@@ -84,14 +90,14 @@ module _ (legal : History → Type 0) (rule : History → ℕ → Call → Reply
 
   step : (h : History) (e : Past) → legal (h ++ e ∷ []) → Step h e
   step h e good =
-      let b = before h e good in
+      let b = law.legal_before h e good in
       let scripted : InScript rule h e.lane e.call = λ astray.
       let x : is_kept reply.Astray ≡ true = sym (ap is_kept (b.1 ∙ astray)) ∙ b.2 in cc in
       record {
         good = b.0;
         ruled = b.1;
         scripted = scripted;
-        fit = ap (fits e.call) b.1 ∙ fitting h e.lane e.call scripted;
+        fit = ap (fits e.call) b.1 ∙ law.replies h e.lane e.call scripted;
       }
 
   -- what holds of no entries and stays so with each entry holds of a legal history

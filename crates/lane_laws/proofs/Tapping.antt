@@ -10,6 +10,9 @@ use Rattle.exec_journal.specs.declared.call.Started.TheVariants as start
 use Rattle.exec_journal.specs.declared.reply.Reply.{Reply}
 use Rattle.exec_journal.specs.declared.reply.Reply.TheVariants as reply
 use Rattle.exec_journal.specs.Entries.{is_kept}
+use Rattle.core_contract.specs.Ruled.{CameAbout, answer_after}
+use Rattle.core_contract.specs.Keeps as laws
+use Rattle.core_contract.specs.Discipline.{Discipline}
 use Rattle.core_contract.specs.Moves.{Past, History, proxy_move, tap_move, move_of}
 use Rattle.core_contract.specs.Laws.{fits, Fits, InScript, tap_lane}
 use Rattle.core_contract.specs.Duties.{proxy_lane}
@@ -96,18 +99,15 @@ neither w lane no_proxy no_tap = ne_eqb (lane / 2) w (λ e.
       | false ↦ λ one. no_tap (let z = differs n 0 one in omega (arith, is, half, z))
     ] refl
 
-module _ (legal : History → Type 0) (rule : History → ℕ → Call → Reply)
-    (before : (h : History) (e : Past) → legal (h ++ e ∷ [])
-    → legal h × (e.reply ≡ rule h e.lane e.call) × (is_kept e.reply ≡ true))
-    (fitting : (h : History) (lane : ℕ) (c : Call) → Fits c (rule h lane c))
-    (find_room : (h : History) (lane l : ℕ) → legal h
-    → InScript rule h lane (call.Launched l start.Done)
-    → (child_at (lane / 2) h ≡ None) × (tap_at (lane / 2) h ≡ None))
-    (takes_there : (h : History) (lane l : ℕ) → legal h → rule h lane call.Take ≡ reply.Line l
-    → tap_at (lane / 2) h ≡ Some l)
-    (w : ℕ) where
+module _ (q : Discipline) (law : laws.Keeps q) (w : ℕ) where
+  abbrev legal : History → Type 0
+  legal = CameAbout q
+
+  abbrev rule : History → ℕ → Call → Reply
+  rule = answer_after q
+
   abbrev Step : History → Past → Type 0
-  Step h e = steps.Step legal rule before fitting h e
+  Step h e = steps.Step q law h e
 
   abbrev Tapped : History → Type 0
   Tapped h = started_at w h ≡ taken_in (calls_by (tap_lane w) h) ++ listed (tap_at w h)
@@ -156,7 +156,7 @@ module _ (legal : History → Type 0) (rule : History → ℕ → Call → Reply
       by_own (Starts l is tap) =
           let half : e.lane / 2 ≡ w = eqb-true (e.lane / 2) w (proxy_half w e.lane lane) in
           let none : tap_at w h ≡ None = subst (λ (v : ℕ). tap_at v h ≡ None) half
-          (find_room h e.lane l s.good
+          (law.lines_find_room h e.lane l s.good
           (subst (λ (c : Call). InScript rule h e.lane c) is s.scripted)).1 in
           let were : started ≡ taken ++ [] =
           so ∙ ap (λ (o : Option ℕ). taken ++ listed o) none in
@@ -192,7 +192,7 @@ module _ (legal : History → Type 0) (rule : History → ℕ → Call → Reply
       by_partner (Takes l take line is tap) =
           let half : e.lane / 2 ≡ w = eqb-true (e.lane / 2) w (tap_half w e.lane lane) in
           let there : tap_at w h ≡ Some l = subst (λ (v : ℕ). tap_at v h ≡ Some l) half
-          (takes_there h e.lane l s.good
+          (law.takes_there h e.lane l s.good
           (ap (rule h e.lane) (sym take) ∙ (sym s.ruled ∙ line))) in
           parts [] (l ∷ []) None started_then
           (taken_now ∙ ap (λ (ls : List ℕ). taken ++ ls) is) (tap_after ∙ tap)
@@ -226,4 +226,4 @@ module _ (legal : History → Type 0) (rule : History → ℕ → Call → Reply
     tapped_more = by_lane (proxy_lane w == e.lane) (tap_lane w == e.lane) refl refl
 
   pub tapped : (h : History) → legal h → Tapped h
-  tapped = steps.along legal rule before fitting Tapped refl (λ h e s so. tapped_more h e s so)
+  tapped = steps.along q law Tapped refl (λ h e s so. tapped_more h e s so)

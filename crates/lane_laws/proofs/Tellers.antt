@@ -8,6 +8,9 @@ use Rattle.exec_journal.specs.declared.call.Call.TheVariants as call
 use Rattle.exec_journal.specs.declared.reply.Reply.{Reply}
 use Rattle.exec_journal.specs.declared.reply.Reply.TheVariants as reply
 use Rattle.exec_journal.specs.Entries.{is_kept, takes}
+use Rattle.core_contract.specs.Ruled.{CameAbout, answer_after}
+use Rattle.core_contract.specs.Keeps.{Keeps}
+use Rattle.core_contract.specs.Discipline.{Discipline}
 use Rattle.core_contract.specs.Moves.{Past, History}
 use Rattle.core_contract.specs.Laws.{fits, Fits, InScript, Hearing, Free, Hears, Over, leads_by_call, leads_by_line, hearing_from, hearing_by, hearing_of, tells_of, is_taken}
 use Rattle.tap_lane.proofs.Entries.{hearing_more}
@@ -193,14 +196,13 @@ each_last P [] e a p = (p, tt)
 each_last P (x ∷ h) e a p = (a.0, each_last P h e a.1 p)
 
 -- the laws of a core by one plan
-module _ (legal : History → Type 0) (rule : History → ℕ → Call → Reply)
-    (before : (h : History) (e : Past) → legal (h ++ e ∷ [])
-    → legal h × (e.reply ≡ rule h e.lane e.call) × (is_kept e.reply ≡ true))
-    (fitting : (h : History) (lane : ℕ) (c : Call) → Fits c (rule h lane c))
-    (takes_once : (h : History) (lane l : ℕ) → legal h → rule h lane call.Take ≡ reply.Line l
-    → is_taken l h ≡ false)
-    (only_hears : (h : History) (lane : ℕ) (c : Call) (l : ℕ) → tells_of l c ≡ true
-    → InScript rule h lane c → hearing_of (calls_by lane h) ≡ Hears l) where
+module _ (q : Discipline) (law : Keeps q) where
+  abbrev legal : History → Type 0
+  legal = CameAbout q
+
+  abbrev rule : History → ℕ → Call → Reply
+  rule = answer_after q
+
   -- one entry more of a legal history
   module _ (h : History) (e : Past) (good : legal h) (is : e.reply ≡ rule h e.lane e.call)
       (kept : is_kept e.reply ≡ true) (t : Told h) where
@@ -213,9 +215,9 @@ module _ (legal : History → Type 0) (rule : History → ℕ → Call → Reply
     fresh l gives =
         let line : e.reply ≡ reply.Line l = gives_line l e.reply gives in
         let fit : fits e.call (reply.Line l) ≡ true =
-        sym (ap (fits e.call) (sym is ∙ line)) ∙ fitting h e.lane e.call scripted in
+        sym (ap (fits e.call) (sym is ∙ line)) ∙ law.replies h e.lane e.call scripted in
         let take : e.call ≡ call.Take = takes_only l e.call fit in
-        no_takers l h (takes_once h e.lane l good
+        no_takers l h (law.takes_once h e.lane l good
         (sym (ap (rule h e.lane) take) ∙ (sym is ∙ line)))
 
     then_by : (l : ℕ) (b : Bool) → takes l e.reply ≡ b
@@ -250,7 +252,7 @@ module _ (legal : History → Type 0) (rule : History → ℕ → Call → Reply
         → takers l (h ++ e ∷ []) ≡ e.lane ∷ []
     own_by l (inl line) = gave l (ap (takes l) line ∙ eq-eqb l l refl)
     own_by l (inr (inl tells)) =
-        stays l e.lane (t.hears e.lane l (only_hears h e.lane e.call l tells scripted))
+        stays l e.lane (t.hears e.lane l (law.only_hears h e.lane e.call l tells scripted))
     own_by l (inr (inr was)) = stays l e.lane (t.hears e.lane l was)
 
     hears_by : (k l : ℕ) (b : Bool) → (k == e.lane) ≡ b
@@ -268,7 +270,7 @@ module _ (legal : History → Type 0) (rule : History → ℕ → Call → Reply
 
     tells_now : (l : ℕ) → tells_of l e.call ≡ true → takers l (h ++ e ∷ []) ≡ e.lane ∷ []
     tells_now l tells =
-        stays l e.lane (t.hears e.lane l (only_hears h e.lane e.call l tells scripted))
+        stays l e.lane (t.hears e.lane l (law.only_hears h e.lane e.call l tells scripted))
 
     one_more : Told (h ++ e ∷ [])
     one_more = record {
@@ -288,7 +290,7 @@ module _ (legal : History → Type 0) (rule : History → ℕ → Call → Reply
   told_rev : (r : History) → legal (rev r) → Told (rev r)
   told_rev [] good = told_nothing
   told_rev (e ∷ r) good =
-      let b = before (rev r) e good in one_more (rev r) e b.0 b.1 b.2 (told_rev r b.0)
+      let b = law.legal_before (rev r) e good in one_more (rev r) e b.0 b.1 b.2 (told_rev r b.0)
 
   pub told : (h : History) → legal h → Told h
   told h good =

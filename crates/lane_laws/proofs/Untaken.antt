@@ -10,7 +10,9 @@ use Rattle.exec_journal.specs.declared.call.Call.TheVariants as call
 use Rattle.exec_journal.specs.declared.reply.Reply.{Reply}
 use Rattle.exec_journal.specs.declared.reply.Reply.TheVariants as reply
 use Rattle.exec_journal.specs.Entries.{is_kept, takes}
-use Rattle.core_contract.specs.Terms.{Terms}
+use Rattle.core_contract.specs.Ruled.{CameAbout, answer_after}
+use Rattle.core_contract.specs.Keeps.{Keeps}
+use Rattle.core_contract.specs.Discipline.{Discipline}
 use Rattle.core_contract.specs.Moves.{Past, History}
 use Rattle.core_contract.specs.Laws.{fits, Fits, InScript, tap_lane, is_taken}
 use Rattle.core_contract.specs.Duties.{Duty, Commits, Asks, Left, duty_of, proxy_lane, may_make}
@@ -63,20 +65,20 @@ taken_at w h = taken_in (calls_by (tap_lane w) h)
 abbrev GivenToBerths : History → Type 0
 GivenToBerths h = (l : ℕ) → is_taken l h ≡ true → (w : ℕ) × In l (taken_at w h)
 
-module _ (legal : History → Type 0) (rule : History → ℕ → Call → Reply)
-    (before : (h : History) (e : Past) → legal (h ++ e ∷ [])
-    → legal h × (e.reply ≡ rule h e.lane e.call) × (is_kept e.reply ≡ true))
-    (fitting : (h : History) (lane : ℕ) (c : Call) → Fits c (rule h lane c))
-    (terms : Terms)
-    (do_only : (h : History) (w : ℕ) (c : Call) → InScript rule h (proxy_lane w) c
-    → may_make terms w (duty_of (calls_by (proxy_lane w) h)) c ≡ true) where
-  no_proxy_takes : (w : ℕ) (s : Duty) → may_make terms w s call.Take ≡ true → ⊥
+module _ (q : Discipline) (law : Keeps q) where
+  abbrev legal : History → Type 0
+  legal = CameAbout q
+
+  abbrev rule : History → ℕ → Call → Reply
+  rule = answer_after q
+
+  no_proxy_takes : (w : ℕ) (s : Duty) → may_make q w s call.Take ≡ true → ⊥
   no_proxy_takes w (Commits a b fs) may = absurd (cc)
   no_proxy_takes w Left may = absurd (cc)
   no_proxy_takes w Asks may = absurd (cc)
   no_proxy_takes w _ may = absurd (cc)
 
-  module _ (h : History) (e : Past) (s : steps.Step legal rule before fitting h e) where
+  module _ (h : History) (e : Past) (s : steps.Step q law h e) where
     -- the entry gives the line
     module _ (l : ℕ) (line : e.reply ≡ reply.Line l) where
       take : e.call ≡ call.Take
@@ -85,11 +87,11 @@ module _ (legal : History → Type 0) (rule : History → ℕ → Call → Reply
       by_rest : (even : Bool) → (e.lane % 2 == 0) ≡ even → tap_lane (e.lane / 2) ≡ e.lane
       by_rest false odd = odd_lane e.lane odd
       by_rest true even = absurd (
-          let may = do_only h (e.lane / 2) e.call
+          let may = law.proxies_do_only h (e.lane / 2) e.call
           (subst (λ (n : ℕ). InScript rule h n e.call) (sym (even_lane e.lane even)) s.scripted) in
           let duty = duty_of (calls_by (proxy_lane (e.lane / 2)) h) in
           no_proxy_takes (e.lane / 2) duty
-          (subst (λ (c : Call). may_make terms (e.lane / 2) duty c ≡ true)
+          (subst (λ (c : Call). may_make q (e.lane / 2) duty c ≡ true)
           take may))
 
       by_tap_lane : tap_lane (e.lane / 2) ≡ e.lane
@@ -121,7 +123,7 @@ module _ (legal : History → Type 0) (rule : History → ℕ → Call → Reply
         (sym (list_any-append (λ (x : Past). takes l x.reply) h (e ∷ [])) ∙ taken))
 
   given_to_berths : (h : History) → legal h → GivenToBerths h
-  given_to_berths = steps.along legal rule before fitting GivenToBerths
+  given_to_berths = steps.along q law GivenToBerths
       (λ l taken. absurd (cc)) (λ h e s so. given_more h e s so)
 
   -- what was given was started, and so was the line on the shelf, after it: but no line was twice

@@ -5,7 +5,8 @@ use Rattle.outside.specs.Told.{TapTold}
 use Rattle.run_plan.specs.declared.plan.Speech.{Speech}
 use Rattle.exec_journal.specs.declared.reply.Reply.TheVariants as reply
 use Rattle.exec_journal.specs.Entries.{is_halt}
-use Rattle.core_contract.specs.Terms.{Terms}
+use Rattle.core_contract.specs.Ruled.{CameAbout}
+use Rattle.core_contract.specs.Discipline.{Discipline}
 use Rattle.core_contract.specs.Moves.{Past, History}
 use Rattle.tap_lane.specs.declared.ends.TapHalt.{TapHalt}
 use Rattle.tap_lane.specs.Lane.{LaneEnds}
@@ -17,9 +18,9 @@ use Rattle.lane_laws.specs.Taps.{taken_in}
 use Rattle.lane_laws.specs.Places.{HasLeft}
 
 -- Each entry is by one of the two lanes of a berth.
-abbrev pub OnlyKnownLanesSpeak : {Q : Type 0} → (Q → History → Type 0) → (Q → Terms) → Type 0
-OnlyKnownLanesSpeak {Q} legal terms =
-    (q : Q) (h : History) → legal q h → All (λ e. e.lane < 2 * (terms q).berths) h
+abbrev pub OnlyKnownLanesSpeak : {Q : Type 0} → (Q → Discipline) → Type 0
+OnlyKnownLanesSpeak {Q} rules =
+    (b : Q) (h : History) → CameAbout (rules b) h → All (λ e. e.lane < 2 * (rules b).seats) h
 
 -- Where these entries are what a tap lane leaves with these taps, the lines that it took are those
 -- of the taps, in order.

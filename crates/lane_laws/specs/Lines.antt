@@ -1,5 +1,7 @@
 -- The numbers of the lines that were started.
 use Rattle.std.specs.Prelude.{◌≡◌, ℕ, zero, suc, ◌+◌, ◌<◌, List, [], ◌∷◌, All}
+use Rattle.core_contract.specs.Ruled.{CameAbout}
+use Rattle.core_contract.specs.Discipline.{Discipline}
 use Rattle.core_contract.specs.Moves.{History}
 use Rattle.core_contract.specs.Laws.{lines_in}
 use Rattle.lane_laws.specs.Numbers.{In, Distinct}
@@ -21,5 +23,5 @@ pub record AreApart (seats : ℕ) (h : History) : Type 0 where
   pub all_below : All (λ l. l < lines_in h) (concat (started_from h 0 seats))
 
 -- So it is with the lines of the first berths, however many of them are looked at.
-abbrev pub StartedAreApart : {Q : Type 0} → (Q → History → Type 0) → Type 0
-StartedAreApart {Q} legal = (q : Q) (h : History) (seats : ℕ) → legal q h → AreApart seats h
+abbrev pub StartedAreApart : {Q : Type 0} → (Q → Discipline) → Type 0
+StartedAreApart {Q} rules = (b : Q) (h : History) (seats : ℕ) → CameAbout (rules b) h → AreApart seats h

@@ -7,6 +7,8 @@ use Rattle.exec_journal.specs.declared.call.Answer.{Answer}
 use Rattle.exec_journal.specs.declared.call.Call.{Call}
 use Rattle.exec_journal.specs.declared.call.Call.TheVariants as call
 use Rattle.exec_journal.specs.declared.call.HowEnded.{HowEnded}
+use Rattle.core_contract.specs.Ruled.{CameAbout}
+use Rattle.core_contract.specs.Discipline.{Discipline}
 use Rattle.core_contract.specs.Moves.{History}
 use Rattle.core_contract.specs.Laws.{is_taken}
 use Rattle.tap_lane.specs.declared.ends.TapHalt.{TapHalt}
@@ -54,14 +56,14 @@ AllApart (t ∷ ts) = NotIn t.0 ts × AllApart ts
 
 -- Where a legal history has of a lane what a tap lane leaves, it says of each line that the lane
 -- took just what its tap tells, and no line was taken twice.
-abbrev pub SaysWhatTapsTell : {Q : Type 0} → (Q → History → Type 0) → Type 0
-SaysWhatTapsTell {Q} legal =
-    (q : Q) (h : History) (s : Speech) (lane : ℕ) (halted : Option TapHalt)
-    (taps : List (ℕ × TapTold)) → legal q h → LaneEnds s lane halted taps (calls_by lane h)
+abbrev pub SaysWhatTapsTell : {Q : Type 0} → (Q → Discipline) → Type 0
+SaysWhatTapsTell {Q} rules =
+    (b : Q) (h : History) (s : Speech) (lane : ℕ) (halted : Option TapHalt)
+    (taps : List (ℕ × TapTold)) → CameAbout (rules b) h → LaneEnds s lane halted taps (calls_by lane h)
     → AllApart taps × Each (PipeOf s h) taps
 
 -- Of a line that no lane was given a legal history tells no answer and no end.
-abbrev pub SilentUnlessGiven : {Q : Type 0} → (Q → History → Type 0) → Type 0
-SilentUnlessGiven {Q} legal =
-    (q : Q) (h : History) (l : ℕ) → legal q h → is_taken l h ≡ false
+abbrev pub SilentUnlessGiven : {Q : Type 0} → (Q → Discipline) → Type 0
+SilentUnlessGiven {Q} rules =
+    (b : Q) (h : History) (l : ℕ) → CameAbout (rules b) h → is_taken l h ≡ false
     → (said_on l h ≡ []) × (end_on l h ≡ None)

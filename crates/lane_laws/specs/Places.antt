@@ -2,7 +2,8 @@
 use Rattle.std.specs.Prelude.{◌≡◌, ◌⊎◌, ℕ, ◌<◌, Bool, true, false, ◌&&◌, ◌||◌, List, [], ◌∷◌}
 use Rattle.seat_desk.specs.History.{calls_by}
 use Rattle.exec_journal.specs.Entries.{is_halt}
-use Rattle.core_contract.specs.Terms.{Terms}
+use Rattle.core_contract.specs.Ruled.{CameAbout}
+use Rattle.core_contract.specs.Discipline.{Discipline}
 use Rattle.core_contract.specs.Moves.{History}
 use Rattle.core_contract.specs.Shelf.{place_at, Away}
 use Rattle.core_contract.specs.Duties.{Duty, Asks, Launches, Sends, Cancels, Gathers, Commits, Kills, Left, duty_then, duty_of, proxy_lane}
@@ -39,8 +40,8 @@ abbrev pub IsGone : History → Type 0
 IsGone own = (own ≡ []) ⊎ HasLeft own
 
 -- Where all proxy lanes are gone, no action's place is away.
-abbrev pub PlacesAreBack : {Q : Type 0} → (Q → History → Type 0) → (Q → Terms) → Type 0
-PlacesAreBack {Q} legal terms =
-    (q : Q) (h : History) → legal q h
-    → ((w : ℕ) → w < (terms q).berths → IsGone (calls_by (proxy_lane w) h))
+abbrev pub PlacesAreBack : {Q : Type 0} → (Q → Discipline) → Type 0
+PlacesAreBack {Q} rules =
+    (b : Q) (h : History) → CameAbout (rules b) h
+    → ((w : ℕ) → w < (rules b).seats → IsGone (calls_by (proxy_lane w) h))
     → (a : ℕ) (files : List (List ℕ)) → place_at a h ≡ Away files → ⊥

@@ -14,28 +14,28 @@ use core_contract::Rules;
 /// If each proxy lane has left, without a halt before a Committed that it owed, or never made an entry, the
 /// place of each action is back.
 pub fn places_are_back<C: Rules>()
-    ensures { PlacesAreBack C.legal C.terms }
+    ensures { PlacesAreBack C.discipline }
 {}
 
 /// The lines that a proxy lane started are those that the tap lane of its berth took, in order, and
 /// then the line whose tap is still on the shelf.
 pub fn started_lines_have_taps<C: Rules>()
-    ensures { StartedAreTapped C.legal }
+    ensures { StartedAreTapped C.discipline }
 {}
 
 /// Each started line was started once, and its number is below the number of lines that were ordered.
 pub fn started_lines_are_apart<C: Rules>()
-    ensures { StartedAreApart C.legal }
+    ensures { StartedAreApart C.discipline }
 {}
 
 /// The line whose tap is on the shelf was given to no tap lane.
 pub fn shelved_taps_are_untaken<C: Rules>()
-    ensures { ShelvedAreUntaken C.legal }
+    ensures { ShelvedAreUntaken C.discipline }
 {}
 
 /// Each entry belongs to a lane of the plan.
 pub fn only_known_lanes_speak<C: Rules>()
-    ensures { OnlyKnownLanesSpeak C.legal C.terms }
+    ensures { OnlyKnownLanesSpeak C.discipline }
 {}
 
 /// The lines that a tap lane took are the lines of the taps that it leaves.
@@ -65,11 +65,11 @@ pub fn halts_are_by_lanes()
 /// it has ended. Other lanes' entries don't report on these lines, and none of them was taken
 /// twice.
 pub fn history_says_what_taps_tell<C: Rules>()
-    ensures { SaysWhatTapsTell C.legal }
+    ensures { SaysWhatTapsTell C.discipline }
 {}
 
 /// If no tap lane was given a line, so that its tap is still on the shelf, the history has no answer and no
 /// end of it.
 pub fn lines_not_given_are_silent<C: Rules>()
-    ensures { SilentUnlessGiven C.legal }
+    ensures { SilentUnlessGiven C.discipline }
 {}

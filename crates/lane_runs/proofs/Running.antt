@@ -1,5 +1,6 @@
 -- From the seats of the berths to what each berth's lanes leave.
 use Rattle.std.proofs.Common.{◌≡◌, ℕ, suc, ◌+◌, ◌*◌, ◌<◌, ◌≤◌, List, [], ◌∷◌, length, map, Some, slice_get, refl, sym, ap, subst, ◌∙◌, arith}
+use Rattle.run_plan.specs.Groups.{is_remote}
 use Rattle.std.specs.Prelude.{Bool}
 use Rattle.std.specs.Option.{option_map}
 use Rattle.seat_desk.specs.declared.machine.Machine.{Ghosts}
@@ -17,7 +18,8 @@ use Rattle.lane_crew.specs.LaneJobs.{MayRun, MayRunInOrder, KeepsPasses, LaneEnd
 use Rattle.outside.specs.Told.{BerthTold, FeedTold, TapTold, ChildTold}
 use Rattle.run_plan.specs.declared.plan.Speech.{Speech}
 use Rattle.remote_messages.specs.declared.work.WorkAction.{WorkAction}
-use Rattle.core_contract.specs.Terms.{Terms}
+use Rattle.core_contract.specs.Discipline.{Discipline}
+use Rattle.core_contract.specs.Ruled.{answer_after}
 use Rattle.core_contract.specs.Moves.{History}
 use Rattle.core_contract.specs.Duties.{proxy_lane}
 use Rattle.core_contract.specs.Laws.{tap_lane}
@@ -38,12 +40,15 @@ use Rattle.lane_runs.specs.Seats.{IsProxySeat, IsTapSeat, AreSeats, SpeechesFit,
 use Rattle.lane_runs.specs.Ran.{EachBerthRan}
 
 -- the speeches of the berths from w on fit them
-module _ (remote : ℕ → Bool) where
+module _ (q : Discipline) where
+  abbrev remote : ℕ → Bool
+  remote w = is_remote (q.kinds w)
+
   abbrev pub FitFrom : ℕ → List Speech → Type 0
   FitFrom w ss =
       (k : ℕ) (s : Speech) → slice_get ss k ≡ Some s → speaks_remote s ≡ remote (w + k)
 
-  pub all_fit : (ss : List Speech) → SpeechesFit remote ss → FitFrom 0 ss
+  pub all_fit : (ss : List Speech) → SpeechesFit q ss → FitFrom 0 ss
   all_fit ss fit k s at = let e : k ≡ 0 + k = omega arith in fit k s at ∙ ap remote e
 
   first_fits : (w : ℕ) (s : Speech) (ss : List Speech) → FitFrom w (s ∷ ss)
@@ -55,24 +60,27 @@ module _ (remote : ℕ → Bool) where
       let e : w + suc k ≡ w + 1 + k = omega arith in fit (suc k) t at ∙ ap remote e
 
 module _ {M G Q : Type 0} (g : Ghosts M Call Reply G Q) {B D T K : Type 0}
-    (terms : Q → Terms) (rule : Q → History → ℕ → Call → Reply)
-    (berth : B → BerthTold) (feed : D → FeedTold) (heard : T → TapTold) (child : K → ChildTold) where
+    (rules : Q → Discipline) (berth : B → BerthTold) (feed : D → FeedTold) (heard : T → TapTold)
+    (child : K → ChildTold) where
+  abbrev rule : Q → History → ℕ → Call → Reply
+  rule q = answer_after (rules q)
+
   -- ---- what the lanes ask and leave
 
   abbrev pub MayProxy : ProxySeat B → Desk M Call Reply G Q → ℕ → Pass M Call Reply G Q g → Type 0
   MayProxy seat desk bells pass = IsPassOf desk pass × IsFresh pass
-      × IsProxyOf terms seat.number pass × (pass.lane < bells)
-      × FitsSettings (terms (basis pass)) seat.number seat.speech seat.settings.now
-      × IsWorkOf (terms (basis pass)) seat.actions.now
+      × IsProxyOf rules seat.number pass × (pass.lane < bells)
+      × FitsSettings (rules (basis pass)) seat.number seat.speech seat.settings.now
+      × IsWorkOf (rules (basis pass)).plan seat.actions.now
 
   abbrev pub MayTap : TapSeat → Desk M Call Reply G Q → ℕ → Pass M Call Reply G Q g → Type 0
   MayTap seat desk bells pass = IsPassOf desk pass × IsFresh pass
-      × (pass.lane ≡ tap_lane seat.berth) × (seat.berth < (terms (basis pass)).berths) × (pass.lane < bells)
+      × (pass.lane ≡ tap_lane seat.berth) × (seat.berth < (rules (basis pass)).seats) × (pass.lane < bells)
 
   abbrev pub ProxyRan : ProxySeat B → Pass M Call Reply G Q g → ProxyLeft B D K
       → Pass M Call Reply G Q g → Type 0
   ProxyRan seat pass left after = IsSamePass pass after
-      × IsServedBy (means_of seat) rule (berth seat.berth) (berth left.berth)
+      × IsServedBy (means_of seat) rules (berth seat.berth) (berth left.berth)
       (map (back_of feed child) left.feeds.items) (option_map (back_of feed child) left.unsaid)
       left.halted after
 
@@ -101,52 +109,52 @@ module _ {M G Q : Type 0} (g : Ghosts M Call Reply G Q) {B D T K : Type 0}
 
   module _ (q : Q) (settings : Settings) (actions : List WorkAction) where
     may_proxy : (w : ℕ) (b : B) (s : Speech) (x : ProxySeat B)
-        → IsProxySeat settings actions w b s x → w < (terms q).berths
-        → FitsSettings (terms q) w s settings → IsWorkOf (terms q) actions
+        → IsProxySeat settings actions w b s x → w < (rules q).seats
+        → FitsSettings (rules q) w s settings → IsWorkOf (rules q).plan actions
         → MayRun May q (2 * w) (First x)
     may_proxy w b s x is below fits work desk bells pass of fresh number bell by =
         let Fits : Q → ℕ → Means → Type 0 =
-        λ r n m. FitsSettings (terms r) n m.speech m.settings in (
+        λ r n m. FitsSettings (rules r) n m.speech m.settings in (
           of,
           fresh,
           (
             subst (λ (n : ℕ). pass.lane ≡ proxy_lane n) (sym is.1) number,
-            subst (λ (r : Q). x.number < (terms r).berths) (sym by)
-                (subst (λ (n : ℕ). n < (terms q).berths) (sym is.1) below),
+            subst (λ (r : Q). x.number < (rules r).seats) (sym by)
+                (subst (λ (n : ℕ). n < (rules q).seats) (sym is.1) below),
           ),
           subst (λ (n : ℕ). n < bells) (sym number) bell,
           subst (λ (r : Q). Fits r x.number (means_of x)) (sym by)
               (subst (λ (n : ℕ). Fits q n (means_of x)) (sym is.1)
               (subst (λ (m : Means). Fits q w m) (sym is.2) fits)),
-          subst (λ (r : Q). IsWorkOf (terms r) x.actions.now) (sym by)
-              (subst (λ (m : Means). IsWorkOf (terms q) m.actions) (sym is.2) work),
+          subst (λ (r : Q). IsWorkOf (rules r).plan x.actions.now) (sym by)
+              (subst (λ (m : Means). IsWorkOf (rules q).plan m.actions) (sym is.2) work),
         )
 
-    may_tap : (w : ℕ) (s : Speech) (y : TapSeat) → IsTapSeat w s y → w < (terms q).berths
+    may_tap : (w : ℕ) (s : Speech) (y : TapSeat) → IsTapSeat w s y → w < (rules q).seats
         → MayRun May q (2 * w + 1) (Second y)
     may_tap w s y is below desk bells pass of fresh number bell by = (
       of,
       fresh,
       subst (λ (n : ℕ). pass.lane ≡ tap_lane n) (sym is.0) number,
-      subst (λ (r : Q). y.berth < (terms r).berths) (sym by)
-          (subst (λ (n : ℕ). n < (terms q).berths) (sym is.0) below),
+      subst (λ (r : Q). y.berth < (rules r).seats) (sym by)
+          (subst (λ (n : ℕ). n < (rules q).seats) (sym is.0) below),
       subst (λ (n : ℕ). n < bells) (sym number) bell,
     )
 
     pub all_may : (w : ℕ) (bs : List B) (ss : List Speech)
         (lanes : List (Either (ProxySeat B) TapSeat)) → AreSeats settings actions w bs ss lanes
-        → w + length ss ≤ (terms q).berths → AreOfPlan (terms q).plan settings
-        → FitFrom (terms q).remote w ss → IsWorkOf (terms q) actions
+        → w + length ss ≤ (rules q).seats → AreOfPlan (rules q).plan settings
+        → FitFrom (rules q) w ss → IsWorkOf (rules q).plan actions
         → MayRunInOrder May q (2 * w) lanes
     all_may w [] [] [] are most plan fit work = tt
     all_may w [] [] (x ∷ lanes) are most plan fit work = absurd (cc)
     all_may w (b ∷ bs) (s ∷ ss) (First x ∷ Second y ∷ lanes) are most plan fit work = (
-      may_proxy w b s x are.0 (omega (arith, most)) (record { of_plan = plan; speaks = first_fits (terms q).remote w s ss fit }) work,
+      may_proxy w b s x are.0 (omega (arith, most)) (record { of_plan = plan; speaks = first_fits (rules q) w s ss fit }) work,
       (
         may_tap w s y are.1 (omega (arith, most)),
         subst (λ (k : ℕ). MayRunInOrder May q k lanes)
             (let e : 2 * (w + 1) ≡ 2 * w + 1 + 1 = omega arith in e)
-            (all_may (w + 1) bs ss lanes are.2 (omega (arith, most)) plan (rest_fits (terms q).remote w s ss fit) work),
+            (all_may (w + 1) bs ss lanes are.2 (omega (arith, most)) plan (rest_fits (rules q) w s ss fit) work),
       ),
     )
     all_may w (b ∷ bs) (s ∷ ss) [] are most plan fit work = absurd are

@@ -14,10 +14,10 @@ use Rattle.exec_journal.specs.declared.reply.Reply.TheVariants as reply
 use Rattle.exec_journal.proofs.Ruled.{by_bool}
 use Rattle.lane_crew.specs.Lanes.{IsFresh}
 use Rattle.lane_crew.specs.LaneJobs.{KeepsPasses, MayRun}
-use Rattle.core_contract.specs.Terms.{Terms}
+use Rattle.core_contract.specs.Discipline.{Discipline}
 use Rattle.core_contract.specs.Moves.{Past, History}
 use Rattle.core_contract.specs.Duties.{Left, duty_of, proxy_lane}
-use Rattle.crew_beside.specs.Beside.{EndsBeside, MayRunBeside, count_of}
+use Rattle.lane_crew.specs.Beside.{EndsBeside, MayRunBeside, count_of}
 use Rattle.lane_laws.specs.Places.{HasLeft, IsGone, halts_owing}
 use Rattle.tick_lane.specs.declared.seat.TickEnd.{TickEnd}
 use Rattle.tick_lane.specs.declared.seat.TickEnd.TheVariants as end
@@ -28,11 +28,11 @@ use Rattle.lane_runs.specs.Paced.{HasPaced, MayPace, pacer_back, pacer_left, sea
 
 -- ---- before it runs
 
-module _ {M G Q W : Type 0} (g : Ghosts M Call Reply G Q) (terms : Q → Terms)
-    (ticks : Q → ℕ → Bool) (told : W → ℕ) where
+module _ {M G Q W : Type 0} (g : Ghosts M Call Reply G Q) (rules : Q → Discipline)
+    (told : W → ℕ) where
   abbrev pub MayTick : TickSeat W → Desk M Call Reply G Q → ℕ → Pass M Call Reply G Q g → Type 0
   MayTick seat desk bells pass = IsPassOf desk pass × IsFresh pass
-      × IsTicker terms ticks seat.berth pass × (pass.lane < bells)
+      × IsTicker rules seat.berth pass × (pass.lane < bells)
 
   abbrev pub TicksRan : TickSeat W → Pass M Call Reply G Q g → TickLeft W
       → Pass M Call Reply G Q g → Type 0
@@ -43,7 +43,7 @@ module _ {M G Q W : Type 0} (g : Ghosts M Call Reply G Q) (terms : Q → Terms)
   keeps_ticking seat before left after ran = ran.0
 
   pub may_tick : (q : Q) (w k : ℕ) (pacer : Option W) → k ≡ proxy_lane w
-      → MayPace (terms q) (ticks q) w pacer → MayRunBeside MayTick q k (seat_for w pacer)
+      → MayPace (rules q) w pacer → MayRunBeside MayTick q k (seat_for w pacer)
   may_tick q w k None at may = tt
   may_tick q w k (Some pacer) at may = λ desk bells pass of fresh number bell by. (
     of,
@@ -51,9 +51,9 @@ module _ {M G Q W : Type 0} (g : Ghosts M Call Reply G Q) (terms : Q → Terms)
     record {
       proxy = (
         number ∙ at,
-        subst (λ (r : Q). w < (terms r).berths) (sym by) may.0,
+        subst (λ (r : Q). w < (rules r).seats) (sym by) may.0,
       );
-      makes = subst (λ (r : Q). ticks r (proxy_lane w) ≡ true) (sym by) may.1;
+      makes = subst (λ (r : Q). (rules r).ticks (proxy_lane w) ≡ true) (sym by) may.1;
     },
     subst (λ (n : ℕ). n < bells) (sym number) bell,
   )
@@ -136,24 +136,24 @@ pub seat_others : {W : Type 0} (w k : ℕ) (pacer : Option W) (seat : Option (Ti
 seat_others w k pacer seat is h none = subst (λ (n : ℕ). NoneFrom (k + n) h)
     (ap count_of is ∙ as_many_beside w pacer) none
 
-module _ {M G Q W : Type 0} (g : Ghosts M Call Reply G Q) (terms : Q → Terms)
-    (ticks : Q → ℕ → Bool) (told : W → ℕ) (w k : ℕ) (pacer : Option W)
+module _ {M G Q W : Type 0} (g : Ghosts M Call Reply G Q) (rules : Q → Discipline)
+    (told : W → ℕ) (w k : ℕ) (pacer : Option W)
     (seat : Option (TickSeat W)) (is : seat ≡ seat_for w pacer) (at : k ≡ proxy_lane w) where
-  pub seat_may : (q : Q) → MayPace (terms q) (ticks q) w pacer
-      → MayRunBeside (MayTick g terms ticks told) q k seat
-  seat_may q may = subst (λ (o : Option (TickSeat W)). MayRunBeside (MayTick g terms ticks told) q k o)
-      (sym is) (may_tick g terms ticks told q w k pacer at may)
+  pub seat_may : (q : Q) → MayPace (rules q) w pacer
+      → MayRunBeside (MayTick g rules told) q k seat
+  seat_may q may = subst (λ (o : Option (TickSeat W)). MayRunBeside (MayTick g rules told) q k o)
+      (sym is) (may_tick g rules told q w k pacer at may)
 
   pub seat_paced : (q : Q) (h : History) (left : Option (TickLeft W))
-      → EndsBeside (TicksRan g terms ticks told) q h k seat left
+      → EndsBeside (TicksRan g rules told) q h k seat left
       → HasPaced told (proxy_lane w) pacer (pacer_left left) h
-  seat_paced q h left ends = has_paced g terms ticks told q h w k pacer left at
-      (subst (λ (o : Option (TickSeat W)). EndsBeside (TicksRan g terms ticks told) q h k o left)
+  seat_paced q h left ends = has_paced g rules told q h w k pacer left at
+      (subst (λ (o : Option (TickSeat W)). EndsBeside (TicksRan g rules told) q h k o left)
       is ends)
 
   -- each proxy lane behind those of the first w berths is gone
   pub seat_gone : (q : Q) (h : History) (left : Option (TickLeft W))
-      → EndsBeside (TicksRan g terms ticks told) q h k seat left → NoneFrom (k + count_of seat) h
+      → EndsBeside (TicksRan g rules told) q h k seat left → NoneFrom (k + count_of seat) h
       → (v : ℕ) → nat_lt v w ≡ false → IsGone (calls_by (proxy_lane v) h)
   seat_gone q h left ends none = all_gone told w pacer (pacer_left left) h
       (seat_paced q h left ends)

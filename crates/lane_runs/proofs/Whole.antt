@@ -16,7 +16,8 @@ use Rattle.lane_laws.specs.Lanes.{EndedHaveLeft}
 use Rattle.lane_runs.specs.Placed.{Numbered}
 use Rattle.lane_laws.specs.Numbers.{In, Distinct}
 use Rattle.lane_laws.specs.Numbers.{concat}
-use Rattle.core_contract.specs.Terms.{Terms}
+use Rattle.core_contract.specs.Ruled.{CameAbout, answer_after}
+use Rattle.core_contract.specs.Discipline.{Discipline, outputs_in}
 use Rattle.core_contract.specs.Moves.{History}
 use Rattle.core_contract.specs.Shelf.{Spot, Fresh, Away, Back, tap_at, place_at}
 use Rattle.core_contract.specs.Duties.{proxy_lane}
@@ -60,18 +61,18 @@ use Rattle.lane_runs.proofs.Telling as telling
 
 -- ---- places
 
-module _ {P : Type 0} (place : P → PlaceTold) (terms : Terms) (h : History) where
+module _ {P : Type 0} (place : P → PlaceTold) (q : Discipline) (h : History) where
   -- an empty slot is that of a place that is away
   none_is_away : (a : ℕ) (s : Spot) (o : Option P) → o ≡ None
-      → IsInSpot (IsPlaceOf place terms a) s o → (fs : List (List ℕ)) × (s ≡ Away fs)
+      → IsInSpot (IsPlaceOf place q a) s o → (fs : List (List ℕ)) × (s ≡ Away fs)
   none_is_away a (Away fs) o e is = (fs, refl)
   none_is_away a Fresh None e is = absurd is
   none_is_away a Fresh (Some p) e is = absurd (cc)
   none_is_away a (Back fs how) None e is = absurd is
   none_is_away a (Back fs how) (Some p) e is = absurd (cc)
 
-  some_tells : (a : ℕ) (s : Spot) (p : P) → IsInSpot (IsPlaceOf place terms a) s (Some p)
-      → IsPlaceAt a (terms.outputs a) s (place p)
+  some_tells : (a : ℕ) (s : Spot) (p : P) → IsInSpot (IsPlaceOf place q a) s (Some p)
+      → IsPlaceAt a (outputs_in q.plan a) s (place p)
   some_tells a (Away fs) p is = absurd (cc)
   some_tells a Fresh p is = is
   some_tells a (Back fs how) p is = is
@@ -84,7 +85,7 @@ module _ {P : Type 0} (place : P → PlaceTold) (terms : Terms) (h : History) wh
   all_there (None ∷ slots) f = absurd (f 0 (omega arith) refl)
 
   pub places_there : (slots : List (Option P))
-      → PlacesLie place terms h slots
+      → PlacesLie place q h slots
       → ((a : ℕ) (fs : List (List ℕ)) → place_at a h ≡ Away fs → ⊥) → AllThere slots
   places_there slots lie back = all_there slots (λ i lt e.
       let x = none_is_away i (place_at i h) (get_or slots i None) e
@@ -107,8 +108,8 @@ module _ {P : Type 0} (place : P → PlaceTold) (terms : Terms) (h : History) wh
   from_some (Some x) p e = (x, refl, let q : place x ≡ p = cc in q)
 
   pub outs : (slots : List (Option P)) (places : List P)
-      → PlacesLie place terms h slots → slots ≡ map Some places
-      → Outs terms.outputs terms.actions h (map place places)
+      → PlacesLie place q h slots → slots ≡ map Some places
+      → Outs q.plan h (map place places)
   outs slots places lie are = record {
     as_many = length-map places place ∙ (sym (length-map places Some) ∙ (sym (ap length are) ∙ lie.as_many));
     each = λ a p e.
@@ -116,34 +117,34 @@ module _ {P : Type 0} (place : P → PlaceTold) (terms : Terms) (h : History) wh
         let lt = below places a x.0 x.1 in
         let many = lie.as_many in
         let same : length slots ≡ length places = ap length are ∙ length-map places Some in
-        subst (λ (t : PlaceTold). IsPlaceAt a (terms.outputs a) (place_at a h) t) x.2
+        subst (λ (t : PlaceTold). IsPlaceAt a (outputs_in q.plan a) (place_at a h) t) x.2
         (some_tells a (place_at a h) x.0
-        (subst (λ (o : Option P). IsInSpot (IsPlaceOf place terms a) (place_at a h) o)
+        (subst (λ (o : Option P). IsInSpot (IsPlaceOf place q a) (place_at a h) o)
         (ap (λ (l : List (Option P)). get_or l a None) are ∙ got places a x.0 x.1)
         (lie.each a (omega (arith, lt, many, same)))));
   }
 
 -- the places of a bench that no lane has called
-module _ {P : Type 0} (place : P → PlaceTold) (terms : Terms) where
-  pub all_lie : (slots : List (Option P)) → PlacesLie place terms [] slots
+module _ {P : Type 0} (place : P → PlaceTold) (q : Discipline) where
+  pub all_lie : (slots : List (Option P)) → PlacesLie place q [] slots
       → AllThere slots
-  all_lie slots lie = places_there place terms [] slots lie (λ a fs e. absurd (cc))
+  all_lie slots lie = places_there place q [] slots lie (λ a fs e. absurd (cc))
 
   fresh_at : (slots : List (Option P)) (places : List P)
-      → PlacesLie place terms [] slots → slots ≡ map Some places → (a : ℕ) (p : P)
-      → slice_get places a ≡ Some p → IsPlaceAt a (terms.outputs a) Fresh (place p)
+      → PlacesLie place q [] slots → slots ≡ map Some places → (a : ℕ) (p : P)
+      → slice_get places a ≡ Some p → IsPlaceAt a (outputs_in q.plan a) Fresh (place p)
   fresh_at slots places lie are a p e =
-      let lt = below place terms [] places a p e in
+      let lt = below place q [] places a p e in
       let many = lie.as_many in
       let same : length slots ≡ length places = ap length are ∙ length-map places Some in
-      some_tells place terms [] a Fresh p
-      (subst (λ (o : Option P). IsInSpot (IsPlaceOf place terms a) Fresh o)
-      (ap (λ (l : List (Option P)). get_or l a None) are ∙ got place terms [] places a p e)
+      some_tells place q [] a Fresh p
+      (subst (λ (o : Option P). IsInSpot (IsPlaceOf place q a) Fresh o)
+      (ap (λ (l : List (Option P)). get_or l a None) are ∙ got place q [] places a p e)
       (lie.each a (omega (arith, lt, many, same))))
 
   pub are_fresh : (slots : List (Option P)) (places : List P)
-      → PlacesLie place terms [] slots → slots ≡ map Some places
-      → AreFresh place terms.actions places
+      → PlacesLie place q [] slots → slots ≡ map Some places
+      → AreFresh place (length q.plan.actions) places
   are_fresh slots places lie are = record {
     as_many = sym (length-map places Some) ∙ (sym (ap length are) ∙ lie.as_many);
     numbers = λ a p e. (fresh_at slots places lie are a p e).of_action;
@@ -193,17 +194,19 @@ by_test : {A : Type 0} (b : Bool) → (b ≡ true → A) → (b ≡ false → A)
 by_test true f g = f refl
 by_test false f g = g refl
 
-module _ {Q B D T K P : Type 0} (legal : Q → History → Type 0) (terms : Q → Terms)
-    (rule : Q → History → ℕ → Call → Reply)
+module _ {Q B D T K P : Type 0} (rules : Q → Discipline)
     (berth : B → BerthTold) (feed : D → FeedTold) (tap : T → TapTold) (child : K → ChildTold)
-    (place : P → PlaceTold) (laws : HistoryLaws legal terms) (q : Q) (h : History)
-    (good : legal q h) (speeches : List Speech) (settings : Settings) (work : List WorkAction)
+    (place : P → PlaceTold) (laws : HistoryLaws rules) (q : Q) (h : History)
+    (good : CameAbout (rules q) h) (speeches : List Speech) (settings : Settings) (work : List WorkAction)
     (olds : List B) (ends : List (Either (ProxyLeft B D K) (TapLeft T)))
-    (shelf slots : List (Option T)) (fewer : length speeches ≤ (terms q).berths)
+    (shelf slots : List (Option T)) (fewer : length speeches ≤ (rules q).seats)
     (beside : ℕ) (none : NoneFrom (2 * length speeches + beside) h)
     (gone : (w : ℕ) → nat_lt w (length speeches) ≡ false → IsGone (calls_by (proxy_lane w) h))
-    (ran : EachBerthRan berth feed tap child (rule q) settings work h 0 olds speeches ends)
-    (lie : TapsLie tap (terms q) h shelf) (front : slots ≡ take (length speeches) shelf) where
+    (ran : EachBerthRan berth feed tap child (answer_after (rules q)) settings work h 0 olds speeches ends)
+    (lie : TapsLie tap (rules q) h shelf) (front : slots ≡ take (length speeches) shelf) where
+  abbrev rule : Q → History → ℕ → Call → Reply
+  rule q = answer_after (rules q)
+
   as_many : length slots ≡ length speeches
   as_many =
       let all = lie.as_many in
@@ -261,9 +264,9 @@ module _ {Q B D T K P : Type 0} (legal : Q → History → Type 0) (terms : Q �
 
   -- all places lie there, as the proxy lanes have left
   pub places_are_there : (places : List (Option P))
-      → PlacesLie place (terms q) h places → AllThere places
+      → PlacesLie place (rules q) h places → AllThere places
   places_are_there places lying =
-      places_there place (terms q) h places lying
+      places_there place (rules q) h places lying
       (laws.places q h good (λ w lt. by_test (nat_lt w (length speeches))
       (λ within. inr (subst (λ (v : ℕ). HasLeft (calls_by (proxy_lane v) h))
       (let z : 0 + w ≡ w = omega arith in z)
@@ -272,8 +275,8 @@ module _ {Q B D T K P : Type 0} (legal : Q → History → Type 0) (terms : Q �
       (λ beyond. gone w beyond)))
 
   pub has_run : (places : List (Option P)) (laid : Laid B D T K P)
-      → PlacesLie place (terms q) h places → IsLaid h ends slots places laid
-      → HasRun (legal q) (rule q) (terms q) speeches settings work (map berth olds) beside
+      → PlacesLie place (rules q) h places → IsLaid h ends slots places laid
+      → HasRun (rules q) speeches settings work (map berth olds) beside
       (laid_told berth feed tap child place laid)
   has_run places laid lying is =
       let g = gathered in
@@ -327,7 +330,7 @@ module _ {Q B D T K P : Type 0} (legal : Q → History → Type 0) (terms : Q �
                 heard = f.2.2;
               });
         };
-        outs = outs place (terms q) h places laid.places.items lying is.places;
+        outs = outs place (rules q) h places laid.places.items lying is.places;
         halts = is.halts;
         stops = λ unhalted w lt.
             let seen_many = as_many_seen g in
@@ -338,50 +341,49 @@ module _ {Q B D T K P : Type 0} (legal : Q → History → Type 0) (terms : Q �
 
 -- ---- at the plan of the core that was handed in
 
-module _ {M G Q B D T K P : Type 0} (g : Ghosts M Call Reply G Q) (legal : Q → History → Type 0)
-    (terms : Q → Terms) (rule : Q → History → ℕ → Call → Reply) (berth : B → BerthTold)
+module _ {M G Q B D T K P : Type 0} (g : Ghosts M Call Reply G Q) (rules : Q → Discipline) (berth : B → BerthTold)
     (feed : D → FeedTold) (tap : T → TapTold) (child : K → ChildTold) (place : P → PlaceTold)
-    (laws : HistoryLaws legal terms) where
+    (laws : HistoryLaws rules) where
   -- what the crew leaves may be laid out, and then it is what the run leaves
   pub record Crewed (q : Q) (h : History) (speeches : List Speech) (settings : Settings)
       (work : List WorkAction) (beside : ℕ) (olds : List B) (ends : List (Either (ProxyLeft B D K) (TapLeft T)))
       (taps : List (Option T)) (places : List (Option P)) : Type 0 where
-    pub good : legal q h
+    pub good : CameAbout (rules q) h
     pub as_many : length taps ≡ length speeches
-    pub all_places : length places ≡ (terms q).actions
+    pub all_places : length places ≡ length (rules q).plan.actions
     pub may : (blank : Blank B D T K P)
         → IsBlankFor (length taps) (lines_in h) (length places) blank → lines_in h < 2 ^ 32
         → MayBeLaid h ends taps places blank
     pub run : (laid : Laid B D T K P) → IsLaid h ends taps places laid
-        → HasRun (legal q) (rule q) (terms q) speeches settings work (map berth olds) beside
+        → HasRun (rules q) speeches settings work (map berth olds) beside
         (laid_told berth feed tap child place laid)
 
   crewed_at : (q : Q) (h : History) (speeches : List Speech) (settings : Settings)
       (work : List WorkAction) (beside : ℕ) (olds : List B)
       (ends : List (Either (ProxyLeft B D K) (TapLeft T)))
-      (shelf taps : List (Option T)) (places : List (Option P)) → legal q h
-      → length speeches ≤ (terms q).berths → NoneFrom (2 * length speeches + beside) h
+      (shelf taps : List (Option T)) (places : List (Option P)) → CameAbout (rules q) h
+      → length speeches ≤ (rules q).seats → NoneFrom (2 * length speeches + beside) h
       → ((w : ℕ) → nat_lt w (length speeches) ≡ false → IsGone (calls_by (proxy_lane w) h))
-      → EachBerthRan berth feed tap child (rule q) settings work h 0 olds speeches ends
-      → TapsLie tap (terms q) h shelf → taps ≡ take (length speeches) shelf
-      → PlacesLie place (terms q) h places
+      → EachBerthRan berth feed tap child (answer_after (rules q)) settings work h 0 olds speeches ends
+      → TapsLie tap (rules q) h shelf → taps ≡ take (length speeches) shelf
+      → PlacesLie place (rules q) h places
       → Crewed q h speeches settings work beside olds ends taps places
   crewed_at q h speeches settings work beside olds ends shelf taps places good fewer none gone ran lie front lying = record {
     good = good;
-    as_many = as_many legal terms rule berth feed tap child place laws q h good
+    as_many = as_many rules berth feed tap child place laws q h good
         speeches settings work olds ends shelf taps fewer beside none gone ran lie front;
     all_places = lying.as_many;
     may = λ blank room few. record {
       room = room;
       few = few;
-      alternate = in_turn legal terms rule berth feed tap child place laws q h good
+      alternate = in_turn rules berth feed tap child place laws q h good
           speeches settings work olds ends shelf taps fewer beside none gone ran lie front;
-      fit = are_fit legal terms rule berth feed tap child place laws q h good
+      fit = are_fit rules berth feed tap child place laws q h good
           speeches settings work olds ends shelf taps fewer beside none gone ran lie front;
-      there = places_are_there legal terms rule berth feed tap child place laws q h good
+      there = places_are_there rules berth feed tap child place laws q h good
           speeches settings work olds ends shelf taps fewer beside none gone ran lie front places lying;
     };
-    run = λ laid is. has_run legal terms rule berth feed tap child place laws q h good
+    run = λ laid is. has_run rules berth feed tap child place laws q h good
         speeches settings work olds ends shelf taps fewer beside none gone ran lie front places laid lying is;
   }
 
@@ -390,21 +392,21 @@ module _ {M G Q B D T K P : Type 0} (g : Ghosts M Call Reply G Q) (legal : Q →
       {settings : Settings} {work : List WorkAction} {olds : List B}
       {ends : List (Either (ProxyLeft B D K) (TapLeft T))} {shelf taps : List (Option T)}
       {places : List (Option P)} {beside : ℕ} (lanes : List (Either (ProxySeat B) TapSeat)) → bench ≡ q
-      → machine ≡ bench → last ≡ machine → length speeches ≤ (terms q).berths → legal last h
-      → TapsLie tap (terms last) h shelf → taps ≡ take (length speeches) shelf
-      → PlacesLie place (terms last) h places → AreSeats settings work 0 olds speeches lanes
-      → EachLane (HasRan g terms rule berth feed tap child) bench h 0 lanes ends
+      → machine ≡ bench → last ≡ machine → length speeches ≤ (rules q).seats → CameAbout (rules last) h
+      → TapsLie tap (rules last) h shelf → taps ≡ take (length speeches) shelf
+      → PlacesLie place (rules last) h places → AreSeats settings work 0 olds speeches lanes
+      → EachLane (HasRan g rules berth feed tap child) bench h 0 lanes ends
       → NoneFrom (length lanes + beside) h
       → ((w : ℕ) → nat_lt w (length speeches) ≡ false → IsGone (calls_by (proxy_lane w) h))
       → Crewed q h speeches settings work beside olds ends taps places
   crewed {q} {bench} {machine} {last} {h} {speeches} {settings} {work} {olds} {ends} {shelf} {taps} {places} {beside} lanes e f k fewer good lie front lying are ran none gone =
       let same : last ≡ q = k ∙ (f ∙ e) in
-      let each = each_berth g terms rule berth feed tap child bench h
+      let each = each_berth g rules berth feed tap child bench h
       settings work 0 olds speeches lanes ends are ran in
       let silent = subst (λ (n : ℕ). NoneFrom (n + beside) h)
       (two_each settings work 0 olds speeches lanes are) none in
       crewed_at q h speeches settings work beside olds ends shelf taps places
-      (subst (λ (r : Q). legal r h) same good) fewer silent gone
-      (subst (λ (r : Q). EachBerthRan berth feed tap child (rule r) settings work h 0 olds speeches ends) e each)
-      (subst (λ (r : Q). TapsLie tap (terms r) h shelf) same lie) front
-      (subst (λ (r : Q). PlacesLie place (terms r) h places) same lying)
+      (subst (λ (r : Q). CameAbout (rules r) h) same good) fewer silent gone
+      (subst (λ (r : Q). EachBerthRan berth feed tap child (answer_after (rules r)) settings work h 0 olds speeches ends) e each)
+      (subst (λ (r : Q). TapsLie tap (rules r) h shelf) same lie) front
+      (subst (λ (r : Q). PlacesLie place (rules r) h places) same lying)

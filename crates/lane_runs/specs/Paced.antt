@@ -1,9 +1,9 @@
 -- The lane that makes Ticks, beside those of the berths.
-use Rattle.std.specs.Prelude.{◌≡◌, ◌<◌, ℕ, Bool, true, Option, Some, None}
+use Rattle.std.specs.Prelude.{◌≡◌, ◌<◌, ℕ, true, Option, Some, None}
 use Rattle.seat_desk.specs.History.{calls_by}
 use Rattle.core_contract.specs.Duties.{proxy_lane}
 use Rattle.core_contract.specs.Moves.{History}
-use Rattle.core_contract.specs.Terms.{Terms}
+use Rattle.core_contract.specs.Discipline.{Discipline}
 use Rattle.tick_lane.specs.declared.seat.TickEnd.{TickEnd}
 use Rattle.tick_lane.specs.declared.seat.TickLeft.{TickLeft}
 use Rattle.tick_lane.specs.declared.seat.TickSeat.{TickSeat}
@@ -11,9 +11,9 @@ use Rattle.tick_lane.specs.Ticks.{LaneTicks}
 
 module _ {W : Type 0} where
   -- where there is a pacer, there is a berth w, whose proxy lane makes Ticks
-  abbrev pub MayPace : Terms → (ℕ → Bool) → ℕ → Option W → Type 0
-  MayPace terms ticks w None = Unit {0}
-  MayPace terms ticks w (Some pacer) = (w < terms.berths) × (ticks (proxy_lane w) ≡ true)
+  abbrev pub MayPace : Discipline → ℕ → Option W → Type 0
+  MayPace q w None = Unit {0}
+  MayPace q w (Some pacer) = (w < q.seats) × (q.ticks (proxy_lane w) ≡ true)
 
   -- that lane, as it is to run
   abbrev pub seat_for : ℕ → Option W → Option (TickSeat W)

@@ -9,7 +9,9 @@ use Rattle.exec_journal.specs.declared.reply.Reply.TheVariants as reply
 use Rattle.exec_journal.specs.Entry.{Entry}
 use Rattle.outside.specs.Told.{BerthTold, PlaceTold, FeedTold, TapTold, ChildTold, LineTold, line_told}
 use Rattle.remote_messages.specs.declared.work.WorkAction.{WorkAction}
-use Rattle.core_contract.specs.Terms.{Terms}
+use Rattle.run_plan.specs.declared.plan.Plan.{Plan}
+use Rattle.core_contract.specs.Discipline.{Discipline, outputs_in}
+use Rattle.core_contract.specs.Ruled.{CameAbout, answer_after}
 use Rattle.core_contract.specs.Moves.{Past, History}
 use Rattle.core_contract.specs.Shelf.{place_at}
 use Rattle.core_contract.specs.Duties.{proxy_lane}
@@ -123,29 +125,28 @@ pub record Pipes (speeches : List Speech) (h : History) (lines : List EndTold) :
   pub numbers : map (λ e. e.number) lines ≡ range_with_len 0 (lines_in h)
   pub each : (l : ℕ) (t : LineTold) → line_at lines l ≡ Some t → Pipe speeches h l t
 
--- each action's place, of so many, was written what the history says: nothing without a grant
-pub record Outs (outputs : ℕ → List (List ℕ)) (actions : ℕ) (h : History)
-    (places : List PlaceTold) : Type 0 where
-  pub as_many : length places ≡ actions
+-- each action's place was written what the history says: nothing without a grant
+pub record Outs (plan : Plan) (h : History) (places : List PlaceTold) : Type 0 where
+  pub as_many : length places ≡ length plan.actions
   pub each : (a : ℕ) (p : PlaceTold) → slice_get places a ≡ Some p
-      → IsPlaceAt a (outputs a) (place_at a h) p
+      → IsPlaceAt a (outputs_in plan a) (place_at a h) p
 
 -- where no lane has halted, all lanes of so many berths were told to stop
 abbrev pub Stops : ℕ → History → Type 0
 Stops berths h = has_halt h ≡ false → (w : ℕ) → w < berths → AreStopped h w
 
--- The one history of the run, by the rule of a core, and what its objects tell: whatever the lanes
+-- The one history of the run, by a discipline, and what its objects tell: whatever the lanes
 -- did is in it, and what is in it they did. There is a speech for each berth that has lanes, so many
 -- lanes stand beside these, and no other lane has an entry.
-pub record HasRun (legal : History → Type 0) (rule : History → ℕ → Call → Reply)
-    (terms : Terms) (speeches : List Speech) (settings : Settings) (work : List WorkAction)
-    (before : List BerthTold) (beside : ℕ) (laid : LaidTold) : Type 0 where
+pub record HasRun (q : Discipline) (speeches : List Speech) (settings : Settings)
+    (work : List WorkAction) (before : List BerthTold) (beside : ℕ) (laid : LaidTold) : Type 0 where
   pub history : History
   pub in_journal : laid.journal ≡ history
-  pub is_legal : legal history
+  pub is_legal : CameAbout q history
   pub no_others : NoneFrom (2 * length speeches + beside) history
-  pub rooms : Rooms rule settings work history laid.lines 0 speeches before laid.berths laid.unsaid
+  pub rooms : Rooms (answer_after q) settings work history laid.lines 0 speeches before laid.berths
+      laid.unsaid
   pub pipes : Pipes speeches history laid.lines
-  pub outs : Outs terms.outputs terms.actions history laid.places
+  pub outs : Outs q.plan history laid.places
   pub halts : laid.halted ≡ has_halt history
   pub stops : Stops (length speeches) history

@@ -1,8 +1,10 @@
 -- What the lanes of berths work with.
-use Rattle.std.specs.Prelude.{◌≡◌, ℕ, ◌+◌, Bool, List, [], ◌∷◌, ◌++◌, Some, slice_get}
+use Rattle.std.specs.Prelude.{◌≡◌, ℕ, ◌+◌, List, [], ◌∷◌, ◌++◌, Some, slice_get}
 use Rattle.lane_crew.specs.declared.pair.Either.{Either}
 use Rattle.lane_crew.specs.declared.pair.Either.TheVariants.{First, Second}
 use Rattle.run_plan.specs.declared.plan.Speech.{Speech}
+use Rattle.run_plan.specs.Groups.{is_remote}
+use Rattle.core_contract.specs.Discipline.{Discipline}
 use Rattle.proxy_deeds.specs.declared.settings.Settings.{Settings}
 use Rattle.proxy_deeds.specs.Settings.{Means, speaks_remote}
 use Rattle.remote_messages.specs.declared.work.WorkAction.{WorkAction}
@@ -23,10 +25,10 @@ means_for settings actions spoken =
 abbrev pub IsTapSeat : ℕ → Speech → TapSeat → Type 0
 IsTapSeat w spoken seat = (seat.berth ≡ w) × (seat.speech ≡ spoken)
 
--- each berth speaks as executors do exactly where it is an executor's
-abbrev pub SpeechesFit : (ℕ → Bool) → List Speech → Type 0
-SpeechesFit remote speeches =
-    (w : ℕ) (s : Speech) → slice_get speeches w ≡ Some s → speaks_remote s ≡ remote w
+-- each berth speaks as executors do exactly if it is an executor's
+abbrev pub SpeechesFit : Discipline → List Speech → Type 0
+SpeechesFit q speeches = (w : ℕ) (s : Speech) → slice_get speeches w ≡ Some s
+    → speaks_remote s ≡ is_remote (q.kinds w)
 
 -- by what the seat has, its orders are carried out
 abbrev pub means_of : {B : Type 0} → ProxySeat B → Means

@@ -10,9 +10,9 @@ use lane_laws::{
 
 /// Combines the laws about lanes that have ended, and about their taps, for this kind of core.
 pub(crate) fn histories_say<C: Rules>()
-    ensures laws { HistoryLaws C.legal C.terms }
-    ensures stands { StandLegal C.stands C.plan C.legal }
-    ensures fit { LinesFit C.legal C.terms }
+    ensures laws { HistoryLaws C.discipline }
+    ensures stands { StandLegal C.stands C.plan C.discipline }
+    ensures fit { LinesFit C.discipline }
 {
     places_are_back::<C>();
     started_lines_have_taps::<C>();

@@ -46,12 +46,12 @@ impl<'a, B: Berth, P: Place, C: Rules> Lane<Desk<Bench<B, P, C>>, Pass<Bench<B, 
     type End = ProxyLeft<B, B::Feed, B::Child>;
 
     ghost may_run = { λ self desk bells pass. IsPassOf desk pass × IsFresh pass
-        × IsProxyOf C.terms self.number pass × (pass.lane < bells)
-        × FitsSettings (C.terms (basis pass)) self.number self.speech self.settings.now
-        × IsWorkOf (C.terms (basis pass)) self.actions.now };
+        × IsProxyOf C.discipline self.number pass × (pass.lane < bells)
+        × FitsSettings (C.discipline (basis pass)) self.number self.speech self.settings.now
+        × IsWorkOf (C.discipline (basis pass)).plan self.actions.now };
 
     ghost has_run = { λ self pass left after. IsSamePass pass after
-        × IsServedBy (means_of self) C.rule (B.told self.berth) (B.told left.berth)
+        × IsServedBy (means_of self) C.discipline (B.told self.berth) (B.told left.berth)
         (map (back_of B.Feed.told B.Child.told) left.feeds.items)
         (option_map (back_of B.Feed.told B.Child.told) left.unsaid) left.halted after };
 

@@ -4,7 +4,7 @@ ghost use Rattle.core_bench.specs.Objects.{AreFresh};
 ghost use Rattle.lane_runs.specs.Seats.{SpeechesFit, berths_in};
 ghost use Rattle.proxy_deeds.specs.Settings.{AreOfPlan};
 ghost use Rattle.proxy_steps.specs.Work.{IsWorkOf};
-ghost use Rattle.crew_beside.specs.Beside.{count_of};
+ghost use Rattle.lane_crew.specs.Beside.{count_of};
 ghost use Rattle.core_contract.specs.Duties.{proxy_lane};
 ghost use Rattle.lane_runs.specs.Blanks.{HasRoom};
 ghost use Rattle.lane_runs.specs.Paced.{HasPaced, MayPace, pacer_back};
@@ -18,8 +18,7 @@ use crate::means::AllMeans;
 use crate::pacing::{pacer_back, pacer_left, seat_for};
 use core_bench::Bench;
 use core_contract::Rules;
-use crew_beside::{CrewBeside, UnstartedBeside, run_crew_beside};
-use lane_crew::{Crew, Lack, Unstarted};
+use lane_crew::{Crew, Lack, Unstarted, run_crew_beside};
 use outside::{Berth, Place};
 use seat_desk::Machine;
 use std::alloc::Global;
@@ -43,6 +42,16 @@ pub struct Unrun<B, P, W> {
 pub struct NotStarted<B, P, W> {
     pub unrun: Unrun<B, P, W>,
     pub lack: Lack,
+}
+
+impl<B: Drop, P: Drop, W: Drop> NotStarted<B, P, W> {
+    // Returns the objects of lanes for which there was too little memory.
+    fn for_memory(unrun: Unrun<B, P, W>) -> NotStarted<B, P, W>
+        ensures { result.unrun ≡ unrun }
+    {
+        let lack = Lack::Memory;
+        NotStarted { unrun, lack }
+    }
 }
 
 /// The result of lanes that have run.
@@ -83,34 +92,33 @@ where
     B::Tap: Send,
     B::Child: Send,
     requires core { C.stands core [] }
-    requires places { AreFresh P.told (C.terms (C.plan core)).actions unrun.places.items }
+    requires places { AreFresh P.told (length (C.discipline (C.plan core)).plan.actions)
+        unrun.places.items }
     requires berths { length unrun.berths.items ≡ length means.now.speeches.now }
-    requires seats { length means.now.speeches.now ≤ (C.terms (C.plan core)).berths }
-    requires paced { MayPace (C.terms (C.plan core)) (C.ticks (C.plan core))
-        (length means.now.speeches.now) unrun.pacer }
+    requires seats { length means.now.speeches.now ≤ (C.discipline (C.plan core)).seats }
+    requires paced { MayPace (C.discipline (C.plan core)) (length means.now.speeches.now)
+        unrun.pacer }
     requires few { length means.now.speeches.now ≤ 127 }
-    requires speeches { SpeechesFit (C.terms (C.plan core)).remote means.now.speeches.now }
-    requires settings { AreOfPlan (C.terms (C.plan core)).plan means.now.settings.now }
-    requires work { IsWorkOf (C.terms (C.plan core)) means.now.actions.now }
-    ensures run { IfOk result (λ run. HasRun (C.legal (C.plan core)) (C.rule (C.plan core))
-        (C.terms (C.plan core)) means.now.speeches.now means.now.settings.now
-        means.now.actions.now (map B.told unrun.berths.items) (count_of unrun.pacer)
+    requires speeches { SpeechesFit (C.discipline (C.plan core)) means.now.speeches.now }
+    requires settings { AreOfPlan (C.discipline (C.plan core)).plan means.now.settings.now }
+    requires work { IsWorkOf (C.discipline (C.plan core)).plan means.now.actions.now }
+    ensures run { IfOk result (λ run. HasRun (C.discipline (C.plan core)) means.now.speeches.now
+        means.now.settings.now means.now.actions.now (map B.told unrun.berths.items)
+        (count_of unrun.pacer)
         (laid_told B.told B.Feed.told B.Tap.told B.Child.told P.told run.laid)) }
     ensures ticks { IfOk result (λ run. HasPaced W.told (proxy_lane (length means.now.speeches.now))
         unrun.pacer run.pacer run.laid.journal) }
     ensures back { IfErr result (λ u. (u.unrun.berths.items ≡ unrun.berths.items)
-        × AreFresh P.told (C.terms (C.plan core)).actions u.unrun.places.items
+        × AreFresh P.told (length (C.discipline (C.plan core)).plan.actions) u.unrun.places.items
         × (u.unrun.pacer ≡ unrun.pacer)) }
 {
     let lines = core.most_lines() as usize;
     let seats = means.speeches.len();
     let Ok(blank) = Blank::new(alloc, seats, lines, means.actions.len()) else {
-        let lack = Lack::Memory;
-        return Err(NotStarted { unrun, lack });
+        return Err(NotStarted::for_memory(unrun));
     };
     let Ok(room) = Vec::with_capacity(alloc, 2 * seats) else {
-        let lack = Lack::Memory;
-        return Err(NotStarted { unrun, lack });
+        return Err(NotStarted::for_memory(unrun));
     };
     let Unrun {
         berths,
@@ -125,8 +133,7 @@ where
                 places,
                 pacer,
             };
-            let lack = Lack::Memory;
-            return Err(NotStarted { unrun, lack });
+            return Err(NotStarted::for_memory(unrun));
         }
     };
     let lanes = lanes_of(alloc, berths, means, room);
@@ -134,7 +141,7 @@ where
     histories_say::<C>();
     match run_crew_beside(rt, alloc, bench, lanes, ticker) {
         Ok(left) => {
-            let CrewBeside { crew, beside } = left;
+            let (crew, beside) = left;
             let Crew {
                 machine,
                 history,
@@ -148,7 +155,7 @@ where
             Ok(Run { laid, pacer })
         }
         Err(unstarted) => {
-            let lack = unstarted.crew.lack;
+            let lack = unstarted.0.lack;
             Err(NotStarted {
                 unrun: take_back(blank, unstarted),
                 lack,
@@ -161,18 +168,23 @@ where
 // what the crew would have left, and takes no memory.
 fn take_back<B: Berth, P: Place, C: Rules, W: Pacer>(
     blank: Blank<B, B::Feed, B::Tap, B::Child, P>,
-    unstarted: UnstartedBeside<Bench<B, P, C>, BerthLane<'_, B>, TickSeat<W>>,
+    unstarted: (
+        Unstarted<Bench<B, P, C>, BerthLane<'_, B>>,
+        Option<TickSeat<W>>,
+    ),
 ) -> Unrun<B, P, W>
-    requires stands { ⟦<Bench<B, P, C> as Machine>⟧.stands unstarted.crew.machine [] }
-    requires berths { HasRoom (length (berths_in unstarted.crew.lanes.items)) blank.berths }
+    requires stands { ⟦<Bench<B, P, C> as Machine>⟧.stands unstarted.0.machine [] }
+    requires berths { HasRoom (length (berths_in unstarted.0.lanes.items)) blank.berths }
     requires places { HasRoom
-        (C.terms (⟦<Bench<B, P, C> as Machine>⟧.basis unstarted.crew.machine)).actions
+        (length (C.discipline (⟦<Bench<B, P, C> as Machine>⟧.basis
+        unstarted.0.machine)).plan.actions)
         blank.places }
-    ensures berths { result.berths.items ≡ berths_in unstarted.entry.crew.lanes.items }
+    ensures berths { result.berths.items ≡ berths_in unstarted.entry.0.lanes.items }
     ensures places { AreFresh P.told
-        (C.terms (⟦<Bench<B, P, C> as Machine>⟧.basis unstarted.entry.crew.machine)).actions
+        (length (C.discipline (⟦<Bench<B, P, C> as Machine>⟧.basis
+        unstarted.entry.0.machine)).plan.actions)
         result.places.items }
-    ensures pacer { result.pacer ≡ pacer_back unstarted.entry.beside }
+    ensures pacer { result.pacer ≡ pacer_back unstarted.entry.1 }
 {
     let Blank {
         mut berths,
@@ -180,7 +192,7 @@ fn take_back<B: Berth, P: Place, C: Rules, W: Pacer>(
         unsaid: _,
         places: kept,
     } = blank;
-    let UnstartedBeside { crew, beside } = unstarted;
+    let (crew, beside) = unstarted;
     let Unstarted { machine, lanes, .. } = crew;
     let (_core, _taps, slots) = machine.into_parts();
     berths_of(lanes, &mut berths);

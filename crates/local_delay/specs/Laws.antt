@@ -54,7 +54,7 @@ use Rattle.local_delay.specs.Told.{next_is, none_goes, none_past, over_is, ticke
 pub is_own : (p : Plan) (n : ℕ) → IsDiscipline (delayed_discipline p n)
 is_own p n = delayed_is_discipline p n
 
-pub few_berths : (p : Plan) → Sound p → de.delayed_seats p < 2 ^ 31
+pub few_berths : (p : Plan) → Sound p → de.delayed_seats p ≤ 128
 few_berths p sound = let few = sound.seats in omega (arith, few)
 
 pub basis_is : (b : DelayedPlan) (f : Facts) (j : List Entry) → StandsFor b.plan b.ticks f j

@@ -27,7 +27,8 @@ use Rattle.journal_laws.proofs.Over as v
 use Rattle.journal_laws.proofs.Owed as o
 use Rattle.call_laws.proofs.LastLines as ll
 use Rattle.history_laws.proofs.Fitting as fi
-use Rattle.core_contract.specs.Disciplines.{Discipline, LegalBy, script_of}
+use Rattle.core_contract.specs.Disciplines.{LegalBy, script_of}
+use Rattle.core_contract.specs.Discipline.{Discipline}
 use Rattle.core_contract.specs.News.{question}
 use Rattle.progress_laws.specs.Awaits.{Awaits, AwaitsEnd, IsLeftBehind, Owes}
 use Rattle.progress_laws.specs.Rests.{AllLeft, AllRest, IsResting, Left, Hears, Idles, has_left}

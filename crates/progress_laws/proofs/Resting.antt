@@ -21,7 +21,8 @@ use Rattle.journal_laws.proofs.Known as kn
 use Rattle.journal_laws.proofs.Owed as o
 use Rattle.call_laws.proofs.Owing as ow
 use Rattle.history_laws.proofs.Fitting as fi
-use Rattle.core_contract.specs.Disciplines.{Discipline, LegalBy, script_of}
+use Rattle.core_contract.specs.Disciplines.{LegalBy, script_of}
+use Rattle.core_contract.specs.Discipline.{Discipline}
 use Rattle.core_contract.specs.News.{question}
 use Rattle.progress_laws.specs.Awaits.{Awaits}
 use Rattle.progress_laws.specs.Quiet.{IsFree, NoneOwes}

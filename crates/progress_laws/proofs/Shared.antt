@@ -14,7 +14,8 @@ use Rattle.exec_journal.specs.Lawful.{Lawful}
 use Rattle.exec_journal.specs.Rules as r
 use Rattle.journal_laws.proofs.Claims.{clash}
 use Rattle.history_laws.proofs.Fitting as fi
-use Rattle.core_contract.specs.Disciplines.{Discipline, LegalBy}
+use Rattle.core_contract.specs.Disciplines.{LegalBy}
+use Rattle.core_contract.specs.Discipline.{Discipline}
 use Rattle.journal_laws.proofs.Lanes as la
 use Rattle.progress_laws.specs.Unwanted.{UnwantedAreAsked}
 use Rattle.progress_laws.proofs.Idles.{idle_on, take_on}

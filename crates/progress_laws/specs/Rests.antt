@@ -5,7 +5,8 @@ use Rattle.exec_journal.specs.declared.call.Call.TheVariants as call
 use Rattle.exec_journal.specs.declared.call.HowEnded.TheVariants as end
 use Rattle.exec_journal.specs.declared.reply.Reply.TheVariants as reply
 use Rattle.exec_journal.specs.Words.{has_halted, stopped}
-use Rattle.core_contract.specs.Disciplines.{Discipline, script_of}
+use Rattle.core_contract.specs.Disciplines.{script_of}
+use Rattle.core_contract.specs.Discipline.{Discipline}
 use Rattle.core_contract.specs.News.{question}
 
 -- the lane was told to stop, or it has halted

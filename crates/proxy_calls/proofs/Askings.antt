@@ -1,5 +1,6 @@
 -- What an Ask leaves.
 use Rattle.std.proofs.Common.{◌≡◌, ◌≤◌, ℕ, ◌+◌, ◌/◌, Bool, true, false, cond, [], ◌∷◌, ◌++◌, length, filter, Option, Some, None, refl, ap, sym, subst, ◌∙◌, arith, length-append}
+use Rattle.run_plan.specs.Groups.{is_remote}
 use Rattle.std.specs.Prelude.{is_some}
 use Rattle.std.proofs.lemmas.List.Elements.{filter-append}
 use Rattle.seat_desk.specs.History.{entry, calls_by, StartsWith}
@@ -9,7 +10,7 @@ use Rattle.exec_journal.specs.declared.reply.Reply.{Reply}
 use Rattle.exec_journal.specs.declared.reply.Reply.TheVariants as reply
 use Rattle.exec_journal.specs.Entries.{is_kept, launch_in}
 use Rattle.outside.specs.Told.{ChildTold, TapTold, PlaceTold}
-use Rattle.core_contract.specs.Terms.{Terms}
+use Rattle.core_contract.specs.Discipline.{Discipline}
 use Rattle.core_contract.specs.Moves.{Past, History, Move, ask_moves, proxy_move}
 use Rattle.core_contract.specs.Shelf.{child_at}
 use Rattle.core_contract.specs.Laws.{OrderFits, OrderHolds, lines_in}
@@ -26,9 +27,9 @@ use Rattle.proxy_calls.proofs.Entries.{Called, made, saw_made, grew, move_is, ha
 -- ---- a child that came out
 
 module _ {K T P : Type 0} (child : K → ChildTold) (tap : T → TapTold) (place : P → PlaceTold)
-    (terms : Terms) where
+    (discipline : Discipline) where
   pub child_there : (o : Option ℕ) (g : Option (Good K T P))
-      → IsChild child tap place terms o g → IsChildThere child o (child_good g)
+      → IsChild child tap place discipline o g → IsChildThere child o (child_good g)
   child_there None g e = ap child_good e
   child_there (Some l) (Some (good.Child k)) e = e
   child_there (Some l) (Some (good.Line k t)) e = absurd e
@@ -37,13 +38,13 @@ module _ {K T P : Type 0} (child : K → ChildTold) (tap : T → TapTold) (place
   child_there (Some l) None e = absurd e
 
   pub comes_here : (h : History) (lane w : ℕ) (c : Call) (r : Reply) (g : Option (Good K T P))
-      → lane ≡ proxy_lane w → ComesOut child tap place terms h lane c r g
-      → Comes child tap place terms h (lane / 2) (proxy_move c r) g
+      → lane ≡ proxy_lane w → ComesOut child tap place discipline h lane c r g
+      → Comes child tap place discipline h (lane / 2) (proxy_move c r) g
   comes_here h lane w c r g is out =
-      subst (λ (m : Move). Comes child tap place terms h (lane / 2) m g) (move_is lane w c r is) out
+      subst (λ (m : Move). Comes child tap place discipline h (lane / 2) m g) (move_is lane w c r is) out
 
   by_reply : (h : History) (w : ℕ) (r : Reply) (g : Option (Good K T P))
-      → Comes child tap place terms h w (ask_moves r) g → GivesChild child r g
+      → Comes child tap place discipline h w (ask_moves r) g → GivesChild child r g
   by_reply h w (reply.Kill l y) g out = child_there (Some l) g out
   by_reply h w (reply.Launch l a b t) g out = tt
   by_reply h w (reply.Send l n a b t) g out = tt
@@ -68,7 +69,7 @@ module _ {K T P : Type 0} (child : K → ChildTold) (tap : T → TapTold) (place
   by_reply h w reply.NoMemory g out = tt
 
   pub gives_child : (h : History) (lane w : ℕ) (r : Reply) (g : Option (Good K T P))
-      → lane ≡ proxy_lane w → ComesOut child tap place terms h lane call.Ask r g
+      → lane ≡ proxy_lane w → ComesOut child tap place discipline h lane call.Ask r g
       → GivesChild child r g
   gives_child h lane w r g is out =
       by_reply h (lane / 2) r g (comes_here h lane w call.Ask r g is out)
@@ -76,17 +77,17 @@ module _ {K T P : Type 0} (child : K → ChildTold) (tap : T → TapTold) (place
   -- with a Halt the child comes out that lies on the shelf
   pub halted_child : (h : History) (lane w : ℕ) (own : History) (r : Reply)
       (g : Option (Good K T P)) → lane ≡ proxy_lane w → calls_by lane h ≡ own → r ≡ reply.Noted
-      → ComesOut child tap place terms h lane call.Halt r g
+      → ComesOut child tap place discipline h lane call.Halt r g
       → IsChildThere child (child_at w own) (child_good g)
   halted_child h lane w own r g is own_is noted out =
       let half : lane / 2 ≡ w = ap (λ (n : ℕ). n / 2) is ∙ halved w in
       let at : child_at (lane / 2) h ≡ child_at w own =
       ap (λ (n : ℕ). child_at n h) half ∙ (child_is_own w h
       ∙ ap (child_at w) (ap (λ (n : ℕ). calls_by n h) (sym is) ∙ own_is)) in
-      let gone = subst (λ (x : Reply). Comes child tap place terms h (lane / 2) (proxy_move call.Halt x) g)
+      let gone = subst (λ (x : Reply). Comes child tap place discipline h (lane / 2) (proxy_move call.Halt x) g)
       noted (comes_here h lane w call.Halt r g is out) in
       child_there (child_at w own) g
-      (subst (λ (o : Option ℕ). IsChild child tap place terms o g) at gone)
+      (subst (λ (o : Option ℕ). IsChild child tap place discipline o g) at gone)
 
 -- ---- how many lines were ordered
 
@@ -151,12 +152,12 @@ module _ (rule : History → ℕ → Call → Reply) (lane w : ℕ) (then seen o
       (subst (λ (o : Option ℕ). OrderHolds actions o (lines_in then) (rule then lane call.Ask)) at law)
 
   -- so does its attempt's group fit the berth
-  pub order_fits : (terms : Terms)
-      → OrderFits terms.plan (terms.remote (lane / 2)) (rule then lane call.Ask)
-      → OrderFits terms.plan (terms.remote w) r
-  order_fits terms law = subst (λ (x : Reply). OrderFits terms.plan (terms.remote w) x) (sym k.by_rule)
-      (subst (λ (n : ℕ). OrderFits terms.plan (terms.remote n) (rule then lane call.Ask)) half law)
+  pub order_fits : (discipline : Discipline)
+      → OrderFits discipline.plan (is_remote (discipline.kinds (lane / 2))) (rule then lane call.Ask)
+      → OrderFits discipline.plan (is_remote (discipline.kinds w)) r
+  order_fits discipline law = subst (λ (x : Reply). OrderFits discipline.plan (is_remote (discipline.kinds w)) x) (sym k.by_rule)
+      (subst (λ (n : ℕ). OrderFits discipline.plan (is_remote (discipline.kinds n)) (rule then lane call.Ask)) half law)
 
-pub ask_may : (terms : Terms) (w : ℕ) (s : Duty)
-    → s ≡ Asks → may_do terms w s call.Ask ≡ true
-ask_may terms w s e = ap (λ (x : Duty). may_do terms w x call.Ask) e
+pub ask_may : (discipline : Discipline) (w : ℕ) (s : Duty)
+    → s ≡ Asks → may_do discipline w s call.Ask ≡ true
+ask_may discipline w s e = ap (λ (x : Duty). may_do discipline w x call.Ask) e

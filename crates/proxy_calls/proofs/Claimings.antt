@@ -18,7 +18,7 @@ use Rattle.exec_journal.specs.declared.reply.Reply.{Reply}
 use Rattle.exec_journal.specs.declared.reply.Reply.TheVariants as reply
 use Rattle.exec_journal.specs.Entries.{is_kept, same_branch}
 use Rattle.outside.specs.Told.{ChildTold, TapTold, PlaceTold}
-use Rattle.core_contract.specs.Terms.{Terms}
+use Rattle.core_contract.specs.Discipline.{Discipline, outputs_in}
 use Rattle.core_contract.specs.Moves.{Past, History, Move, Nothing, claim_moves}
 use Rattle.core_contract.specs.Shelf.{Fresh}
 use Rattle.core_contract.specs.Laws.{fits_claim, claimed, claimed_by}
@@ -127,10 +127,10 @@ of_claim a b found.Refused r e = inr (refl, orders_none r e)
 -- ---- what comes out
 
 module _ {K T P : Type 0} (child : K → ChildTold) (tap : T → TapTold) (place : P → PlaceTold)
-    (terms : Terms) (t : Attempt) where
+    (discipline : Discipline) (t : Attempt) where
   place_out : (fs : List (List ℕ)) (own : History) (g : Option (Good K T P))
-      → IsPlace child tap place terms t.action Fresh g → OwesCommit t fs own
-      → IsGranted place (terms.outputs t.action) t (place_good g) (found.Files fs) reply.Granted own
+      → IsPlace child tap place discipline t.action Fresh g → OwesCommit t fs own
+      → IsGranted place (outputs_in discipline.plan t.action) t (place_good g) (found.Files fs) reply.Granted own
   place_out fs own (Some (good.Place p)) is owes = (owes, is)
   place_out fs own (Some (good.Line k u)) is owes = absurd is
   place_out fs own (Some (good.Child k)) is owes = absurd is
@@ -139,11 +139,11 @@ module _ {K T P : Type 0} (child : K → ChildTold) (tap : T → TapTold) (place
 
   module _ (f : Found) (r : Reply) (h : History) (w : ℕ) (own own' : History)
       (g : Option (Good K T P))
-      (out : Comes child tap place terms h w (claim_moves t.action f r) g)
+      (out : Comes child tap place discipline h w (claim_moves t.action f r) g)
       (duty : duty_of own' ≡ duty_of_claim t.action t.branch f r)
       (moved : claimed own' ≡ claimed_by (claimed own) (claim_moves t.action f r)) where
     abbrev Is : Found → Reply → Option P → Type 0
-    Is x y o = IsGranted place (terms.outputs t.action) t o x y own'
+    Is x y o = IsGranted place (outputs_in discipline.plan t.action) t o x y own'
 
     by_files : (fs : List (List ℕ)) → f ≡ found.Files fs → r ≡ reply.Granted
         → Is f r (place_good g)
@@ -153,7 +153,7 @@ module _ {K T P : Type 0} (child : K → ChildTold) (tap : T → TapTold) (place
         (subst (λ (y : Found). P y r) is_files x) in
         let back : Is (found.Files fs) reply.Granted (place_good g) =
         place_out fs own' g
-        (at (λ x y. Comes child tap place terms h w (claim_moves t.action x y) g) out)
+        (at (λ x y. Comes child tap place discipline h w (claim_moves t.action x y) g) out)
         (record {
           duty = at (λ x y. duty_of own' ≡ duty_of_claim t.action t.branch x y) duty;
           granted = at (λ x y. claimed own' ≡ claimed_by (claimed own) (claim_moves t.action x y))
@@ -165,7 +165,7 @@ module _ {K T P : Type 0} (child : K → ChildTold) (tap : T → TapTold) (place
     by_plain : IsPlain t.action t.branch f r → Is f r (place_good g)
     by_plain p =
         let none : g ≡ None =
-        subst (λ (m : Move). Comes child tap place terms h w m g) p.0 out in
+        subst (λ (m : Move). Comes child tap place discipline h w m g) p.0 out in
         subst (λ (o : Option P). Is f r o) (sym (ap place_good none)) (duty ∙ p.1)
 
     pub is_granted : fits_claim r ≡ true → Is f r (place_good g)
@@ -175,12 +175,12 @@ module _ {K T P : Type 0} (child : K → ChildTold) (tap : T → TapTold) (place
 
 module _ {K T P : Type 0} (rule : History → ℕ → Call → Reply)
     (child : K → ChildTold) (tap : T → TapTold) (place : P → PlaceTold)
-    (terms : Terms) (lane w : ℕ)
+    (discipline : Discipline) (lane w : ℕ)
     (then seen own seen' own' : History) (t : Attempt) (f : Found) (r : Reply)
     (g : Option (Good K T P)) (is : lane ≡ proxy_lane w)
-    (may : may_do terms w (duty_of own) (claim_of t f) ≡ true)
+    (may : may_do discipline w (duty_of own) (claim_of t f) ≡ true)
     (k : Called rule lane then seen own seen' own' (claim_of t f) r)
-    (out : ComesOut child tap place terms then lane (claim_of t f) r g) where
+    (out : ComesOut child tap place discipline then lane (claim_of t f) r g) where
   kept : is_kept r ≡ true
   kept = claim_is_kept r k.fitting
 
@@ -190,13 +190,13 @@ module _ {K T P : Type 0} (rule : History → ℕ → Call → Reply)
     made rule lane then seen own seen' own' (claim_of t f) r r k refl kept,
   )
 
-  pub claim_granted : IsGranted place (terms.outputs t.action) t (place_good g) f r own'
+  pub claim_granted : IsGranted place (outputs_in discipline.plan t.action) t (place_good g) f r own'
   claim_granted =
       let e : Past = entry lane (claim_of t f) r in
-      is_granted child tap place terms t f r then (lane / 2) own own' g
-      (comes_here child tap place terms then lane w (claim_of t f) r g is out)
+      is_granted child tap place discipline t f r then (lane / 2) own own' g
+      (comes_here child tap place discipline then lane w (claim_of t f) r g is out)
       (duty_made rule lane then seen own seen' own' (claim_of t f) r r k refl kept
-      ∙ (by_call terms w (duty_of own) (claim_of t f) (claim_of t f) r may
+      ∙ (by_call discipline w (duty_of own) (claim_of t f) (claim_of t f) r may
       ∙ goes_to (duty_of own) t.action t.branch t.number f r k.fitting))
       (ap claimed claim_made.1 ∙ (claimed_more own e
       ∙ ap (claimed_by (claimed own)) (move_is lane w (claim_of t f) r is)))
@@ -208,11 +208,11 @@ same_itself : (b : Branch) → same_branch b b ≡ true
 same_itself Local = refl
 same_itself Remote = refl
 
-pub may_commit : (terms : Terms) (w : ℕ) (s : Duty)
+pub may_commit : (discipline : Discipline) (w : ℕ) (s : Duty)
     (a : ℕ) (b : Branch) (fs : List (List ℕ)) (how : CommitEnd) → s ≡ Commits a b fs
-    → may_do terms w s (call.Committed a b how) ≡ true
-may_commit terms w s a b fs how is =
-    ap (λ (x : Duty). may_do terms w x (call.Committed a b how)) is
+    → may_do discipline w s (call.Committed a b how) ≡ true
+may_commit discipline w s a b fs how is =
+    ap (λ (x : Duty). may_do discipline w x (call.Committed a b how)) is
     ∙ (λ i. eq-eqb a a refl i && same_itself b i)
 
 module _ (rule : History → ℕ → Call → Reply) (lane : ℕ) (then seen own seen' own' : History)

@@ -10,7 +10,7 @@ use Rattle.exec_journal.specs.declared.call.Wanted.{Wanted}
 use Rattle.exec_journal.specs.declared.reply.Reply.{Reply}
 use Rattle.exec_journal.specs.declared.reply.Reply.TheVariants as reply
 use Rattle.exec_journal.specs.Entries.{is_kept}
-use Rattle.core_contract.specs.Terms.{Terms}
+use Rattle.core_contract.specs.Discipline.{Discipline, makers_in}
 use Rattle.core_contract.specs.Moves.{History}
 use Rattle.core_contract.specs.Laws.{is_short, says_file, fits_look, Fits, InScript}
 use Rattle.core_contract.specs.Duties.{Duty, Sends, is_maker, may_do, duty_of, proxy_lane}
@@ -79,12 +79,12 @@ module _ {Q : Type 0} (rule : History → ℕ → Call → Reply) (lane w : ℕ)
 
 -- ---- a made input of a request
 
-pub may_look_made : (terms : Terms) (w : ℕ)
+pub may_look_made : (discipline : Discipline) (w : ℕ)
     (own : History) (t : Attempt) (m : Maker) → OwesSend t own
-    → is_maker (terms.makers t.action) m.action m.output ≡ true
-    → may_do terms w (duty_of own) (call.Look (wanted.Made m.action m.output)) ≡ true
-may_look_made terms w own t m owes made =
-    ap (λ (s : Duty). may_do terms w s (call.Look (wanted.Made m.action m.output))) owes.2
+    → is_maker (makers_in discipline.plan t.action) m.action m.output ≡ true
+    → may_do discipline w (duty_of own) (call.Look (wanted.Made m.action m.output)) ≡ true
+may_look_made discipline w own t m owes made =
+    ap (λ (s : Duty). may_do discipline w s (call.Look (wanted.Made m.action m.output))) owes.2
     ∙ made
 
 pub duty_there : (lane w l : ℕ) (n : ℤ) (t : Attempt) (h own : History) → lane ≡ proxy_lane w

@@ -7,7 +7,7 @@ use Rattle.exec_journal.specs.declared.call.Started.TheVariants as start
 use Rattle.exec_journal.specs.declared.reply.Reply.{Reply}
 use Rattle.exec_journal.specs.declared.reply.Reply.TheVariants as reply
 use Rattle.outside.specs.Told.{ChildTold, TapTold, PlaceTold}
-use Rattle.core_contract.specs.Terms.{Terms}
+use Rattle.core_contract.specs.Discipline.{Discipline}
 use Rattle.core_contract.specs.Moves.{History}
 use Rattle.core_contract.specs.Laws.{says_file, fits, fits_noted}
 use Rattle.core_contract.specs.Duties.{Duty, Asks, Launches, Sends, Cancels, Gathers, Commits, Kills, Left, duty_from, duty_by, duty_of, may_do}
@@ -41,30 +41,29 @@ never_reported c r rep fit x = never_noted r (sym (report_fits c r rep) ∙ fit)
 
 -- nothing goes in with it
 module _ {K T P : Type 0} (child : K → ChildTold) (tap : T → TapTold) (place : P → PlaceTold)
-    (terms : Terms) where
-  pub goes_plain : (rule : History → ℕ → Call → Reply) (h : History) (lane : ℕ) (c : Call)
-      → is_report c ≡ true
-      → GoesIn child tap place terms rule h lane c None
-  goes_plain rule h lane call.Ask e = absurd (cc)
-  goes_plain rule h lane (call.Launched l start.Done) e = absurd (cc)
-  goes_plain rule h lane (call.Launched l start.RoomFault) e = refl
-  goes_plain rule h lane (call.Launched l start.LaunchFault) e = refl
-  goes_plain rule h lane (call.Wrote l n how) e = refl
-  goes_plain rule h lane (call.Look w) e = absurd (cc)
-  goes_plain rule h lane (call.Claim a b t f) e = absurd (cc)
-  goes_plain rule h lane (call.Committed a b how) e = absurd (cc)
-  goes_plain rule h lane (call.Killed l) e = refl
-  goes_plain rule h lane call.Take e = absurd (cc)
-  goes_plain rule h lane call.Tick e = absurd (cc)
-  goes_plain rule h lane (call.Answer l x) e = absurd (cc)
-  goes_plain rule h lane (call.Ended l how) e = absurd (cc)
-  goes_plain rule h lane call.Halt e = absurd (cc)
+    (discipline : Discipline) where
+  pub goes_plain : (h : History) (lane : ℕ) (c : Call) → is_report c ≡ true
+      → GoesIn child tap place discipline h lane c None
+  goes_plain h lane call.Ask e = absurd (cc)
+  goes_plain h lane (call.Launched l start.Done) e = absurd (cc)
+  goes_plain h lane (call.Launched l start.RoomFault) e = refl
+  goes_plain h lane (call.Launched l start.LaunchFault) e = refl
+  goes_plain h lane (call.Wrote l n how) e = refl
+  goes_plain h lane (call.Look w) e = absurd (cc)
+  goes_plain h lane (call.Claim a b t f) e = absurd (cc)
+  goes_plain h lane (call.Committed a b how) e = absurd (cc)
+  goes_plain h lane (call.Killed l) e = refl
+  goes_plain h lane call.Take e = absurd (cc)
+  goes_plain h lane call.Tick e = absurd (cc)
+  goes_plain h lane (call.Answer l x) e = absurd (cc)
+  goes_plain h lane (call.Ended l how) e = absurd (cc)
+  goes_plain h lane call.Halt e = absurd (cc)
 
 -- ---- what is owed then: nothing
 
-module _ (terms : Terms) (w : ℕ) where
+module _ (discipline : Discipline) (w : ℕ) where
   abbrev May : Duty → Call → Type 0
-  May s c = may_do terms w s c ≡ true
+  May s c = may_do discipline w s c ≡ true
 
   never_left : (c : Call) → May Left c → ⊥
   never_left call.Ask e = cc
@@ -131,14 +130,14 @@ module _ (rule : History → ℕ → Call → Reply) (lane : ℕ) (then seen own
 
 -- ---- what a lane may make
 
-module _ (terms : Terms) (w : ℕ) where
+module _ (discipline : Discipline) (w : ℕ) where
   pub may_launch : (s : Duty) (l : ℕ) (how : Started) → (t : Attempt) × (s ≡ Launches l t)
-      → may_do terms w s (call.Launched l how) ≡ true
+      → may_do discipline w s (call.Launched l how) ≡ true
   may_launch s l how is =
-      ap (λ (x : Duty). may_do terms w x (call.Launched l how)) is.1 ∙ eq-eqb l l refl
+      ap (λ (x : Duty). may_do discipline w x (call.Launched l how)) is.1 ∙ eq-eqb l l refl
 
   pub may_make_halt : (s : Duty) → may_halt s ≡ true
-      → may_do terms w s call.Halt ≡ true
+      → may_do discipline w s call.Halt ≡ true
   may_make_halt Asks e = refl
   may_make_halt (Launches l t) e = refl
   may_make_halt (Sends l n t) e = refl

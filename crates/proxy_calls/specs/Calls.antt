@@ -6,17 +6,17 @@ use Rattle.seat_desk.specs.History.{entry, StartsWith}
 use Rattle.seat_desk.specs.Passes.{IsSamePass, mine, basis, seen}
 use Rattle.exec_journal.specs.declared.call.Call.{Call}
 use Rattle.exec_journal.specs.declared.reply.Reply.{Reply}
-use Rattle.core_contract.specs.Terms.{Terms}
+use Rattle.core_contract.specs.Discipline.{Discipline}
 use Rattle.core_contract.specs.Duties.{proxy_lane, duty_of, may_do}
 
 module _ {M G Q : Type 0} {g : Ghosts M Call Reply G Q} where
-  -- the pass is that of the proxy lane of the berth w, one of the terms' berths
-  abbrev pub IsProxyOf : (Q → Terms) → ℕ → Pass M Call Reply G Q g → Type 0
-  IsProxyOf terms w p = (p.lane ≡ proxy_lane w) × (w < (terms (basis p)).berths)
+  -- the pass is that of the proxy lane of the berth w, one of the discipline's berths
+  abbrev pub IsProxyOf : (Q → Discipline) → ℕ → Pass M Call Reply G Q g → Type 0
+  IsProxyOf rules w p = (p.lane ≡ proxy_lane w) × (w < (rules (basis p)).seats)
 
   -- by its own entries the lane may make the call
-  abbrev pub MayMake : (Q → Terms) → ℕ → Pass M Call Reply G Q g → Call → Type 0
-  MayMake terms w p c = may_do (terms (basis p)) w (duty_of (mine p)) c ≡ true
+  abbrev pub MayMake : (Q → Discipline) → ℕ → Pass M Call Reply G Q g → Call → Type 0
+  MayMake rules w p c = may_do (rules (basis p)) w (duty_of (mine p)) c ≡ true
 
   -- the lane made no entry
   abbrev pub MakesNone : Pass M Call Reply G Q g → Pass M Call Reply G Q g → Type 0

@@ -12,7 +12,7 @@ use Rattle.exec_journal.specs.declared.call.Found.TheVariants as found
 use Rattle.exec_journal.specs.declared.reply.Reply.{Reply}
 use Rattle.exec_journal.specs.declared.reply.Reply.TheVariants as reply
 use Rattle.outside.specs.Told.{PlaceTold}
-use Rattle.core_contract.specs.Terms.{Terms}
+use Rattle.core_contract.specs.Discipline.{Discipline, outputs_in}
 use Rattle.core_contract.specs.Moves.{History}
 use Rattle.core_contract.specs.Shelf.{Fresh}
 use Rattle.core_contract.specs.Duties.{Asks, Commits, duty_of}
@@ -39,11 +39,11 @@ IsGranted told outputs t (Some place) f r own = ⊥
 
 module _ {M G Q : Type 0} {g : Ghosts M Call Reply G Q} where
   -- the Claim was made, and answered so
-  pub record HasClaimed {P : Type 0} (told : P → PlaceTold) (terms : Q → Terms) (t : Attempt)
+  pub record HasClaimed {P : Type 0} (told : P → PlaceTold) (rules : Q → Discipline) (t : Attempt)
       (f : Found) (place : Option P) (p p' : Pass M Call Reply G Q g) : Type 0 where
     pub reply : Reply
     pub made : MakesOne (claim_of t f) reply p p'
-    pub granted : IsGranted told ((terms (basis p)).outputs t.action) t place f reply (mine p')
+    pub granted : IsGranted told (outputs_in (rules (basis p)).plan t.action) t place f reply (mine p')
 
   -- the Committed of the attempt's branch was made
   abbrev pub HasCommitted : Attempt → Pass M Call Reply G Q g → Pass M Call Reply G Q g → Type 0

@@ -1,5 +1,7 @@
 -- What an Ask is answered, and what it leaves.
 use Rattle.std.proofs.Common.{refl}
+use Rattle.std.specs.Prelude.{length}
+use Rattle.run_plan.specs.Groups.{is_remote}
 use Rattle.std.specs.Prelude.{◌≡◌, ◌≤◌, ℕ, ◌+◌, Bool, true, false, is_some, if◌then◌else◌, Option, Some, None}
 use Rattle.seat_desk.specs.declared.machine.Machine.{Ghosts}
 use Rattle.seat_desk.specs.declared.desk.Pass.{Pass}
@@ -12,7 +14,7 @@ use Rattle.exec_journal.specs.declared.reply.Why.{Why}
 use Rattle.exec_journal.specs.Entries.{is_kept, launch_in}
 use Rattle.outside.specs.Launches.{IsNewChild}
 use Rattle.outside.specs.Told.{ChildTold}
-use Rattle.core_contract.specs.Terms.{Terms}
+use Rattle.core_contract.specs.Discipline.{Discipline}
 use Rattle.core_contract.specs.Shelf.{child_at}
 use Rattle.core_contract.specs.Laws.{OrderFits, OrderHolds, lines_in}
 use Rattle.core_bench.specs.declared.shelf.Good.{Good}
@@ -73,14 +75,14 @@ lines_with r lines = if is_some (launch_in r) then lines + 1 else lines
 
 -- The Ask was answered so, when so many lines had been ordered. What the order says holds, and its
 -- attempt's group is an executor's exactly where the berth is.
-pub record HasAsked {M G Q K : Type 0} {g : Ghosts M Call Reply G Q} (terms : Q → Terms)
+pub record HasAsked {M G Q K : Type 0} {g : Ghosts M Call Reply G Q} (rules : Q → Discipline)
     (told : K → ChildTold) (berth : ℕ) (order : Option (Order K))
     (p p' : Pass M Call Reply G Q g) : Type 0 where
   pub reply : Reply
   pub lines : ℕ
   pub is_ordered : IsOrdered told reply order
   pub made : MakesOne call.Ask reply p p'
-  pub holds : OrderHolds (terms (basis p)).actions (child_at berth (mine p)) lines reply
-  pub fits : OrderFits (terms (basis p)).plan ((terms (basis p)).remote berth) reply
+  pub holds : OrderHolds (length (rules (basis p)).plan.actions) (child_at berth (mine p)) lines reply
+  pub fits : OrderFits (rules (basis p)).plan (is_remote ((rules (basis p)).kinds berth)) reply
   pub later : lines_in (seen p) ≤ lines
   pub lines_then : lines_in (seen p') ≡ lines_with reply lines

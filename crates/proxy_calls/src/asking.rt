@@ -86,10 +86,10 @@ pub fn ask<B: Berth, P: Place, C: Rules, R: Wait>(
     caller: &mut Caller<'_, Bench<B, P, C>>,
     berth: u32,
 ) -> Result<Option<Order<B::Child>>, ProxyHalt>
-    requires lane { IsProxyOf C.terms berth caller.old.pass }
+    requires lane { IsProxyOf C.discipline berth caller.old.pass }
     requires asks { duty_of (mine caller.old.pass) ≡ Asks }
     ensures same { IsSamePass caller.old.pass caller.new.pass }
-    ensures ordered { IfOk result (λ order. HasAsked C.terms B.Child.told berth order
+    ensures ordered { IfOk result (λ order. HasAsked C.discipline B.Child.told berth order
         caller.old.pass caller.new.pass) }
     ensures refused { IfErr result (λ by. (by ≡ cause.Refused call.Ask)
         × MakesNone caller.old.pass caller.new.pass) }

@@ -34,10 +34,10 @@ pub fn claim<B: Berth, P: Place, C: Rules, R: Wait>(
     attempt: Attempt,
     found: Found,
 ) -> Result<Option<P>, ProxyHalt>
-    requires lane { IsProxyOf C.terms berth caller.old.pass }
-    requires may { MayMake C.terms berth caller.old.pass (claim_of attempt found) }
+    requires lane { IsProxyOf C.discipline berth caller.old.pass }
+    requires may { MayMake C.discipline berth caller.old.pass (claim_of attempt found) }
     ensures same { IsSamePass caller.old.pass caller.new.pass }
-    ensures claimed { IfOk result (λ place. HasClaimed P.told C.terms attempt found place
+    ensures claimed { IfOk result (λ place. HasClaimed P.told C.discipline attempt found place
         caller.old.pass caller.new.pass) }
     ensures refused { IfErr result (λ by. (by ≡ cause.Refused (claim_of attempt found))
         × MakesNone caller.old.pass caller.new.pass) }
@@ -75,8 +75,8 @@ pub fn commit_files<B: Berth, P: Place, C: Rules, R: Wait>(
     berth: u32,
     grant: Grant<'_, P>,
 )
-    requires lane { IsProxyOf C.terms berth caller.old.pass }
-    requires may { MayCommit P.told C.terms grant caller.old.pass }
+    requires lane { IsProxyOf C.discipline berth caller.old.pass }
+    requires may { MayCommit P.told C.discipline grant caller.old.pass }
     ensures same { IsSamePass caller.old.pass caller.new.pass }
     ensures committed { HasCommitted grant.entry.attempt caller.old.pass caller.new.pass }
     ensures asks { duty_of (mine caller.new.pass) ≡ Asks }

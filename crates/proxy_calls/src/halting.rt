@@ -23,7 +23,7 @@ pub fn halt<B: Berth, P: Place, C: Rules, R: Wait>(
     caller: &mut Caller<'_, Bench<B, P, C>>,
     berth: u32,
 ) -> Option<B::Child>
-    requires lane { IsProxyOf C.terms berth caller.old.pass }
+    requires lane { IsProxyOf C.discipline berth caller.old.pass }
     requires may { may_halt (duty_of (mine caller.old.pass)) ≡ true }
     ensures same { IsSamePass caller.old.pass caller.new.pass }
     ensures halted { MakesOne call.Halt reply.Noted caller.old.pass caller.new.pass }

@@ -1,4 +1,6 @@
 //! Looks at made inputs, and at the outputs of an answer.
+ghost use Rattle.core_contract.specs.Discipline.{makers_in};
+ghost use Rattle.core_contract.specs.Ruled.{answer_after};
 ghost use Rattle.std.specs.Prelude.{◌≡◌, true, IfOk};
 ghost use Rattle.seat_desk.specs.Passes.{mine, basis, seen};
 ghost use Rattle.exec_journal.specs.declared.call.Call.TheVariants as call;
@@ -27,9 +29,9 @@ pub fn look<B: Berth, P: Place, C: Rules, R: Wait>(
     berth: u32,
     wanted: Wanted,
 ) -> Result<Option<Blob>, NoMemory>
-    requires lane { IsProxyOf C.terms berth caller.old.pass }
-    requires may { MayMake C.terms berth caller.old.pass (call.Look wanted) }
-    ensures told { IfOk result (λ found. IsTold (C.rule (basis caller.old.pass))
+    requires lane { IsProxyOf C.discipline berth caller.old.pass }
+    requires may { MayMake C.discipline berth caller.old.pass (call.Look wanted) }
+    ensures told { IfOk result (λ found. IsTold (answer_after (C.discipline (basis caller.old.pass)))
         caller.old.pass.lane (seen caller.new.pass) (told_as wanted found)) }
     ensures stays { Stays caller.old.pass caller.new.pass }
 {
@@ -62,11 +64,11 @@ pub fn look_made<B: Berth, P: Place, C: Rules, R: Wait>(
     attempt: Attempt,
     maker: Maker,
 ) -> Result<Blob, NoMemory>
-    requires lane { IsProxyOf C.terms berth caller.old.pass }
+    requires lane { IsProxyOf C.discipline berth caller.old.pass }
     requires owes { OwesSend attempt (mine caller.old.pass) }
-    requires made { is_maker ((C.terms (basis caller.old.pass)).makers attempt.action)
+    requires made { is_maker (makers_in (C.discipline (basis caller.old.pass)).plan attempt.action)
         maker.action maker.output ≡ true }
-    ensures told { IfOk result (λ bytes. IsTold (C.rule (basis caller.old.pass))
+    ensures told { IfOk result (λ bytes. IsTold (answer_after (C.discipline (basis caller.old.pass)))
         caller.old.pass.lane (seen caller.new.pass) (made_as maker bytes)) }
     ensures stays { Stays caller.old.pass caller.new.pass }
 {

@@ -30,9 +30,9 @@ pub fn tell<B: Berth, P: Place, C: Rules, R: Wait>(
     berth: u32,
     report: Call,
 ) -> Result<(), ProxyHalt>
-    requires lane { IsProxyOf C.terms berth caller.old.pass }
+    requires lane { IsProxyOf C.discipline berth caller.old.pass }
     requires report { is_report report ≡ true }
-    requires may { MayMake C.terms berth caller.old.pass report }
+    requires may { MayMake C.discipline berth caller.old.pass report }
     ensures { Reports report result caller.old.pass caller.new.pass }
 {
     match caller.call(rt, report, None) {
@@ -63,7 +63,7 @@ pub fn tell_started<B: Berth, P: Place, C: Rules, R: Wait>(
     child: B::Child,
     tap: B::Tap,
 ) -> Result<(), Unsaid<B::Child>>
-    requires lane { IsProxyOf C.terms berth caller.old.pass }
+    requires lane { IsProxyOf C.discipline berth caller.old.pass }
     requires child { IsNewChild line (B.Child.told child) }
     requires tap { IsNewTap line (B.Tap.told tap) }
     requires owes { OwesLaunch line (mine caller.old.pass) }

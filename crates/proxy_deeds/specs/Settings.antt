@@ -1,5 +1,6 @@
 -- What lines are set up by, for an attempt.
 use Rattle.std.specs.Prelude.{◌≡◌, ℕ, ◌<◌, Bool, true, false, Option, Some, option_and_then, List, length, slice_get}
+use Rattle.run_plan.specs.Groups.{is_remote}
 use Rattle.plain_values.specs.declared.command.Command.{Command}
 use Rattle.run_plan.specs.declared.plan.Plan.{Plan}
 use Rattle.run_plan.specs.declared.plan.Speech.{Speech}
@@ -7,7 +8,7 @@ use Rattle.run_plan.specs.declared.plan.Speech.TheVariants.{Remote}
 use Rattle.exec_journal.specs.declared.attempt.Attempt.{Attempt}
 use Rattle.exec_journal.specs.Seated.{group_for}
 use Rattle.remote_messages.specs.declared.work.WorkAction.{WorkAction}
-use Rattle.core_contract.specs.Terms.{Terms}
+use Rattle.core_contract.specs.Discipline.{Discipline}
 use Rattle.proxy_deeds.specs.declared.settings.Settings.{Settings}
 
 -- the command of the attempt's group
@@ -31,10 +32,11 @@ pub record AreOfPlan (p : Plan) (s : Settings) : Type 0 where
   pub same : s.plan.now ≡ p
   pub as_many : length s.commands.now ≡ length p.groups
 
--- The settings are of the terms' plan, and the speech is an executor's exactly where the berth is.
-pub record FitsSettings (terms : Terms) (berth : ℕ) (speech : Speech) (s : Settings) : Type 0 where
-  pub of_plan : AreOfPlan terms.plan s
-  pub speaks : speaks_remote speech ≡ terms.remote berth
+-- The settings are of the discipline's plan, and the speech is an executor's exactly if the berth is.
+pub record FitsSettings (q : Discipline) (berth : ℕ) (speech : Speech) (s : Settings) : Type 0
+  where
+    pub of_plan : AreOfPlan q.plan s
+    pub speaks : speaks_remote speech ≡ is_remote (q.kinds berth)
 
 -- What a lane's orders are carried out by: what its berth's lines speak, the settings, and the work of
 -- all actions.

@@ -11,7 +11,7 @@ use Rattle.exec_journal.specs.declared.call.Written.{Written}
 use Rattle.exec_journal.specs.declared.reply.Reply.{Reply}
 use Rattle.exec_journal.specs.declared.reply.Reply.TheVariants as reply
 use Rattle.remote_messages.specs.declared.work.WorkAction.{WorkAction}
-use Rattle.core_contract.specs.Terms.{Terms}
+use Rattle.core_contract.specs.Discipline.{Discipline, makers_in, outputs_in}
 use Rattle.core_contract.specs.Moves.{History}
 use Rattle.core_contract.specs.Shelf.{child_at}
 use Rattle.core_contract.specs.Duties.{Asks, duty_of}
@@ -52,26 +52,26 @@ module _ {M G Q : Type 0} {g : Ghosts M Call Reply G Q} where
     );
   }
 
-module _ {M G Q R : Type 0} {g : Ghosts M Call Reply G Q} (terms : Q → Terms) (site : Site R)
+module _ {M G Q R : Type 0} {g : Ghosts M Call Reply G Q} (rules : Q → Discipline) (site : Site R)
     (p p' : Pass M Call Reply G Q g) where
   -- what holds of the site holds of it later
-  pub site_on : IsSamePass p p' → IsSite terms site p → IsSite terms site p'
+  pub site_on : IsSamePass p p' → IsSite rules site p → IsSite rules site p'
   site_on same x = record {
-    lane = proxy_on terms site.berth p p' same x.lane;
-    settings = by_rules (λ q. FitsSettings (terms q) site.berth site.speech site.settings.now) p p' same
+    lane = proxy_on rules site.berth p p' same x.lane;
+    settings = by_rules (λ q. FitsSettings (rules q) site.berth site.speech site.settings.now) p p' same
         x.settings;
-    work = by_rules (λ q. IsWorkOf (terms q) site.actions.now) p p' same x.work;
+    work = by_rules (λ q. IsWorkOf (rules q).plan site.actions.now) p p' same x.work;
   }
 
   -- so does what holds of an action's work
-  pub work_on : (a : ℕ) (work : WorkAction) → IsSamePass p p' → IsWorkAt terms site p a work
-      → IsWorkAt terms site p' a work
-  work_on a work same x = by_rules (λ q. IsWork ((terms q).outputs a) ((terms q).makers a) work)
+  pub work_on : (a : ℕ) (work : WorkAction) → IsSamePass p p' → IsWorkAt rules site p a work
+      → IsWorkAt rules site p' a work
+  work_on a work same x = by_rules (λ q. IsWork (outputs_in (rules q).plan a) (makers_in (rules q).plan a) work)
       p p' same x
 
   -- and of a request that is due
-  pub due_on : (request : Request) → Stays p p' → IsDue terms site p request
-      → IsDue terms site p' request
+  pub due_on : (request : Request) → Stays p p' → IsDue rules site p request
+      → IsDue rules site p' request
   due_on request stays x = record {
     at_site = site_on stays.same x.at_site;
     owes = ap duty_of stays.none.1 ∙ x.owes;
@@ -111,41 +111,41 @@ reports_wrote {M} {G} {Q} {A} {g} l n how wrote r p p' is same told =
     })
 
 module _ {M G Q R B D K A : Type 0} {g : Ghosts M Call Reply G Q} (site : Site R)
-    (rule : Q → History → ℕ → Call → Reply) (held : Hands B D K → LaneObjects) (r : Result A ProxyHalt)
+    (rules : Q → Discipline) (held : Hands B D K → LaneObjects) (r : Result A ProxyHalt)
     (p : Pass M Call Reply G Q g) (h : Hands B D K) (p' : Pass M Call Reply G Q g)
     (h' : Hands B D K) where
   -- what each outcome of a report says comes to what is said of the order
   pub obeys_by : (Said : Type 0) (Unsaid : ProxyHalt → Type 0)
       → (Said → (duty_of (mine p') ≡ Asks)
-      × Goes (means_at site) rule p (held h) p' (held h'))
+      × Goes (means_at site) rules p (held h) p' (held h'))
       → ((by : ProxyHalt) → Unsaid by
-      → Halts (means_at site) rule by p (held h) p' (held h'))
-      → OnOk r Said → IfErr r Unsaid → Obeyed site rule held r p h p' h'
+      → Halts (means_at site) rules by p (held h) p' (held h'))
+      → OnOk r Said → IfErr r Unsaid → Obeyed site rules held r p h p' h'
   obeys_by Said Unsaid goes halts said unsaid = elim r as (λ (x : Result A ProxyHalt).
-      OnOk x Said → IfErr x Unsaid → Obeyed site rule held x p h p' h')
+      OnOk x Said → IfErr x Unsaid → Obeyed site rules held x p h p' h')
       [ Ok u ↦ λ t n. goes t | Err by ↦ λ t n. halts by n ] said unsaid
 
   -- so does the report itself
   pub obeys_told : (report : Call)
       → (MakesOne report reply.Noted p p'
-      → Goes (means_at site) rule p (held h) p' (held h'))
+      → Goes (means_at site) rules p (held h) p' (held h'))
       → ((by : ProxyHalt) → by ≡ cause.Refused report → MakesNone p p'
-      → Halts (means_at site) rule by p (held h) p' (held h'))
-      → Told report r p p' → Obeyed site rule held r p h p' h'
+      → Halts (means_at site) rules by p (held h) p' (held h'))
+      → Told report r p p' → Obeyed site rules held r p h p' h'
   obeys_told report goes halts told = elim r as (λ (x : Result A ProxyHalt).
-      Told report x p p' → Obeyed site rule held x p h p' h')
+      Told report x p p' → Obeyed site rules held x p h p' h')
       [ Ok u ↦ λ t. (t.1, goes t.0) | Err by ↦ λ t. halts by t.0 t.1 ] told
 
   -- so does what is said of hands that hold the same
-  pub obeys_from : (h0 : Hands B D K) → held h0 ≡ held h → Obeyed site rule held r p h0 p' h'
-      → Obeyed site rule held r p h p' h'
+  pub obeys_from : (h0 : Hands B D K) → held h0 ≡ held h → Obeyed site rules held r p h0 p' h'
+      → Obeyed site rules held r p h p' h'
   obeys_from h0 same x = elim r as (λ (y : Result A ProxyHalt).
-      Obeyed site rule held y p h0 p' h' → Obeyed site rule held y p h p' h') [
+      Obeyed site rules held y p h0 p' h' → Obeyed site rules held y p h p' h') [
         | Ok u ↦ λ z. (
           z.0,
           subst (λ (o : LaneObjects).
-              Goes (means_at site) rule p o p' (held h')) same z.1,
+              Goes (means_at site) rules p o p' (held h')) same z.1,
         )
         | Err by ↦ λ z. subst (λ (o : LaneObjects).
-            Halts (means_at site) rule by p o p' (held h')) same z
+            Halts (means_at site) rules by p o p' (held h')) same z
       ] x

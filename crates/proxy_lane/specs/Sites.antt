@@ -12,7 +12,9 @@ use Rattle.exec_journal.specs.declared.call.Written.{Written}
 use Rattle.exec_journal.specs.declared.reply.Reply.{Reply}
 use Rattle.exec_journal.specs.declared.reply.Reply.TheVariants as reply
 use Rattle.remote_messages.specs.declared.work.WorkAction.{WorkAction}
-use Rattle.core_contract.specs.Terms.{Terms}
+use Rattle.core_contract.specs.Discipline.{Discipline}
+use Rattle.core_contract.specs.Ruled.{answer_after}
+use Rattle.core_contract.specs.Discipline.{Discipline, makers_in, outputs_in}
 use Rattle.core_contract.specs.Moves.{History}
 use Rattle.core_contract.specs.Duties.{Duty, Asks, Sends, duty_of}
 use Rattle.proxy_deeds.specs.declared.halt.ProxyHalt.{ProxyHalt}
@@ -49,36 +51,36 @@ IsGood x = (x.exit ≡ pos 0) × (x.refused ≡ false)
 
 -- The lane is that of the site's berth. The settings are of the plan, the speech is an executor's
 -- exactly where the berth is, and the work is that of all actions.
-pub record IsSite {M G Q R : Type 0} {g : Ghosts M Call Reply G Q} (terms : Q → Terms)
+pub record IsSite {M G Q R : Type 0} {g : Ghosts M Call Reply G Q} (rules : Q → Discipline)
     (site : Site R) (p : Pass M Call Reply G Q g) : Type 0 where
-  pub lane : IsProxyOf terms site.berth p
-  pub settings : FitsSettings (terms (basis p)) site.berth site.speech site.settings.now
-  pub work : IsWorkOf (terms (basis p)) site.actions.now
+  pub lane : IsProxyOf rules site.berth p
+  pub settings : FitsSettings (rules (basis p)) site.berth site.speech site.settings.now
+  pub work : IsWorkOf (rules (basis p)).plan site.actions.now
 
-module _ {M G Q R : Type 0} {g : Ghosts M Call Reply G Q} (terms : Q → Terms) (site : Site R)
+module _ {M G Q R : Type 0} {g : Ghosts M Call Reply G Q} (rules : Q → Discipline) (site : Site R)
     (p : Pass M Call Reply G Q g) where
   -- this is the work of the action with this number
   abbrev pub IsWorkAt : ℕ → WorkAction → Type 0
-  IsWorkAt a work = IsWork ((terms (basis p)).outputs a) ((terms (basis p)).makers a) work
+  IsWorkAt a work = IsWork (outputs_in (rules (basis p)).plan a) (makers_in (rules (basis p)).plan a) work
 
   -- the request is due, its group has a command, and its work is that of its action
   pub record IsDue (request : Request) : Type 0 where
-    pub at_site : IsSite terms site p
+    pub at_site : IsSite rules site p
     pub owes : duty_of (mine p) ≡ sends request
     pub group : HasGroup site.settings.now request.attempt
     pub of_action : IsWorkAt request.attempt.action request.work.now
 
   -- the answer is to be gathered, its group has a command, and this is the work of its action
   pub record IsToGather (answer : Answered) (work : WorkAction) : Type 0 where
-    pub at_site : IsSite terms site p
+    pub at_site : IsSite rules site p
     pub owes : duty_of (mine p) ≡ gathers answer
     pub group : HasGroup site.settings.now answer.attempt
     pub of_action : IsWorkAt answer.attempt.action work
 
   -- what was found for the attempt may be claimed, and this is the work of its action
   pub record MayClaim (attempt : Attempt) (work : WorkAction) (found : Found) : Type 0 where
-    pub at_site : IsSite terms site p
-    pub may : OwesClaim terms site.berth attempt found p
+    pub at_site : IsSite rules site p
+    pub may : OwesClaim rules site.berth attempt found p
     pub of_action : IsWorkAt attempt.action work
 
 -- The child of the open line lies on the shelf, and there is room for the line when it ends.
@@ -86,54 +88,53 @@ abbrev pub IsTidy : {M G Q R B D K : Type 0} {g : Ghosts M Call Reply G Q} → S
     → Pass M Call Reply G Q g → Hands B D K → Type 0
 IsTidy site p h = IsShelved site.berth p (open_in h) × HasRoom h
 
-module _ {M G Q R B D K : Type 0} {g : Ghosts M Call Reply G Q} (terms : Q → Terms)
+module _ {M G Q R B D K : Type 0} {g : Ghosts M Call Reply G Q} (rules : Q → Discipline)
     (site : Site R) where
   -- the lane is ordered so, and there is room for the open line when it ends
   pub record IsOrdered (told : K → ChildTold) (order : Order K) (p : Pass M Call Reply G Q g)
       (h : Hands B D K) : Type 0 where
-    pub at_site : IsSite terms site p
+    pub at_site : IsSite rules site p
     pub may : MayObey (means_at site) told site.berth order p (open_in h)
     pub room : HasRoom h
 
   -- the lane may halt
   pub record MayGiveUp (p : Pass M Call Reply G Q g) (h : Hands B D K) : Type 0 where
-    pub at_site : IsSite terms site p
+    pub at_site : IsSite rules site p
     pub may : may_halt (duty_of (mine p)) ≡ true
     pub tidy : IsTidy site p h
 
   -- The lane is to ask for an order, and what it has done so far holds of what it has in its hands.
-  pub record IsReady (rule : Q → History → ℕ → Call → Reply) (held : Hands B D K → LaneObjects)
-      (p : Pass M Call Reply G Q g) (h : Hands B D K) : Type 0 where
-    pub at_site : IsSite terms site p
+  pub record IsReady (held : Hands B D K → LaneObjects) (p : Pass M Call Reply G Q g)
+      (h : Hands B D K) : Type 0 where
+    pub at_site : IsSite rules site p
     pub asks : duty_of (mine p) ≡ Asks
     pub tidy : IsTidy site p h
-    pub kept : SomeKeeps (means_at site) rule p (held h)
+    pub kept : SomeKeeps (means_at site) rules p (held h)
 
 -- ---- what a lane leaves
 
-module _ {M G Q : Type 0} {g : Ghosts M Call Reply G Q} (rule : Q → History → ℕ → Call → Reply)
-  where
-    -- Looks that were made by then told this
-    abbrev pub WereTold : List Looked → Pass M Call Reply G Q g → Pass M Call Reply G Q g → Type 0
-    WereTold looks p p' = AreTold (rule (basis p)) p.lane (seen p') looks
+module _ {M G Q : Type 0} {g : Ghosts M Call Reply G Q} (rules : Q → Discipline) where
+  -- Looks that were made by then told this
+  abbrev pub WereTold : List Looked → Pass M Call Reply G Q g → Pass M Call Reply G Q g → Type 0
+  WereTold looks p p' = AreTold (answer_after (rules (basis p))) p.lane (seen p') looks
 
-    -- what was done for a request, by the berth and the feed
-    abbrev pub SendsAt : {R : Type 0} → Site R → Request → Result Written NoMemory → Pass M Call Reply G Q g
-        → Pass M Call Reply G Q g → BerthTold → BerthTold → FeedTold → FeedTold → Type 0
-    SendsAt site x result p p' old new before after = SendActs (means_at site) x.attempt (rule (basis p))
-        p.lane x.line x.number x.work.now result (seen p') old new before after
+  -- what was done for a request, by the berth and the feed
+  abbrev pub SendsAt : {R : Type 0} → Site R → Request → Result Written NoMemory → Pass M Call Reply G Q g
+      → Pass M Call Reply G Q g → BerthTold → BerthTold → FeedTold → FeedTold → Type 0
+  SendsAt site x result p p' old new before after = SendActs (means_at site) x.attempt (answer_after (rules (basis p)))
+      p.lane x.line x.number x.work.now result (seen p') old new before after
 
-    -- what the Looks at the outputs of an executor's answer gave
-    abbrev pub HasAnswered : Answered → WorkAction → Found → Pass M Call Reply G Q g
-        → Pass M Call Reply G Q g → Type 0
-    HasAnswered x work found p p' = IsAnswered (rule (basis p)) p.lane x.line x.number
-        (length work.outputs) found (seen p')
+  -- what the Looks at the outputs of an executor's answer gave
+  abbrev pub HasAnswered : Answered → WorkAction → Found → Pass M Call Reply G Q g
+      → Pass M Call Reply G Q g → Type 0
+  HasAnswered x work found p p' = IsAnswered (answer_after (rules (basis p))) p.lane x.line x.number
+      (length work.outputs) found (seen p')
 
-    -- what was done for an answer, by the berth
-    abbrev pub GathersAt : {R : Type 0} → Site R → Answered → WorkAction → Result Found NoMemory
-        → Pass M Call Reply G Q g → Pass M Call Reply G Q g → BerthTold → BerthTold → Type 0
-    GathersAt site x work result p p' old new = GatherActs (means_at site) x.attempt
-        (rule (basis p)) p.lane x.line x.number work result (seen p') old new
+  -- what was done for an answer, by the berth
+  abbrev pub GathersAt : {R : Type 0} → Site R → Answered → WorkAction → Result Found NoMemory
+      → Pass M Call Reply G Q g → Pass M Call Reply G Q g → BerthTold → BerthTold → Type 0
+  GathersAt site x work result p p' old new = GatherActs (means_at site) x.attempt
+      (answer_after (rules (basis p))) p.lane x.line x.number work result (seen p') old new
 
 module _ {M G Q A : Type 0} {g : Ghosts M Call Reply G Q} (result : Result A ProxyHalt)
     (p p' : Pass M Call Reply G Q g) where
@@ -150,14 +151,14 @@ module _ {M G Q A : Type 0} {g : Ghosts M Call Reply G Q} (result : Result A Pro
     pub refused : IfErr result (λ cause. MakesNone p p' × IsCauseOfClaim attempt found cause)
 
 module _ {M G Q R B D K : Type 0} {g : Ghosts M Call Reply G Q} (site : Site R)
-    (rule : Q → History → ℕ → Call → Reply) (held : Hands B D K → LaneObjects) where
+    (rules : Q → Discipline) (held : Hands B D K → LaneObjects) where
   -- The order was carried out and reported, and the lane is to ask again; or it is to halt.
   abbrev pub Obeyed : {A : Type 0} → Result A ProxyHalt → Pass M Call Reply G Q g → Hands B D K
       → Pass M Call Reply G Q g → Hands B D K → Type 0
   Obeyed (Ok done) p h p' h' = (duty_of (mine p') ≡ Asks)
-      × Goes (means_at site) rule p (held h) p' (held h')
+      × Goes (means_at site) rules p (held h) p' (held h')
   Obeyed (Err cause) p h p' h' =
-      Halts (means_at site) rule cause p (held h) p' (held h')
+      Halts (means_at site) rules cause p (held h) p' (held h')
 
   -- what an order leaves
   pub record Obeys {A : Type 0} (result : Result A ProxyHalt) (p : Pass M Call Reply G Q g)
@@ -170,9 +171,9 @@ module _ {M G Q R B D K : Type 0} {g : Ghosts M Call Reply G Q} (site : Site R)
   abbrev pub Rounded : Result Bool ProxyHalt → Pass M Call Reply G Q g → Hands B D K
       → Pass M Call Reply G Q g → Hands B D K → Type 0
   Rounded (Ok more) p h p' h' =
-      GoesTo (means_at site) rule more p (held h) p' (held h')
+      GoesTo (means_at site) rules more p (held h) p' (held h')
   Rounded (Err cause) p h p' h' =
-      Halts (means_at site) rule cause p (held h) p' (held h')
+      Halts (means_at site) rules cause p (held h) p' (held h')
 
   -- what a round leaves
   pub record Rounds (result : Result Bool ProxyHalt) (p : Pass M Call Reply G Q g) (h : Hands B D K)
@@ -185,7 +186,7 @@ module _ {M G Q R B D K : Type 0} {g : Ghosts M Call Reply G Q} (site : Site R)
   pub record Serves (halted : Option ProxyHalt) (p : Pass M Call Reply G Q g) (h : Hands B D K)
       (p' : Pass M Call Reply G Q g) (h' : Hands B D K) : Type 0 where
     pub same : IsSamePass p p'
-    pub ends : Finishes (means_at site) rule halted p (held h) p' (held h')
+    pub ends : Finishes (means_at site) rules halted p (held h) p' (held h')
 
 -- it halted, and the line that was open was laid by
 pub record GivesUp {M G Q B D K : Type 0} {g : Ghosts M Call Reply G Q} (held : Hands B D K → LaneObjects)

@@ -34,9 +34,9 @@ pub(crate) fn gather<B: Berth, P: Place, C: Rules, R: Wait>(
     hands: &mut Hands<B, B::Feed, B::Child>,
     answer: &Answered,
 ) -> Result<(), ProxyHalt>
-    requires { IsOrdered C.terms site.now B.Child.told (order.Gather answer.now)
+    requires { IsOrdered C.discipline site.now B.Child.told (order.Gather answer.now)
         caller.old.pass hands.old }
-    ensures { Obeys site.now C.rule (held_of B.told B.Feed.told B.Child.told) result
+    ensures { Obeys site.now C.discipline (held_of B.told B.Feed.told B.Child.told) result
         caller.old.pass hands.old caller.new.pass hands.new }
 {
     let work = action_at(site.actions, answer.attempt.action);
@@ -57,11 +57,11 @@ fn act_gather<B: Berth, P: Place, C: Rules, R: Wait>(
     berth: &mut B,
     answer: &Answered,
 ) -> Result<Found, NoMemory>
-    requires { IsToGather C.terms site.now caller.old.pass answer.now work.now }
+    requires { IsToGather C.discipline site.now caller.old.pass answer.now work.now }
     ensures stays { Stays caller.old.pass caller.new.pass }
-    ensures acts { GathersAt C.rule site.now answer.now work.now result
+    ensures acts { GathersAt C.discipline site.now answer.now work.now result
         caller.old.pass caller.new.pass (B.told berth.old) (B.told berth.new) }
-    ensures may { IfOk result (λ found. OwesClaim C.terms site.now.berth answer.now.attempt found
+    ensures may { IfOk result (λ found. OwesClaim C.discipline site.now.berth answer.now.attempt found
         caller.new.pass) }
 {
     if answer.exit != 0 {
@@ -86,10 +86,10 @@ fn answered<B: Berth, P: Place, C: Rules, R: Wait>(
     caller: &mut Caller<'_, Bench<B, P, C>>,
     answer: &Answered,
 ) -> Result<Found, NoMemory>
-    requires gather { IsToGather C.terms site.now caller.old.pass answer.now work.now }
+    requires gather { IsToGather C.discipline site.now caller.old.pass answer.now work.now }
     requires good { IsGood answer.now }
     ensures stays { Stays caller.old.pass caller.new.pass }
-    ensures answered { IfOk result (λ found. HasAnswered C.rule answer.now work.now found
+    ensures answered { IfOk result (λ found. HasAnswered C.discipline answer.now work.now found
         caller.old.pass caller.new.pass) }
 {
     let outputs = work.outputs.as_slice().len();
@@ -117,7 +117,7 @@ fn claim_found<B: Berth, P: Place, C: Rules, R: Wait>(
     attempt: Attempt,
     found: Found,
 ) -> Result<(), ProxyHalt>
-    requires { MayClaim C.terms site.now caller.old.pass attempt work.now found }
+    requires { MayClaim C.discipline site.now caller.old.pass attempt work.now found }
     ensures { Claims result caller.old.pass caller.new.pass attempt found }
 {
     match copies_of(site.alloc, &found) {

@@ -1,4 +1,5 @@
 //! The inputs of a request, with their bytes.
+ghost use Rattle.core_contract.specs.Discipline.{makers_in};
 ghost use Rattle.std.specs.Prelude.{◌≡◌, IfOk};
 ghost use Rattle.seat_desk.specs.Passes.{basis};
 ghost use Rattle.due_frames.specs.Requests.{IsFrom};
@@ -31,10 +32,10 @@ pub(crate) fn inputs_of<B: Berth, P: Place, C: Rules, R: Wait>(
     caller: &mut Caller<'_, Bench<B, P, C>>,
     request: &Request<'_>,
 ) -> Result<Vec<NamedFile>, NoMemory>
-    requires { IsDue C.terms site.now caller.old.pass request.now }
+    requires { IsDue C.discipline site.now caller.old.pass request.now }
     ensures stays { Stays caller.old.pass caller.new.pass }
     ensures inputs { IfOk result (λ files. AreInputs request.now.work.now.inputs files.items) }
-    ensures told { IfOk result (λ files. WereTold C.rule
+    ensures told { IfOk result (λ files. WereTold C.discipline
         (looks_of request.now.work.now.inputs files.items) caller.old.pass caller.new.pass) }
 {
     let inputs = request.work.inputs.as_slice();
@@ -54,12 +55,12 @@ fn content_of<B: Berth, P: Place, C: Rules, R: Wait>(
     request: &Request<'_>,
     origin: &Origin,
 ) -> Result<Blob, NoMemory>
-    requires due { IsDue C.terms site.now caller.old.pass request.now }
-    requires made { IsMadeBy ((C.terms (basis caller.old.pass)).makers request.now.attempt.action)
+    requires due { IsDue C.discipline site.now caller.old.pass request.now }
+    requires made { IsMadeBy (makers_in (C.discipline (basis caller.old.pass)).plan request.now.attempt.action)
         origin.now }
     ensures stays { Stays caller.old.pass caller.new.pass }
     ensures from { IfOk result (λ bytes. IsFrom origin.now bytes) }
-    ensures told { IfOk result (λ bytes. WereTold C.rule (look_at origin.now bytes)
+    ensures told { IfOk result (λ bytes. WereTold C.discipline (look_at origin.now bytes)
         caller.old.pass caller.new.pass) }
 {
     match origin {

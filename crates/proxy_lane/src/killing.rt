@@ -31,9 +31,9 @@ pub(crate) fn kill<B: Berth, P: Place, C: Rules, R: Wait>(
     line: u32,
     child: B::Child,
 ) -> Result<(), ProxyHalt>
-    requires { IsOrdered C.terms site.now B.Child.told (order.Kill line child)
+    requires { IsOrdered C.discipline site.now B.Child.told (order.Kill line child)
         caller.old.pass hands.old }
-    ensures { Obeys site.now C.rule (held_of B.told B.Feed.told B.Child.told) result
+    ensures { Obeys site.now C.discipline (held_of B.told B.Feed.told B.Child.told) result
         caller.old.pass hands.old caller.new.pass hands.new }
 {
     lay_by::<B>(hands, line, child);
@@ -65,7 +65,7 @@ pub(crate) fn give_up<B: Berth, P: Place, C: Rules, R: Wait>(
     caller: &mut Caller<'_, Bench<B, P, C>>,
     hands: &mut Hands<B, B::Feed, B::Child>,
 )
-    requires { MayGiveUp C.terms site.now caller.old.pass hands.old }
+    requires { MayGiveUp C.discipline site.now caller.old.pass hands.old }
     ensures { GivesUp (held_of B.told B.Feed.told B.Child.told)
         caller.old.pass hands.old caller.new.pass hands.new }
 {

@@ -54,17 +54,17 @@ pub fn run<B: Berth, P: Place, C: Rules, R: Wait>(
     berth: B,
 ) -> ProxyEnd<B, P, C>
     requires desk { IsPassOf desk.now pass }
-    requires site { IsSite C.terms site.now pass }
+    requires site { IsSite C.discipline site.now pass }
     requires bell { pass.lane < bells.now }
     requires fresh { mine pass ≡ [] }
     ensures desk { IsPassOf desk.now result.pass }
     ensures same { IsSamePass pass result.pass }
-    ensures served { IsServedBy (means_at site.now) C.rule (B.told berth) (B.told result.berth)
+    ensures served { IsServedBy (means_at site.now) C.discipline (B.told berth) (B.told result.berth)
         (map (back_of B.Feed.told B.Child.told) result.feeds.items)
         (option_map (back_of B.Feed.told B.Child.told) result.unsaid)
         result.halted result.pass }
 {
-    let mut caller = Caller::new(desk, bells, pass, 2 * site.berth);
+    let mut caller = Caller::new(desk, bells, pass);
     let mut hands = Hands {
         berth,
         open: None,
@@ -93,9 +93,9 @@ fn serve<B: Berth, P: Place, C: Rules, R: Wait>(
     caller: &mut Caller<'_, Bench<B, P, C>>,
     hands: &mut Hands<B, B::Feed, B::Child>,
 ) -> Option<ProxyHalt>
-    requires { IsReady C.terms site.now C.rule (held_of B.told B.Feed.told B.Child.told)
+    requires { IsReady C.discipline site.now (held_of B.told B.Feed.told B.Child.told)
         caller.old.pass hands.old }
-    ensures { Serves site.now C.rule (held_of B.told B.Feed.told B.Child.told) result
+    ensures { Serves site.now C.discipline (held_of B.told B.Feed.told B.Child.told) result
         caller.old.pass hands.old caller.new.pass hands.new }
 {
     for _ in site.rt.forever() {
@@ -117,9 +117,9 @@ fn next<B: Berth, P: Place, C: Rules, R: Wait>(
     caller: &mut Caller<'_, Bench<B, P, C>>,
     hands: &mut Hands<B, B::Feed, B::Child>,
 ) -> Result<bool, ProxyHalt>
-    requires { IsReady C.terms site.now C.rule (held_of B.told B.Feed.told B.Child.told)
+    requires { IsReady C.discipline site.now (held_of B.told B.Feed.told B.Child.told)
         caller.old.pass hands.old }
-    ensures { Rounds site.now C.rule (held_of B.told B.Feed.told B.Child.told) result
+    ensures { Rounds site.now C.discipline (held_of B.told B.Feed.told B.Child.told) result
         caller.old.pass hands.old caller.new.pass hands.new }
 {
     match ask(site.rt, caller, site.berth) {
@@ -139,8 +139,8 @@ fn obey<B: Berth, P: Place, C: Rules, R: Wait>(
     hands: &mut Hands<B, B::Feed, B::Child>,
     order: Order<B::Child>,
 ) -> Result<(), ProxyHalt>
-    requires { IsOrdered C.terms site.now B.Child.told order caller.old.pass hands.old }
-    ensures { Obeys site.now C.rule (held_of B.told B.Feed.told B.Child.told) result
+    requires { IsOrdered C.discipline site.now B.Child.told order caller.old.pass hands.old }
+    ensures { Obeys site.now C.discipline (held_of B.told B.Feed.told B.Child.told) result
         caller.old.pass hands.old caller.new.pass hands.new }
 {
     match order {

@@ -28,9 +28,9 @@ pub(crate) fn launch<B: Berth, P: Place, C: Rules, R: Wait>(
     line: u32,
     attempt: Attempt,
 ) -> Result<(), ProxyHalt>
-    requires { IsOrdered C.terms site.now B.Child.told (order.Launch line attempt)
+    requires { IsOrdered C.discipline site.now B.Child.told (order.Launch line attempt)
         caller.old.pass hands.old }
-    ensures { Obeys site.now C.rule (held_of B.told B.Feed.told B.Child.told) result
+    ensures { Obeys site.now C.discipline (held_of B.told B.Feed.told B.Child.told) result
         caller.old.pass hands.old caller.new.pass hands.new }
 {
     match hands.ended.reserve(1) {
@@ -47,10 +47,10 @@ fn start<B: Berth, P: Place, C: Rules, R: Wait>(
     line: u32,
     attempt: Attempt,
 ) -> Result<(), ProxyHalt>
-    requires order { IsOrdered C.terms site.now B.Child.told (order.Launch line attempt)
+    requires order { IsOrdered C.discipline site.now B.Child.told (order.Launch line attempt)
         caller.old.pass hands.old }
     requires space { vec_len hands.old.ended < vec_capacity hands.old.ended }
-    ensures { Obeys site.now C.rule (held_of B.told B.Feed.told B.Child.told) result
+    ensures { Obeys site.now C.discipline (held_of B.told B.Feed.told B.Child.told) result
         caller.old.pass hands.old caller.new.pass hands.new }
 {
     let command = site.settings.command_of(attempt);

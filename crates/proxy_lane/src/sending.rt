@@ -41,9 +41,9 @@ pub(crate) fn act_send<B: Berth, P: Place, C: Rules, R: Wait>(
     feed: &mut B::Feed,
     request: &Request<'_>,
 ) -> Result<Written, NoMemory>
-    requires { IsDue C.terms site.now caller.old.pass request.now }
+    requires { IsDue C.discipline site.now caller.old.pass request.now }
     ensures stays { Stays caller.old.pass caller.new.pass }
-    ensures acts { SendsAt C.rule site.now request.now result caller.old.pass caller.new.pass
+    ensures acts { SendsAt C.discipline site.now request.now result caller.old.pass caller.new.pass
         (B.told berth.old) (B.told berth.new) (B.Feed.told feed.old) (B.Feed.told feed.new) }
 {
     match inputs_of(site, caller, request) {
@@ -149,9 +149,9 @@ pub(crate) fn send<B: Berth, P: Place, C: Rules, R: Wait>(
     number: i32,
     attempt: Attempt,
 ) -> Result<(), ProxyHalt>
-    requires { IsOrdered C.terms site.now B.Child.told (order.Send line number attempt)
+    requires { IsOrdered C.discipline site.now B.Child.told (order.Send line number attempt)
         caller.old.pass hands.old }
-    ensures { Obeys site.now C.rule (held_of B.told B.Feed.told B.Child.told) result
+    ensures { Obeys site.now C.discipline (held_of B.told B.Feed.told B.Child.told) result
         caller.old.pass hands.old caller.new.pass hands.new }
 {
     match hands.open.take() {
@@ -191,9 +191,9 @@ pub(crate) fn cancel<B: Berth, P: Place, C: Rules, R: Wait>(
     line: u32,
     number: i32,
 ) -> Result<(), ProxyHalt>
-    requires { IsOrdered C.terms site.now B.Child.told (order.Cancel line number)
+    requires { IsOrdered C.discipline site.now B.Child.told (order.Cancel line number)
         caller.old.pass hands.old }
-    ensures { Obeys site.now C.rule (held_of B.told B.Feed.told B.Child.told) result
+    ensures { Obeys site.now C.discipline (held_of B.told B.Feed.told B.Child.told) result
         caller.old.pass hands.old caller.new.pass hands.new }
 {
     match hands.open.take() {
@@ -221,7 +221,7 @@ fn report<B: Berth, P: Place, C: Rules, R: Wait>(
     number: i32,
     wrote: Result<Written, NoMemory>,
 ) -> Result<(), ProxyHalt>
-    requires site { IsSite C.terms site.now caller.old.pass }
+    requires site { IsSite C.discipline site.now caller.old.pass }
     requires owes { OwesWrote line number wrote (mine caller.old.pass) }
     ensures { ReportsWrote result caller.old.pass caller.new.pass line number wrote }
 {

@@ -1,5 +1,6 @@
 -- What is done outside for a Send, a Cancel and a Gather.
 use Rattle.std.proofs.Common.{◌≡◌, inl, inr, ℕ, ℤ, Bool, true, false, cond, List, [], ◌∷◌, ◌++◌, length, Option, Some, None, Result, refl, ap, sym, subst, ◌∙◌, arith, ◌&&◌, ◌<◌, pos, eq-eqb, lt-ltb}
+use Rattle.run_plan.specs.Groups.{is_remote}
 use Rattle.std.specs.Ordering.{int_eq}
 use Rattle.std.proofs.lemmas.Cmp.{int_eq_equiv}
 use Rattle.run_plan.specs.declared.plan.Branch.{Branch}
@@ -12,7 +13,7 @@ use Rattle.exec_journal.specs.declared.call.Wanted.TheVariants as wanted
 use Rattle.exec_journal.specs.Entries.{attempt_of, same_attempt, same_branch, is_done}
 use Rattle.exec_journal.specs.Scripts.{may_find}
 use Rattle.core_contract.specs.Duties as duties
-use Rattle.core_contract.specs.Terms.{Terms}
+use Rattle.core_contract.specs.Discipline.{Discipline, outputs_in}
 use Rattle.core_contract.specs.Duties.{Duty, Cancels, Gathers, duty_of, may_do}
 use Rattle.proxy_calls.specs.Claims.{claim_of}
 use Rattle.proxy_calls.specs.Reports.{is_report}
@@ -267,14 +268,14 @@ same_try : (t : Attempt) → same_attempt (attempt_of t.action t.branch t.number
 same_try t = (λ i. eq-eqb t.action t.action refl i
     && (same_side t.branch i && eq-eqb t.number t.number refl i))
 
-pub may_wrote : (terms : Terms) (w : ℕ)
+pub may_wrote : (discipline : Discipline) (w : ℕ)
     (own : History) (l : ℕ) (n : ℤ) (how : Written) → OwesWrote l n (Result.Ok how) own
-    → may_do terms w (duty_of own) (call.Wrote l n how) ≡ true
-may_wrote terms w own l n how (inl x) =
-    ap (λ (s : Duty). may_do terms w s (call.Wrote l n how)) x.1
+    → may_do discipline w (duty_of own) (call.Wrote l n how) ≡ true
+may_wrote discipline w own l n how (inl x) =
+    ap (λ (s : Duty). may_do discipline w s (call.Wrote l n how)) x.1
     ∙ (λ i. eq-eqb l l refl i && same_number n i)
-may_wrote terms w own l n how (inr x) =
-    ap (λ (s : Duty). may_do terms w s (call.Wrote l n how)) x.0
+may_wrote discipline w own l n how (inr x) =
+    ap (λ (s : Duty). may_do discipline w s (call.Wrote l n how)) x.0
     ∙ (λ i. eq-eqb l l refl i && (same_number n i && x.1 i))
 
 pub fault_report : (l : ℕ) (how : Started) → is_done how ≡ false
@@ -284,23 +285,23 @@ fault_report l start.RoomFault e = refl
 fault_report l start.LaunchFault e = refl
 
 -- a Claim of what was found
-pub may_claim_found : (terms : Terms) (w : ℕ)
+pub may_claim_found : (discipline : Discipline) (w : ℕ)
     (own : History) (l : ℕ) (n : ℤ) (t : Attempt) (exit : ℤ) (refused : Bool) (f : Found)
     → duty_of own ≡ Gathers l n t exit refused
-    → may_find (length (terms.outputs t.action)) (terms.remote w) exit refused f ≡ true
-    → may_do terms w (duty_of own) (claim_of t f) ≡ true
-may_claim_found terms w own l n t exit refused f duty fits =
-    ap (λ (s : Duty). may_do terms w s (claim_of t f)) duty
+    → may_find (length (outputs_in discipline.plan t.action)) (is_remote (discipline.kinds w)) exit refused f ≡ true
+    → may_do discipline w (duty_of own) (claim_of t f) ≡ true
+may_claim_found discipline w own l n t exit refused f duty fits =
+    ap (λ (s : Duty). may_do discipline w s (claim_of t f)) duty
     ∙ (λ i. same_try t i && fits i)
 
 -- a Look at an output of the answer
-pub may_look_at : (terms : Terms) (w : ℕ)
+pub may_look_at : (discipline : Discipline) (w : ℕ)
     (own : History) (l : ℕ) (n : ℤ) (t : Attempt) (k : ℕ)
-    → duty_of own ≡ Gathers l n t (pos 0) false → k < length (terms.outputs t.action)
-    → may_do terms w (duty_of own) (call.Look (wanted.Answered l n k)) ≡ true
-may_look_at terms w own l n t k duty below =
-    ap (λ (s : Duty). may_do terms w s (call.Look (wanted.Answered l n k))) duty
-    ∙ (λ i. (eq-eqb l l refl i && same_number n i) && lt-ltb k (length (terms.outputs t.action)) below i)
+    → duty_of own ≡ Gathers l n t (pos 0) false → k < length (outputs_in discipline.plan t.action)
+    → may_do discipline w (duty_of own) (call.Look (wanted.Answered l n k)) ≡ true
+may_look_at discipline w own l n t k duty below =
+    ap (λ (s : Duty). may_do discipline w s (call.Look (wanted.Answered l n k))) duty
+    ∙ (λ i. (eq-eqb l l refl i && same_number n i) && lt-ltb k (length (outputs_in discipline.plan t.action)) below i)
 
 -- what fits an answer
 pub answered_fits : (rule : History → ℕ → Call → Reply) (lane l : ℕ) (n : ℤ) (outputs : ℕ) (f : Found)

@@ -11,6 +11,8 @@ use Rattle.exec_journal.specs.declared.call.Call.{Call}
 use Rattle.exec_journal.specs.declared.call.Call.TheVariants as call
 use Rattle.exec_journal.specs.declared.reply.Reply.{Reply}
 use Rattle.exec_journal.specs.declared.reply.Reply.TheVariants as reply
+use Rattle.core_contract.specs.Discipline.{Discipline}
+use Rattle.core_contract.specs.Ruled.{answer_after}
 use Rattle.core_contract.specs.Moves.{Past, History}
 use Rattle.core_contract.specs.Shelf.{child_at}
 use Rattle.core_contract.specs.Duties.{Duty, Asks, Launches, Sends, Cancels, Gathers, Commits, Kills, Left, duty_of}
@@ -120,7 +122,10 @@ touches_end e l old new none x = record {
 }
 
 module _ {M G Q : Type 0} {g : Ghosts M Call Reply G Q} (means : Means)
-    (rule : Q → History → ℕ → Call → Reply) (p p2 : Pass M Call Reply G Q g) (h h' : LaneObjects) where
+    (rules : Q → Discipline) (p p2 : Pass M Call Reply G Q g) (h h' : LaneObjects) where
+  abbrev rule : Q → History → ℕ → Call → Reply
+  rule q = answer_after (rules q)
+
   module _ (l : ℕ) (duty : duty_of (mine p) ≡ Kills l) (laid_by : IsLaidBy l h h') where
     said_none : (first : BerthTold)
         (k : Keeps (rule (basis p)) p.lane means (mine p) (seen p) first h) → h'.unsaid ≡ None
@@ -142,7 +147,7 @@ module _ {M G Q : Type 0} {g : Ghosts M Call Reply G Q} (means : Means)
         (seen p2) more tt h'.berth (touches_end e l h.berth h'.berth room laid_by.by_berth)
         (record { starts = starts; gives = refl; feeds = feeds }))
 
-    pub kill_goes : MakesOne (call.Killed l) reply.Noted p p2 → Goes means rule p h p2 h'
+    pub kill_goes : MakesOne (call.Killed l) reply.Noted p p2 → Goes means rules p h p2 h'
     kill_goes told = λ first k.
         let e : Past = entry p.lane (call.Killed l) reply.Noted in
         let d : Deed = end_deed l in
@@ -152,7 +157,7 @@ module _ {M G Q : Type 0} {g : Ghosts M Call Reply G Q} (means : Means)
         (ended_holds e refl (λ m. refl) refl told.0 first k) (said_none first k)
 
     pub kill_halts : (by : ProxyHalt) → MakesNone p p2 → by ≡ cause.Refused (call.Killed l)
-        → Halts means rule by p h p2 h'
+        → Halts means rules by p h p2 h'
     kill_halts by no_entry why = λ first k.
         let e : Past = entry p.lane call.Halt reply.Noted in
         let d : Deed = end_deed l in

@@ -21,6 +21,8 @@ use Rattle.sandbox_rooms.specs.declared.gathering.Gathered.TheVariants as gather
 use Rattle.sandbox_rooms.specs.Calls.{Asked, Whole, Cut, Runs, Made, went_well, GoesOn}
 use Rattle.sandbox_rooms.specs.Rooms.{gather_end}
 use Rattle.order_acts.specs.Acts.{found_as}
+use Rattle.core_contract.specs.Discipline.{Discipline}
+use Rattle.core_contract.specs.Ruled.{answer_after}
 use Rattle.core_contract.specs.Moves.{Past, History}
 use Rattle.core_contract.specs.Duties.{Duty, Gathers, duty_of}
 use Rattle.proxy_deeds.specs.Settings.{Means, speaks_remote}
@@ -64,11 +66,14 @@ found_cut true asks outputs l n fs d x = inl x.0
 found_cut false asks outputs l n fs d x = inr (files_cut asks fs x.1.0 d.calls x.1.1 x.1.2)
 
 module _ {M G Q : Type 0} {g : Ghosts M Call Reply G Q} (means : Means)
-    (rule : Q → History → ℕ → Call → Reply) (p p1 p2 : Pass M Call Reply G Q g) (h : LaneObjects) (l : ℕ)
+    (rules : Q → Discipline) (p p1 p2 : Pass M Call Reply G Q g) (h : LaneObjects) (l : ℕ)
     (n : ℤ) (t : Attempt) (exit : ℤ) (refused : Bool)
     (duty : duty_of (mine p) ≡ Gathers l n t exit refused) (action : WorkAction)
     (of_action : slice_get means.actions t.action ≡ Some action) (none : MakesNone p p1)
     (lane : p1.lane ≡ p.lane) (new : BerthTold) where
+  abbrev rule : Q → History → ℕ → Call → Reply
+  rule q = answer_after (rules q)
+
   abbrev then : LaneObjects
   then = record h { berth = new }
 
@@ -131,7 +136,7 @@ module _ {M G Q : Type 0} {g : Ghosts M Call Reply G Q} (means : Means)
 
   pub gather_goes : (f : Found)
       → GatherActs means t (rule (basis p)) p.lane l n action (Result.Ok f) (seen p1) h.berth new
-      → ClaimsFound t f p1 p2 → Goes means rule p h p2 then
+      → ClaimsFound t f p1 p2 → Goes means rules p h p2 then
   gather_goes f acts claims = λ first k.
       let c = claims.1 in
       let k1 = claimed first k f c.0 c.1 acts claims.0 c.2 in
@@ -151,7 +156,7 @@ module _ {M G Q : Type 0} {g : Ghosts M Call Reply G Q} (means : Means)
       → GatherActs means t (rule (basis p)) p.lane l n action result (seen p1) h.berth new
       → MakesNone p1 p2 → ((d : Deed) → d.given ≡ [] → GatherDone means t l n action result d
       → HaltsBy means by (duty_of (mine p)) d) → unsaid_by (Some by) ≡ []
-      → Halts means rule by p h p2 then
+      → Halts means rules by p h p2 then
   halts result by acts no_entry did not_launched = λ first k.
       halting_more (rule (basis p)) p.lane means (mine p) (seen p) first h k by (mine p2) (seen p2)
       then acts.deed (no_entry.1 ∙ none.1) (did acts.deed acts.nothing_given acts.done)
@@ -164,12 +169,12 @@ module _ {M G Q : Type 0} {g : Ghosts M Call Reply G Q} (means : Means)
       k.all_said not_launched
 
   pub gather_cut : (e : NoMemory) → GatherActs means t (rule (basis p)) p.lane l n action (Result.Err e) (seen p1) h.berth new
-      → MakesNone p1 p2 → Halts means rule cause.NoMemory p h p2 then
+      → MakesNone p1 p2 → Halts means rules cause.NoMemory p h p2 then
   gather_cut e acts no_entry = halts (Result.Err e) cause.NoMemory acts no_entry cut refl
 
   pub claim_halts : (f : Found) (by : ProxyHalt)
       → GatherActs means t (rule (basis p)) p.lane l n action (Result.Ok f) (seen p1) h.berth new
-      → MakesNone p1 p2 → IsCauseOfClaim t f by → Halts means rule by p h p2 then
+      → MakesNone p1 p2 → IsCauseOfClaim t f by → Halts means rules by p h p2 then
   claim_halts f cause.NoMemory acts no_entry why = halts (Result.Ok f) cause.NoMemory acts no_entry
       (λ d nothing done. cut d nothing (found_cut (speaks_remote means.speech) (look_asks means t n action)
       (length action.outputs) l n why.0 d

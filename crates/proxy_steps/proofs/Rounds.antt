@@ -1,5 +1,6 @@
 -- One round: an Ask, and what holds where the lane is ordered so.
 use Rattle.std.proofs.Common.{◌≡◌, ℕ, ◌<◌, ◌≤◌, Bool, List, length, Option, Some, None, refl, ap, sym, subst, ◌∙◌, append-nil, arith}
+use Rattle.run_plan.specs.Groups.{is_remote}
 use Rattle.std.specs.Prelude.{All}
 use Rattle.seat_desk.specs.declared.machine.Machine.{Ghosts}
 use Rattle.seat_desk.specs.declared.desk.Pass.{Pass}
@@ -13,7 +14,8 @@ use Rattle.exec_journal.specs.declared.call.Call.TheVariants as call
 use Rattle.exec_journal.specs.declared.reply.Reply.{Reply}
 use Rattle.exec_journal.specs.declared.reply.Reply.TheVariants as reply
 use Rattle.exec_journal.specs.Seated.{group_for}
-use Rattle.core_contract.specs.Terms.{Terms}
+use Rattle.core_contract.specs.Ruled.{answer_after}
+use Rattle.core_contract.specs.Discipline.{Discipline}
 use Rattle.core_contract.specs.Moves.{Past, History, ask_moves}
 use Rattle.core_contract.specs.Shelf.{child_at, child_by}
 use Rattle.core_contract.specs.Laws.{RunsOn, OrderFits, OrderHolds, lines_in}
@@ -48,9 +50,12 @@ has_group plan remote settings t of_plan runs = record {
 }
 
 module _ {M G Q : Type 0} {g : Ghosts M Call Reply G Q} (means : Means)
-    (rule : Q → History → ℕ → Call → Reply) (p p1 : Pass M Call Reply G Q g) (h : LaneObjects)
+    (rules : Q → Discipline) (p p1 : Pass M Call Reply G Q g) (h : LaneObjects)
     (asks : duty_of (mine p) ≡ Asks) where
-  pub ask_goes : (r : Reply) → MakesOne call.Ask r p p1 → Goes means rule p h p1 h
+  abbrev rule : Q → History → ℕ → Call → Reply
+  rule q = answer_after (rules q)
+
+  pub ask_goes : (r : Reply) → MakesOne call.Ask r p p1 → Goes means rules p h p1 h
   ask_goes r made = λ first k.
       let e : Past = entry p.lane call.Ask r in
       keeps_more (rule (basis p)) p.lane means (mine p) (seen p) first h k (mine p1) (seen p1) h e
@@ -60,7 +65,7 @@ module _ {M G Q : Type 0} {g : Ghosts M Call Reply G Q} (means : Means)
       made.0 tt h.berth (touches_none e h.berth refl)
       (record { starts = refl; gives = refl; feeds = λ m. refl })) k.all_said
 
-  pub ask_halts : MakesNone p p1 → Halts means rule (cause.Refused call.Ask) p h p1 h
+  pub ask_halts : MakesNone p p1 → Halts means rules (cause.Refused call.Ask) p h p1 h
   ask_halts no_entry = λ first k.
       let e : Past = entry p.lane call.Halt reply.Noted in
       halting_more (rule (basis p)) p.lane means (mine p) (seen p) first h k
@@ -74,7 +79,7 @@ module _ {M G Q : Type 0} {g : Ghosts M Call Reply G Q} (means : Means)
 
   -- ---- what holds of an order
 
-  module _ {K : Type 0} (terms : Q → Terms) (told : K → ChildTold) (w : ℕ) (opened : Option ℕ)
+  module _ {K : Type 0} (told : K → ChildTold) (w : ℕ) (opened : Option ℕ)
       (lane : p.lane ≡ proxy_lane w) (shelved : IsShelved w p opened)
       (below : All (λ l. l < lines_in (seen p)) (started_in (mine p))) where
     -- what is owed, and what lies on the shelf then
@@ -93,12 +98,12 @@ module _ {M G Q : Type 0} {g : Ghosts M Call Reply G Q} (means : Means)
 
     by_launch : (r : Reply) (l : ℕ) (t : Attempt) (lines : ℕ)
         → HasGroup means.settings t → r ≡ reply.Launch l t.action t.branch t.number
-        → MakesOne call.Ask r p p1 → OrderHolds (terms (basis p)).actions (child_at w (mine p)) lines r
+        → MakesOne call.Ask r p p1 → OrderHolds (length (rules (basis p)).plan.actions) (child_at w (mine p)) lines r
         → lines_in (seen p) ≤ lines → lines_in (seen p1) ≡ lines_with r lines
         → (duty_of (mine p1) ≡ Launches l t) × (opened ≡ None) × IsShelved w p1 opened × IsNewLine l p1
         × HasGroup means.settings t
     by_launch r l t lines group is made holds later then =
-        let so = subst (λ (x : Reply). OrderHolds (terms (basis p)).actions (child_at w (mine p)) lines x) is holds in
+        let so = subst (λ (x : Reply). OrderHolds (length (rules (basis p)).plan.actions) (child_at w (mine p)) lines x) is holds in
         let more = then ∙ ap (λ (x : Reply). lines_with x lines) is in
         let first : l ≡ lines = so.0 in (
           duty_is r made ∙ ap (duty_by Asks call.Ask) is,
@@ -113,24 +118,24 @@ module _ {M G Q : Type 0} {g : Ghosts M Call Reply G Q} (means : Means)
         )
 
     abbrev FitsHere : Reply → Type 0
-    FitsHere r = OrderFits (terms (basis p)).plan ((terms (basis p)).remote w) r
+    FitsHere r = OrderFits (rules (basis p)).plan (is_remote ((rules (basis p)).kinds w)) r
 
     -- the attempt's group has a command
-    group_of_it : AreOfPlan (terms (basis p)).plan means.settings → (t : Attempt)
-        → RunsOn (terms (basis p)).plan ((terms (basis p)).remote w) t → HasGroup means.settings t
+    group_of_it : AreOfPlan (rules (basis p)).plan means.settings → (t : Attempt)
+        → RunsOn (rules (basis p)).plan (is_remote ((rules (basis p)).kinds w)) t → HasGroup means.settings t
     group_of_it of_plan t runs =
-        has_group (terms (basis p)).plan ((terms (basis p)).remote w) means.settings t of_plan runs
+        has_group (rules (basis p)).plan (is_remote ((rules (basis p)).kinds w)) means.settings t of_plan runs
 
-    pub may_obey : length means.actions ≡ (terms (basis p)).actions
-        → AreOfPlan (terms (basis p)).plan means.settings → (o : Order K)
-        → HasAsked terms told w (Some o) p p1 → MayObey means told w o p1 opened
+    pub may_obey : length means.actions ≡ (length (rules (basis p)).plan.actions)
+        → AreOfPlan (rules (basis p)).plan means.settings → (o : Order K)
+        → HasAsked rules told w (Some o) p p1 → MayObey means told w o p1 opened
     may_obey as_many of_plan (order.Launch l t) x =
         by_launch x.reply l t x.lines
         (group_of_it of_plan t (subst FitsHere x.is_ordered x.fits)) x.is_ordered x.made x.holds
         x.later x.lines_then
     may_obey as_many of_plan (order.Send l n t) x =
         let is = x.is_ordered in
-        let so = subst (λ (y : Reply). OrderHolds (terms (basis p)).actions (child_at w (mine p)) x.lines y) is x.holds in (
+        let so = subst (λ (y : Reply). OrderHolds (length (rules (basis p)).plan.actions) (child_at w (mine p)) x.lines y) is x.holds in (
           duty_is x.reply x.made ∙ ap (duty_by Asks call.Ask) is,
           sym shelved ∙ so.1,
           child_is x.reply x.made ∙ ap (λ (y : Reply). child_by opened (ask_moves y)) is,
@@ -139,14 +144,14 @@ module _ {M G Q : Type 0} {g : Ghosts M Call Reply G Q} (means : Means)
         )
     may_obey as_many of_plan (order.Cancel l n) x =
         let is = x.is_ordered in
-        let so = subst (λ (y : Reply). OrderHolds (terms (basis p)).actions (child_at w (mine p)) x.lines y) is x.holds in (
+        let so = subst (λ (y : Reply). OrderHolds (length (rules (basis p)).plan.actions) (child_at w (mine p)) x.lines y) is x.holds in (
           duty_is x.reply x.made ∙ ap (duty_by Asks call.Ask) is,
           sym shelved ∙ so,
           child_is x.reply x.made ∙ ap (λ (y : Reply). child_by opened (ask_moves y)) is,
         )
     may_obey as_many of_plan (order.Gather y) x =
         let is = x.is_ordered in
-        let so = subst (λ (y : Reply). OrderHolds (terms (basis p)).actions (child_at w (mine p)) x.lines y) is x.holds in (
+        let so = subst (λ (y : Reply). OrderHolds (length (rules (basis p)).plan.actions) (child_at w (mine p)) x.lines y) is x.holds in (
           duty_is x.reply x.made ∙ ap (duty_by Asks call.Ask) is,
           child_is x.reply x.made ∙ ap (λ (y : Reply). child_by opened (ask_moves y)) is,
           subst (λ (n : ℕ). y.attempt.action < n) (sym as_many) so,
@@ -154,7 +159,7 @@ module _ {M G Q : Type 0} {g : Ghosts M Call Reply G Q} (means : Means)
         )
     may_obey as_many of_plan (order.Kill l k) x =
         let is = x.is_ordered.0.1 in
-        let so = subst (λ (y : Reply). OrderHolds (terms (basis p)).actions (child_at w (mine p)) x.lines y) is x.holds in (
+        let so = subst (λ (y : Reply). OrderHolds (length (rules (basis p)).plan.actions) (child_at w (mine p)) x.lines y) is x.holds in (
           duty_is x.reply x.made ∙ ap (duty_by Asks call.Ask) is,
           sym shelved ∙ so,
           child_is x.reply x.made ∙ ap (λ (y : Reply). child_by opened (ask_moves y)) is,
@@ -162,11 +167,11 @@ module _ {M G Q : Type 0} {g : Ghosts M Call Reply G Q} (means : Means)
         )
 
     -- where it was told to stop
-    pub stopped : HasAsked {K = K} terms told w None p p1
+    pub stopped : HasAsked {K = K} rules told w None p p1
         → (duty_of (mine p1) ≡ Left) × (opened ≡ None) × IsShelved w p1 opened
     stopped x =
         let is = x.is_ordered in
-        let so = subst (λ (y : Reply). OrderHolds (terms (basis p)).actions (child_at w (mine p)) x.lines y) is x.holds in (
+        let so = subst (λ (y : Reply). OrderHolds (length (rules (basis p)).plan.actions) (child_at w (mine p)) x.lines y) is x.holds in (
           duty_is x.reply x.made ∙ ap (duty_by Asks call.Ask) is,
           sym shelved ∙ so,
           child_is x.reply x.made ∙ ap (λ (y : Reply). child_by opened (ask_moves y)) is,

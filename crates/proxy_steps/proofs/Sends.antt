@@ -18,6 +18,8 @@ use Rattle.exec_journal.specs.declared.reply.Reply.TheVariants as reply
 use Rattle.remote_messages.specs.declared.work.WorkAction.{WorkAction}
 use Rattle.sandbox_rooms.specs.Calls.{Made}
 use Rattle.order_acts.specs.Acts.{Gave, IsFeedFault, RoomFailed, FeedFailed}
+use Rattle.core_contract.specs.Discipline.{Discipline}
+use Rattle.core_contract.specs.Ruled.{answer_after}
 use Rattle.core_contract.specs.Moves.{History}
 use Rattle.core_contract.specs.Duties.{Duty, Sends, Cancels, duty_of}
 use Rattle.proxy_deeds.specs.Settings.{Means}
@@ -89,9 +91,12 @@ cancel_room speech n write.TooLarge given done x = done
 -- ---- a Send, by the feed of the open line
 
 module _ {M G Q : Type 0} {g : Ghosts M Call Reply G Q} (means : Means)
-    (rule : Q → History → ℕ → Call → Reply) (p p1 p2 : Pass M Call Reply G Q g) (h : LaneObjects) (o : Open)
+    (rules : Q → Discipline) (p p1 p2 : Pass M Call Reply G Q g) (h : LaneObjects) (o : Open)
     (is_open : h.opened ≡ Some o) (l : ℕ) (n : ℤ) (of : o.line ≡ l) (none : MakesNone p p1)
     (lane : p1.lane ≡ p.lane) (new : BerthTold) (after : FeedTold) where
+  abbrev rule : Q → History → ℕ → Call → Reply
+  rule q = answer_after (rules q)
+
   abbrev then : LaneObjects
   then = record h { berth = new; opened = Some (record { line = o.line; feed = after }) }
 
@@ -155,7 +160,7 @@ module _ {M G Q : Type 0} {g : Ghosts M Call Reply G Q} (means : Means)
       (of_action : slice_get means.actions t.action ≡ Some action) where
     pub send_goes : (result : Result Written NoMemory)
         → SendActs means t (rule (basis p)) p.lane l n action result (seen p1) h.berth new o.feed after
-        → TellsWrote l n result p1 p2 → Goes means rule p h p2 then
+        → TellsWrote l n result p1 p2 → Goes means rules p h p2 then
     send_goes (Result.Ok how) acts tells = λ first k.
         wrote first k acts.deed acts.on_line acts.told tells.0 how acts.berth acts.feed tells.1
         (sent_deed means l n t action how acts.deed (duty_of (mine p)) duty of_action acts.on_line
@@ -164,7 +169,7 @@ module _ {M G Q : Type 0} {g : Ghosts M Call Reply G Q} (means : Means)
 
     pub send_halts : (result : Result Written NoMemory) (by : ProxyHalt)
         → SendActs means t (rule (basis p)) p.lane l n action result (seen p1) h.berth new o.feed after
-        → MakesNone p1 p2 → IsCauseOf l n result by → Halts means rule by p h p2 then
+        → MakesNone p1 p2 → IsCauseOf l n result by → Halts means rules by p h p2 then
     send_halts result by acts no_entry why = λ first k.
         halts first k acts.deed acts.on_line acts.told no_entry.0 by (RoomFailed result)
         (FeedFailed result) acts.berth acts.feed no_entry.1
@@ -186,7 +191,7 @@ module _ {M G Q : Type 0} {g : Ghosts M Call Reply G Q} (means : Means)
     })
 
     pub cancel_goes : (result : Result Written NoMemory) → CancelActs means.speech n result o.feed after
-        → TellsWrote l n result p1 p2 → Goes means rule p h p2 then
+        → TellsWrote l n result p1 p2 → Goes means rules p h p2 then
     cancel_goes (Result.Ok how) acts tells = λ first k.
         wrote first k (deed_for acts.0) refl tt tells.0 how
         (nothing_called (RoomFailed (Result.Ok how)) (cancel_room means.speech n how acts.0 acts.1)) acts.2 tells.1
@@ -196,7 +201,7 @@ module _ {M G Q : Type 0} {g : Ghosts M Call Reply G Q} (means : Means)
 
     pub cancel_halts : (result : Result Written NoMemory) (by : ProxyHalt)
         → CancelActs means.speech n result o.feed after → MakesNone p1 p2 → IsCauseOf l n result by
-        → Halts means rule by p h p2 then
+        → Halts means rules by p h p2 then
     cancel_halts (Result.Ok how) by acts no_entry why = λ first k.
         halts first k (deed_for acts.0) refl tt no_entry.0 by ⊥ (IsFeedFault how)
         (nothing_called ⊥ (λ x. x)) acts.2 no_entry.1

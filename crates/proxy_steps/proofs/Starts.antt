@@ -20,6 +20,8 @@ use Rattle.exec_journal.specs.declared.reply.Reply.TheVariants as reply
 use Rattle.exec_journal.specs.Entries.{is_done}
 use Rattle.sandbox_rooms.specs.Calls.{Made}
 use Rattle.order_acts.specs.Acts.{LaunchedBy}
+use Rattle.core_contract.specs.Discipline.{Discipline}
+use Rattle.core_contract.specs.Ruled.{answer_after}
 use Rattle.core_contract.specs.Moves.{Past, History}
 use Rattle.core_contract.specs.Laws.{lines_in}
 use Rattle.core_contract.specs.Duties.{Duty, Launches, duty_of}
@@ -58,8 +60,11 @@ new_fed l feed new =
     record { of_line = new.of_line; given = new.nothing_given; faults = omega arith }
 
 module _ {M G Q : Type 0} {g : Ghosts M Call Reply G Q} (means : Means)
-    (rule : Q → History → ℕ → Call → Reply) (p p2 : Pass M Call Reply G Q g) (h : LaneObjects) (l : ℕ)
+    (rules : Q → Discipline) (p p2 : Pass M Call Reply G Q g) (h : LaneObjects) (l : ℕ)
     (t : Attempt) (duty : duty_of (mine p) ≡ Launches l t) (none : h.opened ≡ None) where
+  abbrev rule : Q → History → ℕ → Call → Reply
+  rule q = answer_after (rules q)
+
   -- a Halt, whatever was called went on the berth
   module _ (by : ProxyHalt) (calls : List BerthCall) (F : Type 0) (new : BerthTold)
       (made : Made calls F h.berth new) (no_entry : MakesNone p p2)
@@ -75,7 +80,7 @@ module _ {M G Q : Type 0} {g : Ghosts M Call Reply G Q} (means : Means)
     by_duty = subst (λ (s : Duty). HaltsBy means by s (calls_deed calls)) (sym duty) did
 
     -- no process was started
-    pub launch_halts : unsaid_by (Some by) ≡ [] → Halts means rule by p h p2 (record h { berth = new })
+    pub launch_halts : unsaid_by (Some by) ≡ [] → Halts means rules by p h p2 (record h { berth = new })
     launch_halts not_started = λ first k.
         halting_more (rule (basis p)) p.lane means (mine p) (seen p) first h k by (mine p2) (seen p2)
         (record h { berth = new }) (calls_deed calls) no_entry.1 by_duty
@@ -97,7 +102,7 @@ module _ {M G Q : Type 0} {g : Ghosts M Call Reply G Q} (means : Means)
       }
 
       pub unsaid_halts : unsaid_by (Some by) ≡ l ∷ []
-          → Halts means rule by p h p2 (record h { berth = then; unsaid = Some back })
+          → Halts means rules by p h p2 (record h { berth = then; unsaid = Some back })
       unsaid_halts is_started = λ first k.
           halting_with (rule (basis p)) p.lane means (mine p) (seen p) first h k by (mine p2)
           (seen p2) (record h { berth = then; unsaid = Some back }) (calls_deed calls) (l ∷ [])
@@ -121,7 +126,7 @@ module _ {M G Q : Type 0} {g : Ghosts M Call Reply G Q} (means : Means)
         (sym duty) (launch_deed means t l how calls command of_group did)
 
     -- no process was started
-    pub fault_goes : is_done how ≡ false → F → Goes means rule p h p2 (record h { berth = new })
+    pub fault_goes : is_done how ≡ false → F → Goes means rules p h p2 (record h { berth = new })
     fault_goes fault failed = λ first k.
         keeps_more (rule (basis p)) p.lane means (mine p) (seen p) first h k (mine p2) (seen p2)
         (record h { berth = new }) report (calls_deed calls) told.1 deed_is
@@ -152,7 +157,7 @@ module _ {M G Q : Type 0} {g : Ghosts M Call Reply G Q} (means : Means)
     -- one was
     pub started_goes : how ≡ start.Done → (feed : FeedTold) → IsNewFeed l feed
         → All (λ n. n < l) (started_in (mine p)) → l < lines_in (seen p)
-        → Goes means rule p h p2
+        → Goes means rules p h p2
         (record h { berth = new; opened = Some (record { line = l; feed = feed }) })
     started_goes is feed fed fresh ordered = λ first k.
         keeps_more (rule (basis p)) p.lane means (mine p) (seen p) first h k (mine p2) (seen p2)

@@ -17,7 +17,8 @@ use Rattle.exec_journal.specs.declared.call.CommitEnd.{CommitEnd}
 use Rattle.exec_journal.specs.declared.call.Found.{Found}
 use Rattle.exec_journal.specs.declared.call.Found.TheVariants as found
 use Rattle.seat_desk.specs.History.{entry, StartsWith}
-use Rattle.core_contract.specs.Terms.{Terms}
+use Rattle.core_contract.specs.Ruled.{answer_after}
+use Rattle.core_contract.specs.Discipline.{Discipline}
 use Rattle.core_contract.specs.Moves.{History}
 use Rattle.core_contract.specs.Shelf.{child_at}
 use Rattle.core_contract.specs.Laws.{lines_in}
@@ -118,23 +119,23 @@ module _ {M G Q : Type 0} {g : Ghosts M Call Reply G Q} where
   abbrev pub IsNewLine : ℕ → Pass M Call Reply G Q g → Type 0
   IsNewLine l p = All (λ k. k < l) (started_in (mine p)) × (l < lines_in (seen p))
 
-  module _ (means : Means) (rule : Q → History → ℕ → Call → Reply) where
+  module _ (means : Means) (rules : Q → Discipline) where
     -- what the lane has done holds of what it has in its hands, whatever its berth had told at first
     abbrev pub Goes : Pass M Call Reply G Q g → LaneObjects → Pass M Call Reply G Q g → LaneObjects → Type 0
     Goes p h p' h' = (first : BerthTold)
-        → Keeps (rule (basis p)) p.lane means (mine p) (seen p) first h
-        → Keeps (rule (basis p)) p.lane means (mine p') (seen p') first h'
+        → Keeps (answer_after (rules (basis p))) p.lane means (mine p) (seen p) first h
+        → Keeps (answer_after (rules (basis p))) p.lane means (mine p') (seen p') first h'
 
     -- so it does, of some berth at first
     abbrev pub SomeKeeps : Pass M Call Reply G Q g → LaneObjects → Type 0
     SomeKeeps p h = (first : BerthTold)
-        × Keeps (rule (basis p)) p.lane means (mine p) (seen p) first h
+        × Keeps (answer_after (rules (basis p))) p.lane means (mine p) (seen p) first h
 
     abbrev pub Halts : ProxyHalt → Pass M Call Reply G Q g → LaneObjects → Pass M Call Reply G Q g → LaneObjects
         → Type 0
     Halts cause p h p' h' = (first : BerthTold)
-        → Keeps (rule (basis p)) p.lane means (mine p) (seen p) first h
-        → Halting (rule (basis p)) p.lane means cause (mine p') (seen p') first h'
+        → Keeps (answer_after (rules (basis p))) p.lane means (mine p) (seen p) first h
+        → Halting (answer_after (rules (basis p))) p.lane means cause (mine p') (seen p') first h'
 
   -- the shelf has the child that it had, and the line that was open is
   abbrev pub SameShelf : {B D K : Type 0} → ℕ → Pass M Call Reply G Q g → Hands B D K
@@ -152,8 +153,8 @@ module _ {M G Q : Type 0} {g : Ghosts M Call Reply G Q} where
 
   -- ---- the Claim of what was found
 
-  abbrev pub OwesClaim : (Q → Terms) → ℕ → Attempt → Found → Pass M Call Reply G Q g → Type 0
-  OwesClaim terms w t f p = MayMake terms w p (claim_of t f)
+  abbrev pub OwesClaim : (Q → Discipline) → ℕ → Attempt → Found → Pass M Call Reply G Q g → Type 0
+  OwesClaim rules w t f p = MayMake rules w p (claim_of t f)
 
   -- The Claim was made, and where files were granted, their Committed after it.
   abbrev pub ClaimsFound : Attempt → Found → Pass M Call Reply G Q g → Pass M Call Reply G Q g
@@ -183,24 +184,24 @@ module _ {M G Q : Type 0} {g : Ghosts M Call Reply G Q} where
 
   -- ---- a round, and the whole lane
 
-  module _ (means : Means) (rule : Q → History → ℕ → Call → Reply) where
+  module _ (means : Means) (rules : Q → Discipline) where
     -- there may be more, or the lane was told to stop, and no line is open
     abbrev pub GoesTo : Bool → Pass M Call Reply G Q g → LaneObjects → Pass M Call Reply G Q g → LaneObjects
         → Type 0
-    GoesTo true p h p' h' = (duty_of (mine p') ≡ Asks) × Goes means rule p h p' h'
+    GoesTo true p h p' h' = (duty_of (mine p') ≡ Asks) × Goes means rules p h p' h'
     GoesTo false p h p' h' =
-        (duty_of (mine p') ≡ Left) × (h'.opened ≡ None) × Goes means rule p h p' h'
+        (duty_of (mine p') ≡ Left) × (h'.opened ≡ None) × Goes means rules p h p' h'
 
     -- the lane has ended so, if what it had done by then held
     abbrev pub Finishes : Option ProxyHalt → Pass M Call Reply G Q g → LaneObjects → Pass M Call Reply G Q g
         → LaneObjects → Type 0
     Finishes halted p h p' h' = (first : BerthTold)
-        → Keeps (rule (basis p)) p.lane means (mine p) (seen p) first h
-        → Ended means (rule (basis p)) p.lane (mine p') (seen p') first h'.berth h'.ended
+        → Keeps (answer_after (rules (basis p))) p.lane means (mine p) (seen p) first h
+        → Ended means (answer_after (rules (basis p))) p.lane (mine p') (seen p') first h'.berth h'.ended
         h'.unsaid halted
 
     -- the lane has served its berth
     abbrev pub IsServedBy : BerthTold → BerthTold → List Returned → Option Returned → Option ProxyHalt
         → Pass M Call Reply G Q g → Type 0
     IsServedBy old new feeds unsaid halted p =
-        Ended means (rule (basis p)) p.lane (mine p) (seen p) old new feeds unsaid halted
+        Ended means (answer_after (rules (basis p))) p.lane (mine p) (seen p) old new feeds unsaid halted

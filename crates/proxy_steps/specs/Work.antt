@@ -4,7 +4,8 @@ use Rattle.run_plan.specs.declared.plan.Maker.{Maker}
 use Rattle.remote_messages.specs.declared.work.Origin.{Origin}
 use Rattle.remote_messages.specs.declared.work.Origin.TheVariants as origin
 use Rattle.remote_messages.specs.declared.work.WorkAction.{WorkAction}
-use Rattle.core_contract.specs.Terms.{Terms}
+use Rattle.run_plan.specs.declared.plan.Plan.{Plan}
+use Rattle.core_contract.specs.Discipline.{makers_in, outputs_in}
 use Rattle.core_contract.specs.Duties.{is_maker}
 
 -- an input that another action makes is one of these
@@ -18,8 +19,8 @@ pub record IsWork (outputs : List (List ℕ)) (makers : List Maker) (action : Wo
   pub few : length action.outputs < 2 ^ 32
   pub made : All (λ input. IsMadeBy makers input.origin) action.inputs
 
--- the work of each action, by the terms
-pub record IsWorkOf (terms : Terms) (actions : List WorkAction) : Type 0 where
-  pub as_many : length actions ≡ terms.actions
+-- the work of each action of this plan
+pub record IsWorkOf (p : Plan) (actions : List WorkAction) : Type 0 where
+  pub as_many : length actions ≡ length p.actions
   pub each : (a : ℕ) (x : WorkAction) → slice_get actions a ≡ Some x
-      → IsWork (terms.outputs a) (terms.makers a) x
+      → IsWork (outputs_in p a) (makers_in p a) x

@@ -62,8 +62,8 @@ where
         start: &start,
     };
     let mut callers = Callers {
-        reading: Caller::new(&desk, &bells, reading, READER),
-        working: Caller::new(&desk, &bells, taking, TAKER),
+        reading: Caller::new(&desk, &bells, reading),
+        working: Caller::new(&desk, &bells, taking),
     };
     let (_, finish) = run_both(rt, &hall, &mut callers, input, out, shop);
     let Callers { reading, working } = callers;

@@ -11,8 +11,9 @@ use Rattle.exec_journal.specs.declared.call.CommitEnd.{CommitEnd}
 use Rattle.exec_journal.specs.declared.call.CommitEnd.TheVariants as commit
 use Rattle.exec_journal.specs.declared.call.HowEnded.{HowEnded}
 use Rattle.exec_journal.specs.declared.call.HowEnded.TheVariants as ending
-use Rattle.history_laws.specs.Owed.{outputs_in}
-use Rattle.history_laws.specs.Ruled.{answer_after}
+use Rattle.exec_journal.specs.Entry.{Entry}
+use Rattle.core_contract.specs.Discipline.{Discipline, outputs_in}
+use Rattle.core_contract.specs.Ruled.{answer_after}
 use Rattle.lane_laws.specs.Pipes.{PipeOf, end_on, said_on}
 use Rattle.lane_runs.specs.Runs.{line_at}
 use Rattle.outside.specs.Lists.{Adds, Tells}
@@ -34,7 +35,7 @@ use Rattle.run_tasks.specs.declared.task.Task.{Task}
 use Rattle.tap_lane.specs.Heard.{EndedBy, SaysTo}
 use Rattle.tool_words.specs.declared.options.Options.{Options}
 use Rattle.worker_run.specs.Ends.{HasCourseBy, HasLed, LeavesNew, Puts, UnlessEarly}
-use Rattle.worker_run.specs.Headline.{HasOuts, HasPipes, HasRooms, Head, RunKeeps, TaskKeeps, UnlessRun, own_head}
+use Rattle.worker_run.specs.Headline.{HasOuts, HasPipes, HasRooms, RunKeeps, TaskKeeps, UnlessRun, own_kept, own_rules}
 use Rattle.worker_run.specs.Histories.{history_of}
 use Rattle.worker_run.specs.Lanes.{IsNewBerth}
 use Rattle.worker_run.specs.Seen.{EndedTold, Left, nothing_left}
@@ -119,15 +120,15 @@ all_heard t x pipes tell l line is =
 
 -- ---- the berths
 
-all_served : (head : Task → Head) (t : Task) (x : Left) → HasRooms head t x → LeftTells x
-    → AreServed head t x
-all_served head t x rooms tell = record {
+all_served : (rules : Task → Discipline) (t : Task) (x : Left) → HasRooms rules t x → LeftTells x
+    → AreServed rules t x
+all_served rules t x rooms tell = record {
   settings = rooms.settings;
   of_task = rooms.of_task;
-  as_many = as_many_rooms (answer_after (head t).discipline) rooms.settings t.work.actions
+  as_many = as_many_rooms (answer_after (rules t)) rooms.settings t.work.actions
       (history_of x.journal) x.lines tell.lines 0 t.speeches.items rooms.before x.berths x.unsaid rooms.rooms
       ∙ rooms.new.as_many;
-  served = rooms_served (answer_after (head t).discipline) rooms.settings t.work.actions
+  served = rooms_served (answer_after (rules t)) rooms.settings t.work.actions
       (history_of x.journal) x.lines tell.lines 0 t.speeches.items rooms.before x.berths x.unsaid rooms.rooms
       (λ i b is. subst (λ (v : ℕ). IsNewBerth v b) (let e : i ≡ 0 + i = omega arith in e) (rooms.new.each i b is))
       tell.berths tell.unsaid;
@@ -152,12 +153,13 @@ unless_run P Q (Some t) p f = tt
 
 -- ---- all of it
 
-module _ (head : Task → Head) (before : FloorTold) (end : EndedTold) where
-  pub whole_task : TaskKeeps head before end → AllTell end → WholeTask head end
+module _ (rules : Task → Discipline) (orders : Task → List Entry → Type 0) (before : FloorTold)
+    (end : EndedTold) where
+  pub whole_task : TaskKeeps rules orders before end → AllTell end → WholeTask rules end
   whole_task keeps tell = record {
     untouched = unless_run (LeavesNew end.fault end.left) (IsUntouched end.left) end.task keeps.nothing
         (λ new. untouched end.fault end.left new tell.left);
-    served = if_some end.task keeps.rooms (λ t rooms. all_served head t end.left rooms tell.left);
+    served = if_some end.task keeps.rooms (λ t rooms. all_served rules t end.left rooms tell.left);
     heard = if_some end.task keeps.pipes (λ t pipes. all_heard t end.left pipes tell.left);
     written = if_some end.task keeps.outs (λ t outs. all_written t end.left outs tell.left);
   }
@@ -167,7 +169,7 @@ pub whole_run : (options : Option Options) (before : FloorTold) (told : List Flo
     → before.log ≡ Some told → RunKeeps options before end → AllTell end → WholeRun options told end
 whole_run options before told end was keeps tell = record {
   read = whole_reads (Course options) (λ made. made.0) before told end was keeps.course tell.floor;
-  objects = whole_task own_head before end keeps.task tell;
+  objects = whole_task own_rules own_kept before end keeps.task tell;
 }
 
 -- ---- standard output

@@ -8,8 +8,8 @@ use Rattle.exec_journal.specs.declared.call.HowEnded.TheVariants as ending
 use Rattle.core_contract.specs.Duties.{proxy_lane}
 use Rattle.core_contract.specs.Moves.{History}
 use Rattle.core_contract.specs.Shelf.{Spot, Fresh, Away, Back, place_at}
-use Rattle.history_laws.specs.Owed.{outputs_in}
-use Rattle.history_laws.specs.Ruled.{answer_after}
+use Rattle.core_contract.specs.Discipline.{Discipline, outputs_in}
+use Rattle.core_contract.specs.Ruled.{answer_after}
 use Rattle.lane_laws.specs.Numbers.{In}
 use Rattle.lane_laws.specs.Pipes.{end_on, said_on}
 use Rattle.lane_runs.specs.Runs.{line_at}
@@ -28,7 +28,7 @@ use Rattle.seat_desk.specs.History.{calls_by}
 use Rattle.tap_lane.specs.Heard.{SaysTo}
 use Rattle.tool_words.specs.declared.options.Options.{Options}
 use Rattle.worker_run.specs.Ends.{HasLed, UnlessEarly}
-use Rattle.worker_run.specs.Headline.{Head, OnRun, UnlessRun, own_head}
+use Rattle.worker_run.specs.Headline.{OnRun, UnlessRun, own_rules}
 use Rattle.worker_run.specs.Histories.{history_of}
 use Rattle.worker_run.specs.Lanes.{AreSettingsOf}
 use Rattle.worker_run.specs.Seen.{EndedTold, Left}
@@ -99,11 +99,11 @@ AreHeard t x = (l : ℕ) (line : LineTold) → line_at x.lines l ≡ Some line
 
 -- each berth was asked what its lane's orders ask, by the speech of the berth and the settings of the
 -- task
-pub record AreServed (head : Task → Head) (t : Task) (x : Left) : Type 0 where
+pub record AreServed (rules : Task → Discipline) (t : Task) (x : Left) : Type 0 where
   pub settings : Settings
   pub of_task : AreSettingsOf t settings
-  pub as_many : length x.berths ≡ (head t).lanes
-  pub served : AllServed (answer_after (head t).discipline) settings t.work.actions
+  pub as_many : length x.berths ≡ (rules t).served
+  pub served : AllServed (answer_after (rules t)) settings t.work.actions
       (history_of x.journal) x.lines 0 t.speeches.items x.berths x.unsaid
 
 -- ---- no run
@@ -115,18 +115,18 @@ pub record IsUntouched (x : Left) : Type 0 where
 
 -- ---- all of it
 
--- What the objects of a run by this head were asked and what they gave, all of it, by the one history
+-- What the objects of a run by these rules were asked and what they gave, all of it, by the one history
 -- that the journal is; and nothing where no run is told.
-pub record WholeTask (head : Task → Head) (end : EndedTold) : Type 0 where
+pub record WholeTask (rules : Task → Discipline) (end : EndedTold) : Type 0 where
   pub untouched : UnlessRun end.task (IsUntouched end.left)
-  pub served : OnRun end (AreServed head)
+  pub served : OnRun end (AreServed rules)
   pub heard : OnRun end AreHeard
   pub written : OnRun end AreWritten
 
 -- What a run of a list leaves, by the words' options, where the floor had told these reads before.
 pub record WholeRun (options : Option Options) (before : List FloorRead) (end : EndedTold) : Type 0 where
   pub read : HasRead options before end
-  pub objects : WholeTask own_head end
+  pub objects : WholeTask own_rules end
 
 -- ---- standard output
 

@@ -5,7 +5,7 @@ use Rattle.outside.specs.declared.floor.FloorRead.{FloorRead}
 use Rattle.real_run.proofs.Whole.{whole_reads, whole_task}
 use Rattle.real_run.specs.Tells.{AllTell}
 use Rattle.real_shared.specs.Shared.{WholeShared}
-use Rattle.shared_runs.specs.Headline.{SharedKeeps, SharedRead, shared_head}
+use Rattle.shared_runs.specs.Headline.{SharedKeeps, SharedRead, shared_kept, shared_rules}
 use Rattle.shared_tasks.specs.declared.words.SharedOptions.{SharedOptions}
 use Rattle.worker_run.specs.Seen.{EndedTold}
 
@@ -15,5 +15,5 @@ pub whole_shared : (options : Option SharedOptions) (before : FloorTold) (told :
 whole_shared options before told end was keeps tell = record {
   sharing = keeps.sharing;
   read = whole_reads (SharedRead keeps.sharing options) (λ made. made.task) before told end was keeps.course tell.floor;
-  objects = whole_task (shared_head keeps.sharing) before end keeps.task tell;
+  objects = whole_task (shared_rules keeps.sharing) (shared_kept keeps.sharing) before end keeps.task tell;
 }

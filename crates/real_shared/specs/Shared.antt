@@ -2,7 +2,7 @@
 use Rattle.std.specs.Prelude.{List, Option}
 use Rattle.outside.specs.declared.floor.FloorRead.{FloorRead}
 use Rattle.real_run.specs.Whole.{HasReadBy, WholeTask}
-use Rattle.shared_runs.specs.Headline.{SharedRead, Sharing, shared_head}
+use Rattle.shared_runs.specs.Headline.{SharedRead, Sharing, shared_rules}
 use Rattle.shared_tasks.specs.declared.words.SharedOptions.{SharedOptions}
 use Rattle.worker_run.specs.Seen.{EndedTold}
 
@@ -11,4 +11,4 @@ pub record WholeShared (options : Option SharedOptions) (before : List FloorRead
     : Type 0 where
   pub sharing : Sharing
   pub read : HasReadBy (SharedRead sharing options) (λ made. made.task) before end
-  pub objects : WholeTask (shared_head sharing) end
+  pub objects : WholeTask (shared_rules sharing) end

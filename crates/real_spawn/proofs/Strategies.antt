@@ -6,7 +6,7 @@ use Rattle.real_run.proofs.Each.{it_is}
 use Rattle.real_run.proofs.Whole.{told_so, whole_reads, whole_task}
 use Rattle.real_run.specs.Tells.{AllTell}
 use Rattle.real_spawn.specs.Strategic.{WholeStrategic}
-use Rattle.spawn_runs.specs.Headline.{SpawnRead, StrategicKeeps, spawn_head}
+use Rattle.spawn_runs.specs.Headline.{SpawnRead, StrategicKeeps, spawn_kept, spawn_rules}
 use Rattle.spawn_strategies.specs.declared.types.SpawnOptions.{SpawnOptions}
 use Rattle.worker_run.specs.Seen.{EndedTold}
 
@@ -17,7 +17,7 @@ pub whole_strategic : {W : Type 0} (options : Option SpawnOptions) (before : Flo
 whole_strategic options before told ticks pacer after end None was keeps tell = record {
   delay = keeps.delay;
   read = whole_reads (SpawnRead keeps.delay options) (λ made. made.task) before told end was keeps.course tell.floor;
-  objects = whole_task (spawn_head keeps.delay) before end keeps.task tell;
+  objects = whole_task (spawn_rules keeps.delay) (spawn_kept keeps.delay) before end keeps.task tell;
 }
 whole_strategic options before told ticks pacer after end (Some action) was keeps tell = record {
   reads = keeps.course.0;

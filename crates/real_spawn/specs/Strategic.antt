@@ -2,7 +2,7 @@
 use Rattle.std.specs.Prelude.{◌≡◌, ℕ, List, ◌++◌, Option, Some, None, Err}
 use Rattle.outside.specs.declared.floor.FloorRead.{FloorRead}
 use Rattle.real_run.specs.Whole.{HasReadBy, WholeTask}
-use Rattle.spawn_runs.specs.Headline.{SpawnRead, spawn_head}
+use Rattle.spawn_runs.specs.Headline.{SpawnRead, spawn_rules}
 use Rattle.spawn_strategies.specs.declared.types.SpawnOptions.{SpawnOptions}
 use Rattle.spawn_tasks.specs.Course.{SpawnCourse}
 use Rattle.spawn_tasks.specs.declared.faults.NoSpawn.TheVariants as no
@@ -13,7 +13,7 @@ pub record WholeSpawn (options : Option SpawnOptions) (before : List FloorRead) 
     : Type 0 where
   pub delay : ℕ
   pub read : HasReadBy (SpawnRead delay options) (λ made. made.task) before end
-  pub objects : WholeTask (spawn_head delay) end
+  pub objects : WholeTask (spawn_rules delay) end
 
 -- These are all reads since then, by which no strategy supports this action, the first such.
 pub record ReadRefused (options : Option SpawnOptions) (before : List FloorRead) (end : EndedTold)

@@ -12,7 +12,7 @@ use Rattle.run_tasks.specs.Course.{Course, Made}
 use Rattle.run_tasks.specs.declared.task.Task.{Task}
 use Rattle.tool_words.specs.declared.options.Options.{Options}
 use Rattle.worker_run.specs.Ends.{HasCourse, HasLed, IsLate, LeadsTo, LeavesNew, TellsTask, UnlessEarly, is_halted}
-use Rattle.worker_run.specs.Headline.{HasOuts, HasPipes, HasRace, HasRooms, HasUnsaid, IsAccounted, IsComplete, IsKept, IsLegal, IsPaired, IsSound, IsStopped, OnRun, RunKeeps, TaskKeeps, UnlessRun, own_head}
+use Rattle.worker_run.specs.Headline.{AreRulesOf, HasOuts, HasPipes, HasRace, HasRooms, HasUnsaid, IsAccounted, IsComplete, IsKept, IsLegal, IsOwnLegal, IsPaired, IsSound, IsStopped, OnRun, RunKeeps, TaskKeeps, UnlessRun, own_kept, own_rules}
 use Rattle.worker_run.specs.Histories.{history_of}
 use Rattle.worker_run.specs.Seen.{EndedTold, Left}
 
@@ -67,7 +67,7 @@ module _ (options : Option Options) (before : FloorTold) (end next : EndedTold) 
     (fault_is : next.fault ≡ Some f) (status_is : next.status ≡ fault_status f)
     (task_is : next.task ≡ end.task) (left_is : next.left ≡ end.left)
     (floor_is : next.floor ≡ end.floor) where
-  was : TaskKeeps own_head before end
+  was : TaskKeeps own_rules own_kept before end
   was = all.task
 
   told_before : TellsTask None end.task
@@ -85,7 +85,7 @@ module _ (options : Option Options) (before : FloorTold) (end next : EndedTold) 
   on : (P : Task → Left → Type 0) → OnRun end P → OnRun next P
   on P p = rw (task_is, left_is) p
 
-  task_late : TaskKeeps own_head before next
+  task_late : TaskKeeps own_rules own_kept before next
   task_late = record {
     told = rw (fault_is, task_is) (told_late f end.task late told_before);
     sound = on IsSound was.sound;
@@ -95,17 +95,18 @@ module _ (options : Option Options) (before : FloorTold) (end next : EndedTold) 
       left = rw (floor_is, left_is) was.made.left;
       few = rw (floor_is) was.made.few;
     };
-    legal = on (IsLegal own_head) was.legal;
+    of_task = on (AreRulesOf own_rules) was.of_task;
+    legal = on (IsLegal own_rules) was.legal;
     race = on HasRace was.race;
     paired = on IsPaired was.paired;
-    kept = on (IsKept own_head) was.kept;
+    kept = on (IsKept own_kept) was.kept;
     halts = rw (fault_is, task_is, left_is, halted_late f late) halts_before;
     flag = rw (left_is) was.flag;
-    stopped = on (IsStopped own_head) was.stopped;
+    stopped = on (IsStopped own_rules) was.stopped;
     accounted = on IsAccounted was.accounted;
     complete = on IsComplete was.complete;
     pipes = on HasPipes was.pipes;
-    rooms = on (HasRooms own_head) was.rooms;
+    rooms = on (HasRooms own_rules) was.rooms;
     outs = on HasOuts was.outs;
     unsaid = on HasUnsaid was.unsaid;
     success = λ is. absurd (cc (is, fault_is));
@@ -123,4 +124,5 @@ module _ (options : Option Options) (before : FloorTold) (end next : EndedTold) 
     course = rw (fault_is, task_is, floor_is) (course_late options before end.floor f end.task
         late (course_before all.course));
     task = task_late;
+    legal = on IsOwnLegal all.legal;
   }

@@ -19,8 +19,6 @@ use Rattle.run_loading.specs.Reads.{Reads}
 use Rattle.run_plan.specs.Groups.{berths, kind_of}
 use Rattle.run_plan.specs.declared.plan.Plan.{Plan}
 use Rattle.run_plan.specs.declared.plan.Speech.{Speech}
-use Rattle.core_contract.specs.Disciplines.{own_discipline}
-use Rattle.history_laws.specs.Ruled.{terms_in}
 use Rattle.tool_words.specs.declared.options.Options.{Options}
 use Rattle.run_tasks.specs.Tasks.{HasWork, SpeechesFit, plan_by}
 use Rattle.run_tasks.specs.declared.task.Task.{Task}
@@ -63,7 +61,7 @@ as_many_parts xs plan extra executor parts is = ap length is ∙ parts_law xs pl
 -- ---- work
 
 abbrev FitsWork : Plan → List WorkAction → Type 0
-FitsWork plan ws = IsWorkOf (terms_in (own_discipline plan)) ws
+FitsWork plan ws = IsWorkOf plan ws
 
 planned_work : (o : Options) (xs : List ListAction) (old new : FloorTold) (work : Work)
     → IsWhole xs → Reads old new (λ reads. WorkRead xs reads (Ok work))

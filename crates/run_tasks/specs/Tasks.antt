@@ -11,8 +11,6 @@ use Rattle.run_plan.specs.Groups.{berths, is_remote, kind_of}
 use Rattle.run_plan.specs.Sound.{Sound}
 use Rattle.run_plan.specs.declared.plan.Plan.{Plan}
 use Rattle.run_plan.specs.declared.plan.Speech.{Speech}
-use Rattle.core_contract.specs.Disciplines.{own_discipline}
-use Rattle.history_laws.specs.Ruled.{terms_in}
 use Rattle.tool_words.specs.declared.options.Options.{Options}
 use Rattle.run_tasks.specs.declared.task.Task.{Task}
 
@@ -44,7 +42,7 @@ HasBerths p = berths p ≡ 0 → p.actions ≡ []
 
 -- The work of each of the plan's actions has its outputs, and its made inputs are among the plan's.
 abbrev pub HasWork : Task → Type 0
-HasWork task = IsWorkOf (terms_in (own_discipline task.plan)) task.work.actions
+HasWork task = IsWorkOf task.plan task.work.actions
 
 -- each berth of the plan speaks as executors do exactly where it is an executor's
 abbrev pub SpeechesFit : Plan → List Speech → Type 0

@@ -111,9 +111,15 @@ fn machine_in<M: Machine>(slots: Slots<M>) -> M
 }
 
 impl<M: Machine> Pass<M> {
+    /// Returns the number of the pass's lane.
+    pub fn lane(&self) -> u32
+        ensures { result ≡ self.now.lane }
+    {
+        self.lane
+    }
+
     /// Returns the lanes that may have news after the last call of this pass, or after its last two
-    /// if one turn made both. Each lane has a bit: bit `k` is lane `k`. The set is the machine's
-    /// hint (`Machine::stirs`).
+    /// if one turn made both, as bits: the machine's hint (`Machine::stirs`).
     pub fn stirs(&self) -> u128
         ensures { result ≡ self.now.stirs }
     {

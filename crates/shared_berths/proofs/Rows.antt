@@ -13,7 +13,8 @@ use Rattle.journal_laws.proofs.rows.Opened.{words}
 use Rattle.journal_laws.specs.Invariant.{claimed}
 use Rattle.worker_pool.specs.declared.LineRow.{LineRow}
 use Rattle.ready_order.specs.declared.ActionState.{ActionState}
-use Rattle.core_contract.specs.Disciplines.{Discipline, script_of}
+use Rattle.core_contract.specs.Disciplines.{script_of}
+use Rattle.core_contract.specs.Discipline.{Discipline}
 use Rattle.core_tables.specs.declared.lanes.LaneState.{LaneState}
 use Rattle.core_tables.specs.declared.lanes.Owed.TheVariants as order
 use Rattle.core_tables.specs.declared.lanes.Said.TheVariants as said

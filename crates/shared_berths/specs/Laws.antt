@@ -36,7 +36,7 @@ no_pools = record { plan = no_plan; pools = []; instances = 0 }
 pub is_shared : (q : SharedPlan) → IsDiscipline (shared_discipline (usable q))
 is_shared q = usable_is_discipline q
 
-pub few_berths : (q : SharedPlan) → seats (usable q) < 2 ^ 31
+pub few_berths : (q : SharedPlan) → seats (usable q) ≤ 128
 few_berths q = let same = usable_berths q in let few = few_usable q.pools in omega arith
 
 -- no lane makes Ticks

@@ -21,7 +21,7 @@ use Rattle.exec_journal.specs.Settled.{earliest, queued}
 use Rattle.exec_journal.specs.Seated.{line_group, line_kind}
 use Rattle.exec_journal.specs.Rules.{ask_of, when, is_vacant, launch_order}
 use Rattle.exec_journal.specs.Lawful.{plain_reply}
-use Rattle.core_contract.specs.Disciplines.{Discipline}
+use Rattle.core_contract.specs.Discipline.{Discipline}
 use Rattle.shared_rules.specs.declared.pools.SharedPlan.{SharedPlan}
 use Rattle.shared_rules.specs.declared.pools.SharedPool.{SharedPool}
 use Rattle.shared_rules.specs.Pools.{pool_of, seats, berth_kind, has_group}
@@ -98,6 +98,7 @@ abbrev pub shared_discipline : SharedPlan → Discipline
 shared_discipline s = record {
   plan = s.plan;
   seats = seats s;
+  served = seats s;
   kinds = berth_kind s;
   ticks = λ _. false;
   rule = shared_rule s;

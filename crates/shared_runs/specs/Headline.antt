@@ -1,7 +1,8 @@
 -- What is said of a run whose worker keys share berths.
 use Rattle.std.specs.Prelude.{◌≡◌, ℕ, IfOk, List, Option, Result}
 use Rattle.build_report.specs.declared.fault.RunFault.{RunFault}
-use Rattle.core_contract.specs.Disciplines.{LegalBy}
+use Rattle.core_contract.specs.Discipline.{Discipline}
+use Rattle.exec_journal.specs.Entry.{Entry}
 use Rattle.outside.specs.Told.{FloorTold}
 use Rattle.outside.specs.declared.floor.FloorRead.{FloorRead}
 use Rattle.run_plan.specs.declared.plan.Plan.{Plan}
@@ -9,13 +10,12 @@ use Rattle.run_tasks.specs.declared.task.Task.{Task}
 use Rattle.shared_rules.specs.declared.pools.SharedPlan.{SharedPlan}
 use Rattle.shared_rules.specs.declared.pools.SharedPool.{SharedPool}
 use Rattle.shared_rules.specs.Kept.{SharedKept}
-use Rattle.shared_rules.specs.Pools.{seats}
 use Rattle.shared_rules.specs.Shared.{shared_discipline}
 use Rattle.shared_tasks.specs.Course.{Made, SharedCourse}
 use Rattle.shared_tasks.specs.declared.reading.SharedTask.{SharedTask}
 use Rattle.shared_tasks.specs.declared.words.SharedOptions.{SharedOptions}
 use Rattle.worker_run.specs.Ends.{HasCourseBy}
-use Rattle.worker_run.specs.Headline.{Head, TaskKeeps}
+use Rattle.worker_run.specs.Headline.{TaskKeeps}
 use Rattle.worker_run.specs.Seen.{EndedTold}
 
 -- the pools in which the groups of a task's plan stand, and how many instances each group may have
@@ -26,14 +26,13 @@ pub record Sharing : Type 0 where
 abbrev pub shared_by : Sharing → Plan → SharedPlan
 shared_by s p = record { plan = p; pools = s.pools; instances = s.instances }
 
--- the rules of these pools, all of whose berths have lanes
-abbrev pub shared_head : Sharing → Task → Head
-shared_head s t = record {
-  discipline = shared_discipline (shared_by s t.plan);
-  legal = LegalBy (shared_discipline (shared_by s t.plan));
-  kept = SharedKept (shared_by s t.plan);
-  lanes = seats (shared_by s t.plan);
-}
+-- the rules of these pools
+abbrev pub shared_rules : Sharing → Task → Discipline
+shared_rules s t = shared_discipline (shared_by s t.plan)
+
+-- what their orders keep
+abbrev pub shared_kept : Sharing → Task → List Entry → Type 0
+shared_kept s t = SharedKept (shared_by s t.plan)
 
 -- the reads led to a task whose core has these pools, or to a fault
 abbrev pub SharedRead : Sharing → Option SharedOptions → List FloorRead → Made → Type 0
@@ -47,4 +46,4 @@ pub record SharedKeeps (options : Option SharedOptions) (before : FloorTold) (en
   -- what was read led to the task that was run, with these pools, or to the fault
   pub course : HasCourseBy (SharedRead sharing options) (λ made. made.task) before end
   -- by the rules of these pools
-  pub task : TaskKeeps (shared_head sharing) before end
+  pub task : TaskKeeps (shared_rules sharing) (shared_kept sharing) before end

@@ -11,7 +11,6 @@ use Rattle.action_list.specs.Plans.{plan_of}
 use Rattle.action_list.proofs.SoundActions.{sound_plan}
 use Rattle.list_actions.specs.Whole.{IsWhole}
 use Rattle.list_actions.specs.declared.types.ListAction.{ListAction}
-use Rattle.history_laws.specs.Ruled.{terms_in}
 use Rattle.outside.specs.Told.{FloorTold}
 use Rattle.proxy_deeds.specs.Settings.{speaks_remote}
 use Rattle.proxy_steps.specs.Work.{IsWorkOf}
@@ -31,7 +30,6 @@ use Rattle.run_tasks.proofs.Works.{all_work}
 use Rattle.run_tasks.specs.declared.task.Task.{Task}
 use Rattle.shared_rules.specs.declared.pools.SharedPlan.{SharedPlan}
 use Rattle.shared_rules.specs.Pools.{SoundPools, is_of_executor, seats}
-use Rattle.shared_rules.specs.Shared.{shared_discipline}
 use Rattle.shared_tasks.specs.declared.words.SharedOptions.{SharedOptions}
 use Rattle.shared_tasks.specs.declared.reading.SharedTask.{SharedTask}
 use Rattle.shared_tasks.specs.Words.{AreShared}
@@ -150,7 +148,7 @@ module _ (o : SharedOptions) (limits : AreShared o) (xs : List ListAction) (whol
   module _ (old new : FloorTold) (made : SharedTask) (work : Work)
       (of_list : IsSharedTask o xs made) (same : made.task.work ≡ work)
       (read : Reads old new (λ reads. WorkRead xs reads (Ok work))) where
-    works : IsWorkOf (terms_in (shared_discipline q)) work.actions
+    works : IsWorkOf q.plan work.actions
     unfolding plan_of
     works =
         let all = all_work (keys_of xs) read.3.0 xs work.actions whole.ordered whole.few_outputs
@@ -171,9 +169,9 @@ module _ (o : SharedOptions) (limits : AreShared o) (xs : List ListAction) (whol
       speeches = subst (λ (s : SharedPlan). SpeechesFit s made.task.speeches.items)
           (sym of_list.shared) (subst (SpeechesFit q) (sym of_list.speeches)
           (speeches_fit q parts o.workers (executors_by o xs) pools_are));
-      work = subst (λ (s : SharedPlan). IsWorkOf (terms_in (shared_discipline s))
+      work = subst (λ (s : SharedPlan). IsWorkOf s.plan
           made.task.work.actions) (sym of_list.shared)
-          (subst (λ (v : Work). IsWorkOf (terms_in (shared_discipline q)) v.actions) (sym same) works);
+          (subst (λ (v : Work). IsWorkOf q.plan v.actions) (sym same) works);
       actions = λ none. ap (λ (p : Plan). p.actions) of_list.plan
           ∙ no_actions (ap seats (sym of_list.shared) ∙ none);
     }

@@ -10,14 +10,12 @@ use Rattle.run_plan.specs.declared.plan.Plan.{Plan}
 use Rattle.run_plan.specs.declared.plan.Speech.{Speech}
 use Rattle.run_plan.specs.Groups.{berths}
 use Rattle.run_plan.specs.Sound.{Sound}
-use Rattle.history_laws.specs.Ruled.{terms_in}
 use Rattle.run_tasks.specs.Setup.{commands_for}
 use Rattle.run_tasks.specs.declared.task.Task.{Task}
 use Rattle.proxy_deeds.specs.Settings.{speaks_remote}
 use Rattle.shared_rules.specs.declared.pools.SharedPlan.{SharedPlan}
 use Rattle.shared_rules.specs.declared.pools.SharedPool.{SharedPool}
 use Rattle.shared_rules.specs.Pools.{SoundPools, is_remote_berth, seats}
-use Rattle.shared_rules.specs.Shared.{shared_discipline}
 use Rattle.shared_tasks.specs.declared.words.SharedOptions.{SharedOptions}
 use Rattle.shared_tasks.specs.declared.reading.SharedTask.{SharedTask}
 use Rattle.shared_tasks.specs.Pools.{pools_in, speeches_in, spoken_pools}
@@ -80,5 +78,5 @@ pub record MayBeShared (made : SharedTask) : Type 0 where
   pub commanded : length made.task.commands.items ≡ length made.task.plan.groups
   pub as_many : length made.task.speeches.items ≡ seats made.shared
   pub speeches : SpeechesFit made.shared made.task.speeches.items
-  pub work : IsWorkOf (terms_in (shared_discipline made.shared)) made.task.work.actions
+  pub work : IsWorkOf made.shared.plan made.task.work.actions
   pub actions : seats made.shared ≡ 0 → made.task.plan.actions ≡ []

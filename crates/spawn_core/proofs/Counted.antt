@@ -7,7 +7,7 @@ use Rattle.exec_journal.specs.Entry.{Entry}
 use Rattle.exec_journal.specs.declared.reply.Reply.{Reply}
 use Rattle.exec_journal.specs.Legal.{after}
 use Rattle.journal_laws.specs.Paid.{lane_owes, seats_owe}
-use Rattle.core_contract.specs.Disciplines.{Discipline}
+use Rattle.core_contract.specs.Discipline.{Discipline}
 use Rattle.core_state.specs.declared.state.State.{State}
 use Rattle.core_laws.specs.Stands as tables
 use Rattle.core_tables.specs.Slots.{Facts}

@@ -1,7 +1,8 @@
 -- A core that stands for a journal stands for the history of its entries.
 use Rattle.std.proofs.Common.{◌≡◌, ℕ, List, [], sym, subst}
 use Rattle.run_plan.specs.declared.plan.Plan.{Plan}
-use Rattle.core_contract.specs.Disciplines.{Discipline}
+use Rattle.core_contract.specs.Discipline.{Discipline}
+use Rattle.core_contract.specs.Ruled.{journal_of}
 use Rattle.exec_journal.specs.declared.call.Call.{Call}
 use Rattle.exec_journal.specs.Entry.{Entry}
 use Rattle.exec_journal.specs.declared.reply.Reply.{Reply}
@@ -10,7 +11,6 @@ use Rattle.exec_journal.specs.Legal.{Legal, after}
 use Rattle.seat_desk.specs.History as history
 use Rattle.seat_desk.specs.History.{entry}
 use Rattle.core_contract.specs.Moves.{History}
-use Rattle.history_laws.specs.Owed.{journal_of}
 use Rattle.history_laws.proofs.Growing.{journal_after}
 use Rattle.history_laws.proofs.OwnDiscipline.{own_legal}
 use Rattle.spawn_core.specs.Histories.{StandsFor, basis_of}

@@ -24,7 +24,8 @@ use Rattle.exec_journal.specs.Entries.{gather_in, gather_of_entry, is_kept}
 use Rattle.exec_journal.specs.Words.{grant_of, has_halted, last_work, match_of, stopped}
 use Rattle.exec_journal.specs.Rules.{gathered}
 use Rattle.exec_journal.proofs.Ruled.{by_bool}
-use Rattle.core_contract.specs.Disciplines.{Discipline, IsDiscipline, script_of}
+use Rattle.core_contract.specs.Disciplines.{IsDiscipline, script_of}
+use Rattle.core_contract.specs.Discipline.{Discipline}
 use Rattle.history_laws.proofs.Fitting.{lawful}
 use Rattle.core_tables.specs.declared.lanes.LaneState.{LaneState}
 use Rattle.core_tables.specs.declared.lanes.Owed.{Owed}

@@ -22,7 +22,7 @@ use Rattle.core_laws.specs.Stands as tables
 use Rattle.core_tables.specs.Slots.{Facts, IsNewFiles}
 use Rattle.core_tables.proofs.Kept as kept
 use Rattle.core_tables.specs.Stands as files
-use Rattle.core_contract.specs.Disciplines.{Discipline}
+use Rattle.core_contract.specs.Discipline.{Discipline}
 use Rattle.exec_journal.specs.Entry.{Entry}
 use Rattle.spawn_core.specs.Stands.{StandsIn}
 

@@ -20,7 +20,7 @@ use Rattle.core_tables.specs.Last.{last_in, row_of}
 use Rattle.core_tables.proofs.Lengths.{length_is}
 use Rattle.core_state.specs.declared.state.State.{State}
 use Rattle.core_state.specs.Choices.{Reads}
-use Rattle.core_contract.specs.Disciplines.{Discipline}
+use Rattle.core_contract.specs.Discipline.{Discipline}
 use Rattle.core_laws.specs.Stands as tables
 use Rattle.core_laws.proofs.AllOf.{all_of}
 use Rattle.core_laws.proofs.Read as read

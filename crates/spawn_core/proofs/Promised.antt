@@ -8,7 +8,8 @@ use Rattle.exec_journal.specs.declared.reply.Reply.TheVariants as reply
 use Rattle.exec_journal.specs.Clean.{Clean}
 use Rattle.exec_journal.specs.Lawful.{Told}
 use Rattle.exec_journal.specs.Words.{halted}
-use Rattle.core_contract.specs.Disciplines.{Discipline, IsDiscipline, LegalBy, script_of}
+use Rattle.core_contract.specs.Disciplines.{IsDiscipline, LegalBy, script_of}
+use Rattle.core_contract.specs.Discipline.{Discipline}
 use Rattle.history_laws.proofs.Fitting.{lawful}
 use Rattle.journal_laws.specs.Finished.{Finished}
 use Rattle.journal_laws.proofs.Cleaned.{complete}

@@ -7,7 +7,8 @@ use Rattle.core_tables.specs.declared.berth_group.BerthGroup.{BerthGroup}
 use Rattle.core_state.specs.declared.choice.Choice.{Choice}
 use Rattle.core_state.specs.declared.state.State.{State}
 use Rattle.core_state.specs.Machine.{carried_reply}
-use Rattle.core_contract.specs.Disciplines.{Discipline, IsDiscipline, script_of}
+use Rattle.core_contract.specs.Disciplines.{IsDiscipline, script_of}
+use Rattle.core_contract.specs.Discipline.{Discipline}
 use Rattle.spawn_core.specs.Policies.{SaysSeat, Serves, StandsBy}
 
 module _ {M B : Type 0} (rules : B → Discipline) (owns : B → M → List Entry → Type 0)

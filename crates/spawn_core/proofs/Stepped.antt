@@ -19,7 +19,8 @@ use Rattle.exec_journal.specs.declared.reply.Reply.{Reply}
 use Rattle.exec_journal.specs.declared.reply.Reply.TheVariants as reply
 use Rattle.exec_journal.specs.Entries.{attempt_of, is_done, is_kept, is_look}
 use Rattle.exec_journal.specs.Legal.{after}
-use Rattle.core_contract.specs.Disciplines.{Discipline, LegalBy, script_of}
+use Rattle.core_contract.specs.Disciplines.{LegalBy, script_of}
+use Rattle.core_contract.specs.Discipline.{Discipline}
 use Rattle.run_plan.specs.Groups.{is_single}
 use Rattle.exec_journal.specs.Words.{last_line, last_work, stopped, has_halted}
 use Rattle.worker_pool.specs.Rows as rows

@@ -9,7 +9,8 @@ use Rattle.exec_journal.specs.declared.reply.Reply.{Reply}
 use Rattle.exec_journal.specs.declared.reply.Reply.TheVariants as reply
 use Rattle.exec_journal.specs.Entries.{is_kept, is_look}
 use Rattle.exec_journal.specs.Legal.{after}
-use Rattle.core_contract.specs.Disciplines.{Discipline, LegalBy, LegalEntryBy, script_of}
+use Rattle.core_contract.specs.Disciplines.{LegalBy, LegalEntryBy, script_of}
+use Rattle.core_contract.specs.Discipline.{Discipline}
 use Rattle.history_laws.proofs.Fitting.{entry_lawful}
 use Rattle.core_tables.specs.declared.berth_group.BerthGroup.{BerthGroup}
 use Rattle.core_tables.specs.Lanes.{allows_by}

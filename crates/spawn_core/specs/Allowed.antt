@@ -14,7 +14,8 @@ use Rattle.exec_journal.specs.Lawful.{may_tick}
 use Rattle.exec_journal.specs.Scripts.{allowed, is_owed, is_owed_after, is_owed_commit, may_find, outputs_of, seat_script}
 use Rattle.exec_journal.specs.Words.{last_work, stopped, has_halted}
 use Rattle.exec_journal.proofs.Ruled.{by_bool}
-use Rattle.core_contract.specs.Disciplines.{Discipline, berth_script, script_of}
+use Rattle.core_contract.specs.Disciplines.{berth_script, script_of}
+use Rattle.core_contract.specs.Discipline.{Discipline}
 use Rattle.history_laws.proofs.Fitting.{scripted_as}
 use Rattle.history_laws.proofs.Ticking.{known}
 use Rattle.core_tables.specs.declared.berth_group.BerthGroup.{BerthGroup}

@@ -5,7 +5,8 @@ use Rattle.exec_journal.specs.declared.call.Call.{Call}
 use Rattle.exec_journal.specs.Entry.{Entry}
 use Rattle.exec_journal.specs.declared.reply.Reply.{Reply}
 use Rattle.exec_journal.specs.declared.reply.Reply.TheVariants as reply
-use Rattle.core_contract.specs.Disciplines.{Discipline, own_discipline, script_of}
+use Rattle.core_contract.specs.Disciplines.{own_discipline, script_of}
+use Rattle.core_contract.specs.Discipline.{Discipline}
 
 -- outside its lane's script Astray, else the discipline's
 abbrev pub answer_by : Discipline → List Entry → ℕ → Call → Reply

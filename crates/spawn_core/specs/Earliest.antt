@@ -1,5 +1,5 @@
 -- The laws of a policy, of the one that orders the earliest queued action of the berth's group first.
-use Rattle.std.proofs.Common.{◌≡◌, ◌<◌, ◌/◌, ◌^◌, ℕ, List, true, length, ap, arith, sym, ◌∙◌}
+use Rattle.std.proofs.Common.{◌≡◌, ◌<◌, ◌≤◌, ◌/◌, ℕ, List, true, length, ap, arith, sym, ◌∙◌}
 use Rattle.run_plan.specs.declared.plan.Plan.{Plan}
 use Rattle.run_plan.specs.Groups.{berths, is_remote}
 use Rattle.run_plan.specs.Sound.{Sound}
@@ -25,7 +25,7 @@ use Rattle.spawn_core.specs.Policies.{ReadsEach, SaysSeat, StandsBy}
 pub own_is : (p : Plan) → IsDiscipline (own_discipline p)
 own_is p = own_is_discipline p
 
-pub few_berths : (p : Plan) → Sound p → berths p < 2 ^ 31
+pub few_berths : (p : Plan) → Sound p → berths p ≤ 128
 few_berths p sound = let few = sound.seats in omega (arith, few)
 
 pub seats_are : (p : Plan) (s : State) (j : List Entry) (w : ℕ) → StandsBy (own_discipline p) s j

@@ -1,7 +1,7 @@
 -- When a core stands for a history, whose oldest entry stands first.
 use Rattle.run_plan.specs.declared.plan.Plan.{Plan}
 use Rattle.core_contract.specs.Moves.{History}
-use Rattle.history_laws.specs.Owed.{journal_of}
+use Rattle.core_contract.specs.Ruled.{journal_of}
 use Rattle.spawn_core.specs.Plans as plans
 use Rattle.spawn_core.specs.Stands.{Kept, KeptBy, Stands}
 

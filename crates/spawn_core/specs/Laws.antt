@@ -1,10 +1,10 @@
--- The laws of `Rules`, of a core whose policy has a discipline: they are every discipline's.
+-- A core whose policy has a discipline stands for histories that came about by it.
 use Rattle.std.specs.Prelude.{List}
 use Rattle.run_plan.specs.declared.plan.Plan.{Plan}
 use Rattle.core_contract.specs.Moves.{History}
-use Rattle.core_contract.specs.Disciplines.{Discipline, own_discipline}
-use Rattle.history_laws.specs.Owed.{journal_of}
-use Rattle.history_laws.specs.Ruled.{CameAbout}
+use Rattle.core_contract.specs.Disciplines.{own_discipline}
+use Rattle.core_contract.specs.Discipline.{Discipline}
+use Rattle.core_contract.specs.Ruled.{CameAbout, journal_of}
 use Rattle.exec_journal.specs.Entry.{Entry}
 use Rattle.spawn_core.specs.Stands.{KeptBy, StandsIn}
 
@@ -12,9 +12,9 @@ use Rattle.spawn_core.specs.Stands.{KeptBy, StandsIn}
 abbrev pub own : Plan → Discipline
 own p = own_discipline p
 
-pub stands_legal : {M : Type 0} (q : Discipline) (tables : M → List Entry → Type 0) (m : KeptBy M)
+pub came_about : {M : Type 0} (q : Discipline) (tables : M → List Entry → Type 0) (m : KeptBy M)
     (h : History) → StandsIn q tables m (journal_of h) → CameAbout q h
-stands_legal q tables m h s = record {
+came_about q tables m h s = record {
   sound = s.both.tables.sound;
   legal = s.both.legal;
 }

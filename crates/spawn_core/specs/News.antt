@@ -15,11 +15,11 @@ use Rattle.core_state.specs.declared.state.State.{State}
 use Rattle.core_state.specs.Machine.{carried_reply, take_reply, takeable}
 use Rattle.core_laws.specs.Stands as tables
 use Rattle.core_laws.proofs.AllOf.{all_of}
-use Rattle.core_contract.specs.Disciplines.{Discipline, IsDiscipline, LegalBy, script_of}
+use Rattle.core_contract.specs.Disciplines.{IsDiscipline, LegalBy, script_of}
+use Rattle.core_contract.specs.Discipline.{Discipline}
+use Rattle.core_contract.specs.Ruled.{answer_after, journal_of}
 use Rattle.core_contract.specs.Moves.{History}
 use Rattle.core_contract.specs.News.{question, HasNews, SaysNews}
-use Rattle.history_laws.specs.Owed.{journal_of}
-use Rattle.history_laws.specs.Ruled.{answer_after}
 use Rattle.history_laws.proofs.Fitting.{in_script}
 use Rattle.spawn_core.specs.Allowed.{allowed_is, lane_within, none_scripted}
 use Rattle.spawn_core.specs.Outlook.{has_news, has_news_at, has_news_by, is_idle, told_by}
@@ -133,13 +133,13 @@ module _ (q : Discipline) (is : IsDiscipline q) (h : History) (lane : ℕ) where
   abbrev may : Bool
   may = script_of q (journal_of h) lane (question q.ticks lane)
 
-  said : HasNews (answer_after q) q.ticks h lane → has_news q (journal_of h) lane ≡ true
+  said : HasNews q h lane → has_news q (journal_of h) lane ≡ true
   said news = by_bool may
       (λ b. (cond b told reply.Astray ≡ reply.Astray → ⊥)
       → (cond b told reply.Astray ≡ reply.Idle → ⊥) → b && not (is_idle told) ≡ true)
       (λ _ _ f. not_idle told f) (λ _ f _. absurd (f refl)) news.0 news.1
 
-  so : has_news q (journal_of h) lane ≡ true → HasNews (answer_after q) q.ticks h lane
+  so : has_news q (journal_of h) lane ≡ true → HasNews q h lane
   so on =
       let parts = and_parts may (not (is_idle told)) on in (
         in_script q is h lane (question q.ticks lane) parts.0,
@@ -150,7 +150,7 @@ pub news_are : (q : Discipline) (s : State) (h : History) (seated : ℕ → Opti
     (chosen : ℕ → Choice) (ticked : Reply) (lane : ℕ)
     → tables.Stands q.plan q.seats s (journal_of h) → LegalBy q (journal_of h)
     → Serves q s (journal_of h) seated chosen ticked
-    → SaysNews (answer_after q) q.ticks h lane (has_news_by s seated
+    → SaysNews q h lane (has_news_by s seated
     (record { ask = chosen (lane / 2); tick = ticked }) q.ticks lane)
 news_are q s h seated chosen ticked lane st legal v =
     let same = news_at q s (journal_of h) seated chosen ticked st legal v lane (seated (lane / 2))

@@ -2,7 +2,8 @@
 use Rattle.std.specs.Prelude.{◌≡◌, ℕ, true, false, Some, List, slice_get}
 use Rattle.run_plan.specs.declared.plan.Plan.{Plan}
 use Rattle.run_plan.specs.declared.plan.PlanAction.{PlanAction}
-use Rattle.core_contract.specs.Disciplines.{Discipline, LegalBy}
+use Rattle.core_contract.specs.Disciplines.{LegalBy}
+use Rattle.core_contract.specs.Discipline.{Discipline}
 use Rattle.exec_journal.specs.Entry.{Entry}
 use Rattle.exec_journal.specs.Outcomes.{is_ok, outcome_of}
 use Rattle.exec_journal.specs.Paired.{Paired}

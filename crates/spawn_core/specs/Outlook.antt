@@ -9,7 +9,8 @@ use Rattle.core_tables.specs.declared.berth_group.BerthGroup.{BerthGroup}
 use Rattle.core_tables.specs.Lanes.{is_won}
 use Rattle.core_state.specs.declared.state.State.{State}
 use Rattle.core_state.specs.Machine.{carried_reply, take_reply, takeable}
-use Rattle.core_contract.specs.Disciplines.{Discipline, script_of}
+use Rattle.core_contract.specs.Disciplines.{script_of}
+use Rattle.core_contract.specs.Discipline.{Discipline}
 use Rattle.core_contract.specs.News.{question}
 use Rattle.spawn_core.specs.Turns.{Orders, may_make}
 

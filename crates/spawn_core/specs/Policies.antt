@@ -8,7 +8,8 @@ use Rattle.core_tables.specs.declared.berth_group.BerthGroup.{BerthGroup}
 use Rattle.core_state.specs.declared.choice.Choice.{Choice}
 use Rattle.core_state.specs.declared.state.State.{State}
 use Rattle.core_state.specs.Machine.{carried_reply}
-use Rattle.core_contract.specs.Disciplines.{Discipline, IsDiscipline, LegalBy, script_of}
+use Rattle.core_contract.specs.Disciplines.{IsDiscipline, LegalBy, script_of}
+use Rattle.core_contract.specs.Discipline.{Discipline}
 use Rattle.core_laws.specs.Stands.{SeatFits, Stands}
 use Rattle.earliest_first.specs.Choices.{ReadsOwn}
 

@@ -3,7 +3,8 @@ use Rattle.std.specs.Prelude.{◌≡◌, ℕ, List}
 use Rattle.run_plan.specs.declared.plan.Plan.{Plan}
 use Rattle.exec_journal.specs.Entry.{Entry}
 use Rattle.journal_laws.specs.Paid.{seats_owe}
-use Rattle.core_contract.specs.Disciplines.{Discipline, LegalBy, own_discipline}
+use Rattle.core_contract.specs.Disciplines.{LegalBy, own_discipline}
+use Rattle.core_contract.specs.Discipline.{Discipline}
 use Rattle.core_state.specs.declared.state.State.{State}
 use Rattle.core_laws.specs.Stands as tables
 use Rattle.core_tables.specs.Slots as slots

@@ -8,7 +8,8 @@ use Rattle.exec_journal.specs.declared.reply.Reply.{Reply}
 use Rattle.exec_journal.specs.Entries.{is_kept, is_look}
 use Rattle.exec_journal.specs.Lawful.{Asked, Ticked}
 use Rattle.lawful_facts.specs.Moments.{LawfulMore}
-use Rattle.core_contract.specs.Disciplines.{Discipline, IsDiscipline, LegalBy, script_of}
+use Rattle.core_contract.specs.Disciplines.{IsDiscipline, LegalBy, script_of}
+use Rattle.core_contract.specs.Discipline.{Discipline}
 use Rattle.history_laws.proofs.Fitting.{anywhere}
 use Rattle.core_tables.specs.declared.berth_group.BerthGroup.{BerthGroup}
 use Rattle.core_state.specs.declared.state.State.{State}

@@ -1,5 +1,5 @@
 //! The policy, which decides what a core orders next.
-ghost use Rattle.std.specs.Prelude.{◌≡◌, ◌<◌, ◌/◌, ◌^◌, ℕ, List, Option, true};
+ghost use Rattle.std.specs.Prelude.{◌≡◌, ◌<◌, ◌≤◌, ◌/◌, ℕ, List, Option, true};
 ghost use Rattle.run_plan.specs.declared.plan.Plan.{Plan};
 ghost use Rattle.run_plan.specs.Sound.{Sound};
 ghost use Rattle.exec_journal.specs.declared.call.Call.TheVariants as call;
@@ -10,7 +10,8 @@ ghost use Rattle.core_tables.specs.declared.berth_group.BerthGroup.{BerthGroup};
 ghost use Rattle.core_state.specs.declared.choice.Choice.{Choice};
 ghost use Rattle.core_state.specs.declared.state.State.{State};
 ghost use Rattle.core_state.specs.Machine.{carried_reply};
-ghost use Rattle.core_contract.specs.Disciplines.{Discipline, IsDiscipline, LegalBy, script_of};
+ghost use Rattle.core_contract.specs.Disciplines.{IsDiscipline, LegalBy, script_of};
+ghost use Rattle.core_contract.specs.Discipline.{Discipline};
 ghost use Rattle.spawn_core.specs.Policies.{SaysSeat, StandsBy};
 
 use core_state::{Choice, State};
@@ -93,9 +94,9 @@ pub trait Policy: Sized + Drop {
     // discipline.
     ghost is_discipline: { (b : Self.Basis) → IsDiscipline (discipline b) };
 
-    // A sound plan has few berths.
+    // A sound plan has at most 128 berths.
     ghost few_berths: { (b : Self.Basis) → Sound (discipline b).plan
-        → (discipline b).seats < 2 ^ 31 };
+        → (discipline b).seats ≤ 128 };
 
     // If a policy stands for a journal by a basis, that is its own basis.
     ghost basis_is: { (b : Self.Basis) (m : Self) (j : List Entry) → stands b m j

@@ -7,8 +7,7 @@ ghost use Rattle.exec_journal.specs.Clean.{Clean};
 ghost use Rattle.exec_journal.specs.Legal.{after};
 ghost use Rattle.exec_journal.specs.Words.{halted};
 ghost use Rattle.journal_laws.specs.Finished.{Finished};
-ghost use Rattle.history_laws.specs.Owed.{journal_of};
-ghost use Rattle.history_laws.specs.Ruled.{terms_in, answer_after, IsPaidAfter, owes_after, CameAbout};
+ghost use Rattle.core_contract.specs.Ruled.{journal_of};
 ghost use Rattle.history_laws.proofs.OfRules as laws;
 ghost use Rattle.spawn_core.specs.Answers.{Replies, answer_by};
 ghost use Rattle.spawn_core.specs.Histories.{basis_of};
@@ -174,20 +173,12 @@ impl<P: Policy> Rules for Core<P> {
 
     ghost blank = { P.blank };
 
+    ghost discipline = { P.discipline };
+
+    ghost kept = { P.kept };
+
     ghost stands = { λ m h. StandsIn (P.discipline (basis_of P.basis m))
         (P.stands (basis_of P.basis m)) m (journal_of h) };
-
-    ghost legal = { λ b. CameAbout (P.discipline b) };
-
-    ghost rule = { λ b. answer_after (P.discipline b) };
-
-    ghost paid = { λ b. IsPaidAfter (P.discipline b) };
-
-    ghost owes = { λ b. owes_after (P.discipline b) };
-
-    ghost terms = { λ b. terms_in (P.discipline b) };
-
-    ghost ticks = { λ b. (P.discipline b).ticks };
 
     ghost news = { λ m lane. has_news_by m.state (P.seated m.policy m.state)
         (orders_of P.chosen P.ticked m.policy m.state lane)
@@ -232,44 +223,8 @@ impl<P: Policy> Rules for Core<P> {
         2 * actions * self.state.plan.limit
     }
 
-    ghost paid_is_noted = { λ m h lane c s p. laws.paid_is_noted
-        (P.discipline (basis_of P.basis m)) (P.is_discipline (basis_of P.basis m)) h lane c
-        (own_laws.stands_legal (P.discipline (basis_of P.basis m)) (P.stands (basis_of P.basis m))
-        m h s) p };
-
-    ghost paid_stays = { λ m h more lane c s none p. laws.paid_stays
-        (P.discipline (basis_of P.basis m)) (P.is_discipline (basis_of P.basis m)) h more lane c
-        none p };
-
-    ghost owes_less = { λ m h lane c s p. laws.owes_less (P.discipline (basis_of P.basis m))
-        (P.is_discipline (basis_of P.basis m)) h lane c p };
-
-    ghost owes_more = { λ m h lane c s kept. laws.owes_more (P.discipline (basis_of P.basis m))
-        (P.is_discipline (basis_of P.basis m)) h lane c kept };
-
-    ghost replies = { λ q. laws.replies (P.discipline q) (P.is_discipline q) };
-
-    ghost lanes_are_known = { λ q. laws.lanes_are_known (P.discipline q) (P.is_discipline q) };
-
-    ghost script_stays = { λ q. laws.script_stays (P.discipline q) (P.is_discipline q) };
-
-    ghost taps_hear = { λ q. laws.taps_hear (P.discipline q) (P.is_discipline q) };
-
-    ghost taps_hear_only = { λ q. laws.taps_hear_only (P.discipline q) (P.is_discipline q) };
-
-    ghost taps_may_halt = { λ q. laws.taps_may_halt (P.discipline q) (P.is_discipline q) };
-
-    ghost proxies_do = { λ q. laws.proxies_do (P.discipline q) (P.is_discipline q) };
-
-    ghost proxies_do_only = { λ q. laws.proxies_do_only (P.discipline q) (P.is_discipline q) };
-
-    ghost tickers_may_tick = { λ q. laws.tickers_may_tick (P.discipline q) (P.is_discipline q) };
-
-    ghost proxies_may_halt = { λ q. laws.proxies_may_halt (P.discipline q) (P.is_discipline q) };
-
-    ghost commits_are_paid = { λ q. laws.commits_are_paid (P.discipline q) (P.is_discipline q) };
-
-    ghost only_hears = { λ q. laws.only_hears (P.discipline q) (P.is_discipline q) };
+    ghost came = { λ m h s. own_laws.came_about (P.discipline (basis_of P.basis m))
+        (P.stands (basis_of P.basis m)) m h s };
 
     ghost news_are = { λ m h lane s. news.news_are (P.discipline (basis_of P.basis m)) m.state h
         (P.seated m.policy m.state) (P.chosen m.policy m.state) (P.ticked m.policy m.state) lane
@@ -283,26 +238,7 @@ impl<P: Policy> Rules for Core<P> {
               (record { tables = s.both.tables; legal = s.both.legal }) s.both.own yes;
         }) };
 
-    ghost stands_legal = { λ m h s. own_laws.stands_legal (P.discipline (basis_of P.basis m))
-        (P.stands (basis_of P.basis m)) m h s };
+    ghost keeps = { λ b. laws.keeps (P.discipline b) (P.is_discipline b) (P.few_berths b) };
 
-    ghost legal_before = { λ q. laws.legal_before (P.discipline q) (P.is_discipline q) };
-
-    ghost orders_hold = { λ q. laws.orders_hold (P.discipline q) (P.is_discipline q) };
-
-    ghost orders_fit = { λ q. laws.orders_fit (P.discipline q) (P.is_discipline q) };
-
-    ghost lines_fit = { λ q. laws.lines_fit (P.discipline q) (P.is_discipline q) };
-
-    ghost inputs_are_there = { λ q. laws.inputs_are_there (P.discipline q) (P.is_discipline q) };
-
-    ghost lines_find_room = { λ q. laws.lines_find_room (P.discipline q) (P.is_discipline q) };
-
-    ghost takes_there = { λ q. laws.takes_there (P.discipline q) (P.is_discipline q) };
-
-    ghost takes_once = { λ q. laws.takes_once (P.discipline q) (P.is_discipline q) };
-
-    ghost grants_once = { λ q. laws.grants_once (P.discipline q) (P.is_discipline q) };
-
-    ghost commits_own = { λ q. laws.commits_own (P.discipline q) (P.is_discipline q) };
+    ghost kept_is = { P.kept_is };
 }

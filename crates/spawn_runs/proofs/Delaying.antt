@@ -1,13 +1,12 @@
 -- The core of a task goes by the rules of its delay, and the task fits its lanes.
 use Rattle.std.proofs.Common.{◌≡◌, ◌∙◌, ◌*◌, ◌==◌, ℕ, zero, suc, true, List, [], length, Option, Some, None, IfSome, arith, ap, refl, subst, sym, eq-eqb}
-use Rattle.core_contract.specs.Disciplines.{Discipline, LegalBy, own_discipline}
-use Rattle.delay_rules.specs.Delayed.{delayed_discipline, is_ticker}
-use Rattle.exec_journal.specs.Entry.{Entry}
+use Rattle.core_contract.specs.Discipline.{Discipline}
+use Rattle.core_contract.specs.Disciplines.{own_discipline}
+use Rattle.delay_rules.specs.Bounds.{DelayedKept}
+use Rattle.delay_rules.specs.Delayed.{delayed_discipline}
 use Rattle.exec_journal.specs.Kept.{Kept}
-use Rattle.history_laws.specs.Ruled.{CameAbout, answer_after, terms_in}
 use Rattle.lane_runs.specs.Paced.{HasPaced, MayPace}
 use Rattle.local_delay.specs.Counts.{Facts}
-use Rattle.local_delay.specs.Laws as delay
 use Rattle.local_delay.specs.Stands.{StandsFor}
 use Rattle.local_delay.specs.declared.policy.DelayedPlan.{DelayedPlan}
 use Rattle.run_plan.specs.Groups.{berths}
@@ -17,10 +16,11 @@ use Rattle.run_tasks.specs.Tasks.{HasBerths, HasSettings, HasWork}
 use Rattle.run_tasks.specs.declared.task.Task.{Task}
 use Rattle.spawn_core.specs.Stands.{KeptBy, StandsIn}
 use Rattle.outside.specs.Told.{FloorTold}
-use Rattle.spawn_runs.specs.Headline.{SpawnPaces, discipline_by, spawn_head}
-use Rattle.worker_run.proofs.Keeping.{Follows, keeps_as, own_follows}
-use Rattle.worker_run.specs.Headline.{GoesBy, TaskKeeps, UnlessRun, head_of}
-use Rattle.worker_run.specs.Lanes.{FitsTerms}
+use Rattle.spawn_runs.specs.Headline.{SpawnPaces, spawn_kept, spawn_rules}
+use Rattle.worker_run.proofs.Keeping.{keeps_for}
+use Rattle.worker_run.specs.Headline.{TaskKeeps, UnlessRun}
+use Rattle.worker_run.specs.Lanes.{FitsLanes}
+use Rattle.worker_run.specs.Ends.{IsEndOf}
 use Rattle.worker_run.specs.Histories.{history_of}
 use Rattle.worker_run.specs.Pacing.{PacesRun, tick_lane_of}
 use Rattle.worker_run.specs.Seen.{EndedTold}
@@ -51,50 +51,56 @@ module _ (p : Plan) (n : ℕ) (t : Task) (is : p ≡ t.plan) (settings : HasSett
   by_task : d ≡ delayed_discipline t.plan n
   by_task = by ∙ ap (λ (p : Plan). delayed_discipline p n) is
 
-  fits : Sound t.plan → HasWork t → FitsTerms (terms_in (delayed_discipline t.plan n)) t
-  fits sound work = record {
+  fits : Sound t.plan → HasWork t → HasBerths t.plan → FitsLanes (delayed_discipline t.plan n) t
+  fits sound work has = record {
     plan = refl;
     commanded = settings.commanded;
-    seats = (let some = settings.as_many in omega (arith, some));
-    few = (let some = settings.as_many in let few = sound.seats in omega (arith, some, few));
+    served = settings.as_many;
+    seats = omega arith;
+    few = sound.seats;
     speeches = settings.fit;
-    work = record { as_many = work.as_many; each = work.each };
+    work = work;
     actions = (let some = work.as_many in let few = sound.actions in omega (arith, some, few));
+    settled = has;
   }
 
-  pub delayed_fits : Sound t.plan → HasWork t → FitsTerms (terms_in d) t
-  delayed_fits sound work =
-      subst (λ (e : Discipline). FitsTerms (terms_in e) t) (sym by_task) (fits sound work)
+  pub delayed_fits : Sound t.plan → HasWork t → HasBerths t.plan → FitsLanes d t
+  delayed_fits sound work has =
+      subst (λ (e : Discipline). FitsLanes e t) (sym by_task) (fits sound work has)
 
-  pub delayed_goes : HasBerths t.plan → GoesBy (CameAbout d) (answer_after d) (terms_in d) t
-      (delayed_discipline t.plan n) (berths t.plan)
-  delayed_goes has = record {
-    is = delay.is_own t.plan n;
-    plan = refl;
-    came = λ h came. subst (λ (e : Discipline). CameAbout e h) by_task came;
-    replies = ap answer_after by_task;
-    reads = ap terms_in by_task;
-    seats = settings.as_many;
-    actions = has;
-  }
-
-  paces : {W : Type 0} (pacer : W) → MayPace (terms_in (delayed_discipline t.plan n)) (is_ticker t.plan)
-      (berths t.plan) (Some pacer)
+  paces : {W : Type 0} (pacer : W) → MayPace (delayed_discipline t.plan n) (berths t.plan)
+      (Some pacer)
   paces pacer = (omega arith, eq-eqb (2 * berths t.plan) (2 * berths t.plan) refl)
 
   -- the lane behind those of the berths makes Ticks
   pub delayed_paces : {W : Type 0} (pacer : W)
-      → MayPace (terms_in d) d.ticks (length t.speeches.items) (Some pacer)
+      → MayPace d (length t.speeches.items) (Some pacer)
   delayed_paces pacer =
-      subst (λ (k : ℕ). MayPace (terms_in d) d.ticks k (Some pacer)) (sym settings.as_many)
-      (subst (λ (e : Discipline). MayPace (terms_in e) e.ticks (berths t.plan) (Some pacer))
+      subst (λ (k : ℕ). MayPace d k (Some pacer)) (sym settings.as_many)
+      (subst (λ (e : Discipline). MayPace e (berths t.plan) (Some pacer))
       (sym by_task) (paces pacer))
 
 -- ---- what its journals keep
 
-pub spawn_follows : (n : ℕ) → Follows (spawn_head n)
-spawn_follows zero t j sound legal = (legal, (own_follows t j sound legal).1)
-spawn_follows (suc n) t j sound legal = (legal, delay.kept_is t.plan (suc n) j sound legal)
+-- a run without a delay is one by the rules of the plan's own berths
+pub undelayed_keeps : (p : Plan) (t : Task) (before : FloorTold) (end : EndedTold) → p ≡ t.plan
+    → IsEndOf t end.fault end.task
+    → TaskKeeps (λ u. own_discipline p) (λ u. Kept p) before end
+    → TaskKeeps (spawn_rules 0) (spawn_kept 0) before end
+undelayed_keeps p t before end is of k = keeps_for (spawn_rules 0) (spawn_kept 0) t before end of
+    (subst (λ (p : Plan). TaskKeeps (λ u. own_discipline p) (λ u. Kept p) before end) is k)
+
+-- one with a delay is one by the rules of that delay
+pub delayed_keeps : (b : DelayedPlan) (n : ℕ) (t : Task) (before : FloorTold) (end : EndedTold)
+    → (n ≡ 0 → ⊥) → b ≡ record { plan = t.plan; ticks = n } → IsEndOf t end.fault end.task
+    → TaskKeeps (λ u. delayed_discipline b.plan b.ticks) (λ u. DelayedKept b.plan b.ticks)
+    before end
+    → TaskKeeps (spawn_rules n) (spawn_kept n) before end
+delayed_keeps b zero t before end some is of k = absurd (some refl)
+delayed_keeps b (suc n) t before end some is of k =
+    keeps_for (spawn_rules (suc n)) (spawn_kept (suc n)) t before end of
+    (subst (λ (b : DelayedPlan). TaskKeeps (λ u. delayed_discipline b.plan b.ticks)
+    (λ u. DelayedKept b.plan b.ticks) before end) is k)
 
 -- ---- the pacer is given back
 
@@ -109,14 +115,6 @@ pacer_is_back told before end paces = by end.task paces.run paces.none
     by (Some t) run none = run
 
 -- ---- of a delay that is one
-
--- what is said of so many Ticks is said of the delay
-pub delayed_keeps : (n : ℕ) (before : FloorTold) (end : EndedTold) → (n ≡ 0 → ⊥)
-    → TaskKeeps (λ t. head_of (delayed_discipline t.plan n) (berths t.plan)) before end
-    → TaskKeeps (spawn_head n) before end
-delayed_keeps zero before end some keeps = absurd (some refl)
-delayed_keeps (suc n) before end some keeps =
-    keeps_as (spawn_head (suc n)) (spawn_follows (suc n)) before end keeps
 
 pub delayed_spawns : {W : Type 0} (told : W → ℕ) (n : ℕ) (before after : W) (end : EndedTold)
     → (n ≡ 0 → ⊥) → PacesRun told (Some before) (Some after) end

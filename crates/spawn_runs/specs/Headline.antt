@@ -1,7 +1,8 @@
 -- What is said of a run by strategies.
 use Rattle.std.specs.Prelude.{◌≡◌, ℕ, zero, suc, IfOk, List, Option, Some, None, Result, Ok, Err}
 use Rattle.build_report.specs.declared.fault.RunFault.{RunFault}
-use Rattle.core_contract.specs.Disciplines.{Discipline, LegalBy, own_discipline}
+use Rattle.core_contract.specs.Discipline.{Discipline}
+use Rattle.core_contract.specs.Disciplines.{own_discipline}
 use Rattle.delay_rules.specs.Bounds.{DelayedKept}
 use Rattle.delay_rules.specs.Delayed.{delayed_discipline}
 use Rattle.exec_journal.specs.Entry.{Entry}
@@ -11,7 +12,6 @@ use Rattle.outside.specs.Told.{FloorTold, SameFloor}
 use Rattle.outside.specs.declared.floor.FloorRead.{FloorRead}
 use Rattle.run_loading.specs.Reads.{Reads}
 use Rattle.run_plan.specs.declared.plan.Plan.{Plan}
-use Rattle.run_plan.specs.Groups.{berths}
 use Rattle.run_tasks.specs.declared.task.Task.{Task}
 use Rattle.spawn_strategies.specs.declared.types.SpawnOptions.{SpawnOptions}
 use Rattle.spawn_tasks.specs.Course.{SpawnCourse}
@@ -19,7 +19,7 @@ use Rattle.spawn_tasks.specs.declared.faults.NoSpawn.{NoSpawn}
 use Rattle.spawn_tasks.specs.declared.faults.NoSpawn.TheVariants as no
 use Rattle.spawn_tasks.specs.declared.tasks.SpawnTask.{SpawnTask}
 use Rattle.worker_run.specs.Ends.{HasCourseBy}
-use Rattle.worker_run.specs.Headline.{Head, TaskKeeps}
+use Rattle.worker_run.specs.Headline.{TaskKeeps}
 use Rattle.worker_run.specs.Pacing.{PacesRun}
 use Rattle.worker_run.specs.Seen.{EndedTold, nothing_left}
 
@@ -37,14 +37,12 @@ abbrev pub kept_by : ℕ → Plan → List Entry → Type 0
 kept_by zero p = Kept p
 kept_by (suc n) p = DelayedKept p (suc n)
 
--- all of the plan's berths have lanes
-abbrev pub spawn_head : ℕ → Task → Head
-spawn_head delay t = record {
-  discipline = discipline_by delay t.plan;
-  legal = LegalBy (discipline_by delay t.plan);
-  kept = kept_by delay t.plan;
-  lanes = berths t.plan;
-}
+-- those of a task's plan
+abbrev pub spawn_rules : ℕ → Task → Discipline
+spawn_rules delay t = discipline_by delay t.plan
+
+abbrev pub spawn_kept : ℕ → Task → List Entry → Type 0
+spawn_kept delay t = kept_by delay t.plan
 
 -- ---- what was read
 
@@ -74,7 +72,7 @@ pub record SpawnKeeps {W : Type 0} (options : Option SpawnOptions) (before : Flo
   -- what was read led to the task that was run, with this delay, or to the fault
   pub course : HasCourseBy (SpawnRead delay options) (λ made. made.task) before end
   -- by the rules of this delay
-  pub task : TaskKeeps (spawn_head delay) before end
+  pub task : TaskKeeps (spawn_rules delay) (spawn_kept delay) before end
   pub paces : SpawnPaces told delay pacer after end
 
 -- No strategy supports this action, which is the first such. The list was read with its work; no

@@ -7,7 +7,7 @@ ghost use Rattle.std.specs.Prelude.{◌≡◌, None, Some, map, string_bytes};
 ghost use Rattle.outside.specs.Causes.{Counts};
 ghost use Rattle.spawn_strategies.specs.SpawnOptions.{spawn_options_of};
 ghost use Rattle.spawn_tasks.specs.Tasks.{MayBeSpawned};
-ghost use Rattle.spawn_runs.specs.Headline.{SpawnPaces, StrategicKeeps, spawn_head};
+ghost use Rattle.spawn_runs.specs.Headline.{SpawnPaces, StrategicKeeps, spawn_kept, spawn_rules};
 ghost use Rattle.worker_run.specs.Ends.{IsEndOf, Reports};
 ghost use Rattle.worker_run.specs.Headline.{TaskKeeps};
 ghost use Rattle.worker_run.specs.Seen.{ended_told, nothing_left};
@@ -107,7 +107,8 @@ where
     <F::Berth as Berth>::Child: Send,
     requires { MayBeSpawned made }
     ensures refused { result.refused ≡ None }
-    ensures task { TaskKeeps (spawn_head made.delay) (F.told floor) result.ended }
+    ensures task { TaskKeeps (spawn_rules made.delay) (spawn_kept made.delay) (F.told floor)
+        result.ended }
     ensures paces { SpawnPaces W.told made.delay pacer result.pacer result.ended }
     ensures ended { IsEndOf made.task result.ended.fault result.ended.task }
     // Nothing more is read from the floor.

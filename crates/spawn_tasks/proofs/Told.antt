@@ -2,8 +2,6 @@
 use Rattle.std.proofs.Common.{◌≡◌, ℕ, ◌≤◌, List, [], ◌∷◌, length, map, Option, None, Result, Ok, Err, IfOk, refl, sym, ap, subst, ◌∙◌}
 use Rattle.action_list.specs.Lists.{list_of}
 use Rattle.build_report.specs.declared.fault.RunFault.TheVariants as fault
-use Rattle.core_contract.specs.Disciplines.{own_discipline}
-use Rattle.history_laws.specs.Ruled.{terms_in}
 use Rattle.list_actions.specs.declared.faults.ListFault.{ListFault}
 use Rattle.list_actions.specs.declared.types.ActionList.{ActionList}
 use Rattle.list_actions.specs.Made.{maker_of}
@@ -97,7 +95,7 @@ module _ (o : SpawnOptions) (limits : AreSpawnLimits o) (list : ActionList)
         sound = subst Sound same (sound p chosen);
         twin = is.twin ∙ same;
         berths = subst HasBerths same (has_berths o list.actions p limits chosen);
-        work = subst (λ (q : Plan). IsWorkOf (terms_in (own_discipline q)) made.task.work.actions)
+        work = subst (λ (q : Plan). IsWorkOf q made.task.work.actions)
             same (works o list.actions whole loaded.files work.actions loaded.loaded p
             made.task.work.actions chosen h.1);
         settings = settled p made is;

@@ -4,9 +4,7 @@ use Rattle.std.proofs.lemmas.List.{length-map, map-append}
 use Rattle.std.specs.List.{All, filter_map}
 use Rattle.action_list.specs.Keys.{keys_of}
 use Rattle.action_list.specs.Plans.{plan_actions}
-use Rattle.core_contract.specs.Disciplines.{own_discipline}
 use Rattle.flag_files.specs.declared.expanding.FlagFault.{FlagFault}
-use Rattle.history_laws.specs.Ruled.{terms_in}
 use Rattle.list_actions.specs.declared.types.ListAction.{ListAction}
 use Rattle.list_actions.specs.Made.{maker_of, producer_from, producer_in}
 use Rattle.list_actions.specs.Whole.{IsWhole}
@@ -175,7 +173,7 @@ module _ (o : SpawnOptions) (xs : List ListAction) (whole : IsWhole xs) (files :
 
   pub works : (p : Plan) (vs : List WorkAction) → choice_by o xs ≡ Ok p
       → all_worded (chosen_names o.strategies xs) xs ws ≡ map (λ w. Ok w) vs
-      → IsWorkOf (terms_in (own_discipline p)) vs
+      → IsWorkOf p vs
   unfolding choice_of
   works p vs chosen worded_all =
       let words = o.strategies in
@@ -192,7 +190,7 @@ module _ (o : SpawnOptions) (xs : List ListAction) (whole : IsWhole xs) (files :
       ∙ planned_alike (name_of words) (keys_of ys) (keys_of xs) [] xs in
       let all = all_work (keys_of xs) files xs ws whole.ordered whole.few_outputs loaded in
       let k = kept ns xs ws vs as_many worded_all in
-      subst (λ (q : Plan). IsWorkOf (terms_in (own_discipline q)) vs) is.1 (record {
+      subst (λ (q : Plan). IsWorkOf q vs) is.1 (record {
         as_many = k.0 ∙ all.0 ∙ sym (length-map loaded_plan seen) ∙ ap length (sym alike)
             ∙ length-map due.actions seen;
         each = λ a v at. let w = k.1 a v at in

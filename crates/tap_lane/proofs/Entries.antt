@@ -15,7 +15,9 @@ use Rattle.exec_journal.specs.declared.call.HowEnded.{HowEnded}
 use Rattle.exec_journal.specs.declared.reply.Reply.{Reply}
 use Rattle.exec_journal.specs.declared.reply.Reply.TheVariants as reply
 use Rattle.exec_journal.specs.Entries.{is_kept}
-use Rattle.core_contract.specs.Terms.{Terms}
+use Rattle.core_contract.specs.Keeps.{Keeps}
+use Rattle.core_contract.specs.Ruled.{answer_after}
+use Rattle.core_contract.specs.Discipline.{Discipline}
 use Rattle.core_contract.specs.Moves.{Past, History, proxy_move, tap_move}
 use Rattle.core_contract.specs.Laws.{is_short, says_file, fits, Fits, InScript, tap_lane, Hearing, Free, Hears, Over, hearing_then, hearing_of, may_hear}
 use Rattle.core_bench.specs.declared.shelf.Good.{Good}
@@ -183,13 +185,12 @@ halt_may own n = halt_by (hearing_of own) n
 
 -- ---- the calls of a lane's pass, by a core's laws
 
-module _ {M G Q : Type 0} {g : Ghosts M Call Reply G Q} (rule : Q → History → ℕ → Call → Reply)
-    (seats : Q → ℕ)
-    (replies : (q : Q) (h : History) (lane : ℕ) (c : Call) → Fits c (rule q h lane c))
-    (hear : (q : Q) (h : History) (w : ℕ) (c : Call) → w < seats q
-    → MayHear (calls_by (tap_lane w) h) c → InScript (rule q) h (tap_lane w) c)
-    (comes : Q → Out G) (p p' : Pass M Call Reply G Q g) (is : IsTapLane (seats (basis p)) p.lane)
-    (r : Reply) (good : Option G) where
+module _ {M G Q : Type 0} {g : Ghosts M Call Reply G Q} (rules : Q → Discipline)
+    (law : (q : Q) → Keeps (rules q)) (comes : Q → Out G) (p p' : Pass M Call Reply G Q g)
+    (is : IsTapLane (rules (basis p)).seats p.lane) (r : Reply) (good : Option G) where
+  abbrev rule : Q → History → ℕ → Call → Reply
+  rule q = answer_after (rules q)
+
   -- so the call was answered, and this came out
   abbrev pub IsAnswered : Call → Type 0
   IsAnswered c = Met (rule (basis p)) (comes (basis p)) p.lane p.seat.me.0 c r good p'.seat.me.0
@@ -197,9 +198,9 @@ module _ {M G Q : Type 0} {g : Ghosts M Call Reply G Q} (rule : Q → History �
   pub called_by : (c : Call) → NoFile c → MayHear (mine p) c → IsAnswered c
       → Called (rule (basis p)) (comes (basis p)) p.lane (mine p) (mine p') c r good
   called_by c no_file may a =
-      called (rule (basis p)) (comes (basis p)) (seats (basis p)) p.lane p.seat.me.0 p'.seat.me.0 c
-      r good no_file (λ h. replies (basis p) h p.lane c)
-      (λ h w below here. hear (basis p) h w c below here) is p.idle.3 may a
+      called (rule (basis p)) (comes (basis p)) (rules (basis p)).seats p.lane p.seat.me.0
+      p'.seat.me.0 c r good no_file (λ h. (law (basis p)).replies h p.lane c)
+      (λ h w below here. (law (basis p)).taps_hear h w c below here) is p.idle.3 may a
 
   pub told_answer : (l : ℕ) (x : Answer) → hearing_of (mine p) ≡ Hears l
       → IsAnswered (call.Answer l x)
@@ -235,8 +236,8 @@ odd : (w : ℕ) → ((2 * w + 1) % 2 == 0) ≡ false
 odd w = ne_eqb ((2 * w + 1) % 2) 0 (λ e. omega arith)
 
 module _ {K T P : Type 0} (child : K → ChildTold) (tap : T → TapTold) (place : P → PlaceTold)
-    (terms : Terms) where
-  tap_is : (l : ℕ) (g : Option (Good K T P)) (t : T) → IsTap child tap place terms l g
+    (discipline : Discipline) where
+  tap_is : (l : ℕ) (g : Option (Good K T P)) (t : T) → IsTap child tap place discipline l g
       → tap_good g ≡ Some t → IsTapOf tap l t
   tap_is l (Some (good.Tap u)) t is e = subst (IsTapOf tap l) (cc) is
   tap_is l (Some (good.Line k u)) t is e = absurd is
@@ -244,7 +245,7 @@ module _ {K T P : Type 0} (child : K → ChildTold) (tap : T → TapTold) (place
   tap_is l (Some (good.Place p)) t is e = absurd is
   tap_is l None t is e = absurd is
 
-  no_tap : (l : ℕ) (g : Option (Good K T P)) → IsTap child tap place terms l g
+  no_tap : (l : ℕ) (g : Option (Good K T P)) → IsTap child tap place discipline l g
       → tap_good g ≡ None → ⊥
   no_tap l (Some (good.Tap u)) is e = cc
   no_tap l (Some (good.Line k u)) is e = is
@@ -254,25 +255,25 @@ module _ {K T P : Type 0} (child : K → ChildTold) (tap : T → TapTold) (place
 
   out_is : (h : History) (lane w l : ℕ) (r : Reply) (g : Option (Good K T P))
       → lane ≡ tap_lane w → r ≡ reply.Line l
-      → ComesOut child tap place terms h lane call.Take r g → IsTap child tap place terms l g
+      → ComesOut child tap place discipline h lane call.Take r g → IsTap child tap place discipline l g
   out_is h lane w l r g lane_is is out =
       let line : Reply = reply.Line l in
-      let at : ComesOut child tap place terms h (tap_lane w) call.Take line g =
-      subst (λ (k : ℕ). ComesOut child tap place terms h k call.Take line g) lane_is
-      (subst (λ (x : Reply). ComesOut child tap place terms h lane call.Take x g) is out) in
-      subst (λ (b : Bool). Comes child tap place terms h (tap_lane w / 2)
+      let at : ComesOut child tap place discipline h (tap_lane w) call.Take line g =
+      subst (λ (k : ℕ). ComesOut child tap place discipline h k call.Take line g) lane_is
+      (subst (λ (x : Reply). ComesOut child tap place discipline h lane call.Take x g) is out) in
+      subst (λ (b : Bool). Comes child tap place discipline h (tap_lane w / 2)
       (cond b (proxy_move call.Take line) (tap_move call.Take line)) g) (odd w) at
 
   -- with the line that a Take was answered its tap came out
   pub tap_out : (h : History) (lane w l : ℕ) (r : Reply) (g : Option (Good K T P)) (o : Option T)
       (t : T) → lane ≡ tap_lane w → r ≡ reply.Line l
-      → ComesOut child tap place terms h lane call.Take r g → o ≡ tap_good g → o ≡ Some t
+      → ComesOut child tap place discipline h lane call.Take r g → o ≡ tap_good g → o ≡ Some t
       → IsTapOf tap l t
   tap_out h lane w l r g o t lane_is is out e s =
       tap_is l g t (out_is h lane w l r g lane_is is out) (sym e ∙ s)
 
   pub tap_must : (h : History) (lane w l : ℕ) (r : Reply) (g : Option (Good K T P)) (o : Option T)
       → lane ≡ tap_lane w → r ≡ reply.Line l
-      → ComesOut child tap place terms h lane call.Take r g → o ≡ tap_good g → o ≡ None → ⊥
+      → ComesOut child tap place discipline h lane call.Take r g → o ≡ tap_good g → o ≡ None → ⊥
   tap_must h lane w l r g o lane_is is out e s =
       no_tap l g (out_is h lane w l r g lane_is is out) (sym e ∙ s)

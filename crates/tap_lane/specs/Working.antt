@@ -4,7 +4,7 @@ use Rattle.seat_desk.specs.declared.machine.Machine.{Ghosts}
 use Rattle.seat_desk.specs.Passes.{IsSamePass, mine, basis}
 use Rattle.exec_journal.specs.declared.call.Call.{Call}
 use Rattle.exec_journal.specs.declared.reply.Reply.{Reply}
-use Rattle.core_contract.specs.Terms.{Terms}
+use Rattle.core_contract.specs.Discipline.{Discipline}
 use Rattle.core_contract.specs.Moves.{History}
 use Rattle.core_contract.specs.Laws.{Hearing, hearing_of}
 use Rattle.tap_lane.specs.Heard.{IsTapLane}
@@ -20,12 +20,12 @@ module _ {M G Q : Type 0} {g : Ghosts M Call Reply G Q} where
   own x = mine x.caller.pass
 
   -- it is the tap lane of one of the berths
-  abbrev pub IsOfBerth : (Q → Terms) → TapLane M Call Reply G Q g → Type 0
-  IsOfBerth terms x = IsTapLane (terms (basis x.caller.pass)).berths (number x)
+  abbrev pub IsOfBerth : (Q → Discipline) → TapLane M Call Reply G Q g → Type 0
+  IsOfBerth rules x = IsTapLane (rules (basis x.caller.pass)).seats (number x)
 
   -- so it is, and this is what it hears now
-  pub record IsAt (terms : Q → Terms) (now : Hearing) (x : TapLane M Call Reply G Q g) : Type 0 where
-    pub lane : IsOfBerth terms x
+  pub record IsAt (rules : Q → Discipline) (now : Hearing) (x : TapLane M Call Reply G Q g) : Type 0 where
+    pub lane : IsOfBerth rules x
     pub hears : hearing_of (own x) ≡ now
 
   -- it has the pass that it had, and its lines speak what they spoke

@@ -53,7 +53,7 @@ impl<'a, B: Berth, P: Place, C: Rules> TapLane<'a, Bench<B, P, C>> {
     ///
     /// Returns `NoMemory` if memory runs out. Then no line was taken.
     pub(crate) fn take<R: Wait>(&mut self, rt: &R) -> Result<Took<B::Tap>, NoMemory>
-        requires { IsAt C.terms Free self.old }
+        requires { IsAt C.discipline Free self.old }
         ensures same { IsSameLane self.old self.new }
         ensures ok { IfOk result (λ took. HasTaken (IsTapOf B.Tap.told) (number self.old)
             (own self.old) took (own self.new)) }
@@ -83,7 +83,7 @@ impl<'a, B: Berth, P: Place, C: Rules> TapLane<'a, Bench<B, P, C>> {
         line: u32,
         answer: Answer,
     ) -> Result<(), NoMemory>
-        requires { IsAt C.terms (Hears line) self.old }
+        requires { IsAt C.discipline (Hears line) self.old }
         ensures same { IsSameLane self.old self.new }
         ensures ok { OnOk result ((e : Past) × IsAnswer line answer e
             × (own self.new ≡ own self.old ++ e ∷ []) × (hearing_of (own self.new) ≡ Hears line)) }
@@ -106,7 +106,7 @@ impl<'a, B: Berth, P: Place, C: Rules> TapLane<'a, Bench<B, P, C>> {
         line: u32,
         how: HowEnded,
     ) -> Result<(), NoMemory>
-        requires { IsAt C.terms (Hears line) self.old }
+        requires { IsAt C.discipline (Hears line) self.old }
         ensures same { IsSameLane self.old self.new }
         ensures ok { OnOk result ((own self.new ≡ own self.old
             ++ entry (number self.old) (call.Ended line how) reply.Noted ∷ [])
@@ -121,7 +121,7 @@ impl<'a, B: Berth, P: Place, C: Rules> TapLane<'a, Bench<B, P, C>> {
 
     /// Halts. The call takes no memory.
     pub(crate) fn halt<R: Wait>(&mut self, rt: &R)
-        requires lane { IsOfBerth C.terms self.old }
+        requires lane { IsOfBerth C.discipline self.old }
         requires goes_on { hearing_of (own self.old) ≢ Over }
         ensures same { IsSameLane self.old self.new }
         ensures halted { own self.new ≡ own self.old

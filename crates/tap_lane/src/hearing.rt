@@ -38,7 +38,7 @@ impl<'a, B: Berth, P: Place, C: Rules> TapLane<'a, Bench<B, P, C>> {
         line: u32,
         tap: &mut B::Tap,
     ) -> Result<(), TapHalt>
-        requires hears { IsAt C.terms (laws.Hears line) self.old }
+        requires hears { IsAt C.discipline (laws.Hears line) self.old }
         requires tap { IsTapOf B.Tap.told line tap.old }
         ensures same { IsSameLane self.old self.new }
         ensures ok { OnOk result (HeardWhole self.old.speech (number self.old) line
@@ -60,10 +60,10 @@ impl<'a, B: Berth, P: Place, C: Rules> TapLane<'a, Bench<B, P, C>> {
     // Reports each answer of a line, up to its end. Memory runs out only for bytes that were taken,
     // while the tap is open.
     fn listen<R: Wait>(&mut self, rt: &R, line: u32, tap: &mut B::Tap) -> Result<HowEnded, NoMemory>
-        requires hears { IsAt C.terms (laws.Hears line) self.old }
+        requires hears { IsAt C.discipline (laws.Hears line) self.old }
         requires tap { IsTapOf B.Tap.told line tap.old }
         ensures same { IsSameLane self.old self.new }
-        ensures hears { IsAt C.terms (laws.Hears line) self.new }
+        ensures hears { IsAt C.discipline (laws.Hears line) self.new }
         ensures ok { IfOk result (λ how. HasHeard self.old.speech line (B.Tap.told tap.new)
             (Some how) (own self.old) (own self.new)) }
         ensures err { OnErr result (HasHeard self.old.speech line (B.Tap.told tap.new) None
@@ -94,9 +94,9 @@ impl<'a, B: Berth, P: Place, C: Rules> TapLane<'a, Bench<B, P, C>> {
         line: u32,
         reader: &mut AnswerReader,
     ) -> Result<bool, NoMemory>
-        requires { IsAt C.terms (laws.Hears line) self.old }
+        requires { IsAt C.discipline (laws.Hears line) self.old }
         ensures same { IsSameLane self.old self.new }
-        ensures hears { IsAt C.terms (laws.Hears line) self.new }
+        ensures hears { IsAt C.discipline (laws.Hears line) self.new }
         ensures ok { IfOk result (λ whole. (speech : Speech) (fed : List ℕ) (answers : List Answer)
             → Hears speech fed answers reader.old
             → Went line answers (own self.old) (own self.new)

@@ -29,7 +29,7 @@ impl<'a, B: Berth, P: Place, C: Rules> TapLane<'a, Bench<B, P, C>> {
     /// Reads one line after another until the lane is told to stop. If memory runs out, the lane
     /// halts.
     pub(crate) fn hear_all<R: Wait>(&mut self, rt: &R) -> TapLeft<B::Tap>
-        requires free { IsAt C.terms Free self.old }
+        requires free { IsAt C.discipline Free self.old }
         requires fresh { own self.old ≡ [] }
         ensures same { IsSameLane self.old self.new }
         ensures ends { LaneEnds self.old.speech (number self.old) result.halted
@@ -52,7 +52,7 @@ impl<'a, B: Berth, P: Place, C: Rules> TapLane<'a, Bench<B, P, C>> {
         rt: &R,
         taps: &mut Vec<EndedTap<B::Tap>>,
     ) -> Result<(), TapHalt>
-        requires free { IsAt C.terms Free self.old }
+        requires free { IsAt C.discipline Free self.old }
         requires fresh { (own self.old ≡ []) × (taps.old.items ≡ []) }
         ensures same { IsSameLane self.old self.new }
         ensures ok { OnOk result (LaneEnds self.old.speech (number self.old) None

@@ -37,7 +37,7 @@ impl<B: Berth, P: Place, C: Rules> Lane<Desk<Bench<B, P, C>>, Pass<Bench<B, P, C
     type End = TapLeft<B::Tap>;
 
     ghost may_run = { λ self desk bells pass. IsPassOf desk pass × IsFresh pass
-        × (pass.lane ≡ tap_lane self.berth) × (self.berth < (C.terms (basis pass)).berths)
+        × (pass.lane ≡ tap_lane self.berth) × (self.berth < (C.discipline (basis pass)).seats)
         × (pass.lane < bells) };
 
     ghost has_run = { λ self pass left after. IsSamePass pass after
@@ -56,7 +56,7 @@ impl<B: Berth, P: Place, C: Rules> Lane<Desk<Bench<B, P, C>>, Pass<Bench<B, P, C
             berth,
             speech,
         } = self;
-        let caller = Caller::new(desk, bells, pass, 2 * berth + 1);
+        let caller = Caller::new(desk, bells, pass);
         let mut lane = TapLane {
             alloc,
             speech,

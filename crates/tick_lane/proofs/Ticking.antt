@@ -9,7 +9,9 @@ use Rattle.exec_journal.specs.declared.call.Call.{Call}
 use Rattle.exec_journal.specs.declared.call.Call.TheVariants as call
 use Rattle.exec_journal.specs.declared.reply.Reply.{Reply}
 use Rattle.exec_journal.specs.Entries.{is_kept}
-use Rattle.core_contract.specs.Terms.{Terms}
+use Rattle.core_contract.specs.Discipline.{Discipline}
+use Rattle.core_contract.specs.Keeps.{Keeps}
+use Rattle.core_contract.specs.Ruled.{answer_after}
 use Rattle.core_contract.specs.Moves.{History}
 use Rattle.core_contract.specs.Laws.{InScript, is_short, says_file, Fits}
 use Rattle.core_contract.specs.Duties.{Duty, Asks, Launches, Sends, Cancels, Gathers, Commits, Kills, Left, duty_of, may_besides, proxy_lane}
@@ -29,37 +31,36 @@ asks_only (Commits a b fs) e = absurd (cc)
 asks_only (Kills l) e = absurd (cc)
 asks_only Left e = absurd (cc)
 
-module _ {M G Q : Type 0} {g : Ghosts M Call Reply G Q} (terms : Q → Terms)
-    (ticks : Q → ℕ → Bool) (rule : Q → History → ℕ → Call → Reply) (w : ℕ)
-    (p p' : Pass M Call Reply G Q g) where
+module _ {M G Q : Type 0} {g : Ghosts M Call Reply G Q} (rules : Q → Discipline)
+    (law : (q : Q) → Keeps (rules q)) (w : ℕ) (p p' : Pass M Call Reply G Q g) where
+  abbrev rule : Q → History → ℕ → Call → Reply
+  rule q = answer_after (rules q)
+
   -- a lane that makes Ticks is one still
-  pub still_ticker : IsSamePass p p' → IsTicker terms ticks w p → IsTicker terms ticks w p'
+  pub still_ticker : IsSamePass p p' → IsTicker rules w p → IsTicker rules w p'
   still_ticker same is = record {
     proxy = (
       same.1 ∙ is.proxy.0,
-      subst (λ (q : Q). w < (terms q).berths) (sym same.2) is.proxy.1,
+      subst (λ (q : Q). w < (rules q).seats) (sym same.2) is.proxy.1,
     );
-    makes = subst (λ (q : Q). ticks q (proxy_lane w) ≡ true) (sym same.2) is.makes;
+    makes = subst (λ (q : Q). (rules q).ticks (proxy_lane w) ≡ true) (sym same.2) is.makes;
   }
 
   abbrev Makes : History → Reply → Type 0
   Makes h r = Called (rule (basis p)) p.lane h (seen p) (mine p) (seen p') (mine p') call.Tick r
 
   -- a Tick that was answered so
-  pub ticked : ((q : Q) (h : History) (lane : ℕ) (c : Call) → Fits c (rule q h lane c))
-      → ((q : Q) (h : History) (v : ℕ) → v < (terms q).berths → ticks q (proxy_lane v) ≡ true
-      → duty_of (calls_by (proxy_lane v) h) ≡ Asks → InScript (rule q) h (proxy_lane v) call.Tick)
-      → IsTicker terms ticks w p → duty_of (mine p) ≡ Asks → (h : History) (r : Reply)
+  pub ticked : IsTicker rules w p → duty_of (mine p) ≡ Asks → (h : History) (r : Reply)
       → GoesOn p.lane (seen p) h
       × IsReply (rule (basis p)) is_short (λ k n x. says_file (rule (basis p) k n x) ≡ true) h
       p.lane call.Tick r
       × Grows keeps p.lane p.seat.me.0 h (entry p.lane call.Tick r) p'.seat.me.0
       → Makes h r
-  ticked fit makes of asks h r a =
+  ticked of asks h r a =
       called (rule (basis p)) p.lane w may_besides p.seat.me.0 p'.seat.me.0 call.Tick r h a.0 a.2
       p.idle.3 of.proxy.0 (ap (λ (s : Duty). may_besides s call.Tick) asks)
-      (λ k. fit (basis p) k p.lane call.Tick)
-      (λ k may. makes (basis p) k w of.proxy.1 of.makes
+      (λ k. (law (basis p)).replies k p.lane call.Tick)
+      (λ k may. (law (basis p)).tickers_may_tick k w of.proxy.1 of.makes
       (asks_only (duty_of (calls_by (proxy_lane w) k)) may)) a.1 never_ticked
 
   -- its entry, where that is kept

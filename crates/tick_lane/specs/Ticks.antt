@@ -1,5 +1,5 @@
 -- The Ticks of a lane.
-use Rattle.std.specs.Prelude.{◌≡◌, ℕ, Bool, true, [], ◌∷◌, ◌++◌, replicate}
+use Rattle.std.specs.Prelude.{◌≡◌, ℕ, true, [], ◌∷◌, ◌++◌, replicate}
 use Rattle.seat_desk.specs.declared.machine.Machine.{Ghosts}
 use Rattle.seat_desk.specs.declared.desk.Pass.{Pass}
 use Rattle.seat_desk.specs.History.{entry}
@@ -8,7 +8,7 @@ use Rattle.exec_journal.specs.declared.call.Call.{Call}
 use Rattle.exec_journal.specs.declared.call.Call.TheVariants as call
 use Rattle.exec_journal.specs.declared.reply.Reply.{Reply}
 use Rattle.exec_journal.specs.declared.reply.Reply.TheVariants as reply
-use Rattle.core_contract.specs.Terms.{Terms}
+use Rattle.core_contract.specs.Discipline.{Discipline}
 use Rattle.core_contract.specs.Moves.{Past, History}
 use Rattle.core_contract.specs.Duties.{proxy_lane}
 use Rattle.proxy_calls.specs.Calls.{IsProxyOf}
@@ -19,10 +19,10 @@ use Rattle.tick_lane.specs.declared.seat.TickEnd.TheVariants as end
 use Rattle.tick_lane.specs.Pacers.{RoseBy}
 
 -- the pass is that of the proxy lane of the berth w, which makes Ticks
-pub record IsTicker {M G Q : Type 0} {g : Ghosts M Call Reply G Q} (terms : Q → Terms)
-    (ticks : Q → ℕ → Bool) (w : ℕ) (p : Pass M Call Reply G Q g) : Type 0 where
-  pub proxy : IsProxyOf terms w p
-  pub makes : ticks (basis p) (proxy_lane w) ≡ true
+pub record IsTicker {M G Q : Type 0} {g : Ghosts M Call Reply G Q} (rules : Q → Discipline)
+    (w : ℕ) (p : Pass M Call Reply G Q g) : Type 0 where
+  pub proxy : IsProxyOf rules w p
+  pub makes : (rules (basis p)).ticks (proxy_lane w) ≡ true
 
 abbrev pub reply_of : Ticked → Reply
 reply_of told.Noted = reply.Noted

@@ -52,7 +52,7 @@ pub(crate) fn make_tick<B: Berth, P: Place, C: Rules, R: Wait>(
     caller: &mut Caller<'_, Bench<B, P, C>>,
     berth: u32,
 ) -> Result<Ticked, NoMemory>
-    requires lane { IsTicker C.terms C.ticks berth caller.old.pass }
+    requires lane { IsTicker C.discipline berth caller.old.pass }
     requires asks { duty_of (mine caller.old.pass) ≡ Asks }
     ensures same { IsSamePass caller.old.pass caller.new.pass }
     ensures ok { IfOk result (λ told. MakesOne call.Tick (reply_of told)

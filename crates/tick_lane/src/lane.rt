@@ -27,7 +27,7 @@ pub(crate) fn tick_on<W: Pacer, B: Berth, P: Place, C: Rules, R: Wait>(
     berth: u32,
     pacer: &mut W,
 ) -> Result<(), NoMemory>
-    requires lane { IsTicker C.terms C.ticks berth caller.old.pass }
+    requires lane { IsTicker C.discipline berth caller.old.pass }
     requires fresh { mine caller.old.pass ≡ [] }
     ensures same { IsSamePass caller.old.pass caller.new.pass }
     ensures ok { OnOk result (HasTicked caller.old.pass.lane (W.told pacer.old)

@@ -52,7 +52,7 @@ impl<W: Pacer, B: Berth, P: Place, C: Rules> Lane<Desk<Bench<B, P, C>>, Pass<Ben
     type End = TickLeft<W>;
 
     ghost may_run = { λ self desk bells pass. IsPassOf desk pass × IsFresh pass
-        × IsTicker C.terms C.ticks self.berth pass × (pass.lane < bells) };
+        × IsTicker C.discipline self.berth pass × (pass.lane < bells) };
 
     ghost has_run = { λ self pass left after. IsSamePass pass after
         × LaneTicks pass.lane (W.told self.pacer) (W.told left.pacer) left.end (mine after) };
@@ -65,7 +65,7 @@ impl<W: Pacer, B: Berth, P: Place, C: Rules> Lane<Desk<Bench<B, P, C>>, Pass<Ben
         pass: Pass<Bench<B, P, C>>,
     ) -> (TickLeft<W>, Pass<Bench<B, P, C>>) {
         let TickSeat { berth, mut pacer } = self;
-        let mut caller = Caller::new(desk, bells, pass, 2 * berth);
+        let mut caller = Caller::new(desk, bells, pass);
         let end = match tick_on(rt, &mut caller, berth, &mut pacer) {
             Ok(()) => TickEnd::Stopped,
             Err(NoMemory) => {

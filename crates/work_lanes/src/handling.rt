@@ -88,12 +88,12 @@ impl<O: Sink, X: Drop, Y: Drop, H: Answerer<X, Y>> Lane<
     ) -> (HandsLeft<H>, Pass<WorkQueue<O, X, Y, H>>) {
         let Hands {
             alloc,
-            number,
+            number: _,
             handler,
             flag,
         } = self;
         let mut handler = handler;
-        let mut caller = Caller::new(desk, bells, pass, number);
+        let mut caller = Caller::new(desk, bells, pass);
         let end = work(rt, alloc, &mut caller, &mut handler, &flag);
         if end.is_err() {
             halt(rt, &mut caller);

@@ -76,7 +76,7 @@ impl<T: Tap, O: Sink, X: Drop, Y: Drop, H: Answerer<X, Y>> Lane<
             depth,
         } = self;
         let mut input = input;
-        let mut caller = Caller::new(desk, bells, pass, READER);
+        let mut caller = Caller::new(desk, bells, pass);
         let finish = read_all(rt, alloc, &mut caller, &mut input, depth);
         match finish {
             Finish::NoMemory => halt_reading(rt, &mut caller),

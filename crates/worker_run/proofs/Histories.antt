@@ -10,7 +10,7 @@ use Rattle.lane_runs.specs.Layout.{has_halt}
 use Rattle.lane_runs.specs.Runs.{IsStopped}
 use Rattle.core_contract.specs.Moves.{Past, History}
 use Rattle.history_laws.proofs.Going.{flip}
-use Rattle.history_laws.specs.Owed.{journal_of}
+use Rattle.core_contract.specs.Ruled.{journal_of}
 use Rattle.seat_desk.specs.History.{calls_by}
 
 -- ---- its entries with the newest first

@@ -11,7 +11,7 @@ use Rattle.proxy_deeds.specs.Lines.{Returned}
 use Rattle.lane_runs.specs.Runs.{EndTold, HasRun, Rooms}
 use Rattle.outside.specs.Told.{BerthTold, FloorTold, Makes, PlaceTold, SameFloor}
 use Rattle.remote_messages.specs.declared.work.WorkAction.{WorkAction}
-use Rattle.core_contract.specs.Terms.{Terms}
+use Rattle.core_contract.specs.Discipline.{Discipline}
 use Rattle.core_contract.specs.Moves.{History}
 use Rattle.core_bench.specs.Objects.{AreFresh}
 use Rattle.worker_run.proofs.Numbered.{new_berths, new_places}
@@ -118,13 +118,13 @@ during_is true = refl
 during_is false = refl
 
 -- what lanes have laid out is left where they ran
-pub ran_whole : (legal : History → Type 0) (rule : History → ℕ → Call → Reply)
-    (terms : Terms) (speeches : List Speech) (settings : Settings) (work : List WorkAction)
+pub ran_whole : (q : Discipline) (speeches : List Speech) (settings : Settings)
+    (work : List WorkAction)
     (before : List BerthTold) (beside : ℕ) (x : Left) → AreNewBerths (length speeches) before
-    → HasRun legal rule terms speeches settings work before beside x
-    → WhereWhole (stage_of x.halted) (LanesRan legal rule terms speeches settings work beside
+    → HasRun q speeches settings work before beside x
+    → WhereWhole (stage_of x.halted) (LanesRan q speeches settings work beside
     (stage_of x.halted) x)
-ran_whole legal rule terms speeches settings work before beside x new run = where_whole x.halted _
+ran_whole q speeches settings work before beside x new run = where_whole x.halted _
     (record { before = before; new = new; run = run; halted = during_is x.halted })
 
 -- ---- the end of a run

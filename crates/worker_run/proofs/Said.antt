@@ -15,10 +15,9 @@ use Rattle.exec_journal.specs.Settled.{all_settled, is_settled, standings, stand
 use Rattle.exec_journal.specs.Words.{halted, stopped}
 use Rattle.exec_journal.specs.declared.call.Call.{Call}
 use Rattle.exec_journal.specs.declared.reply.Reply.{Reply}
-use Rattle.core_contract.specs.Disciplines.{Discipline, IsDiscipline, LegalBy}
+use Rattle.core_contract.specs.Discipline.{Discipline}
+use Rattle.core_contract.specs.Disciplines.{IsDiscipline, LegalBy}
 use Rattle.core_contract.specs.Moves.{History}
-use Rattle.core_contract.specs.Terms.{Terms}
-use Rattle.history_laws.specs.Ruled.{CameAbout, answer_after, terms_in}
 use Rattle.journal_laws.proofs.Cleaned.{all_succeed}
 use Rattle.journal_laws.proofs.Known.{outcome_known, stopped_settled}
 use Rattle.history_laws.proofs.Fitting.{lawful}
@@ -36,13 +35,13 @@ use Rattle.remote_messages.specs.declared.work.WorkAction.{WorkAction}
 use Rattle.core_contract.specs.Duties.{proxy_lane}
 use Rattle.proxy_deeds.specs.declared.settings.Settings.{Settings}
 use Rattle.run_tasks.specs.declared.task.Task.{Task}
-use Rattle.history_laws.specs.Owed.{journal_of, outputs_in}
+use Rattle.core_contract.specs.Ruled.{answer_after, journal_of}
 use Rattle.worker_run.proofs.Histories.{halted_is, newest_is, stopped_is}
 use Rattle.worker_run.proofs.Unsaid.{rooms_unsaid, unsaid_at}
 use Rattle.worker_run.specs.Ends.{IsReportEnd, IsRunEnd, is_halted, status_by}
-use Rattle.worker_run.specs.Headline.{AllSucceed, GoesBy, HasOuts, HasPipes, HasRace, HasRooms, HasUnsaid, IsUnsaid, IsAccounted, IsComplete, IsPaired, IsStopped, OnRun, Succeeds, head_of, newest_first}
+use Rattle.worker_run.specs.Headline.{AllSucceed, AreRulesOf, HasOuts, HasPipes, HasRace, HasRooms, HasUnsaid, IsUnsaid, IsAccounted, IsComplete, IsPaired, IsStopped, OnRun, Succeeds, newest_first}
 use Rattle.worker_run.specs.Histories.{history_of}
-use Rattle.worker_run.specs.Lanes.{AreSettingsOf, AreNewBerths, IsUnused, LanesRan, WhereLost, WhereWhole, is_during}
+use Rattle.worker_run.specs.Lanes.{AreSettingsOf, AreNewBerths, FitsLanes, IsUnused, LanesRan, WhereLost, WhereWhole, is_during}
 use Rattle.worker_run.specs.Seen.{EndedTold, Left}
 
 finished : (p : Plan) (j : List Entry) → Sound p → Lawful p j → all_settled p j ≡ true
@@ -79,15 +78,14 @@ unfolding ends_of
 all_ok p j h = ok_from p j 0 p.actions
     (λ i x at. subst (λ n. is_ok (outcome_of p j n) ≡ true) (omega arith) (h i x at))
 
--- ---- by the discipline that the core goes by
+-- ---- by the discipline of the core
 
--- the lanes of this task ran by the rules of the discipline, and by the task's settings
+-- the lanes of this task ran by the discipline, and by the task's settings
 pub record RanBy (q : Discipline) (t : Task) (when : Option Stage) (x : Left) : Type 0 where
   pub settings : Settings
   pub of_task : AreSettingsOf t settings
   pub beside : ℕ
-  pub lanes : LanesRan (CameAbout q) (answer_after q) (terms_in q) t.speeches.items settings
-      t.work.actions beside when x
+  pub lanes : LanesRan q t.speeches.items settings t.work.actions beside when x
 
 whole_as : (when : Option Stage) (P Q : Type 0) → (P → Q) → WhereWhole when P → WhereWhole when Q
 whole_as None P Q f p = f p
@@ -95,69 +93,49 @@ whole_as (Some stage.During) P Q f p = f p
 whole_as (Some stage.Before) P Q f p = tt
 whole_as (Some stage.After) P Q f p = p
 
-module _ (legal : History → Type 0) (rule : History → ℕ → Call → Reply) (terms : Terms)
-    (t : Task) (q : Discipline) (lanes : ℕ) (goes : GoesBy legal rule terms t q lanes)
-    (beside : ℕ) (when : Option Stage) (x : Left) where
-  -- so they ran by these speeches, settings and work
-  abbrev pub HasRan : List Speech → Settings → List WorkAction → Type 0
-  HasRan spoken settings work = LanesRan legal rule terms spoken settings work beside when x
-
-  ruled : (settings : Settings) → AreSettingsOf t settings
-      → HasRan t.speeches.items settings t.work.actions → RanBy q t when x
-  ruled settings of_task ran = record {
-    settings = settings;
-    of_task = of_task;
-    beside = beside;
-    lanes = record {
-      before = ran.before;
-      new = ran.new;
-      run = record {
-        history = ran.run.history;
-        in_journal = ran.run.in_journal;
-        is_legal = goes.came ran.run.history ran.run.is_legal;
-        no_others = ran.run.no_others;
-        rooms = subst (λ (k : History → ℕ → Call → Reply). Rooms k settings t.work.actions
-            ran.run.history x.lines 0 t.speeches.items ran.before x.berths x.unsaid) goes.replies
-            ran.run.rooms;
-        pipes = ran.run.pipes;
-        outs = subst (λ (y : Terms). Outs y.outputs y.actions ran.run.history x.places) goes.reads
-            ran.run.outs;
-        halts = ran.run.halts;
-        stops = ran.run.stops;
-      };
-      halted = ran.halted;
-    };
-  }
-
-  -- where the speeches, the settings and the work are the task's
-  pub where_ruled : (spoken : List Speech) (settings : Settings) (work : List WorkAction)
-      → WhereWhole when (HasRan spoken settings work) → AreSettingsOf t settings
-      → spoken ≡ t.speeches.items → work ≡ t.work.actions → WhereWhole when (RanBy q t when x)
-  where_ruled spoken settings work ran of_task speeches actions =
-      whole_as when (HasRan t.speeches.items settings t.work.actions) (RanBy q t when x)
-      (ruled settings of_task)
-      (subst (λ (ws : List WorkAction). WhereWhole when (HasRan t.speeches.items settings ws))
-      actions (subst (λ (ss : List Speech). WhereWhole when (HasRan ss settings work)) speeches ran))
+-- so they did, where they ran by the task's speeches, settings and work
+pub where_ran : (q : Discipline) (t : Task) (beside : ℕ) (when : Option Stage) (x : Left)
+    (spoken : List Speech) (settings : Settings) (work : List WorkAction)
+    → WhereWhole when (LanesRan q spoken settings work beside when x) → AreSettingsOf t settings
+    → spoken ≡ t.speeches.items → work ≡ t.work.actions → WhereWhole when (RanBy q t when x)
+where_ran q t beside when x spoken settings work ran of_task speeches actions =
+    whole_as when (LanesRan q t.speeches.items settings t.work.actions beside when x)
+    (RanBy q t when x)
+    (λ lanes. record { settings = settings; of_task = of_task; beside = beside; lanes = lanes })
+    (subst (λ (ws : List WorkAction).
+    WhereWhole when (LanesRan q t.speeches.items settings ws beside when x)) actions
+    (subst (λ (ss : List Speech). WhereWhole when (LanesRan q ss settings work beside when x))
+    speeches ran))
 
 -- ---- what it says
 
-module _ (q : Task → Discipline) (lanes : Task → ℕ) (t : Task) (is : IsDiscipline (q t))
-    (plan : (q t).plan ≡ t.plan) (when : Option Stage) (x : Left) (ran : RanBy (q t) t when x) where
+module _ (q : Discipline) (is : IsDiscipline q) (t : Task) (fits : FitsLanes q t)
+    (when : Option Stage) (x : Left) (ran : RanBy q t when x) where
+  plan : q.plan ≡ t.plan
+  plan = fits.plan
+
   same : history_of x.journal ≡ ran.lanes.run.history
   same = ran.lanes.run.in_journal
 
   newest : journal_of ran.lanes.run.history ≡ newest_first x
   newest = newest_is ran.lanes.run.history ∙ ap reverse (sym ran.lanes.run.in_journal)
 
-  pub is_legal : LegalBy (q t) (newest_first x)
-  is_legal = subst (LegalBy (q t)) newest ran.lanes.run.is_legal.legal
+  pub are_rules : AreRulesOf (λ t. q) t x
+  are_rules = record { plan = fits.plan; served = fits.served }
 
-  pub is_sound : Sound t.plan
+  pub is_legal : LegalBy q (newest_first x)
+  is_legal = subst (LegalBy q) newest ran.lanes.run.is_legal.legal
+
+  pub is_kept : (orders : List Entry → Type 0)
+      → ((j : List Entry) → Sound q.plan → LegalBy q j → orders j) → orders (newest_first x)
+  is_kept orders keeps = keeps (newest_first x) ran.lanes.run.is_legal.sound is_legal
+
+  is_sound : Sound t.plan
   is_sound = subst Sound plan ran.lanes.run.is_legal.sound
 
   is_lawful : Lawful t.plan (newest_first x)
   is_lawful = subst (λ (p : Plan). Lawful p (newest_first x)) plan
-      (lawful (q t) is (newest_first x) is_legal)
+      (lawful q is (newest_first x) is_legal)
 
   pub has_race : HasRace t x
   has_race = race t.plan (newest_first x) is_lawful
@@ -175,63 +153,60 @@ module _ (q : Task → Discipline) (lanes : Task → ℕ) (t : Task) (is : IsDis
   has_pipes = subst (λ h. Pipes t.speeches.items h x.lines) (sym same) ran.lanes.run.pipes
 
   pub has_outs : HasOuts t x
-  has_outs = subst (λ h. Outs (outputs_in t.plan) (length t.plan.actions) h x.places) (sym same)
-      (subst (λ (p : Plan). Outs (outputs_in p) (length p.actions) ran.lanes.run.history x.places) plan
-      ran.lanes.run.outs)
+  has_outs = subst (λ h. Outs t.plan h x.places) (sym same)
+      (subst (λ (p : Plan). Outs p ran.lanes.run.history x.places) plan ran.lanes.run.outs)
 
   pub has_unsaid : HasUnsaid t x
   has_unsaid = record {
-    as_many = rooms_unsaid (answer_after (q t)) ran.settings t.work.actions
+    as_many = rooms_unsaid (answer_after q) ran.settings t.work.actions
         ran.lanes.run.history x.lines 0 t.speeches.items ran.lanes.before x.berths x.unsaid ran.lanes.run.rooms;
     each = λ w line is. subst (λ h. IsUnsaid h w line) (sym same)
         (subst (λ v. IsUnsaid ran.lanes.run.history v line) (let z : 0 + w ≡ w = omega arith in z)
-        (unsaid_at (answer_after (q t)) ran.settings t.work.actions ran.lanes.run.history x.lines
+        (unsaid_at (answer_after q) ran.settings t.work.actions ran.lanes.run.history x.lines
         0 t.speeches.items ran.lanes.before x.berths x.unsaid ran.lanes.run.rooms w line is));
   }
 
-  module _ (seats : length t.speeches.items ≡ lanes t) where
-    pub has_rooms : HasRooms (λ t. head_of (q t) (lanes t)) t x
-    has_rooms = record {
-      settings = ran.settings;
-      of_task = ran.of_task;
-      before = ran.lanes.before;
-      new = subst (λ n. AreNewBerths n ran.lanes.before) seats ran.lanes.new;
-      rooms = subst (λ h. Rooms (answer_after (q t)) ran.settings t.work.actions h x.lines 0
-          t.speeches.items ran.lanes.before x.berths x.unsaid) (sym same) ran.lanes.run.rooms;
-    }
+  pub has_rooms : HasRooms (λ t. q) t x
+  has_rooms = record {
+    settings = ran.settings;
+    of_task = ran.of_task;
+    before = ran.lanes.before;
+    new = subst (λ n. AreNewBerths n ran.lanes.before) fits.served ran.lanes.new;
+    rooms = subst (λ h. Rooms (answer_after q) ran.settings t.work.actions h x.lines 0
+        t.speeches.items ran.lanes.before x.berths x.unsaid) (sym same) ran.lanes.run.rooms;
+  }
 
-    pub is_stopped : IsStopped (λ t. head_of (q t) (lanes t)) t x
-    is_stopped = subst (λ n. Stops n (history_of x.journal)) seats
-        (subst (λ h. Stops (length t.speeches.items) h) (sym same) ran.lanes.run.stops)
+  pub is_stopped : IsStopped (λ t. q) t x
+  is_stopped = subst (λ n. Stops n (history_of x.journal)) fits.served
+      (subst (λ h. Stops (length t.speeches.items) h) (sym same) ran.lanes.run.stops)
 
-    stops_first : has_halt ran.lanes.run.history ≡ false → 0 < lanes t
-        → stopped (newest_first x) (proxy_lane 0) ≡ true
-    stops_first none some =
-        let stops : Stops (lanes t) ran.lanes.run.history =
-        subst (λ n. Stops n ran.lanes.run.history) seats ran.lanes.run.stops in
-        ap (λ (j : List Entry). stopped j (proxy_lane 0)) (sym newest)
-        ∙ stopped_is ran.lanes.run.history (proxy_lane 0) (stops none 0 some).0
+  stops_first : has_halt ran.lanes.run.history ≡ false → 0 < q.served
+      → stopped (newest_first x) (proxy_lane 0) ≡ true
+  stops_first none some =
+      let stops : Stops q.served ran.lanes.run.history =
+      subst (λ n. Stops n ran.lanes.run.history) fits.served ran.lanes.run.stops in
+      ap (λ (j : List Entry). stopped j (proxy_lane 0)) (sym newest)
+      ∙ stopped_is ran.lanes.run.history (proxy_lane 0) (stops none 0 some).0
 
-    unhalted : has_halt (history_of x.journal) ≡ false → halted (newest_first x) ≡ false
-    unhalted none = ap halted (sym newest)
-        ∙ (halted_is ran.lanes.run.history ∙ (ap has_halt (sym same) ∙ none))
+  unhalted : has_halt (history_of x.journal) ≡ false → halted (newest_first x) ≡ false
+  unhalted none = ap halted (sym newest)
+      ∙ (halted_is ran.lanes.run.history ∙ (ap has_halt (sym same) ∙ none))
 
-    module _ (has : lanes t ≡ 0 → t.plan.actions ≡ []) where
-      settles : (n : ℕ) → lanes t ≡ n → has_halt (history_of x.journal) ≡ false
-          → all_settled t.plan (newest_first x) ≡ true
-      settles zero is none = none_to_settle t.plan (newest_first x) (has is)
-      settles (suc n) is none = stopped_settled t.plan (newest_first x) (proxy_lane 0) is_lawful
-          (stops_first (ap has_halt (sym same) ∙ none) (subst (λ m. 0 < m) (sym is) (omega arith)))
-          (unhalted none)
+  settles : (n : ℕ) → q.served ≡ n → has_halt (history_of x.journal) ≡ false
+      → all_settled t.plan (newest_first x) ≡ true
+  settles zero is none = none_to_settle t.plan (newest_first x) (fits.settled is)
+  settles (suc n) is none = stopped_settled t.plan (newest_first x) (proxy_lane 0) is_lawful
+      (stops_first (ap has_halt (sym same) ∙ none) (subst (λ m. 0 < m) (sym is) (omega arith)))
+      (unhalted none)
 
-      pub is_accounted : IsAccounted t x
-      is_accounted none = finished t.plan (newest_first x) is_sound is_lawful
-          (settles (lanes t) refl none)
+  pub is_accounted : IsAccounted t x
+  is_accounted none = finished t.plan (newest_first x) is_sound is_lawful
+      (settles q.served refl none)
 
-      pub is_complete : IsComplete t x
-      is_complete none clean = all_ok t.plan (newest_first x)
-          (all_succeed t.plan (newest_first x) is_sound is_lawful clean (unhalted none)
-          (settles (lanes t) refl none))
+  pub is_complete : IsComplete t x
+  is_complete none clean = all_ok t.plan (newest_first x)
+      (all_succeed t.plan (newest_first x) is_sound is_lawful clean (unhalted none)
+      (settles q.served refl none))
 
 -- What is so of each run of lanes is so of the run that is told.
 module _ (when : Option Stage) (t : Task) (x : Left) (end : EndedTold) where

@@ -10,11 +10,9 @@ use Rattle.exec_journal.specs.Legal.{Legal}
 use Rattle.exec_journal.specs.Paired.{Paired}
 use Rattle.exec_journal.specs.Race.{Race}
 use Rattle.exec_journal.specs.Entry.{Entry}
-use Rattle.exec_journal.specs.declared.call.Call.{Call}
-use Rattle.exec_journal.specs.declared.reply.Reply.{Reply}
-use Rattle.core_contract.specs.Disciplines.{Discipline, IsDiscipline, LegalBy, own_discipline}
-use Rattle.core_contract.specs.Terms.{Terms}
-use Rattle.history_laws.specs.Ruled.{CameAbout, answer_after, terms_in}
+use Rattle.core_contract.specs.Discipline.{Discipline}
+use Rattle.core_contract.specs.Disciplines.{LegalBy, own_discipline}
+use Rattle.core_contract.specs.Ruled.{answer_after}
 use Rattle.journal_laws.specs.Finished.{Finished}
 use Rattle.proxy_deeds.specs.declared.settings.Settings.{Settings}
 use Rattle.proxy_deeds.specs.Lines.{Returned, IsKilled}
@@ -23,12 +21,10 @@ use Rattle.lane_runs.specs.Runs.{Outs, Pipes, Rooms, Stops}
 use Rattle.outside.specs.Causes.{Counts}
 use Rattle.outside.specs.Told.{BerthTold, FloorTold, SameFiles}
 use Rattle.run_loading.specs.Reads.{IsFloorFailed}
-use Rattle.run_plan.specs.Groups.{berths}
 use Rattle.run_plan.specs.Sound.{Sound}
 use Rattle.run_tasks.specs.declared.task.Task.{Task}
 use Rattle.core_contract.specs.Duties.{proxy_lane}
 use Rattle.core_contract.specs.Moves.{History}
-use Rattle.history_laws.specs.Owed.{outputs_in}
 use Rattle.seat_desk.specs.History.{calls_by}
 use Rattle.tool_words.specs.declared.options.Options.{Options}
 use Rattle.worker_run.specs.Ends.{HasCourse, LeavesNew, MadeAll, TellsTask, is_halted, status_by}
@@ -46,44 +42,13 @@ IsSound t x = Sound t.plan
 
 -- ---- by whose rule
 
--- What the lanes of a task went by, as its promises name it: the discipline of the core, what its
--- legal journals are said to be and to keep, and how many berths have lanes.
-pub record Head : Type 1 where
-  pub discipline : Discipline
-  pub legal : List Entry → Type 0
-  pub kept : List Entry → Type 0
-  pub lanes : ℕ
+-- the rules of berths that the plan's groups have of their own
+abbrev pub own_rules : Task → Discipline
+own_rules t = own_discipline t.plan
 
--- the rules of berths that the plan's groups have of their own, all of which have lanes
-abbrev pub own_head : Task → Head
-own_head t = record {
-  discipline = own_discipline t.plan;
-  legal = Legal t.plan;
-  kept = Kept t.plan;
-  lanes = berths t.plan;
-}
-
--- a discipline, of which all that is said is that each entry is as it rules
-abbrev pub head_of : Discipline → ℕ → Head
-head_of q lanes = record {
-  discipline = q;
-  legal = LegalBy q;
-  kept = λ j. Unit {0};
-  lanes = lanes;
-}
-
--- A core that has this for legal, this rule and these terms runs the task by the discipline, on so
--- many berths that have lanes: the discipline's plan is the task's, and without lanes it has no
--- actions.
-pub record GoesBy (legal : History → Type 0) (rule : History → ℕ → Call → Reply) (terms : Terms)
-    (t : Task) (q : Discipline) (lanes : ℕ) : Type 0 where
-  pub is : IsDiscipline q
-  pub plan : q.plan ≡ t.plan
-  pub came : (h : History) → legal h → CameAbout q h
-  pub replies : rule ≡ answer_after q
-  pub reads : terms ≡ terms_in q
-  pub seats : length t.speeches.items ≡ lanes
-  pub actions : lanes ≡ 0 → t.plan.actions ≡ []
+-- Each order was due when it was given, and at most one line of a berth is live.
+abbrev pub own_kept : Task → List Entry → Type 0
+own_kept t = Kept t.plan
 
 -- ---- the journal
 
@@ -91,9 +56,18 @@ pub record GoesBy (legal : History → Type 0) (rule : History → ℕ → Call 
 abbrev pub newest_first : Left → List Entry
 newest_first x = reverse x.journal
 
+-- the rules are of the task's plan, and a berth is served for each speech
+pub record AreRulesOf (rules : Task → Discipline) (t : Task) (x : Left) : Type 0 where
+  pub plan : (rules t).plan ≡ t.plan
+  pub served : length t.speeches.items ≡ (rules t).served
+
 -- each call was in its lane's script, and its reply is the rules'
-abbrev pub IsLegal : (Task → Head) → Task → Left → Type 0
-IsLegal head t x = (head t).legal (newest_first x)
+abbrev pub IsLegal : (Task → Discipline) → Task → Left → Type 0
+IsLegal rules t x = LegalBy (rules t) (newest_first x)
+
+-- the same, by the rules of a plan's own berths in their own words
+abbrev pub IsOwnLegal : Task → Left → Type 0
+IsOwnLegal t x = Legal t.plan (newest_first x)
 
 -- each action is granted once, and only what was granted is committed, once
 abbrev pub HasRace : Task → Left → Type 0
@@ -103,9 +77,9 @@ HasRace t x = Race (newest_first x)
 abbrev pub IsPaired : Task → Left → Type 0
 IsPaired t x = Paired t.plan (newest_first x)
 
--- each order was due when it was given, and at most one line of a berth is live
-abbrev pub IsKept : (Task → Head) → Task → Left → Type 0
-IsKept head t x = (head t).kept (newest_first x)
+-- it keeps what its orders keep
+abbrev pub IsKept : (Task → List Entry → Type 0) → Task → Left → Type 0
+IsKept orders t x = orders t (newest_first x)
 
 -- a lane has halted exactly where the fault says so
 abbrev pub HaltsAsSaid : EndedTold → Type 0
@@ -117,8 +91,8 @@ abbrev pub IsFlagged : EndedTold → Type 0
 IsFlagged end = end.left.halted ≡ has_halt (history_of end.left.journal)
 
 -- where no lane has halted, each lane was told to stop, last of all
-abbrev pub IsStopped : (Task → Head) → Task → Left → Type 0
-IsStopped head t x = Stops (head t).lanes (history_of x.journal)
+abbrev pub IsStopped : (Task → Discipline) → Task → Left → Type 0
+IsStopped rules t x = Stops (rules t).served (history_of x.journal)
 
 -- where no lane has halted
 abbrev pub WithoutHalt : Left → Type 0 → Type 0
@@ -153,12 +127,12 @@ HasPipes t x = Pipes t.speeches.items (history_of x.journal) x.lines
 
 -- each berth was new at first, and all that was asked of it is what its lane's orders ask, by the
 -- speech of the berth and the settings of the task
-pub record HasRooms (head : Task → Head) (t : Task) (x : Left) : Type 0 where
+pub record HasRooms (rules : Task → Discipline) (t : Task) (x : Left) : Type 0 where
   pub settings : Settings
   pub of_task : AreSettingsOf t settings
   pub before : List BerthTold
-  pub new : AreNewBerths (head t).lanes before
-  pub rooms : Rooms (answer_after (head t).discipline) settings t.work.actions
+  pub new : AreNewBerths (rules t).served before
+  pub rooms : Rooms (answer_after (rules t)) settings t.work.actions
       (history_of x.journal) x.lines 0 t.speeches.items before x.berths x.unsaid
 
 -- A line that was started, and not reported: its berth's proxy lane has halted, and the line's child
@@ -175,7 +149,7 @@ pub record HasUnsaid (t : Task) (x : Left) : Type 0 where
 
 -- each action's place was written what was granted and committed, and nothing else
 abbrev pub HasOuts : Task → Left → Type 0
-HasOuts t x = Outs (outputs_in t.plan) (length t.plan.actions) (history_of x.journal) x.places
+HasOuts t x = Outs t.plan (history_of x.journal) x.places
 
 -- ---- no run
 
@@ -186,26 +160,28 @@ UnlessRun (Some t) P = Unit {0}
 
 -- ---- all of it
 
--- What the run of a task by this head keeps over this floor, but for what it puts: where it is told,
--- all of one history, which is the journal.
-pub record TaskKeeps (head : Task → Head) (before : FloorTold) (end : EndedTold) : Type 0 where
+-- What the run of a task by these rules keeps over this floor, but for what it puts: where it is
+-- told, all of one history, which is the journal, and which keeps what its orders keep.
+pub record TaskKeeps (rules : Task → Discipline) (orders : Task → List Entry → Type 0)
+    (before : FloorTold) (end : EndedTold) : Type 0 where
   pub told : TellsTask end.fault end.task
   pub sound : OnRun end IsSound
   pub nothing : UnlessRun end.task (LeavesNew end.fault end.left)
   pub made : MadeAll before end
+  pub of_task : OnRun end (AreRulesOf rules)
   -- the one journal of the run
-  pub legal : OnRun end (IsLegal head)
+  pub legal : OnRun end (IsLegal rules)
   pub race : OnRun end HasRace
   pub paired : OnRun end IsPaired
-  pub kept : OnRun end (IsKept head)
+  pub kept : OnRun end (IsKept orders)
   pub halts : HaltsAsSaid end
   pub flag : IsFlagged end
-  pub stopped : OnRun end (IsStopped head)
+  pub stopped : OnRun end (IsStopped rules)
   pub accounted : OnRun end IsAccounted
   pub complete : OnRun end IsComplete
   -- what each object tells is the journal's
   pub pipes : OnRun end HasPipes
-  pub rooms : OnRun end (HasRooms head)
+  pub rooms : OnRun end (HasRooms rules)
   pub unsaid : OnRun end HasUnsaid
   pub outs : OnRun end HasOuts
   -- how it ended
@@ -219,4 +195,5 @@ pub record RunKeeps (options : Option Options) (before : FloorTold) (end : Ended
   -- what was read led to the task that was run, or to the fault
   pub course : HasCourse options before end
   -- by the rules of berths that the plan's groups have of their own
-  pub task : TaskKeeps own_head before end
+  pub task : TaskKeeps own_rules own_kept before end
+  pub legal : OnRun end IsOwnLegal

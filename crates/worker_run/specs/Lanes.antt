@@ -13,7 +13,7 @@ use Rattle.outside.specs.Told.{BerthTold, FloorTold, PlaceTold}
 use Rattle.proxy_steps.specs.Work.{IsWorkOf}
 use Rattle.remote_messages.specs.declared.work.WorkAction.{WorkAction}
 use Rattle.run_plan.specs.Limits.{most_actions, most_berths}
-use Rattle.core_contract.specs.Terms.{Terms}
+use Rattle.core_contract.specs.Discipline.{Discipline}
 use Rattle.core_contract.specs.Moves.{History}
 use Rattle.run_tasks.specs.declared.task.Task.{Task}
 use Rattle.worker_run.specs.Seen.{Left}
@@ -63,15 +63,14 @@ abbrev pub is_during : Option Stage → Bool
 is_during (Some stage.During) = true
 is_during _ = false
 
--- All lanes of new berths ran by the rule of a core, one berth for each speech, and so many lanes
--- beside them: they have one history, and what is left is what that history says. A lane has halted
--- exactly where memory was wanted while they were at work.
-pub record LanesRan (legal : History → Type 0) (rule : History → ℕ → Call → Reply)
-    (terms : Terms) (speeches : List Speech) (settings : Settings) (work : List WorkAction)
-    (beside : ℕ) (fault : Option Stage) (left : Left) : Type 0 where
+-- All lanes of new berths ran by a discipline, one berth for each speech, and so many lanes beside
+-- them: they have one history, and what is left is what that history says. A lane has halted exactly
+-- if memory was wanted while they were at work.
+pub record LanesRan (q : Discipline) (speeches : List Speech) (settings : Settings)
+    (work : List WorkAction) (beside : ℕ) (fault : Option Stage) (left : Left) : Type 0 where
   pub before : List BerthTold
   pub new : AreNewBerths (length speeches) before
-  pub run : HasRun legal rule terms speeches settings work before beside left
+  pub run : HasRun q speeches settings work before beside left
   pub halted : left.halted ≡ is_during fault
 
 -- Lanes ran, and what they left is there: memory didn't run out, or only while they were at work. It is
@@ -95,14 +94,16 @@ pub record AreSettingsOf (t : Task) (s : Settings) : Type 0 where
   pub commands : s.commands.now ≡ t.commands.items
   pub verbose : s.verbose ≡ t.verbose
 
--- What the lanes of a core that goes by these terms ask of a task: the terms' plan, with a command for
--- each group; a speech for each berth that has lanes, which is an executor's exactly where the berth
--- is; the work of each action; and no more berths and actions than there may be.
-pub record FitsTerms (terms : Terms) (t : Task) : Type 0 where
-  pub plan : terms.plan ≡ t.plan
+-- What lanes by a discipline ask of a task: the discipline's plan, with a command for each group; a
+-- speech for each berth that is served, which is an executor's exactly if the berth is; the work of
+-- each action; and no more berths and actions than there may be. Without a berth there is no action.
+pub record FitsLanes (q : Discipline) (t : Task) : Type 0 where
+  pub plan : q.plan ≡ t.plan
   pub commanded : length t.commands.items ≡ length t.plan.groups
-  pub seats : length t.speeches.items ≤ terms.berths
-  pub few : length t.speeches.items ≤ most_berths
-  pub speeches : SpeechesFit terms.remote t.speeches.items
-  pub work : IsWorkOf terms t.work.actions
+  pub served : length t.speeches.items ≡ q.served
+  pub seats : q.served ≤ q.seats
+  pub few : q.served ≤ most_berths
+  pub speeches : SpeechesFit q t.speeches.items
+  pub work : IsWorkOf q.plan t.work.actions
   pub actions : length t.work.actions ≤ most_actions
+  pub settled : q.served ≡ 0 → t.plan.actions ≡ []

@@ -1,15 +1,15 @@
 // The top calls.
-ghost use Rattle.std.specs.Prelude.{◌≡◌, ℕ, [], Some, None, length, map, string_bytes};
+ghost use Rattle.std.specs.Prelude.{◌≡◌, ℕ, List, [], Some, None, length, map, string_bytes};
 ghost use Rattle.build_report.specs.Report.{report_of};
+ghost use Rattle.core_contract.specs.Disciplines.{IsDiscipline, LegalBy};
+ghost use Rattle.exec_journal.specs.Entry.{Entry};
 ghost use Rattle.outside.specs.Causes.{Counts};
-ghost use Rattle.core_contract.specs.Disciplines.{Discipline};
 ghost use Rattle.run_plan.specs.Sound.{Sound};
-ghost use Rattle.run_tasks.specs.declared.task.Task.{Task};
 ghost use Rattle.tool_words.specs.Options.{options_of};
 ghost use Rattle.worker_run.specs.Ends.{IsEndOf, IsPutEnd, IsReportEnd, IsRunEnd, Puts, Reports, report_by, status_by};
-ghost use Rattle.worker_run.specs.Headline.{GoesBy, RunKeeps, TaskKeeps, head_of};
+ghost use Rattle.worker_run.specs.Headline.{RunKeeps, TaskKeeps};
 ghost use Rattle.lane_runs.specs.Paced.{MayPace};
-ghost use Rattle.worker_run.specs.Lanes.{FitsTerms, WhereWhole};
+ghost use Rattle.worker_run.specs.Lanes.{FitsLanes, WhereWhole};
 ghost use Rattle.worker_run.specs.Pacing.{PacesRun};
 
 use crate::ended::Ended;
@@ -116,11 +116,10 @@ where
     <F::Berth as Berth>::Child: Send,
     requires core { C.stands core [] }
     requires sound { Sound task.plan }
-    requires fits { FitsTerms (C.terms (C.plan core)) task }
-    // For each discipline that the core follows: all promises of a run, except those about reading.
-    ensures run { (q : Task → Discipline) (lanes : Task → ℕ)
-        → GoesBy (C.legal (C.plan core)) (C.rule (C.plan core)) (C.terms (C.plan core)) task
-        (q task) (lanes task) → TaskKeeps (λ t. head_of (q t) (lanes t)) (F.told floor) result }
+    requires fits { FitsLanes (C.discipline (C.plan core)) task }
+    // All promises of a run, except those about reading, by the core's discipline.
+    ensures run { TaskKeeps (λ t. C.discipline (C.plan core)) (λ t. C.kept (C.plan core))
+        (F.told floor) result }
     ensures ended { IsEndOf task result.fault result.task }
     // Nothing more is read from the floor.
     ensures log { result.floor.log ≡ (F.told floor).log }
@@ -157,14 +156,12 @@ where
     <F::Berth as Berth>::Child: Send,
     requires core { C.stands core [] }
     requires sound { Sound task.plan }
-    requires fits { FitsTerms (C.terms (C.plan core)) task }
-    requires paced { MayPace (C.terms (C.plan core)) (C.ticks (C.plan core))
-        (length task.speeches.items) around.pacer }
-    // For each discipline that the core follows: all promises of a run, except those about reading.
-    ensures run { (q : Task → Discipline) (lanes : Task → ℕ)
-        → GoesBy (C.legal (C.plan core)) (C.rule (C.plan core)) (C.terms (C.plan core)) task
-        (q task) (lanes task)
-        → TaskKeeps (λ t. head_of (q t) (lanes t)) (F.told around.floor) result.0 }
+    requires fits { FitsLanes (C.discipline (C.plan core)) task }
+    requires paced { MayPace (C.discipline (C.plan core)) (length task.speeches.items)
+        around.pacer }
+    // All promises of a run, except those about reading, by the core's discipline.
+    ensures run { TaskKeeps (λ t. C.discipline (C.plan core)) (λ t. C.kept (C.plan core))
+        (F.told around.floor) result.0 }
     ensures ticks { PacesRun W.told around.pacer result.1 result.0 }
     ensures ended { IsEndOf task result.0.fault result.0.task }
     // Nothing more is read from the floor.
@@ -183,9 +180,18 @@ where
         settings: &settings,
         actions: task.work.actions.as_slice(),
     };
+    goes_by_discipline::<C>();
     let (ran, pacer) = run_plan(rt, alloc, core, &means, around);
     (conclude(alloc, task, ran, out), pacer)
 }
+
+// A law of this kind of core: it goes by a discipline, and each of its journals keeps what its
+// orders keep. The function does nothing.
+fn goes_by_discipline<C: Rules>()
+    ensures is { (b : C.Plan) → IsDiscipline (C.discipline b) }
+    ensures kept { (b : C.Plan) (j : List Entry) → Sound (C.discipline b).plan
+        → LegalBy (C.discipline b) j → C.kept b j }
+{}
 
 // Ends the run. If any lane was started, writes the report of what was settled. If a lane halted,
 // the run ends with the fault `NoMemory(During)`.

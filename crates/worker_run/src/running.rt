@@ -5,7 +5,7 @@ ghost use Rattle.proxy_deeds.specs.Settings.{AreOfPlan};
 ghost use Rattle.build_report.specs.declared.fault.Stage.TheVariants as stage;
 ghost use Rattle.proxy_steps.specs.Work.{IsWorkOf};
 ghost use Rattle.core_contract.specs.Duties.{proxy_lane};
-ghost use Rattle.crew_beside.specs.Beside.{count_of};
+ghost use Rattle.lane_crew.specs.Beside.{count_of};
 ghost use Rattle.lane_runs.specs.Paced.{HasPaced, MayPace};
 ghost use Rattle.lane_runs.specs.Runs.{laid_told};
 ghost use Rattle.outside.specs.Told.{SameFiles};
@@ -138,18 +138,17 @@ where
     <F::Berth as Berth>::Child: Send,
     requires core { C.stands core [] }
     requires actions { length means.now.actions.now ≤ most_actions }
-    requires seats { length means.now.speeches.now ≤ (C.terms (C.plan core)).berths }
+    requires seats { length means.now.speeches.now ≤ (C.discipline (C.plan core)).seats }
     requires few { length means.now.speeches.now ≤ most_berths }
-    requires paced { MayPace (C.terms (C.plan core)) (C.ticks (C.plan core))
-        (length means.now.speeches.now) around.pacer }
-    requires speeches { SpeechesFit (C.terms (C.plan core)).remote means.now.speeches.now }
-    requires settings { AreOfPlan (C.terms (C.plan core)).plan means.now.settings.now }
-    requires work { IsWorkOf (C.terms (C.plan core)) means.now.actions.now }
+    requires paced { MayPace (C.discipline (C.plan core)) (length means.now.speeches.now)
+        around.pacer }
+    requires speeches { SpeechesFit (C.discipline (C.plan core)) means.now.speeches.now }
+    requires settings { AreOfPlan (C.discipline (C.plan core)).plan means.now.settings.now }
+    requires work { IsWorkOf (C.discipline (C.plan core)).plan means.now.actions.now }
     // If lanes ran, what is left agrees with their one history.
-    ensures run { WhereWhole result.0.fault (LanesRan (C.legal (C.plan core))
-        (C.rule (C.plan core)) (C.terms (C.plan core)) means.now.speeches.now
-        means.now.settings.now means.now.actions.now (count_of around.pacer) result.0.fault
-        result.0.left) }
+    ensures run { WhereWhole result.0.fault (LanesRan (C.discipline (C.plan core))
+        means.now.speeches.now means.now.settings.now means.now.actions.now
+        (count_of around.pacer) result.0.fault result.0.left) }
     ensures ticks { WhereWhole result.0.fault (HasPaced W.told
         (proxy_lane (length means.now.speeches.now)) around.pacer result.1
         result.0.left.journal) }

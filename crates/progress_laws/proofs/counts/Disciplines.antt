@@ -14,7 +14,8 @@ use Rattle.exec_journal.specs.Words.{has_halted, last_work, stopped}
 use Rattle.exec_journal.proofs.Ruled.{by_bool}
 use Rattle.journal_laws.proofs.Claims.{clash}
 use Rattle.journal_laws.proofs.Ours as ours
-use Rattle.core_contract.specs.Disciplines.{Discipline, LegalBy, berth_script, own_discipline, script_of}
+use Rattle.core_contract.specs.Disciplines.{LegalBy, berth_script, own_discipline, script_of}
+use Rattle.core_contract.specs.Discipline.{Discipline}
 use Rattle.history_laws.proofs.Fitting as fi
 use Rattle.history_laws.proofs.OwnDiscipline as od
 use Rattle.delay_rules.specs.Bounds.{is_noted, is_noted_tick}

@@ -2,14 +2,12 @@
 use Rattle.std.proofs.Common.{◌≡◌, ◌∙◌, [], Some, ap, arith, map, refl, string_bytes, sym}
 use Rattle.build_report.specs.declared.fault.RunFault.TheVariants as fault
 use Rattle.build_report.specs.declared.fault.Stage.TheVariants as stage
-use Rattle.shared_rules.specs.Pools.{seats}
-use Rattle.shared_rules.specs.Shared.{shared_discipline}
 use Rattle.shared_tasks.specs.Words.{shared_options_of}
-use Rattle.shared_runs.specs.Headline.{SharedRead, Sharing, shared_by, shared_head}
+use Rattle.shared_runs.specs.Headline.{SharedRead, Sharing, shared_kept, shared_rules}
 use Rattle.shared_runs.proofs.Led.{led_off, led_to}
-use Rattle.shared_runs.proofs.Sharing.{core_stands, rules_eq, same_plan, shared_fits, shared_follows, shared_goes, sharing_of}
+use Rattle.shared_runs.proofs.Sharing.{core_stands, pools_eq, rules_eq, same_plan, shared_fits, shared_keeps, sharing_of}
 use Rattle.shared_runs.proofs.Silent.{shared_silent}
-use Rattle.worker_run.proofs.Keeping.{keeps_as, keeps_none, keeps_since}
+use Rattle.worker_run.proofs.Keeping.{keeps_none, keeps_since}
 use Rattle.worker_run.proofs.Reading.{fault_course, fault_puts, fault_sink, fault_told, task_course, task_floor}
 use Rattle.worker_run.specs.Seen.{EndedTold}
 use Rattle.shared_runs.proofs.run_shared.Goals as goal
@@ -36,7 +34,7 @@ returns-in-Ok-shared_core-clause-run g c =
     let made = c.in-Ok.made in
     let may = c.in-Ok.ensures.runs in
     let s = sharing_of made.shared in
-    let is = rules_eq made.shared may.pools c.in-Ok-shared_core.core c.in-Ok-shared_core.ensures in
+    let is = pools_eq made.shared may.pools c.in-Ok-shared_core.core c.in-Ok-shared_core.ensures in
     let end = c.run_and_report.result in
     let e = c.run_and_report.ensures in
     let options = shared_options_of (map string_bytes c.args.words.now) in
@@ -45,13 +43,11 @@ returns-in-Ok-shared_core-clause-run g c =
     record {
       sharing = s;
       course = task_course (SharedRead s options) (λ x. x.task) before mid made end
-          (led_to options before mid made (same_plan made may _ is) c.in-Ok.ensures.course)
+          (led_to options before mid made (same_plan made may) c.in-Ok.ensures.course)
           e.log end.fault e.ended;
-      task = keeps_since (shared_head s) before mid end c.in-Ok.ensures.files
+      task = keeps_since (shared_rules s) (shared_kept s) before mid end c.in-Ok.ensures.files
           c.in-Ok.ensures.floor.later (task_floor made.task end.fault end.task e.ended)
-          (keeps_as (shared_head s) (shared_follows s) mid end
-          (e.run (λ t. shared_discipline (shared_by s t.plan)) (λ t. seats (shared_by s t.plan))
-          (shared_goes made may _ is)));
+          (shared_keeps made may _ is mid end e.ended e.run);
     }
 
 -- no memory was left for the core
@@ -60,7 +56,7 @@ returns-in_default-clause-run g c =
     rw (c.with_no_lane.ensures) (record {
       sharing = none;
       course = tt;
-      task = keeps_none (shared_head none) (fault.NoMemory stage.Before)
+      task = keeps_none (shared_rules none) (shared_kept none) (fault.NoMemory stage.Before)
           (g.F.Floor.told c.args.floor) (g.F.Floor.told c.read_shared_task.new.floor)
           c.in-Ok.ensures.files
           (record { later = c.in-Ok.ensures.floor.later; rose = λ failed. absurd failed }) refl;
@@ -84,7 +80,7 @@ returns-in-Err-clause-run g c =
       sharing = none;
       course = fault_course (SharedRead none options) (λ x. x.task) (shared_silent none options)
           before mid f led;
-      task = keeps_none (shared_head none) f before mid c.in-Err.ensures.files c.in-Err.ensures.floor
+      task = keeps_none (shared_rules none) (shared_kept none) f before mid c.in-Err.ensures.files c.in-Err.ensures.floor
           (fault_told (SharedRead none options) (λ x. x.task) (shared_silent none options) before mid
           f led);
     })

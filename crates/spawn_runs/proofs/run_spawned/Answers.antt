@@ -2,14 +2,12 @@
 use Rattle.std.proofs.Common.{◌≡◌, ◌∙◌, ◌<◌, ℕ, zero, suc, Some, None, ap, arith, refl, subst, sym}
 use Rattle.build_report.specs.declared.fault.RunFault.TheVariants as fault
 use Rattle.build_report.specs.declared.fault.Stage.TheVariants as stage
-use Rattle.core_contract.specs.Disciplines.{own_discipline}
-use Rattle.delay_rules.specs.Delayed.{delayed_discipline}
-use Rattle.run_plan.specs.Groups.{berths}
+use Rattle.run_plan.specs.declared.plan.Plan.{Plan}
 use Rattle.spawn_core.specs.Histories.{plan_of}
-use Rattle.spawn_runs.specs.Headline.{SpawnPaces, spawn_head}
-use Rattle.spawn_runs.proofs.Delaying.{core_stands, delayed_fits, delayed_goes, delayed_keeps, delayed_paces, delayed_spawns, pacer_is_back, rules_eq, spawn_follows, unstarted_paces}
-use Rattle.worker_run.proofs.Fits.{own_fits, own_goes}
-use Rattle.worker_run.proofs.Keeping.{keeps_as, keeps_none}
+use Rattle.spawn_runs.specs.Headline.{SpawnPaces, spawn_kept, spawn_rules}
+use Rattle.spawn_runs.proofs.Delaying.{basis_eq, core_stands, delayed_fits, delayed_keeps, delayed_paces, delayed_spawns, pacer_is_back, rules_eq, undelayed_keeps, unstarted_paces}
+use Rattle.worker_run.proofs.Fits.{own_fits}
+use Rattle.worker_run.proofs.Keeping.{keeps_none}
 use Rattle.worker_run.specs.Headline.{TaskKeeps}
 use Rattle.worker_run.specs.Seen.{EndedTold}
 use Rattle.spawn_runs.proofs.run_spawned.Goals as goal
@@ -21,7 +19,7 @@ run_and_report-requires-clause-fits g c κs within =
     let made = c.args.made in
     own_fits c.in-Ok.core.state.plan made.task
     (c.in-Ok.ensures.both.tables.plan ∙ c.requires.twin) c.requires.settings
-    c.requires.sound c.requires.work
+    c.requires.sound c.requires.work c.requires.berths
 
 pub returns-then-delay-eq0-clause-task : goal.returns-then-delay-eq0-clause-task
 returns-then-delay-eq0-clause-task g c =
@@ -29,15 +27,15 @@ returns-then-delay-eq0-clause-task g c =
     let mid = g.F.Floor.told c.args.floor in
     let end = c.run_and_report.result in
     let is = c.in-Ok.ensures.both.tables.plan ∙ c.requires.twin in
-    rw (c.if-delay-eq0.true) (keeps_as (spawn_head 0) (spawn_follows 0) mid end
-    (c.run_and_report.ensures.run (λ t. own_discipline t.plan) (λ t. berths t.plan)
-    (own_goes c.in-Ok.core.state.plan made.task is c.requires.settings c.requires.berths)))
+    rw (c.if-delay-eq0.true) (undelayed_keeps c.in-Ok.core.state.plan made.task mid end is
+    c.run_and_report.ensures.ended c.run_and_report.ensures.run)
 
 -- no memory was left for the core
 pub returns-in_default-clause-task : goal.returns-in_default-clause-task
 returns-in_default-clause-task g c =
     let mid = g.F.Floor.told c.args.floor in
-    rw (c.with_no_lane.ensures) (keeps_none (spawn_head c.args.made.delay)
+    rw (c.with_no_lane.ensures) (keeps_none (spawn_rules c.args.made.delay)
+    (spawn_kept c.args.made.delay)
     (fault.NoMemory stage.Before) mid mid refl
     (record { later = omega arith; rose = λ failed. absurd failed }) refl)
 
@@ -53,7 +51,8 @@ returns-in_default-clause-sink g c = record {
 pub returns-in_default-core-clause-task : goal.returns-in_default-core-clause-task
 returns-in_default-core-clause-task g c =
     let mid = g.F.Floor.told c.args.floor in
-    rw (c.with_no_lane-in_default-core.ensures) (keeps_none (spawn_head c.args.made.delay)
+    rw (c.with_no_lane-in_default-core.ensures) (keeps_none (spawn_rules c.args.made.delay)
+    (spawn_kept c.args.made.delay)
     (fault.NoMemory stage.Before) mid mid refl
     (record { later = omega arith; rose = λ failed. absurd failed }) refl)
 
@@ -78,7 +77,7 @@ run_paced-ended-requires-clause-fits g c κs within =
     let made = c.args.made in
     delayed_fits made.twin made.delay made.task c.requires.twin c.requires.settings _
     (rules_eq made.twin made.delay c.in-Ok-core.core c.in-Ok-core.ensures)
-    c.requires.sound c.requires.work
+    c.requires.sound c.requires.work c.requires.berths
 
 pub run_paced-ended-requires-clause-paced : goal.run_paced-ended-requires-clause-paced
 run_paced-ended-requires-clause-paced g c κs within =
@@ -96,10 +95,10 @@ returns-clause-task g c =
     let made = c.args.made in
     let d = made.delay in
     let mid = g.F.Floor.told c.args.floor in
-    delayed_keeps d mid c.run_paced-ended.result.0 c.if-delay-eq0.false
-    (c.run_paced-ended.ensures.run (λ t. delayed_discipline t.plan d) (λ t. berths t.plan)
-    (delayed_goes made.twin d made.task c.requires.twin c.requires.settings _
-    (rules_eq made.twin d c.in-Ok-core.core c.in-Ok-core.ensures) c.requires.berths))
+    let is = basis_eq made.twin d c.in-Ok-core.core c.in-Ok-core.ensures in
+    delayed_keeps _ d made.task mid c.run_paced-ended.result.0 c.if-delay-eq0.false
+    (is ∙ ap (λ (p : Plan). record { plan = p; ticks = d }) c.requires.twin)
+    c.run_paced-ended.ensures.ended c.run_paced-ended.ensures.run
 
 pub returns-clause-paces : goal.returns-clause-paces
 returns-clause-paces g c =

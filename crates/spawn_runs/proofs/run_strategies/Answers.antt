@@ -8,7 +8,7 @@ use Rattle.spawn_tasks.specs.declared.tasks.SpawnTask.{SpawnTask}
 use Rattle.spawn_tasks.specs.Faults.{fault_of}
 use Rattle.build_report.specs.declared.fault.RunFault.TheVariants as fault
 use Rattle.spawn_strategies.specs.SpawnOptions.{spawn_options_of}
-use Rattle.spawn_runs.specs.Headline.{SpawnRead, spawn_head}
+use Rattle.spawn_runs.specs.Headline.{SpawnRead, spawn_kept, spawn_rules}
 use Rattle.spawn_runs.proofs.Led.{led_off, led_to}
 use Rattle.spawn_runs.proofs.Silent.{spawn_silent}
 use Rattle.worker_run.proofs.Keeping.{keeps_none, keeps_since}
@@ -29,7 +29,7 @@ returns-in-Ok-clause-run g c =
       delay = d;
       course = task_course (SpawnRead d options) (λ x. x.task) before mid made end
           (led_to options before mid made c.in-Ok.ensures.course) e.log end.fault e.ended;
-      task = keeps_since (spawn_head d) before mid end c.in-Ok.ensures.files
+      task = keeps_since (spawn_rules d) (spawn_kept d) before mid end c.in-Ok.ensures.files
           c.in-Ok.ensures.floor.later (task_floor made.task end.fault end.task e.ended) e.task;
       paces = e.paces;
     })
@@ -47,7 +47,7 @@ returns-in-Fault-clause-run g c =
       delay = 0;
       course = fault_course (SpawnRead 0 options) (λ x. x.task) (spawn_silent 0 options)
           before mid f led;
-      task = keeps_none (spawn_head 0) f before mid c.in-Err.ensures.files
+      task = keeps_none (spawn_rules 0) (spawn_kept 0) f before mid c.in-Err.ensures.files
           (subst (λ (w : NoSpawn). Counts before.faults mid.faults
           (IsFloorFailed (fault_of {T = SpawnTask} (Err w)))) c.in-Fault.is c.in-Err.ensures.floor)
           (fault_told (SpawnRead 0 options) (λ x. x.task) (spawn_silent 0 options) before mid

@@ -1,5 +1,5 @@
 use Rattle.std.proofs.Common.{◌∙◌, ◌++◌}
-use Rattle.history_laws.specs.Owed.{journal_of}
+use Rattle.core_contract.specs.Ruled.{journal_of}
 use Rattle.history_laws.proofs.Ticking.{known, stays}
 use Rattle.history_laws.proofs.Fitting.{in_script, scripted_so, scripted_as}
 use Rattle.history_laws.proofs.laws.scripts_are_lanes.Goals as goal

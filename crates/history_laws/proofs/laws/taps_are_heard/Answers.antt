@@ -1,5 +1,5 @@
 use Rattle.core_contract.specs.Laws.{tap_lane}
-use Rattle.history_laws.specs.Owed.{journal_of}
+use Rattle.core_contract.specs.Ruled.{journal_of}
 use Rattle.history_laws.proofs.Ticking.{only_hears, telling}
 use Rattle.history_laws.proofs.Fitting.{in_script, lawful, scripted_so, scripted_as, seated_so}
 use Rattle.history_laws.proofs.Hearing.{hearing_is_scripted, tap_halt_is_paid}

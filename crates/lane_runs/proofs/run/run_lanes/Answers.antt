@@ -5,9 +5,9 @@ use Rattle.lane_runs.specs.declared.proxies.ProxySeat.{ProxySeat}
 use Rattle.lane_runs.specs.Paced.{MayPace, pacer_back}
 use Rattle.tap_lane.specs.declared.seat.TapSeat.{TapSeat}
 use Rattle.proxy_deeds.specs.Settings.{AreOfPlan}
-use Rattle.lane_runs.specs.Seats.{SpeechesFit, berths_in}
+use Rattle.lane_runs.specs.Seats.{berths_in}
 use Rattle.proxy_steps.specs.Work.{IsWorkOf}
-use Rattle.lane_runs.proofs.Running.{all_fit, all_may}
+use Rattle.lane_runs.proofs.Running.{FitFrom, all_fit, all_may}
 use Rattle.lane_runs.proofs.Ticking.{back_is, keeps_ticking, seat_gone, seat_may, seat_others, seat_paced}
 use Rattle.lane_runs.proofs.Seating.{seated_berths}
 use Rattle.lane_runs.proofs.Crewed.{two_each, blank_suits, room_suits}
@@ -28,17 +28,16 @@ run_crew_beside-requires-clause-may_run g c κs within =
     let m = c.args.means.now in
     let basis = sym c.in-Ok-new.ensures.basis in
     let fewer = c.requires.seats in
-    all_may _ r.terms r.rule g.B.Berth.told g.B.Feed.Feed.told
+    all_may _ r.discipline g.B.Berth.told g.B.Feed.Feed.told
     g.B.Tap.Tap.told g.B.Child.Child.told _ m.settings.now m.actions.now 0
     c.args.unrun.berths.items m.speeches.now c.lanes_of-lanes.result.items c.lanes_of-lanes.ensures
-    (subst (λ (q : g.row.C-Plan.Denot). 0 + length m.speeches.now ≤ (r.terms q).berths) basis
+    (subst (λ (q : g.row.C-Plan.Denot). 0 + length m.speeches.now ≤ (r.discipline q).seats) basis
     (omega (arith, fewer)))
-    (subst (λ (q : g.row.C-Plan.Denot). AreOfPlan (r.terms q).plan m.settings.now) basis
+    (subst (λ (q : g.row.C-Plan.Denot). AreOfPlan (r.discipline q).plan m.settings.now) basis
     c.requires.settings)
-    (all_fit _ m.speeches.now
-    (subst (λ (q : g.row.C-Plan.Denot). SpeechesFit (r.terms q).remote m.speeches.now) basis
-    c.requires.speeches))
-    (subst (λ (q : g.row.C-Plan.Denot). IsWorkOf (r.terms q) m.actions.now) basis c.requires.work)
+    (subst (λ (q : g.row.C-Plan.Denot). FitFrom (r.discipline q) 0 m.speeches.now) basis
+    (all_fit (r.discipline (r.plan c.args.core)) m.speeches.now c.requires.speeches))
+    (subst (λ (q : g.row.C-Plan.Denot). IsWorkOf (r.discipline q).plan m.actions.now) basis c.requires.work)
 
 pub run_crew_beside-requires-clause-may_run_beside : goal.run_crew_beside-requires-clause-may_run_beside
 run_crew_beside-requires-clause-may_run_beside g c κs within =
@@ -46,9 +45,9 @@ run_crew_beside-requires-clause-may_run_beside g c κs within =
     let m = c.args.means.now in
     let two = two_each m.settings.now m.actions.now 0 c.args.unrun.berths.items m.speeches.now
     c.lanes_of-lanes.result.items c.lanes_of-lanes.ensures in
-    seat_may _ r.terms r.ticks g.W.Pacer.told (length m.speeches.now) _ c.args.unrun.pacer
+    seat_may _ r.discipline g.W.Pacer.told (length m.speeches.now) _ c.args.unrun.pacer
     c.seat_for-ticker.result c.seat_for-ticker.ensures two _
-    (subst (λ (q : g.row.C-Plan.Denot). MayPace (r.terms q) (r.ticks q) (length m.speeches.now)
+    (subst (λ (q : g.row.C-Plan.Denot). MayPace (r.discipline q) (length m.speeches.now)
     c.args.unrun.pacer) (sym c.in-Ok-new.ensures.basis) c.requires.paced)
 
 pub run_crew_beside-requires-clause-same_beside : goal.run_crew_beside-requires-clause-same_beside
@@ -57,13 +56,13 @@ run_crew_beside-requires-clause-same_beside g c κs within = λ seat before left
 pub lay_out-laid-requires : goal.lay_out-laid-requires
 lay_out-laid-requires g c =
     let r = g.C.Rules in
-    let h = c.in-Ok-run_crew_beside.left.crew.history.items in
+    let h = c.in-Ok-run_crew_beside.left.0.history.items in
     let left = c.in-Ok-run_crew_beside.ensures in
     let m = c.args.means.now in
     let two = two_each m.settings.now m.actions.now 0 c.args.unrun.berths.items m.speeches.now
     c.lanes_of-lanes.result.items c.lanes_of-lanes.ensures in
     let parts = c.into_parts-core.ensures.parts h left.stands.0 in
-    let crew = crewed _ r.legal r.terms r.rule g.B.Berth.told
+    let crew = crewed _ r.discipline g.B.Berth.told
     g.B.Feed.Feed.told g.B.Tap.Tap.told g.B.Child.Child.told g.P.Place.told
     c.histories_say.ensures.laws c.lanes_of-lanes.result.items c.in-Ok-new.ensures.basis
     left.stands.1 c.into_parts-core.ensures.basis c.requires.seats
@@ -71,7 +70,7 @@ lay_out-laid-requires g c =
     c.truncate.ensures.items parts.1.places c.lanes_of-lanes.ensures left.lanes
     (seat_others (length m.speeches.now) _ c.args.unrun.pacer c.seat_for-ticker.result
     c.seat_for-ticker.ensures h left.others)
-    (seat_gone _ r.terms r.ticks g.W.Pacer.told (length m.speeches.now) _ c.args.unrun.pacer
+    (seat_gone _ r.discipline g.W.Pacer.told (length m.speeches.now) _ c.args.unrun.pacer
     c.seat_for-ticker.result c.seat_for-ticker.ensures two _ h _ left.beside left.others) in
     let lines = c.histories_say.ensures.fit (r.plan c.args.core) h crew.good in
     let most = c.most_lines-lines.ensures in
@@ -88,13 +87,13 @@ lay_out-laid-requires g c =
 pub returns-in-Ok-run_crew_beside-clause-run : goal.returns-in-Ok-run_crew_beside-clause-run
 returns-in-Ok-run_crew_beside-clause-run g c =
     let r = g.C.Rules in
-    let h = c.in-Ok-run_crew_beside.left.crew.history.items in
+    let h = c.in-Ok-run_crew_beside.left.0.history.items in
     let left = c.in-Ok-run_crew_beside.ensures in
     let m = c.args.means.now in
     let two = two_each m.settings.now m.actions.now 0 c.args.unrun.berths.items m.speeches.now
     c.lanes_of-lanes.result.items c.lanes_of-lanes.ensures in
     let parts = c.into_parts-core.ensures.parts h left.stands.0 in
-    let crew = crewed _ r.legal r.terms r.rule g.B.Berth.told
+    let crew = crewed _ r.discipline g.B.Berth.told
     g.B.Feed.Feed.told g.B.Tap.Tap.told g.B.Child.Child.told g.P.Place.told
     c.histories_say.ensures.laws c.lanes_of-lanes.result.items c.in-Ok-new.ensures.basis
     left.stands.1 c.into_parts-core.ensures.basis c.requires.seats
@@ -102,28 +101,28 @@ returns-in-Ok-run_crew_beside-clause-run g c =
     c.truncate.ensures.items parts.1.places c.lanes_of-lanes.ensures left.lanes
     (seat_others (length m.speeches.now) _ c.args.unrun.pacer c.seat_for-ticker.result
     c.seat_for-ticker.ensures h left.others)
-    (seat_gone _ r.terms r.ticks g.W.Pacer.told (length m.speeches.now) _ c.args.unrun.pacer
+    (seat_gone _ r.discipline g.W.Pacer.told (length m.speeches.now) _ c.args.unrun.pacer
     c.seat_for-ticker.result c.seat_for-ticker.ensures two _ h _ left.beside left.others) in
     crew.run c.lay_out-laid.result c.lay_out-laid.ensures
 
 pub returns-in-Ok-run_crew_beside-clause-ticks : goal.returns-in-Ok-run_crew_beside-clause-ticks
 returns-in-Ok-run_crew_beside-clause-ticks g c =
     let r = g.C.Rules in
-    let h = c.in-Ok-run_crew_beside.left.crew.history.items in
+    let h = c.in-Ok-run_crew_beside.left.0.history.items in
     let left = c.in-Ok-run_crew_beside.ensures in
     let m = c.args.means.now in
     let two = two_each m.settings.now m.actions.now 0 c.args.unrun.berths.items m.speeches.now
     c.lanes_of-lanes.result.items c.lanes_of-lanes.ensures in
     rw (c.lay_out-laid.ensures.journal, c.pacer_left-pacer.ensures)
-    (seat_paced _ r.terms r.ticks g.W.Pacer.told (length m.speeches.now) _ c.args.unrun.pacer
+    (seat_paced _ r.discipline g.W.Pacer.told (length m.speeches.now) _ c.args.unrun.pacer
     c.seat_for-ticker.result c.seat_for-ticker.ensures two _ h _ left.beside)
 
 pub returns-in-Err-clause-back : goal.returns-in-Err-clause-back
-returns-in-Err-clause-back g c = (
+returns-in-Err-clause-back g c = rw (c.for_memory-in-Err.ensures) (
   refl,
   subst (λ (ps : List g.row.P.Denot). AreFresh g.P.Place.told
-      (g.C.Rules.terms (g.C.Rules.plan c.args.core)).actions ps) (sym c.in-Err.ensures.back)
-      c.requires.places,
+      (length (g.C.Rules.discipline (g.C.Rules.plan c.args.core)).plan.actions) ps)
+      (sym c.in-Err.ensures.back) c.requires.places,
   refl,
 )
 
@@ -145,7 +144,7 @@ take_back-requires-clause-berths g c =
 pub take_back-requires-clause-places : goal.take_back-requires-clause-places
 take_back-requires-clause-places g c =
     let all = c.requires.work.as_many in
-    let same = ap (λ (q : g.row.C-Plan.Denot). (g.C.Rules.terms q).actions)
+    let same = ap (λ (q : g.row.C-Plan.Denot). (length (g.C.Rules.discipline q).plan.actions))
     (c.in-Err-run_crew_beside.ensures.back.2.1 ∙ c.in-Ok-new.ensures.basis) in
     room_suits (length c.args.means.now.actions.now) _ c.in-Ok.blank.places c.in-Ok.ensures.places_fit
     (omega (arith, all, same))
@@ -156,7 +155,7 @@ returns-in-Err-run_crew_beside-clause-back g c = (
       ∙ seated_berths c.args.means.now.settings.now c.args.means.now.actions.now 0
       c.args.unrun.berths.items c.args.means.now.speeches.now
       c.lanes_of-lanes.result.items c.lanes_of-lanes.ensures),
-  subst (λ (q : g.row.C-Plan.Denot). AreFresh g.P.Place.told (g.C.Rules.terms q).actions
+  subst (λ (q : g.row.C-Plan.Denot). AreFresh g.P.Place.told (length (g.C.Rules.discipline q).plan.actions)
       c.take_back.result.places.items)
       (c.in-Err-run_crew_beside.ensures.back.2.1 ∙ c.in-Ok-new.ensures.basis) c.take_back.ensures.places,
   c.take_back.ensures.pacer ∙ (ap pacer_back (c.in-Err-run_crew_beside.ensures.back.1

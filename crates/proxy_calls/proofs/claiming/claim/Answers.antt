@@ -1,3 +1,5 @@
+use Rattle.core_contract.specs.Discipline.{outputs_in}
+use Rattle.core_contract.specs.Ruled.{answer_after}
 use Rattle.std.proofs.Common.{Option, sym, subst}
 use Rattle.proxy_calls.specs.Claims.{claim_of, IsGranted}
 use Rattle.proxy_calls.proofs.Replies.{never_claimed}
@@ -10,16 +12,16 @@ returns-in-Ok-clause-claimed g c =
     let p = c.args.caller.now.pass in
     let q = p.seat.me.0.basis in
     let w = c.args.berth in
-    let terms = g.C.Rules.terms in
+    let rules = g.C.Rules.discipline in
     let law = g.met.C.Rules in
-    let rule = g.C.Rules.rule q in
+    let rule = answer_after (g.C.Rules.discipline q) in
     let v = p.seat.me.0 in
     let v' = c.call.new.self.pass.seat.me.0 in
     let a = c.in-Ok.ensures.answer in
     let t = c.args.attempt in
     let f = c.args.found in
     let r = c.in-Ok.answer.0 in
-    let k = makes terms g.C.Rules.rule law.replies law.proxies_do w p c.call.new.self.pass a.0
+    let k = makes rules law.keeps w p c.call.new.self.pass a.0
     c.requires.lane (claim_of t f) r c.requires.may (a.1, a.2, a.3) never_claimed in
     let child = g.B.Child.Child.told in
     let tap = g.B.Tap.Tap.told in
@@ -27,10 +29,10 @@ returns-in-Ok-clause-claimed g c =
     let good = c.in-Ok.answer.1 in
     record {
       reply = r;
-      made = claim_made rule child tap place (terms q) p.lane w
+      made = claim_made rule child tap place (rules q) p.lane w
           a.0 v.seen v.mine v'.seen v'.mine t f r good c.requires.lane.0 c.requires.may k a.4;
-      granted = subst (λ (o : Option g.row.P.Denot). IsGranted place ((terms q).outputs t.action) t o f r v'.mine)
+      granted = subst (λ (o : Option g.row.P.Denot). IsGranted place (outputs_in (rules q).plan t.action) t o f r v'.mine)
           (sym c.place_in.ensures)
-          (claim_granted rule child tap place (terms q) p.lane w
+          (claim_granted rule child tap place (rules q) p.lane w
           a.0 v.seen v.mine v'.seen v'.mine t f r good c.requires.lane.0 c.requires.may k a.4);
     }

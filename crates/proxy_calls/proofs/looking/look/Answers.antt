@@ -5,7 +5,7 @@ pub returns-in-Ok-clause-told : goal.returns-in-Ok-clause-told
 returns-in-Ok-clause-told g c =
     let law = g.met.C.Rules in
     let a = c.in-Ok.ensures.answer in
-    look_said g.C.Rules.terms g.C.Rules.rule law.replies law.proxies_do c.args.berth c.args.caller.now.pass
+    look_said g.C.Rules.discipline law.keeps c.args.berth c.args.caller.now.pass
     c.call.new.self.pass a.0 c.requires.lane c.args.wanted c.in-Ok.answer.0 c.requires.may (a.1, a.2, a.3)
     c.found_in.result c.found_in.ensures
 
@@ -15,7 +15,7 @@ returns-in-Ok-clause-stays g c =
     let a = c.in-Ok.ensures.answer in
     record {
       same = c.call.ensures.same;
-      none = look_none g.C.Rules.terms g.C.Rules.rule law.replies law.proxies_do c.args.berth
+      none = look_none g.C.Rules.discipline law.keeps c.args.berth
           c.args.caller.now.pass c.call.new.self.pass a.0 c.requires.lane c.args.wanted c.in-Ok.answer.0
           c.requires.may (a.1, a.2, a.3);
     }

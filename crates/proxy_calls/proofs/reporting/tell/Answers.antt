@@ -12,18 +12,18 @@ pub returns-in-Ok : goal.returns-in-Ok
 returns-in-Ok g c =
     let p = c.args.caller.now.pass in
     let p' = c.call.new.self.pass in
-    let terms = g.C.Rules.terms in
+    let rules = g.C.Rules.discipline in
     let law = g.met.C.Rules in
     let a = c.in-Ok.ensures.answer in
     let r = c.in-Ok._answer.0 in
     let report = c.args.report in
-    let k = makes terms g.C.Rules.rule law.replies law.proxies_do c.args.berth p p' a.0 c.requires.lane report r
+    let k = makes rules law.keeps c.args.berth p p' a.0 c.requires.lane report r
     c.requires.may (a.1, a.2, a.3) (λ s. never_reported report s c.requires.report) in
     record {
       same = c.call.ensures.same;
-      told = reports terms g.C.Rules.rule law.replies law.proxies_do c.args.berth p p' a.0 c.requires.lane report r k
+      told = reports rules law.keeps c.args.berth p p' a.0 c.requires.lane report r k
           (is_noted r (sym (report_fits report r c.requires.report) ∙ k.fitting))
-          (by_report (terms p.seat.me.0.basis) c.args.berth (duty_of p.seat.me.0.mine) report c.requires.report
+          (by_report (rules p.seat.me.0.basis) c.args.berth (duty_of p.seat.me.0.mine) report c.requires.report
           c.requires.may);
     }
 

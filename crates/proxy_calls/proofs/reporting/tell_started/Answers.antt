@@ -13,13 +13,13 @@ pub returns-in-Ok-clause-told : goal.returns-in-Ok-clause-told
 returns-in-Ok-clause-told g c =
     let p = c.args.caller.now.pass in
     let p' = c.call.new.self.pass in
-    let terms = g.C.Rules.terms in
+    let rules = g.C.Rules.discipline in
     let law = g.met.C.Rules in
     let a = c.in-Ok.ensures.answer in
     let r = c.in-Ok._answer.0 in
     let report : Call = call.Launched c.args.line start.Done in
-    let k = makes terms g.C.Rules.rule law.replies law.proxies_do c.args.berth p p' a.0 c.requires.lane report r
-    (may_launch (terms p.seat.me.0.basis) c.args.berth (duty_of p.seat.me.0.mine) c.args.line start.Done
+    let k = makes rules law.keeps c.args.berth p p' a.0 c.requires.lane report r
+    (may_launch (rules p.seat.me.0.basis) c.args.berth (duty_of p.seat.me.0.mine) c.args.line start.Done
     c.requires.owes) (a.1, a.2, a.3) never_noted in
-    reports terms g.C.Rules.rule law.replies law.proxies_do c.args.berth p p' a.0 c.requires.lane report r k
+    reports rules law.keeps c.args.berth p p' a.0 c.requires.lane report r k
     (is_noted r k.fitting) (ap (λ (s : Duty). duty_by s report reply.Noted) c.requires.owes.1)

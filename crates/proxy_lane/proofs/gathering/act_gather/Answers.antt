@@ -1,3 +1,4 @@
+use Rattle.core_contract.specs.Ruled.{answer_after}
 use Rattle.std.proofs.Common.{w32, to_z, of_z, ℕ, ℤ, Bool, true, false, List, length, [], refl, sym, subst, ◌∙◌, SFits, rules as facts}
 use Rattle.std.proofs.Math.Facts.{to_z-of_z}
 use Rattle.exec_journal.specs.declared.call.Found.TheVariants as found
@@ -33,7 +34,7 @@ returns-then-answer-ne0-clause-acts g c =
     let t = c.args.answer.now.attempt in
     let work = c.args.work.now in
     let b = g.B.Berth.told c.args.berth.now in
-    gather_none means t (g.C.Rules.rule (basis p)) p.lane c.args.answer.now.line c.args.answer.now.number work (seen p)
+    gather_none means t (answer_after (g.C.Rules.discipline (basis p))) p.lane c.args.answer.now.line c.args.answer.now.number work (seen p)
     (found.Exit (to_z w32 (of_z w32 c.args.answer.now.exit))) b
     (exit_in (speaks_remote means.speech) (look_asks means t c.args.answer.now.number work) (length work.outputs) c.args.answer.now.line
     c.args.answer.now.number (to_z w32 (of_z w32 c.args.answer.now.exit))) (made_none b)
@@ -45,7 +46,7 @@ returns-then-answer-clause-acts g c =
     let t = c.args.answer.now.attempt in
     let work = c.args.work.now in
     let b = g.B.Berth.told c.args.berth.now in
-    gather_none means t (g.C.Rules.rule (basis p)) p.lane c.args.answer.now.line c.args.answer.now.number work (seen p)
+    gather_none means t (answer_after (g.C.Rules.discipline (basis p))) p.lane c.args.answer.now.line c.args.answer.now.number work (seen p)
     found.Refused b
     (refused_in (speaks_remote means.speech) (look_asks means t c.args.answer.now.number work) (length work.outputs)
     c.args.answer.now.line c.args.answer.now.number) (made_none b)
@@ -56,7 +57,7 @@ returns-then-is_executor-clause-acts g c =
     let means = means_at c.args.site.now in
     let t = c.args.answer.now.attempt in
     let work = c.args.work.now in
-    gather_answered means t (g.C.Rules.rule (basis p)) p.lane c.args.answer.now.line c.args.answer.now.number work (seen c.answered.new.caller.pass) c.answered.result
+    gather_answered means t (answer_after (g.C.Rules.discipline (basis p))) p.lane c.args.answer.now.line c.args.answer.now.number work (seen c.answered.new.caller.pass) c.answered.result
     (g.B.Berth.told c.args.berth.now) (sym c.is_executor.ensures ∙ c.if-is_executor.true)
     c.answered.ensures.answered
 
@@ -71,7 +72,7 @@ returns-clause-acts g c =
     let new = g.B.Berth.told c.gather_line.new.berth in
     let room = c.room_of-room.ensures
     ∙ (λ i. room_for (c.kind_of-kind.ensures i) (to_z-of_z fits i)) in
-    gather_looked means t (g.C.Rules.rule (basis p)) p.lane c.args.answer.now.line c.args.answer.now.number work (seen p)
+    gather_looked means t (answer_after (g.C.Rules.discipline (basis p))) p.lane c.args.answer.now.line c.args.answer.now.number work (seen p)
     c.gather_line.result old new (sym c.is_executor.ensures ∙ c.if-is_executor.false)
     (subst (λ (r : Room). ReportsLooks (gather_asks r work.outputs) c.gather_line.result old new) room
     (subst (λ xs. ReportsLooks (gather_asks c.room_of-room.result xs) c.gather_line.result old new)

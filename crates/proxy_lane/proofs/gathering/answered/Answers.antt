@@ -1,3 +1,5 @@
+use Rattle.core_contract.specs.Discipline.{outputs_in}
+use Rattle.core_contract.specs.Ruled.{answer_after}
 use Rattle.std.proofs.Common.{◌≡◌, ◌<◌, ℕ, ℤ, ◌+◌, Option, Some, List, [], ◌∷◌, ◌++◌, length, refl, ap, sym, subst, ◌∙◌, arith, w32, SFits, rules as facts}
 use Rattle.std.proofs.Math.Facts.{to_z-of_z}
 use Rattle.seat_desk.specs.Passes.{basis, seen}
@@ -18,13 +20,13 @@ length_on [] f = refl
 length_on (x ∷ fs) f = let y = length_on fs f in omega arith
 
 pub look-requires-clause-lane : goal.look-requires-clause-lane
-look-requires-clause-lane g c = proxy_on g.C.Rules.terms c.args.site.now.berth c.args.caller.now.pass
+look-requires-clause-lane g c = proxy_on g.C.Rules.discipline c.args.site.now.berth c.args.caller.now.pass
     c.loop-output.caller.pass c.loop-output.invariant.stays.same c.requires.gather.at_site.lane
 
 pub look-requires-clause-may : goal.look-requires-clause-may
 look-requires-clause-may g c =
     let fits : SFits w32 c.args.answer.now.number = search facts in
-    let terms = g.C.Rules.terms in
+    let rules = g.C.Rules.discipline in
     let w = c.args.site.now.berth in
     let p1 = c.loop-output.caller.pass in
     let x = c.args.answer.now in
@@ -34,18 +36,18 @@ look-requires-clause-may g c =
     let duty = ap duty_of stays.none.1 ∙ (c.requires.gather.owes
     ∙ (λ i. Gathers x.line x.number x.attempt (good.0 i) (good.1 i))) in
     let outputs = c.as_slice-outputs.ensures ∙ (c.requires.gather.of_action.same_outputs
-    ∙ ap (λ (q : g.row.C-Plan.Denot). (terms q).outputs a) (sym stays.same.2)) in
+    ∙ ap (λ (q : g.row.C-Plan.Denot). outputs_in (rules q).plan a) (sym stays.same.2)) in
     let below = subst (λ (xs : List (List ℕ)). c.loop-output.output < length xs) outputs
     c.loop-output-test.true in
-    subst (λ (n : ℤ). MayMake terms w p1 (call.Look (wanted.Answered x.line n c.loop-output.output)))
+    subst (λ (n : ℤ). MayMake rules w p1 (call.Look (wanted.Answered x.line n c.loop-output.output)))
     (sym (to_z-of_z fits))
-    (may_look_at (terms (basis p1)) w p1.seat.me.0.mine x.line x.number x.attempt c.loop-output.output duty below)
+    (may_look_at (rules (basis p1)) w p1.seat.me.0.mine x.line x.number x.attempt c.loop-output.output duty below)
 
 pub loop-output-init : goal.loop-output-init
 loop-output-init g c = record {
   stays = stays_at c.args.caller.now.pass;
   files = ap length c.in_ok-files.ensures.items;
-  told = subst (λ (fs : List (List ℕ)). AreTold (g.C.Rules.rule (basis c.args.caller.now.pass))
+  told = subst (λ (fs : List (List ℕ)). AreTold (answer_after (g.C.Rules.discipline (basis c.args.caller.now.pass)))
       c.args.caller.now.pass.lane (seen c.args.caller.now.pass)
       (looks_from c.args.answer.now.line c.args.answer.now.number 0 fs)) (sym c.in_ok-files.ensures.items) tt;
 }
@@ -56,7 +58,8 @@ loop-output-preserved g c =
     let p = c.args.caller.now.pass in
     let p1 = c.loop-output.caller.pass in
     let p2 = c.look.new.caller.pass in
-    let rule = g.C.Rules.rule in
+    let rules = g.C.Rules.discipline in
+    let rule = λ (q : g.row.C-Plan.Denot). answer_after (rules q) in
     let inv = c.loop-output.invariant in
     let out = c.loop-output.output in
     let l = c.args.answer.now.line in
@@ -101,7 +104,8 @@ returns-in-None-clause-answered g c =
     let p = c.args.caller.now.pass in
     let p1 = c.loop-output.caller.pass in
     let p2 = c.look.new.caller.pass in
-    let rule = g.C.Rules.rule in
+    let rules = g.C.Rules.discipline in
+    let rule = λ (q : g.row.C-Plan.Denot). answer_after (rules q) in
     let inv = c.loop-output.invariant in
     let out = c.loop-output.output in
     let l = c.args.answer.now.line in

@@ -1,3 +1,4 @@
+use Rattle.core_contract.specs.Ruled.{answer_after}
 use Rattle.std.proofs.Common.{◌≡◌, length}
 use Rattle.seat_desk.specs.Passes.{basis, seen}
 use Rattle.proxy_deeds.specs.Deeds.{looks_from}
@@ -9,6 +10,6 @@ abbrev pub invariant-loop-output : goal.invariant-loop-output
 invariant-loop-output g l = record {
   stays : Stays l.fn.caller.pass l.caller.pass;
   files : length l.files.items ≡ l.output;
-  told : AreTold (g.C.Rules.rule (basis l.fn.caller.pass)) l.fn.caller.pass.lane (seen l.caller.pass)
+  told : AreTold (answer_after (g.C.Rules.discipline (basis l.fn.caller.pass))) l.fn.caller.pass.lane (seen l.caller.pass)
       (looks_from l.answer.line l.answer.number 0 l.files.items);
 }

@@ -12,7 +12,7 @@ use Rattle.core_contract.specs.Moves.{History}
 use Rattle.core_contract.specs.Shelf.{Fresh}
 use Rattle.std.specs.Prelude.{if◌then◌else◌, pos}
 use Rattle.std.proofs.lemmas.Bool.{eqb-true}
-use Rattle.core_contract.specs.Terms.{Terms}
+use Rattle.core_contract.specs.Discipline.{Discipline, outputs_in}
 use Rattle.exec_journal.specs.Entries.{same_attempt}
 use Rattle.core_contract.specs.Duties.{Duty, Asks, Launches, Sends, Cancels, Gathers, Commits, Kills, Left, duty_of, may_do}
 use Rattle.core_bench.specs.Objects.{IsPlaceAt}
@@ -66,30 +66,30 @@ files_fit n outputs true false e = eqb-true n outputs e
 files_fit n outputs true true e = absurd (cc)
 files_fit n outputs false refused e = absurd (cc)
 
-claim_fits : (terms : Terms) (w : ℕ) (s : Duty) (t : Attempt) (fs : List (List ℕ))
-    → may_do terms w s (claim_of t (found.Files fs)) ≡ true
-    → length fs ≡ length (terms.outputs t.action)
-claim_fits terms w (Gathers l n u exit refused) t fs e =
-    files_fit (length fs) (length (terms.outputs t.action)) (int_eq exit (pos 0)) refused
+claim_fits : (discipline : Discipline) (w : ℕ) (s : Duty) (t : Attempt) (fs : List (List ℕ))
+    → may_do discipline w s (claim_of t (found.Files fs)) ≡ true
+    → length fs ≡ length (outputs_in discipline.plan t.action)
+claim_fits discipline w (Gathers l n u exit refused) t fs e =
+    files_fit (length fs) (length (outputs_in discipline.plan t.action)) (int_eq exit (pos 0)) refused
     (second (same_attempt t u) _ e)
-claim_fits terms w Asks t fs e = absurd (cc)
-claim_fits terms w Left t fs e = absurd (cc)
-claim_fits terms w (Launches l u) t fs e = absurd (cc)
-claim_fits terms w (Sends l n u) t fs e = absurd (cc)
-claim_fits terms w (Cancels l n) t fs e = absurd (cc)
-claim_fits terms w (Commits a b gs) t fs e = absurd (cc)
-claim_fits terms w (Kills l) t fs e = absurd (cc)
+claim_fits discipline w Asks t fs e = absurd (cc)
+claim_fits discipline w Left t fs e = absurd (cc)
+claim_fits discipline w (Launches l u) t fs e = absurd (cc)
+claim_fits discipline w (Sends l n u) t fs e = absurd (cc)
+claim_fits discipline w (Cancels l n) t fs e = absurd (cc)
+claim_fits discipline w (Commits a b gs) t fs e = absurd (cc)
+claim_fits discipline w (Kills l) t fs e = absurd (cc)
 
-granted_fits : {P : Type 0} (told : P → PlaceTold) (terms : Terms) (w : ℕ) (s : Duty) (t : Attempt)
+granted_fits : {P : Type 0} (told : P → PlaceTold) (discipline : Discipline) (w : ℕ) (s : Duty) (t : Attempt)
     (place : P) (f : Found) (r : Reply) (own : History)
-    → IsGranted told (terms.outputs t.action) t (Some place) f r own
-    → may_do terms w s (claim_of t f) ≡ true
-    → length (files_in f) ≡ length (terms.outputs t.action)
-granted_fits told terms w s t place (found.Files fs) r own x may = claim_fits terms w s t fs may
-granted_fits told terms w s t place (found.Exit y) r own x may = absurd x
-granted_fits told terms w s t place (found.Missing n) r own x may = absurd x
-granted_fits told terms w s t place found.RoomFault r own x may = absurd x
-granted_fits told terms w s t place found.Refused r own x may = absurd x
+    → IsGranted told (outputs_in discipline.plan t.action) t (Some place) f r own
+    → may_do discipline w s (claim_of t f) ≡ true
+    → length (files_in f) ≡ length (outputs_in discipline.plan t.action)
+granted_fits told discipline w s t place (found.Files fs) r own x may = claim_fits discipline w s t fs may
+granted_fits told discipline w s t place (found.Exit y) r own x may = absurd x
+granted_fits told discipline w s t place (found.Missing n) r own x may = absurd x
+granted_fits told discipline w s t place found.RoomFault r own x may = absurd x
+granted_fits told discipline w s t place found.Refused r own x may = absurd x
 
 pub claim-requires-clause-lane : goal.claim-requires-clause-lane
 claim-requires-clause-lane g c = c.requires.at_site.lane
@@ -98,7 +98,7 @@ pub claim-requires-clause-may : goal.claim-requires-clause-may
 claim-requires-clause-may g c = c.requires.may
 
 pub commit_files-requires-clause-lane : goal.commit_files-requires-clause-lane
-commit_files-requires-clause-lane g c = proxy_on g.C.Rules.terms c.args.site.now.berth
+commit_files-requires-clause-lane g c = proxy_on g.C.Rules.discipline c.args.site.now.berth
     c.args.caller.now.pass c.claim.new.caller.pass c.claim.ensures.same c.requires.at_site.lane
 
 pub commit_files-requires-clause-may : goal.commit_files-requires-clause-may
@@ -108,8 +108,8 @@ commit_files-requires-clause-may g c =
     let t = c.args.attempt in
     let f = c.args.found in
     let told = g.P.Place.told in
-    let terms = g.C.Rules.terms (basis p) in
-    let outputs = terms.outputs t.action in
+    let discipline = g.C.Rules.discipline (basis p) in
+    let outputs = outputs_in discipline.plan t.action in
     let work = c.args.work.now.outputs in
     let paths = c.as_slice-in-Ok-Some.ensures in
     let claimed = c.in-Ok-Some.ensures.claimed in
@@ -120,10 +120,10 @@ commit_files-requires-clause-may g c =
     let of : outputs ≡ work = sym c.requires.of_action.same_outputs in
     record {
       owes = subst (λ (fs : List (List ℕ)). OwesCommit t fs (mine p1)) (sym copies) owes.0;
-      outputs = by_rules (λ q. (g.C.Rules.terms q).outputs t.action ≡ work) p p1 c.claim.ensures.same of
+      outputs = by_rules (λ q. outputs_in (g.C.Rules.discipline q).plan t.action ≡ work) p p1 c.claim.ensures.same of
           ∙ sym paths;
       fits = ap length copies
-          ∙ (granted_fits told terms c.args.site.now.berth (duty_of (mine p)) t c.in-Ok-Some.place f claimed.reply
+          ∙ (granted_fits told discipline c.args.site.now.berth (duty_of (mine p)) t c.in-Ok-Some.place f claimed.reply
           (mine p1) granted c.requires.may ∙ ap length (of ∙ sym paths));
       few = subst (λ (xs : List (List ℕ)). length xs < 2 ^ 32) (sym paths) c.requires.of_action.few;
       place = subst (λ (xs : List (List ℕ)). IsPlaceAt t.action xs Fresh (told c.in-Ok-Some.place))
@@ -138,7 +138,7 @@ returns-in-Ok-Some g c =
     let t = c.args.attempt in
     let f = c.args.found in
     let told = g.P.Place.told in
-    let outputs = (g.C.Rules.terms (basis p)).outputs t.action in
+    let outputs = outputs_in (g.C.Rules.discipline (basis p)).plan t.action in
     let claimed = c.in-Ok-Some.ensures.claimed in
     let granted = subst (λ (o : Option g.row.P.Denot). IsGranted told outputs t o f claimed.reply (mine p1))
     c.in-Ok-Some.field-0-is claimed.granted in
@@ -168,7 +168,7 @@ returns-in-Ok-None g c =
     record {
       same = c.claim.ensures.same;
       claims = (
-        subst (λ (o : Option g.row.P.Denot). IsGranted g.P.Place.told ((g.C.Rules.terms (basis p)).outputs t.action)
+        subst (λ (o : Option g.row.P.Denot). IsGranted g.P.Place.told (outputs_in (g.C.Rules.discipline (basis p)).plan t.action)
             t o c.args.found claimed.reply (mine p1)) c.in-Ok-None.field-0-is claimed.granted,
         (claimed.made.0, (claimed.reply, mine p1, claimed.made.1, inl refl)),
       );

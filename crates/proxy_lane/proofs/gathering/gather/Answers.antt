@@ -50,11 +50,11 @@ claim_found-requires g c =
     let a = c.args.answer.now.attempt.action in
     let same = c.act_gather.ensures.stays.same in
     let work = c.action_at-work.result.now in
-    let terms = g.C.Rules.terms in
+    let rules = g.C.Rules.discipline in
     record {
-      at_site = site_on terms c.args.site.now p p1 same c.requires.at_site;
+      at_site = site_on rules c.args.site.now p p1 same c.requires.at_site;
       may = c.in-Ok.ensures.may;
-      of_action = work_on terms c.args.site.now p p1 a work same
+      of_action = work_on rules c.args.site.now p p1 a work same
           (c.requires.at_site.work.each a work c.action_at-work.ensures);
     }
 
@@ -69,7 +69,7 @@ returns-in-Err g c =
       same = stays.same;
       tidy = still_tidy c.args.site.now p p1 c.args.hands.now _
           (ap (child_at c.args.site.now.berth) stays.none.1) refl c.requires.may.1 c.requires.room;
-      goes = gather_cut (means_at c.args.site.now) g.C.Rules.rule p p1 p1 h x.line x.number
+      goes = gather_cut (means_at c.args.site.now) g.C.Rules.discipline p p1 p1 h x.line x.number
           x.attempt x.exit x.refused c.requires.may.0 c.action_at-work.result.now c.action_at-work.ensures stays.none
           stays.same.1 (g.B.Berth.told c.act_gather.new.berth) c.in-Err.field-0 c.in-Err.ensures.acts
           (stays_at p1).none;
@@ -78,7 +78,7 @@ returns-in-Err g c =
 pub returns-in-Ok : goal.returns-in-Ok
 returns-in-Ok g c =
     let means = means_at c.args.site.now in
-    let rule = g.C.Rules.rule in
+    let rules = g.C.Rules.discipline in
     let p = c.args.caller.now.pass in
     let p1 = c.act_gather.new.caller.pass in
     let p2 = c.claim_found.new.caller.pass in
@@ -99,15 +99,15 @@ returns-in-Ok g c =
           (claimed_shelved c.args.site.now.berth x.attempt f p p1 p2 c.claim_found.result
           c.requires.at_site.lane.0 stays.none stays.same.1 claims.claims claims.refused)
           refl c.requires.may.1 c.requires.room;
-      goes = obeys_by c.args.site.now rule held c.claim_found.result p c.args.hands.now p2 _
+      goes = obeys_by c.args.site.now rules held c.claim_found.result p c.args.hands.now p2 _
           ((duty_of (mine p2) ≡ Asks) × ClaimsFound x.attempt f p1 p2)
           (λ by. MakesNone p1 p2 × IsCauseOfClaim x.attempt f by)
           (λ y. (
             y.0,
-            gather_goes means rule p p1 p2 h x.line x.number x.attempt x.exit x.refused duty work of
+            gather_goes means rules p p1 p2 h x.line x.number x.attempt x.exit x.refused duty work of
                 stays.none stays.same.1 new f acts y.1,
           ))
-          (λ by y. claim_halts means rule p p1 p2 h x.line x.number x.attempt x.exit x.refused duty work of
+          (λ by y. claim_halts means rules p p1 p2 h x.line x.number x.attempt x.exit x.refused duty work of
           stays.none stays.same.1 new f by acts y.0 y.1)
           claims.claims claims.refused;
     }

@@ -1,3 +1,5 @@
+use Rattle.core_contract.specs.Discipline.{makers_in}
+use Rattle.core_contract.specs.Ruled.{answer_after}
 use Rattle.std.proofs.Common.{ℕ, ◌+◌, ◌<◌, length, List, [], ◌∷◌, ◌++◌, sym, subst, ◌∙◌, take, arith}
 use Rattle.std.specs.Prelude.{All}
 use Rattle.std.proofs.lemmas.List.{take_all}
@@ -25,7 +27,8 @@ loop-input-preserved g c =
     let p = c.args.caller.now.pass in
     let p1 = c.loop-input.caller.pass in
     let p2 = c.content_of.new.caller.pass in
-    let rule = g.C.Rules.rule in
+    let rules = g.C.Rules.discipline in
+    let rule = λ (q : g.row.C-Plan.Denot). answer_after (rules q) in
     let inv = c.loop-input.invariant in
     let items = c.loop-input.files.items in
     let inputs = c.as_slice-inputs.result.now in
@@ -54,7 +57,7 @@ loop-input-preserved g c =
     }
 
 pub content_of-requires-clause-due : goal.content_of-requires-clause-due
-content_of-requires-clause-due g c = due_on g.C.Rules.terms c.args.site.now c.args.caller.now.pass
+content_of-requires-clause-due g c = due_on g.C.Rules.discipline c.args.site.now c.args.caller.now.pass
     c.loop-input.caller.pass c.args.request.now c.loop-input.invariant.stays c.requires
 
 pub content_of-requires-clause-made : goal.content_of-requires-clause-made
@@ -63,8 +66,8 @@ content_of-requires-clause-made g c =
     let x = c.input-item.result in
     let a = c.args.request.now.attempt.action in
     let inputs = c.as_slice-inputs.result.now in
-    let Made : WorkInput → Type 0 = λ i. IsMadeBy ((g.C.Rules.terms (basis p)).makers a) i.origin in
-    by_rules (λ q. IsMadeBy ((g.C.Rules.terms q).makers a) x.origin) p c.loop-input.caller.pass
+    let Made : WorkInput → Type 0 = λ i. IsMadeBy (makers_in (g.C.Rules.discipline (basis p)).plan a) i.origin in
+    by_rules (λ q. IsMadeBy (makers_in (g.C.Rules.discipline q).plan a) x.origin) p c.loop-input.caller.pass
     c.loop-input.invariant.stays.same
     (subst Made (sym c.input-item.is)
     (All-get_or Made inputs c.loop-input.input-index x c.loop-input-test.true
@@ -97,6 +100,6 @@ pub returns-clause-told : goal.returns-clause-told
 returns-clause-told g c =
     let p = c.args.caller.now.pass in
     let inputs = c.as_slice-inputs.result.now in
-    subst (λ (xs : List WorkInput). AreTold (g.C.Rules.rule (basis p)) p.lane
+    subst (λ (xs : List WorkInput). AreTold (answer_after (g.C.Rules.discipline (basis p))) p.lane
     (seen c.loop-input.caller.pass) (looks_of xs c.loop-input.files.items))
     (take_all c.loop-input.input-index inputs (omega arith) ∙ c.as_slice-inputs.ensures) c.loop-input.invariant.told

@@ -11,14 +11,14 @@ use Rattle.proxy_lane.proofs.killing.kill.Goals as goal
 
 pub tell-requires-clause-may : goal.tell-requires-clause-may
 tell-requires-clause-may g c =
-    let terms = g.C.Rules.terms c.args.caller.now.pass.seat.me.0.basis in
-    ap (λ (s : Duty). may_do terms c.args.site.now.berth s (call.Killed c.args.line)) c.requires.may.0
+    let q = g.C.Rules.discipline c.args.caller.now.pass.seat.me.0.basis in
+    ap (λ (s : Duty). may_do q c.args.site.now.berth s (call.Killed c.args.line)) c.requires.may.0
     ∙ eq-eqb c.args.line c.args.line refl
 
 pub returns : goal.returns
 returns g c =
     let means = means_at c.args.site.now in
-    let rule = g.C.Rules.rule in
+    let rules = g.C.Rules.discipline in
     let p = c.args.caller.now.pass in
     let p2 = c.tell.new.caller.pass in
     let l = c.args.line in
@@ -34,8 +34,8 @@ returns g c =
             (λ o. refl) told ∙ (c.requires.may.2 ∙ sym closed),
         λ l is. absurd (let none : None ≡ Some l = sym closed ∙ is in cc),
       );
-      goes = obeys_told c.args.site.now rule held c.tell.result p c.args.hands.now p2 c.lay_by.new.hands
-          (call.Killed l) (λ made. kill_goes means rule p p2 h h1 l c.requires.may.0 c.lay_by.ensures made)
-          (λ by is none. kill_halts means rule p p2 h h1 l c.requires.may.0 c.lay_by.ensures by none is)
+      goes = obeys_told c.args.site.now rules held c.tell.result p c.args.hands.now p2 c.lay_by.new.hands
+          (call.Killed l) (λ made. kill_goes means rules p p2 h h1 l c.requires.may.0 c.lay_by.ensures made)
+          (λ by is none. kill_halts means rules p p2 h h1 l c.requires.may.0 c.lay_by.ensures by none is)
           told;
     }

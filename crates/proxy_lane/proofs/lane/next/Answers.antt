@@ -20,8 +20,8 @@ obey-requires g c =
     let line = open_in c.args.hands.now in
     let at_site = c.requires.at_site in
     record {
-      at_site = site_on g.C.Rules.terms site p p1 c.ask.ensures.same at_site;
-      may = may_obey (means_at site) g.C.Rules.rule p p1 h c.requires.asks g.C.Rules.terms
+      at_site = site_on g.C.Rules.discipline site p p1 c.ask.ensures.same at_site;
+      may = may_obey (means_at site) g.C.Rules.discipline p p1 h c.requires.asks
           g.B.Child.Child.told site.berth line at_site.lane.0 c.requires.tidy.0 c.requires.kept.1.holds.below
           at_site.work.as_many at_site.settings.of_plan c.in-Ok-Some.order x;
       room = c.requires.tidy.1;
@@ -30,7 +30,7 @@ obey-requires g c =
 pub returns-in-Ok : goal.returns-in-Ok
 returns-in-Ok g c =
     let means = means_at c.args.site.now in
-    let rule = g.C.Rules.rule in
+    let rules = g.C.Rules.discipline in
     let p = c.args.caller.now.pass in
     let held = held_of g.B.Berth.told g.B.Feed.Feed.told g.B.Child.Child.told in
     let h = held c.args.hands.now in
@@ -43,15 +43,15 @@ returns-in-Ok g c =
       tidy = c.obey.ensures.tidy;
       goes = (
         went.0,
-        goes_on means rule p p1 p2 h h (held c.obey.new.hands) c.ask.ensures.same
-            (ask_goes means rule p p1 h c.requires.asks x.reply x.made) went.1,
+        goes_on means rules p p1 p2 h h (held c.obey.new.hands) c.ask.ensures.same
+            (ask_goes means rules p p1 h c.requires.asks x.reply x.made) went.1,
       );
     }
 
 pub returns-in-Err-obey : goal.returns-in-Err-obey
 returns-in-Err-obey g c =
     let means = means_at c.args.site.now in
-    let rule = g.C.Rules.rule in
+    let rules = g.C.Rules.discipline in
     let p = c.args.caller.now.pass in
     let held = held_of g.B.Berth.told g.B.Feed.Feed.told g.B.Child.Child.told in
     let h = held c.args.hands.now in
@@ -61,20 +61,20 @@ returns-in-Err-obey g c =
     record {
       same = same_on p p1 p2 c.ask.ensures.same c.obey.ensures.same;
       tidy = c.obey.ensures.tidy;
-      goes = halts_on means rule p p1 p2 h h (held c.obey.new.hands) c.ask.ensures.same c.in-Err-obey.cause
-          (ask_goes means rule p p1 h c.requires.asks x.reply x.made) c.in-Err-obey.ensures.goes;
+      goes = halts_on means rules p p1 p2 h h (held c.obey.new.hands) c.ask.ensures.same c.in-Err-obey.cause
+          (ask_goes means rules p p1 h c.requires.asks x.reply x.made) c.in-Err-obey.ensures.goes;
     }
 
 pub returns-in-Ok-None : goal.returns-in-Ok-None
 returns-in-Ok-None g c =
     let means = means_at c.args.site.now in
-    let rule = g.C.Rules.rule in
+    let rules = g.C.Rules.discipline in
     let p = c.args.caller.now.pass in
     let held = held_of g.B.Berth.told g.B.Feed.Feed.told g.B.Child.Child.told in
     let h = held c.args.hands.now in
     let p1 = c.ask.new.caller.pass in
     let x = rw c.in-Ok-None.field-0-is at c.in-Ok-None.ensures.ordered in
-    let y = stopped means rule p p1 h c.requires.asks g.C.Rules.terms g.B.Child.Child.told
+    let y = stopped means rules p p1 h c.requires.asks g.B.Child.Child.told
     c.args.site.now.berth (open_in c.args.hands.now) c.requires.at_site.lane.0 c.requires.tidy.0
     c.requires.kept.1.holds.below x in
     record {
@@ -83,14 +83,14 @@ returns-in-Ok-None g c =
       goes = (
         y.0,
         none_open g.B.Feed.Feed.told c.args.hands.now.open y.1,
-        ask_goes means rule p p1 h c.requires.asks x.reply x.made,
+        ask_goes means rules p p1 h c.requires.asks x.reply x.made,
       );
     }
 
 pub returns-in-Err : goal.returns-in-Err
 returns-in-Err g c =
     let means = means_at c.args.site.now in
-    let rule = g.C.Rules.rule in
+    let rules = g.C.Rules.discipline in
     let p = c.args.caller.now.pass in
     let held = held_of g.B.Berth.told g.B.Feed.Feed.told g.B.Child.Child.told in
     let h = held c.args.hands.now in
@@ -102,6 +102,6 @@ returns-in-Err g c =
         ap (child_at c.args.site.now.berth) refused.1.1 ∙ c.requires.tidy.0,
         c.requires.tidy.1,
       );
-      goes = subst (λ (by : ProxyHalt). Halts means rule by p h p1 h) (sym refused.0)
-          (ask_halts means rule p p1 h c.requires.asks refused.1);
+      goes = subst (λ (by : ProxyHalt). Halts means rules by p h p1 h) (sym refused.0)
+          (ask_halts means rules p p1 h c.requires.asks refused.1);
     }

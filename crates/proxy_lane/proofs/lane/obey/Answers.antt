@@ -10,14 +10,14 @@ launch-requires g c = rw c.in-Launch.is at c.requires
 pub send-requires : goal.send-requires
 send-requires g c =
     let fits : SFits w32 c.in-Send.number = search facts in
-    subst (λ (n : ℤ). IsOrdered g.C.Rules.terms c.args.site.now g.B.Child.Child.told
+    subst (λ (n : ℤ). IsOrdered g.C.Rules.discipline c.args.site.now g.B.Child.Child.told
     (asked.Send c.in-Send.line n c.in-Send.attempt) c.args.caller.now.pass c.args.hands.now)
     (sym (to_z-of_z fits)) (rw c.in-Send.is at c.requires)
 
 pub cancel-requires : goal.cancel-requires
 cancel-requires g c =
     let fits : SFits w32 c.in-Cancel.number = search facts in
-    subst (λ (n : ℤ). IsOrdered g.C.Rules.terms c.args.site.now g.B.Child.Child.told
+    subst (λ (n : ℤ). IsOrdered g.C.Rules.discipline c.args.site.now g.B.Child.Child.told
     (asked.Cancel c.in-Cancel.line n) c.args.caller.now.pass c.args.hands.now)
     (sym (to_z-of_z fits)) (rw c.in-Cancel.is at c.requires)
 

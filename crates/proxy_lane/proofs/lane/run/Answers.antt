@@ -1,3 +1,4 @@
+use Rattle.core_contract.specs.Ruled.{answer_after}
 use Rattle.std.proofs.Common.{◌≡◌, List, Some, None, map, ap, sym, subst, ◌∙◌}
 use Rattle.seat_desk.specs.Passes.{mine, basis, seen}
 use Rattle.core_contract.specs.Shelf.{child_at}
@@ -12,7 +13,8 @@ use Rattle.proxy_lane.proofs.lane.run.Goals as goal
 pub serve-halted-requires : goal.serve-halted-requires
 serve-halted-requires g c =
     let means = means_at c.args.site.now in
-    let rule = g.C.Rules.rule in
+    let rules = g.C.Rules.discipline in
+    let rule = λ (q : g.row.C-Plan.Denot). answer_after (rules q) in
     let p = c.new-caller.result.pass in
     let b = g.B.Berth.told c.args.berth in
     let none = ap (map (back_of g.B.Feed.Feed.told g.B.Child.Child.told)) c.new.ensures.items in
@@ -27,14 +29,14 @@ serve-halted-requires g c =
         b,
         subst (λ (backs : List Returned). Keeps (rule (basis p)) p.lane means (mine p) (seen p) b
             (record { berth = b; opened = None; ended = backs; unsaid = None })) (sym none)
-            (first_keeps means rule p b fresh),
+            (first_keeps means rules p b fresh),
       );
     }
 
 pub returns-clause-served : goal.returns-clause-served
 returns-clause-served g c =
     let means = means_at c.args.site.now in
-    let rule = g.C.Rules.rule in
+    let rules = g.C.Rules.discipline in
     let p = c.new-caller.result.pass in
     let p2 = c.serve-halted.new.caller.pass in
     let b = g.B.Berth.told c.args.berth in
@@ -42,9 +44,9 @@ returns-clause-served g c =
     let h2 = held c.serve-halted.new.hands in
     let halted = c.serve-halted.result in
     let none = ap (map (back_of g.B.Feed.Feed.told g.B.Child.Child.told)) c.new.ensures.items in
-    let ends = subst (λ (backs : List Returned). Finishes means rule halted p
+    let ends = subst (λ (backs : List Returned). Finishes means rules halted p
     (record { berth = b; opened = None; ended = backs; unsaid = None }) p2 h2) none
     c.serve-halted.ensures.ends in
     rw c.into_pass.ensures
-    (served_by means rule p p2 b h2 halted c.serve-halted.ensures.same
+    (served_by means rules p p2 b h2 halted c.serve-halted.ensures.same
     (ap mine c.new-caller.ensures.pass ∙ c.requires.fresh) ends)

@@ -34,8 +34,8 @@ give_up-requires g c =
     let ready = c.loop.invariant.ready in
     let more = c.next-in-loop.ensures.same in
     record {
-      at_site = site_on g.C.Rules.terms c.args.site.now p1 p2 more ready.at_site;
-      may = halts_may (means_at c.args.site.now) g.C.Rules.rule p1 p2 p2
+      at_site = site_on g.C.Rules.discipline c.args.site.now p1 p2 more ready.at_site;
+      may = halts_may (means_at c.args.site.now) g.C.Rules.discipline p1 p2 p2
           (held c.loop.hands) h2 h2 more c.in-Err.cause ready.kept c.in-Err.ensures.goes;
       tidy = c.next-in-loop.ensures.tidy;
     }
@@ -43,7 +43,7 @@ give_up-requires g c =
 pub returns-in-Ok-false : goal.returns-in-Ok-false
 returns-in-Ok-false g c =
     let means = means_at c.args.site.now in
-    let rule = g.C.Rules.rule in
+    let rules = g.C.Rules.discipline in
     let p = c.args.caller.now.pass in
     let p1 = c.loop.caller.pass in
     let p2 = c.next-in-loop.new.caller.pass in
@@ -57,14 +57,14 @@ returns-in-Ok-false g c =
     let same = same_on p p1 p2 i.same more in
     record {
       same = same;
-      ends = ends_stopped means rule p p2 p2 h h2 h2 same
-          (goes_on means rule p p1 p2 h h1 h2 i.same i.goes went.2) went.0 went.1;
+      ends = ends_stopped means rules p p2 p2 h h2 h2 same
+          (goes_on means rules p p1 p2 h h1 h2 i.same i.goes went.2) went.0 went.1;
     }
 
 pub returns-in-Err : goal.returns-in-Err
 returns-in-Err g c =
     let means = means_at c.args.site.now in
-    let rule = g.C.Rules.rule in
+    let rules = g.C.Rules.discipline in
     let p = c.args.caller.now.pass in
     let p1 = c.loop.caller.pass in
     let p2 = c.next-in-loop.new.caller.pass in
@@ -79,9 +79,9 @@ returns-in-Err g c =
     let left = c.give_up.ensures in
     record {
       same = same_on p p2 p3 same left.same;
-      ends = ends_halted means rule p p2 p3 h h2 (held c.give_up.new.hands) same
+      ends = ends_halted means rules p p2 p3 h h2 (held c.give_up.new.hands) same
           c.in-Err.cause (open_in c.next-in-loop.new.hands)
-          (halts_on means rule p p1 p2 h h1 h2 i.same c.in-Err.cause i.goes c.in-Err.ensures.goes)
+          (halts_on means rules p p1 p2 h h1 h2 i.same c.in-Err.cause i.goes c.in-Err.ensures.goes)
           (line_told g.B.Feed.Feed.told c.next-in-loop.new.hands.open)
           (at_half c.args.site.now.berth p2 (open_in c.next-in-loop.new.hands)
           (more.1 ∙ i.ready.at_site.lane.0) c.next-in-loop.ensures.tidy.0)
@@ -91,7 +91,7 @@ returns-in-Err g c =
 pub loop-preserved : goal.loop-preserved
 loop-preserved g c =
     let means = means_at c.args.site.now in
-    let rule = g.C.Rules.rule in
+    let rules = g.C.Rules.discipline in
     let p = c.args.caller.now.pass in
     let p1 = c.loop.caller.pass in
     let p2 = c.next-in-loop.new.caller.pass in
@@ -105,10 +105,10 @@ loop-preserved g c =
     record {
       same = same_on p p1 p2 i.same more;
       ready = record {
-        at_site = site_on g.C.Rules.terms c.args.site.now p1 p2 more i.ready.at_site;
+        at_site = site_on g.C.Rules.discipline c.args.site.now p1 p2 more i.ready.at_site;
         asks = went.0;
         tidy = c.next-in-loop.ensures.tidy;
-        kept = some_on means rule p1 p2 p2 h1 h2 h2 more i.ready.kept went.1;
+        kept = some_on means rules p1 p2 p2 h1 h2 h2 more i.ready.kept went.1;
       };
-      goes = goes_on means rule p p1 p2 h h1 h2 i.same i.goes went.1;
+      goes = goes_on means rules p p1 p2 h h1 h2 i.same i.goes went.1;
     }

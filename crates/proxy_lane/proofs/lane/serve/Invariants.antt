@@ -10,7 +10,7 @@ invariant-loop g l =
     let held = held_of g.B.Berth.told g.B.Feed.Feed.told g.B.Child.Child.told in
     record {
       same : IsSamePass l.fn.caller.pass l.caller.pass;
-      ready : IsReady g.C.Rules.terms l.site g.C.Rules.rule held l.caller.pass l.hands;
-      goes : Goes (means_at l.site) g.C.Rules.rule l.fn.caller.pass (held l.fn.hands)
+      ready : IsReady g.C.Rules.discipline l.site held l.caller.pass l.hands;
+      goes : Goes (means_at l.site) g.C.Rules.discipline l.fn.caller.pass (held l.fn.hands)
           l.caller.pass (held l.hands);
     }

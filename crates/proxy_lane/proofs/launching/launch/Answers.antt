@@ -31,7 +31,7 @@ returns-in-Ok g c =
     record {
       same = c.start.ensures.same;
       tidy = c.start.ensures.tidy;
-      goes = obeys_from c.args.site.now g.C.Rules.rule held c.start.result p c.args.hands.now
+      goes = obeys_from c.args.site.now g.C.Rules.discipline held c.start.result p c.args.hands.now
           c.start.new.caller.pass c.start.new.hands _ (ap (λ (x : List Returned). record h { ended = x }) same)
           c.start.ensures.goes;
     }
@@ -39,7 +39,7 @@ returns-in-Ok g c =
 pub returns-in-Err : goal.returns-in-Err
 returns-in-Err g c =
     let means = means_at c.args.site.now in
-    let rule = g.C.Rules.rule in
+    let rules = g.C.Rules.discipline in
     let p = c.args.caller.now.pass in
     let l = c.args.line in
     let t = c.args.attempt in
@@ -53,8 +53,8 @@ returns-in-Err g c =
         order.2,
         λ l is. absurd (let x : None ≡ Some l = sym order.1 ∙ is in cc),
       );
-      goes = subst (λ (x : List Returned). Halts means rule cause.NoMemory p h p (record h { ended = x })) (sym same)
-          (launch_halts means rule p p h l t order.0
+      goes = subst (λ (x : List Returned). Halts means rules cause.NoMemory p h p (record h { ended = x })) (sym same)
+          (launch_halts means rules p p h l t order.0
           (none_open g.B.Feed.Feed.told c.args.hands.now.open order.1) cause.NoMemory [] ⊥ h.berth
           (made_none h.berth) stays.none (refl, inl refl) refl);
     }

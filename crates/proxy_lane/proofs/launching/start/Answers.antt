@@ -37,13 +37,13 @@ tell_started-requires-clause-owes g c = (c.args.attempt, c.requires.order.may.0)
 pub tell-requires-clause-may : goal.tell-requires-clause-may
 tell-requires-clause-may g c =
     let v = c.args.caller.now.pass.seat.me.0 in
-    may_launch (g.C.Rules.terms v.basis) c.args.site.now.berth (duty_of v.mine) c.args.line start.RoomFault
+    may_launch (g.C.Rules.discipline v.basis) c.args.site.now.berth (duty_of v.mine) c.args.line start.RoomFault
     (c.args.attempt, c.requires.order.may.0)
 
 pub returns-in-Ok-tell_started : goal.returns-in-Ok-tell_started
 returns-in-Ok-tell_started g c =
     let means = means_at c.args.site.now in
-    let rule = g.C.Rules.rule in
+    let rules = g.C.Rules.discipline in
     let p = c.args.caller.now.pass in
     let l = c.args.line in
     let t = c.args.attempt in
@@ -67,7 +67,7 @@ returns-in-Ok-tell_started g c =
       );
       goes = (
         c.in-Ok-tell_started.ensures.told.1,
-        started_goes means rule p p2 h l t order.0 none start.Done x.0 ⊥ new x.2 command group x.1 made refl
+        started_goes means rules p p2 h l t order.0 none start.Done x.0 ⊥ new x.2 command group x.1 made refl
             (g.B.Feed.Feed.told c.in-Line.feed) (subst (λ (o : Opened g.row.B-Feed.Denot g.row.B-Tap.Denot g.row.B-Child.Denot).
             OnOpened o (λ f t k. IsNewFeed l (g.B.Feed.Feed.told f))) c.in-Line.is c.in-Ok.ensures.feed)
             order.3.0 order.3.1,
@@ -77,7 +77,7 @@ returns-in-Ok-tell_started g c =
 pub returns-in-Err-tell_started : goal.returns-in-Err-tell_started
 returns-in-Err-tell_started g c =
     let means = means_at c.args.site.now in
-    let rule = g.C.Rules.rule in
+    let rules = g.C.Rules.discipline in
     let p = c.args.caller.now.pass in
     let l = c.args.line in
     let t = c.args.attempt in
@@ -101,7 +101,7 @@ returns-in-Err-tell_started g c =
         ap (child_at c.args.site.now.berth) refused.1.1 ∙ order.2,
         λ l is. absurd (let x : None ≡ Some l = sym order.1 ∙ is in cc),
       );
-      goes = unsaid_halts means rule p p2 h l t order.0 none
+      goes = unsaid_halts means rules p p2 h l t order.0 none
           (cause.Refused (call.Launched l start.Done)) x.0 ⊥ new x.2 refused.1
           (refl, launch_deed means t l start.Done x.0 command group x.1) (g.B.Berth.told c.end.new.self)
           (record { log = c.end.ensures.log; later = c.end.ensures.count; same = c.end.ensures.number })
@@ -119,7 +119,7 @@ returns-in-Err-tell_started g c =
 pub returns-in-RoomFault : goal.returns-in-RoomFault
 returns-in-RoomFault g c =
     let means = means_at c.args.site.now in
-    let rule = g.C.Rules.rule in
+    let rules = g.C.Rules.discipline in
     let p = c.args.caller.now.pass in
     let l = c.args.line in
     let t = c.args.attempt in
@@ -141,11 +141,11 @@ returns-in-RoomFault g c =
             c.requires.order.at_site.lane.0 (λ o. refl) told ∙ order.2,
         λ l is. absurd (let x : None ≡ Some l = sym order.1 ∙ is in cc),
       );
-      goes = obeys_told c.args.site.now rule held c.tell.result p c.args.hands.now p2 _
+      goes = obeys_told c.args.site.now rules held c.tell.result p c.args.hands.now p2 _
           (call.Launched l start.RoomFault)
-          (λ made. fault_goes means rule p p2 h l t order.0 none start.RoomFault x.0 (Unit {0}) new x.2 command group x.1 made
+          (λ made. fault_goes means rules p p2 h l t order.0 none start.RoomFault x.0 (Unit {0}) new x.2 command group x.1 made
           refl tt)
-          (λ by is stays. launch_halts means rule p p2 h l t order.0 none by x.0 (Unit {0}) new x.2 stays
+          (λ by is stays. launch_halts means rules p p2 h l t order.0 none by x.0 (Unit {0}) new x.2 stays
           (subst (λ (z : ProxyHalt). HaltsBy means z (Launches l t) (calls_deed x.0)) (sym is)
           (refl, launch_deed means t l start.RoomFault x.0 command group x.1)) (ap (λ (z : ProxyHalt). unsaid_by (Some z)) is))
           told;
@@ -154,7 +154,7 @@ returns-in-RoomFault g c =
 pub returns-in-LaunchFault : goal.returns-in-LaunchFault
 returns-in-LaunchFault g c =
     let means = means_at c.args.site.now in
-    let rule = g.C.Rules.rule in
+    let rules = g.C.Rules.discipline in
     let p = c.args.caller.now.pass in
     let l = c.args.line in
     let t = c.args.attempt in
@@ -176,11 +176,11 @@ returns-in-LaunchFault g c =
             c.requires.order.at_site.lane.0 (λ o. refl) told ∙ order.2,
         λ l is. absurd (let x : None ≡ Some l = sym order.1 ∙ is in cc),
       );
-      goes = obeys_told c.args.site.now rule held c.tell-in-LaunchFault.result p c.args.hands.now p2 _
+      goes = obeys_told c.args.site.now rules held c.tell-in-LaunchFault.result p c.args.hands.now p2 _
           (call.Launched l start.LaunchFault)
-          (λ made. fault_goes means rule p p2 h l t order.0 none start.LaunchFault x.0 (Unit {0}) new x.2 command group x.1 made
+          (λ made. fault_goes means rules p p2 h l t order.0 none start.LaunchFault x.0 (Unit {0}) new x.2 command group x.1 made
           refl tt)
-          (λ by is stays. launch_halts means rule p p2 h l t order.0 none by x.0 (Unit {0}) new x.2 stays
+          (λ by is stays. launch_halts means rules p p2 h l t order.0 none by x.0 (Unit {0}) new x.2 stays
           (subst (λ (z : ProxyHalt). HaltsBy means z (Launches l t) (calls_deed x.0)) (sym is)
           (refl, launch_deed means t l start.LaunchFault x.0 command group x.1)) (ap (λ (z : ProxyHalt). unsaid_by (Some z)) is))
           told;
@@ -189,7 +189,7 @@ returns-in-LaunchFault g c =
 pub returns-in-Err : goal.returns-in-Err
 returns-in-Err g c =
     let means = means_at c.args.site.now in
-    let rule = g.C.Rules.rule in
+    let rules = g.C.Rules.discipline in
     let p = c.args.caller.now.pass in
     let l = c.args.line in
     let t = c.args.attempt in
@@ -203,7 +203,7 @@ returns-in-Err g c =
         order.2,
         λ l is. absurd (let x : None ≡ Some l = sym order.1 ∙ is in cc),
       );
-      goes = launch_halts means rule p p h l t order.0
+      goes = launch_halts means rules p p h l t order.0
           (none_open g.B.Feed.Feed.told c.args.hands.now.open order.1) cause.NoMemory x.0 ⊥
           (g.B.Berth.told c.launch_line.new.berth) x.2 stays.none (refl, inr x.1) refl;
     }

@@ -1,6 +1,7 @@
 use Rattle.std.proofs.Common.{List, ℤ, sym, subst, w32, SFits, rules as facts}
 use Rattle.std.proofs.Math.Facts.{to_z-of_z}
 use Rattle.seat_desk.specs.Passes.{seen}
+use Rattle.core_contract.specs.Ruled.{answer_after}
 use Rattle.remote_messages.specs.declared.file.NamedFile.{NamedFile}
 use Rattle.proxy_deeds.specs.Deeds.{AreInputs, looks_of, send_asks, due_for}
 use Rattle.proxy_deeds.specs.Told.{AreTold}
@@ -19,7 +20,7 @@ write-requires-clause-sources g c =
 pub returns-in-Ok-clause-acts : goal.returns-in-Ok-clause-acts
 returns-in-Ok-clause-acts g c =
     let p = c.args.caller.now.pass in
-    let rule = g.C.Rules.rule p.seat.me.0.basis in
+    let rule = answer_after (g.C.Rules.discipline p.seat.me.0.basis) in
     let work = c.args.request.now.work.now in
     let later = seen c.inputs_of.new.caller.pass in
     let means = means_at c.args.site.now in
@@ -42,6 +43,8 @@ returns-in-Ok-clause-acts g c =
 pub returns-in-Err-clause-acts : goal.returns-in-Err-clause-acts
 returns-in-Err-clause-acts g c =
     let p = c.args.caller.now.pass in
-    no_inputs (means_at c.args.site.now) c.args.request.now.attempt (g.C.Rules.rule p.seat.me.0.basis) p.lane c.args.request.now.line c.args.request.now.number
+    no_inputs (means_at c.args.site.now) c.args.request.now.attempt
+    (answer_after (g.C.Rules.discipline p.seat.me.0.basis)) p.lane c.args.request.now.line
+    c.args.request.now.number
     c.args.request.now.work.now (seen c.inputs_of.new.caller.pass) c.in-Err.no_memory
     (g.B.Berth.told c.args.berth.now) (g.B.Feed.Feed.told c.args.feed.now)

@@ -32,7 +32,7 @@ unreachable-requires g c = no_line c.args.hands.now.open c.args.line c.requires.
 pub returns : goal.returns
 returns g c =
     let means = means_at c.args.site.now in
-    let rule = g.C.Rules.rule in
+    let rules = g.C.Rules.discipline in
     let p = c.args.caller.now.pass in
     let p2 = c.report.new.caller.pass in
     let feed = g.B.Feed.Feed.told in
@@ -59,14 +59,14 @@ returns g c =
           (wrote_shelved c.args.site.now.berth l n wrote p p p2 c.report.result c.requires.at_site.lane.0
           none refl reports.told reports.refused)
           (same_line c.args.hands.now.open c.in-Some.open was) order.2 c.requires.room;
-      goes = obeys_by c.args.site.now rule held c.report.result p c.args.hands.now p2 _
+      goes = obeys_by c.args.site.now rules held c.report.result p c.args.hands.now p2 _
           ((duty_of (mine p2) ≡ Asks) × TellsWrote l n wrote p p2)
           (λ by. MakesNone p p2 × IsCauseOf l n wrote by)
           (λ x. (
             x.0,
-            cancel_goes means rule p p p2 h o is_open l n of none refl new after order.0 refl wrote acts x.1,
+            cancel_goes means rules p p p2 h o is_open l n of none refl new after order.0 refl wrote acts x.1,
           ))
-          (λ by x. cancel_halts means rule p p p2 h o is_open l n of none refl new after order.0 refl
+          (λ by x. cancel_halts means rules p p p2 h o is_open l n of none refl new after order.0 refl
           wrote by acts x.0 x.1)
           reports.told reports.refused;
     }

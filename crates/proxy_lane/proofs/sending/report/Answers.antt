@@ -15,11 +15,11 @@ use Rattle.proxy_lane.proofs.sending.report.Goals as goal
 pub tell-requires-clause-may : goal.tell-requires-clause-may
 tell-requires-clause-may g c =
     let p = c.args.caller.now.pass in
-    let terms = g.C.Rules.terms p.seat.me.0.basis in
+    let q = g.C.Rules.discipline p.seat.me.0.basis in
     let w = c.args.site.now.berth in
-    subst (λ (n : ℤ). may_do terms w (duty_of p.seat.me.0.mine) (call.Wrote c.args.line n c.in-Ok.how) ≡ true)
+    subst (λ (n : ℤ). may_do q w (duty_of p.seat.me.0.mine) (call.Wrote c.args.line n c.in-Ok.how) ≡ true)
     (sym (to_z-of_z c.ranges.number))
-    (may_wrote terms w p.seat.me.0.mine c.args.line c.args.number c.in-Ok.how
+    (may_wrote q w p.seat.me.0.mine c.args.line c.args.number c.in-Ok.how
     (subst (λ (r : Result Written NoMemory). OwesWrote c.args.line c.args.number r p.seat.me.0.mine)
     c.in-Ok.is c.requires.owes))
 

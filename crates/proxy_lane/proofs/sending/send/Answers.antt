@@ -1,3 +1,4 @@
+use Rattle.core_contract.specs.Ruled.{answer_after}
 use Rattle.std.specs.Prelude.{ℤ, option_map}
 use Rattle.std.proofs.Common.{◌≡◌, ap, sym, subst, ◌∙◌}
 use Rattle.std.proofs.Math.Facts.{to_z-of_z}
@@ -24,7 +25,7 @@ act_send-wrote-requires g c = record {
 }
 
 pub report-requires-clause-site : goal.report-requires-clause-site
-report-requires-clause-site g c = site_on g.C.Rules.terms c.args.site.now c.args.caller.now.pass
+report-requires-clause-site g c = site_on g.C.Rules.discipline c.args.site.now c.args.caller.now.pass
     c.act_send-wrote.new.caller.pass c.act_send-wrote.ensures.stays.same c.requires.at_site
 
 pub report-requires-clause-owes : goal.report-requires-clause-owes
@@ -41,7 +42,8 @@ unreachable-requires g c = no_line c.args.hands.now.open c.args.line c.requires.
 pub returns : goal.returns
 returns g c =
     let means = means_at c.args.site.now in
-    let rule = g.C.Rules.rule in
+    let rules = g.C.Rules.discipline in
+    let rule = λ (q : g.row.C-Plan.Denot). answer_after (rules q) in
     let p = c.args.caller.now.pass in
     let p1 = c.act_send-wrote.new.caller.pass in
     let p2 = c.report.new.caller.pass in
@@ -71,15 +73,15 @@ returns g c =
           (wrote_shelved c.args.site.now.berth l n wrote p p1 p2 c.report.result c.requires.at_site.lane.0
           stays.none stays.same.1 reports.told reports.refused)
           (same_line c.args.hands.now.open c.in-Some.open was) order.2 c.requires.room;
-      goes = obeys_by c.args.site.now rule held c.report.result p c.args.hands.now p2 _
+      goes = obeys_by c.args.site.now rules held c.report.result p c.args.hands.now p2 _
           ((duty_of (mine p2) ≡ Asks) × TellsWrote l n wrote p1 p2)
           (λ by. MakesNone p1 p2 × IsCauseOf l n wrote by)
           (λ x. (
             x.0,
-            send_goes means rule p p1 p2 h o is_open l n of stays.none stays.same.1 new after
+            send_goes means rules p p1 p2 h o is_open l n of stays.none stays.same.1 new after
                 c.args.attempt order.0 work found wrote acts x.1,
           ))
-          (λ by x. send_halts means rule p p1 p2 h o is_open l n of stays.none stays.same.1 new after
+          (λ by x. send_halts means rules p p1 p2 h o is_open l n of stays.none stays.same.1 new after
           c.args.attempt order.0 work found wrote by acts x.0 x.1)
           reports.told reports.refused;
     }

@@ -7,6 +7,6 @@ unreachable-requires g c =
     let core = g.C.Rules in
     let a = c.in-Ok.ensures.answer.0 in
     let r = c.in-Ok.reply in
-    let k = ticked core.terms core.ticks core.rule c.args.berth c.args.caller.now.pass c.ask.new.self.pass
-    g.met.C.Rules.replies g.met.C.Rules.tickers_may_tick c.requires.lane c.requires.asks a.0 r (a.1, a.2, a.3) in
+    let k = ticked core.discipline g.met.C.Rules.keeps c.args.berth c.args.caller.now.pass
+    c.ask.new.self.pass c.requires.lane c.requires.asks a.0 r (a.1, a.2, a.3) in
     no_other r k.fitting c.in-Ok.ensures.answer.1 c.in_default.not-Noted c.in_default.not-Stop

@@ -2,15 +2,13 @@
 use Rattle.std.proofs.Common.{◌≡◌, ◌∙◌, Some, ap, arith, map, refl, string_bytes, sym}
 use Rattle.build_report.specs.declared.fault.RunFault.TheVariants as fault
 use Rattle.build_report.specs.declared.fault.Stage.TheVariants as stage
-use Rattle.core_contract.specs.Disciplines.{own_discipline}
-use Rattle.run_plan.specs.Groups.{berths}
 use Rattle.run_tasks.specs.Course.{Course}
 use Rattle.spawn_core.specs.Histories.{plan_of}
 use Rattle.tool_words.specs.Options.{options_of}
-use Rattle.worker_run.proofs.Fits.{own_fits, own_goes}
-use Rattle.worker_run.proofs.Keeping.{keeps_as, keeps_none, keeps_since, own_follows}
+use Rattle.worker_run.proofs.Fits.{own_fits}
+use Rattle.worker_run.proofs.Keeping.{keeps_none, keeps_since, own_keeps, own_legal_on}
 use Rattle.worker_run.proofs.Reading.{course_silent, fault_course, fault_puts, fault_sink, fault_told, task_course, task_floor}
-use Rattle.worker_run.specs.Headline.{own_head}
+use Rattle.worker_run.specs.Headline.{own_kept, own_rules}
 use Rattle.worker_run.specs.Seen.{EndedTold}
 use Rattle.worker_run.proofs.run.run_build_watched.Goals as goal
 
@@ -19,7 +17,7 @@ run_and_report-requires-clause-fits g c κs within =
     let is = ap plan_of c.watch.ensures
     ∙ (c.in-Ok-new.ensures.both.tables.plan ∙ c.in-Ok.ensures.sound.1) in
     own_fits c.watch.new.self.state.plan c.in-Ok.made.0 is c.in-Ok.ensures.settings
-    c.in-Ok.ensures.sound.0 c.in-Ok.ensures.work
+    c.in-Ok.ensures.sound.0 c.in-Ok.ensures.work c.in-Ok.ensures.berths
 
 pub returns-in-Ok-new-clause-run : goal.returns-in-Ok-new-clause-run
 returns-in-Ok-new-clause-run g c =
@@ -30,14 +28,14 @@ returns-in-Ok-new-clause-run g c =
     let e = c.run_and_report.ensures in
     let before = g.F.Floor.told c.args.floor in
     let mid = g.F.Floor.told c.read_task.new.floor in
+    let task = keeps_since own_rules own_kept before mid end c.in-Ok.ensures.files
+    c.in-Ok.ensures.floor.later (task_floor t end.fault end.task e.ended)
+    (own_keeps c.watch.new.self.state.plan t mid end is e.ended e.run) in
     record {
       course = task_course (Course (options_of (map string_bytes c.args.words.now))) (λ made. made.0)
           before mid c.in-Ok.made end c.in-Ok.ensures.course e.log end.fault e.ended;
-      task = keeps_since own_head before mid end c.in-Ok.ensures.files c.in-Ok.ensures.floor.later
-          (task_floor t end.fault end.task e.ended)
-          (keeps_as own_head own_follows mid end
-          (e.run (λ t. own_discipline t.plan) (λ t. berths t.plan)
-          (own_goes c.watch.new.self.state.plan t is c.in-Ok.ensures.settings c.in-Ok.ensures.berths)));
+      task = task;
+      legal = own_legal_on before end task;
     }
 
 -- no memory was left for the core
@@ -45,9 +43,10 @@ pub returns-in_default-clause-run : goal.returns-in_default-clause-run
 returns-in_default-clause-run g c =
     rw (c.with_no_lane.ensures) (record {
       course = tt;
-      task = keeps_none own_head (fault.NoMemory stage.Before) (g.F.Floor.told c.args.floor)
+      task = keeps_none own_rules own_kept (fault.NoMemory stage.Before) (g.F.Floor.told c.args.floor)
           (g.F.Floor.told c.read_task.new.floor) c.in-Ok.ensures.files
           (record { later = c.in-Ok.ensures.floor.later; rose = λ failed. absurd failed }) refl;
+      legal = tt;
     })
 
 pub returns-in_default-clause-sink : goal.returns-in_default-clause-sink
@@ -66,9 +65,10 @@ returns-in-Err-clause-run g c =
     rw (c.with_no_lane-in-Err.ensures) (record {
       course = fault_course (Course options) (λ made. made.0) (course_silent options) before mid f
           c.in-Err.ensures.course;
-      task = keeps_none own_head f before mid c.in-Err.ensures.files c.in-Err.ensures.floor
+      task = keeps_none own_rules own_kept f before mid c.in-Err.ensures.files c.in-Err.ensures.floor
           (fault_told (Course options) (λ made. made.0) (course_silent options) before mid f
           c.in-Err.ensures.course);
+      legal = tt;
     })
 
 pub returns-in-Err-clause-report : goal.returns-in-Err-clause-report

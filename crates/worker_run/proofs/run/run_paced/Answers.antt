@@ -1,5 +1,6 @@
 -- What the lanes of the task say is what is told.
 use Rattle.std.proofs.Common.{◌≡◌, List, length, refl, subst, ◌∙◌}
+use Rattle.core_contract.specs.Discipline.{Discipline}
 use Rattle.core_contract.specs.Duties.{proxy_lane}
 use Rattle.run_plan.specs.declared.plan.Speech.{Speech}
 use Rattle.run_tasks.specs.declared.task.Task.{Task}
@@ -8,9 +9,9 @@ use Rattle.worker_run.specs.Seen.{Left}
 use Rattle.lane_runs.specs.Layout.{has_halt}
 use Rattle.worker_run.proofs.Made.{in_time}
 use Rattle.worker_run.proofs.Reading.{task_ended, task_floor, task_nothing, task_told}
-use Rattle.worker_run.proofs.Said.{RanBy, during_said, flag_is, flagged, halts, has_outs, has_pipes, has_race, has_rooms, has_unsaid, is_accounted, is_complete, is_legal, is_paired, is_stopped, on_run, succeeds, where_ruled}
-use Rattle.worker_run.specs.Headline.{HasOuts, HasPipes, HasRace, HasRooms, HasUnsaid, IsAccounted, IsComplete, IsKept, IsLegal, IsPaired, IsSound, IsStopped, head_of}
-use Rattle.crew_beside.specs.Beside.{count_of}
+use Rattle.worker_run.proofs.Said.{RanBy, are_rules, during_said, flag_is, flagged, halts, has_outs, has_pipes, has_race, has_rooms, has_unsaid, is_accounted, is_complete, is_kept, is_legal, is_paired, is_stopped, on_run, succeeds, where_ran}
+use Rattle.worker_run.specs.Headline.{AreRulesOf, HasOuts, HasPipes, HasRace, HasRooms, HasUnsaid, IsAccounted, IsComplete, IsKept, IsLegal, IsPaired, IsSound, IsStopped}
+use Rattle.lane_crew.specs.Beside.{count_of}
 use Rattle.lane_runs.specs.Paced.{HasPaced}
 use Rattle.worker_run.proofs.Reading.{unless_lost}
 use Rattle.worker_run.specs.Pacing.{tick_lane_of}
@@ -31,7 +32,7 @@ pub returns-clause-log : goal.returns-clause-log
 returns-clause-log g c = rw (c.conclude.ensures.floor) c.run_plan-ran.ensures.log
 
 pub returns-clause-run : goal.returns-clause-run
-returns-clause-run g c q lanes goes =
+returns-clause-run g c =
     let t = c.args.task in
     let ran = c.run_plan-ran.result.0 in
     let when = ran.fault in
@@ -41,13 +42,15 @@ returns-clause-run g c q lanes goes =
     let kind = e.kind in
     let r = g.C.Rules in
     let p = g.C.Rules.plan c.args.core in
-    let run = where_ruled (r.legal p) (r.rule p) (r.terms p) t (q t) (lanes t) goes
-    (count_of c.args.around.pacer) when x
+    let q : Discipline = r.discipline p in
+    let is = c.goes_by_discipline.ensures.is p in
+    let fits = c.requires.fits in
+    let run = where_ran q t (count_of c.args.around.pacer) when x
     c.as_slice-2.result.now _ c.as_slice-3.result.now c.run_plan-ran.ensures.run
     (record { plan = refl; commands = c.as_slice.ensures.value; verbose = refl })
     c.as_slice-2.ensures.value c.as_slice-3.ensures in
     let lost = c.run_plan-ran.ensures.lost in
-    let Ran = RanBy (q t) t when x in
+    let Ran = RanBy q t when x in
     record {
       told = task_told t end.fault end.task (task_ended when t end.fault end.task kind);
       sound = on_run when t x end Ran IsSound kind run e.left (λ _. c.requires.sound);
@@ -56,36 +59,39 @@ returns-clause-run g c q lanes goes =
         left = rw (e.floor, e.left) c.run_plan-ran.ensures.made;
         few = rw (e.floor) c.run_plan-ran.ensures.few;
       };
-      legal = on_run when t x end Ran (IsLegal (λ t. head_of (q t) (lanes t))) kind run e.left
-          (λ r. is_legal q lanes t goes.is goes.plan when x r);
+      of_task = on_run when t x end Ran (AreRulesOf (λ t. q)) kind run e.left
+          (λ r. are_rules q is t fits when x r);
+      legal = on_run when t x end Ran (IsLegal (λ t. q)) kind run e.left
+          (λ r. is_legal q is t fits when x r);
       race = on_run when t x end Ran HasRace kind run e.left
-          (λ r. has_race q lanes t goes.is goes.plan when x r);
+          (λ r. has_race q is t fits when x r);
       paired = on_run when t x end Ran IsPaired kind run e.left
-          (λ r. is_paired q lanes t goes.is goes.plan when x r);
-      kept = on_run when t x end Ran (IsKept (λ t. head_of (q t) (lanes t))) kind run e.left (λ r. tt);
+          (λ r. is_paired q is t fits when x r);
+      kept = on_run when t x end Ran (IsKept (λ t. r.kept p)) kind run e.left
+          (λ s. is_kept q is t fits when x s (r.kept p) (λ j. c.goes_by_discipline.ensures.kept p j));
       halts = on_run when t x end Ran
           (λ t x. has_halt (history_of x.journal) ≡ is_halted end.fault) kind run e.left
-          (λ r. halts q lanes t goes.is goes.plan when x r
+          (λ r. halts q is t fits when x r
           ∙ during_said when t end.fault end.task kind);
       flag = rw (e.left) (flag_is when x Ran run lost
-          (λ r. flagged q lanes t goes.is goes.plan when x r));
-      stopped = on_run when t x end Ran (IsStopped (λ t. head_of (q t) (lanes t))) kind run e.left
-          (λ r. is_stopped q lanes t goes.is goes.plan when x r goes.seats);
+          (λ r. flagged q is t fits when x r));
+      stopped = on_run when t x end Ran (IsStopped (λ t. q)) kind run e.left
+          (λ r. is_stopped q is t fits when x r);
       accounted = on_run when t x end Ran IsAccounted kind run e.left
-          (λ r. is_accounted q lanes t goes.is goes.plan when x r goes.seats goes.actions);
+          (λ r. is_accounted q is t fits when x r);
       complete = on_run when t x end Ran IsComplete kind run e.left
-          (λ r. is_complete q lanes t goes.is goes.plan when x r goes.seats goes.actions);
+          (λ r. is_complete q is t fits when x r);
       pipes = on_run when t x end Ran HasPipes kind run e.left
-          (λ r. has_pipes q lanes t goes.is goes.plan when x r);
-      rooms = on_run when t x end Ran (HasRooms (λ t. head_of (q t) (lanes t))) kind run e.left
-          (λ r. has_rooms q lanes t goes.is goes.plan when x r goes.seats);
+          (λ r. has_pipes q is t fits when x r);
+      rooms = on_run when t x end Ran (HasRooms (λ t. q)) kind run e.left
+          (λ r. has_rooms q is t fits when x r);
       unsaid = on_run when t x end Ran HasUnsaid kind run e.left
-          (λ r. has_unsaid q lanes t goes.is goes.plan when x r);
+          (λ r. has_unsaid q is t fits when x r);
       outs = on_run when t x end Ran HasOuts kind run e.left
-          (λ r. has_outs q lanes t goes.is goes.plan when x r);
+          (λ r. has_outs q is t fits when x r);
       success = succeeds t x end e.left e.status when Ran
-          (λ r. is_complete q lanes t goes.is goes.plan when x r goes.seats goes.actions)
-          (λ r. halts q lanes t goes.is goes.plan when x r) kind run;
+          (λ r. is_complete q is t fits when x r)
+          (λ r. halts q is t fits when x r) kind run;
       status = e.status;
       floor = record {
         later = rw (e.floor) c.run_plan-ran.ensures.count;

@@ -1,6 +1,6 @@
 -- What the lanes leave is all that the floor has made, and so is what they were to work with.
 use Rattle.std.proofs.Common.{ℕ, List, ap, sym, ◌∙◌, length, map, refl, subst}
-use Rattle.crew_beside.specs.Beside.{count_of}
+use Rattle.lane_crew.specs.Beside.{count_of}
 use Rattle.lane_runs.specs.Runs.{laid_told}
 use Rattle.core_bench.specs.Objects.{AreFresh}
 use Rattle.worker_run.specs.Lanes.{AreNewBerths}
@@ -46,7 +46,7 @@ returns-in-Ok-clause-run g c =
     let new = subst (λ (n : ℕ). AreNewBerths n before) (c.has_all-all.ensures c.if-not-all.false).0
     c.make_objects-objects.ensures.berths in
     let m = c.args.means.now in
-    rw (c.of.ensures) (ran_whole (r.legal p) (r.rule p) (r.terms p) m.speeches.now m.settings.now
+    rw (c.of.ensures) (ran_whole (r.discipline p) m.speeches.now m.settings.now
     m.actions.now before (count_of c.args.around.pacer) laid new c.in-Ok.ensures.run)
 
 pub returns-in-Ok-clause-lost : goal.returns-in-Ok-clause-lost

@@ -3,7 +3,8 @@ use Rattle.core_bench.proofs.Wakings.{no_last}
 use Rattle.core_bench.proofs.waking.Waking.new.Goals as goal
 
 pub returns : goal.returns
-returns c = λ rule ticks. record {
-  quiet = λ lane _. bit_at-zero lane;
+returns c = λ q. record {
+  near = λ lane _ _. bit_at-zero lane;
+  far = λ k _. bit_at-zero k;
   stirred = λ before e is. absurd (no_last before e is);
 }

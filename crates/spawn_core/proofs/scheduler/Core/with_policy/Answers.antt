@@ -17,10 +17,11 @@ invariant_of-result g c =
     let law = g.met.P.Policy in
     let b = g.P.Policy.basis c.args.policy c.args.plan in
     let many = c.berths-berths.ensures in
+    let few = law.few_berths b
+    (subst Sound (sym (law.plan_is c.args.policy c.args.plan)) c.requires.sound) in
     let stands = new_stands (g.P.Policy.discipline b) (g.P.Policy.stands b) c.args.policy _ c.args.plan
     (law.plan_is c.args.policy c.args.plan) c.requires.begins
-    (law.few_berths b (subst Sound (sym (law.plan_is c.args.policy c.args.plan)) c.requires.sound))
-    c.requires.sound refl (2 * c.berths-berths.result)
+    (omega (arith, few)) c.requires.sound refl (2 * c.berths-berths.result)
     c.berths-berths.result (ap (λ n. 2 * n) many) many
     c.in_ok-pool.ensures.0 c.in_ok-pool.ensures.1 c.in_ok-pool.ensures.2
     c.in_ok-ready.ensures.0 c.in_ok-ready.ensures.1 c.in_ok-ready.ensures.2
@@ -33,10 +34,11 @@ returns g c =
     let law = g.met.P.Policy in
     let b = g.P.Policy.basis c.args.policy c.args.plan in
     let many = c.berths-berths.ensures in
+    let few = law.few_berths b
+    (subst Sound (sym (law.plan_is c.args.policy c.args.plan)) c.requires.sound) in
     new_stands (g.P.Policy.discipline b) (g.P.Policy.stands b) c.args.policy _ c.args.plan
     (law.plan_is c.args.policy c.args.plan) c.requires.begins
-    (law.few_berths b (subst Sound (sym (law.plan_is c.args.policy c.args.plan)) c.requires.sound))
-    c.requires.sound refl (2 * c.berths-berths.result)
+    (omega (arith, few)) c.requires.sound refl (2 * c.berths-berths.result)
     c.berths-berths.result (ap (λ n. 2 * n) many) many
     c.in_ok-pool.ensures.0 c.in_ok-pool.ensures.1 c.in_ok-pool.ensures.2
     c.in_ok-ready.ensures.0 c.in_ok-ready.ensures.1 c.in_ok-ready.ensures.2

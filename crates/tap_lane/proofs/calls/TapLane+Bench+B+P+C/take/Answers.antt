@@ -12,8 +12,8 @@ unreachable-requires-in_default g c =
     let before = c.args.self.now.caller.pass in
     let r = c.in-Ok.reply in
     let a = c.in-Ok.ensures.answer.0 in
-    let took = called_by core.rule (λ q. (core.terms q).berths) law.replies law.taps_hear
-    (λ q. ComesOut g.B.Child.Child.told g.B.Tap.Tap.told g.P.Place.told (core.terms q)) before
+    let took = called_by core.discipline law.keeps
+    (λ q. ComesOut g.B.Child.Child.told g.B.Tap.Tap.told g.P.Place.told (core.discipline q)) before
     c.ask.new.self.pass c.requires.lane r c.in-Ok.good call.Take take_no_file
     (take_may (mine before) c.requires.hears) (a.0, a.1, a.2, a.3, a.4) in
     no_other r (of_take r took.fitting) c.in-Ok.ensures.answer.1 c.in_default.not-Line

@@ -7,7 +7,7 @@ returns-in-Ok-clause-ok g c =
     let core = g.C.Rules in
     let law = g.met.C.Rules in
     let a = c.in-Ok.ensures.answer in
-    told_end core.rule (λ q. (core.terms q).berths) law.replies law.taps_hear
-    (λ q. ComesOut g.B.Child.Child.told g.B.Tap.Tap.told g.P.Place.told (core.terms q))
+    told_end core.discipline law.keeps
+    (λ q. ComesOut g.B.Child.Child.told g.B.Tap.Tap.told g.P.Place.told (core.discipline q))
     c.args.self.now.caller.pass c.call.new.self.pass c.requires.lane c.in-Ok.field-0.0
     c.in-Ok.field-0.1 c.args.line c.args.how c.requires.hears (a.0, a.1, a.2, a.3, a.4)

@@ -16,7 +16,7 @@ invariant-loop g l = record {
   answers : List Answer;
   made : History;
   same : IsSameLane l.initial.self l.self;
-  hears : IsAt g.C.Rules.terms (laws.Hears l.line) l.self;
+  hears : IsAt g.C.Rules.discipline (laws.Hears l.line) l.self;
   taken : Tells (g.B.Tap.Tap.told l.tap).taken fed;
   is_open : IsOpen (g.B.Tap.Tap.told l.tap);
   of_line : IfSome (g.B.Tap.Tap.told l.tap).line (λ n. n ≡ l.line);

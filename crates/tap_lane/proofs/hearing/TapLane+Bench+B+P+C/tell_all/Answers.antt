@@ -30,7 +30,7 @@ loop-preserved-in-Continue-branch-3 g c =
     record {
       same = same_then c.args.self.now c.loop.self c.tell_answer.new.self i.same
           c.tell_answer.ensures.same;
-      hears = now_at g.C.Rules.terms (laws.Hears c.args.line) (laws.Hears c.args.line) c.loop.self
+      hears = now_at g.C.Rules.discipline (laws.Hears c.args.line) (laws.Hears c.args.line) c.loop.self
           c.tell_answer.new.self c.tell_answer.ensures.same i.hears told.3;
       went = λ s fed answers x. went_one c.args.line answers _ _ _
           (λ (xs : List Answer). Hears s fed xs c.loop.reader) _ told.0 c.in-Answer.answer told.2

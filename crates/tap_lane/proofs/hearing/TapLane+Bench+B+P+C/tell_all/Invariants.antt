@@ -11,7 +11,7 @@ use Rattle.tap_lane.proofs.hearing.TapLane+Bench+B+P+C.tell_all.Given as goal
 abbrev pub invariant-loop : goal.invariant-loop
 invariant-loop g l = record {
   same : IsSameLane l.initial.self l.self;
-  hears : IsAt g.C.Rules.terms (laws.Hears l.line) l.self;
+  hears : IsAt g.C.Rules.discipline (laws.Hears l.line) l.self;
   went : (s : Speech) (fed : List ℕ) (answers : List Answer) → Hears s fed answers l.initial.reader
       → Went l.line answers (own l.initial.self) (own l.self)
       (λ (xs : List Answer). Hears s fed xs l.reader);

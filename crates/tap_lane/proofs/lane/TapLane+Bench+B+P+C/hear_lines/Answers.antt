@@ -19,7 +19,7 @@ loop-preserved g c =
     let both = same_then before c.take.new.self now first c.hear-heard.ensures.same in
     record {
       same = same_then c.args.self.now before now i.same both;
-      free = now_at g.C.Rules.terms laws.Free laws.Free before now both i.free heard.1;
+      free = now_at g.C.Rules.discipline laws.Free laws.Free before now both i.free heard.1;
       runs = one_heard (back_by g.B.Tap.Tap.told) c.args.self.now before c.loop.taps.items
           c.reserve.new.self.items i.same c.reserve.ensures.items i.runs c.take.new.self now first
           c.push_reserved.new.self.items
@@ -44,7 +44,7 @@ take-requires g c = c.loop.invariant.free
 pub hear-heard-requires-clause-hears : goal.hear-heard-requires-clause-hears
 hear-heard-requires-clause-hears g c =
     let took = rw (c.in-Ok-Line.field-0-is) at (c.in-Ok-Line.ensures.ok) in
-    now_at g.C.Rules.terms laws.Free (laws.Hears c.in-Ok-Line.line) c.loop.self c.take.new.self
+    now_at g.C.Rules.discipline laws.Free (laws.Hears c.in-Ok-Line.line) c.loop.self c.take.new.self
     c.take.ensures.same c.loop.invariant.free took.2
 
 pub hear-heard-requires-clause-tap : goal.hear-heard-requires-clause-tap

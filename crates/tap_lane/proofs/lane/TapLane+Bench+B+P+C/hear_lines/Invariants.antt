@@ -9,7 +9,7 @@ use Rattle.tap_lane.proofs.lane.TapLane+Bench+B+P+C.hear_lines.Given as goal
 abbrev pub invariant-loop : goal.invariant-loop
 invariant-loop g l = record {
   same : IsSameLane l.initial.self l.self;
-  free : IsAt g.C.Rules.terms Free l.self;
+  free : IsAt g.C.Rules.discipline Free l.self;
   runs : Runs l.initial.self.speech (number l.initial.self)
       (map (back_by g.B.Tap.Tap.told) l.taps.items) (own l.self);
 }

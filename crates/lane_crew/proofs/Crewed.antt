@@ -10,8 +10,8 @@ use Rattle.lane_crew.specs.declared.pair.Either.TheVariants.{First, Second}
 use Rattle.lane_crew.specs.Lanes.{FactBefore, FactOfRun}
 use Rattle.lane_crew.specs.Pairs.{MayRunOfKind, HasRunOfKind}
 use Rattle.lane_crew.specs.LaneJobs.{MayRunInOrder, KeepsPasses, LaneEnds, EachLane}
-use Rattle.crew_beside.specs.Parts.{in_one_list, HasParts}
-use Rattle.crew_beside.specs.Beside.{MayRunBeside, EndsBeside, count_of}
+use Rattle.lane_crew.specs.Parts.{in_one_list, HasParts}
+use Rattle.lane_crew.specs.Beside.{MayRunBeside, EndsBeside, count_of}
 
 -- ---- how many there are
 

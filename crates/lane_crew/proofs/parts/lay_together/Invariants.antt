@@ -1,6 +1,6 @@
 use Rattle.std.proofs.Common.{◌≤◌, ◌+◌, length, vec_len, vec_capacity}
-use Rattle.crew_beside.proofs.Listed.{Laying}
-use Rattle.crew_beside.proofs.parts.lay_together.Given as goal
+use Rattle.lane_crew.proofs.Listed.{Laying}
+use Rattle.lane_crew.proofs.parts.lay_together.Given as goal
 
 abbrev pub invariant-loop-other : goal.invariant-loop-other
 invariant-loop-other g l = record {

@@ -1,6 +1,6 @@
 use Rattle.std.proofs.Common.{length, ap, arith}
-use Rattle.crew_beside.proofs.Listed.{lays_one}
-use Rattle.crew_beside.proofs.parts.lay_together.Goals as goal
+use Rattle.lane_crew.proofs.Listed.{lays_one}
+use Rattle.lane_crew.proofs.parts.lay_together.Goals as goal
 
 pub loop-other-preserved : goal.loop-other-preserved
 loop-other-preserved g c =

@@ -1,18 +1,18 @@
--- The journal's rules, said of a history, whose oldest entry stands first.
-use Rattle.std.specs.Prelude.{◌≡◌, ℕ, true, if◌then◌else◌}
+-- A discipline's replies and debts after a history, whose oldest entry comes first.
+use Rattle.std.specs.Prelude.{◌≡◌, ℕ, true, if◌then◌else◌, List, [], ◌∷◌, fold}
 use Rattle.run_plan.specs.Sound.{Sound}
+use Rattle.exec_journal.specs.Entry.{Entry}
 use Rattle.exec_journal.specs.declared.call.Call.{Call}
 use Rattle.exec_journal.specs.declared.reply.Reply.{Reply}
 use Rattle.exec_journal.specs.declared.reply.Reply.TheVariants as reply
 use Rattle.journal_laws.specs.Paid.{seat_paid, seats_owe}
-use Rattle.core_contract.specs.Disciplines.{Discipline, LegalBy, script_of}
+use Rattle.core_contract.specs.Discipline.{Discipline}
+use Rattle.core_contract.specs.Disciplines.{LegalBy, script_of}
 use Rattle.core_contract.specs.Moves.{History}
-use Rattle.core_contract.specs.Terms.{Terms}
-use Rattle.history_laws.specs.Owed.{journal_of, terms_for}
 
--- what lanes and the bench go by of it
-abbrev pub terms_in : Discipline → Terms
-terms_in q = terms_for q.plan q.seats q.kinds
+-- the journal of a history, whose newest entry comes first
+abbrev pub journal_of : History → List Entry
+journal_of h = fold (λ j e. e ∷ j) [] h
 
 -- the reply to a call: outside its lane's script Astray, else the discipline's
 abbrev pub answer_after : Discipline → History → ℕ → Call → Reply

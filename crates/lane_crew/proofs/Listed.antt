@@ -4,7 +4,7 @@ use Rattle.std.proofs.Common.{Option, None, Some}
 use Rattle.std.proofs.lemmas.List.{map-append}
 use Rattle.lane_crew.specs.declared.pair.Either.{Either}
 use Rattle.lane_crew.specs.declared.pair.Either.TheVariants.{First, Second}
-use Rattle.crew_beside.specs.Parts.{in_one_list, HasParts}
+use Rattle.lane_crew.specs.Parts.{in_one_list, HasParts}
 
 module _ {A B : Type 0} where
   -- the others, each as one of the first kind

@@ -1,6 +1,6 @@
 use Rattle.std.proofs.Common.{length, ap, arith}
-use Rattle.crew_beside.proofs.Listed.{takes_one, takes_last}
-use Rattle.crew_beside.proofs.parts.take_apart.Goals as goal
+use Rattle.lane_crew.proofs.Listed.{takes_one, takes_last}
+use Rattle.lane_crew.proofs.parts.take_apart.Goals as goal
 
 pub loop-one-preserved : goal.loop-one-preserved
 loop-one-preserved g c =

@@ -1,9 +1,9 @@
 use Rattle.std.proofs.Common.{ℕ, sym, ◌∙◌, subst, arith}
 use Rattle.seat_desk.specs.Turns.{NoneFrom}
-use Rattle.crew_beside.proofs.Listed.{same_parts}
-use Rattle.crew_beside.proofs.Crewed.{as_many, one_at_most, as_many_ends}
-use Rattle.crew_beside.proofs.Crewed.{all_may, all_keep, all_have_parts, all_end}
-use Rattle.crew_beside.proofs.crew.run_crew_beside.Goals as goal
+use Rattle.lane_crew.proofs.Listed.{same_parts}
+use Rattle.lane_crew.proofs.Crewed.{as_many, one_at_most, as_many_ends}
+use Rattle.lane_crew.proofs.Crewed.{all_may, all_keep, all_have_parts, all_end}
+use Rattle.lane_crew.proofs.beside.run_crew_beside.Goals as goal
 
 pub run_crew-requires-clause-may_run : goal.run_crew-requires-clause-may_run
 run_crew-requires-clause-may_run g c κs within =

@@ -4,33 +4,17 @@ ghost use Rattle.seat_desk.specs.History.{StandsUnder};
 ghost use Rattle.seat_desk.specs.Turns.{NoneFrom};
 ghost use Rattle.lane_crew.specs.Jobs.{HasRoomFor};
 ghost use Rattle.lane_crew.specs.LaneJobs.{MayRunInOrder, KeepsPasses, EachLane};
-ghost use Rattle.crew_beside.specs.Beside.{MayRunBeside, EndsBeside, count_of};
+ghost use Rattle.lane_crew.specs.Beside.{MayRunBeside, EndsBeside, count_of};
 
+use crate::crew::{Crew, Unstarted, run_crew};
+use crate::lane::Lane;
+use crate::pair::Either;
 use crate::parts::{lay_together, take_apart};
-use lane_crew::{Crew, Either, Lack, Lane, Unstarted, run_crew};
 use plain_values::NoMemory;
 use seat_desk::{Desk, Machine, Pass};
 use std::alloc::Global;
 use std::sync::Wait;
 use std::thread::Threads;
-
-/// The result of a crew's run, with the end of the extra lane.
-#[derive(Drop)]
-pub struct CrewBeside<M: Machine, E, X> {
-    /// The machine, the history and the ends of the crew's own lanes.
-    pub crew: Crew<M, E>,
-    /// The end of the extra lane, if there was one.
-    pub beside: Option<X>,
-}
-
-/// The parts of a crew with an extra lane, if no lane has begun.
-#[derive(Drop)]
-pub struct UnstartedBeside<M, L, X> {
-    /// The machine, which no lane has called, and the crew's own lanes, unchanged.
-    pub crew: Unstarted<M, L>,
-    /// The extra lane, unchanged.
-    pub beside: Option<X>,
-}
 
 // Room for all lanes in one list, and for what comes back: their ends, or the lanes themselves.
 struct Room<L, X, E> {
@@ -60,7 +44,7 @@ fn room_for<L: Drop, X: Drop, E: Drop>(
 ///
 /// The clauses relate each lane's end, and that of the extra lane, to its entries in the one
 /// history, as `run_crew` does. The machine stands for the history, and no other lane has a call in
-/// it. A call doesn't wake a lane after the first 128, which applies to the extra lane too.
+/// it.
 ///
 /// The room for all lanes in one list, and for what comes back, is made before the lanes are put
 /// into that list. So from there on only the crew takes memory, and nothing is lost, whether it ran
@@ -68,7 +52,7 @@ fn room_for<L: Drop, X: Drop, E: Drop>(
 ///
 /// # Errors
 ///
-/// Returns `UnstartedBeside` if memory runs out before the lanes begin, or if the system starts no
+/// Returns the crew and the extra lane if memory runs out before the lanes begin, or if the system starts no
 /// thread for one of them. Then no lane has begun, and all lanes come back with the machine, which
 /// stands for the empty history.
 pub fn run_crew_beside<
@@ -82,7 +66,7 @@ pub fn run_crew_beside<
     machine: M,
     lanes: Vec<L>,
     beside: Option<X>,
-) -> Result<CrewBeside<M, L::End, X::End>, UnstartedBeside<M, L, X>>
+) -> Result<(Crew<M, L::End>, Option<X::End>), (Unstarted<M, L>, Option<X>)>
 where
     M::Call: Send,
     M::Reply: Send,
@@ -96,24 +80,18 @@ where
     requires same { KeepsPasses L.has_run }
     requires same_beside { KeepsPasses X.has_run }
     ensures stands { IfOk result (λ c.
-        StandsUnder M.basis M.stands (M.basis machine) c.crew.machine c.crew.history.items) }
+        StandsUnder M.basis M.stands (M.basis machine) c.0.machine c.0.history.items) }
     ensures lanes { IfOk result (λ c. EachLane L.has_run (M.basis machine)
-        c.crew.history.items 0 lanes.items c.crew.ends.items) }
+        c.0.history.items 0 lanes.items c.0.ends.items) }
     ensures beside { IfOk result (λ c. EndsBeside X.has_run (M.basis machine)
-        c.crew.history.items (length lanes.items) beside c.beside) }
+        c.0.history.items (length lanes.items) beside c.1) }
     ensures others { IfOk result (λ c.
-        NoneFrom (length lanes.items + count_of beside) c.crew.history.items) }
-    ensures back { IfErr result (λ u. (u.crew.lanes.items ≡ lanes.items) × (u.beside ≡ beside)
-        × StandsUnder M.basis M.stands (M.basis machine) u.crew.machine []) }
+        NoneFrom (length lanes.items + count_of beside) c.0.history.items) }
+    ensures back { IfErr result (λ u. (u.0.lanes.items ≡ lanes.items) × (u.1 ≡ beside)
+        × StandsUnder M.basis M.stands (M.basis machine) u.0.machine []) }
 {
     let Ok(room) = room_for(alloc, lanes.len() + 1) else {
-        let lack = Lack::Memory;
-        let crew = Unstarted {
-            machine,
-            lanes,
-            lack,
-        };
-        return Err(UnstartedBeside { crew, beside });
+        return Err((Unstarted::for_memory(machine, lanes), beside));
     };
     let Room {
         mut all,
@@ -134,7 +112,7 @@ where
                 history,
                 ends,
             };
-            Ok(CrewBeside { crew, beside })
+            Ok((crew, beside))
         }
         Err(unstarted) => {
             let Unstarted {
@@ -148,7 +126,7 @@ where
                 lanes: back,
                 lack,
             };
-            Err(UnstartedBeside { crew, beside })
+            Err((crew, beside))
         }
     }
 }

@@ -1,9 +1,9 @@
 //! Values of one kind and at most one of another, in one list and apart again.
 ghost use Rattle.std.specs.Prelude.{◌≡◌, ◌+◌, length};
 ghost use Rattle.lane_crew.specs.Jobs.{HasRoomFor};
-ghost use Rattle.crew_beside.specs.Parts.{HasParts, in_one_list};
+ghost use Rattle.lane_crew.specs.Parts.{HasParts, in_one_list};
 
-use lane_crew::Either;
+use crate::pair::Either;
 use std::collections::VecDeque;
 
 // Puts the others into a list, followed by the extra one. The function takes no memory.

@@ -1,6 +1,6 @@
 use Rattle.std.proofs.Common.{◌≤◌, ◌+◌, length, vec_len, vec_capacity}
-use Rattle.crew_beside.proofs.Listed.{Taking}
-use Rattle.crew_beside.proofs.parts.take_apart.Given as goal
+use Rattle.lane_crew.proofs.Listed.{Taking}
+use Rattle.lane_crew.proofs.parts.take_apart.Given as goal
 
 abbrev pub invariant-loop-one : goal.invariant-loop-one
 invariant-loop-one g l = record {
