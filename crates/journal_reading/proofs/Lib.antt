@@ -1,2 +1,6 @@
-pub mod Lists
+pub mod Rows
+pub mod Steps
+pub mod Passing
+pub mod Scalars
 pub mod Names
+pub mod Signs

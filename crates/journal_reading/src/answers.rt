@@ -1,31 +1,28 @@
-// Answers, read from JSON values.
-ghost use Rattle.std.specs.Prelude.{map};
-ghost use Rattle.serde_json.specs.View.{view};
-ghost use Rattle.journal_reading.specs.Readings.{Reads};
+// Answers, read from the tokens of a JSON text.
+ghost use Rattle.journal_reading.specs.Pulls.{Pulls, PullsRow};
 ghost use Rattle.journal_text.specs.Options.{each};
 ghost use Rattle.journal_text.specs.Reading.{answer_in, file_in};
 ghost use Rattle.journal_text.specs.Values.{list_in};
 
-use crate::fields::{at_end, content_at, files_at, flag_at, signed_at, text_at};
 use crate::misread::Misread;
-use crate::values::row_in;
+use crate::values::{end, next_content, next_flag, next_signed, next_text, open};
 use exec_journal::{Answer, NamedFile};
+use json::Reader;
 use plain_values::Items;
-use serde_json::Value;
 use std::alloc::Global;
 
-pub(crate) fn answer_in(alloc: Global, value: &Value) -> Result<Answer, Misread>
-    ensures { Reads result (answer_in (view value.now)) }
+pub(crate) fn next_answer(alloc: Global, reader: &mut Reader<'_>) -> Result<Answer, Misread>
+    ensures { Pulls 3 answer_in result reader.old reader.new }
 {
-    let row = row_in(value)?;
-    let (number, rest) = signed_at(row)?;
-    let (exit, rest) = signed_at(rest)?;
-    let (cancelled, rest) = flag_at(rest)?;
-    let (text, rest) = text_at(alloc, rest)?;
-    let (refusal, rest) = text_at(alloc, rest)?;
-    let (files, rest) = files_at(alloc, rest)?;
-    let (version, rest) = signed_at(rest)?;
-    at_end(rest)?;
+    open(reader)?;
+    let number = next_signed(reader)?;
+    let exit = next_signed(reader)?;
+    let cancelled = next_flag(reader)?;
+    let text = next_text(alloc, reader)?;
+    let refusal = next_text(alloc, reader)?;
+    let files = next_files(alloc, reader)?;
+    let version = next_signed(reader)?;
+    end(reader)?;
     Ok(Answer {
         number,
         exit,
@@ -37,29 +34,33 @@ pub(crate) fn answer_in(alloc: Global, value: &Value) -> Result<Answer, Misread>
     })
 }
 
-pub(crate) fn files_in(alloc: Global, value: &Value) -> Result<Items<NamedFile>, Misread>
-    ensures { Reads result (list_in file_in (view value.now)) }
+pub(crate) fn next_files(
+    alloc: Global,
+    reader: &mut Reader<'_>,
+) -> Result<Items<NamedFile>, Misread>
+    ensures { Pulls 2 (list_in file_in) result reader.old reader.new }
 {
-    let row = row_in(value)?;
-    each_file(alloc, row)
+    open(reader)?;
+    each_file(alloc, reader)
 }
 
-fn each_file(alloc: Global, row: &[Value]) -> Result<Items<NamedFile>, Misread>
-    ensures { Reads result (each file_in (map view row.now)) }
+fn each_file(alloc: Global, reader: &mut Reader<'_>) -> Result<Items<NamedFile>, Misread>
+    ensures { PullsRow 1 (each file_in) result reader.old reader.new }
 {
     let mut files = Vec::new(alloc);
-    for value in row {
-        files.push(file_in(alloc, value)?)?;
+    'row: while !reader.take_end_array() {
+        let file = next_file(alloc, reader)?;
+        files.push(file)?;
     }
     Ok(Items::of(files))
 }
 
-fn file_in(alloc: Global, value: &Value) -> Result<NamedFile, Misread>
-    ensures { Reads result (file_in (view value.now)) }
+fn next_file(alloc: Global, reader: &mut Reader<'_>) -> Result<NamedFile, Misread>
+    ensures { Pulls 1 file_in result reader.old reader.new }
 {
-    let row = row_in(value)?;
-    let (path, rest) = text_at(alloc, row)?;
-    let (content, rest) = content_at(alloc, rest)?;
-    at_end(rest)?;
+    open(reader)?;
+    let path = next_text(alloc, reader)?;
+    let content = next_content(alloc, reader)?;
+    end(reader)?;
     Ok(NamedFile { path, content })
 }

@@ -3,8 +3,8 @@
 
 mod answers;
 mod calls;
-mod fields;
 mod misread;
+mod numbers;
 mod plans;
 mod reading;
 mod replies;

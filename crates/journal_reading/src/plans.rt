@@ -1,30 +1,25 @@
-// The plan, read from a JSON value.
-ghost use Rattle.std.specs.Prelude.{map};
-ghost use Rattle.serde_json.specs.View.{view};
-ghost use Rattle.journal_reading.specs.Readings.{Reads};
+// The plan, read from the tokens of a JSON text.
+ghost use Rattle.journal_reading.specs.Pulls.{Pulls, PullsRow};
 ghost use Rattle.journal_text.specs.Options.{each};
 ghost use Rattle.journal_text.specs.Reading.{group_in, maker_in, plan_action_in, plan_in};
 ghost use Rattle.journal_text.specs.Values.{list_in};
 
-use crate::fields::{
-    actions_at, at_end, count_at, flag_at, groups_at, kind_at, makers_at, maybe_at, text_at,
-    texts_at,
-};
 use crate::misread::Misread;
-use crate::values::row_in;
+use crate::values::{end, next_count, next_flag, next_maybe, next_text, next_texts, open};
+use crate::words::next_kind;
 use exec_journal::{Group, Maker, Plan, PlanAction};
+use json::Reader;
 use plain_values::Items;
-use serde_json::Value;
 use std::alloc::Global;
 
-pub(crate) fn plan_in(alloc: Global, value: &Value) -> Result<Plan, Misread>
-    ensures { Reads result (plan_in (view value.now)) }
+pub(crate) fn next_plan(alloc: Global, reader: &mut Reader<'_>) -> Result<Plan, Misread>
+    ensures { Pulls 5 plan_in result reader.old reader.new }
 {
-    let row = row_in(value)?;
-    let (actions, rest) = actions_at(alloc, row)?;
-    let (groups, rest) = groups_at(alloc, rest)?;
-    let (limit, rest) = count_at(rest)?;
-    at_end(rest)?;
+    open(reader)?;
+    let actions = next_actions(alloc, reader)?;
+    let groups = next_groups(alloc, reader)?;
+    let limit = next_count(reader)?;
+    end(reader)?;
     Ok(Plan {
         actions,
         groups,
@@ -32,33 +27,37 @@ pub(crate) fn plan_in(alloc: Global, value: &Value) -> Result<Plan, Misread>
     })
 }
 
-pub(crate) fn actions_in(alloc: Global, value: &Value) -> Result<Items<PlanAction>, Misread>
-    ensures { Reads result (list_in plan_action_in (view value.now)) }
+pub(crate) fn next_actions(
+    alloc: Global,
+    reader: &mut Reader<'_>,
+) -> Result<Items<PlanAction>, Misread>
+    ensures { Pulls 4 (list_in plan_action_in) result reader.old reader.new }
 {
-    let row = row_in(value)?;
-    each_action(alloc, row)
+    open(reader)?;
+    each_action(alloc, reader)
 }
 
-fn each_action(alloc: Global, row: &[Value]) -> Result<Items<PlanAction>, Misread>
-    ensures { Reads result (each plan_action_in (map view row.now)) }
+fn each_action(alloc: Global, reader: &mut Reader<'_>) -> Result<Items<PlanAction>, Misread>
+    ensures { PullsRow 3 (each plan_action_in) result reader.old reader.new }
 {
     let mut actions = Vec::new(alloc);
-    for value in row {
-        actions.push(plan_action_in(alloc, value)?)?;
+    'row: while !reader.take_end_array() {
+        let action = next_plan_action(alloc, reader)?;
+        actions.push(action)?;
     }
     Ok(Items::of(actions))
 }
 
-fn plan_action_in(alloc: Global, value: &Value) -> Result<PlanAction, Misread>
-    ensures { Reads result (plan_action_in (view value.now)) }
+fn next_plan_action(alloc: Global, reader: &mut Reader<'_>) -> Result<PlanAction, Misread>
+    ensures { Pulls 3 plan_action_in result reader.old reader.new }
 {
-    let row = row_in(value)?;
-    let (name, rest) = text_at(alloc, row)?;
-    let (outputs, rest) = texts_at(alloc, rest)?;
-    let (makers, rest) = makers_at(alloc, rest)?;
-    let (local, rest) = maybe_at(rest)?;
-    let (remote, rest) = maybe_at(rest)?;
-    at_end(rest)?;
+    open(reader)?;
+    let name = next_text(alloc, reader)?;
+    let outputs = next_texts(alloc, reader)?;
+    let makers = next_makers(alloc, reader)?;
+    let local = next_maybe(reader)?;
+    let remote = next_maybe(reader)?;
+    end(reader)?;
     Ok(PlanAction {
         name,
         outputs,
@@ -68,58 +67,60 @@ fn plan_action_in(alloc: Global, value: &Value) -> Result<PlanAction, Misread>
     })
 }
 
-pub(crate) fn makers_in(alloc: Global, value: &Value) -> Result<Items<Maker>, Misread>
-    ensures { Reads result (list_in maker_in (view value.now)) }
+pub(crate) fn next_makers(alloc: Global, reader: &mut Reader<'_>) -> Result<Items<Maker>, Misread>
+    ensures { Pulls 2 (list_in maker_in) result reader.old reader.new }
 {
-    let row = row_in(value)?;
-    each_maker(alloc, row)
+    open(reader)?;
+    each_maker(alloc, reader)
 }
 
-fn each_maker(alloc: Global, row: &[Value]) -> Result<Items<Maker>, Misread>
-    ensures { Reads result (each maker_in (map view row.now)) }
+fn each_maker(alloc: Global, reader: &mut Reader<'_>) -> Result<Items<Maker>, Misread>
+    ensures { PullsRow 1 (each maker_in) result reader.old reader.new }
 {
     let mut makers = Vec::new(alloc);
-    for value in row {
-        makers.push(maker_in(value)?)?;
+    'row: while !reader.take_end_array() {
+        let maker = next_maker(reader)?;
+        makers.push(maker)?;
     }
     Ok(Items::of(makers))
 }
 
-fn maker_in(value: &Value) -> Result<Maker, Misread>
-    ensures { Reads result (maker_in (view value.now)) }
+fn next_maker(reader: &mut Reader<'_>) -> Result<Maker, Misread>
+    ensures { Pulls 1 maker_in result reader.old reader.new }
 {
-    let row = row_in(value)?;
-    let (action, rest) = count_at(row)?;
-    let (output, rest) = count_at(rest)?;
-    at_end(rest)?;
+    open(reader)?;
+    let action = next_count(reader)?;
+    let output = next_count(reader)?;
+    end(reader)?;
     Ok(Maker { action, output })
 }
 
-pub(crate) fn groups_in(alloc: Global, value: &Value) -> Result<Items<Group>, Misread>
-    ensures { Reads result (list_in group_in (view value.now)) }
+pub(crate) fn next_groups(alloc: Global, reader: &mut Reader<'_>) -> Result<Items<Group>, Misread>
+    ensures { Pulls 3 (list_in group_in) result reader.old reader.new }
 {
-    let row = row_in(value)?;
-    each_group(alloc, row)
+    open(reader)?;
+    each_group(alloc, reader)
 }
 
-fn each_group(alloc: Global, row: &[Value]) -> Result<Items<Group>, Misread>
-    ensures { Reads result (each group_in (map view row.now)) }
+fn each_group(alloc: Global, reader: &mut Reader<'_>) -> Result<Items<Group>, Misread>
+    ensures { PullsRow 2 (each group_in) result reader.old reader.new }
 {
     let mut groups = Vec::new(alloc);
-    for value in row {
-        groups.push(group_in(value)?)?;
+    'row: while !reader.take_end_array() {
+        let group = next_group(reader)?;
+        groups.push(group)?;
     }
     Ok(Items::of(groups))
 }
 
-fn group_in(value: &Value) -> Result<Group, Misread>
-    ensures { Reads result (group_in (view value.now)) }
+fn next_group(reader: &mut Reader<'_>) -> Result<Group, Misread>
+    ensures { Pulls 2 group_in result reader.old reader.new }
 {
-    let row = row_in(value)?;
-    let (kind, rest) = kind_at(row)?;
-    let (cancel, rest) = flag_at(rest)?;
-    let (berths, rest) = count_at(rest)?;
-    at_end(rest)?;
+    open(reader)?;
+    let kind = next_kind(reader)?;
+    let cancel = next_flag(reader)?;
+    let berths = next_count(reader)?;
+    end(reader)?;
     Ok(Group {
         kind,
         cancel,

@@ -1,21 +1,22 @@
 // The plan or the entry that a line spells.
-ghost use Rattle.std.specs.Prelude.{◌≡◌, true, false, map, MatchOption};
+ghost use Rattle.std.specs.Prelude.{◌≡◌, true, false, MatchOption};
 ghost use Rattle.std.specs.Str.{is_utf8};
-ghost use Rattle.serde_json.specs.Read.{read};
-ghost use Rattle.serde_json.specs.View.{view};
-ghost use Rattle.journal_reading.specs.Readings.{Reads, ReadsAs};
-ghost use Rattle.journal_text.specs.Reading.{entry_in};
-ghost use Rattle.journal_text.specs.Lines.{entry_of, json_in, plan_of};
+ghost use Rattle.journal_reading.specs.Pulls.{IsOver, Pulls, text_as};
+ghost use Rattle.journal_reading.specs.Readings.{Reads};
+ghost use Rattle.journal_text.specs.Reading.{entry_in, plan_in};
+ghost use Rattle.journal_text.specs.Lines.{entry_of, plan_of};
 
-use crate::fields::{at_end, call_at, count_at, reply_at};
+use crate::calls::next_call;
 use crate::misread::Misread;
-use crate::plans::plan_in;
-use crate::values::row_in;
+use crate::plans::next_plan;
+use crate::replies::next_reply;
+use crate::values::{end, next_count, open};
 use exec_journal::{Entry, Plan};
-use serde_json::Value;
+use json::{Reader, Scratch};
 use std::alloc::Global;
 
-/// Returns the plan that a line spells, without its line feed.
+/// Returns the plan that a line spells, without its line feed. No tree of its values is made: besides the plan, this takes
+/// as much memory as the line has bytes.
 ///
 /// # Errors
 ///
@@ -23,11 +24,14 @@ use std::alloc::Global;
 pub fn read_plan(alloc: Global, line: &[u8]) -> Result<Plan, Misread>
     ensures { Reads result (plan_of line.now) }
 {
-    let value = read_json(alloc, line)?;
-    plan_in(alloc, &value)
+    match as_text(line) {
+        Some(text) => plan_by(alloc, text),
+        None => Err(Misread::Otherwise),
+    }
 }
 
-/// Returns the entry that a line spells, without its line feed.
+/// Returns the entry that a line spells, without its line feed. No tree of its values is made: besides the entry, this takes
+/// as much memory as the line has bytes.
 ///
 /// # Errors
 ///
@@ -35,26 +39,8 @@ pub fn read_plan(alloc: Global, line: &[u8]) -> Result<Plan, Misread>
 pub fn read_entry(alloc: Global, line: &[u8]) -> Result<Entry, Misread>
     ensures { Reads result (entry_of line.now) }
 {
-    let value = read_json(alloc, line)?;
-    entry_in(alloc, &value)
-}
-
-fn entry_in(alloc: Global, value: &Value) -> Result<Entry, Misread>
-    ensures { Reads result (entry_in (view value.now)) }
-{
-    let row = row_in(value)?;
-    let (lane, rest) = count_at(row)?;
-    let (call, rest) = call_at(alloc, rest)?;
-    let (reply, rest) = reply_at(alloc, rest)?;
-    at_end(rest)?;
-    Ok(Entry { lane, call, reply })
-}
-
-fn read_json(alloc: Global, line: &[u8]) -> Result<Value, Misread>
-    ensures { ReadsAs view result (json_in line.now) }
-{
     match as_text(line) {
-        Some(text) => parse(alloc, text),
+        Some(text) => entry_by(alloc, text),
         None => Err(Misread::Otherwise),
     }
 }
@@ -70,16 +56,43 @@ fn as_text(bytes: &[u8]) -> Option<&str>
     }
 }
 
-fn parse(alloc: Global, text: &str) -> Result<Value, Misread>
-    ensures { ReadsAs view result (read text.now) }
+fn plan_by(alloc: Global, text: &str) -> Result<Plan, Misread>
+    ensures { Reads result (text_as plan_in text.now) }
 {
-    match Value::from_str(alloc, text) {
-        Ok(value) => Ok(value),
-        Err(error) => {
-            if error.is_memory() {
-                return Err(Misread::NoMemory);
-            }
-            Err(Misread::Otherwise)
-        }
+    let mut scratch = Scratch::new(alloc);
+    let mut reader = Reader::new(text, &mut scratch)?;
+    let plan = next_plan(alloc, &mut reader)?;
+    no_more(&mut reader)?;
+    Ok(plan)
+}
+
+fn entry_by(alloc: Global, text: &str) -> Result<Entry, Misread>
+    ensures { Reads result (text_as entry_in text.now) }
+{
+    let mut scratch = Scratch::new(alloc);
+    let mut reader = Reader::new(text, &mut scratch)?;
+    let entry = next_entry(alloc, &mut reader)?;
+    no_more(&mut reader)?;
+    Ok(entry)
+}
+
+fn next_entry(alloc: Global, reader: &mut Reader<'_>) -> Result<Entry, Misread>
+    ensures { Pulls 5 entry_in result reader.old reader.new }
+{
+    open(reader)?;
+    let lane = next_count(reader)?;
+    let call = next_call(alloc, reader)?;
+    let reply = next_reply(alloc, reader)?;
+    end(reader)?;
+    Ok(Entry { lane, call, reply })
+}
+
+// Checks that the text has no more tokens.
+fn no_more(reader: &mut Reader<'_>) -> Result<(), Misread>
+    ensures { IsOver result reader.old }
+{
+    match reader.next() {
+        None => Ok(()),
+        Some(_) => Err(Misread::Otherwise),
     }
 }

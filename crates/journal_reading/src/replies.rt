@@ -1,59 +1,56 @@
-// Replies, read from JSON values.
-ghost use Rattle.std.specs.Prelude.{map};
-ghost use Rattle.serde_json.specs.View.{view};
+// Replies, read from the tokens of a JSON text.
+ghost use Rattle.journal_reading.specs.Pulls.{Pulls, PullsRow};
 ghost use Rattle.journal_reading.specs.Readings.{Reads};
 ghost use Rattle.journal_text.specs.Reading.{breach_by, cancel_by, file_by, gather_by, kill_by, late_by, launch_by, line_by, matched_by, plain_by, plain_named, reply_by, reply_in, send_by, stray_by, told_by};
 
-use crate::fields::{
-    at_end, attempt_at, breach_at, content_at, count_at, flag_at, signed_at, stray_at, why_at,
-};
 use crate::misread::Misread;
-use crate::values::variant_in;
+use crate::values::{end, next_content, next_count, next_flag, next_signed, variant};
+use crate::words::{next_attempt, next_breach, next_stray, next_why};
 use exec_journal::Reply;
-use serde_json::Value;
+use json::Reader;
 use std::alloc::Global;
 
-pub(crate) fn reply_in(alloc: Global, value: &Value) -> Result<Reply, Misread>
-    ensures { Reads result (reply_in (view value.now)) }
+pub(crate) fn next_reply(alloc: Global, reader: &mut Reader<'_>) -> Result<Reply, Misread>
+    ensures { Pulls 2 reply_in result reader.old reader.new }
 {
-    let (name, row) = variant_in(value)?;
-    reply_by(alloc, name, row)
+    let name = variant(reader)?;
+    reply_by(alloc, name, reader)
 }
 
-fn reply_by(alloc: Global, name: &str, row: &[Value]) -> Result<Reply, Misread>
-    ensures { Reads result (reply_by name.now (map view row.now)) }
+fn reply_by(alloc: Global, name: &str, reader: &mut Reader<'_>) -> Result<Reply, Misread>
+    ensures { PullsRow 1 (reply_by name.now) result reader.old reader.new }
 {
     match name {
-        "Launch" => launch_by(row),
-        "Send" => send_by(row),
-        "Cancel" => cancel_by(row),
-        "Gather" => gather_by(row),
-        "Kill" => kill_by(row),
-        _ => told_by(alloc, name, row),
+        "Launch" => launch_by(reader),
+        "Send" => send_by(reader),
+        "Cancel" => cancel_by(reader),
+        "Gather" => gather_by(reader),
+        "Kill" => kill_by(reader),
+        _ => told_by(alloc, name, reader),
     }
 }
 
 // Returns a reply that orders nothing.
-fn told_by(alloc: Global, name: &str, row: &[Value]) -> Result<Reply, Misread>
-    ensures { Reads result (told_by name.now (map view row.now)) }
+fn told_by(alloc: Global, name: &str, reader: &mut Reader<'_>) -> Result<Reply, Misread>
+    ensures { PullsRow 1 (told_by name.now) result reader.old reader.new }
 {
     match name {
-        "File" => file_by(alloc, row),
-        "Line" => line_by(row),
-        "Matched" => matched_by(row),
-        "Late" => late_by(row),
-        "Stray" => stray_by(row),
-        "Breach" => breach_by(row),
-        _ => plain_by(name, row),
+        "File" => file_by(alloc, reader),
+        "Line" => line_by(reader),
+        "Matched" => matched_by(reader),
+        "Late" => late_by(reader),
+        "Stray" => stray_by(reader),
+        "Breach" => breach_by(reader),
+        _ => plain_by(name, reader),
     }
 }
 
 // Returns a reply without fields.
-fn plain_by(name: &str, row: &[Value]) -> Result<Reply, Misread>
-    ensures { Reads result (plain_by name.now (map view row.now)) }
+fn plain_by(name: &str, reader: &mut Reader<'_>) -> Result<Reply, Misread>
+    ensures { PullsRow 0 (plain_by name.now) result reader.old reader.new }
 {
     let reply = plain_named(name)?;
-    at_end(row)?;
+    end(reader)?;
     Ok(reply)
 }
 
@@ -76,12 +73,12 @@ fn plain_named(name: &str) -> Result<Reply, Misread>
     }
 }
 
-fn launch_by(row: &[Value]) -> Result<Reply, Misread>
-    ensures { Reads result (launch_by (map view row.now)) }
+fn launch_by(reader: &mut Reader<'_>) -> Result<Reply, Misread>
+    ensures { PullsRow 1 launch_by result reader.old reader.new }
 {
-    let (line, rest) = count_at(row)?;
-    let (of, rest) = attempt_at(rest)?;
-    at_end(rest)?;
+    let line = next_count(reader)?;
+    let of = next_attempt(reader)?;
+    end(reader)?;
     Ok(Reply::Launch {
         line,
         action: of.action,
@@ -90,13 +87,13 @@ fn launch_by(row: &[Value]) -> Result<Reply, Misread>
     })
 }
 
-fn send_by(row: &[Value]) -> Result<Reply, Misread>
-    ensures { Reads result (send_by (map view row.now)) }
+fn send_by(reader: &mut Reader<'_>) -> Result<Reply, Misread>
+    ensures { PullsRow 1 send_by result reader.old reader.new }
 {
-    let (line, rest) = count_at(row)?;
-    let (number, rest) = signed_at(rest)?;
-    let (of, rest) = attempt_at(rest)?;
-    at_end(rest)?;
+    let line = next_count(reader)?;
+    let number = next_signed(reader)?;
+    let of = next_attempt(reader)?;
+    end(reader)?;
     Ok(Reply::Send {
         line,
         number,
@@ -106,24 +103,24 @@ fn send_by(row: &[Value]) -> Result<Reply, Misread>
     })
 }
 
-fn cancel_by(row: &[Value]) -> Result<Reply, Misread>
-    ensures { Reads result (cancel_by (map view row.now)) }
+fn cancel_by(reader: &mut Reader<'_>) -> Result<Reply, Misread>
+    ensures { PullsRow 0 cancel_by result reader.old reader.new }
 {
-    let (line, rest) = count_at(row)?;
-    let (number, rest) = signed_at(rest)?;
-    at_end(rest)?;
+    let line = next_count(reader)?;
+    let number = next_signed(reader)?;
+    end(reader)?;
     Ok(Reply::Cancel { line, number })
 }
 
-fn gather_by(row: &[Value]) -> Result<Reply, Misread>
-    ensures { Reads result (gather_by (map view row.now)) }
+fn gather_by(reader: &mut Reader<'_>) -> Result<Reply, Misread>
+    ensures { PullsRow 1 gather_by result reader.old reader.new }
 {
-    let (line, rest) = count_at(row)?;
-    let (number, rest) = signed_at(rest)?;
-    let (of, rest) = attempt_at(rest)?;
-    let (exit, rest) = signed_at(rest)?;
-    let (refused, rest) = flag_at(rest)?;
-    at_end(rest)?;
+    let line = next_count(reader)?;
+    let number = next_signed(reader)?;
+    let of = next_attempt(reader)?;
+    let exit = next_signed(reader)?;
+    let refused = next_flag(reader)?;
+    end(reader)?;
     Ok(Reply::Gather {
         line,
         number,
@@ -135,36 +132,36 @@ fn gather_by(row: &[Value]) -> Result<Reply, Misread>
     })
 }
 
-fn kill_by(row: &[Value]) -> Result<Reply, Misread>
-    ensures { Reads result (kill_by (map view row.now)) }
+fn kill_by(reader: &mut Reader<'_>) -> Result<Reply, Misread>
+    ensures { PullsRow 1 kill_by result reader.old reader.new }
 {
-    let (line, rest) = count_at(row)?;
-    let (why, rest) = why_at(rest)?;
-    at_end(rest)?;
+    let line = next_count(reader)?;
+    let why = next_why(reader)?;
+    end(reader)?;
     Ok(Reply::Kill { line, why })
 }
 
-fn file_by(alloc: Global, row: &[Value]) -> Result<Reply, Misread>
-    ensures { Reads result (file_by (map view row.now)) }
+fn file_by(alloc: Global, reader: &mut Reader<'_>) -> Result<Reply, Misread>
+    ensures { PullsRow 0 file_by result reader.old reader.new }
 {
-    let (content, rest) = content_at(alloc, row)?;
-    at_end(rest)?;
+    let content = next_content(alloc, reader)?;
+    end(reader)?;
     Ok(Reply::File(content))
 }
 
-fn line_by(row: &[Value]) -> Result<Reply, Misread>
-    ensures { Reads result (line_by (map view row.now)) }
+fn line_by(reader: &mut Reader<'_>) -> Result<Reply, Misread>
+    ensures { PullsRow 0 line_by result reader.old reader.new }
 {
-    let (line, rest) = count_at(row)?;
-    at_end(rest)?;
+    let line = next_count(reader)?;
+    end(reader)?;
     Ok(Reply::Line { line })
 }
 
-fn matched_by(row: &[Value]) -> Result<Reply, Misread>
-    ensures { Reads result (matched_by (map view row.now)) }
+fn matched_by(reader: &mut Reader<'_>) -> Result<Reply, Misread>
+    ensures { PullsRow 1 matched_by result reader.old reader.new }
 {
-    let (of, rest) = attempt_at(row)?;
-    at_end(rest)?;
+    let of = next_attempt(reader)?;
+    end(reader)?;
     Ok(Reply::Matched {
         action: of.action,
         branch: of.branch,
@@ -172,11 +169,11 @@ fn matched_by(row: &[Value]) -> Result<Reply, Misread>
     })
 }
 
-fn late_by(row: &[Value]) -> Result<Reply, Misread>
-    ensures { Reads result (late_by (map view row.now)) }
+fn late_by(reader: &mut Reader<'_>) -> Result<Reply, Misread>
+    ensures { PullsRow 1 late_by result reader.old reader.new }
 {
-    let (of, rest) = attempt_at(row)?;
-    at_end(rest)?;
+    let of = next_attempt(reader)?;
+    end(reader)?;
     Ok(Reply::Late {
         action: of.action,
         branch: of.branch,
@@ -184,18 +181,18 @@ fn late_by(row: &[Value]) -> Result<Reply, Misread>
     })
 }
 
-fn stray_by(row: &[Value]) -> Result<Reply, Misread>
-    ensures { Reads result (stray_by (map view row.now)) }
+fn stray_by(reader: &mut Reader<'_>) -> Result<Reply, Misread>
+    ensures { PullsRow 1 stray_by result reader.old reader.new }
 {
-    let (why, rest) = stray_at(row)?;
-    at_end(rest)?;
+    let why = next_stray(reader)?;
+    end(reader)?;
     Ok(Reply::Stray(why))
 }
 
-fn breach_by(row: &[Value]) -> Result<Reply, Misread>
-    ensures { Reads result (breach_by (map view row.now)) }
+fn breach_by(reader: &mut Reader<'_>) -> Result<Reply, Misread>
+    ensures { PullsRow 1 breach_by result reader.old reader.new }
 {
-    let (why, rest) = breach_at(row)?;
-    at_end(rest)?;
+    let why = next_breach(reader)?;
+    end(reader)?;
     Ok(Reply::Breach(why))
 }

@@ -1,82 +1,168 @@
-// The parts of lines, read from JSON values.
-ghost use Rattle.std.specs.Prelude.{◌≡◌, map};
-ghost use Rattle.serde_json.specs.View.{view};
+// The parts of lines, read from the tokens of a JSON text.
+ghost use Rattle.std.specs.Prelude.{◌≡◌};
+ghost use Rattle.json.specs.Reads.{token_of};
 ghost use Rattle.base64.specs.Engines.{standard};
 ghost use Rattle.base64.specs.GeneralPurpose.{decode_of};
+ghost use Rattle.journal_reading.specs.Pulls.{Ends, Names, Opens, Pulls, PullsAs, PullsRow, Takes, token_as};
 ghost use Rattle.journal_reading.specs.Readings.{Reads, ReadsAs};
 ghost use Rattle.journal_text.specs.Options.{each};
-ghost use Rattle.journal_text.specs.Values.{content_in, count_in, decoded, flag_in, list_in, maybe_in, row_in, signed_in, text_in, variant_in, word_in};
+ghost use Rattle.journal_text.specs.Values.{content_in, count_in, decoded, flag_in, list_in, maybe_in, signed_in, text_in, word_in};
 
-use crate::fields::{at_end, name_at};
 use crate::misread::Misread;
+use crate::numbers::{count_of, signed_of};
 use base64::DecodeAllocError;
 use base64::engine::general_purpose::STANDARD;
+use json::{Reader, Token};
 use plain_values::{Blob, Items, Text};
-use serde_json::Value;
 use std::alloc::Global;
 
-/// Returns the elements of an array.
-pub(crate) fn row_in(value: &Value) -> Result<&[Value], Misread>
-    ensures { ReadsAs (λ vs. map view vs.now) result (row_in (view value.now)) }
+// ---- tokens
+
+fn next_token<'a>(reader: &mut Reader<'a>) -> Result<Token<'a>, Misread>
+    ensures { Takes result reader.old reader.new }
 {
-    match value.as_array() {
+    match reader.next() {
+        Some(token) => Ok(token),
         None => Err(Misread::Otherwise),
-        Some(list) => Ok(list.as_slice()),
     }
 }
 
-pub(crate) fn count_in(value: &Value) -> Result<u32, Misread>
-    ensures { Reads result (count_in (view value.now)) }
+/// Takes the bracket that opens an array.
+pub(crate) fn open(reader: &mut Reader<'_>) -> Result<(), Misread>
+    ensures { Opens result reader.old reader.new }
 {
-    match value.as_u64() {
-        None => Err(Misread::Otherwise),
-        Some(number) => {
-            if number > u64::from(u32::MAX) {
-                return Err(Misread::Otherwise);
-            }
-            Ok(number as u32)
-        }
+    match reader.next() {
+        Some(Token::BeginArray) => Ok(()),
+        _ => Err(Misread::Otherwise),
     }
 }
 
-pub(crate) fn signed_in(value: &Value) -> Result<i32, Misread>
-    ensures { Reads result (signed_in (view value.now)) }
+/// Takes the bracket that closes an array.
+pub(crate) fn end(reader: &mut Reader<'_>) -> Result<(), Misread>
+    ensures { Ends result reader.old reader.new }
 {
-    match value.as_i64() {
-        None => Err(Misread::Otherwise),
-        Some(number) => {
-            if number < i64::from(i32::MIN) || number > i64::from(i32::MAX) {
-                return Err(Misread::Otherwise);
-            }
-            Ok(number as i32)
-        }
+    if reader.take_end_array() {
+        Ok(())
+    } else {
+        Err(Misread::Otherwise)
     }
 }
 
-pub(crate) fn flag_in(value: &Value) -> Result<bool, Misread>
-    ensures { Reads result (flag_in (view value.now)) }
+/// Takes the bracket that opens a variant, and its name. Its fields follow.
+pub(crate) fn variant<'a>(reader: &mut Reader<'a>) -> Result<&'a str, Misread>
+    ensures { Names result reader.old reader.new }
 {
-    match value.as_bool() {
-        None => Err(Misread::Otherwise),
-        Some(flag) => Ok(flag),
+    open(reader)?;
+    match reader.next() {
+        Some(Token::String(name)) => Ok(name),
+        _ => Err(Misread::Otherwise),
     }
 }
 
-pub(crate) fn text_in(alloc: Global, value: &Value) -> Result<Text, Misread>
-    ensures { Reads result (text_in (view value.now)) }
+/// Reads a name that has no fields.
+pub(crate) fn word<'a>(reader: &mut Reader<'a>) -> Result<&'a str, Misread>
+    ensures { PullsAs (λ x. x.now) 1 word_in result reader.old reader.new }
 {
-    match value.as_str() {
-        None => Err(Misread::Otherwise),
-        Some(text) => Ok(Text::copy_of(alloc, text)?),
+    let name = variant(reader)?;
+    end(reader)?;
+    Ok(name)
+}
+
+// ---- values that aren't rows
+
+pub(crate) fn next_count(reader: &mut Reader<'_>) -> Result<u32, Misread>
+    ensures { Pulls 0 count_in result reader.old reader.new }
+{
+    let token = next_token(reader)?;
+    count_in(token)
+}
+
+fn count_in(token: Token<'_>) -> Result<u32, Misread>
+    ensures { Reads result (token_as count_in (token_of token.entry)) }
+{
+    match token {
+        Token::Number(text) => count_of(text),
+        _ => Err(Misread::Otherwise),
     }
 }
 
-pub(crate) fn content_in(alloc: Global, value: &Value) -> Result<Blob, Misread>
-    ensures { Reads result (content_in (view value.now)) }
+pub(crate) fn next_signed(reader: &mut Reader<'_>) -> Result<i32, Misread>
+    ensures { Pulls 0 signed_in result reader.old reader.new }
 {
-    match value.as_str() {
-        None => Err(Misread::Otherwise),
-        Some(text) => decode(alloc, text.as_bytes()),
+    let token = next_token(reader)?;
+    signed_in(token)
+}
+
+fn signed_in(token: Token<'_>) -> Result<i32, Misread>
+    ensures { Reads result (token_as signed_in (token_of token.entry)) }
+{
+    match token {
+        Token::Number(text) => signed_of(text),
+        _ => Err(Misread::Otherwise),
+    }
+}
+
+pub(crate) fn next_flag(reader: &mut Reader<'_>) -> Result<bool, Misread>
+    ensures { Pulls 0 flag_in result reader.old reader.new }
+{
+    let token = next_token(reader)?;
+    flag_in(token)
+}
+
+fn flag_in(token: Token<'_>) -> Result<bool, Misread>
+    ensures { Reads result (token_as flag_in (token_of token.entry)) }
+{
+    match token {
+        Token::Bool(flag) => Ok(flag),
+        _ => Err(Misread::Otherwise),
+    }
+}
+
+pub(crate) fn next_maybe(reader: &mut Reader<'_>) -> Result<Option<u32>, Misread>
+    ensures { Pulls 0 maybe_in result reader.old reader.new }
+{
+    let token = next_token(reader)?;
+    maybe_in(token)
+}
+
+fn maybe_in(token: Token<'_>) -> Result<Option<u32>, Misread>
+    ensures { Reads result (token_as maybe_in (token_of token.entry)) }
+{
+    if let Token::Null = token {
+        return Ok(None);
+    }
+    Ok(Some(count_in(token)?))
+}
+
+pub(crate) fn next_text(alloc: Global, reader: &mut Reader<'_>) -> Result<Text, Misread>
+    ensures { Pulls 0 text_in result reader.old reader.new }
+{
+    let token = next_token(reader)?;
+    text_in(alloc, token)
+}
+
+fn text_in(alloc: Global, token: Token<'_>) -> Result<Text, Misread>
+    ensures { Reads result (token_as text_in (token_of token.entry)) }
+{
+    match token {
+        Token::String(text) => Ok(Text::copy_of(alloc, text)?),
+        _ => Err(Misread::Otherwise),
+    }
+}
+
+pub(crate) fn next_content(alloc: Global, reader: &mut Reader<'_>) -> Result<Blob, Misread>
+    ensures { Pulls 0 content_in result reader.old reader.new }
+{
+    let token = next_token(reader)?;
+    content_in(alloc, token)
+}
+
+fn content_in(alloc: Global, token: Token<'_>) -> Result<Blob, Misread>
+    ensures { Reads result (token_as content_in (token_of token.entry)) }
+{
+    match token {
+        Token::String(text) => decode(alloc, text.as_bytes()),
+        _ => Err(Misread::Otherwise),
     }
 }
 
@@ -90,62 +176,40 @@ fn decode(alloc: Global, text: &[u8]) -> Result<Blob, Misread>
     }
 }
 
-pub(crate) fn maybe_in(value: &Value) -> Result<Option<u32>, Misread>
-    ensures { Reads result (maybe_in (view value.now)) }
+// ---- lists
+
+pub(crate) fn next_texts(alloc: Global, reader: &mut Reader<'_>) -> Result<Items<Text>, Misread>
+    ensures { Pulls 1 (list_in text_in) result reader.old reader.new }
 {
-    if value.is_null() {
-        return Ok(None);
-    }
-    Ok(Some(count_in(value)?))
+    open(reader)?;
+    each_text(alloc, reader)
 }
 
-pub(crate) fn texts_in(alloc: Global, value: &Value) -> Result<Items<Text>, Misread>
-    ensures { Reads result (list_in text_in (view value.now)) }
-{
-    let row = row_in(value)?;
-    each_text(alloc, row)
-}
-
-fn each_text(alloc: Global, row: &[Value]) -> Result<Items<Text>, Misread>
-    ensures { Reads result (each text_in (map view row.now)) }
+fn each_text(alloc: Global, reader: &mut Reader<'_>) -> Result<Items<Text>, Misread>
+    ensures { PullsRow 0 (each text_in) result reader.old reader.new }
 {
     let mut texts = Vec::new(alloc);
-    for value in row {
-        texts.push(text_in(alloc, value)?)?;
+    'row: while !reader.take_end_array() {
+        let text = next_text(alloc, reader)?;
+        texts.push(text)?;
     }
     Ok(Items::of(texts))
 }
 
-pub(crate) fn contents_in(alloc: Global, value: &Value) -> Result<Items<Blob>, Misread>
-    ensures { Reads result (list_in content_in (view value.now)) }
+pub(crate) fn next_contents(alloc: Global, reader: &mut Reader<'_>) -> Result<Items<Blob>, Misread>
+    ensures { Pulls 1 (list_in content_in) result reader.old reader.new }
 {
-    let row = row_in(value)?;
-    each_content(alloc, row)
+    open(reader)?;
+    each_content(alloc, reader)
 }
 
-fn each_content(alloc: Global, row: &[Value]) -> Result<Items<Blob>, Misread>
-    ensures { Reads result (each content_in (map view row.now)) }
+fn each_content(alloc: Global, reader: &mut Reader<'_>) -> Result<Items<Blob>, Misread>
+    ensures { PullsRow 0 (each content_in) result reader.old reader.new }
 {
     let mut contents = Vec::new(alloc);
-    for value in row {
-        contents.push(content_in(alloc, value)?)?;
+    'row: while !reader.take_end_array() {
+        let content = next_content(alloc, reader)?;
+        contents.push(content)?;
     }
     Ok(Items::of(contents))
-}
-
-/// Returns the name of a variant, and its fields.
-pub(crate) fn variant_in(value: &Value) -> Result<(&str, &[Value]), Misread>
-    ensures { ReadsAs (λ x. (x.0.now, map view x.1.now)) result (variant_in (view value.now)) }
-{
-    let row = row_in(value)?;
-    name_at(row)
-}
-
-/// Returns a name that has no fields.
-pub(crate) fn word_in(value: &Value) -> Result<&str, Misread>
-    ensures { ReadsAs (λ x. x.now) result (word_in (view value.now)) }
-{
-    let (name, rest) = variant_in(value)?;
-    at_end(rest)?;
-    Ok(name)
 }

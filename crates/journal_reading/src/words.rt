@@ -1,12 +1,13 @@
-// Variants without fields: each is a row of only its name.
-ghost use Rattle.serde_json.specs.View.{view};
+// Variants without fields: each is a row of only its name. And attempts.
+ghost use Rattle.journal_reading.specs.Pulls.{Pulls, PullsFront};
 ghost use Rattle.journal_reading.specs.Readings.{Reads};
+ghost use Rattle.journal_text.specs.Reading.{attempt_at};
 ghost use Rattle.journal_text.specs.Words.{branch_in, branch_named, breach_in, breach_named, how_ended_in, how_ended_named, kind_in, kind_named, started_in, started_named, stray_in, stray_named, why_in, why_named, written_in, written_named};
 
 use crate::misread::Misread;
-use crate::values::word_in;
-use exec_journal::{Branch, BreachWhy, HowEnded, Kind, Started, StrayWhy, Why, Written};
-use serde_json::Value;
+use crate::values::{next_count, word};
+use exec_journal::{Attempt, Branch, BreachWhy, HowEnded, Kind, Started, StrayWhy, Why, Written};
+use json::Reader;
 
 fn branch_named(name: &str) -> Result<Branch, Misread>
     ensures { Reads result (branch_named name.now) }
@@ -18,10 +19,11 @@ fn branch_named(name: &str) -> Result<Branch, Misread>
     }
 }
 
-pub(crate) fn branch_in(value: &Value) -> Result<Branch, Misread>
-    ensures { Reads result (branch_in (view value.now)) }
+pub(crate) fn next_branch(reader: &mut Reader<'_>) -> Result<Branch, Misread>
+    ensures { Pulls 1 branch_in result reader.old reader.new }
 {
-    branch_named(word_in(value)?)
+    let name = word(reader)?;
+    branch_named(name)
 }
 
 fn kind_named(name: &str) -> Result<Kind, Misread>
@@ -36,10 +38,11 @@ fn kind_named(name: &str) -> Result<Kind, Misread>
     }
 }
 
-pub(crate) fn kind_in(value: &Value) -> Result<Kind, Misread>
-    ensures { Reads result (kind_in (view value.now)) }
+pub(crate) fn next_kind(reader: &mut Reader<'_>) -> Result<Kind, Misread>
+    ensures { Pulls 1 kind_in result reader.old reader.new }
 {
-    kind_named(word_in(value)?)
+    let name = word(reader)?;
+    kind_named(name)
 }
 
 fn started_named(name: &str) -> Result<Started, Misread>
@@ -53,10 +56,11 @@ fn started_named(name: &str) -> Result<Started, Misread>
     }
 }
 
-pub(crate) fn started_in(value: &Value) -> Result<Started, Misread>
-    ensures { Reads result (started_in (view value.now)) }
+pub(crate) fn next_started(reader: &mut Reader<'_>) -> Result<Started, Misread>
+    ensures { Pulls 1 started_in result reader.old reader.new }
 {
-    started_named(word_in(value)?)
+    let name = word(reader)?;
+    started_named(name)
 }
 
 fn written_named(name: &str) -> Result<Written, Misread>
@@ -71,10 +75,11 @@ fn written_named(name: &str) -> Result<Written, Misread>
     }
 }
 
-pub(crate) fn written_in(value: &Value) -> Result<Written, Misread>
-    ensures { Reads result (written_in (view value.now)) }
+pub(crate) fn next_written(reader: &mut Reader<'_>) -> Result<Written, Misread>
+    ensures { Pulls 1 written_in result reader.old reader.new }
 {
-    written_named(word_in(value)?)
+    let name = word(reader)?;
+    written_named(name)
 }
 
 fn how_ended_named(name: &str) -> Result<HowEnded, Misread>
@@ -89,10 +94,11 @@ fn how_ended_named(name: &str) -> Result<HowEnded, Misread>
     }
 }
 
-pub(crate) fn how_ended_in(value: &Value) -> Result<HowEnded, Misread>
-    ensures { Reads result (how_ended_in (view value.now)) }
+pub(crate) fn next_how_ended(reader: &mut Reader<'_>) -> Result<HowEnded, Misread>
+    ensures { Pulls 1 how_ended_in result reader.old reader.new }
 {
-    how_ended_named(word_in(value)?)
+    let name = word(reader)?;
+    how_ended_named(name)
 }
 
 fn why_named(name: &str) -> Result<Why, Misread>
@@ -109,10 +115,11 @@ fn why_named(name: &str) -> Result<Why, Misread>
     }
 }
 
-pub(crate) fn why_in(value: &Value) -> Result<Why, Misread>
-    ensures { Reads result (why_in (view value.now)) }
+pub(crate) fn next_why(reader: &mut Reader<'_>) -> Result<Why, Misread>
+    ensures { Pulls 1 why_in result reader.old reader.new }
 {
-    why_named(word_in(value)?)
+    let name = word(reader)?;
+    why_named(name)
 }
 
 fn stray_named(name: &str) -> Result<StrayWhy, Misread>
@@ -125,10 +132,11 @@ fn stray_named(name: &str) -> Result<StrayWhy, Misread>
     }
 }
 
-pub(crate) fn stray_in(value: &Value) -> Result<StrayWhy, Misread>
-    ensures { Reads result (stray_in (view value.now)) }
+pub(crate) fn next_stray(reader: &mut Reader<'_>) -> Result<StrayWhy, Misread>
+    ensures { Pulls 1 stray_in result reader.old reader.new }
 {
-    stray_named(word_in(value)?)
+    let name = word(reader)?;
+    stray_named(name)
 }
 
 fn breach_named(name: &str) -> Result<BreachWhy, Misread>
@@ -143,8 +151,23 @@ fn breach_named(name: &str) -> Result<BreachWhy, Misread>
     }
 }
 
-pub(crate) fn breach_in(value: &Value) -> Result<BreachWhy, Misread>
-    ensures { Reads result (breach_in (view value.now)) }
+pub(crate) fn next_breach(reader: &mut Reader<'_>) -> Result<BreachWhy, Misread>
+    ensures { Pulls 1 breach_in result reader.old reader.new }
 {
-    breach_named(word_in(value)?)
+    let name = word(reader)?;
+    breach_named(name)
+}
+
+/// Reads an attempt: its action, its branch and its number.
+pub(crate) fn next_attempt(reader: &mut Reader<'_>) -> Result<Attempt, Misread>
+    ensures { PullsFront 1 attempt_at result reader.old reader.new }
+{
+    let action = next_count(reader)?;
+    let branch = next_branch(reader)?;
+    let number = next_count(reader)?;
+    Ok(Attempt {
+        action,
+        branch,
+        number,
+    })
 }

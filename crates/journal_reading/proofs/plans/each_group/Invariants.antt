@@ -1,9 +1,12 @@
-use Rattle.std.proofs.Common.{◌≡◌, drop, map}
-use Rattle.serde_json.specs.View.{view}
+use Rattle.std.proofs.Common.{◌≡◌, ℕ, ◌≤◌, length}
 use Rattle.journal_text.specs.Options.{each}
 use Rattle.journal_text.specs.Reading.{group_in}
-use Rattle.journal_reading.proofs.Lists.{behind}
+use Rattle.journal_reading.specs.Pulls.{pull_row}
+use Rattle.journal_reading.proofs.Steps.{behind}
 use Rattle.journal_reading.proofs.plans.each_group.Given as goal
 
-abbrev pub invariant-loop-value : goal.invariant-loop-value
-invariant-loop-value l = each group_in (map view l.row) ≡ behind l.groups.items (each group_in (map view (drop l.value-index l.row)))
+abbrev pub invariant-row : goal.invariant-row
+invariant-row l = (d : ℕ) → 2 ≤ d → pull_row (each group_in) d l.initial.reader ≡ behind l.groups.items (pull_row (each group_in) d l.reader)
+
+abbrev pub decreases-row : goal.decreases-row
+decreases-row l = length l.reader

@@ -1,0 +1,28 @@
+use Rattle.json.specs.Json.{after_end_array}
+use Rattle.std.proofs.Common.{◌∙◌, arith}
+use Rattle.journal_text.specs.Values.{count_in}
+use Rattle.journal_reading.specs.Pulls.{pull}
+use Rattle.journal_reading.proofs.Passing.{misread_by, passed_on}
+use Rattle.journal_reading.proofs.Steps.{not_over, over, step, stop}
+use Rattle.journal_reading.proofs.calls.made_by.Goals as goal
+
+pub returns-in_err-action : goal.returns-in_err-action
+returns-in_err-action c = λ d deep.
+    passed_on _ _ c.in_err-action.field-0.0 _ c.from_residual.ensures (misread_by _ (pull count_in d c.args.reader.now) _ (c.in_err-action.ensures d (omega arith))
+    (λ none. stop _ _ d _ none))
+
+pub returns-in_err-output : goal.returns-in_err-output
+returns-in_err-output c = λ d deep.
+    passed_on _ _ c.in_err-output.field-0.0 _ c.from_residual-in_err-output.ensures (misread_by _ (pull count_in d c.next_count.new.reader) _ (c.in_err-output.ensures d (omega arith))
+    (λ none. step _ _ d _ _ _ (c.in_ok-action.ensures d (omega arith)) ∙ stop _ _ d _ none))
+
+pub returns-in_err-end : goal.returns-in_err-end
+returns-in_err-end c = λ d deep.
+    passed_on _ _ c.in_err-end.field-0.0 _ c.from_residual-in_err-end.ensures (misread_by _ (after_end_array c.next_count-2.new.reader) _ c.in_err-end.ensures
+    (λ none. step _ _ d _ _ _ (c.in_ok-action.ensures d (omega arith)) ∙ step _ _ d _ _ _ (c.in_ok-output.ensures d (omega arith)) ∙ not_over _ d _ none))
+
+pub returns : goal.returns
+returns c = λ d deep.
+    step _ _ d _ _ _ (c.in_ok-action.ensures d (omega arith))
+    ∙ step _ _ d _ _ _ (c.in_ok-output.ensures d (omega arith))
+    ∙ over _ d _ _ c.in_ok-end.ensures
